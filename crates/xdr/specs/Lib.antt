@@ -1,0 +1,8 @@
+pub mod Item
+pub mod Fault
+pub mod Reading
+pub mod Writing
+pub mod Text
+pub mod ReadError
+pub mod Counted
+pub mod TextError

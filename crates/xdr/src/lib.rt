@@ -1,0 +1,18 @@
+//! Items in bytes, as RFC 4506 lays them out.
+#![tactic(auto)]
+
+mod fault;
+mod laws;
+mod list;
+mod reader;
+#[cfg(test)]
+mod tests;
+mod text;
+mod writer;
+
+pub use fault::XdrFault;
+pub use laws::{no_spelling_begins_another, reads_each_text, reads_what_is_spelled};
+pub use list::{FromXdr, ReadError, read_array};
+pub use reader::{Reader, put_back_on_err};
+pub use text::{FromText, TextError, read_text};
+pub use writer::{Writer, all_or_nothing};

@@ -1,0 +1,115 @@
+//! Appends items to bytes.
+
+ghost use Rattle.std.specs.Prelude.{◌≡◌, ◌<◌, ◌≤◌, ◌^◌, ◌++◌, ◌-◌, ◌%◌, List, ℕ, length, replicate, OnOk, OnErr};
+ghost use Rattle.xdr.specs.Item.{word, hyper, flag, opaque, fixed, repeated, spelling, padding};
+ghost use Rattle.xdr.specs.Writing.{Writes, Adds, Appends};
+
+use std::alloc::AllocError;
+
+/// Appends items to bytes. A call that is refused memory leaves the bytes as they were.
+pub trait Writer {
+    /// The bytes so far.
+    ghost written: { Self → List ℕ };
+
+    /// Appends an unsigned integer or an enum, 4 bytes (RFC 4506, sections 4.2 and 4.3).
+    fn put_u32(&mut self, n: u32) -> Result<(), AllocError>
+        ensures { Writes word n (written self.old) result (written self.new) };
+
+    /// Appends an unsigned hyper integer, 8 bytes (RFC 4506, section 4.5).
+    fn put_u64(&mut self, n: u64) -> Result<(), AllocError>
+        ensures { Writes hyper n (written self.old) result (written self.new) };
+
+    /// Appends unsigned integers one after the other, without a count (RFC 4506, section 4.12).
+    fn put_u32s(&mut self, ns: &[u32]) -> Result<(), AllocError>
+        ensures { Writes (repeated (length ns.now) word) ns.now (written self.old) result (written self.new) };
+
+    /// Appends a bool, 4 bytes (RFC 4506, section 4.4).
+    fn put_bool(&mut self, b: bool) -> Result<(), AllocError>
+        ensures { Writes flag b (written self.old) result (written self.new) };
+
+    /// Appends bytes whose length is known, and zeros up to a multiple of four (RFC 4506, section 4.9).
+    fn put_fixed(&mut self, bytes: &[u8]) -> Result<(), AllocError>
+        ensures { Writes (fixed (length bytes.now)) bytes.now (written self.old) result (written self.new) };
+
+    /// Appends bytes behind their length (RFC 4506, sections 4.10 and 4.11).
+    fn put_opaque(&mut self, bytes: &[u8]) -> Result<(), AllocError>
+        requires { length bytes.now < 2 ^ 32 }
+        ensures { Writes (opaque (length bytes.now)) bytes.now (written self.old) result (written self.new) };
+}
+
+impl Writer for Vec<u8> {
+    ghost written = { λ v. v.items };
+
+    #[tactic(auto, unfolding(crate::specs::Item::number_spelling))]
+    fn put_u32(&mut self, n: u32) -> Result<(), AllocError> {
+        self.extend_from_slice(&n.to_be_bytes())
+    }
+
+    #[tactic(auto, unfolding(crate::specs::Item::number_spelling))]
+    fn put_u64(&mut self, n: u64) -> Result<(), AllocError> {
+        self.extend_from_slice(&n.to_be_bytes())
+    }
+
+    fn put_u32s(&mut self, ns: &[u32]) -> Result<(), AllocError> {
+        let start = self.len();
+        let written = add_u32s(self, ns);
+        all_or_nothing(self, start, written)
+    }
+
+    fn put_bool(&mut self, b: bool) -> Result<(), AllocError> {
+        self.put_u32(if b { 1 } else { 0 })
+    }
+
+    fn put_fixed(&mut self, bytes: &[u8]) -> Result<(), AllocError> {
+        let start = self.len();
+        let result = add_fixed(self, bytes);
+        all_or_nothing(self, start, result)
+    }
+
+    fn put_opaque(&mut self, bytes: &[u8]) -> Result<(), AllocError> {
+        let start = self.len();
+        let result = add_opaque(self, bytes);
+        all_or_nothing(self, start, result)
+    }
+}
+
+/// Takes out what stands behind `start` where the call that wrote it was refused memory, and gives its result.
+pub fn all_or_nothing(
+    out: &mut Vec<u8>,
+    start: usize,
+    written: Result<(), AllocError>,
+) -> Result<(), AllocError>
+    ensures { (text old : List ℕ) → length old ≡ start → Adds text old written out.old.items → Appends text old result out.new.items }
+{
+    if written.is_err() {
+        out.truncate(start);
+    }
+    written
+}
+
+const ZEROS: [u8; 4] = [0; 4];
+
+fn add_u32s(out: &mut Vec<u8>, ns: &[u32]) -> Result<(), AllocError>
+    ensures { Adds (spelling (repeated (length ns.now) word) ns.now) out.old.items result out.new.items }
+{
+    for n in ns {
+        out.put_u32(*n)?;
+    }
+    Ok(())
+}
+
+fn add_fixed(out: &mut Vec<u8>, bytes: &[u8]) -> Result<(), AllocError>
+    ensures { Adds (spelling (fixed (length bytes.now)) bytes.now) out.old.items result out.new.items }
+{
+    let padding = (4 - bytes.len() % 4) % 4;
+    out.extend_from_slice(bytes)?;
+    out.extend_from_slice(&ZEROS[..padding])
+}
+
+fn add_opaque(out: &mut Vec<u8>, bytes: &[u8]) -> Result<(), AllocError>
+    requires { length bytes.now < 2 ^ 32 }
+    ensures { Adds (spelling (opaque (length bytes.now)) bytes.now) out.old.items result out.new.items }
+{
+    out.put_u32(bytes.len() as u32)?;
+    add_fixed(out, bytes)
+}
