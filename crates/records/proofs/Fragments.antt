@@ -1,0 +1,137 @@
+-- The fragments of a record, as a loop takes them.
+use Rattle.std.proofs.Common.{◌≡◌, ℕ, ◌+◌, ◌<◌, ◌≤◌, List, [], ◌∷◌, ◌++◌, arith, length, sym, ap, ◌∙◌, refl, length-append, append_assoc, Bool, true, false, inl, inr, ◌⊎◌}
+use Rattle.std.specs.Prelude.{Option, Some, None, IfSome}
+use Rattle.std.specs.List.{concat}
+use Rattle.std.specs.Io.KnownBytes.{Consumes}
+use Rattle.std.proofs.KnownBytes.{Consumes-trans, Consumes-nil}
+use Rattle.records.specs.Record.{mark, fragment, fragments, AreWithin, HasRoom, IsUnfinished, PassesLimit}
+use Rattle.std.proofs.lemmas.List.{append-nil}
+use Rattle.std.proofs.lemmas.List.Concat.{flat_map-cons, flat_map-append}
+use Rattle.std.proofs.lemmas.List.Folds.{concat-append}
+use Rattle.records.specs.declared.fault.RecordFault.{RecordFault}
+use Rattle.records.specs.declared.fault.RecordFault.TheVariants as faults
+use Rattle.records.specs.Reading.{Grows, IsShorter, IsCutMark, Never, Fails, TakesRecord}
+use Rattle.records.proofs.Marks.{length-mark}
+
+-- these pieces were taken, none of them the last
+pub record Progress (text : List ℕ) (count : ℕ) (before after : Option (List ℕ)) : Type 0 where
+  pub pieces : List (List ℕ)
+  pub text_is : text ≡ concat pieces
+  pub count_is : length pieces ≡ count
+  pub length_fits : length text ≤ 12288
+  pub count_fits : count ≤ 16384
+  pub taken : Consumes before after (fragments pieces)
+
+pub begins : (before : Option (List ℕ)) → Progress [] 0 before before
+begins before = record { pieces = []; text_is = refl; count_is = refl; length_fits = omega arith; count_fits = omega arith; taken = Consumes-nil before }
+
+within : (text : List ℕ) (count : ℕ) (before after : Option (List ℕ)) (p : Progress text count before after) → AreWithin p.pieces
+within text count before after p = record { length_fits = omega (arith, ap length p.text_is, p.length_fits); count_fits = omega (arith, p.count_is, p.count_fits) }
+
+has_room : (text : List ℕ) (count : ℕ) (before after : Option (List ℕ)) (p : Progress text count before after) (len : ℕ) → count < 16384 → length text + len ≤ 12288 → HasRoom p.pieces len
+has_room text count before after p len few fits = record { length_fits = omega (arith, ap length p.text_is); count_fits = omega (arith, p.count_is) }
+
+-- what is left after some bytes, where the bytes are known
+after_known : {P Q : List ℕ → Type 0} (before mid : Option (List ℕ)) (bytes : List ℕ) → Consumes before mid bytes
+    → ((xs ys : List ℕ) → xs ≡ bytes ++ ys → P ys → Q xs) → IfSome mid P → IfSome before Q
+after_known None mid bytes taken f h = tt
+after_known (Some xs) None bytes taken f h = absurd taken
+after_known (Some xs) (Some ys) bytes taken f h = f xs ys taken h
+
+pub fails_at_mark : (e : RecordFault) (text : List ℕ) (count : ℕ) (before mid : Option (List ℕ)) (m n : ℕ) → Progress text count before mid
+    → Fails e Never IsCutMark mid m n → Fails e PassesLimit IsUnfinished before m n
+fails_at_mark faults.NoMemory text count before mid m n p h = h
+fails_at_mark faults.RecordTooLong text count before mid m n p h = (after_known before mid (fragments p.pieces) p.taken (λ xs ys e never. absurd never) h.0, h.1)
+fails_at_mark faults.Device text count before mid m n p h = h
+fails_at_mark faults.EndInRecord text count before mid m n p h = (
+  after_known before mid (fragments p.pieces) p.taken (λ xs ys e part. record {
+    pieces = p.pieces;
+    tail = ys;
+    bytes_are = e;
+    within = within text count before mid p;
+    tail_is = inl part.1;
+    some = omega (arith, ap length e, length-append (fragments p.pieces) ys, part.0);
+  }) h.0,
+  h.1,
+)
+
+length-fragments : (pieces : List (List ℕ)) → 0 < length pieces → 0 < length (fragments pieces)
+length-fragments [] h = absurd (omega arith)
+length-fragments (p ∷ ps) h =
+    omega (arith, ap length (flat_map-cons (fragment false) p ps), length-append (fragment false p) (fragments ps), length-append (mark false (length p)) p, length-mark false (length p))
+
+pub fails_at_end : (text : List ℕ) (count : ℕ) (before mid : Option (List ℕ)) → Progress text count before mid → 0 < count → IfSome mid (λ bytes. bytes ≡ []) → IfSome before IsUnfinished
+fails_at_end text count before mid p some h =
+    after_known before mid (fragments p.pieces) p.taken (λ xs ys e none. record {
+      pieces = p.pieces;
+      tail = ys;
+      bytes_are = e;
+      within = within text count before mid p;
+      tail_is = inl (omega (arith, ap length none));
+      some = omega (arith, ap length e, length-append (fragments p.pieces) ys, length-fragments p.pieces (omega (arith, p.count_is)));
+    }) h
+
+pub fails_at_piece : (e : RecordFault) (text : List ℕ) (count : ℕ) (before mid after : Option (List ℕ)) (is_last : Bool) (len m n : ℕ) → Progress text count before mid
+    → Consumes mid after (mark is_last len) → count < 16384 → length text + len ≤ 12288 → Fails e Never (IsShorter len) after m n → Fails e PassesLimit IsUnfinished before m n
+fails_at_piece faults.NoMemory text count before mid after is_last len m n p taken few fits h = h
+fails_at_piece faults.RecordTooLong text count before mid after is_last len m n p taken few fits h =
+    (after_known before after (fragments p.pieces ++ mark is_last len) (Consumes-trans _ _ _ _ _ p.taken taken) (λ xs ys e never. absurd never) h.0, h.1)
+fails_at_piece faults.Device text count before mid after is_last len m n p taken few fits h = h
+fails_at_piece faults.EndInRecord text count before mid after is_last len m n p taken few fits h = (
+  after_known before after (fragments p.pieces ++ mark is_last len) (Consumes-trans _ _ _ _ _ p.taken taken) (λ xs ys e short. record {
+    pieces = p.pieces;
+    tail = mark is_last len ++ ys;
+    bytes_are = e ∙ append_assoc (fragments p.pieces) (mark is_last len) ys;
+    within = within text count before mid p;
+    tail_is = inr (record { is_last = is_last; len = len; front = ys; bytes_are = refl; is_short = short; fits = has_room text count before mid p len few fits });
+    some = omega (arith, ap length e, length-append (fragments p.pieces ++ mark is_last len) ys, length-append (fragments p.pieces) (mark is_last len), length-mark is_last len);
+  }) h.0,
+  h.1,
+)
+
+pub passes : (text : List ℕ) (count : ℕ) (before mid after : Option (List ℕ)) (is_last : Bool) (len : ℕ) → Progress text count before mid
+    → Consumes mid after (mark is_last len) → len < 2147483648 → (count ≡ 16384) ⊎ (12288 < length text + len) → IfSome before PassesLimit
+passes text count before mid after is_last len p taken len_fits limit =
+    passing before after (Consumes-trans _ _ _ _ _ p.taken taken)
+  where
+    passing : (before after : Option (List ℕ)) → Consumes before after (fragments p.pieces ++ mark is_last len) → IfSome before PassesLimit
+    passing None after taken = tt
+    passing (Some xs) None taken = absurd taken
+    passing (Some xs) (Some ys) taken = record {
+      pieces = p.pieces;
+      is_last = is_last;
+      len = len;
+      more = ys;
+      bytes_are = taken ∙ append_assoc (fragments p.pieces) (mark is_last len) ys;
+      within = within text count _ _ p;
+      len_fits = len_fits;
+      passes = elim limit [ inl full ↦ inr (omega (arith, p.count_is, full)) | inr long ↦ inl (omega (arith, ap length p.text_is, long)) ];
+    }
+
+pub is_record : (text text' : List ℕ) (count len : ℕ) (before mid after then' : Option (List ℕ)) → Progress text count before mid → count < 16384
+    → Consumes mid after (mark true len) → Grows text text' len after then' → length text + len ≤ 12288 → TakesRecord (Some text') before then'
+is_record text text' count len before mid after then' p few marked (piece, grown, size, taken) fits = (
+  fragments p.pieces ++ fragment true piece,
+  record {
+    pieces = p.pieces;
+    last = piece;
+    text_is = refl;
+    bytes_are = grown ∙ ap (λ (t : List ℕ). t ++ piece) p.text_is;
+    fits = has_room text count before mid p (length piece) few (omega (arith, size));
+  },
+  Consumes-trans _ _ _ _ _ p.taken (rw size (Consumes-trans _ _ _ _ _ marked taken)),
+)
+
+pub goes_on : (text text' : List ℕ) (count len : ℕ) (before mid after then' : Option (List ℕ)) → Progress text count before mid → count < 16384
+    → Consumes mid after (mark false len) → Grows text text' len after then' → length text + len ≤ 12288 → Progress text' (count + 1) before then'
+goes_on text text' count len before mid after then' p few marked (piece, grown, size, taken) fits =
+    let whole : fragments (p.pieces ++ piece ∷ []) ≡ fragments p.pieces ++ fragment false piece = flat_map-append (fragment false) p.pieces (piece ∷ []) ∙ ap (λ (t : List ℕ). fragments p.pieces ++ t) (flat_map-cons (fragment false) piece [] ∙ append-nil (fragment false piece)) in
+    let joined : concat (p.pieces ++ piece ∷ []) ≡ concat p.pieces ++ piece = concat-append p.pieces (piece ∷ []) ∙ ap (λ (t : List ℕ). concat p.pieces ++ t) (append-nil piece) in
+    record {
+      pieces = p.pieces ++ piece ∷ [];
+      text_is = grown ∙ ap (λ (t : List ℕ). t ++ piece) p.text_is ∙ sym joined;
+      count_is = omega (arith, length-append p.pieces (piece ∷ []), p.count_is);
+      length_fits = omega (arith, ap length grown, length-append text piece, size);
+      count_fits = omega arith;
+      taken = rw whole (Consumes-trans _ _ _ _ _ p.taken (rw size (Consumes-trans _ _ _ _ _ marked taken)));
+    }

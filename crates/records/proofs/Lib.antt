@@ -1,0 +1,9 @@
+pub mod Filling
+pub mod Pieces
+pub mod Marks
+pub mod Fragments
+pub mod Unique
+pub mod Streams
+pub mod Parts
+pub mod Fronts
+pub mod Some

@@ -1,0 +1,5 @@
+use Rattle.records.proofs.Streams.{one_list_of_records}
+use Rattle.records.proofs.laws.one_list_of_records.Goals as goal
+
+pub returns : goal.returns
+returns c = one_list_of_records

@@ -1,0 +1,5 @@
+use Rattle.records.proofs.Fronts.{one_reading}
+use Rattle.records.proofs.laws.one_reading.Goals as goal
+
+pub returns : goal.returns
+returns c = one_reading

@@ -1,0 +1,5 @@
+use Rattle.records.proofs.Some.{some_reading}
+use Rattle.records.proofs.laws.some_reading.Goals as goal
+
+pub returns : goal.returns
+returns c = some_reading

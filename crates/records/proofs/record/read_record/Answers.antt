@@ -1,0 +1,29 @@
+use Rattle.std.proofs.Common.{arith, rules}
+use Rattle.std.proofs.lemmas.Result.{err_from_is_err_and}
+use Rattle.records.proofs.Fragments.{fails_at_mark, fails_at_end, fails_at_piece, is_record, goes_on}
+use Rattle.records.proofs.record.read_record.Goals as goal
+
+pub returns-in_err-mark-clause-fault : goal.returns-in_err-mark-clause-fault
+returns-in_err-mark-clause-fault g c =
+    let p = err_from_is_err_and c.from_residual.result c.from_residual.ensures.1 in
+    rw (p.1, p.2) (fails_at_mark _ _ _ _ _ _ _ c.loop-count.invariant.0 (rw c.loop-count.invariant.1 at c.in_err-mark.ensures.fault))
+
+pub returns-else-count-eq0-clause-fault : goal.returns-else-count-eq0-clause-fault
+returns-else-count-eq0-clause-fault g c =
+    (fails_at_end _ _ _ _ c.loop-count.invariant.0 (omega arith) (rw c.in_default.is at c.in_ok-mark.ensures.found), search rules)
+
+pub returns-in_err-read_piece-clause-fault : goal.returns-in_err-read_piece-clause-fault
+returns-in_err-read_piece-clause-fault g c =
+    let p = err_from_is_err_and c.from_residual-in_err-read_piece.result c.from_residual-in_err-read_piece.ensures.1 in
+    let marked = rw c.in-Some.is at c.in_ok-mark.ensures.found in
+    rw (p.1, p.2) (fails_at_piece _ _ _ _ _ _ _ _ _ _ c.loop-count.invariant.0 marked.0 (omega arith) (omega (arith, c.loop-count.invariant.0.length_fits, c.loop-count.joined.ok.0, c.len.ensures)) (rw (c.in_ok-mark.ensures.kept, c.loop-count.invariant.1) at c.in_err-read_piece.ensures.fault))
+
+pub returns-then-mark-clause-found : goal.returns-then-mark-clause-found
+returns-then-mark-clause-found g c =
+    let marked = rw (c.in-Some.is, c.if-mark.true) at c.in_ok-mark.ensures.found in
+    is_record _ _ _ _ _ _ _ _ c.loop-count.invariant.0 (omega arith) marked.0 c.in_ok-read_piece.ensures.piece (omega (arith, c.loop-count.invariant.0.length_fits, c.loop-count.joined.ok.0, c.len.ensures))
+
+pub loop-count-preserved : goal.loop-count-preserved
+loop-count-preserved g c =
+    let marked = rw (c.in-Some.is, c.if-mark.false) at c.in_ok-mark.ensures.found in
+    (goes_on _ _ _ _ _ _ _ _ c.loop-count.invariant.0 (omega arith) marked.0 c.in_ok-read_piece.ensures.piece (omega (arith, c.loop-count.invariant.0.length_fits, c.loop-count.joined.ok.0, c.len.ensures)), search rules, search rules)

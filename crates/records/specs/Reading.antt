@@ -1,0 +1,60 @@
+-- What the steps of reading a record do.
+use Rattle.std.specs.Prelude.{◌≡◌, ◌<◌, ◌++◌, ◌^◌, ℕ, List, [], length, Bool, true, false, Result, Ok, Err, Option, Some, None, IfSome}
+use Rattle.std.specs.Io.KnownBytes.{Consumes}
+use Rattle.records.specs.declared.record.Mark.{Mark}
+use Rattle.records.specs.declared.fault.RecordFault.{RecordFault}
+use Rattle.records.specs.declared.fault.RecordFault.TheVariants as faults
+use Rattle.records.specs.Count.{Rises}
+use Rattle.records.specs.Record.{mark, IsRecord}
+
+-- A mark was taken from the front, or nothing was left.
+abbrev pub BeginsWithMark : Option Mark → Option (List ℕ) → Option (List ℕ) → Type 0
+BeginsWithMark None old new = IfSome old (λ bytes. bytes ≡ [])
+BeginsWithMark (Some m) old new = Consumes old new (mark m.is_last m.len) × (m.len < 2 ^ 31)
+
+-- A piece of this length was taken from the front, and appended.
+abbrev pub Grows : List ℕ → List ℕ → ℕ → Option (List ℕ) → Option (List ℕ) → Type 0
+Grows text text' len old new = (piece : List ℕ) × (text' ≡ text ++ piece) × (length piece ≡ len) × Consumes old new piece
+
+-- A record was taken from the front, or nothing was left.
+abbrev pub TakesRecord : Option (List ℕ) → Option (List ℕ) → Option (List ℕ) → Type 0
+TakesRecord None old new = IfSome old (λ bytes. bytes ≡ [])
+TakesRecord (Some record_bytes) old new = (text : List ℕ) × IsRecord text record_bytes × Consumes old new text
+
+-- The same of a call that says whether there was one.
+abbrev pub Takes : Bool → List ℕ → Option (List ℕ) → Option (List ℕ) → Type 0
+Takes true bytes old new = TakesRecord (Some bytes) old new
+Takes false bytes old new = TakesRecord None old new
+
+abbrev pub Never : List ℕ → Type 0
+Never bytes = ⊥
+
+-- Some bytes, but fewer than a mark has.
+abbrev pub IsCutMark : List ℕ → Type 0
+IsCutMark bytes = (0 < length bytes) × (length bytes < 4)
+
+abbrev pub IsShorter : ℕ → List ℕ → Type 0
+IsShorter len bytes = length bytes < len
+
+-- Why reading came to a fault: what the bytes left are, where they are known. The device's fault is counted.
+abbrev pub Fails : RecordFault → (List ℕ → Type 0) → (List ℕ → Type 0) → Option (List ℕ) → ℕ → ℕ → Type 0
+Fails faults.NoMemory passes ends known old_count new_count = ⊥
+Fails faults.RecordTooLong passes ends known old_count new_count = IfSome known passes × (new_count ≡ old_count)
+Fails faults.Device passes ends known old_count new_count = Rises old_count new_count
+Fails faults.EndInRecord passes ends known old_count new_count = IfSome known ends × (new_count ≡ old_count)
+
+-- The same where memory may be wanting.
+abbrev pub FailsUnless : RecordFault → (List ℕ → Type 0) → (List ℕ → Type 0) → Option (List ℕ) → ℕ → ℕ → Type 0
+FailsUnless faults.NoMemory passes ends known old_count new_count = Unit {0}
+FailsUnless faults.RecordTooLong passes ends known old_count new_count = IfSome known passes × (new_count ≡ old_count)
+FailsUnless faults.Device passes ends known old_count new_count = Rises old_count new_count
+FailsUnless faults.EndInRecord passes ends known old_count new_count = IfSome known ends × (new_count ≡ old_count)
+
+-- The fault that a reader answers from then on.
+abbrev pub failed_after : {A : Type 0} → Option RecordFault → Result A RecordFault → Option RecordFault
+failed_after (Some before) result = Some before
+failed_after None (Ok x) = None
+failed_after None (Err faults.NoMemory) = None
+failed_after None (Err faults.RecordTooLong) = Some faults.RecordTooLong
+failed_after None (Err faults.Device) = Some faults.Device
+failed_after None (Err faults.EndInRecord) = Some faults.EndInRecord

@@ -1,0 +1,75 @@
+//! Counts what a reader or a writer refused.
+
+ghost use Rattle.std.specs.Prelude.{◌≡◌, length};
+ghost use Rattle.std.specs.Io.{ReadsAtMost, WritesAtMost};
+ghost use Rattle.std.specs.Io.KnownBytes.{Keeps, ReadConsumes, WriteAppends};
+ghost use Rattle.records.specs.Count.{CountsErr, CountsWrite};
+
+use std::io;
+use std::io::{Read, Write};
+
+/// A reader or a writer, with a count of the Errs that its `read`, `write` and `flush` gave and of
+/// the writes of a non-empty piece that took nothing. The count stops at the greatest `u64`. What
+/// `read_exact` and `write_all` answer of their own, as at the end of a stream, isn't counted.
+#[derive(Drop)]
+pub struct Counting<T> {
+    pub inner: T,
+    pub count: u64,
+}
+
+impl<T> Counting<T> {
+    /// Counts from 0.
+    pub fn new(inner: T) -> Self
+        ensures inner { result.inner ≡ inner }
+        ensures count { result.count ≡ 0 }
+    {
+        Counting { inner, count: 0 }
+    }
+}
+
+impl<R: Read> Read for Counting<R> {
+    ghost remaining = { λ c. R.remaining c.inner };
+
+    fn read(&mut self, buf: &mut [u8]) -> io::Result<usize>
+        ensures bound { ReadsAtMost result buf.new }
+        ensures bytes { ReadConsumes (R.remaining self.old.inner) (R.remaining self.new.inner) result buf.new }
+        ensures count { CountsErr result self.old.count self.new.count }
+    {
+        let result = self.inner.read(buf);
+        if result.is_err() {
+            self.count = self.count.saturating_add(1);
+        }
+        result
+    }
+}
+
+impl<W: Write> Write for Counting<W> {
+    ghost contents = { λ c. W.contents c.inner };
+
+    fn write(&mut self, buf: &[u8]) -> io::Result<usize>
+        ensures bound { WritesAtMost result buf.now }
+        ensures bytes { WriteAppends (W.contents self.old.inner) (W.contents self.new.inner) result buf.now }
+        ensures count { CountsWrite result (length buf.now) self.old.count self.new.count }
+    {
+        let result = self.inner.write(buf);
+        let is_refused = match &result {
+            Ok(n) => *n == 0 && !buf.is_empty(),
+            Err(_) => true,
+        };
+        if is_refused {
+            self.count = self.count.saturating_add(1);
+        }
+        result
+    }
+
+    fn flush(&mut self) -> io::Result<()>
+        ensures bytes { Keeps (W.contents self.old.inner) (W.contents self.new.inner) }
+        ensures count { CountsErr result self.old.count self.new.count }
+    {
+        let result = self.inner.flush();
+        if result.is_err() {
+            self.count = self.count.saturating_add(1);
+        }
+        result
+    }
+}

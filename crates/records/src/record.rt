@@ -1,0 +1,193 @@
+//! Reads records from a stream (RFC 5531, section 11).
+
+ghost use Rattle.std.specs.Prelude.{◌≡◌, ◌<◌, ◌≤◌, ◌+◌, ◌^◌, [], length, take, IfOk, IfErr, IfSome, OnOk, OnErr, IsErrOf, vec_len, vec_capacity};
+ghost use Rattle.std.specs.Option.{option_map};
+ghost use Rattle.std.specs.Io.KnownBytes.{Consumes, IsAtEnd};
+ghost use Rattle.records.specs.Count.{Rises};
+ghost use Rattle.records.specs.Record.{mark, IsUnfinished, PassesLimit};
+ghost use Rattle.records.specs.Reading.{BeginsWithMark, Grows, Fails, FailsUnless, IsCutMark, Never, IsShorter, Takes, TakesRecord, failed_after};
+
+use crate::counting::Counting;
+use crate::fault::RecordFault;
+use byteorder::{BigEndian, ByteOrder};
+use std::alloc::Global;
+use std::io;
+use std::io::Read;
+
+/// The most bytes that a record has.
+pub const MAX_RECORD: usize = 12288;
+
+/// The most fragments that a record has.
+pub const MAX_FRAGMENTS: u32 = 16384;
+
+const LAST: u32 = 0x8000_0000;
+
+const CHUNK: usize = 1024;
+
+/// What stands before a fragment.
+#[derive(Clone, Copy, Debug)]
+struct Mark {
+    is_last: bool,
+    len: u32,
+}
+
+/// Fills a buffer, or as much of it as there are bytes.
+fn fill<R: Read>(reader: &mut Counting<R>, buf: &mut [u8]) -> io::Result<usize>
+    ensures bound { IfOk result (λ n. n ≤ length buf.new) }
+    ensures bytes { IfOk result (λ n. Consumes (R.remaining reader.old.inner) (R.remaining reader.new.inner) (take n buf.new)) }
+    ensures end { IfOk result (λ n. n < length buf.new → IsAtEnd (R.remaining reader.new.inner)) }
+    ensures kept { OnOk result (reader.new.count ≡ reader.old.count) }
+    ensures device { OnErr result (Rises reader.old.count reader.new.count) }
+{
+    let mut at = 0;
+    while at < buf.len() {
+        match reader.read(&mut buf[at..])? {
+            0 => return Ok(at),
+            n => at += n,
+        }
+    }
+    Ok(at)
+}
+
+/// What the bytes of a mark say.
+fn mark_of(bytes: &[u8]) -> Mark
+    requires { length bytes.now ≡ 4 }
+    ensures text { bytes.now ≡ mark result.is_last result.len }
+    ensures len { result.len < 2 ^ 31 }
+{
+    let word = BigEndian::read_u32(bytes);
+    if word < LAST {
+        Mark {
+            is_last: false,
+            len: word,
+        }
+    } else {
+        Mark {
+            is_last: true,
+            len: word - LAST,
+        }
+    }
+}
+
+/// Reads a mark, if a byte is left.
+fn read_mark<R: Read>(reader: &mut Counting<R>) -> Result<Option<Mark>, RecordFault>
+    ensures found { IfOk result (λ m. BeginsWithMark m (R.remaining reader.old.inner) (R.remaining reader.new.inner)) }
+    ensures kept { OnOk result (reader.new.count ≡ reader.old.count) }
+    ensures fault { IfErr result (λ e. Fails e Never IsCutMark (R.remaining reader.old.inner) reader.old.count reader.new.count) }
+{
+    let mut bytes = [0u8; 4];
+    match fill(reader, &mut bytes) {
+        Ok(0) => Ok(None),
+        Ok(4) => Ok(Some(mark_of(&bytes))),
+        Ok(_) => Err(RecordFault::EndInRecord),
+        Err(_) => Err(RecordFault::Device),
+    }
+}
+
+/// Reads the bytes of a fragment.
+fn read_piece<R: Read>(
+    reader: &mut Counting<R>,
+    joined: &mut Vec<u8>,
+    len: u32,
+) -> Result<(), RecordFault>
+    requires { vec_len joined.old + len ≤ vec_capacity joined.old }
+    ensures piece { OnOk result (Grows joined.old.items joined.new.items len (R.remaining reader.old.inner) (R.remaining reader.new.inner)) }
+    ensures capacity { vec_capacity joined.old ≤ vec_capacity joined.new }
+    ensures kept { OnOk result (reader.new.count ≡ reader.old.count) }
+    ensures fault { IfErr result (λ e. Fails e Never (IsShorter len) (R.remaining reader.old.inner) reader.old.count reader.new.count) }
+{
+    let mut left = len as usize;
+    let mut chunk = [0u8; CHUNK];
+    while left > 0 {
+        let room = left.min(CHUNK);
+        let part = &mut chunk[..room];
+        let Ok(n) = fill(reader, part) else {
+            return Err(RecordFault::Device);
+        };
+        if n < room {
+            return Err(RecordFault::EndInRecord);
+        }
+        joined.extend_from_slice(part).unwrap();
+        left -= room;
+    }
+    Ok(())
+}
+
+/// Reads the next record into an empty vector, and says whether there was one.
+fn read_record<R: Read>(reader: &mut Counting<R>, joined: &mut Vec<u8>) -> Result<bool, RecordFault>
+    requires empty { joined.old.items ≡ [] }
+    requires room { 12288 ≤ vec_capacity joined.old }
+    ensures found { IfOk result (λ some. Takes some joined.new.items (R.remaining reader.old.inner) (R.remaining reader.new.inner)) }
+    ensures kept { OnOk result (reader.new.count ≡ reader.old.count) }
+    ensures fault { IfErr result (λ e. Fails e PassesLimit IsUnfinished (R.remaining reader.old.inner) reader.old.count reader.new.count) }
+{
+    for count in 0..MAX_FRAGMENTS + 1 {
+        let Some(mark) = read_mark(reader)? else {
+            return if count == 0 {
+                Ok(false)
+            } else {
+                Err(RecordFault::EndInRecord)
+            };
+        };
+        if count == MAX_FRAGMENTS || mark.len as usize > MAX_RECORD - joined.len() {
+            return Err(RecordFault::RecordTooLong);
+        }
+        read_piece(reader, joined, mark.len)?;
+        if mark.is_last {
+            return Ok(true);
+        }
+    }
+    unreachable!()
+}
+
+/// Reads the records of a stream, one after the other. A record is its fragments joined, at most
+/// 12,288 bytes in at most 16,384 fragments, which may be empty.
+#[derive(Drop)]
+pub struct RecordReader<R: Read + Drop> {
+    pub reader: Counting<R>,
+    /// The fault that each further call of `next` answers.
+    pub failed: Option<RecordFault>,
+}
+
+impl<R: Read + Drop> RecordReader<R> {
+    /// Reads from where the reader stands.
+    pub fn new(reader: Counting<R>) -> Self
+        ensures reader { result.reader ≡ reader }
+        ensures failed { result.failed ≡ None }
+    {
+        RecordReader {
+            reader,
+            failed: None,
+        }
+    }
+
+    /// The next record, or none at the end of the stream.
+    ///
+    /// `NoMemory` comes before anything is read, and the next call tries again. `RecordTooLong`
+    /// comes at the mark that passes a limit, `EndInRecord` where the bytes end within a record, and
+    /// `Device` where a read failed, an interrupted one too. Each of these three is answered from
+    /// then on, without a read.
+    pub fn next(&mut self, alloc: Global) -> Result<Option<Vec<u8>>, RecordFault>
+        ensures found { IfOk result (λ found. TakesRecord (option_map (λ v. v.items) found) (R.remaining self.old.reader.inner) (R.remaining self.new.reader.inner)) }
+        ensures kept { OnOk result (self.new.reader.count ≡ self.old.reader.count) }
+        ensures fault { IfErr result (λ e. self.old.failed ≡ None → FailsUnless e PassesLimit IsUnfinished (R.remaining self.old.reader.inner) self.old.reader.count self.new.reader.count) }
+        ensures no_memory { IsErrOf result RecordFault.NoMemory → self.new ≡ self.old }
+        ensures again { IfSome self.old.failed (λ e. (result ≡ Err e) × (self.new ≡ self.old)) }
+        ensures failed { self.new.failed ≡ failed_after self.old.failed result }
+    {
+        if let Some(fault) = self.failed {
+            return Err(fault);
+        }
+        let Ok(mut record) = Vec::with_capacity(alloc, MAX_RECORD) else {
+            return Err(RecordFault::NoMemory);
+        };
+        match read_record(&mut self.reader, &mut record) {
+            Ok(true) => Ok(Some(record)),
+            Ok(false) => Ok(None),
+            Err(fault) => {
+                self.failed = Some(fault);
+                Err(fault)
+            }
+        }
+    }
+}
