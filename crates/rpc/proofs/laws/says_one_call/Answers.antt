@@ -1,0 +1,5 @@
+use Rattle.rpc.proofs.Messages.{says_one_call}
+use Rattle.rpc.proofs.laws.says_one_call.Goals as goal
+
+pub returns : goal.returns
+returns c = says_one_call
