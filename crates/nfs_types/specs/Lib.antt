@@ -1,0 +1,10 @@
+pub use Rattle.xdr.specs.Item
+pub use Rattle.xdr.specs.Reading
+pub use Rattle.xdr.specs.Writing
+pub mod Timeval
+pub mod Handle
+pub mod Caller
+pub mod CallerOf
+pub mod Attributes
+pub mod Arguments
+pub mod Results

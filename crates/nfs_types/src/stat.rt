@@ -1,0 +1,42 @@
+//! Why a procedure was refused.
+
+use thiserror::Error;
+
+/// A stat other than OK (RFC 1094, section 2.3.1).
+#[derive(Clone, Copy, Debug, PartialEq, Eq, Error)]
+pub enum Stat {
+    #[error("not owner")]
+    Perm = 1,
+    #[error("no such file or directory")]
+    NoEnt = 2,
+    #[error("device failed")]
+    Io = 5,
+    #[error("no such device or address")]
+    NxIo = 6,
+    #[error("permission denied")]
+    Acces = 13,
+    #[error("file exists")]
+    Exist = 17,
+    #[error("no such device")]
+    NoDev = 19,
+    #[error("not a directory")]
+    NotDir = 20,
+    #[error("is a directory")]
+    IsDir = 21,
+    #[error("file too large")]
+    FBig = 27,
+    #[error("no space left")]
+    NoSpc = 28,
+    #[error("read-only file system")]
+    RoFs = 30,
+    #[error("file name too long")]
+    NameTooLong = 63,
+    #[error("directory not empty")]
+    NotEmpty = 66,
+    #[error("disk quota exceeded")]
+    DQuot = 69,
+    #[error("stale file handle")]
+    Stale = 70,
+    #[error("write cache flushed")]
+    WFlush = 99,
+}
