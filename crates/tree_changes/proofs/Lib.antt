@@ -1,0 +1,10 @@
+pub mod Finite
+pub mod Listings
+pub mod Shapes
+pub mod Building
+pub mod PathChanges
+pub mod Adding
+pub mod Taking
+pub mod Moving
+pub mod Attributes
+pub mod Room

@@ -1,0 +1,6 @@
+pub mod Walks
+pub mod Counts
+pub mod OnePath
+pub mod Parents
+pub mod Reached
+pub mod Told

@@ -1,0 +1,6 @@
+pub use Rattle.nfs_types.specs.Timeval
+pub mod Listing
+pub mod Paths
+pub mod Names
+pub mod Files
+pub mod Trees
