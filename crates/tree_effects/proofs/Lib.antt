@@ -1,0 +1,5 @@
+pub mod Opened
+pub mod Lookups
+pub mod Present
+pub mod OpeningTree
+pub mod Pages

@@ -1,0 +1,49 @@
+-- What a caller asks of attributes (RFC 1094, section 2.3.6, sattr).
+use Rattle.std.specs.Prelude.{ℕ, ◌%◌, ◌==◌, ◌||◌, nat_lt, Bool, Option, Some, None, is_some, if◌then◌else◌}
+use Rattle.nfs_types.specs.Timeval.{Timeval}
+
+pub record Sattr : Type 0 where
+  pub mode : ℕ
+  pub uid : ℕ
+  pub gid : ℕ
+  pub size : ℕ
+  pub atime : Timeval
+  pub mtime : Timeval
+
+-- a word of all ones is ignored
+abbrev pub given_word : ℕ → Option ℕ
+given_word n = if n == 4294967295 then None else Some n
+
+-- a mode is ignored at 0000ffff too, and of another the low twelve bits are meant
+abbrev pub given_mode : ℕ → Option ℕ
+given_mode n = if (n == 4294967295) || (n == 65535) then None else Some (n % 4096)
+
+-- a time is ignored where its seconds are all ones; with microseconds above 999,999 it is the clock reading
+abbrev pub given_time : Timeval → Timeval → Option Timeval
+given_time now t = if t.seconds == 4294967295 then None else if nat_lt 999999 t.microseconds then Some now else Some t
+
+-- what is given
+pub record Wanted : Type 0 where
+  pub mode : Option ℕ
+  pub uid : Option ℕ
+  pub gid : Option ℕ
+  pub size : Option ℕ
+  pub atime : Option Timeval
+  pub mtime : Option Timeval
+
+abbrev pub wanted : Timeval → Sattr → Wanted
+wanted now s = record {
+  mode = given_mode s.mode;
+  uid = given_word s.uid;
+  gid = given_word s.gid;
+  size = given_word s.size;
+  atime = given_time now s.atime;
+  mtime = given_time now s.mtime;
+}
+
+abbrev pub wants_any : Wanted → Bool
+wants_any a = is_some a.mode || is_some a.uid || is_some a.gid || is_some a.size || is_some a.atime || is_some a.mtime
+
+-- nothing is given
+abbrev pub nothing : Wanted
+nothing = record { mode = None; uid = None; gid = None; size = None; atime = None; mtime = None }
