@@ -1,0 +1,65 @@
+-- What callers see of nodes.
+use Rattle.std.proofs.Common.{◌≡◌, ℕ, true, false, cond, List, [], ◌∷◌, map, Some, None, Ok, Err, option_map, if◌then◌else◌, refl, sym, ap, ◌∙◌}
+use Rattle.std.specs.Ordering.{nat_cmp}
+use Rattle.std.specs.Cmp.{nat_cmp_total}
+use Rattle.std.specs.BTreeMap.{is_at}
+use Rattle.std.specs.FinMap as finite
+use Rattle.nfs_types.specs.Caller.{Caller}
+use Rattle.nfs_types.specs.declared.stat.Stat.TheVariants as stats
+use Rattle.tree_paths.specs.Files.{File, Files, file_at, parent_of}
+use Rattle.tree_paths.specs.Trees.{IsBody}
+use Rattle.tree_effects.specs.Checks.{◌>>=◌, found_or, listing_or, may_search}
+use Rattle.tree_effects.specs.Attributes.{attributes_of}
+use Rattle.tree_effects.specs.Effects.{attributes_at, number_named, number_at_name}
+use Rattle.tree_nodes.specs.LookUp.{number_listed}
+use Rattle.tree_nodes.specs.Nodes.{body_in, file_in, node_at, files_of, parent_in, KeepsParent, AreTree, fattr_of}
+use Rattle.tree_nodes.specs.NodeLookUp.{number_in}
+use Rattle.tree_nodes.specs.declared.node.Body as stored
+use Rattle.tree_nodes.specs.declared.node.Body.TheVariants as code
+use Rattle.tree_nodes.specs.declared.node.Node.{Node}
+
+find_seen : (es : List (ℕ × Node)) (n : ℕ) → finite.find nat_cmp n (map (λ (e : ℕ × Node). (e.0, file_in e.1)) es) ≡ option_map file_in (node_at es n)
+find_seen [] n = refl
+find_seen (e ∷ es) n = elim (is_at (nat_cmp n) e.0) as (λ b. cond b (Some (file_in e.1)) (finite.find nat_cmp n (map (λ (e : ℕ × Node). (e.0, file_in e.1)) es)) ≡ option_map file_in (cond b (Some e.1) (node_at es n))) [
+  | true ↦ refl
+  | false ↦ find_seen es n
+]
+
+module _ (fsid next : ℕ) (nodes : List (ℕ × Node)) where
+  pub file_seen : (n : ℕ) → file_at (files_of fsid next nodes) n ≡ option_map file_in (node_at nodes n)
+  file_seen n = finite.get-from_entries nat_cmp_total _ n ∙ find_seen nodes n
+
+  -- where no node has a number
+  pub attributes_none : (n : ℕ) → node_at nodes n ≡ None → attributes_at (files_of fsid next nodes) n ≡ Err stats.Stale
+  attributes_none n none = ap (λ o. found_or stats.Stale o >>= (λ f. Ok (attributes_of (files_of fsid next nodes) n f))) (file_seen n ∙ ap (option_map file_in) none)
+
+  pub number_none : (who : Caller) (n : ℕ) (name : List ℕ) → node_at nodes n ≡ None → number_at_name (files_of fsid next nodes) who n name ≡ Err stats.Stale
+  number_none who n name none =
+      ap (λ o. found_or stats.Stale o >>= (λ f. listing_or stats.NotDir f.body >>= (λ l. if may_search who f then found_or stats.NoEnt (number_named (files_of fsid next nodes) n l name) else Err stats.Acces)))
+      (file_seen n ∙ ap (option_map file_in) none)
+
+-- in a directory, the one above is the one that it keeps
+named_in : (w : Files) (who : Caller) (n : ℕ) (name : List ℕ) (f : File) (b : stored.Body) → KeepsParent b (parent_of w n)
+    → (listing_or stats.NotDir (body_in b) >>= (λ l. if may_search who f then found_or stats.NoEnt (number_named w n l name) else Err stats.Acces))
+    ≡ (listing_or stats.NotDir (body_in b) >>= (λ l. if may_search who f then found_or stats.NoEnt (number_listed n (parent_in b) l name) else Err stats.Acces))
+named_in w who n name f (code.Regular bytes) kept = refl
+named_in w who n name f (code.Link target) kept = refl
+named_in w who n name f (code.Directory parent l) kept = ap (λ above. if may_search who f then found_or stats.NoEnt (number_listed n above l name) else Err stats.Acces) (sym kept)
+
+-- where a node has a number
+module _ (fsid next : ℕ) (nodes : List (ℕ × Node)) (tree : AreTree fsid next nodes) (n : ℕ) (node : Node) (at : node_at nodes n ≡ Some node) where
+  there : file_at (files_of fsid next nodes) n ≡ Some (file_in node)
+  there = file_seen fsid next nodes n ∙ ap (option_map file_in) at
+
+  pub is_body : IsBody (body_in node.body)
+  is_body = (tree.tree.files n (file_in node) there).body
+
+  pub attributes_some : attributes_at (files_of fsid next nodes) n ≡ Ok (fattr_of fsid n node)
+  attributes_some =
+      ap (λ o. found_or stats.Stale o >>= (λ f. Ok (attributes_of (files_of fsid next nodes) n f))) there
+      ∙ ap (λ k. Ok (record (fattr_of fsid n node) { nlink = k })) (sym (tree.counted n node at).nlink)
+
+  pub number_some : (who : Caller) (name : List ℕ) → number_at_name (files_of fsid next nodes) who n name ≡ number_in who n node name
+  number_some who name =
+      ap (λ o. found_or stats.Stale o >>= (λ f. listing_or stats.NotDir f.body >>= (λ l. if may_search who f then found_or stats.NoEnt (number_named (files_of fsid next nodes) n l name) else Err stats.Acces))) there
+      ∙ named_in (files_of fsid next nodes) who n name (file_in node) node.body (tree.counted n node at).parent

@@ -1,0 +1,40 @@
+use Rattle.std.proofs.Common.{ℕ, Result, Ok, Err, IfOk, refl, sym, ap, subst, ◌≡◌, ◌∙◌}
+use Rattle.std.specs.Option.{option_copied}
+use Rattle.nfs_types.specs.CallerOf.{caller_of}
+use Rattle.nfs_types.specs.declared.stat.Stat.{Stat}
+use Rattle.tree_paths.specs.Trees.{IsFileTree}
+use Rattle.tree_effects.specs.Effects.{number_at_name}
+use Rattle.file_tree.proofs.Seen.{number_none, number_some}
+use Rattle.file_tree.proofs.Paths.{at_name, leads_on, leads_back}
+use Rattle.file_tree.proofs.tree.Tree.lookup.Goals as goal
+
+pub returns-in-Some-clause-result : goal.returns-in-Some-clause-result
+returns-in-Some-clause-result c =
+    c.number_at.ensures
+    ∙ sym (number_some c.self.inside.fsid c.self.inside.next c.self.inside.nodes.entries c.self.invariant c.args.dir c.in-Some.node.now
+    (sym c.get.ensures.value ∙ ap option_copied c.in-Some.is) (caller_of c.args.who.now) c.args.name.now)
+    ∙ ap (λ w. number_at_name w (caller_of c.args.who.now) c.args.dir c.args.name.now) c.self.view_is
+
+pub returns-in-None-clause-result : goal.returns-in-None-clause-result
+returns-in-None-clause-result c =
+    sym (number_none c.self.inside.fsid c.self.inside.next c.self.inside.nodes.entries (caller_of c.args.who.now) c.args.dir c.args.name.now (sym c.get.ensures.value ∙ ap option_copied c.in-None.is))
+    ∙ ap (λ w. number_at_name w (caller_of c.args.who.now) c.args.dir c.args.name.now) c.self.view_is
+
+if_ok : (r : Result ℕ Stat) (P : ℕ → Type 0) → ((k : ℕ) → r ≡ Ok k → P k) → IfOk r P
+if_ok (Ok k) P h = h k refl
+if_ok (Err e) P h = tt
+
+pub returns-in-Some-clause-found : goal.returns-in-Some-clause-found
+returns-in-Some-clause-found c = if_ok c.number_at.result _ (λ k is named.
+    leads_on c.args.self.now (caller_of c.args.who.now) c.args.dir c.args.name.now named _
+    ((at_name c.args.self.now (caller_of c.args.who.now) c.args.dir c.args.name.now named).found k (sym (returns-in-Some-clause-result c) ∙ is)))
+
+pub returns-in-Some-clause-absent : goal.returns-in-Some-clause-absent
+returns-in-Some-clause-absent c = λ is named.
+    leads_on c.args.self.now (caller_of c.args.who.now) c.args.dir c.args.name.now named _
+    ((at_name c.args.self.now (caller_of c.args.who.now) c.args.dir c.args.name.now named).absent (sym (returns-in-Some-clause-result c) ∙ is))
+
+pub returns-in-Some-clause-above : goal.returns-in-Some-clause-above
+returns-in-Some-clause-above c = λ is. if_ok c.number_at.result _ (λ k ok.
+    leads_back c.args.self.now (caller_of c.args.who.now) c.args.dir k (subst IsFileTree c.self.view_is c.self.invariant.tree)
+    (ap (λ name. number_at_name c.args.self.now (caller_of c.args.who.now) c.args.dir name) (sym is) ∙ sym (returns-in-Some-clause-result c) ∙ ok))

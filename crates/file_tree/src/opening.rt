@@ -1,0 +1,47 @@
+//! The nodes that each server begins with.
+
+ghost use Rattle.std.specs.Prelude.{◌≡◌, IfOk};
+ghost use Rattle.tree_effects.specs.Opening.{first_file, opening_root, opening_hello};
+ghost use Rattle.tree_nodes.specs.Nodes.{body_in, file_in, KeepsParent};
+
+use nfs_types::Time;
+use std::alloc::{AllocError, Global};
+use tree_nodes::{Body, Directory, Node};
+
+/// A file of user and group 0 whose times are 0.
+fn first_node(mode: u16, nlink: u32, body: Body) -> Node
+    ensures file { file_in result ≡ first_file mode (body_in body) }
+    ensures nlink { result.nlink ≡ nlink }
+    ensures body { result.body ≡ body }
+{
+    Node {
+        mode,
+        nlink,
+        uid: 0,
+        gid: 0,
+        atime: Time::epoch(),
+        mtime: Time::epoch(),
+        ctime: Time::epoch(),
+        body,
+    }
+}
+
+/// The directory `/`, with `hello` under number 2.
+pub fn root_node(alloc: Global) -> Result<Node, AllocError>
+    ensures file { IfOk result (λ node. file_in node ≡ opening_root) }
+    ensures nlink { IfOk result (λ node. node.nlink ≡ 2) }
+    ensures parent { IfOk result (λ node. KeepsParent node.body 1) }
+{
+    let mut listing = Directory::new(alloc);
+    listing.put(b"hello".to_vec(alloc)?, 2)?;
+    Ok(first_node(0o777, 2, Body::Directory { parent: 1, listing }))
+}
+
+/// The regular file `hello`.
+pub fn hello_node(alloc: Global) -> Result<Node, AllocError>
+    ensures file { IfOk result (λ node. file_in node ≡ opening_hello) }
+    ensures nlink { IfOk result (λ node. node.nlink ≡ 1) }
+{
+    let bytes = b"hello\n".to_vec(alloc)?;
+    Ok(first_node(0o644, 1, Body::Regular(bytes)))
+}

@@ -1,0 +1,117 @@
+//! The tree.
+
+ghost use Rattle.std.specs.Prelude.{◌≡◌, ℕ, List, IfOk, OnOk, IsTrue, Some, None, Err};
+ghost use Rattle.nfs_types.specs.CallerOf.{caller_of};
+ghost use Rattle.tree_paths.specs.Files.{places};
+ghost use Rattle.tree_paths.specs.Names.{is_name, dot_dot};
+ghost use Rattle.tree_paths.specs.Trees.{IsFileTree};
+ghost use Rattle.tree_effects.specs.Effects.{attributes_at, number_at_name};
+ghost use Rattle.tree_effects.specs.Opening.{opening_files};
+ghost use Rattle.file_tree.specs.LookUps.{LeadsOn, LeadsBack};
+
+use crate::opening::{hello_node, root_node};
+use nfs_types::{Fattr, Stat, Who};
+use std::alloc::{AllocError, Global};
+use std::collections::BTreeMap;
+use std::marker::Model;
+use tree_nodes::Node;
+
+/// The files of a server under their numbers, of which the root's is 1. A number is never used again.
+#[derive(Drop)]
+pub struct Tree {
+    fsid: u32,
+    next: u32,
+    nodes: BTreeMap<u32, Node>,
+}
+
+impl Model for Tree {
+    ghost use Rattle.tree_paths.specs.Files.{Files, files_code};
+    ghost use Rattle.tree_nodes.specs.Nodes.{files_of, AreTree};
+
+    ghost Value = { Files };
+
+    ghost coded = { files_code };
+
+    ghost view = { λ t. files_of t.fsid t.next t.nodes.entries };
+
+    ghost invariant = { λ t. AreTree t.fsid t.next t.nodes.entries };
+}
+
+impl Tree {
+    /// The files that each server begins with, for the node of a number: the directory `/` and the file `/hello`.
+    pub fn opening(alloc: Global, fsid: u32) -> Result<Tree, AllocError>
+        ensures { IfOk result (λ tree. tree ≡ opening_files fsid) }
+    {
+        let mut nodes = BTreeMap::new(alloc);
+        nodes.insert(1, root_node(alloc)?)?;
+        nodes.insert(2, hello_node(alloc)?)?;
+        Ok(Tree {
+            fsid,
+            next: 3,
+            nodes,
+        })
+    }
+
+    /// The number of the node whose files these are.
+    pub fn fsid(&self) -> u32
+        ensures { result ≡ self.now.fsid }
+    {
+        self.fsid
+    }
+
+    /// The files are a tree, as each call keeps them: does nothing, and tells a caller's proof.
+    pub fn files_are_a_tree(&self)
+        ensures { IsFileTree self.now }
+    {
+        let _fsid = self.fsid;
+    }
+
+    /// The attributes of a file (RFC 1094, section 2.3.5). Stale where no file has the number.
+    pub fn attributes(&self, number: u32) -> Result<Fattr, Stat>
+        ensures { result ≡ attributes_at self.now number }
+    {
+        let Some(node) = self.nodes.get(&number) else {
+            return Err(Stat::Stale);
+        };
+        Ok(node.attributes(self.fsid, number))
+    }
+
+    /// The number that a directory has at a name (RFC 1094, section 2.2.5): `.` is itself, and `..` the directory
+    /// above, which for the root is the root. Stale where no file has the directory's number, NotDir where that
+    /// file is none, Acces where the caller may not search it, and then NoEnt.
+    pub fn lookup(&self, who: &Who, dir: u32, name: &[u8]) -> Result<u32, Stat>
+        ensures result { result ≡ number_at_name self.now (caller_of who.now) dir name.now }
+
+        // A path to the directory, one name longer, leads to the number.
+        ensures found { IfOk result (λ number. IsTrue (is_name name.now) → LeadsOn (places self.now) dir name.now (Some number)) }
+        ensures absent { result ≡ Err Stat.NoEnt → IsTrue (is_name name.now) → LeadsOn (places self.now) dir name.now None }
+
+        // A path to the directory, one name shorter, leads to the one above.
+        ensures above { name.now ≡ dot_dot → IfOk result (λ number. LeadsBack (places self.now) dir number) }
+    {
+        match self.nodes.get(&dir) {
+            Some(node) => node.number_at(who, dir, name),
+            None => Err(Stat::Stale),
+        }
+    }
+}
+
+#[cfg(test)]
+mod tests {
+    use super::*;
+    use std::test::Fail;
+
+    #[test]
+    fn opens(rt: HostRuntime) -> Result<(), Fail> {
+        let tree = Tree::opening(rt.alloc(), 7)?;
+        let nobody = Who::nobody(rt.alloc());
+        let hello = tree.lookup(&nobody, 1, b"hello")?;
+        assert_eq!(rt; hello, 2);
+        let attributes = tree.attributes(hello)?;
+        assert_eq!(rt; attributes.mode, 0o100644);
+        assert_eq!(rt; attributes.size, 6);
+        assert_eq!(rt; attributes.fsid, 7);
+        assert_eq!(rt; tree.attributes(1)?.nlink, 2);
+        Ok(())
+    }
+}

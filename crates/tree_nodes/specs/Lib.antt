@@ -1,0 +1,13 @@
+pub use Rattle.nfs_types.specs.Timeval
+pub use Rattle.nfs_types.specs.Caller
+pub use Rattle.nfs_types.specs.CallerOf
+pub use Rattle.tree_paths.specs.Listing
+pub use Rattle.tree_paths.specs.Names
+pub use Rattle.tree_paths.specs.Files
+pub use Rattle.tree_paths.specs.Trees
+pub use Rattle.tree_effects.specs.Checks
+pub use Rattle.tree_effects.specs.Attributes
+pub use Rattle.tree_effects.specs.Effects
+pub mod LookUp
+pub mod Nodes
+pub mod NodeLookUp
