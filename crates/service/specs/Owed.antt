@@ -1,0 +1,21 @@
+-- What a stream of records is owed.
+use Rattle.std.specs.Prelude.{ℕ, true, List, [], ◌∷◌, ◌++◌, Option, Some, None}
+use Rattle.records.specs.Record.{fragment}
+use Rattle.nfs_types.specs.Timeval.{Timeval}
+use Rattle.service.specs.World.{World}
+use Rattle.service.specs.Replies.{reply_owed, world_after}
+
+-- the record of a reply: one fragment, the last; nothing where none is owed
+abbrev pub record_of : Option (List ℕ) → List ℕ
+record_of None = []
+record_of (Some bytes) = fragment true bytes
+
+-- the records of the replies owed to records that come at times, one after the other
+abbrev pub replies_owed : World → List (Timeval × List ℕ) → List ℕ
+replies_owed w [] = []
+replies_owed w (c ∷ cs) = record_of (reply_owed w c.0 c.1) ++ replies_owed (world_after w c.0 c.1) cs
+
+-- the world after them
+abbrev pub world_after_all : World → List (Timeval × List ℕ) → World
+world_after_all w [] = w
+world_after_all w (c ∷ cs) = world_after_all (world_after w c.0 c.1) cs
