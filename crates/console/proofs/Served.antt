@@ -1,0 +1,152 @@
+-- Records and replies, one after the other.
+use Rattle.std.proofs.Common.{◌≡◌, ℕ, ◌+◌, List, [], ◌∷◌, ◌++◌, arith, length, sym, ap, ◌∙◌, refl, length-append, append_assoc, subst}
+use Rattle.std.specs.Prelude.{Option, Some, None, IfSome}
+use Rattle.std.specs.Io.KnownBytes.{Consumes, Appends}
+use Rattle.std.proofs.KnownBytes.{Consumes-trans, Consumes-nil, Appends-trans, Appends-nil}
+use Rattle.std.proofs.lemmas.List.{append-nil}
+use Rattle.records.specs.Record.{IsRecord, IsUnfinished, PassesLimit}
+use Rattle.records.specs.Stream.{AreRecords}
+use Rattle.records.proofs.Streams.{AreRecords-push}
+use Rattle.records.specs.declared.fault.RecordFault.{RecordFault}
+use Rattle.records.specs.declared.fault.RecordFault.TheVariants as faults
+use Rattle.records.specs.Reading.{FailsUnless}
+use Rattle.nfs_types.specs.Timeval.{Timeval}
+use Rattle.service.specs.World.{World, opening_world}
+use Rattle.service.specs.Replies.{reply_owed, world_after}
+use Rattle.service.specs.Owed.{record_of, replies_owed, world_after_all}
+use Rattle.console.specs.RunRpc.{time_of, timed, owed, Serves, ServesUpTo, ServesPart, EndsWith}
+
+timed-push : (k : ℕ) (rs : List (List ℕ)) (r : List ℕ) → timed k (rs ++ r ∷ []) ≡ timed k rs ++ (time_of (k + length rs), r) ∷ []
+timed-push k [] r = let e : k + 0 ≡ k = omega arith in rw e refl
+timed-push k (s ∷ rs) r =
+    let e : k + length (s ∷ rs) ≡ (k + 1) + length rs = omega arith in rw e (ap (λ (cs : List (Timeval × List ℕ)). (time_of k, s) ∷ cs) (timed-push (k + 1) rs r))
+
+replies_owed-push : (w : World) (cs : List (Timeval × List ℕ)) (time : Timeval) (r : List ℕ)
+    → replies_owed w (cs ++ (time, r) ∷ []) ≡ replies_owed w cs ++ record_of (reply_owed (world_after_all w cs) time r)
+replies_owed-push w [] time r = append-nil (record_of (reply_owed w time r))
+replies_owed-push w (c ∷ cs) time r =
+    ap (λ (t : List ℕ). record_of (reply_owed w c.0 c.1) ++ t) (replies_owed-push (world_after w c.0 c.1) cs time r)
+    ∙ sym (append_assoc (record_of (reply_owed w c.0 c.1)) (replies_owed (world_after w c.0 c.1) cs) (record_of (reply_owed (world_after_all (world_after w c.0 c.1) cs) time r)))
+
+world_after_all-push : (w : World) (cs : List (Timeval × List ℕ)) (time : Timeval) (r : List ℕ) → world_after_all w (cs ++ (time, r) ∷ []) ≡ world_after (world_after_all w cs) time r
+world_after_all-push w [] time r = refl
+world_after_all-push w (c ∷ cs) time r = world_after_all-push (world_after w c.0 c.1) cs time r
+
+-- the world after some records
+abbrev pub world_at : List (List ℕ) → World
+world_at records = world_after_all (opening_world 1) (timed 1 records)
+
+pub world_at-push : (rs : List (List ℕ)) (r : List ℕ) → world_at (rs ++ r ∷ []) ≡ world_after (world_at rs) (time_of (1 + length rs)) r
+world_at-push rs r = ap (world_after_all (opening_world 1)) (timed-push 1 rs r) ∙ world_after_all-push (opening_world 1) (timed 1 rs) (time_of (1 + length rs)) r
+
+pub owed-push : (rs : List (List ℕ)) (r : List ℕ) → owed (rs ++ r ∷ []) ≡ owed rs ++ record_of (reply_owed (world_at rs) (time_of (1 + length rs)) r)
+owed-push rs r = ap (replies_owed (opening_world 1)) (timed-push 1 rs r) ∙ replies_owed-push (opening_world 1) (timed 1 rs) (time_of (1 + length rs)) r
+
+-- these records were read, and their replies written
+pub record Progress (now : World) (k : ℕ) (before mid written_before written : Option (List ℕ)) : Type 0 where
+  pub records : List (List ℕ)
+  pub text : List ℕ
+  pub are_records : AreRecords text records
+  pub count_is : 1 + length records ≡ k
+  pub taken : Consumes before mid text
+  pub world_is : now ≡ world_at records
+  pub replied : Appends written_before written (owed records)
+
+pub begins : (now : World) (before written : Option (List ℕ)) → now ≡ opening_world 1 → Progress now 1 before before written written
+begins now before written e = record { records = []; text = []; are_records = refl; count_is = refl; taken = Consumes-nil before; world_is = e; replied = Appends-nil written }
+
+pub pushes : (now next : World) (k : ℕ) (before mid mid' written_before written written' : Option (List ℕ)) (more r : List ℕ) → Progress now k before mid written_before written
+    → IsRecord more r → Consumes mid mid' more → next ≡ world_after now (time_of k) r → Appends written written' (record_of (reply_owed now (time_of k) r)) → Progress next (k + 1) before mid' written_before written'
+pushes now next k before mid mid' written_before written written' more r p is taken e wrote = record {
+  records = p.records ++ r ∷ [];
+  text = p.text ++ more;
+  are_records = AreRecords-push p.text p.records more r p.are_records is;
+  count_is = omega (arith, length-append p.records (r ∷ []), p.count_is);
+  taken = Consumes-trans _ _ _ _ _ p.taken taken;
+  world_is = e ∙ ap (λ (w : World). world_after w (time_of k) r) p.world_is ∙ rw (← p.count_is) (sym (world_at-push p.records r));
+  replied = rw (owed-push p.records r, p.count_is, ← p.world_is) (Appends-trans _ _ _ _ _ p.replied wrote);
+}
+
+-- what was read and not read, where the input is known
+known : (before mid : Option (List ℕ)) (text : List ℕ) (P : List ℕ → Type 0) → Consumes before mid text → ((input rest : List ℕ) → mid ≡ Some rest → input ≡ text ++ rest → P input) → IfSome before P
+known None mid text P taken f = tt
+known (Some xs) None text P taken f = absurd taken
+known (Some xs) (Some ys) text P taken f = f xs ys refl taken
+
+-- a reply that was written in part
+pub falls_short : (now : World) (k : ℕ) (before mid mid' written_before written written' : Option (List ℕ)) (more r front unwritten : List ℕ) → Progress now k before mid written_before written
+    → IsRecord more r → Consumes mid mid' more → record_of (reply_owed now (time_of k) r) ≡ front ++ unwritten → Appends written written' front → IfSome before (λ input. ServesPart input written_before written')
+falls_short now k before mid mid' written_before written written' more r front unwritten p is taken e wrote =
+    known before mid' (p.text ++ more) (λ input. ServesPart input written_before written') (Consumes-trans _ _ _ _ _ p.taken taken) (λ input rest left is_input. record {
+      records = p.records ++ r ∷ [];
+      text = p.text ++ more;
+      rest = rest;
+      are_records = AreRecords-push p.text p.records more r p.are_records is;
+      input_is = is_input;
+      front = owed p.records ++ front;
+      unwritten = unwritten;
+      owed_is = rw (owed-push p.records r, p.count_is, ← p.world_is) (ap (λ (t : List ℕ). owed p.records ++ t) e ∙ sym (append_assoc (owed p.records) front unwritten));
+      written = Appends-trans _ _ _ _ _ p.replied wrote;
+    })
+
+-- all that was owed so far stands written
+pub stops : (now : World) (k : ℕ) (before mid written_before written : Option (List ℕ)) → Progress now k before mid written_before written → IfSome before (λ input. ServesPart input written_before written)
+stops now k before mid written_before written p = known before mid p.text (λ input. ServesPart input written_before written) p.taken (λ input rest left is_input. record {
+  records = p.records;
+  text = p.text;
+  rest = rest;
+  are_records = p.are_records;
+  input_is = is_input;
+  front = owed p.records;
+  unwritten = [];
+  owed_is = sym (append-nil (owed p.records));
+  written = p.replied;
+})
+
+-- the input is at its end
+pub serves : (now : World) (k : ℕ) (before mid written_before written : Option (List ℕ)) (count : ℕ) → Progress now k before mid written_before written → count + 1 ≡ k
+    → IfSome mid (λ bytes. bytes ≡ []) → IfSome before (λ input. Serves count input written_before written)
+serves now k before mid written_before written count p counted end = known before mid p.text (λ input. Serves count input written_before written) p.taken (λ input rest left is_input.
+    let none : rest ≡ [] = at_end mid rest left end in
+    let whole : input ≡ p.text = is_input ∙ ap (λ (t : List ℕ). p.text ++ t) none ∙ append-nil p.text in
+    record { records = p.records; are_records = subst (λ (t : List ℕ). AreRecords t p.records) (sym whole) p.are_records; count_is = omega (arith, p.count_is); written = p.replied })
+  where
+    at_end : (mid : Option (List ℕ)) (rest : List ℕ) → mid ≡ Some rest → IfSome mid (λ bytes. bytes ≡ []) → rest ≡ []
+    at_end None rest e h = absurd cc
+    at_end (Some xs) rest e h = let same : xs ≡ rest = cc in sym same ∙ h
+
+-- the input goes on with bytes of which something holds
+up_to : (P : List ℕ → Type 0) (now : World) (k : ℕ) (before mid written_before written : Option (List ℕ)) → Progress now k before mid written_before written
+    → IfSome mid P → IfSome before (λ input. ServesUpTo P input written_before written)
+up_to P now k before mid written_before written p h = known before mid p.text (λ input. ServesUpTo P input written_before written) p.taken (λ input rest left is_input. record {
+  records = p.records;
+  text = p.text;
+  rest = rest;
+  are_records = p.are_records;
+  input_is = is_input;
+  rest_is = at_rest mid rest left h;
+  written = p.replied;
+})
+  where
+    at_rest : (mid : Option (List ℕ)) (rest : List ℕ) → mid ≡ Some rest → IfSome mid P → P rest
+    at_rest None rest e h = absurd cc
+    at_rest (Some xs) rest e h = let same : xs ≡ rest = cc in subst P same h
+
+-- no record could be read
+pub ends : (e : RecordFault) (now : World) (k : ℕ) (before mid written_before written : Option (List ℕ)) (m n : ℕ) → Progress now k before mid written_before written
+    → FailsUnless e PassesLimit IsUnfinished mid m n → IfSome before (λ input. EndsWith e input written_before written)
+ends faults.NoMemory now k before mid written_before written m n p h = stops now k before mid written_before written p
+ends faults.RecordTooLong now k before mid written_before written m n p h = up_to PassesLimit now k before mid written_before written p h.0
+ends faults.Device now k before mid written_before written m n p h = stops now k before mid written_before written p
+ends faults.EndInRecord now k before mid written_before written m n p h = up_to IsUnfinished now k before mid written_before written p h.0
+
+-- the loop before the k-th record: no fault has come, and nothing was counted
+pub record Turn (now : World) (k : ℕ) (before mid written_before written : Option (List ℕ)) (failed : Option RecordFault) (reads reads_now writes writes_now : ℕ) : Type 0 where
+  pub progress : Progress now k before mid written_before written
+  pub fresh : failed ≡ None
+  pub reads_same : reads_now ≡ reads
+  pub writes_same : writes_now ≡ writes
+
+-- nothing was read, and nothing written
+pub nothing_yet : (before written : Option (List ℕ)) → IfSome before (λ input. ServesPart input written written)
+nothing_yet before written = stops (opening_world 1) 1 before before written written (begins (opening_world 1) before written refl)

@@ -1,0 +1,60 @@
+-- What the loop over records owes.
+use Rattle.std.specs.Prelude.{◌≡◌, ◌+◌, ◌⊎◌, ℕ, min, List, [], ◌∷◌, ◌++◌, length, Option, IfSome}
+use Rattle.std.specs.Io.KnownBytes.{Appends}
+use Rattle.records.specs.Count.{Rises}
+use Rattle.records.specs.Record.{IsUnfinished, PassesLimit}
+use Rattle.records.specs.Stream.{AreRecords}
+use Rattle.records.specs.declared.fault.RecordFault.{RecordFault}
+use Rattle.records.specs.declared.fault.RecordFault.TheVariants as faults
+use Rattle.nfs_types.specs.Timeval.{Timeval}
+use Rattle.service.specs.World.{opening_world}
+use Rattle.service.specs.Owed.{replies_owed}
+
+-- the time of the k-th record
+abbrev pub time_of : ℕ → Timeval
+time_of k = record { seconds = min k 4294967295; microseconds = 0 }
+
+-- the records from the k-th on, each with its time
+abbrev pub timed : ℕ → List (List ℕ) → List (Timeval × List ℕ)
+timed k [] = []
+timed k (r ∷ rs) = (time_of k, r) ∷ timed (k + 1) rs
+
+-- what is owed to a list of records, by node 1 from its opening world
+abbrev pub owed : List (List ℕ) → List ℕ
+owed records = replies_owed (opening_world 1) (timed 1 records)
+
+-- The whole input is count records, and the text owed to them was written.
+pub record Serves (count : ℕ) (input : List ℕ) (before after : Option (List ℕ)) : Type 0 where
+  pub records : List (List ℕ)
+  pub are_records : AreRecords input records
+  pub count_is : length records ≡ count
+  pub written : Appends before after (owed records)
+
+-- The input is records, and then bytes of which this holds; the whole text owed to those records was written.
+pub record ServesUpTo (IsRest : List ℕ → Type 0) (input : List ℕ) (before after : Option (List ℕ)) : Type 0 where
+  pub records : List (List ℕ)
+  pub text : List ℕ
+  pub rest : List ℕ
+  pub are_records : AreRecords text records
+  pub input_is : input ≡ text ++ rest
+  pub rest_is : IsRest rest
+  pub written : Appends before after (owed records)
+
+-- The input begins with records, and a beginning of the text owed to them was written.
+pub record ServesPart (input : List ℕ) (before after : Option (List ℕ)) : Type 0 where
+  pub records : List (List ℕ)
+  pub text : List ℕ
+  pub rest : List ℕ
+  pub are_records : AreRecords text records
+  pub input_is : input ≡ text ++ rest
+  pub front : List ℕ
+  pub unwritten : List ℕ
+  pub owed_is : owed records ≡ front ++ unwritten
+  pub written : Appends before after front
+
+-- How the loop ends with a fault.
+abbrev pub EndsWith : RecordFault → List ℕ → Option (List ℕ) → Option (List ℕ) → Type 0
+EndsWith faults.NoMemory input before after = ServesPart input before after
+EndsWith faults.RecordTooLong input before after = ServesUpTo PassesLimit input before after
+EndsWith faults.Device input before after = ServesPart input before after
+EndsWith faults.EndInRecord input before after = ServesUpTo IsUnfinished input before after

@@ -1,0 +1,8 @@
+//! The commands of `nfsacc`.
+#![tactic(auto)]
+
+mod command_line;
+mod stream;
+
+pub use command_line::{Request, parse};
+pub use stream::run_rpc;

@@ -1,0 +1,76 @@
+//! Records in, replies out.
+
+ghost use Rattle.std.specs.Prelude.{◌≡◌, ◌≤◌, ◌⊎◌, length, IfOk, IfErr, IsErrOf, IfSome, None};
+ghost use Rattle.std.specs.Option.{option_map};
+ghost use Rattle.records.specs.Count.{Rises, CountsErr};
+ghost use Rattle.records.specs.Writing.{WritesPart};
+ghost use Rattle.service.specs.Owed.{record_of};
+ghost use Rattle.records.specs.declared.fault.RecordFault.TheVariants.{Device};
+ghost use Rattle.console.specs.RunRpc.{time_of, Serves, EndsWith};
+
+use nfs_types::Time;
+use rpc::{Counting, RecordFault, RecordReader, write_record};
+use service::Service;
+use std::alloc::Global;
+use std::io::{Read, Write};
+
+/// The node that serves.
+const NODE: u32 = 1;
+
+/// The time of the k-th record: k seconds, at most 4294967295.
+fn time_of_record(k: u64) -> Time
+    ensures { result ≡ time_of k }
+{
+    let seconds = k.min(4294967295) as u32;
+    Time::new(seconds, 0).unwrap()
+}
+
+/// Writes the reply to a record, if one is owed.
+fn write_reply<W: Write>(
+    writer: &mut Counting<W>,
+    reply: &Option<Vec<u8>>,
+) -> Result<(), RecordFault>
+    requires { IfSome reply.now (λ v. length v.items ≤ 12288) }
+    ensures text { WritesPart (W.contents writer.old.inner) (W.contents writer.new.inner) (record_of (option_map (λ v. v.items) reply.now)) result }
+    ensures count { CountsErr result writer.old.count writer.new.count }
+    ensures fault { IfErr result (λ e. e ≡ RecordFault.Device) }
+{
+    match reply {
+        Some(bytes) => write_record(writer, bytes),
+        None => Ok(()),
+    }
+}
+
+/// Answers each record of a stream as the server of node 1 would, from the files that it begins with; the k-th record
+/// has the time (k, 0), at most (4294967295, 0). A reply is written before the next record is read.
+///
+/// `Ok` is the count of records. `RecordTooLong` and `EndInRecord` come where the input goes on with bytes that pass a
+/// limit, or end within a record; what is owed to the records before them was written. `Device` comes where a read or
+/// a write failed, and `NoMemory` where memory was refused, or after 2^64 - 2 records: then a beginning of what is owed
+/// was written.
+pub fn run_rpc<R: Read + Drop, W: Write>(
+    alloc: Global,
+    reader: &mut RecordReader<R>,
+    writer: &mut Counting<W>,
+) -> Result<u64, RecordFault>
+    requires fresh { reader.old.failed ≡ None }
+    ensures served { IfOk result (λ count. IfSome (R.remaining reader.old.reader.inner) (λ input.
+        Serves count input (W.contents writer.old.inner) (W.contents writer.new.inner))) }
+    ensures fault { IfErr result (λ e. IfSome (R.remaining reader.old.reader.inner) (λ input.
+        EndsWith e input (W.contents writer.old.inner) (W.contents writer.new.inner))) }
+    ensures device { IsErrOf result Device → Rises reader.old.reader.count reader.new.reader.count ⊎ Rises writer.old.count writer.new.count }
+{
+    let Ok(mut service) = Service::opening(alloc, NODE) else {
+        return Err(RecordFault::NoMemory);
+    };
+    for k in 1..u64::MAX {
+        let Some(record) = reader.next(alloc)? else {
+            return Ok(k - 1);
+        };
+        let Ok(reply) = service.answer(alloc, time_of_record(k), &record) else {
+            return Err(RecordFault::NoMemory);
+        };
+        write_reply(writer, &reply)?;
+    }
+    Err(RecordFault::NoMemory)
+}
