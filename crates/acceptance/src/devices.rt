@@ -1,0 +1,130 @@
+//! Readers and writers that fail in the middle of a stream.
+
+use crate::texts::Stream;
+use console::run_rpc;
+use rpc::{Counting, RecordFault, RecordReader};
+use std::io;
+use std::io::{ErrorKind, Read, Write};
+use std::test::Fail;
+
+/// Gives one byte a call, and fails at one call.
+#[derive(Drop)]
+struct SlowReader<'a> {
+    bytes: &'a [u8],
+    calls: u64,
+    fails_at: u64,
+}
+
+impl Read for SlowReader<'_> {
+    fn read(&mut self, buf: &mut [u8]) -> io::Result<usize> {
+        self.calls = self.calls.saturating_add(1);
+        if self.calls == self.fails_at {
+            return Err(io::Error::from(ErrorKind::Other));
+        }
+        let Some((byte, rest)) = self.bytes.split_first() else {
+            return Ok(0);
+        };
+        let Some(first) = buf.first_mut() else {
+            return Ok(0);
+        };
+        *first = *byte;
+        self.bytes = rest;
+        Ok(1)
+    }
+}
+
+/// How a call of a writer fails.
+#[derive(Clone, Copy, Debug)]
+enum Refusal {
+    Error,
+    TakesNothing,
+}
+
+/// Takes one byte a call, and fails at one call.
+#[derive(Drop)]
+struct SlowWriter {
+    taken: Vec<u8>,
+    calls: u64,
+    fails_at: u64,
+    refusal: Refusal,
+}
+
+impl Write for SlowWriter {
+    fn write(&mut self, buf: &[u8]) -> io::Result<usize> {
+        self.calls = self.calls.saturating_add(1);
+        if self.calls == self.fails_at {
+            return match self.refusal {
+                Refusal::Error => Err(io::Error::from(ErrorKind::Other)),
+                Refusal::TakesNothing => Ok(0),
+            };
+        }
+        let Some(byte) = buf.first() else {
+            return Ok(0);
+        };
+        self.taken.push(*byte)?;
+        Ok(1)
+    }
+
+    fn flush(&mut self) -> io::Result<()> {
+        Ok(())
+    }
+}
+
+#[test]
+fn a_failed_read_ends_the_stream(rt: HostRuntime) -> Result<(), Fail> {
+    let input = Stream::of_calls(rt.alloc())?;
+    let output = Stream::of_replies(rt.alloc())?;
+    for read in 0..input.bytes.len() + 1 {
+        let fails_at = read as u64 + 1;
+        let mut reader = RecordReader::new(Counting::new(SlowReader {
+            bytes: &input.bytes,
+            calls: 0,
+            fails_at,
+        }));
+        let mut writer = Counting::new(Vec::new(rt.alloc()));
+        let done = run_rpc(rt.alloc(), &mut reader, &mut writer);
+        assert_eq!(rt; done, Err(RecordFault::Device), "after {read}");
+        let owed = output.first(input.count_within(read));
+        assert_eq!(rt; writer.inner.as_slice(), owed, "after {read}");
+        assert_eq!(rt; (reader.reader.count, writer.count), (1, 0), "after {read}");
+        let again = reader.next(rt.alloc()).err();
+        assert_eq!(rt; again, Some(RecordFault::Device), "after {read}");
+        assert_eq!(rt; reader.reader.inner.calls, fails_at, "after {read}");
+    }
+    Ok(())
+}
+
+#[test]
+fn a_failed_write_ends_the_stream(rt: HostRuntime) -> Result<(), Fail> {
+    let input = Stream::of_calls(rt.alloc())?;
+    let output = Stream::of_replies(rt.alloc())?;
+    for refusal in [Refusal::Error, Refusal::TakesNothing] {
+        for written in 0..output.bytes.len() {
+            let mut reader = RecordReader::new(Counting::new(input.bytes.as_slice()));
+            let mut writer = Counting::new(SlowWriter {
+                taken: Vec::new(rt.alloc()),
+                calls: 0,
+                fails_at: written as u64 + 1,
+                refusal,
+            });
+            let done = run_rpc(rt.alloc(), &mut reader, &mut writer);
+            assert_eq!(rt;
+                done,
+                Err(RecordFault::Device),
+                "{refusal:?} after {written}"
+            );
+            let taken = writer.inner.taken.as_slice();
+            assert_eq!(rt;
+                taken,
+                &output.bytes[..written],
+                "{refusal:?} after {written}"
+            );
+            assert_eq!(rt;
+                (reader.reader.count, writer.count),
+                (0, 1),
+                "{refusal:?} after {written}"
+            );
+        }
+    }
+    Ok(())
+}
