@@ -1,0 +1,19 @@
+use Rattle.std.proofs.Common.{refl}
+use Rattle.xdr.specs.Item.{number_spelling}
+use Rattle.call_items.proofs.worked.answers_come_out.Goals as goal
+
+pub returns-clause-free : goal.returns-clause-free
+unfolding number_spelling
+returns-clause-free c = refl
+
+pub returns-clause-page : goal.returns-clause-page
+unfolding number_spelling
+returns-clause-page c = refl
+
+pub returns-clause-target : goal.returns-clause-target
+unfolding number_spelling
+returns-clause-target c = refl
+
+pub returns-clause-refused : goal.returns-clause-refused
+unfolding number_spelling
+returns-clause-refused c = refl

@@ -1,0 +1,3 @@
+pub use Rattle.tree_effects.specs.Calls
+pub mod Items
+pub mod Texts

@@ -1,0 +1,8 @@
+pub mod Steps
+pub mod Bodies
+pub mod Kept
+pub mod Gone
+pub mod Stays
+pub mod Determined
+pub mod Bytes
+pub mod Stats

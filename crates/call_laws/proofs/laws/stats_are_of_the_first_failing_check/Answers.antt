@@ -1,0 +1,80 @@
+use Rattle.std.proofs.Common.{◌≡◌, ℕ, [], ◌∷◌, ◌-◌, false, cond, not, Option, Some, None, Ok, Err, refl, List, take, drop, min}
+use Rattle.std.specs.Prelude.{◌||◌, is_some}
+use Rattle.std.specs.Option.{option_map_or}
+use Rattle.nfs_types.specs.Caller.{Caller}
+use Rattle.nfs_types.specs.declared.attributes.Fattr.{Fattr}
+use Rattle.nfs_types.specs.declared.stat.Stat.TheVariants as stats
+use Rattle.tree_paths.specs.Files.{File, Files, file_at, is_directory, listing_in}
+use Rattle.tree_effects.specs.Attributes.{attributes_of}
+use Rattle.tree_effects.specs.Checks.{◌>>=◌, found_or, listing_or, bytes_of, target_of, check, permits, may_search, may_read}
+use Rattle.tree_effects.specs.Effects.{number_named}
+use Rattle.tree_effects.specs.Laws.{stat_in}
+use Rattle.tree_changes.specs.Limits.{block_count}
+use Rattle.tree_effects.specs.Procedures.{Figures}
+use Rattle.tree_effects.specs.Reading.{listed, page_of}
+use Rattle.call_laws.specs.Laws.{first_failing, is_link}
+use Rattle.call_laws.proofs.Stats.{found, in_body, of_target, of_bytes, of_listing}
+use Rattle.call_laws.proofs.laws.stats_are_of_the_first_failing_check.Goals as goal
+
+pub returns-clause-getattr : goal.returns-clause-getattr
+returns-clause-getattr c w n =
+    elim (file_at w n) as (λ o. stat_in (found_or stats.Stale o >>= λ f. Ok (attributes_of w n f)) ≡ first_failing ((is_some o, stats.Stale) ∷ [])) [
+      | None ↦ refl
+      | Some f ↦ refl
+    ]
+
+lookup_by : (w : Files) (who : Caller) (dir : ℕ) (name : List ℕ) (o : Option File)
+    → stat_in (found_or stats.Stale o >>= λ f. listing_or stats.NotDir f.body >>= λ l. cond (may_search who f) (found_or stats.NoEnt (number_named w dir l name)) (Err stats.Acces))
+    ≡ first_failing (
+    (is_some o, stats.Stale)
+    ∷ (option_map_or (λ f. is_directory f.body) o false, stats.NotDir)
+    ∷ (option_map_or (may_search who) o false, stats.Acces)
+    ∷ (is_some (number_named w dir (option_map_or (λ f. listing_in f.body) o (record { next = 0; entries = [] })) name), stats.NoEnt)
+    ∷ []
+    )
+lookup_by w who dir name None = refl
+lookup_by w who dir name (Some f) = in_body f.body (may_search who f) (λ l. number_named w dir l name)
+
+pub returns-clause-lookup : goal.returns-clause-lookup
+returns-clause-lookup c w who dir name = lookup_by w who dir name (file_at w dir)
+
+link_by : (o : Option File) → stat_in (found_or stats.Stale o >>= λ f. target_of f.body) ≡ first_failing ((is_some o, stats.Stale) ∷ (option_map_or (λ f. is_link f.body) o false, stats.NxIo) ∷ [])
+link_by None = refl
+link_by (Some f) = of_target f.body
+
+pub returns-clause-read_link : goal.returns-clause-read_link
+returns-clause-read_link c w n = link_by (file_at w n)
+
+read_by : (w : Files) (who : Caller) (n offset count : ℕ) (o : Option File)
+    → stat_in {X = Fattr × List ℕ} (found_or stats.Stale o >>= λ f. bytes_of f.body >>= λ bytes. check (may_read who f || permits who f 1) stats.Acces >>= λ _. Ok (attributes_of w n f, take (min count 8192) (drop offset bytes)))
+    ≡ first_failing (
+    (is_some o, stats.Stale)
+    ∷ (not (option_map_or (λ f. is_directory f.body) o false), stats.IsDir)
+    ∷ (not (option_map_or (λ f. is_link f.body) o false), stats.NxIo)
+    ∷ (option_map_or (λ f. may_read who f || permits who f 1) o false, stats.Acces)
+    ∷ []
+    )
+read_by w who n offset count None = refl
+read_by w who n offset count (Some f) = of_bytes f.body (may_read who f || permits who f 1) (λ bytes. (attributes_of w n f, take (min count 8192) (drop offset bytes)))
+
+pub returns-clause-read : goal.returns-clause-read
+returns-clause-read c w who n offset count = read_by w who n offset count (file_at w n)
+
+page_by : (w : Files) (who : Caller) (dir cookie count : ℕ) (o : Option File)
+    → stat_in (
+    (found_or stats.Stale o >>= λ f. listing_or stats.NotDir f.body >>= λ l. found (record { number = dir; file = f; listing = l }))
+    >>= λ d. check (may_read who d.file) stats.Acces >>= λ _. Ok (page_of cookie count (listed w dir d.listing))
+    )
+    ≡ first_failing ((is_some o, stats.Stale) ∷ (option_map_or (λ f. is_directory f.body) o false, stats.NotDir) ∷ (option_map_or (may_read who) o false, stats.Acces) ∷ [])
+page_by w who dir cookie count None = refl
+page_by w who dir cookie count (Some f) = of_listing f.body dir f (may_read who) (λ d. page_of cookie count (listed w dir d.listing))
+
+pub returns-clause-read_dir : goal.returns-clause-read_dir
+returns-clause-read_dir c w who dir cookie count = page_by w who dir cookie count (file_at w dir)
+
+free_by : (figures : Figures) (o : Option File) → stat_in (found_or stats.Stale o >>= λ f. Ok figures) ≡ first_failing ((is_some o, stats.Stale) ∷ [])
+free_by figures None = refl
+free_by figures (Some f) = refl
+
+pub returns-clause-figures : goal.returns-clause-figures
+returns-clause-figures c w n = free_by (record { transfer_size = 8192; block_size = 512; blocks = 32768; free = 32768 - block_count w; available = 32768 - block_count w }) (file_at w n)

@@ -1,0 +1,70 @@
+use Rattle.std.proofs.Common.{◌≡◌, ℕ, ◌+◌, List, [], ◌∷◌, length, Bool, false, cond, not, Option, Some, None, Ok, refl}
+use Rattle.std.specs.Prelude.{◌||◌, ◌&&◌, ◌==◌, nat_le, is_some, is_none, option_and_then}
+use Rattle.std.specs.Option.{option_map_or}
+use Rattle.nfs_types.specs.Caller.{Caller}
+use Rattle.nfs_types.specs.declared.stat.Stat.TheVariants as stats
+use Rattle.tree_paths.specs.Listing.{entry_at}
+use Rattle.tree_paths.specs.Names.{is_name}
+use Rattle.tree_paths.specs.Files.{Link, Directory, File, Files, file_at, is_directory, listing_in}
+use Rattle.tree_changes.specs.Edits.{with_changed_file}
+use Rattle.tree_changes.specs.Limits.{has_room}
+use Rattle.tree_effects.specs.Checks.{◌>>=◌, found_or, listing_or, bytes_of, check, may_search, may_write}
+use Rattle.tree_effects.specs.Sattr.{nothing}
+use Rattle.tree_effects.specs.Changes.{new_file}
+use Rattle.tree_effects.specs.Procedures.{rewritten, made}
+use Rattle.tree_effects.specs.Laws.{stat_in}
+use Rattle.call_laws.specs.Laws.{first_failing, is_link, bytes_in}
+use Rattle.call_laws.proofs.Stats.{found, of_write, of_make}
+use Rattle.call_laws.proofs.laws.stats_of_changes_are_of_the_first_failing_check.Goals as goal
+
+write_by : {X : Type 0} (who : Caller) (e z : Bool) (room : List ℕ → Bool) (x : X) (give : List ℕ → X) (o : Option File)
+    → stat_in (found_or stats.Stale o >>= λ f. bytes_of f.body >>= λ old. check (may_write who f) stats.Acces >>= λ _. cond e (Ok x) (check z stats.FBig >>= λ _. check (room old) stats.NoSpc >>= λ _. Ok (give old)))
+    ≡ first_failing (
+    (is_some o, stats.Stale)
+    ∷ (not (option_map_or (λ f. is_directory f.body) o false), stats.IsDir)
+    ∷ (not (option_map_or (λ f. is_link f.body) o false), stats.NxIo)
+    ∷ (option_map_or (may_write who) o false, stats.Acces)
+    ∷ (e || z, stats.FBig)
+    ∷ (e || room (option_map_or (λ f. bytes_in f.body) o []), stats.NoSpc)
+    ∷ []
+    )
+write_by who e z room x give None = refl
+write_by who e z room x give (Some f) = of_write f.body (may_write who f) e z room x give
+
+abbrev changed : Files → Unit {0} × Files
+changed w = (tt, w)
+
+pub returns-clause-write : goal.returns-clause-write
+returns-clause-write c w who now n offset new =
+    write_by who (length new == 0) (nat_le (offset + length new) 1048576) (λ old. has_room (with_changed_file w n (rewritten now offset new old))) (changed w) (λ old. changed (with_changed_file w n (rewritten now offset new old)))
+    (file_at w n)
+
+make_by : {X : Type 0} (who : Caller) (dir : ℕ) (name : List ℕ) (room : Bool) (x : X) (o : Option File)
+    → stat_in (
+    (found_or stats.Stale o >>= λ f. listing_or stats.NotDir f.body >>= λ l. found (record { number = dir; file = f; listing = l }))
+    >>= λ d. (check (is_name name) stats.Acces >>= λ _. check (may_search who d.file && may_write who d.file) stats.Acces) >>= λ _. check (is_none (entry_at d.listing name)) stats.Exist >>= λ _. check room stats.NoSpc >>= λ _. Ok x
+    )
+    ≡ first_failing (
+    (is_some o, stats.Stale)
+    ∷ (option_map_or (λ f. is_directory f.body) o false, stats.NotDir)
+    ∷ (is_name name, stats.Acces)
+    ∷ (option_map_or (λ f. may_search who f && may_write who f) o false, stats.Acces)
+    ∷ (is_none (option_and_then (λ f. entry_at (listing_in f.body) name) o), stats.Exist)
+    ∷ (room, stats.NoSpc)
+    ∷ []
+    )
+make_by who dir name room x None = refl
+make_by who dir name room x (Some f) = of_make f.body dir f (is_name name) (λ f. may_search who f && may_write who f) (λ l. is_none (entry_at l name)) room x
+
+abbrev numbered : Files → Files → ℕ × Files
+numbered w after = (w.next, after)
+
+pub returns-clause-make_dir : goal.returns-clause-make_dir
+returns-clause-make_dir c w who now dir name a =
+    let after : Files = made now w dir name (new_file who now a 493 (Directory (record { next = 3; entries = [] }))) in
+    make_by who dir name (has_room after) (numbered w after) (file_at w dir)
+
+pub returns-clause-symlink : goal.returns-clause-symlink
+returns-clause-symlink c w who now dir name target =
+    let after : Files = made now w dir name (new_file who now nothing 511 (Link target)) in
+    make_by who dir name (has_room after) (numbered w after) (file_at w dir)

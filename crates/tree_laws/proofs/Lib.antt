@@ -1,0 +1,6 @@
+pub mod Fitting
+pub mod Given
+pub mod Made
+pub mod Removed
+pub mod Above
+pub mod Renamed

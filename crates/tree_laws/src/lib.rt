@@ -1,0 +1,6 @@
+//! What making, linking, removing and renaming do to a tree of files.
+#![tactic(auto)]
+
+mod laws;
+
+pub use laws::above_is_by_paths;
