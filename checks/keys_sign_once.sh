@@ -1,0 +1,98 @@
+#!/usr/bin/env bash
+# A one-time key signs once. Programs that sign twice with one key, copy it, clone it or let it go must not
+# compile: they are added to a copy of the crate, and each must be refused at its line marked `refused:`, by the
+# words behind the mark. A program that signs once must compile, so that nothing else refuses the others.
+set -euo pipefail
+cd "$(dirname "$0")/.."
+
+work=$(mktemp -d)
+trap 'rm -rf "$work"' EXIT
+mkdir "$work/crates"
+grep '^lamport:' crates.txt > "$work/crates.txt"
+cp -r crates/lamport "$work/crates/"
+rm -rf "$work/crates/lamport/out"
+copy=$work/crates/lamport
+log=$work/log
+
+# Compiles the copy with the programs of standard input added.
+compiles() {
+    cat crates/lamport/src/lib.rt - > "$copy/src/lib.rt"
+    (cd "$copy" && rt try --test) > "$log" 2>&1
+}
+
+# Each line with a mark must be refused by the mark's words.
+refused() {
+    if compiles; then
+        echo "compiles, and must not:" >&2
+        cat "$copy/src/lib.rt" >&2
+        exit 1
+    fi
+    grep -n 'refused: ' "$copy/src/lib.rt" | while IFS= read -r line; do
+        place=src/lib.rt:${line%%:*}:
+        words=${line##*refused: }
+        if ! grep -F "$place" "$log" | grep -qF "$words"; then
+            echo "$place not refused by '$words':" >&2
+            cat "$log" >&2
+            exit 1
+        fi
+        echo "refused, as it must be: ${line%% //*}"
+    done
+}
+
+if ! compiles <<'END'
+
+pub fn signs_once(alloc: std::alloc::Global, key: OneTimeKey, digest: &[u8; 32]) {
+    match key.sign(alloc, digest) {
+        Ok(_) => {}
+        Err(refused) => refused.value.discard(),
+    }
+}
+END
+then
+    echo "a program that signs once does not compile:" >&2
+    cat "$log" >&2
+    exit 1
+fi
+echo "compiles, as it must: a program that signs once"
+
+refused <<'END'
+
+fn spend(signed: Result<OneTimeSignature, std::alloc::AllocFailed<OneTimeKey>>) {
+    match signed {
+        Ok(_) => {}
+        Err(refused) => refused.value.discard(),
+    }
+}
+
+pub fn signs_twice(alloc: std::alloc::Global, key: OneTimeKey, digest: &[u8; 32]) {
+    spend(key.sign(alloc, digest));
+    spend(key.sign(alloc, digest)); // refused: use of moved value
+}
+
+pub fn signs_when_discarded(alloc: std::alloc::Global, key: OneTimeKey, digest: &[u8; 32]) {
+    key.discard();
+    spend(key.sign(alloc, digest)); // refused: use of moved value
+}
+
+pub fn copies(key: OneTimeKey) -> (OneTimeKey, OneTimeKey) {
+    (key, key) // refused: use of moved value
+}
+END
+
+refused <<'END'
+
+pub fn lets_go(key: OneTimeKey) { // refused: error[linear-value-let-go]
+    let _ = key.public_hash(0, false);
+}
+
+pub fn lets_a_refused_key_go(alloc: std::alloc::Global, key: OneTimeKey, digest: &[u8; 32]) {
+    let _ = key.sign(alloc, digest); // refused: error[linear-value-let-go]
+}
+END
+
+refused <<'END'
+
+pub fn clones(key: &OneTimeKey) -> Result<OneTimeKey, std::alloc::AllocError> {
+    key.clone() // refused: `OneTimeKey` is not `Clone`
+}
+END

@@ -1,0 +1,7 @@
+use Rattle.std.proofs.lemmas.Nat.{and_mask}
+use Rattle.lamport.specs.Lamport.{digest_bit}
+use Rattle.lamport.proofs.shown.digest_bit.Goals as goal
+
+pub returns : goal.returns
+unfolding digest_bit
+returns c = rw (and_mask _ 1)

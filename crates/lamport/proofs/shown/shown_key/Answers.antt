@@ -1,0 +1,17 @@
+use Rattle.std.proofs.Common.{◌≡◌, arith, append_assoc}
+use Rattle.lamport.proofs.Joining.{leaf_front_none, leaf_front_more, leaf_front_all, shown_pair}
+use Rattle.lamport.proofs.shown.shown_key.Goals as goal
+
+pub loop-place-init : goal.loop-place-init
+loop-place-init c = rw leaf_front_none (c.update.ensures _ c.new-text.ensures)
+
+pub loop-place-preserved : goal.loop-place-preserved
+loop-place-preserved c =
+    let whole = c.add_place.ensures _ c.loop-place.invariant in
+    rw (leaf_front_more, append_assoc, shown_pair, ← c.digest_bit-bit.ensures, ← c.piece.ensures, ← c.piece-in-loop-place.ensures, ← c.digest-hash.ensures) whole
+
+pub returns : goal.returns
+returns c =
+    let all : c.loop-place.place ≡ 256 = omega arith in
+    let whole = c.finalize.ensures _ c.loop-place.invariant in
+    rw (leaf_front_all, ← all) whole

@@ -1,0 +1,130 @@
+//! Keys that sign once.
+
+ghost use Rattle.std.specs.Prelude.{◌≡◌, ◌<◌, ◌^◌, IfOk, IfErr, if◌then◌else◌};
+ghost use Rattle.lamport.specs.Lamport.{LeafKey, secret, public_hash, leaf_node, shown_secrets, other_hashes};
+
+use crate::shown::digest_bit;
+use sha2::{Digest, Sha256};
+use std::alloc::{AllocError, AllocFailed, Global};
+use std::marker::Model;
+
+/// A key for one signature: the secrets of one leaf of a master secret. It can be neither copied nor
+/// let go: `sign` or `discard` spends it. Who makes keys of a master secret makes each leaf's once.
+pub struct OneTimeKey {
+    master: [u8; 32],
+    leaf: u32,
+}
+
+impl Model for OneTimeKey {
+    ghost use Rattle.lamport.specs.Lamport.{LeafKey};
+
+    ghost Value = { LeafKey };
+
+    ghost view = { λ k. record { master = k.master; leaf = k.leaf } };
+}
+
+/// What a key's signature of a digest holds, 8,192 bytes each.
+#[derive(Drop)]
+pub struct OneTimeSignature {
+    /// For each bit of the digest the secret of its place and value.
+    pub shown: Vec<u8>,
+    /// For each bit the public hash of the other value.
+    pub other: Vec<u8>,
+}
+
+/// The places of a digest's bits: one secret is shown for each.
+const PLACES: u32 = 256;
+
+/// The bytes of 256 secrets or hashes.
+const TEXT: usize = 8192;
+
+impl OneTimeKey {
+    /// The key of a leaf.
+    pub fn new(master: [u8; 32], leaf: u32) -> OneTimeKey
+        ensures { result ≡ record { master = master; leaf = leaf } }
+    {
+        OneTimeKey { master, leaf }
+    }
+
+    /// The public hash of a place, from 0 for the highest bit of the digest's first byte, and a bit value.
+    pub fn public_hash(&self, place: u8, bit: bool) -> [u8; 32]
+        ensures { result ≡ public_hash self.now place bit }
+    {
+        self.hash(u32::from(place), bit)
+    }
+
+    /// The key's node in a tree of keys: the digest of the byte 0 and all public hashes.
+    pub fn node(&self) -> [u8; 32]
+        ensures { result ≡ leaf_node (public_hash self.now) }
+    {
+        let mut text = Sha256::new();
+        text.update([0u8]);
+        for place in 0..PLACES {
+            text.update(self.hash(place, false));
+            text.update(self.hash(place, true));
+        }
+        text.finalize()
+    }
+
+    /// Signs a digest, which spends the key. Where memory was refused the key comes back.
+    pub fn sign(
+        self,
+        alloc: Global,
+        digest: &[u8; 32],
+    ) -> Result<OneTimeSignature, AllocFailed<OneTimeKey>>
+        ensures shown { IfOk result (λ s. s.shown.items ≡ shown_secrets self digest.now) }
+        ensures other { IfOk result (λ s. s.other.items ≡ other_hashes self digest.now) }
+        ensures refused { IfErr result (λ e. e.value ≡ self) }
+    {
+        match self.texts(alloc, digest) {
+            Ok(signature) => {
+                self.discard();
+                Ok(signature)
+            }
+            Err(AllocError) => Err(AllocFailed { value: self }),
+        }
+    }
+
+    /// Spends the key without a signature.
+    pub fn discard(self) {
+        let OneTimeKey { master: _, leaf: _ } = self;
+    }
+
+    fn texts(&self, alloc: Global, digest: &[u8; 32]) -> Result<OneTimeSignature, AllocError>
+        ensures shown { IfOk result (λ s. s.shown.items ≡ shown_secrets self.now digest.now) }
+        ensures other { IfOk result (λ s. s.other.items ≡ other_hashes self.now digest.now) }
+    {
+        let mut shown = Vec::with_capacity(alloc, TEXT)?;
+        let mut other = Vec::with_capacity(alloc, TEXT)?;
+        for place in 0..PLACES {
+            let bit = digest_bit(digest, place);
+            shown.extend_from_slice(&self.secret(place, bit))?;
+            other.extend_from_slice(&self.hash(place, !bit))?;
+        }
+        Ok(OneTimeSignature { shown, other })
+    }
+
+    #[tactic(auto, unfolding(crate::specs::Lamport::public_hash))]
+    fn hash(&self, place: u32, bit: bool) -> [u8; 32]
+        ensures { result ≡ public_hash self.now place bit }
+    {
+        Sha256::digest(self.secret(place, bit))
+    }
+
+    fn secret(&self, place: u32, bit: bool) -> [u8; 32]
+        ensures { result ≡ secret self.now place bit }
+    {
+        let mut text = Sha256::new();
+        text.update(self.master);
+        text.update(self.leaf.to_be_bytes());
+        text.update(place.to_be_bytes());
+        text.update(word_of(bit).to_be_bytes());
+        text.finalize()
+    }
+}
+
+fn word_of(bit: bool) -> u32
+    ensures { result ≡ (if bit then 1 else 0) }
+{
+    u32::from(bit)
+}
