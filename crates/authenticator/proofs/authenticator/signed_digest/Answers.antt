@@ -1,0 +1,10 @@
+use Rattle.std.proofs.Common.{◌∙◌, refl}
+use Rattle.xdr.specs.Item.{number_spelling}
+use Rattle.authenticator.specs.Signed.{signed_digest}
+use Rattle.authenticator.proofs.authenticator.signed_digest.Goals as goal
+
+pub returns : goal.returns
+unfolding signed_digest number_spelling
+returns c =
+    c.finalize.ensures _ (c.update-3.ensures _ (c.update-2.ensures _ (c.update.ensures _ c.new-text.ensures)))
+    ∙ rw (c.to_be_bytes.ensures, c.to_be_bytes-2.ensures, c.get.ensures.value) refl

@@ -1,0 +1,4 @@
+pub mod Numbers
+pub mod Roster
+pub mod Signed
+pub mod Checking

@@ -1,0 +1,49 @@
+-- Rosters: the members of a service, by rising numbers.
+use Rattle.std.specs.Prelude.{◌≡◌, ℕ, Bool, true, false, ◌&&◌, ◌||◌, ◌==◌, nat_lt, IsTrue, List, [], ◌∷◌, map, Option, Some, None, if◌then◌else◌}
+use Rattle.xdr.specs.Item.{Item, Value, Fits, word_where, fixed, pair, array}
+use Rattle.xdr.specs.Text.{Text}
+use Rattle.authenticator.specs.declared.member.Kind.{Kind}
+use Rattle.authenticator.specs.declared.member.Kind.TheVariants.{Server, Client}
+use Rattle.authenticator.specs.declared.member.Member.{Member}
+
+abbrev pub kind_number : Kind → ℕ
+kind_number Server = 1
+kind_number Client = 2
+
+-- A member's number is from 1 to 64, its kind 1 or 2, the height of its tree of keys from 1 to 16.
+abbrev pub is_node : ℕ → Bool
+is_node n = nat_lt 0 n && nat_lt n 65
+
+abbrev pub is_kind : ℕ → Bool
+is_kind n = n == 1 || n == 2
+
+abbrev pub is_height : ℕ → Bool
+is_height n = nat_lt 0 n && nat_lt n 17
+
+-- A member in a text (RFC 4506): number, kind, root and height.
+abbrev pub member_item : Item
+member_item = pair (word_where is_node) (pair (word_where is_kind) (pair (fixed 32) (word_where is_height)))
+
+abbrev pub member_value : Member → Value member_item
+member_value m = (m.node, (kind_number m.kind, (m.root, m.height)))
+
+-- each number is above the one before, the first above `low`
+abbrev pub rises_above : ℕ → List (Value member_item) → Bool
+rises_above low [] = true
+rises_above low (m ∷ ms) = nat_lt low m.0 && rises_above m.0 ms
+
+-- The text of a roster: at most 64 members, and nothing may follow.
+abbrev pub roster_text : Text
+roster_text = record { item = array 64 member_item; test = rises_above 0 }
+
+abbrev pub roster_value : List Member → Value (array 64 member_item)
+roster_value ms = map member_value ms
+
+-- Members that have a text are a roster.
+abbrev pub IsRoster : List Member → Type 0
+IsRoster ms = Fits (array 64 member_item) (roster_value ms) × IsTrue (rises_above 0 (roster_value ms))
+
+-- the member with a number
+abbrev pub member_of : List Member → ℕ → Option Member
+member_of [] node = None
+member_of (m ∷ ms) node = if m.node == node then Some m else member_of ms node

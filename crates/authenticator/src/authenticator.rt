@@ -1,0 +1,121 @@
+//! Authenticators.
+
+ghost use Rattle.std.specs.Prelude.{◌≡◌, ◌↔◌, IsTrue, OnOk};
+ghost use Rattle.xdr.specs.Item.{Fits, spelling};
+ghost use Rattle.xdr.specs.Reading.{GivesUnless};
+ghost use Rattle.xdr.specs.ReadError.{xdr_fault};
+ghost use Rattle.xdr.specs.Writing.{Writes, Adds};
+ghost use Rattle.authenticator.specs.Signed.{IsSignedBy, signed_digest, authenticator_item, authenticator_value, authenticator_text};
+
+use crate::member::Member;
+use crate::number::Number;
+use merkle_keys::{Signature, verify};
+use sha2::{Digest, Sha256};
+use std::alloc::{AllocError, Global};
+use xdr::{FromText, FromXdr, ReadError, Reader, Writer, put_back_on_err};
+
+/// A node's word, by its signature, that its log has this hash at this number.
+#[derive(Drop)]
+pub struct Authenticator {
+    pub node: u32,
+    pub number: Number,
+    pub hash: [u8; 32],
+    pub signature: Signature,
+}
+
+/// The digest that a node signs for a number and the hash there. Takes no memory.
+#[tactic(auto, unfolding(crate::specs::Signed::signed_digest, xdr::specs::Item::number_spelling))]
+pub fn signed_digest(node: u32, number: Number, hash: &[u8; 32]) -> [u8; 32]
+    ensures { result ≡ signed_digest node number hash.now }
+{
+    let mut text = Sha256::new();
+    text.update(node.to_be_bytes());
+    text.update(number.get().to_be_bytes());
+    text.update(hash);
+    text.finalize()
+}
+
+/// Whether the signature is this member's. Takes no memory.
+pub fn is_signed_by(member: &Member, authenticator: &Authenticator) -> bool
+    ensures { IsTrue result ↔ IsSignedBy member.now authenticator.now }
+{
+    let digest = signed_digest(
+        authenticator.node,
+        authenticator.number,
+        &authenticator.hash,
+    );
+    verify(
+        &member.root,
+        member.height,
+        &digest,
+        &authenticator.signature,
+    )
+}
+
+impl<'a> FromXdr<'a> for Authenticator {
+    ghost item = { authenticator_item };
+
+    ghost value = { authenticator_value };
+
+    fn read(alloc: Global, reader: &mut Reader<'a>) -> Result<Authenticator, ReadError> {
+        let start = reader.rest();
+        let read = read_fields(alloc, reader);
+        put_back_on_err(reader, start, read)
+    }
+}
+
+fn read_fields<'a>(alloc: Global, reader: &mut Reader<'a>) -> Result<Authenticator, ReadError>
+    ensures { GivesUnless xdr_fault authenticator_item authenticator_value reader.old result reader.new }
+{
+    let node = reader.u32()?;
+    let number = Number::read(alloc, reader)?;
+    let hash = *reader.fixed::<32>()?;
+    let signature = Signature::read(alloc, reader)?;
+    Ok(Authenticator {
+        node,
+        number,
+        hash,
+        signature,
+    })
+}
+
+impl<'a> FromText<'a> for Authenticator {
+    ghost text = { authenticator_text };
+
+    ghost value = { authenticator_value };
+
+    fn read_front(alloc: Global, reader: &mut Reader<'a>) -> Result<Authenticator, ReadError> {
+        Authenticator::read(alloc, reader)
+    }
+
+    fn has_text(&self) -> bool {
+        true
+    }
+}
+
+impl Authenticator {
+    /// Appends the text. Where memory was refused the bytes are as they were.
+    pub fn write(&self, out: &mut Vec<u8>) -> Result<(), AllocError>
+        ensures fits { OnOk result (Fits authenticator_item (authenticator_value self.now)) }
+        ensures text { Writes authenticator_item (authenticator_value self.now) out.old.items result out.new.items }
+    {
+        let start = out.len();
+        match add_fields(self, out) {
+            Ok(()) => Ok(()),
+            Err(refused) => {
+                out.truncate(start);
+                Err(refused)
+            }
+        }
+    }
+}
+
+fn add_fields(authenticator: &Authenticator, out: &mut Vec<u8>) -> Result<(), AllocError>
+    ensures fits { OnOk result (Fits authenticator_item (authenticator_value authenticator.now)) }
+    ensures text { Adds (spelling authenticator_item (authenticator_value authenticator.now)) out.old.items result out.new.items }
+{
+    out.put_u32(authenticator.node)?;
+    authenticator.number.write(out)?;
+    out.put_fixed(&authenticator.hash)?;
+    authenticator.signature.write(out)
+}

@@ -1,0 +1,18 @@
+//! Rosters, authenticators, and facts that are checked to be signed.
+#![tactic(auto)]
+
+mod authenticator;
+mod checked;
+mod member;
+mod number;
+mod refusal;
+mod roster;
+#[cfg(test)]
+mod tests;
+
+pub use authenticator::{Authenticator, is_signed_by, signed_digest};
+pub use checked::{Checked, Signs, check};
+pub use member::{Kind, Member};
+pub use number::Number;
+pub use refusal::Refusal;
+pub use roster::Roster;

@@ -1,0 +1,113 @@
+//! Members of a roster.
+
+ghost use Rattle.std.specs.Prelude.{◌≡◌, IsTrue};
+ghost use Rattle.xdr.specs.Item.{Fits, word_where, spelling};
+ghost use Rattle.xdr.specs.Reading.{Gives, GivesUnless};
+ghost use Rattle.xdr.specs.ReadError.{xdr_fault};
+ghost use Rattle.xdr.specs.Writing.{Adds, Writes};
+ghost use Rattle.authenticator.specs.Roster.{kind_number, is_node, is_kind, is_height, member_item, member_value};
+
+use std::alloc::{AllocError, Global};
+use xdr::{FromXdr, ReadError, Reader, Writer, XdrFault, all_or_nothing, put_back_on_err};
+
+/// What a member does.
+#[derive(Clone, Copy, Debug, PartialEq, Eq)]
+pub enum Kind {
+    Server = 1,
+    Client = 2,
+}
+
+/// A member of a roster. A roster's members have numbers from 1 to 64 and heights from 1 to 16.
+#[derive(Clone, Copy, Debug, PartialEq, Eq)]
+pub struct Member {
+    pub node: u32,
+    pub kind: Kind,
+    /// The public key: the root of its tree of keys.
+    pub root: [u8; 32],
+    /// The height of that tree.
+    pub height: u32,
+}
+
+/// The greatest number of a member.
+const MAX_NODE: u32 = 64;
+
+/// The greatest height of a tree of keys.
+const MAX_HEIGHT: u32 = 16;
+
+impl<'a> FromXdr<'a> for Member {
+    ghost item = { member_item };
+
+    ghost value = { member_value };
+
+    fn read(_alloc: Global, reader: &mut Reader<'a>) -> Result<Member, ReadError> {
+        let start = reader.rest();
+        let read = read_member(reader);
+        Ok(put_back_on_err(reader, start, read)?)
+    }
+}
+
+fn read_member(reader: &mut Reader<'_>) -> Result<Member, XdrFault>
+    ensures { Gives member_item member_value reader.old result reader.new }
+{
+    let node = read_node(reader)?;
+    let kind = read_kind(reader)?;
+    let root = *reader.fixed::<32>()?;
+    let height = read_height(reader)?;
+    Ok(Member {
+        node,
+        kind,
+        root,
+        height,
+    })
+}
+
+#[tactic(auto, unfolding(xdr::specs::Reading::tested_at))]
+fn read_node(reader: &mut Reader<'_>) -> Result<u32, XdrFault>
+    ensures { Gives (word_where is_node) (λ n. n) reader.old result reader.new }
+{
+    let node = reader.u32()?;
+    if node == 0 || node > MAX_NODE {
+        return Err(XdrFault::BadEnum);
+    }
+    Ok(node)
+}
+
+#[tactic(auto, unfolding(xdr::specs::Reading::tested_at))]
+fn read_kind(reader: &mut Reader<'_>) -> Result<Kind, XdrFault>
+    ensures { Gives (word_where is_kind) kind_number reader.old result reader.new }
+{
+    match reader.u32()? {
+        1 => Ok(Kind::Server),
+        2 => Ok(Kind::Client),
+        _ => Err(XdrFault::BadEnum),
+    }
+}
+
+#[tactic(auto, unfolding(xdr::specs::Reading::tested_at))]
+fn read_height(reader: &mut Reader<'_>) -> Result<u32, XdrFault>
+    ensures { Gives (word_where is_height) (λ n. n) reader.old result reader.new }
+{
+    let height = reader.u32()?;
+    if height == 0 || height > MAX_HEIGHT {
+        return Err(XdrFault::BadEnum);
+    }
+    Ok(height)
+}
+
+/// Appends a member's text. Where memory was refused the bytes are as they were.
+pub(crate) fn write_member(member: &Member, out: &mut Vec<u8>) -> Result<(), AllocError>
+    ensures { Writes member_item (member_value member.now) out.old.items result out.new.items }
+{
+    let start = out.len();
+    let written = add_member(member, out);
+    all_or_nothing(out, start, written)
+}
+
+fn add_member(member: &Member, out: &mut Vec<u8>) -> Result<(), AllocError>
+    ensures { Adds (spelling member_item (member_value member.now)) out.old.items result out.new.items }
+{
+    out.put_u32(member.node)?;
+    out.put_u32(member.kind as u32)?;
+    out.put_fixed(&member.root)?;
+    out.put_u32(member.height)
+}

@@ -1,0 +1,145 @@
+//! Rosters.
+
+ghost use Rattle.std.specs.Prelude.{◌≡◌, IfOk, MatchResult, IsTrue, map, List};
+ghost use Rattle.std.specs.List.{flat_map};
+ghost use Rattle.xdr.specs.Item.{Value, Fits, spelling, array};
+ghost use Rattle.xdr.specs.Text.{IsText, GivesText};
+ghost use Rattle.xdr.specs.TextError.{is_no_text};
+ghost use Rattle.xdr.specs.declared.text.TextError.TheVariants.{NoMemory};
+ghost use Rattle.xdr.specs.Writing.{Writes, Adds};
+ghost use Rattle.authenticator.specs.Roster.{member_item, member_value, roster_text, roster_value, rises_above, member_of};
+
+use crate::member::{Member, write_member};
+use std::alloc::{AllocError, Global};
+use std::marker::Model;
+use xdr::{FromText, ReadError, Reader, TextError, Writer, all_or_nothing, read_array, read_text};
+
+/// The members of a service: at most 64, by rising numbers from 1 to 64, at heights from 1 to 16.
+#[derive(Drop)]
+pub struct Roster {
+    members: Vec<Member>,
+}
+
+impl Model for Roster {
+    ghost use Rattle.std.specs.Prelude.{List};
+    ghost use Rattle.authenticator.specs.declared.member.Member.{Member};
+    ghost use Rattle.authenticator.specs.Roster.{IsRoster};
+
+    ghost Value = { List Member };
+
+    ghost view = { λ r. r.members.items };
+
+    ghost invariant = { λ r. IsRoster r.members.items };
+}
+
+/// The most members of a roster.
+const MAX_MEMBERS: u32 = 64;
+
+// What a roster's text may hold, but for the order.
+#[derive(Drop)]
+struct Members {
+    members: Vec<Member>,
+}
+
+impl<'a> FromText<'a> for Members {
+    ghost text = { roster_text };
+
+    ghost value = { λ m. map member_value m.members.items };
+
+    fn read_front(alloc: Global, reader: &mut Reader<'a>) -> Result<Members, ReadError> {
+        let members = read_array(alloc, reader, MAX_MEMBERS)?;
+        Ok(Members { members })
+    }
+
+    fn has_text(&self) -> bool {
+        rise(&self.members)
+    }
+}
+
+/// Whether each number is above the one before.
+fn rise(members: &[Member]) -> bool
+    ensures { result ≡ rises_above 0 (roster_value members.now) }
+{
+    let mut low = 0;
+    for member in members {
+        if member.node <= low {
+            return false;
+        }
+        low = member.node;
+    }
+    true
+}
+
+impl Roster {
+    /// The roster whose text the bytes are. `NotAText` comes exactly where they are the text of none, `NoMemory`
+    /// only where a growth was refused.
+    pub fn read(alloc: Global, bytes: &[u8]) -> Result<Roster, TextError>
+        ensures exact { GivesText is_no_text roster_text roster_value bytes.now result }
+        ensures found { IfOk result (λ r. IsText roster_text (roster_value r) bytes.now) }
+        ensures only { (v : Value roster_text.item) → IsText roster_text v bytes.now → MatchResult result (λ r. roster_value r ≡ v) (λ e. e ≡ NoMemory) }
+    {
+        let Members { members } = read_text(alloc, bytes)?;
+        Ok(Roster { members })
+    }
+
+    /// Appends the text. Where memory was refused the bytes are as they were.
+    pub fn write(&self, out: &mut Vec<u8>) -> Result<(), AllocError>
+        ensures fits { Fits roster_text.item (roster_value self.now) }
+        ensures rising { IsTrue (roster_text.test (roster_value self.now)) }
+        ensures text { Writes roster_text.item (roster_value self.now) out.old.items result out.new.items }
+    {
+        let start = out.len();
+        let written = add_members(&self.members, out);
+        all_or_nothing(out, start, written)
+    }
+
+    /// A copy.
+    pub fn try_clone(&self, alloc: Global) -> Result<Roster, AllocError>
+        ensures { IfOk result (λ r. r ≡ self.now) }
+    {
+        let members = Vec::from_slice(alloc, &self.members)?;
+        Ok(Roster { members })
+    }
+
+    /// The members.
+    pub fn members(&self) -> &[Member]
+        ensures { result.now ≡ self.now }
+    {
+        &self.members
+    }
+
+    /// The member with a number.
+    pub fn member(&self, node: u32) -> Option<Member>
+        ensures { result ≡ member_of self.now node }
+    {
+        find_member(&self.members, node)
+    }
+}
+
+fn find_member(members: &[Member], node: u32) -> Option<Member>
+    ensures { result ≡ member_of members.now node }
+{
+    for member in members {
+        if member.node == node {
+            return Some(*member);
+        }
+    }
+    None
+}
+
+fn add_members(members: &[Member], out: &mut Vec<u8>) -> Result<(), AllocError>
+    requires { Fits (array 64 member_item) (roster_value members.now) }
+    ensures { Adds (spelling (array 64 member_item) (roster_value members.now)) out.old.items result out.new.items }
+{
+    out.put_u32(members.len() as u32)?;
+    add_each(members, out)
+}
+
+fn add_each(members: &[Member], out: &mut Vec<u8>) -> Result<(), AllocError>
+    ensures { Adds (flat_map (λ m. spelling member_item (member_value m)) members.now) out.old.items result out.new.items }
+{
+    for member in members {
+        write_member(member, out)?;
+    }
+    Ok(())
+}
