@@ -1,8 +1,8 @@
 -- REMOVE, RMDIR and RENAME leave a tree a tree, and say what they do to paths.
 use Rattle.std.proofs.Common.{◌≡◌, ◌≢◌, ⊎_elim, ℕ, ◌≤◌, Bool, true, false, cond, List, [], ◌∷◌, ◌++◌, length, Option, Some, None, is_some, Result, Ok, option_map, not, refl, sym, ap, subst, ◌∙◌, arith, eq-eqb}
-use Rattle.std.specs.Prelude.{◌==◌, ◌||◌, ◌&&◌, if◌then◌else◌}
+use Rattle.std.specs.Prelude.{◌==◌, ◌||◌, ◌&&◌, nat_le, if◌then◌else◌}
 use Rattle.std.specs.Option.{option_map_or}
-use Rattle.std.proofs.lemmas.Bool.{eqb-true, not-true, and_cases}
+use Rattle.std.proofs.lemmas.Bool.{eqb-true, leb-true, not-true, and_cases}
 use Rattle.nfs_types.specs.Timeval.{Timeval}
 use Rattle.nfs_types.specs.Caller.{Caller}
 use Rattle.nfs_types.specs.declared.stat.Stat.{Stat}
@@ -14,10 +14,9 @@ use Rattle.tree_paths.specs.Files.{File, Files, file_at, listing_in, listing, is
 use Rattle.tree_paths.specs.Trees.{IsTime, IsFileTree}
 use Rattle.tree_paths.proofs.Walks.{one_number}
 use Rattle.tree_changes.specs.Edits.{without_name, without_file}
-use Rattle.tree_changes.specs.Limits.{has_room}
 use Rattle.tree_changes.proofs.Room.{IsNoMore, no_more_then, changed_no_more, gone_no_more, unnamed_no_more, same_smaller, still_room}
 use Rattle.tree_changes.proofs.Taking.{takes_path, stays_taken}
-use Rattle.tree_effects.specs.Checks.{◌>>=◌, Found, file_of, dir_of, listing_or, check, check_room, check_edit, number_at}
+use Rattle.tree_effects.specs.Checks.{◌>>=◌, Found, file_of, dir_of, listing_or, check, check_cookie, check_edit, number_at}
 use Rattle.tree_effects.specs.Changes.{touch, touched, mark, marked, unnamed}
 use Rattle.tree_effects.specs.Procedures.{remove, remove_dir, is_above, check_target, moved, rename}
 use Rattle.call_laws.specs.Laws.{UnnamesIn, RenamesIn, IsSameFile}
@@ -27,7 +26,7 @@ use Rattle.call_laws.proofs.Steps.{IsFound, bind_ok, check_ok, found_ok, ok_same
 use Rattle.call_laws.proofs.Bodies.{no_entries, no_length}
 use Rattle.call_laws.proofs.Kept.{place_found}
 use Rattle.tree_laws.proofs.Above.{above_found, on_way}
-use Rattle.tree_laws.proofs.Renamed.{moved_stays, moved_renames, moved_given}
+use Rattle.tree_laws.proofs.Renamed.{moved_stays, moved_renames, moved_given, moved_within}
 use Rattle.tree_laws.specs.Anew.{Follows}
 use Rattle.tree_laws.proofs.Given.{nothing_given, taken_given, cookie_taken, cookie_touched}
 
@@ -120,15 +119,16 @@ module _ (now : Timeval) (time : IsTime now) (w : Files) (tree : IsFileTree w) w
 
     moves : option_map_or (λ t. t == n) (option_map (λ p. p.0) (entry_at e.listing to_name)) false ≡ false → (is_directory f.body && is_above w n to) ≡ false
         → (u : Unit {0}) → check_target w f (option_map (λ p. p.0) (entry_at e.listing to_name)) ≡ Ok u
-        → has_room (after (option_map (λ p. p.0) (entry_at e.listing to_name))) ≡ true → Follows w (after (option_map (λ p. p.0) (entry_at e.listing to_name))) × RenamesIn w (after (option_map (λ p. p.0) (entry_at e.listing to_name))) from from_name to to_name
-    moves other low u ok within =
+        → e.listing.next ≤ 4294967294 → Follows w (after (option_map (λ p. p.0) (entry_at e.listing to_name))) × RenamesIn w (after (option_map (λ p. p.0) (entry_at e.listing to_name))) from from_name to to_name
+    moves other low u ok small =
         let dir = is_dir w to e.file found.there found.directory in
         let stays = moved_stays now time w tree from from_name to to_name n b e.file at found.there dir (named, bound) (differs other) (not_above low) (empty_target u ok) in
         let anew = moved_given now time w tree from from_name to to_name n b e.file at found.there dir (named, bound) (differs other) (not_above low) (empty_target u ok) in
+        let within = moved_within now time w tree from from_name to to_name n b e.file at found.there dir (named, bound) (differs other) (not_above low) (empty_target u ok) (omega (arith, ap (λ (l : Listing). l.next) found.listing, small)) in
         let paths = moved_renames now time w tree from from_name to to_name n b e.file at found.there dir (named, bound) (differs other) (not_above low) (empty_target u ok) in
         subst (λ (t : Option ℕ). Follows w (moved now w n from from_name to to_name t) × RenamesIn w (moved now w n from from_name to to_name t) from from_name to to_name)
         (ap (option_map (λ p. p.0)) here)
-        (record { tree = stays; anew = anew; room = λ _. subst (λ (t : Option ℕ). has_room (moved now w n from from_name to to_name t) ≡ true) (sym (ap (option_map (λ p. p.0)) here)) within }, λ p q c d at₁ at₂. subst (λ m. Renames (path_at (places w)) (path_at (places (moved now w n from from_name to to_name (option_map (λ (p : ℕ × ℕ). p.0) (places w to to_name))))) (p ++ from_name ∷ []) (q ++ to_name ∷ []) m) cookie (paths p q c d at₁ at₂))
+        (record { tree = stays; anew = anew; room = within }, λ p q c d at₁ at₂. subst (λ m. Renames (path_at (places w)) (path_at (places (moved now w n from from_name to to_name (option_map (λ (p : ℕ × ℕ). p.0) (places w to to_name))))) (p ++ from_name ∷ []) (q ++ to_name ∷ []) m) cookie (paths p q c d at₁ at₂))
       where
         cookie : (listing_in e.file.body).next ≡ (listing w to).next
         cookie = sym (ap (λ (o : Option File). (option_map_or (λ f. listing_in f.body) o (record { next = 0; entries = [] })).next) found.there)
@@ -136,24 +136,24 @@ module _ (now : Timeval) (time : IsTime now) (w : Files) (tree : IsFileTree w) w
   pub rename_does : (who : Caller) (from : ℕ) (from_name : List ℕ) (to : ℕ) (to_name : List ℕ) → length to_name ≤ 255 → (x : Unit {0} × Files) → rename w who now from from_name to to_name ≡ Ok x
       → Follows w x.1 × ((IsSameFile w from from_name to to_name → x.1 ≡ w) × ((IsSameFile w from from_name to to_name → ⊥) → RenamesIn w x.1 from from_name to to_name))
   rename_does who from from_name to to_name bound x h =
-      let p = bind_ok (dir_of w from) (λ d. dir_of w to >>= λ e. check_edit who d from_name >>= λ _. check_edit who e to_name >>= λ _. number_at d from_name >>= λ n. file_of w n >>= λ f. end n f (option_map (λ p. p.0) (entry_at e.listing to_name))) x h in
-      let q = bind_ok (dir_of w to) (λ e. check_edit who p.0 from_name >>= λ _. check_edit who e to_name >>= λ _. number_at p.0 from_name >>= λ n. file_of w n >>= λ f. end n f (option_map (λ p. p.0) (entry_at e.listing to_name))) x p.2 in
+      let p = bind_ok (dir_of w from) (λ d. dir_of w to >>= λ e. check_edit who d from_name >>= λ _. check_edit who e to_name >>= λ _. number_at d from_name >>= λ n. file_of w n >>= λ f. end e.listing n f (option_map (λ p. p.0) (entry_at e.listing to_name))) x h in
+      let q = bind_ok (dir_of w to) (λ e. check_edit who p.0 from_name >>= λ _. check_edit who e to_name >>= λ _. number_at p.0 from_name >>= λ n. file_of w n >>= λ f. end e.listing n f (option_map (λ p. p.0) (entry_at e.listing to_name))) x p.2 in
       let target = option_map (λ (p : ℕ × ℕ). p.0) (entry_at q.0.listing to_name) in
-      let r = bind_ok (check_edit who p.0 from_name) (λ _. check_edit who q.0 to_name >>= λ _. number_at p.0 from_name >>= λ n. file_of w n >>= λ f. end n f target) x q.2 in
-      let s = bind_ok (check_edit who q.0 to_name) (λ _. number_at p.0 from_name >>= λ n. file_of w n >>= λ f. end n f target) x r.2 in
-      let n = bind_ok (number_at p.0 from_name) (λ n. file_of w n >>= λ f. end n f target) x s.2 in
-      let f = bind_ok (file_of w n.0) (λ f. end n.0 f target) x n.2 in
+      let r = bind_ok (check_edit who p.0 from_name) (λ _. check_edit who q.0 to_name >>= λ _. number_at p.0 from_name >>= λ n. file_of w n >>= λ f. end q.0.listing n f target) x q.2 in
+      let s = bind_ok (check_edit who q.0 to_name) (λ _. number_at p.0 from_name >>= λ n. file_of w n >>= λ f. end q.0.listing n f target) x r.2 in
+      let n = bind_ok (number_at p.0 from_name) (λ n. file_of w n >>= λ f. end q.0.listing n f target) x s.2 in
+      let f = bind_ok (file_of w n.0) (λ f. end q.0.listing n.0 f target) x n.2 in
       let e = number_ok p.0 from_name n.0 n.1 in
       let at : places w from from_name ≡ Some (n.0, e.0) = place_found w from p.0 (dir_ok w from p.0 p.1) from_name ∙ e.1 in
       ends q.0 (dir_ok w to q.0 q.1) (edit_ok who q.0 to_name s.0 s.1) n.0 e.0 at f.0 (found_ok stats.Stale (file_at w n.0) f.0 f.1)
       (option_map_or (λ t. t == n.0) target false) refl f.2
     where
-      end : ℕ → File → Option ℕ → Result (Unit {0} × Files) Stat
-      end n f target = if option_map_or (λ t. t == n) target false then Ok (tt, w) else check (not (is_directory f.body && is_above w n to)) stats.Acces >>= λ _. check_target w f target >>= λ _. check_room (moved now w n from from_name to to_name target) >>= λ _. Ok (tt, moved now w n from from_name to to_name target)
+      end : Listing → ℕ → File → Option ℕ → Result (Unit {0} × Files) Stat
+      end l n f target = if option_map_or (λ t. t == n) target false then Ok (tt, w) else check (not (is_directory f.body && is_above w n to)) stats.Acces >>= λ _. check_target w f target >>= λ _. check_cookie l >>= λ _. Ok (tt, moved now w n from from_name to to_name target)
 
       ends : (e : Found) → IsFound w to e → is_name to_name ≡ true → (n b : ℕ) → places w from from_name ≡ Some (n, b) → (f : File) → file_at w n ≡ Some f
           → (v : Bool) → option_map_or (λ t. t == n) (option_map (λ p. p.0) (entry_at e.listing to_name)) false ≡ v
-          → cond v (Ok (tt, w)) (check (not (is_directory f.body && is_above w n to)) stats.Acces >>= λ _. check_target w f (option_map (λ p. p.0) (entry_at e.listing to_name)) >>= λ _. check_room (moved now w n from from_name to to_name (option_map (λ p. p.0) (entry_at e.listing to_name))) >>= λ _. Ok (tt, moved now w n from from_name to to_name (option_map (λ p. p.0) (entry_at e.listing to_name)))) ≡ Ok x
+          → cond v (Ok (tt, w)) (check (not (is_directory f.body && is_above w n to)) stats.Acces >>= λ _. check_target w f (option_map (λ p. p.0) (entry_at e.listing to_name)) >>= λ _. check_cookie e.listing >>= λ _. Ok (tt, moved now w n from from_name to to_name (option_map (λ p. p.0) (entry_at e.listing to_name)))) ≡ Ok x
           → Follows w x.1 × ((IsSameFile w from from_name to to_name → x.1 ≡ w) × ((IsSameFile w from from_name to to_name → ⊥) → RenamesIn w x.1 from from_name to to_name))
       ends e found named n b at f there true same h =
           let is : x.1 ≡ w = sym (ap (λ (y : Unit {0} × Files). y.1) (ok_same h)) in
@@ -168,11 +168,11 @@ module _ (now : Timeval) (time : IsTime now) (w : Files) (tree : IsFileTree w) w
       ends e found named n b at f there false other h =
           let target = option_map (λ (p : ℕ × ℕ). p.0) (entry_at e.listing to_name) in
           let all = moved now w n from from_name to to_name target in
-          let p = bind_ok (check (not (is_directory f.body && is_above w n to)) stats.Acces) (λ _. check_target w f target >>= λ _. check_room all >>= λ _. Ok (tt, all)) x h in
-          let q = bind_ok (check_target w f target) (λ _. check_room all >>= λ _. Ok (tt, all)) x p.2 in
-          let r = bind_ok (check_room all) (λ _. Ok (tt, all)) x q.2 in
+          let p = bind_ok (check (not (is_directory f.body && is_above w n to)) stats.Acces) (λ _. check_target w f target >>= λ _. check_cookie e.listing >>= λ _. Ok (tt, all)) x h in
+          let q = bind_ok (check_target w f target) (λ _. check_cookie e.listing >>= λ _. Ok (tt, all)) x p.2 in
+          let r = bind_ok (check_cookie e.listing) (λ _. Ok (tt, all)) x q.2 in
           let low = not-true (is_directory f.body && is_above w n to) (check_ok (not (is_directory f.body && is_above w n to)) stats.Acces p.0 p.1) in
-          let done = moves from from_name to to_name e found bound named n b at f there other low q.0 q.1 (check_ok (has_room all) stats.NoSpc r.0 r.1) in
+          let done = moves from from_name to to_name e found bound named n b at f there other low q.0 q.1 (leb-true _ _ (check_ok (nat_le e.listing.next 4294967294) stats.NoSpc r.0 r.1)) in
           let apart : IsSameFile w from from_name to to_name → ⊥ = λ s. differs from from_name to to_name e found bound named n b at f there other s.2 (s.4 ∙ ap (λ m. Some (m, s.2)) (one_number s.0 s.1 n b (sym s.3 ∙ at))) in
           subst (λ (y : Unit {0} × Files). Follows w y.1 × ((IsSameFile w from from_name to to_name → y.1 ≡ w) × ((IsSameFile w from from_name to to_name → ⊥) → RenamesIn w y.1 from from_name to to_name))) (ok_same r.2)
           (done.0, (λ s. absurd (apart s), λ _. done.1))

@@ -5,4 +5,3 @@ pub mod Gone
 pub mod Stays
 pub mod Determined
 pub mod Bytes
-pub mod Stats

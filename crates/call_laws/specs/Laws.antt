@@ -1,11 +1,9 @@
 -- What the laws of procedures speak of.
-use Rattle.std.specs.Prelude.{◌≡◌, ℕ, ◌<◌, ◌≤◌, List, [], ◌∷◌, ◌++◌, length, Bool, true, false, Option, Some, None, is_some, if◌then◌else◌}
-use Rattle.std.specs.Option.{option_map_or}
+use Rattle.std.specs.Prelude.{◌≡◌, ℕ, ◌<◌, ◌≤◌, List, [], ◌∷◌, ◌++◌, length, Bool, true, false, Option, Some, None}
 use Rattle.nfs_types.specs.Timeval.{Timeval}
 use Rattle.nfs_types.specs.declared.stat.Stat.{Stat}
 use Rattle.tree_paths.specs.Paths.{path_at, AddsPath, TakesPath, Renames}
-use Rattle.tree_paths.specs.Files as bodies
-use Rattle.tree_paths.specs.Files.{Body, File, Files, file_at, listing, places}
+use Rattle.tree_paths.specs.Files.{Files, listing, places}
 use Rattle.tree_paths.specs.Trees.{IsTime}
 use Rattle.tree_effects.specs.Sattr.{Wanted}
 use Rattle.tree_effects.specs.Laws.{stat_in}
@@ -17,7 +15,7 @@ pub record IsWanted (a : Wanted) : Type 0 where
   pub atime : (t : Timeval) → a.atime ≡ Some t → IsTime t
   pub mtime : (t : Timeval) → a.mtime ≡ Some t → IsTime t
 
--- names and targets within the protocol's bounds (RFC 1094, section 2.3.1)
+-- names and targets within the bounds of the protocol (RFC 1094, sections 2.3.7 and 2.3.8)
 abbrev pub IsBounded : Call → Type 0
 IsBounded (Create dir name s) = length name ≤ 255
 IsBounded (Rename from from_name to to_name) = length to_name ≤ 255
@@ -68,32 +66,3 @@ only_reads _ = false
 -- two names stand for one file
 abbrev pub IsSameFile : Files → ℕ → List ℕ → ℕ → List ℕ → Type 0
 IsSameFile w from from_name to to_name = (n : ℕ) × (b : ℕ) × (c : ℕ) × (places w from from_name ≡ Some (n, b)) × (places w to to_name ≡ Some (n, c))
-
--- ---- stats
-
--- checks in the order written, each with its stat: the stat of the first that fails
-abbrev pub first_failing : List (Bool × Stat) → Option Stat
-first_failing [] = None
-first_failing (c ∷ cs) = if c.0 then first_failing cs else Some c.1
-
--- whether a number has a file
-abbrev pub is_there : Files → ℕ → Bool
-is_there w n = is_some (file_at w n)
-
--- whether a number has a file that passes a test
-abbrev pub holds_at : Files → ℕ → (File → Bool) → Bool
-holds_at w n test = option_map_or test (file_at w n) false
-
-abbrev pub is_link : Body → Bool
-is_link (bodies.Regular bytes) = false
-is_link (bodies.Link target) = true
-is_link (bodies.Directory l) = false
-
--- the bytes of a number's regular file
-abbrev pub bytes_in : Body → List ℕ
-bytes_in (bodies.Regular bytes) = bytes
-bytes_in (bodies.Link target) = []
-bytes_in (bodies.Directory l) = []
-
-abbrev pub bytes_at : Files → ℕ → List ℕ
-bytes_at w n = option_map_or (λ f. bytes_in f.body) (file_at w n) []

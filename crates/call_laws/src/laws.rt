@@ -1,26 +1,21 @@
 //! What holds of every call.
 
-ghost use Rattle.std.specs.Prelude.{◌≡◌, ◌≤◌, ◌<◌, ◌+◌, ◌||◌, ◌&&◌, ◌==◌, nat_le, not, max, slice_index, is_some, is_none, IsTrue, ℕ, List, [], ◌∷◌, length, true, false, Some, None, Ok};
+ghost use Rattle.std.specs.Prelude.{◌≡◌, ◌≤◌, ◌<◌, ◌+◌, not, max, slice_index, IsTrue, ℕ, List, length, true, false, Some, None, Ok};
 ghost use Rattle.nfs_types.specs.Timeval.{Timeval};
 ghost use Rattle.nfs_types.specs.Caller.{Caller};
 ghost use Rattle.nfs_types.specs.declared.stat.Stat.{Stat};
-ghost use Rattle.nfs_types.specs.declared.stat.Stat.TheVariants as stats;
 ghost use Rattle.nfs_types.specs.declared.attributes.Fattr.{Fattr};
-ghost use Rattle.tree_paths.specs.Files.{Link, Directory, File, Files, file_at, IsDirectory, is_directory, listing, places, names_of};
+ghost use Rattle.tree_paths.specs.Files.{File, Files, file_at, IsDirectory, is_directory, listing, places, names_of};
 ghost use Rattle.tree_paths.specs.Trees.{IsTime, IsFileTree};
-ghost use Rattle.tree_paths.specs.Names.{is_name};
-ghost use Rattle.tree_changes.specs.Edits.{with_changed_file};
 ghost use Rattle.tree_changes.specs.Limits.{has_room};
-ghost use Rattle.tree_effects.specs.Attributes.{is_directory_at, subdirectories};
-ghost use Rattle.tree_effects.specs.Checks.{permits, may_search, may_read, may_write};
-ghost use Rattle.tree_effects.specs.Effects.{attributes_at, number_named, number_at_name};
-ghost use Rattle.tree_effects.specs.Laws.{stat_in};
+ghost use Rattle.tree_effects.specs.Attributes.{subdirectories};
+ghost use Rattle.tree_effects.specs.Effects.{attributes_at};
 ghost use Rattle.tree_effects.specs.Sattr.{Wanted, nothing};
-ghost use Rattle.tree_effects.specs.Changes.{resized, written, new_file};
-ghost use Rattle.tree_effects.specs.Procedures.{create, make_dir, symlink, link, remove, remove_dir, rename, read, read_link, read_dir, figures, write, rewritten, made};
+ghost use Rattle.tree_effects.specs.Changes.{resized, written};
+ghost use Rattle.tree_effects.specs.Procedures.{create, make_dir, symlink, link, remove, remove_dir, rename, read};
 ghost use Rattle.tree_effects.specs.Calls.{Call, call_does};
 ghost use Rattle.tree_laws.specs.Anew.{GivesAnew};
-ghost use Rattle.call_laws.specs.Laws.{IsWanted, IsBounded, NamesIn, UnnamesIn, RenamesIn, IsSameFile, refusal_in, only_reads, first_failing, is_there, holds_at, is_link, bytes_at};
+ghost use Rattle.call_laws.specs.Laws.{IsWanted, IsBounded, NamesIn, UnnamesIn, RenamesIn, IsSameFile, refusal_in, only_reads};
 
 /// Every call leaves a tree a tree.
 pub fn trees_stay_trees()
@@ -128,72 +123,4 @@ pub fn links_are_counted()
     ensures two { (w : Files) (n dir other c b : ℕ) (x y : List ℕ) (a : Fattr) →
         places w dir x ≡ Some (n, c) → places w other y ≡ Some (n, b) → ((dir ≡ other) × (x ≡ y) → ⊥) →
         attributes_at w n ≡ Ok a → 2 ≤ a.nlink }
-{}
-
-/// The stat is that of the first check that fails, and there is none where all pass.
-pub fn stats_are_of_the_first_failing_check()
-    ensures getattr { (w : Files) (n : ℕ) →
-        stat_in (attributes_at w n) ≡ first_failing ((is_there w n, stats.Stale) ∷ []) }
-    ensures lookup { (w : Files) (who : Caller) (dir : ℕ) (name : List ℕ) →
-        stat_in (number_at_name w who dir name) ≡ first_failing (
-        (is_there w dir, stats.Stale)
-        ∷ (is_directory_at w dir, stats.NotDir)
-        ∷ (holds_at w dir (may_search who), stats.Acces)
-        ∷ (is_some (number_named w dir (listing w dir) name), stats.NoEnt)
-        ∷ []
-        ) }
-    ensures read_link { (w : Files) (n : ℕ) → stat_in (read_link w n) ≡ first_failing (
-        (is_there w n, stats.Stale) ∷ (holds_at w n (λ f. is_link f.body), stats.NxIo) ∷ []
-        ) }
-    ensures read { (w : Files) (who : Caller) (n offset count : ℕ) →
-        stat_in (read w who n offset count) ≡ first_failing (
-        (is_there w n, stats.Stale)
-        ∷ (not (is_directory_at w n), stats.IsDir)
-        ∷ (not (holds_at w n (λ f. is_link f.body)), stats.NxIo)
-        ∷ (holds_at w n (λ f. may_read who f || permits who f 1), stats.Acces)
-        ∷ []
-        ) }
-    ensures read_dir { (w : Files) (who : Caller) (dir cookie count : ℕ) →
-        stat_in (read_dir w who dir cookie count) ≡ first_failing (
-        (is_there w dir, stats.Stale)
-        ∷ (is_directory_at w dir, stats.NotDir)
-        ∷ (holds_at w dir (may_read who), stats.Acces)
-        ∷ []
-        ) }
-    ensures figures { (w : Files) (n : ℕ) →
-        stat_in (figures w n) ≡ first_failing ((is_there w n, stats.Stale) ∷ []) }
-{}
-
-/// So it is of WRITE, where the last two checks are asked only of some bytes, and of MKDIR and SYMLINK.
-pub fn stats_of_changes_are_of_the_first_failing_check()
-    ensures write { (w : Files) (who : Caller) (now : Timeval) (n offset : ℕ) (new : List ℕ) →
-        stat_in (write w who now n offset new) ≡ first_failing (
-        (is_there w n, stats.Stale)
-        ∷ (not (is_directory_at w n), stats.IsDir)
-        ∷ (not (holds_at w n (λ f. is_link f.body)), stats.NxIo)
-        ∷ (holds_at w n (may_write who), stats.Acces)
-        ∷ ((length new == 0) || nat_le (offset + length new) 1048576, stats.FBig)
-        ∷ ((length new == 0) || has_room (with_changed_file w n (rewritten now offset new (bytes_at w n))), stats.NoSpc)
-        ∷ []
-        ) }
-    ensures make_dir { (w : Files) (who : Caller) (now : Timeval) (dir : ℕ) (name : List ℕ) (a : Wanted) →
-        stat_in (make_dir w who now dir name a) ≡ first_failing (
-        (is_there w dir, stats.Stale)
-        ∷ (is_directory_at w dir, stats.NotDir)
-        ∷ (is_name name, stats.Acces)
-        ∷ (holds_at w dir (λ f. may_search who f && may_write who f), stats.Acces)
-        ∷ (is_none (places w dir name), stats.Exist)
-        ∷ (has_room (made now w dir name (new_file who now a 493 (Directory (record { next = 3; entries = [] })))), stats.NoSpc)
-        ∷ []
-        ) }
-    ensures symlink { (w : Files) (who : Caller) (now : Timeval) (dir : ℕ) (name target : List ℕ) →
-        stat_in (symlink w who now dir name target) ≡ first_failing (
-        (is_there w dir, stats.Stale)
-        ∷ (is_directory_at w dir, stats.NotDir)
-        ∷ (is_name name, stats.Acces)
-        ∷ (holds_at w dir (λ f. may_search who f && may_write who f), stats.Acces)
-        ∷ (is_none (places w dir name), stats.Exist)
-        ∷ (has_room (made now w dir name (new_file who now nothing 511 (Link target))), stats.NoSpc)
-        ∷ []
-        ) }
 {}

@@ -1,12 +1,18 @@
 -- Files that a list gives, computed.
-use Rattle.std.proofs.Common.{◌≡◌, ℕ, List, [], ◌∷◌, length, map, sum_by, Option, None, refl, sym, ap, ◌∙◌, arith, true, false, cond, not, Equal}
+use Rattle.std.proofs.Common.{◌≡◌, ℕ, List, [], ◌∷◌, length, map, sum_by, Option, Some, None, refl, sym, ap, ◌∙◌, arith, true, false, cond, not, Equal}
 use Rattle.std.specs.Ordering.{nat_cmp, eq_by_cmp}
 use Rattle.std.specs.FinMap as finite
 use Rattle.std.specs.FinMap.Entries.{where_key, find-where_key}
 use Rattle.std.specs.Cmp.{nat_cmp_total, eq_by_cmp_equiv}
-use Rattle.std.specs.Prelude.{Bool, nat_le, ◌&&◌}
+use Rattle.std.specs.Prelude.{Bool, nat_le, ◌&&◌, ◌+◌}
+use Rattle.std.specs.Option.{option_map_or}
 use Rattle.std.specs.List.{list_all}
+use Rattle.nfs_types.specs.Timeval.{Timeval}
+use Rattle.tree_paths.specs.Listing.{with_entry}
 use Rattle.tree_paths.specs.Files.{File, file_at, listing_in}
+use Rattle.tree_changes.specs.Edits.{with_changed_file, with_name, without_file, relisted}
+use Rattle.tree_effects.specs.Changes.{touch, touched, mark, marked}
+use Rattle.tree_effects.specs.Procedures.{made}
 use Rattle.tree_changes.specs.Limits.{has_room, blocks_in, block_count, entry_count}
 use Rattle.effect_rows.specs.Worked.{files_of}
 
@@ -28,6 +34,9 @@ entries_of next (e ∷ es) = finite.entries-insert nat_cmp_total _ e.0 e.1 ∙ a
 
 pub file_of_list : (next : ℕ) (es : List (ℕ × File)) (n : ℕ) → file_at (files_of next es) n ≡ finite.find nat_cmp n es
 file_of_list next es n = finite.get-from_entries nat_cmp_total es n
+
+pub found_first : (n : ℕ) (f : File) (es : List (ℕ × File)) → finite.find nat_cmp n ((n, f) ∷ es) ≡ Some f
+found_first n f es = ap (λ b. cond b (Some f) (finite.find nat_cmp n es)) ((eq_by_cmp_equiv nat_cmp_total).refl n)
 
 -- whether a list passes no limit
 abbrev pub room_in : ℕ → List (ℕ × File) → Bool
@@ -71,3 +80,45 @@ without_in k es =
 pub same_files : (next : ℕ) (es fs : List (ℕ × File)) → in_order es ≡ in_order fs → files_of next es ≡ files_of next fs
 same_files next es fs e =
     ap (λ m. record { fsid = 1; next = next; files = m }) (finite.same_entries_map _ _ (entries_of next es ∙ e ∙ sym (entries_of next fs)))
+
+-- ---- changes of files that a list gives
+
+-- a file of a list, changed
+pub changed_in : (next : ℕ) (es : List (ℕ × File)) (n : ℕ) (change : File → File) (f : File) → finite.find nat_cmp n es ≡ Some f → with_changed_file (files_of next es) n change ≡ files_of next ((n, change f) ∷ es)
+changed_in next es n change f there = ap (λ (o : Option File). option_map_or (λ f. files_of next ((n, change f) ∷ es)) o (files_of next es)) (file_of_list next es n ∙ there)
+
+-- a new file with a name, in a directory of a list
+pub made_is : (now : Timeval) (next : ℕ) (es : List (ℕ × File)) (dir : ℕ) (name : List ℕ) (f d : File) (target : List (ℕ × File)) → finite.find nat_cmp dir ((next, f) ∷ es) ≡ Some d
+    → in_order ((dir, touched now (relisted (λ l. with_entry l name next) d)) ∷ (dir, relisted (λ l. with_entry l name next) d) ∷ (next, f) ∷ es) ≡ in_order target
+    → made now (files_of next es) dir name f ≡ files_of (next + 1) target
+made_is now next es dir name f d target there same =
+    let put : File → File = relisted (λ l. with_entry l name next) in
+    ap (λ w. touch now w dir) (changed_in (next + 1) ((next, f) ∷ es) dir put d there)
+    ∙ changed_in (next + 1) ((dir, put d) ∷ (next, f) ∷ es) dir (touched now) (put d) (found_first dir (put d) ((next, f) ∷ es))
+    ∙ same_files (next + 1) ((dir, touched now (put d)) ∷ (dir, put d) ∷ (next, f) ∷ es) target same
+
+-- another name for a file, in a directory of a list
+pub named_is : (now : Timeval) (next : ℕ) (es : List (ℕ × File)) (n dir : ℕ) (name : List ℕ) (d : File) (target : List (ℕ × File)) → finite.find nat_cmp dir es ≡ Some d
+    → in_order ((dir, touched now (relisted (λ l. with_entry l name n) d)) ∷ (dir, relisted (λ l. with_entry l name n) d) ∷ es) ≡ in_order target
+    → touch now (with_name (files_of next es) dir name n) dir ≡ files_of next target
+named_is now next es n dir name d target there same =
+    let put : File → File = relisted (λ l. with_entry l name n) in
+    ap (λ w. touch now w dir) (changed_in next es dir put d there)
+    ∙ changed_in next ((dir, put d) ∷ es) dir (touched now) (put d) (found_first dir (put d) es)
+    ∙ same_files next ((dir, touched now (put d)) ∷ (dir, put d) ∷ es) target same
+
+-- a directory is touched when a file has a name less
+pub marked_is : (now : Timeval) (next : ℕ) (es : List (ℕ × File)) (n dir : ℕ) (f d : File) (target : List (ℕ × File)) → finite.find nat_cmp n es ≡ Some f → finite.find nat_cmp dir ((n, marked now f) ∷ es) ≡ Some d
+    → in_order ((dir, touched now d) ∷ (n, marked now f) ∷ es) ≡ in_order target → touch now (mark now (files_of next es) n) dir ≡ files_of next target
+marked_is now next es n dir f d target there dir_there same =
+    ap (λ w. touch now w dir) (changed_in next es n (marked now) f there)
+    ∙ changed_in next ((n, marked now f) ∷ es) dir (touched now) d dir_there
+    ∙ same_files next ((dir, touched now d) ∷ (n, marked now f) ∷ es) target same
+
+-- and when a file is gone
+pub gone_is : (now : Timeval) (next : ℕ) (es : List (ℕ × File)) (n dir : ℕ) (d : File) (target : List (ℕ × File)) → finite.find nat_cmp dir (list_without n es) ≡ Some d
+    → in_order ((dir, touched now d) ∷ list_without n es) ≡ in_order target → touch now (without_file (files_of next es) n) dir ≡ files_of next target
+gone_is now next es n dir d target there same =
+    ap (λ m. touch now (record { fsid = 1; next = next; files = m }) dir) (without_in n es)
+    ∙ changed_in next (list_without n es) dir (touched now) d there
+    ∙ same_files next ((dir, touched now d) ∷ list_without n es) target same

@@ -1,6 +1,6 @@
 //! Calls on small files, each with its whole result.
 
-ghost use Rattle.std.specs.Prelude.{◌≡◌, [], ◌∷◌, ℕ, true, false, Ok, Err};
+ghost use Rattle.std.specs.Prelude.{◌≡◌, [], ◌∷◌, true, false, Ok, Err};
 ghost use Rattle.nfs_types.specs.Caller.{nobody};
 ghost use Rattle.nfs_types.specs.Handle.{handle_of};
 ghost use Rattle.nfs_types.specs.declared.stat.Stat.TheVariants as stats;

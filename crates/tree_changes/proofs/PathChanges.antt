@@ -1,5 +1,5 @@
 -- What the changes of a tree do to its paths.
-use Rattle.std.proofs.Common.{◌≡◌, ◌≢◌, ◌⊎◌, inl, inr, ⊎_elim, ℕ, List, [], ◌∷◌, ◌++◌, length, Option, Some, None, option_and_then, option_map, refl, sym, ap, subst, ◌∙◌, append_assoc, append-nil, length-append, arith}
+use Rattle.std.proofs.Common.{◌≡◌, ◌≢◌, ◌⊎◌, inl, inr, ⊎_elim, ℕ, List, [], ◌∷◌, ◌++◌, length, Option, Some, None, is_some, option_and_then, option_map, refl, sym, ap, subst, ◌∙◌, append_assoc, append-nil, length-append, arith}
 use Rattle.tree_paths.specs.Paths.{Places, walk, path_at, HasOnePathEach, AddsPath, TakesPath, Renames, Changes}
 use Rattle.tree_paths.proofs.Walks.{walk_same, same_name, same_place, step, step_last}
 
@@ -76,6 +76,7 @@ module _ (at : Places) (IsDirectory : ℕ → Type 0) (once : HasOnePathEach IsD
   pub takes : (k cookie : ℕ) → Changes at to d x None → at d x ≡ Some (k, cookie) → ((y : List ℕ) → at k y ≡ None)
       → TakesPath (path_at at) (path_at to) (path ++ x ∷ [])
   takes k cookie change had empty = record {
+    had = ap is_some (step_last at path x d c is_at ∙ had);
     gone = ap (path_at to) (sym (append-nil (path ++ x ∷ []))) ∙ through at IsDirectory once path d c x is_dir is_at to None change [];
     others = λ p not. ⊎_elim
         (λ b. ap (path_at to) b.1 ∙ through at IsDirectory once path d c x is_dir is_at to None change b.0
@@ -140,6 +141,7 @@ module _ (at to : Places) (IsDirectory : ℕ → Type 0) (once : HasOnePathEach 
 
   pub renames : Renames (path_at at) (path_at to) (p₁ ++ x₁ ∷ []) (p₂ ++ x₂ ∷ []) cookie
   renames = record {
+    had = ap is_some (step_last at p₁ x₁ d₁ c₁ at₁ ∙ source);
     moved = step_last to p₂ x₂ d₂ c₂ p₂_kept ∙ put ∙ sym (ap (option_map (λ e. (e.0, cookie))) (step_last at p₁ x₁ d₁ c₁ at₁ ∙ source));
     below = λ r some. below_at r some;
     gone = λ r n. step to p₁ r x₁ d₁ c₁ p₁_kept ∙ ap (option_and_then (λ f. walk to f r)) taken;

@@ -45,7 +45,7 @@ count_gone w k = let e = finite.len-remove nat_cmp_total w.files k in by (is_som
 
 -- ---- cookies
 
-pub AllCookies : Files → Type 0
+unfoldable pub AllCookies : Files → Type 0
 AllCookies w = (n : ℕ) (f : File) → file_at w n ≡ Some f → (listing_in f.body).next ≤ 4294967295
 
 module _ {X : Type 0} (p : X → Bool) where
@@ -174,7 +174,7 @@ gone_no_more w k = record {
       (cases_eq n k);
 }
 
-length-removed : {X : Type 0} (t : List ℕ → Bool) (es : List (List ℕ × X)) → length (remove_entry t es) ≤ length es
+pub length-removed : {X : Type 0} (t : List ℕ → Bool) (es : List (List ℕ × X)) → length (remove_entry t es) ≤ length es
 length-removed t [] = omega arith
 length-removed t (e ∷ es) = elim (t e.0) as (λ b. length (cond b es (e ∷ remove_entry t es)) ≤ length (e ∷ es)) [
   | true ↦ omega arith

@@ -1,5 +1,7 @@
 -- The files that a server begins with.
-use Rattle.std.proofs.Common.{◌≡◌, ℕ, ◌+◌, cond, false, List, [], ◌∷◌, Option, Some, Ok, refl, sym, ap, ◌∙◌, map, sum_by, length, arith}
+use Rattle.std.proofs.Common.{◌≡◌, ℕ, ◌+◌, Bool, cond, true, false, List, [], ◌∷◌, Option, Some, Ok, refl, sym, ap, ◌∙◌, map, sum_by, length, arith}
+use Rattle.std.specs.Prelude.{nat_le, ◌&&◌}
+use Rattle.std.specs.List.{list_all}
 use Rattle.std.specs.Option.{option_map_or}
 use Rattle.std.specs.Ordering.{nat_cmp}
 use Rattle.std.specs.FinMap as finite
@@ -7,7 +9,8 @@ use Rattle.std.specs.Cmp.{nat_cmp_total}
 use Rattle.nfs_types.specs.Caller.{nobody}
 use Rattle.nfs_types.specs.Handle.{handle_of, number_in}
 use Rattle.nfs_types.specs.declared.stat.Stat.TheVariants as stats
-use Rattle.tree_paths.specs.Files.{File, Files, file_at, is_directory, names_of, names_in}
+use Rattle.tree_paths.specs.Files.{File, Files, file_at, listing_in, is_directory, names_of, names_in}
+use Rattle.tree_changes.specs.Limits.{blocks_in, has_room}
 use Rattle.tree_effects.specs.Attributes.{attributes_of, nlink_of}
 use Rattle.tree_effects.specs.Effects.{attributes_at, number_at_name, getattr, lookup}
 use Rattle.tree_effects.specs.Checks.{◌>>=◌, found_or}
@@ -34,6 +37,18 @@ opening_entries fsid =
 
 pub opening_names : (fsid n : ℕ) → names_of (opening_files fsid) n ≡ sum_by (names_in n) (opening_root ∷ opening_hello ∷ [])
 opening_names fsid n = ap (λ (es : List (ℕ × File)). sum_by (names_in n) (map (λ e. e.1) es)) (opening_entries fsid)
+
+-- whether these files pass no limit
+room_in : ℕ → List (ℕ × File) → Bool
+room_in count es =
+    nat_le count 8192 && (nat_le (sum_by (λ f. length (listing_in f.body).entries) (map (λ e. e.1) es)) 16384 && (nat_le (sum_by (λ f. blocks_in f.body) (map (λ e. e.1) es)) 32768 && (nat_le 3 4294967295
+    && list_all (λ f. nat_le (listing_in f.body).next 4294967295) (map (λ e. e.1) es))))
+
+pub opening_room : (fsid : ℕ) → has_room (opening_files fsid) ≡ true
+unfolding room_in
+opening_room fsid =
+    ap (λ n. room_in n (finite.entries (opening_files fsid).files)) (finite.len-entries (opening_files fsid).files)
+    ∙ ap (λ es. room_in (length es) es) (opening_entries fsid)
 
 root_handle : number_in 1 (handle_of 1 1) ≡ Some 1
 unfolding number_in handle_of

@@ -49,7 +49,7 @@ there_shows w n there h = by (file_at w n) refl
 
 module _ (w : Files) (tree : IsFileTree w) (d : ℕ) (l : Listing) (there : IsSome (file_at w d)) (is_dir : IsDirectory w d)
     (own : (y : List ℕ) → places w d y ≡ entry_at l y) where
-  named_there : (name : List ℕ) (n : ℕ) → number_named w d l name ≡ Some n → IsSome (file_at w n)
+  pub named_there : (name : List ℕ) (n : ℕ) → number_named w d l name ≡ Some n → IsSome (file_at w n)
   named_there name n = dots (pointwise nat_eq name dot) (pointwise nat_eq name dot_dot) (is_name name)
     where
       entry : (o : Option (ℕ × ℕ)) → places w d name ≡ o → option_map (λ e. e.0) o ≡ Some n → IsSome (file_at w n)

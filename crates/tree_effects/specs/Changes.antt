@@ -1,5 +1,5 @@
 -- What procedures that change files share.
-use Rattle.std.specs.Prelude.{ℕ, ◌+◌, ◌-◌, ◌==◌, ◌||◌, ◌&&◌, Bool, true, List, ◌++◌, take, drop, length, replicate, Option, Some, None, Result, Ok, Err, is_some, is_none, unwrap_or, if◌then◌else◌}
+use Rattle.std.specs.Prelude.{ℕ, ◌+◌, ◌-◌, ◌==◌, ◌||◌, ◌&&◌, Bool, true, List, ◌++◌, take, drop, length, replicate, Option, Some, None, Result, Ok, is_some, is_none, unwrap_or, if◌then◌else◌}
 use Rattle.std.specs.Option.{option_map_or}
 use Rattle.std.specs.List.{list_any}
 use Rattle.nfs_types.specs.Timeval.{Timeval}
@@ -14,11 +14,6 @@ use Rattle.tree_effects.specs.Sattr.{Wanted, wants_any}
 -- what a procedure does if no check fails: its result, and the files after it
 abbrev pub Effect : Type 0 → Type 0
 Effect A = Result (A × Files) Stat
-
--- a refusal leaves the files as they were
-abbrev pub outcome : {A : Type 0} → Files → Effect A → Result A Stat × Files
-outcome w (Ok x) = (Ok x.0, x.1)
-outcome w (Err e) = (Err e, w)
 
 -- ---- times
 

@@ -71,6 +71,10 @@ check_size size = check (nat_le size 1048576) stats.FBig
 abbrev pub check_room : Files → Result (Unit {0}) Stat
 check_room w = check (has_room w) stats.NoSpc
 
+-- Room for a cookie: NOSPC where a directory would give one above 4294967294
+abbrev pub check_cookie : Listing → Result (Unit {0}) Stat
+check_cookie l = check (nat_le l.next 4294967294) stats.NoSpc
+
 -- the bytes of a regular file: ISDIR, NXIO
 abbrev pub bytes_of : Body → Result (List ℕ) Stat
 bytes_of (Regular bytes) = Ok bytes

@@ -13,7 +13,7 @@ use Rattle.tree_paths.specs.Files.{Body, Regular, Link, Directory, File, Files, 
 use Rattle.tree_changes.specs.Edits.{with_new_file, with_changed_file, with_name, without_name}
 use Rattle.tree_changes.specs.Limits.{block_count, file_count}
 use Rattle.tree_effects.specs.Attributes.{attributes_of}
-use Rattle.tree_effects.specs.Checks.{◌>>=◌, Found, file_of, listing_or, dir_of, check, check_size, check_room, check_edit, check_free, number_at, bytes_of, target_of, permits, may_search, may_read, may_write}
+use Rattle.tree_effects.specs.Checks.{◌>>=◌, Found, file_of, listing_or, dir_of, check, check_size, check_room, check_cookie, check_edit, check_free, number_at, bytes_of, target_of, permits, may_search, may_read, may_write}
 use Rattle.tree_effects.specs.Sattr.{Wanted, nothing}
 use Rattle.tree_effects.specs.Changes.{Effect, touch, mark, touched, written, check_owner, check_resize, set, new_file, unnamed}
 use Rattle.tree_effects.specs.Reading.{Page, listed, page_of}
@@ -185,7 +185,7 @@ rename w who now from from_name to to_name = do
   if option_map_or (λ t. t == n) target false then Ok (tt, w) else do
     _ ← check (not (is_directory f.body && is_above w n to)) stats.Acces
     _ ← check_target w f target
-    _ ← check_room after
+    _ ← check_cookie e.listing
     Ok (tt, after)
 
 -- READDIR (section 2.2.17)

@@ -1,11 +1,10 @@
 //! What holds of every effect.
 
-ghost use Rattle.std.specs.Prelude.{◌≡◌, ◌≢◌, ◌↔◌, min, true, [], ◌∷◌, ◌++◌, List, ℕ, Some, None, Ok, Err, IsTrue, IsSome};
+ghost use Rattle.std.specs.Prelude.{◌≡◌, ◌≢◌, ◌↔◌, min, true, [], ◌∷◌, ◌++◌, List, ℕ, Some, Ok, Err, IsTrue, IsSome};
 ghost use Rattle.nfs_types.specs.Timeval.{Timeval};
 ghost use Rattle.nfs_types.specs.Caller.{Caller, nobody};
 ghost use Rattle.nfs_types.specs.Handle.{number_in, handle_of};
 ghost use Rattle.nfs_types.specs.Arguments.{Arguments, Null, Getattr, Lookup};
-ghost use Rattle.nfs_types.specs.Results.{Results};
 ghost use Rattle.nfs_types.specs.declared.stat.Stat.{Stat};
 ghost use Rattle.nfs_types.specs.declared.stat.Stat.TheVariants as stats;
 ghost use Rattle.nfs_types.specs.declared.attributes.FileType.TheVariants as types;
@@ -13,6 +12,7 @@ ghost use Rattle.tree_paths.specs.Listing.{Listing, IsRising};
 ghost use Rattle.tree_paths.specs.Names.{dot, dot_dot, is_name};
 ghost use Rattle.tree_paths.specs.Files.{Files, file_at};
 ghost use Rattle.tree_paths.specs.Trees.{IsFileTree};
+ghost use Rattle.tree_changes.specs.Limits.{has_room};
 ghost use Rattle.tree_effects.specs.Effects.{does, getattr, lookup};
 ghost use Rattle.tree_effects.specs.Reading.{Entry, listed, page_of, pages, last_cookie, entries_above, RisesAbove, IsLongestFront};
 ghost use Rattle.tree_effects.specs.Opening.{epoch, hello, opening_files};
@@ -105,9 +105,10 @@ pub fn opening_files_show()
     ) }
 {}
 
-/// The files that a server begins with are a tree.
+/// The files that a server begins with are a tree, and pass no limit.
 pub fn opening_files_are_a_tree()
-    ensures { (fsid : ℕ) → IsFileTree (opening_files fsid) }
+    ensures tree { (fsid : ℕ) → IsFileTree (opening_files fsid) }
+    ensures room { (fsid : ℕ) → IsTrue (has_room (opening_files fsid)) }
 {}
 
 /// READDIR's pages, each from the last cookie of the one before, give each entry once and in order; eof says that

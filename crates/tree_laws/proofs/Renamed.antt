@@ -13,6 +13,7 @@ use Rattle.tree_paths.specs.Files.{Body, Regular, Link, Directory, File, Files, 
 use Rattle.tree_paths.specs.Trees.{IsTime, IsFileTree}
 use Rattle.tree_paths.proofs.Walks.{none_some, some_same, same_place}
 use Rattle.tree_changes.specs.Edits.{with_changed_file, without_file, relisted, relisted_body, with_name, without_name}
+use Rattle.tree_changes.specs.Limits.{has_room}
 use Rattle.tree_changes.proofs.Finite.{changed_here, changed_other, gone_other}
 use Rattle.tree_changes.proofs.Listings.{leads}
 use Rattle.tree_changes.proofs.Shapes.{kind, is_some-kind, AllFiles, IsSameShape, IsNamed, IsUnnamed, same_then, named_shape, unnamed_shape}
@@ -24,6 +25,7 @@ use Rattle.tree_laws.proofs.Fitting.{dir_file, touch_shape, mark_shape, touch_fi
 use Rattle.tree_laws.specs.Anew.{GivesAnew}
 use Rattle.tree_laws.proofs.Given.{nothing_given, taken_given, renamed_given, cookie_taken, cookie_unnamed, cookie_named, cookie_marked, cookie_touched}
 use Rattle.tree_laws.proofs.Removed.{unnamed_taken}
+use Rattle.tree_laws.proofs.RenameRoom.{moved_room}
 
 -- a walk where less lies is one where more lies
 walk_less : (at to : Places) → ((n : ℕ) (y : List ℕ) (e : ℕ × ℕ) → to n y ≡ Some e → at n y ≡ Some e) → (e f : ℕ × ℕ) (p : List (List ℕ)) → walk to e p ≡ Some f → walk at e p ≡ Some f
@@ -230,6 +232,10 @@ module _ (now : Timeval) (time : IsTime now) (w : Files) (tree : IsFileTree w) (
     where
       own_cookie : (listing w d₂).next ≤ (listing_in df.body).next
       own_cookie = let same = ap (λ (o : Option File). (option_map_or (λ f. listing_in f.body) o (record { next = 0; entries = [] })).next) there₂ in omega (arith, same)
+
+  pub moved_within : (listing_in df.body).next ≤ 4294967294 → has_room w ≡ true → has_room (moved now w s d₁ x₁ d₂ x₂ (option_map (λ e. e.0) (places w d₂ x₂))) ≡ true
+  unfolding w₁ w₂
+  moved_within low h = moved_room now w s d₁ x₁ d₂ x₂ (option_map (λ e. e.0) (places w d₂ x₂)) (s, sc) source₁ to_file.0 to_file.1 (omega (arith, same_cookie, low)) h
 
   pub moved_given : GivesAnew w (moved now w s d₁ x₁ d₂ x₂ (option_map (λ e. e.0) (places w d₂ x₂)))
   unfolding w₁ w₂ w₃ w₄ w₅ after

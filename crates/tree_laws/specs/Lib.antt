@@ -10,3 +10,4 @@ pub use Rattle.tree_effects.specs.Sattr
 pub use Rattle.tree_effects.specs.Changes
 pub use Rattle.tree_effects.specs.Procedures
 pub mod Anew
+pub mod Room

@@ -3,4 +3,4 @@
 
 mod laws;
 
-pub use laws::above_is_by_paths;
+pub use laws::{above_is_by_paths, room_is_told_before};

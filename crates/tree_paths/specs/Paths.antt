@@ -1,5 +1,5 @@
 -- Paths in a tree of numbered directories, by walks along their names.
-use Rattle.std.specs.Prelude.{◌≡◌, ◌≢◌, ℕ, List, [], ◌∷◌, ◌++◌, Option, Some, None, option_map, option_and_then}
+use Rattle.std.specs.Prelude.{◌≡◌, ◌≢◌, ℕ, List, [], ◌∷◌, ◌++◌, Option, Some, None, IsSome, option_map, option_and_then}
 
 -- what a directory number has at a name: a number, and a cookie
 abbrev pub Places : Type 0
@@ -26,11 +26,13 @@ pub record AddsPath (old new : List (List ℕ) → Option (ℕ × ℕ)) (path : 
 
 -- one path less
 pub record TakesPath (old new : List (List ℕ) → Option (ℕ × ℕ)) (path : List (List ℕ)) : Type 0 where
+  pub had : IsSome (old path)
   pub gone : new path ≡ None
   pub others : (p : List (List ℕ)) → p ≢ path → new p ≡ old p
 
 -- what `from` was, with all below it, is at `to`; what stood at `to` is gone, and nothing is left at `from`
 pub record Renames (old new : List (List ℕ) → Option (ℕ × ℕ)) (from to : List (List ℕ)) (cookie : ℕ) : Type 0 where
+  pub had : IsSome (old from)
   pub moved : new to ≡ option_map (λ e. (e.0, cookie)) (old from)
   pub below : (r : List (List ℕ)) → r ≢ [] → new (to ++ r) ≡ old (from ++ r)
   pub gone : (r : List (List ℕ)) → ((s : List (List ℕ)) → from ++ r ≢ to ++ s) → new (from ++ r) ≡ None

@@ -1,6 +1,6 @@
 //! What holds of every tree of files.
 
-ghost use Rattle.std.specs.Prelude.{◌≡◌, ◌≢◌, ◌∷◌, ◌++◌, List, ℕ, Option, Some, None, IsSome, option_map};
+ghost use Rattle.std.specs.Prelude.{◌≡◌, ◌≢◌, [], ◌∷◌, ◌++◌, List, ℕ, Option, Some, None, IsSome, option_map};
 ghost use Rattle.tree_paths.specs.Paths.{Places, walk, path_at, Changes, HasOnePathEach};
 ghost use Rattle.tree_paths.specs.Files.{Files, file_at, IsDirectory, places, nameless};
 ghost use Rattle.tree_paths.specs.Trees.{IsFileTree};
@@ -17,6 +17,14 @@ pub fn walks_change_where_they_pass()
 /// A directory has one path.
 pub fn directories_have_one_path()
     ensures { (w : Files) → IsFileTree w → HasOnePathEach (IsDirectory w) (places w) }
+{}
+
+/// What stands above the last name of a path is the path of a directory, and that directory has the name.
+pub fn parents_are_directories()
+    ensures { (w : Files) → IsFileTree w → (path : List (List ℕ)) (name : List ℕ) (number cookie : ℕ) →
+        path_at (places w) (path ++ name ∷ []) ≡ Some (number, cookie) →
+        (parent : ℕ) × (parent_cookie : ℕ) × (path_at (places w) path ≡ Some (parent, parent_cookie))
+        × IsDirectory w parent × (places w parent name ≡ Some (number, cookie)) }
 {}
 
 /// The numbers of files are those that paths lead to: a number with no path left is gone.

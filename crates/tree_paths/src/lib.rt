@@ -5,5 +5,5 @@ mod laws;
 
 pub use laws::{
     directories_have_one_path, files_are_told_by_paths, numbers_have_paths,
-    walks_change_where_they_pass,
+    parents_are_directories, walks_change_where_they_pass,
 };

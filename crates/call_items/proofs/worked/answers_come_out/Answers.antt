@@ -17,3 +17,15 @@ returns-clause-target c = refl
 pub returns-clause-refused : goal.returns-clause-refused
 unfolding number_spelling
 returns-clause-refused c = refl
+
+pub returns-clause-empty : goal.returns-clause-empty
+unfolding number_spelling
+returns-clause-empty c = refl
+
+pub returns-clause-data : goal.returns-clause-data
+unfolding number_spelling
+returns-clause-data c = refl
+
+pub returns-clause-end : goal.returns-clause-end
+unfolding number_spelling
+returns-clause-end c = refl

@@ -67,7 +67,7 @@ all_moved =
     ) refl
 
 pub returns-clause-rename : goal.returns-clause-rename
-returns-clause-rename c = rw (file_of_list 4 with_directory 1, file_of_list 4 with_directory 3, not_above, all_moved, room_of 4 with_renamed) refl
+returns-clause-rename c = rw (file_of_list 4 with_directory 1, file_of_list 4 with_directory 3, not_above, all_moved) refl
 
 pub returns-clause-inside : goal.returns-clause-inside
 returns-clause-inside c = rw (file_of_list 4 with_directory 1, file_of_list 4 with_directory 3, above_itself) refl

@@ -63,7 +63,7 @@ all_moved =
     ) refl
 
 pub returns-clause-rename : goal.returns-clause-rename
-returns-clause-rename _ = rw (file_of_list 6 with_nested 1, file_of_list 6 with_nested 3, not_above, all_moved, room_of 6 with_nested_renamed) refl
+returns-clause-rename _ = rw (file_of_list 6 with_nested 1, file_of_list 6 with_nested 3, not_above, all_moved) refl
 
 pub returns-clause-inside : goal.returns-clause-inside
 returns-clause-inside _ = rw (file_of_list 6 with_nested_renamed 1, file_of_list 6 with_nested_renamed 4, file_of_list 6 with_nested_renamed 3, above) refl

@@ -7,7 +7,7 @@ use Rattle.tree_paths.specs.Listing.{Listing}
 use Rattle.tree_paths.specs.Files.{Body, Regular, Link, Directory, File, is_directory, listing_in}
 use Rattle.tree_effects.specs.Checks.{◌>>=◌, Found, found_or, listing_or, bytes_of, target_of, check}
 use Rattle.tree_effects.specs.Laws.{stat_in}
-use Rattle.call_laws.specs.Laws.{first_failing, is_link, bytes_in}
+use Rattle.call_checks.specs.Checks.{first_failing, is_link, bytes_in}
 
 -- one check, and then what is there
 pub last : (m : Bool) (o : Option ℕ) → stat_in (cond m (found_or stats.NoEnt o) (Err stats.Acces)) ≡ first_failing ((m, stats.Acces) ∷ (is_some o, stats.NoEnt) ∷ [])
@@ -57,12 +57,12 @@ sized true false false r x y = refl
 sized true false true true x y = refl
 sized true false true false x y = refl
 
-pub of_write : {X : Type 0} (b : Body) (m e z : Bool) (room : List ℕ → Bool) (x : X) (give : List ℕ → X)
+pub of_bytes_written : {X : Type 0} (b : Body) (m e z : Bool) (room : List ℕ → Bool) (x : X) (give : List ℕ → X)
     → stat_in (bytes_of b >>= λ old. check m stats.Acces >>= λ _. cond e (Ok x) (check z stats.FBig >>= λ _. check (room old) stats.NoSpc >>= λ _. Ok (give old)))
     ≡ first_failing ((not (is_directory b), stats.IsDir) ∷ (not (is_link b), stats.NxIo) ∷ (m, stats.Acces) ∷ (e || z, stats.FBig) ∷ (e || room (bytes_in b), stats.NoSpc) ∷ [])
-of_write (Regular bytes) m e z room x give = sized m e z (room bytes) x (give bytes)
-of_write (Link target) m e z room x give = refl
-of_write (Directory l) m e z room x give = refl
+of_bytes_written (Regular bytes) m e z room x give = sized m e z (room bytes) x (give bytes)
+of_bytes_written (Link target) m e z room x give = refl
+of_bytes_written (Directory l) m e z room x give = refl
 
 four : {X : Type 0} (k m free room : Bool) (x : X)
     → stat_in ((check k stats.Acces >>= λ _. check m stats.Acces) >>= λ _. check free stats.Exist >>= λ _. check room stats.NoSpc >>= λ _. Ok x)
@@ -73,9 +73,9 @@ four true true false room x = refl
 four true true true false x = refl
 four true true true true x = refl
 
-pub of_make : {X : Type 0} (b : Body) (n : ℕ) (f : File) (k : Bool) (may : File → Bool) (free : Listing → Bool) (room : Bool) (x : X)
+pub of_making : {X : Type 0} (b : Body) (n : ℕ) (f : File) (k : Bool) (may : File → Bool) (free : Listing → Bool) (room : Bool) (x : X)
     → stat_in ((listing_or stats.NotDir b >>= λ l. found (record { number = n; file = f; listing = l })) >>= λ d. (check k stats.Acces >>= λ _. check (may d.file) stats.Acces) >>= λ _. check (free d.listing) stats.Exist >>= λ _. check room stats.NoSpc >>= λ _. Ok x)
     ≡ first_failing ((is_directory b, stats.NotDir) ∷ (k, stats.Acces) ∷ (may f, stats.Acces) ∷ (free (listing_in b), stats.Exist) ∷ (room, stats.NoSpc) ∷ [])
-of_make (Regular bytes) n f k may free room x = refl
-of_make (Link target) n f k may free room x = refl
-of_make (Directory l) n f k may free room x = four k (may f) (free l) room x
+of_making (Regular bytes) n f k may free room x = refl
+of_making (Link target) n f k may free room x = refl
+of_making (Directory l) n f k may free room x = four k (may f) (free l) room x

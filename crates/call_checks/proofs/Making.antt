@@ -1,6 +1,8 @@
+-- The checks of WRITE, MKDIR and SYMLINK.
 use Rattle.std.proofs.Common.{◌≡◌, ℕ, ◌+◌, List, [], ◌∷◌, length, Bool, false, cond, not, Option, Some, None, Ok, refl}
 use Rattle.std.specs.Prelude.{◌||◌, ◌&&◌, ◌==◌, nat_le, is_some, is_none, option_and_then}
 use Rattle.std.specs.Option.{option_map_or}
+use Rattle.nfs_types.specs.Timeval.{Timeval}
 use Rattle.nfs_types.specs.Caller.{Caller}
 use Rattle.nfs_types.specs.declared.stat.Stat.TheVariants as stats
 use Rattle.tree_paths.specs.Listing.{entry_at}
@@ -9,13 +11,13 @@ use Rattle.tree_paths.specs.Files.{Link, Directory, File, Files, file_at, is_dir
 use Rattle.tree_changes.specs.Edits.{with_changed_file}
 use Rattle.tree_changes.specs.Limits.{has_room}
 use Rattle.tree_effects.specs.Checks.{◌>>=◌, found_or, listing_or, bytes_of, check, may_search, may_write}
-use Rattle.tree_effects.specs.Sattr.{nothing}
+use Rattle.tree_effects.specs.Sattr.{Wanted, nothing}
 use Rattle.tree_effects.specs.Changes.{new_file}
-use Rattle.tree_effects.specs.Procedures.{rewritten, made}
+use Rattle.tree_effects.specs.Procedures.{rewritten, made, write, make_dir, symlink}
 use Rattle.tree_effects.specs.Laws.{stat_in}
-use Rattle.call_laws.specs.Laws.{first_failing, is_link, bytes_in}
-use Rattle.call_laws.proofs.Stats.{found, of_write, of_make}
-use Rattle.call_laws.proofs.laws.stats_of_changes_are_of_the_first_failing_check.Goals as goal
+use Rattle.call_checks.specs.Checks.{first_failing, is_link, bytes_in}
+use Rattle.call_checks.specs.Tables.{write_checks, make_dir_checks, symlink_checks}
+use Rattle.call_checks.proofs.Stats.{found, of_bytes_written, of_making}
 
 write_by : {X : Type 0} (who : Caller) (e z : Bool) (room : List ℕ → Bool) (x : X) (give : List ℕ → X) (o : Option File)
     → stat_in (found_or stats.Stale o >>= λ f. bytes_of f.body >>= λ old. check (may_write who f) stats.Acces >>= λ _. cond e (Ok x) (check z stats.FBig >>= λ _. check (room old) stats.NoSpc >>= λ _. Ok (give old)))
@@ -29,13 +31,13 @@ write_by : {X : Type 0} (who : Caller) (e z : Bool) (room : List ℕ → Bool) (
     ∷ []
     )
 write_by who e z room x give None = refl
-write_by who e z room x give (Some f) = of_write f.body (may_write who f) e z room x give
+write_by who e z room x give (Some f) = of_bytes_written f.body (may_write who f) e z room x give
 
 abbrev changed : Files → Unit {0} × Files
 changed w = (tt, w)
 
-pub returns-clause-write : goal.returns-clause-write
-returns-clause-write c w who now n offset new =
+pub of_write : (w : Files) (who : Caller) (now : Timeval) (n offset : ℕ) (new : List ℕ) → stat_in (write w who now n offset new) ≡ first_failing (write_checks w who now n offset new)
+of_write w who now n offset new =
     write_by who (length new == 0) (nat_le (offset + length new) 1048576) (λ old. has_room (with_changed_file w n (rewritten now offset new old))) (changed w) (λ old. changed (with_changed_file w n (rewritten now offset new old)))
     (file_at w n)
 
@@ -54,17 +56,17 @@ make_by : {X : Type 0} (who : Caller) (dir : ℕ) (name : List ℕ) (room : Bool
     ∷ []
     )
 make_by who dir name room x None = refl
-make_by who dir name room x (Some f) = of_make f.body dir f (is_name name) (λ f. may_search who f && may_write who f) (λ l. is_none (entry_at l name)) room x
+make_by who dir name room x (Some f) = of_making f.body dir f (is_name name) (λ f. may_search who f && may_write who f) (λ l. is_none (entry_at l name)) room x
 
 abbrev numbered : Files → Files → ℕ × Files
 numbered w after = (w.next, after)
 
-pub returns-clause-make_dir : goal.returns-clause-make_dir
-returns-clause-make_dir c w who now dir name a =
+pub of_make_dir : (w : Files) (who : Caller) (now : Timeval) (dir : ℕ) (name : List ℕ) (a : Wanted) → stat_in (make_dir w who now dir name a) ≡ first_failing (make_dir_checks w who now dir name a)
+of_make_dir w who now dir name a =
     let after : Files = made now w dir name (new_file who now a 493 (Directory (record { next = 3; entries = [] }))) in
     make_by who dir name (has_room after) (numbered w after) (file_at w dir)
 
-pub returns-clause-symlink : goal.returns-clause-symlink
-returns-clause-symlink c w who now dir name target =
+pub of_symlink : (w : Files) (who : Caller) (now : Timeval) (dir : ℕ) (name target : List ℕ) → stat_in (symlink w who now dir name target) ≡ first_failing (symlink_checks w who now dir name target)
+of_symlink w who now dir name target =
     let after : Files = made now w dir name (new_file who now nothing 511 (Link target)) in
     make_by who dir name (has_room after) (numbered w after) (file_at w dir)

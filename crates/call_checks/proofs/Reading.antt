@@ -1,3 +1,4 @@
+-- The checks of procedures that only read.
 use Rattle.std.proofs.Common.{◌≡◌, ℕ, [], ◌∷◌, ◌-◌, false, cond, not, Option, Some, None, Ok, Err, refl, List, take, drop, min}
 use Rattle.std.specs.Prelude.{◌||◌, is_some}
 use Rattle.std.specs.Option.{option_map_or}
@@ -7,17 +8,17 @@ use Rattle.nfs_types.specs.declared.stat.Stat.TheVariants as stats
 use Rattle.tree_paths.specs.Files.{File, Files, file_at, is_directory, listing_in}
 use Rattle.tree_effects.specs.Attributes.{attributes_of}
 use Rattle.tree_effects.specs.Checks.{◌>>=◌, found_or, listing_or, bytes_of, target_of, check, permits, may_search, may_read}
-use Rattle.tree_effects.specs.Effects.{number_named}
+use Rattle.tree_effects.specs.Effects.{attributes_at, number_named, number_at_name}
 use Rattle.tree_effects.specs.Laws.{stat_in}
 use Rattle.tree_changes.specs.Limits.{block_count}
-use Rattle.tree_effects.specs.Procedures.{Figures}
+use Rattle.tree_effects.specs.Procedures.{Figures, read_link, read, read_dir, figures}
 use Rattle.tree_effects.specs.Reading.{listed, page_of}
-use Rattle.call_laws.specs.Laws.{first_failing, is_link}
-use Rattle.call_laws.proofs.Stats.{found, in_body, of_target, of_bytes, of_listing}
-use Rattle.call_laws.proofs.laws.stats_are_of_the_first_failing_check.Goals as goal
+use Rattle.call_checks.specs.Checks.{first_failing, is_link}
+use Rattle.call_checks.specs.Tables.{file_checks, lookup_checks, read_link_checks, read_checks, read_dir_checks}
+use Rattle.call_checks.proofs.Stats.{found, in_body, of_target, of_bytes, of_listing}
 
-pub returns-clause-getattr : goal.returns-clause-getattr
-returns-clause-getattr c w n =
+pub of_getattr : (w : Files) (n : ℕ) → stat_in (attributes_at w n) ≡ first_failing (file_checks w n)
+of_getattr w n =
     elim (file_at w n) as (λ o. stat_in (found_or stats.Stale o >>= λ f. Ok (attributes_of w n f)) ≡ first_failing ((is_some o, stats.Stale) ∷ [])) [
       | None ↦ refl
       | Some f ↦ refl
@@ -35,15 +36,15 @@ lookup_by : (w : Files) (who : Caller) (dir : ℕ) (name : List ℕ) (o : Option
 lookup_by w who dir name None = refl
 lookup_by w who dir name (Some f) = in_body f.body (may_search who f) (λ l. number_named w dir l name)
 
-pub returns-clause-lookup : goal.returns-clause-lookup
-returns-clause-lookup c w who dir name = lookup_by w who dir name (file_at w dir)
+pub of_lookup : (w : Files) (who : Caller) (dir : ℕ) (name : List ℕ) → stat_in (number_at_name w who dir name) ≡ first_failing (lookup_checks w who dir name)
+of_lookup w who dir name = lookup_by w who dir name (file_at w dir)
 
 link_by : (o : Option File) → stat_in (found_or stats.Stale o >>= λ f. target_of f.body) ≡ first_failing ((is_some o, stats.Stale) ∷ (option_map_or (λ f. is_link f.body) o false, stats.NxIo) ∷ [])
 link_by None = refl
 link_by (Some f) = of_target f.body
 
-pub returns-clause-read_link : goal.returns-clause-read_link
-returns-clause-read_link c w n = link_by (file_at w n)
+pub of_read_link : (w : Files) (n : ℕ) → stat_in (read_link w n) ≡ first_failing (read_link_checks w n)
+of_read_link w n = link_by (file_at w n)
 
 read_by : (w : Files) (who : Caller) (n offset count : ℕ) (o : Option File)
     → stat_in {X = Fattr × List ℕ} (found_or stats.Stale o >>= λ f. bytes_of f.body >>= λ bytes. check (may_read who f || permits who f 1) stats.Acces >>= λ _. Ok (attributes_of w n f, take (min count 8192) (drop offset bytes)))
@@ -57,8 +58,8 @@ read_by : (w : Files) (who : Caller) (n offset count : ℕ) (o : Option File)
 read_by w who n offset count None = refl
 read_by w who n offset count (Some f) = of_bytes f.body (may_read who f || permits who f 1) (λ bytes. (attributes_of w n f, take (min count 8192) (drop offset bytes)))
 
-pub returns-clause-read : goal.returns-clause-read
-returns-clause-read c w who n offset count = read_by w who n offset count (file_at w n)
+pub of_read : (w : Files) (who : Caller) (n offset count : ℕ) → stat_in (read w who n offset count) ≡ first_failing (read_checks w who n)
+of_read w who n offset count = read_by w who n offset count (file_at w n)
 
 page_by : (w : Files) (who : Caller) (dir cookie count : ℕ) (o : Option File)
     → stat_in (
@@ -69,12 +70,12 @@ page_by : (w : Files) (who : Caller) (dir cookie count : ℕ) (o : Option File)
 page_by w who dir cookie count None = refl
 page_by w who dir cookie count (Some f) = of_listing f.body dir f (may_read who) (λ d. page_of cookie count (listed w dir d.listing))
 
-pub returns-clause-read_dir : goal.returns-clause-read_dir
-returns-clause-read_dir c w who dir cookie count = page_by w who dir cookie count (file_at w dir)
+pub of_read_dir : (w : Files) (who : Caller) (dir cookie count : ℕ) → stat_in (read_dir w who dir cookie count) ≡ first_failing (read_dir_checks w who dir)
+of_read_dir w who dir cookie count = page_by w who dir cookie count (file_at w dir)
 
 free_by : (figures : Figures) (o : Option File) → stat_in (found_or stats.Stale o >>= λ f. Ok figures) ≡ first_failing ((is_some o, stats.Stale) ∷ [])
 free_by figures None = refl
 free_by figures (Some f) = refl
 
-pub returns-clause-figures : goal.returns-clause-figures
-returns-clause-figures c w n = free_by (record { transfer_size = 8192; block_size = 512; blocks = 32768; free = 32768 - block_count w; available = 32768 - block_count w }) (file_at w n)
+pub of_figures : (w : Files) (n : ℕ) → stat_in (figures w n) ≡ first_failing (file_checks w n)
+of_figures w n = free_by (record { transfer_size = 8192; block_size = 512; blocks = 32768; free = 32768 - block_count w; available = 32768 - block_count w }) (file_at w n)

@@ -1,0 +1,4 @@
+pub mod Effects
+pub mod Values
+pub mod OfCalls
+pub mod Words
