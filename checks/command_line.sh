@@ -25,6 +25,8 @@ add help '' --help
 add version '' --version
 add no_words ''
 add unknown '' serve-all
+add end_of_flags '' rpc --
+add behind_flags '' -- rpc
 add one_word_more '' rpc now
 add unknown_flag '' rpc --fast
 
@@ -49,6 +51,8 @@ want 'case=version run=ended status=0 .*'
 want 'case=no_words run=ended status=2 .*'
 want "error: unrecognized subcommand 'serve-all'"
 want 'case=unknown run=ended status=2 .*'
+want 'case=end_of_flags run=ended status=0 .*'
+want 'case=behind_flags run=ended status=2 .*'
 want "error: unexpected argument 'now' found"
 want 'case=one_word_more run=ended status=2 .*'
 want "error: unexpected argument '--fast' found"

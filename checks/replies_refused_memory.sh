@@ -1,39 +1,36 @@
 #!/usr/bin/env bash
-# Refuses one request for memory a run, the first, the second and so on, until a run of the tests in
-# crates/acceptance/src/memory.rt meets none. What stands after a refusal has to stand in each run.
-# Each run builds the tests without their proofs, which rt ci checks.
-#
-#     checks/replies_refused_memory.sh [FIRST]    from the first request, or from a later one
-#
-# JOBS is how many runs there are at a time: as many as there are processors, if not given.
+# Want of memory leaves what it should: the program beside this script answers, reads and runs records, with one of its
+# requests for memory refused, the first, the second and so on, until a run meets no refusal. It is built once: the same
+# request of the whole process is refused in each run, and the program is told how many to make before it begins.
 set -euo pipefail
-cd "$(dirname "$0")/../crates/acceptance"
+cd "$(dirname "$0")/.."
 
-most=64
-logs=$(mktemp -d)
-trap 'rm -rf "$logs"' EXIT
-
-run() {
-    rt try --test --fail-alloc "$1" >"$2/$1" 2>&1 || true
-}
-export -f run
-
-at_once=${JOBS:-$(nproc)}
-for ((first = ${1:-1}; first <= most; first += at_once)); do
-    seq "$first" $((first + at_once - 1)) | xargs -P "$at_once" -I{} bash -c 'run {} "$0"' "$logs"
-    for ((n = first; n < first + at_once; n++)); do
-        # Three tests say what stands, and three fail where a request of theirs was refused.
-        stands=$(grep -c '^test memory::.*_stands \.\.\. ok$' "$logs/$n" || true)
-        if ((stands != 3)); then
-            echo "memory: after refusal $n:"
-            cat "$logs/$n"
-            exit 1
-        fi
-        if ! grep -q '^test memory::.* FAILED$' "$logs/$n"; then
-            echo "memory: what is left by refusals ${1:-1} to $((n - 1)) stands"
-            exit 0
-        fi
-    done
+work=$(mktemp -d)
+trap 'rm -rf "$work"' EXIT
+below=(xdr records rpc nfs_types tree_paths tree_changes tree_effects tree_nodes file_tree nfs_procs service console)
+for crate in "${below[@]}"; do
+    mkdir -p "$work/crates/$crate"
+    cp -r "crates/$crate/src" "crates/$crate/specs" "crates/$crate/proofs" "$work/crates/$crate/"
+    grep "^$crate:" crates.txt >> "$work/crates.txt"
 done
-echo "memory: run $most still met a refusal"
-exit 1
+echo 'replies_memory: console service rpc nfs_types' >> "$work/crates.txt"
+mkdir -p "$work/crates/replies_memory/src" "$work/crates/replies_memory/specs"
+cp checks/replies_refused_memory/main.rt.txt "$work/crates/replies_memory/src/main.rt"
+touch "$work/crates/replies_memory/specs/Lib.antt"
+cd "$work/crates/replies_memory"
+
+most=60
+mkdir "$work/cases"
+for ((request = 1; request <= most; request++)); do
+    head -c $((most - request)) /dev/zero > "$work/cases/$(printf %02d "$request")"
+done
+rt try --fail-alloc "$most" --cases "$work/cases" > "$work/log" 2>&1 || { cat "$work/log" >&2; exit 1; }
+
+# What each run saw: one refusal in each of the first runs, none in the others, and all that is left stands.
+met=$(grep -E '^refused' "$work/log" | uniq -c | sed -E 's/^ +//')
+count=${met%% *}
+if [ "$met" != "$count refused 1, stands true"$'\n'"$((most - count)) refused 0, stands true" ]; then
+    cat "$work/log" >&2
+    exit 1
+fi
+echo "what each of $count refused requests for memory leaves stands"

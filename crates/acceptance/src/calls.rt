@@ -93,3 +93,34 @@ fn a_cut_header_has_no_reply(rt: HostRuntime) -> Result<(), Fail> {
     }
     Ok(())
 }
+
+/// The replies to a call of NULL with one bit changed, the lowest of each byte in turn, counted by what they say: by the
+/// status of those that are accepted, and behind these by that of those denied.
+#[test]
+fn a_changed_bit_decides_the_reply(rt: HostRuntime) -> Result<(), Fail> {
+    let mut service = Service::opening(rt.alloc(), 1)?;
+    let mut silent = 0u32;
+    let mut told = [0u32; 8];
+    for at in 0..40 {
+        let mut call = bytes(rt.alloc(), "1 0 2 186a3 2 0 0*4")?;
+        if let Some(byte) = call.get_mut(at) {
+            *byte ^= 1;
+        }
+        let Some(reply) = service.answer(rt.alloc(), Time::epoch(), &call)? else {
+            silent = silent.saturating_add(1);
+            continue;
+        };
+        assert_eq!(rt; reply.get(..4), call.get(..4), "byte {at}");
+        let place = if reply.get(11) == Some(&0) {
+            usize::from(*reply.get(23).ok_or("no status")?)
+        } else {
+            6 + usize::from(*reply.get(15).ok_or("no status")?)
+        };
+        if let Some(count) = told.get_mut(place) {
+            *count = count.saturating_add(1);
+        }
+    }
+    assert_eq!(rt; silent, 12);
+    assert_eq!(rt; told, [8, 4, 4, 3, 1, 0, 4, 4]);
+    Ok(())
+}

@@ -7,10 +7,17 @@ use std::test::Fail;
 fn command_lines_are_read(rt: HostRuntime) -> Result<(), Fail> {
     let cases = [
         ("nfsacc rpc", Some(Request::Rpc)),
+        ("nfsacc rpc --", Some(Request::Rpc)),
         ("nfsacc", None),
         ("nfsacc RPC", None),
         ("nfsacc rpc 1", None),
         ("nfsacc rpc rpc", None),
+        ("nfsacc rpc -- --", None),
+        ("nfsacc rpc -", None),
+        ("nfsacc rpc -h", None),
+        ("nfsacc -- rpc", None),
+        ("nfsacc help rpc", None),
+        ("nfsacc --version", None),
     ];
     for (line, request) in cases {
         let mut words = Vec::new(rt.alloc());

@@ -85,11 +85,15 @@ fn a_failed_read_ends_the_stream(rt: HostRuntime) -> Result<(), Fail> {
         let done = run_rpc(rt.alloc(), &mut reader, &mut writer);
         assert_eq!(rt; done, Err(RecordFault::Device), "after {read}");
         let owed = output.first(input.count_within(read));
-        assert_eq!(rt; writer.inner.as_slice(), owed, "after {read}");
-        assert_eq!(rt; (reader.reader.count, writer.count), (1, 0), "after {read}");
+        assert_eq!(rt; writer.get_ref().as_slice(), owed, "after {read}");
+        assert_eq!(rt;
+            (reader.get_ref().count(), writer.count()),
+            (1, 0),
+            "after {read}"
+        );
         let again = reader.next(rt.alloc()).err();
         assert_eq!(rt; again, Some(RecordFault::Device), "after {read}");
-        assert_eq!(rt; reader.reader.inner.calls, fails_at, "after {read}");
+        assert_eq!(rt; reader.get_ref().get_ref().calls, fails_at, "after {read}");
     }
     Ok(())
 }
@@ -113,14 +117,14 @@ fn a_failed_write_ends_the_stream(rt: HostRuntime) -> Result<(), Fail> {
                 Err(RecordFault::Device),
                 "{refusal:?} after {written}"
             );
-            let taken = writer.inner.taken.as_slice();
+            let taken = writer.get_ref().taken.as_slice();
             assert_eq!(rt;
                 taken,
                 &output.bytes[..written],
                 "{refusal:?} after {written}"
             );
             assert_eq!(rt;
-                (reader.reader.count, writer.count),
+                (reader.get_ref().count(), writer.count()),
                 (0, 1),
                 "{refusal:?} after {written}"
             );

@@ -8,8 +8,6 @@ mod commands;
 #[cfg(test)]
 mod devices;
 #[cfg(test)]
-mod memory;
-#[cfg(test)]
 mod streams;
 #[cfg(test)]
 mod texts;

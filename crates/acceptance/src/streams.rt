@@ -21,9 +21,9 @@ fn check<R: Abort + AllocGlobal>(
         let mut writer = Counting::new(Vec::new(rt.alloc()));
         let done = run_rpc(rt.alloc(), &mut reader, &mut writer);
         assert_eq!(rt; done, answer, "{line}");
-        assert_eq!(rt; writer.inner.as_slice(), output.as_slice(), "{line}");
-        assert_eq!(rt; reader.reader.count, 0, "{line}");
-        assert_eq!(rt; writer.count, 0, "{line}");
+        assert_eq!(rt; writer.get_ref().as_slice(), output.as_slice(), "{line}");
+        assert_eq!(rt; reader.get_ref().count(), 0, "{line}");
+        assert_eq!(rt; writer.count(), 0, "{line}");
     }
     Ok(())
 }
@@ -79,4 +79,22 @@ fn long_records_end_the_stream(rt: HostRuntime) -> Result<(), Fail> {
 #[test]
 fn cut_records_end_the_stream(rt: HostRuntime) -> Result<(), Fail> {
     check(&rt, Err(RecordFault::EndInRecord), CUT)
+}
+
+#[test]
+fn a_record_cut_anywhere_ends_the_stream(rt: HostRuntime) -> Result<(), Fail> {
+    let record = bytes(rt.alloc(), "80000028 1 0 2 186a3 2 0 0*4")?;
+    for len in 0..record.len() + 1 {
+        let mut reader = RecordReader::new(Counting::new(&record[..len]));
+        let mut writer = Counting::new(Vec::new(rt.alloc()));
+        let done = run_rpc(rt.alloc(), &mut reader, &mut writer);
+        let (answer, written) = match len {
+            0 => (Ok(0), 0),
+            44 => (Ok(1), 28),
+            _ => (Err(RecordFault::EndInRecord), 0),
+        };
+        assert_eq!(rt; done, answer, "{len} bytes");
+        assert_eq!(rt; writer.get_ref().len(), written, "{len} bytes");
+    }
+    Ok(())
 }

@@ -132,10 +132,18 @@ up_to P now k before mid written_before written p h = known before mid p.text (�
     at_rest None rest e h = absurd cc
     at_rest (Some xs) rest e h = let same : xs ≡ rest = cc in subst P same h
 
+-- all that was owed so far stands written, and memory was refused
+pub stays : (now : World) (k : ℕ) (before mid written_before written : Option (List ℕ)) → Progress now k before mid written_before written → IfSome before (λ input. EndsWith faults.NoMemory input written_before written)
+stays now k before mid written_before written p = up_to (λ _. Unit {0}) now k before mid written_before written p (any mid)
+  where
+    any : (mid : Option (List ℕ)) → IfSome mid (λ _. Unit {0})
+    any None = tt
+    any (Some xs) = tt
+
 -- no record could be read
 pub ends : (e : RecordFault) (now : World) (k : ℕ) (before mid written_before written : Option (List ℕ)) (m n : ℕ) → Progress now k before mid written_before written
     → FailsUnless e PassesLimit IsUnfinished mid m n → IfSome before (λ input. EndsWith e input written_before written)
-ends faults.NoMemory now k before mid written_before written m n p h = stops now k before mid written_before written p
+ends faults.NoMemory now k before mid written_before written m n p h = stays now k before mid written_before written p
 ends faults.RecordTooLong now k before mid written_before written m n p h = up_to PassesLimit now k before mid written_before written p h.0
 ends faults.Device now k before mid written_before written m n p h = stops now k before mid written_before written p
 ends faults.EndInRecord now k before mid written_before written m n p h = up_to IsUnfinished now k before mid written_before written p h.0
@@ -148,5 +156,5 @@ pub record Turn (now : World) (k : ℕ) (before mid written_before written : Opt
   pub writes_same : writes_now ≡ writes
 
 -- nothing was read, and nothing written
-pub nothing_yet : (before written : Option (List ℕ)) → IfSome before (λ input. ServesPart input written written)
-nothing_yet before written = stops (opening_world 1) 1 before before written written (begins (opening_world 1) before written refl)
+pub nothing_yet : (before written : Option (List ℕ)) → IfSome before (λ input. EndsWith faults.NoMemory input written written)
+nothing_yet before written = stays (opening_world 1) 1 before before written written (begins (opening_world 1) before written refl)

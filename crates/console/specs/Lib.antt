@@ -4,3 +4,4 @@ pub use Rattle.records.specs.Count
 pub use Rattle.service.specs.World
 pub use Rattle.service.specs.Owed
 pub mod RunRpc
+pub mod CommandLine

@@ -1,5 +1,5 @@
 -- What the loop over records owes.
-use Rattle.std.specs.Prelude.{◌≡◌, ◌+◌, ◌⊎◌, ℕ, min, List, [], ◌∷◌, ◌++◌, length, Option, IfSome}
+use Rattle.std.specs.Prelude.{◌≡◌, ◌+◌, ◌⊎◌, ℕ, min, List, [], ◌∷◌, ◌++◌, length, Option, Some, None}
 use Rattle.std.specs.Io.KnownBytes.{Appends}
 use Rattle.records.specs.Count.{Rises}
 use Rattle.records.specs.Record.{IsUnfinished, PassesLimit}
@@ -54,7 +54,16 @@ pub record ServesPart (input : List ℕ) (before after : Option (List ℕ)) : Ty
 
 -- How the loop ends with a fault.
 abbrev pub EndsWith : RecordFault → List ℕ → Option (List ℕ) → Option (List ℕ) → Type 0
-EndsWith faults.NoMemory input before after = ServesPart input before after
+EndsWith faults.NoMemory input before after = ServesUpTo (λ _. Unit {0}) input before after
 EndsWith faults.RecordTooLong input before after = ServesUpTo PassesLimit input before after
 EndsWith faults.Device input before after = ServesPart input before after
 EndsWith faults.EndInRecord input before after = ServesUpTo IsUnfinished input before after
+
+-- What stands after a fault: the fault that the reader answers from then on, and the counts of the reader and of the
+-- writer, before and after.
+abbrev pub StandsAfter : RecordFault → Option RecordFault → ℕ → ℕ → ℕ → ℕ → Type 0
+StandsAfter faults.NoMemory failed reads reads' writes writes' = (failed ≡ None) × (reads' ≡ reads) × (writes' ≡ writes)
+StandsAfter faults.RecordTooLong failed reads reads' writes writes' = (failed ≡ Some faults.RecordTooLong) × (reads' ≡ reads) × (writes' ≡ writes)
+StandsAfter faults.Device failed reads reads' writes writes' =
+    ((failed ≡ Some faults.Device) × Rises reads reads' × (writes' ≡ writes)) ⊎ ((failed ≡ None) × (reads' ≡ reads) × Rises writes writes')
+StandsAfter faults.EndInRecord failed reads reads' writes writes' = (failed ≡ Some faults.EndInRecord) × (reads' ≡ reads) × (writes' ≡ writes)

@@ -1,12 +1,13 @@
 //! Records in, replies out.
 
-ghost use Rattle.std.specs.Prelude.{◌≡◌, ◌≤◌, ◌⊎◌, length, IfOk, IfErr, IsErrOf, IfSome, None};
+ghost use Rattle.std.specs.Prelude.{◌≡◌, ◌≤◌, ◌⊎◌, length, IfOk, IfErr, OnOk, IsErrOf, IfSome, None};
 ghost use Rattle.std.specs.Option.{option_map};
+ghost use Rattle.std.specs.Io.KnownBytes.{IsAtEnd};
 ghost use Rattle.records.specs.Count.{Rises, CountsErr};
 ghost use Rattle.records.specs.Writing.{WritesPart};
 ghost use Rattle.service.specs.Owed.{record_of};
 ghost use Rattle.records.specs.declared.fault.RecordFault.TheVariants.{Device};
-ghost use Rattle.console.specs.RunRpc.{time_of, Serves, EndsWith};
+ghost use Rattle.console.specs.RunRpc.{time_of, Serves, EndsWith, StandsAfter};
 
 use nfs_types::Time;
 use rpc::{Counting, RecordFault, RecordReader, write_record};
@@ -58,6 +59,9 @@ pub fn run_rpc<R: Read + Drop, W: Write>(
         Serves count input (W.contents writer.old.inner) (W.contents writer.new.inner))) }
     ensures fault { IfErr result (λ e. IfSome (R.remaining reader.old.reader.inner) (λ input.
         EndsWith e input (W.contents writer.old.inner) (W.contents writer.new.inner))) }
+    ensures end { OnOk result (IsAtEnd (R.remaining reader.new.reader.inner)) }
+    ensures kept { OnOk result ((reader.new.failed ≡ None) × (reader.new.reader.count ≡ reader.old.reader.count) × (writer.new.count ≡ writer.old.count)) }
+    ensures stands { IfErr result (λ e. StandsAfter e reader.new.failed reader.old.reader.count reader.new.reader.count writer.old.count writer.new.count) }
     ensures device { IsErrOf result Device → Rises reader.old.reader.count reader.new.reader.count ⊎ Rises writer.old.count writer.new.count }
 {
     let Ok(mut service) = Service::opening(alloc, NODE) else {

@@ -1,5 +1,5 @@
-pub mod Adding
 pub mod ArgumentsRead
 mod Examples
 pub mod Handles
 pub mod ResultsRead
+pub mod ResultsSaid

@@ -1,8 +1,8 @@
 -- Results of the procedures (RFC 1094, section 2.2).
-use Rattle.std.specs.Prelude.{ℕ, List, [], Result, Ok, Err}
-use Rattle.xdr.specs.Item.{Item, pair, Value, spelling, Fits}
+use Rattle.std.specs.Prelude.{ℕ, List, [], ◌++◌, Result, Ok, Err}
+use Rattle.xdr.specs.Item.{Item, word, empty, pair, Value, spelling, Fits}
 use Rattle.nfs_types.specs.Handle.{fhandle}
-use Rattle.nfs_types.specs.Attributes.{fattr, fattr_value, stat_or, outcome_value}
+use Rattle.nfs_types.specs.Attributes.{fattr, fattr_value, stat_or, stat_value, outcome_value}
 use Rattle.nfs_types.specs.declared.attributes.Fattr.{Fattr}
 use Rattle.nfs_types.specs.declared.stat.Stat.{Stat}
 use Rattle.nfs_types.specs.declared.arguments.NfsProcedure.{NfsProcedure}
@@ -53,3 +53,18 @@ abbrev pub results_of : NfsResult → Results
 results_of code.Null = Null
 results_of (code.Attributes r) = Attributes r
 results_of (code.DirOp r) = DirOp (diropres_of r)
+
+-- the number of a stat other than OK
+abbrev pub stat_number : Stat → ℕ
+stat_number e = (stat_value empty e).0
+
+-- the bytes of an outcome, told by whether there is a result: OK and what is behind it, or the stat alone
+abbrev pub outcome_text : {X : Type 0} → (X → List ℕ) → Result X Stat → List ℕ
+outcome_text text (Ok x) = spelling word 0 ++ text x
+outcome_text text (Err e) = spelling word (stat_number e)
+
+-- the bytes of a procedure's results, told by what they are
+abbrev pub results_bytes : Results → List ℕ
+results_bytes Null = []
+results_bytes (Attributes r) = outcome_text (λ a. spelling fattr (fattr_value a)) r
+results_bytes (DirOp r) = outcome_text (λ x. spelling fhandle x.0 ++ spelling fattr (fattr_value x.1)) r

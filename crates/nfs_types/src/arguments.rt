@@ -4,12 +4,12 @@ ghost use Rattle.std.specs.Prelude.{◌≡◌};
 
 use crate::handle::FileHandle;
 
-/// A procedure of NFS version 2 (RFC 1094, section 2.2), by its number.
+/// A procedure of NFS version 2 (RFC 1094, section 2.2).
 #[derive(Clone, Copy, Debug, PartialEq, Eq)]
 pub enum NfsProcedure {
-    Null = 0,
-    Getattr = 1,
-    Lookup = 4,
+    Null,
+    Getattr,
+    Lookup,
 }
 
 impl NfsProcedure {

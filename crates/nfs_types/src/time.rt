@@ -58,7 +58,8 @@ impl Time {
     pub fn seconds(self) -> u32
         ensures { result ≡ self.seconds }
     {
-        self.seconds
+        let Time { seconds, .. } = self;
+        seconds
     }
 
     /// Its microseconds within the second, below 1,000,000.
@@ -66,7 +67,8 @@ impl Time {
         ensures value { result ≡ self.microseconds }
         ensures in_range { result < 1000000 }
     {
-        self.microseconds
+        let Time { microseconds, .. } = self;
+        microseconds
     }
 
     /// Whether it is before another.

@@ -1,11 +1,11 @@
 //! Writes the results of procedures.
 
-ghost use Rattle.std.specs.Prelude.{◌≡◌};
-ghost use Rattle.xdr.specs.Item.{Item, spelling};
+ghost use Rattle.std.specs.Prelude.{◌≡◌, ◌++◌};
+ghost use Rattle.xdr.specs.Item.{word, spelling};
 ghost use Rattle.xdr.specs.Writing.{Adds, Appends, Writes};
 ghost use Rattle.nfs_types.specs.Handle.{fhandle};
-ghost use Rattle.nfs_types.specs.Attributes.{fattr, fattr_value, stat_or, stat_value};
-ghost use Rattle.nfs_types.specs.Results.{attrstat, attrstat_value, diropres, diropres_value, diropres_of, results_text, results_of};
+ghost use Rattle.nfs_types.specs.Attributes.{fattr, fattr_value};
+ghost use Rattle.nfs_types.specs.Results.{diropres_of, outcome_text, stat_number, results_bytes, results_text, results_of};
 
 use crate::attributes::Fattr;
 use crate::handle::FileHandle;
@@ -18,6 +18,7 @@ use xdr::{Writer, all_or_nothing};
 const OK: u32 = 0;
 
 /// Appends what a procedure answers (RFC 1094, section 2.2). Where memory is refused, the bytes stay as they were.
+#[tactic(auto, using(crate::proofs::ResultsSaid::results_say))]
 pub fn write_result(answer: &NfsResult, out: &mut Vec<u8>) -> Result<(), AllocError>
     ensures { Appends (results_text (results_of answer.now)) out.old.items result out.new.items }
 {
@@ -27,7 +28,7 @@ pub fn write_result(answer: &NfsResult, out: &mut Vec<u8>) -> Result<(), AllocEr
 }
 
 fn add_result(answer: &NfsResult, out: &mut Vec<u8>) -> Result<(), AllocError>
-    ensures { Adds (results_text (results_of answer.now)) out.old.items result out.new.items }
+    ensures { Adds (results_bytes (results_of answer.now)) out.old.items result out.new.items }
 {
     match answer {
         NfsResult::Null => Ok(()),
@@ -37,7 +38,7 @@ fn add_result(answer: &NfsResult, out: &mut Vec<u8>) -> Result<(), AllocError>
 }
 
 fn add_attributes(outcome: &Result<Fattr, Stat>, out: &mut Vec<u8>) -> Result<(), AllocError>
-    ensures { Adds (spelling attrstat (attrstat_value outcome.now)) out.old.items result out.new.items }
+    ensures { Adds (outcome_text (λ a. spelling fattr (fattr_value a)) outcome.now) out.old.items result out.new.items }
 {
     match outcome {
         Ok(attributes) => {
@@ -49,7 +50,7 @@ fn add_attributes(outcome: &Result<Fattr, Stat>, out: &mut Vec<u8>) -> Result<()
 }
 
 fn add_dir_op(outcome: &Result<DirOpOk, Stat>, out: &mut Vec<u8>) -> Result<(), AllocError>
-    ensures { Adds (spelling diropres (diropres_value (diropres_of outcome.now))) out.old.items result out.new.items }
+    ensures { Adds (outcome_text (λ x. spelling fhandle x.0 ++ spelling fattr (fattr_value x.1)) (diropres_of outcome.now)) out.old.items result out.new.items }
 {
     match outcome {
         Ok(found) => {
@@ -68,7 +69,7 @@ fn put_handle(file: FileHandle, out: &mut Vec<u8>) -> Result<(), AllocError>
 }
 
 fn add_stat(stat: Stat, out: &mut Vec<u8>) -> Result<(), AllocError>
-    ensures { (a : Item) → Adds (spelling (stat_or a) (stat_value a stat)) out.old.items result out.new.items }
+    ensures { Adds (spelling word (stat_number stat)) out.old.items result out.new.items }
 {
     out.put_u32(stat as u32)
 }

@@ -4,13 +4,13 @@ use Rattle.std.specs.Prelude.{Option, Some, None, IfSome}
 use Rattle.std.specs.List.{concat}
 use Rattle.std.specs.Io.KnownBytes.{Consumes}
 use Rattle.std.proofs.KnownBytes.{Consumes-trans, Consumes-nil}
-use Rattle.records.specs.Record.{mark, fragment, fragments, AreWithin, HasRoom, IsUnfinished, PassesLimit}
+use Rattle.records.specs.Record.{mark, fragment, fragments, AreWithin, HasRoom, Passes, IsUnfinished, PassesLimit}
 use Rattle.std.proofs.lemmas.List.{append-nil}
 use Rattle.std.proofs.lemmas.List.Concat.{flat_map-cons, flat_map-append}
 use Rattle.std.proofs.lemmas.List.Folds.{concat-append}
 use Rattle.records.specs.declared.fault.RecordFault.{RecordFault}
 use Rattle.records.specs.declared.fault.RecordFault.TheVariants as faults
-use Rattle.records.specs.Reading.{Grows, IsShorter, IsCutMark, Never, Fails, TakesRecord}
+use Rattle.records.specs.Reading.{Grows, IsShorter, IsCutMark, Never, Fails, TakesRecord, TakesToLimit, StopsAt, EndsAt}
 use Rattle.records.proofs.Marks.{length-mark}
 
 -- these pieces were taken, none of them the last
@@ -37,6 +37,13 @@ after_known : {P Q : List ℕ → Type 0} (before mid : Option (List ℕ)) (byte
 after_known None mid bytes taken f h = tt
 after_known (Some xs) None bytes taken f h = absurd taken
 after_known (Some xs) (Some ys) bytes taken f h = f xs ys taken h
+
+-- the bytes end in a step, after what was taken before it
+pub stops_after : (e : RecordFault) (before mid after : Option (List ℕ)) (bytes : List ℕ) → Consumes before mid bytes → EndsAt e mid after → StopsAt e before after
+stops_after faults.NoMemory before mid after bytes taken h = tt
+stops_after faults.RecordTooLong before mid after bytes taken h = absurd h
+stops_after faults.Device before mid after bytes taken h = tt
+stops_after faults.EndInRecord before mid after bytes taken (more, taken', end) = (bytes ++ more, Consumes-trans _ _ _ _ _ taken taken', end)
 
 pub fails_at_mark : (e : RecordFault) (text : List ℕ) (count : ℕ) (before mid : Option (List ℕ)) (m n : ℕ) → Progress text count before mid
     → Fails e Never IsCutMark mid m n → Fails e PassesLimit IsUnfinished before m n
@@ -89,24 +96,21 @@ fails_at_piece faults.EndInRecord text count before mid after is_last len m n p 
   h.1,
 )
 
-pub passes : (text : List ℕ) (count : ℕ) (before mid after : Option (List ℕ)) (is_last : Bool) (len : ℕ) → Progress text count before mid
-    → Consumes mid after (mark is_last len) → len < 2147483648 → (count ≡ 16384) ⊎ (12288 < length text + len) → IfSome before PassesLimit
-passes text count before mid after is_last len p taken len_fits limit =
-    passing before after (Consumes-trans _ _ _ _ _ p.taken taken)
-  where
-    passing : (before after : Option (List ℕ)) → Consumes before after (fragments p.pieces ++ mark is_last len) → IfSome before PassesLimit
-    passing None after taken = tt
-    passing (Some xs) None taken = absurd taken
-    passing (Some xs) (Some ys) taken = record {
-      pieces = p.pieces;
-      is_last = is_last;
-      len = len;
-      more = ys;
-      bytes_are = taken ∙ append_assoc (fragments p.pieces) (mark is_last len) ys;
-      within = within text count _ _ p;
-      len_fits = len_fits;
-      passes = elim limit [ inl full ↦ inr (omega (arith, p.count_is, full)) | inr long ↦ inl (omega (arith, ap length p.text_is, long)) ];
-    }
+limit_of : (text : List ℕ) (count : ℕ) (before mid : Option (List ℕ)) (p : Progress text count before mid) (len : ℕ) → (count ≡ 16384) ⊎ (12288 < length text + len) → Passes p.pieces len
+limit_of text count before mid p len (inl full) = inr (omega (arith, p.count_is, full))
+limit_of text count before mid p len (inr long) = inl (omega (arith, ap length p.text_is, long))
+
+pub takes_to_limit : (text : List ℕ) (count : ℕ) (before mid after : Option (List ℕ)) (is_last : Bool) (len : ℕ) → Progress text count before mid
+    → Consumes mid after (mark is_last len) → len < 2147483648 → (count ≡ 16384) ⊎ (12288 < length text + len) → TakesToLimit before after
+takes_to_limit text count before mid after is_last len p taken len_fits limit = record {
+  pieces = p.pieces;
+  is_last = is_last;
+  len = len;
+  within = within text count before mid p;
+  len_fits = len_fits;
+  passes = limit_of text count before mid p len limit;
+  taken = Consumes-trans _ _ _ _ _ p.taken taken;
+}
 
 pub is_record : (text text' : List ℕ) (count len : ℕ) (before mid after then' : Option (List ℕ)) → Progress text count before mid → count < 16384
     → Consumes mid after (mark true len) → Grows text text' len after then' → length text + len ≤ 12288 → TakesRecord (Some text') before then'

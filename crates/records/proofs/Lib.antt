@@ -1,5 +1,4 @@
 pub mod Filling
-pub mod Pieces
 pub mod Marks
 pub mod Fragments
 pub mod Unique

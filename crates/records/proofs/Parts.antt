@@ -1,5 +1,5 @@
 -- A text that is written in two parts.
-use Rattle.std.proofs.Common.{◌≡◌, ℕ, List, ◌++◌, ap, sym, ◌∙◌, append_assoc}
+use Rattle.std.proofs.Common.{◌≡◌, ℕ, List, ◌++◌, ap, sym, ◌∙◌, arith, length-append, append_assoc}
 use Rattle.std.specs.Prelude.{Option, Result, Ok, Err}
 use Rattle.std.specs.Io.KnownBytes.{Appends}
 use Rattle.std.proofs.KnownBytes.{Appends-trans}
@@ -12,8 +12,9 @@ regrouped marked first front rest bytes e f = ap (λ (t : List ℕ). marked ++ t
 -- a text of two parts, of which the first came to its end or not
 pub two_parts : {E : Type 0} (a b c : Option (List ℕ)) (x y whole : List ℕ) (r : Result (Unit {0}) E) → whole ≡ x ++ y → Appends a b x → WritesPart b c y r → WritesPart a c whole r
 two_parts a b c x y whole (Ok u) e wrote part = rw e (Appends-trans _ _ _ _ _ wrote part)
-two_parts a b c x y whole (Err d) e wrote (front, unwritten, is, part) =
-    (x ++ front, unwritten, e ∙ ap (λ (t : List ℕ). x ++ t) is ∙ sym (append_assoc x front unwritten), Appends-trans _ _ _ _ _ wrote part)
+two_parts a b c x y whole (Err d) e wrote (front, unwritten, is, some, part) =
+    (x ++ front, unwritten, e ∙ ap (λ (t : List ℕ). x ++ t) is ∙ sym (append_assoc x front unwritten), some, Appends-trans _ _ _ _ _ wrote part)
 
 pub first_part : (a b : Option (List ℕ)) (x y whole : List ℕ) → whole ≡ x ++ y → WritesFront a b x → WritesFront a b whole
-first_part a b x y whole e (front, unwritten, is, wrote) = (front, unwritten ++ y, e ∙ ap (λ (t : List ℕ). t ++ y) is ∙ append_assoc front unwritten y, wrote)
+first_part a b x y whole e (front, unwritten, is, some, wrote) =
+    (front, unwritten ++ y, e ∙ ap (λ (t : List ℕ). t ++ y) is ∙ append_assoc front unwritten y, omega (arith, length-append unwritten y), wrote)

@@ -1,6 +1,11 @@
 -- What is counted of a reader or a writer.
 use Rattle.std.specs.Prelude.{◌≡◌, ◌+◌, ◌-◌, ◌^◌, ◌<◌, min, ℕ, Result, Ok, Err}
 
+-- a reader or a writer, and its count
+pub record Counted (T : Type 0) : Type 0 where
+  pub inner : T
+  pub count : ℕ
+
 -- A count went up by one, or stands at the greatest number of its type.
 abbrev pub Rises : ℕ → ℕ → Type 0
 Rises old new = new ≡ min (old + 1) (2 ^ 64 - 1)

@@ -1,15 +1,38 @@
 -- What the steps of reading a record do.
 use Rattle.std.specs.Prelude.{◌≡◌, ◌<◌, ◌++◌, ◌^◌, ℕ, List, [], length, Bool, true, false, Result, Ok, Err, Option, Some, None, IfSome}
-use Rattle.std.specs.Io.KnownBytes.{Consumes}
+use Rattle.std.specs.Io.KnownBytes.{Consumes, Keeps, IsAtEnd}
 use Rattle.records.specs.declared.record.Mark.{Mark}
 use Rattle.records.specs.declared.fault.RecordFault.{RecordFault}
 use Rattle.records.specs.declared.fault.RecordFault.TheVariants as faults
-use Rattle.records.specs.Count.{Rises}
-use Rattle.records.specs.Record.{mark, IsRecord}
+use Rattle.records.specs.Count.{Rises, Counted}
+use Rattle.records.specs.Record.{mark, fragments, AreWithin, Passes, IsRecord}
+
+-- a reader with its count, and the fault that it answers from now on
+pub record RecordSource (R : Type 0) : Type 0 where
+  pub reader : Counted R
+  pub failed : Option RecordFault
+
+-- The reader was at its end, and is.
+abbrev pub StaysAtEnd : Option (List ℕ) → Option (List ℕ) → Type 0
+StaysAtEnd old new = IfSome old (λ bytes. bytes ≡ []) × Keeps old new × IsAtEnd new
+
+-- Some bytes were taken, and the reader is at its end.
+abbrev pub TakesAll : Option (List ℕ) → Option (List ℕ) → Type 0
+TakesAll old new = (bytes : List ℕ) × Consumes old new bytes × IsAtEnd new
+
+-- Some fragments within the limits were taken, and a mark that passes one of them; what follows the mark was not.
+pub record TakesToLimit (old new : Option (List ℕ)) : Type 0 where
+  pub pieces : List (List ℕ)
+  pub is_last : Bool
+  pub len : ℕ
+  pub within : AreWithin pieces
+  pub len_fits : len < 2 ^ 31
+  pub passes : Passes pieces len
+  pub taken : Consumes old new (fragments pieces ++ mark is_last len)
 
 -- A mark was taken from the front, or nothing was left.
 abbrev pub BeginsWithMark : Option Mark → Option (List ℕ) → Option (List ℕ) → Type 0
-BeginsWithMark None old new = IfSome old (λ bytes. bytes ≡ [])
+BeginsWithMark None old new = StaysAtEnd old new
 BeginsWithMark (Some m) old new = Consumes old new (mark m.is_last m.len) × (m.len < 2 ^ 31)
 
 -- A piece of this length was taken from the front, and appended.
@@ -18,7 +41,7 @@ Grows text text' len old new = (piece : List ℕ) × (text' ≡ text ++ piece) �
 
 -- A record was taken from the front, or nothing was left.
 abbrev pub TakesRecord : Option (List ℕ) → Option (List ℕ) → Option (List ℕ) → Type 0
-TakesRecord None old new = IfSome old (λ bytes. bytes ≡ [])
+TakesRecord None old new = StaysAtEnd old new
 TakesRecord (Some record_bytes) old new = (text : List ℕ) × IsRecord text record_bytes × Consumes old new text
 
 -- The same of a call that says whether there was one.
@@ -49,6 +72,20 @@ FailsUnless faults.NoMemory passes ends known old_count new_count = Unit {0}
 FailsUnless faults.RecordTooLong passes ends known old_count new_count = IfSome known passes × (new_count ≡ old_count)
 FailsUnless faults.Device passes ends known old_count new_count = Rises old_count new_count
 FailsUnless faults.EndInRecord passes ends known old_count new_count = IfSome known ends × (new_count ≡ old_count)
+
+-- What was taken of the stream where no record was read. A device's failure says nothing of it.
+abbrev pub StopsAt : RecordFault → Option (List ℕ) → Option (List ℕ) → Type 0
+StopsAt faults.NoMemory old new = Unit {0}
+StopsAt faults.RecordTooLong old new = TakesToLimit old new
+StopsAt faults.Device old new = Unit {0}
+StopsAt faults.EndInRecord old new = TakesAll old new
+
+-- The same of a step that looks at no limit.
+abbrev pub EndsAt : RecordFault → Option (List ℕ) → Option (List ℕ) → Type 0
+EndsAt faults.NoMemory old new = ⊥
+EndsAt faults.RecordTooLong old new = ⊥
+EndsAt faults.Device old new = Unit {0}
+EndsAt faults.EndInRecord old new = TakesAll old new
 
 -- The fault that a reader answers from then on.
 abbrev pub failed_after : {A : Type 0} → Option RecordFault → Result A RecordFault → Option RecordFault

@@ -7,14 +7,26 @@ ghost use Rattle.records.specs.Count.{CountsErr, CountsWrite};
 
 use std::io;
 use std::io::{Read, Write};
+use std::marker::Model;
 
 /// A reader or a writer, with a count of the Errs that its `read`, `write` and `flush` gave and of
 /// the writes of a non-empty piece that took nothing. The count stops at the greatest `u64`. What
 /// `read_exact` and `write_all` answer of their own, as at the end of a stream, isn't counted.
+///
+/// A clause sees the reader or writer as `inner` and the count as `count`. Only the calls below
+/// change them.
 #[derive(Drop)]
 pub struct Counting<T> {
-    pub inner: T,
-    pub count: u64,
+    inner: T,
+    count: u64,
+}
+
+impl<T> Model for Counting<T> {
+    ghost use Rattle.records.specs.Count.{Counted};
+
+    ghost Value = { Counted T };
+
+    ghost view = { λ c. record { inner = c.inner; count = c.count } };
 }
 
 impl<T> Counting<T> {
@@ -24,6 +36,27 @@ impl<T> Counting<T> {
         ensures count { result.count ≡ 0 }
     {
         Counting { inner, count: 0 }
+    }
+
+    /// The count so far.
+    pub fn count(&self) -> u64
+        ensures { result ≡ self.now.count }
+    {
+        self.count
+    }
+
+    /// The reader or the writer, to look at.
+    pub fn get_ref(&self) -> &T
+        ensures { result.now ≡ self.now.inner }
+    {
+        &self.inner
+    }
+
+    /// The reader or the writer, without its count.
+    pub fn into_inner(self) -> T
+        ensures { result ≡ self.inner }
+    {
+        self.inner
     }
 }
 

@@ -5,7 +5,7 @@ ghost use Rattle.std.specs.Option.{option_map};
 ghost use Rattle.std.specs.Io.KnownBytes.{Consumes, IsAtEnd};
 ghost use Rattle.records.specs.Count.{Rises};
 ghost use Rattle.records.specs.Record.{mark, IsUnfinished, PassesLimit};
-ghost use Rattle.records.specs.Reading.{BeginsWithMark, Grows, Fails, FailsUnless, IsCutMark, Never, IsShorter, Takes, TakesRecord, failed_after};
+ghost use Rattle.records.specs.Reading.{BeginsWithMark, Grows, Fails, FailsUnless, StopsAt, EndsAt, IsCutMark, Never, IsShorter, Takes, TakesRecord, failed_after};
 
 use crate::counting::Counting;
 use crate::fault::RecordFault;
@@ -13,6 +13,7 @@ use byteorder::{BigEndian, ByteOrder};
 use std::alloc::Global;
 use std::io;
 use std::io::Read;
+use std::marker::Model;
 
 /// The most bytes that a record has.
 pub const MAX_RECORD: usize = 12288;
@@ -21,8 +22,6 @@ pub const MAX_RECORD: usize = 12288;
 pub const MAX_FRAGMENTS: u32 = 16384;
 
 const LAST: u32 = 0x8000_0000;
-
-const CHUNK: usize = 1024;
 
 /// What stands before a fragment.
 #[derive(Clone, Copy, Debug)]
@@ -74,6 +73,7 @@ fn read_mark<R: Read>(reader: &mut Counting<R>) -> Result<Option<Mark>, RecordFa
     ensures found { IfOk result (λ m. BeginsWithMark m (R.remaining reader.old.inner) (R.remaining reader.new.inner)) }
     ensures kept { OnOk result (reader.new.count ≡ reader.old.count) }
     ensures fault { IfErr result (λ e. Fails e Never IsCutMark (R.remaining reader.old.inner) reader.old.count reader.new.count) }
+    ensures taken { IfErr result (λ e. EndsAt e (R.remaining reader.old.inner) (R.remaining reader.new.inner)) }
 {
     let mut bytes = [0u8; 4];
     match fill(reader, &mut bytes) {
@@ -95,31 +95,28 @@ fn read_piece<R: Read>(
     ensures capacity { vec_capacity joined.old ≤ vec_capacity joined.new }
     ensures kept { OnOk result (reader.new.count ≡ reader.old.count) }
     ensures fault { IfErr result (λ e. Fails e Never (IsShorter len) (R.remaining reader.old.inner) reader.old.count reader.new.count) }
+    ensures taken { IfErr result (λ e. EndsAt e (R.remaining reader.old.inner) (R.remaining reader.new.inner)) }
 {
-    let mut left = len as usize;
-    let mut chunk = [0u8; CHUNK];
-    while left > 0 {
-        let room = left.min(CHUNK);
-        let part = &mut chunk[..room];
-        let Ok(n) = fill(reader, part) else {
-            return Err(RecordFault::Device);
-        };
-        if n < room {
-            return Err(RecordFault::EndInRecord);
-        }
-        joined.extend_from_slice(part).unwrap();
-        left -= room;
+    let start = joined.len();
+    joined.resize(start + len as usize, 0).unwrap();
+    let Ok(n) = fill(reader, &mut joined[start..]) else {
+        return Err(RecordFault::Device);
+    };
+    if n < len as usize {
+        return Err(RecordFault::EndInRecord);
     }
     Ok(())
 }
 
 /// Reads the next record into an empty vector, and says whether there was one.
+#[tactic(auto, using(crate::proofs::Fragments::stops_after))]
 fn read_record<R: Read>(reader: &mut Counting<R>, joined: &mut Vec<u8>) -> Result<bool, RecordFault>
     requires empty { joined.old.items ≡ [] }
     requires room { 12288 ≤ vec_capacity joined.old }
     ensures found { IfOk result (λ some. Takes some joined.new.items (R.remaining reader.old.inner) (R.remaining reader.new.inner)) }
     ensures kept { OnOk result (reader.new.count ≡ reader.old.count) }
     ensures fault { IfErr result (λ e. Fails e PassesLimit IsUnfinished (R.remaining reader.old.inner) reader.old.count reader.new.count) }
+    ensures taken { IfErr result (λ e. StopsAt e (R.remaining reader.old.inner) (R.remaining reader.new.inner)) }
 {
     for count in 0..MAX_FRAGMENTS + 1 {
         let Some(mark) = read_mark(reader)? else {
@@ -142,11 +139,20 @@ fn read_record<R: Read>(reader: &mut Counting<R>, joined: &mut Vec<u8>) -> Resul
 
 /// Reads the records of a stream, one after the other. A record is its fragments joined, at most
 /// 12,288 bytes in at most 16,384 fragments, which may be empty.
+///
+/// A clause sees the reader as `reader`, and the fault that each further call answers as `failed`.
 #[derive(Drop)]
 pub struct RecordReader<R: Read + Drop> {
-    pub reader: Counting<R>,
-    /// The fault that each further call of `next` answers.
-    pub failed: Option<RecordFault>,
+    reader: Counting<R>,
+    failed: Option<RecordFault>,
+}
+
+impl<R: Read + Drop> Model for RecordReader<R> {
+    ghost use Rattle.records.specs.Reading.{RecordSource};
+
+    ghost Value = { RecordSource R };
+
+    ghost view = { λ r. record { reader = r.reader; failed = r.failed } };
 }
 
 impl<R: Read + Drop> RecordReader<R> {
@@ -161,16 +167,39 @@ impl<R: Read + Drop> RecordReader<R> {
         }
     }
 
+    /// The fault that each further call of `next` answers, if one has come.
+    pub fn failed(&self) -> Option<RecordFault>
+        ensures { result ≡ self.now.failed }
+    {
+        self.failed
+    }
+
+    /// The reader with its count, to look at.
+    pub fn get_ref(&self) -> &Counting<R>
+        ensures { result.now ≡ self.now.reader }
+    {
+        &self.reader
+    }
+
+    /// The reader with its count. Where no fault came, what it gives next begins a record.
+    pub fn into_inner(self) -> Counting<R>
+        ensures { result ≡ self.reader }
+    {
+        self.reader
+    }
+
     /// The next record, or none at the end of the stream.
     ///
     /// `NoMemory` comes before anything is read, and the next call tries again. `RecordTooLong`
-    /// comes at the mark that passes a limit, `EndInRecord` where the bytes end within a record, and
-    /// `Device` where a read failed, an interrupted one too. Each of these three is answered from
-    /// then on, without a read.
+    /// comes at the mark that passes a limit, and no byte behind that mark is read; `EndInRecord`
+    /// where the bytes end within a record, and then the reader is at its end, as it is where there
+    /// is no record; `Device` where a read failed, an interrupted one too. Each of these three is
+    /// answered from then on, without a read.
     pub fn next(&mut self, alloc: Global) -> Result<Option<Vec<u8>>, RecordFault>
         ensures found { IfOk result (λ found. TakesRecord (option_map (λ v. v.items) found) (R.remaining self.old.reader.inner) (R.remaining self.new.reader.inner)) }
         ensures kept { OnOk result (self.new.reader.count ≡ self.old.reader.count) }
         ensures fault { IfErr result (λ e. self.old.failed ≡ None → FailsUnless e PassesLimit IsUnfinished (R.remaining self.old.reader.inner) self.old.reader.count self.new.reader.count) }
+        ensures taken { IfErr result (λ e. self.old.failed ≡ None → StopsAt e (R.remaining self.old.reader.inner) (R.remaining self.new.reader.inner)) }
         ensures no_memory { IsErrOf result RecordFault.NoMemory → self.new ≡ self.old }
         ensures again { IfSome self.old.failed (λ e. (result ≡ Err e) × (self.new ≡ self.old)) }
         ensures failed { self.new.failed ≡ failed_after self.old.failed result }

@@ -1,12 +1,12 @@
 -- Reading a call and spelling it are the same.
-use Rattle.std.proofs.Common.{◌≡◌, ◌≢◌, ℕ, ◌<◌, ◌^◌, Bool, true, false, cond, eqb, List, ◌++◌, Result, Ok, Err, refl, sym, ap, subst, ◌∙◌, append_assoc, arith}
+use Rattle.std.proofs.Common.{◌≡◌, ◌≢◌, ℕ, Bool, true, false, cond, eqb, List, ◌++◌, Result, Ok, Err, refl, sym, ap, subst, ◌∙◌, append_assoc, arith}
 use Rattle.std.specs.Prelude.{◌↔◌, IfOk, IsOkAnd}
 use Rattle.std.proofs.lemmas.Bool.{eqb-true, eqb-false, ne_eqb}
 use Rattle.xdr.specs.Item.{Value, IsBytes, Fits, spelling}
 use Rattle.xdr.specs.Reading.{Read, ◌>>=◌, read_at}
 use Rattle.xdr.proofs.Front.{bind_ok, done, ok_is, Takes, Takes-then}
 use Rattle.xdr.proofs.Exact.{takes, again}
-use Rattle.rpc.specs.Call.{call_start, call_header, header_value, header_from, Message, OtherVersion, Version2, IsMessage, message_text, message_at, Says}
+use Rattle.rpc.specs.Call.{call_start, call_header, header_value, header_from, Message, OtherVersion, Version2, message_at, Says}
 use Rattle.rpc.specs.Calls.{IsCallOf, IsCallIn, GivesCall}
 use Rattle.rpc.specs.declared.call.Call.{Call}
 use Rattle.rpc.specs.declared.call.CallFault.{CallFault}

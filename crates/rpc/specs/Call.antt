@@ -1,5 +1,5 @@
 -- Calls (RFC 5531, section 9, rpc_msg with a call_body).
-use Rattle.std.specs.Prelude.{◌≡◌, ◌≢◌, ◌<◌, ◌^◌, ℕ, ◌==◌, List, ◌++◌, Result, Ok, Err, if◌then◌else◌}
+use Rattle.std.specs.Prelude.{◌≡◌, ◌≢◌, ℕ, ◌==◌, List, ◌++◌, Ok, if◌then◌else◌}
 use Rattle.xdr.specs.Item.{Item, word, word_where, opaque, pair, Value, spelling, Fits}
 use Rattle.xdr.specs.Reading.{Read, ◌>>=◌, read_at}
 

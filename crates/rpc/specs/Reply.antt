@@ -1,5 +1,6 @@
 -- Replies (RFC 5531, section 9, rpc_msg with a reply_body), without the results that may follow.
-use Rattle.std.specs.Prelude.{ℕ, ◌==◌, nat_lt, List, [], if◌then◌else◌}
+use Rattle.std.specs.Prelude.{ℕ, ◌==◌, nat_lt, List, [], ◌∷◌, if◌then◌else◌}
+use Rattle.std.specs.List.{flat_map}
 use Rattle.xdr.specs.Item.{Item, word, word_where, empty, pair, choice, Value, spelling}
 use Rattle.rpc.specs.Call.{opaque_auth}
 use Rattle.rpc.specs.declared.reply.AuthStat.{AuthStat}
@@ -54,3 +55,22 @@ reply_value r = (r.xid, (1, body_value r.body))
 -- the one spelling of a reply
 abbrev pub reply_text : Reply → List ℕ
 reply_text r = spelling reply (reply_value r)
+
+-- numbers of four bytes, one after the other
+abbrev pub numbers_text : List ℕ → List ℕ
+numbers_text ns = flat_map (spelling word) ns
+
+-- the words behind a reply's first two
+abbrev pub body_words : ReplyBody → List ℕ
+body_words bodies.Success = 0 ∷ 0 ∷ 0 ∷ 0 ∷ []
+body_words bodies.ProgramUnavailable = 0 ∷ 0 ∷ 0 ∷ 1 ∷ []
+body_words (bodies.ProgramMismatch low high) = 0 ∷ 0 ∷ 0 ∷ 2 ∷ low ∷ high ∷ []
+body_words bodies.ProcedureUnavailable = 0 ∷ 0 ∷ 0 ∷ 3 ∷ []
+body_words bodies.GarbageArguments = 0 ∷ 0 ∷ 0 ∷ 4 ∷ []
+body_words bodies.SystemError = 0 ∷ 0 ∷ 0 ∷ 5 ∷ []
+body_words (bodies.RpcMismatch low high) = 1 ∷ 0 ∷ low ∷ high ∷ []
+body_words (bodies.AuthError stat) = 1 ∷ 1 ∷ auth_stat_number stat ∷ []
+
+-- the words of which a reply's spelling consists: xid, REPLY, and those of its body
+abbrev pub reply_words : Reply → List ℕ
+reply_words r = r.xid ∷ 1 ∷ body_words r.body

@@ -1,13 +1,10 @@
 //! Replies.
 
-ghost use Rattle.std.specs.Prelude.{◌++◌};
-ghost use Rattle.xdr.specs.Item.{word, spelling};
-ghost use Rattle.xdr.specs.Writing.{Adds, Appends};
-ghost use Rattle.rpc.specs.Call.{opaque_auth};
-ghost use Rattle.rpc.specs.Reply.{no_verifier, mismatch_info, reply_body, body_value, reply_text};
+ghost use Rattle.xdr.specs.Writing.{Appends};
+ghost use Rattle.rpc.specs.Reply.{numbers_text, reply_words, reply_text};
 
 use std::alloc::AllocError;
-use xdr::{Writer, all_or_nothing};
+use xdr::Writer;
 
 /// Why a credential was refused (RFC 5531, section 8.4, auth_stat).
 #[derive(Clone, Copy, Debug, PartialEq, Eq)]
@@ -62,73 +59,48 @@ pub struct Reply {
     pub body: ReplyBody,
 }
 
-/// AUTH_NONE, with no bytes.
-fn add_no_verifier(out: &mut Vec<u8>) -> Result<(), AllocError>
-    ensures { Adds (spelling opaque_auth no_verifier) out.old.items result out.new.items }
-{
-    out.put_u32(0)?;
-    out.put_opaque(&[])
-}
+/// REPLY (RFC 5531, section 9, msg_type).
+const REPLY: u32 = 1;
 
-fn add_mismatch(out: &mut Vec<u8>, low: u32, high: u32) -> Result<(), AllocError>
-    ensures { Adds (spelling mismatch_info (low, high)) out.old.items result out.new.items }
-{
-    out.put_u32(low)?;
-    out.put_u32(high)
-}
+/// MSG_ACCEPTED and MSG_DENIED (section 9, reply_stat).
+const ACCEPTED: u32 = 0;
 
-fn add_accepted(out: &mut Vec<u8>, stat: u32) -> Result<(), AllocError>
-    ensures { Adds (spelling word 0 ++ (spelling opaque_auth no_verifier ++ spelling word stat)) out.old.items result out.new.items }
-{
-    out.put_u32(0)?;
-    add_no_verifier(out)?;
-    out.put_u32(stat)
-}
+const DENIED: u32 = 1;
 
-fn add_denied(out: &mut Vec<u8>, stat: u32) -> Result<(), AllocError>
-    ensures { Adds (spelling word 1 ++ spelling word stat) out.old.items result out.new.items }
-{
-    out.put_u32(1)?;
-    out.put_u32(stat)
-}
+/// The flavor AUTH_NONE (section 8.2), and the length of a verifier with no bytes.
+const AUTH_NONE: u32 = 0;
 
-fn add_body(out: &mut Vec<u8>, body: ReplyBody) -> Result<(), AllocError>
-    ensures { Adds (spelling reply_body (body_value body)) out.old.items result out.new.items }
+const NO_BYTES: u32 = 0;
+
+/// Appends the words of a reply.
+fn put_words(reply: &Reply, out: &mut Vec<u8>) -> Result<(), AllocError>
+    ensures { Appends (numbers_text (reply_words reply.now)) out.old.items result out.new.items }
 {
-    match body {
-        ReplyBody::Success => add_accepted(out, 0),
-        ReplyBody::ProgramUnavailable => add_accepted(out, 1),
+    let xid = reply.xid;
+    match reply.body {
+        ReplyBody::Success => out.put_u32s(&[xid, REPLY, ACCEPTED, AUTH_NONE, NO_BYTES, 0]),
+        ReplyBody::ProgramUnavailable => {
+            out.put_u32s(&[xid, REPLY, ACCEPTED, AUTH_NONE, NO_BYTES, 1])
+        }
         ReplyBody::ProgramMismatch { low, high } => {
-            add_accepted(out, 2)?;
-            add_mismatch(out, low, high)
+            out.put_u32s(&[xid, REPLY, ACCEPTED, AUTH_NONE, NO_BYTES, 2, low, high])
         }
-        ReplyBody::ProcedureUnavailable => add_accepted(out, 3),
-        ReplyBody::GarbageArguments => add_accepted(out, 4),
-        ReplyBody::SystemError => add_accepted(out, 5),
-        ReplyBody::RpcMismatch { low, high } => {
-            add_denied(out, 0)?;
-            add_mismatch(out, low, high)
+        ReplyBody::ProcedureUnavailable => {
+            out.put_u32s(&[xid, REPLY, ACCEPTED, AUTH_NONE, NO_BYTES, 3])
         }
-        ReplyBody::AuthError(stat) => {
-            add_denied(out, 1)?;
-            out.put_u32(stat.number())
+        ReplyBody::GarbageArguments => {
+            out.put_u32s(&[xid, REPLY, ACCEPTED, AUTH_NONE, NO_BYTES, 4])
         }
+        ReplyBody::SystemError => out.put_u32s(&[xid, REPLY, ACCEPTED, AUTH_NONE, NO_BYTES, 5]),
+        ReplyBody::RpcMismatch { low, high } => out.put_u32s(&[xid, REPLY, DENIED, 0, low, high]),
+        ReplyBody::AuthError(stat) => out.put_u32s(&[xid, REPLY, DENIED, 1, stat.number()]),
     }
 }
 
-fn add_reply(out: &mut Vec<u8>, reply: &Reply) -> Result<(), AllocError>
-    ensures { Adds (reply_text reply.now) out.old.items result out.new.items }
-{
-    out.put_u32(reply.xid)?;
-    out.put_u32(1)?;
-    add_body(out, reply.body)
-}
-
 /// Appends a reply, without the results that follow SUCCESS. Where memory is refused, the bytes are as they were.
+#[tactic(auto, using(crate::proofs::Replies::says_words))]
 pub fn write_reply(reply: &Reply, out: &mut Vec<u8>) -> Result<(), AllocError>
     ensures { Appends (reply_text reply.now) out.old.items result out.new.items }
 {
-    let start = out.len();
-    let written = add_reply(out, reply);
-    all_or_nothing(out, start, written)
+    put_words(reply, out)
 }

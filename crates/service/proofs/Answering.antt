@@ -1,10 +1,9 @@
 -- The reply owed and the world after it are those of the functions, and no others.
-use Rattle.std.proofs.Common.{◌≡◌, ℕ, List, Result, Ok, Err, refl, sym, ap, ◌∙◌, subst}
-use Rattle.std.specs.Prelude.{Option, Some, None, ◌↔◌}
-use Rattle.xdr.specs.declared.fault.XdrFault.{XdrFault}
+use Rattle.std.proofs.Common.{◌≡◌, ℕ, List, Ok, Err, refl, sym, ap, ◌∙◌}
+use Rattle.std.specs.Prelude.{Option, Some}
 use Rattle.xdr.specs.Item.{IsBytes}
 use Rattle.xdr.specs.Reading.{Read}
-use Rattle.rpc.specs.Call.{Message, message_at, Says}
+use Rattle.rpc.specs.Call.{Message, message_at}
 use Rattle.rpc.proofs.Messages.{read_is_said, said_is_read, says_one_call}
 use Rattle.nfs_types.specs.Timeval.{Timeval}
 use Rattle.service.specs.World.{World, at_time}

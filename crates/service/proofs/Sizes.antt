@@ -1,8 +1,7 @@
 -- A reply fits a record.
-use Rattle.std.proofs.Common.{◌≡◌, ℕ, ◌+◌, ◌≤◌, List, [], ◌++◌, length, Result, Ok, Err, arith, refl, ap, ◌∙◌, length-append, lit≤}
-use Rattle.std.proofs.lemmas.List.{length-replicate}
+use Rattle.std.proofs.Common.{◌≡◌, ℕ, ◌≤◌, List, [], ◌++◌, length, Result, Ok, Err, arith, refl, length-append, lit≤}
 use Rattle.std.specs.Prelude.{Option, Some, None, IfSome, option_map}
-use Rattle.xdr.specs.Item.{Item, Value, spelling, number_spelling, pair}
+use Rattle.xdr.specs.Item.{Item, spelling, number_spelling, pair}
 use Rattle.xdr.specs.Reading.{Read}
 use Rattle.xdr.proofs.Front.{length-number_spelling}
 use Rattle.rpc.specs.Call.{Message, OtherVersion, Version2, message_at}
@@ -20,7 +19,7 @@ use Rattle.nfs_types.specs.declared.stat.Stat.{Stat}
 use Rattle.nfs_types.specs.declared.stat.Stat.TheVariants as stats
 use Rattle.tree_paths.specs.Files.{Files}
 use Rattle.tree_effects.specs.Checks.{◌>>=◌, number_of}
-use Rattle.tree_effects.specs.Effects.{does, getattr, lookup, attributes_at, number_at_name}
+use Rattle.tree_effects.specs.Effects.{does, getattr, attributes_at, number_at_name}
 use Rattle.service.specs.World.{World, at_time}
 use Rattle.service.specs.Replies.{Checked, checked, answered, reply_to, reply_of_call, reply_owed}
 

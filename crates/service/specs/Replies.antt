@@ -1,17 +1,15 @@
 -- The reply owed to a record at a time, and the world after it (RFC 5531, section 9; RFC 1094, section 2.2).
-use Rattle.std.specs.Prelude.{◌≡◌, ◌≢◌, ℕ, ◌==◌, List, [], ◌∷◌, ◌++◌, Option, Some, None, Result, Ok, Err, if◌then◌else◌}
-use Rattle.xdr.specs.declared.fault.XdrFault.{XdrFault}
+use Rattle.std.specs.Prelude.{◌≡◌, ℕ, ◌==◌, List, ◌++◌, Option, Some, None, Result, Ok, Err, if◌then◌else◌}
 use Rattle.xdr.specs.Reading.{Read}
 use Rattle.rpc.specs.Call.{CallHeader, Message, OtherVersion, Version2, message_at, Says}
 use Rattle.rpc.specs.Reply.{reply_text}
 use Rattle.rpc.specs.declared.reply.ReplyBody.{ReplyBody}
 use Rattle.rpc.specs.declared.reply.ReplyBody.TheVariants as bodies
 use Rattle.rpc.specs.declared.reply.AuthStat.TheVariants as auth
-use Rattle.rpc.specs.declared.reply.Reply.{Reply}
 use Rattle.nfs_types.specs.Timeval.{Timeval}
 use Rattle.nfs_types.specs.Caller.{Caller, nobody}
 use Rattle.nfs_types.specs.Arguments.{Arguments, procedure_at, arguments_at}
-use Rattle.nfs_types.specs.Results.{Results, results_text}
+use Rattle.nfs_types.specs.Results.{results_text}
 use Rattle.nfs_types.specs.declared.arguments.NfsProcedure.{NfsProcedure}
 use Rattle.tree_paths.specs.Files.{Files}
 use Rattle.tree_effects.specs.Effects.{does}

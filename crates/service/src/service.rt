@@ -1,6 +1,6 @@
 //! The server of a node.
 
-ghost use Rattle.std.specs.Prelude.{◌≡◌, ◌≤◌, ◌++◌, List, ℕ, length, IfOk, IfSome, OnOk, OnErr};
+ghost use Rattle.std.specs.Prelude.{◌≡◌, ◌≤◌, ◌++◌, List, ℕ, length, None, IfOk, IfSome, OnOk, OnErr, IsOk};
 ghost use Rattle.std.specs.Option.{option_map};
 ghost use Rattle.rpc.specs.Call.{Message};
 ghost use Rattle.rpc.specs.Calls.{IsCallOf, header_of};
@@ -63,7 +63,7 @@ impl Service {
 
     /// The reply that is owed to a record at a time, if one is (RFC 5531, section 9). The time used is the later of that
     /// time and the last one used; it becomes the last one also where there is no reply. Where memory is refused, the
-    /// server is as it was.
+    /// server is as it was; that is never so where no reply is owed.
     #[tactic(auto, unfolding(crate::specs::Replies::reply_owed, crate::specs::Replies::world_after))]
     pub fn answer(
         &mut self,
@@ -75,6 +75,9 @@ impl Service {
         ensures world { OnOk result (self.new ≡ world_after self.old time bytes.now) }
         ensures size { IfOk result (λ r. IfSome r (λ v. length v.items ≤ 12288)) }
         ensures err { OnErr result (self.new ≡ self.old) }
+
+        // Where no reply is owed, no memory is taken.
+        ensures silence { reply_owed self.old time bytes.now ≡ None → IsOk result }
     {
         let now = time.later(self.clock);
         let reply = match read_call(bytes) {

@@ -1,6 +1,6 @@
 //! Lists behind their count.
 
-ghost use Rattle.std.specs.Prelude.{◌≡◌, List, ℕ, map};
+ghost use Rattle.std.specs.Prelude.{◌≡◌, List, ℕ, map, IfErr, IsSome};
 ghost use Rattle.xdr.specs.Item.{Item, Value, word, array};
 ghost use Rattle.xdr.specs.Reading.{GivesUnless, ReadsUnless};
 ghost use Rattle.xdr.specs.ReadError.{xdr_fault};
@@ -65,7 +65,10 @@ impl<'a> FromXdr<'a> for u32 {
 
     ghost value = { λ n. n };
 
-    fn read(_alloc: Global, reader: &mut Reader<'a>) -> Result<u32, ReadError> {
+    fn read(_alloc: Global, reader: &mut Reader<'a>) -> Result<u32, ReadError>
+        ensures reads { ReadsUnless xdr_fault word (λ n. n) reader.old result reader.new }
+        ensures fault { IfErr result (λ e. IsSome (xdr_fault e)) }
+    {
         Ok(reader.u32()?)
     }
 }

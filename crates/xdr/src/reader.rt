@@ -1,6 +1,6 @@
 //! Reads items from the front of bytes (RFC 4506).
 
-ghost use Rattle.std.specs.Prelude.{◌≡◌, ◌==◌, ◌<◌, ◌^◌, List, ℕ, Option, length};
+ghost use Rattle.std.specs.Prelude.{◌≡◌, ◌==◌, ◌<◌, ◌^◌, List, ℕ, Option, length, OnOk, OnErr};
 ghost use Rattle.std.specs.List.{list_all};
 ghost use Rattle.xdr.specs.Reading.{Reads, GivesFront, GivesUnless, ReadsUnless};
 ghost use Rattle.xdr.specs.declared.fault.XdrFault.{XdrFault};
@@ -35,7 +35,8 @@ impl<'a> Reader<'a> {
     pub fn rest(&self) -> &'a [u8]
         ensures { result.now ≡ self.now }
     {
-        self.bytes
+        let Reader { bytes } = self;
+        bytes
     }
 
     /// An unsigned integer or an enum, 4 bytes (sections 4.2 and 4.3): `Short` where fewer are left.
@@ -111,15 +112,18 @@ impl<'a> Reader<'a> {
     }
 }
 
-/// Puts the reader back to `start`, what its `rest` gave before, where `read` is an error. It gives `read`. So a
-/// reader of several fields leaves a refused reader as it was.
+/// Puts the reader back to `start`, what its `rest` gave before, where `read` is an error, and else leaves it where it
+/// stands. It gives `read`. So a reader of several fields leaves a refused reader as it was.
 pub fn put_back_on_err<'a, T, E>(
     reader: &mut Reader<'a>,
     start: &'a [u8],
     read: Result<T, E>,
 ) -> Result<T, E>
-    ensures { (fault : E → Option XdrFault) (a : Item) (view : T → Value a) →
+    ensures reader { (fault : E → Option XdrFault) (a : Item) (view : T → Value a) →
         GivesUnless fault a view start.now read reader.old → ReadsUnless fault a view start.now result reader.new }
+    ensures kept { OnOk read (reader.new ≡ reader.old) }
+    ensures back { OnErr read (reader.new ≡ start.now) }
+    ensures read { result ≡ read }
 {
     if read.is_err() {
         reader.bytes = start;

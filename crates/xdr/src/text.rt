@@ -3,7 +3,7 @@
 ghost use Rattle.std.specs.Prelude.{◌≡◌, IfOk, MatchResult};
 ghost use Rattle.xdr.specs.Item.{Value};
 ghost use Rattle.xdr.specs.Text.{Text, IsText, GivesText};
-ghost use Rattle.xdr.specs.Reading.{GivesUnless};
+ghost use Rattle.xdr.specs.Reading.{ReadsUnless};
 ghost use Rattle.xdr.specs.ReadError.{xdr_fault};
 ghost use Rattle.xdr.specs.declared.text.TextError.TheVariants.{NoMemory};
 ghost use Rattle.xdr.specs.TextError.{is_no_text};
@@ -30,11 +30,11 @@ pub trait FromText<'a>: Drop {
     /// What a value says.
     ghost value: { Self → Value text.item };
 
-    /// Reads a value from the front. After an `Err` the reader may have moved.
+    /// Reads a value from the front. After an `Err` the reader is as it was.
     fn read_front(alloc: Global, reader: &mut Reader<'a>) -> Result<Self, ReadError>
     where
         Self: Sized,
-        ensures { GivesUnless xdr_fault text.item value reader.old result reader.new };
+        ensures { ReadsUnless xdr_fault text.item value reader.old result reader.new };
 
     /// Whether a value that was read has a text.
     fn has_text(&self) -> bool

@@ -1,6 +1,6 @@
 //! Appends items to bytes.
 
-ghost use Rattle.std.specs.Prelude.{◌≡◌, ◌<◌, ◌≤◌, ◌^◌, ◌++◌, ◌-◌, ◌%◌, List, ℕ, length, replicate, OnOk, OnErr};
+ghost use Rattle.std.specs.Prelude.{◌≡◌, ◌<◌, ◌≤◌, ◌^◌, ◌++◌, ◌-◌, ◌*◌, ◌%◌, take, List, ℕ, length, replicate, OnOk, OnErr};
 ghost use Rattle.xdr.specs.Item.{word, hyper, flag, opaque, fixed, repeated, spelling, padding};
 ghost use Rattle.xdr.specs.Writing.{Writes, Adds, Appends};
 
@@ -73,13 +73,17 @@ impl Writer for Vec<u8> {
     }
 }
 
-/// Takes out what stands behind `start` where the call that wrote it was refused memory, and gives its result.
+/// Takes out what stands behind `start` where the call that wrote it was refused memory, and gives its result. Nothing
+/// is taken out where `start` is the end or beyond it.
 pub fn all_or_nothing(
     out: &mut Vec<u8>,
     start: usize,
     written: Result<(), AllocError>,
 ) -> Result<(), AllocError>
-    ensures { (text old : List ℕ) → length old ≡ start → Adds text old written out.old.items → Appends text old result out.new.items }
+    ensures text { (text old : List ℕ) → length old ≡ start → Adds text old written out.old.items → Appends text old result out.new.items }
+    ensures kept { OnOk written (out.new.items ≡ out.old.items) }
+    ensures cut { OnErr written (out.new.items ≡ take start out.old.items) }
+    ensures written { result ≡ written }
 {
     if written.is_err() {
         out.truncate(start);
@@ -89,11 +93,32 @@ pub fn all_or_nothing(
 
 const ZEROS: [u8; 4] = [0; 4];
 
+/// How many numbers are written at once.
+const AT_ONCE: usize = 32;
+
+/// The spelling of a few numbers, and what is left of the room for them.
+#[tactic(auto, unfolding(crate::specs::Item::number_spelling))]
+fn spelled(ns: &[u32]) -> [u8; 4 * AT_ONCE]
+    requires { length ns.now ≤ 32 }
+    ensures { take (4 * length ns.now) result ≡ spelling (repeated (length ns.now) word) ns.now }
+{
+    let mut bytes = [0; 4 * AT_ONCE];
+    let mut at = 0;
+    for n in ns {
+        bytes[at..at + 4].copy_from_slice(&n.to_be_bytes());
+        at += 4;
+    }
+    bytes
+}
+
 fn add_u32s(out: &mut Vec<u8>, ns: &[u32]) -> Result<(), AllocError>
     ensures { Adds (spelling (repeated (length ns.now) word) ns.now) out.old.items result out.new.items }
 {
-    for n in ns {
-        out.put_u32(*n)?;
+    let mut rest = ns;
+    while !rest.is_empty() {
+        let (front, after) = rest.split_at(rest.len().min(AT_ONCE));
+        out.extend_from_slice(&spelled(front)[..4 * front.len()])?;
+        rest = after;
     }
     Ok(())
 }

@@ -1,6 +1,6 @@
 use Rattle.std.proofs.Common.{arith, rules}
 use Rattle.std.proofs.lemmas.Result.{err_from_is_err_and}
-use Rattle.records.proofs.Fragments.{fails_at_mark, fails_at_end, fails_at_piece, is_record, goes_on}
+use Rattle.records.proofs.Fragments.{fails_at_mark, fails_at_end, fails_at_piece, takes_to_limit, is_record, goes_on}
 use Rattle.records.proofs.record.read_record.Goals as goal
 
 pub returns-in_err-mark-clause-fault : goal.returns-in_err-mark-clause-fault
@@ -10,7 +10,7 @@ returns-in_err-mark-clause-fault g c =
 
 pub returns-else-count-eq0-clause-fault : goal.returns-else-count-eq0-clause-fault
 returns-else-count-eq0-clause-fault g c =
-    (fails_at_end _ _ _ _ c.loop-count.invariant.0 (omega arith) (rw c.in_default.is at c.in_ok-mark.ensures.found), search rules)
+    (fails_at_end _ _ _ _ c.loop-count.invariant.0 (omega arith) (rw c.in_default.is at c.in_ok-mark.ensures.found).0, search rules)
 
 pub returns-in_err-read_piece-clause-fault : goal.returns-in_err-read_piece-clause-fault
 returns-in_err-read_piece-clause-fault g c =
@@ -27,3 +27,8 @@ pub loop-count-preserved : goal.loop-count-preserved
 loop-count-preserved g c =
     let marked = rw (c.in-Some.is, c.if-mark.false) at c.in_ok-mark.ensures.found in
     (goes_on _ _ _ _ _ _ _ _ c.loop-count.invariant.0 (omega arith) marked.0 c.in_ok-read_piece.ensures.piece (omega (arith, c.loop-count.invariant.0.length_fits, c.loop-count.joined.ok.0, c.len.ensures)), search rules, search rules)
+
+pub returns-then-count-eq-MAX_FRAGMENTS-clause-taken : goal.returns-then-count-eq-MAX_FRAGMENTS-clause-taken
+returns-then-count-eq-MAX_FRAGMENTS-clause-taken g c =
+    let marked = rw c.in-Some.is at c.in_ok-mark.ensures.found in
+    takes_to_limit _ _ _ _ _ _ _ c.loop-count.invariant.0 marked.0 marked.1 (search rules)

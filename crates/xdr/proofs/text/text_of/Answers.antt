@@ -5,7 +5,7 @@ use Rattle.xdr.proofs.text.text_of.Goals as goal
 pub returns-in-Err-Fault : goal.returns-in-Err-Fault
 returns-in-Err-Fault g c =
     let h = rw c.in-Err-Fault.field-0-is at c.in-Err-Fault.ensures in
-    text_err g.T.FromText.text c.args.bytes.now c.in-Err-Fault.field-0-0 (rw (← c.new-reader.ensures) h)
+    text_err g.T.FromText.text c.args.bytes.now c.in-Err-Fault.field-0-0 (rw (← c.new-reader.ensures) h.0)
 
 pub returns-then-not-is_empty : goal.returns-then-not-is_empty
 returns-then-not-is_empty g c =

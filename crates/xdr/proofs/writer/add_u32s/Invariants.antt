@@ -1,7 +1,10 @@
-use Rattle.std.proofs.Common.{◌≡◌, ◌++◌, take}
+use Rattle.std.proofs.Common.{◌≡◌, ◌++◌, List, ℕ, length}
 use Rattle.std.specs.List.{flat_map}
 use Rattle.xdr.specs.Item.{number_spelling}
 use Rattle.xdr.proofs.writer.add_u32s.Given as goal
 
-abbrev pub invariant-loop-n : goal.invariant-loop-n
-invariant-loop-n l = l.out.items ≡ l.initial.out.items ++ flat_map (number_spelling 4) (take l.n-index l.ns)
+abbrev pub invariant-loop-rest : goal.invariant-loop-rest
+invariant-loop-rest l = (front : List ℕ) × (l.ns ≡ front ++ l.rest) × (l.out.items ≡ l.initial.out.items ++ flat_map (number_spelling 4) front)
+
+abbrev pub decreases-loop-rest : goal.decreases-loop-rest
+decreases-loop-rest l = length l.rest
