@@ -4,16 +4,8 @@
 # bench/keys beside them.
 set -euo pipefail
 cd "$(dirname "$0")/.."
+. checks/scratch_crate.sh
 
-work=$(mktemp -d)
-trap 'rm -rf "$work"' EXIT
-mkdir "$work/crates"
-grep -E '^(xdr|lamport|merkle_keys):' crates.txt > "$work/crates.txt"
-echo 'keys_bench: anyhow merkle_keys sha2' >> "$work/crates.txt"
-cp -r crates/xdr crates/lamport crates/merkle_keys "$work/crates/"
-mkdir -p "$work/crates/keys_bench/src" "$work/crates/keys_bench/specs"
-cp bench/keys/main.rt.txt "$work/crates/keys_bench/src/main.rt"
-touch "$work/crates/keys_bench/specs/Lib.antt"
-cd "$work/crates/keys_bench"
+scratch_crate keys_bench bench/keys/main.rt.txt anyhow merkle_keys sha2
 rt run > "$work/log" 2>&1 || { tail -40 "$work/log" >&2; exit 1; }
 grep ' of the plain loop' "$work/log"

@@ -2,3 +2,4 @@ pub mod Numbers
 pub mod Roster
 pub mod Signed
 pub mod Checking
+pub mod RefusalNumbers

@@ -1,10 +1,13 @@
 -- Rosters: the members of a service, by rising numbers.
-use Rattle.std.specs.Prelude.{◌≡◌, ℕ, Bool, true, false, ◌&&◌, ◌||◌, ◌==◌, nat_lt, IsTrue, List, [], ◌∷◌, map, Option, Some, None, if◌then◌else◌}
+use Rattle.std.specs.Prelude.{ℕ, Bool, true, ◌&&◌, ◌||◌, ◌==◌, nat_lt, IsTrue, List, [], ◌∷◌, map, Option, Some, None, if◌then◌else◌, length}
+use Rattle.std.specs.List.{AllByRecursion}
 use Rattle.xdr.specs.Item.{Item, Value, Fits, word_where, fixed, pair, array}
 use Rattle.xdr.specs.Text.{Text}
 use Rattle.authenticator.specs.declared.member.Kind.{Kind}
 use Rattle.authenticator.specs.declared.member.Kind.TheVariants.{Server, Client}
 use Rattle.authenticator.specs.declared.member.Member.{Member}
+use Rattle.authenticator.specs.declared.refusal.RosterFault.{RosterFault}
+use Rattle.authenticator.specs.declared.refusal.RosterFault.TheVariants.{TooMany, BadNumber, BadHeight, NotRising}
 
 abbrev pub kind_number : Kind → ℕ
 kind_number Server = 1
@@ -42,6 +45,31 @@ roster_value ms = map member_value ms
 -- Members that have a text are a roster.
 abbrev pub IsRoster : List Member → Type 0
 IsRoster ms = Fits (array 64 member_item) (roster_value ms) × IsTrue (rises_above 0 (roster_value ms))
+
+-- each member can be spelled
+abbrev pub EachFits : List Member → Type 0
+EachFits ms = AllByRecursion (λ v. Fits member_item v) (roster_value ms)
+
+-- What is wrong with a member behind one with the number `low`, if something is.
+abbrev pub member_fault : ℕ → Member → Option RosterFault
+member_fault low m =
+    if is_node m.node then (
+    if is_height m.height then (if nat_lt low m.node then None else Some NotRising) else Some BadHeight
+    ) else Some BadNumber
+
+-- the first fault of two
+abbrev pub first_of : Option RosterFault → Option RosterFault → Option RosterFault
+first_of (Some fault) later = Some fault
+first_of None later = later
+
+-- the fault of the first member that has one
+abbrev pub first_fault : ℕ → List Member → Option RosterFault
+first_fault low [] = None
+first_fault low (m ∷ ms) = first_of (member_fault low m) (first_fault m.node ms)
+
+-- what is wrong with members that are no roster
+abbrev pub roster_fault : List Member → Option RosterFault
+roster_fault ms = if nat_lt 64 (length ms) then Some TooMany else first_fault 0 ms
 
 -- the member with a number
 abbrev pub member_of : List Member → ℕ → Option Member

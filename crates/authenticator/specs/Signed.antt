@@ -1,5 +1,5 @@
 -- What an authenticator says, and what it means that it is signed.
-use Rattle.std.specs.Prelude.{ℕ, Bool, true, List, ◌++◌, IsSomeAnd}
+use Rattle.std.specs.Prelude.{ℕ, true, List, ◌++◌, IsSomeAnd}
 use Rattle.sha2.specs.Sha256.{sha256}
 use Rattle.xdr.specs.Item.{Item, Value, word, fixed, pair, number_spelling}
 use Rattle.xdr.specs.Text.{Text}

@@ -1,7 +1,7 @@
 //! Authenticators.
 
 ghost use Rattle.std.specs.Prelude.{◌≡◌, ◌↔◌, IsTrue, OnOk};
-ghost use Rattle.xdr.specs.Item.{Fits, spelling};
+ghost use Rattle.xdr.specs.Item.{Fits, spelling, number_spelling};
 ghost use Rattle.xdr.specs.Reading.{GivesUnless};
 ghost use Rattle.xdr.specs.ReadError.{xdr_fault};
 ghost use Rattle.xdr.specs.Writing.{Writes, Adds};
@@ -24,15 +24,29 @@ pub struct Authenticator {
 }
 
 /// The digest that a node signs for a number and the hash there. Takes no memory.
-#[tactic(auto, unfolding(crate::specs::Signed::signed_digest, xdr::specs::Item::number_spelling))]
+#[tactic(auto, unfolding(crate::specs::Signed::signed_digest))]
 pub fn signed_digest(node: u32, number: Number, hash: &[u8; 32]) -> [u8; 32]
     ensures { result ≡ signed_digest node number hash.now }
 {
     let mut text = Sha256::new();
-    text.update(node.to_be_bytes());
-    text.update(number.get().to_be_bytes());
+    text.update(word_text(node));
+    text.update(hyper_text(number.get()));
     text.update(hash);
     text.finalize()
+}
+
+#[tactic(auto, unfolding(xdr::specs::Item::number_spelling))]
+fn word_text(word: u32) -> [u8; 4]
+    ensures { result ≡ number_spelling 4 word }
+{
+    word.to_be_bytes()
+}
+
+#[tactic(auto, unfolding(xdr::specs::Item::number_spelling))]
+fn hyper_text(hyper: u64) -> [u8; 8]
+    ensures { result ≡ number_spelling 8 hyper }
+{
+    hyper.to_be_bytes()
 }
 
 /// Whether the signature is this member's. Takes no memory.

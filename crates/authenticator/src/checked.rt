@@ -41,6 +41,7 @@ pub struct Checked<T: Signs> {
 }
 
 impl<T: Signs> Checked<T> {
+    #[tactic(auto, using(crate::proofs::Members::member_node))]
     /// The value, checked already: by `is_signed_by` or the like. It tests nothing.
     pub fn vouch(roster: &Roster, value: T) -> Checked<T>
         requires { IsSignedIn roster.now (T.shows value) }

@@ -14,5 +14,5 @@ pub use authenticator::{Authenticator, is_signed_by, signed_digest};
 pub use checked::{Checked, Signs, check};
 pub use member::{Kind, Member};
 pub use number::Number;
-pub use refusal::Refusal;
+pub use refusal::{Refusal, RosterFault};
 pub use roster::Roster;

@@ -29,10 +29,10 @@ pub struct Member {
 }
 
 /// The greatest number of a member.
-const MAX_NODE: u32 = 64;
+pub(crate) const MAX_NODE: u32 = 64;
 
 /// The greatest height of a tree of keys.
-const MAX_HEIGHT: u32 = 16;
+pub(crate) const MAX_HEIGHT: u32 = 16;
 
 impl<'a> FromXdr<'a> for Member {
     ghost item = { member_item };

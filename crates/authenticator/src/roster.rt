@@ -1,15 +1,16 @@
 //! Rosters.
 
-ghost use Rattle.std.specs.Prelude.{◌≡◌, IfOk, MatchResult, IsTrue, map, List};
+ghost use Rattle.std.specs.Prelude.{◌≡◌, IfOk, MatchResult, ◌↔◌, IsTrue, IsOk, IfNone, Some, None, map, List};
 ghost use Rattle.std.specs.List.{flat_map};
 ghost use Rattle.xdr.specs.Item.{Value, Fits, spelling, array};
 ghost use Rattle.xdr.specs.Text.{IsText, GivesText};
 ghost use Rattle.xdr.specs.TextError.{is_no_text};
 ghost use Rattle.xdr.specs.declared.text.TextError.TheVariants.{NoMemory};
 ghost use Rattle.xdr.specs.Writing.{Writes, Adds};
-ghost use Rattle.authenticator.specs.Roster.{member_item, member_value, roster_text, roster_value, rises_above, member_of};
+ghost use Rattle.authenticator.specs.Roster.{member_item, member_value, roster_text, roster_value, rises_above, IsRoster, EachFits, member_fault, first_fault, roster_fault, member_of};
 
-use crate::member::{Member, write_member};
+use crate::member::{MAX_HEIGHT, MAX_NODE, Member, write_member};
+use crate::refusal::RosterFault;
 use std::alloc::{AllocError, Global};
 use std::marker::Model;
 use xdr::{FromText, ReadError, Reader, TextError, Writer, all_or_nothing, read_array, read_text};
@@ -70,7 +71,78 @@ fn rise(members: &[Member]) -> bool
     true
 }
 
+/// What is wrong with a member behind one with the number `low`.
+fn member_fault(low: u32, member: &Member) -> Option<RosterFault>
+    ensures fault { result ≡ member_fault low member.now }
+    ensures fits { IfNone result (Fits member_item (member_value member.now)) }
+{
+    if member.node == 0 || member.node > MAX_NODE {
+        return Some(RosterFault::BadNumber);
+    }
+    if member.height == 0 || member.height > MAX_HEIGHT {
+        return Some(RosterFault::BadHeight);
+    }
+    if low >= member.node {
+        return Some(RosterFault::NotRising);
+    }
+    None
+}
+
+/// The fault of the first member that has one.
+fn first_fault(members: &[Member]) -> Option<RosterFault>
+    ensures fault { result ≡ first_fault 0 members.now }
+    ensures fit { IfNone result (EachFits members.now) }
+{
+    let mut low = 0;
+    for member in members {
+        if let Some(fault) = member_fault(low, member) {
+            return Some(fault);
+        }
+        low = member.node;
+    }
+    None
+}
+
+/// Whether two members are the same in every field.
+fn is_same(own: &Member, other: &Member) -> bool
+    ensures { IsTrue result ↔ (own.now ≡ other.now) }
+{
+    own == other
+}
+
+/// Whether two lists have the same members in the same order.
+fn same_members(own: &[Member], others: &[Member]) -> bool
+    ensures { IsTrue result ↔ (own.now ≡ others.now) }
+{
+    if own.len() != others.len() {
+        return false;
+    }
+    for place in 0..own.len() {
+        if !is_same(&own[place], &others[place]) {
+            return false;
+        }
+    }
+    true
+}
+
 impl Roster {
+    /// The roster of these members, in this order. `TooMany` comes where they are more than 64, else the fault of the
+    /// first member that has one: `BadNumber` where its number isn't from 1 to 64, else `BadHeight` where its height
+    /// isn't from 1 to 16, else `NotRising` where its number isn't above the one before. Takes no memory.
+    pub fn new(members: Vec<Member>) -> Result<Roster, RosterFault>
+        ensures members { IfOk result (λ r. r ≡ members.items) }
+        ensures exact { IsOk result ↔ IsRoster members.items }
+        ensures fault { MatchResult result (λ _. roster_fault members.items ≡ None) (λ e. roster_fault members.items ≡ Some e) }
+    {
+        if members.len() > MAX_MEMBERS as usize {
+            return Err(RosterFault::TooMany);
+        }
+        match first_fault(&members) {
+            Some(fault) => Err(fault),
+            None => Ok(Roster { members }),
+        }
+    }
+
     /// The roster whose text the bytes are. `NotAText` comes exactly where they are the text of none, `NoMemory`
     /// only where a growth was refused.
     pub fn read(alloc: Global, bytes: &[u8]) -> Result<Roster, TextError>
@@ -99,6 +171,13 @@ impl Roster {
     {
         let members = Vec::from_slice(alloc, &self.members)?;
         Ok(Roster { members })
+    }
+
+    /// Whether another roster has the same members.
+    pub fn equals(&self, other: &Roster) -> bool
+        ensures { IsTrue result ↔ (self.now ≡ other.now) }
+    {
+        same_members(&self.members, &other.members)
     }
 
     /// The members.

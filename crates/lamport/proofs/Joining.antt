@@ -1,8 +1,7 @@
 -- Texts made of pieces in order.
 use Rattle.std.proofs.Common.{◌≡◌, ℕ, ◌+◌, Bool, true, false, not, cond, List, [], ◌∷◌, ◌++◌, refl, sym, append_assoc, add-one}
-use Rattle.std.specs.Int.{w32, to_be_bytes}
 use Rattle.sha2.specs.Sha256.{sha256}
-use Rattle.lamport.specs.Lamport.{joined, piece, LeafKey, secret, public_hash, digest_bit, word_bytes, leaf_text, leaf_node, shown_hash, shown_secrets, other_hashes}
+use Rattle.lamport.specs.Lamport.{joined, piece, LeafKey, secret, public_hash, digest_bit, leaf_text, leaf_node, shown_hash, shown_secrets, other_hashes}
 
 pub joined-zero : (f : ℕ → List ℕ) → joined f 0 ≡ []
 unfolding joined
@@ -66,10 +65,3 @@ pub shown_pair : (digest shown other : List ℕ) (n : ℕ)
     ≡ cond (digest_bit digest n) (piece other n ++ sha256 (piece shown n)) (sha256 (piece shown n) ++ piece other n)
 unfolding shown_hash
 shown_pair digest shown other n = elim (digest_bit digest n) as (λ b. cond b (piece other n) (sha256 (piece shown n)) ++ cond b (sha256 (piece shown n)) (piece other n) ≡ cond b (piece other n ++ sha256 (piece shown n)) (sha256 (piece shown n) ++ piece other n)) [ true ↦ refl | false ↦ refl ]
-
--- a secret's text in its parts
-pub secret_of_parts : (key : LeafKey) (place : ℕ) (bit : Bool) (a b c : List ℕ)
-    → a ≡ to_be_bytes w32 key.leaf → b ≡ to_be_bytes w32 place → c ≡ to_be_bytes w32 (cond bit 1 0)
-    → secret key place bit ≡ sha256 (key.master ++ a ++ b ++ c)
-unfolding secret word_bytes
-secret_of_parts key place bit a b c ea eb ec = rw (ea, eb, ec) refl

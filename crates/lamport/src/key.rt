@@ -1,9 +1,9 @@
 //! Keys that sign once.
 
-ghost use Rattle.std.specs.Prelude.{◌≡◌, ◌<◌, ◌^◌, IfOk, IfErr, if◌then◌else◌};
+ghost use Rattle.std.specs.Prelude.{◌≡◌, ◌<◌, ◌^◌, IfOk, IfErr, OnOk, not, ◌++◌, if◌then◌else◌};
 ghost use Rattle.lamport.specs.Lamport.{LeafKey, secret, public_hash, leaf_node, shown_secrets, other_hashes};
 
-use crate::shown::digest_bit;
+use crate::shown::{digest_bit, leaf_start};
 use sha2::{Digest, Sha256};
 use std::alloc::{AllocError, AllocFailed, Global};
 use std::marker::Model;
@@ -57,8 +57,7 @@ impl OneTimeKey {
     pub fn node(&self) -> [u8; 32]
         ensures { result ≡ leaf_node (public_hash self.now) }
     {
-        let mut text = Sha256::new();
-        text.update([0u8]);
+        let mut text = leaf_start();
         for place in 0..PLACES {
             text.update(self.hash(place, false));
             text.update(self.hash(place, true));
@@ -98,10 +97,24 @@ impl OneTimeKey {
         let mut other = Vec::with_capacity(alloc, TEXT)?;
         for place in 0..PLACES {
             let bit = digest_bit(digest, place);
-            shown.extend_from_slice(&self.secret(place, bit))?;
-            other.extend_from_slice(&self.hash(place, !bit))?;
+            self.show(place, bit, &mut shown, &mut other)?;
         }
         Ok(OneTimeSignature { shown, other })
+    }
+
+    // Appends the secret of a place and bit value, and the hash of the other value.
+    fn show(
+        &self,
+        place: u32,
+        bit: bool,
+        shown: &mut Vec<u8>,
+        other: &mut Vec<u8>,
+    ) -> Result<(), AllocError>
+        ensures shown { OnOk result (shown.new.items ≡ shown.old.items ++ secret self.now place bit) }
+        ensures other { OnOk result (other.new.items ≡ other.old.items ++ public_hash self.now place (not bit)) }
+    {
+        shown.extend_from_slice(&self.secret(place, bit))?;
+        other.extend_from_slice(&self.hash(place, !bit))
     }
 
     #[tactic(auto, unfolding(crate::specs::Lamport::public_hash))]
@@ -111,6 +124,7 @@ impl OneTimeKey {
         Sha256::digest(self.secret(place, bit))
     }
 
+    #[tactic(auto, unfolding(crate::specs::Lamport::secret, crate::specs::Lamport::word_bytes))]
     fn secret(&self, place: u32, bit: bool) -> [u8; 32]
         ensures { result ≡ secret self.now place bit }
     {

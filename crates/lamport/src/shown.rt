@@ -1,6 +1,6 @@
 //! What a signature shows of its key.
 
-ghost use Rattle.std.specs.Prelude.{◌≡◌, ℕ, ◌+◌, ◌*◌, ◌<◌, ◌≤◌, List, ◌++◌, length, if◌then◌else◌};
+ghost use Rattle.std.specs.Prelude.{◌≡◌, ℕ, ◌+◌, ◌*◌, ◌<◌, ◌≤◌, List, [], ◌∷◌, ◌++◌, length, if◌then◌else◌};
 ghost use Rattle.sha2.specs.Hashers.{Holds256};
 ghost use Rattle.lamport.specs.Lamport.{digest_bit, leaf_node, shown_hash, piece};
 
@@ -36,6 +36,15 @@ fn add_place(text: &mut Sha256, bit: bool, shown: [u8; 32], other: &[u8])
     }
 }
 
+/// The text of a key's node before its first place: the byte 0.
+pub(crate) fn leaf_start() -> Sha256
+    ensures { Holds256 result (0 ∷ []) }
+{
+    let mut text = Sha256::new();
+    text.update([0u8]);
+    text
+}
+
 /// The node of the key that a signature shows: each secret is hashed, and stands beside the other
 /// value's hash in the key's public text.
 pub fn shown_key(digest: &[u8; 32], shown: &[u8], other: &[u8]) -> [u8; 32]
@@ -43,8 +52,7 @@ pub fn shown_key(digest: &[u8; 32], shown: &[u8], other: &[u8]) -> [u8; 32]
     requires other { length other.now ≡ 8192 }
     ensures { result ≡ leaf_node (shown_hash digest.now shown.now other.now) }
 {
-    let mut text = Sha256::new();
-    text.update([0u8]);
+    let mut text = leaf_start();
     for place in 0..256u32 {
         let bit = digest_bit(digest, place);
         let hash = Sha256::digest(piece(shown, place as usize));

@@ -1,3 +1,4 @@
 pub mod Tree
 pub mod Signing
 pub mod Nodes
+pub mod FaultNumbers

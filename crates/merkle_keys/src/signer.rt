@@ -1,6 +1,6 @@
 //! Signers, which use each leaf once.
 
-ghost use Rattle.std.specs.Prelude.{◌≡◌, ◌↔◌, ◌+◌, ◌^◌, ◌<◌, ◌≤◌, IfOk, OnOk, OnErr};
+ghost use Rattle.std.specs.Prelude.{◌≡◌, ◌↔◌, ◌+◌, ◌-◌, ◌^◌, ◌<◌, ◌≤◌, [], length, slice_index_or, IfOk, OnOk, OnErr};
 ghost use Rattle.lamport.specs.Lamport.{shown_secrets, other_hashes};
 ghost use Rattle.merkle_keys.specs.Tree.{leaf_key, root, path};
 ghost use Rattle.merkle_keys.specs.declared.signer.SignFault.TheVariants.{NoMemory};
@@ -16,12 +16,26 @@ use thiserror::Error;
 /// Why a digest was not signed. After either nothing has changed.
 #[derive(Clone, Copy, Debug, PartialEq, Eq, Error)]
 pub enum SignFault {
-    /// Each of the 2 to the height leaves has signed. Its number is 1.
+    /// Each of the 2 to the height leaves has signed.
     #[error("all keys are used up")]
-    KeysUsedUp = 1,
+    KeysUsedUp,
     /// A growth was refused.
     #[error("out of memory")]
     NoMemory,
+}
+
+impl SignFault {
+    ghost use Rattle.merkle_keys.specs.FaultNumbers.{fault_number};
+
+    /// The number that programs print: 1 KeysUsedUp. Want of memory has none.
+    pub fn number(self) -> Option<u32>
+        ensures { result ≡ fault_number self }
+    {
+        match self {
+            SignFault::KeysUsedUp => Some(1),
+            SignFault::NoMemory => None,
+        }
+    }
 }
 
 impl From<AllocError> for SignFault {
@@ -75,7 +89,7 @@ impl Signer {
     pub fn root(&self) -> [u8; 32]
         ensures { result ≡ root self.now.master self.now.height }
     {
-        self.nodes[self.nodes.len() - 1]
+        last_node(&self.nodes)
     }
 
     /// How many signings are left.
@@ -139,4 +153,12 @@ impl Signer {
             }
         }
     }
+}
+
+/// The last of a tree's nodes.
+fn last_node(nodes: &[[u8; 32]]) -> [u8; 32]
+    requires { 1 ≤ length nodes.now }
+    ensures { result ≡ slice_index_or nodes.now (length nodes.now - 1) [] }
+{
+    nodes[nodes.len() - 1]
 }

@@ -3,7 +3,7 @@ use Rattle.lamport.proofs.Joining.{leaf_front_none, leaf_front_more, leaf_front_
 use Rattle.lamport.proofs.shown.shown_key.Goals as goal
 
 pub loop-place-init : goal.loop-place-init
-loop-place-init c = rw leaf_front_none (c.update.ensures _ c.new-text.ensures)
+loop-place-init c = rw leaf_front_none c.leaf_start-text.ensures
 
 pub loop-place-preserved : goal.loop-place-preserved
 loop-place-preserved c =

@@ -1,4 +1,4 @@
-use Rattle.std.proofs.Common.{length-append, refl, arith}
+use Rattle.std.proofs.Common.{◌≤◌, length-append, refl, arith}
 use Rattle.std.proofs.lemmas.Result.{err_from_is_err_and}
 use Rattle.xdr.specs.Item.{fixed}
 use Rattle.xdr.specs.Reading.{read_at}
@@ -7,8 +7,9 @@ use Rattle.merkle_keys.proofs.text.read_nodes.Goals as goal
 
 pub returns-in_err-read_node-clause-text : goal.returns-in_err-read_node-clause-text
 returns-in_err-read_node-clause-text c =
+    let few : c.in_ok-count.count ≤ 16 = omega arith in
     let p = err_from_is_err_and c.from_residual-in_err-read_node.result c.from_residual-in_err-read_node.ensures.1 in
-    rw (p.1, p.2, array_at (fixed 32) 16 c.in_ok-count.count _ _ c.in_ok-count.ensures c.if-count-gt-MAX_NODES.false) (fails_unless _ _ _ _ _ _ _ c.loop-test.true c.in_err-read_node.ensures.0 c.loop.invariant.text)
+    rw (p.1, p.2, array_at (fixed 32) 16 c.in_ok-count.count _ _ c.in_ok-count.ensures few) (fails_unless _ _ _ _ _ _ _ c.loop-test.true c.in_err-read_node.ensures.0 c.loop.invariant.text)
 
 pub loop-init : goal.loop-init
 loop-init c = record {
@@ -24,5 +25,6 @@ loop-preserved c = record {
 
 pub returns-clause-text : goal.returns-clause-text
 returns-clause-text c =
-    let whole = array_at (fixed 32) 16 c.in_ok-count.count c.args.reader.now c.u32.new.self c.in_ok-count.ensures c.if-count-gt-MAX_NODES.false in
+    let few : c.in_ok-count.count ≤ 16 = omega arith in
+    let whole = array_at (fixed 32) 16 c.in_ok-count.count c.args.reader.now c.u32.new.self c.in_ok-count.ensures few in
     rw whole (ends _ _ _ _ _ _ c.loop-test.false c.loop.invariant.text)

@@ -3,11 +3,11 @@ use Rattle.lamport.proofs.Joining.{leaf_front_none, leaf_front_more, leaf_front_
 use Rattle.lamport.proofs.key.OneTimeKey.node.Goals as goal
 
 pub loop-place-init : goal.loop-place-init
-loop-place-init c = rw leaf_front_none (c.update.ensures _ c.new-text.ensures)
+loop-place-init c = rw leaf_front_none c.leaf_start-text.ensures
 
 pub loop-place-preserved : goal.loop-place-preserved
 loop-place-preserved c =
-    let whole = c.update-in-loop-place-2.ensures _ (c.update-in-loop-place.ensures _ c.loop-place.invariant) in
+    let whole = c.update-in-loop-place.ensures _ (c.update.ensures _ c.loop-place.invariant) in
     rw (leaf_front_more, ← c.hash.ensures, ← c.hash-in-loop-place.ensures) whole
 
 pub returns : goal.returns

@@ -10,8 +10,8 @@ loop-place-init c = record {
 
 pub loop-place-preserved : goal.loop-place-preserved
 loop-place-preserved c = record {
-  shown = rw (shown_front_more, ← c.loop-place.invariant.shown, ← c.digest_bit-bit.ensures, ← c.secret.ensures) c.in_ok-extend_from_slice.ensures.items;
-  other = rw (other_front_more, ← c.loop-place.invariant.other, ← c.digest_bit-bit.ensures, ← c.hash.ensures) c.in_ok-extend_from_slice-2.ensures.items;
+  shown = rw (shown_front_more, ← c.loop-place.invariant.shown, ← c.digest_bit-bit.ensures) c.in_ok-show.ensures.shown;
+  other = rw (other_front_more, ← c.loop-place.invariant.other, ← c.digest_bit-bit.ensures) c.in_ok-show.ensures.other;
 }
 
 pub returns-clause-shown : goal.returns-clause-shown

@@ -21,5 +21,5 @@ returns-clause-signature c =
 pub returns-clause-signed : goal.returns-clause-signed
 returns-clause-signed c =
     let low : c.args.self.now.height ≤ 16 = rw (← c.self.view_is) c.self.invariant.low in
-    let within : c.args.self.now.used < 2 ^ c.args.self.now.height = omega (arith, c.left.ensures, c.if-left-eq0.false) in
+    let within : c.args.self.now.used < 2 ^ c.args.self.now.height = omega (arith, c.left.ensures) in
     rw (returns-clause-signature c) (made_is_signed _ _ _ _ low within)

@@ -1,0 +1,53 @@
+# To be sourced at the top of the repository: sets up programs that are kept as text beside a script.
+
+# The lines of crates.txt, which has the lowest first, for these libraries and all that they stand on.
+crates_below() {
+    tac crates.txt | awk -v libraries="$*" '
+        BEGIN { count = split(libraries, names, " "); for (i = 1; i <= count; i++) wanted[names[i]] }
+        { name = $1; sub(/:$/, "", name) }
+        name in wanted { print; for (i = 2; i <= NF; i++) wanted[$i] }'
+}
+
+# scratch_crate NAME MAIN LIBRARY..
+# Makes a scratch repository with a program NAME, whose source is the file MAIN, beside copies of the crates that it
+# stands on, and goes to its folder. The repository, $work, is gone when the script ends.
+scratch_crate() {
+    local name=$1 main=$2 crate
+    shift 2
+    work=$(mktemp -d)
+    trap 'rm -rf "$work"' EXIT
+    mkdir "$work/crates"
+    crates_below "$@" > "$work/crates.txt"
+    while IFS=: read -r crate _; do
+        cp -r "crates/$crate" "$work/crates/"
+    done < "$work/crates.txt"
+    echo "$name: $*" >> "$work/crates.txt"
+    mkdir -p "$work/crates/$name/src" "$work/crates/$name/specs"
+    cp "$main" "$work/crates/$name/src/main.rt"
+    touch "$work/crates/$name/specs/Lib.antt"
+    cd "$work/crates/$name"
+}
+
+# refuse_each MOST
+# Builds the program of the scratch repository once and runs it with each of its requests for memory refused in turn, at
+# most MOST: in the run for the n-th it first makes MOST - n others, one for each byte of standard input, and request
+# MOST is refused. Writes to $work/lines what each run prints, which begins with `refused` and ends with `held true`, and
+# leaves out the runs in which no request was left to refuse.
+refuse_each() {
+    local most=$1 request
+    mkdir "$work/cases"
+    for ((request = 1; request <= most; request++)); do
+        head -c $((most - request)) /dev/zero > "$work/cases/$(printf %04d "$request")"
+    done
+    rt try --steps 1 --fail-alloc "$most" --cases "$work/cases" > "$work/log" 2>&1 || { cat "$work/log" >&2; exit 1; }
+    grep '^refused' "$work/log" > "$work/all_lines"
+    if [ "$(wc -l < "$work/all_lines")" -ne "$most" ] || grep -qv ', held true$' "$work/all_lines"; then
+        cat "$work/log" >&2
+        exit 1
+    fi
+    if ! tail -1 "$work/all_lines" | grep -q '^refused 0'; then
+        echo "there are more than $most requests" >&2
+        exit 1
+    fi
+    grep -v '^refused 0' "$work/all_lines" > "$work/lines"
+}

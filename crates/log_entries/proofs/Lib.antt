@@ -1,0 +1,4 @@
+pub mod Fronts
+pub mod Values
+pub mod Chains
+pub mod Pairs
