@@ -1,11 +1,12 @@
 -- Records and replies, one after the other.
-use Rattle.std.proofs.Common.{◌≡◌, ℕ, ◌+◌, List, [], ◌∷◌, ◌++◌, arith, length, sym, ap, ◌∙◌, refl, length-append, append_assoc, subst}
+use Rattle.std.proofs.Common.{◌≡◌, ◌⊎◌, inl, inr, ℕ, ◌+◌, List, [], ◌∷◌, ◌++◌, arith, length, sym, ap, ◌∙◌, refl, length-append, append_assoc, subst}
 use Rattle.std.specs.Prelude.{Option, Some, None, IfSome}
 use Rattle.std.specs.Io.KnownBytes.{Consumes, Appends}
 use Rattle.std.proofs.KnownBytes.{Consumes-trans, Consumes-nil, Appends-trans, Appends-nil}
 use Rattle.std.proofs.lemmas.List.{append-nil}
 use Rattle.records.specs.Record.{IsRecord, IsUnfinished, PassesLimit}
 use Rattle.records.specs.Stream.{AreRecords}
+use Rattle.records.specs.Writing.{WritesFront}
 use Rattle.records.proofs.Streams.{AreRecords-push}
 use Rattle.records.specs.declared.fault.RecordFault.{RecordFault}
 use Rattle.records.specs.declared.fault.RecordFault.TheVariants as faults
@@ -74,7 +75,7 @@ known (Some xs) None text P taken f = absurd taken
 known (Some xs) (Some ys) text P taken f = f xs ys refl taken
 
 -- a reply that was written in part
-pub falls_short : (now : World) (k : ℕ) (before mid mid' written_before written written' : Option (List ℕ)) (more r front unwritten : List ℕ) → Progress now k before mid written_before written
+falls_short : (now : World) (k : ℕ) (before mid mid' written_before written written' : Option (List ℕ)) (more r front unwritten : List ℕ) → Progress now k before mid written_before written
     → IsRecord more r → Consumes mid mid' more → record_of (reply_owed now (time_of k) r) ≡ front ++ unwritten → Appends written written' front → IfSome before (λ input. ServesPart input written_before written')
 falls_short now k before mid mid' written_before written written' more r front unwritten p is taken e wrote =
     known before mid' (p.text ++ more) (λ input. ServesPart input written_before written') (Consumes-trans _ _ _ _ _ p.taken taken) (λ input rest left is_input. record {
@@ -139,6 +140,15 @@ stays now k before mid written_before written p = up_to (λ _. Unit {0}) now k b
     any : (mid : Option (List ℕ)) → IfSome mid (λ _. Unit {0})
     any None = tt
     any (Some xs) = tt
+
+-- a record was read and its reply not wholly written: the device failed, or memory was refused
+pub unanswered : (e : RecordFault) (now : World) (k : ℕ) (before mid mid' written_before written written' : Option (List ℕ)) (more r : List ℕ) → Progress now k before mid written_before written
+    → IsRecord more r → Consumes mid mid' more → ((e ≡ faults.Device) → WritesFront written written' (record_of (reply_owed now (time_of k) r))) → ((e ≡ faults.NoMemory) → written' ≡ written)
+    → (e ≡ faults.Device) ⊎ (e ≡ faults.NoMemory) → IfSome before (λ input. EndsWith e input written_before written')
+unanswered e now k before mid mid' written_before written written' more r p is taken front same (inl d) =
+    let f = front d in rw d (falls_short now k before mid mid' written_before written written' more r f.0 f.1 p is taken f.2 f.4)
+unanswered e now k before mid mid' written_before written written' more r p is taken front same (inr m) =
+    rw (m, same m) (stays now k before mid written_before written p)
 
 -- no record could be read
 pub ends : (e : RecordFault) (now : World) (k : ℕ) (before mid written_before written : Option (List ℕ)) (m n : ℕ) → Progress now k before mid written_before written

@@ -2,11 +2,12 @@
 
 ghost use Rattle.std.specs.Prelude.{◌≡◌, ◌≤◌, ◌⊎◌, length, IfOk, IfErr, OnOk, IsErrOf, IfSome, None};
 ghost use Rattle.std.specs.Option.{option_map};
-ghost use Rattle.std.specs.Io.KnownBytes.{IsAtEnd};
+ghost use Rattle.std.specs.Io.KnownBytes.{Appends, IsAtEnd};
 ghost use Rattle.records.specs.Count.{Rises, CountsErr};
-ghost use Rattle.records.specs.Writing.{WritesPart};
+ghost use Rattle.records.specs.Writing.{WritesPart, WritesFront};
+ghost use Rattle.service.specs.Replies.{reply_owed, world_after};
 ghost use Rattle.service.specs.Owed.{record_of};
-ghost use Rattle.records.specs.declared.fault.RecordFault.TheVariants.{Device};
+ghost use Rattle.records.specs.declared.fault.RecordFault.TheVariants.{Device, NoMemory};
 ghost use Rattle.console.specs.RunRpc.{time_of, Serves, EndsWith, StandsAfter};
 
 use nfs_types::Time;
@@ -42,6 +43,27 @@ fn write_reply<W: Write>(
     }
 }
 
+/// Answers a record at a time: the reply, if one is owed, is written. Where memory is refused, nothing is.
+fn serve<W: Write>(
+    alloc: Global,
+    service: &mut Service,
+    writer: &mut Counting<W>,
+    time: Time,
+    bytes: &[u8],
+) -> Result<(), RecordFault>
+    ensures text { OnOk result (Appends (W.contents writer.old.inner) (W.contents writer.new.inner) (record_of (reply_owed service.old time bytes.now))) }
+    ensures world { OnOk result (service.new ≡ world_after service.old time bytes.now) }
+    ensures kept { OnOk result (writer.new.count ≡ writer.old.count) }
+    ensures device { IsErrOf result Device → WritesFront (W.contents writer.old.inner) (W.contents writer.new.inner) (record_of (reply_owed service.old time bytes.now)) × Rises writer.old.count writer.new.count }
+    ensures memory { IsErrOf result NoMemory → writer.new ≡ writer.old }
+    ensures fault { IfErr result (λ e. (e ≡ RecordFault.Device) ⊎ (e ≡ RecordFault.NoMemory)) }
+{
+    let Ok(reply) = service.answer(alloc, time, bytes) else {
+        return Err(RecordFault::NoMemory);
+    };
+    write_reply(writer, &reply)
+}
+
 /// Answers each record of a stream as the server of node 1 would, from the files that it begins with; the k-th record
 /// has the time (k, 0), at most (4294967295, 0). A reply is written before the next record is read.
 ///
@@ -71,10 +93,7 @@ pub fn run_rpc<R: Read + Drop, W: Write>(
         let Some(record) = reader.next(alloc)? else {
             return Ok(k - 1);
         };
-        let Ok(reply) = service.answer(alloc, time_of_record(k), &record) else {
-            return Err(RecordFault::NoMemory);
-        };
-        write_reply(writer, &reply)?;
+        serve(alloc, &mut service, writer, time_of_record(k), &record)?;
     }
     Err(RecordFault::NoMemory)
 }

@@ -19,7 +19,7 @@ use rpc::{AuthStat, Call, CallBody, Header, Reply, ReplyBody, read_call, write_r
 use std::alloc::{AllocError, Global};
 use std::marker::Model;
 
-/// The program number of NFS, and its version (RFC 1094, section 2.1).
+/// The program number of NFS, and its version (RFC 1094, section 2.2).
 const NFS_PROGRAM: u32 = 100003;
 
 const NFS_VERSION: u32 = 2;
