@@ -96,12 +96,12 @@ fails_at_piece faults.EndInRecord text count before mid after is_last len m n p 
   h.1,
 )
 
-limit_of : (text : List ℕ) (count : ℕ) (before mid : Option (List ℕ)) (p : Progress text count before mid) (len : ℕ) → (count ≡ 16384) ⊎ (12288 < length text + len) → Passes p.pieces len
+limit_of : (text : List ℕ) (count : ℕ) (before mid : Option (List ℕ)) (p : Progress text count before mid) (len : ℕ) → (16384 ≤ count) ⊎ (12288 < length text + len) → Passes p.pieces len
 limit_of text count before mid p len (inl full) = inr (omega (arith, p.count_is, full))
 limit_of text count before mid p len (inr long) = inl (omega (arith, ap length p.text_is, long))
 
 pub takes_to_limit : (text : List ℕ) (count : ℕ) (before mid after : Option (List ℕ)) (is_last : Bool) (len : ℕ) → Progress text count before mid
-    → Consumes mid after (mark is_last len) → len < 2147483648 → (count ≡ 16384) ⊎ (12288 < length text + len) → TakesToLimit before after
+    → Consumes mid after (mark is_last len) → len < 2147483648 → (16384 ≤ count) ⊎ (12288 < length text + len) → TakesToLimit before after
 takes_to_limit text count before mid after is_last len p taken len_fits limit = record {
   pieces = p.pieces;
   is_last = is_last;

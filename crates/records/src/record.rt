@@ -1,6 +1,6 @@
 //! Reads records from a stream (RFC 5531, section 11).
 
-ghost use Rattle.std.specs.Prelude.{◌≡◌, ◌<◌, ◌≤◌, ◌+◌, ◌^◌, [], length, take, IfOk, IfErr, IfSome, OnOk, OnErr, IsErrOf, vec_len, vec_capacity};
+ghost use Rattle.std.specs.Prelude.{◌≡◌, ◌<◌, ◌≤◌, ◌+◌, ◌^◌, ◌⊎◌, [], true, false, length, take, IfOk, IfErr, IfSome, OnOk, OnErr, IsErrOf, vec_len, vec_capacity};
 ghost use Rattle.std.specs.Option.{option_map};
 ghost use Rattle.std.specs.Io.KnownBytes.{Consumes, IsAtEnd};
 ghost use Rattle.records.specs.Count.{Rises};
@@ -108,6 +108,15 @@ fn read_piece<R: Read>(
     Ok(())
 }
 
+/// Whether a fragment of this length passes a limit, behind so many fragments and these bytes.
+fn passes_limit(count: u32, joined: &[u8], len: u32) -> bool
+    requires { length joined.now ≤ 12288 }
+    ensures passes { result ≡ true → (16384 ≤ count) ⊎ (12288 < length joined.now + len) }
+    ensures within { result ≡ false → (count < 16384) × (length joined.now + len ≤ 12288) }
+{
+    count >= MAX_FRAGMENTS || len as usize > MAX_RECORD - joined.len()
+}
+
 /// Reads the next record into an empty vector, and says whether there was one.
 #[tactic(auto, using(crate::proofs::Fragments::stops_after))]
 fn read_record<R: Read>(reader: &mut Counting<R>, joined: &mut Vec<u8>) -> Result<bool, RecordFault>
@@ -126,7 +135,7 @@ fn read_record<R: Read>(reader: &mut Counting<R>, joined: &mut Vec<u8>) -> Resul
                 Err(RecordFault::EndInRecord)
             };
         };
-        if count == MAX_FRAGMENTS || mark.len as usize > MAX_RECORD - joined.len() {
+        if passes_limit(count, joined, mark.len) {
             return Err(RecordFault::RecordTooLong);
         }
         read_piece(reader, joined, mark.len)?;

@@ -16,19 +16,23 @@ pub returns-in_err-read_piece-clause-fault : goal.returns-in_err-read_piece-clau
 returns-in_err-read_piece-clause-fault g c =
     let p = err_from_is_err_and c.from_residual-in_err-read_piece.result c.from_residual-in_err-read_piece.ensures.1 in
     let marked = rw c.in-Some.is at c.in_ok-mark.ensures.found in
-    rw (p.1, p.2) (fails_at_piece _ _ _ _ _ _ _ _ _ _ c.loop-count.invariant.0 marked.0 (omega arith) (omega (arith, c.loop-count.invariant.0.length_fits, c.loop-count.joined.ok.0, c.len.ensures)) (rw (c.in_ok-mark.ensures.kept, c.loop-count.invariant.1) at c.in_err-read_piece.ensures.fault))
+    let room = rw c.deref.ensures.value at c.passes_limit.ensures.within c.if-passes_limit.false in
+    rw (p.1, p.2) (fails_at_piece _ _ _ _ _ _ _ _ _ _ c.loop-count.invariant.0 marked.0 room.0 room.1 (rw (c.in_ok-mark.ensures.kept, c.loop-count.invariant.1) at c.in_err-read_piece.ensures.fault))
 
 pub returns-then-mark-clause-found : goal.returns-then-mark-clause-found
 returns-then-mark-clause-found g c =
     let marked = rw (c.in-Some.is, c.if-mark.true) at c.in_ok-mark.ensures.found in
-    is_record _ _ _ _ _ _ _ _ c.loop-count.invariant.0 (omega arith) marked.0 c.in_ok-read_piece.ensures.piece (omega (arith, c.loop-count.invariant.0.length_fits, c.loop-count.joined.ok.0, c.len.ensures))
+    let room = rw c.deref.ensures.value at c.passes_limit.ensures.within c.if-passes_limit.false in
+    is_record _ _ _ _ _ _ _ _ c.loop-count.invariant.0 room.0 marked.0 c.in_ok-read_piece.ensures.piece room.1
 
 pub loop-count-preserved : goal.loop-count-preserved
 loop-count-preserved g c =
     let marked = rw (c.in-Some.is, c.if-mark.false) at c.in_ok-mark.ensures.found in
-    (goes_on _ _ _ _ _ _ _ _ c.loop-count.invariant.0 (omega arith) marked.0 c.in_ok-read_piece.ensures.piece (omega (arith, c.loop-count.invariant.0.length_fits, c.loop-count.joined.ok.0, c.len.ensures)), search rules, search rules)
+    let room = rw c.deref.ensures.value at c.passes_limit.ensures.within c.if-passes_limit.false in
+    (goes_on _ _ _ _ _ _ _ _ c.loop-count.invariant.0 room.0 marked.0 c.in_ok-read_piece.ensures.piece room.1, search rules, search rules)
 
-pub returns-then-count-eq-MAX_FRAGMENTS-clause-taken : goal.returns-then-count-eq-MAX_FRAGMENTS-clause-taken
-returns-then-count-eq-MAX_FRAGMENTS-clause-taken g c =
+pub returns-then-passes_limit-clause-taken : goal.returns-then-passes_limit-clause-taken
+returns-then-passes_limit-clause-taken g c =
     let marked = rw c.in-Some.is at c.in_ok-mark.ensures.found in
-    takes_to_limit _ _ _ _ _ _ _ c.loop-count.invariant.0 marked.0 marked.1 (search rules)
+    let limit = rw c.deref.ensures.value at c.passes_limit.ensures.passes c.if-passes_limit.true in
+    takes_to_limit _ _ _ _ _ _ _ c.loop-count.invariant.0 marked.0 marked.1 limit
