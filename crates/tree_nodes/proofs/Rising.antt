@@ -1,6 +1,7 @@
 -- Cookies that rise.
-use Rattle.std.proofs.Common.{ℕ, ◌+◌, ◌≤◌, Bool, true, false, cond, List, [], ◌∷◌, ◌++◌, arith}
+use Rattle.std.proofs.Common.{ℕ, ◌+◌, ◌≤◌, Bool, true, false, cond, List, [], ◌∷◌, ◌++◌, nat_eq, arith}
 use Rattle.std.specs.Map.{remove_entry}
+use Rattle.std.specs.Cmp.Lexicographic.{pointwise}
 use Rattle.tree_paths.specs.Listing.{IsRising}
 
 pub rising_from : (low low' : ℕ) (es : List (List ℕ × (ℕ × ℕ))) (high : ℕ) → low' ≤ low → IsRising low es high → IsRising low' es high
@@ -17,3 +18,8 @@ rising_removed low test (e ∷ es) high h = elim (test e.0) as (λ b. IsRising l
   | true ↦ rising_from (e.1.1 + 1) low es high (omega (arith, h.0)) h.1
   | false ↦ (h.0, rising_removed (e.1.1 + 1) test es high h.1)
 ]
+
+-- an entry put last with the next cookie
+pub rising_put : (low : ℕ) (es : List (List ℕ × (ℕ × ℕ))) (high : ℕ) (name : List ℕ) (number : ℕ) → IsRising low es high
+    → IsRising low (remove_entry (pointwise nat_eq name) es ++ (name, (number, high)) ∷ []) (high + 1)
+rising_put low es high name number h = rising_push low (remove_entry (pointwise nat_eq name) es) high name number (rising_removed low (pointwise nat_eq name) es high h)

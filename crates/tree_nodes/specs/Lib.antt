@@ -8,6 +8,7 @@ pub use Rattle.tree_paths.specs.Trees
 pub use Rattle.tree_effects.specs.Checks
 pub use Rattle.tree_effects.specs.Attributes
 pub use Rattle.tree_effects.specs.Effects
+pub mod Listed
 pub mod LookUp
 pub mod Nodes
 pub mod NodeLookUp

@@ -1,7 +1,10 @@
 //! A directory: names in order of insertion.
 
-ghost use Rattle.std.specs.Prelude.{◌≡◌, ◌≢◌, ◌<◌, ◌^◌, ◌-◌, ℕ, List, [], Some, OnOk, OnErr, option_map};
+ghost use Rattle.std.specs.Prelude.{◌≡◌, ◌≢◌, ◌<◌, ◌^◌, ◌-◌, ℕ, List, [], ◌∷◌, ◌++◌, Some, OnOk, OnErr, option_map, nat_eq};
+ghost use Rattle.std.specs.Cmp.Lexicographic.{pointwise};
+ghost use Rattle.std.specs.Map.{lookup, remove_entry};
 ghost use Rattle.tree_paths.specs.Listing.{Listing, entry_at, with_entry};
+ghost use Rattle.tree_nodes.specs.Listed.{listed};
 ghost use Rattle.tree_nodes.specs.LookUp.{number_listed};
 
 use crate::names::is_name;
@@ -26,14 +29,14 @@ pub struct Directory {
 }
 
 impl Model for Directory {
-    ghost use Rattle.std.specs.Prelude.{map};
     ghost use Rattle.tree_paths.specs.Listing.{Listing, IsRising};
+    ghost use Rattle.tree_nodes.specs.Listed.{listed};
 
     ghost Value = { Listing };
 
-    ghost view = { λ a. record { next = a.next; entries = map (λ e. (e.0.items, (e.1.number, e.1.cookie))) a.entries.entries } };
+    ghost view = { λ a. record { next = a.next; entries = listed a.entries.entries } };
 
-    ghost invariant = { λ a. IsRising 3 (map (λ e. (e.0.items, (e.1.number, e.1.cookie))) a.entries.entries) a.next };
+    ghost invariant = { λ a. IsRising 3 (listed a.entries.entries) a.next };
 }
 
 impl Directory {
@@ -77,6 +80,7 @@ impl Directory {
     }
 
     /// Puts a name last, with the next cookie, in place of the entry that it has. Where memory is refused nothing changes.
+    #[tactic(auto, using(crate::proofs::Rising::rising_put))]
     pub fn put(&mut self, name: Vec<u8>, number: u32) -> Result<(), AllocError>
         requires { self.old.next < 2 ^ 32 - 1 }
         ensures ok { OnOk result (self.new ≡ with_entry self.old name.items number) }
@@ -84,11 +88,28 @@ impl Directory {
         ensures others { OnOk result ((q : List ℕ) → q ≢ name.items → entry_at self.new q ≡ entry_at self.old q) }
         ensures err { OnErr result (self.new ≡ self.old) }
     {
-        self.entries.reserve(1)?;
         let cookie = self.next;
-        self.entries.shift_remove(name.as_slice());
-        let _ = self.entries.insert(name, Entry { number, cookie }).unwrap();
+        put_last(&mut self.entries, name, Entry { number, cookie })?;
         self.next = cookie + 1;
         Ok(())
     }
+}
+
+/// Puts an entry last, in place of the one that its name has. Where memory is refused nothing changes.
+fn put_last(
+    entries: &mut IndexMap<Vec<u8>, Entry>,
+    name: Vec<u8>,
+    entry: Entry,
+) -> Result<(), AllocError>
+    ensures ok { OnOk result (listed entries.new.entries
+        ≡ remove_entry (pointwise nat_eq name.items) (listed entries.old.entries) ++ (name.items, (entry.number, entry.cookie)) ∷ []) }
+    ensures here { OnOk result (lookup (pointwise nat_eq name.items) (listed entries.new.entries) ≡ Some (entry.number, entry.cookie)) }
+    ensures others { OnOk result ((q : List ℕ) → q ≢ name.items →
+        lookup (pointwise nat_eq q) (listed entries.new.entries) ≡ lookup (pointwise nat_eq q) (listed entries.old.entries)) }
+    ensures err { OnErr result (listed entries.new.entries ≡ listed entries.old.entries) }
+{
+    entries.reserve(1)?;
+    entries.shift_remove(name.as_slice());
+    let _ = entries.insert(name, entry).unwrap();
+    Ok(())
 }
