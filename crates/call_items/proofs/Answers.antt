@@ -15,12 +15,12 @@ use Rattle.nfs_types.specs.declared.attributes.FileType.TheVariants.{Regular, Di
 use Rattle.nfs_types.specs.declared.attributes.Fattr.{Fattr}
 use Rattle.nfs_types.specs.declared.stat.Stat.{Stat}
 use Rattle.nfs_types.specs.declared.stat.Stat.TheVariants as stats
-use Rattle.tree_paths.specs.Files.{Files}
-use Rattle.tree_effects.specs.Changes.{Effect}
-use Rattle.tree_effects.specs.Procedures.{Figures}
-use Rattle.tree_effects.specs.Reading.{Entry, Page}
-use Rattle.tree_effects.specs.Calls as calls
-use Rattle.tree_effects.specs.Calls.{Call, Answer, told, call_does}
+use Rattle.fs_model.specs.Files.{Files}
+use Rattle.nfs_spec.specs.Changes.{Effect}
+use Rattle.nfs_spec.specs.Procedures.{Figures}
+use Rattle.nfs_spec.specs.Reading.{Entry, Page}
+use Rattle.nfs_spec.specs.Calls as calls
+use Rattle.nfs_spec.specs.Calls.{Call, Answer, told, call_does}
 use Rattle.call_items.specs.Items.{path, status, entry}
 use Rattle.call_items.specs.Texts.{Procedure, procedures, procedure_numbered, entry_value, figures_value, answer_item, answer_text, IsSpelled}
 

@@ -8,11 +8,11 @@ use Rattle.nfs_types.specs.Handle.{fhandle}
 use Rattle.nfs_types.specs.Attributes.{fattr, fattr_value, outcome_value}
 use Rattle.nfs_types.specs.Arguments.{diropargs}
 use Rattle.nfs_types.specs.Results.{attrstat, attrstat_value, diropres, diropres_value}
-use Rattle.tree_effects.specs.Sattr.{Sattr}
-use Rattle.tree_effects.specs.Reading.{Entry}
-use Rattle.tree_effects.specs.Procedures.{Figures}
-use Rattle.tree_effects.specs.Calls as calls
-use Rattle.tree_effects.specs.Calls.{Call, Answer}
+use Rattle.nfs_spec.specs.Sattr.{Sattr}
+use Rattle.nfs_spec.specs.Reading.{Entry}
+use Rattle.nfs_spec.specs.Procedures.{Figures}
+use Rattle.nfs_spec.specs.Calls as calls
+use Rattle.nfs_spec.specs.Calls.{Call, Answer}
 use Rattle.call_items.specs.Items.{sattr, path, sattrargs, readargs, writeargs, createargs, renameargs, linkargs, symlinkargs, readdirargs, readlinkres, readres, status, entry, readdirres, statfsres}
 
 -- ---- arguments

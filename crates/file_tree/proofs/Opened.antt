@@ -3,18 +3,18 @@ use Rattle.std.proofs.Common.{◌≡◌, ℕ, ◌+◌, Bool, true, false, cond, 
 use Rattle.std.specs.Option.{option_map_or}
 use Rattle.std.specs.Ordering.{nat_cmp, eq_by_cmp}
 use Rattle.std.specs.FinMap as finite
-use Rattle.tree_paths.specs.Files.{Regular, Directory, is_directory, parent_of}
-use Rattle.tree_paths.specs.Trees.{IsFileTree}
-use Rattle.tree_paths.proofs.Walks.{some_same, none_some}
-use Rattle.tree_paths.proofs.Counts.{same_number}
-use Rattle.tree_effects.specs.Attributes.{nlink_of}
-use Rattle.tree_effects.specs.Opening.{opening_root, opening_hello, opening_files}
-use Rattle.tree_effects.proofs.Opened.{hello_there, opening_names}
-use Rattle.tree_effects.proofs.OpeningTree.{opening_is_tree}
-use Rattle.tree_nodes.specs.Nodes.{body_in, file_in, node_at, files_of, KeepsParent, IsCounted, AreTree}
-use Rattle.tree_nodes.specs.declared.node.Body as stored
-use Rattle.tree_nodes.specs.declared.node.Body.TheVariants as code
-use Rattle.tree_nodes.specs.declared.node.Node.{Node}
+use Rattle.fs_model.specs.Files.{Regular, Directory, is_directory, parent_of}
+use Rattle.fs_model.specs.Trees.{IsFileTree}
+use Rattle.fs_model.proofs.Walks.{some_same, none_some}
+use Rattle.fs_model.proofs.Counts.{same_number}
+use Rattle.nfs_spec.specs.Attributes.{nlink_of}
+use Rattle.nfs_spec.specs.Opening.{opening_root, opening_hello, opening_files}
+use Rattle.nfs_spec.proofs.Opened.{hello_there, opening_names}
+use Rattle.nfs_spec.proofs.OpeningTree.{opening_is_tree}
+use Rattle.inodes.specs.Nodes.{body_in, file_in, node_at, files_of, KeepsParent, IsCounted, AreTree}
+use Rattle.inodes.specs.declared.node.Body as stored
+use Rattle.inodes.specs.declared.node.Body.TheVariants as code
+use Rattle.inodes.specs.declared.node.Node.{Node}
 
 -- a regular file keeps no directory above
 keeps_none : (b : stored.Body) (bytes : List ℕ) (above : ℕ) → body_in b ≡ Regular bytes → KeepsParent b above

@@ -3,15 +3,15 @@ use Rattle.std.proofs.Common.{◌≡◌, ℕ, Bool, true, false, List, Option, S
 use Rattle.nfs_types.specs.Caller.{Caller}
 use Rattle.nfs_types.specs.declared.stat.Stat.{Stat}
 use Rattle.nfs_types.specs.declared.stat.Stat.TheVariants as stats
-use Rattle.tree_paths.specs.Listing.{entry_at}
-use Rattle.tree_paths.specs.Names.{dot_dot, is_name}
-use Rattle.tree_paths.specs.Files.{Body, Regular, Link, Directory, File, Files, file_at, listing_in, is_directory, places, parent_of}
-use Rattle.tree_paths.specs.Trees.{IsFileTree}
-use Rattle.tree_paths.proofs.Walks.{step_last}
-use Rattle.tree_paths.proofs.Parents.{parent_path}
-use Rattle.tree_effects.specs.Checks.{◌>>=◌, found_or, listing_or, may_search}
-use Rattle.tree_effects.specs.Effects.{number_named, number_at_name}
-use Rattle.tree_effects.proofs.Lookups.{plain_name}
+use Rattle.fs_model.specs.Listing.{entry_at}
+use Rattle.fs_model.specs.Names.{dot_dot, is_name}
+use Rattle.fs_model.specs.Files.{Body, Regular, Link, Directory, File, Files, file_at, listing_in, is_directory, places, parent_of}
+use Rattle.fs_model.specs.Trees.{IsFileTree}
+use Rattle.fs_model.proofs.Walks.{step_last}
+use Rattle.fs_model.proofs.Parents.{parent_path}
+use Rattle.nfs_spec.specs.Checks.{◌>>=◌, found_or, listing_or, may_search}
+use Rattle.nfs_spec.specs.Effects.{number_named, number_at_name}
+use Rattle.nfs_spec.proofs.Lookups.{plain_name}
 use Rattle.file_tree.specs.LookUps.{LeadsOn, LeadsBack}
 
 module _ (w : Files) (who : Caller) (dir : ℕ) (name : List ℕ) where

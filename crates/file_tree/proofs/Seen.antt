@@ -6,17 +6,17 @@ use Rattle.std.specs.BTreeMap.{is_at}
 use Rattle.std.specs.FinMap as finite
 use Rattle.nfs_types.specs.Caller.{Caller}
 use Rattle.nfs_types.specs.declared.stat.Stat.TheVariants as stats
-use Rattle.tree_paths.specs.Files.{File, Files, file_at, parent_of}
-use Rattle.tree_paths.specs.Trees.{IsBody}
-use Rattle.tree_effects.specs.Checks.{◌>>=◌, found_or, listing_or, may_search}
-use Rattle.tree_effects.specs.Attributes.{attributes_of}
-use Rattle.tree_effects.specs.Effects.{attributes_at, number_named, number_at_name}
-use Rattle.tree_nodes.specs.LookUp.{number_listed}
-use Rattle.tree_nodes.specs.Nodes.{body_in, file_in, node_at, files_of, parent_in, KeepsParent, AreTree, fattr_of}
-use Rattle.tree_nodes.specs.NodeLookUp.{number_in}
-use Rattle.tree_nodes.specs.declared.node.Body as stored
-use Rattle.tree_nodes.specs.declared.node.Body.TheVariants as code
-use Rattle.tree_nodes.specs.declared.node.Node.{Node}
+use Rattle.fs_model.specs.Files.{File, Files, file_at, parent_of}
+use Rattle.fs_model.specs.Trees.{IsBody}
+use Rattle.nfs_spec.specs.Checks.{◌>>=◌, found_or, listing_or, may_search}
+use Rattle.nfs_spec.specs.Attributes.{attributes_of}
+use Rattle.nfs_spec.specs.Effects.{attributes_at, number_named, number_at_name}
+use Rattle.inodes.specs.LookUp.{number_listed}
+use Rattle.inodes.specs.Nodes.{body_in, file_in, node_at, files_of, parent_in, KeepsParent, AreTree, fattr_of}
+use Rattle.inodes.specs.NodeLookUp.{number_in}
+use Rattle.inodes.specs.declared.node.Body as stored
+use Rattle.inodes.specs.declared.node.Body.TheVariants as code
+use Rattle.inodes.specs.declared.node.Node.{Node}
 
 find_seen : (es : List (ℕ × Node)) (n : ℕ) → finite.find nat_cmp n (map (λ (e : ℕ × Node). (e.0, file_in e.1)) es) ≡ option_map file_in (node_at es n)
 find_seen [] n = refl

@@ -1,12 +1,12 @@
 //! The nodes that each server begins with.
 
 ghost use Rattle.std.specs.Prelude.{◌≡◌, IfOk};
-ghost use Rattle.tree_effects.specs.Opening.{first_file, opening_root, opening_hello};
-ghost use Rattle.tree_nodes.specs.Nodes.{body_in, file_in, KeepsParent};
+ghost use Rattle.nfs_spec.specs.Opening.{first_file, opening_root, opening_hello};
+ghost use Rattle.inodes.specs.Nodes.{body_in, file_in, KeepsParent};
 
+use inodes::{Body, Directory, Node};
 use nfs_types::Time;
 use std::alloc::{AllocError, Global};
-use tree_nodes::{Body, Directory, Node};
 
 /// A file of user and group 0 whose times are 0.
 fn first_node(mode: u16, nlink: u32, body: Body) -> Node

@@ -2,19 +2,19 @@
 
 ghost use Rattle.std.specs.Prelude.{◌≡◌, ℕ, List, IfOk, OnOk, IsTrue, Some, None, Err};
 ghost use Rattle.nfs_types.specs.CallerOf.{caller_of};
-ghost use Rattle.tree_paths.specs.Files.{places};
-ghost use Rattle.tree_paths.specs.Names.{is_name, dot_dot};
-ghost use Rattle.tree_paths.specs.Trees.{IsFileTree};
-ghost use Rattle.tree_effects.specs.Effects.{attributes_at, number_at_name};
-ghost use Rattle.tree_effects.specs.Opening.{opening_files};
+ghost use Rattle.fs_model.specs.Files.{places};
+ghost use Rattle.fs_model.specs.Names.{is_name, dot_dot};
+ghost use Rattle.fs_model.specs.Trees.{IsFileTree};
+ghost use Rattle.nfs_spec.specs.Effects.{attributes_at, number_at_name};
+ghost use Rattle.nfs_spec.specs.Opening.{opening_files};
 ghost use Rattle.file_tree.specs.LookUps.{LeadsOn, LeadsBack};
 
 use crate::opening::{hello_node, root_node};
+use inodes::Node;
 use nfs_types::{Fattr, Stat, Who};
 use std::alloc::{AllocError, Global};
 use std::collections::BTreeMap;
 use std::marker::Model;
-use tree_nodes::Node;
 
 /// The files of a server under their numbers, of which the root's is 1. A number is never used again.
 #[derive(Drop)]
@@ -25,8 +25,8 @@ pub struct Tree {
 }
 
 impl Model for Tree {
-    ghost use Rattle.tree_paths.specs.Files.{Files, files_code};
-    ghost use Rattle.tree_nodes.specs.Nodes.{files_of, AreTree};
+    ghost use Rattle.fs_model.specs.Files.{Files, files_code};
+    ghost use Rattle.inodes.specs.Nodes.{files_of, AreTree};
 
     ghost Value = { Files };
 

@@ -5,7 +5,7 @@ ghost use Rattle.std.specs.Prelude.{◌≡◌, IfOk, OnErr, IsOk};
 ghost use Rattle.nfs_types.specs.CallerOf.{caller_of};
 ghost use Rattle.nfs_types.specs.Arguments.{arguments_of};
 ghost use Rattle.nfs_types.specs.Results.{results_of, diropres_of};
-ghost use Rattle.tree_effects.specs.Effects.{does, getattr, lookup};
+ghost use Rattle.nfs_spec.specs.Effects.{does, getattr, lookup};
 
 use file_tree::Tree;
 use nfs_types::{DirOpArgs, DirOpOk, Fattr, FileHandle, NfsArgs, NfsResult, Stat, Time, Who};

@@ -17,9 +17,9 @@ use Rattle.nfs_types.specs.Results.{results_text, attrstat, attrstat_value, diro
 use Rattle.nfs_types.specs.declared.attributes.Fattr.{Fattr}
 use Rattle.nfs_types.specs.declared.stat.Stat.{Stat}
 use Rattle.nfs_types.specs.declared.stat.Stat.TheVariants as stats
-use Rattle.tree_paths.specs.Files.{Files}
-use Rattle.tree_effects.specs.Checks.{◌>>=◌, number_of}
-use Rattle.tree_effects.specs.Effects.{does, getattr, attributes_at, number_at_name}
+use Rattle.fs_model.specs.Files.{Files}
+use Rattle.nfs_spec.specs.Checks.{◌>>=◌, number_of}
+use Rattle.nfs_spec.specs.Effects.{does, getattr, attributes_at, number_at_name}
 use Rattle.service.specs.World.{World, at_time}
 use Rattle.service.specs.Replies.{Checked, checked, answered, reply_to, reply_of_call, reply_owed}
 

@@ -1,6 +1,6 @@
 pub use Rattle.nfs_types.specs.Timeval
-pub use Rattle.tree_paths.specs.Files
-pub use Rattle.tree_effects.specs.Opening
+pub use Rattle.fs_model.specs.Files
+pub use Rattle.nfs_spec.specs.Opening
 pub mod World
 pub mod Replies
 pub mod Checks

@@ -11,8 +11,8 @@ use Rattle.nfs_types.specs.Caller.{Caller, nobody}
 use Rattle.nfs_types.specs.Arguments.{Arguments, procedure_at, arguments_at}
 use Rattle.nfs_types.specs.Results.{results_text}
 use Rattle.nfs_types.specs.declared.arguments.NfsProcedure.{NfsProcedure}
-use Rattle.tree_paths.specs.Files.{Files}
-use Rattle.tree_effects.specs.Effects.{does}
+use Rattle.fs_model.specs.Files.{Files}
+use Rattle.nfs_spec.specs.Effects.{does}
 use Rattle.service.specs.World.{World, at_time}
 
 -- ---- the checks of a call, in their order: the first that fails gives the reply's body

@@ -2,8 +2,8 @@
 use Rattle.std.specs.Prelude.{ℕ, List, [], refl}
 use Rattle.std.specs.Coded.{Coded, code_by, coded×, coded_ℕ, coded_list}
 use Rattle.nfs_types.specs.Timeval.{Timeval, timeval_code, later}
-use Rattle.tree_paths.specs.Files.{Files, files_code}
-use Rattle.tree_effects.specs.Opening.{opening_files, epoch}
+use Rattle.fs_model.specs.Files.{Files, files_code}
+use Rattle.nfs_spec.specs.Opening.{opening_files, epoch}
 
 -- the files, the last clock reading, and the mounts as host name and directory, in order
 pub record World : Type 0 where

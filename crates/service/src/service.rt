@@ -7,7 +7,7 @@ ghost use Rattle.rpc.specs.Calls.{IsCallOf, header_of};
 ghost use Rattle.nfs_types.specs.CallerOf.{caller_of};
 ghost use Rattle.nfs_types.specs.Arguments.{arguments_of};
 ghost use Rattle.nfs_types.specs.Results.{results_text};
-ghost use Rattle.tree_effects.specs.Effects.{does};
+ghost use Rattle.nfs_spec.specs.Effects.{does};
 ghost use Rattle.service.specs.World.{opening_world};
 ghost use Rattle.service.specs.Replies.{caller_at, program_at, checked, refusal, answered, reply_to, reply_owed, world_after};
 ghost use Rattle.service.specs.Checks.{who_of, checked_of};

@@ -8,9 +8,9 @@ use Rattle.nfs_types.specs.Arguments.{Arguments, Null, Getattr, Lookup, diroparg
 use Rattle.nfs_types.specs.Results.{results_text}
 use Rattle.nfs_types.specs.declared.arguments.NfsProcedure.{NfsProcedure}
 use Rattle.nfs_types.specs.declared.arguments.NfsProcedure.TheVariants as procedures
-use Rattle.tree_paths.specs.Files.{Files}
-use Rattle.tree_effects.specs.Effects.{does}
-use Rattle.tree_effects.specs.Calls.{Call, call_does}
+use Rattle.fs_model.specs.Files.{Files}
+use Rattle.nfs_spec.specs.Effects.{does}
+use Rattle.nfs_spec.specs.Calls.{Call, call_does}
 use Rattle.call_items.specs.Texts.{call_at, answer_text}
 use Rattle.call_items.specs.Served.{number_of, call_of, call_read}
 use Rattle.call_items.proofs.laws.served_procedures_agree.Goals as goal

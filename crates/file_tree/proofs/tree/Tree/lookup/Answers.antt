@@ -2,8 +2,8 @@ use Rattle.std.proofs.Common.{ℕ, Result, Ok, Err, IfOk, refl, sym, ap, subst, 
 use Rattle.std.specs.Option.{option_copied}
 use Rattle.nfs_types.specs.CallerOf.{caller_of}
 use Rattle.nfs_types.specs.declared.stat.Stat.{Stat}
-use Rattle.tree_paths.specs.Trees.{IsFileTree}
-use Rattle.tree_effects.specs.Effects.{number_at_name}
+use Rattle.fs_model.specs.Trees.{IsFileTree}
+use Rattle.nfs_spec.specs.Effects.{number_at_name}
 use Rattle.file_tree.proofs.Seen.{number_none, number_some}
 use Rattle.file_tree.proofs.Paths.{at_name, leads_on, leads_back}
 use Rattle.file_tree.proofs.tree.Tree.lookup.Goals as goal

@@ -1,7 +1,7 @@
 use Rattle.std.proofs.Common.{sym, ap, subst, ◌∙◌}
 use Rattle.std.specs.Ordering.{nat_cmp}
 use Rattle.std.specs.BTreeMap.{insert_entry}
-use Rattle.tree_nodes.specs.Nodes.{AreTree}
+use Rattle.inodes.specs.Nodes.{AreTree}
 use Rattle.file_tree.proofs.Opened.{opening_nodes}
 use Rattle.file_tree.proofs.tree.Tree.opening.Goals as goal
 

@@ -1,5 +1,0 @@
-use Rattle.call_checks.proofs.Changing.{of_remove_dir}
-use Rattle.call_checks.proofs.laws.stats_of_remove_dir.Goals as goal
-
-pub returns : goal.returns
-returns c = λ w who now dir name tree. (of_remove_dir w tree who now dir name).says

@@ -1,5 +1,0 @@
-use Rattle.call_checks.proofs.Renaming.{of_rename}
-use Rattle.call_checks.proofs.laws.stats_of_rename.Goals as goal
-
-pub returns : goal.returns
-returns c = λ w who now from from_name to to_name tree. (of_rename w tree who now from from_name to to_name).says

@@ -1,9 +1,0 @@
-pub use Rattle.nfs_types.specs.Timeval
-pub use Rattle.nfs_types.specs.Caller
-pub use Rattle.tree_paths.specs.Files
-pub use Rattle.tree_paths.specs.Trees
-pub use Rattle.tree_effects.specs.Sattr
-pub use Rattle.tree_effects.specs.Procedures
-pub use Rattle.tree_effects.specs.Calls
-pub mod Checks
-pub mod Tables

@@ -1,5 +1,0 @@
-use Rattle.call_frames.proofs.Doing.{did}
-use Rattle.call_frames.proofs.laws.calls_change_what_they_name.Goals as goal
-
-pub returns : goal.returns
-returns c w who now call tree not = did w who now tree call not

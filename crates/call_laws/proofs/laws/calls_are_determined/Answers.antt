@@ -1,5 +1,0 @@
-use Rattle.call_laws.proofs.Determined.{determined}
-use Rattle.call_laws.proofs.laws.calls_are_determined.Goals as goal
-
-pub returns : goal.returns
-returns c = determined

@@ -1,5 +1,0 @@
-use Rattle.call_laws.proofs.Stays.{refusals}
-use Rattle.call_laws.proofs.laws.refusals_leave_files.Goals as goal
-
-pub returns : goal.returns
-returns c = refusals

@@ -1,0 +1,8 @@
+pub use Rattle.nfs_types.specs.Timeval
+pub use Rattle.fs_model.specs.Listing
+pub use Rattle.fs_model.specs.Paths
+pub use Rattle.fs_model.specs.Names
+pub use Rattle.fs_model.specs.Files
+pub use Rattle.fs_model.specs.Trees
+pub mod Edits
+pub mod Limits

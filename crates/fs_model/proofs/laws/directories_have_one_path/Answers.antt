@@ -1,0 +1,5 @@
+use Rattle.fs_model.proofs.OnePath.{one_path}
+use Rattle.fs_model.proofs.laws.directories_have_one_path.Goals as goal
+
+pub returns : goal.returns
+returns c = one_path

@@ -1,0 +1,5 @@
+use Rattle.fs_model.proofs.Told.{told}
+use Rattle.fs_model.proofs.laws.files_are_told_by_paths.Goals as goal
+
+pub returns : goal.returns
+returns c = λ one other tree tree' fsid next paths files. told one other tree tree' paths files fsid next

@@ -1,0 +1,5 @@
+use Rattle.fs_model.proofs.Walks.{walk_apart}
+use Rattle.fs_model.proofs.laws.walks_change_where_they_pass.Goals as goal
+
+pub returns : goal.returns
+returns c = walk_apart

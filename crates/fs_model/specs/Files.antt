@@ -1,0 +1,117 @@
+-- The files of a server, as its callers see them: a map from numbers to files. The map from paths is read off it
+-- by walks. Kind, nlink, size, blocks, fsid and fileid are told by these, so that one world has one text.
+use Rattle.std.specs.Prelude.{◌≡◌, ℕ, ◌==◌, Bool, true, false, List, [], sum_by, find, nat_lt, Option, Some, option_map, option_and_then, if◌then◌else◌, refl}
+use Rattle.std.specs.Option.{option_map_or}
+use Rattle.std.specs.Ordering.{nat_cmp}
+use Rattle.std.specs.FinMap as finite
+use Rattle.std.specs.Coded.{Coded, code_by, coded×, coded⊎, coded_ℕ, coded_list}
+use Rattle.std.proofs.Common.{inl, inr, ◌⊎◌}
+use Rattle.nfs_types.specs.Timeval.{Timeval, timeval_code}
+use Rattle.fs_model.specs.Listing.{Listing, entry_at}
+
+-- what a file holds: bytes, a target, or the names of a directory
+pub data Body : Type 0 where
+  Regular : List ℕ → Body
+  Link : List ℕ → Body
+  Directory : Listing → Body
+
+-- a file: the twelve kept bits of its mode, its owner, its group, its times, and what it holds
+pub record File : Type 0 where
+  pub mode : ℕ
+  pub uid : ℕ
+  pub gid : ℕ
+  pub atime : Timeval
+  pub mtime : Timeval
+  pub ctime : Timeval
+  pub body : Body
+
+-- the node's number, the next file number, and the files by their numbers
+pub record Files : Type 0 where
+  pub fsid : ℕ
+  pub next : ℕ
+  pub files : finite.FinMap nat_cmp File
+
+-- ---- codes, by which a proof tells values apart
+
+abbrev pub BodyParts : Type 0
+BodyParts = List ℕ ⊎ (List ℕ ⊎ (ℕ × List (List ℕ × (ℕ × ℕ))))
+
+abbrev pub body_parts : Body → BodyParts
+body_parts (Regular bytes) = inl bytes
+body_parts (Link target) = inr (inl target)
+body_parts (Directory l) = inr (inr (l.next, l.entries))
+
+abbrev pub body_from : BodyParts → Body
+body_from (inl bytes) = Regular bytes
+body_from (inr (inl target)) = Link target
+body_from (inr (inr p)) = Directory (record { next = p.0; entries = p.1 })
+
+pub body_back : (b : Body) → body_from (body_parts b) ≡ b
+body_back (Regular bytes) = refl
+body_back (Link target) = refl
+body_back (Directory l) = refl
+
+abbrev pub body_code : Coded Body
+body_code = code_by BodyParts (coded⊎ (coded_list coded_ℕ) (coded⊎ (coded_list coded_ℕ) (coded× coded_ℕ (coded_list (coded× (coded_list coded_ℕ) (coded× coded_ℕ coded_ℕ)))))) body_parts body_from body_back
+
+abbrev pub file_code : Coded File
+file_code =
+    code_by (ℕ × (ℕ × (ℕ × (Timeval × (Timeval × (Timeval × Body)))))) (coded× coded_ℕ (coded× coded_ℕ (coded× coded_ℕ (coded× timeval_code (coded× timeval_code (coded× timeval_code body_code))))))
+    (λ f. (f.mode, (f.uid, (f.gid, (f.atime, (f.mtime, (f.ctime, f.body)))))))
+    (λ p. record { mode = p.0; uid = p.1.0; gid = p.1.1.0; atime = p.1.1.1.0; mtime = p.1.1.1.1.0; ctime = p.1.1.1.1.1.0; body = p.1.1.1.1.1.1 }) (λ _. refl)
+
+abbrev pub files_code : Coded Files
+files_code =
+    code_by (ℕ × (ℕ × finite.FinMap nat_cmp File)) (coded× coded_ℕ (coded× coded_ℕ (finite.code coded_ℕ file_code))) (λ w. (w.fsid, (w.next, w.files)))
+    (λ p. record { fsid = p.0; next = p.1.0; files = p.1.1 }) (λ _. refl)
+
+-- ---- what is read off the files
+
+-- the file of a number
+abbrev pub file_at : Files → ℕ → Option File
+file_at w n = finite.get w.files n
+
+-- what a body lists: only a directory lists names
+abbrev pub listing_in : Body → Listing
+listing_in (Regular bytes) = record { next = 0; entries = [] }
+listing_in (Link target) = record { next = 0; entries = [] }
+listing_in (Directory l) = l
+
+abbrev pub is_directory : Body → Bool
+is_directory (Regular bytes) = false
+is_directory (Link target) = false
+is_directory (Directory l) = true
+
+abbrev pub listing : Files → ℕ → Listing
+listing w n = option_map_or (λ f. listing_in f.body) (file_at w n) (record { next = 0; entries = [] })
+
+abbrev pub IsDirectory : Files → ℕ → Type 0
+IsDirectory w n = option_map (λ f. is_directory f.body) (file_at w n) ≡ Some true
+
+-- what a number has at a name: a file number, and a cookie
+abbrev pub places : Files → ℕ → List ℕ → Option (ℕ × ℕ)
+places w n name = option_and_then (λ f. entry_at (listing_in f.body) name) (file_at w n)
+
+-- 1 where an entry names the number, else 0
+abbrev pub one_if : ℕ → List ℕ × (ℕ × ℕ) → ℕ
+one_if n entry = if entry.1.0 == n then 1 else 0
+
+-- how many names a file has for a number, and how many there are in all
+abbrev pub names_in : ℕ → File → ℕ
+names_in n f = sum_by (one_if n) (listing_in f.body).entries
+
+abbrev pub names_of : Files → ℕ → ℕ
+names_of w n = sum_by (names_in n) (finite.values w.files)
+
+-- the number of the directory that names a directory; the root's is the root
+abbrev pub parent_of : Files → ℕ → ℕ
+parent_of w n = if n == 1 then 1 else option_map_or (λ e. e.0) (find (λ e. nat_lt 0 (names_in n e.1)) (finite.entries w.files)) 1
+
+-- a file without the names that it lists
+abbrev pub nameless_body : Body → Body
+nameless_body (Regular bytes) = Regular bytes
+nameless_body (Link target) = Link target
+nameless_body (Directory l) = Directory (record { next = l.next; entries = [] })
+
+abbrev pub nameless : File → File
+nameless f = record { mode = f.mode; uid = f.uid; gid = f.gid; atime = f.atime; mtime = f.mtime; ctime = f.ctime; body = nameless_body f.body }

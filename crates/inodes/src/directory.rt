@@ -1,0 +1,115 @@
+//! A directory: names in order of insertion.
+
+ghost use Rattle.std.specs.Prelude.{◌≡◌, ◌≢◌, ◌<◌, ◌^◌, ◌-◌, ℕ, List, [], ◌∷◌, ◌++◌, Some, OnOk, OnErr, option_map, nat_eq};
+ghost use Rattle.std.specs.Cmp.Lexicographic.{pointwise};
+ghost use Rattle.std.specs.Map.{lookup, remove_entry};
+ghost use Rattle.fs_model.specs.Listing.{Listing, entry_at, with_entry};
+ghost use Rattle.inodes.specs.Listed.{listed};
+ghost use Rattle.inodes.specs.LookUp.{number_listed};
+
+use crate::names::is_name;
+use indexmap::IndexMap;
+use std::alloc::{AllocError, Global};
+use std::marker::Model;
+
+/// What a name stands for.
+#[derive(Clone, Copy)]
+pub struct Entry {
+    /// The number of the file.
+    pub number: u32,
+    /// The entry's place in the order of insertion, from 3; no two entries that a directory ever had share one.
+    pub cookie: u32,
+}
+
+/// The entries of a directory.
+#[derive(Drop)]
+pub struct Directory {
+    next: u32,
+    entries: IndexMap<Vec<u8>, Entry>,
+}
+
+impl Model for Directory {
+    ghost use Rattle.fs_model.specs.Listing.{Listing, IsRising};
+    ghost use Rattle.inodes.specs.Listed.{listed};
+
+    ghost Value = { Listing };
+
+    ghost view = { λ a. record { next = a.next; entries = listed a.entries.entries } };
+
+    ghost invariant = { λ a. IsRising 3 (listed a.entries.entries) a.next };
+}
+
+impl Directory {
+    /// A directory with no entries, whose first gets cookie 3.
+    pub fn new(alloc: Global) -> Self
+        ensures { result ≡ record { next = 3; entries = [] } }
+    {
+        Directory {
+            next: 3,
+            entries: IndexMap::new(alloc),
+        }
+    }
+
+    /// The cookie that the next entry gets.
+    pub fn next(&self) -> u32
+        ensures { result ≡ self.now.next }
+    {
+        self.next
+    }
+
+    /// The entry with a name.
+    pub fn find(&self, name: &[u8]) -> Option<Entry>
+        ensures { option_map (λ e. (e.number, e.cookie)) result ≡ entry_at self.now name.now }
+    {
+        self.entries.get(name).copied()
+    }
+
+    /// The number that a name stands for in this directory, whose own number and the one above are given.
+    pub fn number_at(&self, own: u32, above: u32, name: &[u8]) -> Option<u32>
+        ensures { result ≡ number_listed own above self.now name.now }
+    {
+        if name == b".".as_slice() {
+            Some(own)
+        } else if name == b"..".as_slice() {
+            Some(above)
+        } else if is_name(name) {
+            self.find(name).map(|entry| entry.number)
+        } else {
+            None
+        }
+    }
+
+    /// Puts a name last, with the next cookie, in place of the entry that it has. Where memory is refused nothing changes.
+    #[tactic(auto, using(crate::proofs::Rising::rising_put))]
+    pub fn put(&mut self, name: Vec<u8>, number: u32) -> Result<(), AllocError>
+        requires { self.old.next < 2 ^ 32 - 1 }
+        ensures ok { OnOk result (self.new ≡ with_entry self.old name.items number) }
+        ensures here { OnOk result (entry_at self.new name.items ≡ Some (number, self.old.next)) }
+        ensures others { OnOk result ((q : List ℕ) → q ≢ name.items → entry_at self.new q ≡ entry_at self.old q) }
+        ensures err { OnErr result (self.new ≡ self.old) }
+    {
+        let cookie = self.next;
+        put_last(&mut self.entries, name, Entry { number, cookie })?;
+        self.next = cookie + 1;
+        Ok(())
+    }
+}
+
+/// Puts an entry last, in place of the one that its name has. Where memory is refused nothing changes.
+fn put_last(
+    entries: &mut IndexMap<Vec<u8>, Entry>,
+    name: Vec<u8>,
+    entry: Entry,
+) -> Result<(), AllocError>
+    ensures ok { OnOk result (listed entries.new.entries
+        ≡ remove_entry (pointwise nat_eq name.items) (listed entries.old.entries) ++ (name.items, (entry.number, entry.cookie)) ∷ []) }
+    ensures here { OnOk result (lookup (pointwise nat_eq name.items) (listed entries.new.entries) ≡ Some (entry.number, entry.cookie)) }
+    ensures others { OnOk result ((q : List ℕ) → q ≢ name.items →
+        lookup (pointwise nat_eq q) (listed entries.new.entries) ≡ lookup (pointwise nat_eq q) (listed entries.old.entries)) }
+    ensures err { OnErr result (listed entries.new.entries ≡ listed entries.old.entries) }
+{
+    entries.reserve(1)?;
+    entries.shift_remove(name.as_slice());
+    let _ = entries.insert(name, entry).unwrap();
+    Ok(())
+}

@@ -1,0 +1,5 @@
+use Rattle.nfs_spec_errors.proofs.Changing.{of_link}
+use Rattle.nfs_spec_errors.proofs.laws.stats_of_link.Goals as goal
+
+pub returns : goal.returns
+returns c = λ w who now from dir name. (of_link w who now from dir name).says

@@ -1,0 +1,5 @@
+use Rattle.nfs_spec_errors.proofs.Changing.{of_remove}
+use Rattle.nfs_spec_errors.proofs.laws.stats_of_remove.Goals as goal
+
+pub returns : goal.returns
+returns c = λ w who now dir name tree. (of_remove w tree who now dir name).says

@@ -1,0 +1,60 @@
+-- Checks in order, each with its stat.
+use Rattle.std.specs.Prelude.{ℕ, Bool, true, false, List, [], ◌∷◌, Option, Some, None, is_some, if◌then◌else◌}
+use Rattle.std.specs.Option.{option_map_or}
+use Rattle.nfs_types.specs.declared.stat.Stat.{Stat}
+use Rattle.nfs_types.specs.declared.stat.Stat.TheVariants as stats
+use Rattle.fs_model.specs.Files as bodies
+use Rattle.fs_model.specs.Files.{Body, File, Files, file_at, is_directory, places}
+
+abbrev pub Checks : Type 0
+Checks = List (Bool × Stat)
+
+-- checks in the order written, each with its stat: the stat of the first that fails
+abbrev pub first_failing : Checks → Option Stat
+first_failing [] = None
+first_failing (c ∷ cs) = if c.0 then first_failing cs else Some c.1
+
+-- the stats that calls are refused with: never IO, NODEV, ROFS, NAMETOOLONG, DQUOT or WFLUSH
+abbrev pub is_ever_given : Stat → Bool
+is_ever_given stats.Io = false
+is_ever_given stats.NoDev = false
+is_ever_given stats.RoFs = false
+is_ever_given stats.NameTooLong = false
+is_ever_given stats.DQuot = false
+is_ever_given stats.WFlush = false
+is_ever_given _ = true
+
+-- ---- what is tested
+
+-- whether a number has a file
+abbrev pub is_there : Files → ℕ → Bool
+is_there w n = is_some (file_at w n)
+
+-- whether a number has a file that passes a test
+abbrev pub holds_at : Files → ℕ → (File → Bool) → Bool
+holds_at w n test = option_map_or test (file_at w n) false
+
+-- whether a name in a directory stands for a file that passes a test
+abbrev pub holds_named : Files → ℕ → List ℕ → (File → Bool) → Bool
+holds_named w dir name test = option_map_or (λ e. holds_at w e.0 test) (places w dir name) false
+
+-- whether what is given passes a test; what is not given does
+abbrev pub given : {A : Type 0} → Option A → (A → Bool) → Bool
+given o test = option_map_or test o true
+
+abbrev pub is_dir : File → Bool
+is_dir f = is_directory f.body
+
+abbrev pub is_link : Body → Bool
+is_link (bodies.Regular bytes) = false
+is_link (bodies.Link target) = true
+is_link (bodies.Directory l) = false
+
+-- the bytes of a number's regular file
+abbrev pub bytes_in : Body → List ℕ
+bytes_in (bodies.Regular bytes) = bytes
+bytes_in (bodies.Link target) = []
+bytes_in (bodies.Directory l) = []
+
+abbrev pub bytes_at : Files → ℕ → List ℕ
+bytes_at w n = option_map_or (λ f. bytes_in f.body) (file_at w n) []

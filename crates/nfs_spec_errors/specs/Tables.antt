@@ -1,0 +1,188 @@
+-- The checks of each procedure of NFS version 2 (RFC 1094, section 2.2), in order, each with its stat. The standard
+-- leaves the choice and the order of stats open.
+use Rattle.std.specs.Prelude.{ℕ, ◌+◌, ◌==◌, ◌||◌, ◌&&◌, not, nat_le, Bool, false, List, [], ◌∷◌, ◌++◌, length, replicate, is_some, is_none, unwrap_or, if◌then◌else◌}
+use Rattle.std.specs.Option.{option_map_or}
+use Rattle.nfs_types.specs.Timeval.{Timeval}
+use Rattle.nfs_types.specs.Caller.{Caller}
+use Rattle.nfs_types.specs.declared.stat.Stat.TheVariants as stats
+use Rattle.fs_model.specs.Names.{is_name}
+use Rattle.fs_model.specs.Files.{Regular, Link, Directory, Files, listing, listing_in, places}
+use Rattle.fs_changes.specs.Edits.{with_changed_file, with_name}
+use Rattle.fs_changes.specs.Limits.{has_room}
+use Rattle.nfs_spec.specs.Attributes.{is_directory_at}
+use Rattle.nfs_spec.specs.Checks.{permits, may_search, may_read, may_write, owns}
+use Rattle.nfs_spec.specs.Effects.{number_named}
+use Rattle.nfs_spec.specs.Sattr.{Wanted, wanted, nothing}
+use Rattle.nfs_spec.specs.Changes.{touch, mark, set, new_file, is_in_group}
+use Rattle.nfs_spec.specs.Procedures.{rewritten, made, is_regular, is_above}
+use Rattle.nfs_spec.specs.Calls as calls
+use Rattle.nfs_spec.specs.Calls.{Call, number_for}
+use Rattle.nfs_spec_errors.specs.Checks.{Checks, is_there, holds_at, holds_named, given, is_dir, is_link, bytes_at}
+
+-- ---- shared
+
+-- a file: STALE
+abbrev pub file_checks : Files → ℕ → Checks
+file_checks w n = (is_there w n, stats.Stale) ∷ []
+
+-- a directory: STALE, then NOTDIR
+abbrev pub directory_checks : Files → ℕ → Checks
+directory_checks w dir = (is_there w dir, stats.Stale) ∷ (is_directory_at w dir, stats.NotDir) ∷ []
+
+-- an edit of a directory: the rule for names, then search and write permission in it, else ACCES
+abbrev pub edit_checks : Files → Caller → ℕ → List ℕ → Checks
+edit_checks w who dir name = (is_name name, stats.Acces) ∷ (holds_at w dir (λ f. may_search who f && may_write who f), stats.Acces) ∷ []
+
+-- ---- each procedure, by file numbers
+
+-- GETATTR (section 2.2.2), STATFS (section 2.2.18): file_checks
+
+-- SETATTR (section 2.2.3): mode or a time by one who is neither owner nor user 0, uid by one who is neither user 0
+-- nor the owner giving the same, gid by one who is neither user 0 nor the owner giving the same or one of its own
+-- groups; and what is asked of a given size
+abbrev pub set_checks : Files → Caller → Timeval → ℕ → Wanted → Checks
+set_checks w who now n a =
+    (is_there w n, stats.Stale)
+    ∷ (holds_at w n (owns who) || (who.uid == 0) || (is_none a.mode && is_none a.atime && is_none a.mtime), stats.Perm)
+    ∷ (given a.uid (λ uid. (who.uid == 0) || holds_at w n (λ f. owns who f && (uid == f.uid))), stats.Perm)
+    ∷ (given a.gid (λ gid. (who.uid == 0) || holds_at w n (λ f. owns who f && ((gid == f.gid) || is_in_group who gid))), stats.Perm)
+    ∷ (given a.size (λ size. not (is_directory_at w n)), stats.IsDir)
+    ∷ (given a.size (λ size. not (holds_at w n (λ f. is_link f.body))), stats.NxIo)
+    ∷ (given a.size (λ size. holds_at w n (may_write who)), stats.Acces)
+    ∷ (given a.size (λ size. nat_le size 1048576), stats.FBig)
+    ∷ (given a.size (λ size. has_room (with_changed_file w n (set now a))), stats.NoSpc)
+    ∷ []
+
+-- LOOKUP (section 2.2.5)
+abbrev pub lookup_checks : Files → Caller → ℕ → List ℕ → Checks
+lookup_checks w who dir name =
+    directory_checks w dir ++ (holds_at w dir (may_search who), stats.Acces) ∷ (is_some (number_named w dir (listing w dir) name), stats.NoEnt) ∷ []
+
+-- READLINK (section 2.2.6)
+abbrev pub read_link_checks : Files → ℕ → Checks
+read_link_checks w n = (is_there w n, stats.Stale) ∷ (holds_at w n (λ f. is_link f.body), stats.NxIo) ∷ []
+
+-- READ (section 2.2.7)
+abbrev pub read_checks : Files → Caller → ℕ → Checks
+read_checks w who n =
+    (is_there w n, stats.Stale)
+    ∷ (not (is_directory_at w n), stats.IsDir)
+    ∷ (not (holds_at w n (λ f. is_link f.body)), stats.NxIo)
+    ∷ (holds_at w n (λ f. may_read who f || permits who f 1), stats.Acces)
+    ∷ []
+
+-- WRITE (section 2.2.9): the last two are asked only of some bytes
+abbrev pub write_checks : Files → Caller → Timeval → ℕ → ℕ → List ℕ → Checks
+write_checks w who now n offset new =
+    (is_there w n, stats.Stale)
+    ∷ (not (is_directory_at w n), stats.IsDir)
+    ∷ (not (holds_at w n (λ f. is_link f.body)), stats.NxIo)
+    ∷ (holds_at w n (may_write who), stats.Acces)
+    ∷ ((length new == 0) || nat_le (offset + length new) 1048576, stats.FBig)
+    ∷ ((length new == 0) || has_room (with_changed_file w n (rewritten now offset new (bytes_at w n))), stats.NoSpc)
+    ∷ []
+
+-- CREATE (section 2.2.10): of a name that is there EXIST unless regular, and then as SETATTR; of a new one write
+-- permission in the directory, and what is asked of a size
+abbrev pub create_checks : Files → Caller → Timeval → ℕ → List ℕ → Wanted → Checks
+create_checks w who now dir name a =
+    directory_checks w dir
+    ++ (is_name name, stats.Acces)
+    ∷ (holds_at w dir (may_search who), stats.Acces)
+    ∷ option_map_or (λ e. (holds_at w e.0 (λ f. is_regular f.body), stats.Exist) ∷ set_checks w who now e.0 a) (places w dir name) (
+    (holds_at w dir (may_write who), stats.Acces)
+    ∷ (given a.size (λ size. nat_le size 1048576), stats.FBig)
+    ∷ (has_room (made now w dir name (new_file who now a 420 (Regular (replicate (unwrap_or a.size 0) 0)))), stats.NoSpc)
+    ∷ []
+    )
+
+-- REMOVE (section 2.2.11)
+abbrev pub remove_checks : Files → Caller → ℕ → List ℕ → Checks
+remove_checks w who dir name =
+    directory_checks w dir ++ edit_checks w who dir name
+    ++ (is_some (places w dir name), stats.NoEnt)
+    ∷ (not (holds_named w dir name is_dir), stats.IsDir)
+    ∷ []
+
+-- whether two names stand for one file
+abbrev pub is_same_file : Files → ℕ → List ℕ → ℕ → List ℕ → Bool
+is_same_file w from from_name to to_name = option_map_or (λ s. option_map_or (λ t. t.0 == s.0) (places w to to_name) false) (places w from from_name) false
+
+-- whether a name stands for a directory that is another, or above it
+abbrev pub is_named_above : Files → ℕ → List ℕ → ℕ → Bool
+is_named_above w dir name lower = holds_named w dir name is_dir && option_map_or (λ e. is_above w e.0 lower) (places w dir name) false
+
+-- RENAME (section 2.2.12): where both names stand for one file, no more is asked
+abbrev pub rename_checks : Files → Caller → ℕ → List ℕ → ℕ → List ℕ → Checks
+rename_checks w who from from_name to to_name =
+    directory_checks w from ++ directory_checks w to
+    ++ edit_checks w who from from_name ++ edit_checks w who to to_name
+    ++ (is_some (places w from from_name), stats.NoEnt)
+    ∷ (if is_same_file w from from_name to to_name then [] else
+    (not (is_named_above w from from_name to), stats.Acces)
+    ∷ (is_none (places w to to_name) || not (holds_named w from from_name is_dir) || holds_named w to to_name is_dir, stats.NotDir)
+    ∷ (is_none (places w to to_name) || holds_named w from from_name is_dir || not (holds_named w to to_name is_dir), stats.IsDir)
+    ∷ (is_none (places w to to_name) || holds_named w to to_name (λ f. length (listing_in f.body).entries == 0), stats.NotEmpty)
+    ∷ (nat_le (listing w to).next 4294967294, stats.NoSpc)
+    ∷ [])
+
+-- LINK (section 2.2.13)
+abbrev pub link_checks : Files → Caller → Timeval → ℕ → ℕ → List ℕ → Checks
+link_checks w who now from dir name =
+    (is_there w from, stats.Stale)
+    ∷ (not (is_directory_at w from), stats.IsDir)
+    ∷ directory_checks w dir ++ edit_checks w who dir name
+    ++ (is_none (places w dir name), stats.Exist)
+    ∷ (has_room (touch now (with_name (mark now w from) dir name from) dir), stats.NoSpc)
+    ∷ []
+
+-- SYMLINK (section 2.2.14)
+abbrev pub symlink_checks : Files → Caller → Timeval → ℕ → List ℕ → List ℕ → Checks
+symlink_checks w who now dir name target =
+    directory_checks w dir ++ edit_checks w who dir name
+    ++ (is_none (places w dir name), stats.Exist)
+    ∷ (has_room (made now w dir name (new_file who now nothing 511 (Link target))), stats.NoSpc)
+    ∷ []
+
+-- MKDIR (section 2.2.15)
+abbrev pub make_dir_checks : Files → Caller → Timeval → ℕ → List ℕ → Wanted → Checks
+make_dir_checks w who now dir name a =
+    directory_checks w dir ++ edit_checks w who dir name
+    ++ (is_none (places w dir name), stats.Exist)
+    ∷ (has_room (made now w dir name (new_file who now a 493 (Directory (record { next = 3; entries = [] })))), stats.NoSpc)
+    ∷ []
+
+-- RMDIR (section 2.2.16)
+abbrev pub remove_dir_checks : Files → Caller → ℕ → List ℕ → Checks
+remove_dir_checks w who dir name =
+    directory_checks w dir ++ edit_checks w who dir name
+    ++ (is_some (places w dir name), stats.NoEnt)
+    ∷ (holds_named w dir name is_dir, stats.NotDir)
+    ∷ (holds_named w dir name (λ f. length (listing_in f.body).entries == 0), stats.NotEmpty)
+    ∷ []
+
+-- READDIR (section 2.2.17)
+abbrev pub read_dir_checks : Files → Caller → ℕ → Checks
+read_dir_checks w who dir = directory_checks w dir ++ (holds_at w dir (may_read who), stats.Acces) ∷ []
+
+-- ---- each call, by file handles
+
+abbrev pub checks_of : Files → Caller → Timeval → Call → Checks
+checks_of w who now calls.Null = []
+checks_of w who now (calls.Getattr file) = file_checks w (number_for w file)
+checks_of w who now (calls.Setattr file s) = set_checks w who now (number_for w file) (wanted now s)
+checks_of w who now calls.Root = []
+checks_of w who now (calls.Lookup dir name) = lookup_checks w who (number_for w dir) name
+checks_of w who now (calls.Readlink file) = read_link_checks w (number_for w file)
+checks_of w who now (calls.Read file offset count) = read_checks w who (number_for w file)
+checks_of w who now calls.Writecache = []
+checks_of w who now (calls.Write file offset new) = write_checks w who now (number_for w file) offset new
+checks_of w who now (calls.Create dir name s) = create_checks w who now (number_for w dir) name (wanted now s)
+checks_of w who now (calls.Remove dir name) = remove_checks w who (number_for w dir) name
+checks_of w who now (calls.Rename from from_name to to_name) = rename_checks w who (number_for w from) from_name (number_for w to) to_name
+checks_of w who now (calls.Link from dir name) = link_checks w who now (number_for w from) (number_for w dir) name
+checks_of w who now (calls.Symlink dir name target s) = symlink_checks w who now (number_for w dir) name target
+checks_of w who now (calls.Mkdir dir name s) = make_dir_checks w who now (number_for w dir) name (wanted now s)
+checks_of w who now (calls.Rmdir dir name) = remove_dir_checks w who (number_for w dir) name
+checks_of w who now (calls.Readdir dir cookie count) = read_dir_checks w who (number_for w dir)
+checks_of w who now (calls.Statfs file) = file_checks w (number_for w file)

@@ -1,0 +1,77 @@
+-- Which files a call names.
+use Rattle.std.specs.Prelude.{◌≡◌, ◌≢◌, ℕ, ◌&&◌, Bool, true, false, List, [], ◌∷◌, ◌++◌, Some, is_none, if◌then◌else◌}
+use Rattle.std.specs.Option.{option_map_or}
+use Rattle.fs_model.specs.Listing.{Listing}
+use Rattle.fs_model.specs.Files.{Body, Regular, Directory, File, Files, file_at, places}
+use Rattle.fs_model.specs.Files as bodies
+use Rattle.nfs_spec.specs.Calls.{Call, Setattr, Write, Create, Remove, Rename, Link, Symlink, Mkdir, Rmdir, Answer, number_for}
+use Rattle.nfs_spec_laws.specs.Laws.{refusal_in}
+
+-- a number is none of these
+abbrev pub IsNoneOf : ℕ → List ℕ → Type 0
+IsNoneOf n [] = Unit {0}
+IsNoneOf n (m ∷ ms) = (n ≢ m) × IsNoneOf n ms
+
+-- what a name stands for, if it stands for anything
+abbrev pub named_at : Files → ℕ → List ℕ → List ℕ
+named_at w dir name = option_map_or (λ e. e.0 ∷ []) (places w dir name) []
+
+-- the numbers of the files that a call names: of SETATTR and WRITE the file; of CREATE the file that is there, else
+-- the directory and the new number; of MKDIR and SYMLINK the directory and the new number; of LINK the file and the
+-- directory; of REMOVE and RMDIR the directory and what the name stands for; of RENAME both directories and what
+-- both names stand for; of the others none
+abbrev pub named_by : Files → Call → List ℕ
+named_by w (Setattr file s) = number_for w file ∷ []
+named_by w (Write file offset new) = number_for w file ∷ []
+named_by w (Create dir name s) = option_map_or (λ e. e.0 ∷ []) (places w (number_for w dir) name) (number_for w dir ∷ w.next ∷ [])
+named_by w (Mkdir dir name s) = number_for w dir ∷ w.next ∷ []
+named_by w (Symlink dir name target s) = number_for w dir ∷ w.next ∷ []
+named_by w (Link from dir name) = number_for w from ∷ number_for w dir ∷ []
+named_by w (Remove dir name) = number_for w dir ∷ named_at w (number_for w dir) name
+named_by w (Rmdir dir name) = number_for w dir ∷ named_at w (number_for w dir) name
+named_by w (Rename from from_name to to_name) =
+    number_for w from ∷ number_for w to ∷ named_at w (number_for w from) from_name ++ named_at w (number_for w to) to_name
+named_by w _ = []
+
+-- a call makes a file unless it is refused: CREATE of a name that isn't there, MKDIR and SYMLINK
+abbrev pub makes : Files → Call → Bool
+makes w (Create dir name s) = is_none (places w (number_for w dir) name)
+makes w (Mkdir dir name s) = true
+makes w (Symlink dir name target s) = true
+makes w _ = false
+
+-- one where a call made a file, else none
+abbrev pub files_made : Files → Call → Answer → ℕ
+files_made w call answer = if makes w call && is_none (refusal_in answer) then 1 else 0
+
+-- the numbers of the files whose attributes a call sets: of SETATTR the file, of CREATE the file that is there
+abbrev pub set_by : Files → Call → List ℕ
+set_by w (Setattr file s) = number_for w file ∷ []
+set_by w (Create dir name s) = named_at w (number_for w dir) name
+set_by w _ = []
+
+-- and of those to which it may give other bytes: of WRITE the file too
+abbrev pub written_by : Files → Call → List ℕ
+written_by w (Write file offset new) = number_for w file ∷ []
+written_by w call = set_by w call
+
+-- a file is of the kind that it was, and a link has the target that it had
+abbrev pub KeepsKind : Body → Body → Type 0
+KeepsKind (Regular bytes) body = (new : List ℕ) × (body ≡ Regular new)
+KeepsKind (bodies.Link target) body = body ≡ bodies.Link target
+KeepsKind (Directory l) body = (new : Listing) × (body ≡ Directory new)
+
+-- mode, owner, group and atime are as they were
+pub record KeepsAttributes (old new : File) : Type 0 where
+  pub mode : new.mode ≡ old.mode
+  pub uid : new.uid ≡ old.uid
+  pub gid : new.gid ≡ old.gid
+  pub atime : new.atime ≡ old.atime
+
+-- the bytes of a regular file are as they were
+abbrev pub KeepsBytes : Body → Body → Type 0
+KeepsBytes old new = (bytes : List ℕ) → old ≡ Regular bytes → new ≡ Regular bytes
+
+-- the file of a number, where it is there before and after, stands so to the one that it was
+abbrev pub KeepsAt : (File → File → Type 0) → Files → Files → ℕ → Type 0
+KeepsAt Kept w w' n = (old new : File) → file_at w n ≡ Some old → file_at w' n ≡ Some new → Kept old new

@@ -1,0 +1,5 @@
+use Rattle.nfs_spec_laws.proofs.Determined.{determined}
+use Rattle.nfs_spec_laws.proofs.laws.calls_are_determined.Goals as goal
+
+pub returns : goal.returns
+returns c = determined

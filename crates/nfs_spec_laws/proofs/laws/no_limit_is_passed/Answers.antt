@@ -1,0 +1,5 @@
+use Rattle.nfs_spec_laws.proofs.Stays.{stays}
+use Rattle.nfs_spec_laws.proofs.laws.no_limit_is_passed.Goals as goal
+
+pub returns : goal.returns
+returns c = λ w who now call tree time bound. (stays now time w tree who call bound).room

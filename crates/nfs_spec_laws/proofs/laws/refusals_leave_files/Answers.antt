@@ -1,0 +1,5 @@
+use Rattle.nfs_spec_laws.proofs.Stays.{refusals}
+use Rattle.nfs_spec_laws.proofs.laws.refusals_leave_files.Goals as goal
+
+pub returns : goal.returns
+returns c = refusals

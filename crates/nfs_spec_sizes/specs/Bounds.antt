@@ -1,0 +1,39 @@
+-- Files whose attributes fit in words.
+use Rattle.std.specs.Prelude.{◌≡◌, ℕ, ◌<◌, ◌^◌, Some}
+use Rattle.nfs_types.specs.Timeval.{Timeval}
+use Rattle.nfs_types.specs.Caller.{Caller}
+use Rattle.fs_model.specs.Files.{File, Files, file_at}
+use Rattle.nfs_spec.specs.Sattr.{Sattr}
+use Rattle.nfs_spec.specs.Calls.{Call, Setattr, Create, Mkdir}
+
+-- owner, group and seconds of a file are words
+pub record HasWords (f : File) : Type 0 where
+  pub uid : f.uid < 2 ^ 32
+  pub gid : f.gid < 2 ^ 32
+  pub atime : f.atime.seconds < 2 ^ 32
+  pub mtime : f.mtime.seconds < 2 ^ 32
+  pub ctime : f.ctime.seconds < 2 ^ 32
+
+-- so is the server's number, and so are those of each file
+pub record AreWords (w : Files) : Type 0 where
+  pub fsid : w.fsid < 2 ^ 32
+  pub files : (n : ℕ) (f : File) → file_at w n ≡ Some f → HasWords f
+
+-- owner, group and seconds that a sattr gives are words
+pub record AsksWords (s : Sattr) : Type 0 where
+  pub uid : s.uid < 2 ^ 32
+  pub gid : s.gid < 2 ^ 32
+  pub atime : s.atime.seconds < 2 ^ 32
+  pub mtime : s.mtime.seconds < 2 ^ 32
+
+-- what a caller says of itself and asks is words
+pub record SaysWords (who : Caller) (now : Timeval) : Type 0 where
+  pub uid : who.uid < 2 ^ 32
+  pub gid : who.gid < 2 ^ 32
+  pub seconds : now.seconds < 2 ^ 32
+
+abbrev pub HasWordsIn : Call → Type 0
+HasWordsIn (Setattr file s) = AsksWords s
+HasWordsIn (Create dir name s) = AsksWords s
+HasWordsIn (Mkdir dir name s) = AsksWords s
+HasWordsIn _ = Unit {0}

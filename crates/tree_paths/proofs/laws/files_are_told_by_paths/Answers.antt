@@ -1,5 +1,0 @@
-use Rattle.tree_paths.proofs.Told.{told}
-use Rattle.tree_paths.proofs.laws.files_are_told_by_paths.Goals as goal
-
-pub returns : goal.returns
-returns c = λ one other tree tree' fsid next paths files. told one other tree tree' paths files fsid next
