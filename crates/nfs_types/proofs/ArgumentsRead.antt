@@ -1,62 +1,51 @@
--- Arguments that were read are spelled so, and the other way round.
-use Rattle.std.proofs.Common.{◌≡◌, ℕ, List, ◌++◌, Result, Ok, Err, refl, sym, ap, subst, ◌∙◌}
-use Rattle.std.specs.Prelude.{IfOk, IsOkAnd}
+-- What reading arguments gives is what their bytes say: found, and nothing else.
+-- Serves: `read_args`, and the law `arguments_are_read_as_spelled`.
+use Rattle.std.proofs.Common.{◌≡◌, ℕ, List, ◌++◌, Ok, Err, sym, ap, ◌∙◌}
+use Rattle.std.specs.Prelude.{◌↔◌, Result, IfOk, IsOkAnd}
 use Rattle.xdr.specs.declared.fault.XdrFault.{XdrFault}
-use Rattle.xdr.specs.Item.{Item, Value, spelling, Fits, IsBytes}
-use Rattle.xdr.specs.Reading.{◌>>=◌, read_at}
+use Rattle.xdr.specs.Item.{Item, Value, IsBytes, spelling}
+use Rattle.xdr.specs.Reading.{Read, ◌>>=◌, read_at}
 use Rattle.xdr.proofs.Front.{bind_ok, done, ok_is}
 use Rattle.xdr.proofs.Exact.{takes, again}
-use Rattle.nfs_types.specs.Handle.{fhandle}
-use Rattle.nfs_types.specs.Arguments.{Arguments, Null, Getattr, Lookup, diropargs, procedure_of, arguments_text, AreArguments, arguments_at, arguments_of, GivesArguments, BeginsWithArguments}
+use Rattle.nfs_types.specs.Calls.{Call}
+use Rattle.nfs_types.specs.Texts.{Procedure, procedure_of, said, call_at, SaysCall}
+use Rattle.nfs_types.specs.Arguments.{call_of, GivesCall}
 use Rattle.nfs_types.specs.declared.arguments.NfsProcedure.{NfsProcedure}
-use Rattle.nfs_types.specs.declared.arguments.NfsProcedure.TheVariants as procedures
 use Rattle.nfs_types.specs.declared.arguments.NfsArgs.{NfsArgs}
 
--- bytes are arguments of a procedure and what follows them
-pub record AreRead (procedure : NfsProcedure) (bytes : List ℕ) (x : Arguments × List ℕ) : Type 0 where
-  pub procedure_is : procedure_of x.0 ≡ procedure
-  pub fits : AreArguments x.0
-  pub parts : bytes ≡ arguments_text x.0 ++ x.1
+module _ (procedure : NfsProcedure) (bytes : List ℕ) where
+  abbrev p : Procedure
+  p = procedure_of procedure
 
--- one item, whose value makes the arguments
-of_item : (procedure : NfsProcedure) (a : Item) (make : Value a → Arguments) (bytes : List ℕ) (x : Arguments × List ℕ)
-    → ((v : Value a) → procedure_of (make v) ≡ procedure) → ((v : Value a) → Fits a v → AreArguments (make v)) → ((v : Value a) → arguments_text (make v) ≡ spelling a v)
-    → IsBytes bytes → (read_at a bytes >>= λ y. done (make y.0, y.1)) ≡ Ok x → AreRead procedure bytes x
-of_item procedure a make bytes x same fits text bound e =
-    let p = bind_ok (read_at a bytes) (λ y. done (make y.0, y.1)) x e in
-    let t = takes a bytes p.0 bound p.1 in
-    let P : Arguments × List ℕ → Type 0 = AreRead procedure bytes in
-    subst P (ok_is (make p.0.0, p.0.1) x p.2) (record { procedure_is = same p.0.0; fits = fits p.0.0 t.1; parts = t.0.parts ∙ ap (λ (front : List ℕ). front ++ p.0.1) (sym (text p.0.0)) })
+  -- a call that was read is said by the bytes
+  pub read_is_said : (rest : List ℕ) (call : Call) → IsBytes bytes → call_at procedure bytes ≡ Ok (call, rest) → SaysCall procedure bytes call rest
+  read_is_said rest call bound e =
+      let r = bind_ok (read_at p.arguments bytes) (λ x. done (p.says x.0, x.1)) (call, rest) e in
+      let t = takes p.arguments bytes r.0 bound r.1 in
+      let both = ok_is (p.says r.0.0, r.0.1) (call, rest) r.2 in
+      (r.0.0, t.1, sym (ap (λ (x : Call × List ℕ). x.0) both), t.0.parts ∙ ap (λ (x : Call × List ℕ). spelling p.arguments r.0.0 ++ x.1) both)
 
-pub arguments_take : (procedure : NfsProcedure) (bytes : List ℕ) (x : Arguments × List ℕ) → IsBytes bytes → arguments_at procedure bytes ≡ Ok x → AreRead procedure bytes x
-arguments_take procedures.Null bytes x bound e =
-    let P : Arguments × List ℕ → Type 0 = AreRead procedures.Null bytes in
-    subst P (ok_is (Null, bytes) x e) (record { procedure_is = refl; fits = tt; parts = refl })
-arguments_take procedures.Getattr bytes x bound e = of_item _ fhandle Getattr bytes x (λ _. refl) (λ _ h. h) (λ _. refl) bound e
-arguments_take procedures.Lookup bytes x bound e = of_item _ diropargs (λ v. Lookup v.0 v.1) bytes x (λ _. refl) (λ _ h. h) (λ _. refl) bound e
+  -- a call that the bytes say is read
+  pub said_is_read : (rest : List ℕ) (call : Call) → SaysCall procedure bytes call rest → call_at procedure bytes ≡ Ok (call, rest)
+  said_is_read rest call s =
+      ap (said p.arguments p.says) s.3
+      ∙ ap (λ (r : Read (Value p.arguments)). r >>= λ x. done (p.says x.0, x.1)) (again p.arguments s.0 rest s.1)
+      ∙ ap (λ (c : Call). done (c, rest)) (sym s.2)
 
-pub arguments_again : (a : Arguments) (rest : List ℕ) → AreArguments a → arguments_at (procedure_of a) (arguments_text a ++ rest) ≡ Ok (a, rest)
-arguments_again Null rest fits = refl
-arguments_again (Getattr file) rest fits = rw (again fhandle file rest fits) refl
-arguments_again (Lookup dir name) rest fits = rw (again diropargs (dir, name) rest fits) refl
+  -- reading is what the bytes say, in both directions
+  pub read_as_said : (rest : List ℕ) (call : Call) → IsBytes bytes → (call_at procedure bytes ≡ Ok (call, rest)) ↔ SaysCall procedure bytes call rest
+  read_as_said rest call bound = (read_is_said rest call bound, said_is_read rest call)
 
-pub what_was_read : (procedure : NfsProcedure) (old : List ℕ) (r : Result NfsArgs XdrFault) (new : List ℕ) → IsBytes old → GivesArguments procedure old r new
-    → IfOk r (λ a. (procedure_of (arguments_of a) ≡ procedure) × AreArguments (arguments_of a) × BeginsWithArguments (arguments_of a) old)
-what_was_read procedure old (Ok a) new bound given = let t = arguments_take procedure old (arguments_of a, new) bound given in (t.procedure_is, t.fits, (new, t.parts))
-what_was_read procedure old (Err e) new bound given = tt
+  -- what was read from bytes is said by them
+  pub given_is_said : (result : Result NfsArgs XdrFault) (new : List ℕ) → IsBytes bytes → GivesCall procedure bytes result new
+      → IfOk result (λ a. (rest : List ℕ) × SaysCall procedure bytes (call_of a) rest)
+  given_is_said (Ok a) new bound given = (new, read_is_said new (call_of a) bound given)
+  given_is_said (Err e) new bound given = tt
 
-pub what_is_read : (procedure : NfsProcedure) (old : List ℕ) (r : Result NfsArgs XdrFault) (new : List ℕ) → GivesArguments procedure old r new
-    → (a : Arguments) → procedure_of a ≡ procedure → AreArguments a → BeginsWithArguments a old → IsOkAnd r (λ x. arguments_of x ≡ a)
-what_is_read procedure old (Ok x) new given a same fits front =
-    let again_a : arguments_at procedure old ≡ done (a, front.0) = rw (← same, front.1) (arguments_again a front.0 fits) in
-    let both = ok_is (arguments_of x, new) (a, front.0) (sym given ∙ again_a) in
-    ap (λ (p : Arguments × List ℕ). p.0) both
-what_is_read procedure old (Err e) new given a same fits front =
-    let again_a : arguments_at procedure old ≡ Ok (a, front.0) = rw (← same, front.1) (arguments_again a front.0 fits) in
-    absurd cc
-
-pub one_meaning : (a b : Arguments) (x y : List ℕ) → procedure_of a ≡ procedure_of b → AreArguments a → AreArguments b → arguments_text a ++ x ≡ arguments_text b ++ y → (a ≡ b) × (x ≡ y)
-one_meaning a b x y same fits fits' e =
-    let first : arguments_at (procedure_of b) (arguments_text b ++ y) ≡ done (a, x) = rw (← same, ← e) (arguments_again a x fits) in
-    let both = ok_is (a, x) (b, y) (sym first ∙ arguments_again b y fits') in
-    (ap (λ (p : Arguments × List ℕ). p.0) both, ap (λ (p : Arguments × List ℕ). p.1) both)
+  -- what bytes say is what was read
+  pub said_is_given : (result : Result NfsArgs XdrFault) (new : List ℕ) → GivesCall procedure bytes result new
+      → (call : Call) (rest : List ℕ) → SaysCall procedure bytes call rest → IsOkAnd result (λ a. call_of a ≡ call)
+  said_is_given (Ok a) new given call rest s =
+      let both = ok_is (call_of a, new) (call, rest) (sym given ∙ said_is_read rest call s) in
+      ap (λ (x : Call × List ℕ). x.0) both
+  said_is_given (Err e) new given call rest s = let e = sym given ∙ said_is_read rest call s in absurd cc

@@ -1,5 +1,1 @@
 pub mod ArgumentsRead
-mod Examples
-pub mod Handles
-pub mod ResultsRead
-pub mod ResultsSaid

@@ -1,74 +1,45 @@
--- Arguments of the procedures (RFC 1094, section 2.2).
-use Rattle.std.specs.Prelude.{◌≡◌, ℕ, List, [], ◌++◌, Option, Some, None, Result, Ok, Err, ◌==◌, if◌then◌else◌}
+-- What the program's arguments say.
+use Rattle.std.specs.Prelude.{◌≡◌, List, ℕ, Result, Ok, Err}
 use Rattle.xdr.specs.declared.fault.XdrFault.{XdrFault}
-use Rattle.xdr.specs.Item.{Item, opaque, pair, Value, spelling, Fits}
-use Rattle.xdr.specs.Reading.{Read, ◌>>=◌, read_at}
-use Rattle.nfs_types.specs.Handle.{fhandle}
+use Rattle.xdr.specs.Item.{Value}
 use Rattle.nfs_types.specs.declared.arguments.NfsProcedure.{NfsProcedure}
-use Rattle.nfs_types.specs.declared.arguments.NfsProcedure.TheVariants as procedures
 use Rattle.nfs_types.specs.declared.arguments.DirOpArgs.{DirOpArgs}
 use Rattle.nfs_types.specs.declared.arguments.NfsArgs.{NfsArgs}
 use Rattle.nfs_types.specs.declared.arguments.NfsArgs.TheVariants as code
-
--- a name: string<MAXNAMLEN> (section 2.3.7)
-abbrev pub filename : Item
-filename = opaque 255
-
--- diropargs (section 2.3.10)
-abbrev pub diropargs : Item
-diropargs = pair fhandle filename
-
--- a procedure with its arguments, without where they lie in memory: a file handle is 32 bytes, a name at most 255
-pub data Arguments : Type 0 where
-  Null : Arguments
-  Getattr : List ℕ → Arguments
-  Lookup : List ℕ → List ℕ → Arguments
-
--- the procedure of a number
-abbrev pub procedure_at : ℕ → Option NfsProcedure
-procedure_at n = if n == 0 then Some procedures.Null else if n == 1 then Some procedures.Getattr else if n == 4 then Some procedures.Lookup else None
-
-abbrev pub procedure_of : Arguments → NfsProcedure
-procedure_of Null = procedures.Null
-procedure_of (Getattr file) = procedures.Getattr
-procedure_of (Lookup dir name) = procedures.Lookup
-
--- the one spelling of a procedure's arguments
-abbrev pub arguments_text : Arguments → List ℕ
-arguments_text Null = []
-arguments_text (Getattr file) = spelling fhandle file
-arguments_text (Lookup dir name) = spelling diropargs (dir, name)
-
--- what has a spelling
-abbrev pub AreArguments : Arguments → Type 0
-AreArguments Null = Unit {0}
-AreArguments (Getattr file) = Fits fhandle file
-AreArguments (Lookup dir name) = Fits diropargs (dir, name)
-
--- reading a procedure's arguments from the front, with the first fault that is met
-abbrev pub arguments_at : NfsProcedure → List ℕ → Read Arguments
-arguments_at procedures.Null bytes = Ok (Null, bytes)
-arguments_at procedures.Getattr bytes = read_at fhandle bytes >>= λ x. Ok (Getattr x.0, x.1)
-arguments_at procedures.Lookup bytes = read_at diropargs bytes >>= λ x. Ok (Lookup x.0.0 x.0.1, x.1)
+use Rattle.nfs_types.specs.Items.{diropargs}
+use Rattle.nfs_types.specs.Calls as calls
+use Rattle.nfs_types.specs.Calls.{Call}
+use Rattle.nfs_types.specs.Texts.{call_at}
 
 abbrev pub diropargs_value : DirOpArgs → Value diropargs
 diropargs_value a = (a.dir.0, a.name.now)
 
--- what a value of the program says
-abbrev pub arguments_of : NfsArgs → Arguments
-arguments_of code.Null = Null
-arguments_of (code.Getattr file) = Getattr file.0
-arguments_of (code.Lookup a) = Lookup a.dir.0 a.name.now
+-- the call that a value of the program is
+abbrev pub call_of : NfsArgs → Call
+call_of code.Null = calls.Null
+call_of (code.Getattr file) = calls.Getattr file.0
+call_of (code.Setattr file attributes) = calls.Setattr file.0 attributes
+call_of code.Root = calls.Root
+call_of (code.Lookup a) = calls.Lookup a.dir.0 a.name.now
+call_of (code.Readlink file) = calls.Readlink file.0
+call_of (code.Read file offset count) = calls.Read file.0 offset count
+call_of code.Writecache = calls.Writecache
+call_of (code.Write file offset new) = calls.Write file.0 offset new.now
+call_of (code.Create a attributes) = calls.Create a.dir.0 a.name.now attributes
+call_of (code.Remove a) = calls.Remove a.dir.0 a.name.now
+call_of (code.Rename from to) = calls.Rename from.dir.0 from.name.now to.dir.0 to.name.now
+call_of (code.Link from to) = calls.Link from.0 to.dir.0 to.name.now
+call_of (code.Symlink a target attributes) = calls.Symlink a.dir.0 a.name.now target.now attributes
+call_of (code.Mkdir a attributes) = calls.Mkdir a.dir.0 a.name.now attributes
+call_of (code.Rmdir a) = calls.Rmdir a.dir.0 a.name.now
+call_of (code.Readdir dir cookie count) = calls.Readdir dir.0 cookie count
+call_of (code.Statfs file) = calls.Statfs file.0
 
 -- A call gave what reading gives: the arguments and the bytes after them, or the first fault.
-abbrev pub GivesArguments : NfsProcedure → List ℕ → Result NfsArgs XdrFault → List ℕ → Type 0
-GivesArguments procedure old (Ok a) new = arguments_at procedure old ≡ Ok (arguments_of a, new)
-GivesArguments procedure old (Err e) new = arguments_at procedure old ≡ Err e
+abbrev pub GivesCall : NfsProcedure → List ℕ → Result NfsArgs XdrFault → List ℕ → Type 0
+GivesCall procedure old (Ok a) new = call_at procedure old ≡ Ok (call_of a, new)
+GivesCall procedure old (Err e) new = call_at procedure old ≡ Err e
 
 -- The same where what follows the arguments is ignored.
-abbrev pub ReadsArguments : NfsProcedure → List ℕ → Result NfsArgs XdrFault → Type 0
-ReadsArguments procedure bytes result = (rest : List ℕ) × GivesArguments procedure bytes result rest
-
--- The spelling of arguments stands at the front, and anything behind it.
-abbrev pub BeginsWithArguments : Arguments → List ℕ → Type 0
-BeginsWithArguments a bytes = (rest : List ℕ) × (bytes ≡ arguments_text a ++ rest)
+abbrev pub ReadsCall : NfsProcedure → List ℕ → Result NfsArgs XdrFault → Type 0
+ReadsCall procedure bytes result = (rest : List ℕ) × GivesCall procedure bytes result rest

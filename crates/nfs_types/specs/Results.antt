@@ -1,70 +1,50 @@
--- Results of the procedures (RFC 1094, section 2.2).
-use Rattle.std.specs.Prelude.{ℕ, List, [], ◌++◌, Result, Ok, Err}
-use Rattle.xdr.specs.Item.{Item, word, empty, pair, Value, spelling, Fits}
-use Rattle.nfs_types.specs.Handle.{fhandle}
-use Rattle.nfs_types.specs.Attributes.{fattr, fattr_value, stat_or, stat_value, outcome_value}
-use Rattle.nfs_types.specs.declared.attributes.Fattr.{Fattr}
-use Rattle.nfs_types.specs.declared.stat.Stat.{Stat}
-use Rattle.nfs_types.specs.declared.arguments.NfsProcedure.{NfsProcedure}
-use Rattle.nfs_types.specs.declared.arguments.NfsProcedure.TheVariants as procedures
+-- What the program's results say.
+use Rattle.std.specs.Prelude.{ℕ, ◌<◌, ◌^◌, List, ◌++◌, length, map, Result, Ok, Err}
+use Rattle.std.specs.List.{AllByRecursion}
+use Rattle.xdr.specs.Item.{word, empty, spelling}
+use Rattle.nfs_items.specs.Attributes.{stat_value}
+use Rattle.nfs_items.specs.declared.attributes.Fattr.{Fattr}
+use Rattle.nfs_items.specs.declared.stat.Stat.{Stat}
+use Rattle.nfs_types.specs.declared.results.DirOpOk.{DirOpOk}
+use Rattle.nfs_types.specs.declared.results.ReadOk.{ReadOk}
+use Rattle.nfs_types.specs.declared.results.DirEntry.{DirEntry}
+use Rattle.nfs_types.specs.declared.results.Page as stored
 use Rattle.nfs_types.specs.declared.results.NfsResult.{NfsResult}
 use Rattle.nfs_types.specs.declared.results.NfsResult.TheVariants as code
-use Rattle.nfs_types.specs.declared.results.DirOpOk.{DirOpOk}
+use Rattle.nfs_types.specs.Calls as calls
+use Rattle.nfs_types.specs.Calls.{Answer, Entry, Page, Handle}
 
--- a procedure's results, without where they lie in memory
-pub data Results : Type 0 where
-  Null : Results
-  Attributes : Result Fattr Stat → Results
-  DirOp : Result (List ℕ × Fattr) Stat → Results
+-- an outcome with another result
+abbrev pub outcome_of : {X Y : Type 0} → (X → Y) → Result X Stat → Result Y Stat
+outcome_of view (Ok x) = Ok (view x)
+outcome_of view (Err e) = Err e
 
--- attrstat (section 2.3.9)
-abbrev pub attrstat : Item
-attrstat = stat_or fattr
+abbrev pub entry_of : DirEntry → Entry
+entry_of e = record { fileid = e.fileid; name = e.name.now; cookie = e.cookie }
 
-abbrev pub attrstat_value : Result Fattr Stat → Value attrstat
-attrstat_value = outcome_value fattr fattr_value
+abbrev pub page_of : stored.Page → Page
+page_of p = record { entries = map entry_of p.entries.items; eof = p.eof }
 
--- diropres (section 2.3.11)
-abbrev pub diropres : Item
-diropres = stat_or (pair fhandle fattr)
+abbrev pub dir_op_of : DirOpOk → Handle × Fattr
+dir_op_of x = (x.file.0, x.attributes)
 
-abbrev pub diropres_value : Result (List ℕ × Fattr) Stat → Value diropres
-diropres_value = outcome_value (pair fhandle fattr) (λ x. (x.0, fattr_value x.1))
+abbrev pub bytes_of : ReadOk → Fattr × List ℕ
+bytes_of x = (x.attributes, x.data.now)
 
--- the one spelling of a procedure's results
-abbrev pub results_text : Results → List ℕ
-results_text Null = []
-results_text (Attributes r) = spelling attrstat (attrstat_value r)
-results_text (DirOp r) = spelling diropres (diropres_value r)
+-- the answer that a value of the program is
+abbrev pub answer_of : NfsResult → Answer
+answer_of code.Nothing = calls.Nothing
+answer_of (code.Attributes r) = calls.Attributes r
+answer_of (code.DirOp r) = calls.DirOp (outcome_of dir_op_of r)
+answer_of (code.Target r) = calls.Target (outcome_of (λ t. t.now) r)
+answer_of (code.Bytes r) = calls.Bytes (outcome_of bytes_of r)
+answer_of (code.Status r) = calls.Status r
+answer_of (code.Entries r) = calls.Entries (outcome_of page_of r)
+answer_of (code.Free r) = calls.Free r
 
--- a procedure's own results, which have a spelling
-abbrev pub AreResults : NfsProcedure → Results → Type 0
-AreResults procedures.Null Null = Unit {0}
-AreResults procedures.Getattr (Attributes r) = Fits attrstat (attrstat_value r)
-AreResults procedures.Lookup (DirOp r) = Fits diropres (diropres_value r)
-AreResults _ _ = ⊥
-
-abbrev pub diropres_of : Result DirOpOk Stat → Result (List ℕ × Fattr) Stat
-diropres_of (Ok x) = Ok (x.file.0, x.attributes)
-diropres_of (Err e) = Err e
-
--- what a value of the program says
-abbrev pub results_of : NfsResult → Results
-results_of code.Null = Null
-results_of (code.Attributes r) = Attributes r
-results_of (code.DirOp r) = DirOp (diropres_of r)
-
--- the number of a stat other than OK
-abbrev pub stat_number : Stat → ℕ
-stat_number e = (stat_value empty e).0
-
--- the bytes of an outcome, told by whether there is a result: OK and what is behind it, or the stat alone
-abbrev pub outcome_text : {X : Type 0} → (X → List ℕ) → Result X Stat → List ℕ
-outcome_text text (Ok x) = spelling word 0 ++ text x
-outcome_text text (Err e) = spelling word (stat_number e)
-
--- the bytes of a procedure's results, told by what they are
-abbrev pub results_bytes : Results → List ℕ
-results_bytes Null = []
-results_bytes (Attributes r) = outcome_text (λ a. spelling fattr (fattr_value a)) r
-results_bytes (DirOp r) = outcome_text (λ x. spelling fhandle x.0 ++ spelling fattr (fattr_value x.1)) r
+-- bytes, a target or names are shorter than 2^32 bytes
+abbrev pub HasLengths : Answer → Type 0
+HasLengths (calls.Target (Ok target)) = length target < 2 ^ 32
+HasLengths (calls.Bytes (Ok x)) = length x.1 < 2 ^ 32
+HasLengths (calls.Entries (Ok p)) = AllByRecursion (λ e. length e.name < 2 ^ 32) p.entries
+HasLengths _ = Unit {0}

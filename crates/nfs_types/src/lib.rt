@@ -2,23 +2,12 @@
 #![tactic(auto)]
 
 mod arguments;
-mod attributes;
-mod handle;
-mod laws;
 mod reading;
 mod results;
-mod stat;
-mod time;
-mod who;
-mod writing;
 
 pub use arguments::{DirOpArgs, NfsArgs, NfsProcedure};
-pub use attributes::{Fattr, FileType};
-pub use handle::FileHandle;
-pub use laws::{arguments_have_one_meaning, handles_tell_numbers, results_have_one_meaning};
+pub use nfs_items::{
+    Fattr, FileHandle, FileType, Groups, RawTime, Sattr, Stat, Time, Who, read_credential,
+};
 pub use reading::read_args;
-pub use results::{DirOpOk, NfsResult};
-pub use stat::Stat;
-pub use time::Time;
-pub use who::Who;
-pub use writing::write_result;
+pub use results::{DirEntry, DirOpOk, Figures, NfsResult, Page, ReadOk};

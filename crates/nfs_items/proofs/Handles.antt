@@ -7,7 +7,7 @@ use Rattle.byteorder.specs.Endian.{big_bytes, big_number}
 use Rattle.byteorder.specs.Numbers.{big_from-lt, big_number-reads_back}
 use Rattle.xdr.specs.Item.{IsBytes}
 use Rattle.xdr.proofs.Front.{IsBytes-drop}
-use Rattle.nfs_types.specs.Handle.{handle_of, number_in}
+use Rattle.nfs_items.specs.Handle.{handle_of, number_in}
 
 -- the number that stands in a handle's second four bytes
 number_at : List ℕ → ℕ

@@ -1,5 +1,5 @@
-use Rattle.call_items.proofs.Credentials.{said, spelled, more}
-use Rattle.call_items.proofs.laws.credentials_say_callers.Goals as goal
+use Rattle.nfs_items.proofs.Credentials.{said, spelled, more}
+use Rattle.nfs_items.proofs.laws.credentials_say_callers.Goals as goal
 
 pub returns-clause-said : goal.returns-clause-said
 returns-clause-said c = said

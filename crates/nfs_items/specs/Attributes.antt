@@ -1,12 +1,12 @@
 -- Attributes and stats as items (RFC 1094, section 2.3).
 use Rattle.std.specs.Prelude.{ℕ, Bool, ◌==◌, ◌||◌, nat_le, Result, Ok, Err, if◌then◌else◌}
 use Rattle.xdr.specs.Item.{Item, word, empty, pair, choice, Value}
-use Rattle.nfs_types.specs.Timeval.{timeval, timeval_value}
-use Rattle.nfs_types.specs.declared.attributes.FileType.{FileType}
-use Rattle.nfs_types.specs.declared.attributes.FileType.TheVariants.{Regular, Directory, Link}
-use Rattle.nfs_types.specs.declared.attributes.Fattr.{Fattr}
-use Rattle.nfs_types.specs.declared.stat.Stat.{Stat}
-use Rattle.nfs_types.specs.declared.stat.Stat.TheVariants as stats
+use Rattle.nfs_items.specs.Timeval.{timeval, timeval_value}
+use Rattle.nfs_items.specs.declared.attributes.FileType.{FileType}
+use Rattle.nfs_items.specs.declared.attributes.FileType.TheVariants.{Regular, Directory, Link}
+use Rattle.nfs_items.specs.declared.attributes.Fattr.{Fattr}
+use Rattle.nfs_items.specs.declared.stat.Stat.{Stat}
+use Rattle.nfs_items.specs.declared.stat.Stat.TheVariants as stats
 
 -- ftype (section 2.3.2): NFNON, NFREG, NFDIR, NFBLK, NFCHR and NFLNK are 0 to 5
 abbrev pub ftype : Item

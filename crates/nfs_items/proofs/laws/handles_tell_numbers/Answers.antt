@@ -1,5 +1,5 @@
-use Rattle.nfs_types.proofs.Handles.{number_in-handle_of, number_in-is, handle_of-same}
-use Rattle.nfs_types.proofs.laws.handles_tell_numbers.Goals as goal
+use Rattle.nfs_items.proofs.Handles.{number_in-handle_of, number_in-is, handle_of-same}
+use Rattle.nfs_items.proofs.laws.handles_tell_numbers.Goals as goal
 
 pub returns-clause-given : goal.returns-clause-given
 returns-clause-given c = number_in-handle_of

@@ -3,13 +3,17 @@
 ghost use Rattle.std.specs.Prelude.{◌≡◌};
 
 use byteorder::{BigEndian, ByteOrder};
+use std::alloc::AllocError;
+use xdr::{Reader, Writer, XdrFault};
 
 /// A file handle (RFC 1094, section 2.3.3): 32 bytes that only the server reads.
 #[derive(Clone, Copy, Debug, PartialEq, Eq)]
 pub struct FileHandle(pub [u8; 32]);
 
 impl FileHandle {
-    ghost use Rattle.nfs_types.specs.Handle.{handle_of, number_in};
+    ghost use Rattle.xdr.specs.Reading.{Reads};
+    ghost use Rattle.xdr.specs.Writing.{Writes};
+    ghost use Rattle.nfs_items.specs.Handle.{fhandle, handle_of, number_in};
 
     /// The file handle of a file number on the node fsid.
     #[tactic(auto, unfolding(crate::specs::Handle::handle_of))]
@@ -33,5 +37,19 @@ impl FileHandle {
         } else {
             None
         }
+    }
+
+    /// Reads a file handle from the front, 32 bytes of any kind. After an `Err` (`Short`) the reader is as it was.
+    pub fn read(reader: &mut Reader<'_>) -> Result<FileHandle, XdrFault>
+        ensures { Reads fhandle (λ h. h.0) reader.old result reader.new }
+    {
+        Ok(FileHandle(*reader.fixed::<32>()?))
+    }
+
+    /// Appends the file handle. Where memory is refused, the bytes stay as they were.
+    pub fn write(&self, out: &mut Vec<u8>) -> Result<(), AllocError>
+        ensures { Writes fhandle self.now.0 out.old.items result out.new.items }
+    {
+        out.put_fixed(&self.0)
     }
 }

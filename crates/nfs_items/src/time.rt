@@ -13,7 +13,7 @@ pub struct Time {
 
 impl Model for Time {
     ghost use Rattle.std.specs.Prelude.{◌<◌};
-    ghost use Rattle.nfs_types.specs.Timeval.{Timeval, timeval_code};
+    ghost use Rattle.nfs_items.specs.Timeval.{Timeval, timeval_code};
 
     ghost Value = { Timeval };
 
@@ -27,7 +27,7 @@ impl Model for Time {
 }
 
 impl Time {
-    ghost use Rattle.nfs_types.specs.Timeval.{is_before, later};
+    ghost use Rattle.nfs_items.specs.Timeval.{is_before, later};
 
     /// A time, or none where the microseconds are 1,000,000 or more.
     pub fn new(seconds: u32, microseconds: u32) -> Option<Time>

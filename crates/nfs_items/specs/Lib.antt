@@ -1,0 +1,12 @@
+pub use Rattle.xdr.specs.Item
+pub use Rattle.xdr.specs.Reading
+pub use Rattle.xdr.specs.Writing
+pub use Rattle.xdr.specs.Text
+pub mod Timeval
+pub mod Handle
+pub mod Attributes
+pub mod Sattr
+pub mod Caller
+pub mod CallerOf
+pub mod Credentials
+pub mod CredentialRead

@@ -1,0 +1,67 @@
+//! Attributes of files.
+
+use crate::time::Time;
+use std::alloc::AllocError;
+use xdr::Writer;
+
+/// What a file is (RFC 1094, section 2.3.2, ftype), of the kinds that this server has.
+#[derive(Clone, Copy, Debug, PartialEq, Eq)]
+pub enum FileType {
+    Regular = 1,
+    Directory = 2,
+    Link = 5,
+}
+
+/// The attributes of a file (RFC 1094, section 2.3.5, fattr).
+#[derive(Clone, Copy, Debug, PartialEq, Eq)]
+pub struct Fattr {
+    pub file_type: FileType,
+    /// Type bits and twelve kept bits, of which the low nine are the permissions.
+    pub mode: u32,
+    /// Names of a file or link; two and the subdirectories of a directory.
+    pub nlink: u32,
+    pub uid: u32,
+    pub gid: u32,
+    /// In bytes.
+    pub size: u32,
+    /// In bytes.
+    pub blocksize: u32,
+    pub rdev: u32,
+    /// In units of blocksize, rounded up.
+    pub blocks: u32,
+    pub fsid: u32,
+    pub fileid: u32,
+    pub atime: Time,
+    pub mtime: Time,
+    pub ctime: Time,
+}
+
+impl Fattr {
+    ghost use Rattle.xdr.specs.Writing.{Writes};
+    ghost use Rattle.nfs_items.specs.Attributes.{fattr, fattr_value};
+
+    /// Appends the attributes. Where memory is refused, the bytes stay as they were.
+    pub fn write(&self, out: &mut Vec<u8>) -> Result<(), AllocError>
+        ensures { Writes fattr (fattr_value self.now) out.old.items result out.new.items }
+    {
+        out.put_u32s(&[
+            self.file_type as u32,
+            self.mode,
+            self.nlink,
+            self.uid,
+            self.gid,
+            self.size,
+            self.blocksize,
+            self.rdev,
+            self.blocks,
+            self.fsid,
+            self.fileid,
+            self.atime.seconds(),
+            self.atime.microseconds(),
+            self.mtime.seconds(),
+            self.mtime.microseconds(),
+            self.ctime.seconds(),
+            self.ctime.microseconds(),
+        ])
+    }
+}

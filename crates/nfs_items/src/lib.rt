@@ -1,0 +1,19 @@
+//! The items that calls and answers of NFS version 2 are made of (RFC 1094, section 2.3), and who calls.
+#![tactic(auto)]
+
+mod attributes;
+mod credential;
+mod handle;
+pub mod laws;
+mod sattr;
+mod stat;
+mod time;
+mod who;
+
+pub use attributes::{Fattr, FileType};
+pub use credential::read_credential;
+pub use handle::FileHandle;
+pub use sattr::{RawTime, Sattr};
+pub use stat::Stat;
+pub use time::Time;
+pub use who::{Groups, Who};

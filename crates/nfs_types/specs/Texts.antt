@@ -1,0 +1,112 @@
+-- What bytes say of a call, and the bytes of its answer (RFC 1094, section 2.2).
+use Rattle.std.specs.Prelude.{◌≡◌, ℕ, ◌<◌, ◌^◌, List, [], ◌∷◌, ◌++◌, Option, option_map, Result, Ok, Err, map}
+use Rattle.std.specs.List.{slice_get, AllByRecursion}
+use Rattle.byteorder.specs.Endian.{big_number, big_bytes}
+use Rattle.xdr.specs.Item.{Item, empty, pair, linked, flag, Value, Fits, spelling}
+use Rattle.xdr.specs.Reading.{Read, ◌>>=◌, read_at}
+use Rattle.nfs_items.specs.Handle.{fhandle}
+use Rattle.nfs_items.specs.Attributes.{fattr, fattr_value, outcome_value}
+use Rattle.nfs_items.specs.Sattr.{sattr_of}
+use Rattle.nfs_types.specs.declared.results.Figures.{Figures}
+use Rattle.nfs_types.specs.declared.arguments.NfsProcedure.{NfsProcedure}
+use Rattle.nfs_types.specs.declared.arguments.NfsProcedure.TheVariants as procedures
+use Rattle.nfs_types.specs.Calls as calls
+use Rattle.nfs_types.specs.Calls.{Call, Answer, Entry, Page}
+use Rattle.nfs_types.specs.Items.{nfsdata, path, diropargs, sattrargs, readargs, writeargs, createargs, renameargs, linkargs, symlinkargs, readdirargs, attrstat, diropres, readlinkres, readres, status, entry, readdirres, figures, statfsres}
+
+-- ---- arguments
+
+-- a procedure: the item of its arguments, the call that their value says, and the item of its results
+pub record Procedure : Type 0 where
+  pub arguments : Item
+  pub says : Value arguments → Call
+  pub results : Item
+
+abbrev pub procedure_of : NfsProcedure → Procedure
+procedure_of procedures.Null = record { arguments = empty; says = λ v. calls.Null; results = empty }
+procedure_of procedures.Getattr = record { arguments = fhandle; says = calls.Getattr; results = attrstat }
+procedure_of procedures.Setattr = record { arguments = sattrargs; says = λ v. calls.Setattr v.0 (sattr_of v.1); results = attrstat }
+procedure_of procedures.Root = record { arguments = empty; says = λ v. calls.Root; results = empty }
+procedure_of procedures.Lookup = record { arguments = diropargs; says = λ v. calls.Lookup v.0 v.1; results = diropres }
+procedure_of procedures.Readlink = record { arguments = fhandle; says = calls.Readlink; results = readlinkres }
+procedure_of procedures.Read = record { arguments = readargs; says = λ v. calls.Read v.0 v.1.0 v.1.1.0; results = readres }
+procedure_of procedures.Writecache = record { arguments = empty; says = λ v. calls.Writecache; results = empty }
+procedure_of procedures.Write = record { arguments = writeargs; says = λ v. calls.Write v.0 v.1.1.0 v.1.1.1.1; results = attrstat }
+procedure_of procedures.Create = record { arguments = createargs; says = λ v. calls.Create v.0.0 v.0.1 (sattr_of v.1); results = diropres }
+procedure_of procedures.Remove = record { arguments = diropargs; says = λ v. calls.Remove v.0 v.1; results = status }
+procedure_of procedures.Rename = record { arguments = renameargs; says = λ v. calls.Rename v.0.0 v.0.1 v.1.0 v.1.1; results = status }
+procedure_of procedures.Link = record { arguments = linkargs; says = λ v. calls.Link v.0 v.1.0 v.1.1; results = status }
+procedure_of procedures.Symlink = record { arguments = symlinkargs; says = λ v. calls.Symlink v.0.0 v.0.1 v.1.0 (sattr_of v.1.1); results = status }
+procedure_of procedures.Mkdir = record { arguments = createargs; says = λ v. calls.Mkdir v.0.0 v.0.1 (sattr_of v.1); results = diropres }
+procedure_of procedures.Rmdir = record { arguments = diropargs; says = λ v. calls.Rmdir v.0 v.1; results = status }
+procedure_of procedures.Readdir = record { arguments = readdirargs; says = λ v. calls.Readdir v.0 (big_number 4 v.1.0) v.1.1; results = readdirres }
+procedure_of procedures.Statfs = record { arguments = fhandle; says = calls.Statfs; results = statfsres }
+
+-- the procedures by their numbers, from 0 to 17
+abbrev pub numbered : List NfsProcedure
+numbered =
+    procedures.Null ∷ procedures.Getattr ∷ procedures.Setattr ∷ procedures.Root ∷ procedures.Lookup ∷ procedures.Readlink
+    ∷ procedures.Read ∷ procedures.Writecache ∷ procedures.Write ∷ procedures.Create ∷ procedures.Remove ∷ procedures.Rename
+    ∷ procedures.Link ∷ procedures.Symlink ∷ procedures.Mkdir ∷ procedures.Rmdir ∷ procedures.Readdir ∷ procedures.Statfs ∷ []
+
+-- the procedure of a number
+abbrev pub procedure_at : ℕ → Option NfsProcedure
+procedure_at n = slice_get numbered n
+
+-- an item at the front, and the call that it says
+abbrev pub said : (a : Item) → (Value a → Call) → List ℕ → Read Call
+said a say bytes = read_at a bytes >>= λ x. Ok (say x.0, x.1)
+
+-- the call that the bytes behind a procedure's header say
+abbrev pub call_at : NfsProcedure → List ℕ → Read Call
+call_at procedure bytes = said (procedure_of procedure).arguments (procedure_of procedure).says bytes
+
+-- The spelling of arguments that say a call stands at the front, and the rest behind it. Words that mean nothing may
+-- be any.
+abbrev pub SaysCall : NfsProcedure → List ℕ → Call → List ℕ → Type 0
+SaysCall procedure bytes call rest =
+    (v : Value (procedure_of procedure).arguments) × Fits (procedure_of procedure).arguments v
+    × (call ≡ (procedure_of procedure).says v) × (bytes ≡ spelling (procedure_of procedure).arguments v ++ rest)
+
+-- ---- results
+
+abbrev pub entry_value : Entry → Value entry
+entry_value e = (e.fileid, (e.name, big_bytes 4 e.cookie))
+
+abbrev pub figures_value : Figures → Value figures
+figures_value f = (f.transfer_size, (f.block_size, (f.blocks, (f.free, f.available))))
+
+-- the item of an answer, and its value
+abbrev pub answer_item : Answer → Item
+answer_item calls.Nothing = empty
+answer_item (calls.Attributes r) = attrstat
+answer_item (calls.DirOp r) = diropres
+answer_item (calls.Target r) = readlinkres
+answer_item (calls.Bytes r) = readres
+answer_item (calls.Status r) = status
+answer_item (calls.Entries r) = readdirres
+answer_item (calls.Free r) = statfsres
+
+abbrev pub answer_value : (a : Answer) → Value (answer_item a)
+answer_value calls.Nothing = tt
+answer_value (calls.Attributes r) = outcome_value fattr fattr_value r
+answer_value (calls.DirOp r) = outcome_value (pair fhandle fattr) (λ x. (x.0, fattr_value x.1)) r
+answer_value (calls.Target r) = outcome_value path (λ target. target) r
+answer_value (calls.Bytes r) = outcome_value (pair fattr nfsdata) (λ x. (fattr_value x.0, x.1)) r
+answer_value (calls.Status r) = outcome_value empty (λ x. x) r
+answer_value (calls.Entries r) = outcome_value (pair (linked entry) flag) (λ p. (map entry_value p.entries, p.eof)) r
+answer_value (calls.Free r) = outcome_value figures figures_value r
+
+-- the one spelling of an answer
+abbrev pub answer_text : Answer → List ℕ
+answer_text a = spelling (answer_item a) (answer_value a)
+
+-- the cookies that an answer gives
+abbrev pub cookies_in : Answer → List ℕ
+cookies_in (calls.Entries (Ok p)) = map (λ e. e.cookie) p.entries
+cookies_in _ = []
+
+-- An answer has a spelling: its value fits, and so does each cookie in four bytes.
+pub record IsSpelled (a : Answer) : Type 0 where
+  pub fits : Fits (answer_item a) (answer_value a)
+  pub cookies : AllByRecursion (λ c. c < 2 ^ 32) (cookies_in a)
