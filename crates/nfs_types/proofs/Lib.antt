@@ -1,1 +1,2 @@
+pub mod AnswersSaid
 pub mod ArgumentsRead

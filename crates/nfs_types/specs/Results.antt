@@ -1,8 +1,8 @@
 -- What the program's results say.
-use Rattle.std.specs.Prelude.{ℕ, ◌<◌, ◌^◌, List, ◌++◌, length, map, Result, Ok, Err}
-use Rattle.std.specs.List.{AllByRecursion}
-use Rattle.xdr.specs.Item.{word, empty, spelling}
-use Rattle.nfs_items.specs.Attributes.{stat_value}
+use Rattle.std.specs.Prelude.{ℕ, ◌<◌, ◌^◌, All, List, [], ◌++◌, length, map, Result, Ok, Err}
+use Rattle.xdr.specs.Item.{word, flag, empty, linked, spelling}
+use Rattle.nfs_items.specs.Handle.{fhandle}
+use Rattle.nfs_items.specs.Attributes.{fattr, fattr_value, stat_value}
 use Rattle.nfs_items.specs.declared.attributes.Fattr.{Fattr}
 use Rattle.nfs_items.specs.declared.stat.Stat.{Stat}
 use Rattle.nfs_types.specs.declared.results.DirOpOk.{DirOpOk}
@@ -11,6 +11,8 @@ use Rattle.nfs_types.specs.declared.results.DirEntry.{DirEntry}
 use Rattle.nfs_types.specs.declared.results.Page as stored
 use Rattle.nfs_types.specs.declared.results.NfsResult.{NfsResult}
 use Rattle.nfs_types.specs.declared.results.NfsResult.TheVariants as code
+use Rattle.nfs_types.specs.Items.{path, nfsdata, entry, figures}
+use Rattle.nfs_types.specs.Texts.{entry_value, figures_value}
 use Rattle.nfs_types.specs.Calls as calls
 use Rattle.nfs_types.specs.Calls.{Answer, Entry, Page, Handle}
 
@@ -43,8 +45,28 @@ answer_of (code.Entries r) = calls.Entries (outcome_of page_of r)
 answer_of (code.Free r) = calls.Free r
 
 -- bytes, a target or names are shorter than 2^32 bytes
-abbrev pub HasLengths : Answer → Type 0
-HasLengths (calls.Target (Ok target)) = length target < 2 ^ 32
-HasLengths (calls.Bytes (Ok x)) = length x.1 < 2 ^ 32
-HasLengths (calls.Entries (Ok p)) = AllByRecursion (λ e. length e.name < 2 ^ 32) p.entries
+abbrev pub HasLengths : NfsResult → Type 0
+HasLengths (code.Target (Ok target)) = length target.now < 2 ^ 32
+HasLengths (code.Bytes (Ok x)) = length x.data.now < 2 ^ 32
+HasLengths (code.Entries (Ok p)) = All (λ e. length e.name.now < 2 ^ 32) p.entries.items
 HasLengths _ = Unit {0}
+
+-- the number of a stat other than OK
+abbrev pub stat_number : Stat → ℕ
+stat_number e = (stat_value empty e).0
+
+-- the bytes of an outcome, by whether there is a result: OK and what is behind it, or the stat alone
+abbrev pub outcome_text : {X : Type 0} → (X → List ℕ) → Result X Stat → List ℕ
+outcome_text text (Ok x) = spelling word 0 ++ text x
+outcome_text text (Err e) = spelling word (stat_number e)
+
+-- the bytes of an answer, by what it is
+abbrev pub answer_bytes : NfsResult → List ℕ
+answer_bytes code.Nothing = []
+answer_bytes (code.Attributes r) = outcome_text (λ a. spelling fattr (fattr_value a)) r
+answer_bytes (code.DirOp r) = outcome_text (λ x. spelling fhandle x.file.0 ++ spelling fattr (fattr_value x.attributes)) r
+answer_bytes (code.Target r) = outcome_text (λ t. spelling path t.now) r
+answer_bytes (code.Bytes r) = outcome_text (λ x. spelling fattr (fattr_value x.attributes) ++ spelling nfsdata x.data.now) r
+answer_bytes (code.Status r) = outcome_text (λ x. []) r
+answer_bytes (code.Entries r) = outcome_text (λ p. spelling (linked entry) (map entry_value (map entry_of p.entries.items)) ++ spelling flag p.eof) r
+answer_bytes (code.Free r) = outcome_text (λ f. spelling figures (figures_value f)) r

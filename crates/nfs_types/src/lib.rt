@@ -4,6 +4,7 @@
 mod arguments;
 mod reading;
 mod results;
+mod writing;
 
 pub use arguments::{DirOpArgs, NfsArgs, NfsProcedure};
 pub use nfs_items::{
@@ -11,3 +12,4 @@ pub use nfs_items::{
 };
 pub use reading::read_args;
 pub use results::{DirEntry, DirOpOk, Figures, NfsResult, Page, ReadOk};
+pub use writing::write_result;
