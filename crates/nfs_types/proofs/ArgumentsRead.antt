@@ -1,16 +1,19 @@
 -- What reading arguments gives is what their bytes say: found, and nothing else.
 -- Serves: `read_args`, and the law `arguments_are_read_as_spelled`.
-use Rattle.std.proofs.Common.{◌≡◌, ℕ, List, ◌++◌, Ok, Err, sym, ap, ◌∙◌}
+use Rattle.std.proofs.Common.{◌≡◌, ℕ, ◌<◌, List, ◌++◌, Some, None, Ok, Err, refl, sym, ap, ◌∙◌, arith, ⊎_elim}
 use Rattle.std.specs.Prelude.{◌↔◌, Result, IfOk, IsOkAnd}
+use Rattle.std.proofs.lemmas.Option.{slice_get_past, slice_get-get_or}
+use Rattle.std.proofs.lemmas.Bool.{cases_lt}
 use Rattle.xdr.specs.declared.fault.XdrFault.{XdrFault}
 use Rattle.xdr.specs.Item.{Item, Value, IsBytes, spelling}
 use Rattle.xdr.specs.Reading.{Read, ◌>>=◌, read_at}
 use Rattle.xdr.proofs.Front.{bind_ok, done, ok_is}
 use Rattle.xdr.proofs.Exact.{takes, again}
 use Rattle.nfs_types.specs.Calls.{Call}
-use Rattle.nfs_types.specs.Texts.{Procedure, procedure_of, said, call_at, SaysCall}
+use Rattle.nfs_types.specs.Texts.{Procedure, procedure_of, said, call_at, SaysCall, procedure_in, procedure_at, numbered}
 use Rattle.nfs_types.specs.Arguments.{call_of, GivesCall}
 use Rattle.nfs_types.specs.declared.arguments.NfsProcedure.{NfsProcedure}
+use Rattle.nfs_types.specs.declared.arguments.NfsProcedure.TheVariants as procedures
 use Rattle.nfs_types.specs.declared.arguments.NfsArgs.{NfsArgs}
 
 module _ (procedure : NfsProcedure) (bytes : List ℕ) where
@@ -49,3 +52,59 @@ module _ (procedure : NfsProcedure) (bytes : List ℕ) where
       let both = ok_is (call_of a, new) (call, rest) (sym given ∙ said_is_read rest call s) in
       ap (λ (x : Call × List ℕ). x.0) both
   said_is_given (Err e) new given call rest s = let e = sym given ∙ said_is_read rest call s in absurd cc
+
+-- the fault of a call is that of its item
+pub fault_is : (procedure : NfsProcedure) (bytes : List ℕ) (fault : XdrFault)
+    → (call_at procedure bytes ≡ Err fault) ↔ (read_at (procedure_of procedure).arguments bytes ≡ Err fault)
+fault_is procedure bytes fault = (
+  (λ h. failed (read_at (procedure_of procedure).arguments bytes) h),
+  (λ e. ap (λ (r : Read (Value (procedure_of procedure).arguments)). r >>= λ x. done ((procedure_of procedure).says x.0, x.1)) e),
+)
+  where
+    failed : (r : Read (Value (procedure_of procedure).arguments)) → (r >>= λ x. done ((procedure_of procedure).says x.0, x.1)) ≡ Err fault → r ≡ Err fault
+    failed (Ok x) h = absurd cc
+    failed (Err e) h = cc
+
+-- bytes say one call
+pub one_call : (procedure : NfsProcedure) (bytes x y : List ℕ) (a b : Call) → SaysCall procedure bytes a x → SaysCall procedure bytes b y → (a ≡ b) × (x ≡ y)
+one_call procedure bytes x y a b s t =
+    let both = ok_is (a, x) (b, y) (sym (said_is_read procedure bytes x a s) ∙ said_is_read procedure bytes y b t) in
+    (ap (λ (z : Call × List ℕ). z.0) both, ap (λ (z : Call × List ℕ). z.1) both)
+
+-- a value of a procedure's arguments says a call of that procedure
+own_value : (procedure : NfsProcedure) (v : Value (procedure_of procedure).arguments) → procedure_in ((procedure_of procedure).says v) ≡ procedure
+own_value procedures.Null v = refl
+own_value procedures.Getattr v = refl
+own_value procedures.Setattr v = refl
+own_value procedures.Root v = refl
+own_value procedures.Lookup v = refl
+own_value procedures.Readlink v = refl
+own_value procedures.Read v = refl
+own_value procedures.Writecache v = refl
+own_value procedures.Write v = refl
+own_value procedures.Create v = refl
+own_value procedures.Remove v = refl
+own_value procedures.Rename v = refl
+own_value procedures.Link v = refl
+own_value procedures.Symlink v = refl
+own_value procedures.Mkdir v = refl
+own_value procedures.Rmdir v = refl
+own_value procedures.Readdir v = refl
+own_value procedures.Statfs v = refl
+
+-- bytes behind a procedure's header say calls of it
+pub own_call : (procedure : NfsProcedure) (bytes rest : List ℕ) (call : Call) → SaysCall procedure bytes call rest → procedure_in call ≡ procedure
+own_call procedure bytes rest call s = ap procedure_in s.2 ∙ own_value procedure s.0
+
+-- the numbers of procedures are 0 to 17
+pub no_procedure : (n : ℕ) → (procedure_at n ≡ None) ↔ (17 < n)
+no_procedure n = (
+  (λ h. ⊎_elim
+      (λ small. absurd (never (sym (slice_get-get_or numbered n procedures.Null (omega (arith, small))) ∙ h)))
+      (λ large. omega (arith, large))
+      (cases_lt n 18)),
+  (λ large. slice_get_past numbered n (omega (arith, large))),
+)
+  where
+    never : {A : Type 0} {a : A} → Some a ≡ None → ⊥
+    never h = cc

@@ -1,2 +1,3 @@
+pub mod AnswersRead
 pub mod AnswersSaid
 pub mod ArgumentsRead

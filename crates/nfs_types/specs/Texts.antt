@@ -110,3 +110,46 @@ cookies_in _ = []
 pub record IsSpelled (a : Answer) : Type 0 where
   pub fits : Fits (answer_item a) (answer_value a)
   pub cookies : AllByRecursion (λ c. c < 2 ^ 32) (cookies_in a)
+
+-- an answer of a procedure's results
+abbrev pub IsAnswerTo : NfsProcedure → Answer → Type 0
+IsAnswerTo procedures.Null calls.Nothing = Unit {0}
+IsAnswerTo procedures.Getattr (calls.Attributes r) = Unit {0}
+IsAnswerTo procedures.Setattr (calls.Attributes r) = Unit {0}
+IsAnswerTo procedures.Root calls.Nothing = Unit {0}
+IsAnswerTo procedures.Lookup (calls.DirOp r) = Unit {0}
+IsAnswerTo procedures.Readlink (calls.Target r) = Unit {0}
+IsAnswerTo procedures.Read (calls.Bytes r) = Unit {0}
+IsAnswerTo procedures.Writecache calls.Nothing = Unit {0}
+IsAnswerTo procedures.Write (calls.Attributes r) = Unit {0}
+IsAnswerTo procedures.Create (calls.DirOp r) = Unit {0}
+IsAnswerTo procedures.Remove (calls.Status r) = Unit {0}
+IsAnswerTo procedures.Rename (calls.Status r) = Unit {0}
+IsAnswerTo procedures.Link (calls.Status r) = Unit {0}
+IsAnswerTo procedures.Symlink (calls.Status r) = Unit {0}
+IsAnswerTo procedures.Mkdir (calls.DirOp r) = Unit {0}
+IsAnswerTo procedures.Rmdir (calls.Status r) = Unit {0}
+IsAnswerTo procedures.Readdir (calls.Entries r) = Unit {0}
+IsAnswerTo procedures.Statfs (calls.Free r) = Unit {0}
+IsAnswerTo _ _ = ⊥
+
+-- the procedure of a call
+abbrev pub procedure_in : Call → NfsProcedure
+procedure_in calls.Null = procedures.Null
+procedure_in (calls.Getattr file) = procedures.Getattr
+procedure_in (calls.Setattr file attributes) = procedures.Setattr
+procedure_in calls.Root = procedures.Root
+procedure_in (calls.Lookup dir name) = procedures.Lookup
+procedure_in (calls.Readlink file) = procedures.Readlink
+procedure_in (calls.Read file offset count) = procedures.Read
+procedure_in calls.Writecache = procedures.Writecache
+procedure_in (calls.Write file offset new) = procedures.Write
+procedure_in (calls.Create dir name attributes) = procedures.Create
+procedure_in (calls.Remove dir name) = procedures.Remove
+procedure_in (calls.Rename from from_name to to_name) = procedures.Rename
+procedure_in (calls.Link file dir name) = procedures.Link
+procedure_in (calls.Symlink dir name target attributes) = procedures.Symlink
+procedure_in (calls.Mkdir dir name attributes) = procedures.Mkdir
+procedure_in (calls.Rmdir dir name) = procedures.Rmdir
+procedure_in (calls.Readdir dir cookie count) = procedures.Readdir
+procedure_in (calls.Statfs file) = procedures.Statfs

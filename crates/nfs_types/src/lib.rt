@@ -2,6 +2,7 @@
 #![tactic(auto)]
 
 mod arguments;
+pub mod laws;
 mod reading;
 mod results;
 mod writing;
