@@ -9,6 +9,7 @@ mod sattr;
 mod stat;
 mod time;
 mod who;
+pub mod worked;
 
 pub use attributes::{Fattr, FileType};
 pub use credential::read_credential;

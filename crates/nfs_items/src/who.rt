@@ -5,6 +5,9 @@ use std::marker::Model;
 /// The greatest number of further groups (RFC 5531, appendix A, authsys_parms).
 pub const MAX_GROUPS: usize = 16;
 
+/// The user and the group that AUTH_NONE stands for.
+const NOBODY_ID: u32 = 65534;
+
 /// The further groups of a caller, at most 16.
 #[derive(Drop)]
 pub struct Groups {
@@ -76,8 +79,8 @@ impl<'a> Who<'a> {
         ensures { caller_of result ≡ nobody }
     {
         Who {
-            uid: 65534,
-            gid: 65534,
+            uid: NOBODY_ID,
+            gid: NOBODY_ID,
             gids: Groups::none(),
             machine_name: None,
         }

@@ -5,6 +5,7 @@ mod arguments;
 pub mod laws;
 mod reading;
 mod results;
+pub mod worked;
 mod writing;
 
 pub use arguments::{DirOpArgs, NfsArgs, NfsProcedure};

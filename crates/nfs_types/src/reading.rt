@@ -13,13 +13,13 @@ use nfs_items::{FileHandle, Sattr};
 use xdr::{Reader, XdrFault};
 
 /// The greatest length of a name in bytes (RFC 1094, section 2.3.7, filename).
-const MAXNAMLEN: u32 = 255;
+pub const MAXNAMLEN: u32 = 255;
 
 /// The greatest length of a symbolic link's target in bytes (RFC 1094, section 2.3.8, path).
-const MAXPATHLEN: u32 = 1024;
+pub const MAXPATHLEN: u32 = 1024;
 
 /// The most bytes that one call reads or writes (RFC 1094, section 2.2).
-const MAXDATA: u32 = 8192;
+pub const MAXDATA: u32 = 8192;
 
 /// Reads a procedure's arguments from the front of bytes, and ignores what follows them (RFC 1094,
 /// section 2.2). The fault is the first from left to right.
@@ -62,7 +62,7 @@ fn read_arguments<'a>(
 fn read_dir_op<'a>(reader: &mut Reader<'a>) -> Result<DirOpArgs<'a>, XdrFault>
     ensures { Gives diropargs diropargs_value reader.old result reader.new }
 {
-    let dir = FileHandle::read(reader)?;
+    let dir = FileHandle::read(reader)?; // before the name
     let name = reader.opaque(MAXNAMLEN)?;
     Ok(DirOpArgs { dir, name })
 }
@@ -100,7 +100,7 @@ fn read_read<'a>(reader: &mut Reader<'a>) -> Result<NfsArgs<'a>, XdrFault>
     let file = FileHandle::read(reader)?;
     let offset = reader.u32()?;
     let count = reader.u32()?;
-    let _ = reader.u32()?;
+    let _totalcount = reader.u32()?;
     Ok(NfsArgs::Read {
         file,
         offset,
@@ -113,9 +113,9 @@ fn read_write<'a>(reader: &mut Reader<'a>) -> Result<NfsArgs<'a>, XdrFault>
     ensures { GivesCall procedures.Write reader.old result reader.new }
 {
     let file = FileHandle::read(reader)?;
-    let _ = reader.u32()?;
-    let offset = reader.u32()?;
-    let _ = reader.u32()?;
+    let _beginoffset = reader.u32()?;
+    let offset = reader.u32()?; // of the data
+    let _totalcount = reader.u32()?;
     let data = reader.opaque(MAXDATA)?;
     Ok(NfsArgs::Write { file, offset, data })
 }
