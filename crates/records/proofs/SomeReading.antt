@@ -1,4 +1,5 @@
--- Of any bytes one reading holds.
+-- Of any bytes one reading holds: by induction on what is left behind the fragments so far.
+-- Serves: some_reading.
 use Rattle.std.proofs.Common.{◌≡◌, ℕ, zero, suc, ◌+◌, ◌-◌, ◌^◌, ◌<◌, ◌≤◌, ◌⊎◌, List, [], ◌∷◌, ◌++◌, arith, length, take, drop, sym, ap, ◌∙◌, refl, inl, inr, length-append, append_assoc, take-append-drop, Bool, true, false}
 use Rattle.std.specs.List.{concat}
 use Rattle.std.proofs.lemmas.Bool.{cases_lt}
@@ -11,14 +12,16 @@ use Rattle.xdr.specs.Item.{IsBytes}
 use Rattle.xdr.proofs.Front.{IsBytes-take, IsBytes-drop}
 use Rattle.records.specs.Record.{mark, fragment, fragments, AreWithin, Front, nothing, a_record, unfinished, too_long, BeginsWith}
 use Rattle.records.proofs.Marks.{mark_is}
+use Rattle.records.specs.declared.record.TheConstants.{MAX_RECORD, MAX_FRAGMENTS}
 
--- a mark stands at the front
+-- A mark stands at the front.
 record MarkAt (tail : List ℕ) : Type 0 where
   is_last : Bool
   len : ℕ
   tail_is : tail ≡ mark is_last len ++ drop 4 tail
   len_fits : len < 2147483648
 
+-- where four bytes are left, they are a mark
 mark_at : (tail : List ℕ) → 4 ≤ length tail → IsBytes tail → MarkAt tail
 mark_at tail long bytes =
     let front : List ℕ = take 4 tail in
@@ -42,12 +45,14 @@ mark_at tail long bytes =
           }
     ]
 
-within_more : (pieces : List (List ℕ)) (piece : List ℕ) → length (concat pieces) + length piece ≤ 12288 → length pieces < 16384 → AreWithin (pieces ++ piece ∷ [])
+-- one fragment more is within the limits
+within_more : (pieces : List (List ℕ)) (piece : List ℕ) → length (concat pieces) + length piece ≤ MAX_RECORD → length pieces < MAX_FRAGMENTS → AreWithin (pieces ++ piece ∷ [])
 within_more pieces piece fits few = record {
   length_fits = omega (arith, ap length (concat-append pieces (piece ∷ [])), length-append (concat pieces) (concat (piece ∷ [])), ap length (append-nil piece));
   count_fits = omega (arith, length-append pieces (piece ∷ []));
 }
 
+-- a fragment that isn't the last goes to those before it
 more_is : (pieces : List (List ℕ)) (piece rest : List ℕ) → fragments pieces ++ (fragment false piece ++ rest) ≡ fragments (pieces ++ piece ∷ []) ++ rest
 more_is pieces piece rest =
     let whole : fragments (pieces ++ piece ∷ []) ≡ fragments pieces ++ fragment false piece = flat_map-append (fragment false) pieces (piece ∷ []) ∙ ap (λ (t : List ℕ). fragments pieces ++ t) (flat_map-cons (fragment false) piece [] ∙ append-nil (fragment false piece)) in
@@ -60,6 +65,7 @@ piece_is is_last len more tail le e =
     let parts : mark is_last len ++ more ≡ (mark is_last len ++ take len more) ++ drop len more = ap (λ (t : List ℕ). mark is_last len ++ t) (sym (take-append-drop len more)) ∙ sym (append_assoc (mark is_last len) (take len more) (drop len more)) in
     (size, e ∙ rw size parts)
 
+-- what stands at the front of bytes
 abbrev Reading : List ℕ → Type 0
 Reading bytes = (a : Front) × BeginsWith bytes a
 
@@ -72,7 +78,7 @@ step pieces tail bytes e within some is next =
       | inr long ↦ at_mark (mark_at tail long is) long
     ]
   where
-    whole : (is_last : Bool) (len : ℕ) → tail ≡ mark is_last len ++ drop 4 tail → length (concat pieces) + len ≤ 12288 → length pieces < 16384 → len ≤ length (drop 4 tail) → 4 ≤ length tail → Reading bytes
+    whole : (is_last : Bool) (len : ℕ) → tail ≡ mark is_last len ++ drop 4 tail → length (concat pieces) + len ≤ MAX_RECORD → length pieces < MAX_FRAGMENTS → len ≤ length (drop 4 tail) → 4 ≤ length tail → Reading bytes
     whole true len at fits few le long =
         let piece = piece_is true len (drop 4 tail) tail le at in (
           a_record (fragments pieces ++ fragment true (take len (drop 4 tail))) (concat pieces ++ take len (drop 4 tail)) (drop len (drop 4 tail)),
@@ -87,7 +93,7 @@ step pieces tail bytes e within some is next =
         (e ∙ ap (λ (t : List ℕ). fragments pieces ++ t) piece.1 ∙ more_is pieces (take len (drop 4 tail)) (drop len (drop 4 tail)))
         (within_more pieces (take len (drop 4 tail)) (omega (arith, piece.0)) few) (IsBytes-drop len (drop 4 tail) (IsBytes-drop 4 tail is))
 
-    over : (m : MarkAt tail) → (12288 < length (concat pieces) + m.len) ⊎ (16384 ≤ length pieces) → Reading bytes
+    over : (m : MarkAt tail) → (MAX_RECORD < length (concat pieces) + m.len) ⊎ (MAX_FRAGMENTS ≤ length pieces) → Reading bytes
     over m p = (
       too_long,
       record {
@@ -102,7 +108,7 @@ step pieces tail bytes e within some is next =
       },
     )
 
-    cut : (m : MarkAt tail) → length (concat pieces) + m.len ≤ 12288 → length pieces < 16384 → length (drop 4 tail) < m.len → Reading bytes
+    cut : (m : MarkAt tail) → length (concat pieces) + m.len ≤ MAX_RECORD → length pieces < MAX_FRAGMENTS → length (drop 4 tail) < m.len → Reading bytes
     cut m fits few lt = (
       unfinished,
       record {
@@ -117,10 +123,10 @@ step pieces tail bytes e within some is next =
 
     at_mark : MarkAt tail → 4 ≤ length tail → Reading bytes
     at_mark m long =
-        elim (cases_lt 12288 (length (concat pieces) + m.len)) [
+        elim (cases_lt MAX_RECORD (length (concat pieces) + m.len)) [
           | inl passes ↦ over m (inl passes)
           | inr fits ↦
-              elim (cases_lt (length pieces) 16384) [
+              elim (cases_lt (length pieces) MAX_FRAGMENTS) [
                 | inr full ↦ over m (inr full)
                 | inl few ↦
                     elim (cases_lt (length (drop 4 tail)) m.len) [
@@ -130,10 +136,12 @@ step pieces tail bytes e within some is next =
               ]
         ]
 
+-- the induction
 from_here : (fuel : ℕ) (pieces : List (List ℕ)) (tail bytes : List ℕ) → length tail < fuel → bytes ≡ fragments pieces ++ tail → AreWithin pieces → 0 < length bytes → IsBytes tail → Reading bytes
 from_here zero pieces tail bytes short e within some is = absurd (omega arith)
 from_here (suc fuel) pieces tail bytes short e within some is = step pieces tail bytes e within some is (λ ps t lt f w i. from_here fuel ps t bytes (omega arith) f w some i)
 
+-- the law
 pub some_reading : (bytes : List ℕ) → IsBytes bytes → (a : Front) × BeginsWith bytes a
 some_reading [] is = (nothing, refl)
 some_reading (b ∷ bs) is = from_here (suc (length (b ∷ bs))) [] (b ∷ bs) (b ∷ bs) (omega arith) refl (record { length_fits = omega arith; count_fits = omega arith }) (omega arith) is

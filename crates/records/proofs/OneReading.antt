@@ -1,10 +1,13 @@
--- Of some bytes one reading holds.
+-- Of some bytes one reading holds at most. Each reading is told by where the fragments that aren't the last stop
+-- (`Stop`), and this is told by the bytes (`same_cut`).
+-- Serves: one_reading.
 use Rattle.std.proofs.Common.{◌≡◌, ℕ, ◌+◌, ◌<◌, ◌≤◌, ◌⊎◌, List, [], ◌∷◌, ◌++◌, arith, length, sym, ap, ◌∙◌, refl, inl, inr, length-append, append_assoc, Bool, true, false}
 use Rattle.std.specs.List.{concat}
 use Rattle.std.proofs.lemmas.List.Concat.{flat_map-cons}
 use Rattle.records.specs.Record.{mark, fragment, fragments, AreWithin, IsRecord, IsUnfinished, PassesLimit, Front, nothing, a_record, unfinished, too_long, BeginsWith}
 use Rattle.records.proofs.Marks.{length-mark}
-use Rattle.records.proofs.Unique.{one_mark, one_split, one_fragment}
+use Rattle.records.proofs.OneRecord.{one_mark, one_split, one_fragment}
+use Rattle.records.specs.declared.record.TheConstants.{MAX_RECORD, MAX_FRAGMENTS}
 
 -- what a mark says: a limit is passed, the bytes end within the fragment, or the record is whole
 data Kind : Type 0 where
@@ -19,18 +22,20 @@ data Stop : Type 0 where
 
 -- after count fragments of size bytes
 abbrev IsKind : ℕ → ℕ → Bool → ℕ → List ℕ → Kind → Type 0
-IsKind count size is_last len more over = (12288 < size + len) ⊎ (16384 ≤ count)
-IsKind count size is_last len more cut = (size + len ≤ 12288) × (count < 16384) × (length more < len)
-IsKind count size is_last len more whole = (size + len ≤ 12288) × (count < 16384) × (len ≤ length more) × (is_last ≡ true)
+IsKind count size is_last len more over = (MAX_RECORD < size + len) ⊎ (MAX_FRAGMENTS ≤ count)
+IsKind count size is_last len more cut = (size + len ≤ MAX_RECORD) × (count < MAX_FRAGMENTS) × (length more < len)
+IsKind count size is_last len more whole = (size + len ≤ MAX_RECORD) × (count < MAX_FRAGMENTS) × (len ≤ length more) × (is_last ≡ true)
 
 abbrev StopsAt : ℕ → ℕ → List ℕ → Stop → Type 0
 StopsAt count size tail short = length tail < 4
 StopsAt count size tail (at_mark is_last len more kind) = (tail ≡ mark is_last len ++ more) × (len < 2147483648) × IsKind count size is_last len more kind
 
-over_not : {A : Type 0} (count size len : ℕ) → (12288 < size + len) ⊎ (16384 ≤ count) → size + len ≤ 12288 → count < 16384 → A
+-- a mark that passes a limit has no room
+over_not : {A : Type 0} (count size len : ℕ) → (MAX_RECORD < size + len) ⊎ (MAX_FRAGMENTS ≤ count) → size + len ≤ MAX_RECORD → count < MAX_FRAGMENTS → A
 over_not count size len (inl long) fits few = absurd (omega arith)
 over_not count size len (inr many) fits few = absurd (omega arith)
 
+-- what a mark says is told by the bytes
 same_kind : (count size : ℕ) (b c : Bool) (m n : ℕ) (x y : List ℕ) (k l : Kind) → m ≡ n → x ≡ y → IsKind count size b m x k → IsKind count size c n y l → k ≡ l
 same_kind count size b c m n x y over over e f p q = refl
 same_kind count size b c m n x y over cut e f p q = over_not count size m p (omega (arith, q.0)) q.1
@@ -42,9 +47,11 @@ same_kind count size b c m n x y whole over e f p q = over_not count size n q (o
 same_kind count size b c m n x y whole cut e f p q = absurd (omega (arith, p.2, q.2, ap length f))
 same_kind count size b c m n x y whole whole e f p q = refl
 
+-- fewer than four bytes don't begin with a mark
 mark_is_long : (x : List ℕ) (b : Bool) (n : ℕ) (more : List ℕ) → x ≡ mark b n ++ more → length x < 4 → ⊥
 mark_is_long x b n more e lt = omega (arith, ap length e, length-append (mark b n) more, length-mark b n)
 
+-- what stops the fragments is told by the bytes behind them
 same_stop : (count size : ℕ) (x y : List ℕ) (s t : Stop) → x ≡ y → StopsAt count size x s → StopsAt count size y t → s ≡ t
 same_stop count size x y short short e p q = refl
 same_stop count size x y short (at_mark c n more l) e p q = absurd (mark_is_long x c n more (e ∙ q.0) p)
@@ -58,7 +65,7 @@ same_stop count size x y (at_mark b m u k) (at_mark c n v l) e p q =
     cc
 
 -- A stop isn't a fragment that goes on.
-goes_on : (count size : ℕ) (x q z : List ℕ) (s : Stop) → count < 16384 → size + length q ≤ 12288 → StopsAt count size x s → x ≡ fragment false q ++ z → ⊥
+goes_on : (count size : ℕ) (x q z : List ℕ) (s : Stop) → count < MAX_FRAGMENTS → size + length q ≤ MAX_RECORD → StopsAt count size x s → x ≡ fragment false q ++ z → ⊥
 goes_on count size x q z short few fits p e = mark_is_long x false (length q) (q ++ z) (e ∙ append_assoc (mark false (length q)) q z) p
 goes_on count size x q z (at_mark b m more k) few fits p e =
     let one = one_mark b false m (length q) more (q ++ z) p.1 (omega arith) (sym p.0 ∙ e ∙ append_assoc (mark false (length q)) q z) in
@@ -69,12 +76,13 @@ goes_on count size x q z (at_mark b m more k) few fits p e =
     by_kind cut last len is h = omega (arith, h.2, ap length is, length-append q z)
     by_kind whole last len is h = let never : true ≡ false = sym h.3 ∙ last in cc
 
+-- the text of fragments, from the first on
 front_of : (p : List ℕ) (ps : List (List ℕ)) (x : List ℕ) → fragments (p ∷ ps) ++ x ≡ fragment false p ++ (fragments ps ++ x)
 front_of p ps x = ap (λ (t : List ℕ). t ++ x) (flat_map-cons (fragment false) p ps) ∙ append_assoc (fragment false p) (fragments ps) x
 
 -- The fragments up to a stop are told by the bytes: ps and qs follow count fragments of size bytes.
 same_cut : (count size i j k l : ℕ) (ps qs : List (List ℕ)) (x y : List ℕ) (s t : Stop) → i ≡ count + length ps → j ≡ size + length (concat ps) → k ≡ count + length qs → l ≡ size + length (concat qs)
-    → i ≤ 16384 → j ≤ 12288 → k ≤ 16384 → l ≤ 12288 → StopsAt i j x s → StopsAt k l y t → fragments ps ++ x ≡ fragments qs ++ y → (ps ≡ qs) × (s ≡ t)
+    → i ≤ MAX_FRAGMENTS → j ≤ MAX_RECORD → k ≤ MAX_FRAGMENTS → l ≤ MAX_RECORD → StopsAt i j x s → StopsAt k l y t → fragments ps ++ x ≡ fragments qs ++ y → (ps ≡ qs) × (s ≡ t)
 same_cut count size i j k l [] [] x y s t ei ej ek el fi fj fk fl p q e =
     let ik : i ≡ k = omega arith in
     let jl : j ≡ l = omega arith in
@@ -101,6 +109,7 @@ record StopsBytes (bytes : List ℕ) (pieces : List (List ℕ)) (stop : Stop) : 
   within : AreWithin pieces
   stops : StopsAt (length pieces) (length (concat pieces)) tail stop
 
+-- the same with nothing before: the fragments and the stop are told by the bytes
 same : (bytes : List ℕ) (ps qs : List (List ℕ)) (s t : Stop) → StopsBytes bytes ps s → StopsBytes bytes qs t → (ps ≡ qs) × (s ≡ t)
 same bytes ps qs s t p q =
     same_cut 0 0 (length ps) (length (concat ps)) (length qs) (length (concat qs)) ps qs p.tail q.tail s t (omega arith) (omega arith) (omega arith) (omega arith)
@@ -113,6 +122,7 @@ fault_of (at_mark b len more cut) = 0
 fault_of (at_mark b len more over) = 1
 fault_of (at_mark b len more whole) = 2
 
+-- a record stops at the mark of its last fragment
 of_record : (bytes text r rest : List ℕ) (a : IsRecord text r) → bytes ≡ text ++ rest → StopsBytes bytes a.pieces (at_mark true (length a.last) (a.last ++ rest) whole)
 of_record bytes text r rest a e = record {
   tail = fragment true a.last ++ rest;
@@ -121,9 +131,11 @@ of_record bytes text r rest a e = record {
   stops = (append_assoc (mark true (length a.last)) a.last rest, omega (arith, a.fits.length_fits), (a.fits.length_fits, a.fits.count_fits, omega (arith, length-append a.last rest), refl));
 }
 
+-- where a limit is passed, the fragments stop at the mark that passes it
 of_too_long : (bytes : List ℕ) (a : PassesLimit bytes) → StopsBytes bytes a.pieces (at_mark a.is_last a.len a.more over)
 of_too_long bytes a = record { tail = mark a.is_last a.len ++ a.more; bytes_are = a.bytes_are; within = a.within; stops = (refl, a.len_fits, a.passes) }
 
+-- an unfinished record stops in a mark, or at one with too few bytes behind it
 of_unfinished : (bytes : List ℕ) (a : IsUnfinished bytes) → (s : Stop) × StopsBytes bytes a.pieces s × (fault_of s ≡ 0)
 of_unfinished bytes a =
     elim a.tail_is [
@@ -140,17 +152,21 @@ of_unfinished bytes a =
       )
     ]
 
+-- two faults of different kinds don't stand in the same bytes
 kinds_differ : {A : Type 0} (bytes : List ℕ) (ps qs : List (List ℕ)) (s t : Stop) (m n : ℕ) → StopsBytes bytes ps s → StopsBytes bytes qs t → fault_of s ≡ m → fault_of t ≡ n → m < n ⊎ n < m → A
 kinds_differ bytes ps qs s t m n p q e f (inl lt) = let both = same bytes ps qs s t p q in absurd (omega (arith, ap fault_of both.1))
 kinds_differ bytes ps qs s t m n p q e f (inr lt) = let both = same bytes ps qs s t p q in absurd (omega (arith, ap fault_of both.1))
 
+-- what the mark at a stop says
 mark_of : Stop → ℕ × List ℕ
 mark_of short = (0, [])
 mark_of (at_mark b len more kind) = (len, more)
 
+-- equal parts make equal records
 same_parts : (t r x u s y : List ℕ) → t ≡ u → r ≡ s → x ≡ y → a_record t r x ≡ a_record u s y
 same_parts t r x u s y texts records rests = cc
 
+-- two records at the front are one
 same_record : (bytes t r x u s y : List ℕ) → BeginsWith bytes (a_record t r x) → BeginsWith bytes (a_record u s y) → a_record t r x ≡ a_record u s y
 unfolding mark_of
 same_record bytes t r x u s y (a, e) (b, f) =
@@ -164,6 +180,7 @@ same_record bytes t r x u s y (a, e) (b, f) =
     let records : r ≡ s = a.bytes_are ∙ ap (λ (z : List (List ℕ)). concat z ++ a.last) both.0 ∙ ap (λ (z : List ℕ). concat b.pieces ++ z) one.0 ∙ sym b.bytes_are in
     same_parts t r x u s y texts records one.1
 
+-- a record has bytes
 record_is_some : (bytes t r x : List ℕ) → BeginsWith bytes (a_record t r x) → 0 < length bytes
 record_is_some bytes t r x (a, e) = omega (
   arith,
@@ -175,13 +192,16 @@ record_is_some bytes t r x (a, e) = omega (
   length-mark true (length a.last),
 )
 
+-- so has one that passes a limit
 too_long_is_some : (bytes : List ℕ) (a : PassesLimit bytes) → 0 < length bytes
 too_long_is_some bytes a =
     omega (arith, ap length a.bytes_are, length-append (fragments a.pieces) (mark a.is_last a.len ++ a.more), length-append (mark a.is_last a.len) a.more, length-mark a.is_last a.len)
 
+-- where there are bytes, they aren't none
 not_none : {A : Type 0} (bytes : List ℕ) → bytes ≡ [] → 0 < length bytes → A
 not_none bytes e some = absurd (omega (arith, ap length e))
 
+-- the law
 pub one_reading : (bytes : List ℕ) (a b : Front) → BeginsWith bytes a → BeginsWith bytes b → a ≡ b
 one_reading bytes nothing nothing p q = refl
 one_reading bytes nothing (a_record u s y) p q = not_none bytes p (record_is_some bytes u s y q)

@@ -1,4 +1,4 @@
--- What the program's calls and their faults say.
+-- What the program's values of calls and their faults say.
 use Rattle.std.specs.Prelude.{◌≡◌, ℕ, List, Result, Ok, Err}
 use Rattle.xdr.specs.declared.fault.XdrFault.{XdrFault}
 use Rattle.xdr.specs.declared.fault.XdrFault.TheVariants as faults
@@ -13,15 +13,25 @@ use Rattle.rpc.specs.declared.call.CallFault.TheVariants as call_faults
 use Rattle.xdr.specs.Item.{Value}
 use Rattle.rpc.specs.Call.{opaque_auth, Auth, CallHeader, Message, OtherVersion, Version2, Says}
 
+-- what a credential or a verifier says
 abbrev pub auth_of : OpaqueAuth → Auth
 auth_of a = record { flavor = a.flavor; body = a.body.now }
 
+-- the same, as the value of its item
 abbrev pub auth_value_of : OpaqueAuth → Value opaque_auth
 auth_value_of a = (a.flavor, a.body.now)
 
+-- what a header says
 abbrev pub header_of : Header → CallHeader
-header_of h = record { program = h.program; version = h.version; procedure = h.procedure; credential = auth_of h.credential; verifier = auth_of h.verifier }
+header_of h = record {
+  program = h.program;
+  version = h.version;
+  procedure = h.procedure;
+  credential = auth_of h.credential;
+  verifier = auth_of h.verifier;
+}
 
+-- A body is of version 2, with this header and these arguments.
 abbrev pub IsVersion2 : CallBody → CallHeader → List ℕ → Type 0
 IsVersion2 bodies.OtherVersion h rest = ⊥
 IsVersion2 (bodies.Version2 header arguments) h rest = (header_of header ≡ h) × (arguments.now ≡ rest)
@@ -43,6 +53,7 @@ call_fault faults.BadBool = call_faults.NotACall
 call_fault faults.TooLong = call_faults.NotACall
 call_fault faults.BadEnum = call_faults.NotACall
 
+-- the number of a fault, as the program prints it
 abbrev pub call_fault_number : CallFault → ℕ
 call_fault_number call_faults.Short = 1
 call_fault_number call_faults.NotACall = 2
