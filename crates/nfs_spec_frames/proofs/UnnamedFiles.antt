@@ -1,4 +1,6 @@
 -- What every call leaves of the node, of the next number, and of the files that it does not name.
+-- Serves: calls_keep_the_files_they_do_not_name, files_stay_what_they_are (nfs_spec_frames);
+-- answers_have_a_spelling (nfs_spec_sizes).
 use Rattle.std.proofs.Common.{◌≡◌, ◌≢◌, ℕ, ◌+◌, List, [], ◌∷◌, ◌++◌, Option, Some, None, option_map, ⊎_elim, refl, sym, ap, subst, ◌∙◌, arith}
 use Rattle.std.specs.Prelude.{◌&&◌, is_none, if◌then◌else◌, ◌==◌, true, false, Bool, length}
 use Rattle.std.specs.Option.{option_map_or}
@@ -14,8 +16,8 @@ use Rattle.nfs_spec.specs.Procedures.{rewritten}
 use Rattle.nfs_spec.specs.Calls.{Call, Answer, number_for, call_does}
 use Rattle.nfs_spec_frames.specs.Named.{IsNoneOf, named_at, named_by, files_made}
 use Rattle.nfs_spec_changes.proofs.Granted.{IsNew, IsCreated, created, set_ok, write_ok, make_ok, create_ok, link_ok, remove_ok, remove_dir_ok, rename_ok}
-use Rattle.nfs_spec_frames.proofs.Every.{every}
-use Rattle.nfs_spec_changes.proofs.Edited.{IsHead, head_changed, made_head, linked_head, removed_head, moved_head, made_other, linked_other, removed_other, moved_other}
+use Rattle.nfs_spec_frames.proofs.CallCases.{every}
+use Rattle.nfs_spec_changes.proofs.OtherFiles.{IsHead, head_changed, made_head, linked_head, removed_head, moved_head, made_other, linked_other, removed_other, moved_other}
 
 module _ (w : Files) (who : Caller) (now : Timeval) where
   -- ---- the head
@@ -36,6 +38,7 @@ module _ (w : Files) (who : Caller) (now : Timeval) where
   wrote_head n offset new old true = record { node = refl; next_is = refl }
   wrote_head n offset new old false = head_changed w n (rewritten now offset new old)
 
+  -- the node's number stays, and the next number but where a file was made
   pub heads : (call : Call) → HeadAfter call (call_does w who now call).0 (call_does w who now call).1
   heads = every w who now HeadAfter
       (λ call answer none why. record { node = refl; next_is = omega (arith, none) })
@@ -83,6 +86,7 @@ module _ (w : Files) (who : Caller) (now : Timeval) where
   none_of_both n [] b h = (tt, h)
   none_of_both n (m ∷ a) b h = let rest = none_of_both n a b h.1 in ((h.0, rest.0), rest.1)
 
+  -- a number that a call does not name has the file that it had
   pub others : (call : Call) → OthersAfter call (call_does w who now call).0 (call_does w who now call).1
   others = every w who now OthersAfter
       (λ call answer none why n h. refl)
