@@ -1,18 +1,16 @@
 -- What a directory lists after names come and go, and where its file stands (`IsAt`) after each change.
 -- Serves: making_keeps_the_rest, removing_keeps_the_rest, renaming_keeps_the_rest (nfs_spec_changes), by
 -- NamedFiles and RenamedFiles.
-use Rattle.std.proofs.Common.{◌≡◌, ◌≢◌, ⊎_elim, ℕ, ◌+◌, true, false, cond, not, List, [], ◌∷◌, ◌++◌, Some, None, option_map, nat_eq, refl, sym, ap, ◌∙◌}
-use Rattle.std.specs.List.{filter, IsDistinct}
-use Rattle.std.specs.Map.{lookup, remove_entry, keys_of}
-use Rattle.std.specs.Cmp.Lexicographic.{pointwise, nat_list_eq_equiv}
+use Rattle.std.proofs.Common.{◌≡◌, ◌≢◌, ℕ, ◌+◌, true, false, cond, List, [], ◌∷◌, ◌++◌, Some, None, option_map, nat_eq, refl, sym, ap, ◌∙◌}
+use Rattle.std.specs.Map.{lookup, remove_entry}
+use Rattle.std.specs.Cmp.Lexicographic.{pointwise}
 use Rattle.nfs_types.specs.Timeval.{Timeval}
 use Rattle.fs_model.specs.Listing.{Listing, entry_at, with_entry, without_entry, HasDistinctNames}
 use Rattle.fs_model.specs.Files.{Body, Regular, Link, Directory, File, Files, file_at, is_directory}
-use Rattle.fs_model.proofs.Walks.{none_some, same_name}
-use Rattle.fs_model.proofs.Reached.{not_before}
+use Rattle.fs_model.proofs.Walks.{none_some}
 use Rattle.fs_changes.specs.Edits.{with_changed_file, relisted}
 use Rattle.fs_changes.proofs.Finite.{changed_here, changed_other}
-use Rattle.fs_changes.proofs.Listings.{without_entry_here, without_entry_other}
+use Rattle.fs_changes.proofs.Listings.{without_entry_here}
 use Rattle.nfs_spec.specs.Changes.{touch, touched, marked}
 use Rattle.nfs_spec_changes.specs.Changed.{Becomes, IsMarked, IsTouched}
 

@@ -2,14 +2,14 @@
 -- RenamedFiles.
 -- Serves: setting_keeps_the_rest, making_keeps_the_rest, removing_keeps_the_rest (nfs_spec_changes);
 -- calls_change_what_they_name (nfs_spec_frames).
-use Rattle.std.proofs.Common.{◌≡◌, ◌≢◌, ℕ, ◌+◌, Bool, true, false, cond, List, [], ◌∷◌, length, Option, Some, None, eqb, nat_eq, option_map, option_and_then, refl, sym, ap, subst, ◌∙◌, eq-eqb, ne_eqb, arith}
+use Rattle.std.proofs.Common.{◌≡◌, ◌≢◌, ℕ, ◌+◌, Bool, true, false, cond, List, [], ◌∷◌, length, Some, None, eqb, nat_eq, option_map, option_and_then, refl, sym, ap, subst, ◌∙◌, eq-eqb, ne_eqb, arith}
 use Rattle.std.specs.Prelude.{◌==◌, if◌then◌else◌}
 use Rattle.std.specs.Map.{lookup}
 use Rattle.std.specs.Cmp.Lexicographic.{pointwise}
 use Rattle.nfs_types.specs.Timeval.{Timeval}
 use Rattle.nfs_types.specs.Caller.{Caller}
 use Rattle.fs_model.specs.Listing.{Listing, entry_at, with_entry, without_entry, HasDistinctNames}
-use Rattle.fs_model.specs.Files.{Body, Regular, Link, Directory, File, Files, file_at, is_directory, listing_in, places, names_of}
+use Rattle.fs_model.specs.Files.{Directory, File, Files, file_at, is_directory, listing_in, places, names_of}
 use Rattle.fs_model.specs.Trees.{IsFileTree}
 use Rattle.fs_model.proofs.Walks.{none_some, some_same}
 use Rattle.fs_model.proofs.OnePath.{root_has_no_name}
@@ -19,8 +19,8 @@ use Rattle.fs_changes.proofs.Listings.{leads}
 use Rattle.fs_changes.proofs.Shapes.{unnamed_shape}
 use Rattle.fs_changes.proofs.Adding.{one_same}
 use Rattle.nfs_spec.specs.Sattr.{Wanted}
-use Rattle.nfs_spec.specs.Changes.{resized_body, set, touch, touched, mark, marked, unnamed}
-use Rattle.nfs_spec.specs.Procedures.{rewritten, made, is_regular}
+use Rattle.nfs_spec.specs.Changes.{set, touch, touched, mark, marked, unnamed}
+use Rattle.nfs_spec.specs.Procedures.{rewritten, made}
 use Rattle.nfs_spec_trees.proofs.Fitting.{dir_file, is_dir, next_free, distinct_names}
 use Rattle.nfs_spec_changes.specs.Changed.{Becomes, LosesName, IsSetTo, IsRewritten, Makes, Links, Unnames}
 use Rattle.nfs_spec_changes.proofs.Granted.{IsSet, IsWrote, IsNew, IsLinked, IsRemoved}

@@ -14,7 +14,6 @@ use Rattle.fs_model.proofs.OnePath.{one_path}
 use Rattle.fs_changes.specs.Edits.{without_file, with_name, without_name, relisted}
 use Rattle.fs_changes.specs.Limits.{file_count}
 use Rattle.fs_changes.proofs.Finite.{changed_here, changed_other, gone_other}
-use Rattle.fs_changes.proofs.Listings.{without_entry_here, without_entry_distinct}
 use Rattle.fs_changes.proofs.PathChanges.{no_return}
 use Rattle.nfs_spec.specs.Changes.{touch, touched, mark, marked, unnamed}
 use Rattle.nfs_spec.specs.Procedures.{climbs_to, is_above, cleared}
