@@ -1,4 +1,5 @@
--- Byte i is the one written, else the old one, else zero.
+-- Byte i is the one written, else the old one, else zero, of a file after WRITE, SETATTR and CREATE.
+-- Serves: bytes_are_what_was_written (nfs_spec_changes); calls_change_what_they_name (nfs_spec_frames).
 use Rattle.std.proofs.Common.{◌≡◌, ◌≢◌, ℕ, ◌+◌, ◌-◌, Bool, true, false, List, [], length, replicate, Some, Ok, get_or, refl, sym, ap, ◌∙◌, arith}
 use Rattle.std.specs.Prelude.{unwrap_or, nat_le, nat_lt, ◌&&◌, if◌then◌else◌}
 use Rattle.std.proofs.lemmas.Bool.{leb-true, leb-false, ltb-true, ltb-false}
@@ -16,7 +17,7 @@ use Rattle.nfs_spec_laws.proofs.Bodies.{bytes_ok, length-resized}
 use Rattle.nfs_spec_laws.proofs.Bytes.{written_length, resized_byte, byte_before, byte_behind, byte_new}
 use Rattle.nfs_spec_changes.specs.Changed.{Becomes, ChangesBytes, old_byte, IsWritten, IsResized, Makes}
 use Rattle.nfs_spec_changes.proofs.Granted.{IsSet, IsWrote, created}
-use Rattle.nfs_spec_changes.proofs.Becoming.{changed_is, wrote_is}
+use Rattle.nfs_spec_changes.proofs.NamedFiles.{changed_is, wrote_is}
 
 -- past the end of a list its byte is read as zero
 old_is : (old : List ℕ) (i : ℕ) → get_or old i 0 ≡ old_byte old i
@@ -48,6 +49,7 @@ regular who f size h =
     (p.0, bytes_ok f.body p.0 p.1)
 
 module _ (w : Files) (who : Caller) (now : Timeval) where
+  -- after WRITE of some bytes
   pub wrote_bytes : (n offset : ℕ) (new : List ℕ) → new ≢ [] → (w' : Files) → IsWrote w who now n offset new w' → Becomes w w' n (ChangesBytes (IsWritten offset new))
   wrote_bytes n offset new some w' o = record {
     old = o.file;
@@ -57,6 +59,7 @@ module _ (w : Files) (who : Caller) (now : Timeval) where
     change = record { before = o.old; after = written offset new o.old; was = o.regular; is = refl; change = is_written offset new o.old };
   }
 
+  -- after SETATTR with a size
   pub set_bytes : (n size : ℕ) (a : Wanted) → a.size ≡ Some size → (w' : Files) → IsSet w who now n a w' → Becomes w w' n (ChangesBytes (IsResized size))
   set_bytes n size a given w' o =
       let r = regular who o.file size (ap (check_resize who o.file) (sym given) ∙ o.resized) in
@@ -68,5 +71,6 @@ module _ (w : Files) (who : Caller) (now : Timeval) where
         change = record { before = r.0; after = resized size r.0; was = r.1; is = ap (λ s. resized_body s o.file.body) given ∙ ap (resized_body (Some size)) r.1; change = is_resized size r.0 };
       }
 
+  -- after CREATE of a new name with a size
   pub made_bytes : (dir : ℕ) (name : List ℕ) (a : Wanted) (number size : ℕ) (w' : Files) → a.size ≡ Some size → Makes now w w' dir name number (created w who now a) → (g : File) × (file_at w' number ≡ Some g) × (g.body ≡ Regular (replicate size 0))
   made_bytes dir name a number size w' given m = (created w who now a, m.made, ap (λ s. Regular (replicate (unwrap_or s 0) 0)) given)

@@ -1,4 +1,5 @@
--- The checks of WRITE, MKDIR and SYMLINK.
+-- WRITE, MKDIR and SYMLINK give the stat of the first of their checks that fails.
+-- Serves: stats_of_changes_are_of_the_first_failing_check; by CallChecks stats_of_calls (nfs_spec_errors).
 use Rattle.std.proofs.Common.{◌≡◌, ℕ, ◌+◌, List, [], ◌∷◌, length, Bool, false, cond, not, Option, Some, None, Ok, refl}
 use Rattle.std.specs.Prelude.{◌||◌, ◌&&◌, ◌==◌, nat_le, is_some, is_none, option_and_then}
 use Rattle.std.specs.Option.{option_map_or}
@@ -17,7 +18,7 @@ use Rattle.nfs_spec.specs.Procedures.{rewritten, made, write, make_dir, symlink}
 use Rattle.nfs_spec.specs.Laws.{stat_in}
 use Rattle.nfs_spec_errors.specs.Checks.{first_failing, is_link, bytes_in}
 use Rattle.nfs_spec_errors.specs.Tables.{write_checks, make_dir_checks, symlink_checks}
-use Rattle.nfs_spec_errors.proofs.Stats.{found, of_bytes_written, of_making}
+use Rattle.nfs_spec_errors.proofs.StatsByBody.{found, of_bytes_written, of_making}
 
 write_by : {X : Type 0} (who : Caller) (e z : Bool) (room : List ℕ → Bool) (x : X) (give : List ℕ → X) (o : Option File)
     → stat_in (found_or stats.Stale o >>= λ f. bytes_of f.body >>= λ old. check (may_write who f) stats.Acces >>= λ _. cond e (Ok x) (check z stats.FBig >>= λ _. check (room old) stats.NoSpc >>= λ _. Ok (give old)))
@@ -36,6 +37,7 @@ write_by who e z room x give (Some f) = of_bytes_written f.body (may_write who f
 abbrev changed : Files → Unit {0} × Files
 changed w = (tt, w)
 
+-- WRITE: `write_checks`
 pub of_write : (w : Files) (who : Caller) (now : Timeval) (n offset : ℕ) (new : List ℕ) → stat_in (write w who now n offset new) ≡ first_failing (write_checks w who now n offset new)
 of_write w who now n offset new =
     write_by who (length new == 0) (nat_le (offset + length new) 1048576) (λ old. has_room (with_changed_file w n (rewritten now offset new old))) (changed w) (λ old. changed (with_changed_file w n (rewritten now offset new old)))
@@ -61,11 +63,13 @@ make_by who dir name room x (Some f) = of_making f.body dir f (is_name name) (λ
 abbrev numbered : Files → Files → ℕ × Files
 numbered w after = (w.next, after)
 
+-- MKDIR: `make_dir_checks`
 pub of_make_dir : (w : Files) (who : Caller) (now : Timeval) (dir : ℕ) (name : List ℕ) (a : Wanted) → stat_in (make_dir w who now dir name a) ≡ first_failing (make_dir_checks w who now dir name a)
 of_make_dir w who now dir name a =
     let after : Files = made now w dir name (new_file who now a 493 (Directory (record { next = 3; entries = [] }))) in
     make_by who dir name (has_room after) (numbered w after) (file_at w dir)
 
+-- SYMLINK: `symlink_checks`
 pub of_symlink : (w : Files) (who : Caller) (now : Timeval) (dir : ℕ) (name target : List ℕ) → stat_in (symlink w who now dir name target) ≡ first_failing (symlink_checks w who now dir name target)
 of_symlink w who now dir name target =
     let after : Files = made now w dir name (new_file who now nothing 511 (Link target)) in

@@ -1,9 +1,10 @@
--- The checks of each call, by file handles.
+-- Each call, by file handles, gives in a tree the stat of the first of `checks_of` that fails: what a call
+-- adds to its procedure (a handle to be read, attributes to be shown) gives no stat but STALE.
+-- Serves: stats_of_calls (nfs_spec_errors).
 use Rattle.std.proofs.Common.{◌≡◌, ⊎_elim, ℕ, ◌+◌, Bool, true, false, cond, List, [], ◌∷◌, length, replicate, Option, Some, None, Result, Ok, Err, is_some, option_map, option_and_then, refl, sym, ap, subst, ◌∙◌, arith}
 use Rattle.std.specs.Prelude.{IsSome, unwrap_or, ◌==◌}
 use Rattle.std.specs.Option.{option_map_or}
-use Rattle.std.specs.List.{list_all}
-use Rattle.std.proofs.lemmas.Bool.{cases_eq, and_parts}
+use Rattle.std.proofs.lemmas.Bool.{cases_eq}
 use Rattle.nfs_types.specs.Timeval.{Timeval}
 use Rattle.nfs_types.specs.Caller.{Caller}
 use Rattle.nfs_types.specs.Handle.{handle_of, number_in}
@@ -12,9 +13,8 @@ use Rattle.nfs_types.specs.declared.stat.Stat.{Stat}
 use Rattle.nfs_types.specs.declared.stat.Stat.TheVariants as stats
 use Rattle.fs_model.specs.Listing.{entry_at}
 use Rattle.fs_model.specs.Names.{is_name}
-use Rattle.fs_model.specs.Files.{File, Files, Regular, file_at, listing_in, is_directory, places}
+use Rattle.fs_model.specs.Files.{File, Files, Regular, file_at, listing_in, is_directory}
 use Rattle.fs_model.specs.Trees.{IsFileTree}
-use Rattle.fs_model.proofs.Walks.{none_some, some_same}
 use Rattle.fs_changes.specs.Edits.{with_changed_file, with_new_file, with_name}
 use Rattle.fs_changes.proofs.Finite.{changed_here, changed_other, new_here}
 use Rattle.nfs_spec.specs.Attributes.{attributes_of}
@@ -29,13 +29,16 @@ use Rattle.nfs_spec.specs.Calls.{Call, Answer, told, with_attributes, with_handl
 use Rattle.nfs_spec.proofs.Present.{named_there}
 use Rattle.nfs_spec_laws.specs.Laws.{refusal_in}
 use Rattle.nfs_spec_laws.proofs.Steps.{bind_ok, found_ok, ok_same, directory_ok}
-use Rattle.nfs_spec_errors.specs.Checks.{Checks, first_failing, is_ever_given, is_there}
-use Rattle.nfs_spec_errors.specs.Tables.{lookup_checks, is_same_file, checks_of}
-use Rattle.nfs_spec_errors.proofs.Steps.{HasStat}
-use Rattle.nfs_spec_errors.proofs.Reading.{of_getattr, of_lookup, of_read_link, of_read, of_read_dir, of_figures}
-use Rattle.nfs_spec_errors.proofs.Making.{of_write, of_make_dir, of_symlink}
-use Rattle.nfs_spec_errors.proofs.Changing.{of_set, of_link, of_remove, of_remove_dir, of_create}
-use Rattle.nfs_spec_errors.proofs.Renaming.{of_rename}
+use Rattle.nfs_spec_errors.specs.Checks.{Checks, first_failing, is_there}
+use Rattle.nfs_spec_errors.specs.Tables.{lookup_checks, checks_of}
+use Rattle.nfs_spec_errors.proofs.StepsInTurn.{HasStat}
+use Rattle.nfs_spec_errors.proofs.ReaderChecks.{of_getattr, of_lookup, of_read_link, of_read, of_read_dir, of_figures}
+use Rattle.nfs_spec_errors.proofs.WriteMkdirSymlinkChecks.{of_write, of_make_dir, of_symlink}
+use Rattle.nfs_spec_errors.proofs.SetattrChecks.{of_set}
+use Rattle.nfs_spec_errors.proofs.LinkChecks.{of_link}
+use Rattle.nfs_spec_errors.proofs.RemoveChecks.{of_remove, of_remove_dir}
+use Rattle.nfs_spec_errors.proofs.CreateChecks.{of_create}
+use Rattle.nfs_spec_errors.proofs.RenameChecks.{of_rename}
 
 -- ---- what a call answers of an effect
 
@@ -176,6 +179,7 @@ module _ (w : Files) (tree : IsFileTree w) where
         ∙ of_lookup w who dir name;
   }
 
+  -- a call's refusal is the first of its checks that fails
   pub of_calls : (who : Caller) (now : Timeval) (call : Call) → refusal_in (call_does w who now call).0 ≡ first_failing (checks_of w who now call)
   of_calls who now calls.Null = refl
   of_calls who now (calls.Getattr file) = by_handle (number_in w.fsid file) (attributes_at w) (λ n. []) (λ n. record { says = of_getattr w n })
@@ -203,43 +207,3 @@ module _ (w : Files) (tree : IsFileTree w) where
   of_calls who now (calls.Rmdir dir name) = of_told calls.Status (λ r. refl) w _ ∙ (of_remove_dir w tree who now (number_for w dir) name).says
   of_calls who now (calls.Readdir dir cookie count) = of_read_dir w who (number_for w dir) cookie count
   of_calls who now (calls.Statfs file) = of_figures w (number_for w file)
-
--- ---- the stats that are given
-
-pub only_given : (cs : Checks) (stat : Stat) → list_all (λ c. is_ever_given c.1) cs ≡ true → first_failing cs ≡ Some stat → is_ever_given stat ≡ true
-only_given [] stat all h = absurd (none_some h)
-only_given (c ∷ cs) stat all h =
-    let parts = and_parts (is_ever_given c.1) (list_all (λ (c : Bool × Stat). is_ever_given c.1) cs) all in
-    elim c.0 as (λ b. cond b (first_failing cs) (Some c.1) ≡ Some stat → is_ever_given stat ≡ true) [
-      | true ↦ λ is. only_given cs stat parts.1 is
-      | false ↦ λ is. ap is_ever_given (sym (some_same is)) ∙ parts.0
-    ] h
-
-all_of : (o : Option (ℕ × ℕ)) (over : ℕ × ℕ → Checks) (new : Checks) → ((e : ℕ × ℕ) → list_all (λ c. is_ever_given c.1) (over e) ≡ true) → list_all (λ c. is_ever_given c.1) new ≡ true
-    → list_all (λ c. is_ever_given c.1) (option_map_or over o new) ≡ true
-all_of None over new some none = none
-all_of (Some e) over new some none = some e
-
-all_but : (b : Bool) (cs : Checks) → list_all (λ c. is_ever_given c.1) cs ≡ true → list_all (λ c. is_ever_given c.1) (cond b [] cs) ≡ true
-all_but true cs all = refl
-all_but false cs all = all
-
-pub all_given : (w : Files) (who : Caller) (now : Timeval) (call : Call) → list_all (λ c. is_ever_given c.1) (checks_of w who now call) ≡ true
-all_given w who now calls.Null = refl
-all_given w who now (calls.Getattr file) = refl
-all_given w who now (calls.Setattr file s) = refl
-all_given w who now calls.Root = refl
-all_given w who now (calls.Lookup dir name) = refl
-all_given w who now (calls.Readlink file) = refl
-all_given w who now (calls.Read file offset count) = refl
-all_given w who now calls.Writecache = refl
-all_given w who now (calls.Write file offset new) = refl
-all_given w who now (calls.Create dir name s) = all_of (places w (number_for w dir) name) _ _ (λ e. refl) refl
-all_given w who now (calls.Remove dir name) = refl
-all_given w who now (calls.Rename from from_name to to_name) = all_but (is_same_file w (number_for w from) from_name (number_for w to) to_name) _ refl
-all_given w who now (calls.Link from dir name) = refl
-all_given w who now (calls.Symlink dir name target s) = refl
-all_given w who now (calls.Mkdir dir name s) = refl
-all_given w who now (calls.Rmdir dir name) = refl
-all_given w who now (calls.Readdir dir cookie count) = refl
-all_given w who now (calls.Statfs file) = refl

@@ -1,4 +1,6 @@
--- In every call files stay of their kind; attributes and bytes change only where they are set or written.
+-- In every call files stay of their kind; attributes and bytes change only where they are set or written;
+-- what is nothing stays nothing.
+-- Serves: files_stay_what_they_are, calls_keep_the_files_they_do_not_name (nfs_spec_frames).
 use Rattle.std.proofs.Common.{◌≡◌, ◌≢◌, ℕ, Option, Some, None, refl, sym, ap, subst, ◌∙◌}
 use Rattle.nfs_types.specs.Timeval.{Timeval}
 use Rattle.nfs_types.specs.Caller.{Caller}
@@ -12,11 +14,12 @@ use Rattle.nfs_spec.specs.Changes.{written, resized_body}
 use Rattle.nfs_spec.specs.Calls.{Call, number_for, call_does}
 use Rattle.nfs_spec_trees.proofs.Fitting.{next_free}
 use Rattle.nfs_spec_frames.specs.Named.{IsNoneOf, set_by, written_by, KeepsKind, KeepsAttributes, KeepsBytes, KeepsAt}
-use Rattle.nfs_spec_frames.proofs.Frames.{at_name}
-use Rattle.nfs_spec_frames.proofs.Stepping.{Step, steps}
+use Rattle.nfs_spec_frames.proofs.UnnamedFiles.{at_name}
+use Rattle.nfs_spec_frames.proofs.BeforeAndAfter.{Step, steps}
 
 -- ---- nothing stays nothing
 
+-- a number without a file gets none but as the next one
 pub absent : (w : Files) (who : Caller) (now : Timeval) (call : Call) (n : ℕ) → n ≢ w.next → file_at w n ≡ None → file_at (call_does w who now call).1 n ≡ None
 absent w who now call n ne none =
     subst (λ (o : Option File). Step (λ f g. Unit {0}) o (file_at (call_does w who now call).1 n)) none
@@ -60,6 +63,7 @@ kind_resized (Some size) (Link target) = refl
 kind_resized (Some size) (Directory l) = (l, refl)
 
 module _ (w : Files) (who : Caller) (now : Timeval) (tree : IsFileTree w) where
+  -- kinds, and targets of links
   pub kinds : (call : Call) (n : ℕ) → KeepsAt (λ old new. KeepsKind old.body new.body) w (call_does w who now call).1 n
   kinds call n old new is is' =
       let R : File → File → Type 0 = λ f g. KeepsKind f.body g.body in
@@ -75,6 +79,7 @@ module _ (w : Files) (who : Caller) (now : Timeval) (tree : IsFileTree w) where
   attributes_same : (f : File) → KeepsAttributes f f
   attributes_same f = record { mode = refl; uid = refl; gid = refl; atime = refl }
 
+  -- mode, owner, group and atime
   pub attributes : (call : Call) (n : ℕ) → IsNoneOf n (set_by w call) → KeepsAt KeepsAttributes w (call_does w who now call).1 n
   attributes call n ns old new is is' =
       between KeepsAttributes (file_at w n) (file_at (call_does w who now call).1 n)
@@ -91,6 +96,7 @@ module _ (w : Files) (who : Caller) (now : Timeval) (tree : IsFileTree w) where
   bytes_relisted : (change : Listing → Listing) (b : Body) → KeepsBytes b (relisted_body change b)
   bytes_relisted change b bytes is = ap (relisted_body change) is
 
+  -- bytes of regular files
   pub bytes : (call : Call) (n : ℕ) → IsNoneOf n (written_by w call) → KeepsAt (λ old new. KeepsBytes old.body new.body) w (call_does w who now call).1 n
   bytes call n ns old new is is' =
       let R : File → File → Type 0 = λ f g. KeepsBytes f.body g.body in

@@ -1,4 +1,6 @@
 -- What every call leaves of the node, of the next number, and of the files that it does not name.
+-- Serves: calls_keep_the_files_they_do_not_name, files_stay_what_they_are (nfs_spec_frames);
+-- answers_have_a_spelling (nfs_spec_sizes).
 use Rattle.std.proofs.Common.{◌≡◌, ◌≢◌, ℕ, ◌+◌, List, [], ◌∷◌, ◌++◌, Option, Some, None, option_map, ⊎_elim, refl, sym, ap, subst, ◌∙◌, arith}
 use Rattle.std.specs.Prelude.{◌&&◌, is_none, if◌then◌else◌, ◌==◌, true, false, Bool, length}
 use Rattle.std.specs.Option.{option_map_or}
@@ -14,50 +16,56 @@ use Rattle.nfs_spec.specs.Procedures.{rewritten}
 use Rattle.nfs_spec.specs.Calls.{Call, Answer, number_for, call_does}
 use Rattle.nfs_spec_frames.specs.Named.{IsNoneOf, named_at, named_by, files_made}
 use Rattle.nfs_spec_changes.proofs.Granted.{IsNew, IsCreated, created, set_ok, write_ok, make_ok, create_ok, link_ok, remove_ok, remove_dir_ok, rename_ok}
-use Rattle.nfs_spec_frames.proofs.Every.{every}
-use Rattle.nfs_spec_changes.proofs.Edited.{IsHead, head_changed, made_head, linked_head, removed_head, moved_head, made_other, linked_other, removed_other, moved_other}
+use Rattle.nfs_spec_frames.proofs.CallCases.{every}
+use Rattle.nfs_spec_changes.proofs.OtherFiles.{made_other, linked_other, removed_other, moved_other}
+
+-- the node's number stays, and the next number is this
+pub record IsHead (w w' : Files) (next : ℕ) : Type 0 where
+  -- the node's number is as it was
+  pub node : w'.fsid ≡ w.fsid
+  -- the next number is this
+  pub next_is : w'.next ≡ next
 
 module _ (w : Files) (who : Caller) (now : Timeval) where
-  -- ---- the head
+  -- ---- the node's number and the next number
 
   abbrev HeadAfter : Call → Answer → Files → Type 0
   HeadAfter call answer w' = IsHead w w' (w.next + files_made w call answer)
 
-  none_more : (w' : Files) (m : ℕ) → m ≡ 0 → IsHead w w' w.next → IsHead w w' (w.next + m)
-  none_more w' m none h = record { node = h.node; next_is = omega (arith, h.next_is) }
+  -- files with the same next number, and with the one after it
+  head_same : (v w' : Files) → w' ≡ v → v.fsid ≡ w.fsid → v.next ≡ w.next → IsHead w w' (w.next + 0)
+  head_same v w' is node next = record { node = ap (λ (u : Files). u.fsid) is ∙ node; next_is = ap (λ (u : Files). u.next) is ∙ omega (arith, next) }
 
-  set_head : (n : ℕ) (a : Wanted) (w' : Files) → w' ≡ with_changed_file w n (set now a) → IsHead w w' w.next
-  set_head n a w' is = subst (λ v. IsHead w v w.next) (sym is) (head_changed w n (set now a))
+  head_new : (dir : ℕ) (name : List ℕ) (f : File) (x : ℕ × Files) → IsNew w who now dir name f x → IsHead w x.1 (w.next + 1)
+  head_new dir name f x new = record { node = ap (λ (u : Files). u.fsid) new.is; next_is = ap (λ (u : Files). u.next) new.is }
 
-  new_head : (dir : ℕ) (name : List ℕ) (f : File) (x : ℕ × Files) → IsNew w who now dir name f x → IsHead w x.1 (w.next + 1)
-  new_head dir name f x new = subst (λ v. IsHead w v (w.next + 1)) (sym new.is) (made_head now w dir name f)
+  head_written : (n offset : ℕ) (new old : List ℕ) (b : Bool) (w' : Files) → w' ≡ (if b then w else with_changed_file w n (rewritten now offset new old)) → IsHead w w' (w.next + 0)
+  head_written n offset new old true w' is = head_same w w' is refl refl
+  head_written n offset new old false w' is = head_same _ w' is refl refl
 
-  wrote_head : (n offset : ℕ) (new old : List ℕ) (b : Bool) → IsHead w (if b then w else with_changed_file w n (rewritten now offset new old)) w.next
-  wrote_head n offset new old true = record { node = refl; next_is = refl }
-  wrote_head n offset new old false = head_changed w n (rewritten now offset new old)
-
+  -- the node's number stays, and the next number but where a file was made
   pub heads : (call : Call) → HeadAfter call (call_does w who now call).0 (call_does w who now call).1
   heads = every w who now HeadAfter
       (λ call answer none why. record { node = refl; next_is = omega (arith, none) })
-      (λ file s y x h. none_more x.1 0 refl (set_head (number_for w file) (wanted now s) x.1 (set_ok w who now (number_for w file) (wanted now s) x h).is))
-      (λ file offset new y x h. let o = write_ok w who now (number_for w file) offset new x h in none_more x.1 0 refl (subst (λ v. IsHead w v w.next) (sym o.is) (wrote_head (number_for w file) offset new o.old (length new == 0))))
+      (λ file s y x h. head_same _ x.1 (set_ok w who now (number_for w file) (wanted now s) x h).is refl refl)
+      (λ file offset new y x h. let o = write_ok w who now (number_for w file) offset new x h in head_written (number_for w file) offset new o.old (length new == 0) x.1 o.is)
       (λ dir name s y x h. creates (number_for w dir) name (wanted now s) x (places w (number_for w dir) name) refl (create_ok w who now (number_for w dir) name (wanted now s) x h))
-      (λ dir name x h. let o = remove_ok w who now (number_for w dir) name x h in none_more x.1 0 refl (subst (λ v. IsHead w v w.next) (sym o.is) (removed_head now w (number_for w dir) name o.number)))
-      (λ from from_name to to_name x h. none_more x.1 0 refl (⊎_elim
-      (λ same. subst (λ v. IsHead w v w.next) (sym same.1) (record { node = refl; next_is = refl }))
-      (λ o. subst (λ v. IsHead w v w.next) (sym o.is) (moved_head now w o.number (number_for w from) from_name (number_for w to) to_name (option_map (λ e. e.0) (places w (number_for w to) to_name))))
-      (rename_ok w who now (number_for w from) from_name (number_for w to) to_name x h)))
-      (λ from dir name x h. let o = link_ok w who now (number_for w from) (number_for w dir) name x h in none_more x.1 0 refl (subst (λ v. IsHead w v w.next) (sym o.is) (linked_head now w (number_for w from) (number_for w dir) name)))
-      (λ dir name target s x h. new_head (number_for w dir) name (new_file who now nothing 511 (Link target)) x (make_ok w who now (number_for w dir) name (new_file who now nothing 511 (Link target)) x h))
-      (λ dir name s y x h. let f = new_file who now (wanted now s) 493 (Directory (record { next = 3; entries = [] })) in new_head (number_for w dir) name f x (make_ok w who now (number_for w dir) name f x h))
-      (λ dir name x h. let o = remove_dir_ok w who now (number_for w dir) name x h in none_more x.1 0 refl (subst (λ v. IsHead w v w.next) (sym o.is) (removed_head now w (number_for w dir) name o.number)))
+      (λ dir name x h. head_same _ x.1 (remove_ok w who now (number_for w dir) name x h).is refl refl)
+      (λ from from_name to to_name x h. ⊎_elim
+      (λ same. head_same w x.1 same.1 refl refl)
+      (λ o. head_same _ x.1 o.is refl refl)
+      (rename_ok w who now (number_for w from) from_name (number_for w to) to_name x h))
+      (λ from dir name x h. head_same _ x.1 (link_ok w who now (number_for w from) (number_for w dir) name x h).is refl refl)
+      (λ dir name target s x h. head_new (number_for w dir) name (new_file who now nothing 511 (Link target)) x (make_ok w who now (number_for w dir) name (new_file who now nothing 511 (Link target)) x h))
+      (λ dir name s y x h. let f = new_file who now (wanted now s) 493 (Directory (record { next = 3; entries = [] })) in head_new (number_for w dir) name f x (make_ok w who now (number_for w dir) name f x h))
+      (λ dir name x h. head_same _ x.1 (remove_dir_ok w who now (number_for w dir) name x h).is refl refl)
     where
       creates : (dir : ℕ) (name : List ℕ) (a : Wanted) (x : ℕ × Files) (o : Option (ℕ × ℕ)) → places w dir name ≡ o → IsCreated w who now dir name a x
           → IsHead w x.1 (w.next + (if is_none (places w dir name) && true then 1 else 0))
-      creates dir name a x None is h = subst (λ (o : Option (ℕ × ℕ)). IsHead w x.1 (w.next + (if is_none o && true then 1 else 0))) (sym is) (new_head dir name (created w who now a) x (h.fresh is))
+      creates dir name a x None is h = subst (λ (o : Option (ℕ × ℕ)). IsHead w x.1 (w.next + (if is_none o && true then 1 else 0))) (sym is) (head_new dir name (created w who now a) x (h.fresh is))
       creates dir name a x (Some e) is h =
           let o = set_ok w who now e.0 a (tt, x.1) (h.over e.0 e.1 is).1 in
-          subst (λ (o : Option (ℕ × ℕ)). IsHead w x.1 (w.next + (if is_none o && true then 1 else 0))) (sym is) (none_more x.1 0 refl (set_head e.0 a x.1 o.is))
+          subst (λ (o : Option (ℕ × ℕ)). IsHead w x.1 (w.next + (if is_none o && true then 1 else 0))) (sym is) (head_same _ x.1 o.is refl refl)
 
   -- ---- the files that are none of those named
 
@@ -83,6 +91,7 @@ module _ (w : Files) (who : Caller) (now : Timeval) where
   none_of_both n [] b h = (tt, h)
   none_of_both n (m ∷ a) b h = let rest = none_of_both n a b h.1 in ((h.0, rest.0), rest.1)
 
+  -- a number that a call does not name has the file that it had
   pub others : (call : Call) → OthersAfter call (call_does w who now call).0 (call_does w who now call).1
   others = every w who now OthersAfter
       (λ call answer none why n h. refl)

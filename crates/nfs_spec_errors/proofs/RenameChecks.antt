@@ -1,5 +1,7 @@
--- The checks of RENAME.
-use Rattle.std.proofs.Common.{◌≡◌, ℕ, Bool, true, false, cond, not, List, [], ◌∷◌, length, Option, Some, None, Result, Ok, option_map, refl, sym, ap, subst, ◌∙◌}
+-- RENAME gives in a tree the stat of the first of `rename_checks` that fails; where both names stand for one
+-- file nothing more is asked.
+-- Serves: stats_of_rename; by CallChecks stats_of_calls (nfs_spec_errors).
+use Rattle.std.proofs.Common.{◌≡◌, ℕ, Bool, true, false, cond, not, List, [], ◌∷◌, Option, Some, None, Result, Ok, option_map, refl, sym, ap, subst, ◌∙◌}
 use Rattle.std.specs.Prelude.{◌&&◌, ◌||◌, ◌==◌, nat_le, is_none}
 use Rattle.std.specs.Option.{option_map_or}
 use Rattle.nfs_types.specs.Timeval.{Timeval}
@@ -13,9 +15,9 @@ use Rattle.nfs_spec.specs.Checks.{◌>>=◌, Found, file_of, dir_of, check, chec
 use Rattle.nfs_spec.specs.Procedures.{is_above, check_target, moved, rename}
 use Rattle.nfs_spec_laws.proofs.Steps.{IsFound, found_ok, dir_ok, number_ok}
 use Rattle.nfs_spec_laws.proofs.Kept.{place_found}
-use Rattle.nfs_spec_errors.specs.Checks.{Checks, holds_named, is_dir}
+use Rattle.nfs_spec_errors.specs.Checks.{Checks, holds_named, is_dir, lists_nothing}
 use Rattle.nfs_spec_errors.specs.Tables.{is_same_file, is_named_above, rename_checks}
-use Rattle.nfs_spec_errors.proofs.Steps.{HasStat, in_turn, done, of_same, of_that_file, of_dir, test_named, named_file, of_edit, of_number}
+use Rattle.nfs_spec_errors.proofs.StepsInTurn.{HasStat, in_turn, done, of_same, of_that_file, of_dir, test_named, named_file, of_edit, of_number}
 
 branch : {A : Type 0} (b : Bool) (x : A) (r : Result A Stat) (cs : Checks) → HasStat r cs → HasStat (cond b (Ok x) r) (cond b [] cs)
 branch true x r cs h = done x
@@ -23,9 +25,6 @@ branch false x r cs h = h
 
 abbrev target_checks : Bool → Bool → Bool → Bool → Checks
 target_checks free source target empty = (free || not source || target, stats.NotDir) ∷ (free || source || not target, stats.IsDir) ∷ (free || empty, stats.NotEmpty) ∷ []
-
-abbrev lists_nothing : File → Bool
-lists_nothing f = length (listing_in f.body).entries == 0
 
 module _ (w : Files) (tree : IsFileTree w) (who : Caller) (now : Timeval) (from : ℕ) (from_name : List ℕ) (to : ℕ) (to_name : List ℕ) where
   module _ (e : Found) (found : IsFound w to e) (n b : ℕ) (at : places w from from_name ≡ Some (n, b)) (f : File) (there : file_at w n ≡ Some f) where
@@ -92,6 +91,7 @@ module _ (w : Files) (tree : IsFileTree w) (who : Caller) (now : Timeval) (from 
     of_end : HasStat (cond (option_map_or (λ t. t == n) target false) (Ok (tt, w)) moving) (cond (is_same_file w from from_name to to_name) [] moving_checks)
     of_end = subst (λ (b : Bool). HasStat (cond (option_map_or (λ t. t == n) target false) (Ok (tt, w)) moving) (cond b [] moving_checks)) (sym same_is) (branch _ (tt, w) moving moving_checks of_moving)
 
+  -- RENAME: `rename_checks`
   pub of_rename : HasStat (rename w who now from from_name to to_name) (rename_checks w who from from_name to to_name)
   of_rename =
       in_turn (dir_of w from) _ (of_dir w from) (λ d is_d.

@@ -1,4 +1,5 @@
 -- A call that was not refused did to the files that it names what its procedure does.
+-- Serves: calls_change_what_they_name (nfs_spec_frames).
 use Rattle.std.proofs.Common.{◌≡◌, ⊎_elim, ℕ, true, false, List, [], Some, None, refl, sym, ap, subst, ◌∙◌}
 use Rattle.std.specs.Prelude.{◌==◌, length, if◌then◌else◌}
 use Rattle.nfs_types.specs.Timeval.{Timeval}
@@ -16,11 +17,11 @@ use Rattle.nfs_spec.specs.Calls.{Call, Answer, number_for, call_does}
 use Rattle.nfs_spec_laws.specs.Laws.{only_reads, refusal_in}
 use Rattle.nfs_spec_changes.specs.Changed.{Makes}
 use Rattle.nfs_spec_changes.proofs.Granted.{IsSet, IsWrote, IsNew, IsCreated, created, set_ok, write_ok, make_ok, create_ok, link_ok, remove_ok, remove_dir_ok, rename_ok}
-use Rattle.nfs_spec_changes.proofs.Becoming.{set_becomes, wrote_becomes, made_makes, linked_links, removed_unnames, directory_gone}
-use Rattle.nfs_spec_changes.proofs.Bytewise.{set_bytes, wrote_bytes}
-use Rattle.nfs_spec_changes.proofs.Renaming.{renamed_moves}
+use Rattle.nfs_spec_changes.proofs.NamedFiles.{set_becomes, wrote_becomes, made_makes, linked_links, removed_unnames, directory_gone}
+use Rattle.nfs_spec_changes.proofs.BytesWritten.{set_bytes, wrote_bytes}
+use Rattle.nfs_spec_changes.proofs.RenamedFiles.{renamed_moves}
 use Rattle.nfs_spec_frames.specs.Done.{IsSetAt, IsWrittenAt, IsCreatedAt, Did}
-use Rattle.nfs_spec_frames.proofs.Every.{every}
+use Rattle.nfs_spec_frames.proofs.CallCases.{every}
 
 module _ (w : Files) (who : Caller) (now : Timeval) (tree : IsFileTree w) where
   -- a call that only reads
@@ -66,6 +67,7 @@ module _ (w : Files) (who : Caller) (now : Timeval) (tree : IsFileTree w) where
     fresh = λ free. new_at dir name (created w who now a) x (o.fresh free);
   }
 
+  -- by cases of the call
   pub did : (call : Call) → DidAfter call (call_does w who now call).0 (call_does w who now call).1
   did = every w who now DidAfter
       (λ call answer none why not. ⊎_elim (λ reads. read_did call reads) (λ (s : (s : Stat) × (refusal_in answer ≡ Some s)). absurd (none_some (sym not ∙ s.1))) why)

@@ -1,4 +1,7 @@
--- What holds after every call: it holds of the files as they were, and after each procedure that was not refused.
+-- What holds after every call: it holds of the files as they were, and after each procedure that was not
+-- refused.
+-- Serves: calls_keep_the_files_they_do_not_name, calls_change_what_they_name, files_stay_what_they_are
+-- (nfs_spec_frames), by UnnamedFiles, CallEffects and BeforeAndAfter.
 use Rattle.std.proofs.Common.{◌≡◌, ◌⊎◌, inl, inr, ℕ, Bool, true, false, List, Result, Ok, Err, refl, ap, subst, ◌∙◌}
 use Rattle.std.specs.Prelude.{◌&&◌, is_none, if◌then◌else◌, Some}
 use Rattle.nfs_types.specs.Timeval.{Timeval}
@@ -64,6 +67,7 @@ module _ (w : Files) (who : Caller) (now : Timeval) (P : Call → Answer → Fil
     (symlinks : (dir name target : List ℕ) (s : Sattr) (x : ℕ × Files) → symlink w who now (number_for w dir) name target ≡ Ok x → P (calls.Symlink dir name target s) (calls.Status (Ok tt)) x.1)
     (makes_dirs : (dir name : List ℕ) (s : Sattr) (y : List ℕ × Fattr) (x : ℕ × Files) → make_dir w who now (number_for w dir) name (wanted now s) ≡ Ok x → P (calls.Mkdir dir name s) (calls.DirOp (Ok y)) x.1)
     (removes_dirs : (dir name : List ℕ) (x : Unit {0} × Files) → remove_dir w who now (number_for w dir) name ≡ Ok x → P (calls.Rmdir dir name) (calls.Status (Ok tt)) x.1) where
+  -- by cases of the call, each with what its procedure did
   pub every : (call : Call) → P call (call_does w who now call).0 (call_does w who now call).1
   every calls.Null = still calls.Null _ refl (inl refl)
   every (calls.Getattr file) = still (calls.Getattr file) _ refl (inl refl)

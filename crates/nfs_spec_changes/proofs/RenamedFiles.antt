@@ -1,4 +1,6 @@
--- What becomes of the files that RENAME names.
+-- What becomes of the files that RENAME names: step by step, from what stands at the new name to both
+-- directories.
+-- Serves: renaming_keeps_the_rest (nfs_spec_changes); calls_change_what_they_name (nfs_spec_frames).
 use Rattle.std.proofs.Common.{◌≡◌, ◌≢◌, ℕ, zero, suc, Bool, true, false, List, [], ◌∷◌, ◌++◌, Option, Some, None, eqb, option_map, append-nil, refl, sym, ap, subst, ◌∙◌, eq-eqb}
 use Rattle.std.specs.Prelude.{◌&&◌, ◌||◌}
 use Rattle.nfs_types.specs.Timeval.{Timeval}
@@ -12,16 +14,15 @@ use Rattle.fs_model.proofs.OnePath.{one_path}
 use Rattle.fs_changes.specs.Edits.{with_name, without_name, relisted}
 use Rattle.fs_changes.specs.Limits.{file_count}
 use Rattle.fs_changes.proofs.Finite.{changed_here, changed_other, gone_other}
-use Rattle.fs_changes.proofs.Listings.{without_entry_here, without_entry_distinct}
 use Rattle.fs_changes.proofs.PathChanges.{no_return}
 use Rattle.nfs_spec.specs.Changes.{touch, touched, mark, marked, unnamed, after_unlink}
 use Rattle.nfs_spec.specs.Procedures.{climbs_to, is_above, cleared}
 use Rattle.nfs_spec_trees.proofs.Fitting.{dir_file}
-use Rattle.nfs_spec_changes.specs.Changed.{Becomes, IsMarked, IsTouched, LosesName, less, more, Moves}
+use Rattle.nfs_spec_changes.specs.Changed.{Becomes, IsMarked, IsTouched, LosesName, Moves}
 use Rattle.nfs_spec_changes.proofs.Granted.{IsRenamed}
-use Rattle.nfs_spec_changes.proofs.Edited.{unnamed_other, moved_apart, before_mark}
-use Rattle.nfs_spec_changes.proofs.Listed.{without_is, less_free, with_is, still_free, IsAt, listing_of, begins_at, at_same, at_other, at_relisted, at_touched, becomes_touched, becomes_marked}
-use Rattle.nfs_spec_changes.proofs.Becoming.{entry_here, lists_none, distinct_in, loses}
+use Rattle.nfs_spec_changes.proofs.OtherFiles.{unnamed_other, moved_apart, before_mark}
+use Rattle.nfs_spec_changes.proofs.DirectoryEntries.{without_free, with_without, IsAt, listing_of, begins_at, at_same, at_other, at_relisted, at_touched, becomes_touched, becomes_marked}
+use Rattle.nfs_spec_changes.proofs.NamedFiles.{entry_here, lists_none, distinct_in, loses}
 
 module _ (w : Files) (who : Caller) (now : Timeval) (tree : IsFileTree w) where
   -- a directory does not list itself
@@ -111,9 +112,7 @@ module _ (w : Files) (who : Caller) (now : Timeval) (tree : IsFileTree w) where
 
     record IsClear (v : Files) (l : Listing) : Type 0 where
       at : IsAt v to o.to_file o.to_file.mtime o.to_file.ctime l
-      is : l ≡ less to_name to_listing.0
-      free : entry_at l to_name ≡ None
-      distinct : HasDistinctNames l.entries
+      is : l ≡ without_entry to_listing.0 to_name
 
     clear : (l : Listing) × IsClear w₁ l
     unfolding t w₁
@@ -129,23 +128,21 @@ module _ (w : Files) (who : Caller) (now : Timeval) (tree : IsFileTree w) where
         by : (p : Option (ℕ × ℕ)) → places w to to_name ≡ p → (l : Listing) × IsClear (cleared now w to to_name (option_map (λ e. e.0) p)) l
         by None is =
             let free : entry_at to_listing.0 to_name ≡ None = sym (entry_here w who now to o.to_file to_listing.0 o.to_there to_listing.1 to_name) ∙ is in
-            (to_listing.0, record { at = begin; is = sym (less_free to_listing.0 to_name free); free = free; distinct = to_distinct })
+            (to_listing.0, record { at = begin; is = sym (without_free to_listing.0 to_name free) })
         by (Some e) is =
             let less_at = at_relisted w to o.to_file o.to_file.mtime o.to_file.ctime to_listing.0 begin (λ m. without_entry m to_name) in (
               without_entry to_listing.0 to_name,
               record {
                 at = at_same (without_name w to to_name) to o.to_file o.to_file.mtime o.to_file.ctime (without_entry to_listing.0 to_name) less_at (unnamed now w to to_name e.0)
                     (kept e.0 (target_to e.0 e.1 is) (eqb (names_of (without_name w to to_name) e.0) 0));
-                is = without_is to_listing.0 to_name to_distinct;
-                free = without_entry_here to_listing.0 to_name to_distinct;
-                distinct = without_entry_distinct to_listing.0 to_name to_distinct;
+                is = refl;
               },
             )
 
     -- ---- the directories
 
     -- the to directory, where the other is another
-    apart_to : from ≢ to → Becomes w after to (IsTouched now (λ l. more to_name o.number (less to_name l)))
+    apart_to : from ≢ to → Becomes w after to (IsTouched now (λ l. with_entry l to_name o.number))
     unfolding w₂ w₃ w₄ w₅ after
     apart_to ne =
         let f = o.to_file in
@@ -155,11 +152,11 @@ module _ (w : Files) (who : Caller) (now : Timeval) (tree : IsFileTree w) where
         let a₃ = at_relisted w₂ to f f.mtime f.ctime l₁ a₂ (λ m. with_entry m to_name o.number) in
         let a₄ = at_other w₃ to f f.mtime f.ctime l₂ a₃ o.number (marked now) (λ e. number_to (sym e)) in
         let a₅ = at_other w₄ to f f.mtime f.ctime l₂ a₄ from (touched now) (λ e. ne (sym e)) in
-        becomes_touched now w after to f to_listing.0 l₂ (λ l. more to_name o.number (less to_name l)) o.to_there to_listing.1 (at_touched w₅ to f f.mtime f.ctime l₂ a₅ now)
-        (with_is l₁ to_name o.number clear.1.free ∙ ap (more to_name o.number) clear.1.is)
+        becomes_touched now w after to f to_listing.0 l₂ (λ l. with_entry l to_name o.number) o.to_there to_listing.1 (at_touched w₅ to f f.mtime f.ctime l₂ a₅ now)
+        (ap (λ l. with_entry l to_name o.number) clear.1.is ∙ with_without to_listing.0 to_name o.number to_distinct)
 
     -- the from directory, where the other is another
-    apart_from : from ≢ to → Becomes w after from (IsTouched now (less from_name))
+    apart_from : from ≢ to → Becomes w after from (IsTouched now (λ l. without_entry l from_name))
     unfolding w₂ w₃ w₄ w₅ after
     apart_from ne =
         let df = dir_file w from (tree.tree.lists from from_name o.number o.cookie o.at) in
@@ -170,11 +167,10 @@ module _ (w : Files) (who : Caller) (now : Timeval) (tree : IsFileTree w) where
         let a₃ = at_other w₂ from df.0 df.0.mtime df.0.ctime l₁ a₂ to (relisted (λ m. with_entry m to_name o.number)) ne in
         let a₄ = at_other w₃ from df.0 df.0.mtime df.0.ctime l₁ a₃ o.number (marked now) (λ e. number_from (sym e)) in
         let a₅ = at_touched w₄ from df.0 df.0.mtime df.0.ctime l₁ a₄ now in
-        becomes_touched now w after from df.0 l.0 l₁ (less from_name) df.1 l.1 (at_other w₅ from df.0 now now l₁ a₅ to (touched now) ne)
-        (without_is l.0 from_name (distinct_in w who now tree from df.0 l.0 df.1 l.1))
+        becomes_touched now w after from df.0 l.0 l₁ (λ m. without_entry m from_name) df.1 l.1 (at_other w₅ from df.0 now now l₁ a₅ to (touched now) ne) refl
 
     -- both, where they are one
-    within_to : from ≡ to → Becomes w after to (IsTouched now (λ l. more to_name o.number (less from_name (less to_name l))))
+    within_to : from ≡ to → Becomes w after to (IsTouched now (λ l. with_entry (without_entry (without_entry l to_name) from_name) to_name o.number))
     unfolding w₂ w₃ w₄ w₅ after
     within_to e =
         let f = o.to_file in
@@ -185,8 +181,8 @@ module _ (w : Files) (who : Caller) (now : Timeval) (tree : IsFileTree w) where
         let a₃ = at_relisted w₂ to f f.mtime f.ctime l₂ a₂ (λ m. with_entry m to_name o.number) in
         let a₄ = at_other w₃ to f f.mtime f.ctime l₃ a₃ o.number (marked now) (λ e. number_to (sym e)) in
         let a₅ : IsAt w₅ to f now now l₃ = subst (λ m. IsAt (touch now w₄ m) to f now now l₃) (sym e) (at_touched w₄ to f f.mtime f.ctime l₃ a₄ now) in
-        becomes_touched now w after to f to_listing.0 l₃ (λ l. more to_name o.number (less from_name (less to_name l))) o.to_there to_listing.1 (at_touched w₅ to f now now l₃ a₅ now)
-        (with_is l₂ to_name o.number (still_free l₁ clear.1.distinct from_name to_name clear.1.free) ∙ ap (more to_name o.number) (without_is l₁ from_name clear.1.distinct ∙ ap (less from_name) clear.1.is))
+        becomes_touched now w after to f to_listing.0 l₃ (λ l. with_entry (without_entry (without_entry l to_name) from_name) to_name o.number) o.to_there to_listing.1 (at_touched w₅ to f now now l₃ a₅ now)
+        (ap (λ l. with_entry (without_entry l from_name) to_name o.number) clear.1.is)
 
     -- ---- the files
 
@@ -207,6 +203,7 @@ module _ (w : Files) (who : Caller) (now : Timeval) (tree : IsFileTree w) where
         ∙ before_mark now w o.number from from_name to to_name t k (target_from k c at) (target_to k c at)
         ∙ ap (λ p. file_at (cleared now w to to_name (option_map (λ e. e.0) p)) k) at)
 
+    -- RENAME of another file
     pub renamed_moves : Moves now w w' from from_name to to_name
     renamed_moves = subst (λ v. Moves now w v from from_name to to_name) (sym after_is) (record {
       number = o.number;

@@ -1,4 +1,6 @@
--- What stands between a number's file before a call and after it.
+-- What stands between a number's file before a call and after it: a relation that each change of one file
+-- keeps is kept by every call.
+-- Serves: files_stay_what_they_are, calls_keep_the_files_they_do_not_name (nfs_spec_frames), by KeptParts.
 use Rattle.std.proofs.Common.{◌≡◌, ◌≢◌, ℕ, Bool, true, false, List, [], Option, Some, None, option_map, ⊎_elim, refl, sym, ap, subst, ◌∙◌, eqb}
 use Rattle.std.specs.Prelude.{if◌then◌else◌, ◌==◌, length}
 use Rattle.std.proofs.lemmas.Bool.{cases_eq}
@@ -15,7 +17,7 @@ use Rattle.nfs_spec.specs.Procedures.{rewritten, made, cleared, moved}
 use Rattle.nfs_spec.specs.Calls as calls
 use Rattle.nfs_spec.specs.Calls.{Call, Answer, number_for, call_does}
 use Rattle.nfs_spec_changes.proofs.Granted.{IsNew, IsCreated, created, set_ok, write_ok, make_ok, create_ok, link_ok, remove_ok, remove_dir_ok, rename_ok}
-use Rattle.nfs_spec_frames.proofs.Every.{every}
+use Rattle.nfs_spec_frames.proofs.CallCases.{every}
 
 -- nothing stays nothing, and what is there stands so to what was or is gone
 abbrev pub Step : (File → File → Type 0) → Option File → Option File → Type 0
@@ -122,6 +124,7 @@ module _ (R : File → File → Type 0) (same : (f : File) → R f f) (joins : (
         new_step : (dir : ℕ) (name : List ℕ) (f : File) (x : ℕ × Files) → IsNew w who now dir name f x → Step R (file_at w n) (file_at x.1 n)
         new_step dir name f x new = to_same (made now w dir name f) x.1 new.is (made_step w dir name f old)
 
+        -- over every call, by its procedure
         pub steps : (call : Call) → A call → Step R (file_at w n) (file_at (call_does w who now call).1 n)
         steps = every w who now After
             (λ call answer none why a. stays (file_at w n))
