@@ -6,10 +6,9 @@ use Rattle.xdr.specs.Item.{Value, Fits, IsBytes}
 use Rattle.xdr.specs.Reading.{read_at}
 use Rattle.xdr.specs.Text.{text_at}
 use Rattle.xdr.proofs.Exact.{again}
-use Rattle.xdr.proofs.Calls.{is_text, text_more, text_end}
+use Rattle.xdr.proofs.WholeTexts.{is_text, text_more, text_end}
 use Rattle.nfs_items.specs.Caller.{Caller}
-use Rattle.nfs_items.specs.Credentials.{authsys_parms}
-use Rattle.nfs_items.specs.Credentials.{credential_text, caller_of_parms, caller_in, body_of, caller_from, IsCaller}
+use Rattle.nfs_items.specs.Credentials.{authsys_parms, credential_text, caller_of_parms, caller_in, body_of, caller_from, IsCaller}
 
 -- the parameters that a body holds
 parms_in : (body : List ℕ) (who : Caller) → caller_in body ≡ Some who → (v : Value authsys_parms) × (text_at credential_text body ≡ Some v) × (caller_of_parms v ≡ who)
