@@ -1,4 +1,4 @@
--- What callers see of nodes.
+-- What callers see of inodes.
 use Rattle.std.proofs.Common.{◌≡◌, ℕ, true, false, cond, List, [], ◌∷◌, map, Some, None, Ok, Err, option_map, if◌then◌else◌, refl, sym, ap, ◌∙◌}
 use Rattle.std.specs.Ordering.{nat_cmp}
 use Rattle.std.specs.Cmp.{nat_cmp_total}
@@ -12,30 +12,30 @@ use Rattle.nfs_spec.specs.Checks.{◌>>=◌, found_or, listing_or, may_search}
 use Rattle.nfs_spec.specs.Attributes.{attributes_of}
 use Rattle.nfs_spec.specs.Effects.{attributes_at, number_named, number_at_name}
 use Rattle.inodes.specs.LookUp.{number_listed}
-use Rattle.inodes.specs.Nodes.{body_in, file_in, node_at, files_of, parent_in, KeepsParent, AreTree, fattr_of}
-use Rattle.inodes.specs.NodeLookUp.{number_in}
-use Rattle.inodes.specs.declared.node.Body as stored
-use Rattle.inodes.specs.declared.node.Body.TheVariants as code
-use Rattle.inodes.specs.declared.node.Node.{Node}
+use Rattle.inodes.specs.Inodes.{body_in, file_in, inode_at, files_of, parent_in, KeepsParent, AreTree, fattr_of}
+use Rattle.inodes.specs.InodeLookUp.{look_up_in}
+use Rattle.inodes.specs.declared.inode.Body as stored
+use Rattle.inodes.specs.declared.inode.Body.TheVariants as code
+use Rattle.inodes.specs.declared.inode.Inode.{Inode}
 
-find_seen : (es : List (ℕ × Node)) (n : ℕ) → finite.find nat_cmp n (map (λ (e : ℕ × Node). (e.0, file_in e.1)) es) ≡ option_map file_in (node_at es n)
+find_seen : (es : List (ℕ × Inode)) (n : ℕ) → finite.find nat_cmp n (map (λ (e : ℕ × Inode). (e.0, file_in e.1)) es) ≡ option_map file_in (inode_at es n)
 find_seen [] n = refl
-find_seen (e ∷ es) n = elim (is_at (nat_cmp n) e.0) as (λ b. cond b (Some (file_in e.1)) (finite.find nat_cmp n (map (λ (e : ℕ × Node). (e.0, file_in e.1)) es)) ≡ option_map file_in (cond b (Some e.1) (node_at es n))) [
+find_seen (e ∷ es) n = elim (is_at (nat_cmp n) e.0) as (λ b. cond b (Some (file_in e.1)) (finite.find nat_cmp n (map (λ (e : ℕ × Inode). (e.0, file_in e.1)) es)) ≡ option_map file_in (cond b (Some e.1) (inode_at es n))) [
   | true ↦ refl
   | false ↦ find_seen es n
 ]
 
-module _ (fsid next : ℕ) (nodes : List (ℕ × Node)) where
-  pub file_seen : (n : ℕ) → file_at (files_of fsid next nodes) n ≡ option_map file_in (node_at nodes n)
-  file_seen n = finite.get-from_entries nat_cmp_total _ n ∙ find_seen nodes n
+module _ (fsid next : ℕ) (inodes : List (ℕ × Inode)) where
+  pub file_seen : (n : ℕ) → file_at (files_of fsid next inodes) n ≡ option_map file_in (inode_at inodes n)
+  file_seen n = finite.get-from_entries nat_cmp_total _ n ∙ find_seen inodes n
 
-  -- where no node has a number
-  pub attributes_none : (n : ℕ) → node_at nodes n ≡ None → attributes_at (files_of fsid next nodes) n ≡ Err stats.Stale
-  attributes_none n none = ap (λ o. found_or stats.Stale o >>= (λ f. Ok (attributes_of (files_of fsid next nodes) n f))) (file_seen n ∙ ap (option_map file_in) none)
+  -- where no inode has a number
+  pub attributes_none : (n : ℕ) → inode_at inodes n ≡ None → attributes_at (files_of fsid next inodes) n ≡ Err stats.Stale
+  attributes_none n none = ap (λ o. found_or stats.Stale o >>= (λ f. Ok (attributes_of (files_of fsid next inodes) n f))) (file_seen n ∙ ap (option_map file_in) none)
 
-  pub number_none : (who : Caller) (n : ℕ) (name : List ℕ) → node_at nodes n ≡ None → number_at_name (files_of fsid next nodes) who n name ≡ Err stats.Stale
+  pub number_none : (who : Caller) (n : ℕ) (name : List ℕ) → inode_at inodes n ≡ None → number_at_name (files_of fsid next inodes) who n name ≡ Err stats.Stale
   number_none who n name none =
-      ap (λ o. found_or stats.Stale o >>= (λ f. listing_or stats.NotDir f.body >>= (λ l. if may_search who f then found_or stats.NoEnt (number_named (files_of fsid next nodes) n l name) else Err stats.Acces)))
+      ap (λ o. found_or stats.Stale o >>= (λ f. listing_or stats.NotDir f.body >>= (λ l. if may_search who f then found_or stats.NoEnt (number_named (files_of fsid next inodes) n l name) else Err stats.Acces)))
       (file_seen n ∙ ap (option_map file_in) none)
 
 -- in a directory, the one above is the one that it keeps
@@ -46,20 +46,20 @@ named_in w who n name f (code.Regular bytes) kept = refl
 named_in w who n name f (code.Link target) kept = refl
 named_in w who n name f (code.Directory parent l) kept = ap (λ above. if may_search who f then found_or stats.NoEnt (number_listed n above l name) else Err stats.Acces) (sym kept)
 
--- where a node has a number
-module _ (fsid next : ℕ) (nodes : List (ℕ × Node)) (tree : AreTree fsid next nodes) (n : ℕ) (node : Node) (at : node_at nodes n ≡ Some node) where
-  there : file_at (files_of fsid next nodes) n ≡ Some (file_in node)
-  there = file_seen fsid next nodes n ∙ ap (option_map file_in) at
+-- where an inode has a number
+module _ (fsid next : ℕ) (inodes : List (ℕ × Inode)) (tree : AreTree fsid next inodes) (n : ℕ) (inode : Inode) (at : inode_at inodes n ≡ Some inode) where
+  there : file_at (files_of fsid next inodes) n ≡ Some (file_in inode)
+  there = file_seen fsid next inodes n ∙ ap (option_map file_in) at
 
-  pub is_body : IsBody (body_in node.body)
-  is_body = (tree.tree.files n (file_in node) there).body
+  pub is_body : IsBody (body_in inode.body)
+  is_body = (tree.tree.files n (file_in inode) there).body
 
-  pub attributes_some : attributes_at (files_of fsid next nodes) n ≡ Ok (fattr_of fsid n node)
+  pub attributes_some : attributes_at (files_of fsid next inodes) n ≡ Ok (fattr_of fsid n inode)
   attributes_some =
-      ap (λ o. found_or stats.Stale o >>= (λ f. Ok (attributes_of (files_of fsid next nodes) n f))) there
-      ∙ ap (λ k. Ok (record (fattr_of fsid n node) { nlink = k })) (sym (tree.counted n node at).nlink)
+      ap (λ o. found_or stats.Stale o >>= (λ f. Ok (attributes_of (files_of fsid next inodes) n f))) there
+      ∙ ap (λ k. Ok (record (fattr_of fsid n inode) { nlink = k })) (sym (tree.counted n inode at).nlink)
 
-  pub number_some : (who : Caller) (name : List ℕ) → number_at_name (files_of fsid next nodes) who n name ≡ number_in who n node name
+  pub number_some : (who : Caller) (name : List ℕ) → number_at_name (files_of fsid next inodes) who n name ≡ look_up_in who n inode name
   number_some who name =
-      ap (λ o. found_or stats.Stale o >>= (λ f. listing_or stats.NotDir f.body >>= (λ l. if may_search who f then found_or stats.NoEnt (number_named (files_of fsid next nodes) n l name) else Err stats.Acces))) there
-      ∙ named_in (files_of fsid next nodes) who n name (file_in node) node.body (tree.counted n node at).parent
+      ap (λ o. found_or stats.Stale o >>= (λ f. listing_or stats.NotDir f.body >>= (λ l. if may_search who f then found_or stats.NoEnt (number_named (files_of fsid next inodes) n l name) else Err stats.Acces))) there
+      ∙ named_in (files_of fsid next inodes) who n name (file_in inode) inode.body (tree.counted n inode at).parent
