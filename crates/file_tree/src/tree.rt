@@ -38,7 +38,8 @@ impl Model for Tree {
 }
 
 impl Tree {
-    /// The files that each server begins with, for the server of a number: the directory `/` and the file `/hello`.
+    /// The files that each server begins with, for the server of a number: the directory `/` and the file
+    /// `/hello`.
     pub fn opening(alloc: Global, fsid: u32) -> Result<Tree, AllocError>
         ensures { IfOk result (λ tree. tree ≡ opening_files fsid) }
     {
@@ -76,15 +77,17 @@ impl Tree {
         Ok(inode.attributes(self.fsid, number))
     }
 
-    /// The number that a directory has at a name (RFC 1094, section 2.2.5): `.` is itself, and `..` the directory
-    /// above, which for the root is the root. Stale where no file has the directory's number, NotDir where that
-    /// file is none, Acces where the caller may not search it, and then NoEnt.
+    /// The number that a directory has at a name (RFC 1094, section 2.2.5): `.` is itself, and `..` the
+    /// directory above, which for the root is the root. Stale where no file has the directory's number, NotDir
+    /// where that file is none, Acces where the caller may not search it, and then NoEnt.
     pub fn lookup(&self, who: &Who, dir: u32, name: &[u8]) -> Result<u32, Stat>
         ensures result { result ≡ number_at_name self.now (caller_of who.now) dir name.now }
 
         // A path to the directory, one name longer, leads to the number.
-        ensures found { IfOk result (λ number. IsTrue (is_name name.now) → LeadsOn (places self.now) dir name.now (Some number)) }
-        ensures absent { result ≡ Err Stat.NoEnt → IsTrue (is_name name.now) → LeadsOn (places self.now) dir name.now None }
+        ensures found { IfOk result (λ number. IsTrue (is_name name.now) →
+            LeadsOn (places self.now) dir name.now (Some number)) }
+        ensures absent { result ≡ Err Stat.NoEnt → IsTrue (is_name name.now) →
+            LeadsOn (places self.now) dir name.now None }
 
         // A path to the directory, one name shorter, leads to the one above.
         ensures above { name.now ≡ dot_dot → IfOk result (λ number. LeadsBack (places self.now) dir number) }

@@ -6,6 +6,8 @@ ghost use Rattle.nfs_types.specs.Handle.{handle_of, number_in};
 ghost use Rattle.nfs_types.specs.Arguments.{Arguments, procedure_of, AreArguments, arguments_text};
 ghost use Rattle.nfs_types.specs.Results.{Results, AreResults, results_text};
 ghost use Rattle.nfs_types.specs.declared.arguments.NfsProcedure.{NfsProcedure};
+ghost use Rattle.nfs_types.specs.declared.limits.TheConstants.{MAXNAMLEN};
+ghost use Rattle.nfs_types.specs.declared.who.TheConstants.{NOBODY_ID};
 
 /// A file handle tells the file number that it was made of, no other bytes tell one, and no two files have
 /// one handle.
@@ -31,4 +33,11 @@ pub fn results_have_one_meaning()
     ensures { (procedure : NfsProcedure) (r s : Results) (x y : List ℕ) →
         AreResults procedure r → AreResults procedure s →
         results_text r ++ x ≡ results_text s ++ y → (r ≡ s) × (x ≡ y) }
+{}
+
+/// The numbers that the definitions cite: a name has at most 255 bytes (RFC 1094, section 2.3.7), and AUTH_NONE
+/// stands for user and group 65534.
+pub fn numbers_are_as_documented()
+    ensures name { MAXNAMLEN ≡ 255 }
+    ensures nobody { NOBODY_ID ≡ 65534 }
 {}

@@ -1,7 +1,7 @@
 use Rattle.std.proofs.Common.{Ok, sym, ap, ◌∙◌}
 use Rattle.std.specs.Option.{option_copied}
 use Rattle.nfs_spec.specs.Effects.{attributes_at}
-use Rattle.file_tree.proofs.Seen.{is_body, attributes_none, attributes_some}
+use Rattle.file_tree.proofs.InodesSeen.{is_body, attributes_none, attributes_some}
 use Rattle.file_tree.proofs.tree.Tree.attributes.Goals as goal
 
 pub attributes-requires : goal.attributes-requires

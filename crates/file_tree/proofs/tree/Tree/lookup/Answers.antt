@@ -4,8 +4,8 @@ use Rattle.nfs_types.specs.CallerOf.{caller_of}
 use Rattle.nfs_types.specs.declared.stat.Stat.{Stat}
 use Rattle.fs_model.specs.Trees.{IsFileTree}
 use Rattle.nfs_spec.specs.Effects.{number_at_name}
-use Rattle.file_tree.proofs.Seen.{number_none, number_some}
-use Rattle.file_tree.proofs.Paths.{at_name, leads_on, leads_back}
+use Rattle.file_tree.proofs.InodesSeen.{number_none, number_some}
+use Rattle.file_tree.proofs.LookUpPaths.{at_name, leads_on, leads_back}
 use Rattle.file_tree.proofs.tree.Tree.lookup.Goals as goal
 
 pub returns-in-Some-clause-result : goal.returns-in-Some-clause-result

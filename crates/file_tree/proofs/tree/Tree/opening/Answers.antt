@@ -2,7 +2,7 @@ use Rattle.std.proofs.Common.{sym, ap, subst, ◌∙◌}
 use Rattle.std.specs.Ordering.{nat_cmp}
 use Rattle.std.specs.BTreeMap.{insert_entry}
 use Rattle.inodes.specs.Inodes.{AreTree}
-use Rattle.file_tree.proofs.Opened.{opening_inodes}
+use Rattle.file_tree.proofs.OpeningInodes.{opening_inodes}
 use Rattle.file_tree.proofs.tree.Tree.opening.Goals as goal
 
 pub invariant_of-result : goal.invariant_of-result

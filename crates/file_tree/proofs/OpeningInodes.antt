@@ -1,5 +1,6 @@
--- The inodes that each server begins with are its files.
-use Rattle.std.proofs.Common.{◌≡◌, ℕ, ◌+◌, Bool, true, false, cond, List, [], ◌∷◌, Some, None, refl, sym, ap, subst, ◌∙◌}
+-- The inodes that each server begins with are the opening files, and a tree.
+-- Serves: `Tree::opening`.
+use Rattle.std.proofs.Common.{◌≡◌, ℕ, ◌+◌, Bool, true, false, cond, List, [], ◌∷◌, codes, Some, None, refl, sym, ap, subst, ◌∙◌}
 use Rattle.std.specs.Option.{option_map_or}
 use Rattle.std.specs.Ordering.{nat_cmp, eq_by_cmp}
 use Rattle.std.specs.FinMap as finite
@@ -41,7 +42,7 @@ module _ (fsid : ℕ) (root hello : Inode) (root_file : file_in root ≡ opening
   hello_counted : IsCounted (opening_files fsid) 2 hello
   hello_counted = record {
     nlink = hello_nlink ∙ sym (ap (λ f. nlink_of (opening_files fsid) 2 f.body) hello_file ∙ opening_names fsid 2);
-    parent = keeps_none hello.body (104 ∷ 101 ∷ 108 ∷ 108 ∷ 111 ∷ 10 ∷ []) (parent_of (opening_files fsid) 2) (ap (λ f. f.body) hello_file);
+    parent = keeps_none hello.body (codes "hello\n") (parent_of (opening_files fsid) 2) (ap (λ f. f.body) hello_file);
   }
 
   counted : (n : ℕ) (inode : Inode) → inode_at ((1, root) ∷ (2, hello) ∷ []) n ≡ Some inode → IsCounted (opening_files fsid) n inode
@@ -52,6 +53,7 @@ module _ (fsid : ℕ) (root hello : Inode) (root_file : file_in root ≡ opening
       by false true e g k = subst (λ m. IsCounted (opening_files fsid) m inode) (sym (same_number n 2 g)) (subst (IsCounted (opening_files fsid) 2) (some_same k) hello_counted)
       by false false e g k = absurd (none_some k)
 
+  -- the two inodes under 1 and 2 are a tree, and keep what counting gives
   pub opening_inodes : AreTree fsid 3 ((1, root) ∷ (2, hello) ∷ [])
   opening_inodes = record {
     tree = subst IsFileTree (sym files) (opening_is_tree fsid);

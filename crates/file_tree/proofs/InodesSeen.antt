@@ -1,4 +1,5 @@
--- What callers see of inodes.
+-- What the definitions say of a file by its number, told by the inode of that number.
+-- Serves: `Tree::attributes`, `Tree::lookup`.
 use Rattle.std.proofs.Common.{◌≡◌, ℕ, true, false, cond, List, [], ◌∷◌, map, Some, None, Ok, Err, option_map, if◌then◌else◌, refl, sym, ap, ◌∙◌}
 use Rattle.std.specs.Ordering.{nat_cmp}
 use Rattle.std.specs.Cmp.{nat_cmp_total}
@@ -26,13 +27,15 @@ find_seen (e ∷ es) n = elim (is_at (nat_cmp n) e.0) as (λ b. cond b (Some (fi
 ]
 
 module _ (fsid next : ℕ) (inodes : List (ℕ × Inode)) where
+  -- the file of a number is what its inode is
   pub file_seen : (n : ℕ) → file_at (files_of fsid next inodes) n ≡ option_map file_in (inode_at inodes n)
   file_seen n = finite.get-from_entries nat_cmp_total _ n ∙ find_seen inodes n
 
-  -- where no inode has a number
+  -- STALE where no inode has a number
   pub attributes_none : (n : ℕ) → inode_at inodes n ≡ None → attributes_at (files_of fsid next inodes) n ≡ Err stats.Stale
   attributes_none n none = ap (λ o. found_or stats.Stale o >>= (λ f. Ok (attributes_of (files_of fsid next inodes) n f))) (file_seen n ∙ ap (option_map file_in) none)
 
+  -- the same of a look-up
   pub number_none : (who : Caller) (n : ℕ) (name : List ℕ) → inode_at inodes n ≡ None → number_at_name (files_of fsid next inodes) who n name ≡ Err stats.Stale
   number_none who n name none =
       ap (λ o. found_or stats.Stale o >>= (λ f. listing_or stats.NotDir f.body >>= (λ l. if may_search who f then found_or stats.NoEnt (number_named (files_of fsid next inodes) n l name) else Err stats.Acces)))
@@ -51,14 +54,17 @@ module _ (fsid next : ℕ) (inodes : List (ℕ × Inode)) (tree : AreTree fsid n
   there : file_at (files_of fsid next inodes) n ≡ Some (file_in inode)
   there = file_seen fsid next inodes n ∙ ap (option_map file_in) at
 
+  -- its body is within its limit
   pub is_body : IsBody (body_in inode.body)
   is_body = (tree.tree.files n (file_in inode) there).body
 
+  -- its attributes are those that it keeps
   pub attributes_some : attributes_at (files_of fsid next inodes) n ≡ Ok (fattr_of fsid n inode)
   attributes_some =
       ap (λ o. found_or stats.Stale o >>= (λ f. Ok (attributes_of (files_of fsid next inodes) n f))) there
       ∙ ap (λ k. Ok (record (fattr_of fsid n inode) { nlink = k })) (sym (tree.counted n inode at).nlink)
 
+  -- and a look-up in it is one in the files
   pub number_some : (who : Caller) (name : List ℕ) → number_at_name (files_of fsid next inodes) who n name ≡ look_up_in who n inode name
   number_some who name =
       ap (λ o. found_or stats.Stale o >>= (λ f. listing_or stats.NotDir f.body >>= (λ l. if may_search who f then found_or stats.NoEnt (number_named (files_of fsid next inodes) n l name) else Err stats.Acces))) there
