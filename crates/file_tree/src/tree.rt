@@ -78,8 +78,8 @@ impl Tree {
     }
 
     /// The number that a directory has at a name (RFC 1094, section 2.2.5): `.` is itself, and `..` the
-    /// directory above, which for the root is the root. Stale where no file has the directory's number, NotDir
-    /// where that file is none, Acces where the caller may not search it, and then NoEnt.
+    /// directory above, which for the root is the root. Stale where no file has the directory's number,
+    /// NotDir where that file is none, Acces where the caller may not search it, and then NoEnt.
     pub fn lookup(&self, who: &Who, dir: u32, name: &[u8]) -> Result<u32, Stat>
         ensures result { result ≡ number_at_name self.now (caller_of who.now) dir name.now }
 

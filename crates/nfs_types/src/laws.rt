@@ -35,8 +35,8 @@ pub fn results_have_one_meaning()
         results_text r ++ x ≡ results_text s ++ y → (r ≡ s) × (x ≡ y) }
 {}
 
-/// The numbers that the definitions cite: a name has at most 255 bytes (RFC 1094, section 2.3.7), and AUTH_NONE
-/// stands for user and group 65534.
+/// The numbers that the definitions cite: a name has at most 255 bytes (RFC 1094, section 2.3.7), and
+/// AUTH_NONE stands for user and group 65534.
 pub fn numbers_are_as_documented()
     ensures name { MAXNAMLEN ≡ 255 }
     ensures nobody { NOBODY_ID ≡ 65534 }

@@ -80,8 +80,8 @@ reply_to w now (Version2 xid h) arguments = call_reply w now xid (call_or_refusa
 abbrev pub after_reply : World → Timeval → Files → World
 after_reply w time files = record { files = files; clock = (at_time w time).clock; mounts = w.mounts }
 
--- The reply r that is owed to a record at a time, if one is, and the world w' after it. What says no call gets
--- none.
+-- The reply r that is owed to a record at a time, if one is, and the world w' after it. What says no call
+-- gets none.
 pub data Answers (w : World) (time : Timeval) (bytes : List ℕ) (w' : World) (r : Option (List ℕ))
     : Type 0 where
   silence : ((m : Message) (rest : List ℕ) → Says bytes m rest → ⊥) → w' ≡ at_time w time → r ≡ None

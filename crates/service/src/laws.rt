@@ -19,8 +19,8 @@ pub fn reply_owed_is_the_answer()
         Answers w time bytes (world_after w time bytes) (reply_owed w time bytes) }
 {}
 
-/// The numbers that the definitions cite are the standards': AUTH_NONE (RFC 5531, section 8.2), version 2 of RPC,
-/// and program 100003 of version 2.
+/// The numbers that the definitions cite are the standards': AUTH_NONE (RFC 5531, section 8.2), version 2 of
+/// RPC, and program 100003 of version 2.
 pub fn numbers_are_the_standards()
     ensures flavor { AUTH_NONE ≡ 0 }
     ensures rpc { RPC_VERSION ≡ 2 }
