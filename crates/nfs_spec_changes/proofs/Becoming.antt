@@ -1,5 +1,5 @@
 -- What becomes of the files that a procedure names.
-use Rattle.std.proofs.Common.{◌≡◌, ◌≢◌, ℕ, ◌+◌, Bool, true, false, cond, List, [], ◌∷◌, length, Option, Some, None, eqb, nat_eq, option_map, option_and_then, refl, sym, ap, subst, ◌∙◌, eq-eqb, ne_eqb, arith}
+use Rattle.std.proofs.Common.{◌≡◌, ◌≢◌, ℕ, ◌+◌, Bool, true, false, List, [], ◌∷◌, length, Option, Some, None, eqb, nat_eq, option_map, option_and_then, refl, sym, ap, subst, ◌∙◌, eq-eqb, ne_eqb, arith}
 use Rattle.std.specs.Prelude.{◌==◌, if◌then◌else◌}
 use Rattle.std.specs.Map.{lookup}
 use Rattle.std.specs.Cmp.Lexicographic.{pointwise}
@@ -10,13 +10,13 @@ use Rattle.fs_model.specs.Files.{Body, Regular, Link, Directory, File, Files, fi
 use Rattle.fs_model.specs.Trees.{IsFileTree}
 use Rattle.fs_model.proofs.Walks.{none_some, some_same}
 use Rattle.fs_model.proofs.OnePath.{root_has_no_name}
-use Rattle.fs_changes.specs.Edits.{with_changed_file, with_new_file, without_file, with_name, without_name, relisted}
+use Rattle.fs_changes.specs.Edits.{with_changed_file, with_new_file, with_name, without_name, relisted}
 use Rattle.fs_changes.proofs.Finite.{new_here, new_other, changed_here, changed_other, gone_here, gone_other}
 use Rattle.fs_changes.proofs.Listings.{leads}
 use Rattle.fs_changes.proofs.Shapes.{unnamed_shape}
 use Rattle.fs_changes.proofs.Adding.{one_same}
 use Rattle.nfs_spec.specs.Sattr.{Wanted}
-use Rattle.nfs_spec.specs.Changes.{resized_body, set, touch, touched, mark, marked, unnamed}
+use Rattle.nfs_spec.specs.Changes.{resized_body, set, touch, touched, mark, marked, unnamed, after_unlink}
 use Rattle.nfs_spec.specs.Procedures.{rewritten, made, is_regular}
 use Rattle.nfs_spec_trees.proofs.Fitting.{dir_file, is_dir, next_free, distinct_names}
 use Rattle.nfs_spec_changes.specs.Changed.{Becomes, LosesName, less, more, SetsGiven, IsRewritten, Makes, Links, Unnames}
@@ -126,9 +126,9 @@ module _ (w : Files) (who : Caller) (now : Timeval) where
       -- whatever else changes of the others
       pub loses : (w' : Files) → file_at w' n ≡ file_at (unnamed now w d x n) n → LosesName now w w' n
       loses w' same = record {
-        last = λ e. same ∙ ap (λ b. file_at (cond b (without_file w₁ n) (mark now w₁ n)) n) (eq-eqb (names_of w₁ n) 0 (omega (arith, e, one_name_less))) ∙ gone_here w₁ n n refl;
+        last = λ e. same ∙ ap (λ b. file_at (after_unlink b now w₁ n) n) (eq-eqb (names_of w₁ n) 0 (omega (arith, e, one_name_less))) ∙ gone_here w₁ n n refl;
         others = λ ne. becomes_marked now w w' n f there
-            (same ∙ ap (λ b. file_at (cond b (without_file w₁ n) (mark now w₁ n)) n) (ne_eqb (names_of w₁ n) 0 (λ e. ne (omega (arith, e, one_name_less)))) ∙ changed_here w₁ n (marked now) n refl ∙ ap (option_map (marked now)) there₁);
+            (same ∙ ap (λ b. file_at (after_unlink b now w₁ n) n) (ne_eqb (names_of w₁ n) 0 (λ e. ne (omega (arith, e, one_name_less)))) ∙ changed_here w₁ n (marked now) n refl ∙ ap (option_map (marked now)) there₁);
       }
         where
           w₁ : Files
@@ -148,7 +148,7 @@ module _ (w : Files) (who : Caller) (now : Timeval) where
         let lost = loses dir name o.number o.cookie o.at o.file o.there o.empty (touch now v dir) (changed_other v dir (touched now) o.number apart) in
         subst (λ u. Unnames now w u dir name) (sym o.is) (record { number = o.number; cookie = o.cookie; was = o.at; file = lost; directory = own })
       where
-        kept : o.number ≢ dir → (b : Bool) → file_at (cond b (without_file (without_name w dir name) o.number) (mark now (without_name w dir name) o.number)) dir ≡ file_at (without_name w dir name) dir
+        kept : o.number ≢ dir → (b : Bool) → file_at (after_unlink b now (without_name w dir name) o.number) dir ≡ file_at (without_name w dir name) dir
         kept apart true = gone_other (without_name w dir name) o.number dir (λ e. apart (sym e))
         kept apart false = changed_other (without_name w dir name) o.number (marked now) dir (λ e. apart (sym e))
 

@@ -1,13 +1,13 @@
 -- What each change of files leaves of the others.
-use Rattle.std.proofs.Common.{◌≡◌, ◌≢◌, ℕ, ◌+◌, Bool, true, false, cond, List, Option, Some, None, eqb, refl, ◌∙◌}
+use Rattle.std.proofs.Common.{◌≡◌, ◌≢◌, ℕ, ◌+◌, Bool, true, false, List, Option, Some, None, eqb, refl, ◌∙◌}
 use Rattle.std.specs.Option.{option_map_or}
 use Rattle.std.specs.FinMap as finite
 use Rattle.nfs_types.specs.Timeval.{Timeval}
 use Rattle.fs_model.specs.Listing.{with_entry, without_entry}
 use Rattle.fs_model.specs.Files.{File, Files, file_at, names_of}
-use Rattle.fs_changes.specs.Edits.{with_new_file, with_changed_file, without_file, relisted, with_name, without_name}
+use Rattle.fs_changes.specs.Edits.{with_new_file, with_changed_file, relisted, with_name, without_name}
 use Rattle.fs_changes.proofs.Finite.{new_other, changed_other, gone_other}
-use Rattle.nfs_spec.specs.Changes.{touch, touched, mark, marked, unnamed}
+use Rattle.nfs_spec.specs.Changes.{touch, touched, mark, marked, unnamed, after_unlink}
 use Rattle.nfs_spec.specs.Procedures.{made, cleared, moved}
 
 -- the node's number stays, and the next number is this
@@ -17,7 +17,7 @@ pub record IsHead (w w' : Files) (next : ℕ) : Type 0 where
 
 module _ (w : Files) (k : ℕ) (change : File → File) where
   by_file : Option File → Files
-  by_file o = option_map_or (λ f. record { fsid = w.fsid; next = w.next; files = finite.insert w.files k (change f) }) o w
+  by_file o = record { fsid = w.fsid; next = w.next; files = option_map_or (λ f. finite.insert w.files k (change f)) o w.files }
 
   pub head_changed : IsHead w (with_changed_file w k change) w.next
   unfolding by_file
@@ -46,7 +46,7 @@ module _ (now : Timeval) (w : Files) where
       less : IsHead w (without_name w dir name) w.next
       less = head_changed w dir (relisted (λ l. without_entry l name))
 
-      by : (b : Bool) → IsHead w (cond b (without_file (without_name w dir name) n) (mark now (without_name w dir name) n)) w.next
+      by : (b : Bool) → IsHead w (after_unlink b now (without_name w dir name) n) w.next
       by true = record { node = less.node; next_is = less.next_is }
       by false = head_on w (without_name w dir name) w.next n (marked now) less
 
@@ -85,7 +85,7 @@ module _ (now : Timeval) (w : Files) where
   pub unnamed_other : (dir : ℕ) (name : List ℕ) (n m : ℕ) → m ≢ dir → m ≢ n → file_at (unnamed now w dir name n) m ≡ file_at w m
   unnamed_other dir name n m nd nn = by (eqb (names_of (without_name w dir name) n) 0) ∙ changed_other w dir (relisted (λ l. without_entry l name)) m nd
     where
-      by : (b : Bool) → file_at (cond b (without_file (without_name w dir name) n) (mark now (without_name w dir name) n)) m ≡ file_at (without_name w dir name) m
+      by : (b : Bool) → file_at (after_unlink b now (without_name w dir name) n) m ≡ file_at (without_name w dir name) m
       by true = gone_other (without_name w dir name) n m nn
       by false = changed_other (without_name w dir name) n (marked now) m nn
 

@@ -1,5 +1,5 @@
 -- What becomes of the files that RENAME names.
-use Rattle.std.proofs.Common.{◌≡◌, ◌≢◌, ℕ, zero, suc, Bool, true, false, cond, List, [], ◌∷◌, ◌++◌, Option, Some, None, eqb, option_map, append-nil, refl, sym, ap, subst, ◌∙◌, eq-eqb}
+use Rattle.std.proofs.Common.{◌≡◌, ◌≢◌, ℕ, zero, suc, Bool, true, false, List, [], ◌∷◌, ◌++◌, Option, Some, None, eqb, option_map, append-nil, refl, sym, ap, subst, ◌∙◌, eq-eqb}
 use Rattle.std.specs.Prelude.{◌&&◌, ◌||◌}
 use Rattle.nfs_types.specs.Timeval.{Timeval}
 use Rattle.nfs_types.specs.Caller.{Caller}
@@ -9,12 +9,12 @@ use Rattle.fs_model.specs.Files.{Directory, File, Files, file_at, is_directory, 
 use Rattle.fs_model.specs.Trees.{IsFileTree}
 use Rattle.fs_model.proofs.Walks.{some_same, step_last}
 use Rattle.fs_model.proofs.OnePath.{one_path}
-use Rattle.fs_changes.specs.Edits.{without_file, with_name, without_name, relisted}
+use Rattle.fs_changes.specs.Edits.{with_name, without_name, relisted}
 use Rattle.fs_changes.specs.Limits.{file_count}
 use Rattle.fs_changes.proofs.Finite.{changed_here, changed_other, gone_other}
 use Rattle.fs_changes.proofs.Listings.{without_entry_here, without_entry_distinct}
 use Rattle.fs_changes.proofs.PathChanges.{no_return}
-use Rattle.nfs_spec.specs.Changes.{touch, touched, mark, marked, unnamed}
+use Rattle.nfs_spec.specs.Changes.{touch, touched, mark, marked, unnamed, after_unlink}
 use Rattle.nfs_spec.specs.Procedures.{climbs_to, is_above, cleared}
 use Rattle.nfs_spec_trees.proofs.Fitting.{dir_file}
 use Rattle.nfs_spec_changes.specs.Changed.{Becomes, IsMarked, IsTouched, LosesName, less, more, Moves}
@@ -122,7 +122,7 @@ module _ (w : Files) (who : Caller) (now : Timeval) (tree : IsFileTree w) where
         begin : IsAt w to o.to_file o.to_file.mtime o.to_file.ctime to_listing.0
         begin = begins_at w to o.to_file to_listing.0 o.to_there to_listing.1
 
-        kept : (k : ℕ) → k ≢ to → (b : Bool) → file_at (cond b (without_file (without_name w to to_name) k) (mark now (without_name w to to_name) k)) to ≡ file_at (without_name w to to_name) to
+        kept : (k : ℕ) → k ≢ to → (b : Bool) → file_at (after_unlink b now (without_name w to to_name) k) to ≡ file_at (without_name w to to_name) to
         kept k apart true = gone_other (without_name w to to_name) k to (λ e. apart (sym e))
         kept k apart false = changed_other (without_name w to to_name) k (marked now) to (λ e. apart (sym e))
 

@@ -1,5 +1,5 @@
 -- What stands between a number's file before a call and after it.
-use Rattle.std.proofs.Common.{◌≡◌, ◌≢◌, ℕ, Bool, true, false, cond, List, [], Option, Some, None, option_map, ⊎_elim, refl, sym, ap, subst, ◌∙◌, eqb}
+use Rattle.std.proofs.Common.{◌≡◌, ◌≢◌, ℕ, Bool, true, false, List, [], Option, Some, None, option_map, ⊎_elim, refl, sym, ap, subst, ◌∙◌, eqb}
 use Rattle.std.specs.Prelude.{if◌then◌else◌, ◌==◌, length}
 use Rattle.std.proofs.lemmas.Bool.{cases_eq}
 use Rattle.nfs_types.specs.Timeval.{Timeval}
@@ -10,7 +10,7 @@ use Rattle.fs_model.proofs.Walks.{some_same}
 use Rattle.fs_changes.specs.Edits.{with_changed_file, with_new_file, without_file, with_name, without_name, relisted}
 use Rattle.fs_changes.proofs.Finite.{new_other, changed_here, changed_other, gone_here, gone_other}
 use Rattle.nfs_spec.specs.Sattr.{Sattr, wanted, nothing}
-use Rattle.nfs_spec.specs.Changes.{set, new_file, touch, touched, mark, marked, unnamed}
+use Rattle.nfs_spec.specs.Changes.{set, new_file, touch, touched, mark, marked, unnamed, after_unlink}
 use Rattle.nfs_spec.specs.Procedures.{rewritten, made, cleared, moved}
 use Rattle.nfs_spec.specs.Calls as calls
 use Rattle.nfs_spec.specs.Calls.{Call, Answer, number_for, call_does}
@@ -81,7 +81,7 @@ module _ (R : File → File → Type 0) (same : (f : File) → R f f) (joins : (
           less : Step R (file_at w n) (file_at (without_name w dir name) n)
           less = changes w dir (relisted (λ l. without_entry l name)) (λ f _ _. relists (λ l. without_entry l name) f)
 
-          by : (b : Bool) → Step R (file_at w n) (file_at (cond b (without_file (without_name w dir name) k) (mark now (without_name w dir name) k)) n)
+          by : (b : Bool) → Step R (file_at w n) (file_at (after_unlink b now (without_name w dir name) k) n)
           by true = goes_on (file_at w n) (file_at (without_name w dir name) n) (file_at (without_file (without_name w dir name) k) n) less (leaves (without_name w dir name) k)
           by false = on w (without_name w dir name) k (marked now) marks less
 
