@@ -6,6 +6,8 @@ ghost use Rattle.nfs_items.specs.Handle.{handle_of, number_in};
 ghost use Rattle.nfs_items.specs.Caller.{Caller};
 ghost use Rattle.nfs_items.specs.Credentials.{caller_in, body_of, caller_from, IsCaller};
 
+use crate::who::{MAX_GROUPS, NOBODY_ID};
+
 /// A file handle tells the file number that it was made of, no other bytes tell one, and no two files have one
 /// handle.
 pub fn handles_tell_numbers()
@@ -26,4 +28,10 @@ pub fn credentials_say_callers()
         IsCaller name uid gid gids → caller_in (body_of stamp name uid gid gids) ≡ Some (caller_from name uid gid gids) }
     ensures more { (body : List ℕ) (who : Caller) (byte : ℕ) (more : List ℕ) → IsBytes body →
         caller_in body ≡ Some who → caller_in (body ++ byte ∷ more) ≡ None }
+{}
+
+/// AUTH_NONE stands for user and group 65534, and a caller has at most 16 further groups.
+pub fn numbers_are_as_documented()
+    ensures nobody { NOBODY_ID ≡ 65534 }
+    ensures groups { MAX_GROUPS ≡ 16 }
 {}

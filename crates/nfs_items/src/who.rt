@@ -6,7 +6,7 @@ use std::marker::Model;
 pub const MAX_GROUPS: usize = 16;
 
 /// The user and the group that AUTH_NONE stands for.
-const NOBODY_ID: u32 = 65534;
+pub const NOBODY_ID: u32 = 65534;
 
 /// The further groups of a caller, at most 16.
 #[derive(Drop)]

@@ -3,18 +3,19 @@ use Rattle.xdr.specs.Item.{Item, word, fixed, opaque, empty, flag, pair, linked}
 use Rattle.nfs_items.specs.Handle.{fhandle}
 use Rattle.nfs_items.specs.Attributes.{fattr, stat_or}
 use Rattle.nfs_items.specs.Sattr.{sattr}
+use Rattle.nfs_types.specs.declared.limits.TheConstants.{MAXNAMLEN, MAXPATHLEN, MAXDATA}
 
--- a name: string<MAXNAMLEN> (section 2.3.7)
+-- a name (section 2.3.7): string<MAXNAMLEN>, at most 255 bytes
 abbrev pub filename : Item
-filename = opaque 255
+filename = opaque MAXNAMLEN
 
--- path: string<MAXPATHLEN> (section 2.3.8)
+-- path (section 2.3.8): string<MAXPATHLEN>, at most 1,024 bytes
 abbrev pub path : Item
-path = opaque 1024
+path = opaque MAXPATHLEN
 
--- opaque<MAXDATA> (section 2.2.7, nfsdata)
+-- nfsdata (section 2.2.7): opaque<MAXDATA>, at most 8,192 bytes
 abbrev pub nfsdata : Item
-nfsdata = opaque 8192
+nfsdata = opaque MAXDATA
 
 -- ---- arguments
 

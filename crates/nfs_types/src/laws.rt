@@ -8,6 +8,8 @@ ghost use Rattle.nfs_types.specs.declared.arguments.NfsProcedure.{NfsProcedure};
 ghost use Rattle.nfs_types.specs.Calls.{Call, Answer};
 ghost use Rattle.nfs_types.specs.Texts.{procedure_of, procedure_at, procedure_in, call_at, SaysCall, answer_item, answer_value, answer_text, IsSpelled, IsAnswerTo};
 
+use crate::limits::{MAXDATA, MAXNAMLEN, MAXPATHLEN};
+
 /// A procedure's arguments are read exactly where their spelling stands at the front, whatever stands behind it; the
 /// fault is that of reading their item; the numbers of procedures are 0 to 17; and bytes say one call at most, which is
 /// of that procedure.
@@ -38,4 +40,11 @@ pub fn answers_are_of_their_procedure()
 pub fn answers_have_one_meaning()
     ensures { (procedure : NfsProcedure) (a b : Answer) (x y : List ℕ) → IsAnswerTo procedure a → IsAnswerTo procedure b →
         IsSpelled a → IsSpelled b → answer_text a ++ x ≡ answer_text b ++ y → (a ≡ b) × (x ≡ y) }
+{}
+
+/// The limits that the definitions cite (RFC 1094, sections 2.2, 2.3.7 and 2.3.8), in bytes.
+pub fn limits_are_as_documented()
+    ensures name { MAXNAMLEN ≡ 255 }
+    ensures target { MAXPATHLEN ≡ 1024 }
+    ensures data { MAXDATA ≡ 8192 }
 {}

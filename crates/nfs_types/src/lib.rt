@@ -3,12 +3,14 @@
 
 mod arguments;
 pub mod laws;
+mod limits;
 mod reading;
 mod results;
 pub mod worked;
 mod writing;
 
 pub use arguments::{DirOpArgs, NfsArgs, NfsProcedure};
+pub use limits::{MAXDATA, MAXNAMLEN, MAXPATHLEN};
 pub use nfs_items::{
     Fattr, FileHandle, FileType, Groups, RawTime, Sattr, Stat, Time, Who, read_credential,
 };

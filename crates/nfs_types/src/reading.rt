@@ -9,17 +9,9 @@ ghost use Rattle.nfs_types.specs.Arguments.{diropargs_value, call_of, GivesCall,
 ghost use Rattle.nfs_types.specs.declared.arguments.NfsProcedure.TheVariants as procedures;
 
 use crate::arguments::{DirOpArgs, NfsArgs, NfsProcedure};
+use crate::limits::{MAXDATA, MAXNAMLEN, MAXPATHLEN};
 use nfs_items::{FileHandle, Sattr};
 use xdr::{Reader, XdrFault};
-
-/// The greatest length of a name in bytes (RFC 1094, section 2.3.7, filename).
-pub const MAXNAMLEN: u32 = 255;
-
-/// The greatest length of a symbolic link's target in bytes (RFC 1094, section 2.3.8, path).
-pub const MAXPATHLEN: u32 = 1024;
-
-/// The most bytes that one call reads or writes (RFC 1094, section 2.2).
-pub const MAXDATA: u32 = 8192;
 
 /// Reads a procedure's arguments from the front of bytes, and ignores what follows them (RFC 1094,
 /// section 2.2). The fault is the first from left to right.

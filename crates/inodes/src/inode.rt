@@ -3,10 +3,16 @@
 use crate::directory::Directory;
 use nfs_types::{Fattr, FileType, Stat, Time, Who};
 
+/// The greatest size of a regular file in bytes.
+pub const MAX_FILE_SIZE: u32 = 1_048_576;
+
+/// The size of a block in bytes, which is also the size of every directory.
+pub const BLOCK_SIZE: u32 = 512;
+
 /// What a file holds.
 #[derive(Drop)]
 pub enum Body {
-    /// At most 1,048,576 bytes.
+    /// At most `MAX_FILE_SIZE` bytes.
     Regular(Vec<u8>),
     /// The target of a symbolic link, at most 1,024 bytes.
     Link(Vec<u8>),
@@ -21,7 +27,7 @@ impl Body {
     ghost use Rattle.std.specs.Prelude.{◌≡◌, ◌≤◌};
     ghost use Rattle.fs_model.specs.Trees.{IsBody};
     ghost use Rattle.nfs_spec.specs.Attributes.{type_of, type_bits, size_of};
-    ghost use Rattle.inodes.specs.Nodes.{body_in};
+    ghost use Rattle.inodes.specs.Inodes.{body_in};
 
     /// What the file is.
     pub fn file_type(&self) -> FileType
@@ -45,23 +51,23 @@ impl Body {
         }
     }
 
-    /// In bytes; 512 for a directory.
+    /// In bytes; a block for a directory.
     pub fn size(&self) -> u32
         requires { IsBody (body_in self.now) }
         ensures value { result ≡ size_of (body_in self.now) }
-        ensures bound { result ≤ 1048576 }
+        ensures bound { result ≤ MAX_FILE_SIZE }
     {
         match self {
             Body::Regular(bytes) => bytes.len() as u32,
             Body::Link(target) => target.len() as u32,
-            Body::Directory { .. } => 512,
+            Body::Directory { .. } => BLOCK_SIZE,
         }
     }
 }
 
 /// A file with its attributes.
 #[derive(Drop)]
-pub struct Node {
+pub struct Inode {
     /// The twelve kept bits of the mode, of which the low nine are the permissions.
     pub mode: u16,
     /// The names of a file or link; two and the subdirectories of a directory.
@@ -74,15 +80,15 @@ pub struct Node {
     pub body: Body,
 }
 
-impl Node {
+impl Inode {
     ghost use Rattle.std.specs.Prelude.{◌≡◌};
     ghost use Rattle.nfs_types.specs.CallerOf.{caller_of};
     ghost use Rattle.fs_model.specs.Trees.{IsBody};
     ghost use Rattle.nfs_spec.specs.Checks.{class_of, may_search};
-    ghost use Rattle.inodes.specs.Nodes.{body_in, file_in, fattr_of};
-    ghost use Rattle.inodes.specs.NodeLookUp.{number_in};
+    ghost use Rattle.inodes.specs.Inodes.{body_in, file_in, fattr_of};
+    ghost use Rattle.inodes.specs.InodeLookUp.{look_up_in};
 
-    /// The attributes (RFC 1094, section 2.3.5) under a node's number and a file number.
+    /// The attributes (RFC 1094, section 2.3.5) under the server's number and a file's.
     pub fn attributes(&self, fsid: u32, number: u32) -> Fattr
         requires { IsBody (body_in self.now.body) }
         ensures { result ≡ fattr_of fsid number self.now }
@@ -95,9 +101,9 @@ impl Node {
             uid: self.uid,
             gid: self.gid,
             size,
-            blocksize: 512,
+            blocksize: BLOCK_SIZE,
             rdev: 0,
-            blocks: (size + 511) / 512,
+            blocks: (size + BLOCK_SIZE - 1) / BLOCK_SIZE,
             fsid,
             fileid: number,
             atime: self.atime,
@@ -126,10 +132,10 @@ impl Node {
         who.uid == 0 || self.mode & self.class_of(who) != 0
     }
 
-    /// The number that a name stands for in a directory under the given number, `.` and `..` too. NotDir comes
-    /// first, then Acces where the caller may not search it, then NoEnt.
+    /// The number that a name stands for in a directory under the given number, `.` and `..` too. NotDir
+    /// comes first, then Acces where the caller may not search it, then NoEnt.
     pub fn number_at(&self, who: &Who, number: u32, name: &[u8]) -> Result<u32, Stat>
-        ensures { result ≡ number_in (caller_of who.now) number self.now name.now }
+        ensures { result ≡ look_up_in (caller_of who.now) number self.now name.now }
     {
         let Body::Directory { parent, listing } = &self.body else {
             return Err(Stat::NotDir);

@@ -6,12 +6,12 @@ use Rattle.nfs_types.specs.CallerOf.{caller_of}
 use Rattle.nfs_types.specs.Arguments.{Arguments, arguments_of}
 use Rattle.nfs_types.specs.declared.who.Who.{Who}
 use Rattle.nfs_types.specs.declared.arguments.NfsArgs.{NfsArgs}
-use Rattle.service.specs.Replies.{Checked}
+use Rattle.service.specs.Replies.{OrRefusal}
 
-abbrev pub who_of : Result Who ReplyBody → Checked Caller
-who_of (Ok who) = Ok (caller_of who)
-who_of (Err body) = Err body
+abbrev pub view_of_caller : Result Who ReplyBody → OrRefusal Caller
+view_of_caller (Ok who) = Ok (caller_of who)
+view_of_caller (Err body) = Err body
 
-abbrev pub checked_of : Result (Who × NfsArgs) ReplyBody → Checked (Caller × Arguments)
-checked_of (Ok (who, args)) = Ok (caller_of who, arguments_of args)
-checked_of (Err body) = Err body
+abbrev pub view_of_call : Result (Who × NfsArgs) ReplyBody → OrRefusal (Caller × Arguments)
+view_of_call (Ok (who, args)) = Ok (caller_of who, arguments_of args)
+view_of_call (Err body) = Err body

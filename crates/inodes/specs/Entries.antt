@@ -4,5 +4,5 @@ use Rattle.std.specs.declared.vec.Vec.{Vec}
 use Rattle.inodes.specs.declared.directory.Entry.{Entry}
 
 -- each name with its number and cookie
-abbrev pub listed : {A : Type 0} → List (Vec ℕ A × Entry) → List (List ℕ × (ℕ × ℕ))
-listed es = map (λ e. (e.0.items, (e.1.number, e.1.cookie))) es
+abbrev pub entries_of : {A : Type 0} → List (Vec ℕ A × Entry) → List (List ℕ × (ℕ × ℕ))
+entries_of es = map (λ e. (e.0.items, (e.1.number, e.1.cookie))) es

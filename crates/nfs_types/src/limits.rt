@@ -1,0 +1,10 @@
+//! Limits that the protocol sets.
+
+/// The greatest length of a name in bytes (RFC 1094, section 2.3.7, filename).
+pub const MAXNAMLEN: u32 = 255;
+
+/// The greatest length of a symbolic link's target in bytes (RFC 1094, section 2.3.8, path).
+pub const MAXPATHLEN: u32 = 1024;
+
+/// The most bytes that one call reads or writes (RFC 1094, section 2.2).
+pub const MAXDATA: u32 = 8192;
