@@ -18,7 +18,7 @@ use Rattle.fs_changes.proofs.Adding.{one_same}
 use Rattle.nfs_spec.specs.Sattr.{Wanted}
 use Rattle.nfs_spec.specs.Changes.{resized_body, set, touch, touched, mark, marked, unnamed}
 use Rattle.nfs_spec.specs.Procedures.{rewritten, made, is_regular}
-use Rattle.nfs_spec_trees.proofs.Fitting.{dir_file, is_dir, next_free, distinct_names}
+use Rattle.nfs_spec_trees.proofs.FilesFit.{dir_file, is_dir, next_free, distinct_names}
 use Rattle.nfs_spec_changes.specs.Changed.{Becomes, LosesName, less, more, SetsGiven, IsRewritten, Makes, Links, Unnames}
 use Rattle.nfs_spec_changes.proofs.Granted.{IsSet, IsWrote, IsNew, IsLinked, IsRemoved}
 use Rattle.nfs_spec_changes.proofs.Listed.{without_is, with_is, listing_of, begins_at, at_same, at_other, at_relisted, at_touched, becomes_touched, becomes_marked}

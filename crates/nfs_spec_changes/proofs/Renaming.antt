@@ -16,7 +16,7 @@ use Rattle.fs_changes.proofs.Listings.{without_entry_here, without_entry_distinc
 use Rattle.fs_changes.proofs.PathChanges.{no_return}
 use Rattle.nfs_spec.specs.Changes.{touch, touched, mark, marked, unnamed}
 use Rattle.nfs_spec.specs.Procedures.{climbs_to, is_above, cleared}
-use Rattle.nfs_spec_trees.proofs.Fitting.{dir_file}
+use Rattle.nfs_spec_trees.proofs.FilesFit.{dir_file}
 use Rattle.nfs_spec_changes.specs.Changed.{Becomes, IsMarked, IsTouched, LosesName, less, more, Moves}
 use Rattle.nfs_spec_changes.proofs.Granted.{IsRenamed}
 use Rattle.nfs_spec_changes.proofs.Edited.{unnamed_other, moved_apart, before_mark}

@@ -16,8 +16,8 @@ use Rattle.nfs_spec.specs.Checks.{◌>>=◌, Found, file_of, dir_of, listing_or,
 use Rattle.nfs_spec.specs.Sattr.{Wanted}
 use Rattle.nfs_spec.specs.Changes.{check_owner, check_resize, set, new_file, is_in_group, touch, mark}
 use Rattle.nfs_spec.specs.Procedures.{set_attributes, create_over, create_new, create, is_regular, made, remove, remove_dir, link}
-use Rattle.nfs_spec_laws.proofs.Steps.{IsFound, found_ok, directory_ok, dir_ok, number_ok}
-use Rattle.nfs_spec_laws.proofs.Kept.{place_found}
+use Rattle.nfs_spec_steps.specs.Granted.{IsFound}
+use Rattle.nfs_spec_steps.proofs.Steps.{found_ok, directory_ok, dir_ok, number_ok, place_found}
 use Rattle.nfs_spec_errors.specs.Checks.{Checks, first_failing, holds_at, holds_named, given, is_dir, is_link}
 use Rattle.nfs_spec_errors.specs.Tables.{set_checks, create_checks, remove_checks, remove_dir_checks, link_checks}
 use Rattle.nfs_spec_errors.proofs.Steps.{HasStat, in_turn, done, of_check, of_same, of_file, of_that_file, of_dir, test_at, test_named, named_file, of_edit, of_free, of_number}

@@ -15,7 +15,9 @@ ghost use Rattle.nfs_spec.specs.Changes.{resized, written};
 ghost use Rattle.nfs_spec.specs.Procedures.{create, make_dir, symlink, link, remove, remove_dir, rename, read};
 ghost use Rattle.nfs_spec.specs.Calls.{Call, call_does};
 ghost use Rattle.nfs_spec_trees.specs.Anew.{GivesAnew};
-ghost use Rattle.nfs_spec_laws.specs.Laws.{IsWanted, IsBounded, NamesIn, UnnamesIn, RenamesIn, IsSameFile, refusal_in, only_reads};
+ghost use Rattle.nfs_spec_steps.specs.Answers.{refusal_in, only_reads};
+ghost use Rattle.nfs_spec_steps.specs.Granted.{IsSameFile};
+ghost use Rattle.nfs_spec_laws.specs.Laws.{IsWanted, IsBounded, NamesIn, UnnamesIn, RenamesIn};
 
 /// Every call leaves a tree a tree.
 pub fn trees_stay_trees()
@@ -94,22 +96,6 @@ pub fn renaming_moves_paths()
         rename w who now from from_name to to_name ≡ Ok (tt, after) →
         (IsSameFile w from from_name to to_name → after ≡ w)
         × ((IsSameFile w from from_name to to_name → ⊥) → RenamesIn w after from from_name to to_name) }
-{}
-
-/// Byte i of what is written is the one written, else the old one, else zero; of what is cut or grown, the old
-/// one, else zero. Past the end of a list its byte is read as zero.
-pub fn bytes_are_written()
-    ensures length { (offset : ℕ) (new old : List ℕ) →
-        length (written offset new old) ≡ max (offset + length new) (length old) }
-    ensures new { (offset : ℕ) (new old : List ℕ) (i : ℕ) → i < length new →
-        slice_index (written offset new old) (offset + i) ≡ slice_index new i }
-    ensures before { (offset : ℕ) (new old : List ℕ) (i : ℕ) → i < offset →
-        slice_index (written offset new old) i ≡ slice_index old i }
-    ensures behind { (offset : ℕ) (new old : List ℕ) (i : ℕ) → offset + length new ≤ i →
-        slice_index (written offset new old) i ≡ slice_index old i }
-    ensures size { (size : ℕ) (old : List ℕ) → length (resized size old) ≡ size }
-    ensures resized { (size : ℕ) (old : List ℕ) (i : ℕ) → i < size →
-        slice_index (resized size old) i ≡ slice_index old i }
 {}
 
 /// The nlink that attributes tell is the number of names, and of a directory two and its subdirectories; in a tree it
