@@ -1,6 +1,7 @@
--- Every call leaves a tree a tree, gives numbers and cookies anew and passes no limit; one that is refused leaves the files.
--- Serves: trees_stay_trees, nothing_is_given_again, no_limit_is_passed and refusals_leave_files; runs_keep_a_tree_within_its_limits in
--- nfs_spec_frames; answers_have_a_spelling in nfs_spec_sizes.
+-- Every call leaves a tree a tree, gives numbers and cookies anew and passes no limit; one that is refused
+-- leaves the files.
+-- Serves: trees_stay_trees, nothing_is_given_again, no_limit_is_passed and refusals_leave_files;
+-- runs_keep_a_tree_within_its_limits in nfs_spec_frames; answers_have_a_spelling in nfs_spec_sizes.
 use Rattle.std.proofs.Common.{◌≡◌, ⊎_elim, ℕ, ◌≤◌, true, false, List, length, Some, refl, sym, subst}
 use Rattle.nfs_types.specs.Timeval.{Timeval}
 use Rattle.nfs_types.specs.Caller.{Caller}

@@ -24,15 +24,19 @@ IsBounded _ = Unit {0}
 
 -- from each path of the directory there is one path more, with the directory's next cookie
 abbrev pub NamesIn : Files → Files → ℕ → List ℕ → ℕ → Type 0
-NamesIn w w' dir name number = (path : List (List ℕ)) (cookie : ℕ) → path_at (places w) path ≡ Some (dir, cookie)
+NamesIn w w' dir name number =
+    (path : List (List ℕ)) (cookie : ℕ) → path_at (places w) path ≡ Some (dir, cookie)
     → AddsPath (path_at (places w)) (path_at (places w')) (path ++ name ∷ []) number (listing w dir).next
 
 -- one path less
 abbrev pub UnnamesIn : Files → Files → ℕ → List ℕ → Type 0
-UnnamesIn w w' dir name = (path : List (List ℕ)) (cookie : ℕ) → path_at (places w) path ≡ Some (dir, cookie)
+UnnamesIn w w' dir name =
+    (path : List (List ℕ)) (cookie : ℕ) → path_at (places w) path ≡ Some (dir, cookie)
     → TakesPath (path_at (places w)) (path_at (places w')) (path ++ name ∷ [])
 
 -- the paths through the one name go on through the other
 abbrev pub RenamesIn : Files → Files → ℕ → List ℕ → ℕ → List ℕ → Type 0
-RenamesIn w w' from from_name to to_name = (p q : List (List ℕ)) (c d : ℕ) → path_at (places w) p ≡ Some (from, c) → path_at (places w) q ≡ Some (to, d)
-    → Renames (path_at (places w)) (path_at (places w')) (p ++ from_name ∷ []) (q ++ to_name ∷ []) (listing w to).next
+RenamesIn w w' from from_name to to_name =
+    (p q : List (List ℕ)) (c d : ℕ) → path_at (places w) p ≡ Some (from, c) → path_at (places w) q ≡ Some (to, d)
+    → Renames (path_at (places w)) (path_at (places w')) (p ++ from_name ∷ []) (q ++ to_name ∷ [])
+    (listing w to).next

@@ -1,6 +1,7 @@
 -- What is to be shown of each call, so that it holds of every call: of those that only read and of refusals with the
 -- files as they were, and of each procedure that was granted with what follows from its Ok.
--- Serves: trees_stay_trees, nothing_is_given_again and no_limit_is_passed in nfs_spec_laws; the laws of nfs_spec_frames; answers_have_a_spelling in nfs_spec_sizes.
+-- Serves: trees_stay_trees, nothing_is_given_again, no_limit_is_passed and refusals_leave_files in nfs_spec_laws;
+-- the laws of nfs_spec_frames; answers_have_a_spelling in nfs_spec_sizes.
 use Rattle.std.proofs.Common.{◌≡◌, ℕ, true, List, Some, Result, Ok, Err, refl, sym, ap, subst, ◌∙◌}
 use Rattle.nfs_types.specs.Timeval.{Timeval}
 use Rattle.nfs_types.specs.Caller.{Caller}
@@ -26,29 +27,40 @@ use Rattle.nfs_spec_steps.proofs.Reading.{attributes_ok}
 
 -- a fact of a call, its answer and the files after it, shown of each kind of call
 pub record EachCall (w : Files) (who : Caller) (now : Timeval) (P : Call → Answer → Files → Type 0) : Type 0 where
+  -- a call that only reads
   pub reads : (call : Call) (answer : Answer) → only_reads call ≡ true → P call answer w
+  -- a call that was refused
   pub refused : (call : Call) (answer : Answer) (stat : Stat) → refusal_in answer ≡ Some stat → P call answer w
+  -- SETATTR, with the attributes after it
   pub set_attributes : (file : List ℕ) (s : Sattr) (a : Fattr) (after : Files)
       → SetOk w who now (number_for w file) (wanted now s) after → AttributesOk after (number_for w file) a
       → P (calls.Setattr file s) (calls.Attributes (Ok a)) after
+  -- WRITE, with the attributes after it
   pub write : (file : List ℕ) (offset : ℕ) (new : List ℕ) (a : Fattr) (after : Files)
       → WriteOk w who now (number_for w file) offset new after → AttributesOk after (number_for w file) a
       → P (calls.Write file offset new) (calls.Attributes (Ok a)) after
+  -- CREATE, with the attributes after it
   pub create : (dir name : List ℕ) (s : Sattr) (number : ℕ) (a : Fattr) (after : Files)
       → CreateOk w who now (number_for w dir) name (wanted now s) number after → AttributesOk after number a
       → P (calls.Create dir name s) (calls.DirOp (Ok (handle_of after.fsid number, a))) after
+  -- MKDIR, with the attributes after it
   pub make_dir : (dir name : List ℕ) (s : Sattr) (number : ℕ) (a : Fattr) (after : Files)
       → MakeDirOk w who now (number_for w dir) name (wanted now s) number after → AttributesOk after number a
       → P (calls.Mkdir dir name s) (calls.DirOp (Ok (handle_of after.fsid number, a))) after
+  -- SYMLINK
   pub symlink : (dir name target : List ℕ) (s : Sattr) (number : ℕ) (after : Files)
       → SymlinkOk w who now (number_for w dir) name target number after
       → P (calls.Symlink dir name target s) (calls.Status (Ok tt)) after
+  -- LINK
   pub link : (from dir name : List ℕ) (after : Files) → LinkOk w who now (number_for w from) (number_for w dir) name after
       → P (calls.Link from dir name) (calls.Status (Ok tt)) after
+  -- REMOVE
   pub remove : (dir name : List ℕ) (after : Files) → RemoveOk w who now (number_for w dir) name after
       → P (calls.Remove dir name) (calls.Status (Ok tt)) after
+  -- RMDIR
   pub remove_dir : (dir name : List ℕ) (after : Files) → RemoveDirOk w who now (number_for w dir) name after
       → P (calls.Rmdir dir name) (calls.Status (Ok tt)) after
+  -- RENAME
   pub rename : (from from_name to to_name : List ℕ) (after : Files)
       → RenameOk w who now (number_for w from) from_name (number_for w to) to_name after
       → P (calls.Rename from from_name to to_name) (calls.Status (Ok tt)) after

@@ -1,5 +1,5 @@
--- What follows from the Ok of a procedure that changes files: each check that it passed, and its effect. Each record
--- speaks of the files before and after, the caller, the clock reading and the procedure's arguments.
+-- What follows from the Ok of a procedure that changes files: each check that it passed, and its effect. Each
+-- record speaks of the files before and after, the caller, the clock reading and the procedure's arguments.
 use Rattle.std.specs.Prelude.{◌≡◌, ◌≢◌, ◌⊎◌, ℕ, ◌+◌, ◌==◌, ◌&&◌, ◌≤◌, Bool, true, false, IsTrue, List, [], length, replicate}
 use Rattle.std.specs.Prelude.{Some, None, option_map, Ok, unwrap_or, if◌then◌else◌}
 use Rattle.nfs_types.specs.Timeval.{Timeval}
@@ -40,7 +40,8 @@ pub record ResizeOk (who : Caller) (file : File) (size : ℕ) : Type 0 where
   pub written : IsTrue (may_write who file)
   pub fits : size ≤ 1048576
 
-pub record SetOk (w : Files) (who : Caller) (now : Timeval) (n : ℕ) (a : Wanted) (after : Files) : Type 0 where
+pub record SetOk (w : Files) (who : Caller) (now : Timeval) (n : ℕ) (a : Wanted) (after : Files)
+    : Type 0 where
   pub file : File
   pub there : file_at w n ≡ Some file
   pub owner : check_owner who file a ≡ Ok tt
@@ -49,7 +50,8 @@ pub record SetOk (w : Files) (who : Caller) (now : Timeval) (n : ℕ) (a : Wante
   pub effect : after ≡ with_changed_file w n (set now a)
 
 -- of no bytes nothing changes
-pub record WriteOk (w : Files) (who : Caller) (now : Timeval) (n offset : ℕ) (new : List ℕ) (after : Files) : Type 0 where
+pub record WriteOk (w : Files) (who : Caller) (now : Timeval) (n offset : ℕ) (new : List ℕ) (after : Files)
+    : Type 0 where
   pub file : File
   pub old : List ℕ
   pub there : file_at w n ≡ Some file
@@ -74,8 +76,8 @@ abbrev pub new_link : Caller → Timeval → List ℕ → File
 new_link who now target = new_file who now nothing 511 (Link target)
 
 -- a file was made under the next number, with a name that was free
-pub record MakeOk (w : Files) (who : Caller) (now : Timeval) (dir : ℕ) (name : List ℕ) (f : File) (number : ℕ) (after : Files)
-    : Type 0 where
+pub record MakeOk (w : Files) (who : Caller) (now : Timeval) (dir : ℕ) (name : List ℕ) (f : File)
+    (number : ℕ) (after : Files) : Type 0 where
   pub directory : MayEdit w who dir name
   pub free : places w dir name ≡ None
   pub room : IsTrue (has_room after)
@@ -83,14 +85,16 @@ pub record MakeOk (w : Files) (who : Caller) (now : Timeval) (dir : ℕ) (name :
   pub effect : after ≡ made now w dir name f
 
 abbrev pub MakeDirOk : Files → Caller → Timeval → ℕ → List ℕ → Wanted → ℕ → Files → Type 0
-MakeDirOk w who now dir name a number after = MakeOk w who now dir name (new_directory who now a) number after
+MakeDirOk w who now dir name a number after =
+    MakeOk w who now dir name (new_directory who now a) number after
 
 abbrev pub SymlinkOk : Files → Caller → Timeval → ℕ → List ℕ → List ℕ → ℕ → Files → Type 0
-SymlinkOk w who now dir name target number after = MakeOk w who now dir name (new_link who now target) number after
+SymlinkOk w who now dir name target number after =
+    MakeOk w who now dir name (new_link who now target) number after
 
 -- CREATE of a name that is there did as SETATTR of its regular file
-pub record CreateOverOk (w : Files) (who : Caller) (now : Timeval) (n : ℕ) (a : Wanted) (number : ℕ) (after : Files)
-    : Type 0 where
+pub record CreateOverOk (w : Files) (who : Caller) (now : Timeval) (n : ℕ) (a : Wanted) (number : ℕ)
+    (after : Files) : Type 0 where
   pub file : File
   pub bytes : List ℕ
   pub there : file_at w n ≡ Some file
@@ -99,13 +103,13 @@ pub record CreateOverOk (w : Files) (who : Caller) (now : Timeval) (n : ℕ) (a 
   pub set : SetOk w who now n a after
 
 -- CREATE of a new name made a regular file whose size is within its limit, in bytes
-pub record CreateNewOk (w : Files) (who : Caller) (now : Timeval) (dir : ℕ) (name : List ℕ) (a : Wanted) (number : ℕ)
-    (after : Files) : Type 0 where
+pub record CreateNewOk (w : Files) (who : Caller) (now : Timeval) (dir : ℕ) (name : List ℕ) (a : Wanted)
+    (number : ℕ) (after : Files) : Type 0 where
   pub fits : unwrap_or a.size 0 ≤ 1048576
   pub make : MakeOk w who now dir name (new_regular who now a) number after
 
-pub record CreateOk (w : Files) (who : Caller) (now : Timeval) (dir : ℕ) (name : List ℕ) (a : Wanted) (number : ℕ)
-    (after : Files) : Type 0 where
+pub record CreateOk (w : Files) (who : Caller) (now : Timeval) (dir : ℕ) (name : List ℕ) (a : Wanted)
+    (number : ℕ) (after : Files) : Type 0 where
   pub file : File
   pub there : file_at w dir ≡ Some file
   pub directory : is_directory file.body ≡ true
@@ -114,7 +118,8 @@ pub record CreateOk (w : Files) (who : Caller) (now : Timeval) (dir : ℕ) (name
   pub fresh : places w dir name ≡ None → CreateNewOk w who now dir name a number after
   pub over : (n cookie : ℕ) → places w dir name ≡ Some (n, cookie) → CreateOverOk w who now n a number after
 
-pub record LinkOk (w : Files) (who : Caller) (now : Timeval) (from dir : ℕ) (name : List ℕ) (after : Files) : Type 0 where
+pub record LinkOk (w : Files) (who : Caller) (now : Timeval) (from dir : ℕ) (name : List ℕ) (after : Files)
+    : Type 0 where
   pub file : File
   pub there : file_at w from ≡ Some file
   pub plain : is_directory file.body ≡ false
@@ -126,8 +131,8 @@ pub record LinkOk (w : Files) (who : Caller) (now : Timeval) (from dir : ℕ) (n
 -- ---- REMOVE, RMDIR
 
 -- a name of a directory, or of what is none, goes; what it stood for lists nothing
-pub record UnnameOk (of_directory : Bool) (w : Files) (who : Caller) (now : Timeval) (dir : ℕ) (name : List ℕ) (after : Files)
-    : Type 0 where
+pub record UnnameOk (of_directory : Bool) (w : Files) (who : Caller) (now : Timeval) (dir : ℕ)
+    (name : List ℕ) (after : Files) : Type 0 where
   pub directory : MayEdit w who dir name
   pub number : ℕ
   pub cookie : ℕ
@@ -149,26 +154,30 @@ RemoveDirOk w who now dir name after = UnnameOk true w who now dir name after
 -- two names stand for one file
 abbrev pub IsSameFile : Files → ℕ → List ℕ → ℕ → List ℕ → Type 0
 IsSameFile w from from_name to to_name =
-    (n : ℕ) × (b : ℕ) × (c : ℕ) × (places w from from_name ≡ Some (n, b)) × (places w to to_name ≡ Some (n, c))
+    (n : ℕ) × (b : ℕ) × (c : ℕ)
+    × (places w from from_name ≡ Some (n, b)) × (places w to to_name ≡ Some (n, c))
 
--- a file may take the place of another: that one lists nothing, and is a directory exactly where the first is one
+-- a file may take the place of another: that one lists nothing, and is a directory exactly where the first
+-- is one
 pub record MayReplace (w : Files) (file : File) (n : ℕ) : Type 0 where
   pub other : File
   pub there : file_at w n ≡ Some other
   pub kind : is_directory other.body ≡ is_directory file.body
   pub empty : (listing_in other.body).entries ≡ []
 
--- an entry moves, over what may stand at the new name; the file is not the directory that it goes to, nor above it
-pub record MoveOk (w : Files) (now : Timeval) (from : ℕ) (from_name : List ℕ) (to : ℕ) (to_name : List ℕ) (number : ℕ)
-    (file : File) (after : Files) : Type 0 where
+-- an entry moves, over what may stand at the new name; the file is not the directory that it goes to, nor
+-- above it
+pub record MoveOk (w : Files) (now : Timeval) (from : ℕ) (from_name : List ℕ) (to : ℕ) (to_name : List ℕ)
+    (number : ℕ) (file : File) (after : Files) : Type 0 where
   pub other : (cookie : ℕ) → places w to to_name ≢ Some (number, cookie)
   pub not_above : (is_directory file.body && is_above w number to) ≡ false
   pub replaces : (n cookie : ℕ) → places w to to_name ≡ Some (n, cookie) → MayReplace w file n
   pub cookie : (listing w to).next ≤ 4294967294
-  pub effect : after ≡ moved now w number from from_name to to_name (option_map (λ e. e.0) (places w to to_name))
+  pub effect :
+      after ≡ moved now w number from from_name to to_name (option_map (λ e. e.0) (places w to to_name))
 
-pub record RenameOk (w : Files) (who : Caller) (now : Timeval) (from : ℕ) (from_name : List ℕ) (to : ℕ) (to_name : List ℕ)
-    (after : Files) : Type 0 where
+pub record RenameOk (w : Files) (who : Caller) (now : Timeval) (from : ℕ) (from_name : List ℕ) (to : ℕ)
+    (to_name : List ℕ) (after : Files) : Type 0 where
   pub source : MayEdit w who from from_name
   pub target : MayEdit w who to to_name
   pub number : ℕ
@@ -176,4 +185,6 @@ pub record RenameOk (w : Files) (who : Caller) (now : Timeval) (from : ℕ) (fro
   pub is_named : places w from from_name ≡ Some (number, cookie)
   pub file : File
   pub there : file_at w number ≡ Some file
-  pub outcome : (IsSameFile w from from_name to to_name × (after ≡ w)) ⊎ MoveOk w now from from_name to to_name number file after
+  pub outcome :
+      (IsSameFile w from from_name to to_name × (after ≡ w))
+      ⊎ MoveOk w now from from_name to to_name number file after

@@ -21,7 +21,7 @@ pub record GetattrOk (w : Files) (handle : List ℕ) (a : Fattr) : Type 0 where
   pub is_named : number_in w.fsid handle ≡ Some number
   pub attributes : AttributesOk w number a
 
-pub record LookupOk (w : Files) (who : Caller) (dir name : List ℕ) (handle : List ℕ) (a : Fattr) : Type 0 where
+pub record LookupOk (w : Files) (who : Caller) (dir name handle : List ℕ) (a : Fattr) : Type 0 where
   pub dir_number : ℕ
   pub dir_is_named : number_in w.fsid dir ≡ Some dir_number
   pub number : ℕ
@@ -34,7 +34,8 @@ pub record ReadLinkOk (w : Files) (n : ℕ) (target : List ℕ) : Type 0 where
   pub there : file_at w n ≡ Some file
   pub answer : file.body ≡ Link target
 
-pub record ReadOk (w : Files) (who : Caller) (n offset count : ℕ) (a : Fattr) (part : List ℕ) : Type 0 where
+pub record ReadOk (w : Files) (who : Caller) (n offset count : ℕ) (a : Fattr) (part : List ℕ)
+    : Type 0 where
   pub file : File
   pub bytes : List ℕ
   pub there : file_at w n ≡ Some file

@@ -33,18 +33,20 @@ pub fn granted_changes_pass_their_checks()
         remove w who now dir name ≡ Ok (tt, after) → RemoveOk w who now dir name after }
     ensures remove_dir { (w after : Files) (who : Caller) (now : Timeval) (dir : ℕ) (name : List ℕ) →
         remove_dir w who now dir name ≡ Ok (tt, after) → RemoveDirOk w who now dir name after }
-    ensures rename { (w after : Files) (who : Caller) (now : Timeval) (from to : ℕ) (from_name to_name : List ℕ) →
-        rename w who now from from_name to to_name ≡ Ok (tt, after) →
+    ensures rename { (w after : Files) (who : Caller) (now : Timeval) (from to : ℕ)
+        (from_name to_name : List ℕ) → rename w who now from from_name to to_name ≡ Ok (tt, after) →
         RenameOk w who now from from_name to to_name after }
 {}
 
 /// A procedure that only reads and answers Ok passed each of its checks, and its answer is what is said.
 pub fn granted_reads_pass_their_checks()
     ensures attributes { (w : Files) (n : ℕ) (a : Fattr) → attributes_at w n ≡ Ok a → AttributesOk w n a }
-    ensures getattr { (w : Files) (handle : List ℕ) (a : Fattr) → getattr w handle ≡ Ok a → GetattrOk w handle a }
+    ensures getattr { (w : Files) (handle : List ℕ) (a : Fattr) →
+        getattr w handle ≡ Ok a → GetattrOk w handle a }
     ensures lookup { (w : Files) (who : Caller) (dir name handle : List ℕ) (a : Fattr) →
         lookup w who dir name ≡ Ok (handle, a) → LookupOk w who dir name handle a }
-    ensures read_link { (w : Files) (n : ℕ) (target : List ℕ) → read_link w n ≡ Ok target → ReadLinkOk w n target }
+    ensures read_link { (w : Files) (n : ℕ) (target : List ℕ) →
+        read_link w n ≡ Ok target → ReadLinkOk w n target }
     ensures read { (w : Files) (who : Caller) (n offset count : ℕ) (a : Fattr) (part : List ℕ) →
         read w who n offset count ≡ Ok (a, part) → ReadOk w who n offset count a part }
     ensures read_dir { (w : Files) (who : Caller) (n cookie count : ℕ) (page : Page) →

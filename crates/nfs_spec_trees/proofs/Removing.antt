@@ -19,7 +19,7 @@ use Rattle.fs_changes.proofs.Shapes.{kind, AllFiles, IsSameShape, IsUnnamed, IsO
 use Rattle.fs_changes.proofs.Adding.{one_same}
 use Rattle.fs_changes.proofs.Taking.{IsTaken, stays_taken}
 use Rattle.fs_changes.proofs.Room.{IsNoMore, no_more_then, changed_no_more, gone_no_more, unnamed_no_more, same_smaller, still_room}
-use Rattle.nfs_spec.specs.Changes.{touch, touched, mark, marked, unnamed}
+use Rattle.nfs_spec.specs.Changes.{touch, touched, mark, marked, unnamed, after_unlink}
 use Rattle.nfs_spec_steps.specs.Granted.{UnnameOk}
 use Rattle.nfs_spec_trees.specs.Anew.{Follows}
 use Rattle.nfs_spec_trees.proofs.GivenAnew.{taken_given, cookie_taken, cookie_touched}
@@ -111,17 +111,19 @@ module _ (now : Timeval) (time : IsTime now) (w : Files) (tree : IsFileTree w) (
         files = mark_files now w₁ n time files₁;
       }
 
+  -- a name goes, and with the last one the file: one entry less, and nothing else of the shape
   pub unnamed_taken : IsTaken w (unnamed now w d x n) d x n c
   unfolding w₁
   unnamed_taken = by (eqb (names_of w₁ n) 0) refl
     where
-      by : (b : Bool) → eqb (names_of w₁ n) 0 ≡ b → IsTaken w (cond b (without_file w₁ n) (mark now w₁ n)) d x n c
+      by : (b : Bool) → eqb (names_of w₁ n) 0 ≡ b → IsTaken w (after_unlink b now w₁ n) d x n c
       by true e = all_gone (eqb-true _ _ e)
       by false e = some_left (⊎_elim (λ z. absurd (eqb-false _ _ e z)) (λ ne. positive (names_of w₁ n) ne) (cases_eq (names_of w₁ n) 0))
         where
           positive : (m : ℕ) → m ≢ 0 → 0 < m
           positive m ne = omega arith
 
+  -- and the directory's times change nothing of that
   pub touched_taken : IsTaken w (touch now (unnamed now w d x n) d) d x n c
   touched_taken =
       let v = unnamed now w d x n in
@@ -141,7 +143,7 @@ module _ (now : Timeval) (time : IsTime now) (w : Files) (tree : IsFileTree w) (
       v : Files
       v = without_name w dir name
 
-      by : (b : Bool) → IsNoMore v (cond b (without_file v o.number) (mark now v o.number))
+      by : (b : Bool) → IsNoMore v (after_unlink b now v o.number)
       by true = gone_no_more v o.number
       by false = changed_no_more v o.number (marked now) (λ f. same_smaller f (marked now f) refl)
 

@@ -1,4 +1,5 @@
--- A rename takes no room but for a cookie.
+-- RENAME takes no room but for a cookie.
+-- Serves: no_limit_is_passed in nfs_spec_laws.
 use Rattle.std.proofs.Common.{◌≡◌, ⊎_elim, ℕ, ◌+◌, ◌≤◌, Bool, true, false, cond, List, [], ◌∷◌, length, Option, Some, None, nat_eq, option_map, option_and_then, refl, sym, ap, ◌∙◌, arith}
 use Rattle.std.specs.Prelude.{◌==◌}
 use Rattle.std.specs.Map.{lookup, remove_entry}
@@ -9,11 +10,11 @@ use Rattle.nfs_types.specs.Timeval.{Timeval}
 use Rattle.fs_model.specs.Listing.{entry_at, with_entry, without_entry}
 use Rattle.fs_model.specs.Files.{Body, Regular, Link, Directory, File, Files, file_at, listing_in, places, names_of}
 use Rattle.fs_model.proofs.Walks.{none_some, some_same}
-use Rattle.fs_changes.specs.Edits.{without_file, relisted, relisted_body, with_name, without_name}
+use Rattle.fs_changes.specs.Edits.{relisted, relisted_body, with_name, without_name}
 use Rattle.fs_changes.specs.Limits.{blocks_in, entry_count, file_count, block_count, has_room}
 use Rattle.fs_changes.proofs.Finite.{changed_next, changed_here, changed_other, total_changed}
 use Rattle.fs_changes.proofs.Room.{count_changed, AllCookies, IsWithin, within, room, IsNoMore, no_more_then, still_room, changed_no_more, gone_no_more, unnamed_no_more, same_smaller, length-removed}
-use Rattle.nfs_spec.specs.Changes.{touch, touched, mark, marked}
+use Rattle.nfs_spec.specs.Changes.{touch, touched, mark, marked, after_unlink}
 use Rattle.nfs_spec.specs.Procedures.{cleared, moved}
 
 length-one_less : {X : Type 0} (t : List ℕ → Bool) (v : X) (es : List (List ℕ × X)) → lookup t es ≡ Some v → length (remove_entry t es) + 1 ≡ length es
@@ -82,10 +83,11 @@ cleared_no_more now w d x (Some n) = no_more_then w w₁ _ (unnamed_no_more w d 
     w₁ : Files
     w₁ = without_name w d x
 
-    by : (b : Bool) → IsNoMore w₁ (cond b (without_file w₁ n) (mark now w₁ n))
+    by : (b : Bool) → IsNoMore w₁ (after_unlink b now w₁ n)
     by true = gone_no_more w₁ n
     by false = changed_no_more w₁ n (marked now) (λ f. same_smaller f (marked now f) refl)
 
+-- where the target directory's next cookie may be given, a rename passes no limit that was kept
 pub moved_room : (now : Timeval) (w : Files) (s d₁ : ℕ) (x₁ : List ℕ) (d₂ : ℕ) (x₂ : List ℕ) (o : Option ℕ) (v : ℕ × ℕ) → places (cleared now w d₂ x₂ o) d₁ x₁ ≡ Some v
     → (f : File) → file_at (without_name (cleared now w d₂ x₂ o) d₁ x₁) d₂ ≡ Some f → (listing_in f.body).next ≤ 4294967294 → has_room w ≡ true → has_room (moved now w s d₁ x₁ d₂ x₂ o) ≡ true
 moved_room now w s d₁ x₁ d₂ x₂ o v source f there low h =

@@ -17,7 +17,7 @@ use Rattle.fs_changes.proofs.Listings.{leads}
 use Rattle.fs_changes.proofs.Shapes.{kind, is_some-kind, AllFiles, IsSameShape, IsNamed, IsUnnamed, same_then, named_shape, unnamed_shape}
 use Rattle.fs_changes.proofs.Taking.{stays_taken}
 use Rattle.fs_changes.proofs.Moving.{IsRenamed, IsMoved, renames_path, stays_moved}
-use Rattle.nfs_spec.specs.Changes.{touch, mark, marked}
+use Rattle.nfs_spec.specs.Changes.{touch, mark, marked, after_unlink}
 use Rattle.nfs_spec.specs.Procedures.{is_above, cleared}
 use Rattle.nfs_spec_steps.specs.Granted.{MayReplace, MoveOk, RenameOk}
 use Rattle.nfs_spec_steps.proofs.Steps.{listing_there}
@@ -91,7 +91,7 @@ module _ (now : Timeval) (time : IsTime now) (w : Files) (tree : IsFileTree w) (
         cookie = by_left (eqb (names_of (without_name w d x) t.0) 0) t.0 (λ e. none_some (sym (unlists t.0 t.1 h x) ∙ ap (λ m. places w m x) e ∙ h));
       }
     where
-      by_left : (b : Bool) (k : ℕ) → k ≢ d → next_in (cond b (without_file (without_name w d x) k) (mark now (without_name w d x) k)) d ≡ next_in w d
+      by_left : (b : Bool) (k : ℕ) → k ≢ d → next_in (after_unlink b now (without_name w d x) k) d ≡ next_in w d
       by_left true k not = ap (option_map (λ f. (listing_in f.body).next)) (gone_other (without_name w d x) k d (λ e. not (sym e))) ∙ next_unnamed w d x d
       by_left false k not = next_changed (without_name w d x) k (marked now) (λ f. refl) d ∙ next_unnamed w d x d
 
