@@ -38,5 +38,5 @@ UnnamesIn w w' dir name =
 abbrev pub RenamesIn : Files → Files → ℕ → List ℕ → ℕ → List ℕ → Type 0
 RenamesIn w w' from from_name to to_name =
     (p q : List (List ℕ)) (c d : ℕ) → path_at (places w) p ≡ Some (from, c) → path_at (places w) q ≡ Some (to, d)
-    → Renames (path_at (places w)) (path_at (places w')) (p ++ from_name ∷ []) (q ++ to_name ∷ [])
-    (listing w to).next
+    → Renames (path_at (places w)) (path_at (places w'))
+    (p ++ from_name ∷ []) (q ++ to_name ∷ []) (listing w to).next

@@ -1,7 +1,7 @@
 -- REMOVE and RMDIR take one entry out and leave a tree a tree: a name of a file goes, and with the last name the number.
 -- Serves: removing_takes_a_path, trees_stay_trees, nothing_is_given_again and no_limit_is_passed in nfs_spec_laws;
 -- what_loses_its_last_name_is_gone in nfs_spec_frames.
-use Rattle.std.proofs.Common.{◌≡◌, ◌≢◌, ⊎_elim, inl, inr, ℕ, ◌<◌, Bool, true, false, cond, List, [], Some, None, nat_eq, eqb, is_some, option_map, option_and_then, refl, sym, ap, subst, ◌∙◌, arith}
+use Rattle.std.proofs.Common.{◌≡◌, ◌≢◌, ⊎_elim, inl, inr, ℕ, ◌<◌, Bool, true, false, List, [], Some, None, nat_eq, eqb, is_some, option_map, option_and_then, refl, sym, ap, subst, ◌∙◌, arith}
 use Rattle.std.specs.Map.{lookup}
 use Rattle.std.specs.Cmp.Lexicographic.{pointwise}
 use Rattle.std.proofs.lemmas.Bool.{cases_eq, eqb-true, eqb-false}
