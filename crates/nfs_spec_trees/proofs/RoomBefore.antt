@@ -8,15 +8,15 @@ use Rattle.std.proofs.lemmas.Bool.{cases_eq}
 use Rattle.std.proofs.lemmas.List.{length-append}
 use Rattle.nfs_types.specs.Timeval.{Timeval}
 use Rattle.fs_model.specs.Listing.{Listing, entry_at, with_entry}
-use Rattle.fs_model.specs.Files.{Body, Regular, Link, Directory, File, Files, file_at, listing_in, is_directory, places}
+use Rattle.fs_model.specs.Files.{Body, Regular, Symlink, Directory, File, Files, file_at, listing_in, is_directory, places}
 use Rattle.fs_model.specs.Trees.{IsFileTree}
 use Rattle.fs_model.proofs.Walks.{none_some, some_same}
-use Rattle.fs_changes.specs.Edits.{with_changed_file, with_new_file, relisted, relisted_body, with_name}
+use Rattle.fs_changes.specs.Edits.{with_changed_file, with_new_file, map_listing, map_body_listing, with_name}
 use Rattle.fs_changes.specs.Limits.{blocks_in, entry_count, file_count, block_count, has_room}
 use Rattle.fs_changes.proofs.Finite.{nothing_changes, changed_next, changed_here, changed_other, new_here, new_other, total, total_changed, total_new}
 use Rattle.fs_changes.proofs.Room.{count_new, count_changed, AllCookies, within, room, still_room, changed_no_more, same_smaller}
-use Rattle.nfs_spec.specs.Changes.{touch, touched, mark, marked}
-use Rattle.nfs_spec.specs.Procedures.{made}
+use Rattle.nfs_spec.specs.Changes.{touch, with_mtime, touch_ctime, with_ctime}
+use Rattle.nfs_spec.specs.Procedures.{add_file}
 use Rattle.nfs_spec_trees.specs.Room.{HasRoomToMake, HasRoomToLink}
 use Rattle.nfs_spec_trees.proofs.FilesFit.{next_free}
 
@@ -58,19 +58,19 @@ length-same t (e ∷ es) h = elim (t e.0) as (λ b. cond b (Some e.1) (lookup t 
   | false ↦ λ is. omega (arith, length-same t es is)
 ] h
 
-put_entries : (x : List ℕ) (k : ℕ) (b : Body) → is_directory b ≡ true → entry_at (listing_in b) x ≡ None → length (listing_in (relisted_body (λ l. with_entry l x k) b)).entries ≡ length (listing_in b).entries + 1
+put_entries : (x : List ℕ) (k : ℕ) (b : Body) → is_directory b ≡ true → entry_at (listing_in b) x ≡ None → length (listing_in (map_body_listing (λ l. with_entry l x k) b)).entries ≡ length (listing_in b).entries + 1
 put_entries x k (Regular bytes) is free = absurd cc
-put_entries x k (Link target) is free = absurd cc
+put_entries x k (Symlink target) is free = absurd cc
 put_entries x k (Directory l) is free = omega (arith, length-append (remove_entry (pointwise nat_eq x) l.entries) ((x, (k, l.next)) ∷ []), length-same (pointwise nat_eq x) l.entries free)
 
-put_next : (x : List ℕ) (k : ℕ) (b : Body) → is_directory b ≡ true → (listing_in (relisted_body (λ l. with_entry l x k) b)).next ≡ (listing_in b).next + 1
+put_next : (x : List ℕ) (k : ℕ) (b : Body) → is_directory b ≡ true → (listing_in (map_body_listing (λ l. with_entry l x k) b)).next ≡ (listing_in b).next + 1
 put_next x k (Regular bytes) is = absurd cc
-put_next x k (Link target) is = absurd cc
+put_next x k (Symlink target) is = absurd cc
 put_next x k (Directory l) is = refl
 
-put_blocks : (x : List ℕ) (k : ℕ) (b : Body) → blocks_in (relisted_body (λ l. with_entry l x k) b) ≡ blocks_in b
+put_blocks : (x : List ℕ) (k : ℕ) (b : Body) → blocks_in (map_body_listing (λ l. with_entry l x k) b) ≡ blocks_in b
 put_blocks x k (Regular bytes) = refl
-put_blocks x k (Link target) = refl
+put_blocks x k (Symlink target) = refl
 put_blocks x k (Directory l) = refl
 
 -- what a name more asks of the files
@@ -83,7 +83,7 @@ record IsNamedWithin (w : Files) (next_cookie : ℕ) : Type 0 where
 
 module _ (w : Files) (d : ℕ) (x : List ℕ) (k : ℕ) (f : File) (there : file_at w d ≡ Some f) (is : is_directory f.body ≡ true) (free : entry_at (listing_in f.body) x ≡ None) where
   abbrev put : File → File
-  put = relisted (λ l. with_entry l x k)
+  put = map_listing (λ l. with_entry l x k)
 
   named_needs : has_room (with_name w d x k) ≡ true → IsNamedWithin w (listing_in f.body).next
   unfolding AllCookies
@@ -117,10 +117,10 @@ free_in : (w : Files) (d : ℕ) (x : List ℕ) (f : File) → file_at w d ≡ So
 free_in w d x f there free = sym (ap (option_and_then (λ f. entry_at (listing_in f.body) x)) there) ∙ free
 
 touched_back : (now : Timeval) (w : Files) (d : ℕ) → has_room (touch now w d) ≡ true → has_room w ≡ true
-touched_back now w d = room_back w d (touched now) (λ f. refl)
+touched_back now w d = room_back w d (with_mtime now) (λ f. refl)
 
 touched_on : (now : Timeval) (w : Files) (d : ℕ) → has_room w ≡ true → has_room (touch now w d) ≡ true
-touched_on now w d = still_room w (touch now w d) (changed_no_more w d (touched now) (λ f. same_smaller f (touched now f) refl))
+touched_on now w d = still_room w (touch now w d) (changed_no_more w d (with_mtime now) (λ f. same_smaller f (with_mtime now f) refl))
 
 module _ (now : Timeval) (w : Files) (tree : IsFileTree w) (before : has_room w ≡ true) (dir : ℕ) (name : List ℕ) (d : File) (there : file_at w dir ≡ Some d) (is : is_directory d.body ≡ true) (free : places w dir name ≡ None) where
   not_next : dir ≢ w.next
@@ -150,7 +150,7 @@ module _ (now : Timeval) (w : Files) (tree : IsFileTree w) (before : has_room w 
         (cases_eq n w.next)
 
     -- room after a new file with a name, by the counts before
-    pub to_make : (has_room (made now w dir name f) ≡ true) ↔ HasRoomToMake w (listing_in d.body).next (blocks_in f.body)
+    pub to_make : (has_room (add_file now w dir name f) ≡ true) ↔ HasRoomToMake w (listing_in d.body).next (blocks_in f.body)
     unfolding one
     to_make = (
       (λ h.
@@ -173,15 +173,15 @@ module _ (now : Timeval) (w : Files) (tree : IsFileTree w) (before : has_room w 
 
 -- room after a name more, by the counts before
 pub to_link : (now : Timeval) (w : Files) → has_room w ≡ true → (dir : ℕ) (name : List ℕ) (d : File) → file_at w dir ≡ Some d → is_directory d.body ≡ true → places w dir name ≡ None → (from : ℕ)
-    → (has_room (touch now (with_name (mark now w from) dir name from) dir) ≡ true) ↔ HasRoomToLink w (listing_in d.body).next
+    → (has_room (touch now (with_name (touch_ctime now w from) dir name from) dir) ≡ true) ↔ HasRoomToLink w (listing_in d.body).next
 to_link now w before dir name d there is free from =
-    let v = mark now w from in
-    let g = body_there w from (marked now) (λ f. refl) dir d there in
+    let v = touch_ctime now w from in
+    let g = body_there w from (with_ctime now) (λ f. refl) dir d there in
     let is_g : is_directory g.0.body ≡ true = ap is_directory g.2 ∙ is in
     let free_g : entry_at (listing_in g.0.body) name ≡ None = ap (λ b. entry_at (listing_in b) name) g.2 ∙ free_in w dir name d there free in
     let same_next = ap (λ b. (listing_in b).next) g.2 in
-    let same_entries = same_total w from (marked now) (λ f. refl) (λ b. length (listing_in b).entries) in
-    let within_v = within v (still_room w v (changed_no_more w from (marked now) (λ f. same_smaller f (marked now f) refl)) before) in (
+    let same_entries = same_total w from (with_ctime now) (λ f. refl) (λ b. length (listing_in b).entries) in
+    let within_v = within v (still_room w v (changed_no_more w from (with_ctime now) (λ f. same_smaller f (with_ctime now f) refl)) before) in (
       (λ h. let n = named_needs v dir name from g.0 g.1 is_g free_g (touched_back now (with_name v dir name from) dir h) in record { entries = omega (arith, same_entries, n.entries); cookie = omega (arith, same_next, n.cookie) }),
       (λ h. touched_on now (with_name v dir name from) dir (named_has v dir name from g.0 g.1 is_g free_g within_v.cookies (record { files = within_v.files; entries = omega (arith, same_entries, h.entries); blocks = within_v.blocks; next = within_v.next; cookie = omega (arith, same_next, h.cookie) }))),
     )
