@@ -6,7 +6,7 @@ use Rattle.records.specs.Record.{IsUnfinished, PassesLimit}
 use Rattle.records.specs.Stream.{AreRecords}
 use Rattle.records.specs.declared.fault.RecordFault.{RecordFault}
 use Rattle.records.specs.declared.fault.RecordFault.TheVariants as faults
-use Rattle.nfs_types.specs.Timeval.{Timeval}
+use Rattle.nfs_items.specs.Timeval.{Timeval}
 use Rattle.service.specs.World.{opening_world}
 use Rattle.service.specs.Owed.{replies_owed}
 

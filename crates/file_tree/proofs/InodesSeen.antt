@@ -5,14 +5,13 @@ use Rattle.std.specs.Ordering.{nat_cmp}
 use Rattle.std.specs.Cmp.{nat_cmp_total}
 use Rattle.std.specs.BTreeMap.{is_at}
 use Rattle.std.specs.FinMap as finite
-use Rattle.nfs_types.specs.Caller.{Caller}
-use Rattle.nfs_types.specs.declared.stat.Stat.TheVariants as stats
+use Rattle.nfs_items.specs.Caller.{Caller}
+use Rattle.nfs_items.specs.declared.stat.Stat.TheVariants as stats
 use Rattle.fs_model.specs.Files.{File, Files, file_at, parent_of}
 use Rattle.fs_model.specs.Trees.{IsBody}
 use Rattle.nfs_spec.specs.ProcedureChecks.{◌>>=◌, ok_or, listing_or, may_search}
 use Rattle.nfs_spec.specs.FileAttributes.{attributes_of}
-use Rattle.nfs_spec.specs.Effects.{attributes_at, number_named, number_at_name}
-use Rattle.nfs_spec.specs.Effects.{number_in_listing}
+use Rattle.nfs_spec.specs.Effects.{attributes_at, number_named, number_at_name, number_in_listing}
 use Rattle.inodes.specs.Inodes.{body_in, file_in, inode_at, files_of, parent_in, KeepsParent, AreTree, fattr_of}
 use Rattle.inodes.specs.InodeLookUp.{look_up_in}
 use Rattle.inodes.specs.declared.inode.Body as stored

@@ -1,7 +1,7 @@
 //! The tree.
 
 ghost use Rattle.std.specs.Prelude.{◌≡◌, ℕ, List, IfOk, OnOk, IsTrue, Some, None, Err};
-ghost use Rattle.nfs_types.specs.CallerOf.{caller_of};
+ghost use Rattle.nfs_items.specs.CallerOf.{caller_of};
 ghost use Rattle.fs_model.specs.Files.{places};
 ghost use Rattle.fs_model.specs.Names.{is_name, dot_dot};
 ghost use Rattle.fs_model.specs.Trees.{IsFileTree};

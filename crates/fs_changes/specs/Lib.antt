@@ -1,4 +1,4 @@
-pub use Rattle.nfs_types.specs.Timeval
+pub use Rattle.nfs_items.specs.Timeval
 pub use Rattle.fs_model.specs.Listing
 pub use Rattle.fs_model.specs.Paths
 pub use Rattle.fs_model.specs.Names

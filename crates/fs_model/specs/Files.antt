@@ -6,7 +6,7 @@ use Rattle.std.specs.Ordering.{nat_cmp}
 use Rattle.std.specs.FinMap as finite
 use Rattle.std.specs.Coded.{Coded, code_by, coded×, coded⊎, coded_ℕ, coded_list}
 use Rattle.std.proofs.Common.{inl, inr, ◌⊎◌}
-use Rattle.nfs_types.specs.Timeval.{Timeval, timeval_code}
+use Rattle.nfs_items.specs.Timeval.{Timeval, timeval_code}
 use Rattle.fs_model.specs.Listing.{Listing, entry_at}
 
 -- what a file holds: bytes, a target, or the names of a directory

@@ -1,4 +1,4 @@
-pub use Rattle.nfs_types.specs.Timeval
+pub use Rattle.nfs_items.specs.Timeval
 pub mod Listing
 pub mod Paths
 pub mod Names

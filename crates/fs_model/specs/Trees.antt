@@ -1,6 +1,6 @@
 -- What it is that files are a tree.
 use Rattle.std.specs.Prelude.{◌≡◌, ◌≢◌, ℕ, ◌<◌, ◌≤◌, IsTrue, IsSome, Some, List, length}
-use Rattle.nfs_types.specs.Timeval.{Timeval}
+use Rattle.nfs_items.specs.Timeval.{Timeval}
 use Rattle.fs_model.specs.Listing.{IsRising, HasDistinctNames}
 use Rattle.fs_model.specs.Paths.{IsTree}
 use Rattle.fs_model.specs.Names.{is_name}

@@ -4,7 +4,7 @@ use Rattle.std.specs.Ordering.{nat_cmp}
 use Rattle.std.specs.BTreeMap.{is_at}
 use Rattle.std.specs.Map.{lookup}
 use Rattle.std.specs.FinMap as finite
-use Rattle.nfs_types.specs.declared.attributes.Fattr.{Fattr}
+use Rattle.nfs_items.specs.declared.attributes.Fattr.{Fattr}
 use Rattle.fs_model.specs.Files.{Body, Regular, Symlink, Directory, File, Files, parent_of}
 use Rattle.fs_model.specs.Trees.{IsFileTree}
 use Rattle.nfs_spec.specs.FileAttributes.{type_of, type_bits, size_of, nlink_of}

@@ -82,7 +82,7 @@ pub struct Inode {
 
 impl Inode {
     ghost use Rattle.std.specs.Prelude.{◌≡◌};
-    ghost use Rattle.nfs_types.specs.CallerOf.{caller_of};
+    ghost use Rattle.nfs_items.specs.CallerOf.{caller_of};
     ghost use Rattle.fs_model.specs.Trees.{IsBody};
     ghost use Rattle.nfs_spec.specs.ProcedureChecks.{class_of, may_search};
     ghost use Rattle.inodes.specs.Inodes.{body_in, file_in, fattr_of};

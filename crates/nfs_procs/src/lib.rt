@@ -2,7 +2,7 @@
 #![tactic(auto)]
 
 ghost use Rattle.std.specs.Prelude.{◌≡◌, IfOk, OnErr, IsOk};
-ghost use Rattle.nfs_types.specs.CallerOf.{caller_of};
+ghost use Rattle.nfs_items.specs.CallerOf.{caller_of};
 ghost use Rattle.nfs_types.specs.Arguments.{arguments_of};
 ghost use Rattle.nfs_types.specs.Results.{results_of, diropres_of};
 ghost use Rattle.nfs_spec.specs.Effects.{does, getattr, lookup};

@@ -1,3 +1,4 @@
+pub mod Answered
 pub mod OpeningFiles
 pub mod Lookups
 pub mod Present

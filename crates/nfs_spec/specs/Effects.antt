@@ -2,15 +2,12 @@
 -- first check that fails, in the order written, and then the files are as before.
 use Rattle.std.specs.Prelude.{ℕ, List, Option, Some, None, Result, Ok, Err, option_map, nat_eq, if◌then◌else◌}
 use Rattle.std.specs.Cmp.Lexicographic.{pointwise}
-use Rattle.nfs_types.specs.Timeval.{Timeval}
-use Rattle.nfs_types.specs.Caller.{Caller}
-use Rattle.nfs_types.specs.Handle.{handle_of}
-use Rattle.nfs_types.specs.Arguments.{Arguments, Null, Getattr, Lookup}
-use Rattle.nfs_types.specs.Results.{Results, Attributes, DirOp}
-use Rattle.nfs_types.specs.Results as results
-use Rattle.nfs_types.specs.declared.attributes.Fattr.{Fattr}
-use Rattle.nfs_types.specs.declared.stat.Stat.{Stat}
-use Rattle.nfs_types.specs.declared.stat.Stat.TheVariants as stats
+use Rattle.nfs_items.specs.Timeval.{Timeval}
+use Rattle.nfs_items.specs.Caller.{Caller}
+use Rattle.nfs_items.specs.Handle.{handle_of}
+use Rattle.nfs_items.specs.declared.attributes.Fattr.{Fattr}
+use Rattle.nfs_items.specs.declared.stat.Stat.{Stat}
+use Rattle.nfs_items.specs.declared.stat.Stat.TheVariants as stats
 use Rattle.fs_model.specs.Listing.{Listing, entry_at}
 use Rattle.fs_model.specs.Names.{dot, dot_dot, is_name}
 use Rattle.fs_model.specs.Files.{Files, parent_of}
@@ -54,9 +51,3 @@ lookup fs who dir name = do
   n ← number_at_name fs who d name
   a ← attributes_at fs n
   Ok (handle_of fs.fsid n, a)
-
--- the result of a procedure, and the files after it
-abbrev pub does : Files → Caller → Timeval → Arguments → Results × Files
-does fs who now Null = (results.Null, fs)
-does fs who now (Getattr file) = (Attributes (getattr fs file), fs)
-does fs who now (Lookup dir name) = (DirOp (lookup fs who dir name), fs)

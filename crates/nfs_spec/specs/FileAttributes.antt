@@ -2,9 +2,9 @@
 use Rattle.std.specs.Prelude.{ℕ, ◌+◌, ◌/◌, Bool, length, count_by}
 use Rattle.std.specs.Option.{option_map_or}
 use Rattle.std.proofs.Common.{false}
-use Rattle.nfs_types.specs.declared.attributes.FileType.{FileType}
-use Rattle.nfs_types.specs.declared.attributes.FileType.TheVariants as types
-use Rattle.nfs_types.specs.declared.attributes.Fattr.{Fattr}
+use Rattle.nfs_items.specs.declared.attributes.FileType.{FileType}
+use Rattle.nfs_items.specs.declared.attributes.FileType.TheVariants as types
+use Rattle.nfs_items.specs.declared.attributes.Fattr.{Fattr}
 use Rattle.fs_model.specs.Listing.{Listing}
 use Rattle.fs_model.specs.Files.{Body, Regular, Symlink, Directory, File, Files, file_at, is_directory, names_of}
 

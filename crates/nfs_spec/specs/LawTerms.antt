@@ -1,11 +1,10 @@
 -- What the laws of effects speak of.
 use Rattle.std.specs.Prelude.{◌≡◌, ℕ, List, Option, Some, None, IsTrue, Result, Ok, Err}
-use Rattle.nfs_types.specs.Caller.{Caller}
-use Rattle.nfs_types.specs.Handle.{number_in, handle_of}
-use Rattle.nfs_types.specs.Results.{Results, Null, Attributes, DirOp}
-use Rattle.nfs_types.specs.declared.attributes.Fattr.{Fattr}
-use Rattle.nfs_types.specs.declared.stat.Stat.{Stat}
-use Rattle.nfs_types.specs.declared.stat.Stat.TheVariants as stats
+use Rattle.nfs_items.specs.Caller.{Caller}
+use Rattle.nfs_items.specs.Handle.{number_in, handle_of}
+use Rattle.nfs_items.specs.declared.attributes.Fattr.{Fattr}
+use Rattle.nfs_items.specs.declared.stat.Stat.{Stat}
+use Rattle.nfs_items.specs.declared.stat.Stat.TheVariants as stats
 use Rattle.fs_model.specs.Paths.{path_at}
 use Rattle.fs_model.specs.Files.{File, Files, file_at, is_directory, places}
 use Rattle.nfs_spec.specs.ProcedureChecks.{◌>>=◌, ok_or, may_search}
@@ -33,8 +32,3 @@ pub record IsSearchable (fs : Files) (who : Caller) (handle : List ℕ) (path : 
 abbrev pub stat_in : {X : Type 0} → Result X Stat → Option Stat
 stat_in (Ok x) = None
 stat_in (Err e) = Some e
-
-abbrev pub stat_of : Results → Option Stat
-stat_of Null = None
-stat_of (Attributes r) = stat_in r
-stat_of (DirOp r) = stat_in r

@@ -1,8 +1,7 @@
-pub use Rattle.nfs_types.specs.Timeval
-pub use Rattle.nfs_types.specs.Handle
-pub use Rattle.nfs_types.specs.Caller
-pub use Rattle.nfs_types.specs.Arguments
-pub use Rattle.nfs_types.specs.Results
+pub use Rattle.nfs_items.specs.Timeval
+pub use Rattle.nfs_items.specs.Handle
+pub use Rattle.nfs_items.specs.Caller
+pub use Rattle.nfs_types.specs.Calls
 pub use Rattle.fs_model.specs.Listing
 pub use Rattle.fs_model.specs.Paths
 pub use Rattle.fs_model.specs.Names

@@ -1,54 +1,21 @@
--- What each call does to a server's files (RFC 1094, section 2.2): its answer, and the files after it. File handles
--- are bytes; arguments that mean nothing (READ's totalcount, WRITE's beginoffset and totalcount) are left out.
+-- What each call does to a server's files (RFC 1094, section 2.2): its answer, and the files after it.
 use Rattle.std.specs.Prelude.{ℕ, List, Result, Ok, Err, unwrap_or}
-use Rattle.nfs_types.specs.Timeval.{Timeval}
-use Rattle.nfs_types.specs.Caller.{Caller}
-use Rattle.nfs_types.specs.Handle.{handle_of, number_in}
-use Rattle.nfs_types.specs.declared.attributes.Fattr.{Fattr}
-use Rattle.nfs_types.specs.declared.stat.Stat.{Stat}
+use Rattle.nfs_items.specs.Timeval.{Timeval}
+use Rattle.nfs_items.specs.Caller.{Caller}
+use Rattle.nfs_items.specs.Handle.{handle_of, number_in}
+use Rattle.nfs_items.specs.declared.attributes.Fattr.{Fattr}
+use Rattle.nfs_items.specs.declared.stat.Stat.{Stat}
+use Rattle.nfs_types.specs.Calls.{Call, Null, Getattr, Setattr, Root, Lookup, Readlink, Read, Writecache, Write, Create, Remove, Rename, Link, Symlink, Mkdir, Rmdir, Readdir, Statfs}
+use Rattle.nfs_types.specs.Calls.{Handle, Answer, Nothing, Attributes, DirOp, Target, Bytes, Status, Entries, Free}
 use Rattle.fs_model.specs.Files.{Files}
 use Rattle.nfs_spec.specs.ProcedureChecks.{◌>>=◌}
-use Rattle.nfs_spec.specs.Sattr.{Sattr, given_fields}
+use Rattle.nfs_spec.specs.Sattr.{given_fields}
 use Rattle.nfs_spec.specs.Changes.{Effect}
 use Rattle.nfs_spec.specs.Effects.{attributes_at, getattr, lookup}
-use Rattle.nfs_spec.specs.Readdir.{Page}
 use Rattle.nfs_spec.specs.Procedures as tree
-use Rattle.nfs_spec.specs.Procedures.{FsStats}
-
--- a call, by its file handles, names and numbers
-pub data Call : Type 0 where
-  Null : Call
-  Getattr : List ℕ → Call
-  Setattr : List ℕ → Sattr → Call
-  Root : Call
-  Lookup : List ℕ → List ℕ → Call
-  Readlink : List ℕ → Call
-  Read : List ℕ → ℕ → ℕ → Call
-  Writecache : Call
-  Write : List ℕ → ℕ → List ℕ → Call
-  Create : List ℕ → List ℕ → Sattr → Call
-  Remove : List ℕ → List ℕ → Call
-  Rename : List ℕ → List ℕ → List ℕ → List ℕ → Call
-  Link : List ℕ → List ℕ → List ℕ → Call
-  Symlink : List ℕ → List ℕ → List ℕ → Sattr → Call
-  Mkdir : List ℕ → List ℕ → Sattr → Call
-  Rmdir : List ℕ → List ℕ → Call
-  Readdir : List ℕ → ℕ → ℕ → Call
-  Statfs : List ℕ → Call
-
--- an answer, or the stat of its refusal
-pub data Answer : Type 0 where
-  Nothing : Answer
-  Attributes : Result Fattr Stat → Answer
-  DirOp : Result (List ℕ × Fattr) Stat → Answer
-  Target : Result (List ℕ) Stat → Answer
-  Bytes : Result (Fattr × List ℕ) Stat → Answer
-  Status : Result (Unit {0}) Stat → Answer
-  Entries : Result Page Stat → Answer
-  Free : Result FsStats Stat → Answer
 
 -- the file number that a handle names here; another handle names 0, which no file has
-abbrev pub number_for : Files → List ℕ → ℕ
+abbrev pub number_for : Files → Handle → ℕ
 number_for fs handle = unwrap_or (number_in fs.fsid handle) 0
 
 -- an effect's answer, and the files after it: a refusal leaves them as they were
@@ -63,7 +30,7 @@ with_attributes n e = do
   a ← attributes_at x.1 n
   Ok (a, x.1)
 
-abbrev pub with_handle : Effect ℕ → Effect (List ℕ × Fattr)
+abbrev pub with_handle : Effect ℕ → Effect (Handle × Fattr)
 with_handle e = do
   x ← e
   a ← attributes_at x.1 x.0

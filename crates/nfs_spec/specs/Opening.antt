@@ -1,7 +1,7 @@
 -- The files that each server begins with: the directory `/`, and in it the regular file `hello`.
 use Rattle.std.specs.Prelude.{ℕ, List, [], ◌∷◌}
 use Rattle.std.specs.FinMap as finite
-use Rattle.nfs_types.specs.Timeval.{Timeval}
+use Rattle.nfs_items.specs.Timeval.{Timeval}
 use Rattle.fs_model.specs.Files.{Body, Regular, Directory, File, Files}
 
 abbrev pub epoch : Timeval

@@ -1,10 +1,10 @@
 -- The checks that procedures share, each with its stat.
 use Rattle.std.specs.Prelude.{ℕ, ◌*◌, ◌==◌, ◌||◌, ◌&&◌, nat_lt, nat_le, bit_and, option_map, is_none, Bool, List, Option, Some, None, Result, Ok, Err, if◌then◌else◌}
 use Rattle.std.specs.List.{list_any}
-use Rattle.nfs_types.specs.Caller.{Caller}
-use Rattle.nfs_types.specs.Handle.{number_in}
-use Rattle.nfs_types.specs.declared.stat.Stat.{Stat}
-use Rattle.nfs_types.specs.declared.stat.Stat.TheVariants as stats
+use Rattle.nfs_items.specs.Caller.{Caller}
+use Rattle.nfs_items.specs.Handle.{number_in}
+use Rattle.nfs_items.specs.declared.stat.Stat.{Stat}
+use Rattle.nfs_items.specs.declared.stat.Stat.TheVariants as stats
 use Rattle.fs_model.specs.Listing.{Listing, entry_at}
 use Rattle.fs_model.specs.Names.{is_name}
 use Rattle.fs_changes.specs.Limits.{has_room}

@@ -2,11 +2,12 @@
 -- its stat, then its effect.
 use Rattle.std.specs.Prelude.{ℕ, zero, suc, ◌+◌, ◌-◌, ◌==◌, ◌||◌, ◌&&◌, not, Bool, true, false, List, [], take, drop, length, replicate, min, Option, Some, None, Result, Ok, option_map, is_some, unwrap_or, if◌then◌else◌}
 use Rattle.std.specs.Option.{option_map_or}
-use Rattle.nfs_types.specs.Timeval.{Timeval}
-use Rattle.nfs_types.specs.Caller.{Caller}
-use Rattle.nfs_types.specs.declared.attributes.Fattr.{Fattr}
-use Rattle.nfs_types.specs.declared.stat.Stat.{Stat}
-use Rattle.nfs_types.specs.declared.stat.Stat.TheVariants as stats
+use Rattle.nfs_items.specs.Timeval.{Timeval}
+use Rattle.nfs_items.specs.Caller.{Caller}
+use Rattle.nfs_items.specs.declared.attributes.Fattr.{Fattr}
+use Rattle.nfs_items.specs.declared.stat.Stat.{Stat}
+use Rattle.nfs_items.specs.declared.stat.Stat.TheVariants as stats
+use Rattle.nfs_types.specs.declared.results.FsStats.{FsStats}
 use Rattle.fs_model.specs.Listing.{entry_at}
 use Rattle.fs_model.specs.Names.{is_name}
 use Rattle.fs_model.specs.Files.{Body, Regular, Symlink, Directory, File, Files, is_directory, listing_in, parent_of}
@@ -16,7 +17,8 @@ use Rattle.nfs_spec.specs.FileAttributes.{attributes_of}
 use Rattle.nfs_spec.specs.ProcedureChecks.{◌>>=◌, NumberedDir, file_of, listing_or, dir_of, check, check_size, check_room, check_cookie, check_edit, check_free, number_at, bytes_of, target_of, permits, may_search, may_read, may_write}
 use Rattle.nfs_spec.specs.Sattr.{GivenFields, no_fields}
 use Rattle.nfs_spec.specs.Changes.{Effect, touch, touch_ctime, with_mtime, with_bytes_at, check_owner, check_resize, apply_fields, new_file, unlink}
-use Rattle.nfs_spec.specs.Readdir.{Page, dir_entries, page_of}
+use Rattle.nfs_types.specs.Calls.{Page}
+use Rattle.nfs_spec.specs.Readdir.{dir_entries, page_of}
 
 -- SETATTR (section 2.2.3)
 abbrev pub set_attributes : Files → Caller → Timeval → ℕ → GivenFields → Effect (Unit {0})
@@ -195,13 +197,6 @@ read_dir fs who n cookie count = do
   Ok (page_of cookie count (dir_entries fs n d.listing))
 
 -- STATFS (section 2.2.18): in blocks, free is what regular files leave
-pub record FsStats : Type 0 where
-  pub transfer_size : ℕ
-  pub block_size : ℕ
-  pub blocks : ℕ
-  pub free : ℕ
-  pub available : ℕ
-
 abbrev pub stat_fs : Files → ℕ → Result FsStats Stat
 stat_fs fs n = do
   f ← file_of fs n

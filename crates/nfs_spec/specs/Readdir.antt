@@ -1,14 +1,10 @@
 -- READDIR's listing (RFC 1094, section 2.2.17).
 use Rattle.std.specs.Prelude.{ℕ, ◌+◌, ◌-◌, ◌*◌, ◌/◌, nat_le, nat_lt, min, Bool, List, [], ◌∷◌, ◌++◌, ◌≡◌, ◌<◌, ◌≤◌, length, map, sum_by, ◌==◌, if◌then◌else◌}
 use Rattle.std.specs.List.{filter}
+use Rattle.nfs_types.specs.Calls.{DirEntry, Page}
 use Rattle.fs_model.specs.Listing.{Listing}
 use Rattle.fs_model.specs.Names.{dot, dot_dot}
 use Rattle.fs_model.specs.Files.{Files, parent_of}
-
-pub record DirEntry : Type 0 where
-  pub fileid : ℕ
-  pub name : List ℕ
-  pub cookie : ℕ
 
 -- `.` and `..`, then the entries in order of insertion
 abbrev pub dir_entries : Files → ℕ → Listing → List DirEntry
@@ -25,11 +21,6 @@ cost e = 16 + 4 * ((length e.name + 3) / 4)
 abbrev pub longest_front : ℕ → List DirEntry → List DirEntry
 longest_front count [] = []
 longest_front count (e ∷ es) = if nat_le (cost e) count then e ∷ longest_front (count - cost e) es else []
-
--- the entries of a page, and whether none is left
-pub record Page : Type 0 where
-  pub entries : List DirEntry
-  pub eof : Bool
 
 abbrev pub page_of : ℕ → ℕ → List DirEntry → Page
 page_of cookie count es =

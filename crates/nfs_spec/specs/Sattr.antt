@@ -1,14 +1,7 @@
 -- What a caller asks of attributes (RFC 1094, section 2.3.6, sattr).
 use Rattle.std.specs.Prelude.{ℕ, ◌%◌, ◌==◌, ◌||◌, nat_lt, Bool, Option, Some, None, is_some, if◌then◌else◌}
-use Rattle.nfs_types.specs.Timeval.{Timeval}
-
-pub record Sattr : Type 0 where
-  pub mode : ℕ
-  pub uid : ℕ
-  pub gid : ℕ
-  pub size : ℕ
-  pub atime : Timeval
-  pub mtime : Timeval
+use Rattle.nfs_items.specs.Timeval.{Timeval}
+use Rattle.nfs_items.specs.declared.sattr.Sattr.{Sattr}
 
 -- a word of all ones is ignored
 abbrev pub given_word : ℕ → Option ℕ

@@ -4,17 +4,16 @@ use Rattle.std.proofs.Common.{◌≡◌, ◌≢◌, ℕ, ◌+◌, ◌-◌, Bool,
 use Rattle.std.specs.Prelude.{unwrap_or, nat_le, nat_lt, ◌&&◌, if◌then◌else◌}
 use Rattle.std.proofs.lemmas.Bool.{leb-true, leb-false, ltb-true, ltb-false}
 use Rattle.std.proofs.lemmas.List.{get_or_past}
-use Rattle.nfs_types.specs.Timeval.{Timeval}
-use Rattle.nfs_types.specs.Caller.{Caller}
+use Rattle.nfs_items.specs.Timeval.{Timeval}
+use Rattle.nfs_items.specs.Caller.{Caller}
 use Rattle.fs_model.specs.Files.{Regular, File, Files, file_at}
 use Rattle.nfs_spec.specs.ProcedureChecks.{◌>>=◌, check, check_size, bytes_of, may_write}
 use Rattle.nfs_spec.specs.Sattr.{GivenFields}
 use Rattle.nfs_spec.specs.Changes.{with_length, body_with_length, with_bytes_at, check_resize, apply_fields}
 use Rattle.nfs_spec.specs.Procedures.{with_bytes_written}
-use Rattle.nfs_types.specs.declared.stat.Stat.TheVariants as stats
+use Rattle.nfs_items.specs.declared.stat.Stat.TheVariants as stats
 use Rattle.nfs_spec_steps.proofs.Steps.{bind_ok, bytes_ok}
-use Rattle.nfs_spec_laws.proofs.Bytes.{length-resized}
-use Rattle.nfs_spec_laws.proofs.Bytes.{written_length, resized_byte, byte_before, byte_behind, byte_new}
+use Rattle.nfs_spec_laws.proofs.Bytes.{length-resized, written_length, resized_byte, byte_before, byte_behind, byte_new}
 use Rattle.nfs_spec_changes.specs.Changed.{Becomes, ChangesBytes, old_byte, IsWritten, IsResized, Makes}
 use Rattle.nfs_spec_changes.proofs.Granted.{IsSet, IsWrote, created}
 use Rattle.nfs_spec_changes.proofs.NamedFiles.{changed_is, wrote_is}

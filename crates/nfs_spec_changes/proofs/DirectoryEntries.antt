@@ -4,7 +4,7 @@
 use Rattle.std.proofs.Common.{◌≡◌, ◌≢◌, ℕ, ◌+◌, true, false, cond, List, [], ◌∷◌, ◌++◌, Some, None, option_map, nat_eq, refl, sym, ap, ◌∙◌}
 use Rattle.std.specs.Map.{lookup, remove_entry}
 use Rattle.std.specs.Cmp.Lexicographic.{pointwise}
-use Rattle.nfs_types.specs.Timeval.{Timeval}
+use Rattle.nfs_items.specs.Timeval.{Timeval}
 use Rattle.fs_model.specs.Listing.{Listing, entry_at, with_entry, without_entry, HasDistinctNames}
 use Rattle.fs_model.specs.Files.{Body, Regular, Symlink, Directory, File, Files, file_at, is_directory}
 use Rattle.fs_model.proofs.Walks.{none_some}

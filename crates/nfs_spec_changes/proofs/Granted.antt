@@ -4,10 +4,10 @@ use Rattle.std.proofs.Common.{◌≡◌, ◌≢◌, ◌⊎◌, inl, inr, ℕ, �
 use Rattle.std.specs.Prelude.{unwrap_or, ◌==◌, ◌&&◌, ◌||◌, is_some, if◌then◌else◌}
 use Rattle.std.specs.Option.{option_map_or}
 use Rattle.std.proofs.lemmas.Bool.{not-true, eqb-true}
-use Rattle.nfs_types.specs.Timeval.{Timeval}
-use Rattle.nfs_types.specs.Caller.{Caller}
-use Rattle.nfs_types.specs.declared.stat.Stat.{Stat}
-use Rattle.nfs_types.specs.declared.stat.Stat.TheVariants as stats
+use Rattle.nfs_items.specs.Timeval.{Timeval}
+use Rattle.nfs_items.specs.Caller.{Caller}
+use Rattle.nfs_items.specs.declared.stat.Stat.{Stat}
+use Rattle.nfs_items.specs.declared.stat.Stat.TheVariants as stats
 use Rattle.fs_model.specs.Listing.{Listing, entry_at}
 use Rattle.fs_model.specs.Names.{is_name}
 use Rattle.fs_model.specs.Files.{Regular, File, Files, file_at, listing_in, is_directory, places}

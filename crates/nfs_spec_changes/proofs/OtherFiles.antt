@@ -2,7 +2,7 @@
 -- Serves: calls_keep_the_files_they_do_not_name (nfs_spec_frames), by UnnamedFiles; renaming_keeps_the_rest
 -- (nfs_spec_changes), by RenamedFiles.
 use Rattle.std.proofs.Common.{◌≡◌, ◌≢◌, ℕ, Bool, true, false, List, Option, Some, None, eqb, refl, ◌∙◌}
-use Rattle.nfs_types.specs.Timeval.{Timeval}
+use Rattle.nfs_items.specs.Timeval.{Timeval}
 use Rattle.fs_model.specs.Listing.{with_entry, without_entry}
 use Rattle.fs_model.specs.Files.{File, Files, file_at, names_of}
 use Rattle.fs_changes.specs.Edits.{with_new_file, map_listing, with_name, without_name}

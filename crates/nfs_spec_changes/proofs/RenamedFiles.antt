@@ -3,8 +3,8 @@
 -- Serves: renaming_keeps_the_rest (nfs_spec_changes); calls_change_what_they_name (nfs_spec_frames).
 use Rattle.std.proofs.Common.{◌≡◌, ◌≢◌, ℕ, zero, suc, Bool, true, false, List, [], ◌∷◌, ◌++◌, Option, Some, None, eqb, option_map, append-nil, refl, sym, ap, subst, ◌∙◌, eq-eqb}
 use Rattle.std.specs.Prelude.{◌&&◌, ◌||◌}
-use Rattle.nfs_types.specs.Timeval.{Timeval}
-use Rattle.nfs_types.specs.Caller.{Caller}
+use Rattle.nfs_items.specs.Timeval.{Timeval}
+use Rattle.nfs_items.specs.Caller.{Caller}
 use Rattle.fs_model.specs.Listing.{Listing, entry_at, with_entry, without_entry, HasDistinctNames}
 use Rattle.fs_model.specs.Paths.{path_at}
 use Rattle.fs_model.specs.Files.{Directory, File, Files, file_at, is_directory, places, parent_of, names_of}

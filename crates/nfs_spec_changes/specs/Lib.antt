@@ -1,5 +1,5 @@
-pub use Rattle.nfs_types.specs.Timeval
-pub use Rattle.nfs_types.specs.Caller
+pub use Rattle.nfs_items.specs.Timeval
+pub use Rattle.nfs_items.specs.Caller
 pub use Rattle.fs_model.specs.Listing
 pub use Rattle.fs_model.specs.Paths
 pub use Rattle.fs_model.specs.Files

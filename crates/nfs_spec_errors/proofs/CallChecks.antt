@@ -5,12 +5,12 @@ use Rattle.std.proofs.Common.{◌≡◌, ⊎_elim, ℕ, ◌+◌, Bool, true, fal
 use Rattle.std.specs.Prelude.{IsSome, unwrap_or, ◌==◌}
 use Rattle.std.specs.Option.{option_map_or}
 use Rattle.std.proofs.lemmas.Bool.{cases_eq}
-use Rattle.nfs_types.specs.Timeval.{Timeval}
-use Rattle.nfs_types.specs.Caller.{Caller}
-use Rattle.nfs_types.specs.Handle.{handle_of, number_in}
-use Rattle.nfs_types.specs.declared.attributes.Fattr.{Fattr}
-use Rattle.nfs_types.specs.declared.stat.Stat.{Stat}
-use Rattle.nfs_types.specs.declared.stat.Stat.TheVariants as stats
+use Rattle.nfs_items.specs.Timeval.{Timeval}
+use Rattle.nfs_items.specs.Caller.{Caller}
+use Rattle.nfs_items.specs.Handle.{handle_of, number_in}
+use Rattle.nfs_items.specs.declared.attributes.Fattr.{Fattr}
+use Rattle.nfs_items.specs.declared.stat.Stat.{Stat}
+use Rattle.nfs_items.specs.declared.stat.Stat.TheVariants as stats
 use Rattle.fs_model.specs.Listing.{entry_at}
 use Rattle.fs_model.specs.Names.{is_name}
 use Rattle.fs_model.specs.Files.{File, Files, Regular, file_at, listing_in, is_directory}
@@ -24,8 +24,9 @@ use Rattle.nfs_spec.specs.Changes.{Effect, check_owner, check_resize, apply_fiel
 use Rattle.nfs_spec.specs.Effects.{attributes_at, number_named, number_at_name}
 use Rattle.nfs_spec.specs.Procedures.{set_attributes, write, with_bytes_written, add_file, create, create_over, create_new, make, is_regular}
 use Rattle.nfs_spec.specs.LawTerms.{stat_in}
-use Rattle.nfs_spec.specs.NfsCalls as calls
-use Rattle.nfs_spec.specs.NfsCalls.{Call, Answer, answer_and_files, with_attributes, with_handle, without_number, number_for, call_does}
+use Rattle.nfs_types.specs.Calls as calls
+use Rattle.nfs_types.specs.Calls.{Call, Answer}
+use Rattle.nfs_spec.specs.NfsCalls.{answer_and_files, with_attributes, with_handle, without_number, number_for, call_does}
 use Rattle.nfs_spec.proofs.Present.{named_there}
 use Rattle.nfs_spec_steps.specs.Answers.{refusal_in}
 use Rattle.nfs_spec_steps.proofs.Steps.{bind_ok, found_ok, ok_same, directory_ok}

@@ -1,9 +1,9 @@
 -- LINK gives the stat of the first of `link_checks` that fails.
 -- Serves: stats_of_link; by CallChecks stats_of_calls (nfs_spec_errors).
 use Rattle.std.proofs.Common.{ℕ, not, List, ap}
-use Rattle.nfs_types.specs.Timeval.{Timeval}
-use Rattle.nfs_types.specs.Caller.{Caller}
-use Rattle.nfs_types.specs.declared.stat.Stat.TheVariants as stats
+use Rattle.nfs_items.specs.Timeval.{Timeval}
+use Rattle.nfs_items.specs.Caller.{Caller}
+use Rattle.nfs_items.specs.declared.stat.Stat.TheVariants as stats
 use Rattle.fs_model.specs.Files.{Files, file_at, is_directory}
 use Rattle.fs_changes.specs.Edits.{with_name}
 use Rattle.fs_changes.specs.Limits.{has_room}

@@ -3,16 +3,17 @@
 use Rattle.std.proofs.Common.{◌≡◌, ℕ, [], ◌∷◌, ◌-◌, false, cond, not, Option, Some, None, Ok, Err, refl, List, take, drop, min}
 use Rattle.std.specs.Prelude.{◌||◌, is_some}
 use Rattle.std.specs.Option.{option_map_or}
-use Rattle.nfs_types.specs.Caller.{Caller}
-use Rattle.nfs_types.specs.declared.attributes.Fattr.{Fattr}
-use Rattle.nfs_types.specs.declared.stat.Stat.TheVariants as stats
+use Rattle.nfs_items.specs.Caller.{Caller}
+use Rattle.nfs_items.specs.declared.attributes.Fattr.{Fattr}
+use Rattle.nfs_items.specs.declared.stat.Stat.TheVariants as stats
 use Rattle.fs_model.specs.Files.{File, Files, file_at, is_directory, listing_in}
 use Rattle.nfs_spec.specs.FileAttributes.{attributes_of}
 use Rattle.nfs_spec.specs.ProcedureChecks.{◌>>=◌, ok_or, listing_or, bytes_of, target_of, check, permits, may_search, may_read}
 use Rattle.nfs_spec.specs.Effects.{attributes_at, number_named, number_at_name}
 use Rattle.nfs_spec.specs.LawTerms.{stat_in}
 use Rattle.fs_changes.specs.Limits.{block_count}
-use Rattle.nfs_spec.specs.Procedures.{FsStats, read_link, read, read_dir, stat_fs}
+use Rattle.nfs_types.specs.declared.results.FsStats.{FsStats}
+use Rattle.nfs_spec.specs.Procedures.{read_link, read, read_dir, stat_fs}
 use Rattle.nfs_spec.specs.Readdir.{dir_entries, page_of}
 use Rattle.nfs_spec_errors.specs.Checks.{first_failing, is_link}
 use Rattle.nfs_spec_errors.specs.Tables.{file_checks, lookup_checks, read_link_checks, read_checks, read_dir_checks}

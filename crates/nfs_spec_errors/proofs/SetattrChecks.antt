@@ -5,9 +5,9 @@
 use Rattle.std.proofs.Common.{◌≡◌, ℕ, Bool, false, cond, not, [], ◌∷◌, Option, Some, None, Ok, refl, sym, ap, ◌∙◌}
 use Rattle.std.specs.Prelude.{◌&&◌, ◌||◌, ◌==◌, nat_le, is_some, is_none}
 use Rattle.std.specs.Option.{option_map_or}
-use Rattle.nfs_types.specs.Timeval.{Timeval}
-use Rattle.nfs_types.specs.Caller.{Caller}
-use Rattle.nfs_types.specs.declared.stat.Stat.TheVariants as stats
+use Rattle.nfs_items.specs.Timeval.{Timeval}
+use Rattle.nfs_items.specs.Caller.{Caller}
+use Rattle.nfs_items.specs.declared.stat.Stat.TheVariants as stats
 use Rattle.fs_model.specs.Files.{Body, Regular, Symlink, Directory, File, Files, file_at, is_directory}
 use Rattle.fs_changes.specs.Edits.{with_changed_file}
 use Rattle.fs_changes.specs.Limits.{has_room}

@@ -4,8 +4,8 @@
 -- (nfs_spec_errors), by ReaderChecks and WriteMkdirSymlinkChecks.
 use Rattle.std.proofs.Common.{◌≡◌, ℕ, Bool, true, false, cond, not, List, [], ◌∷◌, Option, Some, None, Result, Ok, Err, refl}
 use Rattle.std.specs.Prelude.{◌||◌, is_some}
-use Rattle.nfs_types.specs.declared.stat.Stat.{Stat}
-use Rattle.nfs_types.specs.declared.stat.Stat.TheVariants as stats
+use Rattle.nfs_items.specs.declared.stat.Stat.{Stat}
+use Rattle.nfs_items.specs.declared.stat.Stat.TheVariants as stats
 use Rattle.fs_model.specs.Listing.{Listing}
 use Rattle.fs_model.specs.Files.{Body, Regular, Symlink, Directory, File, is_directory, listing_in}
 use Rattle.nfs_spec.specs.ProcedureChecks.{◌>>=◌, NumberedDir, ok_or, listing_or, bytes_of, target_of, check}

@@ -5,9 +5,9 @@
 use Rattle.std.proofs.Common.{◌≡◌, ℕ, Bool, true, false, cond, List, [], ◌∷◌, ◌++◌, Option, Some, None, Result, Ok, Err, option_map, refl, sym, ap, ◌∙◌}
 use Rattle.std.specs.Prelude.{◌&&◌, is_some, is_none, IsSome}
 use Rattle.std.specs.Option.{option_map_or}
-use Rattle.nfs_types.specs.Caller.{Caller}
-use Rattle.nfs_types.specs.declared.stat.Stat.{Stat}
-use Rattle.nfs_types.specs.declared.stat.Stat.TheVariants as stats
+use Rattle.nfs_items.specs.Caller.{Caller}
+use Rattle.nfs_items.specs.declared.stat.Stat.{Stat}
+use Rattle.nfs_items.specs.declared.stat.Stat.TheVariants as stats
 use Rattle.fs_model.specs.Listing.{entry_at}
 use Rattle.fs_model.specs.Names.{is_name}
 use Rattle.fs_model.specs.Files.{Body, Regular, Symlink, Directory, File, Files, file_at, is_directory, places}

@@ -2,9 +2,9 @@
 -- standard leaves the choice and the order of stats open.
 use Rattle.std.specs.Prelude.{ℕ, ◌+◌, ◌==◌, ◌||◌, ◌&&◌, not, nat_le, Bool, false, List, [], ◌∷◌, ◌++◌, length, replicate, Option, is_some, is_none, unwrap_or, if◌then◌else◌}
 use Rattle.std.specs.Option.{option_map_or}
-use Rattle.nfs_types.specs.Timeval.{Timeval}
-use Rattle.nfs_types.specs.Caller.{Caller}
-use Rattle.nfs_types.specs.declared.stat.Stat.TheVariants as stats
+use Rattle.nfs_items.specs.Timeval.{Timeval}
+use Rattle.nfs_items.specs.Caller.{Caller}
+use Rattle.nfs_items.specs.declared.stat.Stat.TheVariants as stats
 use Rattle.fs_model.specs.Names.{is_name}
 use Rattle.fs_model.specs.Files.{Regular, Symlink, Directory, File, Files, listing, places}
 use Rattle.fs_changes.specs.Edits.{with_changed_file, with_name}
@@ -15,8 +15,9 @@ use Rattle.nfs_spec.specs.Effects.{number_named}
 use Rattle.nfs_spec.specs.Sattr.{GivenFields, given_fields, no_fields}
 use Rattle.nfs_spec.specs.Changes.{touch, touch_ctime, apply_fields, new_file, is_in_group}
 use Rattle.nfs_spec.specs.Procedures.{with_bytes_written, add_file, is_regular, is_above}
-use Rattle.nfs_spec.specs.NfsCalls as calls
-use Rattle.nfs_spec.specs.NfsCalls.{Call, number_for}
+use Rattle.nfs_types.specs.Calls as calls
+use Rattle.nfs_types.specs.Calls.{Call}
+use Rattle.nfs_spec.specs.NfsCalls.{number_for}
 use Rattle.nfs_spec_errors.specs.Checks.{Checks, is_there, holds_at, holds_named, names_directory, given, is_link, lists_nothing, bytes_at}
 
 -- ---- shared

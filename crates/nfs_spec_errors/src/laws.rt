@@ -2,17 +2,18 @@
 //! `stat_in` and `refusal_in` are the stat of a result and of an answer, none where they are Ok.
 
 ghost use Rattle.std.specs.Prelude.{◌≡◌, ◌≢◌, ℕ, List, Some};
-ghost use Rattle.nfs_types.specs.Timeval.{Timeval};
-ghost use Rattle.nfs_types.specs.Caller.{Caller};
-ghost use Rattle.nfs_types.specs.declared.stat.Stat.{Stat};
-ghost use Rattle.nfs_types.specs.declared.stat.Stat.TheVariants as stats;
+ghost use Rattle.nfs_items.specs.Timeval.{Timeval};
+ghost use Rattle.nfs_items.specs.Caller.{Caller};
+ghost use Rattle.nfs_items.specs.declared.stat.Stat.{Stat};
+ghost use Rattle.nfs_items.specs.declared.stat.Stat.TheVariants as stats;
 ghost use Rattle.fs_model.specs.Files.{Files};
 ghost use Rattle.fs_model.specs.Trees.{IsFileTree};
 ghost use Rattle.nfs_spec.specs.Effects.{attributes_at, number_at_name};
 ghost use Rattle.nfs_spec.specs.LawTerms.{stat_in};
 ghost use Rattle.nfs_spec.specs.Sattr.{GivenFields};
 ghost use Rattle.nfs_spec.specs.Procedures.{set_attributes, read_link, read, write, create, remove, rename, link, symlink, make_dir, remove_dir, read_dir, stat_fs};
-ghost use Rattle.nfs_spec.specs.NfsCalls.{Call, call_does};
+ghost use Rattle.nfs_types.specs.Calls.{Call};
+ghost use Rattle.nfs_spec.specs.NfsCalls.{call_does};
 ghost use Rattle.nfs_spec_steps.specs.Answers.{refusal_in};
 ghost use Rattle.nfs_spec_errors.specs.Checks.{first_failing};
 ghost use Rattle.nfs_spec_errors.specs.Tables.{file_checks, set_checks, lookup_checks, read_link_checks, read_checks, write_checks, create_checks, remove_checks, rename_checks, link_checks, symlink_checks, make_dir_checks, remove_dir_checks, read_dir_checks, checks_of};

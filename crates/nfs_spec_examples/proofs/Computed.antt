@@ -9,7 +9,7 @@ use Rattle.std.specs.Cmp.{nat_cmp_total, eq_by_cmp_equiv}
 use Rattle.std.specs.Prelude.{Bool, nat_le, ◌&&◌, ◌+◌}
 use Rattle.std.specs.Option.{option_map_or}
 use Rattle.std.specs.List.{list_all}
-use Rattle.nfs_types.specs.Timeval.{Timeval}
+use Rattle.nfs_items.specs.Timeval.{Timeval}
 use Rattle.fs_model.specs.Listing.{with_entry}
 use Rattle.fs_model.specs.Files.{File, file_at, listing_in}
 use Rattle.fs_changes.specs.Edits.{with_changed_file, with_name, without_file, map_listing}

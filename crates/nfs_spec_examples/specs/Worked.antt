@@ -2,10 +2,10 @@
 -- (0x1ed) and 0644 (0x1a4).
 use Rattle.std.specs.Prelude.{ℕ, List, [], ◌∷◌, ◌++◌, codes, replicate, None}
 use Rattle.std.specs.FinMap as finite
-use Rattle.nfs_types.specs.Timeval.{Timeval}
-use Rattle.nfs_types.specs.Caller.{Caller}
+use Rattle.nfs_items.specs.Timeval.{Timeval}
+use Rattle.nfs_items.specs.Caller.{Caller}
 use Rattle.fs_model.specs.Files.{Regular, Symlink, Directory, File, Files}
-use Rattle.nfs_spec.specs.Sattr.{Sattr}
+use Rattle.nfs_items.specs.declared.sattr.Sattr.{Sattr}
 use Rattle.nfs_spec.specs.Opening.{epoch, first_file, hello, opening_root, opening_hello}
 
 -- user and group 0

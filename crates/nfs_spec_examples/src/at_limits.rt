@@ -1,9 +1,9 @@
 //! Calls with names and bytes of any length, and where the last number or cookie was given.
 
 ghost use Rattle.std.specs.Prelude.{◌≡◌, ◌≢◌, ℕ, List, length, true, Ok, Err};
-ghost use Rattle.nfs_types.specs.Caller.{nobody};
-ghost use Rattle.nfs_types.specs.declared.stat.Stat.TheVariants as stats;
-ghost use Rattle.nfs_types.specs.declared.attributes.FileType.TheVariants as types;
+ghost use Rattle.nfs_items.specs.Caller.{nobody};
+ghost use Rattle.nfs_items.specs.declared.stat.Stat.TheVariants as stats;
+ghost use Rattle.nfs_items.specs.declared.attributes.FileType.TheVariants as types;
 ghost use Rattle.fs_model.specs.Names.{is_name};
 ghost use Rattle.nfs_spec.specs.Sattr.{given_fields};
 ghost use Rattle.nfs_spec.specs.Opening.{epoch, hello, opening_files};

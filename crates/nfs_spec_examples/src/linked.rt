@@ -1,9 +1,9 @@
 //! A file that is made, linked and removed, call by call.
 
 ghost use Rattle.std.specs.Prelude.{◌≡◌, codes, Ok, Err};
-ghost use Rattle.nfs_types.specs.Handle.{handle_of};
-ghost use Rattle.nfs_types.specs.declared.stat.Stat.TheVariants as stats;
-ghost use Rattle.nfs_types.specs.declared.attributes.FileType.TheVariants as types;
+ghost use Rattle.nfs_items.specs.Handle.{handle_of};
+ghost use Rattle.nfs_items.specs.declared.stat.Stat.TheVariants as stats;
+ghost use Rattle.nfs_items.specs.declared.attributes.FileType.TheVariants as types;
 ghost use Rattle.nfs_spec.specs.Sattr.{given_fields};
 ghost use Rattle.nfs_spec.specs.Opening.{epoch, opening_files};
 ghost use Rattle.nfs_spec.specs.Effects.{number_at_name, getattr};

@@ -1,10 +1,10 @@
 //! Calls on small files, each with its whole result.
 
 ghost use Rattle.std.specs.Prelude.{◌≡◌, [], ◌∷◌, codes, true, false, Ok, Err};
-ghost use Rattle.nfs_types.specs.Caller.{nobody};
-ghost use Rattle.nfs_types.specs.Handle.{handle_of};
-ghost use Rattle.nfs_types.specs.declared.stat.Stat.TheVariants as stats;
-ghost use Rattle.nfs_types.specs.declared.attributes.FileType.TheVariants as types;
+ghost use Rattle.nfs_items.specs.Caller.{nobody};
+ghost use Rattle.nfs_items.specs.Handle.{handle_of};
+ghost use Rattle.nfs_items.specs.declared.stat.Stat.TheVariants as stats;
+ghost use Rattle.nfs_items.specs.declared.attributes.FileType.TheVariants as types;
 ghost use Rattle.fs_model.specs.Names.{dot, dot_dot};
 ghost use Rattle.nfs_spec.specs.FileAttributes.{attributes_of};
 ghost use Rattle.nfs_spec.specs.Sattr.{given_fields};

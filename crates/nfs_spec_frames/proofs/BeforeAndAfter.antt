@@ -4,18 +4,20 @@
 use Rattle.std.proofs.Common.{◌≡◌, ◌≢◌, ℕ, Bool, true, false, List, [], Option, Some, None, option_map, ⊎_elim, refl, sym, ap, subst, ◌∙◌, eqb}
 use Rattle.std.specs.Prelude.{if◌then◌else◌, ◌==◌, length}
 use Rattle.std.proofs.lemmas.Bool.{cases_eq}
-use Rattle.nfs_types.specs.Timeval.{Timeval}
-use Rattle.nfs_types.specs.Caller.{Caller}
+use Rattle.nfs_items.specs.Timeval.{Timeval}
+use Rattle.nfs_items.specs.Caller.{Caller}
 use Rattle.fs_model.specs.Listing.{Listing, with_entry, without_entry}
 use Rattle.fs_model.specs.Files.{Regular, Symlink, Directory, File, Files, file_at, places, names_of}
 use Rattle.fs_model.proofs.Walks.{some_same}
 use Rattle.fs_changes.specs.Edits.{with_changed_file, with_new_file, without_file, with_name, without_name, map_listing}
 use Rattle.fs_changes.proofs.Finite.{new_other, changed_here, changed_other, gone_here, gone_other}
-use Rattle.nfs_spec.specs.Sattr.{Sattr, given_fields, no_fields}
+use Rattle.nfs_items.specs.declared.sattr.Sattr.{Sattr}
+use Rattle.nfs_spec.specs.Sattr.{given_fields, no_fields}
 use Rattle.nfs_spec.specs.Changes.{apply_fields, new_file, touch, with_mtime, touch_ctime, with_ctime, unlink, after_unlink}
 use Rattle.nfs_spec.specs.Procedures.{with_bytes_written, add_file, unlink_target, move_entry}
-use Rattle.nfs_spec.specs.NfsCalls as calls
-use Rattle.nfs_spec.specs.NfsCalls.{Call, Answer, number_for, call_does}
+use Rattle.nfs_types.specs.Calls as calls
+use Rattle.nfs_types.specs.Calls.{Call, Answer}
+use Rattle.nfs_spec.specs.NfsCalls.{number_for, call_does}
 use Rattle.nfs_spec_changes.proofs.Granted.{IsNew, IsCreated, created, set_ok, write_ok, make_ok, create_ok, link_ok, remove_ok, remove_dir_ok, rename_ok}
 use Rattle.nfs_spec_frames.proofs.CallCases.{every}
 

@@ -2,9 +2,9 @@
 -- Serves: calls_change_what_they_name (nfs_spec_frames).
 use Rattle.std.proofs.Common.{◌≡◌, ⊎_elim, ℕ, true, false, List, [], Some, None, refl, sym, ap, subst, ◌∙◌}
 use Rattle.std.specs.Prelude.{◌==◌, length, if◌then◌else◌}
-use Rattle.nfs_types.specs.Timeval.{Timeval}
-use Rattle.nfs_types.specs.Caller.{Caller}
-use Rattle.nfs_types.specs.declared.stat.Stat.{Stat}
+use Rattle.nfs_items.specs.Timeval.{Timeval}
+use Rattle.nfs_items.specs.Caller.{Caller}
+use Rattle.nfs_items.specs.declared.stat.Stat.{Stat}
 use Rattle.fs_model.specs.Files.{Symlink, Directory, File, Files}
 use Rattle.fs_model.specs.Trees.{IsFileTree}
 use Rattle.fs_model.proofs.Walks.{none_some, some_same}
@@ -12,8 +12,9 @@ use Rattle.fs_changes.specs.Edits.{with_changed_file}
 use Rattle.nfs_spec.specs.Sattr.{GivenFields, given_fields, no_fields}
 use Rattle.nfs_spec.specs.Changes.{new_file}
 use Rattle.nfs_spec.specs.Procedures.{with_bytes_written}
-use Rattle.nfs_spec.specs.NfsCalls as calls
-use Rattle.nfs_spec.specs.NfsCalls.{Call, Answer, number_for, call_does}
+use Rattle.nfs_types.specs.Calls as calls
+use Rattle.nfs_types.specs.Calls.{Call, Answer}
+use Rattle.nfs_spec.specs.NfsCalls.{number_for, call_does}
 use Rattle.nfs_spec_steps.specs.Answers.{only_reads, refusal_in}
 use Rattle.nfs_spec_changes.specs.Changed.{Makes}
 use Rattle.nfs_spec_changes.proofs.Granted.{IsSet, IsWrote, IsNew, IsCreated, created, set_ok, write_ok, make_ok, create_ok, link_ok, remove_ok, remove_dir_ok, rename_ok}

@@ -2,8 +2,8 @@
 -- what is nothing stays nothing.
 -- Serves: files_stay_what_they_are, calls_keep_the_files_they_do_not_name (nfs_spec_frames).
 use Rattle.std.proofs.Common.{◌≡◌, ◌≢◌, ℕ, Option, Some, None, refl, sym, ap, subst, ◌∙◌}
-use Rattle.nfs_types.specs.Timeval.{Timeval}
-use Rattle.nfs_types.specs.Caller.{Caller}
+use Rattle.nfs_items.specs.Timeval.{Timeval}
+use Rattle.nfs_items.specs.Caller.{Caller}
 use Rattle.fs_model.specs.Listing.{Listing}
 use Rattle.fs_model.specs.Files.{Body, Regular, Symlink, Directory, File, Files, file_at}
 use Rattle.fs_model.specs.Trees.{IsFileTree}
@@ -11,7 +11,8 @@ use Rattle.fs_model.proofs.Walks.{none_some}
 use Rattle.fs_changes.specs.Edits.{map_body_listing}
 use Rattle.nfs_spec.specs.Sattr.{given_fields}
 use Rattle.nfs_spec.specs.Changes.{with_bytes_at, body_with_length}
-use Rattle.nfs_spec.specs.NfsCalls.{Call, number_for, call_does}
+use Rattle.nfs_types.specs.Calls.{Call}
+use Rattle.nfs_spec.specs.NfsCalls.{number_for, call_does}
 use Rattle.nfs_spec_trees.proofs.FilesFit.{next_free}
 use Rattle.nfs_spec_frames.specs.Named.{IsNoneOf, set_by, written_by, KeepsKind, KeepsAttributes, KeepsBytes, KeepsAt}
 use Rattle.nfs_spec_frames.proofs.UnnamedFiles.{at_name}

@@ -4,8 +4,8 @@
 use Rattle.std.proofs.Common.{◌≡◌, ◌≢◌, ℕ, ◌+◌, List, [], ◌∷◌, ◌++◌, Option, Some, None, option_map, ⊎_elim, refl, sym, ap, subst, ◌∙◌, arith}
 use Rattle.std.specs.Prelude.{◌&&◌, is_none, if◌then◌else◌, ◌==◌, true, false, Bool, length}
 use Rattle.std.specs.Option.{option_map_or}
-use Rattle.nfs_types.specs.Timeval.{Timeval}
-use Rattle.nfs_types.specs.Caller.{Caller}
+use Rattle.nfs_items.specs.Timeval.{Timeval}
+use Rattle.nfs_items.specs.Caller.{Caller}
 use Rattle.fs_model.specs.Files.{File, Files, file_at, places, Symlink, Directory}
 use Rattle.fs_model.proofs.Walks.{none_some, some_same}
 use Rattle.fs_changes.specs.Edits.{with_changed_file}
@@ -13,7 +13,8 @@ use Rattle.fs_changes.proofs.Finite.{changed_other}
 use Rattle.nfs_spec.specs.Sattr.{GivenFields, given_fields, no_fields}
 use Rattle.nfs_spec.specs.Changes.{apply_fields, new_file}
 use Rattle.nfs_spec.specs.Procedures.{with_bytes_written}
-use Rattle.nfs_spec.specs.NfsCalls.{Call, Answer, number_for, call_does}
+use Rattle.nfs_types.specs.Calls.{Call, Answer}
+use Rattle.nfs_spec.specs.NfsCalls.{number_for, call_does}
 use Rattle.nfs_spec_frames.specs.Named.{IsNoneOf, named_at, named_by, files_made}
 use Rattle.nfs_spec_changes.proofs.Granted.{IsNew, IsCreated, created, set_ok, write_ok, make_ok, create_ok, link_ok, remove_ok, remove_dir_ok, rename_ok}
 use Rattle.nfs_spec_frames.proofs.CallCases.{every}

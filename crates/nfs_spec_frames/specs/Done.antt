@@ -1,12 +1,13 @@
 -- What a call that was not refused did to the files that it names.
 use Rattle.std.specs.Prelude.{◌≡◌, ◌≢◌, ℕ, List, [], replicate, unwrap_or, Some, None}
-use Rattle.nfs_types.specs.Timeval.{Timeval}
-use Rattle.nfs_types.specs.Caller.{Caller}
+use Rattle.nfs_items.specs.Timeval.{Timeval}
+use Rattle.nfs_items.specs.Caller.{Caller}
 use Rattle.fs_model.specs.Files as bodies
 use Rattle.fs_model.specs.Files.{Regular, Directory, File, Files, file_at, places}
 use Rattle.nfs_spec.specs.Sattr.{GivenFields, given_fields, no_fields}
 use Rattle.nfs_spec.specs.Changes.{new_file}
-use Rattle.nfs_spec.specs.NfsCalls.{Call, Setattr, Write, Create, Remove, Rename, Link, Symlink, Mkdir, Rmdir, number_for}
+use Rattle.nfs_types.specs.Calls.{Call, Setattr, Write, Create, Remove, Rename, Link, Symlink, Mkdir, Rmdir}
+use Rattle.nfs_spec.specs.NfsCalls.{number_for}
 use Rattle.nfs_spec_steps.specs.Granted.{IsSameFile}
 use Rattle.nfs_spec_changes.specs.Changed.{Becomes, IsSetTo, IsRewritten, ChangesBytes, IsWritten, IsResized, Makes, Links, Unnames, Moves}
 

@@ -4,7 +4,8 @@ use Rattle.std.specs.Option.{option_map_or}
 use Rattle.fs_model.specs.Listing.{Listing}
 use Rattle.fs_model.specs.Files.{Body, Regular, Directory, File, Files, file_at, places}
 use Rattle.fs_model.specs.Files as bodies
-use Rattle.nfs_spec.specs.NfsCalls.{Call, Setattr, Write, Create, Remove, Rename, Link, Symlink, Mkdir, Rmdir, Answer, number_for}
+use Rattle.nfs_types.specs.Calls.{Call, Setattr, Write, Create, Remove, Rename, Link, Symlink, Mkdir, Rmdir, Answer}
+use Rattle.nfs_spec.specs.NfsCalls.{number_for}
 use Rattle.nfs_spec_steps.specs.Answers.{refusal_in}
 
 -- a number is none of these

@@ -1,10 +1,11 @@
 -- Calls, one after the other.
 use Rattle.std.specs.Prelude.{List, [], ◌∷◌}
-use Rattle.nfs_types.specs.Timeval.{Timeval}
-use Rattle.nfs_types.specs.Caller.{Caller}
+use Rattle.nfs_items.specs.Timeval.{Timeval}
+use Rattle.nfs_items.specs.Caller.{Caller}
 use Rattle.fs_model.specs.Files.{Files}
 use Rattle.fs_model.specs.Trees.{IsTime}
-use Rattle.nfs_spec.specs.NfsCalls.{Call, call_does}
+use Rattle.nfs_types.specs.Calls.{Call}
+use Rattle.nfs_spec.specs.NfsCalls.{call_does}
 use Rattle.nfs_spec_laws.specs.Laws.{IsBounded}
 
 -- a call, with its caller and the time of it

@@ -1,13 +1,14 @@
 //! What every call leaves.
 
 ghost use Rattle.std.specs.Prelude.{◌≡◌, ◌≢◌, ◌+◌, ◌<◌, ℕ, IsTrue, List, Some, None, Ok};
-ghost use Rattle.nfs_types.specs.Timeval.{Timeval};
-ghost use Rattle.nfs_types.specs.Caller.{Caller};
+ghost use Rattle.nfs_items.specs.Timeval.{Timeval};
+ghost use Rattle.nfs_items.specs.Caller.{Caller};
 ghost use Rattle.fs_model.specs.Files.{Files, file_at, places, names_of};
 ghost use Rattle.fs_model.specs.Trees.{IsTime, IsFileTree};
 ghost use Rattle.fs_changes.specs.Limits.{has_room};
 ghost use Rattle.nfs_spec.specs.Procedures.{remove, remove_dir};
-ghost use Rattle.nfs_spec.specs.NfsCalls.{Call, call_does};
+ghost use Rattle.nfs_types.specs.Calls.{Call};
+ghost use Rattle.nfs_spec.specs.NfsCalls.{call_does};
 ghost use Rattle.nfs_spec.specs.Opening.{opening_files};
 ghost use Rattle.nfs_spec_steps.specs.Answers.{refusal_in};
 ghost use Rattle.nfs_spec_frames.specs.Named.{IsNoneOf, named_by, files_made, set_by, written_by, KeepsKind, KeepsAttributes, KeepsBytes, KeepsAt};

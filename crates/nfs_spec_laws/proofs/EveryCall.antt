@@ -3,14 +3,15 @@
 -- Serves: trees_stay_trees, nothing_is_given_again, no_limit_is_passed and refusals_leave_files;
 -- runs_keep_a_tree_within_its_limits in nfs_spec_frames; answers_have_a_spelling in nfs_spec_sizes.
 use Rattle.std.proofs.Common.{◌≡◌, ⊎_elim, ℕ, ◌≤◌, true, false, List, length, Some, refl, sym, subst}
-use Rattle.nfs_types.specs.Timeval.{Timeval}
-use Rattle.nfs_types.specs.Caller.{Caller}
-use Rattle.nfs_types.specs.declared.stat.Stat.{Stat}
+use Rattle.nfs_items.specs.Timeval.{Timeval}
+use Rattle.nfs_items.specs.Caller.{Caller}
+use Rattle.nfs_items.specs.declared.stat.Stat.{Stat}
 use Rattle.fs_model.specs.Files.{Files}
 use Rattle.fs_model.specs.Trees.{IsTime, IsFileTree}
 use Rattle.fs_model.proofs.Walks.{none_some}
 use Rattle.nfs_spec.specs.Sattr.{given_fields}
-use Rattle.nfs_spec.specs.NfsCalls.{Call, number_for, call_does}
+use Rattle.nfs_types.specs.Calls.{Call}
+use Rattle.nfs_spec.specs.NfsCalls.{number_for, call_does}
 use Rattle.nfs_spec_steps.specs.Answers.{refusal_in}
 use Rattle.nfs_spec_steps.specs.Granted.{RenameOk, new_directory, new_link}
 use Rattle.nfs_spec_steps.proofs.EachCall.{each_call}

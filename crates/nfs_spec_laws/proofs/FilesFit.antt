@@ -5,13 +5,14 @@ use Rattle.std.specs.Prelude.{unwrap_or, ◌||◌, is_some}
 use Rattle.std.specs.List.{IsDistinct}
 use Rattle.std.proofs.lemmas.Bool.{ltb-false}
 use Rattle.std.proofs.lemmas.List.{length-replicate}
-use Rattle.nfs_types.specs.Timeval.{Timeval}
-use Rattle.nfs_types.specs.Caller.{Caller}
+use Rattle.nfs_items.specs.Timeval.{Timeval}
+use Rattle.nfs_items.specs.Caller.{Caller}
 use Rattle.fs_model.specs.Listing.{HasDistinctNames}
 use Rattle.fs_model.specs.Files.{Body, Regular, Symlink, Directory, File, listing_in, is_directory}
 use Rattle.fs_model.specs.Trees.{IsBody, IsTime, IsFile}
 use Rattle.fs_model.proofs.Walks.{none_some, some_same}
-use Rattle.nfs_spec.specs.Sattr.{Sattr, GivenFields, given_mode, given_time, given_fields, gives_any, no_fields}
+use Rattle.nfs_items.specs.declared.sattr.Sattr.{Sattr}
+use Rattle.nfs_spec.specs.Sattr.{GivenFields, given_mode, given_time, given_fields, gives_any, no_fields}
 use Rattle.nfs_spec.specs.Changes.{body_with_length, apply_fields, new_file}
 use Rattle.nfs_spec.specs.Procedures.{with_bytes_written}
 use Rattle.nfs_spec_steps.specs.Granted.{ResizeOk, new_regular, new_directory, new_link}

@@ -1,8 +1,8 @@
 -- What the procedures do to paths.
 -- Serves: making_adds_a_path, removing_takes_a_path and renaming_moves_paths.
 use Rattle.std.proofs.Common.{◌≡◌, ⊎_elim, ℕ, ◌≤◌, Bool, List, [], length, None, Some, refl, sym, ap, ◌∙◌}
-use Rattle.nfs_types.specs.Timeval.{Timeval}
-use Rattle.nfs_types.specs.Caller.{Caller}
+use Rattle.nfs_items.specs.Timeval.{Timeval}
+use Rattle.nfs_items.specs.Caller.{Caller}
 use Rattle.fs_model.specs.Files.{File, Files, listing_in, listing, places}
 use Rattle.fs_model.specs.Trees.{IsTime, IsFile, IsFileTree}
 use Rattle.fs_model.proofs.Walks.{one_number}

@@ -1,11 +1,11 @@
 -- What the laws of procedures speak of.
 use Rattle.std.specs.Prelude.{◌≡◌, ℕ, ◌<◌, ◌≤◌, List, [], ◌∷◌, ◌++◌, length, Some}
-use Rattle.nfs_types.specs.Timeval.{Timeval}
+use Rattle.nfs_items.specs.Timeval.{Timeval}
 use Rattle.fs_model.specs.Paths.{path_at, AddsPath, TakesPath, Renames}
 use Rattle.fs_model.specs.Files.{Files, listing, places}
 use Rattle.fs_model.specs.Trees.{IsTime}
 use Rattle.nfs_spec.specs.Sattr.{GivenFields}
-use Rattle.nfs_spec.specs.NfsCalls.{Call, Create, Rename, Link, Symlink, Mkdir}
+use Rattle.nfs_types.specs.Calls.{Call, Create, Rename, Link, Symlink, Mkdir}
 
 -- what may be asked of attributes: twelve bits of mode, and times
 pub record IsWanted (a : GivenFields) : Type 0 where

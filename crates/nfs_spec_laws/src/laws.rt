@@ -1,10 +1,10 @@
 //! What holds of every call.
 
 ghost use Rattle.std.specs.Prelude.{◌≡◌, ◌≤◌, ◌<◌, ◌+◌, not, max, slice_index, IsTrue, ℕ, List, length, true, false, Some, None, Ok};
-ghost use Rattle.nfs_types.specs.Timeval.{Timeval};
-ghost use Rattle.nfs_types.specs.Caller.{Caller};
-ghost use Rattle.nfs_types.specs.declared.stat.Stat.{Stat};
-ghost use Rattle.nfs_types.specs.declared.attributes.Fattr.{Fattr};
+ghost use Rattle.nfs_items.specs.Timeval.{Timeval};
+ghost use Rattle.nfs_items.specs.Caller.{Caller};
+ghost use Rattle.nfs_items.specs.declared.stat.Stat.{Stat};
+ghost use Rattle.nfs_items.specs.declared.attributes.Fattr.{Fattr};
 ghost use Rattle.fs_model.specs.Files.{File, Files, file_at, IsDirectory, is_directory, listing, places, names_of};
 ghost use Rattle.fs_model.specs.Trees.{IsTime, IsFileTree};
 ghost use Rattle.fs_changes.specs.Limits.{has_room};
@@ -13,7 +13,8 @@ ghost use Rattle.nfs_spec.specs.Effects.{attributes_at};
 ghost use Rattle.nfs_spec.specs.Sattr.{GivenFields, no_fields};
 ghost use Rattle.nfs_spec.specs.Changes.{with_length, with_bytes_at};
 ghost use Rattle.nfs_spec.specs.Procedures.{create, make_dir, symlink, link, remove, remove_dir, rename, read};
-ghost use Rattle.nfs_spec.specs.NfsCalls.{Call, call_does};
+ghost use Rattle.nfs_types.specs.Calls.{Call};
+ghost use Rattle.nfs_spec.specs.NfsCalls.{call_does};
 ghost use Rattle.nfs_spec_trees.specs.Anew.{GivesAnew};
 ghost use Rattle.nfs_spec_steps.specs.Answers.{refusal_in, only_reads};
 ghost use Rattle.nfs_spec_steps.specs.Granted.{IsSameFile};

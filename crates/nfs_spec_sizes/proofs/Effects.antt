@@ -1,14 +1,15 @@
 -- What holds of the files after an effect holds of the files after its call, whatever the answer tells beside them.
 -- Serves: `laws::answers_have_a_spelling`, by Words and OfCalls.
 use Rattle.std.proofs.Common.{◌≡◌, ℕ, List, Result, Ok, Err, refl, subst}
-use Rattle.nfs_types.specs.Handle.{handle_of}
-use Rattle.nfs_types.specs.declared.attributes.Fattr.{Fattr}
-use Rattle.nfs_types.specs.declared.stat.Stat.{Stat}
+use Rattle.nfs_items.specs.Handle.{handle_of}
+use Rattle.nfs_items.specs.declared.attributes.Fattr.{Fattr}
+use Rattle.nfs_items.specs.declared.stat.Stat.{Stat}
 use Rattle.fs_model.specs.Files.{Files}
 use Rattle.nfs_spec.specs.ProcedureChecks.{◌>>=◌}
 use Rattle.nfs_spec.specs.Changes.{Effect}
 use Rattle.nfs_spec.specs.Effects.{attributes_at}
-use Rattle.nfs_spec.specs.NfsCalls.{Answer, answer_and_files, with_attributes, with_handle, without_number}
+use Rattle.nfs_types.specs.Calls.{Answer}
+use Rattle.nfs_spec.specs.NfsCalls.{answer_and_files, with_attributes, with_handle, without_number}
 use Rattle.nfs_spec_steps.proofs.Steps.{bind_ok, ok_same}
 
 -- two Ok that are the same have the same files

@@ -7,26 +7,27 @@ use Rattle.std.proofs.lemmas.List.{length-take, length-append, length-replicate}
 use Rattle.byteorder.specs.Endian.{big_bytes}
 use Rattle.byteorder.specs.Numbers.{length-bytes_high_first}
 use Rattle.xdr.specs.Item.{Value, Fits, word, opaque, empty, flag, pair, linked}
-use Rattle.nfs_types.specs.Timeval.{Timeval}
-use Rattle.nfs_types.specs.Caller.{Caller}
-use Rattle.nfs_types.specs.Handle.{fhandle, handle_of}
-use Rattle.nfs_types.specs.Attributes.{fattr, fattr_value}
-use Rattle.nfs_types.specs.declared.attributes.Fattr.{Fattr}
-use Rattle.nfs_types.specs.declared.stat.Stat.{Stat}
-use Rattle.nfs_types.specs.declared.stat.Stat.TheVariants as stats
+use Rattle.nfs_items.specs.Timeval.{Timeval}
+use Rattle.nfs_items.specs.Caller.{Caller}
+use Rattle.nfs_items.specs.Handle.{fhandle, handle_of}
+use Rattle.nfs_items.specs.Attributes.{fattr, fattr_value}
+use Rattle.nfs_items.specs.declared.attributes.Fattr.{Fattr}
+use Rattle.nfs_items.specs.declared.stat.Stat.{Stat}
+use Rattle.nfs_items.specs.declared.stat.Stat.TheVariants as stats
 use Rattle.fs_model.specs.Files.{Body, Regular, Symlink, Directory, Files, file_at}
 use Rattle.fs_model.specs.Trees.{IsBody}
 use Rattle.nfs_spec.specs.ProcedureChecks.{◌>>=◌, file_of, number_of, dir_of, check, bytes_of, target_of, permits, may_read}
 use Rattle.nfs_spec.specs.Sattr.{given_fields}
 use Rattle.nfs_spec.specs.Changes.{Effect}
 use Rattle.nfs_spec.specs.Effects.{attributes_at, number_at_name, getattr, lookup}
-use Rattle.nfs_spec.specs.Readdir.{DirEntry, Page}
-use Rattle.nfs_spec.specs.Procedures.{FsStats, set_attributes, read_link, read, write, create, make_dir, read_dir, stat_fs}
-use Rattle.nfs_spec.specs.NfsCalls as calls
-use Rattle.nfs_spec.specs.NfsCalls.{Call, Answer, answer_and_files, with_attributes, with_handle, number_for, call_does}
+use Rattle.nfs_types.specs.Calls.{DirEntry, Page, Call, Answer}
+use Rattle.nfs_types.specs.declared.results.FsStats.{FsStats}
+use Rattle.nfs_spec.specs.Procedures.{set_attributes, read_link, read, write, create, make_dir, read_dir, stat_fs}
+use Rattle.nfs_types.specs.Calls as calls
+use Rattle.nfs_spec.specs.NfsCalls.{answer_and_files, with_attributes, with_handle, number_for, call_does}
 use Rattle.nfs_spec_steps.proofs.Steps.{bind_ok, found_ok, ok_same, dir_ok}
-use Rattle.call_items.specs.Items.{path, entry}
-use Rattle.call_items.specs.Texts.{entry_value, figures_value, IsSpelled}
+use Rattle.nfs_types.specs.Items.{path, entry}
+use Rattle.nfs_types.specs.Texts.{entry_value, figures_value, IsSpelled}
 use Rattle.nfs_spec_sizes.proofs.Values.{outcome_fits, AreSpelled, attributes_fit, EntryFits, page_fits}
 
 -- ---- values

@@ -9,9 +9,9 @@ use Rattle.std.specs.FinMap as finite
 use Rattle.std.proofs.Math.Nat.{div-le_self}
 use Rattle.std.proofs.lemmas.List.Sums.{sum_by-cons, sum_by-le-sum_by, count_by-le-length}
 use Rattle.xdr.specs.Item.{Item, Value, Fits}
-use Rattle.nfs_types.specs.Attributes.{ftype, ftype_number, fattr, fattr_value, stat_or, stat_value, outcome_value}
-use Rattle.nfs_types.specs.declared.stat.Stat.{Stat}
-use Rattle.nfs_types.specs.declared.stat.Stat.TheVariants as stats
+use Rattle.nfs_items.specs.Attributes.{ftype, ftype_number, fattr, fattr_value, stat_or, stat_value, outcome_value}
+use Rattle.nfs_items.specs.declared.stat.Stat.{Stat}
+use Rattle.nfs_items.specs.declared.stat.Stat.TheVariants as stats
 use Rattle.fs_model.specs.Listing.{Listing, entry_at, IsRising, HasDistinctNames}
 use Rattle.fs_model.specs.Files.{Body, Regular, Symlink, Directory, File, Files, file_at, listing_in, is_directory, places, one_if, names_in, parent_of}
 use Rattle.fs_model.specs.Trees.{IsBody, IsFileTree}
@@ -23,7 +23,8 @@ use Rattle.fs_changes.proofs.Finite.{total_without}
 use Rattle.fs_changes.proofs.Listings.{name_self}
 use Rattle.fs_changes.proofs.Room.{AllCookies, IsWithin}
 use Rattle.nfs_spec.specs.FileAttributes.{type_of, type_bits, nlink_of, size_of, is_directory_at, attributes_of}
-use Rattle.nfs_spec.specs.Readdir.{DirEntry, dir_entries, cost, longest_front, page_of}
+use Rattle.nfs_types.specs.Calls.{DirEntry}
+use Rattle.nfs_spec.specs.Readdir.{dir_entries, cost, longest_front, page_of}
 use Rattle.nfs_spec_sizes.specs.Bounds.{AreWords}
 
 -- ---- stats

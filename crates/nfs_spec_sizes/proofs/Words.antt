@@ -4,9 +4,9 @@ use Rattle.std.proofs.Common.{◌≡◌, ⊎_elim, ℕ, ◌+◌, ◌<◌, ◌^�
 use Rattle.std.specs.Prelude.{◌==◌, ◌&&◌, unwrap_or, nat_lt}
 use Rattle.std.specs.Option.{option_map_or}
 use Rattle.std.proofs.lemmas.Bool.{cases_eq}
-use Rattle.nfs_types.specs.Timeval.{Timeval}
-use Rattle.nfs_types.specs.Caller.{Caller}
-use Rattle.nfs_types.specs.declared.stat.Stat.TheVariants as stats
+use Rattle.nfs_items.specs.Timeval.{Timeval}
+use Rattle.nfs_items.specs.Caller.{Caller}
+use Rattle.nfs_items.specs.declared.stat.Stat.TheVariants as stats
 use Rattle.fs_model.specs.Listing.{Listing, entry_at}
 use Rattle.fs_model.specs.Names.{is_name}
 use Rattle.fs_model.specs.Files.{Body, Regular, Symlink, Directory, File, Files, file_at, is_directory, names_of}
@@ -14,11 +14,13 @@ use Rattle.fs_model.proofs.Walks.{none_some, some_same}
 use Rattle.fs_changes.specs.Edits.{with_changed_file, with_new_file, without_file, with_name, without_name, map_listing}
 use Rattle.fs_changes.proofs.Finite.{changed_here, changed_other, gone_here, gone_other, new_here, new_other}
 use Rattle.nfs_spec.specs.ProcedureChecks.{◌>>=◌, NumberedDir, file_of, dir_of, listing_or, check, check_size, check_room, check_cookie, check_edit, check_free, number_at, bytes_of, may_search, may_write}
-use Rattle.nfs_spec.specs.Sattr.{Sattr, GivenFields, given_fields, gives_any, no_fields}
+use Rattle.nfs_items.specs.declared.sattr.Sattr.{Sattr}
+use Rattle.nfs_spec.specs.Sattr.{GivenFields, given_fields, gives_any, no_fields}
 use Rattle.nfs_spec.specs.Changes.{touch, with_mtime, touch_ctime, with_ctime, unlink, check_owner, check_resize, apply_fields, new_file, after_unlink}
 use Rattle.nfs_spec.specs.Procedures.{set_attributes, write, with_bytes_written, add_file, create, create_over, create_new, make, is_regular, link, remove, remove_dir, is_above, check_target, unlink_target, move_entry, rename}
-use Rattle.nfs_spec.specs.NfsCalls as calls
-use Rattle.nfs_spec.specs.NfsCalls.{Call, number_for, call_does}
+use Rattle.nfs_types.specs.Calls as calls
+use Rattle.nfs_types.specs.Calls.{Call}
+use Rattle.nfs_spec.specs.NfsCalls.{number_for, call_does}
 use Rattle.nfs_spec_steps.proofs.Steps.{bind_ok}
 use Rattle.nfs_spec_sizes.proofs.Effects.{in_files, of_told, of_attributes, of_handle, of_number}
 use Rattle.nfs_spec_sizes.specs.Bounds.{HasWords, AsksWords, SaysWords, HasWordsIn}

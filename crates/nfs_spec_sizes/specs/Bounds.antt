@@ -1,10 +1,10 @@
 -- Files whose attributes fit in words.
 use Rattle.std.specs.Prelude.{◌≡◌, ℕ, ◌<◌, ◌^◌, Some}
-use Rattle.nfs_types.specs.Timeval.{Timeval}
-use Rattle.nfs_types.specs.Caller.{Caller}
+use Rattle.nfs_items.specs.Timeval.{Timeval}
+use Rattle.nfs_items.specs.Caller.{Caller}
 use Rattle.fs_model.specs.Files.{File, Files, file_at}
-use Rattle.nfs_spec.specs.Sattr.{Sattr}
-use Rattle.nfs_spec.specs.NfsCalls.{Call, Setattr, Create, Mkdir}
+use Rattle.nfs_items.specs.declared.sattr.Sattr.{Sattr}
+use Rattle.nfs_types.specs.Calls.{Call, Setattr, Create, Mkdir}
 
 -- owner, group and seconds of a file are words
 pub record HasWords (f : File) : Type 0 where

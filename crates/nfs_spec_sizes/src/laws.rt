@@ -1,14 +1,15 @@
 //! What calls give has a spelling.
 
 ghost use Rattle.std.specs.Prelude.{IsTrue};
-ghost use Rattle.nfs_types.specs.Timeval.{Timeval};
-ghost use Rattle.nfs_types.specs.Caller.{Caller};
+ghost use Rattle.nfs_items.specs.Timeval.{Timeval};
+ghost use Rattle.nfs_items.specs.Caller.{Caller};
 ghost use Rattle.fs_model.specs.Files.{Files};
 ghost use Rattle.fs_model.specs.Trees.{IsTime, IsFileTree};
 ghost use Rattle.fs_changes.specs.Limits.{has_room};
-ghost use Rattle.nfs_spec.specs.NfsCalls.{Call, call_does};
+ghost use Rattle.nfs_types.specs.Calls.{Call};
+ghost use Rattle.nfs_spec.specs.NfsCalls.{call_does};
 ghost use Rattle.nfs_spec_laws.specs.Laws.{IsBounded};
-ghost use Rattle.call_items.specs.Texts.{IsSpelled};
+ghost use Rattle.nfs_types.specs.Texts.{IsSpelled};
 ghost use Rattle.nfs_spec_sizes.specs.Bounds.{AreWords, SaysWords, HasWordsIn};
 
 /// Where the files are a tree that passes no limit, and their owners, groups and seconds and those that a call

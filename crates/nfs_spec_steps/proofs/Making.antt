@@ -4,10 +4,10 @@ use Rattle.std.proofs.Common.{◌≡◌, ℕ, true, List, Option, None, Result, 
 use Rattle.std.specs.Prelude.{unwrap_or}
 use Rattle.std.specs.Option.{option_map_or}
 use Rattle.std.proofs.lemmas.Bool.{not-true}
-use Rattle.nfs_types.specs.Timeval.{Timeval}
-use Rattle.nfs_types.specs.Caller.{Caller}
-use Rattle.nfs_types.specs.declared.stat.Stat.{Stat}
-use Rattle.nfs_types.specs.declared.stat.Stat.TheVariants as stats
+use Rattle.nfs_items.specs.Timeval.{Timeval}
+use Rattle.nfs_items.specs.Caller.{Caller}
+use Rattle.nfs_items.specs.declared.stat.Stat.{Stat}
+use Rattle.nfs_items.specs.declared.stat.Stat.TheVariants as stats
 use Rattle.fs_model.specs.Listing.{entry_at}
 use Rattle.fs_model.specs.Names.{is_name}
 use Rattle.fs_model.specs.Files.{Body, Regular, Symlink, Directory, File, Files, is_directory, places}
@@ -17,8 +17,7 @@ use Rattle.nfs_spec.specs.ProcedureChecks.{NumberedDir, file_of, dir_of, check, 
 use Rattle.nfs_spec.specs.Sattr.{GivenFields}
 use Rattle.nfs_spec.specs.Changes.{touch, touch_ctime}
 use Rattle.nfs_spec.specs.Procedures.{set_attributes, add_file, is_regular, create_over, create_new, create, make, make_dir, symlink, link}
-use Rattle.nfs_spec_steps.specs.Granted.{IsFound, MakeOk, MakeDirOk, SymlinkOk, CreateOverOk, CreateNewOk, CreateOk, LinkOk}
-use Rattle.nfs_spec_steps.specs.Granted.{new_regular, new_directory, new_link}
+use Rattle.nfs_spec_steps.specs.Granted.{IsFound, MakeOk, MakeDirOk, SymlinkOk, CreateOverOk, CreateNewOk, CreateOk, LinkOk, new_regular, new_directory, new_link}
 use Rattle.nfs_spec_steps.proofs.Steps.{bind_ok, check_ok, size_ok, file_ok, dir_ok, edit_ok, free_ok, place_found, same_answer, same_files}
 use Rattle.nfs_spec_steps.proofs.Setting.{set_ok}
 

@@ -1,9 +1,8 @@
 -- What follows from the Ok of a procedure that changes files: each check that it passed, and its effect. Each
 -- record speaks of the files before and after, the caller, the clock reading and the procedure's arguments.
-use Rattle.std.specs.Prelude.{◌≡◌, ◌≢◌, ◌⊎◌, ℕ, ◌+◌, ◌==◌, ◌&&◌, ◌≤◌, Bool, true, false, IsTrue, List, [], length, replicate}
-use Rattle.std.specs.Prelude.{Some, None, option_map, Ok, unwrap_or, if◌then◌else◌}
-use Rattle.nfs_types.specs.Timeval.{Timeval}
-use Rattle.nfs_types.specs.Caller.{Caller}
+use Rattle.std.specs.Prelude.{◌≡◌, ◌≢◌, ◌⊎◌, ℕ, ◌+◌, ◌==◌, ◌&&◌, ◌≤◌, Bool, true, false, IsTrue, List, [], length, replicate, Some, None, option_map, Ok, unwrap_or, if◌then◌else◌}
+use Rattle.nfs_items.specs.Timeval.{Timeval}
+use Rattle.nfs_items.specs.Caller.{Caller}
 use Rattle.fs_model.specs.Names.{is_name}
 use Rattle.fs_model.specs.Files.{Regular, Symlink, Directory, File, Files, file_at, is_directory, listing_in, listing, places}
 use Rattle.fs_changes.specs.Edits.{with_changed_file, with_name}

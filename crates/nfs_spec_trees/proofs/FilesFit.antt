@@ -1,7 +1,7 @@
 -- Edits leave each file one within its limits; what a tree says of directories and of the next number.
 -- Serves: trees_stay_trees in nfs_spec_laws; room_is_told_before; the laws of nfs_spec_changes and nfs_spec_frames.
 use Rattle.std.proofs.Common.{◌≡◌, ⊎_elim, ℕ, Bool, true, false, List, Option, Some, None, IsSome, is_some, option_map, refl, sym, ap, ◌∙◌, arith}
-use Rattle.nfs_types.specs.Timeval.{Timeval}
+use Rattle.nfs_items.specs.Timeval.{Timeval}
 use Rattle.fs_model.specs.Listing.{Listing, with_entry, without_entry, HasDistinctNames}
 use Rattle.fs_model.specs.Files.{Body, Regular, Symlink, Directory, File, Files, file_at, listing_in, is_directory, names_of}
 use Rattle.fs_model.specs.Trees.{IsBody, IsTime, IsFile, IsFileTree}

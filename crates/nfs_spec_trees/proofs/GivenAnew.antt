@@ -3,7 +3,7 @@
 use Rattle.std.proofs.Common.{◌≡◌, ◌≢◌, ◌⊎◌, inl, inr, ⊎_elim, ℕ, ◌≤◌, Bool, true, false, List, [], Option, Some, None, IsSome, is_some, eqb, option_map, refl, sym, ap, subst, ◌∙◌, arith}
 use Rattle.std.specs.Option.{option_map_or}
 use Rattle.std.proofs.lemmas.Bool.{cases_eq}
-use Rattle.nfs_types.specs.Timeval.{Timeval}
+use Rattle.nfs_items.specs.Timeval.{Timeval}
 use Rattle.fs_model.specs.Listing.{with_entry, without_entry}
 use Rattle.fs_model.specs.Files.{Body, Regular, Symlink, Directory, File, Files, file_at, listing_in, listing, IsDirectory, places, names_of}
 use Rattle.fs_model.proofs.Walks.{none_some, some_same, same_place}

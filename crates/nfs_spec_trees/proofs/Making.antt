@@ -1,8 +1,8 @@
 -- What makes a file, and LINK, add one entry and leave a tree a tree.
 -- Serves: making_adds_a_path, trees_stay_trees, nothing_is_given_again and no_limit_is_passed in nfs_spec_laws.
 use Rattle.std.proofs.Common.{◌≡◌, ◌≢◌, inl, inr, ℕ, ◌≤◌, Bool, true, false, List, [], length, Option, Some, None, IsSome, is_some, option_map, refl, sym, ap, subst, ◌∙◌, arith}
-use Rattle.nfs_types.specs.Timeval.{Timeval}
-use Rattle.nfs_types.specs.Caller.{Caller}
+use Rattle.nfs_items.specs.Timeval.{Timeval}
+use Rattle.nfs_items.specs.Caller.{Caller}
 use Rattle.fs_model.specs.Listing.{Listing}
 use Rattle.fs_model.specs.Files.{File, Files, file_at, listing_in, listing, is_directory, IsDirectory, places}
 use Rattle.fs_model.specs.Trees.{IsTime, IsFile, IsFileTree}

@@ -1,7 +1,7 @@
 //! What holds of trees.
 
 ghost use Rattle.std.specs.Prelude.{◌≡◌, ◌↔◌, ◌≤◌, ◌+◌, ℕ, List, [], Some, None, IsTrue, true};
-ghost use Rattle.nfs_types.specs.Timeval.{Timeval};
+ghost use Rattle.nfs_items.specs.Timeval.{Timeval};
 ghost use Rattle.fs_model.specs.Paths.{IsAbove};
 ghost use Rattle.fs_model.specs.Files.{File, Files, file_at, listing_in, is_directory, IsDirectory, places};
 ghost use Rattle.fs_model.specs.Trees.{IsFileTree};

@@ -18,11 +18,11 @@ use Rattle.nfs_items.specs.declared.stat.Stat.{Stat}
 use Rattle.nfs_items.specs.declared.stat.Stat.TheVariants as stats
 use Rattle.nfs_types.specs.declared.arguments.NfsProcedure.{NfsProcedure}
 use Rattle.nfs_types.specs.declared.arguments.NfsProcedure.TheVariants as procedures
-use Rattle.nfs_types.specs.declared.results.Figures.{Figures}
-use Rattle.nfs_types.specs.Items.{path, nfsdata, entry, figures}
+use Rattle.nfs_types.specs.declared.results.FsStats.{FsStats}
+use Rattle.nfs_types.specs.Items.{path, nfsdata, entry, fs_stats}
 use Rattle.nfs_types.specs.Calls as calls
-use Rattle.nfs_types.specs.Calls.{Answer, Entry, Page}
-use Rattle.nfs_types.specs.Texts.{entry_value, figures_value, answer_item, answer_text, procedure_of, IsSpelled, IsAnswerTo}
+use Rattle.nfs_types.specs.Calls.{Answer, DirEntry, Page}
+use Rattle.nfs_types.specs.Texts.{entry_value, fs_stats_value, answer_item, answer_text, procedure_of, IsSpelled, IsAnswerTo}
 
 -- ---- attributes and stats
 
@@ -104,10 +104,10 @@ outcome_again a view back make r rest same fits =
 cookie_is : (c : ℕ) → c < 2 ^ 32 → big_number 4 (big_bytes 4 c) ≡ c
 cookie_is c lt = ap (big_number 4) (sym (append-nil (big_bytes 4 c))) ∙ big_number-reads_back 4 c [] (omega (arith, lt))
 
-abbrev entry_from : Value entry → Entry
+abbrev entry_from : Value entry → DirEntry
 entry_from v = record { fileid = v.0; name = v.1.0; cookie = big_number 4 v.1.1 }
 
-entries_are : (es : List Entry) → AllByRecursion (λ c. c < 2 ^ 32) (map (λ e. e.cookie) es) → map entry_from (map entry_value es) ≡ es
+entries_are : (es : List DirEntry) → AllByRecursion (λ c. c < 2 ^ 32) (map (λ e. e.cookie) es) → map entry_from (map entry_value es) ≡ es
 entries_are [] all = refl
 entries_are (e ∷ es) all =
     let first : entry_from (entry_value e) ≡ e = ap (λ (c : ℕ). record e { cookie = c }) (cookie_is e.cookie all.0) in
@@ -121,11 +121,11 @@ page_is : (r : Result Page Stat) → IsSpelled (calls.Entries r) → (p : Page) 
 page_is (Ok q) h p is =
     let same : q ≡ p = cc in
     let all = entries_are q.entries h.cookies in
-    ap (λ (x : Page). page_from (map entry_value x.entries, x.eof)) (sym same) ∙ ap (λ (es : List Entry). record { entries = es; eof = q.eof }) all ∙ same
+    ap (λ (x : Page). page_from (map entry_value x.entries, x.eof)) (sym same) ∙ ap (λ (es : List DirEntry). record { entries = es; eof = q.eof }) all ∙ same
 page_is (Err e) h p is = absurd cc
 
-abbrev figures_from : Value figures → Figures
-figures_from v = record { transfer_size = v.0; block_size = v.1.0; blocks = v.1.1.0; free = v.1.1.1.0; available = v.1.1.1.1 }
+abbrev fs_stats_from : Value fs_stats → FsStats
+fs_stats_from v = record { transfer_size = v.0; block_size = v.1.0; blocks = v.1.1.0; free = v.1.1.1.0; available = v.1.1.1.1 }
 
 -- ---- answers
 
@@ -148,7 +148,7 @@ answer_at procedures.Symlink bytes = read_outcome empty (λ v. v) calls.Status b
 answer_at procedures.Mkdir bytes = read_outcome (pair fhandle fattr) (λ v. (v.0, fattr_at v.1)) calls.DirOp bytes
 answer_at procedures.Rmdir bytes = read_outcome empty (λ v. v) calls.Status bytes
 answer_at procedures.Readdir bytes = read_outcome (pair (linked entry) flag) page_from calls.Entries bytes
-answer_at procedures.Statfs bytes = read_outcome figures figures_from calls.Free bytes
+answer_at procedures.Statfs bytes = read_outcome fs_stats fs_stats_from calls.Free bytes
 
 attributes_again : (r : Result Fattr Stat) (rest : List ℕ) → IsSpelled (calls.Attributes r)
     → read_outcome fattr fattr_at calls.Attributes (answer_text (calls.Attributes r) ++ rest) ≡ Ok (calls.Attributes r, rest)
@@ -187,7 +187,7 @@ answer_again procedures.Mkdir (calls.DirOp r) rest of h = dir_op_again r rest h
 answer_again procedures.Rmdir (calls.Status r) rest of h = status_again r rest h
 answer_again procedures.Readdir (calls.Entries r) rest of h =
     outcome_again (pair (linked entry) flag) (λ p. (map entry_value p.entries, p.eof)) page_from calls.Entries r rest (page_is r h) h.fits
-answer_again procedures.Statfs (calls.Free r) rest of h = outcome_again figures figures_value figures_from calls.Free r rest (λ x _. refl) h.fits
+answer_again procedures.Statfs (calls.Free r) rest of h = outcome_again fs_stats fs_stats_value fs_stats_from calls.Free r rest (λ x _. refl) h.fits
 answer_again _ _ rest of h = absurd of
 
 -- no answer of a procedure begins another

@@ -10,10 +10,10 @@ use Rattle.nfs_items.specs.Handle.{fhandle}
 use Rattle.nfs_items.specs.Attributes.{fattr, fattr_value, stat_or, stat_value, outcome_value}
 use Rattle.nfs_items.specs.declared.stat.Stat.{Stat}
 use Rattle.nfs_items.specs.declared.stat.Stat.TheVariants as stats
-use Rattle.nfs_types.specs.Items.{path, nfsdata, entry, figures}
-use Rattle.nfs_types.specs.Texts.{entry_value, figures_value, answer_text}
+use Rattle.nfs_types.specs.Items.{path, nfsdata, entry, fs_stats}
+use Rattle.nfs_types.specs.Texts.{entry_value, fs_stats_value, answer_text}
 use Rattle.nfs_types.specs.Results.{answer_of, entry_of, outcome_of, stat_number, outcome_text, answer_bytes}
-use Rattle.nfs_types.specs.declared.results.DirEntry.{DirEntry}
+use Rattle.nfs_types.specs.declared.results.PageEntry.{PageEntry}
 use Rattle.nfs_types.specs.declared.results.NfsResult.{NfsResult}
 use Rattle.nfs_types.specs.declared.results.NfsResult.TheVariants as code
 
@@ -55,10 +55,10 @@ answers_say (code.Target r) = outcome_says path (λ t. t.now) (λ t. t) r
 answers_say (code.Bytes r) = outcome_says (pair fattr nfsdata) _ (λ x. (fattr_value x.0, x.1)) r
 answers_say (code.Status r) = plain_says empty (λ x. x) r
 answers_say (code.Entries r) = outcome_says (pair (linked entry) flag) _ (λ p. (map entry_value p.entries, p.eof)) r
-answers_say (code.Free r) = plain_says figures figures_value r
+answers_say (code.Free r) = plain_says fs_stats fs_stats_value r
 
 -- each entry behind TRUE, and then FALSE, is the list of entries
-pub entries_say : (es : List DirEntry)
+pub entries_say : (es : List PageEntry)
     → flat_map (λ e. spelling word 1 ++ spelling entry (entry_value (entry_of e))) es ++ spelling word 0 ≡ spelling (linked entry) (map entry_value (map entry_of es))
 entries_say [] = refl
 entries_say (e ∷ es) =
@@ -67,7 +67,7 @@ entries_say (e ∷ es) =
     ∙ sym (append_assoc (spelling word 1 ++ spelling entry (entry_value (entry_of e))) _ _)
 
 -- entries that stand behind what was there, and FALSE written behind them, add the list
-pub list_ends : {E : Type 0} (es : List DirEntry) (old middle new : List ℕ) (r : Result (Unit {0}) E)
+pub list_ends : {E : Type 0} (es : List PageEntry) (old middle new : List ℕ) (r : Result (Unit {0}) E)
     → middle ≡ old ++ flat_map (λ e. spelling word 1 ++ spelling entry (entry_value (entry_of e))) es
     → Appends (spelling word 0) middle r new → Adds (spelling (linked entry) (map entry_value (map entry_of es))) old r new
 list_ends es old middle new (Ok x) entries end =

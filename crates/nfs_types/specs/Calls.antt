@@ -4,7 +4,7 @@ use Rattle.std.specs.Prelude.{ℕ, Bool, List, Result}
 use Rattle.nfs_items.specs.declared.attributes.Fattr.{Fattr}
 use Rattle.nfs_items.specs.declared.sattr.Sattr.{Sattr}
 use Rattle.nfs_items.specs.declared.stat.Stat.{Stat}
-use Rattle.nfs_types.specs.declared.results.Figures.{Figures}
+use Rattle.nfs_types.specs.declared.results.FsStats.{FsStats}
 
 -- a file handle (section 2.3.3): 32 bytes
 abbrev pub Handle : Type 0
@@ -49,14 +49,14 @@ pub data Call : Type 0 where
   Statfs : Handle → Call
 
 -- an entry of a directory (section 2.2.17, entry)
-pub record Entry : Type 0 where
+pub record DirEntry : Type 0 where
   pub fileid : ℕ
   pub name : Name
   pub cookie : Cookie
 
 -- the entries of a page, and whether none is left
 pub record Page : Type 0 where
-  pub entries : List Entry
+  pub entries : List DirEntry
   pub eof : Bool
 
 -- an answer, or the stat of its refusal
@@ -68,4 +68,4 @@ pub data Answer : Type 0 where
   Bytes : Result (Fattr × List ℕ) Stat → Answer
   Status : Result (Unit {0}) Stat → Answer
   Entries : Result Page Stat → Answer
-  Free : Result Figures Stat → Answer
+  Free : Result FsStats Stat → Answer

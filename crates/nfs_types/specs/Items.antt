@@ -86,9 +86,9 @@ abbrev pub readdirres : Item
 readdirres = stat_or (pair (linked entry) flag)
 
 -- the figures of a file system: tsize, bsize, blocks, bfree, bavail
-abbrev pub figures : Item
-figures = pair word (pair word (pair word (pair word word)))
+abbrev pub fs_stats : Item
+fs_stats = pair word (pair word (pair word (pair word word)))
 
 -- statfsres (section 2.2.18)
 abbrev pub statfsres : Item
-statfsres = stat_or figures
+statfsres = stat_or fs_stats

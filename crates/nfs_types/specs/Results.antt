@@ -7,21 +7,21 @@ use Rattle.nfs_items.specs.declared.attributes.Fattr.{Fattr}
 use Rattle.nfs_items.specs.declared.stat.Stat.{Stat}
 use Rattle.nfs_types.specs.declared.results.DirOpOk.{DirOpOk}
 use Rattle.nfs_types.specs.declared.results.ReadOk.{ReadOk}
-use Rattle.nfs_types.specs.declared.results.DirEntry.{DirEntry}
+use Rattle.nfs_types.specs.declared.results.PageEntry.{PageEntry}
 use Rattle.nfs_types.specs.declared.results.Page as stored
 use Rattle.nfs_types.specs.declared.results.NfsResult.{NfsResult}
 use Rattle.nfs_types.specs.declared.results.NfsResult.TheVariants as code
-use Rattle.nfs_types.specs.Items.{path, nfsdata, entry, figures}
-use Rattle.nfs_types.specs.Texts.{entry_value, figures_value}
+use Rattle.nfs_types.specs.Items.{path, nfsdata, entry, fs_stats}
+use Rattle.nfs_types.specs.Texts.{entry_value, fs_stats_value}
 use Rattle.nfs_types.specs.Calls as calls
-use Rattle.nfs_types.specs.Calls.{Answer, Entry, Page, Handle}
+use Rattle.nfs_types.specs.Calls.{Answer, DirEntry, Page, Handle}
 
 -- an outcome with another result
 abbrev pub outcome_of : {X Y : Type 0} → (X → Y) → Result X Stat → Result Y Stat
 outcome_of view (Ok x) = Ok (view x)
 outcome_of view (Err e) = Err e
 
-abbrev pub entry_of : DirEntry → Entry
+abbrev pub entry_of : PageEntry → DirEntry
 entry_of e = record { fileid = e.fileid; name = e.name.now; cookie = e.cookie }
 
 abbrev pub page_of : stored.Page → Page
@@ -69,4 +69,4 @@ answer_bytes (code.Target r) = outcome_text (λ t. spelling path t.now) r
 answer_bytes (code.Bytes r) = outcome_text (λ x. spelling fattr (fattr_value x.attributes) ++ spelling nfsdata x.data.now) r
 answer_bytes (code.Status r) = outcome_text (λ x. []) r
 answer_bytes (code.Entries r) = outcome_text (λ p. spelling (linked entry) (map entry_value (map entry_of p.entries.items)) ++ spelling flag p.eof) r
-answer_bytes (code.Free r) = outcome_text (λ f. spelling figures (figures_value f)) r
+answer_bytes (code.Free r) = outcome_text (λ f. spelling fs_stats (fs_stats_value f)) r

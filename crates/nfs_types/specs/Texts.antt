@@ -7,12 +7,12 @@ use Rattle.xdr.specs.Reading.{Read, ◌>>=◌, read_at}
 use Rattle.nfs_items.specs.Handle.{fhandle}
 use Rattle.nfs_items.specs.Attributes.{fattr, fattr_value, outcome_value}
 use Rattle.nfs_items.specs.Sattr.{sattr_of}
-use Rattle.nfs_types.specs.declared.results.Figures.{Figures}
+use Rattle.nfs_types.specs.declared.results.FsStats.{FsStats}
 use Rattle.nfs_types.specs.declared.arguments.NfsProcedure.{NfsProcedure}
 use Rattle.nfs_types.specs.declared.arguments.NfsProcedure.TheVariants as procedures
 use Rattle.nfs_types.specs.Calls as calls
-use Rattle.nfs_types.specs.Calls.{Call, Answer, Entry, Page}
-use Rattle.nfs_types.specs.Items.{nfsdata, path, diropargs, sattrargs, readargs, writeargs, createargs, renameargs, linkargs, symlinkargs, readdirargs, attrstat, diropres, readlinkres, readres, status, entry, readdirres, figures, statfsres}
+use Rattle.nfs_types.specs.Calls.{Call, Answer, DirEntry, Page}
+use Rattle.nfs_types.specs.Items.{nfsdata, path, diropargs, sattrargs, readargs, writeargs, createargs, renameargs, linkargs, symlinkargs, readdirargs, attrstat, diropres, readlinkres, readres, status, entry, readdirres, fs_stats, statfsres}
 
 -- ---- arguments
 
@@ -70,11 +70,11 @@ SaysCall procedure bytes call rest =
 
 -- ---- results
 
-abbrev pub entry_value : Entry → Value entry
+abbrev pub entry_value : DirEntry → Value entry
 entry_value e = (e.fileid, (e.name, big_bytes 4 e.cookie))
 
-abbrev pub figures_value : Figures → Value figures
-figures_value f = (f.transfer_size, (f.block_size, (f.blocks, (f.free, f.available))))
+abbrev pub fs_stats_value : FsStats → Value fs_stats
+fs_stats_value f = (f.transfer_size, (f.block_size, (f.blocks, (f.free, f.available))))
 
 -- the item of an answer, and its value
 abbrev pub answer_item : Answer → Item
@@ -95,7 +95,7 @@ answer_value (calls.Target r) = outcome_value path (λ target. target) r
 answer_value (calls.Bytes r) = outcome_value (pair fattr nfsdata) (λ x. (fattr_value x.0, x.1)) r
 answer_value (calls.Status r) = outcome_value empty (λ x. x) r
 answer_value (calls.Entries r) = outcome_value (pair (linked entry) flag) (λ p. (map entry_value p.entries, p.eof)) r
-answer_value (calls.Free r) = outcome_value figures figures_value r
+answer_value (calls.Free r) = outcome_value fs_stats fs_stats_value r
 
 -- the one spelling of an answer
 abbrev pub answer_text : Answer → List ℕ

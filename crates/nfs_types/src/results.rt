@@ -19,7 +19,7 @@ pub struct ReadOk<'a> {
 
 /// An entry of a directory (RFC 1094, section 2.2.17, entry).
 #[derive(Clone, Copy, Debug)]
-pub struct DirEntry<'a> {
+pub struct PageEntry<'a> {
     /// The number of the file.
     pub fileid: u32,
     pub name: &'a [u8],
@@ -30,13 +30,13 @@ pub struct DirEntry<'a> {
 /// Entries of a directory, and whether none is left behind them.
 #[derive(Drop)]
 pub struct Page<'a> {
-    pub entries: Vec<DirEntry<'a>>,
+    pub entries: Vec<PageEntry<'a>>,
     pub eof: bool,
 }
 
 /// The figures of a file system (RFC 1094, section 2.2.18, statfsres).
 #[derive(Clone, Copy, Debug, PartialEq, Eq)]
-pub struct Figures {
+pub struct FsStats {
     /// The best size of a READ or WRITE, in bytes.
     pub transfer_size: u32,
     /// In bytes.
@@ -67,5 +67,5 @@ pub enum NfsResult<'a> {
     /// Of READDIR.
     Entries(Result<Page<'a>, Stat>),
     /// Of STATFS.
-    Free(Result<Figures, Stat>),
+    Free(Result<FsStats, Stat>),
 }

@@ -6,11 +6,11 @@ ghost use Rattle.xdr.specs.Item.{word, flag, linked, spelling};
 ghost use Rattle.xdr.specs.Writing.{Adds, Appends};
 ghost use Rattle.nfs_items.specs.Handle.{fhandle};
 ghost use Rattle.nfs_items.specs.Attributes.{fattr, fattr_value};
-ghost use Rattle.nfs_types.specs.Items.{path, nfsdata, entry, figures};
-ghost use Rattle.nfs_types.specs.Texts.{entry_value, figures_value, answer_text};
+ghost use Rattle.nfs_types.specs.Items.{path, nfsdata, entry, fs_stats};
+ghost use Rattle.nfs_types.specs.Texts.{entry_value, fs_stats_value, answer_text};
 ghost use Rattle.nfs_types.specs.Results.{answer_of, entry_of, HasLengths, stat_number, outcome_text, answer_bytes};
 
-use crate::results::{DirEntry, DirOpOk, Figures, NfsResult, Page, ReadOk};
+use crate::results::{PageEntry, DirOpOk, FsStats, NfsResult, Page, ReadOk};
 use nfs_items::{Fattr, Stat};
 use std::alloc::AllocError;
 use xdr::{Writer, all_or_nothing};
@@ -41,7 +41,7 @@ fn add_result(answer: &NfsResult, out: &mut Vec<u8>) -> Result<(), AllocError>
         NfsResult::Bytes(Ok(read)) => add_read(read, out),
         NfsResult::Status(Ok(())) => out.put_u32(OK),
         NfsResult::Entries(Ok(page)) => add_page(page, out),
-        NfsResult::Free(Ok(figures)) => add_figures(figures, out),
+        NfsResult::Free(Ok(fs_stats)) => add_fs_stats(fs_stats, out),
         NfsResult::Attributes(Err(stat))
         | NfsResult::DirOp(Err(stat))
         | NfsResult::Target(Err(stat))
@@ -92,7 +92,7 @@ fn add_read(read: &ReadOk, out: &mut Vec<u8>) -> Result<(), AllocError>
     out.put_opaque(read.data)
 }
 
-fn add_entry(e: &DirEntry, out: &mut Vec<u8>) -> Result<(), AllocError>
+fn add_entry(e: &PageEntry, out: &mut Vec<u8>) -> Result<(), AllocError>
     requires { length e.now.name.now < 2 ^ 32 }
     ensures { Adds (spelling word 1 ++ spelling entry (entry_value (entry_of e.now))) out.old.items result out.new.items }
 {
@@ -102,7 +102,7 @@ fn add_entry(e: &DirEntry, out: &mut Vec<u8>) -> Result<(), AllocError>
     out.put_fixed(&e.cookie.to_be_bytes())
 }
 
-fn add_entries(entries: &[DirEntry], out: &mut Vec<u8>) -> Result<(), AllocError>
+fn add_entries(entries: &[PageEntry], out: &mut Vec<u8>) -> Result<(), AllocError>
     requires { All (λ e. length e.name.now < 2 ^ 32) entries.now }
     ensures { Adds (flat_map (λ e. spelling word 1 ++ spelling entry (entry_value (entry_of e))) entries.now)
         out.old.items result out.new.items }
@@ -114,7 +114,7 @@ fn add_entries(entries: &[DirEntry], out: &mut Vec<u8>) -> Result<(), AllocError
 }
 
 /// Each entry behind TRUE, and then FALSE.
-fn add_list(entries: &[DirEntry], out: &mut Vec<u8>) -> Result<(), AllocError>
+fn add_list(entries: &[PageEntry], out: &mut Vec<u8>) -> Result<(), AllocError>
     requires { All (λ e. length e.name.now < 2 ^ 32) entries.now }
     ensures { Adds (spelling (linked entry) (map entry_value (map entry_of entries.now))) out.old.items result out.new.items }
 {
@@ -132,8 +132,8 @@ fn add_page(page: &Page, out: &mut Vec<u8>) -> Result<(), AllocError>
     out.put_bool(page.eof)
 }
 
-fn add_figures(f: &Figures, out: &mut Vec<u8>) -> Result<(), AllocError>
-    ensures { Adds (spelling word 0 ++ spelling figures (figures_value f.now)) out.old.items result out.new.items }
+fn add_fs_stats(f: &FsStats, out: &mut Vec<u8>) -> Result<(), AllocError>
+    ensures { Adds (spelling word 0 ++ spelling fs_stats (fs_stats_value f.now)) out.old.items result out.new.items }
 {
     out.put_u32s(&[
         OK,

@@ -6,7 +6,7 @@ use Rattle.xdr.specs.Item.{IsBytes}
 use Rattle.xdr.specs.Reading.{Read}
 use Rattle.rpc.specs.Call.{Message, message_at}
 use Rattle.rpc.proofs.Messages.{read_is_said, said_is_read, says_one_call}
-use Rattle.nfs_types.specs.Timeval.{Timeval}
+use Rattle.nfs_items.specs.Timeval.{Timeval}
 use Rattle.service.specs.World.{World, at_time}
 use Rattle.service.specs.Replies.{Answers, silence, reply, after_reply, reply_to, reply_of_call, files_after_call, reply_owed, world_after}
 

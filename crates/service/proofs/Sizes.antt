@@ -10,15 +10,16 @@ use Rattle.rpc.specs.Call.{Message, OtherVersion, Version2, message_at}
 use Rattle.rpc.specs.Reply.{reply_text}
 use Rattle.rpc.specs.declared.reply.ReplyBody.{ReplyBody}
 use Rattle.rpc.specs.declared.reply.ReplyBody.TheVariants as bodies
-use Rattle.nfs_types.specs.Timeval.{Timeval}
-use Rattle.nfs_types.specs.Caller.{Caller}
-use Rattle.nfs_types.specs.Handle.{handle_of, fhandle}
+use Rattle.nfs_items.specs.Timeval.{Timeval}
+use Rattle.nfs_items.specs.Caller.{Caller}
+use Rattle.nfs_items.specs.Handle.{handle_of, fhandle}
 use Rattle.nfs_types.specs.Arguments.{Arguments, Null, Getattr, Lookup}
-use Rattle.nfs_types.specs.Attributes.{fattr, fattr_value, stat_or, stat_value}
-use Rattle.nfs_types.specs.Results.{results_text, attrstat, attrstat_value, diropres, diropres_value}
-use Rattle.nfs_types.specs.declared.attributes.Fattr.{Fattr}
-use Rattle.nfs_types.specs.declared.stat.Stat.{Stat}
-use Rattle.nfs_types.specs.declared.stat.Stat.TheVariants as stats
+use Rattle.nfs_items.specs.Attributes.{fattr, fattr_value, stat_or, stat_value}
+use Rattle.nfs_types.specs.Items.{attrstat, diropres}
+use Rattle.nfs_types.specs.Results.{results_text}
+use Rattle.nfs_items.specs.declared.attributes.Fattr.{Fattr}
+use Rattle.nfs_items.specs.declared.stat.Stat.{Stat}
+use Rattle.nfs_items.specs.declared.stat.Stat.TheVariants as stats
 use Rattle.fs_model.specs.Files.{Files}
 use Rattle.nfs_spec.specs.ProcedureChecks.{◌>>=◌, number_of}
 use Rattle.nfs_spec.specs.Effects.{does, getattr, attributes_at, number_at_name}

@@ -1,7 +1,7 @@
 -- What a stream of records is owed.
 use Rattle.std.specs.Prelude.{ℕ, true, List, [], ◌∷◌, ◌++◌, Option, Some, None}
 use Rattle.records.specs.Record.{fragment}
-use Rattle.nfs_types.specs.Timeval.{Timeval}
+use Rattle.nfs_items.specs.Timeval.{Timeval}
 use Rattle.service.specs.World.{World}
 use Rattle.service.specs.Replies.{reply_owed, world_after}
 

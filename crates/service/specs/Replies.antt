@@ -6,8 +6,8 @@ use Rattle.rpc.specs.Reply.{reply_text}
 use Rattle.rpc.specs.declared.reply.ReplyBody.{ReplyBody}
 use Rattle.rpc.specs.declared.reply.ReplyBody.TheVariants as bodies
 use Rattle.rpc.specs.declared.reply.AuthStat.TheVariants as auth
-use Rattle.nfs_types.specs.Timeval.{Timeval}
-use Rattle.nfs_types.specs.Caller.{Caller, nobody}
+use Rattle.nfs_items.specs.Timeval.{Timeval}
+use Rattle.nfs_items.specs.Caller.{Caller, nobody}
 use Rattle.nfs_types.specs.Arguments.{Arguments, procedure_at, arguments_at}
 use Rattle.nfs_types.specs.Results.{results_text}
 use Rattle.nfs_types.specs.declared.arguments.NfsProcedure.{NfsProcedure}

@@ -1,10 +1,10 @@
 -- What the program's values say of a call that was checked.
 use Rattle.std.specs.Prelude.{Result, Ok, Err}
 use Rattle.rpc.specs.declared.reply.ReplyBody.{ReplyBody}
-use Rattle.nfs_types.specs.Caller.{Caller}
-use Rattle.nfs_types.specs.CallerOf.{caller_of}
+use Rattle.nfs_items.specs.Caller.{Caller}
+use Rattle.nfs_items.specs.CallerOf.{caller_of}
 use Rattle.nfs_types.specs.Arguments.{Arguments, arguments_of}
-use Rattle.nfs_types.specs.declared.who.Who.{Who}
+use Rattle.nfs_items.specs.declared.who.Who.{Who}
 use Rattle.nfs_types.specs.declared.arguments.NfsArgs.{NfsArgs}
 use Rattle.service.specs.Replies.{OrRefusal}
 

@@ -1,7 +1,7 @@
 -- All that a server's replies depend on.
 use Rattle.std.specs.Prelude.{ℕ, List, [], refl}
 use Rattle.std.specs.Coded.{Coded, code_by, coded×, coded_ℕ, coded_list}
-use Rattle.nfs_types.specs.Timeval.{Timeval, timeval_code, later}
+use Rattle.nfs_items.specs.Timeval.{Timeval, timeval_code, later}
 use Rattle.fs_model.specs.Files.{Files, files_code}
 use Rattle.nfs_spec.specs.Opening.{opening_files, epoch}
 

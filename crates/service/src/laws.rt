@@ -3,7 +3,7 @@
 ghost use Rattle.std.specs.Prelude.{◌≡◌, List, ℕ, Option};
 ghost use Rattle.service.specs.declared.service.TheConstants.{AUTH_NONE, NFS_PROGRAM, NFS_VERSION, RPC_VERSION};
 ghost use Rattle.xdr.specs.Item.{IsBytes};
-ghost use Rattle.nfs_types.specs.Timeval.{Timeval};
+ghost use Rattle.nfs_items.specs.Timeval.{Timeval};
 ghost use Rattle.service.specs.World.{World};
 ghost use Rattle.service.specs.Replies.{Answers, reply_owed, world_after};
 

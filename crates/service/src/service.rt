@@ -5,7 +5,7 @@ ghost use Rattle.std.specs.Option.{option_map};
 ghost use Rattle.records.specs.declared.record.TheConstants.{MAX_RECORD};
 ghost use Rattle.rpc.specs.Call.{Message};
 ghost use Rattle.rpc.specs.CallValues.{IsCallOf, header_of};
-ghost use Rattle.nfs_types.specs.CallerOf.{caller_of};
+ghost use Rattle.nfs_items.specs.CallerOf.{caller_of};
 ghost use Rattle.nfs_types.specs.Arguments.{arguments_of};
 ghost use Rattle.nfs_types.specs.Results.{results_text};
 ghost use Rattle.nfs_spec.specs.Effects.{does};

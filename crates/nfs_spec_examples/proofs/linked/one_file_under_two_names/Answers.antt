@@ -1,5 +1,5 @@
 use Rattle.std.proofs.Common.{◌≡◌, Some, refl, [], ◌∷◌}
-use Rattle.nfs_types.specs.Handle.{handle_of, number_in}
+use Rattle.nfs_items.specs.Handle.{handle_of, number_in}
 use Rattle.nfs_spec.specs.Opening.{epoch, opening_root, opening_hello}
 use Rattle.nfs_spec_examples.specs.Worked.{empty_file}
 use Rattle.nfs_spec_examples.specs.Linked.{f, g, root_of, with_f, with_f_and_g, with_g, with_neither, with_f_again}

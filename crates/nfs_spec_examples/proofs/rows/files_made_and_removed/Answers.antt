@@ -1,5 +1,5 @@
 use Rattle.std.proofs.Common.{◌≡◌, Some, refl, [], ◌∷◌}
-use Rattle.nfs_types.specs.Handle.{handle_of, number_in}
+use Rattle.nfs_items.specs.Handle.{handle_of, number_in}
 use Rattle.fs_changes.specs.Edits.{without_file}
 use Rattle.nfs_spec.specs.Changes.{touch}
 use Rattle.nfs_spec.specs.Opening.{epoch, opening_root, opening_hello}

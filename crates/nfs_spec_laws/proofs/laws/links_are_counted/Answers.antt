@@ -1,7 +1,7 @@
 use Rattle.std.proofs.Common.{◌≡◌, ℕ, ◌+◌, ◌≤◌, true, false, [], Option, Some, refl, sym, ap, subst, ◌∙◌, arith}
 use Rattle.std.specs.Prelude.{option_map, is_some}
 use Rattle.std.specs.Option.{option_map_or}
-use Rattle.nfs_types.specs.declared.attributes.Fattr.{Fattr}
+use Rattle.nfs_items.specs.declared.attributes.Fattr.{Fattr}
 use Rattle.fs_model.specs.Files.{Body, Regular, Symlink, Directory, File, Files, file_at, is_directory, IsDirectory, listing_in, names_of}
 use Rattle.fs_model.proofs.Walks.{some_same}
 use Rattle.fs_model.proofs.Counts.{has_two}

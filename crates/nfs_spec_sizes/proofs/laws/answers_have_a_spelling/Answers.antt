@@ -1,9 +1,10 @@
 use Rattle.std.proofs.Common.{sym, subst, ℕ, ◌<◌, ◌^◌}
-use Rattle.nfs_types.specs.Timeval.{Timeval}
-use Rattle.nfs_types.specs.Caller.{Caller}
+use Rattle.nfs_items.specs.Timeval.{Timeval}
+use Rattle.nfs_items.specs.Caller.{Caller}
 use Rattle.fs_model.specs.Files.{Files}
 use Rattle.fs_changes.proofs.Room.{within}
-use Rattle.nfs_spec.specs.NfsCalls.{Call, call_does}
+use Rattle.nfs_types.specs.Calls.{Call}
+use Rattle.nfs_spec.specs.NfsCalls.{call_does}
 use Rattle.nfs_spec_laws.proofs.EveryCall.{stays}
 use Rattle.nfs_spec_frames.proofs.UnnamedFiles.{heads}
 use Rattle.nfs_spec_sizes.specs.Bounds.{AreWords, SaysWords, HasWordsIn}

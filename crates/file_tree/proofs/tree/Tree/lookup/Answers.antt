@@ -1,7 +1,7 @@
 use Rattle.std.proofs.Common.{ℕ, Result, Ok, Err, IfOk, refl, sym, ap, subst, ◌≡◌, ◌∙◌}
 use Rattle.std.specs.Option.{option_copied}
-use Rattle.nfs_types.specs.CallerOf.{caller_of}
-use Rattle.nfs_types.specs.declared.stat.Stat.{Stat}
+use Rattle.nfs_items.specs.CallerOf.{caller_of}
+use Rattle.nfs_items.specs.declared.stat.Stat.{Stat}
 use Rattle.fs_model.specs.Trees.{IsFileTree}
 use Rattle.nfs_spec.specs.Effects.{number_at_name}
 use Rattle.file_tree.proofs.InodesSeen.{number_none, number_some}

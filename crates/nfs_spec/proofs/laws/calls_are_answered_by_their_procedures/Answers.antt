@@ -1,0 +1,5 @@
+use Rattle.nfs_spec.proofs.Answered.{call_answered}
+use Rattle.nfs_spec.proofs.laws.calls_are_answered_by_their_procedures.Goals as goal
+
+pub returns : goal.returns
+returns c = call_answered
