@@ -99,7 +99,7 @@ pub record CreateOverOk (fs : Files) (who : Caller) (now : Timeval) (n : ℕ) (a
   pub there : file_at fs n ≡ Some file
   pub regular : file.body ≡ Regular bytes
   pub is_same : number ≡ n
-  pub apply_fields : SetOk fs who now n a after
+  pub set : SetOk fs who now n a after
 
 -- CREATE of a new name made a regular file whose size is within its limit, in bytes
 pub record CreateNewOk (fs : Files) (who : Caller) (now : Timeval) (dir : ℕ) (name : List ℕ) (a : GivenFields)
