@@ -107,7 +107,7 @@ mod tests {
     #[test]
     fn opens(rt: HostRuntime) -> Result<(), Fail> {
         let tree = Tree::opening(rt.alloc(), 7)?;
-        let nobody = Who::nobody(rt.alloc());
+        let nobody = Who::nobody();
         let hello = tree.lookup(&nobody, 1, b"hello")?;
         assert_eq!(rt; hello, 2);
         let attributes = tree.attributes(hello)?;

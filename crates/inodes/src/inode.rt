@@ -118,7 +118,7 @@ impl Inode {
     {
         if who.uid == self.uid {
             0o100
-        } else if who.gid == self.gid || who.gids.contains(&self.gid) {
+        } else if who.gid == self.gid || who.gids.as_slice().contains(&self.gid) {
             0o010
         } else {
             0o001

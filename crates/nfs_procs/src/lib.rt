@@ -1,15 +1,34 @@
 //! The procedures of NFS version 2 over a tree of files (RFC 1094, section 2.2).
 #![tactic(auto)]
 
-ghost use Rattle.std.specs.Prelude.{◌≡◌, IfOk, OnErr, IsOk};
+ghost use Rattle.std.specs.Prelude.{◌≡◌, IsTrue, OnOk, OnErr, map};
+ghost use Rattle.xdr.specs.Writing.{Appends};
 ghost use Rattle.nfs_items.specs.CallerOf.{caller_of};
-ghost use Rattle.nfs_types.specs.Arguments.{arguments_of};
-ghost use Rattle.nfs_types.specs.Results.{results_of, diropres_of};
-ghost use Rattle.nfs_spec.specs.Effects.{does, getattr, lookup};
+ghost use Rattle.nfs_types.specs.Texts.{procedure_in, answer_text};
+ghost use Rattle.nfs_types.specs.Arguments.{call_of};
+ghost use Rattle.nfs_types.specs.Results.{answer_of, outcome_of, dir_op_of, HasLengths};
+ghost use Rattle.nfs_spec.specs.Effects.{getattr, lookup};
+ghost use Rattle.nfs_spec.specs.NfsCalls.{call_does};
+ghost use Rattle.nfs_procs.specs.Served.{is_served};
 
 use file_tree::Tree;
-use nfs_types::{DirOpArgs, DirOpOk, Fattr, FileHandle, NfsArgs, NfsResult, Stat, Time, Who};
+use nfs_items::{Fattr, FileHandle, Stat, Time, Who};
+use nfs_types::{DirOpArgs, DirOpOk, NfsArgs, NfsProcedure, NfsResult, write_result};
 use std::alloc::AllocError;
+
+/// Whether a procedure has a body yet: NULL, GETATTR, LOOKUP, and ROOT and WRITECACHE, which do nothing.
+pub fn is_served(procedure: NfsProcedure) -> bool
+    ensures { result ≡ is_served procedure }
+{
+    match procedure {
+        NfsProcedure::Null
+        | NfsProcedure::Getattr
+        | NfsProcedure::Root
+        | NfsProcedure::Lookup
+        | NfsProcedure::Writecache => true,
+        _ => false,
+    }
+}
 
 /// GETATTR (section 2.2.2). Stale where the file handle names no file here.
 fn getattr(tree: &Tree, file: FileHandle) -> Result<Fattr, Stat>
@@ -23,7 +42,7 @@ fn getattr(tree: &Tree, file: FileHandle) -> Result<Fattr, Stat>
 
 /// LOOKUP (section 2.2.5). Stale where the file handle names no file here.
 fn lookup(tree: &Tree, who: &Who, args: DirOpArgs) -> Result<DirOpOk, Stat>
-    ensures { diropres_of result ≡ lookup tree.now (caller_of who.now) args.entry.dir.0 args.entry.name.now }
+    ensures { outcome_of dir_op_of result ≡ lookup tree.now (caller_of who.now) args.entry.dir.0 args.entry.name.now }
 {
     let Some(dir) = args.dir.number_in(tree.fsid()) else {
         return Err(Stat::Stale);
@@ -36,25 +55,34 @@ fn lookup(tree: &Tree, who: &Who, args: DirOpArgs) -> Result<DirOpOk, Stat>
     })
 }
 
-/// What a caller's call at a time answers, and what it does to the files. A refusal is a stat within the
-/// result, and leaves the files as they were. Where memory is refused, the files are as they were too; NULL,
-/// GETATTR and LOOKUP take none.
+/// What a caller is answered by a procedure that reads alone.
+fn answer<'a>(tree: &'a Tree, who: &Who, now: Time, args: &NfsArgs) -> NfsResult<'a>
+    requires { IsTrue (is_served (procedure_in (call_of args.now))) }
+    ensures answer { answer_of result ≡ (call_does tree.now (caller_of who.now) now (call_of args.now)).0 }
+    ensures files { (call_does tree.now (caller_of who.now) now (call_of args.now)).1 ≡ tree.now }
+    ensures lengths { HasLengths result }
+{
+    match args {
+        NfsArgs::Getattr(file) => NfsResult::Attributes(getattr(tree, *file)),
+        NfsArgs::Lookup(args) => NfsResult::DirOp(lookup(tree, who, *args)),
+        _ => NfsResult::Nothing,
+    }
+}
+
+/// Does what a caller's call at a time asks for, and appends the answer. A refusal is a stat within the answer, and
+/// leaves the files as they were. Where memory is refused, the files and the bytes are as they were.
 pub fn nfs_call(
     tree: &mut Tree,
     who: &Who,
     now: Time,
     args: NfsArgs,
-) -> Result<NfsResult, AllocError>
-    ensures result { IfOk result (λ r.
-        results_of r ≡ (does tree.old (caller_of who.now) now (arguments_of args.entry)).0) }
-    ensures files { IfOk result (λ r.
-        tree.new ≡ (does tree.old (caller_of who.now) now (arguments_of args.entry)).1) }
+    out: &mut Vec<u8>,
+) -> Result<(), AllocError>
+    requires { IsTrue (is_served (procedure_in (call_of args))) }
+    ensures text { Appends (answer_text (call_does tree.old (caller_of who.now) now (call_of args.entry)).0) out.old.items result out.new.items }
+    ensures files { OnOk result (tree.new ≡ (call_does tree.old (caller_of who.now) now (call_of args.entry)).1) }
     ensures err { OnErr result (tree.new ≡ tree.old) }
-    ensures no_memory { IsOk result }
 {
-    match args {
-        NfsArgs::Null => Ok(NfsResult::Null),
-        NfsArgs::Getattr(file) => Ok(NfsResult::Attributes(getattr(tree, file))),
-        NfsArgs::Lookup(args) => Ok(NfsResult::DirOp(lookup(tree, who, args))),
-    }
+    let result = answer(tree, who, now, &args);
+    write_result(&result, out)
 }

@@ -108,3 +108,9 @@ no_procedure n = (
   where
     never : {A : Type 0} {a : A} → Some a ≡ None → ⊥
     never h = cc
+
+-- what was read is of the procedure
+pub given_is_own : (procedure : NfsProcedure) (bytes : List ℕ) (result : Result NfsArgs XdrFault) (new : List ℕ) → IsBytes bytes → GivesCall procedure bytes result new
+    → IfOk result (λ a. procedure_in (call_of a) ≡ procedure)
+given_is_own procedure bytes (Ok a) new bound given = own_call procedure bytes new (call_of a) (read_is_said procedure bytes new (call_of a) bound given)
+given_is_own procedure bytes (Err e) new bound given = tt

@@ -15,5 +15,5 @@ pub use nfs_items::{
     Fattr, FileHandle, FileType, Groups, RawTime, Sattr, Stat, Time, Who, read_credential,
 };
 pub use reading::read_args;
-pub use results::{PageEntry, DirOpOk, FsStats, NfsResult, Page, ReadOk};
+pub use results::{DirOpOk, FsStats, NfsResult, Page, PageEntry, ReadOk};
 pub use writing::write_result;

@@ -4,7 +4,7 @@ ghost use Rattle.std.specs.Prelude.{◌≡◌, ℕ, List, IfOk, IsOkAnd};
 ghost use Rattle.xdr.specs.Reading.{Gives};
 ghost use Rattle.nfs_types.specs.Items.{diropargs};
 ghost use Rattle.nfs_types.specs.Calls.{Call};
-ghost use Rattle.nfs_types.specs.Texts.{SaysCall};
+ghost use Rattle.nfs_types.specs.Texts.{procedure_in, SaysCall};
 ghost use Rattle.nfs_types.specs.Arguments.{diropargs_value, call_of, GivesCall, ReadsCall};
 ghost use Rattle.nfs_types.specs.declared.arguments.NfsProcedure.TheVariants as procedures;
 
@@ -19,6 +19,7 @@ pub fn read_args(procedure: NfsProcedure, bytes: &[u8]) -> Result<NfsArgs<'_>, X
     ensures found { IfOk result (λ a. (rest : List ℕ) × SaysCall procedure bytes.now (call_of a) rest) }
     ensures only { (call : Call) (rest : List ℕ) → SaysCall procedure bytes.now call rest → IsOkAnd result (λ a. call_of a ≡ call) }
     ensures exact { ReadsCall procedure bytes.now result }
+    ensures own { IfOk result (λ a. procedure_in (call_of a) ≡ procedure) }
 {
     read_arguments(procedure, &mut Reader::new(bytes))
 }

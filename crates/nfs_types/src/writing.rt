@@ -10,7 +10,7 @@ ghost use Rattle.nfs_types.specs.Items.{path, nfsdata, entry, fs_stats};
 ghost use Rattle.nfs_types.specs.Texts.{entry_value, fs_stats_value, answer_text};
 ghost use Rattle.nfs_types.specs.Results.{answer_of, entry_of, HasLengths, stat_number, outcome_text, answer_bytes};
 
-use crate::results::{PageEntry, DirOpOk, FsStats, NfsResult, Page, ReadOk};
+use crate::results::{DirOpOk, FsStats, NfsResult, Page, PageEntry, ReadOk};
 use nfs_items::{Fattr, Stat};
 use std::alloc::AllocError;
 use xdr::{Writer, all_or_nothing};

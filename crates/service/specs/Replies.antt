@@ -8,12 +8,14 @@ use Rattle.rpc.specs.declared.reply.ReplyBody.TheVariants as bodies
 use Rattle.rpc.specs.declared.reply.AuthStat.TheVariants as auth
 use Rattle.nfs_items.specs.Timeval.{Timeval}
 use Rattle.nfs_items.specs.Caller.{Caller, nobody}
-use Rattle.nfs_types.specs.Arguments.{Arguments, procedure_at, arguments_at}
-use Rattle.nfs_types.specs.Results.{results_text}
+use Rattle.nfs_items.specs.Credentials.{caller_in}
+use Rattle.nfs_types.specs.Calls.{Call}
+use Rattle.nfs_types.specs.Texts.{procedure_at, call_at, answer_text}
 use Rattle.nfs_types.specs.declared.arguments.NfsProcedure.{NfsProcedure}
 use Rattle.fs_model.specs.Files.{Files}
-use Rattle.nfs_spec.specs.Effects.{does}
-use Rattle.service.specs.declared.service.TheConstants.{AUTH_NONE, NFS_PROGRAM, NFS_VERSION, RPC_VERSION}
+use Rattle.nfs_spec.specs.NfsCalls.{call_does}
+use Rattle.nfs_procs.specs.Served.{is_served}
+use Rattle.service.specs.declared.service.TheConstants.{AUTH_NONE, AUTH_SYS, NFS_PROGRAM, NFS_VERSION, RPC_VERSION}
 use Rattle.service.specs.World.{World, at_time}
 
 -- ---- the checks of a call, in their order: the first that fails gives the reply's body
@@ -27,10 +29,17 @@ abbrev pub ◌>>=◌ : {A B : Type 0} → OrRefusal A → (A → OrRefusal B) �
 (Ok x) >>= f = f x
 (Err e) >>= f = Err e
 
--- the credential: AUTH_NONE, whatever its body; every other flavor is rejected
-abbrev pub caller_at : ℕ → OrRefusal Caller
-caller_at flavor =
-    if flavor == AUTH_NONE then Ok nobody else Err (bodies.AuthError auth.RejectedCredential)
+-- AUTH_BADCRED where the body of an AUTH_SYS credential says no caller
+abbrev pub caller_or_refusal : Option Caller → OrRefusal Caller
+caller_or_refusal None = Err (bodies.AuthError auth.BadCredential)
+caller_or_refusal (Some who) = Ok who
+
+-- the credential: AUTH_NONE, whatever its body; AUTH_SYS by its body; every other flavor is rejected
+abbrev pub caller_at : ℕ → List ℕ → OrRefusal Caller
+caller_at flavor body =
+    if flavor == AUTH_NONE then Ok nobody
+    else if flavor == AUTH_SYS then caller_or_refusal (caller_in body)
+    else Err (bodies.AuthError auth.RejectedCredential)
 
 -- the program is NFS of version 2
 abbrev pub program_served : ℕ → ℕ → OrRefusal (Unit {0})
@@ -39,24 +48,24 @@ program_served program version =
     then (if version == NFS_VERSION then Ok tt else Err (bodies.ProgramMismatch NFS_VERSION NFS_VERSION))
     else Err bodies.ProgramUnavailable
 
--- PROC_UNAVAIL where a number has no procedure here
+-- PROC_UNAVAIL where a number has no procedure that is served
 abbrev pub procedure_or_refusal : Option NfsProcedure → OrRefusal NfsProcedure
 procedure_or_refusal None = Err bodies.ProcedureUnavailable
-procedure_or_refusal (Some p) = Ok p
+procedure_or_refusal (Some p) = if is_served p then Ok p else Err bodies.ProcedureUnavailable
 
 -- GARBAGE_ARGS where the arguments can't be read
-abbrev pub arguments_or_refusal : Read Arguments → OrRefusal Arguments
+abbrev pub arguments_or_refusal : Read Call → OrRefusal Call
 arguments_or_refusal (Ok x) = Ok x.0
 arguments_or_refusal (Err e) = Err bodies.GarbageArguments
 
 -- the caller, and the procedure with its arguments
-abbrev pub call_or_refusal : CallHeader → List ℕ → OrRefusal (Caller × Arguments)
+abbrev pub call_or_refusal : CallHeader → List ℕ → OrRefusal (Caller × Call)
 call_or_refusal h arguments = do
-  who ← caller_at h.credential.flavor
+  who ← caller_at h.credential.flavor h.credential.body
   served ← program_served h.program h.version
   procedure ← procedure_or_refusal (procedure_at h.procedure)
-  given ← arguments_or_refusal (arguments_at procedure arguments)
-  Ok (who, given)
+  call ← arguments_or_refusal (call_at procedure arguments)
+  Ok (who, call)
 
 -- ---- the reply, and the files after it
 
@@ -65,10 +74,10 @@ abbrev pub bare_reply : ℕ → ReplyBody → List ℕ
 bare_reply xid body = reply_text (record { xid = xid; body = body })
 
 -- the reply to a call, and the files after it: a refusal, or the results of what was done
-abbrev pub call_reply : Files → Timeval → ℕ → OrRefusal (Caller × Arguments) → List ℕ × Files
+abbrev pub call_reply : Files → Timeval → ℕ → OrRefusal (Caller × Call) → List ℕ × Files
 call_reply w now xid (Err body) = (bare_reply xid body, w)
-call_reply w now xid (Ok (who, given)) =
-    let done = does w who now given in (bare_reply xid bodies.Success ++ results_text done.0, done.1)
+call_reply w now xid (Ok (who, call)) =
+    let done = call_does w who now call in (bare_reply xid bodies.Success ++ answer_text done.0, done.1)
 
 -- RPC versions other than 2 are refused; a call of version 2 is checked, and done if no check fails
 abbrev pub reply_to : Files → Timeval → Message → List ℕ → List ℕ × Files

@@ -1,7 +1,7 @@
 //! What holds of the reply that is owed.
 
 ghost use Rattle.std.specs.Prelude.{◌≡◌, List, ℕ, Option};
-ghost use Rattle.service.specs.declared.service.TheConstants.{AUTH_NONE, NFS_PROGRAM, NFS_VERSION, RPC_VERSION};
+ghost use Rattle.service.specs.declared.service.TheConstants.{AUTH_NONE, AUTH_SYS, NFS_PROGRAM, NFS_VERSION, RPC_VERSION};
 ghost use Rattle.xdr.specs.Item.{IsBytes};
 ghost use Rattle.nfs_items.specs.Timeval.{Timeval};
 ghost use Rattle.service.specs.World.{World};
@@ -19,10 +19,11 @@ pub fn reply_owed_is_the_answer()
         Answers w time bytes (world_after w time bytes) (reply_owed w time bytes) }
 {}
 
-/// The numbers that the definitions cite are the standards': AUTH_NONE (RFC 5531, section 8.2), version 2 of
+/// The numbers that the definitions cite are the standards': AUTH_NONE and AUTH_SYS (RFC 5531, section 8.2), version 2 of
 /// RPC, and program 100003 of version 2.
 pub fn numbers_are_the_standards()
-    ensures flavor { AUTH_NONE ≡ 0 }
+    ensures none { AUTH_NONE ≡ 0 }
+    ensures sys { AUTH_SYS ≡ 1 }
     ensures rpc { RPC_VERSION ≡ 2 }
     ensures program { NFS_PROGRAM ≡ 100003 }
     ensures version { NFS_VERSION ≡ 2 }

@@ -1,22 +1,24 @@
 //! A server: its files, its clock, and what it replies.
 
-ghost use Rattle.std.specs.Prelude.{◌≡◌, ◌≤◌, ◌++◌, List, ℕ, length, None, IfOk, IfSome, OnOk, OnErr, IsOk};
+ghost use Rattle.std.specs.Prelude.{◌≡◌, ◌≤◌, ◌++◌, List, ℕ, length, None, IfOk, IfSome, OnOk, OnErr, IsOk, IsTrue};
 ghost use Rattle.std.specs.Option.{option_map};
 ghost use Rattle.records.specs.declared.record.TheConstants.{MAX_RECORD};
 ghost use Rattle.rpc.specs.Call.{Message};
 ghost use Rattle.rpc.specs.CallValues.{IsCallOf, header_of};
 ghost use Rattle.nfs_items.specs.CallerOf.{caller_of};
-ghost use Rattle.nfs_types.specs.Arguments.{arguments_of};
-ghost use Rattle.nfs_types.specs.Results.{results_text};
-ghost use Rattle.nfs_spec.specs.Effects.{does};
+ghost use Rattle.nfs_types.specs.Texts.{procedure_in, answer_text};
+ghost use Rattle.nfs_types.specs.Arguments.{call_of};
+ghost use Rattle.nfs_spec.specs.NfsCalls.{call_does};
+ghost use Rattle.nfs_procs.specs.Served.{is_served};
 ghost use Rattle.service.specs.World.{opening_world};
 ghost use Rattle.service.specs.Replies.{caller_at, program_served, call_or_refusal, bare_reply, call_reply, reply_to, reply_owed, world_after};
 ghost use Rattle.service.specs.Views.{view_of_caller, view_of_call};
 
 use file_tree::Tree;
-use nfs_procs::nfs_call;
-use nfs_types::{NfsArgs, NfsProcedure, Time, Who, read_args, write_result};
-use rpc::{AuthStat, Call, CallBody, Header, Reply, ReplyBody, read_call, write_reply};
+use nfs_items::{Time, Who, read_credential};
+use nfs_procs::{is_served, nfs_call};
+use nfs_types::{NfsArgs, NfsProcedure, read_args};
+use rpc::{AuthStat, Call, CallBody, Header, OpaqueAuth, Reply, ReplyBody, read_call, write_reply};
 use std::alloc::{AllocError, Global};
 use std::marker::Model;
 
@@ -31,6 +33,9 @@ const RPC_VERSION: u32 = 2;
 
 /// AUTH_NONE (RFC 5531, section 8.2).
 const AUTH_NONE: u32 = 0;
+
+/// AUTH_SYS (RFC 5531, section 8.2).
+const AUTH_SYS: u32 = 1;
 
 /// The room that a reply begins with, in bytes: as much as the replies to NULL, GETATTR and LOOKUP take.
 const REPLY_ROOM: usize = 128;
@@ -93,14 +98,17 @@ impl Service {
     }
 }
 
-/// The caller that a credential stands for: AUTH_NONE, whatever its body; every other flavor is rejected.
-fn caller<'a>(alloc: Global, flavor: u32) -> Result<Who<'a>, ReplyBody>
-    ensures { view_of_caller result ≡ caller_at flavor }
+/// The caller that a credential stands for: AUTH_NONE, whatever its body; AUTH_SYS by its body, which is a bad
+/// credential where it says no caller; every other flavor is rejected.
+fn caller<'a>(credential: &OpaqueAuth<'a>) -> Result<Who<'a>, ReplyBody>
+    ensures { view_of_caller result ≡ caller_at credential.now.flavor credential.now.body.now }
 {
-    if flavor == AUTH_NONE {
-        Ok(Who::nobody(alloc))
-    } else {
-        Err(ReplyBody::AuthError(AuthStat::RejectedCredential))
+    match credential.flavor {
+        AUTH_NONE => Ok(Who::nobody()),
+        AUTH_SYS => {
+            read_credential(credential.body).ok_or(ReplyBody::AuthError(AuthStat::BadCredential))
+        }
+        _ => Err(ReplyBody::AuthError(AuthStat::RejectedCredential)),
     }
 }
 
@@ -122,17 +130,20 @@ fn check_program(program: u32, version: u32) -> Result<(), ReplyBody>
 
 /// The caller, and the procedure with its arguments, or the reply by the first check that fails.
 fn check_call<'a>(
-    alloc: Global,
     header: &Header<'a>,
     arguments: &'a [u8],
 ) -> Result<(Who<'a>, NfsArgs<'a>), ReplyBody>
-    ensures { view_of_call result ≡ call_or_refusal (header_of header.now) arguments.now }
+    ensures call { view_of_call result ≡ call_or_refusal (header_of header.now) arguments.now }
+    ensures served { IfOk result (λ x. IsTrue (is_served (procedure_in (call_of x.1)))) }
 {
-    let who = caller(alloc, header.credential.flavor)?;
+    let who = caller(&header.credential)?;
     check_program(header.program, header.version)?;
     let Some(procedure) = NfsProcedure::from_number(header.procedure) else {
         return Err(ReplyBody::ProcedureUnavailable);
     };
+    if !is_served(procedure) {
+        return Err(ReplyBody::ProcedureUnavailable);
+    }
     let Ok(args) = read_args(procedure, arguments) else {
         return Err(ReplyBody::GarbageArguments);
     };
@@ -146,26 +157,6 @@ fn add_bare_reply(out: &mut Vec<u8>, xid: u32, body: ReplyBody) -> Result<(), Al
     write_reply(&Reply { xid, body }, out)
 }
 
-/// Does what a call asks for, and appends the procedure's results.
-fn perform(
-    out: &mut Vec<u8>,
-    tree: &mut Tree,
-    who: &Who,
-    now: Time,
-    args: NfsArgs,
-) -> Result<(), AllocError>
-    ensures text { OnOk result (out.new.items ≡ out.old.items
-        ++ results_text (does tree.old (caller_of who.now) now (arguments_of args.entry)).0) }
-    ensures files { OnOk result (tree.new
-        ≡ (does tree.old (caller_of who.now) now (arguments_of args.entry)).1) }
-    ensures err { OnErr result (tree.new ≡ tree.old) }
-{
-    match nfs_call(tree, who, now, args) {
-        Ok(result) => write_result(&result, out),
-        Err(error) => Err(error),
-    }
-}
-
 /// The reply to a procedure's call.
 fn answer_call(
     out: &mut Vec<u8>,
@@ -174,6 +165,7 @@ fn answer_call(
     xid: u32,
     checked: Result<(Who, NfsArgs), ReplyBody>,
 ) -> Result<(), AllocError>
+    requires { IfOk checked (λ x. IsTrue (is_served (procedure_in (call_of x.1)))) }
     ensures text { OnOk result (out.new.items
         ≡ out.old.items ++ (call_reply tree.old now xid (view_of_call checked.entry)).0) }
     ensures files { OnOk result (tree.new ≡ (call_reply tree.old now xid (view_of_call checked.entry)).1) }
@@ -182,7 +174,7 @@ fn answer_call(
     match checked {
         Ok((who, args)) => {
             add_bare_reply(out, xid, ReplyBody::Success)?;
-            perform(out, tree, &who, now, args)
+            nfs_call(tree, &who, now, args, out)
         }
         Err(body) => add_bare_reply(out, xid, body),
     }
@@ -207,7 +199,7 @@ fn reply_to(alloc: Global, tree: &mut Tree, now: Time, call: Call) -> Result<Vec
             },
         )?,
         CallBody::Version2(header, arguments) => {
-            let checked = check_call(alloc, &header, arguments);
+            let checked = check_call(&header, arguments);
             answer_call(&mut out, tree, now, call.xid, checked)?;
         }
     }
