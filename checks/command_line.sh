@@ -12,8 +12,9 @@ cases=$top/checks/command_line
 below=($(crates_below nfsacc | cut -d: -f1))
 made=()
 for program in crates/nfsacc/out/nfsacc crates/nfsacc/out/nfsacc.by-rattle; do
-    if [ -f "$program" ] && [ -z "$(find "${below[@]/#/crates/}" -path '*/out' -prune -o -newer "$program" -type f -print)" ]; then
-        made+=("$top/$program")
+    if [ -f "$program" ]; then
+        newer=$(find "${below[@]/#/crates/}" -newer "$program" \( -name '*.rt' -o -name '*.antt' \))
+        if [ -z "$newer" ]; then made+=("$top/$program"); fi
     fi
 done
 if [ ${#made[@]} -eq 0 ]; then
@@ -94,8 +95,9 @@ check_cuts() {
         run $status rpc
         [ "$(wc -c < out)" -eq $size ] || fail "$len bytes of a record: it wrote" out
     done
+    tail -c 40 null > header
     for ((len = 0; len <= 40; len++)); do
-        { printf "$(escaped "$(printf %x $((0x80000000 + len)))")"; tail -c 40 null | head -c $len; } > in
+        { printf "$(escaped "$(printf %x $((0x80000000 + len)))")"; head -c $len header; } > in
         size=0
         if [ $len -eq 40 ]; then size=28; fi
         run 0 rpc
@@ -103,7 +105,7 @@ check_cuts() {
     done
 }
 
-# Many records, each answered, before the end and before a fault.
+# Many records, each of them answered: up to the end, and up to a fault.
 check_many_records() {
     local many=70000
     printf "$(escaped '80000028 1 0 2 186a3 2 0 0*4')" > null
@@ -125,12 +127,13 @@ says() {
     shift 2
     : > in
     run "$status" "$@"
-    cat out said | grep -qxE "$pattern" || fail "no line '$pattern' of: $*" out said
+    grep -qxhE "$pattern" out said || fail "no line '$pattern' of: $*" out said
 }
 
 check_words() {
-    says 0 '' rpc
-    says 0 '' rpc --
+    : > in
+    run 0 rpc --
+    [ ! -s out ] && [ ! -s said ] || fail 'rpc --' out said
     says 0 'nfsacc 0\.1\.0' --version
     says 0 'Usage: .*' --help
     says 2 'Usage: .*'
@@ -170,6 +173,36 @@ check_devices() {
     [ $got -eq 1 ] || fail "status $got of a record fault that can't be told"
 }
 
+# Want of memory ends the run with status 3 and a line. A copy of the program reads a byte first and makes as many requests
+# for memory; of all its requests the one of number $most is refused: so in each run another one of the program's own. A
+# few can be refused without harm, as those for the words of an error's text: such a run ends as it would with memory.
+check_memory() (
+    local most=56 words usual request name
+    sed -e 's/^use std::process::ExitCode;$/use std::io::Read;\n&/' \
+        -e "/^fn main(rt: HostRuntime) -> ExitCode {\$/r $cases/take_memory.txt" "$top/crates/nfsacc/src/main.rt" > main.rt
+    cd "$top"
+    scratch_crate nfsacc_memory "$OLDPWD/main.rt" console rpc records clap
+    mkdir "$work/cases"
+    for words in rpc serve-all; do
+        for ((request = 1; request <= most; request++)); do
+            name=$work/cases/$words.$(printf %02d "$request")
+            { printf "\\x$(printf %x $((most - request)))"; cat "$top/crates/nfsacc/stdin"; } > "$name"
+            echo "$words" > "$name.args"
+        done
+    done
+    rt try --steps 1 --fail-alloc "$most" --cases "$work/cases" > "$work/log" 2>&1 || { cat "$work/log" >&2; exit 1; }
+    for words in rpc:0 serve-all:2; do
+        usual=${words#*:}
+        grep -a "^case=${words%:*}\." "$work/log" | sed -E 's/.* run=ended status=([0-9]+) .*/\1/' > "$work/statuses"
+        if grep -qvx "[3$usual]" "$work/statuses" || [ "$(tail -1 "$work/statuses")" != "$usual" ] \
+            || [ "$(grep -cx 3 "$work/statuses")" -lt 30 ]; then
+            cat "$work/log" >&2
+            exit 1
+        fi
+    done
+    [ "$(grep -ac '^nfsacc: out of memory$' "$work/log")" -eq "$(grep -ac ' status=3 ' "$work/log")" ]
+)
+
 for program in "${made[@]}"; do
     check_streams
     check_cuts
@@ -177,4 +210,5 @@ for program in "${made[@]}"; do
     check_words
     check_devices
 done
-echo "${#made[@]} programs answer, say and end as they should"
+check_memory
+echo "the program answers, says and ends as it should, as ${#made[@]} of the compilers build it"

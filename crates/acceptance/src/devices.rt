@@ -1,4 +1,4 @@
-//! Readers and writers that fail in the middle of a stream.
+//! Readers and writers that fail in the middle of a stream, and how often a writer is called.
 
 use crate::texts::Stream;
 use console::run_rpc;
@@ -40,10 +40,11 @@ enum Refusal {
     TakesNothing,
 }
 
-/// Takes one byte a call, and fails at one call.
+/// Takes so many bytes a call at most, and fails at one call.
 #[derive(Drop)]
 struct SlowWriter {
     taken: Vec<u8>,
+    most: usize,
     calls: u64,
     fails_at: u64,
     refusal: Refusal,
@@ -58,11 +59,9 @@ impl Write for SlowWriter {
                 Refusal::TakesNothing => Ok(0),
             };
         }
-        let Some(byte) = buf.first() else {
-            return Ok(0);
-        };
-        self.taken.push(*byte)?;
-        Ok(1)
+        let piece = &buf[..buf.len().min(self.most)];
+        self.taken.extend_from_slice(piece)?;
+        Ok(piece.len())
     }
 
     fn flush(&mut self) -> io::Result<()> {
@@ -107,6 +106,7 @@ fn a_failed_write_ends_the_stream(rt: HostRuntime) -> Result<(), Fail> {
             let mut reader = RecordReader::new(Counting::new(input.bytes.as_slice()));
             let mut writer = Counting::new(SlowWriter {
                 taken: Vec::new(rt.alloc()),
+                most: 1,
                 calls: 0,
                 fails_at: written as u64 + 1,
                 refusal,
@@ -130,5 +130,25 @@ fn a_failed_write_ends_the_stream(rt: HostRuntime) -> Result<(), Fail> {
             );
         }
     }
+    Ok(())
+}
+
+/// A reply goes out by one write: by two, a connection would wait for the other side between them.
+#[test]
+fn a_reply_is_one_write(rt: HostRuntime) -> Result<(), Fail> {
+    let input = Stream::of_calls(rt.alloc())?;
+    let output = Stream::of_replies(rt.alloc())?;
+    let mut reader = RecordReader::new(Counting::new(input.bytes.as_slice()));
+    let mut writer = Counting::new(SlowWriter {
+        taken: Vec::new(rt.alloc()),
+        most: usize::MAX,
+        calls: 0,
+        fails_at: 0,
+        refusal: Refusal::Error,
+    });
+    let done = run_rpc(rt.alloc(), &mut reader, &mut writer);
+    assert_eq!(rt; done, Ok(4));
+    assert_eq!(rt; writer.get_ref().taken.as_slice(), output.bytes.as_slice());
+    assert_eq!(rt; writer.get_ref().calls, 4);
     Ok(())
 }
