@@ -10,7 +10,7 @@ use Rattle.records.specs.Writing.{WritesFront}
 use Rattle.records.proofs.Streams.{AreRecords-push}
 use Rattle.records.specs.declared.fault.RecordFault.{RecordFault}
 use Rattle.records.specs.declared.fault.RecordFault.TheVariants as faults
-use Rattle.records.specs.Reading.{FailsUnless, StopsAt, TakesToLimit, TakesAll, failed_after}
+use Rattle.records.specs.Reading.{FailsUnless, StopsAt, TakesToLimit, TakesAll, fault_after}
 use Rattle.nfs_types.specs.Timeval.{Timeval}
 use Rattle.service.specs.World.{World, opening_world}
 use Rattle.service.specs.Replies.{reply_owed, world_after}
@@ -195,7 +195,7 @@ stops_after {mid = mid} Takes p h = record { answered = p.records; text = p.text
 
 -- no record could be read
 pub leaves_off_reading : {now : World} {k : ℕ} {before mid mid' written_before written : Option (List ℕ)} {failed : Option RecordFault} (e : RecordFault)
-    → Progress now k before mid written_before written → failed ≡ failed_after {A = Unit {0}} None (Err e) → ((e ≡ faults.NoMemory) → mid' ≡ mid) → StopsAt e mid mid'
+    → Progress now k before mid written_before written → failed ≡ fault_after {A = Unit {0}} None (Err e) → ((e ≡ faults.NoMemory) → mid' ≡ mid) → StopsAt e mid mid'
     → LeavesOff e failed before mid' written_before written
 leaves_off_reading faults.NoMemory p f same h = rw (same refl) (stops_between p)
 leaves_off_reading faults.RecordTooLong p f same h = stops_after TakesToLimit p h

@@ -81,7 +81,7 @@ pub fn run_rpc<R: Read + Drop, W: Write>(
         Serves count input (W.contents writer.old.inner) (W.contents writer.new.inner))) }
     ensures fault { IfErr result (λ e. IfSome (R.remaining reader.old.reader.inner) (λ input.
         EndsWith e input (W.contents writer.old.inner) (W.contents writer.new.inner))) }
-    ensures taken { IfErr result (λ e. LeavesOff e reader.new.failed
+    ensures taken { IfErr result (λ e. LeavesOff e reader.new.fault
         (R.remaining reader.old.reader.inner) (R.remaining reader.new.reader.inner)
         (W.contents writer.old.inner) (W.contents writer.new.inner)) }
     ensures end { OnOk result (IsAtEnd (R.remaining reader.new.reader.inner)) }
