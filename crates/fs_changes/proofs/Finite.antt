@@ -32,7 +32,7 @@ module _ (w : Files) (f : File) (n : ℕ) where
 
 module _ (w : Files) (k : ℕ) (change : File → File) (n : ℕ) where
   by_file : Option File → Files
-  by_file o = option_map_or (λ f. record { fsid = w.fsid; next = w.next; files = finite.insert w.files k (change f) }) o w
+  by_file o = record { fsid = w.fsid; next = w.next; files = option_map_or (λ f. finite.insert w.files k (change f)) o w.files }
 
   pub changed_next : (with_changed_file w k change).next ≡ w.next
   unfolding by_file
@@ -160,7 +160,7 @@ module _ (f : File → ℕ) (w : Files) where
   total_changed k change g there =
       let one = total_put k (change g) in
       let old = ap (had f) there in
-      let same = ap (λ o. total f (option_map_or (λ h. record { fsid = w.fsid; next = w.next; files = finite.insert w.files k (change h) }) o w)) there in
+      let same = ap (λ o. total f (record { fsid = w.fsid; next = w.next; files = option_map_or (λ h. finite.insert w.files k (change h)) o w.files })) there in
       omega (arith, one, old, same)
 
   pub total_without : (k : ℕ) (g : File) → file_at w k ≡ Some g → total f (without_file w k) + f g ≡ total f w

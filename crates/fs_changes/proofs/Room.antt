@@ -26,7 +26,7 @@ count_new w f none = finite.len-insert nat_cmp_total w.files w.next f ∙ ap (λ
 
 module _ (w : Files) (k : ℕ) (change : File → File) where
   by_file : Option File → Files
-  by_file o = option_map_or (λ f. record { fsid = w.fsid; next = w.next; files = finite.insert w.files k (change f) }) o w
+  by_file o = record { fsid = w.fsid; next = w.next; files = option_map_or (λ f. finite.insert w.files k (change f)) o w.files }
 
   pub count_changed : file_count (with_changed_file w k change) ≡ file_count w
   unfolding by_file

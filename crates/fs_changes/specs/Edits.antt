@@ -11,7 +11,7 @@ with_new_file w f = record { fsid = w.fsid; next = w.next + 1; files = finite.in
 
 -- the file of a number, changed; nothing where there is none
 abbrev pub with_changed_file : Files → ℕ → (File → File) → Files
-with_changed_file w n change = option_map_or (λ f. record { fsid = w.fsid; next = w.next; files = finite.insert w.files n (change f) }) (file_at w n) w
+with_changed_file w n change = record { fsid = w.fsid; next = w.next; files = option_map_or (λ f. finite.insert w.files n (change f)) (file_at w n) w.files }
 
 -- without the file of a number, which is never used again
 abbrev pub without_file : Files → ℕ → Files

@@ -95,7 +95,11 @@ new_file who now a mode body = record {
 
 -- ---- names
 
--- a number's name goes: where names are left its ctime is now, else the number is gone
+-- the files after a name of a number went: where it was the last the number is gone, else its ctime is now
+abbrev pub after_unlink : Bool → Timeval → Files → ℕ → Files
+after_unlink is_last now left n =
+    record { fsid = left.fsid; next = left.next; files = if is_last then (without_file left n).files else (mark now left n).files }
+
+-- a name of a number goes
 abbrev pub unnamed : Timeval → Files → ℕ → List ℕ → ℕ → Files
-unnamed now w dir name n =
-    if names_of (without_name w dir name) n == 0 then without_file (without_name w dir name) n else mark now (without_name w dir name) n
+unnamed now w dir name n = let left = without_name w dir name in after_unlink (names_of left n == 0) now left n

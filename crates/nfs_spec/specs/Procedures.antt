@@ -163,8 +163,7 @@ check_target w f (Some n) = do
 
 -- the target goes as by REMOVE or RMDIR
 abbrev pub cleared : Timeval → Files → ℕ → List ℕ → Option ℕ → Files
-cleared now w dir name None = w
-cleared now w dir name (Some n) = unnamed now w dir name n
+cleared now w dir name target = record { fsid = w.fsid; next = w.next; files = option_map_or (λ n. (unnamed now w dir name n).files) target w.files }
 
 -- the entry comes last in its new directory, with a new cookie
 abbrev pub moved : Timeval → Files → ℕ → ℕ → List ℕ → ℕ → List ℕ → Option ℕ → Files

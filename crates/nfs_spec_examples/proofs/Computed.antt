@@ -85,40 +85,40 @@ same_files next es fs e =
 
 -- a file of a list, changed
 pub changed_in : (next : ℕ) (es : List (ℕ × File)) (n : ℕ) (change : File → File) (f : File) → finite.find nat_cmp n es ≡ Some f → with_changed_file (files_of next es) n change ≡ files_of next ((n, change f) ∷ es)
-changed_in next es n change f there = ap (λ (o : Option File). option_map_or (λ f. files_of next ((n, change f) ∷ es)) o (files_of next es)) (file_of_list next es n ∙ there)
+changed_in next es n change f there = ap (λ (o : Option File). record { fsid = 1; next = next; files = option_map_or (λ f. finite.from_entries ((n, change f) ∷ es)) o (finite.from_entries es) }) (file_of_list next es n ∙ there)
 
 -- a new file with a name, in a directory of a list
 pub made_is : (now : Timeval) (next : ℕ) (es : List (ℕ × File)) (dir : ℕ) (name : List ℕ) (f d : File) (target : List (ℕ × File)) → finite.find nat_cmp dir ((next, f) ∷ es) ≡ Some d
     → in_order ((dir, touched now (relisted (λ l. with_entry l name next) d)) ∷ (dir, relisted (λ l. with_entry l name next) d) ∷ (next, f) ∷ es) ≡ in_order target
-    → made now (files_of next es) dir name f ≡ files_of (next + 1) target
+    → (made now (files_of next es) dir name f).files ≡ (files_of (next + 1) target).files
 made_is now next es dir name f d target there same =
     let put : File → File = relisted (λ l. with_entry l name next) in
-    ap (λ w. touch now w dir) (changed_in (next + 1) ((next, f) ∷ es) dir put d there)
+    ap (λ w. w.files) (ap (λ w. touch now w dir) (changed_in (next + 1) ((next, f) ∷ es) dir put d there)
     ∙ changed_in (next + 1) ((dir, put d) ∷ (next, f) ∷ es) dir (touched now) (put d) (found_first dir (put d) ((next, f) ∷ es))
-    ∙ same_files (next + 1) ((dir, touched now (put d)) ∷ (dir, put d) ∷ (next, f) ∷ es) target same
+    ∙ same_files (next + 1) ((dir, touched now (put d)) ∷ (dir, put d) ∷ (next, f) ∷ es) target same)
 
 -- another name for a file, in a directory of a list
 pub named_is : (now : Timeval) (next : ℕ) (es : List (ℕ × File)) (n dir : ℕ) (name : List ℕ) (d : File) (target : List (ℕ × File)) → finite.find nat_cmp dir es ≡ Some d
     → in_order ((dir, touched now (relisted (λ l. with_entry l name n) d)) ∷ (dir, relisted (λ l. with_entry l name n) d) ∷ es) ≡ in_order target
-    → touch now (with_name (files_of next es) dir name n) dir ≡ files_of next target
+    → (touch now (with_name (files_of next es) dir name n) dir).files ≡ (files_of next target).files
 named_is now next es n dir name d target there same =
     let put : File → File = relisted (λ l. with_entry l name n) in
-    ap (λ w. touch now w dir) (changed_in next es dir put d there)
+    ap (λ w. w.files) (ap (λ w. touch now w dir) (changed_in next es dir put d there)
     ∙ changed_in next ((dir, put d) ∷ es) dir (touched now) (put d) (found_first dir (put d) es)
-    ∙ same_files next ((dir, touched now (put d)) ∷ (dir, put d) ∷ es) target same
+    ∙ same_files next ((dir, touched now (put d)) ∷ (dir, put d) ∷ es) target same)
 
 -- a directory is touched when a file has a name less
 pub marked_is : (now : Timeval) (next : ℕ) (es : List (ℕ × File)) (n dir : ℕ) (f d : File) (target : List (ℕ × File)) → finite.find nat_cmp n es ≡ Some f → finite.find nat_cmp dir ((n, marked now f) ∷ es) ≡ Some d
-    → in_order ((dir, touched now d) ∷ (n, marked now f) ∷ es) ≡ in_order target → touch now (mark now (files_of next es) n) dir ≡ files_of next target
+    → in_order ((dir, touched now d) ∷ (n, marked now f) ∷ es) ≡ in_order target → (touch now (mark now (files_of next es) n) dir).files ≡ (files_of next target).files
 marked_is now next es n dir f d target there dir_there same =
-    ap (λ w. touch now w dir) (changed_in next es n (marked now) f there)
+    ap (λ w. w.files) (ap (λ w. touch now w dir) (changed_in next es n (marked now) f there)
     ∙ changed_in next ((n, marked now f) ∷ es) dir (touched now) d dir_there
-    ∙ same_files next ((dir, touched now d) ∷ (n, marked now f) ∷ es) target same
+    ∙ same_files next ((dir, touched now d) ∷ (n, marked now f) ∷ es) target same)
 
 -- and when a file is gone
 pub gone_is : (now : Timeval) (next : ℕ) (es : List (ℕ × File)) (n dir : ℕ) (d : File) (target : List (ℕ × File)) → finite.find nat_cmp dir (list_without n es) ≡ Some d
-    → in_order ((dir, touched now d) ∷ list_without n es) ≡ in_order target → touch now (without_file (files_of next es) n) dir ≡ files_of next target
+    → in_order ((dir, touched now d) ∷ list_without n es) ≡ in_order target → (touch now (without_file (files_of next es) n) dir).files ≡ (files_of next target).files
 gone_is now next es n dir d target there same =
-    ap (λ m. touch now (record { fsid = 1; next = next; files = m }) dir) (without_in n es)
+    ap (λ w. w.files) (ap (λ m. touch now (record { fsid = 1; next = next; files = m }) dir) (without_in n es)
     ∙ changed_in next (list_without n es) dir (touched now) d there
-    ∙ same_files next ((dir, touched now d) ∷ list_without n es) target same
+    ∙ same_files next ((dir, touched now d) ∷ list_without n es) target same)

@@ -1,5 +1,6 @@
 -- A name that goes, and the file with the last one.
-use Rattle.std.proofs.Common.{◌≡◌, ◌≢◌, ⊎_elim, ℕ, ◌<◌, Bool, true, false, cond, not, List, [], length, Option, Some, None, Ok, IsSome, is_some, option_map, refl, sym, ap, subst, ◌∙◌, arith}
+-- Serves: the_last_name_takes_the_file (nfs_spec_frames).
+use Rattle.std.proofs.Common.{◌≡◌, ◌≢◌, ⊎_elim, ℕ, ◌<◌, Bool, true, false, not, List, [], length, Option, Some, None, Ok, IsSome, is_some, option_map, refl, sym, ap, subst, ◌∙◌, arith}
 use Rattle.std.specs.Prelude.{◌==◌}
 use Rattle.std.proofs.lemmas.Bool.{cases_eq, eqb-true, not-true}
 use Rattle.nfs_types.specs.Timeval.{Timeval}
@@ -11,13 +12,13 @@ use Rattle.fs_model.specs.Trees.{IsTime, IsFileTree}
 use Rattle.fs_model.proofs.Walks.{none_some, some_same}
 use Rattle.fs_model.proofs.Reached.{path_there}
 use Rattle.fs_model.proofs.OnePath.{root_has_no_name}
-use Rattle.fs_changes.specs.Edits.{without_file, without_name}
+use Rattle.fs_changes.specs.Edits.{without_name}
 use Rattle.fs_changes.proofs.Finite.{changed_here, changed_other, gone_here}
 use Rattle.fs_changes.proofs.Shapes.{kind}
 use Rattle.fs_changes.proofs.Adding.{one_same}
 use Rattle.fs_changes.proofs.Taking.{IsTaken, stays_taken}
 use Rattle.nfs_spec.specs.Checks.{file_of, dir_of, listing_or, check, check_edit, number_at}
-use Rattle.nfs_spec.specs.Changes.{touch, touched, mark, marked, unnamed}
+use Rattle.nfs_spec.specs.Changes.{touch, touched, marked, unnamed, after_unlink}
 use Rattle.nfs_spec.specs.Procedures.{remove, remove_dir}
 use Rattle.nfs_spec_trees.proofs.Fitting.{is_dir}
 use Rattle.nfs_spec_trees.proofs.Removed.{touched_taken}
@@ -42,13 +43,13 @@ module _ (now : Timeval) (dir n : ℕ) where
   mapped change is None g h = absurd (none_some h)
   mapped change is (Some f) g h = ap (λ (z : File). z.ctime) (sym (some_same h)) ∙ is f
 
-  ctime_by : (b : Bool) (v : Files) (g : File) → file_at (touch now (cond b (without_file v n) (mark now v n)) dir) n ≡ Some g → g.ctime ≡ now
+  ctime_by : (b : Bool) (v : Files) (g : File) → file_at (touch now (after_unlink b now v n) dir) n ≡ Some g → g.ctime ≡ now
   ctime_by b v g h = ⊎_elim
-      (λ e. mapped (touched now) (λ f. refl) _ g (sym (changed_here (cond b (without_file v n) (mark now v n)) dir (touched now) n e) ∙ h))
-      (λ ne. by b (sym (changed_other (cond b (without_file v n) (mark now v n)) dir (touched now) n ne) ∙ h))
+      (λ e. mapped (touched now) (λ f. refl) _ g (sym (changed_here (after_unlink b now v n) dir (touched now) n e) ∙ h))
+      (λ ne. by b (sym (changed_other (after_unlink b now v n) dir (touched now) n ne) ∙ h))
       (cases_eq n dir)
     where
-      by : (b : Bool) → file_at (cond b (without_file v n) (mark now v n)) n ≡ Some g → g.ctime ≡ now
+      by : (b : Bool) → file_at (after_unlink b now v n) n ≡ Some g → g.ctime ≡ now
       by true h = absurd (none_some (sym (gone_here v n n refl) ∙ h))
       by false h = mapped (marked now) (λ f. refl) _ g (sym (changed_here v n (marked now) n refl) ∙ h)
 
@@ -112,12 +113,15 @@ module _ (now : Timeval) (time : IsTime now) (w after : Files) (tree : IsFileTre
       subst Q (ap (λ k. touch now (unnamed now w dir name k) dir) (sym same) ∙ ap (λ (y : Unit {0} × Files). y.1) (ok_same r.2))
       (says f.0 there (no_entries f.0.body (not-true (is_directory f.0.body) (check_ok (not (is_directory f.0.body)) stats.IsDir r.0 r.1))))
 
+  -- REMOVE of a last name
   pub last : names_of w n ≡ 1 → remove w who now dir name ≡ Ok (tt, after) → IsGone after n
   last single h = of_remove (λ v. IsGone v n) (λ f there empty. is_gone now time w tree dir name n c at f there empty single) h
 
+  -- REMOVE of a name where another is left
   pub more_left : 1 < names_of w n → remove w who now dir name ≡ Ok (tt, after) → HasOneNameLess w after now n
   more_left more h = of_remove (λ v. HasOneNameLess w v now n) (λ f there empty. is_less now time w tree dir name n c at f there empty more) h
 
+  -- RMDIR
   pub directory : remove_dir w who now dir name ≡ Ok (tt, after) → IsGone after n
   directory h =
       let p = bind_ok (dir_of w dir) _ (tt, after) h in

@@ -13,11 +13,11 @@ use Rattle.fs_model.specs.Paths.{walk, path_at, Renames}
 use Rattle.fs_model.specs.Files.{File, Files, file_at, listing_in, listing, is_directory, places, names_of}
 use Rattle.fs_model.specs.Trees.{IsTime, IsFileTree}
 use Rattle.fs_model.proofs.Walks.{one_number}
-use Rattle.fs_changes.specs.Edits.{without_name, without_file}
+use Rattle.fs_changes.specs.Edits.{without_name}
 use Rattle.fs_changes.proofs.Room.{IsNoMore, no_more_then, changed_no_more, gone_no_more, unnamed_no_more, same_smaller, still_room}
 use Rattle.fs_changes.proofs.Taking.{takes_path, stays_taken}
 use Rattle.nfs_spec.specs.Checks.{◌>>=◌, Found, file_of, dir_of, listing_or, check, check_cookie, check_edit, number_at}
-use Rattle.nfs_spec.specs.Changes.{touch, touched, mark, marked, unnamed}
+use Rattle.nfs_spec.specs.Changes.{touch, touched, marked, unnamed, after_unlink}
 use Rattle.nfs_spec.specs.Procedures.{remove, remove_dir, is_above, check_target, moved, rename}
 use Rattle.nfs_spec_laws.specs.Laws.{UnnamesIn, RenamesIn, IsSameFile}
 use Rattle.nfs_spec_trees.proofs.Fitting.{is_dir}
@@ -40,7 +40,7 @@ module _ (now : Timeval) (time : IsTime now) (w : Files) (tree : IsFileTree w) w
       w₁ : Files
       w₁ = without_name w dir name
 
-      by : (b : Bool) → IsNoMore w₁ (cond b (without_file w₁ n) (mark now w₁ n))
+      by : (b : Bool) → IsNoMore w₁ (after_unlink b now w₁ n)
       by true = gone_no_more w₁ n
       by false = changed_no_more w₁ n (marked now) (λ f. same_smaller f (marked now f) refl)
 

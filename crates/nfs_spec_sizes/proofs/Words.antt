@@ -14,7 +14,7 @@ use Rattle.fs_changes.specs.Edits.{with_changed_file, with_new_file, without_fil
 use Rattle.fs_changes.proofs.Finite.{changed_here, changed_other, gone_here, gone_other, new_here, new_other}
 use Rattle.nfs_spec.specs.Checks.{◌>>=◌, Found, file_of, dir_of, listing_or, check, check_size, check_room, check_cookie, check_edit, check_free, number_at, bytes_of, may_search, may_write}
 use Rattle.nfs_spec.specs.Sattr.{Sattr, Wanted, wanted, wants_any, nothing}
-use Rattle.nfs_spec.specs.Changes.{touch, touched, mark, marked, unnamed, check_owner, check_resize, set, new_file}
+use Rattle.nfs_spec.specs.Changes.{touch, touched, mark, marked, unnamed, check_owner, check_resize, set, new_file, after_unlink}
 use Rattle.nfs_spec.specs.Procedures.{set_attributes, write, rewritten, made, create, create_over, create_new, make, is_regular, link, remove, remove_dir, is_above, check_target, cleared, moved, rename}
 use Rattle.nfs_spec.specs.Calls as calls
 use Rattle.nfs_spec.specs.Calls.{Call, number_for, call_does}
@@ -140,7 +140,7 @@ module _ (now : Timeval) (who : Caller) (says : SaysWords who now) where
   unname : (w : Files) (d : ℕ) (x : List ℕ) (k : ℕ) → AllWords w → AllWords (unnamed now w d x k)
   unname w d x k all = by (without_name w d x) (names_of (without_name w d x) k == 0) (name_off w d x all)
     where
-      by : (v : Files) (b : Bool) → AllWords v → AllWords (cond b (without_file v k) (mark now v k))
+      by : (v : Files) (b : Bool) → AllWords v → AllWords (after_unlink b now v k)
       by v true = gone v k
       by v false = mark_on v k
 

@@ -1,5 +1,5 @@
 -- What each change gives, it gives anew.
-use Rattle.std.proofs.Common.{◌≡◌, ◌≢◌, ◌⊎◌, inl, inr, ⊎_elim, ℕ, ◌≤◌, Bool, true, false, cond, List, [], Option, Some, None, IsSome, is_some, eqb, option_map, refl, sym, ap, subst, ◌∙◌, arith}
+use Rattle.std.proofs.Common.{◌≡◌, ◌≢◌, ◌⊎◌, inl, inr, ⊎_elim, ℕ, ◌≤◌, Bool, true, false, List, [], Option, Some, None, IsSome, is_some, eqb, option_map, refl, sym, ap, subst, ◌∙◌, arith}
 use Rattle.std.specs.Option.{option_map_or}
 use Rattle.std.proofs.lemmas.Bool.{cases_eq}
 use Rattle.nfs_types.specs.Timeval.{Timeval}
@@ -12,7 +12,7 @@ use Rattle.fs_changes.proofs.Shapes.{kind, IsSameShape, is_some-kind}
 use Rattle.fs_changes.proofs.Adding.{IsAdded}
 use Rattle.fs_changes.proofs.Taking.{IsTaken}
 use Rattle.fs_changes.proofs.Moving.{IsRenamed}
-use Rattle.nfs_spec.specs.Changes.{touch, mark, touched, marked, unnamed}
+use Rattle.nfs_spec.specs.Changes.{touch, mark, touched, marked, unnamed, after_unlink}
 use Rattle.nfs_spec_trees.specs.Anew.{GivesAnew}
 
 -- ---- the next cookie
@@ -66,7 +66,7 @@ cookie_gone w k n ne = let same = ap next_of (gone_other w k n ne) in omega (ari
 pub cookie_taken : (now : Timeval) (w : Files) (d : ℕ) (x : List ℕ) (k n : ℕ) → n ≢ k → (listing w n).next ≤ (listing (unnamed now w d x k) n).next
 cookie_taken now w d x k n ne = by (eqb (names_of (without_name w d x) k) 0)
   where
-    by : (b : Bool) → (listing w n).next ≤ (listing (cond b (without_file (without_name w d x) k) (mark now (without_name w d x) k)) n).next
+    by : (b : Bool) → (listing w n).next ≤ (listing (after_unlink b now (without_name w d x) k) n).next
     by true = omega (arith, cookie_unnamed w d x n, cookie_gone (without_name w d x) k n ne)
     by false = omega (arith, cookie_unnamed w d x n, cookie_marked now (without_name w d x) k n)
 

@@ -1,5 +1,5 @@
 -- A name of a file goes, and with the last name the number.
-use Rattle.std.proofs.Common.{◌≡◌, ◌≢◌, ⊎_elim, inl, inr, ℕ, ◌<◌, Bool, true, false, cond, List, [], Some, None, nat_eq, eqb, option_map, option_and_then, refl, sym, ap, ◌∙◌, arith}
+use Rattle.std.proofs.Common.{◌≡◌, ◌≢◌, ⊎_elim, inl, inr, ℕ, ◌<◌, Bool, true, false, List, [], Some, None, nat_eq, eqb, option_map, option_and_then, refl, sym, ap, ◌∙◌, arith}
 use Rattle.std.specs.Map.{lookup}
 use Rattle.std.specs.Cmp.Lexicographic.{pointwise}
 use Rattle.std.proofs.lemmas.Bool.{cases_eq, eqb-true, eqb-false}
@@ -15,7 +15,7 @@ use Rattle.fs_changes.proofs.Listings.{one, leads}
 use Rattle.fs_changes.proofs.Shapes.{kind, AllFiles, IsSameShape, IsUnnamed, IsOneLess, unnamed_shape, gone_shape, gone_files}
 use Rattle.fs_changes.proofs.Adding.{one_same}
 use Rattle.fs_changes.proofs.Taking.{IsTaken}
-use Rattle.nfs_spec.specs.Changes.{touch, mark, unnamed}
+use Rattle.nfs_spec.specs.Changes.{touch, mark, unnamed, after_unlink}
 use Rattle.nfs_spec_trees.proofs.Fitting.{dir_file, is_dir, touch_shape, mark_shape, touch_files, mark_files, unnamed_files, distinct_names}
 
 -- what is taken is taken, whatever changes but the shape
@@ -108,7 +108,7 @@ module _ (now : Timeval) (time : IsTime now) (w : Files) (tree : IsFileTree w) (
   unfolding w₁
   unnamed_taken = by (eqb (names_of w₁ n) 0) refl
     where
-      by : (b : Bool) → eqb (names_of w₁ n) 0 ≡ b → IsTaken w (cond b (without_file w₁ n) (mark now w₁ n)) d x n c
+      by : (b : Bool) → eqb (names_of w₁ n) 0 ≡ b → IsTaken w (after_unlink b now w₁ n) d x n c
       by true e = all_gone (eqb-true _ _ e)
       by false e = some_left (⊎_elim (λ z. absurd (eqb-false _ _ e z)) (λ ne. positive (names_of w₁ n) ne) (cases_eq (names_of w₁ n) 0))
         where

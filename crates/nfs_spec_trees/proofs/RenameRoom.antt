@@ -9,11 +9,11 @@ use Rattle.nfs_types.specs.Timeval.{Timeval}
 use Rattle.fs_model.specs.Listing.{entry_at, with_entry, without_entry}
 use Rattle.fs_model.specs.Files.{Body, Regular, Link, Directory, File, Files, file_at, listing_in, places, names_of}
 use Rattle.fs_model.proofs.Walks.{none_some, some_same}
-use Rattle.fs_changes.specs.Edits.{without_file, relisted, relisted_body, with_name, without_name}
+use Rattle.fs_changes.specs.Edits.{relisted, relisted_body, with_name, without_name}
 use Rattle.fs_changes.specs.Limits.{blocks_in, entry_count, file_count, block_count, has_room}
 use Rattle.fs_changes.proofs.Finite.{changed_next, changed_here, changed_other, total_changed}
 use Rattle.fs_changes.proofs.Room.{count_changed, AllCookies, IsWithin, within, room, IsNoMore, no_more_then, still_room, changed_no_more, gone_no_more, unnamed_no_more, same_smaller, length-removed}
-use Rattle.nfs_spec.specs.Changes.{touch, touched, mark, marked}
+use Rattle.nfs_spec.specs.Changes.{touch, touched, mark, marked, after_unlink}
 use Rattle.nfs_spec.specs.Procedures.{cleared, moved}
 
 length-one_less : {X : Type 0} (t : List ℕ → Bool) (v : X) (es : List (List ℕ × X)) → lookup t es ≡ Some v → length (remove_entry t es) + 1 ≡ length es
@@ -82,7 +82,7 @@ cleared_no_more now w d x (Some n) = no_more_then w w₁ _ (unnamed_no_more w d 
     w₁ : Files
     w₁ = without_name w d x
 
-    by : (b : Bool) → IsNoMore w₁ (cond b (without_file w₁ n) (mark now w₁ n))
+    by : (b : Bool) → IsNoMore w₁ (after_unlink b now w₁ n)
     by true = gone_no_more w₁ n
     by false = changed_no_more w₁ n (marked now) (λ f. same_smaller f (marked now f) refl)
 

@@ -1,5 +1,5 @@
 -- A rename: what stands at the new name goes, and the entry moves.
-use Rattle.std.proofs.Common.{◌≡◌, ◌≢◌, ⊎_elim, ℕ, ◌≤◌, Bool, true, false, cond, List, [], ◌∷◌, ◌++◌, length, Option, Some, None, is_some, nat_eq, eqb, option_map, option_and_then, refl, sym, ap, subst, ◌∙◌, arith}
+use Rattle.std.proofs.Common.{◌≡◌, ◌≢◌, ⊎_elim, ℕ, ◌≤◌, Bool, true, false, List, [], ◌∷◌, ◌++◌, length, Option, Some, None, is_some, nat_eq, eqb, option_map, option_and_then, refl, sym, ap, subst, ◌∙◌, arith}
 use Rattle.std.specs.Prelude.{IsTrue}
 use Rattle.std.specs.Option.{option_map_or}
 use Rattle.std.specs.Map.{lookup}
@@ -12,14 +12,14 @@ use Rattle.fs_model.specs.Paths.{Places, walk, path_at, Renames}
 use Rattle.fs_model.specs.Files.{Body, Regular, Link, Directory, File, Files, file_at, listing_in, listing, is_directory, places, names_of}
 use Rattle.fs_model.specs.Trees.{IsTime, IsFileTree}
 use Rattle.fs_model.proofs.Walks.{none_some, some_same, same_place}
-use Rattle.fs_changes.specs.Edits.{with_changed_file, without_file, relisted, relisted_body, with_name, without_name}
+use Rattle.fs_changes.specs.Edits.{with_changed_file, relisted, relisted_body, with_name, without_name}
 use Rattle.fs_changes.specs.Limits.{has_room}
 use Rattle.fs_changes.proofs.Finite.{changed_here, changed_other, gone_other}
 use Rattle.fs_changes.proofs.Listings.{leads}
 use Rattle.fs_changes.proofs.Shapes.{kind, is_some-kind, AllFiles, IsSameShape, IsNamed, IsUnnamed, same_then, named_shape, unnamed_shape}
 use Rattle.fs_changes.proofs.Taking.{stays_taken}
 use Rattle.fs_changes.proofs.Moving.{IsRenamed, IsMoved, renames_path, stays_moved}
-use Rattle.nfs_spec.specs.Changes.{touch, mark, marked}
+use Rattle.nfs_spec.specs.Changes.{touch, mark, marked, after_unlink}
 use Rattle.nfs_spec.specs.Procedures.{cleared, moved}
 use Rattle.nfs_spec_trees.proofs.Fitting.{dir_file, touch_shape, mark_shape, touch_files, mark_files, named_files, unnamed_files, distinct_names}
 use Rattle.nfs_spec_trees.specs.Anew.{GivesAnew}
@@ -90,7 +90,7 @@ module _ (now : Timeval) (time : IsTime now) (w : Files) (tree : IsFileTree w) (
         cookie = by_left (eqb (names_of (without_name w d x) t.0) 0) t.0 (λ e. none_some (sym (unlists t.0 t.1 h x) ∙ ap (λ m. places w m x) e ∙ h));
       }
     where
-      by_left : (b : Bool) (k : ℕ) → k ≢ d → next_in (cond b (without_file (without_name w d x) k) (mark now (without_name w d x) k)) d ≡ next_in w d
+      by_left : (b : Bool) (k : ℕ) → k ≢ d → next_in (after_unlink b now (without_name w d x) k) d ≡ next_in w d
       by_left true k not = ap (option_map (λ f. (listing_in f.body).next)) (gone_other (without_name w d x) k d (λ e. not (sym e))) ∙ next_unnamed w d x d
       by_left false k not = next_changed (without_name w d x) k (marked now) (λ f. refl) d ∙ next_unnamed w d x d
 
