@@ -7,6 +7,7 @@ use merkle_keys::{SignFault, Signer, verify};
 use secure_log::{Body, Entry, Log, check_segment};
 use std::alloc::Global;
 use std::test::Fail;
+use xdr::{FromXdr, ReadError, Reader, XdrFault};
 
 /// How often a key signs a digest before it is used up, each time by the next leaf.
 fn signings(mut signer: Signer, height: u32) -> Result<u32, Fail> {
@@ -54,6 +55,17 @@ fn whole_bodies_are_read_back(rt: HostRuntime) -> Result<(), Fail> {
         let entry = send_of(rt.alloc(), len)?;
         assert_eq!(rt; text_length(rt.alloc(), &entry)?, length, "a body of {len}");
     }
+    Ok(())
+}
+
+// The text of a SEND with a body of 12,289 bytes and three of padding.
+#[test]
+fn a_longer_body_is_none(rt: HostRuntime) -> Result<(), Fail> {
+    let mut text = Vec::new(rt.alloc());
+    text.extend_from_slice(&[0, 0, 0, 1, 0, 0, 0, 2, 0, 0, 0x30, 1])?;
+    text.resize(12 + 12_292, 0)?;
+    let entry = Entry::read(rt.alloc(), &mut Reader::new(&text));
+    assert!(rt; matches!(entry, Err(ReadError::Fault(XdrFault::TooLong))));
     Ok(())
 }
 
