@@ -1,4 +1,5 @@
--- What it says that a procedure was not refused.
+-- What it says that a procedure was not refused: the files that it found, and the files after it.
+-- Serves: all laws of nfs_spec_changes; all of nfs_spec_frames but runs_keep_a_tree_within_its_limits.
 use Rattle.std.proofs.Common.{◌≡◌, ◌≢◌, ◌⊎◌, inl, inr, ℕ, ◌+◌, Bool, true, false, List, [], length, replicate, Option, Some, None, Result, Ok, option_map, not, refl, sym, ap, ◌∙◌, eq-eqb}
 use Rattle.std.specs.Prelude.{unwrap_or, ◌==◌, ◌&&◌, ◌||◌, is_some, if◌then◌else◌}
 use Rattle.std.specs.Option.{option_map_or}

@@ -1,6 +1,6 @@
 pub mod Granted
-pub mod Edited
-pub mod Listed
-pub mod Becoming
-pub mod Renaming
-pub mod Bytewise
+pub mod OtherFiles
+pub mod DirectoryEntries
+pub mod NamedFiles
+pub mod RenamedFiles
+pub mod BytesWritten

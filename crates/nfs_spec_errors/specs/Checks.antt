@@ -1,10 +1,9 @@
 -- Checks in order, each with its stat.
-use Rattle.std.specs.Prelude.{ℕ, Bool, true, false, List, [], ◌∷◌, Option, Some, None, is_some, if◌then◌else◌}
+use Rattle.std.specs.Prelude.{ℕ, ◌==◌, Bool, true, false, List, [], ◌∷◌, length, Option, Some, None, is_some, if◌then◌else◌}
 use Rattle.std.specs.Option.{option_map_or}
 use Rattle.nfs_types.specs.declared.stat.Stat.{Stat}
-use Rattle.nfs_types.specs.declared.stat.Stat.TheVariants as stats
 use Rattle.fs_model.specs.Files as bodies
-use Rattle.fs_model.specs.Files.{Body, File, Files, file_at, is_directory, places}
+use Rattle.fs_model.specs.Files.{Body, File, Files, file_at, listing_in, is_directory, places}
 
 abbrev pub Checks : Type 0
 Checks = List (Bool × Stat)
@@ -13,16 +12,6 @@ Checks = List (Bool × Stat)
 abbrev pub first_failing : Checks → Option Stat
 first_failing [] = None
 first_failing (c ∷ cs) = if c.0 then first_failing cs else Some c.1
-
--- the stats that calls are refused with: never IO, NODEV, ROFS, NAMETOOLONG, DQUOT or WFLUSH
-abbrev pub is_ever_given : Stat → Bool
-is_ever_given stats.Io = false
-is_ever_given stats.NoDev = false
-is_ever_given stats.RoFs = false
-is_ever_given stats.NameTooLong = false
-is_ever_given stats.DQuot = false
-is_ever_given stats.WFlush = false
-is_ever_given _ = true
 
 -- ---- what is tested
 
@@ -38,23 +27,34 @@ holds_at w n test = option_map_or test (file_at w n) false
 abbrev pub holds_named : Files → ℕ → List ℕ → (File → Bool) → Bool
 holds_named w dir name test = option_map_or (λ e. holds_at w e.0 test) (places w dir name) false
 
+-- whether a file is a directory
+abbrev pub is_dir : File → Bool
+is_dir f = is_directory f.body
+
+-- whether a name in a directory stands for a directory
+abbrev pub names_directory : Files → ℕ → List ℕ → Bool
+names_directory w dir name = holds_named w dir name is_dir
+
 -- whether what is given passes a test; what is not given does
 abbrev pub given : {A : Type 0} → Option A → (A → Bool) → Bool
 given o test = option_map_or test o true
 
-abbrev pub is_dir : File → Bool
-is_dir f = is_directory f.body
-
+-- whether it is a symbolic link
 abbrev pub is_link : Body → Bool
 is_link (bodies.Regular bytes) = false
 is_link (bodies.Link target) = true
 is_link (bodies.Directory l) = false
 
--- the bytes of a number's regular file
+-- whether a directory lists nothing
+abbrev pub lists_nothing : File → Bool
+lists_nothing f = length (listing_in f.body).entries == 0
+
+-- the bytes of a regular file, else none
 abbrev pub bytes_in : Body → List ℕ
 bytes_in (bodies.Regular bytes) = bytes
 bytes_in (bodies.Link target) = []
 bytes_in (bodies.Directory l) = []
 
+-- the bytes of a number's regular file
 abbrev pub bytes_at : Files → ℕ → List ℕ
 bytes_at w n = option_map_or (λ f. bytes_in f.body) (file_at w n) []

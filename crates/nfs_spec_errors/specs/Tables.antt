@@ -1,12 +1,12 @@
--- The checks of each procedure of NFS version 2 (RFC 1094, section 2.2), in order, each with its stat. The standard
--- leaves the choice and the order of stats open.
-use Rattle.std.specs.Prelude.{ℕ, ◌+◌, ◌==◌, ◌||◌, ◌&&◌, not, nat_le, Bool, false, List, [], ◌∷◌, ◌++◌, length, replicate, is_some, is_none, unwrap_or, if◌then◌else◌}
+-- The checks of each procedure of NFS version 2 (RFC 1094, section 2.2), in order, each with its stat. The
+-- standard leaves the choice and the order of stats open.
+use Rattle.std.specs.Prelude.{ℕ, ◌+◌, ◌==◌, ◌||◌, ◌&&◌, not, nat_le, Bool, false, List, [], ◌∷◌, ◌++◌, length, replicate, Option, is_some, is_none, unwrap_or, if◌then◌else◌}
 use Rattle.std.specs.Option.{option_map_or}
 use Rattle.nfs_types.specs.Timeval.{Timeval}
 use Rattle.nfs_types.specs.Caller.{Caller}
 use Rattle.nfs_types.specs.declared.stat.Stat.TheVariants as stats
 use Rattle.fs_model.specs.Names.{is_name}
-use Rattle.fs_model.specs.Files.{Regular, Link, Directory, Files, listing, listing_in, places}
+use Rattle.fs_model.specs.Files.{Regular, Link, Directory, File, Files, listing, places}
 use Rattle.fs_changes.specs.Edits.{with_changed_file, with_name}
 use Rattle.fs_changes.specs.Limits.{has_room}
 use Rattle.nfs_spec.specs.Attributes.{is_directory_at}
@@ -17,7 +17,7 @@ use Rattle.nfs_spec.specs.Changes.{touch, mark, set, new_file, is_in_group}
 use Rattle.nfs_spec.specs.Procedures.{rewritten, made, is_regular, is_above}
 use Rattle.nfs_spec.specs.Calls as calls
 use Rattle.nfs_spec.specs.Calls.{Call, number_for}
-use Rattle.nfs_spec_errors.specs.Checks.{Checks, is_there, holds_at, holds_named, given, is_dir, is_link, bytes_at}
+use Rattle.nfs_spec_errors.specs.Checks.{Checks, is_there, holds_at, holds_named, names_directory, given, is_link, lists_nothing, bytes_at}
 
 -- ---- shared
 
@@ -31,21 +31,32 @@ directory_checks w dir = (is_there w dir, stats.Stale) ∷ (is_directory_at w di
 
 -- an edit of a directory: the rule for names, then search and write permission in it, else ACCES
 abbrev pub edit_checks : Files → Caller → ℕ → List ℕ → Checks
-edit_checks w who dir name = (is_name name, stats.Acces) ∷ (holds_at w dir (λ f. may_search who f && may_write who f), stats.Acces) ∷ []
+edit_checks w who dir name =
+    (is_name name, stats.Acces)
+    ∷ (holds_at w dir (λ f. may_search who f && may_write who f), stats.Acces)
+    ∷ []
 
 -- ---- each procedure, by file numbers
 
+-- whether neither mode nor a time is given
+abbrev pub keeps_mode_and_times : Wanted → Bool
+keeps_mode_and_times a = is_none a.mode && is_none a.atime && is_none a.mtime
+
+-- whether a caller may give a file this group as its owner: the same, or one of its own
+abbrev pub may_give_group : Caller → ℕ → File → Bool
+may_give_group who gid f = owns who f && ((gid == f.gid) || is_in_group who gid)
+
 -- GETATTR (section 2.2.2), STATFS (section 2.2.18): file_checks
 
--- SETATTR (section 2.2.3): mode or a time by one who is neither owner nor user 0, uid by one who is neither user 0
--- nor the owner giving the same, gid by one who is neither user 0 nor the owner giving the same or one of its own
--- groups; and what is asked of a given size
+-- SETATTR (section 2.2.3): mode or a time by one who is neither owner nor user 0, uid by one who is neither
+-- user 0 nor the owner giving the same, gid by one who is neither user 0 nor the owner giving the same or one
+-- of its own groups; and what is asked of a given size
 abbrev pub set_checks : Files → Caller → Timeval → ℕ → Wanted → Checks
 set_checks w who now n a =
     (is_there w n, stats.Stale)
-    ∷ (holds_at w n (owns who) || (who.uid == 0) || (is_none a.mode && is_none a.atime && is_none a.mtime), stats.Perm)
+    ∷ (holds_at w n (owns who) || (who.uid == 0) || keeps_mode_and_times a, stats.Perm)
     ∷ (given a.uid (λ uid. (who.uid == 0) || holds_at w n (λ f. owns who f && (uid == f.uid))), stats.Perm)
-    ∷ (given a.gid (λ gid. (who.uid == 0) || holds_at w n (λ f. owns who f && ((gid == f.gid) || is_in_group who gid))), stats.Perm)
+    ∷ (given a.gid (λ gid. (who.uid == 0) || holds_at w n (may_give_group who gid)), stats.Perm)
     ∷ (given a.size (λ size. not (is_directory_at w n)), stats.IsDir)
     ∷ (given a.size (λ size. not (holds_at w n (λ f. is_link f.body))), stats.NxIo)
     ∷ (given a.size (λ size. holds_at w n (may_write who)), stats.Acces)
@@ -56,7 +67,10 @@ set_checks w who now n a =
 -- LOOKUP (section 2.2.5)
 abbrev pub lookup_checks : Files → Caller → ℕ → List ℕ → Checks
 lookup_checks w who dir name =
-    directory_checks w dir ++ (holds_at w dir (may_search who), stats.Acces) ∷ (is_some (number_named w dir (listing w dir) name), stats.NoEnt) ∷ []
+    directory_checks w dir
+    ++ (holds_at w dir (may_search who), stats.Acces)
+    ∷ (is_some (number_named w dir (listing w dir) name), stats.NoEnt)
+    ∷ []
 
 -- READLINK (section 2.2.6)
 abbrev pub read_link_checks : Files → ℕ → Checks
@@ -71,6 +85,10 @@ read_checks w who n =
     ∷ (holds_at w n (λ f. may_read who f || permits who f 1), stats.Acces)
     ∷ []
 
+-- the files after a write
+abbrev pub after_write : Files → Timeval → ℕ → ℕ → List ℕ → Files
+after_write w now n offset new = with_changed_file w n (rewritten now offset new (bytes_at w n))
+
 -- WRITE (section 2.2.9): the last two are asked only of some bytes
 abbrev pub write_checks : Files → Caller → Timeval → ℕ → ℕ → List ℕ → Checks
 write_checks w who now n offset new =
@@ -79,38 +97,70 @@ write_checks w who now n offset new =
     ∷ (not (holds_at w n (λ f. is_link f.body)), stats.NxIo)
     ∷ (holds_at w n (may_write who), stats.Acces)
     ∷ ((length new == 0) || nat_le (offset + length new) 1048576, stats.FBig)
-    ∷ ((length new == 0) || has_room (with_changed_file w n (rewritten now offset new (bytes_at w n))), stats.NoSpc)
+    ∷ ((length new == 0) || has_room (after_write w now n offset new), stats.NoSpc)
     ∷ []
 
--- CREATE (section 2.2.10): of a name that is there EXIST unless regular, and then as SETATTR; of a new one write
--- permission in the directory, and what is asked of a size
+-- CREATE (section 2.2.10): of a name that is there EXIST unless regular, and then as SETATTR; of a new one
+-- write permission in the directory, and what is asked of a size
+abbrev pub create_over_checks : Files → Caller → Timeval → Wanted → ℕ → Checks
+create_over_checks w who now a n =
+    (holds_at w n (λ f. is_regular f.body), stats.Exist) ∷ set_checks w who now n a
+
+abbrev pub create_new_checks : Files → Caller → Timeval → ℕ → List ℕ → Wanted → Checks
+create_new_checks w who now dir name a =
+    let new = new_file who now a 420 (Regular (replicate (unwrap_or a.size 0) 0)) in
+    (holds_at w dir (may_write who), stats.Acces)
+    ∷ (given a.size (λ size. nat_le size 1048576), stats.FBig)
+    ∷ (has_room (made now w dir name new), stats.NoSpc)
+    ∷ []
+
+-- by what stands at the name
+abbrev pub create_at_checks : Files → Caller → Timeval → ℕ → List ℕ → Wanted → Option (ℕ × ℕ) → Checks
+create_at_checks w who now dir name a place =
+    option_map_or (λ e. create_over_checks w who now a e.0) place (create_new_checks w who now dir name a)
+
 abbrev pub create_checks : Files → Caller → Timeval → ℕ → List ℕ → Wanted → Checks
 create_checks w who now dir name a =
     directory_checks w dir
     ++ (is_name name, stats.Acces)
     ∷ (holds_at w dir (may_search who), stats.Acces)
-    ∷ option_map_or (λ e. (holds_at w e.0 (λ f. is_regular f.body), stats.Exist) ∷ set_checks w who now e.0 a) (places w dir name) (
-    (holds_at w dir (may_write who), stats.Acces)
-    ∷ (given a.size (λ size. nat_le size 1048576), stats.FBig)
-    ∷ (has_room (made now w dir name (new_file who now a 420 (Regular (replicate (unwrap_or a.size 0) 0)))), stats.NoSpc)
-    ∷ []
-    )
+    ∷ create_at_checks w who now dir name a (places w dir name)
 
 -- REMOVE (section 2.2.11)
 abbrev pub remove_checks : Files → Caller → ℕ → List ℕ → Checks
 remove_checks w who dir name =
     directory_checks w dir ++ edit_checks w who dir name
     ++ (is_some (places w dir name), stats.NoEnt)
-    ∷ (not (holds_named w dir name is_dir), stats.IsDir)
+    ∷ (not (names_directory w dir name), stats.IsDir)
     ∷ []
+
+-- whether a name stands for this number
+abbrev pub stands_for : Files → ℕ → List ℕ → ℕ → Bool
+stands_for w dir name n = option_map_or (λ e. e.0 == n) (places w dir name) false
 
 -- whether two names stand for one file
 abbrev pub is_same_file : Files → ℕ → List ℕ → ℕ → List ℕ → Bool
-is_same_file w from from_name to to_name = option_map_or (λ s. option_map_or (λ t. t.0 == s.0) (places w to to_name) false) (places w from from_name) false
+is_same_file w from from_name to to_name =
+    option_map_or (λ s. stands_for w to to_name s.0) (places w from from_name) false
 
 -- whether a name stands for a directory that is another, or above it
 abbrev pub is_named_above : Files → ℕ → List ℕ → ℕ → Bool
-is_named_above w dir name lower = holds_named w dir name is_dir && option_map_or (λ e. is_above w e.0 lower) (places w dir name) false
+is_named_above w dir name lower =
+    names_directory w dir name && option_map_or (λ e. is_above w e.0 lower) (places w dir name) false
+
+-- whether nothing has a name, or what has it passes a test with what the other name stands for: a directory
+-- goes over a directory alone, another kind over another kind
+abbrev pub may_replace_as_directory : Files → ℕ → List ℕ → ℕ → List ℕ → Bool
+may_replace_as_directory w from from_name to to_name =
+    is_none (places w to to_name) || not (names_directory w from from_name) || names_directory w to to_name
+
+abbrev pub may_replace_as_other : Files → ℕ → List ℕ → ℕ → List ℕ → Bool
+may_replace_as_other w from from_name to to_name =
+    is_none (places w to to_name) || names_directory w from from_name || not (names_directory w to to_name)
+
+-- whether nothing has a name, or what has it lists nothing
+abbrev pub is_free_or_empty : Files → ℕ → List ℕ → Bool
+is_free_or_empty w dir name = is_none (places w dir name) || holds_named w dir name lists_nothing
 
 -- RENAME (section 2.2.12): where both names stand for one file, no more is asked
 abbrev pub rename_checks : Files → Caller → ℕ → List ℕ → ℕ → List ℕ → Checks
@@ -120,9 +170,9 @@ rename_checks w who from from_name to to_name =
     ++ (is_some (places w from from_name), stats.NoEnt)
     ∷ (if is_same_file w from from_name to to_name then [] else
     (not (is_named_above w from from_name to), stats.Acces)
-    ∷ (is_none (places w to to_name) || not (holds_named w from from_name is_dir) || holds_named w to to_name is_dir, stats.NotDir)
-    ∷ (is_none (places w to to_name) || holds_named w from from_name is_dir || not (holds_named w to to_name is_dir), stats.IsDir)
-    ∷ (is_none (places w to to_name) || holds_named w to to_name (λ f. length (listing_in f.body).entries == 0), stats.NotEmpty)
+    ∷ (may_replace_as_directory w from from_name to to_name, stats.NotDir)
+    ∷ (may_replace_as_other w from from_name to to_name, stats.IsDir)
+    ∷ (is_free_or_empty w to to_name, stats.NotEmpty)
     ∷ (nat_le (listing w to).next 4294967294, stats.NoSpc)
     ∷ [])
 
@@ -147,9 +197,10 @@ symlink_checks w who now dir name target =
 -- MKDIR (section 2.2.15)
 abbrev pub make_dir_checks : Files → Caller → Timeval → ℕ → List ℕ → Wanted → Checks
 make_dir_checks w who now dir name a =
+    let new = new_file who now a 493 (Directory (record { next = 3; entries = [] })) in
     directory_checks w dir ++ edit_checks w who dir name
     ++ (is_none (places w dir name), stats.Exist)
-    ∷ (has_room (made now w dir name (new_file who now a 493 (Directory (record { next = 3; entries = [] })))), stats.NoSpc)
+    ∷ (has_room (made now w dir name new), stats.NoSpc)
     ∷ []
 
 -- RMDIR (section 2.2.16)
@@ -157,8 +208,8 @@ abbrev pub remove_dir_checks : Files → Caller → ℕ → List ℕ → Checks
 remove_dir_checks w who dir name =
     directory_checks w dir ++ edit_checks w who dir name
     ++ (is_some (places w dir name), stats.NoEnt)
-    ∷ (holds_named w dir name is_dir, stats.NotDir)
-    ∷ (holds_named w dir name (λ f. length (listing_in f.body).entries == 0), stats.NotEmpty)
+    ∷ (names_directory w dir name, stats.NotDir)
+    ∷ (holds_named w dir name lists_nothing, stats.NotEmpty)
     ∷ []
 
 -- READDIR (section 2.2.17)
@@ -179,10 +230,14 @@ checks_of w who now calls.Writecache = []
 checks_of w who now (calls.Write file offset new) = write_checks w who now (number_for w file) offset new
 checks_of w who now (calls.Create dir name s) = create_checks w who now (number_for w dir) name (wanted now s)
 checks_of w who now (calls.Remove dir name) = remove_checks w who (number_for w dir) name
-checks_of w who now (calls.Rename from from_name to to_name) = rename_checks w who (number_for w from) from_name (number_for w to) to_name
-checks_of w who now (calls.Link from dir name) = link_checks w who now (number_for w from) (number_for w dir) name
-checks_of w who now (calls.Symlink dir name target s) = symlink_checks w who now (number_for w dir) name target
-checks_of w who now (calls.Mkdir dir name s) = make_dir_checks w who now (number_for w dir) name (wanted now s)
+checks_of w who now (calls.Rename from from_name to to_name) =
+    rename_checks w who (number_for w from) from_name (number_for w to) to_name
+checks_of w who now (calls.Link from dir name) =
+    link_checks w who now (number_for w from) (number_for w dir) name
+checks_of w who now (calls.Symlink dir name target s) =
+    symlink_checks w who now (number_for w dir) name target
+checks_of w who now (calls.Mkdir dir name s) =
+    make_dir_checks w who now (number_for w dir) name (wanted now s)
 checks_of w who now (calls.Rmdir dir name) = remove_dir_checks w who (number_for w dir) name
 checks_of w who now (calls.Readdir dir cookie count) = read_dir_checks w who (number_for w dir)
 checks_of w who now (calls.Statfs file) = file_checks w (number_for w file)

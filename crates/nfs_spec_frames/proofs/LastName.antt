@@ -1,4 +1,5 @@
 -- A name that goes, and the file with the last one.
+-- Serves: the_last_name_takes_the_file (nfs_spec_frames).
 use Rattle.std.proofs.Common.{◌≡◌, ◌≢◌, ⊎_elim, ℕ, ◌<◌, Bool, true, false, not, List, [], length, Option, Some, None, Ok, IsSome, is_some, option_map, refl, sym, ap, subst, ◌∙◌, arith}
 use Rattle.std.specs.Prelude.{◌==◌}
 use Rattle.std.proofs.lemmas.Bool.{cases_eq, eqb-true, not-true}
@@ -112,12 +113,15 @@ module _ (now : Timeval) (time : IsTime now) (w after : Files) (tree : IsFileTre
       subst Q (ap (λ k. touch now (unnamed now w dir name k) dir) (sym same) ∙ ap (λ (y : Unit {0} × Files). y.1) (ok_same r.2))
       (says f.0 there (no_entries f.0.body (not-true (is_directory f.0.body) (check_ok (not (is_directory f.0.body)) stats.IsDir r.0 r.1))))
 
+  -- REMOVE of a last name
   pub last : names_of w n ≡ 1 → remove w who now dir name ≡ Ok (tt, after) → IsGone after n
   last single h = of_remove (λ v. IsGone v n) (λ f there empty. is_gone now time w tree dir name n c at f there empty single) h
 
+  -- REMOVE of a name where another is left
   pub more_left : 1 < names_of w n → remove w who now dir name ≡ Ok (tt, after) → HasOneNameLess w after now n
   more_left more h = of_remove (λ v. HasOneNameLess w v now n) (λ f there empty. is_less now time w tree dir name n c at f there empty more) h
 
+  -- RMDIR
   pub directory : remove_dir w who now dir name ≡ Ok (tt, after) → IsGone after n
   directory h =
       let p = bind_ok (dir_of w dir) _ (tt, after) h in

@@ -1,8 +1,7 @@
-pub mod Every
-pub mod Frames
-pub mod Stepping
-pub mod Itself
-pub mod Refused
-pub mod Running
-pub mod Doing
+pub mod CallCases
+pub mod UnnamedFiles
+pub mod BeforeAndAfter
+pub mod KeptParts
+pub mod Runs
+pub mod CallEffects
 pub mod LastName

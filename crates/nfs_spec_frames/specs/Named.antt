@@ -16,21 +16,25 @@ IsNoneOf n (m ∷ ms) = (n ≢ m) × IsNoneOf n ms
 abbrev pub named_at : Files → ℕ → List ℕ → List ℕ
 named_at w dir name = option_map_or (λ e. e.0 ∷ []) (places w dir name) []
 
--- the numbers of the files that a call names: of SETATTR and WRITE the file; of CREATE the file that is there, else
--- the directory and the new number; of MKDIR and SYMLINK the directory and the new number; of LINK the file and the
--- directory; of REMOVE and RMDIR the directory and what the name stands for; of RENAME both directories and what
--- both names stand for; of the others none
+-- the numbers of the files that a call names: of SETATTR and WRITE the file; of CREATE the file that is
+-- there, else the directory and the new number; of MKDIR and SYMLINK the directory and the new number; of
+-- LINK the file and the directory; of REMOVE and RMDIR the directory and what the name stands for; of RENAME
+-- both directories and what both names stand for; of the others none
 abbrev pub named_by : Files → Call → List ℕ
 named_by w (Setattr file s) = number_for w file ∷ []
 named_by w (Write file offset new) = number_for w file ∷ []
-named_by w (Create dir name s) = option_map_or (λ e. e.0 ∷ []) (places w (number_for w dir) name) (number_for w dir ∷ w.next ∷ [])
+named_by w (Create dir name s) =
+    option_map_or (λ e. e.0 ∷ []) (places w (number_for w dir) name) (number_for w dir ∷ w.next ∷ [])
 named_by w (Mkdir dir name s) = number_for w dir ∷ w.next ∷ []
 named_by w (Symlink dir name target s) = number_for w dir ∷ w.next ∷ []
 named_by w (Link from dir name) = number_for w from ∷ number_for w dir ∷ []
 named_by w (Remove dir name) = number_for w dir ∷ named_at w (number_for w dir) name
 named_by w (Rmdir dir name) = number_for w dir ∷ named_at w (number_for w dir) name
 named_by w (Rename from from_name to to_name) =
-    number_for w from ∷ number_for w to ∷ named_at w (number_for w from) from_name ++ named_at w (number_for w to) to_name
+    number_for w from
+    ∷ number_for w to
+    ∷ named_at w (number_for w from) from_name
+    ++ named_at w (number_for w to) to_name
 named_by w _ = []
 
 -- a call makes a file unless it is refused: CREATE of a name that isn't there, MKDIR and SYMLINK
@@ -44,7 +48,8 @@ makes w _ = false
 abbrev pub files_made : Files → Call → Answer → ℕ
 files_made w call answer = if makes w call && is_none (refusal_in answer) then 1 else 0
 
--- the numbers of the files whose attributes a call sets: of SETATTR the file, of CREATE the file that is there
+-- the numbers of the files whose attributes a call sets: of SETATTR the file, of CREATE the file that is
+-- there
 abbrev pub set_by : Files → Call → List ℕ
 set_by w (Setattr file s) = number_for w file ∷ []
 set_by w (Create dir name s) = named_at w (number_for w dir) name

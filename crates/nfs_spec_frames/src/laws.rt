@@ -3,8 +3,6 @@
 ghost use Rattle.std.specs.Prelude.{◌≡◌, ◌≢◌, ◌+◌, ◌<◌, ℕ, IsTrue, List, Some, None, Ok};
 ghost use Rattle.nfs_types.specs.Timeval.{Timeval};
 ghost use Rattle.nfs_types.specs.Caller.{Caller};
-ghost use Rattle.nfs_types.specs.declared.stat.Stat.{Stat};
-ghost use Rattle.nfs_types.specs.declared.stat.Stat.TheVariants as stats;
 ghost use Rattle.fs_model.specs.Files.{Files, file_at, places, names_of};
 ghost use Rattle.fs_model.specs.Trees.{IsTime, IsFileTree};
 ghost use Rattle.fs_changes.specs.Limits.{has_room};
@@ -17,8 +15,8 @@ ghost use Rattle.nfs_spec_frames.specs.Done.{Did};
 ghost use Rattle.nfs_spec_frames.specs.Gone.{IsGone, HasOneNameLess};
 ghost use Rattle.nfs_spec_frames.specs.Runs.{Request, files_after, AreBounded};
 
-/// What a call doesn't name stays: the node's number, the next number but where a file was made, and every file
-/// that isn't among those that the call names. No number gets a file but the next one.
+/// What a call doesn't name stays: the node's number, the next number but where a file was made, and every
+/// file that isn't among those that the call names. No number gets a file but the next one.
 pub fn calls_keep_the_files_they_do_not_name()
     ensures node { (w : Files) (who : Caller) (now : Timeval) (call : Call) →
         (call_does w who now call).1.fsid ≡ w.fsid }
@@ -30,15 +28,15 @@ pub fn calls_keep_the_files_they_do_not_name()
         n ≢ w.next → file_at w n ≡ None → file_at (call_does w who now call).1 n ≡ None }
 {}
 
-/// In a tree a call that is not refused does to the files that it names what its procedure says: it changes the parts that
-/// are said, and of these files too the rest stays.
+/// In a tree a call that is not refused does to the files that it names what its procedure says: it changes
+/// the parts that are said, and of these files too the rest stays.
 pub fn calls_change_what_they_name()
     ensures { (w : Files) (who : Caller) (now : Timeval) (call : Call) → IsFileTree w →
         refusal_in (call_does w who now call).0 ≡ None → Did w who now call (call_does w who now call).1 }
 {}
 
-/// In a tree a file stays of its kind, and a link has its target; mode, owner, group and atime are set by SETATTR and
-/// by CREATE of a file that is there alone, and bytes by these and WRITE.
+/// In a tree a file stays of its kind, and a link has its target; mode, owner, group and atime are set by
+/// SETATTR and by CREATE of a file that is there alone, and bytes by these and WRITE.
 pub fn files_stay_what_they_are()
     ensures kinds { (w : Files) (who : Caller) (now : Timeval) (call : Call) (n : ℕ) → IsFileTree w →
         KeepsAt (λ old new. KeepsKind old.body new.body) w (call_does w who now call).1 n }
@@ -49,8 +47,8 @@ pub fn files_stay_what_they_are()
         KeepsAt (λ old new. KeepsBytes old.body new.body) w (call_does w who now call).1 n }
 {}
 
-/// Calls one after the other keep a tree a tree, and pass no limit that was not passed: so from the files that a
-/// server begins with no limit is ever passed.
+/// Calls one after the other keep a tree a tree, and pass no limit that was not passed: so from the files
+/// that a server begins with no limit is ever passed.
 pub fn runs_keep_a_tree_within_its_limits()
     ensures tree { (w : Files) (requests : List Request) → IsFileTree w → AreBounded requests →
         IsFileTree (files_after w requests) }
@@ -61,16 +59,9 @@ pub fn runs_keep_a_tree_within_its_limits()
         × IsTrue (has_room (files_after (opening_files fsid) requests)) }
 {}
 
-/// No call is refused with IO, NODEV, ROFS, NAMETOOLONG, DQUOT or WFLUSH.
-pub fn some_stats_are_never_given()
-    ensures { (w : Files) (who : Caller) (now : Timeval) (call : Call) (stat : Stat) →
-        refusal_in (call_does w who now call).0 ≡ Some stat →
-        (stat ≢ stats.Io) × (stat ≢ stats.NoDev) × (stat ≢ stats.RoFs) × (stat ≢ stats.NameTooLong)
-        × (stat ≢ stats.DQuot) × (stat ≢ stats.WFlush) }
-{}
-
-/// REMOVE of a file's last name takes the file away, so that no path leads to its number; RMDIR takes the directory away.
-/// Where a name is left, REMOVE leaves the file with one name less, and its ctime is the time of the call.
+/// REMOVE of a file's last name takes the file away, so that no path leads to its number; RMDIR takes the
+/// directory away. Where a name is left, REMOVE leaves the file with one name less, and its ctime is the time
+/// of the call.
 pub fn the_last_name_takes_the_file()
     ensures last { (w after : Files) (who : Caller) (now : Timeval) (dir : ℕ) (name : List ℕ) (n c : ℕ) →
         IsFileTree w → IsTime now → places w dir name ≡ Some (n, c) → names_of w n ≡ 1 →

@@ -1,6 +1,6 @@
 use Rattle.nfs_spec_changes.proofs.Granted.{set_ok, write_ok, create_ok}
-use Rattle.nfs_spec_changes.proofs.Becoming.{made_makes}
-use Rattle.nfs_spec_changes.proofs.Bytewise.{wrote_bytes, set_bytes, made_bytes}
+use Rattle.nfs_spec_changes.proofs.NamedFiles.{made_makes}
+use Rattle.nfs_spec_changes.proofs.BytesWritten.{wrote_bytes, set_bytes, made_bytes}
 use Rattle.nfs_spec_changes.proofs.laws.bytes_are_what_was_written.Goals as goal
 
 pub returns-clause-write : goal.returns-clause-write

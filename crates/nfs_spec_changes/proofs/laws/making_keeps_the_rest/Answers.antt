@@ -1,5 +1,5 @@
 use Rattle.nfs_spec_changes.proofs.Granted.{make_ok, create_ok, link_ok}
-use Rattle.nfs_spec_changes.proofs.Becoming.{made_makes, linked_links}
+use Rattle.nfs_spec_changes.proofs.NamedFiles.{made_makes, linked_links}
 use Rattle.nfs_spec_changes.proofs.laws.making_keeps_the_rest.Goals as goal
 
 pub returns-clause-create : goal.returns-clause-create

@@ -1,6 +1,6 @@
 use Rattle.std.proofs.Common.{true, false}
 use Rattle.nfs_spec_changes.proofs.Granted.{remove_ok, remove_dir_ok}
-use Rattle.nfs_spec_changes.proofs.Becoming.{removed_unnames, directory_gone}
+use Rattle.nfs_spec_changes.proofs.NamedFiles.{removed_unnames, directory_gone}
 use Rattle.nfs_spec_changes.proofs.laws.removing_keeps_the_rest.Goals as goal
 
 pub returns-clause-remove : goal.returns-clause-remove

@@ -1,8 +1,9 @@
 use Rattle.std.proofs.Common.{⊎_elim}
 use Rattle.nfs_spec_changes.proofs.Granted.{rename_ok}
-use Rattle.nfs_spec_changes.proofs.Renaming.{renamed_moves}
+use Rattle.nfs_spec_changes.proofs.RenamedFiles.{renamed_moves}
 use Rattle.nfs_spec_changes.proofs.laws.renaming_keeps_the_rest.Goals as goal
 
+-- RENAME of one file changes nothing; of another it moves
 pub returns : goal.returns
 returns c w after who now from to from_name to_name tree h other = ⊎_elim
     (λ same. absurd (other same.0))

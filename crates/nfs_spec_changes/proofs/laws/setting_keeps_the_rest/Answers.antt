@@ -1,6 +1,6 @@
 use Rattle.std.proofs.Common.{[]}
 use Rattle.nfs_spec_changes.proofs.Granted.{set_ok, write_ok, create_ok}
-use Rattle.nfs_spec_changes.proofs.Becoming.{set_becomes, wrote_becomes}
+use Rattle.nfs_spec_changes.proofs.NamedFiles.{set_becomes, wrote_becomes}
 use Rattle.nfs_spec_changes.proofs.laws.setting_keeps_the_rest.Goals as goal
 
 pub returns-clause-set_attributes : goal.returns-clause-set_attributes

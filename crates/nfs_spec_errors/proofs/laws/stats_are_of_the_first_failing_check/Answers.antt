@@ -1,4 +1,4 @@
-use Rattle.nfs_spec_errors.proofs.Reading.{of_getattr, of_lookup, of_read_link, of_read, of_read_dir, of_figures}
+use Rattle.nfs_spec_errors.proofs.ReaderChecks.{of_getattr, of_lookup, of_read_link, of_read, of_read_dir, of_figures}
 use Rattle.nfs_spec_errors.proofs.laws.stats_are_of_the_first_failing_check.Goals as goal
 
 pub returns-clause-getattr : goal.returns-clause-getattr

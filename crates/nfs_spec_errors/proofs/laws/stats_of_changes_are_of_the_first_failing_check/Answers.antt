@@ -1,4 +1,4 @@
-use Rattle.nfs_spec_errors.proofs.Making.{of_write, of_make_dir, of_symlink}
+use Rattle.nfs_spec_errors.proofs.WriteMkdirSymlinkChecks.{of_write, of_make_dir, of_symlink}
 use Rattle.nfs_spec_errors.proofs.laws.stats_of_changes_are_of_the_first_failing_check.Goals as goal
 
 pub returns-clause-write : goal.returns-clause-write

@@ -1,5 +1,5 @@
-use Rattle.nfs_spec_frames.proofs.Frames.{heads, others}
-use Rattle.nfs_spec_frames.proofs.Itself.{absent}
+use Rattle.nfs_spec_frames.proofs.UnnamedFiles.{heads, others}
+use Rattle.nfs_spec_frames.proofs.KeptParts.{absent}
 use Rattle.nfs_spec_frames.proofs.laws.calls_keep_the_files_they_do_not_name.Goals as goal
 
 pub returns-clause-node : goal.returns-clause-node

@@ -1,4 +1,4 @@
-use Rattle.nfs_spec_frames.proofs.Itself.{kinds, attributes, bytes}
+use Rattle.nfs_spec_frames.proofs.KeptParts.{kinds, attributes, bytes}
 use Rattle.nfs_spec_frames.proofs.laws.files_stay_what_they_are.Goals as goal
 
 pub returns-clause-kinds : goal.returns-clause-kinds

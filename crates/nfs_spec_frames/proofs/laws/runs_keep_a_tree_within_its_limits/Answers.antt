@@ -1,7 +1,7 @@
 use Rattle.nfs_spec.specs.Opening.{opening_files}
 use Rattle.nfs_spec.proofs.Opened.{opening_room}
 use Rattle.nfs_spec.proofs.OpeningTree.{opening_is_tree}
-use Rattle.nfs_spec_frames.proofs.Running.{trees, rooms}
+use Rattle.nfs_spec_frames.proofs.Runs.{trees, rooms}
 use Rattle.nfs_spec_frames.proofs.laws.runs_keep_a_tree_within_its_limits.Goals as goal
 
 pub returns-clause-tree : goal.returns-clause-tree

@@ -1,0 +1,109 @@
+-- In every call files stay of their kind; attributes and bytes change only where they are set or written;
+-- what is nothing stays nothing.
+-- Serves: files_stay_what_they_are, calls_keep_the_files_they_do_not_name (nfs_spec_frames).
+use Rattle.std.proofs.Common.{◌≡◌, ◌≢◌, ℕ, Option, Some, None, refl, sym, ap, subst, ◌∙◌}
+use Rattle.nfs_types.specs.Timeval.{Timeval}
+use Rattle.nfs_types.specs.Caller.{Caller}
+use Rattle.fs_model.specs.Listing.{Listing}
+use Rattle.fs_model.specs.Files.{Body, Regular, Link, Directory, File, Files, file_at}
+use Rattle.fs_model.specs.Trees.{IsFileTree}
+use Rattle.fs_model.proofs.Walks.{none_some}
+use Rattle.fs_changes.specs.Edits.{relisted_body}
+use Rattle.nfs_spec.specs.Sattr.{wanted}
+use Rattle.nfs_spec.specs.Changes.{written, resized_body}
+use Rattle.nfs_spec.specs.Calls.{Call, number_for, call_does}
+use Rattle.nfs_spec_trees.proofs.Fitting.{next_free}
+use Rattle.nfs_spec_frames.specs.Named.{IsNoneOf, set_by, written_by, KeepsKind, KeepsAttributes, KeepsBytes, KeepsAt}
+use Rattle.nfs_spec_frames.proofs.UnnamedFiles.{at_name}
+use Rattle.nfs_spec_frames.proofs.BeforeAndAfter.{Step, steps}
+
+-- ---- nothing stays nothing
+
+-- a number without a file gets none but as the next one
+pub absent : (w : Files) (who : Caller) (now : Timeval) (call : Call) (n : ℕ) → n ≢ w.next → file_at w n ≡ None → file_at (call_does w who now call).1 n ≡ None
+absent w who now call n ne none =
+    subst (λ (o : Option File). Step (λ f g. Unit {0}) o (file_at (call_does w who now call).1 n)) none
+    (steps (λ f g. Unit {0}) (λ f. tt) (λ f g h a b. tt) n now (λ f. tt) (λ f. tt) (λ change f. tt) w who (λ call. Unit {0}) ne
+    (λ file s a e f. tt) (λ dir name s a k c is e f. tt) (λ file offset new a e before f is. tt) call tt)
+
+-- what stands between two files that are there
+between : (R : File → File → Type 0) (a b : Option File) → Step R a b → (f g : File) → a ≡ Some f → b ≡ Some g → R f g
+between R None b h f g is is' = absurd (none_some is)
+between R (Some f') None h f g is is' = absurd (none_some is')
+between R (Some f') (Some g') h f g is is' = subst (λ (v : File). R v g) (some_same is) (subst (λ (v : File). R f' v) (some_same is') h)
+  where
+    some_same : {a b : File} → Some a ≡ Some b → a ≡ b
+    some_same h = cc
+
+-- in a tree what is there is not the next number
+old_number : (w : Files) → IsFileTree w → (n : ℕ) (f : File) → file_at w n ≡ Some f → n ≢ w.next
+old_number w tree n f is e = none_some (sym (next_free w tree) ∙ ap (file_at w) (sym e) ∙ is)
+
+-- ---- kinds
+
+kind_same : (b : Body) → KeepsKind b b
+kind_same (Regular bytes) = (bytes, refl)
+kind_same (Link target) = refl
+kind_same (Directory l) = (l, refl)
+
+kind_on : (a b c : Body) → KeepsKind a b → KeepsKind b c → KeepsKind a c
+kind_on (Regular bytes) b c h k = subst (λ v. KeepsKind v c) h.1 k
+kind_on (Link target) b c h k = subst (λ v. KeepsKind v c) h k
+kind_on (Directory l) b c h k = subst (λ v. KeepsKind v c) h.1 k
+
+kind_relisted : (change : Listing → Listing) (b : Body) → KeepsKind b (relisted_body change b)
+kind_relisted change (Regular bytes) = (bytes, refl)
+kind_relisted change (Link target) = refl
+kind_relisted change (Directory l) = (change l, refl)
+
+kind_resized : (size : Option ℕ) (b : Body) → KeepsKind b (resized_body size b)
+kind_resized None b = kind_same b
+kind_resized (Some size) (Regular bytes) = (_, refl)
+kind_resized (Some size) (Link target) = refl
+kind_resized (Some size) (Directory l) = (l, refl)
+
+module _ (w : Files) (who : Caller) (now : Timeval) (tree : IsFileTree w) where
+  -- kinds, and targets of links
+  pub kinds : (call : Call) (n : ℕ) → KeepsAt (λ old new. KeepsKind old.body new.body) w (call_does w who now call).1 n
+  kinds call n old new is is' =
+      let R : File → File → Type 0 = λ f g. KeepsKind f.body g.body in
+      between R (file_at w n) (file_at (call_does w who now call).1 n)
+      (steps R (λ f. kind_same f.body) (λ f g h a b. kind_on f.body g.body h.body a b) n now (λ f. kind_same f.body) (λ f. kind_same f.body) (λ change f. kind_relisted change f.body) w who (λ call. Unit {0}) (old_number w tree n old is)
+      (λ file s a e f. kind_resized (wanted now s).size f.body)
+      (λ dir name s a k c at e f. kind_resized (wanted now s).size f.body)
+      (λ file offset new a e before f regular. subst (λ b. KeepsKind b (Regular (written offset new before))) (sym regular) (_, refl))
+      call tt) old new is is'
+
+  -- ---- mode, owner, group and atime
+
+  attributes_same : (f : File) → KeepsAttributes f f
+  attributes_same f = record { mode = refl; uid = refl; gid = refl; atime = refl }
+
+  -- mode, owner, group and atime
+  pub attributes : (call : Call) (n : ℕ) → IsNoneOf n (set_by w call) → KeepsAt KeepsAttributes w (call_does w who now call).1 n
+  attributes call n ns old new is is' =
+      between KeepsAttributes (file_at w n) (file_at (call_does w who now call).1 n)
+      (steps KeepsAttributes attributes_same (λ f g h a b. record { mode = b.mode ∙ a.mode; uid = b.uid ∙ a.uid; gid = b.gid ∙ a.gid; atime = b.atime ∙ a.atime }) n now
+      (λ f. record { mode = refl; uid = refl; gid = refl; atime = refl }) (λ f. record { mode = refl; uid = refl; gid = refl; atime = refl }) (λ change f. record { mode = refl; uid = refl; gid = refl; atime = refl })
+      w who (λ call. IsNoneOf n (set_by w call)) (old_number w tree n old is)
+      (λ file s a e f. absurd (a.0 e))
+      (λ dir name s a k c at e f. absurd (at_name w who now (number_for w dir) name k c n at a e))
+      (λ file offset new a e before f regular. record { mode = refl; uid = refl; gid = refl; atime = refl })
+      call ns) old new is is'
+
+  -- ---- bytes
+
+  bytes_relisted : (change : Listing → Listing) (b : Body) → KeepsBytes b (relisted_body change b)
+  bytes_relisted change b bytes is = ap (relisted_body change) is
+
+  -- bytes of regular files
+  pub bytes : (call : Call) (n : ℕ) → IsNoneOf n (written_by w call) → KeepsAt (λ old new. KeepsBytes old.body new.body) w (call_does w who now call).1 n
+  bytes call n ns old new is is' =
+      let R : File → File → Type 0 = λ f g. KeepsBytes f.body g.body in
+      between R (file_at w n) (file_at (call_does w who now call).1 n)
+      (steps R (λ f bytes h. h) (λ f g h a b bytes own. b bytes (a bytes own)) n now (λ f bytes h. h) (λ f bytes h. h) (λ change f. bytes_relisted change f.body)
+      w who (λ call. IsNoneOf n (written_by w call)) (old_number w tree n old is)
+      (λ file s a e f. absurd (a.0 e))
+      (λ dir name s a k c at e f. absurd (at_name w who now (number_for w dir) name k c n at a e))
+      (λ file offset new a e before f regular. absurd (a.0 e))
+      call ns) old new is is'
