@@ -1,4 +1,5 @@
--- What each change gives, it gives anew.
+-- What each edit gives, it gives anew: cookies of a directory never fall, and numbers neither.
+-- Serves: nothing_is_given_again in nfs_spec_laws.
 use Rattle.std.proofs.Common.{◌≡◌, ◌≢◌, ◌⊎◌, inl, inr, ⊎_elim, ℕ, ◌≤◌, Bool, true, false, List, [], Option, Some, None, IsSome, is_some, eqb, option_map, refl, sym, ap, subst, ◌∙◌, arith}
 use Rattle.std.specs.Option.{option_map_or}
 use Rattle.std.proofs.lemmas.Bool.{cases_eq}
@@ -20,6 +21,7 @@ use Rattle.nfs_spec_trees.specs.Anew.{GivesAnew}
 next_of : Option File → ℕ
 next_of o = (option_map_or (λ f. listing_in f.body) o (record { next = 0; entries = [] })).next
 
+-- a change of one file that lets its next cookie not fall lets none fall
 pub cookie_changed : (w : Files) (k : ℕ) (change : File → File) → ((f : File) → file_at w k ≡ Some f → (listing_in f.body).next ≤ (listing_in (change f).body).next)
     → (n : ℕ) → (listing w n).next ≤ (listing (with_changed_file w k change) n).next
 unfolding next_of
@@ -42,22 +44,28 @@ less_after x (Regular bytes) = omega arith
 less_after x (Link target) = omega arith
 less_after x (Directory l) = omega arith
 
+-- a name more lets no next cookie fall
 pub cookie_named : (w : Files) (d : ℕ) (x : List ℕ) (k n : ℕ) → (listing w n).next ≤ (listing (with_name w d x k) n).next
 cookie_named w d x k = cookie_changed w d (relisted (λ l. with_entry l x k)) (λ f _. more_after x k f.body)
 
+-- nor does a name less
 pub cookie_unnamed : (w : Files) (d : ℕ) (x : List ℕ) (n : ℕ) → (listing w n).next ≤ (listing (without_name w d x) n).next
 cookie_unnamed w d x = cookie_changed w d (relisted (λ l. without_entry l x)) (λ f _. less_after x f.body)
 
+-- nor do times
 pub cookie_touched : (now : Timeval) (w : Files) (d n : ℕ) → (listing w n).next ≤ (listing (touch now w d) n).next
 cookie_touched now w d = cookie_changed w d (touched now) (λ f _. omega arith)
 
+-- nor does ctime alone
 pub cookie_marked : (now : Timeval) (w : Files) (d n : ℕ) → (listing w n).next ≤ (listing (mark now w d) n).next
 cookie_marked now w d = cookie_changed w d (marked now) (λ f _. omega arith)
 
+-- nor does a new file, of the numbers that were there
 pub cookie_new : (w : Files) (f : File) (n : ℕ) → n ≢ w.next → (listing w n).next ≤ (listing (with_new_file w f) n).next
 unfolding next_of
 cookie_new w f n ne = let same = ap next_of (new_other w f n ne) in omega (arith, same)
 
+-- nor does a file that goes, of the others
 pub cookie_gone : (w : Files) (k n : ℕ) → n ≢ k → (listing w n).next ≤ (listing (without_file w k) n).next
 unfolding next_of
 cookie_gone w k n ne = let same = ap next_of (gone_other w k n ne) in omega (arith, same)
@@ -72,12 +80,14 @@ cookie_taken now w d x k n ne = by (eqb (names_of (without_name w d x) k) 0)
 
 -- ---- what is given
 
+-- files that stay as they are give nothing
 pub nothing_given : (w : Files) → GivesAnew w w
 nothing_given w = record { next = omega arith; numbers = λ n is. inl is; cookies = λ n _ _. omega arith; entries = λ n y k c _ h. inl h }
 
 there_since : (w w' : Files) (n : ℕ) → kind w' n ≡ kind w n → IsSome (file_at w' n) → IsSome (file_at w n)
 there_since w w' n same is = is_some-kind w n ∙ ap is_some (sym same) ∙ sym (is_some-kind w' n) ∙ is
 
+-- files of one shape, whose cookies don't fall, give nothing
 pub same_given : (w w' : Files) → IsSameShape w w' → ((n : ℕ) → (listing w n).next ≤ (listing w' n).next) → GivesAnew w w'
 same_given w w' s cookies = record {
   next = omega (arith, s.next);
@@ -86,6 +96,7 @@ same_given w w' s cookies = record {
   entries = λ n y k c _ h. inl (sym (s.places n y) ∙ h);
 }
 
+-- an entry more is given anew: its cookie, and its number if that wasn't there
 pub added_given : (w w' : Files) (d : ℕ) (x : List ℕ) (k cookie : ℕ) → IsAdded w w' d x k cookie → (listing w d).next ≤ cookie → IsSome (file_at w k) ⊎ (w.next ≤ k)
     → ((n : ℕ) → IsDirectory w n → (listing w n).next ≤ (listing w' n).next) → GivesAnew w w'
 added_given w w' d x k cookie a new known cookies = record {
@@ -107,6 +118,7 @@ added_given w w' d x k cookie a new known cookies = record {
     second : {m p q : ℕ} → ◌≡◌ {A = Option (ℕ × ℕ)} (Some (k, p)) (Some (m, q)) → p ≡ q
     second h = ap (λ (e : ℕ × ℕ). e.1) (some_same h)
 
+-- an entry less gives nothing
 pub taken_given : (w w' : Files) (d : ℕ) (x : List ℕ) (k c : ℕ) → IsTaken w w' d x k c → ((n : ℕ) → n ≢ k → (listing w n).next ≤ (listing w' n).next) → IsSome (file_at w k) → GivesAnew w w'
 taken_given w w' d x k c a cookies there = record {
   next = a.next;
@@ -127,6 +139,7 @@ taken_given w w' d x k c a cookies there = record {
     no_directory : kind w' k ≡ Some true → ⊥
     no_directory is = ⊎_elim (λ l. some_false (sym l.0 ∙ is)) (λ l. none_some (sym l.0 ∙ is)) a.left
 
+-- an entry that moves is given a new cookie, and nothing else
 pub renamed_given : (w w' : Files) (d₁ : ℕ) (x₁ : List ℕ) (d₂ : ℕ) (x₂ : List ℕ) (s sc cookie : ℕ) → IsRenamed w w' d₁ x₁ d₂ x₂ s sc cookie → (listing w d₂).next ≤ cookie
     → w.next ≤ w'.next → ((n : ℕ) → IsSome (file_at w' n) → IsSome (file_at w n) ⊎ (w.next ≤ n)) → ((n : ℕ) → IsDirectory w n → IsDirectory w' n → (listing w n).next ≤ (listing w' n).next) → GivesAnew w w'
 renamed_given w w' d₁ x₁ d₂ x₂ s sc cookie a new next there cookies = record {

@@ -1,9 +1,12 @@
--- A name of a file goes, and with the last name the number.
-use Rattle.std.proofs.Common.{◌≡◌, ◌≢◌, ⊎_elim, inl, inr, ℕ, ◌<◌, Bool, true, false, List, [], Some, None, nat_eq, eqb, option_map, option_and_then, refl, sym, ap, ◌∙◌, arith}
+-- REMOVE and RMDIR take one entry out and leave a tree a tree: a name of a file goes, and with the last name the number.
+-- Serves: removing_takes_a_path, trees_stay_trees, nothing_is_given_again and no_limit_is_passed in nfs_spec_laws;
+-- what_loses_its_last_name_is_gone in nfs_spec_frames.
+use Rattle.std.proofs.Common.{◌≡◌, ◌≢◌, ⊎_elim, inl, inr, ℕ, ◌<◌, Bool, true, false, List, [], Some, None, nat_eq, eqb, is_some, option_map, option_and_then, refl, sym, ap, subst, ◌∙◌, arith}
 use Rattle.std.specs.Map.{lookup}
 use Rattle.std.specs.Cmp.Lexicographic.{pointwise}
 use Rattle.std.proofs.lemmas.Bool.{cases_eq, eqb-true, eqb-false}
 use Rattle.nfs_types.specs.Timeval.{Timeval}
+use Rattle.nfs_types.specs.Caller.{Caller}
 use Rattle.fs_model.specs.Listing.{entry_at}
 use Rattle.fs_model.specs.Files.{File, Files, file_at, listing_in, is_directory, places, names_of}
 use Rattle.fs_model.specs.Trees.{IsTime, IsFileTree}
@@ -14,9 +17,13 @@ use Rattle.fs_changes.proofs.Finite.{changed_other}
 use Rattle.fs_changes.proofs.Listings.{one, leads}
 use Rattle.fs_changes.proofs.Shapes.{kind, AllFiles, IsSameShape, IsUnnamed, IsOneLess, unnamed_shape, gone_shape, gone_files}
 use Rattle.fs_changes.proofs.Adding.{one_same}
-use Rattle.fs_changes.proofs.Taking.{IsTaken}
-use Rattle.nfs_spec.specs.Changes.{touch, mark, unnamed, after_unlink}
-use Rattle.nfs_spec_trees.proofs.Fitting.{dir_file, is_dir, touch_shape, mark_shape, touch_files, mark_files, unnamed_files, distinct_names}
+use Rattle.fs_changes.proofs.Taking.{IsTaken, stays_taken}
+use Rattle.fs_changes.proofs.Room.{IsNoMore, no_more_then, changed_no_more, gone_no_more, unnamed_no_more, same_smaller, still_room}
+use Rattle.nfs_spec.specs.Changes.{touch, touched, mark, marked, unnamed, after_unlink}
+use Rattle.nfs_spec_steps.specs.Granted.{UnnameOk}
+use Rattle.nfs_spec_trees.specs.Anew.{Follows}
+use Rattle.nfs_spec_trees.proofs.GivenAnew.{taken_given, cookie_taken, cookie_touched}
+use Rattle.nfs_spec_trees.proofs.FilesFit.{dir_file, is_dir, touch_shape, mark_shape, touch_files, mark_files, unnamed_files, distinct_names}
 
 -- what is taken is taken, whatever changes but the shape
 pub taken_then : (u v w : Files) (d : ℕ) (x : List ℕ) (k c : ℕ) → IsTaken u v d x k c → IsSameShape v w → AllFiles w → IsTaken u w d x k c
@@ -104,6 +111,7 @@ module _ (now : Timeval) (time : IsTime now) (w : Files) (tree : IsFileTree w) (
         files = mark_files now w₁ n time files₁;
       }
 
+  -- a name goes, and with the last one the file: one entry less, and nothing else of the shape
   pub unnamed_taken : IsTaken w (unnamed now w d x n) d x n c
   unfolding w₁
   unnamed_taken = by (eqb (names_of w₁ n) 0) refl
@@ -115,7 +123,45 @@ module _ (now : Timeval) (time : IsTime now) (w : Files) (tree : IsFileTree w) (
           positive : (m : ℕ) → m ≢ 0 → 0 < m
           positive m ne = omega arith
 
+  -- and the directory's times change nothing of that
   pub touched_taken : IsTaken w (touch now (unnamed now w d x n) d) d x n c
   touched_taken =
       let v = unnamed now w d x n in
       taken_then w v (touch now v d) d x n c unnamed_taken (touch_shape now v d) (touch_files now v d time unnamed_taken.files)
+
+-- ---- REMOVE, RMDIR
+
+module _ (now : Timeval) (time : IsTime now) (w : Files) (tree : IsFileTree w) (who : Caller) (dir : ℕ) (name : List ℕ) (after : Files)
+    (kind : Bool) (o : UnnameOk kind w who now dir name after) where
+  -- no number of files, entries or blocks grows
+  no_more : IsNoMore w (touch now (unnamed now w dir name o.number) dir)
+  no_more =
+      no_more_then w v _ (unnamed_no_more w dir name)
+      (no_more_then v (unnamed now w dir name o.number) _ (by (eqb (names_of v o.number) 0))
+      (changed_no_more (unnamed now w dir name o.number) dir (touched now) (λ f. same_smaller f (touched now f) refl)))
+    where
+      v : Files
+      v = without_name w dir name
+
+      by : (b : Bool) → IsNoMore v (after_unlink b now v o.number)
+      by true = gone_no_more v o.number
+      by false = changed_no_more v o.number (marked now) (λ f. same_smaller f (marked now f) refl)
+
+  taken : IsTaken w (touch now (unnamed now w dir name o.number) dir) dir name o.number o.cookie
+  taken = touched_taken now time w tree dir name o.number o.cookie o.is_named o.file o.there o.empty
+
+  -- one entry goes
+  pub remove_taken : IsTaken w after dir name o.number o.cookie
+  remove_taken = subst (λ (v : Files). IsTaken w v dir name o.number o.cookie) (sym o.effect) taken
+
+  -- what takes a name leaves a tree a tree, gives nothing, and passes no limit
+  pub remove_follows : Follows w after
+  remove_follows =
+      let end = touch now (unnamed now w dir name o.number) dir in
+      subst (Follows w) (sym o.effect) (record {
+        tree = stays_taken w end tree dir name o.number o.cookie taken;
+        anew = taken_given w end dir name o.number o.cookie taken
+            (λ n ne. omega (arith, cookie_taken now w dir name o.number n ne, cookie_touched now (unnamed now w dir name o.number) dir n))
+            (ap is_some o.there);
+        room = still_room w end no_more;
+      })
