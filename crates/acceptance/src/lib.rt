@@ -2,9 +2,9 @@
 #![tactic(auto)]
 
 #[cfg(test)]
-mod commands;
+mod calls;
 #[cfg(test)]
-mod counting;
+mod commands;
 #[cfg(test)]
 mod devices;
 #[cfg(test)]
