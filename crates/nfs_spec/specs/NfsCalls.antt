@@ -5,8 +5,7 @@ use Rattle.nfs_items.specs.Caller.{Caller}
 use Rattle.nfs_items.specs.Handle.{handle_of, number_in}
 use Rattle.nfs_items.specs.declared.attributes.Fattr.{Fattr}
 use Rattle.nfs_items.specs.declared.stat.Stat.{Stat}
-use Rattle.nfs_types.specs.Calls.{Call, Null, Getattr, Setattr, Root, Lookup, Readlink, Read, Writecache, Write, Create, Remove, Rename, Link, Symlink, Mkdir, Rmdir, Readdir, Statfs}
-use Rattle.nfs_types.specs.Calls.{Handle, Answer, Nothing, Attributes, DirOp, Target, Bytes, Status, Entries, Free}
+use Rattle.nfs_types.specs.Calls.{Call, Null, Getattr, Setattr, Root, Lookup, Readlink, Read, Writecache, Write, Create, Remove, Rename, Link, Symlink, Mkdir, Rmdir, Readdir, Statfs, Handle, Answer, Nothing, Attributes, DirOp, Target, Bytes, Status, Entries, Free}
 use Rattle.fs_model.specs.Files.{Files}
 use Rattle.nfs_spec.specs.ProcedureChecks.{◌>>=◌}
 use Rattle.nfs_spec.specs.Sattr.{given_fields}
