@@ -107,5 +107,6 @@ pub fn pages_give_each_entry_once()
 
 /// A call is answered by an answer of its procedure.
 pub fn calls_are_answered_by_their_procedures()
-    ensures { (fs : Files) (who : Caller) (now : Timeval) (call : Call) → IsAnswerTo (procedure_in call) (call_does fs who now call).0 }
+    ensures { (fs : Files) (who : Caller) (now : Timeval) (call : Call) →
+        IsAnswerTo (procedure_in call) (call_does fs who now call).0 }
 {}

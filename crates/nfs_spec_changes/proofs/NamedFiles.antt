@@ -68,7 +68,7 @@ module _ (w : Files) (who : Caller) (now : Timeval) where
       let b₃ = at_touched w₂ dir o.dir_file o.dir_file.mtime o.dir_file.ctime (with_entry l.0 name w.next) b₂ now in
       let own = becomes_touched now w (add_file now w dir name f) dir o.dir_file l.0 (with_entry l.0 name w.next) (λ m. with_entry m name w.next) o.there l.1 b₃ refl in
       let new : file_at (add_file now w dir name f) w.next ≡ Some f = changed_other w₂ dir (with_mtime now) w.next apart ∙ changed_other w₁ dir (map_listing (λ m. with_entry m name w.next)) w.next apart ∙ new_here w f w.next refl in
-      let whole : Makes now w (add_file now w dir name f) dir name w.next f = record { number_is = refl; free = next_free w tree; unused = o.free; add_file = new; directory = own } in
+      let whole : Makes now w (add_file now w dir name f) dir name w.next f = record { number_is = refl; free = next_free w tree; unused = o.free; made = new; directory = own } in
       subst (λ k. Makes now w x.1 dir name k f) (sym o.number) (subst (λ v. Makes now w v dir name w.next f) (sym o.is) whole)
     where
       apart : w.next ≢ dir

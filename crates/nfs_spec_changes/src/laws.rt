@@ -22,7 +22,7 @@ pub fn setting_keeps_the_rest()
         (number ≡ n) × (set_attributes fs who now n a ≡ Ok (tt, after)) }
     ensures write { (fs after : Files) (who : Caller) (now : Timeval) (n offset : ℕ) (new : List ℕ) →
         new ≢ [] → write fs who now n offset new ≡ Ok (tt, after) → Becomes fs after n (IsRewritten now) }
-    ensures no_fields { (fs after : Files) (who : Caller) (now : Timeval) (n offset : ℕ) →
+    ensures nothing { (fs after : Files) (who : Caller) (now : Timeval) (n offset : ℕ) →
         write fs who now n offset [] ≡ Ok (tt, after) → after ≡ fs }
 {}
 

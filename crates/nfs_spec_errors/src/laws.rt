@@ -29,7 +29,7 @@ pub fn stats_are_of_the_first_failing_check()
         stat_in (read fs who n offset count) ≡ first_failing (read_checks fs who n) }
     ensures read_dir { (fs : Files) (who : Caller) (dir cookie count : ℕ) →
         stat_in (read_dir fs who dir cookie count) ≡ first_failing (read_dir_checks fs who dir) }
-    ensures stat_fs { (fs : Files) (n : ℕ) → stat_in (stat_fs fs n) ≡ first_failing (file_checks fs n) }
+    ensures figures { (fs : Files) (n : ℕ) → stat_in (stat_fs fs n) ≡ first_failing (file_checks fs n) }
 {}
 
 /// So it is of WRITE, where the last two checks are asked only of some bytes, and of MKDIR and SYMLINK.
