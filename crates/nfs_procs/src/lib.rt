@@ -6,7 +6,7 @@ ghost use Rattle.xdr.specs.Writing.{Appends};
 ghost use Rattle.nfs_items.specs.CallerOf.{caller_of};
 ghost use Rattle.nfs_types.specs.Texts.{procedure_in, answer_text};
 ghost use Rattle.nfs_types.specs.Arguments.{call_of};
-ghost use Rattle.nfs_types.specs.Results.{answer_of, outcome_of, dir_op_of, HasLengths};
+ghost use Rattle.nfs_types.specs.Results.{outcome_of, dir_op_of};
 ghost use Rattle.nfs_spec.specs.Effects.{getattr, lookup};
 ghost use Rattle.nfs_spec.specs.NfsCalls.{call_does};
 ghost use Rattle.nfs_procs.specs.Served.{is_served};
@@ -55,17 +55,25 @@ fn lookup(tree: &Tree, who: &Who, args: DirOpArgs) -> Result<DirOpOk, Stat>
     })
 }
 
-/// What a caller is answered by a procedure that reads alone.
-fn answer<'a>(tree: &'a Tree, who: &Who, now: Time, args: &NfsArgs) -> NfsResult<'a>
+/// Appends what a caller is answered by a procedure that reads alone. Where memory is refused, the bytes are as they
+/// were.
+fn answer_into(
+    tree: &Tree,
+    who: &Who,
+    now: Time,
+    args: &NfsArgs,
+    out: &mut Vec<u8>,
+) -> Result<(), AllocError>
     requires { IsTrue (is_served (procedure_in (call_of args.now))) }
-    ensures answer { answer_of result ≡ (call_does tree.now (caller_of who.now) now (call_of args.now)).0 }
+    ensures text { Appends (answer_text (call_does tree.now (caller_of who.now) now (call_of args.now)).0) out.old.items result out.new.items }
     ensures files { (call_does tree.now (caller_of who.now) now (call_of args.now)).1 ≡ tree.now }
-    ensures lengths { HasLengths result }
 {
     match args {
-        NfsArgs::Getattr(file) => NfsResult::Attributes(getattr(tree, *file)),
-        NfsArgs::Lookup(args) => NfsResult::DirOp(lookup(tree, who, *args)),
-        _ => NfsResult::Nothing,
+        NfsArgs::Getattr(file) => {
+            write_result(&NfsResult::Attributes(getattr(tree, *file)), out)
+        }
+        NfsArgs::Lookup(args) => write_result(&NfsResult::DirOp(lookup(tree, who, *args)), out),
+        _ => write_result(&NfsResult::Nothing, out),
     }
 }
 
@@ -75,14 +83,13 @@ pub fn nfs_call(
     tree: &mut Tree,
     who: &Who,
     now: Time,
-    args: NfsArgs,
+    args: &NfsArgs,
     out: &mut Vec<u8>,
 ) -> Result<(), AllocError>
-    requires { IsTrue (is_served (procedure_in (call_of args))) }
-    ensures text { Appends (answer_text (call_does tree.old (caller_of who.now) now (call_of args.entry)).0) out.old.items result out.new.items }
-    ensures files { OnOk result (tree.new ≡ (call_does tree.old (caller_of who.now) now (call_of args.entry)).1) }
+    requires { IsTrue (is_served (procedure_in (call_of args.now))) }
+    ensures text { Appends (answer_text (call_does tree.old (caller_of who.now) now (call_of args.now)).0) out.old.items result out.new.items }
+    ensures files { OnOk result (tree.new ≡ (call_does tree.old (caller_of who.now) now (call_of args.now)).1) }
     ensures err { OnErr result (tree.new ≡ tree.old) }
 {
-    let result = answer(tree, who, now, &args);
-    write_result(&result, out)
+    answer_into(tree, who, now, args, out)
 }

@@ -27,7 +27,7 @@ use Rattle.nfs_types.specs.Calls as calls
 use Rattle.nfs_spec.specs.NfsCalls.{answer_and_files, with_attributes, with_handle, number_for, call_does}
 use Rattle.nfs_spec_steps.proofs.Steps.{bind_ok, found_ok, ok_same, dir_ok}
 use Rattle.nfs_types.specs.Items.{path, entry}
-use Rattle.nfs_types.specs.Texts.{entry_value, figures_value, IsSpelled}
+use Rattle.nfs_types.specs.Texts.{entry_value, fs_stats_value, IsSpelled}
 use Rattle.nfs_spec_sizes.proofs.Values.{outcome_fits, AreSpelled, attributes_fit, EntryFits, page_fits}
 
 -- ---- values
@@ -163,9 +163,9 @@ module _ (w : Files) (h : AreSpelled w) (who : Caller) where
 
   of_free : (n : ℕ) → IsSpelled (calls.Free (stat_fs w n))
   of_free n = record {
-    fits = outcome_fits (pair word (pair word (pair word (pair word word)))) figures_value (stat_fs w n) (λ x is.
+    fits = outcome_fits (pair word (pair word (pair word (pair word word)))) fs_stats_value (stat_fs w n) (λ x is.
         let f = bind_ok (file_of w n) _ x is in
-        subst (λ (x : FsStats). Fits (pair word (pair word (pair word (pair word word)))) (figures_value x)) (ok_same f.2) (omega arith, (omega arith, (omega arith, (omega arith, omega arith)))));
+        subst (λ (x : FsStats). Fits (pair word (pair word (pair word (pair word word)))) (fs_stats_value x)) (ok_same f.2) (omega arith, (omega arith, (omega arith, (omega arith, omega arith)))));
     cookies = tt;
   }
 
