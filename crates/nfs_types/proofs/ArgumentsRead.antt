@@ -96,6 +96,14 @@ own_value procedures.Statfs v = refl
 pub own_call : (procedure : NfsProcedure) (bytes rest : List ℕ) (call : Call) → SaysCall procedure bytes call rest → procedure_in call ≡ procedure
 own_call procedure bytes rest call s = ap procedure_in s.2 ∙ own_value procedure s.0
 
+-- and what is read of them is a call of it
+pub read_is_own : (procedure : NfsProcedure) (bytes rest : List ℕ) (call : Call) → call_at procedure bytes ≡ Ok (call, rest) → procedure_in call ≡ procedure
+read_is_own procedure bytes rest call e =
+    let p = procedure_of procedure in
+    let r = bind_ok (read_at p.arguments bytes) (λ x. done (p.says x.0, x.1)) (call, rest) e in
+    let both = ok_is (p.says r.0.0, r.0.1) (call, rest) r.2 in
+    ap procedure_in (sym (ap (λ (x : Call × List ℕ). x.0) both)) ∙ own_value procedure r.0.0
+
 -- the numbers of procedures are 0 to 17
 pub no_procedure : (n : ℕ) → (procedure_at n ≡ None) ↔ (17 < n)
 no_procedure n = (
@@ -110,7 +118,7 @@ no_procedure n = (
     never h = cc
 
 -- what was read is of the procedure
-pub given_is_own : (procedure : NfsProcedure) (bytes : List ℕ) (result : Result NfsArgs XdrFault) (new : List ℕ) → IsBytes bytes → GivesCall procedure bytes result new
+pub given_is_own : (procedure : NfsProcedure) (bytes : List ℕ) (result : Result NfsArgs XdrFault) (new : List ℕ) → GivesCall procedure bytes result new
     → IfOk result (λ a. procedure_in (call_of a) ≡ procedure)
-given_is_own procedure bytes (Ok a) new bound given = own_call procedure bytes new (call_of a) (read_is_said procedure bytes new (call_of a) bound given)
-given_is_own procedure bytes (Err e) new bound given = tt
+given_is_own procedure bytes (Ok a) new given = read_is_own procedure bytes new (call_of a) given
+given_is_own procedure bytes (Err e) new given = tt

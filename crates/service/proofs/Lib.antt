@@ -1,2 +1,4 @@
 pub mod Answering
+pub mod Replied
+pub mod ServedCalls
 pub mod Sizes

@@ -1,7 +1,7 @@
 -- A reply fits a record: bounds on the spelling of each result, and so on the reply owed.
 -- Serves: `Service::answer`.
 use Rattle.std.proofs.Common.{◌≡◌, ℕ, ◌≤◌, List, [], ◌++◌, length, Result, Ok, Err, arith, refl, length-append, lit≤}
-use Rattle.std.specs.Prelude.{Option, Some, None, IfSome, option_map}
+use Rattle.std.specs.Prelude.{Option, Some, None, IfSome, IsTrue, option_map}
 use Rattle.xdr.specs.Item.{Item, spelling, number_spelling, pair}
 use Rattle.xdr.specs.Reading.{Read}
 use Rattle.xdr.proofs.Front.{length-number_spelling}
@@ -13,17 +13,20 @@ use Rattle.rpc.specs.declared.reply.ReplyBody.TheVariants as bodies
 use Rattle.nfs_items.specs.Timeval.{Timeval}
 use Rattle.nfs_items.specs.Caller.{Caller}
 use Rattle.nfs_items.specs.Handle.{handle_of, fhandle}
-use Rattle.nfs_types.specs.Arguments.{Arguments, Null, Getattr, Lookup}
 use Rattle.nfs_items.specs.Attributes.{fattr, fattr_value, stat_or, stat_value}
-use Rattle.nfs_types.specs.Items.{attrstat, diropres}
-use Rattle.nfs_types.specs.Results.{results_text}
 use Rattle.nfs_items.specs.declared.attributes.Fattr.{Fattr}
 use Rattle.nfs_items.specs.declared.stat.Stat.{Stat}
 use Rattle.nfs_items.specs.declared.stat.Stat.TheVariants as stats
+use Rattle.nfs_types.specs.Calls as calls
+use Rattle.nfs_types.specs.Calls.{Call, Attributes, DirOp}
+use Rattle.nfs_types.specs.Texts.{procedure_in, answer_text}
 use Rattle.fs_model.specs.Files.{Files}
 use Rattle.nfs_spec.specs.ProcedureChecks.{◌>>=◌, number_of}
-use Rattle.nfs_spec.specs.Effects.{does, getattr, attributes_at, number_at_name}
+use Rattle.nfs_spec.specs.Effects.{getattr, attributes_at, number_at_name}
+use Rattle.nfs_spec.specs.NfsCalls.{call_does}
+use Rattle.nfs_procs.specs.Served.{is_served}
 use Rattle.service.specs.World.{World, at_time}
+use Rattle.service.proofs.ServedCalls.{IsServed, checked_is_served}
 use Rattle.service.specs.Replies.{OrRefusal, call_or_refusal, call_reply, reply_to, reply_of_call, reply_owed}
 
 body_length : (xid : ℕ) (body : ReplyBody) → length (reply_text (record { xid = xid; body = body })) ≤ 36
@@ -65,40 +68,44 @@ handle_length : (fsid n : ℕ) → length (handle_of fsid n) ≡ 32
 unfolding handle_of
 handle_length fsid n = refl
 
-attrstat_length : (r : Result Fattr Stat) → length (spelling attrstat (attrstat_value r)) ≤ 72
-attrstat_length (Ok a) = omega (arith, length-append (number_spelling 4 0) (spelling fattr (fattr_value a)), length-number_spelling 4 0, fattr_length a)
-attrstat_length (Err e) = omega (arith, stat_length fattr e)
+attributes_length : (r : Result Fattr Stat) → length (answer_text (Attributes r)) ≤ 72
+attributes_length (Ok a) = omega (arith, length-append (number_spelling 4 0) (spelling fattr (fattr_value a)), length-number_spelling 4 0, fattr_length a)
+attributes_length (Err e) = omega (arith, stat_length fattr e)
 
-refused_length : (e : Stat) → length (spelling diropres (diropres_value (Err e))) ≤ 104
+refused_length : (e : Stat) → length (answer_text (DirOp (Err e))) ≤ 104
 refused_length e = omega (arith, stat_length (pair fhandle fattr) e)
 
-found_length : (w : Files) (n : ℕ) (r : Result Fattr Stat) → length (spelling diropres (diropres_value (r >>= λ a. Ok (handle_of w.fsid n, a)))) ≤ 104
+found_length : (w : Files) (n : ℕ) (r : Result Fattr Stat) → length (answer_text (DirOp (r >>= λ a. Ok (handle_of w.fsid n, a)))) ≤ 104
 found_length w n (Ok a) =
     omega (arith, length-append (number_spelling 4 0) (spelling fhandle (handle_of w.fsid n) ++ spelling fattr (fattr_value a)), length-append (spelling fhandle (handle_of w.fsid n)) (spelling fattr (fattr_value a)), length-append (handle_of w.fsid n) [], handle_length w.fsid n, length-number_spelling 4 0, fattr_length a)
 found_length w n (Err e) = refused_length e
 
-named_length : (w : Files) (r : Result ℕ Stat) → length (spelling diropres (diropres_value (r >>= λ n. attributes_at w n >>= λ a. Ok (handle_of w.fsid n, a)))) ≤ 104
+named_length : (w : Files) (r : Result ℕ Stat) → length (answer_text (DirOp (r >>= λ n. attributes_at w n >>= λ a. Ok (handle_of w.fsid n, a)))) ≤ 104
 named_length w (Ok n) = found_length w n (attributes_at w n)
 named_length w (Err e) = refused_length e
 
 lookup_length : (w : Files) (who : Caller) (name : List ℕ) (r : Result ℕ Stat)
-    → length (spelling diropres (diropres_value (r >>= λ d. number_at_name w who d name >>= λ n. attributes_at w n >>= λ a. Ok (handle_of w.fsid n, a)))) ≤ 104
+    → length (answer_text (DirOp (r >>= λ d. number_at_name w who d name >>= λ n. attributes_at w n >>= λ a. Ok (handle_of w.fsid n, a)))) ≤ 104
 lookup_length w who name (Ok d) = named_length w (number_at_name w who d name)
 lookup_length w who name (Err e) = refused_length e
 
-results_length : (w : Files) (who : Caller) (now : Timeval) (a : Arguments) → length (results_text (does w who now a).0) ≤ 104
-results_length w who now Null = omega arith
-results_length w who now (Getattr file) = omega (arith, attrstat_length (getattr w file))
-results_length w who now (Lookup dir name) = lookup_length w who name (number_of w dir)
+-- the answer of a procedure that is served
+answer_length : (w : Files) (who : Caller) (now : Timeval) (call : Call) → IsTrue (is_served (procedure_in call)) → length (answer_text (call_does w who now call).0) ≤ 104
+answer_length w who now calls.Null served = omega arith
+answer_length w who now (calls.Getattr file) served = omega (arith, attributes_length (getattr w file))
+answer_length w who now calls.Root served = omega arith
+answer_length w who now (calls.Lookup dir name) served = lookup_length w who name (number_of w dir)
+answer_length w who now calls.Writecache served = omega arith
+answer_length w who now _ served = absurd cc
 
-call_reply_length : (w : Files) (now : Timeval) (xid : ℕ) (c : OrRefusal (Caller × Arguments)) → length (call_reply w now xid c).0 ≤ MAX_RECORD
-call_reply_length w now xid (Err body) = omega (arith, body_length xid body)
-call_reply_length w now xid (Ok (who, a)) =
-    omega (arith, length-append (reply_text (record { xid = xid; body = bodies.Success })) (results_text (does w who now a).0), body_length xid bodies.Success, results_length w who now a)
+call_reply_length : (w : Files) (now : Timeval) (xid : ℕ) (c : OrRefusal (Caller × Call)) → IsServed c → length (call_reply w now xid c).0 ≤ MAX_RECORD
+call_reply_length w now xid (Err body) served = omega (arith, body_length xid body)
+call_reply_length w now xid (Ok (who, call)) served =
+    omega (arith, length-append (reply_text (record { xid = xid; body = bodies.Success })) (answer_text (call_does w who now call).0), body_length xid bodies.Success, answer_length w who now call served)
 
 reply_length : (w : Files) (now : Timeval) (m : Message) (arguments : List ℕ) → length (reply_to w now m arguments).0 ≤ MAX_RECORD
 reply_length w now (OtherVersion xid version) arguments = omega (arith, body_length xid (bodies.RpcMismatch 2 2))
-reply_length w now (Version2 xid h) arguments = call_reply_length w now xid (call_or_refusal h arguments)
+reply_length w now (Version2 xid h) arguments = call_reply_length w now xid (call_or_refusal h arguments) (checked_is_served h arguments)
 
 call_length : (w : World) (now : Timeval) (read : Read Message) → IfSome (reply_of_call w now read) (λ text. length text ≤ MAX_RECORD)
 call_length w now (Ok x) = reply_length w.files now x.0 x.1

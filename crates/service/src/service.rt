@@ -174,7 +174,7 @@ fn answer_call(
     match checked {
         Ok((who, args)) => {
             add_bare_reply(out, xid, ReplyBody::Success)?;
-            nfs_call(tree, &who, now, args, out)
+            nfs_call(tree, &who, now, &args, out)
         }
         Err(body) => add_bare_reply(out, xid, body),
     }

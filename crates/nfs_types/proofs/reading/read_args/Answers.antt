@@ -16,4 +16,4 @@ returns-clause-only c =
 pub returns-clause-own : goal.returns-clause-own
 returns-clause-own c =
     let given : GivesCall c.args.procedure c.args.bytes.now c.read_arguments.result c.read_arguments.new.reader = rw (← c.new.ensures) c.read_arguments.ensures in
-    given_is_own _ c.args.bytes.now c.read_arguments.result c.read_arguments.new.reader (λ i. omega (arith, c.type_inv.bytes i)) given
+    given_is_own _ c.args.bytes.now c.read_arguments.result c.read_arguments.new.reader given

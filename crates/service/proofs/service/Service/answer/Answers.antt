@@ -1,9 +1,31 @@
-use Rattle.std.proofs.Common.{arith, rules}
-use Rattle.std.proofs.lemmas.Grind.{common_steps}
-use Rattle.service.specs.Replies.{reply_owed}
+use Rattle.std.proofs.Common.{◌≡◌, ap}
+use Rattle.nfs_items.specs.Timeval.{Timeval}
+use Rattle.service.specs.World.{World, at_time}
+use Rattle.service.specs.Replies.{after_reply}
 use Rattle.service.proofs.Sizes.{fits_a_record, mapped_fits}
+use Rattle.service.proofs.Replied.{call_replied, fault_replied}
 use Rattle.service.proofs.service.Service.answer.Goals as goal
+use Rattle.service.proofs.service.Service.answer.Goals.{in-Ok+in_ok-reply_to-in-Ok, in-Err}
+
+pub returns-clause-reply : goal.returns-clause-reply
+returns-clause-reply c = elim c.match-read_call.branch [
+  in-Ok+in_ok-reply_to-in-Ok w ↦
+    rw (w.reply-is, ← c.self.view_is) ((call_replied _ c.args.time c.args.bytes.now c.read_call.result c.read_call.ensures.exact w.in-Ok.call
+      w.in_ok-reply_to-in-Ok.field-0.items w.reply_to.new.tree w.in-Ok.is c.later-now.result c.later-now.ensures
+      w.in_ok-reply_to-in-Ok.ensures.text w.in_ok-reply_to-in-Ok.ensures.files).0)
+  | in-Err w ↦
+    rw (w.reply-is, ← c.self.view_is) ((fault_replied _ c.args.time c.args.bytes.now c.read_call.result c.read_call.ensures.exact w.in-Err.field-0 w.in-Err.is).0)
+]
+
+pub returns-clause-world : goal.returns-clause-world
+returns-clause-world c = elim c.match-read_call.branch [
+  in-Ok+in_ok-reply_to-in-Ok w ↦
+    rw (w.self-inside-is, ← c.self.view_is, c.later-now.ensures) ((call_replied _ c.args.time c.args.bytes.now c.read_call.result c.read_call.ensures.exact w.in-Ok.call
+      w.in_ok-reply_to-in-Ok.field-0.items w.reply_to.new.tree w.in-Ok.is c.later-now.result c.later-now.ensures
+      w.in_ok-reply_to-in-Ok.ensures.text w.in_ok-reply_to-in-Ok.ensures.files).1)
+  | in-Err w ↦
+    rw (w.self-inside-is, ← c.self.view_is, c.later-now.ensures) ((fault_replied _ c.args.time c.args.bytes.now c.read_call.result c.read_call.ensures.exact w.in-Err.field-0 w.in-Err.is).1)
+]
 
 pub returns-clause-size : goal.returns-clause-size
-unfolding reply_owed
-returns-clause-size c = mapped_fits _ _ _ (first_of (search rules, grind (arith, common_steps))) (fits_a_record c.args.self.now c.args.time c.args.bytes.now)
+returns-clause-size c = mapped_fits _ _ _ (returns-clause-reply c) (fits_a_record c.args.self.now c.args.time c.args.bytes.now)
