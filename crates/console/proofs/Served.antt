@@ -10,7 +10,7 @@ use Rattle.records.specs.Writing.{WritesFront}
 use Rattle.records.proofs.Streams.{AreRecords-push}
 use Rattle.records.specs.declared.fault.RecordFault.{RecordFault}
 use Rattle.records.specs.declared.fault.RecordFault.TheVariants as faults
-use Rattle.records.specs.Reading.{FailsUnless, StopsAt, TakesToLimit, TakesAll, fault_after}
+use Rattle.records.specs.Reading.{FailsUnless, StopsAt, TakesToLimit, TakesAll, TakesPart, IsPartOfRecord, fault_after}
 use Rattle.nfs_types.specs.Timeval.{Timeval}
 use Rattle.service.specs.World.{World, opening_world}
 use Rattle.service.specs.Replies.{reply_owed, world_after}
@@ -199,7 +199,7 @@ pub leaves_off_reading : {now : World} {k : ℕ} {before mid mid' written_before
     → LeavesOff e failed before mid' written_before written
 leaves_off_reading faults.NoMemory p f same h = rw (same refl) (stops_between p)
 leaves_off_reading faults.RecordTooLong p f same h = stops_after TakesToLimit p h
-leaves_off_reading faults.Device p f same h = rw f (stops_after (λ _ _. Unit {0}) p tt)
+leaves_off_reading faults.Device p f same h = rw f (stops_after (TakesPart IsPartOfRecord) p h)
 leaves_off_reading faults.EndInRecord p f same h = stops_after TakesAll p h
 
 -- a record was read and its reply not wholly written: the device failed, or memory was refused

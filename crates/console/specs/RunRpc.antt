@@ -4,7 +4,7 @@ use Rattle.std.specs.Io.KnownBytes.{Appends, Consumes}
 use Rattle.records.specs.Count.{Rises}
 use Rattle.records.specs.Record.{IsUnfinished, PassesLimit}
 use Rattle.records.specs.Stream.{AreRecords}
-use Rattle.records.specs.Reading.{TakesToLimit, TakesAll}
+use Rattle.records.specs.Reading.{TakesToLimit, TakesAll, TakesPart, IsPartOfRecord}
 use Rattle.records.specs.declared.fault.RecordFault.{RecordFault}
 use Rattle.records.specs.declared.fault.RecordFault.TheVariants as faults
 use Rattle.nfs_types.specs.Timeval.{Timeval}
@@ -98,12 +98,13 @@ pub record StopsAfterRecords (Takes : Option (List ℕ) → Option (List ℕ) �
   pub written : Appends before after (text_owed answered)
 
 -- What was taken and written where the loop ends with a fault. Device came from a write where the reader has no fault,
--- and else from a read, of which nothing is known.
+-- and else from a read: then less than a whole record was taken behind those that were answered.
 abbrev pub LeavesOff : RecordFault → Option RecordFault → (left left' before after : Option (List ℕ)) → Type 0
 LeavesOff faults.NoMemory failed left left' before after = StopsBetweenRecords left left' before after
 LeavesOff faults.RecordTooLong failed left left' before after = StopsAfterRecords TakesToLimit left left' before after
 LeavesOff faults.Device None left left' before after = StopsInReply left left' before after
-LeavesOff faults.Device (Some e) left left' before after = StopsAfterRecords (λ _ _. Unit {0}) left left' before after
+LeavesOff faults.Device (Some e) left left' before after =
+    StopsAfterRecords (TakesPart IsPartOfRecord) left left' before after
 LeavesOff faults.EndInRecord failed left left' before after = StopsAfterRecords TakesAll left left' before after
 
 -- What stands after a fault: the fault that the reader answers from then on, and the counts of the reader and of the
