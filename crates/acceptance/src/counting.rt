@@ -10,9 +10,14 @@ use std::test::Fail;
 fn a_read_asks_the_device_once(rt: HostRuntime) -> Result<(), Fail> {
     let mut device = Counting::new(SlowReader::new(&[7, 8, 9], 2));
     let mut buf = [0; 2];
-    let mut call = 0;
-    for taken in [Some(1), None, Some(1), Some(1), Some(0)] {
-        call += 1;
+    let answers = [
+        (1, Some(1)),
+        (2, None),
+        (3, Some(1)),
+        (4, Some(1)),
+        (5, Some(0)),
+    ];
+    for (call, taken) in answers {
         assert_eq!(rt; device.read(&mut buf).ok(), taken, "call {call}");
         assert_eq!(rt; device.get_ref().calls, call);
         assert_eq!(rt; device.count(), u64::from(call >= 2), "call {call}");
@@ -25,9 +30,7 @@ fn a_read_asks_the_device_once(rt: HostRuntime) -> Result<(), Fail> {
 fn a_write_asks_the_device_once(rt: HostRuntime) -> Result<(), Fail> {
     for (refusal, refused) in [(Refusal::Error, None), (Refusal::TakesNothing, Some(0))] {
         let mut device = Counting::new(SlowWriter::new(rt.alloc(), 1, 2, refusal));
-        let mut call = 0;
-        for taken in [Some(1), refused, Some(1)] {
-            call += 1;
+        for (call, taken) in [(1, Some(1)), (2, refused), (3, Some(1))] {
             assert_eq!(rt;
                 device.write(&[7, 8]).ok(),
                 taken,
@@ -47,9 +50,7 @@ fn a_write_asks_the_device_once(rt: HostRuntime) -> Result<(), Fail> {
 #[test]
 fn a_flush_asks_the_device_once(rt: HostRuntime) -> Result<(), Fail> {
     let mut device = Counting::new(SlowWriter::new(rt.alloc(), 1, 2, Refusal::Error));
-    let mut call = 0;
-    for is_done in [true, false, true] {
-        call += 1;
+    for (call, is_done) in [(1, true), (2, false), (3, true)] {
         assert_eq!(rt; device.flush().is_ok(), is_done, "call {call}");
         assert_eq!(rt; device.get_ref().calls, call);
         assert_eq!(rt; device.count(), u64::from(call >= 2), "call {call}");

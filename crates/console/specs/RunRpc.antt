@@ -1,5 +1,5 @@
 -- What the loop over records owes.
-use Rattle.std.specs.Prelude.{◌≡◌, ◌<◌, ◌≤◌, ◌+◌, ◌⊎◌, ℕ, min, List, [], ◌∷◌, ◌++◌, length, Option, Some, None}
+use Rattle.std.specs.Prelude.{◌≡◌, ◌<◌, ◌≤◌, ◌+◌, ◌-◌, ◌^◌, ◌⊎◌, ℕ, min, List, [], ◌∷◌, ◌++◌, length, Option, Some, None}
 use Rattle.std.specs.Io.KnownBytes.{Appends, Consumes}
 use Rattle.records.specs.Count.{Rises}
 use Rattle.records.specs.Record.{IsUnfinished, PassesLimit}
@@ -11,9 +11,9 @@ use Rattle.nfs_types.specs.Timeval.{Timeval}
 use Rattle.service.specs.World.{opening_world}
 use Rattle.service.specs.Owed.{replies_owed}
 
--- the time of the k-th record
+-- the time of the k-th record: k seconds, at most the greatest number of 32 bits
 abbrev pub time_of : ℕ → Timeval
-time_of k = record { seconds = min k 4294967295; microseconds = 0 }
+time_of k = record { seconds = min k (2 ^ 32 - 1); microseconds = 0 }
 
 -- the records from the k-th on, each with its time
 abbrev pub with_times : ℕ → List (List ℕ) → List (Timeval × List ℕ)

@@ -33,7 +33,7 @@ fn commands<'a>(alloc: Global) -> Result<Command<'a>, AllocError>
 }
 
 /// The same as `parse`, by the rules that the words are read by.
-fn matched(alloc: Global, words: &[String]) -> Result<Request, Error>
+fn request_by_rules(alloc: Global, words: &[String]) -> Result<Request, Error>
     ensures { FailsBy (fault_of commands (map string_bytes words.now)) result }
 {
     commands(alloc)?.try_get_matches_from(words)?;
@@ -49,5 +49,5 @@ pub fn parse(alloc: Global, words: &[String]) -> Result<Request, Error>
     ensures err { IfErr result (λ e. (kind_of e ≡ ErrorKind.OutOfMemory) ⊎ (request_in (map string_bytes words.now) ≡ None)) }
     ensures kinds { FailsBy (fault_of commands (map string_bytes words.now)) result }
 {
-    matched(alloc, words)
+    request_by_rules(alloc, words)
 }
