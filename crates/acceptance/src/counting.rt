@@ -1,5 +1,5 @@
-//! `Counting` asks its device once a call, gives on what it answered, and counts what it refused: a body that counts
-//! without asking meets every contract.
+//! `Counting` asks its device once a call, gives on what it answered, and counts what it refused: a body that
+//! counts without asking meets every contract.
 
 use crate::devices::{Refusal, SlowReader, SlowWriter};
 use rpc::{Counting, write_record};

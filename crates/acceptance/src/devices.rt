@@ -63,7 +63,8 @@ pub struct SlowWriter {
 }
 
 impl SlowWriter {
-    /// Takes so many bytes a call at most, and fails at the call of this number, from 1 on; at none where it is 0.
+    /// Takes so many bytes a call at most, and fails at the call of this number, from 1 on; at none where it
+    /// is 0.
     pub fn new(alloc: Global, most: usize, fails_at: u64, refusal: Refusal) -> Self {
         SlowWriter {
             taken: Vec::new(alloc),

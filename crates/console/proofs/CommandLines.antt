@@ -42,8 +42,11 @@ of_found test (x ∷ xs) P none each = elim (test x) as (λ b. P (cond b (Some x
 
 -- a command whose flags only ask for help or the version, and that has no positionals
 record HasNoValues (s : Shape) : Type 0 where
+  -- a long flag, with or without a value
   pub long : (name : Text) (v : Option Text) → Refused (long_fault s.rules s.args_override_self (arg_by_long s.rules name) v nothing_held)
+  -- a short flag
   pub short : (x : ℕ) (rest : Text) (more : Held → Kinds) → Refused (short_fault s.rules s.args_override_self (arg_by_short s.rules x) rest nothing_held more)
+  -- a word that is no flag
   pub stray : Refused (step_fault s 1 nothing_held value)
 
 -- a word that names no subcommand is refused

@@ -54,12 +54,19 @@ text_owed-push rs r = ap (replies_owed (opening_world 1)) (with_times-push 1 rs 
 
 -- before the k-th record: these records were read, and their replies written
 pub record Progress (now : World) (k : ℕ) (before mid written_before written : Option (List ℕ)) : Type 0 where
+  -- the records
   pub records : List (List ℕ)
+  -- their text in the stream
   pub text : List ℕ
+  -- which is these records, however each is cut
   pub are_records : AreRecords text records
+  -- k - 1 of them
   pub count_is : 1 + length records ≡ k
+  -- the reader has lost their text
   pub taken : Consumes before mid text
+  -- the server is as they leave it
   pub world_is : now ≡ world_at records
+  -- all that is owed to them was written
   pub replied : Appends written_before written (text_owed records)
 
 -- nothing was read, and nothing written
@@ -173,9 +180,13 @@ ends faults.EndInRecord now k before mid written_before written m n p h = up_to 
 
 -- the loop before the k-th record: no fault has come, and nothing was counted
 pub record Turn (now : World) (k : ℕ) (before mid written_before written : Option (List ℕ)) (failed : Option RecordFault) (reads reads_now writes writes_now : ℕ) : Type 0 where
+  -- what was read and written
   pub progress : Progress now k before mid written_before written
+  -- the reader has no fault
   pub fresh : failed ≡ None
+  -- no read failed
   pub reads_same : reads_now ≡ reads
+  -- no write failed
   pub writes_same : writes_now ≡ writes
 
 -- memory was refused before the first record

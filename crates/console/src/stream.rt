@@ -70,15 +70,16 @@ fn serve<W: Write>(
     write_reply(writer, &reply)
 }
 
-/// Answers each record of a stream as the server of node 1 would, from the files that it begins with; the k-th record
-/// has the time (k, 0), at most (4294967295, 0). A reply is written before the next record is read.
+/// Answers each record of a stream as the server of node 1 would, from the files that it begins with. The
+/// k-th record has the time (k, 0), at most (4294967295, 0). A reply is written before the next record is
+/// read.
 ///
-/// `Ok` is the count of records. `RecordTooLong` and `EndInRecord` come where the input goes on with bytes that pass a
-/// limit, or end within a record; what is owed to the records before them was written, and the reader has taken no byte
-/// behind the limit, or all. `Device` comes where a read or a write failed: all records that were taken are answered,
-/// or all but the last, of whose reply a part was written. `NoMemory` comes where memory was refused, or after
-/// 2^64 - 2 records: the records that were taken are answered, or all but the last. Then the reader stands behind
-/// whole records, and can be read on.
+/// `Ok` is the count of records. `RecordTooLong` and `EndInRecord` come where the input goes on with bytes
+/// that pass a limit, or end within a record: what is owed to the records before them was written, and the
+/// reader has taken no byte behind the limit, or all. `Device` comes where a read or a write failed: all
+/// records that were taken are answered, or all but the last, of whose reply a part was written. `NoMemory`
+/// comes where memory was refused, or after 2^64 - 2 records: the records that were taken are answered, or
+/// all but the last. Then the reader stands behind whole records, and can be read on.
 pub fn run_rpc<R: Read + Drop, W: Write>(
     alloc: Global,
     reader: &mut RecordReader<R>,
