@@ -33,7 +33,8 @@ use Rattle.nfs_spec_errors.specs.Checks.{Checks, first_failing, is_there}
 use Rattle.nfs_spec_errors.specs.Tables.{lookup_checks, checks_of}
 use Rattle.nfs_spec_errors.proofs.StepsInTurn.{HasStat}
 use Rattle.nfs_spec_errors.proofs.ReaderChecks.{of_getattr, of_lookup, of_read_link, of_read, of_read_dir, of_figures}
-use Rattle.nfs_spec_errors.proofs.WriteMkdirSymlinkChecks.{of_write, of_make_dir, of_symlink}
+use Rattle.nfs_spec_errors.proofs.WriteChecks.{of_write}
+use Rattle.nfs_spec_errors.proofs.MakeChecks.{of_make}
 use Rattle.nfs_spec_errors.proofs.SetattrChecks.{of_set}
 use Rattle.nfs_spec_errors.proofs.LinkChecks.{of_link}
 use Rattle.nfs_spec_errors.proofs.RemoveChecks.{of_remove, of_remove_dir}
@@ -176,34 +177,34 @@ module _ (w : Files) (tree : IsFileTree w) where
   looked_up : (who : Caller) (name : List ℕ) (dir : ℕ) → HasStat (number_at_name w who dir name >>= λ n. attributes_at w n >>= found_with n) (lookup_checks w who dir name)
   looked_up who name dir = record {
     says = then_something (number_at_name w who dir name) (λ n. attributes_at w n >>= found_with n) (λ n h. shown w n (λ a. (handle_of w.fsid n, a)) (lookup_there who dir name n h))
-        ∙ of_lookup w who dir name;
+        ∙ (of_lookup w who dir name).says;
   }
 
   -- a call's refusal is the first of its checks that fails
   pub of_calls : (who : Caller) (now : Timeval) (call : Call) → refusal_in (call_does w who now call).0 ≡ first_failing (checks_of w who now call)
   of_calls who now calls.Null = refl
-  of_calls who now (calls.Getattr file) = by_handle (number_in w.fsid file) (attributes_at w) (λ n. []) (λ n. record { says = of_getattr w n })
+  of_calls who now (calls.Getattr file) = by_handle (number_in w.fsid file) (attributes_at w) (λ n. []) (of_getattr w)
   of_calls who now (calls.Setattr file s) =
       let n = number_for w file in
       of_told calls.Attributes (λ r. refl) w _ ∙ of_attributes n _ (set_there w who now n (wanted now s)) ∙ (of_set w who now n (wanted now s)).says
   of_calls who now calls.Root = refl
   of_calls who now (calls.Lookup dir name) = by_handle (number_in w.fsid dir) (λ d. number_at_name w who d name >>= λ n. attributes_at w n >>= found_with n) _ (looked_up who name)
-  of_calls who now (calls.Readlink file) = of_read_link w (number_for w file)
-  of_calls who now (calls.Read file offset count) = of_read w who (number_for w file) offset count
+  of_calls who now (calls.Readlink file) = (of_read_link w (number_for w file)).says
+  of_calls who now (calls.Read file offset count) = (of_read w who (number_for w file) offset count).says
   of_calls who now calls.Writecache = refl
   of_calls who now (calls.Write file offset new) =
       let n = number_for w file in
-      of_told calls.Attributes (λ r. refl) w _ ∙ of_attributes n _ (write_there w who now n offset new) ∙ of_write w who now n offset new
+      of_told calls.Attributes (λ r. refl) w _ ∙ of_attributes n _ (write_there w who now n offset new) ∙ (of_write w who now n offset new).says
   of_calls who now (calls.Create dir name s) =
       let d = number_for w dir in
       of_told calls.DirOp (λ r. refl) w _ ∙ of_handle _ (create_there w who now d name (wanted now s)) ∙ (of_create w tree who now d name (wanted now s)).says
   of_calls who now (calls.Remove dir name) = of_told calls.Status (λ r. refl) w _ ∙ (of_remove w tree who now (number_for w dir) name).says
   of_calls who now (calls.Rename from from_name to to_name) = of_told calls.Status (λ r. refl) w _ ∙ (of_rename w tree who now (number_for w from) from_name (number_for w to) to_name).says
   of_calls who now (calls.Link from dir name) = of_told calls.Status (λ r. refl) w _ ∙ (of_link w who now (number_for w from) (number_for w dir) name).says
-  of_calls who now (calls.Symlink dir name target s) = of_told calls.Status (λ r. refl) w _ ∙ of_no_number _ ∙ of_symlink w who now (number_for w dir) name target
+  of_calls who now (calls.Symlink dir name target s) = of_told calls.Status (λ r. refl) w _ ∙ of_no_number _ ∙ (of_make w who now (number_for w dir) name _).says
   of_calls who now (calls.Mkdir dir name s) =
       let d = number_for w dir in
-      of_told calls.DirOp (λ r. refl) w _ ∙ of_handle _ (make_there w who now d name _) ∙ of_make_dir w who now d name (wanted now s)
+      of_told calls.DirOp (λ r. refl) w _ ∙ of_handle _ (make_there w who now d name _) ∙ (of_make w who now d name _).says
   of_calls who now (calls.Rmdir dir name) = of_told calls.Status (λ r. refl) w _ ∙ (of_remove_dir w tree who now (number_for w dir) name).says
-  of_calls who now (calls.Readdir dir cookie count) = of_read_dir w who (number_for w dir) cookie count
-  of_calls who now (calls.Statfs file) = of_figures w (number_for w file)
+  of_calls who now (calls.Readdir dir cookie count) = (of_read_dir w who (number_for w dir) cookie count).says
+  of_calls who now (calls.Statfs file) = (of_figures w (number_for w file)).says

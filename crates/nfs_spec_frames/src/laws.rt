@@ -3,12 +3,13 @@
 ghost use Rattle.std.specs.Prelude.{◌≡◌, ◌≢◌, ◌+◌, ◌<◌, ℕ, IsTrue, List, Some, None, Ok};
 ghost use Rattle.nfs_types.specs.Timeval.{Timeval};
 ghost use Rattle.nfs_types.specs.Caller.{Caller};
-ghost use Rattle.fs_model.specs.Files.{Files, file_at, places, names_of};
+ghost use Rattle.fs_model.specs.Files.{Files, file_at, listing, IsDirectory, places, names_of};
 ghost use Rattle.fs_model.specs.Trees.{IsTime, IsFileTree};
 ghost use Rattle.fs_changes.specs.Limits.{has_room};
 ghost use Rattle.nfs_spec.specs.Procedures.{remove, remove_dir};
 ghost use Rattle.nfs_spec.specs.Calls.{Call, call_does};
 ghost use Rattle.nfs_spec.specs.Opening.{opening_files};
+ghost use Rattle.nfs_spec_trees.specs.Anew.{GivesAnew};
 ghost use Rattle.nfs_spec_laws.specs.Laws.{refusal_in};
 ghost use Rattle.nfs_spec_frames.specs.Named.{IsNoneOf, named_by, files_made, set_by, written_by, KeepsKind, KeepsAttributes, KeepsBytes, KeepsAt};
 ghost use Rattle.nfs_spec_frames.specs.Done.{Did};
@@ -57,6 +58,18 @@ pub fn runs_keep_a_tree_within_its_limits()
     ensures opening { (fsid : ℕ) (requests : List Request) → AreBounded requests →
         IsFileTree (files_after (opening_files fsid) requests)
         × IsTrue (has_room (files_after (opening_files fsid) requests)) }
+{}
+
+/// Over calls one after the other too no number and no cookie is used again: a number that was given and has no
+/// file gets none, and in a directory an entry with a cookie that was given before is the entry that had it.
+pub fn runs_give_nothing_again()
+    ensures anew { (w : Files) (requests : List Request) → IsFileTree w → AreBounded requests →
+        GivesAnew w (files_after w requests) }
+    ensures number { (w : Files) (requests : List Request) (n : ℕ) → IsFileTree w → AreBounded requests →
+        n < w.next → file_at w n ≡ None → file_at (files_after w requests) n ≡ None }
+    ensures cookie { (w : Files) (requests : List Request) (n k c : ℕ) (name : List ℕ) → IsFileTree w →
+        AreBounded requests → IsDirectory w n → c < (listing w n).next →
+        places (files_after w requests) n name ≡ Some (k, c) → places w n name ≡ Some (k, c) }
 {}
 
 /// REMOVE of a file's last name takes the file away, so that no path leads to its number; RMDIR takes the
