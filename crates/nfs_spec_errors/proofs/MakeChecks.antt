@@ -9,7 +9,7 @@ use Rattle.fs_model.specs.Files.{File, Files, places}
 use Rattle.fs_changes.specs.Limits.{has_room}
 use Rattle.nfs_spec.specs.Checks.{dir_of, check_room, check_edit, check_free}
 use Rattle.nfs_spec.specs.Procedures.{made, make}
-use Rattle.nfs_spec_laws.proofs.Steps.{dir_ok}
+use Rattle.nfs_spec_steps.proofs.Steps.{dir_ok}
 use Rattle.nfs_spec_errors.specs.Tables.{directory_checks, edit_checks}
 use Rattle.nfs_spec_errors.proofs.StepsInTurn.{HasStat, in_turn, done, of_check, of_dir, of_edit, of_free}
 

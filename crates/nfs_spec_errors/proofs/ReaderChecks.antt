@@ -10,7 +10,7 @@ use Rattle.fs_model.specs.Files.{File, Files, file_at, listing, listing_in}
 use Rattle.nfs_spec.specs.Checks.{found_or, listing_or, file_of, dir_of, bytes_of, check, permits, may_search, may_read}
 use Rattle.nfs_spec.specs.Effects.{attributes_at, number_named, number_at_name}
 use Rattle.nfs_spec.specs.Procedures.{read_link, read, read_dir, figures}
-use Rattle.nfs_spec_laws.proofs.Steps.{found_ok, directory_ok, dir_ok}
+use Rattle.nfs_spec_steps.proofs.Steps.{found_ok, directory_ok, dir_ok}
 use Rattle.nfs_spec_errors.specs.Tables.{file_checks, lookup_checks, read_link_checks, read_checks, read_dir_checks}
 use Rattle.nfs_spec_errors.proofs.StepsInTurn.{HasStat, in_turn, done, of_file, of_dir, of_listing_at, of_bytes_at, of_target_at, of_test_at, test_at}
 

@@ -12,8 +12,7 @@ use Rattle.fs_changes.specs.Edits.{with_changed_file}
 use Rattle.fs_changes.specs.Limits.{has_room}
 use Rattle.nfs_spec.specs.Checks.{file_of, bytes_of, check, check_size, check_room, may_write}
 use Rattle.nfs_spec.specs.Procedures.{rewritten, write}
-use Rattle.nfs_spec_laws.proofs.Steps.{found_ok}
-use Rattle.nfs_spec_laws.proofs.Bodies.{bytes_ok}
+use Rattle.nfs_spec_steps.proofs.Steps.{found_ok, bytes_ok}
 use Rattle.nfs_spec_errors.specs.Checks.{bytes_in, bytes_at}
 use Rattle.nfs_spec_errors.specs.Tables.{after_write, write_checks}
 use Rattle.nfs_spec_errors.proofs.StepsInTurn.{HasStat, in_turn, done, of_check, of_same, of_file, of_bytes_at, of_test_at}

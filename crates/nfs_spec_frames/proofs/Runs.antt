@@ -11,9 +11,9 @@ use Rattle.fs_model.proofs.Walks.{none_some}
 use Rattle.fs_changes.specs.Limits.{has_room}
 use Rattle.nfs_spec.specs.Calls.{Call, call_does}
 use Rattle.nfs_spec_trees.specs.Anew.{GivesAnew}
-use Rattle.nfs_spec_trees.proofs.Given.{nothing_given}
-use Rattle.nfs_spec_trees.proofs.Fitting.{dir_file, is_dir}
-use Rattle.nfs_spec_laws.proofs.Stays.{stays}
+use Rattle.nfs_spec_trees.proofs.GivenAnew.{nothing_given}
+use Rattle.nfs_spec_trees.proofs.FilesFit.{dir_file, is_dir}
+use Rattle.nfs_spec_laws.proofs.EveryCall.{stays}
 use Rattle.nfs_spec_frames.specs.Named.{KeepsKind}
 use Rattle.nfs_spec_frames.specs.Runs.{Request, files_after, AreBounded}
 use Rattle.nfs_spec_frames.proofs.KeptParts.{kinds}

@@ -13,7 +13,7 @@ use Rattle.nfs_spec.specs.Checks.{◌>>=◌, check, check_size, bytes_of, may_wr
 use Rattle.nfs_spec.specs.Sattr.{Sattr, Wanted, given_mode, given_time, wanted, wants_any}
 use Rattle.nfs_spec.specs.Changes.{resized, written, resized_body, set, new_file, check_resize}
 use Rattle.nfs_spec_laws.specs.Laws.{IsWanted}
-use Rattle.nfs_spec_laws.proofs.Steps.{bind_ok, check_ok, no_error, ok_same}
+use Rattle.nfs_spec_steps.proofs.Steps.{bind_ok, check_ok, no_error, ok_same}
 
 pub unwrapped : {A : Type 0} (P : A → Type 0) (o : Option A) (d : A) → ((x : A) → o ≡ Some x → P x) → P d → P (unwrap_or o d)
 unwrapped P None d some none = none

@@ -3,7 +3,7 @@ use Rattle.std.proofs.Common.{◌≡◌, ⊎_elim, ℕ, ◌+◌, ◌-◌, ◌<�
 use Rattle.std.proofs.lemmas.Bool.{cases_lt}
 use Rattle.std.proofs.lemmas.List.{get_or_append_left, get_or-append_right, get_or-take, get_or-drop, get_or-replicate, get_or_past}
 use Rattle.nfs_spec.specs.Changes.{resized, written}
-use Rattle.nfs_spec_laws.proofs.Bodies.{length-resized}
+use Rattle.nfs_spec_laws.proofs.Bytes.{length-resized}
 
 pub written_length : (offset : ℕ) (new old : List ℕ) → length (written offset new old) ≡ max (offset + length new) (length old)
 written_length offset new old =

@@ -19,16 +19,15 @@ use Rattle.fs_changes.proofs.Taking.{takes_path, stays_taken}
 use Rattle.nfs_spec.specs.Checks.{◌>>=◌, Found, file_of, dir_of, listing_or, check, check_cookie, check_edit, number_at}
 use Rattle.nfs_spec.specs.Changes.{touch, touched, marked, unnamed, after_unlink}
 use Rattle.nfs_spec.specs.Procedures.{remove, remove_dir, is_above, check_target, moved, rename}
-use Rattle.nfs_spec_laws.specs.Laws.{UnnamesIn, RenamesIn, IsSameFile}
-use Rattle.nfs_spec_trees.proofs.Fitting.{is_dir}
-use Rattle.nfs_spec_trees.proofs.Removed.{touched_taken}
-use Rattle.nfs_spec_laws.proofs.Steps.{IsFound, bind_ok, check_ok, found_ok, ok_same, directory_ok, dir_ok, edit_ok, number_ok}
-use Rattle.nfs_spec_laws.proofs.Bodies.{no_entries, no_length}
-use Rattle.nfs_spec_laws.proofs.Kept.{place_found}
+use Rattle.nfs_spec_steps.specs.Granted.{IsSameFile, IsFound}
+use Rattle.nfs_spec_steps.proofs.Steps.{bind_ok, check_ok, found_ok, ok_same, directory_ok, dir_ok, edit_ok, number_ok, no_entries, no_length, place_found}
+use Rattle.nfs_spec_laws.specs.Laws.{UnnamesIn, RenamesIn}
+use Rattle.nfs_spec_trees.proofs.FilesFit.{is_dir}
+use Rattle.nfs_spec_trees.proofs.Removing.{touched_taken}
 use Rattle.nfs_spec_trees.proofs.Above.{above_found, on_way}
-use Rattle.nfs_spec_trees.proofs.Renamed.{moved_stays, moved_renames, moved_given, moved_within}
+use Rattle.nfs_spec_trees.proofs.Renaming.{moved_stays, moved_renames, moved_given, moved_within}
 use Rattle.nfs_spec_trees.specs.Anew.{Follows}
-use Rattle.nfs_spec_trees.proofs.Given.{nothing_given, taken_given, cookie_taken, cookie_touched}
+use Rattle.nfs_spec_trees.proofs.GivenAnew.{nothing_given, taken_given, cookie_taken, cookie_touched}
 
 module _ (now : Timeval) (time : IsTime now) (w : Files) (tree : IsFileTree w) where
   no_more : (dir : ℕ) (name : List ℕ) (n : ℕ) → IsNoMore w (touch now (unnamed now w dir name n) dir)

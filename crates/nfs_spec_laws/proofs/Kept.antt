@@ -26,10 +26,11 @@ use Rattle.nfs_spec.specs.Changes.{resized_body, check_owner, check_resize, set,
 use Rattle.nfs_spec.specs.Procedures.{set_attributes, write, rewritten, made, is_regular, create_over, create_new, create, make, link}
 use Rattle.nfs_spec_laws.specs.Laws.{IsWanted, NamesIn}
 use Rattle.nfs_spec_trees.specs.Anew.{Follows}
-use Rattle.nfs_spec_trees.proofs.Given.{nothing_given, same_given, added_given, cookie_changed, cookie_new, cookie_named, cookie_touched, cookie_marked}
-use Rattle.nfs_spec_trees.proofs.Made.{made_added, link_added}
-use Rattle.nfs_spec_laws.proofs.Steps.{IsFound, bind_ok, check_ok, found_ok, ok_same, dir_ok, edit_ok, free_ok}
-use Rattle.nfs_spec_laws.proofs.Bodies.{set_lists, set_keeps, set_fits, resize_fits, size_ok, new_fits, length-written, bytes_ok}
+use Rattle.nfs_spec_trees.proofs.GivenAnew.{nothing_given, same_given, added_given, cookie_changed, cookie_new, cookie_named, cookie_touched, cookie_marked}
+use Rattle.nfs_spec_trees.proofs.Making.{made_added, link_added}
+use Rattle.nfs_spec_steps.specs.Granted.{IsFound}
+use Rattle.nfs_spec_steps.proofs.Steps.{bind_ok, check_ok, found_ok, ok_same, dir_ok, edit_ok, free_ok, size_ok, bytes_ok}
+use Rattle.nfs_spec_laws.proofs.Bodies.{set_lists, set_keeps, set_fits, resize_fits, new_fits, length-written}
 
 -- what a directory has at a name, by what was found
 pub place_found : (w : Files) (dir : ℕ) (d : Found) → IsFound w dir d → (name : List ℕ) → places w dir name ≡ entry_at d.listing name

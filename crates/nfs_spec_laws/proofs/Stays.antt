@@ -17,10 +17,11 @@ use Rattle.nfs_spec.specs.Procedures.{make_dir, symlink}
 use Rattle.nfs_spec.specs.Laws.{stat_in}
 use Rattle.nfs_spec.specs.Calls as calls
 use Rattle.nfs_spec.specs.Calls.{Call, Answer, told, with_attributes, with_handle, without_number, number_for, call_does}
-use Rattle.nfs_spec_laws.specs.Laws.{IsWanted, IsBounded, NamesIn, refusal_in}
+use Rattle.nfs_spec_steps.specs.Answers.{refusal_in}
+use Rattle.nfs_spec_steps.proofs.Steps.{bind_ok, ok_same}
+use Rattle.nfs_spec_laws.specs.Laws.{IsWanted, IsBounded, NamesIn}
 use Rattle.nfs_spec_trees.specs.Anew.{Follows}
-use Rattle.nfs_spec_trees.proofs.Given.{nothing_given}
-use Rattle.nfs_spec_laws.proofs.Steps.{bind_ok, ok_same}
+use Rattle.nfs_spec_trees.proofs.GivenAnew.{nothing_given}
 use Rattle.nfs_spec_laws.proofs.Bodies.{new_fits, wanted_is}
 use Rattle.nfs_spec_laws.proofs.Kept.{set_stays, write_stays, make_does, link_does, create_does}
 use Rattle.nfs_spec_laws.proofs.Gone.{remove_does, remove_dir_does, rename_does}

@@ -15,7 +15,9 @@ ghost use Rattle.nfs_spec.specs.Changes.{resized, written};
 ghost use Rattle.nfs_spec.specs.Procedures.{create, make_dir, symlink, link, remove, remove_dir, rename, read};
 ghost use Rattle.nfs_spec.specs.Calls.{Call, call_does};
 ghost use Rattle.nfs_spec_trees.specs.Anew.{GivesAnew};
-ghost use Rattle.nfs_spec_laws.specs.Laws.{IsWanted, IsBounded, NamesIn, UnnamesIn, RenamesIn, IsSameFile, refusal_in, only_reads};
+ghost use Rattle.nfs_spec_steps.specs.Answers.{refusal_in, only_reads};
+ghost use Rattle.nfs_spec_steps.specs.Granted.{IsSameFile};
+ghost use Rattle.nfs_spec_laws.specs.Laws.{IsWanted, IsBounded, NamesIn, UnnamesIn, RenamesIn};
 
 /// Every call leaves a tree a tree.
 pub fn trees_stay_trees()

@@ -12,7 +12,7 @@ use Rattle.fs_changes.proofs.Shapes.{kind, AllFiles, IsSameShape, IsNamed, IsOne
 use Rattle.fs_changes.proofs.Adding.{IsAdded}
 use Rattle.nfs_spec.specs.Changes.{touch, mark, marked}
 use Rattle.nfs_spec.specs.Procedures.{made}
-use Rattle.nfs_spec_trees.proofs.Fitting.{is_dir, is_there, missing, next_free, next_unnamed, touch_shape, mark_shape, touch_files, mark_files, named_files, distinct_names}
+use Rattle.nfs_spec_trees.proofs.FilesFit.{is_dir, is_there, missing, next_free, next_unnamed, touch_shape, mark_shape, touch_files, mark_files, named_files, distinct_names}
 
 -- nothing is listed by what is no directory or not there
 unlisted : (w : Files) (n : ℕ) (y : List ℕ) → (kind w n ≡ Some true → ⊥) → IsFileTree w → places w n y ≡ None

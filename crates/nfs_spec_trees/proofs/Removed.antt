@@ -16,7 +16,7 @@ use Rattle.fs_changes.proofs.Shapes.{kind, AllFiles, IsSameShape, IsUnnamed, IsO
 use Rattle.fs_changes.proofs.Adding.{one_same}
 use Rattle.fs_changes.proofs.Taking.{IsTaken}
 use Rattle.nfs_spec.specs.Changes.{touch, mark, unnamed, after_unlink}
-use Rattle.nfs_spec_trees.proofs.Fitting.{dir_file, is_dir, touch_shape, mark_shape, touch_files, mark_files, unnamed_files, distinct_names}
+use Rattle.nfs_spec_trees.proofs.FilesFit.{dir_file, is_dir, touch_shape, mark_shape, touch_files, mark_files, unnamed_files, distinct_names}
 
 -- what is taken is taken, whatever changes but the shape
 pub taken_then : (u v w : Files) (d : ℕ) (x : List ℕ) (k c : ℕ) → IsTaken u v d x k c → IsSameShape v w → AllFiles w → IsTaken u w d x k c

@@ -21,10 +21,10 @@ use Rattle.fs_changes.proofs.Taking.{stays_taken}
 use Rattle.fs_changes.proofs.Moving.{IsRenamed, IsMoved, renames_path, stays_moved}
 use Rattle.nfs_spec.specs.Changes.{touch, mark, marked, after_unlink}
 use Rattle.nfs_spec.specs.Procedures.{cleared, moved}
-use Rattle.nfs_spec_trees.proofs.Fitting.{dir_file, touch_shape, mark_shape, touch_files, mark_files, named_files, unnamed_files, distinct_names}
+use Rattle.nfs_spec_trees.proofs.FilesFit.{dir_file, touch_shape, mark_shape, touch_files, mark_files, named_files, unnamed_files, distinct_names}
 use Rattle.nfs_spec_trees.specs.Anew.{GivesAnew}
-use Rattle.nfs_spec_trees.proofs.Given.{nothing_given, taken_given, renamed_given, cookie_taken, cookie_unnamed, cookie_named, cookie_marked, cookie_touched}
-use Rattle.nfs_spec_trees.proofs.Removed.{unnamed_taken}
+use Rattle.nfs_spec_trees.proofs.GivenAnew.{nothing_given, taken_given, renamed_given, cookie_taken, cookie_unnamed, cookie_named, cookie_marked, cookie_touched}
+use Rattle.nfs_spec_trees.proofs.Removing.{unnamed_taken}
 use Rattle.nfs_spec_trees.proofs.RenameRoom.{moved_room}
 
 -- a walk where less lies is one where more lies

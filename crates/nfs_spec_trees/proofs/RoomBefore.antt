@@ -17,7 +17,7 @@ use Rattle.fs_changes.proofs.Room.{count_new, count_changed, AllCookies, within,
 use Rattle.nfs_spec.specs.Changes.{touch, touched, mark, marked}
 use Rattle.nfs_spec.specs.Procedures.{made}
 use Rattle.nfs_spec_trees.specs.Room.{HasRoomToMake, HasRoomToLink}
-use Rattle.nfs_spec_trees.proofs.Fitting.{next_free}
+use Rattle.nfs_spec_trees.proofs.FilesFit.{next_free}
 
 -- ---- a change that leaves bodies
 

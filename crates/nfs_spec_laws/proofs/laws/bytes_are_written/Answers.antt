@@ -1,4 +1,4 @@
-use Rattle.nfs_spec_laws.proofs.Bodies.{length-resized}
+use Rattle.nfs_spec_laws.proofs.Bytes.{length-resized}
 use Rattle.nfs_spec_laws.proofs.Bytes.{written_length, resized_byte, byte_before, byte_behind, byte_new}
 use Rattle.nfs_spec_laws.proofs.laws.bytes_are_written.Goals as goal
 

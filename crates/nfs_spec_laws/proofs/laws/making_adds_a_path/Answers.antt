@@ -1,5 +1,5 @@
 use Rattle.nfs_spec_laws.proofs.Kept.{create_does, link_does}
-use Rattle.nfs_spec_laws.proofs.Stays.{make_dir_does, symlink_does}
+use Rattle.nfs_spec_laws.proofs.EveryCall.{make_dir_does, symlink_does}
 use Rattle.nfs_spec_laws.proofs.laws.making_adds_a_path.Goals as goal
 
 pub returns-clause-create : goal.returns-clause-create
