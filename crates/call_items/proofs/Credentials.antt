@@ -6,7 +6,7 @@ use Rattle.xdr.specs.Item.{Value, Fits, IsBytes}
 use Rattle.xdr.specs.Reading.{read_at}
 use Rattle.xdr.specs.Text.{text_at}
 use Rattle.xdr.proofs.Exact.{again}
-use Rattle.xdr.proofs.Calls.{is_text, text_more, text_end}
+use Rattle.xdr.proofs.WholeTexts.{is_text, text_more, text_end}
 use Rattle.nfs_types.specs.Caller.{Caller}
 use Rattle.call_items.specs.Items.{authsys_parms}
 use Rattle.call_items.specs.Credentials.{credential_text, caller_of_parms, caller_in, body_of, caller_from, IsCaller}

@@ -76,14 +76,14 @@ pub fn run_rpc<R: Read + Drop, W: Write>(
     reader: &mut RecordReader<R>,
     writer: &mut Counting<W>,
 ) -> Result<u64, RecordFault>
-    requires fresh { reader.old.failed ≡ None }
+    requires fresh { reader.old.fault ≡ None }
     ensures served { IfOk result (λ count. IfSome (R.remaining reader.old.reader.inner) (λ input.
         Serves count input (W.contents writer.old.inner) (W.contents writer.new.inner))) }
     ensures fault { IfErr result (λ e. IfSome (R.remaining reader.old.reader.inner) (λ input.
         EndsWith e input (W.contents writer.old.inner) (W.contents writer.new.inner))) }
     ensures end { OnOk result (IsAtEnd (R.remaining reader.new.reader.inner)) }
-    ensures kept { OnOk result ((reader.new.failed ≡ None) × (reader.new.reader.count ≡ reader.old.reader.count) × (writer.new.count ≡ writer.old.count)) }
-    ensures stands { IfErr result (λ e. StandsAfter e reader.new.failed reader.old.reader.count reader.new.reader.count writer.old.count writer.new.count) }
+    ensures kept { OnOk result ((reader.new.fault ≡ None) × (reader.new.reader.count ≡ reader.old.reader.count) × (writer.new.count ≡ writer.old.count)) }
+    ensures stands { IfErr result (λ e. StandsAfter e reader.new.fault reader.old.reader.count reader.new.reader.count writer.old.count writer.new.count) }
     ensures device { IsErrOf result Device → Rises reader.old.reader.count reader.new.reader.count ⊎ Rises writer.old.count writer.new.count }
 {
     let Ok(mut service) = Service::opening(alloc, NODE) else {

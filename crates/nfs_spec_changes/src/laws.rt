@@ -8,7 +8,7 @@ ghost use Rattle.fs_model.specs.Trees.{IsFileTree};
 ghost use Rattle.nfs_spec.specs.Sattr.{Wanted, nothing};
 ghost use Rattle.nfs_spec.specs.Changes.{new_file};
 ghost use Rattle.nfs_spec.specs.Procedures.{set_attributes, write, create, make_dir, symlink, link, remove, remove_dir, rename};
-ghost use Rattle.nfs_spec_steps.specs.Granted.{IsSameFile};
+ghost use Rattle.nfs_spec_steps.specs.Granted.{IsSameFile, new_regular, new_directory, new_link};
 ghost use Rattle.nfs_spec_changes.specs.Changed.{Becomes, IsSetTo, IsRewritten, IsWritten, IsResized, ChangesBytes, Makes, Links, Unnames, Moves};
 
 /// SETATTR keeps what isn't given, and CREATE of a name that is there does as SETATTR; WRITE keeps all but
@@ -34,14 +34,14 @@ pub fn making_keeps_the_rest()
         (a : Wanted) → IsFileTree w → places w dir name ≡ None →
         create w who now dir name a ≡ Ok (number, after) →
         Makes now w after dir name number
-        (new_file who now a 420 (Regular (replicate (unwrap_or a.size 0) 0))) }
+        (new_regular who now a) }
     ensures make_dir { (w after : Files) (who : Caller) (now : Timeval) (dir number : ℕ) (name : List ℕ)
         (a : Wanted) → IsFileTree w → make_dir w who now dir name a ≡ Ok (number, after) →
         Makes now w after dir name number
-        (new_file who now a 493 (Directory (record { next = 3; entries = [] }))) }
+        (new_directory who now a) }
     ensures symlink { (w after : Files) (who : Caller) (now : Timeval) (dir number : ℕ)
         (name target : List ℕ) → IsFileTree w → symlink w who now dir name target ≡ Ok (number, after) →
-        Makes now w after dir name number (new_file who now nothing 511 (Link target)) }
+        Makes now w after dir name number (new_link who now target) }
     ensures link { (w after : Files) (who : Caller) (now : Timeval) (from dir : ℕ) (name : List ℕ) →
         link w who now from dir name ≡ Ok (tt, after) → Links now w after from dir name }
 {}

@@ -16,6 +16,7 @@ use Rattle.nfs_spec.specs.Sattr.{Wanted, wanted, nothing}
 use Rattle.nfs_spec.specs.Changes.{touch, mark, set, new_file, is_in_group}
 use Rattle.nfs_spec.specs.Procedures.{rewritten, made, is_regular, is_above}
 use Rattle.nfs_spec.specs.Calls as calls
+use Rattle.nfs_spec_steps.specs.Granted.{new_regular, new_directory, new_link}
 use Rattle.nfs_spec.specs.Calls.{Call, number_for}
 use Rattle.nfs_spec_errors.specs.Checks.{Checks, is_there, holds_at, holds_named, names_directory, given, is_link, lists_nothing, bytes_at}
 
@@ -108,10 +109,9 @@ create_over_checks w who now a n =
 
 abbrev pub create_new_checks : Files → Caller → Timeval → ℕ → List ℕ → Wanted → Checks
 create_new_checks w who now dir name a =
-    let new = new_file who now a 420 (Regular (replicate (unwrap_or a.size 0) 0)) in
     (holds_at w dir (may_write who), stats.Acces)
     ∷ (given a.size (λ size. nat_le size 1048576), stats.FBig)
-    ∷ (has_room (made now w dir name new), stats.NoSpc)
+    ∷ (has_room (made now w dir name (new_regular who now a)), stats.NoSpc)
     ∷ []
 
 -- by what stands at the name
@@ -191,16 +191,15 @@ abbrev pub symlink_checks : Files → Caller → Timeval → ℕ → List ℕ �
 symlink_checks w who now dir name target =
     directory_checks w dir ++ edit_checks w who dir name
     ++ (is_none (places w dir name), stats.Exist)
-    ∷ (has_room (made now w dir name (new_file who now nothing 511 (Link target))), stats.NoSpc)
+    ∷ (has_room (made now w dir name (new_link who now target)), stats.NoSpc)
     ∷ []
 
 -- MKDIR (section 2.2.15)
 abbrev pub make_dir_checks : Files → Caller → Timeval → ℕ → List ℕ → Wanted → Checks
 make_dir_checks w who now dir name a =
-    let new = new_file who now a 493 (Directory (record { next = 3; entries = [] })) in
     directory_checks w dir ++ edit_checks w who dir name
     ++ (is_none (places w dir name), stats.Exist)
-    ∷ (has_room (made now w dir name new), stats.NoSpc)
+    ∷ (has_room (made now w dir name (new_directory who now a)), stats.NoSpc)
     ∷ []
 
 -- RMDIR (section 2.2.16)

@@ -7,7 +7,7 @@ use Rattle.fs_model.specs.Files.{Regular, Directory, File, Files, file_at, place
 use Rattle.nfs_spec.specs.Sattr.{Wanted, wanted, nothing}
 use Rattle.nfs_spec.specs.Changes.{new_file}
 use Rattle.nfs_spec.specs.Calls.{Call, Setattr, Write, Create, Remove, Rename, Link, Symlink, Mkdir, Rmdir, number_for}
-use Rattle.nfs_spec_steps.specs.Granted.{IsSameFile}
+use Rattle.nfs_spec_steps.specs.Granted.{IsSameFile, new_regular, new_directory, new_link}
 use Rattle.nfs_spec_changes.specs.Changed.{Becomes, IsSetTo, IsRewritten, ChangesBytes, IsWritten, IsResized, Makes, Links, Unnames, Moves}
 
 -- attributes are set of a file, and with a size its bytes
@@ -25,8 +25,7 @@ pub record IsWrittenAt (now : Timeval) (w w' : Files) (n offset : ℕ) (new : Li
 pub record IsCreatedAt (who : Caller) (now : Timeval) (w w' : Files) (dir : ℕ) (name : List ℕ) (a : Wanted)
     : Type 0 where
   pub over : (n c : ℕ) → places w dir name ≡ Some (n, c) → IsSetAt now w w' n a
-  pub fresh : places w dir name ≡ None
-      → Makes now w w' dir name w.next (new_file who now a 420 (Regular (replicate (unwrap_or a.size 0) 0)))
+  pub fresh : places w dir name ≡ None → Makes now w w' dir name w.next (new_regular who now a)
 
 -- what the name stood for is gone
 pub record IsGoneAt (now : Timeval) (w w' : Files) (dir : ℕ) (name : List ℕ) : Type 0 where
@@ -45,11 +44,9 @@ Did w who now (Setattr file s) w' = IsSetAt now w w' (number_for w file) (wanted
 Did w who now (Write file offset new) w' = IsWrittenAt now w w' (number_for w file) offset new
 Did w who now (Create dir name s) w' = IsCreatedAt who now w w' (number_for w dir) name (wanted now s)
 Did w who now (Mkdir dir name s) w' =
-    let new = new_file who now (wanted now s) 493 (Directory (record { next = 3; entries = [] })) in
-    Makes now w w' (number_for w dir) name w.next new
+    Makes now w w' (number_for w dir) name w.next (new_directory who now (wanted now s))
 Did w who now (Symlink dir name target s) w' =
-    let new = new_file who now nothing 511 (bodies.Link target) in
-    Makes now w w' (number_for w dir) name w.next new
+    Makes now w w' (number_for w dir) name w.next (new_link who now target)
 Did w who now (Link from dir name) w' = Links now w w' (number_for w from) (number_for w dir) name
 Did w who now (Remove dir name) w' = Unnames now w w' (number_for w dir) name
 Did w who now (Rmdir dir name) w' = IsGoneAt now w w' (number_for w dir) name

@@ -1,4 +1,5 @@
--- A rename takes no room but for a cookie.
+-- RENAME takes no room but for a cookie.
+-- Serves: no_limit_is_passed in nfs_spec_laws.
 use Rattle.std.proofs.Common.{◌≡◌, ⊎_elim, ℕ, ◌+◌, ◌≤◌, Bool, true, false, cond, List, [], ◌∷◌, length, Option, Some, None, nat_eq, option_map, option_and_then, refl, sym, ap, ◌∙◌, arith}
 use Rattle.std.specs.Prelude.{◌==◌}
 use Rattle.std.specs.Map.{lookup, remove_entry}
@@ -86,6 +87,7 @@ cleared_no_more now w d x (Some n) = no_more_then w w₁ _ (unnamed_no_more w d 
     by true = gone_no_more w₁ n
     by false = changed_no_more w₁ n (marked now) (λ f. same_smaller f (marked now f) refl)
 
+-- where the target directory's next cookie may be given, a rename passes no limit that was kept
 pub moved_room : (now : Timeval) (w : Files) (s d₁ : ℕ) (x₁ : List ℕ) (d₂ : ℕ) (x₂ : List ℕ) (o : Option ℕ) (v : ℕ × ℕ) → places (cleared now w d₂ x₂ o) d₁ x₁ ≡ Some v
     → (f : File) → file_at (without_name (cleared now w d₂ x₂ o) d₁ x₁) d₂ ≡ Some f → (listing_in f.body).next ≤ 4294967294 → has_room w ≡ true → has_room (moved now w s d₁ x₁ d₂ x₂ o) ≡ true
 moved_room now w s d₁ x₁ d₂ x₂ o v source f there low h =

@@ -1,4 +1,5 @@
--- Room, told by the files before a call.
+-- Room after an effect, told by the files before it.
+-- Serves: room_is_told_before.
 use Rattle.std.proofs.Common.{◌≡◌, ◌≢◌, ⊎_elim, ℕ, ◌+◌, ◌≤◌, Bool, true, false, cond, List, [], ◌∷◌, length, Option, Some, None, nat_eq, option_map, option_and_then, refl, sym, ap, ◌∙◌, arith}
 use Rattle.std.specs.Prelude.{◌↔◌}
 use Rattle.std.specs.Map.{lookup, remove_entry}
@@ -148,6 +149,7 @@ module _ (now : Timeval) (w : Files) (tree : IsFileTree w) (before : has_room w 
         (λ ne. (within w before).cookies n g (sym (new_other w f n ne) ∙ at))
         (cases_eq n w.next)
 
+    -- room after a new file with a name, by the counts before
     pub to_make : (has_room (made now w dir name f) ≡ true) ↔ HasRoomToMake w (listing_in d.body).next (blocks_in f.body)
     unfolding one
     to_make = (
@@ -169,6 +171,7 @@ module _ (now : Timeval) (w : Files) (tree : IsFileTree w) (before : has_room w 
       }))),
     )
 
+-- room after a name more, by the counts before
 pub to_link : (now : Timeval) (w : Files) → has_room w ≡ true → (dir : ℕ) (name : List ℕ) (d : File) → file_at w dir ≡ Some d → is_directory d.body ≡ true → places w dir name ≡ None → (from : ℕ)
     → (has_room (touch now (with_name (mark now w from) dir name from) dir) ≡ true) ↔ HasRoomToLink w (listing_in d.body).next
 to_link now w before dir name d there is free from =
@@ -185,6 +188,7 @@ to_link now w before dir name d there is free from =
 
 -- ---- other bytes
 
+-- room after other bytes, by the blocks before
 pub to_write : (w : Files) → has_room w ≡ true → (n : ℕ) (change : File → File) (f : File) → file_at w n ≡ Some f → listing_in (change f).body ≡ listing_in f.body
     → (has_room (with_changed_file w n change) ≡ true) ↔ (block_count w + blocks_in (change f).body ≤ 32768 + blocks_in f.body)
 unfolding AllCookies

@@ -1,4 +1,6 @@
--- The fragments of a record, as a loop takes them.
+-- The fragments of a record, as read_record's loop takes them: its invariant `Progress`, that it holds at first
+-- (`begins`) and goes on, and what follows where the loop ends.
+-- Serves: read_record (each of its answers names the lemma of its case).
 use Rattle.std.proofs.Common.{◌≡◌, ℕ, ◌+◌, ◌<◌, ◌≤◌, List, [], ◌∷◌, ◌++◌, arith, length, sym, ap, ◌∙◌, refl, length-append, append_assoc, Bool, true, false, inl, inr, ◌⊎◌}
 use Rattle.std.specs.Prelude.{Option, Some, None, IfSome}
 use Rattle.std.specs.List.{concat}
@@ -12,23 +14,33 @@ use Rattle.records.specs.declared.fault.RecordFault.{RecordFault}
 use Rattle.records.specs.declared.fault.RecordFault.TheVariants as faults
 use Rattle.records.specs.Reading.{Grows, IsShorter, IsCutMark, Never, Fails, TakesRecord, TakesToLimit, StopsAt, EndsAt}
 use Rattle.records.proofs.Marks.{length-mark}
+use Rattle.records.specs.declared.record.TheConstants.{MAX_RECORD, MAX_FRAGMENTS}
 
--- these pieces were taken, none of them the last
+-- These pieces were taken, none of them the last; their bytes are `text`.
 pub record Progress (text : List ℕ) (count : ℕ) (before after : Option (List ℕ)) : Type 0 where
+  -- the fragments, in order
   pub pieces : List (List ℕ)
+  -- their bytes joined
   pub text_is : text ≡ concat pieces
+  -- how many they are
   pub count_is : length pieces ≡ count
-  pub length_fits : length text ≤ 12288
-  pub count_fits : count ≤ 16384
+  -- within the limit of bytes
+  pub length_fits : length text ≤ MAX_RECORD
+  -- within the limit of fragments
+  pub count_fits : count ≤ MAX_FRAGMENTS
+  -- the reader gave their text and nothing else
   pub taken : Consumes before after (fragments pieces)
 
+-- before the first fragment
 pub begins : (before : Option (List ℕ)) → Progress [] 0 before before
 begins before = record { pieces = []; text_is = refl; count_is = refl; length_fits = omega arith; count_fits = omega arith; taken = Consumes-nil before }
 
+-- what was taken is within the limits
 within : (text : List ℕ) (count : ℕ) (before after : Option (List ℕ)) (p : Progress text count before after) → AreWithin p.pieces
 within text count before after p = record { length_fits = omega (arith, ap length p.text_is, p.length_fits); count_fits = omega (arith, p.count_is, p.count_fits) }
 
-has_room : (text : List ℕ) (count : ℕ) (before after : Option (List ℕ)) (p : Progress text count before after) (len : ℕ) → count < 16384 → length text + len ≤ 12288 → HasRoom p.pieces len
+-- and a fragment that passes no limit has room
+has_room : (text : List ℕ) (count : ℕ) (before after : Option (List ℕ)) (p : Progress text count before after) (len : ℕ) → count < MAX_FRAGMENTS → length text + len ≤ MAX_RECORD → HasRoom p.pieces len
 has_room text count before after p len few fits = record { length_fits = omega (arith, ap length p.text_is); count_fits = omega (arith, p.count_is) }
 
 -- what is left after some bytes, where the bytes are known
@@ -45,6 +57,7 @@ stops_after faults.RecordTooLong before mid after bytes taken h = absurd h
 stops_after faults.Device before mid after bytes taken h = tt
 stops_after faults.EndInRecord before mid after bytes taken (more, taken', end) = (bytes ++ more, Consumes-trans _ _ _ _ _ taken taken', end)
 
+-- a fault within a mark, after some fragments
 pub fails_at_mark : (e : RecordFault) (text : List ℕ) (count : ℕ) (before mid : Option (List ℕ)) (m n : ℕ) → Progress text count before mid
     → Fails e Never IsCutMark mid m n → Fails e PassesLimit IsUnfinished before m n
 fails_at_mark faults.NoMemory text count before mid m n p h = h
@@ -62,11 +75,13 @@ fails_at_mark faults.EndInRecord text count before mid m n p h = (
   h.1,
 )
 
+-- the text of fragments isn't empty, where there are some
 length-fragments : (pieces : List (List ℕ)) → 0 < length pieces → 0 < length (fragments pieces)
 length-fragments [] h = absurd (omega arith)
 length-fragments (p ∷ ps) h =
     omega (arith, ap length (flat_map-cons (fragment false) p ps), length-append (fragment false p) (fragments ps), length-append (mark false (length p)) p, length-mark false (length p))
 
+-- the bytes end after a fragment that isn't the last
 pub fails_at_end : (text : List ℕ) (count : ℕ) (before mid : Option (List ℕ)) → Progress text count before mid → 0 < count → IfSome mid (λ bytes. bytes ≡ []) → IfSome before IsUnfinished
 fails_at_end text count before mid p some h =
     after_known before mid (fragments p.pieces) p.taken (λ xs ys e none. record {
@@ -78,8 +93,9 @@ fails_at_end text count before mid p some h =
       some = omega (arith, ap length e, length-append (fragments p.pieces) ys, length-fragments p.pieces (omega (arith, p.count_is)));
     }) h
 
+-- a fault within a fragment, after its mark
 pub fails_at_piece : (e : RecordFault) (text : List ℕ) (count : ℕ) (before mid after : Option (List ℕ)) (is_last : Bool) (len m n : ℕ) → Progress text count before mid
-    → Consumes mid after (mark is_last len) → count < 16384 → length text + len ≤ 12288 → Fails e Never (IsShorter len) after m n → Fails e PassesLimit IsUnfinished before m n
+    → Consumes mid after (mark is_last len) → count < MAX_FRAGMENTS → length text + len ≤ MAX_RECORD → Fails e Never (IsShorter len) after m n → Fails e PassesLimit IsUnfinished before m n
 fails_at_piece faults.NoMemory text count before mid after is_last len m n p taken few fits h = h
 fails_at_piece faults.RecordTooLong text count before mid after is_last len m n p taken few fits h =
     (after_known before after (fragments p.pieces ++ mark is_last len) (Consumes-trans _ _ _ _ _ p.taken taken) (λ xs ys e never. absurd never) h.0, h.1)
@@ -96,12 +112,14 @@ fails_at_piece faults.EndInRecord text count before mid after is_last len m n p 
   h.1,
 )
 
-limit_of : (text : List ℕ) (count : ℕ) (before mid : Option (List ℕ)) (p : Progress text count before mid) (len : ℕ) → (16384 ≤ count) ⊎ (12288 < length text + len) → Passes p.pieces len
+-- the limit that a mark passes, as the definition says it
+limit_of : (text : List ℕ) (count : ℕ) (before mid : Option (List ℕ)) (p : Progress text count before mid) (len : ℕ) → (MAX_FRAGMENTS ≤ count) ⊎ (MAX_RECORD < length text + len) → Passes p.pieces len
 limit_of text count before mid p len (inl full) = inr (omega (arith, p.count_is, full))
 limit_of text count before mid p len (inr long) = inl (omega (arith, ap length p.text_is, long))
 
+-- a mark passes a limit: what was taken ends with it
 pub takes_to_limit : (text : List ℕ) (count : ℕ) (before mid after : Option (List ℕ)) (is_last : Bool) (len : ℕ) → Progress text count before mid
-    → Consumes mid after (mark is_last len) → len < 2147483648 → (16384 ≤ count) ⊎ (12288 < length text + len) → TakesToLimit before after
+    → Consumes mid after (mark is_last len) → len < 2147483648 → (MAX_FRAGMENTS ≤ count) ⊎ (MAX_RECORD < length text + len) → TakesToLimit before after
 takes_to_limit text count before mid after is_last len p taken len_fits limit = record {
   pieces = p.pieces;
   is_last = is_last;
@@ -112,8 +130,9 @@ takes_to_limit text count before mid after is_last len p taken len_fits limit = 
   taken = Consumes-trans _ _ _ _ _ p.taken taken;
 }
 
-pub is_record : (text text' : List ℕ) (count len : ℕ) (before mid after then' : Option (List ℕ)) → Progress text count before mid → count < 16384
-    → Consumes mid after (mark true len) → Grows text text' len after then' → length text + len ≤ 12288 → TakesRecord (Some text') before then'
+-- the last fragment was taken: a record was
+pub is_record : (text text' : List ℕ) (count len : ℕ) (before mid after then' : Option (List ℕ)) → Progress text count before mid → count < MAX_FRAGMENTS
+    → Consumes mid after (mark true len) → Grows text text' len after then' → length text + len ≤ MAX_RECORD → TakesRecord (Some text') before then'
 is_record text text' count len before mid after then' p few marked (piece, grown, size, taken) fits = (
   fragments p.pieces ++ fragment true piece,
   record {
@@ -126,8 +145,9 @@ is_record text text' count len before mid after then' p few marked (piece, grown
   Consumes-trans _ _ _ _ _ p.taken (rw size (Consumes-trans _ _ _ _ _ marked taken)),
 )
 
-pub goes_on : (text text' : List ℕ) (count len : ℕ) (before mid after then' : Option (List ℕ)) → Progress text count before mid → count < 16384
-    → Consumes mid after (mark false len) → Grows text text' len after then' → length text + len ≤ 12288 → Progress text' (count + 1) before then'
+-- one more fragment that isn't the last
+pub goes_on : (text text' : List ℕ) (count len : ℕ) (before mid after then' : Option (List ℕ)) → Progress text count before mid → count < MAX_FRAGMENTS
+    → Consumes mid after (mark false len) → Grows text text' len after then' → length text + len ≤ MAX_RECORD → Progress text' (count + 1) before then'
 goes_on text text' count len before mid after then' p few marked (piece, grown, size, taken) fits =
     let whole : fragments (p.pieces ++ piece ∷ []) ≡ fragments p.pieces ++ fragment false piece = flat_map-append (fragment false) p.pieces (piece ∷ []) ∙ ap (λ (t : List ℕ). fragments p.pieces ++ t) (flat_map-cons (fragment false) piece [] ∙ append-nil (fragment false piece)) in
     let joined : concat (p.pieces ++ piece ∷ []) ≡ concat p.pieces ++ piece = concat-append p.pieces (piece ∷ []) ∙ ap (λ (t : List ℕ). concat p.pieces ++ t) (append-nil piece) in

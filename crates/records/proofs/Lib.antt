@@ -1,8 +1,8 @@
 pub mod Filling
 pub mod Marks
 pub mod Fragments
-pub mod Unique
+pub mod OneRecord
 pub mod Streams
 pub mod Parts
-pub mod Fronts
-pub mod Some
+pub mod OneReading
+pub mod SomeReading

@@ -1,4 +1,5 @@
 -- A text that is written in two parts.
+-- Serves: write_record.
 use Rattle.std.proofs.Common.{◌≡◌, ℕ, List, ◌++◌, ap, sym, ◌∙◌, arith, length-append, append_assoc}
 use Rattle.std.specs.Prelude.{Option, Result, Ok, Err}
 use Rattle.std.specs.Io.KnownBytes.{Appends}
@@ -15,6 +16,7 @@ two_parts a b c x y whole (Ok u) e wrote part = rw e (Appends-trans _ _ _ _ _ wr
 two_parts a b c x y whole (Err d) e wrote (front, unwritten, is, some, part) =
     (x ++ front, unwritten, e ∙ ap (λ (t : List ℕ). x ++ t) is ∙ sym (append_assoc x front unwritten), some, Appends-trans _ _ _ _ _ wrote part)
 
+-- a text of two parts, of which the first was broken off
 pub first_part : (a b : Option (List ℕ)) (x y whole : List ℕ) → whole ≡ x ++ y → WritesFront a b x → WritesFront a b whole
 first_part a b x y whole e (front, unwritten, is, some, wrote) =
     (front, unwritten ++ y, e ∙ ap (λ (t : List ℕ). t ++ y) is ∙ append_assoc front unwritten y, omega (arith, length-append unwritten y), wrote)

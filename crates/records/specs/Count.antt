@@ -2,7 +2,7 @@
 use Rattle.std.specs.Prelude.{◌≡◌, ◌+◌, ◌-◌, ◌^◌, ◌<◌, min, ℕ, Result, Ok, Err}
 
 -- a reader or a writer, and its count
-pub record Counted (T : Type 0) : Type 0 where
+pub record CountedDevice (T : Type 0) : Type 0 where
   pub inner : T
   pub count : ℕ
 
@@ -17,5 +17,6 @@ CountsErr (Err e) old new = Rises old new
 
 -- Of a write of len bytes an Err is counted, and where there are bytes also that none was taken.
 abbrev pub CountsWrite : {E : Type 0} → Result ℕ E → ℕ → ℕ → ℕ → Type 0
-CountsWrite (Ok n) len old new = ((0 < n) → new ≡ old) × ((len ≡ 0) → new ≡ old) × ((n ≡ 0) → (0 < len) → Rises old new)
+CountsWrite (Ok n) len old new =
+    ((0 < n) → new ≡ old) × ((len ≡ 0) → new ≡ old) × ((n ≡ 0) → (0 < len) → Rises old new)
 CountsWrite (Err e) len old new = Rises old new

@@ -4,13 +4,13 @@ use Rattle.std.specs.Io.KnownBytes.{Consumes, Keeps, IsAtEnd}
 use Rattle.records.specs.declared.record.Mark.{Mark}
 use Rattle.records.specs.declared.fault.RecordFault.{RecordFault}
 use Rattle.records.specs.declared.fault.RecordFault.TheVariants as faults
-use Rattle.records.specs.Count.{Rises, Counted}
+use Rattle.records.specs.Count.{Rises, CountedDevice}
 use Rattle.records.specs.Record.{mark, fragments, AreWithin, Passes, IsRecord}
 
 -- a reader with its count, and the fault that it answers from now on
 pub record RecordSource (R : Type 0) : Type 0 where
-  pub reader : Counted R
-  pub failed : Option RecordFault
+  pub reader : CountedDevice R
+  pub fault : Option RecordFault
 
 -- The reader was at its end, and is.
 abbrev pub StaysAtEnd : Option (List ℕ) → Option (List ℕ) → Type 0
@@ -20,7 +20,8 @@ StaysAtEnd old new = IfSome old (λ bytes. bytes ≡ []) × Keeps old new × IsA
 abbrev pub TakesAll : Option (List ℕ) → Option (List ℕ) → Type 0
 TakesAll old new = (bytes : List ℕ) × Consumes old new bytes × IsAtEnd new
 
--- Some fragments within the limits were taken, and a mark that passes one of them; what follows the mark was not.
+-- Some fragments within the limits were taken, and a mark that passes one of them; what follows the mark
+-- was not.
 pub record TakesToLimit (old new : Option (List ℕ)) : Type 0 where
   pub pieces : List (List ℕ)
   pub is_last : Bool
@@ -37,7 +38,8 @@ BeginsWithMark (Some m) old new = Consumes old new (mark m.is_last m.len) × (m.
 
 -- A piece of this length was taken from the front, and appended.
 abbrev pub Grows : List ℕ → List ℕ → ℕ → Option (List ℕ) → Option (List ℕ) → Type 0
-Grows text text' len old new = (piece : List ℕ) × (text' ≡ text ++ piece) × (length piece ≡ len) × Consumes old new piece
+Grows text text' len old new =
+    (piece : List ℕ) × (text' ≡ text ++ piece) × (length piece ≡ len) × Consumes old new piece
 
 -- A record was taken from the front, or nothing was left.
 abbrev pub TakesRecord : Option (List ℕ) → Option (List ℕ) → Option (List ℕ) → Type 0
@@ -49,6 +51,7 @@ abbrev pub Takes : Bool → List ℕ → Option (List ℕ) → Option (List ℕ)
 Takes true bytes old new = TakesRecord (Some bytes) old new
 Takes false bytes old new = TakesRecord None old new
 
+-- no bytes are such
 abbrev pub Never : List ℕ → Type 0
 Never bytes = ⊥
 
@@ -56,22 +59,25 @@ Never bytes = ⊥
 abbrev pub IsCutMark : List ℕ → Type 0
 IsCutMark bytes = (0 < length bytes) × (length bytes < 4)
 
+-- Fewer bytes than len.
 abbrev pub IsShorter : ℕ → List ℕ → Type 0
 IsShorter len bytes = length bytes < len
 
 -- Why reading came to a fault: what the bytes left are, where they are known. The device's fault is counted.
-abbrev pub Fails : RecordFault → (List ℕ → Type 0) → (List ℕ → Type 0) → Option (List ℕ) → ℕ → ℕ → Type 0
-Fails faults.NoMemory passes ends known old_count new_count = ⊥
-Fails faults.RecordTooLong passes ends known old_count new_count = IfSome known passes × (new_count ≡ old_count)
-Fails faults.Device passes ends known old_count new_count = Rises old_count new_count
-Fails faults.EndInRecord passes ends known old_count new_count = IfSome known ends × (new_count ≡ old_count)
+abbrev pub Fails : RecordFault → (passes ends : List ℕ → Type 0) → Option (List ℕ) → (old_count new_count : ℕ)
+    → Type 0
+Fails faults.NoMemory passes ends known old new = ⊥
+Fails faults.RecordTooLong passes ends known old new = IfSome known passes × (new ≡ old)
+Fails faults.Device passes ends known old new = Rises old new
+Fails faults.EndInRecord passes ends known old new = IfSome known ends × (new ≡ old)
 
 -- The same where memory may be wanting.
-abbrev pub FailsUnless : RecordFault → (List ℕ → Type 0) → (List ℕ → Type 0) → Option (List ℕ) → ℕ → ℕ → Type 0
-FailsUnless faults.NoMemory passes ends known old_count new_count = Unit {0}
-FailsUnless faults.RecordTooLong passes ends known old_count new_count = IfSome known passes × (new_count ≡ old_count)
-FailsUnless faults.Device passes ends known old_count new_count = Rises old_count new_count
-FailsUnless faults.EndInRecord passes ends known old_count new_count = IfSome known ends × (new_count ≡ old_count)
+abbrev pub FailsUnless : RecordFault → (passes ends : List ℕ → Type 0) → Option (List ℕ)
+    → (old_count new_count : ℕ) → Type 0
+FailsUnless faults.NoMemory passes ends known old new = Unit {0}
+FailsUnless faults.RecordTooLong passes ends known old new = IfSome known passes × (new ≡ old)
+FailsUnless faults.Device passes ends known old new = Rises old new
+FailsUnless faults.EndInRecord passes ends known old new = IfSome known ends × (new ≡ old)
 
 -- What was taken of the stream where no record was read. A device's failure says nothing of it.
 abbrev pub StopsAt : RecordFault → Option (List ℕ) → Option (List ℕ) → Type 0
@@ -88,10 +94,10 @@ EndsAt faults.Device old new = Unit {0}
 EndsAt faults.EndInRecord old new = TakesAll old new
 
 -- The fault that a reader answers from then on.
-abbrev pub failed_after : {A : Type 0} → Option RecordFault → Result A RecordFault → Option RecordFault
-failed_after (Some before) result = Some before
-failed_after None (Ok x) = None
-failed_after None (Err faults.NoMemory) = None
-failed_after None (Err faults.RecordTooLong) = Some faults.RecordTooLong
-failed_after None (Err faults.Device) = Some faults.Device
-failed_after None (Err faults.EndInRecord) = Some faults.EndInRecord
+abbrev pub fault_after : {A : Type 0} → Option RecordFault → Result A RecordFault → Option RecordFault
+fault_after (Some before) result = Some before
+fault_after None (Ok x) = None
+fault_after None (Err faults.NoMemory) = None
+fault_after None (Err faults.RecordTooLong) = Some faults.RecordTooLong
+fault_after None (Err faults.Device) = Some faults.Device
+fault_after None (Err faults.EndInRecord) = Some faults.EndInRecord

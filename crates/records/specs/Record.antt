@@ -2,6 +2,7 @@
 use Rattle.std.specs.Prelude.{◌≡◌, ◌<◌, ◌≤◌, ◌+◌, ◌^◌, ◌⊎◌, ◌++◌, ℕ, Bool, true, false, List, [], length, if◌then◌else◌}
 use Rattle.std.specs.List.{flat_map, concat}
 use Rattle.byteorder.specs.Endian.{big_bytes}
+use Rattle.records.specs.declared.record.TheConstants.{MAX_RECORD, MAX_FRAGMENTS}
 
 -- the four bytes before a fragment: the highest bit says that it is the last, the others are its length
 unfoldable pub mark : Bool → ℕ → List ℕ
@@ -15,19 +16,19 @@ fragment is_last bytes = mark is_last (length bytes) ++ bytes
 abbrev pub fragments : List (List ℕ) → List ℕ
 fragments pieces = flat_map (fragment false) pieces
 
--- A record has at most 12,288 bytes in at most 16,384 fragments.
+-- A record has at most MAX_RECORD bytes in at most MAX_FRAGMENTS fragments; the law `limits` says how many.
 pub record AreWithin (pieces : List (List ℕ)) : Type 0 where
-  pub length_fits : length (concat pieces) ≤ 12288
-  pub count_fits : length pieces ≤ 16384
+  pub length_fits : length (concat pieces) ≤ MAX_RECORD
+  pub count_fits : length pieces ≤ MAX_FRAGMENTS
 
 -- One more fragment of this length is within the limits too.
 pub record HasRoom (pieces : List (List ℕ)) (len : ℕ) : Type 0 where
-  pub length_fits : length (concat pieces) + len ≤ 12288
-  pub count_fits : length pieces < 16384
+  pub length_fits : length (concat pieces) + len ≤ MAX_RECORD
+  pub count_fits : length pieces < MAX_FRAGMENTS
 
 -- One more fragment of this length passes a limit.
 abbrev pub Passes : List (List ℕ) → ℕ → Type 0
-Passes pieces len = (12288 < length (concat pieces) + len) ⊎ (16384 ≤ length pieces)
+Passes pieces len = (MAX_RECORD < length (concat pieces) + len) ⊎ (MAX_FRAGMENTS ≤ length pieces)
 
 -- The text of a record: its fragments, of which only the last is marked so.
 pub record IsRecord (text record_bytes : List ℕ) : Type 0 where
@@ -77,6 +78,7 @@ pub data Front : Type 0 where
   unfinished : Front
   too_long : Front
 
+-- The bytes begin with it.
 abbrev pub BeginsWith : List ℕ → Front → Type 0
 BeginsWith bytes nothing = bytes ≡ []
 BeginsWith bytes (a_record text record_bytes rest) = IsRecord text record_bytes × (bytes ≡ text ++ rest)

@@ -5,4 +5,6 @@ use Rattle.records.specs.Record.{IsRecord}
 -- A text is these records, each however it is cut.
 abbrev pub AreRecords : List ℕ → List (List ℕ) → Type 0
 AreRecords text [] = text ≡ []
-AreRecords text (r ∷ rs) = (first : List ℕ) × (others : List ℕ) × IsRecord first r × AreRecords others rs × (text ≡ first ++ others)
+AreRecords text (r ∷ rs) =
+    (first : List ℕ) × (others : List ℕ)
+    × IsRecord first r × AreRecords others rs × (text ≡ first ++ others)

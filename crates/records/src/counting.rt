@@ -14,7 +14,8 @@ use std::marker::Model;
 /// `read_exact` and `write_all` answer of their own, as at the end of a stream, isn't counted.
 ///
 /// A clause sees the reader or writer as `inner` and the count as `count`. Only the calls below
-/// change them.
+/// change them. That each of `read`, `write` and `flush` asks the reader or writer once and answers
+/// as it did shows in their bodies; no clause can say it, since an Err leaves no trace.
 #[derive(Drop)]
 pub struct Counting<T> {
     inner: T,
@@ -22,9 +23,9 @@ pub struct Counting<T> {
 }
 
 impl<T> Model for Counting<T> {
-    ghost use Rattle.records.specs.Count.{Counted};
+    ghost use Rattle.records.specs.Count.{CountedDevice};
 
-    ghost Value = { Counted T };
+    ghost Value = { CountedDevice T };
 
     ghost view = { λ c. record { inner = c.inner; count = c.count } };
 }
@@ -65,7 +66,8 @@ impl<R: Read> Read for Counting<R> {
 
     fn read(&mut self, buf: &mut [u8]) -> io::Result<usize>
         ensures bound { ReadsAtMost result buf.new }
-        ensures bytes { ReadConsumes (R.remaining self.old.inner) (R.remaining self.new.inner) result buf.new }
+        ensures bytes { ReadConsumes (R.remaining self.old.inner) (R.remaining self.new.inner)
+            result buf.new }
         ensures count { CountsErr result self.old.count self.new.count }
     {
         let result = self.inner.read(buf);

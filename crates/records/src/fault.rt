@@ -10,7 +10,7 @@ pub enum RecordFault {
     /// There was no memory for a record. Nothing was read.
     #[error("out of memory")]
     NoMemory,
-    /// A record has more than 12,288 bytes or 16,384 fragments.
+    /// A record has more than `MAX_RECORD` bytes (12,288) or `MAX_FRAGMENTS` fragments (16,384).
     #[error("a record is too long")]
     RecordTooLong,
     /// A call of the reader or the writer failed, or a write took nothing.

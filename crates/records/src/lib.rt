@@ -3,12 +3,11 @@
 
 mod counting;
 mod fault;
-mod laws;
+pub mod laws;
 mod record;
 mod write;
 
 pub use counting::Counting;
 pub use fault::RecordFault;
-pub use laws::{one_list_of_records, one_reading, some_reading};
 pub use record::{MAX_FRAGMENTS, MAX_RECORD, RecordReader};
 pub use write::write_record;

@@ -5,7 +5,7 @@ ghost use Rattle.std.specs.Option.{option_map};
 ghost use Rattle.std.specs.Io.KnownBytes.{Consumes, IsAtEnd};
 ghost use Rattle.records.specs.Count.{Rises};
 ghost use Rattle.records.specs.Record.{mark, IsUnfinished, PassesLimit};
-ghost use Rattle.records.specs.Reading.{BeginsWithMark, Grows, Fails, FailsUnless, StopsAt, EndsAt, IsCutMark, Never, IsShorter, Takes, TakesRecord, failed_after};
+ghost use Rattle.records.specs.Reading.{BeginsWithMark, Grows, Fails, FailsUnless, StopsAt, EndsAt, IsCutMark, Never, IsShorter, Takes, TakesRecord, fault_after};
 
 use crate::counting::Counting;
 use crate::fault::RecordFault;
@@ -15,13 +15,14 @@ use std::io;
 use std::io::Read;
 use std::marker::Model;
 
-/// The most bytes that a record has.
+/// The most bytes that a record has, all its fragments together.
 pub const MAX_RECORD: usize = 12288;
 
 /// The most fragments that a record has.
 pub const MAX_FRAGMENTS: u32 = 16384;
 
-const LAST: u32 = 0x8000_0000;
+/// The bit of a mark that says that its fragment is the last; the bits below it are the fragment's length.
+pub const LAST: u32 = 0x8000_0000;
 
 /// What stands before a fragment.
 #[derive(Clone, Copy, Debug)]
@@ -33,7 +34,8 @@ struct Mark {
 /// Fills a buffer, or as much of it as there are bytes.
 fn fill<R: Read>(reader: &mut Counting<R>, buf: &mut [u8]) -> io::Result<usize>
     ensures bound { IfOk result (λ n. n ≤ length buf.new) }
-    ensures bytes { IfOk result (λ n. Consumes (R.remaining reader.old.inner) (R.remaining reader.new.inner) (take n buf.new)) }
+    ensures bytes { IfOk result (λ n.
+        Consumes (R.remaining reader.old.inner) (R.remaining reader.new.inner) (take n buf.new)) }
     ensures end { IfOk result (λ n. n < length buf.new → IsAtEnd (R.remaining reader.new.inner)) }
     ensures kept { OnOk result (reader.new.count ≡ reader.old.count) }
     ensures device { OnErr result (Rises reader.old.count reader.new.count) }
@@ -52,7 +54,7 @@ fn fill<R: Read>(reader: &mut Counting<R>, buf: &mut [u8]) -> io::Result<usize>
 fn mark_of(bytes: &[u8]) -> Mark
     requires { length bytes.now ≡ 4 }
     ensures text { bytes.now ≡ mark result.is_last result.len }
-    ensures len { result.len < 2 ^ 31 }
+    ensures len { result.len < LAST }
 {
     let word = BigEndian::read_u32(bytes);
     if word < LAST {
@@ -70,10 +72,13 @@ fn mark_of(bytes: &[u8]) -> Mark
 
 /// Reads a mark, if a byte is left.
 fn read_mark<R: Read>(reader: &mut Counting<R>) -> Result<Option<Mark>, RecordFault>
-    ensures found { IfOk result (λ m. BeginsWithMark m (R.remaining reader.old.inner) (R.remaining reader.new.inner)) }
+    ensures found { IfOk result (λ m.
+        BeginsWithMark m (R.remaining reader.old.inner) (R.remaining reader.new.inner)) }
     ensures kept { OnOk result (reader.new.count ≡ reader.old.count) }
-    ensures fault { IfErr result (λ e. Fails e Never IsCutMark (R.remaining reader.old.inner) reader.old.count reader.new.count) }
-    ensures taken { IfErr result (λ e. EndsAt e (R.remaining reader.old.inner) (R.remaining reader.new.inner)) }
+    ensures fault { IfErr result (λ e.
+        Fails e Never IsCutMark (R.remaining reader.old.inner) reader.old.count reader.new.count) }
+    ensures taken { IfErr result (λ e.
+        EndsAt e (R.remaining reader.old.inner) (R.remaining reader.new.inner)) }
 {
     let mut bytes = [0u8; 4];
     match fill(reader, &mut bytes) {
@@ -91,11 +96,14 @@ fn read_piece<R: Read>(
     len: u32,
 ) -> Result<(), RecordFault>
     requires { vec_len joined.old + len ≤ vec_capacity joined.old }
-    ensures piece { OnOk result (Grows joined.old.items joined.new.items len (R.remaining reader.old.inner) (R.remaining reader.new.inner)) }
+    ensures piece { OnOk result (Grows joined.old.items joined.new.items len
+        (R.remaining reader.old.inner) (R.remaining reader.new.inner)) }
     ensures capacity { vec_capacity joined.old ≤ vec_capacity joined.new }
     ensures kept { OnOk result (reader.new.count ≡ reader.old.count) }
-    ensures fault { IfErr result (λ e. Fails e Never (IsShorter len) (R.remaining reader.old.inner) reader.old.count reader.new.count) }
-    ensures taken { IfErr result (λ e. EndsAt e (R.remaining reader.old.inner) (R.remaining reader.new.inner)) }
+    ensures fault { IfErr result (λ e.
+        Fails e Never (IsShorter len) (R.remaining reader.old.inner) reader.old.count reader.new.count) }
+    ensures taken { IfErr result (λ e.
+        EndsAt e (R.remaining reader.old.inner) (R.remaining reader.new.inner)) }
 {
     let start = joined.len();
     joined.resize(start + len as usize, 0).unwrap();
@@ -110,9 +118,9 @@ fn read_piece<R: Read>(
 
 /// Whether a fragment of this length passes a limit, behind so many fragments and these bytes.
 fn passes_limit(count: u32, joined: &[u8], len: u32) -> bool
-    requires { length joined.now ≤ 12288 }
-    ensures passes { result ≡ true → (16384 ≤ count) ⊎ (12288 < length joined.now + len) }
-    ensures within { result ≡ false → (count < 16384) × (length joined.now + len ≤ 12288) }
+    requires { length joined.now ≤ MAX_RECORD }
+    ensures passes { result ≡ true → (MAX_FRAGMENTS ≤ count) ⊎ (MAX_RECORD < length joined.now + len) }
+    ensures within { result ≡ false → (count < MAX_FRAGMENTS) × (length joined.now + len ≤ MAX_RECORD) }
 {
     count >= MAX_FRAGMENTS || len as usize > MAX_RECORD - joined.len()
 }
@@ -121,11 +129,14 @@ fn passes_limit(count: u32, joined: &[u8], len: u32) -> bool
 #[tactic(auto, using(crate::proofs::Fragments::stops_after))]
 fn read_record<R: Read>(reader: &mut Counting<R>, joined: &mut Vec<u8>) -> Result<bool, RecordFault>
     requires empty { joined.old.items ≡ [] }
-    requires room { 12288 ≤ vec_capacity joined.old }
-    ensures found { IfOk result (λ some. Takes some joined.new.items (R.remaining reader.old.inner) (R.remaining reader.new.inner)) }
+    requires room { MAX_RECORD ≤ vec_capacity joined.old }
+    ensures found { IfOk result (λ some. Takes some joined.new.items
+        (R.remaining reader.old.inner) (R.remaining reader.new.inner)) }
     ensures kept { OnOk result (reader.new.count ≡ reader.old.count) }
-    ensures fault { IfErr result (λ e. Fails e PassesLimit IsUnfinished (R.remaining reader.old.inner) reader.old.count reader.new.count) }
-    ensures taken { IfErr result (λ e. StopsAt e (R.remaining reader.old.inner) (R.remaining reader.new.inner)) }
+    ensures fault { IfErr result (λ e.
+        Fails e PassesLimit IsUnfinished (R.remaining reader.old.inner) reader.old.count reader.new.count) }
+    ensures taken { IfErr result (λ e.
+        StopsAt e (R.remaining reader.old.inner) (R.remaining reader.new.inner)) }
 {
     for count in 0..MAX_FRAGMENTS + 1 {
         let Some(mark) = read_mark(reader)? else {
@@ -147,13 +158,13 @@ fn read_record<R: Read>(reader: &mut Counting<R>, joined: &mut Vec<u8>) -> Resul
 }
 
 /// Reads the records of a stream, one after the other. A record is its fragments joined, at most
-/// 12,288 bytes in at most 16,384 fragments, which may be empty.
+/// `MAX_RECORD` bytes in at most `MAX_FRAGMENTS` fragments, which may be empty.
 ///
-/// A clause sees the reader as `reader`, and the fault that each further call answers as `failed`.
+/// A clause sees the reader as `reader`, and the fault that each further call answers as `fault`.
 #[derive(Drop)]
 pub struct RecordReader<R: Read + Drop> {
     reader: Counting<R>,
-    failed: Option<RecordFault>,
+    fault: Option<RecordFault>,
 }
 
 impl<R: Read + Drop> Model for RecordReader<R> {
@@ -161,26 +172,26 @@ impl<R: Read + Drop> Model for RecordReader<R> {
 
     ghost Value = { RecordSource R };
 
-    ghost view = { λ r. record { reader = r.reader; failed = r.failed } };
+    ghost view = { λ r. record { reader = r.reader; fault = r.fault } };
 }
 
 impl<R: Read + Drop> RecordReader<R> {
     /// Reads from where the reader stands.
     pub fn new(reader: Counting<R>) -> Self
         ensures reader { result.reader ≡ reader }
-        ensures failed { result.failed ≡ None }
+        ensures fault { result.fault ≡ None }
     {
         RecordReader {
             reader,
-            failed: None,
+            fault: None,
         }
     }
 
     /// The fault that each further call of `next` answers, if one has come.
-    pub fn failed(&self) -> Option<RecordFault>
-        ensures { result ≡ self.now.failed }
+    pub fn fault(&self) -> Option<RecordFault>
+        ensures { result ≡ self.now.fault }
     {
-        self.failed
+        self.fault
     }
 
     /// The reader with its count, to look at.
@@ -205,15 +216,19 @@ impl<R: Read + Drop> RecordReader<R> {
     /// is no record; `Device` where a read failed, an interrupted one too. Each of these three is
     /// answered from then on, without a read.
     pub fn next(&mut self, alloc: Global) -> Result<Option<Vec<u8>>, RecordFault>
-        ensures found { IfOk result (λ found. TakesRecord (option_map (λ v. v.items) found) (R.remaining self.old.reader.inner) (R.remaining self.new.reader.inner)) }
+        ensures found { IfOk result (λ found. TakesRecord (option_map (λ v. v.items) found)
+            (R.remaining self.old.reader.inner) (R.remaining self.new.reader.inner)) }
         ensures kept { OnOk result (self.new.reader.count ≡ self.old.reader.count) }
-        ensures fault { IfErr result (λ e. self.old.failed ≡ None → FailsUnless e PassesLimit IsUnfinished (R.remaining self.old.reader.inner) self.old.reader.count self.new.reader.count) }
-        ensures taken { IfErr result (λ e. self.old.failed ≡ None → StopsAt e (R.remaining self.old.reader.inner) (R.remaining self.new.reader.inner)) }
+        ensures fault { IfErr result (λ e. self.old.fault ≡ None →
+            FailsUnless e PassesLimit IsUnfinished
+            (R.remaining self.old.reader.inner) self.old.reader.count self.new.reader.count) }
+        ensures taken { IfErr result (λ e. self.old.fault ≡ None →
+            StopsAt e (R.remaining self.old.reader.inner) (R.remaining self.new.reader.inner)) }
         ensures no_memory { IsErrOf result RecordFault.NoMemory → self.new ≡ self.old }
-        ensures again { IfSome self.old.failed (λ e. (result ≡ Err e) × (self.new ≡ self.old)) }
-        ensures failed { self.new.failed ≡ failed_after self.old.failed result }
+        ensures again { IfSome self.old.fault (λ e. (result ≡ Err e) × (self.new ≡ self.old)) }
+        ensures failed { self.new.fault ≡ fault_after self.old.fault result }
     {
-        if let Some(fault) = self.failed {
+        if let Some(fault) = self.fault {
             return Err(fault);
         }
         let Ok(mut record) = Vec::with_capacity(alloc, MAX_RECORD) else {
@@ -223,7 +238,7 @@ impl<R: Read + Drop> RecordReader<R> {
             Ok(true) => Ok(Some(record)),
             Ok(false) => Ok(None),
             Err(fault) => {
-                self.failed = Some(fault);
+                self.fault = Some(fault);
                 Err(fault)
             }
         }

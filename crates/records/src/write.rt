@@ -8,11 +8,13 @@ ghost use Rattle.records.specs.Writing.{WritesPart};
 
 use crate::counting::Counting;
 use crate::fault::RecordFault;
+use crate::record::LAST;
 use std::io::Write;
 
 /// What is written at once of the front of a record, with its mark.
 const FRONT: usize = 256;
 
+/// The bytes of a mark.
 const MARK: usize = 4;
 
 /// Writes bytes. An interrupted write counts as a fault, and so does one that takes nothing.
@@ -40,13 +42,13 @@ fn last_mark(len: u32) -> u32
     requires { len < 2 ^ 31 }
     ensures { to_be_bytes w32 result ≡ mark true len }
 {
-    len + 0x8000_0000
+    len + LAST
 }
 
 /// A mark and the front of a record, in one piece.
-fn staged(word: u32, head: &[u8]) -> [u8; FRONT]
-    requires { length head.now ≤ 252 }
-    ensures { take (4 + length head.now) result ≡ to_be_bytes w32 word ++ head.now }
+fn front_of(word: u32, head: &[u8]) -> [u8; FRONT]
+    requires { MARK + length head.now ≤ FRONT }
+    ensures { take (MARK + length head.now) result ≡ to_be_bytes w32 word ++ head.now }
 {
     let mut front = [0u8; FRONT];
     front[..MARK].copy_from_slice(&word.to_be_bytes());
@@ -60,13 +62,14 @@ fn staged(word: u32, head: &[u8]) -> [u8; FRONT]
 /// but not all of it.
 pub fn write_record<W: Write>(writer: &mut Counting<W>, bytes: &[u8]) -> Result<(), RecordFault>
     requires { length bytes.now < 2 ^ 31 }
-    ensures text { WritesPart (W.contents writer.old.inner) (W.contents writer.new.inner) (fragment true bytes.now) result }
+    ensures text { WritesPart (W.contents writer.old.inner) (W.contents writer.new.inner)
+        (fragment true bytes.now) result }
     ensures count { CountsErr result writer.old.count writer.new.count }
     ensures fault { IfErr result (λ e. e ≡ RecordFault.Device) }
 {
     let mark = last_mark(bytes.len() as u32);
     let (head, rest) = bytes.split_at(bytes.len().min(FRONT - MARK));
-    let front = staged(mark, head);
+    let front = front_of(mark, head);
     write_bytes(writer, &front[..MARK + head.len()])?;
     write_bytes(writer, rest)
 }

@@ -8,6 +8,7 @@ pub record Auth : Type 0 where
   pub flavor : ℕ
   pub body : List ℕ
 
+-- its item: the standard's `opaque body<400>` behind the flavor
 abbrev pub opaque_auth : Item
 opaque_auth = pair word (opaque 400)
 
@@ -19,12 +20,24 @@ pub record CallHeader : Type 0 where
   pub credential : Auth
   pub verifier : Auth
 
+-- its item
 abbrev pub call_header : Item
 call_header = pair word (pair word (pair word (pair opaque_auth opaque_auth)))
 
+-- a header as the value of its item
 abbrev pub header_value : CallHeader → Value call_header
-header_value h = (h.program, (h.version, (h.procedure, ((h.credential.flavor, h.credential.body), (h.verifier.flavor, h.verifier.body)))))
+header_value h = (
+  h.program,
+  (
+    h.version,
+    (
+      h.procedure,
+      ((h.credential.flavor, h.credential.body), (h.verifier.flavor, h.verifier.body)),
+    ),
+  ),
+)
 
+-- and back
 abbrev pub header_from : Value call_header → CallHeader
 header_from v = record {
   program = v.0;
@@ -38,7 +51,8 @@ header_from v = record {
 abbrev pub call_start : Item
 call_start = pair word (pair (word_where (λ n. n == 0)) word)
 
--- a call without its arguments: of another RPC version nothing more than the version is known
+-- a call without its arguments, with its xid first: of another RPC version nothing more than that version is
+-- known
 pub data Message : Type 0 where
   OtherVersion : ℕ → ℕ → Message
   Version2 : ℕ → CallHeader → Message
@@ -62,4 +76,5 @@ pub record Says (bytes : List ℕ) (m : Message) (rest : List ℕ) : Type 0 wher
 abbrev pub message_at : List ℕ → Read Message
 message_at bytes = do
   s ← read_at call_start bytes
-  if s.0.1.1 == 2 then (read_at call_header s.1 >>= λ h. Ok (Version2 s.0.0 (header_from h.0), h.1)) else Ok (OtherVersion s.0.0 s.0.1.1, s.1)
+  if s.0.1.1 == 2 then (read_at call_header s.1 >>= λ h. Ok (Version2 s.0.0 (header_from h.0), h.1))
+      else Ok (OtherVersion s.0.0 s.0.1.1, s.1)

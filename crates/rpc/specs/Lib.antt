@@ -4,5 +4,5 @@ pub use Rattle.records.specs.Stream
 pub use Rattle.records.specs.Reading
 pub use Rattle.records.specs.Writing
 pub mod Call
-pub mod Calls
+pub mod CallValues
 pub mod Reply

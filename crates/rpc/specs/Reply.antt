@@ -13,13 +13,15 @@ use Rattle.rpc.specs.declared.reply.Reply.{Reply}
 abbrev pub mismatch_info : Item
 mismatch_info = pair word word
 
--- accepted_reply: the verifier, and accept_stat: SUCCESS 0, PROG_UNAVAIL 1, PROG_MISMATCH 2, PROC_UNAVAIL 3, GARBAGE_ARGS 4, SYSTEM_ERR 5
+-- accepted_reply: the verifier, and accept_stat: SUCCESS 0, PROG_UNAVAIL 1, PROG_MISMATCH 2, PROC_UNAVAIL 3,
+-- GARBAGE_ARGS 4, SYSTEM_ERR 5
 abbrev pub accepted_reply : Item
 accepted_reply = pair opaque_auth (choice (λ n. nat_lt n 6) (λ n. if n == 2 then mismatch_info else empty))
 
 -- rejected_reply: RPC_MISMATCH 0, AUTH_ERROR 1 with an auth_stat of 0 to 14
 abbrev pub rejected_reply : Item
-rejected_reply = choice (λ n. nat_lt n 2) (λ n. if n == 0 then mismatch_info else word_where (λ s. nat_lt s 15))
+rejected_reply =
+    choice (λ n. nat_lt n 2) (λ n. if n == 0 then mismatch_info else word_where (λ s. nat_lt s 15))
 
 -- MSG_ACCEPTED 0 or MSG_DENIED 1
 abbrev pub reply_body : Item
@@ -39,6 +41,7 @@ auth_stat_number stats.BadCredential = 1
 auth_stat_number stats.RejectedCredential = 2
 auth_stat_number stats.TooWeak = 5
 
+-- what a reply's body says
 abbrev pub body_value : ReplyBody → Value reply_body
 body_value bodies.Success = (0, (no_verifier, (0, tt)))
 body_value bodies.ProgramUnavailable = (0, (no_verifier, (1, tt)))
@@ -49,6 +52,7 @@ body_value bodies.SystemError = (0, (no_verifier, (5, tt)))
 body_value (bodies.RpcMismatch low high) = (1, (0, (low, high)))
 body_value (bodies.AuthError stat) = (1, (1, auth_stat_number stat))
 
+-- what a reply says
 abbrev pub reply_value : Reply → Value reply
 reply_value r = (r.xid, (1, body_value r.body))
 

@@ -3,7 +3,7 @@
 ghost use Rattle.std.specs.Prelude.{◌≡◌, List, ℕ, IfOk, IsOkAnd};
 ghost use Rattle.xdr.specs.Reading.{Gives};
 ghost use Rattle.rpc.specs.Call.{opaque_auth, call_start, call_header, header_value, Message, Says, message_at};
-ghost use Rattle.rpc.specs.Calls.{auth_value_of, header_of, IsCallOf, IsCallIn, GivesCall};
+ghost use Rattle.rpc.specs.CallValues.{auth_value_of, header_of, IsCallOf, IsCallIn, GivesCall};
 
 use thiserror::Error;
 use xdr::{Reader, XdrFault};
@@ -53,12 +53,15 @@ pub struct Call<'a> {
 /// Why bytes are no call.
 #[derive(Clone, Copy, Debug, PartialEq, Eq, Error)]
 pub enum CallFault {
+    /// The bytes end within the header.
     #[error("the bytes end within the header")]
     Short,
+    /// They say something else: another message type, padding that isn't zero, or a body above its bound.
     #[error("not a call")]
     NotACall,
 }
 
+/// A credential or a verifier. After an `Err` the reader may stand within it.
 fn read_auth<'a>(reader: &mut Reader<'a>) -> Result<OpaqueAuth<'a>, XdrFault>
     ensures { Gives opaque_auth auth_value_of reader.old result reader.new }
 {
@@ -67,6 +70,7 @@ fn read_auth<'a>(reader: &mut Reader<'a>) -> Result<OpaqueAuth<'a>, XdrFault>
     Ok(OpaqueAuth { flavor, body })
 }
 
+/// What follows a call's version. After an `Err` the reader may stand within it.
 fn read_header<'a>(reader: &mut Reader<'a>) -> Result<Header<'a>, XdrFault>
     ensures { Gives call_header (λ h. header_value (header_of h)) reader.old result reader.new }
 {
@@ -99,7 +103,7 @@ fn read_start(reader: &mut Reader<'_>) -> Result<(u32, u32), XdrFault>
 
 impl CallFault {
     ghost use Rattle.std.specs.Prelude.{◌≡◌};
-    ghost use Rattle.rpc.specs.Calls.{call_fault_number};
+    ghost use Rattle.rpc.specs.CallValues.{call_fault_number};
 
     /// Its number: 1 where the bytes end within the header, 2 where they are no call.
     pub fn number(self) -> u32
@@ -114,7 +118,7 @@ impl CallFault {
 
 impl From<XdrFault> for CallFault {
     ghost use Rattle.std.specs.Prelude.{◌≡◌};
-    ghost use Rattle.rpc.specs.Calls.{call_fault};
+    ghost use Rattle.rpc.specs.CallValues.{call_fault};
 
     ghost from_gives = { λ f e. e ≡ call_fault f };
 
@@ -126,6 +130,7 @@ impl From<XdrFault> for CallFault {
     }
 }
 
+/// As `read_call`, with the exact clause alone.
 fn call_at(bytes: &[u8]) -> Result<Call<'_>, CallFault>
     ensures { GivesCall result (message_at bytes.now) }
 {
@@ -144,13 +149,15 @@ fn call_at(bytes: &[u8]) -> Result<Call<'_>, CallFault>
     })
 }
 
-/// The call at the front of a record, with its arguments and what follows them. The first fault from the left decides:
-/// `Short` where the bytes end within the header, `NotACall` where they say something else. It takes no memory.
+/// The call at the front of a record, with its arguments and what follows them. The first fault from the left
+/// decides: `Short` where the bytes end within the header, `NotACall` where they say something else. It takes
+/// no memory.
 pub fn read_call(bytes: &[u8]) -> Result<Call<'_>, CallFault>
     // What is read is said.
     ensures found { IfOk result (IsCallIn bytes.now) }
     // What is said is read.
-    ensures only { (m : Message) (rest : List ℕ) → Says bytes.now m rest → IsOkAnd result (λ c. IsCallOf c m rest) }
+    ensures only { (m : Message) (rest : List ℕ) →
+        Says bytes.now m rest → IsOkAnd result (λ c. IsCallOf c m rest) }
     // Which fault it is.
     ensures exact { GivesCall result (message_at bytes.now) }
 {

@@ -6,11 +6,14 @@ ghost use Rattle.rpc.specs.Reply.{numbers_text, reply_words, reply_text};
 use std::alloc::AllocError;
 use xdr::Writer;
 
-/// Why a credential was refused (RFC 5531, section 8.4, auth_stat).
+/// Why a credential was refused (RFC 5531, section 9, auth_stat).
 #[derive(Clone, Copy, Debug, PartialEq, Eq)]
 pub enum AuthStat {
+    /// AUTH_BADCRED: the credential's body can't be read.
     BadCredential,
+    /// AUTH_REJECTEDCRED: the client must begin anew, as with another flavor.
     RejectedCredential,
+    /// AUTH_TOOWEAK: the credential doesn't suffice for the procedure.
     TooWeak,
 }
 
@@ -30,8 +33,8 @@ impl AuthStat {
     }
 }
 
-/// What stands behind a reply's transaction id (RFC 5531, section 9, reply_body). The verifier of an accepted call is
-/// AUTH_NONE with no bytes.
+/// What stands behind a reply's transaction id (RFC 5531, section 9, reply_body). The verifier of an accepted
+/// call is AUTH_NONE with no bytes.
 #[derive(Clone, Copy, Debug, PartialEq, Eq)]
 pub enum ReplyBody {
     /// SUCCESS: the procedure's results follow the reply.
@@ -67,7 +70,25 @@ const ACCEPTED: u32 = 0;
 
 const DENIED: u32 = 1;
 
-/// The flavor AUTH_NONE (section 8.2), and the length of a verifier with no bytes.
+/// Why a call was accepted or not (section 9, accept_stat).
+const SUCCESS: u32 = 0;
+
+const PROG_UNAVAIL: u32 = 1;
+
+const PROG_MISMATCH: u32 = 2;
+
+const PROC_UNAVAIL: u32 = 3;
+
+const GARBAGE_ARGS: u32 = 4;
+
+const SYSTEM_ERR: u32 = 5;
+
+/// Why a call was denied (section 9, reject_stat).
+const RPC_MISMATCH: u32 = 0;
+
+const AUTH_ERROR: u32 = 1;
+
+/// The flavor AUTH_NONE (sections 8.2 and 10.1), and the length of a verifier with no bytes.
 const AUTH_NONE: u32 = 0;
 
 const NO_BYTES: u32 = 0;
@@ -78,26 +99,42 @@ fn put_words(reply: &Reply, out: &mut Vec<u8>) -> Result<(), AllocError>
 {
     let xid = reply.xid;
     match reply.body {
-        ReplyBody::Success => out.put_u32s(&[xid, REPLY, ACCEPTED, AUTH_NONE, NO_BYTES, 0]),
+        ReplyBody::Success => out.put_u32s(&[xid, REPLY, ACCEPTED, AUTH_NONE, NO_BYTES, SUCCESS]),
         ReplyBody::ProgramUnavailable => {
-            out.put_u32s(&[xid, REPLY, ACCEPTED, AUTH_NONE, NO_BYTES, 1])
+            out.put_u32s(&[xid, REPLY, ACCEPTED, AUTH_NONE, NO_BYTES, PROG_UNAVAIL])
         }
         ReplyBody::ProgramMismatch { low, high } => {
-            out.put_u32s(&[xid, REPLY, ACCEPTED, AUTH_NONE, NO_BYTES, 2, low, high])
+            out.put_u32s(&[
+                xid,
+                REPLY,
+                ACCEPTED,
+                AUTH_NONE,
+                NO_BYTES,
+                PROG_MISMATCH,
+                low,
+                high,
+            ])
         }
         ReplyBody::ProcedureUnavailable => {
-            out.put_u32s(&[xid, REPLY, ACCEPTED, AUTH_NONE, NO_BYTES, 3])
+            out.put_u32s(&[xid, REPLY, ACCEPTED, AUTH_NONE, NO_BYTES, PROC_UNAVAIL])
         }
         ReplyBody::GarbageArguments => {
-            out.put_u32s(&[xid, REPLY, ACCEPTED, AUTH_NONE, NO_BYTES, 4])
+            out.put_u32s(&[xid, REPLY, ACCEPTED, AUTH_NONE, NO_BYTES, GARBAGE_ARGS])
         }
-        ReplyBody::SystemError => out.put_u32s(&[xid, REPLY, ACCEPTED, AUTH_NONE, NO_BYTES, 5]),
-        ReplyBody::RpcMismatch { low, high } => out.put_u32s(&[xid, REPLY, DENIED, 0, low, high]),
-        ReplyBody::AuthError(stat) => out.put_u32s(&[xid, REPLY, DENIED, 1, stat.number()]),
+        ReplyBody::SystemError => {
+            out.put_u32s(&[xid, REPLY, ACCEPTED, AUTH_NONE, NO_BYTES, SYSTEM_ERR])
+        }
+        ReplyBody::RpcMismatch { low, high } => {
+            out.put_u32s(&[xid, REPLY, DENIED, RPC_MISMATCH, low, high])
+        }
+        ReplyBody::AuthError(stat) => {
+            out.put_u32s(&[xid, REPLY, DENIED, AUTH_ERROR, stat.number()])
+        }
     }
 }
 
-/// Appends a reply, without the results that follow SUCCESS. Where memory is refused, the bytes are as they were.
+/// Appends a reply, without the results that follow SUCCESS. Where memory is refused, the bytes are as they
+/// were.
 #[tactic(auto, using(crate::proofs::Replies::says_words))]
 pub fn write_reply(reply: &Reply, out: &mut Vec<u8>) -> Result<(), AllocError>
     ensures { Appends (reply_text reply.now) out.old.items result out.new.items }

@@ -3,7 +3,7 @@
 ghost use Rattle.std.specs.Prelude.{◌≡◌, ◌≤◌, ◌++◌, List, ℕ, length, None, IfOk, IfSome, OnOk, OnErr, IsOk};
 ghost use Rattle.std.specs.Option.{option_map};
 ghost use Rattle.rpc.specs.Call.{Message};
-ghost use Rattle.rpc.specs.Calls.{IsCallOf, header_of};
+ghost use Rattle.rpc.specs.CallValues.{IsCallOf, header_of};
 ghost use Rattle.nfs_types.specs.CallerOf.{caller_of};
 ghost use Rattle.nfs_types.specs.Arguments.{arguments_of};
 ghost use Rattle.nfs_types.specs.Results.{results_text};

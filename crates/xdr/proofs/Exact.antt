@@ -1,4 +1,7 @@
--- Reading and spelling are the same, for each type of item.
+-- Reading and spelling are the same, for each type of item: `takes` is the one direction and `again` the other,
+-- both by induction on the type, with a pair of lemmas for each way to make a type of others.
+-- Serves: reads_what_is_spelled, no_spelling_begins_another, reads_each_text; the laws of rpc, nfs_types,
+-- call_items and log_entries, and one_list_of_records in records.
 use Rattle.std.proofs.Common.{◌≡◌, ℕ, zero, suc, ◌^◌, ◌<◌, ◌≤◌, Bool, true, false, cond, ltb, List, [], ◌∷◌, ◌++◌, length, Result, Ok, Err, refl, sym, ap, subst, ◌∙◌, append_assoc, arith}
 use Rattle.std.specs.Prelude.{IsTrue, ◌↔◌, IfOk, IsOkAnd, Option, Some, None, IfSome}
 use Rattle.std.specs.List.{flat_map, AllByRecursion}
@@ -8,18 +11,19 @@ use Rattle.std.proofs.lemmas.List.Concat.{flat_map-cons}
 use Rattle.xdr.specs.declared.fault.XdrFault.TheVariants.{TooLong, BadEnum}
 use Rattle.xdr.specs.Item.{Item, word, hyper, flag, opaque, fixed, empty, pair, array, choice, optional, linked, repeated, word_where, hyper_where, Value, number_spelling, optional_spelling, linked_spelling, spelling, Fits, IsBytes}
 use Rattle.xdr.specs.declared.fault.XdrFault.{XdrFault}
-use Rattle.xdr.specs.Reading.{Read, ◌>>=◌, number_at, flag_at, optional_at, linked_at, tested_at, items_at, read_at, Gives, SpelledAtFront}
+use Rattle.xdr.specs.Reading.{Read, ◌>>=◌, number_at, flag_at, optional_at, linked_at, tested_at, items_at, read_at}
 use Rattle.xdr.proofs.Front.{bind_ok, guard_ok, guard_true, done, ok_is, Takes, Takes-then, number_takes, number_again, length-number_spelling, back4, back8, flag_takes, flag_again, fixed_takes, fixed_again, opaque_takes, opaque_again}
 
 -- what is read is spelled so
-abbrev pub Takes_all : {A : Type 0} (read : List ℕ → Read A) (text : A → List ℕ) (fits : A → Type 0) → Type 0
-Takes_all {A} read text fits = (bytes : List ℕ) (x : A × List ℕ) → IsBytes bytes → read bytes ≡ Ok x → Takes bytes (text x.0) x.1 × fits x.0
+abbrev pub TakesAll : {A : Type 0} (read : List ℕ → Read A) (text : A → List ℕ) (fits : A → Type 0) → Type 0
+TakesAll {A} read text fits = (bytes : List ℕ) (x : A × List ℕ) → IsBytes bytes → read bytes ≡ Ok x → Takes bytes (text x.0) x.1 × fits x.0
 
 -- what is spelled so is read, whatever follows
-abbrev pub Reads_again : {A : Type 0} (read : List ℕ → Read A) (text : A → List ℕ) (fits : A → Type 0) → Type 0
-Reads_again {A} read text fits = (v : A) (rest : List ℕ) → fits v → read (text v ++ rest) ≡ Ok (v, rest)
+abbrev pub ReadsAgain : {A : Type 0} (read : List ℕ → Read A) (text : A → List ℕ) (fits : A → Type 0) → Type 0
+ReadsAgain {A} read text fits = (v : A) (rest : List ℕ) → fits v → read (text v ++ rest) ≡ Ok (v, rest)
 
-items_take : {A : Type 0} (read : List ℕ → Read A) (text : A → List ℕ) (fits : A → Type 0) → Takes_all read text fits
+-- items one after the other, as many as are known
+items_take : {A : Type 0} (read : List ℕ → Read A) (text : A → List ℕ) (fits : A → Type 0) → TakesAll read text fits
     → (n : ℕ) (bytes : List ℕ) (x : List A × List ℕ) → IsBytes bytes → items_at read n bytes ≡ Ok x → Takes bytes (flat_map text x.0) x.1 × (length x.0 ≡ n) × AllByRecursion fits x.0
 unfolding items_at
 items_take {A} read text fits exact zero bytes x bound e =
@@ -34,7 +38,8 @@ items_take {A} read text fits exact (suc n) bytes x bound e =
     let P : List A × List ℕ → Type 0 = λ y. Takes bytes (flat_map text y.0) y.1 × (length y.0 ≡ suc n) × AllByRecursion fits y.0 in
     subst P (ok_is (a.0.0 ∷ b.0.0, b.0.1) x b.2) (rw flat_map-cons both, ap suc second.1, (first.1, second.2))
 
-items_again : {A : Type 0} (read : List ℕ → Read A) (text : A → List ℕ) (fits : A → Type 0) → Reads_again read text fits
+-- and their spellings are read
+items_again : {A : Type 0} (read : List ℕ → Read A) (text : A → List ℕ) (fits : A → Type 0) → ReadsAgain read text fits
     → (vs : List A) (rest : List ℕ) → AllByRecursion fits vs → items_at read (length vs) (flat_map text vs ++ rest) ≡ Ok (vs, rest)
 unfolding items_at
 items_again read text fits exact [] rest all = refl
@@ -42,6 +47,7 @@ items_again read text fits exact (v ∷ vs) rest all =
     let regrouped : flat_map text (v ∷ vs) ++ rest ≡ text v ++ (flat_map text vs ++ rest) = ap (λ (x : List ℕ). x ++ rest) (flat_map-cons text v vs) ∙ append_assoc (text v) (flat_map text vs) rest in
     ap (items_at read (suc (length vs))) regrouped ∙ rw (exact v (flat_map text vs ++ rest) all.0, items_again read text fits exact vs rest all.1) refl
 
+-- by cases on a bool that was read
 flag_goes : {A : Type 0} (text : A → List ℕ) (fits : A → Type 0) (more : Bool) (bytes after : List ℕ) (some none : Read A) (x : A × List ℕ)
     → Takes bytes (number_spelling 4 (cond more 1 0)) after → cond more some none ≡ Ok x
     → (Takes bytes (number_spelling 4 1) after → some ≡ Ok x → Takes bytes (text x.0) x.1 × fits x.0)
@@ -50,8 +56,9 @@ flag_goes : {A : Type 0} (text : A → List ℕ) (fits : A → Type 0) (more : B
 flag_goes text fits true bytes after some none x t e is_more is_end = is_more t e
 flag_goes text fits false bytes after some none x t e is_more is_end = is_end t e
 
-optional_takes : {A : Type 0} (read : List ℕ → Read A) (text : A → List ℕ) (fits : A → Type 0) → Takes_all read text fits
-    → Takes_all (optional_at read) (optional_spelling text) (λ v. IfSome v fits)
+-- a bool, and behind TRUE an item
+optional_takes : {A : Type 0} (read : List ℕ → Read A) (text : A → List ℕ) (fits : A → Type 0) → TakesAll read text fits
+    → TakesAll (optional_at read) (optional_spelling text) (λ v. IfSome v fits)
 unfolding optional_at
 optional_takes {A} read text fits exact bytes x bound e =
     let some : List ℕ → Read (Option A) = λ after. read after >>= λ v. Ok (Some v.0, v.1) in
@@ -66,19 +73,22 @@ optional_takes {A} read text fits exact bytes x bound e =
     subst P (ok_is (Some q.0.0, q.0.1) x q.2) (Takes-then bytes (number_spelling 4 1) after (text q.0.0) q.0.1 t second.0, second.1))
     (λ t f. subst P (ok_is (None, after) x f) (t, tt))
 
-optional_again : {A : Type 0} (read : List ℕ → Read A) (text : A → List ℕ) (fits : A → Type 0) → Reads_again read text fits
-    → Reads_again (optional_at read) (optional_spelling text) (λ v. IfSome v fits)
+-- and its spelling is read
+optional_again : {A : Type 0} (read : List ℕ → Read A) (text : A → List ℕ) (fits : A → Type 0) → ReadsAgain read text fits
+    → ReadsAgain (optional_at read) (optional_spelling text) (λ v. IfSome v fits)
 unfolding optional_at
 optional_again read text fits exact None rest h = rw (flag_again false rest) refl
 optional_again read text fits exact (Some v) rest h =
     let regrouped = append_assoc (number_spelling 4 1) (text v) rest in
     ap (optional_at read) regrouped ∙ rw (flag_again true (text v ++ rest), exact v rest h) refl
 
+-- the spelling of a list by optional data, from its first item on
 linked-cons : {A : Type 0} (text : A → List ℕ) (v : A) (vs : List A) → linked_spelling text (v ∷ vs) ≡ (number_spelling 4 1 ++ text v) ++ linked_spelling text vs
 linked-cons text v vs = ap (λ (x : List ℕ). x ++ number_spelling 4 0) (flat_map-cons (λ w. number_spelling 4 1 ++ text w) v vs) ∙ append_assoc (number_spelling 4 1 ++ text v) (flat_map (λ w. number_spelling 4 1 ++ text w) vs) (number_spelling 4 0)
 
-linked_takes : {A : Type 0} (read : List ℕ → Read A) (text : A → List ℕ) (fits : A → Type 0) → Takes_all read text fits
-    → (fuel : ℕ) → Takes_all (linked_at read fuel) (linked_spelling text) (AllByRecursion fits)
+-- a list by optional data, within its fuel
+linked_takes : {A : Type 0} (read : List ℕ → Read A) (text : A → List ℕ) (fits : A → Type 0) → TakesAll read text fits
+    → (fuel : ℕ) → TakesAll (linked_at read fuel) (linked_spelling text) (AllByRecursion fits)
 unfolding linked_at
 linked_takes read text fits exact zero bytes x bound e = absurd cc
 linked_takes {A} read text fits exact (suc fuel) bytes x bound e =
@@ -97,13 +107,15 @@ linked_takes {A} read text fits exact (suc fuel) bytes x bound e =
     subst P (ok_is (q.0.0 ∷ r.0.0, r.0.1) x r.2) (rw linked-cons both, (second.1, third.1)))
     (λ t f. subst P (ok_is ([], after) x f) (t, tt))
 
+-- its spelling is longer than the list, so that the fuel suffices
 linked_long : {A : Type 0} (text : A → List ℕ) (vs : List A) → length vs < length (linked_spelling text vs)
 linked_long text [] = omega (arith, length-number_spelling 4 0)
 linked_long text (v ∷ vs) =
     let whole = ap length (linked-cons text v vs) in
     omega (arith, whole, length-append (number_spelling 4 1 ++ text v) (linked_spelling text vs), length-append (number_spelling 4 1) (text v), length-number_spelling 4 1, linked_long text vs)
 
-linked_again : {A : Type 0} (read : List ℕ → Read A) (text : A → List ℕ) (fits : A → Type 0) → Reads_again read text fits
+-- and its spelling is read
+linked_again : {A : Type 0} (read : List ℕ → Read A) (text : A → List ℕ) (fits : A → Type 0) → ReadsAgain read text fits
     → (vs : List A) (fuel : ℕ) (rest : List ℕ) → length vs < fuel → AllByRecursion fits vs → linked_at read fuel (linked_spelling text vs ++ rest) ≡ Ok (vs, rest)
 unfolding linked_at
 linked_again read text fits exact vs zero rest lt all = absurd (omega arith)
@@ -125,6 +137,7 @@ tested_again : (len : ℕ) (test : ℕ → Bool) (n : ℕ) (rest : List ℕ) →
 unfolding tested_at
 tested_again len test n rest lt h = rw (number_again len n rest lt, h) refl
 
+-- What is read is its spelling, with what follows.
 pub takes : (a : Item) (bytes : List ℕ) (x : Value a × List ℕ) → IsBytes bytes → read_at a bytes ≡ Ok x → Takes bytes (spelling a x.0) x.1 × Fits a x.0
 takes word bytes x bound e = let t = number_takes 4 back4 bytes x.0 x.1 bound e in (t.0, omega (arith, t.1))
 takes hyper bytes x bound e = let t = number_takes 8 back8 bytes x.0 x.1 bound e in (t.0, omega (arith, t.1))
@@ -171,6 +184,7 @@ takes (hyper_where test) bytes x bound e =
     let t = number_takes 8 back8 bytes x.0 x.1 bound p.0 in
     (t.0, (omega (arith, t.1), p.1))
 
+-- What is spelled is read, whatever follows.
 pub again : (a : Item) (v : Value a) (rest : List ℕ) → Fits a v → read_at a (spelling a v ++ rest) ≡ Ok (v, rest)
 again word v rest fits = number_again 4 v rest (omega arith)
 again hyper v rest fits = number_again 8 v rest (omega arith)
@@ -196,30 +210,16 @@ again (repeated count a) v rest fits = rw (← fits.0) (items_again (read_at a) 
 again (word_where test) n rest fits = tested_again 4 test n rest (omega (arith, fits.0)) fits.1
 again (hyper_where test) n rest fits = tested_again 8 test n rest (omega (arith, fits.0)) fits.1
 
+-- both: reading gives a value exactly where its spelling stands at the front
 pub is_spelled : (a : Item) (v : Value a) (bytes rest : List ℕ) → IsBytes bytes → (read_at a bytes ≡ Ok (v, rest)) ↔ (Fits a v × (bytes ≡ spelling a v ++ rest))
 is_spelled a v bytes rest bound = (
   (λ e. let t = takes a bytes (v, rest) bound e in (t.1, t.0.parts)),
   (λ h. ap (read_at a) h.1 ∙ again a v rest h.0),
 )
 
+-- two spellings that begin the same bytes are of one value
 pub one_meaning : (a : Item) (v w : Value a) (x y : List ℕ) → Fits a v → Fits a w → spelling a v ++ x ≡ spelling a w ++ y → (v ≡ w) × (x ≡ y)
 one_meaning a v w x y fits fits' e =
     let same : done (v, x) ≡ done (w, y) = sym (again a v x fits) ∙ ap (read_at a) e ∙ again a w y fits' in
     let both = ok_is (v, x) (w, y) same in
     (ap (λ (p : Value a × List ℕ). p.0) both, ap (λ (p : Value a × List ℕ). p.1) both)
-
--- What a reader gave stands at the front, in its one spelling.
-pub what_was_read : {X : Type 0} (a : Item) (view : X → Value a) (old : List ℕ) (r : Result X XdrFault) (new : List ℕ) → IsBytes old → Gives a view old r new
-    → IfOk r (λ x. Fits a (view x) × SpelledAtFront a (view x) old)
-what_was_read a view old (Ok x) new bound given = let t = takes a old (view x, new) bound given in (t.1, (new, t.0.parts))
-what_was_read a view old (Err e) new bound given = tt
-
--- What stands at the front is what a reader gives.
-pub what_is_read : {X : Type 0} (a : Item) (view : X → Value a) (old : List ℕ) (r : Result X XdrFault) (new : List ℕ) → Gives a view old r new
-    → (v : Value a) → Fits a v → SpelledAtFront a v old → IsOkAnd r (λ x. view x ≡ v)
-what_is_read a view old (Ok x) new given v fits front =
-    let same : done (view x, new) ≡ done (v, front.0) = sym given ∙ ap (read_at a) front.1 ∙ again a v front.0 fits in
-    ap (λ (p : Value a × List ℕ). p.0) (ok_is (view x, new) (v, front.0) same)
-what_is_read a view old (Err e) new given v fits front =
-    let never : read_at a old ≡ Ok (v, front.0) = ap (read_at a) front.1 ∙ again a v front.0 fits in
-    absurd cc

@@ -1,4 +1,7 @@
--- What stands at the front of bytes.
+-- Numbers, bools and opaque data at the front of bytes: what reading takes is the spelling (`_takes`), and
+-- a spelling is read again (`_again`).
+-- Serves: reads_what_is_spelled and no_spelling_begins_another by way of Exact; mark_of and some_reading in
+-- records; the proofs on calls, arguments and entries in rpc, nfs_types, call_items, log_entries and secure_log.
 use Rattle.std.proofs.Common.{◌≡◌, ℕ, zero, suc, ◌+◌, ◌-◌, ◌%◌, ◌^◌, ◌<◌, ◌≤◌, Bool, true, false, cond, ◌&&◌, ltb, eqb, List, [], ◌∷◌, ◌++◌, length, take, drop, replicate, Ok, Err, refl, sym, ap, subst, ◌∙◌, append_assoc, arith, inl, inr}
 use Rattle.std.specs.List.{list_all}
 use Rattle.std.proofs.lemmas.Bool.{cases_lt, eqb-true, ltb-false, le-ltb}
@@ -11,9 +14,11 @@ use Rattle.xdr.specs.declared.fault.XdrFault.TheVariants.{Short, Padding, BadBoo
 use Rattle.xdr.specs.Item.{IsBytes, number_spelling, padding}
 use Rattle.xdr.specs.Reading.{Read, ◌>>=◌, number_at, flag_at, fixed_at, opaque_at}
 
+-- what is left of bytes is bytes
 pub IsBytes-drop : (n : ℕ) (bytes : List ℕ) → IsBytes bytes → IsBytes (drop n bytes)
 IsBytes-drop n bytes h i = rw get_or-drop (h (n + i))
 
+-- the front of bytes is bytes
 pub IsBytes-take : (n : ℕ) (bytes : List ℕ) → IsBytes bytes → IsBytes (take n bytes)
 IsBytes-take n bytes h i =
     elim (cases_lt i n) [
@@ -21,34 +26,39 @@ IsBytes-take n bytes h i =
       | inr le ↦ rw (get_or_past (take n bytes) i 0 (omega (arith, length-take n bytes))) (omega arith)
     ]
 
--- the value of a step that did not fail
+-- a chain that gave a value: so did its first step, and the rest from there
 pub bind_ok : {A B : Type 0} (r : Read A) (f : A × List ℕ → Read B) (y : B × List ℕ) → (r >>= f) ≡ Ok y → (x : A × List ℕ) × (r ≡ Ok x) × (f x ≡ Ok y)
 bind_ok (Ok x) f y e = (x, refl, e)
 bind_ok (Err d) f y e = absurd cc
 
--- a test that did not fail
+-- a test with a fault in its `then`, which gave a value: the test is false
 pub guard_ok : {A : Type 0} (b : Bool) (d : XdrFault) (r : Read A) (y : A × List ℕ) → cond b (Err d) r ≡ Ok y → (b ≡ false) × (r ≡ Ok y)
 guard_ok true d r y e = absurd cc
 guard_ok false d r y e = (refl, e)
 
+-- a test with a fault in its `else`, which gave a value: the test is true
 pub guard_true : {A : Type 0} (b : Bool) (d : XdrFault) (r : Read A) (y : A × List ℕ) → cond b r (Err d) ≡ Ok y → (b ≡ true) × (r ≡ Ok y)
 guard_true true d r y e = (refl, e)
 guard_true false d r y e = absurd cc
 
+-- a value that was read, and what follows it
 abbrev pub done : {A : Type 0} → A × List ℕ → Read A
 done x = Ok x
 
+-- equal values, and equal bytes behind them
 pub ok_is : {A : Type 0} (x y : A × List ℕ) → done x ≡ done y → x ≡ y
 ok_is x y e = cc
 
--- what a reader took from the front
+-- A text was taken from the front of bytes, and bytes are left.
 pub record Takes (bytes text rest : List ℕ) : Type 0 where
   pub parts : bytes ≡ text ++ rest
   pub rest_fits : IsBytes rest
 
+-- one after the other
 pub Takes-then : (a x b y c : List ℕ) → Takes a x b → Takes b y c → Takes a (x ++ y) c
 Takes-then a x b y c p q = record { parts = p.parts ∙ ap (λ (t : List ℕ). x ++ t) q.parts ∙ sym (append_assoc x y c); rest_fits = q.rest_fits }
 
+-- a number: `back` says that its bytes are told by it
 pub number_takes : (len : ℕ) → ((bytes : List ℕ) → length bytes ≡ len → IsBytes bytes → big_bytes len (big_number len bytes) ≡ bytes)
     → (bytes : List ℕ) (n : ℕ) (rest : List ℕ) → IsBytes bytes → number_at len bytes ≡ Ok (n, rest) → Takes bytes (number_spelling len n) rest × (n < 256 ^ len)
 unfolding number_at number_spelling
@@ -63,12 +73,15 @@ number_takes len back bytes n rest fits e =
     let front : big_bytes len n ≡ take len bytes = rw (← n-is, same) (back (take len bytes) (omega (arith, length-take len bytes)) (IsBytes-take len bytes fits)) in
     (record { parts = rw (front, ← rest-is) (sym (take-append-drop len bytes)); rest_fits = rw (← rest-is) (IsBytes-drop len bytes fits) }, rw (← n-is) (big_from-lt 0 len bytes fits))
 
+-- four bytes are the spelling of their number
 pub back4 : (bytes : List ℕ) → length bytes ≡ 4 → IsBytes bytes → big_bytes 4 (big_number 4 bytes) ≡ bytes
 back4 bytes len fits = be_bytes_4 bytes _ len fits (omega arith)
 
+-- eight bytes are the spelling of their number
 pub back8 : (bytes : List ℕ) → length bytes ≡ 8 → IsBytes bytes → big_bytes 8 (big_number 8 bytes) ≡ bytes
 back8 bytes len fits = be_bytes_8 bytes _ len fits (omega arith)
 
+-- a number's spelling is read as the number
 pub number_again : (len n : ℕ) (rest : List ℕ) → n < 256 ^ len → number_at len (number_spelling len n ++ rest) ≡ Ok (n, rest)
 unfolding number_at number_spelling
 number_again len n rest lt =
@@ -76,12 +89,14 @@ number_again len n rest lt =
     let long : ltb (length (big_bytes len n ++ rest)) len ≡ false = le-ltb _ _ (omega (arith, length-append (big_bytes len n) rest)) in
     rw (long, big_number-reads_back len n rest lt, drop_at (big_bytes len n) rest len size) refl
 
+-- the length of a number's spelling
 pub length-number_spelling : (len n : ℕ) → length (number_spelling len n) ≡ len
 unfolding number_spelling
 length-number_spelling len n = length-bytes_high_first len n
 
--- ---- flags
+-- ---- bools
 
+-- what is read as a bool is its spelling
 pub flag_takes : (bytes : List ℕ) (b : Bool) (rest : List ℕ) → IsBytes bytes → flag_at bytes ≡ Ok (b, rest) → Takes bytes (number_spelling 4 (cond b 1 0)) rest
 unfolding flag_at
 flag_takes bytes b rest fits e =
@@ -103,6 +118,7 @@ flag_takes bytes b rest fits e =
         subst P p (subst (λ (k : ℕ). Takes bytes (number_spelling 4 k) after) n-is t)
     flag_cases false false bytes n after b rest t z o e = absurd cc
 
+-- a bool's spelling is read as the bool
 pub flag_again : (b : Bool) (rest : List ℕ) → flag_at (number_spelling 4 (cond b 1 0) ++ rest) ≡ Ok (b, rest)
 unfolding flag_at
 flag_again true rest = rw (number_again 4 1 rest (omega arith)) refl
@@ -110,6 +126,7 @@ flag_again false rest = rw (number_again 4 0 rest (omega arith)) refl
 
 -- ---- bytes and their padding
 
+-- a list of bytes that are all zero is a list of zeros
 all_zero_cons : (is_zero : Bool) (x : ℕ) (xs : List ℕ) → (is_zero ≡ true → x ≡ 0) → (list_all (λ b. eqb b 0) xs ≡ true → xs ≡ replicate (length xs) 0)
     → (is_zero && list_all (λ b. eqb b 0) xs) ≡ true → x ∷ xs ≡ 0 ∷ replicate (length xs) 0
 all_zero_cons true x xs z rest e = let a = z refl in let b = rest e in cc
@@ -119,10 +136,12 @@ all_zero : (xs : List ℕ) → list_all (λ b. eqb b 0) xs ≡ true → xs ≡ r
 all_zero [] e = refl
 all_zero (x ∷ xs) e = all_zero_cons (eqb x 0) x xs (eqb-true _ _) (all_zero xs) e
 
+-- and a list of zeros passes the test
 zero_all : (n : ℕ) → list_all (λ b. eqb b 0) (replicate n 0) ≡ true
 zero_all zero = refl
 zero_all (suc n) = zero_all n
 
+-- what is read as opaque data of a known length is its spelling
 pub fixed_takes : (len : ℕ) (bytes body rest : List ℕ) → IsBytes bytes → fixed_at len bytes ≡ Ok (body, rest) → Takes bytes (body ++ padding len) rest × (length body ≡ len)
 unfolding fixed_at
 fixed_takes len bytes body rest fits e =
@@ -139,6 +158,7 @@ fixed_takes len bytes body rest fits e =
     let P : List ℕ × List ℕ → Type 0 = λ x. Takes bytes (x.0 ++ padding len) x.1 × (length x.0 ≡ len) in
     subst P both (Takes-then bytes (take len bytes) after (padding len) (drop pad after) first second, omega (arith, length-take len bytes))
 
+-- and its spelling is read
 pub fixed_again : (len : ℕ) (body rest : List ℕ) → length body ≡ len → fixed_at len ((body ++ padding len) ++ rest) ≡ Ok (body, rest)
 unfolding fixed_at
 fixed_again len body rest size =
@@ -148,6 +168,7 @@ fixed_again len body rest size =
     let long : ltb (length (body ++ (padding len ++ rest))) (len + pad) ≡ false = le-ltb _ _ (omega (arith, length-append body (padding len ++ rest), length-append (padding len) rest)) in
     ap (fixed_at len) regrouped ∙ rw (long, take_at body (padding len ++ rest) len size, drop_at body (padding len ++ rest) len size, take_at (padding len) rest pad zeros, drop_at (padding len) rest pad zeros, zero_all pad) refl
 
+-- what is read as opaque data behind its length is its spelling
 pub opaque_takes : (max : ℕ) (bytes body rest : List ℕ) → IsBytes bytes → opaque_at max bytes ≡ Ok (body, rest)
     → Takes bytes (number_spelling 4 (length body) ++ (body ++ padding (length body))) rest × ((length body < 2 ^ 32) × (length body ≤ max))
 unfolding opaque_at
@@ -160,6 +181,7 @@ opaque_takes max bytes body rest fits e =
     let le : a.0.0 ≤ max = ltb-false _ _ g.0 in
     (subst (λ (k : ℕ). Takes bytes (number_spelling 4 k ++ (body ++ padding k)) rest) (sym u.1) both, (omega (arith, t.1, u.1), omega (arith, u.1)))
 
+-- and its spelling is read, where the length is within the bound
 pub opaque_again : (max : ℕ) (body rest : List ℕ) → length body < 2 ^ 32 → length body ≤ max
     → opaque_at max ((number_spelling 4 (length body) ++ (body ++ padding (length body))) ++ rest) ≡ Ok (body, rest)
 unfolding opaque_at

@@ -13,7 +13,7 @@ use Rattle.byteorder.specs.Endian.{big_bytes}
 --   repeated     an array of a count that is known (4.12)
 --   array        an array of at most so many items (4.13)
 --   pair         a structure, two parts at a time (4.14)
---   choice       a discriminated union: a number that `known` allows, and what stands behind that number (4.15)
+--   choice       a discriminated union: a number that `known` allows, and what stands behind it (4.15)
 --   empty        void (4.16)
 --   optional     optional data (4.19)
 --   linked       a list by optional data, as the standard's `stringlist` (4.19)
@@ -101,9 +101,6 @@ Fits (repeated count a) vs = (length vs ≡ count) × AllByRecursion (Fits a) vs
 Fits (word_where test) n = (n < 2 ^ 32) × IsTrue (test n)
 Fits (hyper_where test) n = (n < 2 ^ 64) × IsTrue (test n)
 
+-- Each number is a byte.
 abbrev pub IsBytes : List ℕ → Type 0
 IsBytes bytes = (i : ℕ) → slice_index bytes i < 256
-
--- a and b say the same, and what follows them is the same
-abbrev pub IsSame : {V : Type 0} → V → List ℕ → V → List ℕ → Type 0
-IsSame v x w y = (v ≡ w) × (x ≡ y)

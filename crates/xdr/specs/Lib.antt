@@ -4,5 +4,5 @@ pub mod Reading
 pub mod Writing
 pub mod Text
 pub mod ReadError
-pub mod Counted
+pub mod ArraysAndUnions
 pub mod TextError

@@ -4,20 +4,25 @@ use Rattle.std.specs.List.{list_all}
 use Rattle.byteorder.specs.Endian.{big_number}
 use Rattle.xdr.specs.declared.fault.XdrFault.{XdrFault}
 use Rattle.xdr.specs.declared.fault.XdrFault.TheVariants.{Short, Padding, BadBool, TooLong, BadEnum}
-use Rattle.xdr.specs.Item.{Item, word, hyper, flag, opaque, fixed, empty, pair, array, choice, optional, linked, repeated, word_where, hyper_where, Value, spelling}
+use Rattle.xdr.specs.Item.{Item, word, hyper, flag, opaque, fixed, empty, pair, array, choice, optional, linked, repeated, word_where, hyper_where, Value}
 
 -- a value and the bytes after it, or the first fault
 abbrev pub Read : Type 0 → Type 0
 Read A = Result (A × List ℕ) XdrFault
 
+-- what follows a step that gave a value; its fault is the fault of the whole
 infixl 10 ◌>>=◌
 abbrev pub ◌>>=◌ : {A B : Type 0} → Read A → (A × List ℕ → Read B) → Read B
 (Ok x) >>= f = f x
 (Err e) >>= f = Err e
 
+-- a number of len bytes, the highest first
 unfoldable pub number_at : ℕ → List ℕ → Read ℕ
-number_at len bytes = if nat_lt (length bytes) len then Err Short else Ok (big_number len bytes, drop len bytes)
+number_at len bytes =
+    if nat_lt (length bytes) len then Err Short
+    else Ok (big_number len bytes, drop len bytes)
 
+-- a bool: the number 0 or 1
 unfoldable pub flag_at : List ℕ → Read Bool
 flag_at bytes = do
   n ← number_at 4 bytes
@@ -27,9 +32,11 @@ flag_at bytes = do
 unfoldable pub fixed_at : ℕ → List ℕ → Read (List ℕ)
 fixed_at len bytes =
     if nat_lt (length bytes) (len + (4 - len % 4) % 4) then Err Short
-    else if list_all (λ b. b == 0) (take ((4 - len % 4) % 4) (drop len bytes)) then Ok (take len bytes, drop ((4 - len % 4) % 4) (drop len bytes))
+    else if list_all (λ b. b == 0) (take ((4 - len % 4) % 4) (drop len bytes))
+    then Ok (take len bytes, drop ((4 - len % 4) % 4) (drop len bytes))
     else Err Padding
 
+-- at most max bytes behind their length
 unfoldable pub opaque_at : ℕ → List ℕ → Read (List ℕ)
 opaque_at max bytes = do
   len ← number_at 4 bytes
@@ -55,7 +62,8 @@ unfoldable pub linked_at : {A : Type 0} → (List ℕ → Read A) → ℕ → Li
 linked_at read zero bytes = Err Short
 linked_at read (suc fuel) bytes = do
   more ← flag_at bytes
-  if more.0 then (read more.1 >>= λ v. linked_at read fuel v.1 >>= λ vs. Ok (v.0 ∷ vs.0, vs.1)) else Ok ([], more.1)
+  if more.0 then (read more.1 >>= λ v. linked_at read fuel v.1 >>= λ vs. Ok (v.0 ∷ vs.0, vs.1))
+      else Ok ([], more.1)
 
 -- a number that passes a test
 unfoldable pub tested_at : ℕ → (ℕ → Bool) → List ℕ → Read ℕ
@@ -63,6 +71,7 @@ tested_at len test bytes = do
   n ← number_at len bytes
   if test n.0 then Ok n else Err BadEnum
 
+-- an item from the front
 abbrev pub read_at : (a : Item) → List ℕ → Read (Value a)
 read_at word bytes = number_at 4 bytes
 read_at hyper bytes = number_at 8 bytes
@@ -86,9 +95,10 @@ read_at (repeated count a) bytes = items_at (read_at a) count bytes
 read_at (word_where test) bytes = tested_at 4 test bytes
 read_at (hyper_where test) bytes = tested_at 8 test bytes
 
--- A call gave what reading gives, and a refused reader stays. It may have other faults, as want of memory: fault
--- says which of them are of XDR.
-abbrev pub ReadsUnless : {X E : Type 0} (fault : E → Option XdrFault) (a : Item) → (X → Value a) → List ℕ → Result X E → List ℕ → Type 0
+-- A call gave what reading gives, and a refused reader stays. It may have other faults, as want of memory:
+-- `fault` says which of them are of XDR. The lists are what the reader had left before and after.
+abbrev pub ReadsUnless : {X E : Type 0} (fault : E → Option XdrFault) (a : Item)
+    → (X → Value a) → List ℕ → Result X E → List ℕ → Type 0
 ReadsUnless fault a view old (Ok x) new = read_at a old ≡ Ok (view x, new)
 ReadsUnless fault a view old (Err e) new = IfSome (fault e) (λ f. read_at a old ≡ Err f) × (new ≡ old)
 
@@ -97,10 +107,12 @@ abbrev pub Reads : {X : Type 0} (a : Item) → (X → Value a) → List ℕ → 
 Reads a view old result new = ReadsUnless Some a view old result new
 
 -- The same where a refused reader may have moved.
-abbrev pub GivesUnless : {X E : Type 0} (fault : E → Option XdrFault) (a : Item) → (X → Value a) → List ℕ → Result X E → List ℕ → Type 0
+abbrev pub GivesUnless : {X E : Type 0} (fault : E → Option XdrFault) (a : Item)
+    → (X → Value a) → List ℕ → Result X E → List ℕ → Type 0
 GivesUnless fault a view old (Ok x) new = read_at a old ≡ Ok (view x, new)
 GivesUnless fault a view old (Err e) new = IfSome (fault e) (λ f. read_at a old ≡ Err f)
 
+-- Both at once: each fault is one of XDR, and a refused reader may have moved.
 abbrev pub Gives : {X : Type 0} (a : Item) → (X → Value a) → List ℕ → Result X XdrFault → List ℕ → Type 0
 Gives a view old result new = GivesUnless Some a view old result new
 
@@ -108,15 +120,3 @@ Gives a view old result new = GivesUnless Some a view old result new
 abbrev pub GivesFront : {X : Type 0} (a : Item) → (X → Value a × List ℕ) → List ℕ → Result X XdrFault → Type 0
 GivesFront a view bytes (Ok x) = read_at a bytes ≡ Ok (view x)
 GivesFront a view bytes (Err e) = read_at a bytes ≡ Err e
-
--- The same for a function over bytes that leaves aside what follows the item.
-abbrev pub DecodesUnless : {X E : Type 0} (fault : E → Option XdrFault) (a : Item) → (X → Value a) → List ℕ → Result X E → Type 0
-DecodesUnless fault a view bytes (Ok x) = (rest : List ℕ) × (read_at a bytes ≡ Ok (view x, rest))
-DecodesUnless fault a view bytes (Err e) = IfSome (fault e) (λ f. read_at a bytes ≡ Err f)
-
-abbrev pub Decodes : {X : Type 0} (a : Item) → (X → Value a) → List ℕ → Result X XdrFault → Type 0
-Decodes a view bytes result = DecodesUnless Some a view bytes result
-
--- The spelling of a value stands at the front.
-abbrev pub SpelledAtFront : (a : Item) → Value a → List ℕ → Type 0
-SpelledAtFront a v bytes = (rest : List ℕ) × (bytes ≡ spelling a v ++ rest)

@@ -4,6 +4,7 @@ use Rattle.std.specs.Bool.{OnTrue}
 use Rattle.xdr.specs.Item.{Item, Value, Fits, spelling}
 use Rattle.xdr.specs.Reading.{Read, read_at}
 
+-- A kind of text: the item that it spells, and a test on the item's value.
 pub record Text : Type 0 where
   pub item : Item
   pub test : Value item → Bool
@@ -22,8 +23,9 @@ whole test (Err e) = None
 unfoldable pub text_at : (t : Text) → List ℕ → Option (Value t.item)
 text_at t bytes = whole t.test (read_at t.item bytes)
 
--- A call over bytes gave the value of their text, or said that they are none. It may have other faults, as want
--- of memory: is_no_text tells which say that.
-abbrev pub GivesText : {X E : Type 0} (is_no_text : E → Bool) (t : Text) → (X → Value t.item) → List ℕ → Result X E → Type 0
+-- A call over bytes gave the value of their text, or said that they are none. It may have other faults, as
+-- want of memory: is_no_text tells which say that.
+abbrev pub GivesText : {X E : Type 0} (is_no_text : E → Bool) (t : Text)
+    → (X → Value t.item) → List ℕ → Result X E → Type 0
 GivesText is_no_text t view bytes (Ok x) = text_at t bytes ≡ Some (view x)
 GivesText is_no_text t view bytes (Err e) = OnTrue (is_no_text e) (text_at t bytes ≡ None)

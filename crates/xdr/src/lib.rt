@@ -2,7 +2,7 @@
 #![tactic(auto)]
 
 mod fault;
-mod laws;
+pub mod laws;
 mod list;
 mod reader;
 #[cfg(test)]
@@ -11,7 +11,6 @@ mod text;
 mod writer;
 
 pub use fault::XdrFault;
-pub use laws::{no_spelling_begins_another, reads_each_text, reads_what_is_spelled};
 pub use list::{FromXdr, ReadError, read_array};
 pub use reader::{Reader, put_back_on_err};
 pub use text::{FromText, TextError, read_text};

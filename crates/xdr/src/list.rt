@@ -11,8 +11,8 @@ use crate::reader::{Reader, put_back_on_err};
 use std::alloc::{AllocError, AllocFailed, Global};
 use thiserror::Error;
 
-/// Why a value that takes memory could not be read. `NoMemory` comes only where a growth was refused; a `Fault`
-/// is the first one from left to right.
+/// Why a value that takes memory could not be read. `NoMemory` comes only where a growth was refused; a
+/// `Fault` is the first one from left to right.
 #[derive(Debug, Drop, Error)]
 pub enum ReadError {
     #[error("out of memory")]
@@ -47,7 +47,7 @@ impl<T: Drop> From<AllocFailed<T>> for ReadError {
 
 /// A type whose values have a spelling.
 pub trait FromXdr<'a>: Drop {
-    /// How its values are spelled.
+    /// How its values are spelled: its type in XDR.
     ghost item: { Item };
 
     /// What a value says.
@@ -73,26 +73,29 @@ impl<'a> FromXdr<'a> for u32 {
     }
 }
 
-/// Reads an array of at most `max` items (RFC 4506, section 4.13): its count, Short or `TooLong`, and then the
-/// items. After an `Err` the reader is as it was.
+/// Reads an array of at most `max` items (RFC 4506, section 4.13). `Short` where the count isn't there,
+/// `TooLong` where it is above `max`, else the first fault of the items. After an `Err` the reader is as it was.
 pub fn read_array<'a, T: FromXdr<'a>>(
     alloc: Global,
     reader: &mut Reader<'a>,
     max: u32,
 ) -> Result<Vec<T>, ReadError>
-    ensures { ReadsUnless xdr_fault (array max T.item) (λ v. map T.value v.items) reader.old result reader.new }
+    ensures { ReadsUnless xdr_fault (array max T.item) (λ v. map T.value v.items)
+        reader.old result reader.new }
 {
     let start = reader.rest();
     let read = array_items(alloc, reader, max);
     put_back_on_err(reader, start, read)
 }
 
+/// Reads an array. After an `Err` the reader may stand within it.
 fn array_items<'a, T: FromXdr<'a>>(
     alloc: Global,
     reader: &mut Reader<'a>,
     max: u32,
 ) -> Result<Vec<T>, ReadError>
-    ensures { GivesUnless xdr_fault (array max T.item) (λ v. map T.value v.items) reader.old result reader.new }
+    ensures { GivesUnless xdr_fault (array max T.item) (λ v. map T.value v.items)
+        reader.old result reader.new }
 {
     let count = reader.u32()?;
     if count > max {

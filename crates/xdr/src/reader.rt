@@ -10,8 +10,8 @@ use crate::fault::XdrFault;
 use byteorder::{BigEndian, ByteOrder};
 use std::marker::Model;
 
-/// What is left of some bytes. A call takes one item from the front, and no memory. A call that is refused leaves
-/// the reader as it was, and names the first fault from left to right.
+/// What is left of some bytes. A call takes one item from the front, and no memory. A call that is refused
+/// leaves the reader as it was, and names the first fault from left to right.
 #[derive(Drop)]
 pub struct Reader<'a> {
     bytes: &'a [u8],
@@ -65,12 +65,12 @@ impl<'a> Reader<'a> {
         Ok(n)
     }
 
-    /// A bool, 4 bytes (section 4.4): `Short` where fewer are left, `BadBool` for a number other than 0 and 1.
+    /// A bool, 4 bytes (section 4.4): `Short` where fewer are left, `BadBool` where they are neither 0 nor 1.
     #[tactic(auto, unfolding(crate::specs::Reading::flag_at))]
     pub fn bool(&mut self) -> Result<bool, XdrFault>
         ensures { Reads flag (λ b. b) self.old result self.new }
     {
-        let (n, rest) = number(self.bytes)?;
+        let (n, rest) = split_number(self.bytes)?;
         let flag = match n {
             0 => false,
             1 => true,
@@ -80,30 +80,30 @@ impl<'a> Reader<'a> {
         Ok(flag)
     }
 
-    /// Opaque data or a string of at most `max` bytes (sections 4.10 and 4.11): `Short` where the length isn't
-    /// there, `TooLong` where it is above `max`, `Short` where the bytes or their padding aren't there, `Padding`
-    /// where that isn't zero.
+    /// Opaque data or a string of at most `max` bytes (sections 4.10 and 4.11): `Short` where the length
+    /// isn't there, `TooLong` where it is above `max`, `Short` where the bytes or their padding aren't there,
+    /// `Padding` where that isn't zero.
     #[tactic(auto, unfolding(crate::specs::Reading::opaque_at))]
     pub fn opaque(&mut self, max: u32) -> Result<&'a [u8], XdrFault>
         ensures { Reads (opaque max) (λ b. b.now) self.old result self.new }
     {
-        let (len, rest) = number(self.bytes)?;
+        let (len, rest) = split_number(self.bytes)?;
         if len > max {
             return Err(XdrFault::TooLong);
         }
-        let (body, rest) = padded(rest, len as usize)?;
+        let (body, rest) = split_padded(rest, len as usize)?;
         self.bytes = rest;
         Ok(body)
     }
 
-    /// Opaque data of `N` bytes (section 4.9): `Short` where they or their padding aren't there, `Padding` where
-    /// that isn't zero.
+    /// Opaque data of `N` bytes (section 4.9): `Short` where they or their padding aren't there, `Padding`
+    /// where that isn't zero.
     #[tactic(auto, unfolding(crate::specs::Reading::fixed_at))]
     pub fn fixed<const N: usize>(&mut self) -> Result<&'a [u8; N], XdrFault>
         requires { N < 2 ^ 32 }
         ensures { Reads (fixed N) (λ b. b.now) self.old result self.new }
     {
-        let (_, rest) = padded(self.bytes, N)?;
+        let (_, rest) = split_padded(self.bytes, N)?;
         let Some((body, _)) = self.bytes.split_first_chunk::<N>() else {
             return Err(XdrFault::Short);
         };
@@ -112,15 +112,16 @@ impl<'a> Reader<'a> {
     }
 }
 
-/// Puts the reader back to `start`, what its `rest` gave before, where `read` is an error, and else leaves it where it
-/// stands. It gives `read`. So a reader of several fields leaves a refused reader as it was.
+/// Puts the reader back to `start`, what its `rest` gave before, where `read` is an error, and else leaves it
+/// where it stands. It gives `read`. So a function that reads several fields leaves a refused reader as it was.
 pub fn put_back_on_err<'a, T, E>(
     reader: &mut Reader<'a>,
     start: &'a [u8],
     read: Result<T, E>,
 ) -> Result<T, E>
     ensures reader { (fault : E → Option XdrFault) (a : Item) (view : T → Value a) →
-        GivesUnless fault a view start.now read reader.old → ReadsUnless fault a view start.now result reader.new }
+        GivesUnless fault a view start.now read reader.old →
+        ReadsUnless fault a view start.now result reader.new }
     ensures kept { OnOk read (reader.new ≡ reader.old) }
     ensures back { OnErr read (reader.new ≡ start.now) }
     ensures read { result ≡ read }
@@ -133,7 +134,7 @@ pub fn put_back_on_err<'a, T, E>(
 
 /// A number of 4 bytes, and what follows it.
 #[tactic(auto, unfolding(crate::specs::Reading::number_at))]
-fn number(bytes: &[u8]) -> Result<(u32, &[u8]), XdrFault>
+fn split_number(bytes: &[u8]) -> Result<(u32, &[u8]), XdrFault>
     ensures { GivesFront word (λ x. (x.0, x.1.now)) bytes.now result }
 {
     if bytes.len() < 4 {
@@ -144,7 +145,7 @@ fn number(bytes: &[u8]) -> Result<(u32, &[u8]), XdrFault>
 
 /// Opaque data of `len` bytes, and what follows its padding.
 #[tactic(auto, unfolding(crate::specs::Reading::fixed_at))]
-fn padded(bytes: &[u8], len: usize) -> Result<(&[u8], &[u8]), XdrFault>
+fn split_padded(bytes: &[u8], len: usize) -> Result<(&[u8], &[u8]), XdrFault>
     requires { len < 2 ^ 32 }
     ensures { GivesFront (fixed len) (λ x. (x.0.now, x.1.now)) bytes.now result }
 {
@@ -160,6 +161,7 @@ fn padded(bytes: &[u8], len: usize) -> Result<(&[u8], &[u8]), XdrFault>
     Ok((body, rest))
 }
 
+/// Whether each byte is 0.
 fn are_zero(bytes: &[u8]) -> bool
     ensures { result ≡ list_all (λ b. b == 0) bytes.now }
 {

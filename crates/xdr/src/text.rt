@@ -41,16 +41,18 @@ pub trait FromText<'a>: Drop {
         ensures { result ≡ text.test (value self.now) };
 }
 
-/// The value whose text the bytes are. `NotAText` comes exactly where they are the text of none, `NoMemory` only
-/// where a growth was refused.
+/// The value whose text the bytes are. `NotAText` comes exactly where they are the text of none, `NoMemory`
+/// only where a growth was refused.
 pub fn read_text<'a, T: FromText<'a>>(alloc: Global, bytes: &'a [u8]) -> Result<T, TextError>
     ensures exact { GivesText is_no_text T.text T.value bytes.now result }
     ensures found { IfOk result (λ x. IsText T.text (T.value x) bytes.now) }
-    ensures only { (v : Value T.text.item) → IsText T.text v bytes.now → MatchResult result (λ x. T.value x ≡ v) (λ e. e ≡ NoMemory) }
+    ensures only { (v : Value T.text.item) → IsText T.text v bytes.now →
+        MatchResult result (λ x. T.value x ≡ v) (λ e. e ≡ NoMemory) }
 {
     text_of(alloc, bytes)
 }
 
+/// As `read_text`, with the exact clause alone.
 fn text_of<'a, T: FromText<'a>>(alloc: Global, bytes: &'a [u8]) -> Result<T, TextError>
     ensures { GivesText is_no_text T.text T.value bytes.now result }
 {

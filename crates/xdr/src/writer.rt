@@ -9,36 +9,39 @@ use std::alloc::AllocError;
 /// Appends items to bytes. A call that is refused memory leaves the bytes as they were.
 pub trait Writer {
     /// The bytes so far.
-    ghost written: { Self → List ℕ };
+    ghost contents: { Self → List ℕ };
 
     /// Appends an unsigned integer or an enum, 4 bytes (RFC 4506, sections 4.2 and 4.3).
     fn put_u32(&mut self, n: u32) -> Result<(), AllocError>
-        ensures { Writes word n (written self.old) result (written self.new) };
+        ensures { Writes word n (contents self.old) result (contents self.new) };
 
     /// Appends an unsigned hyper integer, 8 bytes (RFC 4506, section 4.5).
     fn put_u64(&mut self, n: u64) -> Result<(), AllocError>
-        ensures { Writes hyper n (written self.old) result (written self.new) };
+        ensures { Writes hyper n (contents self.old) result (contents self.new) };
 
     /// Appends unsigned integers one after the other, without a count (RFC 4506, section 4.12).
     fn put_u32s(&mut self, ns: &[u32]) -> Result<(), AllocError>
-        ensures { Writes (repeated (length ns.now) word) ns.now (written self.old) result (written self.new) };
+        ensures { Writes (repeated (length ns.now) word) ns.now
+            (contents self.old) result (contents self.new) };
 
     /// Appends a bool, 4 bytes (RFC 4506, section 4.4).
     fn put_bool(&mut self, b: bool) -> Result<(), AllocError>
-        ensures { Writes flag b (written self.old) result (written self.new) };
+        ensures { Writes flag b (contents self.old) result (contents self.new) };
 
     /// Appends bytes whose length is known, and zeros up to a multiple of four (RFC 4506, section 4.9).
     fn put_fixed(&mut self, bytes: &[u8]) -> Result<(), AllocError>
-        ensures { Writes (fixed (length bytes.now)) bytes.now (written self.old) result (written self.new) };
+        ensures { Writes (fixed (length bytes.now)) bytes.now
+            (contents self.old) result (contents self.new) };
 
     /// Appends bytes behind their length (RFC 4506, sections 4.10 and 4.11).
     fn put_opaque(&mut self, bytes: &[u8]) -> Result<(), AllocError>
         requires { length bytes.now < 2 ^ 32 }
-        ensures { Writes (opaque (length bytes.now)) bytes.now (written self.old) result (written self.new) };
+        ensures { Writes (opaque (length bytes.now)) bytes.now
+            (contents self.old) result (contents self.new) };
 }
 
 impl Writer for Vec<u8> {
-    ghost written = { λ v. v.items };
+    ghost contents = { λ v. v.items };
 
     #[tactic(auto, unfolding(crate::specs::Item::number_spelling))]
     fn put_u32(&mut self, n: u32) -> Result<(), AllocError> {
@@ -73,14 +76,15 @@ impl Writer for Vec<u8> {
     }
 }
 
-/// Takes out what stands behind `start` where the call that wrote it was refused memory, and gives its result. Nothing
-/// is taken out where `start` is the end or beyond it.
+/// Takes out what stands behind `start` where the call that wrote it was refused memory, and gives its result.
+/// Nothing is taken out where `start` is the end or beyond it.
 pub fn all_or_nothing(
     out: &mut Vec<u8>,
     start: usize,
     written: Result<(), AllocError>,
 ) -> Result<(), AllocError>
-    ensures text { (text old : List ℕ) → length old ≡ start → Adds text old written out.old.items → Appends text old result out.new.items }
+    ensures text { (text old : List ℕ) → length old ≡ start →
+        Adds text old written out.old.items → Appends text old result out.new.items }
     ensures kept { OnOk written (out.new.items ≡ out.old.items) }
     ensures cut { OnErr written (out.new.items ≡ take start out.old.items) }
     ensures written { result ≡ written }
@@ -98,8 +102,8 @@ const AT_ONCE: usize = 32;
 
 /// The spelling of a few numbers, and what is left of the room for them.
 #[tactic(auto, unfolding(crate::specs::Item::number_spelling))]
-fn spelled(ns: &[u32]) -> [u8; 4 * AT_ONCE]
-    requires { length ns.now ≤ 32 }
+fn spelling_of(ns: &[u32]) -> [u8; 4 * AT_ONCE]
+    requires { length ns.now ≤ AT_ONCE }
     ensures { take (4 * length ns.now) result ≡ spelling (repeated (length ns.now) word) ns.now }
 {
     let mut bytes = [0; 4 * AT_ONCE];
@@ -111,18 +115,20 @@ fn spelled(ns: &[u32]) -> [u8; 4 * AT_ONCE]
     bytes
 }
 
+/// Appends numbers; where memory is refused, some of them may stand.
 fn add_u32s(out: &mut Vec<u8>, ns: &[u32]) -> Result<(), AllocError>
     ensures { Adds (spelling (repeated (length ns.now) word) ns.now) out.old.items result out.new.items }
 {
     let mut rest = ns;
     while !rest.is_empty() {
         let (front, after) = rest.split_at(rest.len().min(AT_ONCE));
-        out.extend_from_slice(&spelled(front)[..4 * front.len()])?;
+        out.extend_from_slice(&spelling_of(front)[..4 * front.len()])?;
         rest = after;
     }
     Ok(())
 }
 
+/// Appends bytes and their padding; where memory is refused, a part may stand.
 fn add_fixed(out: &mut Vec<u8>, bytes: &[u8]) -> Result<(), AllocError>
     ensures { Adds (spelling (fixed (length bytes.now)) bytes.now) out.old.items result out.new.items }
 {
@@ -131,6 +137,7 @@ fn add_fixed(out: &mut Vec<u8>, bytes: &[u8]) -> Result<(), AllocError>
     out.extend_from_slice(&ZEROS[..padding])
 }
 
+/// Appends a length, bytes and their padding; where memory is refused, a part may stand.
 fn add_opaque(out: &mut Vec<u8>, bytes: &[u8]) -> Result<(), AllocError>
     requires { length bytes.now < 2 ^ 32 }
     ensures { Adds (spelling (opaque (length bytes.now)) bytes.now) out.old.items result out.new.items }

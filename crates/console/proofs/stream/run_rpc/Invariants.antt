@@ -4,4 +4,4 @@ use Rattle.console.proofs.stream.run_rpc.Given as goal
 abbrev pub invariant-loop-k : goal.invariant-loop-k
 invariant-loop-k g l =
     Turn l.service l.k (g.R.Read.remaining l.initial.reader.reader.inner) (g.R.Read.remaining l.reader.reader.inner) (g.W.Write.contents l.initial.writer.inner) (g.W.Write.contents l.writer.inner)
-    l.reader.failed l.initial.reader.reader.count l.reader.reader.count l.initial.writer.count l.writer.count
+    l.reader.fault l.initial.reader.reader.count l.reader.reader.count l.initial.writer.count l.writer.count

@@ -2,7 +2,7 @@ use Rattle.std.proofs.Common.{◌≤◌, length-append, refl, arith}
 use Rattle.std.proofs.lemmas.Result.{err_from_is_err_and}
 use Rattle.xdr.specs.Item.{fixed}
 use Rattle.xdr.specs.Reading.{read_at}
-use Rattle.xdr.specs.Counted.{begins, goes_on, fails_unless, ends, array_at}
+use Rattle.xdr.specs.ArraysAndUnions.{begins, goes_on, fails_unless, ends, array_at}
 use Rattle.merkle_keys.proofs.text.read_nodes.Goals as goal
 
 pub returns-in_err-read_node-clause-text : goal.returns-in_err-read_node-clause-text

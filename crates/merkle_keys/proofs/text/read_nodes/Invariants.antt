@@ -1,7 +1,7 @@
 use Rattle.std.proofs.Common.{◌≡◌, length}
 use Rattle.xdr.specs.Item.{fixed}
 use Rattle.xdr.specs.Reading.{read_at}
-use Rattle.xdr.specs.Counted.{Continues}
+use Rattle.xdr.specs.ArraysAndUnions.{Continues}
 use Rattle.merkle_keys.proofs.text.read_nodes.Given as goal
 
 abbrev pub invariant-loop : goal.invariant-loop

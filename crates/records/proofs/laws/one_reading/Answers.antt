@@ -1,4 +1,4 @@
-use Rattle.records.proofs.Fronts.{one_reading}
+use Rattle.records.proofs.OneReading.{one_reading}
 use Rattle.records.proofs.laws.one_reading.Goals as goal
 
 pub returns : goal.returns

@@ -1,4 +1,4 @@
-use Rattle.records.proofs.Some.{some_reading}
+use Rattle.records.proofs.SomeReading.{some_reading}
 use Rattle.records.proofs.laws.some_reading.Goals as goal
 
 pub returns : goal.returns

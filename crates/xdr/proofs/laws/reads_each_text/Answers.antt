@@ -1,4 +1,4 @@
-use Rattle.xdr.proofs.Calls.{is_text, one_text}
+use Rattle.xdr.proofs.WholeTexts.{is_text, one_text}
 use Rattle.xdr.proofs.laws.reads_each_text.Goals as goal
 
 pub returns-clause-exact : goal.returns-clause-exact

@@ -2,7 +2,7 @@ use Rattle.std.proofs.Common.{◌≡◌, ◌++◌, ◌∷◌, [], map}
 use Rattle.std.proofs.lemmas.List.{map_push}
 use Rattle.std.proofs.lemmas.Result.{err_from_is_err_and}
 use Rattle.xdr.specs.Reading.{read_at}
-use Rattle.xdr.specs.Counted.{begins, goes_on, fails_unless, ends, array_at}
+use Rattle.xdr.specs.ArraysAndUnions.{begins, goes_on, fails_unless, ends, array_at}
 use Rattle.xdr.proofs.list.array_items.Goals as goal
 
 pub returns-in_err-read : goal.returns-in_err-read

@@ -1,6 +1,6 @@
 use Rattle.std.proofs.Common.{map}
 use Rattle.xdr.specs.Reading.{read_at}
-use Rattle.xdr.specs.Counted.{Continues}
+use Rattle.xdr.specs.ArraysAndUnions.{Continues}
 use Rattle.xdr.proofs.list.array_items.Given as goal
 
 abbrev pub invariant-loop : goal.invariant-loop

@@ -3,7 +3,7 @@ use Rattle.std.specs.Prelude.{MatchResult}
 use Rattle.xdr.specs.declared.text.TextError.{TextError}
 use Rattle.xdr.specs.declared.text.TextError.TheVariants.{NoMemory, NotAText}
 use Rattle.xdr.specs.TextError.{is_no_text}
-use Rattle.xdr.proofs.Calls.{text_found, text_only}
+use Rattle.xdr.proofs.WholeTexts.{text_found, text_only}
 use Rattle.xdr.proofs.text.read_text.Goals as goal
 
 no_memory : {X : Type 0} (P : X → Type 0) (r : Result X TextError) → MatchResult r P (λ e. is_no_text e ≡ false) → MatchResult r P (λ e. e ≡ NoMemory)

@@ -1,5 +1,5 @@
 use Rattle.std.proofs.Common.{refl, sym, ◌∙◌, ◌≡◌, ◌==◌, true, false, length}
-use Rattle.xdr.proofs.Calls.{text_err, text_more, text_end}
+use Rattle.xdr.proofs.WholeTexts.{text_err, text_more, text_end}
 use Rattle.xdr.proofs.text.text_of.Goals as goal
 
 pub returns-in-Err-Fault : goal.returns-in-Err-Fault

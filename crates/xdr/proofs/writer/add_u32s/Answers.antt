@@ -14,5 +14,5 @@ loop-rest-preserved c =
     let cut : c.loop-rest.rest.now ≡ some ++ c.split_at.result.1.now = rw (c.split_at.ensures.front, c.split_at.ensures.back) (sym (take-append-drop _ _)) in (
       front ++ some,
       c.loop-rest.invariant.1 ∙ ap (λ (t : List ℕ). front ++ t) cut ∙ sym (append_assoc front some c.split_at.result.1.now),
-      c.in_ok-extend_from_slice.ensures.items ∙ more (number_spelling 4) c.args.out.now.items c.loop-rest.out.items front some _ c.loop-rest.invariant.2 c.spelled.ensures,
+      c.in_ok-extend_from_slice.ensures.items ∙ more (number_spelling 4) c.args.out.now.items c.loop-rest.out.items front some _ c.loop-rest.invariant.2 c.spelling_of.ensures,
     )
