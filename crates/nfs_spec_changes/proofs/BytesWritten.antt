@@ -1,18 +1,15 @@
 -- Byte i is the one written, else the old one, else zero, of a file after WRITE, SETATTR and CREATE.
 -- Serves: bytes_are_what_was_written (nfs_spec_changes); calls_change_what_they_name (nfs_spec_frames).
-use Rattle.std.proofs.Common.{◌≡◌, ◌≢◌, ℕ, ◌+◌, ◌-◌, Bool, true, false, List, [], length, replicate, Some, Ok, get_or, refl, sym, ap, ◌∙◌, arith}
+use Rattle.std.proofs.Common.{◌≡◌, ◌≢◌, ℕ, ◌+◌, ◌-◌, Bool, true, false, List, [], length, replicate, Some, get_or, refl, ap, ◌∙◌, arith}
 use Rattle.std.specs.Prelude.{unwrap_or, nat_le, nat_lt, ◌&&◌, if◌then◌else◌}
 use Rattle.std.proofs.lemmas.Bool.{leb-true, leb-false, ltb-true, ltb-false}
 use Rattle.std.proofs.lemmas.List.{get_or_past}
 use Rattle.nfs_types.specs.Timeval.{Timeval}
 use Rattle.nfs_types.specs.Caller.{Caller}
 use Rattle.fs_model.specs.Files.{Regular, File, Files, file_at}
-use Rattle.nfs_spec.specs.Checks.{◌>>=◌, check, check_size, bytes_of, may_write}
 use Rattle.nfs_spec.specs.Sattr.{Wanted}
-use Rattle.nfs_spec.specs.Changes.{resized, resized_body, written, check_resize, set}
+use Rattle.nfs_spec.specs.Changes.{resized, resized_body, written, set}
 use Rattle.nfs_spec.specs.Procedures.{rewritten}
-use Rattle.nfs_types.specs.declared.stat.Stat.TheVariants as stats
-use Rattle.nfs_spec_steps.proofs.Steps.{bind_ok, bytes_ok}
 use Rattle.nfs_spec_laws.proofs.Bytes.{length-resized}
 use Rattle.nfs_spec_laws.proofs.Bytes.{written_length, resized_byte, byte_before, byte_behind, byte_new}
 use Rattle.nfs_spec_changes.specs.Changed.{Becomes, ChangesBytes, old_byte, IsWritten, IsResized, Makes}

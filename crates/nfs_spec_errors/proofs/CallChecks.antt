@@ -1,9 +1,8 @@
 -- Each call, by file handles, gives in a tree the stat of the first of `checks_of` that fails: what a call
 -- adds to its procedure (a handle to be read, attributes to be shown) gives no stat but STALE.
 -- Serves: stats_of_calls (nfs_spec_errors).
-use Rattle.std.proofs.Common.{◌≡◌, ⊎_elim, ℕ, ◌+◌, Bool, true, false, cond, List, [], ◌∷◌, length, replicate, Option, Some, None, Result, Ok, Err, is_some, option_map, option_and_then, refl, sym, ap, subst, ◌∙◌, arith}
+use Rattle.std.proofs.Common.{◌≡◌, ⊎_elim, ℕ, Bool, true, false, cond, List, [], ◌∷◌, length, Option, Some, None, Result, Ok, Err, is_some, option_map, option_and_then, refl, sym, ap, subst, ◌∙◌, arith}
 use Rattle.std.specs.Prelude.{IsSome, unwrap_or, ◌==◌}
-use Rattle.std.specs.Option.{option_map_or}
 use Rattle.std.proofs.lemmas.Bool.{cases_eq}
 use Rattle.nfs_types.specs.Timeval.{Timeval}
 use Rattle.nfs_types.specs.Caller.{Caller}
@@ -12,23 +11,22 @@ use Rattle.nfs_types.specs.declared.attributes.Fattr.{Fattr}
 use Rattle.nfs_types.specs.declared.stat.Stat.{Stat}
 use Rattle.nfs_types.specs.declared.stat.Stat.TheVariants as stats
 use Rattle.fs_model.specs.Listing.{entry_at}
-use Rattle.fs_model.specs.Names.{is_name}
-use Rattle.fs_model.specs.Files.{File, Files, Regular, file_at, listing_in, is_directory}
+use Rattle.fs_model.specs.Files.{File, Files, file_at, listing_in, is_directory, places}
 use Rattle.fs_model.specs.Trees.{IsFileTree}
 use Rattle.fs_changes.specs.Edits.{with_changed_file, with_new_file, with_name}
 use Rattle.fs_changes.proofs.Finite.{changed_here, changed_other, new_here}
 use Rattle.nfs_spec.specs.Attributes.{attributes_of}
-use Rattle.nfs_spec.specs.Checks.{◌>>=◌, Found, found_or, file_of, dir_of, listing_or, check, check_size, check_room, check_edit, check_free, bytes_of, may_search, may_write}
+use Rattle.nfs_spec.specs.Checks.{◌>>=◌, found_or, file_of, listing_or, may_search}
 use Rattle.nfs_spec.specs.Sattr.{Wanted, wanted}
-use Rattle.nfs_spec.specs.Changes.{Effect, check_owner, check_resize, set, new_file}
+use Rattle.nfs_spec.specs.Changes.{Effect, set}
 use Rattle.nfs_spec.specs.Effects.{attributes_at, number_named, number_at_name}
-use Rattle.nfs_spec.specs.Procedures.{set_attributes, write, rewritten, made, create, create_over, create_new, make, is_regular}
+use Rattle.nfs_spec.specs.Procedures.{rewritten, made}
 use Rattle.nfs_spec.specs.Laws.{stat_in}
 use Rattle.nfs_spec.specs.Calls as calls
 use Rattle.nfs_spec.specs.Calls.{Call, Answer, told, with_attributes, with_handle, without_number, number_for, call_does}
 use Rattle.nfs_spec.proofs.Present.{named_there}
 use Rattle.nfs_spec_steps.specs.Answers.{refusal_in}
-use Rattle.nfs_spec_steps.proofs.Steps.{bind_ok, found_ok, ok_same, directory_ok}
+use Rattle.nfs_spec_steps.proofs.Steps.{bind_ok, found_ok, directory_ok}
 use Rattle.nfs_spec_steps.specs.Granted.{SetOk, WriteOk, MakeOk, CreateOk}
 use Rattle.nfs_spec_steps.proofs.Setting.{set_ok, write_ok}
 use Rattle.nfs_spec_steps.proofs.Making.{make_ok, create_ok}

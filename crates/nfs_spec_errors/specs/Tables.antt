@@ -1,19 +1,19 @@
 -- The checks of each procedure of NFS version 2 (RFC 1094, section 2.2), in order, each with its stat. The
 -- standard leaves the choice and the order of stats open.
-use Rattle.std.specs.Prelude.{ℕ, ◌+◌, ◌==◌, ◌||◌, ◌&&◌, not, nat_le, Bool, false, List, [], ◌∷◌, ◌++◌, length, replicate, Option, is_some, is_none, unwrap_or, if◌then◌else◌}
+use Rattle.std.specs.Prelude.{ℕ, ◌+◌, ◌==◌, ◌||◌, ◌&&◌, not, nat_le, Bool, false, List, [], ◌∷◌, ◌++◌, length, Option, is_some, is_none, if◌then◌else◌}
 use Rattle.std.specs.Option.{option_map_or}
 use Rattle.nfs_types.specs.Timeval.{Timeval}
 use Rattle.nfs_types.specs.Caller.{Caller}
 use Rattle.nfs_types.specs.declared.stat.Stat.TheVariants as stats
 use Rattle.fs_model.specs.Names.{is_name}
-use Rattle.fs_model.specs.Files.{Regular, Link, Directory, File, Files, listing, places}
+use Rattle.fs_model.specs.Files.{File, Files, listing, places}
 use Rattle.fs_changes.specs.Edits.{with_changed_file, with_name}
 use Rattle.fs_changes.specs.Limits.{has_room}
 use Rattle.nfs_spec.specs.Attributes.{is_directory_at}
 use Rattle.nfs_spec.specs.Checks.{permits, may_search, may_read, may_write, owns}
 use Rattle.nfs_spec.specs.Effects.{number_named}
-use Rattle.nfs_spec.specs.Sattr.{Wanted, wanted, nothing}
-use Rattle.nfs_spec.specs.Changes.{touch, mark, set, new_file, is_in_group}
+use Rattle.nfs_spec.specs.Sattr.{Wanted, wanted}
+use Rattle.nfs_spec.specs.Changes.{touch, mark, set, is_in_group}
 use Rattle.nfs_spec.specs.Procedures.{rewritten, made, is_regular, is_above}
 use Rattle.nfs_spec.specs.Calls as calls
 use Rattle.nfs_spec_steps.specs.Granted.{new_regular, new_directory, new_link}

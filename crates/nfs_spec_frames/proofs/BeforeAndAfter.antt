@@ -1,18 +1,18 @@
 -- What stands between a number's file before a call and after it: a relation that each change of one file
 -- keeps is kept by every call.
 -- Serves: files_stay_what_they_are, calls_keep_the_files_they_do_not_name (nfs_spec_frames), by KeptParts.
-use Rattle.std.proofs.Common.{◌≡◌, ◌≢◌, ℕ, Bool, true, false, List, [], Option, Some, None, option_map, ⊎_elim, refl, sym, ap, subst, ◌∙◌, eqb}
+use Rattle.std.proofs.Common.{◌≡◌, ◌≢◌, ℕ, Bool, true, false, List, Option, Some, None, option_map, ⊎_elim, refl, sym, ap, subst, ◌∙◌, eqb}
 use Rattle.std.specs.Prelude.{if◌then◌else◌, ◌==◌, length}
 use Rattle.std.proofs.lemmas.Bool.{cases_eq}
 use Rattle.nfs_types.specs.Timeval.{Timeval}
 use Rattle.nfs_types.specs.Caller.{Caller}
 use Rattle.fs_model.specs.Listing.{Listing, with_entry, without_entry}
-use Rattle.fs_model.specs.Files.{Regular, Link, Directory, File, Files, file_at, places, names_of}
+use Rattle.fs_model.specs.Files.{Regular, File, Files, file_at, places, names_of}
 use Rattle.fs_model.proofs.Walks.{some_same}
 use Rattle.fs_changes.specs.Edits.{with_changed_file, with_new_file, without_file, with_name, without_name, relisted}
 use Rattle.fs_changes.proofs.Finite.{new_other, changed_here, changed_other, gone_here, gone_other}
-use Rattle.nfs_spec.specs.Sattr.{Sattr, wanted, nothing}
-use Rattle.nfs_spec.specs.Changes.{set, new_file, touch, touched, mark, marked, unnamed, after_unlink}
+use Rattle.nfs_spec.specs.Sattr.{Sattr, wanted}
+use Rattle.nfs_spec.specs.Changes.{set, touch, touched, mark, marked, unnamed, after_unlink}
 use Rattle.nfs_spec.specs.Procedures.{rewritten, made, cleared, moved}
 use Rattle.nfs_spec.specs.Calls as calls
 use Rattle.nfs_spec.specs.Calls.{Call, Answer, number_for, call_does}

@@ -1,16 +1,14 @@
 -- A call that was not refused did to the files that it names what its procedure does.
 -- Serves: calls_change_what_they_name (nfs_spec_frames).
-use Rattle.std.proofs.Common.{◌≡◌, ⊎_elim, ℕ, true, false, List, [], Some, None, refl, sym, ap, subst, ◌∙◌}
+use Rattle.std.proofs.Common.{◌≡◌, ⊎_elim, ℕ, true, false, List, Some, None, refl, sym, ap, subst, ◌∙◌}
 use Rattle.std.specs.Prelude.{◌==◌, length, if◌then◌else◌}
 use Rattle.nfs_types.specs.Timeval.{Timeval}
 use Rattle.nfs_types.specs.Caller.{Caller}
-use Rattle.nfs_types.specs.declared.stat.Stat.{Stat}
-use Rattle.fs_model.specs.Files.{Link, Directory, File, Files}
+use Rattle.fs_model.specs.Files.{File, Files}
 use Rattle.fs_model.specs.Trees.{IsFileTree}
 use Rattle.fs_model.proofs.Walks.{none_some, some_same}
 use Rattle.fs_changes.specs.Edits.{with_changed_file}
-use Rattle.nfs_spec.specs.Sattr.{Wanted, wanted, nothing}
-use Rattle.nfs_spec.specs.Changes.{new_file}
+use Rattle.nfs_spec.specs.Sattr.{Wanted, wanted}
 use Rattle.nfs_spec.specs.Procedures.{rewritten}
 use Rattle.nfs_spec.specs.Calls as calls
 use Rattle.nfs_spec.specs.Calls.{Call, Answer, number_for, call_does}

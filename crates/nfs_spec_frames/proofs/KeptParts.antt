@@ -15,7 +15,7 @@ use Rattle.nfs_spec.specs.Calls.{Call, number_for, call_does}
 use Rattle.nfs_spec_trees.proofs.FilesFit.{next_free}
 use Rattle.nfs_spec_frames.specs.Named.{IsNoneOf, set_by, written_by, KeepsKind, KeepsAttributes, KeepsBytes, KeepsAt}
 use Rattle.nfs_spec_frames.proofs.UnnamedFiles.{at_name}
-use Rattle.nfs_spec_frames.proofs.BeforeAndAfter.{Step, IsKept, IsKeptBy, steps}
+use Rattle.nfs_spec_frames.proofs.BeforeAndAfter.{Step, steps}
 
 -- ---- nothing stays nothing
 

@@ -1,12 +1,10 @@
 -- A name that goes, and the file with the last one.
 -- Serves: the_last_name_takes_the_file (nfs_spec_frames).
-use Rattle.std.proofs.Common.{◌≡◌, ◌≢◌, ⊎_elim, ℕ, ◌<◌, Bool, true, false, not, List, [], length, Option, Some, None, Ok, IsSome, is_some, option_map, refl, sym, ap, subst, ◌∙◌, arith}
+use Rattle.std.proofs.Common.{◌≡◌, ◌≢◌, ⊎_elim, ℕ, ◌<◌, Bool, true, false, List, [], Option, Some, None, Ok, IsSome, is_some, option_map, refl, sym, ap, subst, ◌∙◌, arith}
 use Rattle.std.specs.Prelude.{◌==◌}
-use Rattle.std.proofs.lemmas.Bool.{cases_eq, eqb-true, not-true}
+use Rattle.std.proofs.lemmas.Bool.{cases_eq}
 use Rattle.nfs_types.specs.Timeval.{Timeval}
 use Rattle.nfs_types.specs.Caller.{Caller}
-use Rattle.nfs_types.specs.declared.stat.Stat.TheVariants as stats
-use Rattle.fs_model.specs.Listing.{Listing}
 use Rattle.fs_model.specs.Files.{File, Files, file_at, listing_in, is_directory, places, names_of}
 use Rattle.fs_model.specs.Trees.{IsTime, IsFileTree}
 use Rattle.fs_model.proofs.Walks.{none_some, some_same}
@@ -17,7 +15,6 @@ use Rattle.fs_changes.proofs.Finite.{changed_here, changed_other, gone_here}
 use Rattle.fs_changes.proofs.Shapes.{kind}
 use Rattle.fs_changes.proofs.Adding.{one_same}
 use Rattle.fs_changes.proofs.Taking.{IsTaken, stays_taken}
-use Rattle.nfs_spec.specs.Checks.{file_of, dir_of, listing_or, check, check_edit, number_at}
 use Rattle.nfs_spec.specs.Changes.{touch, touched, marked, unnamed, after_unlink}
 use Rattle.nfs_spec.specs.Procedures.{remove, remove_dir}
 use Rattle.nfs_spec_trees.proofs.FilesFit.{is_dir}

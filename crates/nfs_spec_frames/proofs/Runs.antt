@@ -1,11 +1,11 @@
 -- Calls one after the other keep a tree a tree within the limits, and give no number and no cookie again.
 -- Serves: runs_keep_a_tree_within_its_limits, runs_give_nothing_again (nfs_spec_frames).
-use Rattle.std.proofs.Common.{◌≡◌, ◌≤◌, ◌<◌, ℕ, inr, ⊎_elim, List, [], ◌∷◌, true, false, Option, Some, None, IsSome, is_some, option_map, option_and_then, refl, sym, ap, ◌∙◌, arith}
+use Rattle.std.proofs.Common.{◌≡◌, ◌<◌, ℕ, inr, ⊎_elim, List, [], ◌∷◌, true, false, Option, Some, None, IsSome, is_some, option_map, option_and_then, refl, sym, ap, ◌∙◌, arith}
 use Rattle.std.specs.Prelude.{IsTrue}
 use Rattle.nfs_types.specs.Timeval.{Timeval}
 use Rattle.nfs_types.specs.Caller.{Caller}
 use Rattle.fs_model.specs.Listing.{entry_at}
-use Rattle.fs_model.specs.Files.{Body, Regular, Link, Directory, File, Files, file_at, is_directory, listing_in, IsDirectory, places}
+use Rattle.fs_model.specs.Files.{Body, Regular, Link, Directory, File, Files, file_at, is_directory, listing_in, IsDirectory}
 use Rattle.fs_model.specs.Trees.{IsFileTree}
 use Rattle.fs_model.proofs.Walks.{none_some}
 use Rattle.fs_changes.specs.Limits.{has_room}

@@ -7,12 +7,12 @@ use Rattle.std.specs.Option.{option_map_or}
 use Rattle.nfs_types.specs.Timeval.{Timeval}
 use Rattle.nfs_types.specs.Caller.{Caller}
 use Rattle.nfs_types.specs.declared.stat.Stat.{Stat}
-use Rattle.fs_model.specs.Files.{File, Files, file_at, places, Link, Directory}
+use Rattle.fs_model.specs.Files.{File, Files, file_at, places}
 use Rattle.fs_model.proofs.Walks.{none_some, some_same}
 use Rattle.fs_changes.specs.Edits.{with_changed_file}
 use Rattle.fs_changes.proofs.Finite.{changed_other}
-use Rattle.nfs_spec.specs.Sattr.{Wanted, wanted, nothing}
-use Rattle.nfs_spec.specs.Changes.{set, new_file}
+use Rattle.nfs_spec.specs.Sattr.{Wanted, wanted}
+use Rattle.nfs_spec.specs.Changes.{set}
 use Rattle.nfs_spec.specs.Procedures.{rewritten}
 use Rattle.nfs_spec.specs.Calls as calls
 use Rattle.nfs_spec.specs.Calls.{Call, Answer, number_for, call_does}

@@ -1,11 +1,9 @@
 -- What a call that was not refused did to the files that it names.
-use Rattle.std.specs.Prelude.{◌≡◌, ◌≢◌, ℕ, List, [], replicate, unwrap_or, Some, None}
+use Rattle.std.specs.Prelude.{◌≡◌, ◌≢◌, ℕ, List, [], Some, None}
 use Rattle.nfs_types.specs.Timeval.{Timeval}
 use Rattle.nfs_types.specs.Caller.{Caller}
-use Rattle.fs_model.specs.Files as bodies
-use Rattle.fs_model.specs.Files.{Regular, Directory, File, Files, file_at, places}
-use Rattle.nfs_spec.specs.Sattr.{Wanted, wanted, nothing}
-use Rattle.nfs_spec.specs.Changes.{new_file}
+use Rattle.fs_model.specs.Files.{Files, file_at, places}
+use Rattle.nfs_spec.specs.Sattr.{Wanted, wanted}
 use Rattle.nfs_spec.specs.Calls.{Call, Setattr, Write, Create, Remove, Rename, Link, Symlink, Mkdir, Rmdir, number_for}
 use Rattle.nfs_spec_steps.specs.Granted.{IsSameFile, new_regular, new_directory, new_link}
 use Rattle.nfs_spec_changes.specs.Changed.{Becomes, IsSetTo, IsRewritten, ChangesBytes, IsWritten, IsResized, Makes, Links, Unnames, Moves}

@@ -1,5 +1,4 @@
-use Rattle.std.proofs.Common.{◌≡◌, ⊎_elim, Option, Some, None, arith}
-use Rattle.fs_model.specs.Files.{File, Files, file_at}
+use Rattle.std.proofs.Common.{⊎_elim, arith}
 use Rattle.nfs_spec_frames.specs.Runs.{files_after}
 use Rattle.nfs_spec_frames.proofs.Runs.{anew, none_since}
 use Rattle.nfs_spec_frames.proofs.laws.runs_give_nothing_again.Goals as goal
