@@ -262,7 +262,7 @@ module _ (now : Timeval) (time : IsTime now) (w : Files) (tree : IsFileTree w) (
   renames_follows = subst (Follows w) (sym m.effect) (record {
     tree = stays_moved w₁ end a₁.tree from from_name to to_name o.number o.cookie (listing w to).next moves;
     anew = given;
-    room = moved_room now w o.number from from_name to to_name (option_map (λ e. e.0) (places w to to_name)) (o.number, o.cookie) source₁ to_file.0 to_file.1
+    room = moved_room now w o.number from from_name to to_name (option_map (λ e. e.0) (places w to to_name)) (o.number, o.cookie) source₁ to_file.0 to_file.1 to_file.2 free₂
         (omega (arith, same_cookie, m.cookie));
   })
 
