@@ -15,15 +15,15 @@ use Rattle.fs_model.specs.Files.{File, Files, file_at, listing_in, is_directory,
 use Rattle.fs_model.specs.Trees.{IsFileTree}
 use Rattle.fs_changes.specs.Edits.{with_changed_file, with_new_file, with_name}
 use Rattle.fs_changes.proofs.Finite.{changed_here, changed_other, new_here}
-use Rattle.nfs_spec.specs.Attributes.{attributes_of}
-use Rattle.nfs_spec.specs.Checks.{◌>>=◌, found_or, file_of, listing_or, may_search}
-use Rattle.nfs_spec.specs.Sattr.{Wanted, wanted}
-use Rattle.nfs_spec.specs.Changes.{Effect, set}
+use Rattle.nfs_spec.specs.FileAttributes.{attributes_of}
+use Rattle.nfs_spec.specs.ProcedureChecks.{◌>>=◌, ok_or, file_of, listing_or, may_search}
+use Rattle.nfs_spec.specs.Sattr.{GivenFields, given_fields}
+use Rattle.nfs_spec.specs.Changes.{Effect, apply_fields}
 use Rattle.nfs_spec.specs.Effects.{attributes_at, number_named, number_at_name}
-use Rattle.nfs_spec.specs.Procedures.{rewritten, made}
-use Rattle.nfs_spec.specs.Laws.{stat_in}
-use Rattle.nfs_spec.specs.Calls as calls
-use Rattle.nfs_spec.specs.Calls.{Call, Answer, told, with_attributes, with_handle, without_number, number_for, call_does}
+use Rattle.nfs_spec.specs.Procedures.{with_bytes_written, add_file}
+use Rattle.nfs_spec.specs.LawTerms.{stat_in}
+use Rattle.nfs_spec.specs.NfsCalls as calls
+use Rattle.nfs_spec.specs.NfsCalls.{Call, Answer, answer_and_files, with_attributes, with_handle, without_number, number_for, call_does}
 use Rattle.nfs_spec.proofs.Present.{named_there}
 use Rattle.nfs_spec_steps.specs.Answers.{refusal_in}
 use Rattle.nfs_spec_steps.proofs.Steps.{bind_ok, found_ok, directory_ok}
@@ -44,7 +44,7 @@ use Rattle.nfs_spec_errors.proofs.RenameChecks.{of_rename}
 
 -- ---- what a call answers of an effect
 
-of_told : {A : Type 0} (say : Result A Stat → Answer) → ((r : Result A Stat) → refusal_in (say r) ≡ stat_in r) → (w : Files) (e : Effect A) → refusal_in (told say w e).0 ≡ stat_in e
+of_told : {A : Type 0} (say : Result A Stat → Answer) → ((r : Result A Stat) → refusal_in (say r) ≡ stat_in r) → (w : Files) (e : Effect A) → refusal_in (answer_and_files say w e).0 ≡ stat_in e
 of_told say says w (Ok x) = says (Ok x.0)
 of_told say says w (Err e) = says (Err e)
 
@@ -59,7 +59,7 @@ shown w n give there = by (file_at w n) there
     no_some : false ≡ true → ⊥
     no_some h = cc
 
-    by : (o : Option File) → IsSome o → stat_in ((found_or stats.Stale o >>= λ f. Ok (attributes_of w n f)) >>= λ a. Ok (give a)) ≡ None
+    by : (o : Option File) → IsSome o → stat_in ((ok_or stats.Stale o >>= λ f. Ok (attributes_of w n f)) >>= λ a. Ok (give a)) ≡ None
     by None h = absurd (no_some h)
     by (Some f) h = refl
 
@@ -84,23 +84,23 @@ kept w k change n h = ⊎_elim
     same None = refl
     same (Some f) = refl
 
-set_there : (w : Files) (who : Caller) (now : Timeval) (n : ℕ) (a : Wanted) (after : Files) → SetOk w who now n a after → IsSome (file_at after n)
-set_there w who now n a after o = subst (λ (v : Files). IsSome (file_at v n)) (sym o.effect) (kept w n (set now a) n (ap is_some o.there))
+set_there : (w : Files) (who : Caller) (now : Timeval) (n : ℕ) (a : GivenFields) (after : Files) → SetOk w who now n a after → IsSome (file_at after n)
+set_there w who now n a after o = subst (λ (v : Files). IsSome (file_at v n)) (sym o.effect) (kept w n (apply_fields now a) n (ap is_some o.there))
 
 write_there : (w : Files) (who : Caller) (now : Timeval) (n offset : ℕ) (new : List ℕ) (after : Files) → WriteOk w who now n offset new after → IsSome (file_at after n)
 write_there w who now n offset new after o = subst (λ (v : Files). IsSome (file_at v n)) (sym o.effect) (by (length new == 0))
   where
-    by : (b : Bool) → IsSome (file_at (cond b w (with_changed_file w n (rewritten now offset new o.old))) n)
+    by : (b : Bool) → IsSome (file_at (cond b w (with_changed_file w n (with_bytes_written now offset new o.old))) n)
     by true = ap is_some o.there
-    by false = kept w n (rewritten now offset new o.old) n (ap is_some o.there)
+    by false = kept w n (with_bytes_written now offset new o.old) n (ap is_some o.there)
 
-made_there : (now : Timeval) (w : Files) (dir : ℕ) (name : List ℕ) (f : File) → IsSome (file_at (made now w dir name f) w.next)
+made_there : (now : Timeval) (w : Files) (dir : ℕ) (name : List ℕ) (f : File) → IsSome (file_at (add_file now w dir name f) w.next)
 made_there now w dir name f = kept (with_name (with_new_file w f) dir name w.next) dir _ w.next (kept (with_new_file w f) dir _ w.next (ap is_some (new_here w f w.next refl)))
 
 make_there : (w : Files) (who : Caller) (now : Timeval) (dir : ℕ) (name : List ℕ) (f : File) (number : ℕ) (after : Files) → MakeOk w who now dir name f number after → IsSome (file_at after number)
-make_there w who now dir name f number after o = subst (λ (v : Files). IsSome (file_at v number)) (sym o.effect) (subst (λ n. IsSome (file_at (made now w dir name f) n)) (sym o.is_next) (made_there now w dir name f))
+make_there w who now dir name f number after o = subst (λ (v : Files). IsSome (file_at v number)) (sym o.effect) (subst (λ n. IsSome (file_at (add_file now w dir name f) n)) (sym o.is_next) (made_there now w dir name f))
 
-create_there : (w : Files) (who : Caller) (now : Timeval) (dir : ℕ) (name : List ℕ) (a : Wanted) (number : ℕ) (after : Files) → CreateOk w who now dir name a number after → IsSome (file_at after number)
+create_there : (w : Files) (who : Caller) (now : Timeval) (dir : ℕ) (name : List ℕ) (a : GivenFields) (number : ℕ) (after : Files) → CreateOk w who now dir name a number after → IsSome (file_at after number)
 create_there w who now dir name a number after o = by (places w dir name) refl
   where
     by : (place : Option (ℕ × ℕ)) → places w dir name ≡ place → IsSome (file_at after number)
@@ -118,7 +118,7 @@ module _ (w : Files) (tree : IsFileTree w) where
       by (Some f) e = absurd (omega (arith, tree.numbers 0 (ap is_some e)))
 
   -- where a handle names no number, the file is not there
-  by_handle : {A : Type 0} (o : Option ℕ) (f : ℕ → Result A Stat) (cs : ℕ → Checks) → ((n : ℕ) → HasStat (f n) ((is_there w n, stats.Stale) ∷ cs n)) → stat_in (found_or stats.Stale o >>= f) ≡ first_failing ((is_there w (unwrap_or o 0), stats.Stale) ∷ cs (unwrap_or o 0))
+  by_handle : {A : Type 0} (o : Option ℕ) (f : ℕ → Result A Stat) (cs : ℕ → Checks) → ((n : ℕ) → HasStat (f n) ((is_there w n, stats.Stale) ∷ cs n)) → stat_in (ok_or stats.Stale o >>= f) ≡ first_failing ((is_there w (unwrap_or o 0), stats.Stale) ∷ cs (unwrap_or o 0))
   by_handle None f cs h = sym (ap (λ (o : Option File). cond (is_some o) (first_failing (cs 0)) (Some stats.Stale)) none_at_zero)
   by_handle (Some n) f cs h = (h n).says
 
@@ -132,7 +132,7 @@ module _ (w : Files) (tree : IsFileTree w) where
       (λ y. ap (option_and_then (λ f. entry_at (listing_in f.body) y)) there ∙ ap (λ l. entry_at l y) l.1)
       name n (by (may_search who p.0) (number_named w dir q.0 name) q.2)
     where
-      by : (b : Bool) (o : Option ℕ) → cond b (found_or stats.NoEnt o) (Err stats.Acces) ≡ Ok n → o ≡ Some n
+      by : (b : Bool) (o : Option ℕ) → cond b (ok_or stats.NoEnt o) (Err stats.Acces) ≡ Ok n → o ≡ Some n
       by true o h = found_ok stats.NoEnt o n h
       by false o h = absurd (never h)
         where
@@ -154,7 +154,7 @@ module _ (w : Files) (tree : IsFileTree w) where
   of_calls who now (calls.Getattr file) = by_handle (number_in w.fsid file) (attributes_at w) (λ n. []) (of_getattr w)
   of_calls who now (calls.Setattr file s) =
       let n = number_for w file in
-      of_told calls.Attributes (λ r. refl) w _ ∙ of_attributes n _ (λ x h. set_there w who now n (wanted now s) x.1 (set_ok w who now n (wanted now s) x.1 h)) ∙ (of_set w who now n (wanted now s)).says
+      of_told calls.Attributes (λ r. refl) w _ ∙ of_attributes n _ (λ x h. set_there w who now n (given_fields now s) x.1 (set_ok w who now n (given_fields now s) x.1 h)) ∙ (of_set w who now n (given_fields now s)).says
   of_calls who now calls.Root = refl
   of_calls who now (calls.Lookup dir name) = by_handle (number_in w.fsid dir) (λ d. number_at_name w who d name >>= λ n. attributes_at w n >>= found_with n) _ (looked_up who name)
   of_calls who now (calls.Readlink file) = (of_read_link w (number_for w file)).says
@@ -165,7 +165,7 @@ module _ (w : Files) (tree : IsFileTree w) where
       of_told calls.Attributes (λ r. refl) w _ ∙ of_attributes n _ (λ x h. write_there w who now n offset new x.1 (write_ok w who now n offset new x.1 h)) ∙ (of_write w who now n offset new).says
   of_calls who now (calls.Create dir name s) =
       let d = number_for w dir in
-      of_told calls.DirOp (λ r. refl) w _ ∙ of_handle _ (λ x h. create_there w who now d name (wanted now s) x.0 x.1 (create_ok w who now d name (wanted now s) x.0 x.1 h)) ∙ (of_create w tree who now d name (wanted now s)).says
+      of_told calls.DirOp (λ r. refl) w _ ∙ of_handle _ (λ x h. create_there w who now d name (given_fields now s) x.0 x.1 (create_ok w who now d name (given_fields now s) x.0 x.1 h)) ∙ (of_create w tree who now d name (given_fields now s)).says
   of_calls who now (calls.Remove dir name) = of_told calls.Status (λ r. refl) w _ ∙ (of_remove w tree who now (number_for w dir) name).says
   of_calls who now (calls.Rename from from_name to to_name) = of_told calls.Status (λ r. refl) w _ ∙ (of_rename w tree who now (number_for w from) from_name (number_for w to) to_name).says
   of_calls who now (calls.Link from dir name) = of_told calls.Status (λ r. refl) w _ ∙ (of_link w who now (number_for w from) (number_for w dir) name).says

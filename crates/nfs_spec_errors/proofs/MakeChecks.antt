@@ -7,17 +7,17 @@ use Rattle.nfs_types.specs.Caller.{Caller}
 use Rattle.nfs_types.specs.declared.stat.Stat.TheVariants as stats
 use Rattle.fs_model.specs.Files.{File, Files, places}
 use Rattle.fs_changes.specs.Limits.{has_room}
-use Rattle.nfs_spec.specs.Checks.{dir_of, check_room, check_edit, check_free}
-use Rattle.nfs_spec.specs.Procedures.{made, make}
+use Rattle.nfs_spec.specs.ProcedureChecks.{dir_of, check_room, check_edit, check_free}
+use Rattle.nfs_spec.specs.Procedures.{add_file, make}
 use Rattle.nfs_spec_steps.proofs.Steps.{dir_ok}
 use Rattle.nfs_spec_errors.specs.Tables.{directory_checks, edit_checks}
 use Rattle.nfs_spec_errors.proofs.StepsInTurn.{HasStat, in_turn, done, of_check, of_dir, of_edit, of_free}
 
 -- a new file: the directory, the edit, the free name, and room
 pub of_make : (w : Files) (who : Caller) (now : Timeval) (dir : ℕ) (name : List ℕ) (f : File)
-    → HasStat (make w who now dir name f) (directory_checks w dir ++ edit_checks w who dir name ++ (is_none (places w dir name), stats.Exist) ∷ (has_room (made now w dir name f), stats.NoSpc) ∷ [])
+    → HasStat (make w who now dir name f) (directory_checks w dir ++ edit_checks w who dir name ++ (is_none (places w dir name), stats.Exist) ∷ (has_room (add_file now w dir name f), stats.NoSpc) ∷ [])
 of_make w who now dir name f =
-    let after = made now w dir name f in
+    let after = add_file now w dir name f in
     in_turn (dir_of w dir) _ (of_dir w dir) (λ d is.
     let found = dir_ok w dir d is in
     in_turn (check_edit who d name) _ (of_edit w dir d found name who) (λ _ _.

@@ -7,9 +7,9 @@ use Rattle.nfs_types.specs.Caller.{Caller}
 use Rattle.nfs_types.specs.declared.stat.Stat.TheVariants as stats
 use Rattle.fs_model.specs.Listing.{Listing}
 use Rattle.fs_model.specs.Files.{File, Files, file_at, listing, listing_in}
-use Rattle.nfs_spec.specs.Checks.{found_or, listing_or, file_of, dir_of, bytes_of, check, permits, may_search, may_read}
+use Rattle.nfs_spec.specs.ProcedureChecks.{ok_or, listing_or, file_of, dir_of, bytes_of, check, permits, may_search, may_read}
 use Rattle.nfs_spec.specs.Effects.{attributes_at, number_named, number_at_name}
-use Rattle.nfs_spec.specs.Procedures.{read_link, read, read_dir, figures}
+use Rattle.nfs_spec.specs.Procedures.{read_link, read, read_dir, stat_fs}
 use Rattle.nfs_spec_steps.proofs.Steps.{found_ok, directory_ok, dir_ok}
 use Rattle.nfs_spec_errors.specs.Tables.{file_checks, lookup_checks, read_link_checks, read_checks, read_dir_checks}
 use Rattle.nfs_spec_errors.proofs.StepsInTurn.{HasStat, in_turn, done, of_file, of_dir, of_listing_at, of_bytes_at, of_target_at, of_test_at, test_at}
@@ -19,11 +19,11 @@ pub of_getattr : (w : Files) (n : ℕ) → HasStat (attributes_at w n) (file_che
 of_getattr w n = in_turn (file_of w n) _ (of_file w n) (λ f _. done _)
 
 -- STATFS: STALE
-pub of_figures : (w : Files) (n : ℕ) → HasStat (figures w n) (file_checks w n)
+pub of_figures : (w : Files) (n : ℕ) → HasStat (stat_fs w n) (file_checks w n)
 of_figures w n = in_turn (file_of w n) _ (of_file w n) (λ f _. done _)
 
 -- a check that is an `if`, and then what is found
-found_if : {A : Type 0} (b : Bool) (o : Option A) → HasStat (cond b (found_or stats.NoEnt o) (Err stats.Acces)) ((b, stats.Acces) ∷ (is_some o, stats.NoEnt) ∷ [])
+found_if : {A : Type 0} (b : Bool) (o : Option A) → HasStat (cond b (ok_or stats.NoEnt o) (Err stats.Acces)) ((b, stats.Acces) ∷ (is_some o, stats.NoEnt) ∷ [])
 found_if true None = record { says = refl }
 found_if true (Some x) = record { says = refl }
 found_if false None = record { says = refl }
@@ -36,8 +36,8 @@ of_lookup w who dir name =
     let there = found_ok stats.Stale (file_at w dir) f is in
     in_turn (listing_or stats.NotDir f.body) _ (of_listing_at w dir f there) (λ l at.
     let listed : listing w dir ≡ l = ap (λ (o : Option File). option_map_or (λ f. listing_in f.body) o (record { next = 0; entries = [] })) there ∙ (directory_ok stats.NotDir f.body l at).1 in
-    subst (λ (b : Bool). HasStat (cond (may_search who f) (found_or stats.NoEnt (number_named w dir l name)) (Err stats.Acces)) ((b, stats.Acces) ∷ (is_some (number_named w dir (listing w dir) name), stats.NoEnt) ∷ [])) (sym (test_at w dir f (may_search who) there))
-    (subst (λ (m : Listing). HasStat (cond (may_search who f) (found_or stats.NoEnt (number_named w dir l name)) (Err stats.Acces)) ((may_search who f, stats.Acces) ∷ (is_some (number_named w dir m name), stats.NoEnt) ∷ [])) (sym listed)
+    subst (λ (b : Bool). HasStat (cond (may_search who f) (ok_or stats.NoEnt (number_named w dir l name)) (Err stats.Acces)) ((b, stats.Acces) ∷ (is_some (number_named w dir (listing w dir) name), stats.NoEnt) ∷ [])) (sym (test_at w dir f (may_search who) there))
+    (subst (λ (m : Listing). HasStat (cond (may_search who f) (ok_or stats.NoEnt (number_named w dir l name)) (Err stats.Acces)) ((may_search who f, stats.Acces) ∷ (is_some (number_named w dir m name), stats.NoEnt) ∷ [])) (sym listed)
     (found_if (may_search who f) (number_named w dir l name)))))
 
 -- READLINK: `read_link_checks`

@@ -8,7 +8,7 @@ use Rattle.nfs_types.specs.declared.stat.Stat.TheVariants as stats
 use Rattle.fs_model.specs.Listing.{Listing}
 use Rattle.fs_model.specs.Files.{Files, file_at, listing_in, is_directory, places}
 use Rattle.fs_model.specs.Trees.{IsFileTree}
-use Rattle.nfs_spec.specs.Checks.{file_of, dir_of, listing_or, check, check_edit, number_at}
+use Rattle.nfs_spec.specs.ProcedureChecks.{file_of, dir_of, listing_or, check, check_edit, number_at}
 use Rattle.nfs_spec.specs.Procedures.{remove, remove_dir}
 use Rattle.nfs_spec_steps.proofs.Steps.{found_ok, directory_ok, dir_ok, number_ok, place_found}
 use Rattle.nfs_spec_errors.specs.Checks.{holds_named, is_dir}

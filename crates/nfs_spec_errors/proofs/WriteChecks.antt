@@ -10,8 +10,8 @@ use Rattle.nfs_types.specs.declared.stat.Stat.TheVariants as stats
 use Rattle.fs_model.specs.Files.{File, Files, file_at}
 use Rattle.fs_changes.specs.Edits.{with_changed_file}
 use Rattle.fs_changes.specs.Limits.{has_room}
-use Rattle.nfs_spec.specs.Checks.{file_of, bytes_of, check, check_size, check_room, may_write}
-use Rattle.nfs_spec.specs.Procedures.{rewritten, write}
+use Rattle.nfs_spec.specs.ProcedureChecks.{file_of, bytes_of, check, check_size, check_room, may_write}
+use Rattle.nfs_spec.specs.Procedures.{with_bytes_written, write}
 use Rattle.nfs_spec_steps.proofs.Steps.{found_ok, bytes_ok}
 use Rattle.nfs_spec_errors.specs.Checks.{bytes_in, bytes_at}
 use Rattle.nfs_spec_errors.specs.Tables.{after_write, write_checks}
@@ -30,8 +30,8 @@ of_write w who now n offset new =
     let there = found_ok stats.Stale (file_at w n) f is in
     in_turn (bytes_of f.body) _ (of_bytes_at w n f there) (λ old at.
     let held : bytes_at w n ≡ old = ap (λ (o : Option File). option_map_or (λ f. bytes_in f.body) o []) there ∙ ap bytes_in (bytes_ok f.body old at) in
-    let after = with_changed_file w n (rewritten now offset new old) in
+    let after = with_changed_file w n (with_bytes_written now offset new old) in
     in_turn (check (may_write who f) stats.Acces) _ (of_test_at w n f there (may_write who) stats.Acces) (λ _ _.
     of_some (length new == 0) (nat_le (offset + length new) 1048576) (has_room (after_write w now n offset new)) _ _
     (in_turn (check_size (offset + length new)) _ (of_check (nat_le (offset + length new) 1048576) stats.FBig) (λ _ _.
-    in_turn (check_room after) _ (of_same (has_room after) (has_room (after_write w now n offset new)) stats.NoSpc (ap (λ b. has_room (with_changed_file w n (rewritten now offset new b))) held)) (λ _ _. done _))))))
+    in_turn (check_room after) _ (of_same (has_room after) (has_room (after_write w now n offset new)) stats.NoSpc (ap (λ b. has_room (with_changed_file w n (with_bytes_written now offset new b))) held)) (λ _ _. done _))))))

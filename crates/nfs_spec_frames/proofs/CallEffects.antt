@@ -8,10 +8,10 @@ use Rattle.fs_model.specs.Files.{File, Files}
 use Rattle.fs_model.specs.Trees.{IsFileTree}
 use Rattle.fs_model.proofs.Walks.{none_some, some_same}
 use Rattle.fs_changes.specs.Edits.{with_changed_file}
-use Rattle.nfs_spec.specs.Sattr.{Wanted, wanted}
-use Rattle.nfs_spec.specs.Procedures.{rewritten}
-use Rattle.nfs_spec.specs.Calls as calls
-use Rattle.nfs_spec.specs.Calls.{Call, Answer, number_for, call_does}
+use Rattle.nfs_spec.specs.Sattr.{GivenFields, given_fields}
+use Rattle.nfs_spec.specs.Procedures.{with_bytes_written}
+use Rattle.nfs_spec.specs.NfsCalls as calls
+use Rattle.nfs_spec.specs.NfsCalls.{Call, Answer, number_for, call_does}
 use Rattle.nfs_spec_steps.specs.Answers.{only_reads, refusal_in}
 use Rattle.nfs_spec_changes.specs.Changed.{Makes}
 use Rattle.nfs_spec_steps.specs.Granted.{SetOk, WriteOk, MakeOk, CreateOk, RenameOk}
@@ -46,20 +46,20 @@ module _ (w : Files) (who : Caller) (now : Timeval) (tree : IsFileTree w) where
   abbrev DidAfter : Call → Answer → Files → Type 0
   DidAfter call answer w' = refusal_in answer ≡ None → Did w who now call w'
 
-  set_at : (n : ℕ) (a : Wanted) (w' : Files) → SetOk w who now n a w' → IsSetAt now w w' n a
+  set_at : (n : ℕ) (a : GivenFields) (w' : Files) → SetOk w who now n a w' → IsSetAt now w w' n a
   set_at n a w' o = record { attributes = set_becomes w who now n a w' o; bytes = λ size given. set_bytes w who now n size a given w' o }
 
   written_at : (n offset : ℕ) (new : List ℕ) (w' : Files) → WriteOk w who now n offset new w' → IsWrittenAt now w w' n offset new
   written_at n offset new w' o = record {
     rest = λ some. wrote_becomes w who now n offset new some w' o;
     bytes = λ some. wrote_bytes w who now n offset new some w' o;
-    none = λ e. o.effect ∙ ap (λ bytes. if length bytes == 0 then w else with_changed_file w n (rewritten now offset new o.old)) e;
+    none = λ e. o.effect ∙ ap (λ bytes. if length bytes == 0 then w else with_changed_file w n (with_bytes_written now offset new o.old)) e;
   }
 
   new_at : (dir : ℕ) (name : List ℕ) (f : File) (number : ℕ) (w' : Files) → MakeOk w who now dir name f number w' → Makes now w w' dir name w.next f
   new_at dir name f number w' o = subst (λ k. Makes now w w' dir name k f) o.is_next (made_makes w who now tree dir name f number w' o)
 
-  created_at : (dir : ℕ) (name : List ℕ) (a : Wanted) (number : ℕ) (w' : Files) → CreateOk w who now dir name a number w' → IsCreatedAt who now w w' dir name a
+  created_at : (dir : ℕ) (name : List ℕ) (a : GivenFields) (number : ℕ) (w' : Files) → CreateOk w who now dir name a number w' → IsCreatedAt who now w w' dir name a
   created_at dir name a number w' o = record {
     over = λ n c at. set_at n a w' (o.over n c at).set;
     fresh = λ free. new_at dir name _ number w' (o.fresh free).make;
@@ -82,9 +82,9 @@ module _ (w : Files) (who : Caller) (now : Timeval) (tree : IsFileTree w) where
   did = each_call w who now DidAfter (record {
     reads = λ call answer only not. read_did call only;
     refused = λ call answer stat says not. absurd (none_some (sym not ∙ says));
-    set_attributes = λ file s _ after o _ not. set_at (number_for w file) (wanted now s) after o;
+    set_attributes = λ file s _ after o _ not. set_at (number_for w file) (given_fields now s) after o;
     write = λ file offset new _ after o _ not. written_at (number_for w file) offset new after o;
-    create = λ dir name s number _ after o _ not. created_at (number_for w dir) name (wanted now s) number after o;
+    create = λ dir name s number _ after o _ not. created_at (number_for w dir) name (given_fields now s) number after o;
     make_dir = λ dir name s number _ after o _ not. new_at (number_for w dir) name _ number after o;
     symlink = λ dir name target s number after o not. new_at (number_for w dir) name _ number after o;
     link = λ from dir name after o not. linked_links w who now (number_for w from) (number_for w dir) name after o;

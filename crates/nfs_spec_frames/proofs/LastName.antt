@@ -15,7 +15,7 @@ use Rattle.fs_changes.proofs.Finite.{changed_here, changed_other, gone_here}
 use Rattle.fs_changes.proofs.Shapes.{kind}
 use Rattle.fs_changes.proofs.Adding.{one_same}
 use Rattle.fs_changes.proofs.Taking.{IsTaken, stays_taken}
-use Rattle.nfs_spec.specs.Changes.{touch, touched, marked, unnamed, after_unlink}
+use Rattle.nfs_spec.specs.Changes.{touch, with_mtime, with_ctime, unlink, after_unlink}
 use Rattle.nfs_spec.specs.Procedures.{remove, remove_dir}
 use Rattle.nfs_spec_trees.proofs.FilesFit.{is_dir}
 use Rattle.nfs_spec_trees.proofs.Removing.{touched_taken}
@@ -41,24 +41,24 @@ module _ (now : Timeval) (dir n : ℕ) where
 
   ctime_by : (b : Bool) (v : Files) (g : File) → file_at (touch now (after_unlink b now v n) dir) n ≡ Some g → g.ctime ≡ now
   ctime_by b v g h = ⊎_elim
-      (λ e. mapped (touched now) (λ f. refl) _ g (sym (changed_here (after_unlink b now v n) dir (touched now) n e) ∙ h))
-      (λ ne. by b (sym (changed_other (after_unlink b now v n) dir (touched now) n ne) ∙ h))
+      (λ e. mapped (with_mtime now) (λ f. refl) _ g (sym (changed_here (after_unlink b now v n) dir (with_mtime now) n e) ∙ h))
+      (λ ne. by b (sym (changed_other (after_unlink b now v n) dir (with_mtime now) n ne) ∙ h))
       (cases_eq n dir)
     where
       by : (b : Bool) → file_at (after_unlink b now v n) n ≡ Some g → g.ctime ≡ now
       by true h = absurd (none_some (sym (gone_here v n n refl) ∙ h))
-      by false h = mapped (marked now) (λ f. refl) _ g (sym (changed_here v n (marked now) n refl) ∙ h)
+      by false h = mapped (with_ctime now) (λ f. refl) _ g (sym (changed_here v n (with_ctime now) n refl) ∙ h)
 
 module _ (now : Timeval) (time : IsTime now) (w : Files) (tree : IsFileTree w) (dir : ℕ) (name : List ℕ) (n c : ℕ) (had : places w dir name ≡ Some (n, c))
     (f : File) (there : file_at w n ≡ Some f) (empty : (listing_in f.body).entries ≡ []) where
   after : Files
-  after = touch now (unnamed now w dir name n) dir
+  after = touch now (unlink now w dir name n) dir
 
   a : IsTaken w after dir name n c
   unfolding after
   a = touched_taken now time w tree dir name n c had f there empty
 
-  is_gone : names_of w n ≡ 1 → IsGone (touch now (unnamed now w dir name n) dir) n
+  is_gone : names_of w n ≡ 1 → IsGone (touch now (unlink now w dir name n) dir) n
   unfolding after
   is_gone single = record {
     file = none;
@@ -78,7 +78,7 @@ module _ (now : Timeval) (time : IsTime now) (w : Files) (tree : IsFileTree w) (
           tf h = cc
       some_there (Some g) e h = absurd (none_some (sym none ∙ e))
 
-  is_less : 1 < names_of w n → HasOneNameLess w (touch now (unnamed now w dir name n) dir) now n
+  is_less : 1 < names_of w n → HasOneNameLess w (touch now (unlink now w dir name n) dir) now n
   unfolding after
   is_less more = ⊎_elim
       (λ l. by (file_at after n) refl l.0)
@@ -88,7 +88,7 @@ module _ (now : Timeval) (time : IsTime now) (w : Files) (tree : IsFileTree w) (
       ctime : (g : File) → file_at after n ≡ Some g → g.ctime ≡ now
       ctime g h = ctime_by now dir n (names_of (without_name w dir name) n == 0) (without_name w dir name) g h
 
-      by : (o : Option File) → file_at after n ≡ o → kind after n ≡ Some false → HasOneNameLess w (touch now (unnamed now w dir name n) dir) now n
+      by : (o : Option File) → file_at after n ≡ o → kind after n ≡ Some false → HasOneNameLess w (touch now (unlink now w dir name n) dir) now n
       by None e k = absurd (none_some (sym (ap (option_map (λ f. is_directory f.body)) e) ∙ k))
       by (Some g) e k = record { file = g; there = e; ctime = ctime g e; names = omega (arith, a.names n, one_same n n refl) }
 
@@ -101,8 +101,8 @@ module _ (now : Timeval) (time : IsTime now) (w after : Files) (tree : IsFileTre
     was_there : file_at w n ≡ Some o.file
     was_there = ap (λ k. file_at w k) (sym is_same) ∙ o.there
 
-    effect : after ≡ touch now (unnamed now w dir name n) dir
-    effect = o.effect ∙ ap (λ k. touch now (unnamed now w dir name k) dir) is_same
+    effect : after ≡ touch now (unlink now w dir name n) dir
+    effect = o.effect ∙ ap (λ k. touch now (unlink now w dir name k) dir) is_same
 
   -- REMOVE of a last name
   pub last : names_of w n ≡ 1 → remove w who now dir name ≡ Ok (tt, after) → IsGone after n

@@ -5,11 +5,11 @@ use Rattle.std.specs.Prelude.{IsTrue}
 use Rattle.nfs_types.specs.Timeval.{Timeval}
 use Rattle.nfs_types.specs.Caller.{Caller}
 use Rattle.fs_model.specs.Listing.{entry_at}
-use Rattle.fs_model.specs.Files.{Body, Regular, Link, Directory, File, Files, file_at, is_directory, listing_in, IsDirectory}
+use Rattle.fs_model.specs.Files.{Body, Regular, Symlink, Directory, File, Files, file_at, is_directory, listing_in, IsDirectory}
 use Rattle.fs_model.specs.Trees.{IsFileTree}
 use Rattle.fs_model.proofs.Walks.{none_some}
 use Rattle.fs_changes.specs.Limits.{has_room}
-use Rattle.nfs_spec.specs.Calls.{Call, call_does}
+use Rattle.nfs_spec.specs.NfsCalls.{Call, call_does}
 use Rattle.nfs_spec_trees.specs.Anew.{GivesAnew}
 use Rattle.nfs_spec_trees.proofs.GivenAnew.{nothing_given}
 use Rattle.nfs_spec_trees.proofs.FilesFit.{dir_file, is_dir}
@@ -42,7 +42,7 @@ place_there (Some f) name e h = refl
 
 same_kind : (b c : Body) → KeepsKind b c → is_directory c ≡ is_directory b
 same_kind (Regular bytes) c k = ap is_directory k.1
-same_kind (Link target) c k = ap is_directory k
+same_kind (Symlink target) c k = ap is_directory k
 same_kind (Directory l) c k = ap is_directory k.1
 
 -- a directory that is still there after a call is a directory

@@ -11,11 +11,11 @@ use Rattle.fs_model.specs.Files.{File, Files, file_at, places}
 use Rattle.fs_model.proofs.Walks.{none_some, some_same}
 use Rattle.fs_changes.specs.Edits.{with_changed_file}
 use Rattle.fs_changes.proofs.Finite.{changed_other}
-use Rattle.nfs_spec.specs.Sattr.{Wanted, wanted}
-use Rattle.nfs_spec.specs.Changes.{set}
-use Rattle.nfs_spec.specs.Procedures.{rewritten}
-use Rattle.nfs_spec.specs.Calls as calls
-use Rattle.nfs_spec.specs.Calls.{Call, Answer, number_for, call_does}
+use Rattle.nfs_spec.specs.Sattr.{GivenFields, given_fields}
+use Rattle.nfs_spec.specs.Changes.{apply_fields}
+use Rattle.nfs_spec.specs.Procedures.{with_bytes_written}
+use Rattle.nfs_spec.specs.NfsCalls as calls
+use Rattle.nfs_spec.specs.NfsCalls.{Call, Answer, number_for, call_does}
 use Rattle.nfs_spec_steps.specs.Answers.{only_reads, refusal_in}
 use Rattle.nfs_spec_frames.specs.Named.{IsNoneOf, named_at, named_by, makes, files_made}
 use Rattle.nfs_spec_steps.specs.Granted.{MakeOk, CreateOk, RenameOk}
@@ -70,11 +70,11 @@ module _ (w : Files) (who : Caller) (now : Timeval) where
   head_new : (dir : ℕ) (name : List ℕ) (f : File) (number : ℕ) (w' : Files) → MakeOk w who now dir name f number w' → IsHead w w' (w.next + 1)
   head_new dir name f number w' o = record { node = ap (λ (u : Files). u.fsid) o.effect; next_is = ap (λ (u : Files). u.next) o.effect }
 
-  head_written : (n offset : ℕ) (new old : List ℕ) (b : Bool) (w' : Files) → w' ≡ (if b then w else with_changed_file w n (rewritten now offset new old)) → IsHead w w' (w.next + 0)
+  head_written : (n offset : ℕ) (new old : List ℕ) (b : Bool) (w' : Files) → w' ≡ (if b then w else with_changed_file w n (with_bytes_written now offset new old)) → IsHead w w' (w.next + 0)
   head_written n offset new old true w' is = head_same w w' is refl refl
   head_written n offset new old false w' is = head_same _ w' is refl refl
 
-  head_created : (dir : ℕ) (name : List ℕ) (a : Wanted) (number : ℕ) (w' : Files) (place : Option (ℕ × ℕ)) → places w dir name ≡ place → CreateOk w who now dir name a number w'
+  head_created : (dir : ℕ) (name : List ℕ) (a : GivenFields) (number : ℕ) (w' : Files) (place : Option (ℕ × ℕ)) → places w dir name ≡ place → CreateOk w who now dir name a number w'
       → IsHead w w' (w.next + (if is_none (places w dir name) && true then 1 else 0))
   head_created dir name a number w' None is o =
       subst (λ (p : Option (ℕ × ℕ)). IsHead w w' (w.next + (if is_none p && true then 1 else 0))) (sym is) (head_new dir name _ number w' (o.fresh is).make)
@@ -91,7 +91,7 @@ module _ (w : Files) (who : Caller) (now : Timeval) where
     refused = λ call answer stat says. head_unmade call answer (refused_makes_none w call answer stat says);
     set_attributes = λ file s _ after o _. head_same _ after o.effect refl refl;
     write = λ file offset new _ after o _. head_written (number_for w file) offset new o.old (length new == 0) after o.effect;
-    create = λ dir name s number _ after o _. head_created (number_for w dir) name (wanted now s) number after (places w (number_for w dir) name) refl o;
+    create = λ dir name s number _ after o _. head_created (number_for w dir) name (given_fields now s) number after (places w (number_for w dir) name) refl o;
     make_dir = λ dir name s number _ after o _. head_new (number_for w dir) name _ number after o;
     symlink = λ dir name target s number after o. head_new (number_for w dir) name _ number after o;
     link = λ from dir name after o. head_same _ after o.effect refl refl;
@@ -105,9 +105,9 @@ module _ (w : Files) (who : Caller) (now : Timeval) where
   abbrev OthersAfter : Call → Answer → Files → Type 0
   OthersAfter call answer w' = (n : ℕ) → IsNoneOf n (named_by w call) → file_at w' n ≡ file_at w n
 
-  wrote_other : (k offset : ℕ) (new old : List ℕ) (b : Bool) (n : ℕ) → n ≢ k → file_at (if b then w else with_changed_file w k (rewritten now offset new old)) n ≡ file_at w n
+  wrote_other : (k offset : ℕ) (new old : List ℕ) (b : Bool) (n : ℕ) → n ≢ k → file_at (if b then w else with_changed_file w k (with_bytes_written now offset new old)) n ≡ file_at w n
   wrote_other k offset new old true n ne = refl
-  wrote_other k offset new old false n ne = changed_other w k (rewritten now offset new old) n ne
+  wrote_other k offset new old false n ne = changed_other w k (with_bytes_written now offset new old) n ne
 
   -- what is found at a name is among what it names
   pub at_name : (dir : ℕ) (name : List ℕ) (k c n : ℕ) → places w dir name ≡ Some (k, c) → IsNoneOf n (named_at w dir name) → n ≢ k
@@ -127,14 +127,14 @@ module _ (w : Files) (who : Caller) (now : Timeval) where
   new_other : (dir : ℕ) (name : List ℕ) (f : File) (number : ℕ) (w' : Files) → MakeOk w who now dir name f number w' → (n : ℕ) → n ≢ dir → n ≢ w.next → file_at w' n ≡ file_at w n
   new_other dir name f number w' o n nd nn = ap (λ v. file_at v n) o.effect ∙ made_other now w dir name f n nd nn
 
-  created_other : (dir : ℕ) (name : List ℕ) (a : Wanted) (number : ℕ) (w' : Files) (place : Option (ℕ × ℕ)) → places w dir name ≡ place → CreateOk w who now dir name a number w'
+  created_other : (dir : ℕ) (name : List ℕ) (a : GivenFields) (number : ℕ) (w' : Files) (place : Option (ℕ × ℕ)) → places w dir name ≡ place → CreateOk w who now dir name a number w'
       → (n : ℕ) → IsNoneOf n (option_map_or (λ e. e.0 ∷ []) (places w dir name) (dir ∷ w.next ∷ [])) → file_at w' n ≡ file_at w n
   created_other dir name a number w' None is o n ns =
       let own = subst (λ (p : Option (ℕ × ℕ)). IsNoneOf n (option_map_or (λ e. e.0 ∷ []) p (dir ∷ w.next ∷ []))) is ns in
       new_other dir name _ number w' (o.fresh is).make n own.0 own.1.0
   created_other dir name a number w' (Some e) is o n ns =
       let own = subst (λ (p : Option (ℕ × ℕ)). IsNoneOf n (option_map_or (λ e. e.0 ∷ []) p (dir ∷ w.next ∷ []))) is ns in
-      ap (λ v. file_at v n) (o.over e.0 e.1 is).set.effect ∙ changed_other w e.0 (set now a) n own.0
+      ap (λ v. file_at v n) (o.over e.0 e.1 is).set.effect ∙ changed_other w e.0 (apply_fields now a) n own.0
 
   renamed_other : (from : ℕ) (from_name : List ℕ) (to : ℕ) (to_name : List ℕ) (w' : Files) → RenameOk w who now from from_name to to_name w'
       → (n : ℕ) → IsNoneOf n (from ∷ to ∷ named_at w from from_name ++ named_at w to to_name) → file_at w' n ≡ file_at w n
@@ -151,9 +151,9 @@ module _ (w : Files) (who : Caller) (now : Timeval) where
   others = each_call w who now OthersAfter (record {
     reads = λ call answer only n ns. refl;
     refused = λ call answer stat says n ns. refl;
-    set_attributes = λ file s _ after o _ n ns. ap (λ v. file_at v n) o.effect ∙ changed_other w (number_for w file) (set now (wanted now s)) n ns.0;
+    set_attributes = λ file s _ after o _ n ns. ap (λ v. file_at v n) o.effect ∙ changed_other w (number_for w file) (apply_fields now (given_fields now s)) n ns.0;
     write = λ file offset new _ after o _ n ns. ap (λ v. file_at v n) o.effect ∙ wrote_other (number_for w file) offset new o.old (length new == 0) n ns.0;
-    create = λ dir name s number _ after o _ n ns. created_other (number_for w dir) name (wanted now s) number after (places w (number_for w dir) name) refl o n ns;
+    create = λ dir name s number _ after o _ n ns. created_other (number_for w dir) name (given_fields now s) number after (places w (number_for w dir) name) refl o n ns;
     make_dir = λ dir name s number _ after o _ n ns. new_other (number_for w dir) name _ number after o n ns.0 ns.1.0;
     symlink = λ dir name target s number after o n ns. new_other (number_for w dir) name _ number after o n ns.0 ns.1.0;
     link = λ from dir name after o n ns. ap (λ v. file_at v n) o.effect ∙ linked_other now w (number_for w from) (number_for w dir) name n ns.0 ns.1.0;
