@@ -3,6 +3,7 @@ pub mod GivenAnew
 pub mod Making
 pub mod Removing
 pub mod Above
+pub mod EditRoom
 pub mod RenameRoom
 pub mod RoomBefore
 pub mod Renaming
