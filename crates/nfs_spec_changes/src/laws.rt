@@ -70,7 +70,8 @@ pub fn removing_keeps_the_rest()
     ensures remove_dir { (fs after : Files) (who : Caller) (now : Timeval) (dir : ℕ) (name : List ℕ) →
         IsFileTree fs → remove_dir fs who now dir name ≡ Ok (tt, after) → Unnames now fs after dir name }
     ensures gone { (fs after : Files) (who : Caller) (now : Timeval) (dir n cookie : ℕ) (name : List ℕ) →
-        IsFileTree fs → places fs dir name ≡ Some (n, cookie) → remove_dir fs who now dir name ≡ Ok (tt, after) →
+        IsFileTree fs → places fs dir name ≡ Some (n, cookie) →
+        remove_dir fs who now dir name ≡ Ok (tt, after) →
         file_at after n ≡ None }
 {}
 
@@ -89,8 +90,8 @@ pub fn bytes_are_what_was_written()
     ensures write { (fs after : Files) (who : Caller) (now : Timeval) (n offset : ℕ) (new : List ℕ) →
         new ≢ [] → write fs who now n offset new ≡ Ok (tt, after) →
         Becomes fs after n (ChangesBytes (IsWritten offset new)) }
-    ensures set_attributes { (fs after : Files) (who : Caller) (now : Timeval) (n size : ℕ) (a : GivenFields) →
-        a.size ≡ Some size → set_attributes fs who now n a ≡ Ok (tt, after) →
+    ensures set_attributes { (fs after : Files) (who : Caller) (now : Timeval) (n size : ℕ)
+        (a : GivenFields) → a.size ≡ Some size → set_attributes fs who now n a ≡ Ok (tt, after) →
         Becomes fs after n (ChangesBytes (IsResized size)) }
     ensures create { (fs after : Files) (who : Caller) (now : Timeval) (dir number size : ℕ) (name : List ℕ)
         (a : GivenFields) → IsFileTree fs → a.size ≡ Some size → places fs dir name ≡ None →

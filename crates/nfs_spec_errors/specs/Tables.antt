@@ -227,7 +227,8 @@ checks_of fs who now (calls.Readlink file) = read_link_checks fs (number_for fs 
 checks_of fs who now (calls.Read file offset count) = read_checks fs who (number_for fs file)
 checks_of fs who now calls.Writecache = []
 checks_of fs who now (calls.Write file offset new) = write_checks fs who now (number_for fs file) offset new
-checks_of fs who now (calls.Create dir name s) = create_checks fs who now (number_for fs dir) name (given_fields now s)
+checks_of fs who now (calls.Create dir name s) =
+    create_checks fs who now (number_for fs dir) name (given_fields now s)
 checks_of fs who now (calls.Remove dir name) = remove_checks fs who (number_for fs dir) name
 checks_of fs who now (calls.Rename from from_name to to_name) =
     rename_checks fs who (number_for fs from) from_name (number_for fs to) to_name

@@ -20,8 +20,8 @@ pub record IsWrittenAt (now : Timeval) (fs fs' : Files) (n offset : ℕ) (new : 
   pub none : new ≡ [] → fs' ≡ fs
 
 -- a file that is there has attributes set; else one is made
-pub record IsCreatedAt (who : Caller) (now : Timeval) (fs fs' : Files) (dir : ℕ) (name : List ℕ) (a : GivenFields)
-    : Type 0 where
+pub record IsCreatedAt (who : Caller) (now : Timeval) (fs fs' : Files) (dir : ℕ) (name : List ℕ)
+    (a : GivenFields) : Type 0 where
   pub over : (n c : ℕ) → places fs dir name ≡ Some (n, c) → IsSetAt now fs fs' n a
   pub fresh : places fs dir name ≡ None → Makes now fs fs' dir name fs.next (new_regular who now a)
 
@@ -40,7 +40,8 @@ pub record IsMovedAt (now : Timeval) (fs fs' : Files) (from : ℕ) (from_name : 
 abbrev pub Did : Files → Caller → Timeval → Call → Files → Type 0
 Did fs who now (Setattr file s) fs' = IsSetAt now fs fs' (number_for fs file) (given_fields now s)
 Did fs who now (Write file offset new) fs' = IsWrittenAt now fs fs' (number_for fs file) offset new
-Did fs who now (Create dir name s) fs' = IsCreatedAt who now fs fs' (number_for fs dir) name (given_fields now s)
+Did fs who now (Create dir name s) fs' =
+    IsCreatedAt who now fs fs' (number_for fs dir) name (given_fields now s)
 Did fs who now (Mkdir dir name s) fs' =
     Makes now fs fs' (number_for fs dir) name fs.next (new_directory who now (given_fields now s))
 Did fs who now (Symlink dir name target s) fs' =

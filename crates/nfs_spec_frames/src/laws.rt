@@ -60,8 +60,9 @@ pub fn runs_keep_a_tree_within_its_limits()
         × IsTrue (has_room (files_after (opening_files fsid) requests)) }
 {}
 
-/// Over calls one after the other too no number and no cookie is used again: a number that was given and has no
-/// file gets none, and in a directory an entry with a cookie that was given before is the entry that had it.
+/// Over calls one after the other too no number and no cookie is used again: a number that was given and has
+/// no file gets none, and in a directory an entry with a cookie that was given before is the entry that had
+/// it.
 pub fn runs_give_nothing_again()
     ensures anew { (fs : Files) (requests : List Request) → IsFileTree fs → AreBounded requests →
         GivesAnew fs (files_after fs requests) }
@@ -82,7 +83,7 @@ pub fn the_last_name_takes_the_file()
     ensures more { (fs after : Files) (who : Caller) (now : Timeval) (dir : ℕ) (name : List ℕ) (n c : ℕ) →
         IsFileTree fs → IsTime now → places fs dir name ≡ Some (n, c) → 1 < names_of fs n →
         remove fs who now dir name ≡ Ok (tt, after) → HasOneNameLess fs after now n }
-    ensures directory { (fs after : Files) (who : Caller) (now : Timeval) (dir : ℕ) (name : List ℕ) (n c : ℕ) →
-        IsFileTree fs → IsTime now → places fs dir name ≡ Some (n, c) →
+    ensures directory { (fs after : Files) (who : Caller) (now : Timeval) (dir : ℕ) (name : List ℕ)
+        (n c : ℕ) → IsFileTree fs → IsTime now → places fs dir name ≡ Some (n, c) →
         remove_dir fs who now dir name ≡ Ok (tt, after) → IsGone after n }
 {}
