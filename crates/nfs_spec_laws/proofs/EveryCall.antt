@@ -23,8 +23,8 @@ use Rattle.nfs_spec_laws.proofs.FilesFit.{wanted_is, directory_fits, link_fits}
 use Rattle.nfs_spec_laws.proofs.Setting.{unchanged, set_follows, write_follows, create_follows}
 
 module _ (now : Timeval) (time : IsTime now) (w : Files) (tree : IsFileTree w) (who : Caller) where
-  rename_follows : (from : ℕ) (from_name : List ℕ) (to : ℕ) (to_name : List ℕ) → length to_name ≤ 255 → (after : Files)
-      → RenameOk w who now from from_name to to_name after → Follows w after
+  rename_follows : (from : ℕ) (from_name : List ℕ) (to : ℕ) (to_name : List ℕ) → length to_name ≤ 255
+      → (after : Files) → RenameOk w who now from from_name to to_name after → Follows w after
   rename_follows from from_name to to_name bound after o = ⊎_elim
       (λ same. subst (Follows w) (sym same.1) (unchanged w tree))
       (λ m. renames_follows now time w tree who from from_name to to_name after o m bound)
@@ -50,8 +50,8 @@ module _ (now : Timeval) (time : IsTime now) (w : Files) (tree : IsFileTree w) (
   })
 
 -- a refusal leaves the files as they were
-pub refusals : (w : Files) (who : Caller) (now : Timeval) (call : Call) (stat : Stat) → refusal_in (call_does w who now call).0 ≡ Some stat
-    → (call_does w who now call).1 ≡ w
+pub refusals : (w : Files) (who : Caller) (now : Timeval) (call : Call) (stat : Stat)
+    → refusal_in (call_does w who now call).0 ≡ Some stat → (call_does w who now call).1 ≡ w
 refusals w who now call stat = each_call w who now (λ call answer after. refusal_in answer ≡ Some stat → after ≡ w) (record {
   reads = λ call answer only h. refl;
   refused = λ call answer stat says h. refl;

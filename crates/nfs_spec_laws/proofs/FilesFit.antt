@@ -19,7 +19,8 @@ use Rattle.nfs_spec_laws.specs.Laws.{IsWanted}
 use Rattle.nfs_spec_laws.proofs.Bytes.{length-resized, length-written}
 
 -- what holds of a value that is given and of the other holds of the one that is taken
-unwrapped : {A : Type 0} (P : A → Type 0) (o : Option A) (d : A) → ((x : A) → o ≡ Some x → P x) → P d → P (unwrap_or o d)
+unwrapped : {A : Type 0} (P : A → Type 0) (o : Option A) (d : A) → ((x : A) → o ≡ Some x → P x) → P d
+    → P (unwrap_or o d)
 unwrapped P None d some none = none
 unwrapped P (Some x) d some none = some x refl
 
@@ -35,7 +36,8 @@ mode_given n mode = by (eqb n 4294967295 || eqb n 65535)
 time_given : (now t u : Timeval) → IsTime now → given_time now t ≡ Some u → IsTime u
 time_given now t u time = by (eqb t.seconds 4294967295) (ltb 999999 t.microseconds) refl
   where
-    by : (a b : Bool) → ltb 999999 t.microseconds ≡ b → cond a None (cond b (Some now) (Some t)) ≡ Some u → IsTime u
+    by : (a b : Bool) → ltb 999999 t.microseconds ≡ b → cond a None (cond b (Some now) (Some t)) ≡ Some u
+        → IsTime u
     by true b e h = absurd (none_some h)
     by false true e h = subst IsTime (some_same h) time
     by false false e h = let small = ltb-false 999999 t.microseconds e in subst IsTime (some_same h) (omega (arith, small))
@@ -65,15 +67,16 @@ set_keeps (Some size) (Link target) = refl
 set_keeps (Some size) (Directory l) = refl
 
 -- a body of another size is within its limit
-pub resized_fits : (who : Caller) (f : File) (size : Option ℕ) → ((n : ℕ) → size ≡ Some n → ResizeOk who f n) → IsBody f.body
-    → IsBody (resized_body size f.body)
+pub resized_fits : (who : Caller) (f : File) (size : Option ℕ) → ((n : ℕ) → size ≡ Some n → ResizeOk who f n)
+    → IsBody f.body → IsBody (resized_body size f.body)
 resized_fits who f None ok fits = fits
 resized_fits who f (Some size) ok fits =
     let o = ok size refl in
     subst (λ b. IsBody (resized_body (Some size) b)) (sym o.regular) (omega (arith, length-resized size o.bytes, o.fits))
 
 -- a file with what is given set is one
-pub set_fits : (now : Timeval) → IsTime now → (a : Wanted) → IsWanted a → (f : File) → IsFile f → IsBody (resized_body a.size f.body) → IsFile (set now a f)
+pub set_fits : (now : Timeval) → IsTime now → (a : Wanted) → IsWanted a → (f : File) → IsFile f
+    → IsBody (resized_body a.size f.body) → IsFile (set now a f)
 set_fits now time a is f fits body = record {
   mode = unwrapped (λ m. m < 4096) a.mode f.mode is.mode fits.mode;
   atime = unwrapped IsTime a.atime f.atime is.atime fits.atime;
@@ -87,7 +90,8 @@ set_fits now time a is f fits body = record {
     either false t u ht hu = hu
 
 -- a new file is one where its body is within its limit
-new_fits : (who : Caller) (now : Timeval) → IsTime now → (a : Wanted) → IsWanted a → (mode : ℕ) → mode < 4096 → (b : Body) → IsBody b → IsFile (new_file who now a mode b)
+new_fits : (who : Caller) (now : Timeval) → IsTime now → (a : Wanted) → IsWanted a → (mode : ℕ) → mode < 4096
+    → (b : Body) → IsBody b → IsFile (new_file who now a mode b)
 new_fits who now time a is mode small b fits = record {
   mode = unwrapped (λ m. m < 4096) a.mode mode is.mode small;
   atime = unwrapped IsTime a.atime now is.atime time;
@@ -97,8 +101,9 @@ new_fits who now time a is mode small b fits = record {
 }
 
 -- a file with bytes written is one
-pub rewritten_fits : (now : Timeval) → IsTime now → (offset : ℕ) (new old : List ℕ) (f : File) → f.body ≡ Regular old → IsFile f
-    → offset + length new ≤ 1048576 → IsFile (rewritten now offset new old f)
+pub rewritten_fits : (now : Timeval) → IsTime now → (offset : ℕ) (new old : List ℕ) (f : File)
+    → f.body ≡ Regular old → IsFile f → offset + length new ≤ 1048576
+    → IsFile (rewritten now offset new old f)
 rewritten_fits now time offset new old f own fits le = record {
   mode = fits.mode;
   atime = fits.atime;

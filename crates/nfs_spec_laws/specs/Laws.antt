@@ -37,6 +37,7 @@ UnnamesIn w w' dir name =
 -- the paths through the one name go on through the other
 abbrev pub RenamesIn : Files → Files → ℕ → List ℕ → ℕ → List ℕ → Type 0
 RenamesIn w w' from from_name to to_name =
-    (p q : List (List ℕ)) (c d : ℕ) → path_at (places w) p ≡ Some (from, c) → path_at (places w) q ≡ Some (to, d)
+    (p q : List (List ℕ)) (c d : ℕ)
+    → path_at (places w) p ≡ Some (from, c) → path_at (places w) q ≡ Some (to, d)
     → Renames (path_at (places w)) (path_at (places w'))
     (p ++ from_name ∷ []) (q ++ to_name ∷ []) (listing w to).next
