@@ -1,4 +1,5 @@
--- Answers are told by their texts.
+-- The item of an answer is that of its procedure's results, and its text tells it: values of one text are one answer.
+-- Serves: `answers_are_spelled`, `answers_have_one_meaning`.
 use Rattle.std.proofs.Common.{◌≡◌, ℕ, zero, suc, ◌<◌, ◌^◌, cond, eqb, List, [], ◌∷◌, ◌++◌, map, Some, Result, Ok, Err, refl, sym, ap, subst, ◌∙◌, append-nil, arith}
 use Rattle.std.specs.List.{slice_get, AllByRecursion}
 use Rattle.byteorder.specs.Endian.{big_number, big_bytes}
@@ -42,6 +43,7 @@ all_answered : AllByRecursion IsAnswered procedures
 all_answered =
     ((λ v w who now. refl), ((λ v w who now. refl), ((λ v w who now. told_item calls.Attributes attrstat (λ r. refl) w _), ((λ v w who now. refl), ((λ v w who now. refl), ((λ v w who now. refl), ((λ v w who now. refl), ((λ v w who now. refl), ((λ v w who now. told_item calls.Attributes attrstat (λ r. refl) w _), ((λ v w who now. told_item calls.DirOp diropres (λ r. refl) w _), ((λ v w who now. told_item calls.Status status (λ r. refl) w _), ((λ v w who now. told_item calls.Status status (λ r. refl) w _), ((λ v w who now. told_item calls.Status status (λ r. refl) w _), ((λ v w who now. told_item calls.Status status (λ r. refl) w _), ((λ v w who now. told_item calls.DirOp diropres (λ r. refl) w _), ((λ v w who now. told_item calls.Status status (λ r. refl) w _), ((λ v w who now. refl), ((λ v w who now. refl), tt))))))))))))))))))
 
+-- what a call is answered is of its procedure's results
 pub answered : (n : ℕ) (p : Procedure) → procedure_numbered n ≡ Some p → (v : Value p.arguments) (w : Files) (who : Caller) (now : Timeval) → answer_item (call_does w who now (p.says v)).0 ≡ p.results
 answered n p is = of_all IsAnswered procedures all_answered n p is
 
@@ -188,6 +190,7 @@ of_told say one w other (Ok x) (Err f) = one (Ok x.0) (Err f)
 of_told say one w other (Err e) (Ok y) = one (Err e) (Ok y.0)
 of_told say one w other (Err e) (Err f) = one (Err e) (Err f)
 
+-- answers to one call have one meaning, whatever the files, callers and times are
 pub of_call : (w other : Files) (who caller : Caller) (now time : Timeval) (call : Call) → HasOneMeaning (call_does w who now call).0 (call_does other caller time call).0
 of_call w other who caller now time calls.Null = of_nothing
 of_call w other who caller now time (calls.Getattr file) = of_attributes _ _

@@ -1,4 +1,5 @@
--- The answer of each call fits.
+-- The answer of each call fits, each kind by itself and then call by call.
+-- Serves: `laws::answers_have_a_spelling` (its clause `spelled`).
 use Rattle.std.proofs.Common.{◌≡◌, ℕ, ◌<◌, ◌≤◌, ◌^◌, List, [], ◌∷◌, ◌++◌, length, map, drop, min, replicate, Result, Ok, Err, refl, sym, ap, subst, ◌∙◌, arith}
 use Rattle.std.specs.Prelude.{◌||◌}
 use Rattle.std.specs.List.{AllByRecursion}
@@ -172,6 +173,7 @@ module _ (w : Files) (h : AreSpelled w) (who : Caller) where
 nothing : IsSpelled calls.Nothing
 nothing = record { fits = tt; cookies = tt }
 
+-- the answer of any call, where the files before and after it are within their bounds
 pub of_call : (w : Files) (who : Caller) (now : Timeval) → AreSpelled w → (call : Call) → AreSpelled (call_does w who now call).1 → IsSpelled (call_does w who now call).0
 of_call w who now h calls.Null after = nothing
 of_call w who now h (calls.Getattr file) after = of_getattr w h who file

@@ -1,4 +1,5 @@
--- Values of answers fit.
+-- Values of answers fit: stats, attributes, numbers, and the entries of a page.
+-- Serves: `laws::answers_have_a_spelling`, by OfCalls.
 use Rattle.std.proofs.Common.{◌≡◌, ℕ, ◌+◌, ◌-◌, ◌<◌, ◌≤◌, ◌^◌, Bool, true, false, cond, List, [], ◌∷◌, length, map, min, Some, IsSome, is_some, Result, Ok, Err, option_map, option_and_then, sum_by, refl, sym, ap, subst, ◌∙◌, arith}
 use Rattle.std.specs.Prelude.{nat_lt, nat_le, nat_eq, ◌==◌}
 use Rattle.std.specs.List.{filter, AllByRecursion, IsDistinct}
@@ -46,6 +47,7 @@ stat_fits a stats.DQuot = (omega arith, refl, tt)
 stat_fits a stats.Stale = (omega arith, refl, tt)
 stat_fits a stats.WFlush = (omega arith, refl, tt)
 
+-- a result fits where its value does, and a stat always
 pub outcome_fits : {X : Type 0} (a : Item) (view : X → Value a) (r : Result X Stat) → ((x : X) → r ≡ Ok x → Fits a (view x)) → Fits (stat_or a) (outcome_value a view r)
 outcome_fits a view (Ok x) fits = (omega arith, refl, fits x refl)
 outcome_fits a view (Err e) fits = stat_fits a e
@@ -85,13 +87,18 @@ type_fits (Directory l) = (omega arith, refl, tt)
 
 -- files that are a tree, pass no limit, and fit in words
 pub record AreSpelled (w : Files) : Type 0 where
+  -- they are a tree
   pub tree : IsFileTree w
+  -- no limit is passed
   pub room : IsWithin w
+  -- owners, groups and seconds are words
   pub words : AreWords w
 
+-- the number of a file is a word
 pub number_fits : (w : Files) → AreSpelled w → (n : ℕ) → IsSome (file_at w n) → n < 2 ^ 32
 number_fits w h n there = omega (arith, (h.tree.numbers n there).1, h.room.next)
 
+-- and so are its attributes, each within its own bound
 pub attributes_fit : (w : Files) → AreSpelled w → (n : ℕ) (f : File) → file_at w n ≡ Some f → Fits fattr (fattr_value (attributes_of w n f))
 attributes_fit w h n f there =
     let own = h.tree.files n f there in
@@ -126,8 +133,11 @@ low_cookies low (e ∷ es) high h = (omega (arith, at_most (e.1.1 + 1) es high h
 
 -- an entry of a page fits
 pub record EntryFits (e : Entry) : Type 0 where
+  -- its number is a word
   pub fileid : e.fileid < 2 ^ 32
+  -- its name has at most MAXNAMLEN bytes
   pub name : length e.name ≤ 255
+  -- its cookie is a word
   pub cookie : e.cookie < 2 ^ 32
 
 listed_fit : (es : List (List ℕ × (ℕ × ℕ))) → AllByRecursion (λ e. (e.1.0 < 2 ^ 32) × (length e.0 ≤ 255)) es → AllByRecursion (λ e. e.1.1 < 2 ^ 32) es
@@ -153,6 +163,7 @@ all_above P test (e ∷ es) a = elim (test e) as (λ b. AllByRecursion P (cond b
   | false ↦ all_above P test es a.1
 ]
 
+-- each entry of a page fits
 pub page_fits : (w : Files) → AreSpelled w → (dir : ℕ) (f : File) (l : Listing) → file_at w dir ≡ Some f → is_directory f.body ≡ true → listing_in f.body ≡ l → (cookie count : ℕ) → AllByRecursion EntryFits (page_of cookie count (listed w dir l)).entries
 unfolding AllCookies
 page_fits w h dir f l there is own cookie count =

@@ -1,4 +1,5 @@
--- Words stay words.
+-- Owners, groups and seconds that are words are words after each call.
+-- Serves: `laws::answers_have_a_spelling` (its clause `words`).
 use Rattle.std.proofs.Common.{◌≡◌, ⊎_elim, ℕ, ◌+◌, ◌<◌, ◌^◌, Bool, true, false, cond, not, List, [], length, replicate, Option, Some, None, Ok, option_map, is_some, refl, sym, subst, ◌∙◌}
 use Rattle.std.specs.Prelude.{◌==◌, ◌&&◌, unwrap_or, nat_lt}
 use Rattle.std.specs.Option.{option_map_or}
@@ -266,6 +267,7 @@ module _ (now : Timeval) (who : Caller) (says : SaysWords who now) where
             let r = bind_ok (check_cookie e.listing) _ x q.2 in
             in_files AllWords r.2 (of_moved n from from_name to to_name target)
 
+    -- after any call whose attributes are words
     pub of_call : (call : Call) → HasWordsIn call → AllWords (call_does w who now call).1
     of_call calls.Null asks = all
     of_call (calls.Getattr file) asks = all

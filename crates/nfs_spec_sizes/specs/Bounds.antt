@@ -32,6 +32,7 @@ pub record SaysWords (who : Caller) (now : Timeval) : Type 0 where
   pub gid : who.gid < 2 ^ 32
   pub seconds : now.seconds < 2 ^ 32
 
+-- the attributes that a call brings, where it brings any, are words
 abbrev pub HasWordsIn : Call → Type 0
 HasWordsIn (Setattr file s) = AsksWords s
 HasWordsIn (Create dir name s) = AsksWords s
