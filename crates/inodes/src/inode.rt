@@ -26,7 +26,7 @@ pub enum Body {
 impl Body {
     ghost use Rattle.std.specs.Prelude.{◌≡◌, ◌≤◌};
     ghost use Rattle.fs_model.specs.Trees.{IsBody};
-    ghost use Rattle.nfs_spec.specs.Attributes.{type_of, type_bits, size_of};
+    ghost use Rattle.nfs_spec.specs.FileAttributes.{type_of, type_bits, size_of};
     ghost use Rattle.inodes.specs.Inodes.{body_in};
 
     /// What the file is.
@@ -84,7 +84,7 @@ impl Inode {
     ghost use Rattle.std.specs.Prelude.{◌≡◌};
     ghost use Rattle.nfs_types.specs.CallerOf.{caller_of};
     ghost use Rattle.fs_model.specs.Trees.{IsBody};
-    ghost use Rattle.nfs_spec.specs.Checks.{class_of, may_search};
+    ghost use Rattle.nfs_spec.specs.ProcedureChecks.{class_of, may_search};
     ghost use Rattle.inodes.specs.Inodes.{body_in, file_in, fattr_of};
     ghost use Rattle.inodes.specs.InodeLookUp.{look_up_in};
 

@@ -15,13 +15,13 @@ use Rattle.nfs_types.specs.declared.stat.Stat.{Stat}
 use Rattle.fs_model.specs.Files.{Files, is_directory, listing_in}
 use Rattle.fs_model.specs.Trees.{IsBody}
 use Rattle.fs_model.proofs.Walks.{none_some}
-use Rattle.nfs_spec.specs.Checks.{file_of}
+use Rattle.nfs_spec.specs.ProcedureChecks.{file_of}
 use Rattle.nfs_spec.specs.Effects.{getattr, lookup}
-use Rattle.nfs_spec.specs.Laws.{stat_in}
-use Rattle.nfs_spec.specs.Reading.{Entry, Page}
-use Rattle.nfs_spec.specs.Procedures.{Figures, read_link, read, read_dir, figures}
-use Rattle.nfs_spec.specs.Calls as calls
-use Rattle.nfs_spec.specs.Calls.{Call, Answer, number_for, call_does}
+use Rattle.nfs_spec.specs.LawTerms.{stat_in}
+use Rattle.nfs_spec.specs.Readdir.{DirEntry, Page}
+use Rattle.nfs_spec.specs.Procedures.{FsStats, read_link, read, read_dir, stat_fs}
+use Rattle.nfs_spec.specs.NfsCalls as calls
+use Rattle.nfs_spec.specs.NfsCalls.{Call, Answer, number_for, call_does}
 use Rattle.nfs_spec_steps.specs.Answers.{refusal_in, only_reads}
 use Rattle.nfs_spec_steps.specs.Read.{AttributesOk}
 use Rattle.nfs_spec_steps.proofs.Steps.{bind_ok, ok_same}
@@ -70,12 +70,12 @@ of_dir_op r fits = record { fits = outcome_fits (pair fhandle fattr) pair_value 
 of_status : (r : Result (Unit {0}) Stat) → IsSpelled (calls.Status r)
 of_status r = record { fits = outcome_fits empty (λ x. x) r (λ x h. tt); cookies = tt }
 
-entries_fit : (es : List Entry) → AllByRecursion EntryFits es
+entries_fit : (es : List DirEntry) → AllByRecursion EntryFits es
     → AllByRecursion (Fits entry) (map entry_value es)
 entries_fit [] a = tt
 entries_fit (e ∷ es) a = ((a.0.fileid, ((omega (arith, a.0.name), a.0.name), length-bytes_high_first 4 e.cookie)), entries_fit es a.1)
 
-cookies_fit : (es : List Entry) → AllByRecursion EntryFits es
+cookies_fit : (es : List DirEntry) → AllByRecursion EntryFits es
     → AllByRecursion (λ c. c < 2 ^ 32) (map (λ e. e.cookie) es)
 cookies_fit [] a = tt
 cookies_fit (e ∷ es) a = (a.0.cookie, cookies_fit es a.1)
@@ -178,11 +178,11 @@ module _ (w : Files) (h : AreSpelled w) (who : Caller) where
       subst (λ (p : Page). AllByRecursion EntryFits p.entries) (sym o.answer)
       (page_fits w h n o.file o.listing o.there (ap is_directory o.directory) (ap listing_in o.directory) cookie count))
 
-  of_free : (n : ℕ) → IsSpelled (calls.Free (figures w n))
+  of_free : (n : ℕ) → IsSpelled (calls.Free (stat_fs w n))
   of_free n = record {
-    fits = outcome_fits (pair word (pair word (pair word (pair word word)))) figures_value (figures w n) (λ x is.
+    fits = outcome_fits (pair word (pair word (pair word (pair word word)))) figures_value (stat_fs w n) (λ x is.
         let f = bind_ok (file_of w n) _ x is in
-        subst (λ (x : Figures). Fits (pair word (pair word (pair word (pair word word)))) (figures_value x)) (ok_same f.2) (omega arith, (omega arith, (omega arith, (omega arith, omega arith)))));
+        subst (λ (x : FsStats). Fits (pair word (pair word (pair word (pair word word)))) (figures_value x)) (ok_same f.2) (omega arith, (omega arith, (omega arith, (omega arith, omega arith)))));
     cookies = tt;
   }
 

@@ -6,14 +6,14 @@ use Rattle.std.proofs.lemmas.Bool.{cases_eq}
 use Rattle.nfs_types.specs.Timeval.{Timeval}
 use Rattle.nfs_types.specs.Caller.{Caller}
 use Rattle.fs_model.specs.Listing.{Listing}
-use Rattle.fs_model.specs.Files.{Body, Regular, Link, Directory, File, Files, file_at, places, names_of}
+use Rattle.fs_model.specs.Files.{Body, Regular, Symlink, Directory, File, Files, file_at, places, names_of}
 use Rattle.fs_model.proofs.Walks.{none_some, some_same}
-use Rattle.fs_changes.specs.Edits.{with_changed_file, with_new_file, without_file, with_name, without_name, relisted}
+use Rattle.fs_changes.specs.Edits.{with_changed_file, with_new_file, without_file, with_name, without_name, map_listing}
 use Rattle.fs_changes.proofs.Finite.{changed_here, changed_other, gone_here, gone_other, new_here, new_other}
-use Rattle.nfs_spec.specs.Sattr.{Sattr, Wanted, wanted, wants_any, nothing}
-use Rattle.nfs_spec.specs.Changes.{touch, touched, mark, marked, unnamed, set, new_file, after_unlink}
-use Rattle.nfs_spec.specs.Procedures.{rewritten, made, cleared, moved}
-use Rattle.nfs_spec.specs.Calls.{Call, number_for, call_does}
+use Rattle.nfs_spec.specs.Sattr.{Sattr, GivenFields, given_fields, gives_any, no_fields}
+use Rattle.nfs_spec.specs.Changes.{touch, with_mtime, touch_ctime, with_ctime, unlink, apply_fields, new_file, after_unlink}
+use Rattle.nfs_spec.specs.Procedures.{with_bytes_written, add_file, unlink_target, move_entry}
+use Rattle.nfs_spec.specs.NfsCalls.{Call, number_for, call_does}
 use Rattle.nfs_spec_steps.specs.Granted.{SetOk, WriteOk, MakeOk, CreateOk, UnnameOk, RenameOk, new_regular, new_directory, new_link}
 use Rattle.nfs_spec_steps.proofs.EachCall.{each_call}
 use Rattle.nfs_spec_sizes.specs.Bounds.{HasWords, AsksWords, SaysWords, HasWordsIn}
@@ -46,12 +46,12 @@ new w f own all n g h = ⊎_elim
     (λ ne. all n g (sym (new_other w f n ne) ∙ h))
     (cases_eq n w.next)
 
-listed : (change : Listing → Listing) (f : File) → HasWords f → HasWords (relisted change f)
+listed : (change : Listing → Listing) (f : File) → HasWords f → HasWords (map_listing change f)
 listed change f own = record { uid = own.uid; gid = own.gid; atime = own.atime; mtime = own.mtime; ctime = own.ctime }
 
 -- ---- what is asked
 
-record WantsWords (a : Wanted) : Type 0 where
+record WantsWords (a : GivenFields) : Type 0 where
   uid : (n : ℕ) → a.uid ≡ Some n → n < 2 ^ 32
   gid : (n : ℕ) → a.gid ≡ Some n → n < 2 ^ 32
   atime : (t : Timeval) → a.atime ≡ Some t → t.seconds < 2 ^ 32
@@ -70,7 +70,7 @@ time_asked true c now t u lt lt' h = absurd (none_asked h)
 time_asked false true now t u lt lt' h = subst (λ (v : Timeval). v.seconds < 2 ^ 32) (some_same h) lt
 time_asked false false now t u lt lt' h = subst (λ (v : Timeval). v.seconds < 2 ^ 32) (some_same h) lt'
 
-asked : (now : Timeval) (s : Sattr) → now.seconds < 2 ^ 32 → AsksWords s → WantsWords (wanted now s)
+asked : (now : Timeval) (s : Sattr) → now.seconds < 2 ^ 32 → AsksWords s → WantsWords (given_fields now s)
 asked now s lt h = record {
   uid = λ n e. word_asked (s.uid == 4294967295) s.uid n h.uid e;
   gid = λ n e. word_asked (s.gid == 4294967295) s.gid n h.gid e;
@@ -78,7 +78,7 @@ asked now s lt h = record {
   mtime = λ t e. time_asked (s.mtime.seconds == 4294967295) (nat_lt 999999 s.mtime.microseconds) now s.mtime t lt h.mtime e;
 }
 
-none_wanted : WantsWords nothing
+none_wanted : WantsWords no_fields
 none_wanted = record { uid = λ n h. absurd (none_asked h); gid = λ n h. absurd (none_asked h); atime = λ t h. absurd (none_asked h); mtime = λ t h. absurd (none_asked h) }
 
 chosen : {A : Type 0} (P : A → Type 0) (o : Option A) (d : A) → ((x : A) → o ≡ Some x → P x) → P d
@@ -98,17 +98,17 @@ module _ (now : Timeval) (who : Caller) (says : SaysWords who now) where
   IsWord : Timeval → Type 0
   IsWord t = t.seconds < 2 ^ 32
 
-  set_words : (a : Wanted) → WantsWords a → (f : File) → HasWords f → HasWords (set now a f)
+  set_words : (a : GivenFields) → WantsWords a → (f : File) → HasWords f → HasWords (apply_fields now a f)
   unfolding IsWord
   set_words a wants f own = record {
     uid = chosen (λ n. n < 2 ^ 32) a.uid f.uid wants.uid own.uid;
     gid = chosen (λ n. n < 2 ^ 32) a.gid f.gid wants.gid own.gid;
     atime = chosen IsWord a.atime f.atime wants.atime own.atime;
     mtime = chosen IsWord a.mtime _ wants.mtime (either IsWord (is_some a.size) now f.mtime says.seconds own.mtime);
-    ctime = either IsWord (wants_any a) now f.ctime says.seconds own.ctime;
+    ctime = either IsWord (gives_any a) now f.ctime says.seconds own.ctime;
   }
 
-  new_words : (a : Wanted) → WantsWords a → (mode : ℕ) (body : Body) → HasWords (new_file who now a mode body)
+  new_words : (a : GivenFields) → WantsWords a → (mode : ℕ) (body : Body) → HasWords (new_file who now a mode body)
   unfolding IsWord
   new_words a wants mode body = record {
     uid = one_of (who.uid == 0) _ who.uid (chosen (λ n. n < 2 ^ 32) a.uid who.uid wants.uid says.uid) says.uid;
@@ -118,17 +118,17 @@ module _ (now : Timeval) (who : Caller) (says : SaysWords who now) where
     ctime = says.seconds;
   }
 
-  touched_words : (f : File) → HasWords f → HasWords (touched now f)
+  touched_words : (f : File) → HasWords f → HasWords (with_mtime now f)
   touched_words f own = record { uid = own.uid; gid = own.gid; atime = own.atime; mtime = says.seconds; ctime = says.seconds }
 
-  marked_words : (f : File) → HasWords f → HasWords (marked now f)
+  marked_words : (f : File) → HasWords f → HasWords (with_ctime now f)
   marked_words f own = record { uid = own.uid; gid = own.gid; atime = own.atime; mtime = own.mtime; ctime = says.seconds }
 
   touch_on : (w : Files) (d : ℕ) → AllWords w → AllWords (touch now w d)
-  touch_on w d = changed w d (touched now) touched_words
+  touch_on w d = changed w d (with_mtime now) touched_words
 
-  mark_on : (w : Files) (d : ℕ) → AllWords w → AllWords (mark now w d)
-  mark_on w d = changed w d (marked now) marked_words
+  mark_on : (w : Files) (d : ℕ) → AllWords w → AllWords (touch_ctime now w d)
+  mark_on w d = changed w d (with_ctime now) marked_words
 
   name_on : (w : Files) (d : ℕ) (x : List ℕ) (k : ℕ) → AllWords w → AllWords (with_name w d x k)
   name_on w d x k = changed w d _ (listed _)
@@ -136,7 +136,7 @@ module _ (now : Timeval) (who : Caller) (says : SaysWords who now) where
   name_off : (w : Files) (d : ℕ) (x : List ℕ) → AllWords w → AllWords (without_name w d x)
   name_off w d x = changed w d _ (listed _)
 
-  unname : (w : Files) (d : ℕ) (x : List ℕ) (k : ℕ) → AllWords w → AllWords (unnamed now w d x k)
+  unname : (w : Files) (d : ℕ) (x : List ℕ) (k : ℕ) → AllWords w → AllWords (unlink now w d x k)
   unname w d x k all = by (without_name w d x) (names_of (without_name w d x) k == 0) (name_off w d x all)
     where
       by : (v : Files) (b : Bool) → AllWords v → AllWords (after_unlink b now v k)
@@ -144,50 +144,50 @@ module _ (now : Timeval) (who : Caller) (says : SaysWords who now) where
       by v false = mark_on v k
 
   make_on : (w : Files) (d : ℕ) (x : List ℕ) (f : File) → HasWords f → AllWords w
-      → AllWords (made now w d x f)
+      → AllWords (add_file now w d x f)
   make_on w d x f own all = touch_on (with_name (with_new_file w f) d x w.next) d (name_on (with_new_file w f) d x w.next (new w f own all))
 
   moved_words : (w : Files) → AllWords w
       → (n from : ℕ) (from_name : List ℕ) (to : ℕ) (to_name : List ℕ) (target : Option ℕ)
-      → AllWords (moved now w n from from_name to to_name target)
+      → AllWords (move_entry now w n from from_name to to_name target)
   moved_words w all n from from_name to to_name target =
-      let w₁ = cleared now w to to_name target in
+      let w₁ = unlink_target now w to to_name target in
       let w₂ = without_name w₁ from from_name in
       let w₃ = with_name w₂ to to_name n in
-      let w₄ = mark now w₃ n in
+      let w₄ = touch_ctime now w₃ n in
       let w₅ = touch now w₄ from in
       touch_on w₅ to (touch_on w₄ from (mark_on w₃ n (name_on w₂ to to_name n (name_off w₁ from from_name (clear target)))))
     where
-      clear : (o : Option ℕ) → AllWords (cleared now w to to_name o)
+      clear : (o : Option ℕ) → AllWords (unlink_target now w to to_name o)
       clear None = all
       clear (Some t) = unname w to to_name t all
 
   rewritten_words : (offset : ℕ) (new old : List ℕ) (f : File) → HasWords f
-      → HasWords (rewritten now offset new old f)
+      → HasWords (with_bytes_written now offset new old f)
   rewritten_words offset new old f own =
       record { uid = own.uid; gid = own.gid; atime = own.atime; mtime = says.seconds; ctime = says.seconds }
 
   -- ---- each procedure
 
   module _ (w : Files) (all : AllWords w) where
-    of_set : (n : ℕ) (a : Wanted) → WantsWords a → (after : Files) → SetOk w who now n a after
+    of_set : (n : ℕ) (a : GivenFields) → WantsWords a → (after : Files) → SetOk w who now n a after
         → AllWords after
-    of_set n a wants after o = subst AllWords (sym o.effect) (changed w n (set now a) (set_words a wants) all)
+    of_set n a wants after o = subst AllWords (sym o.effect) (changed w n (apply_fields now a) (set_words a wants) all)
 
     of_write : (n offset : ℕ) (new : List ℕ) (after : Files) → WriteOk w who now n offset new after
         → AllWords after
     of_write n offset new after o = subst AllWords (sym o.effect) (by (length new == 0))
       where
         by : (none : Bool)
-            → AllWords (if none then w else with_changed_file w n (rewritten now offset new o.old))
+            → AllWords (if none then w else with_changed_file w n (with_bytes_written now offset new o.old))
         by true = all
-        by false = changed w n (rewritten now offset new o.old) (rewritten_words offset new o.old) all
+        by false = changed w n (with_bytes_written now offset new o.old) (rewritten_words offset new o.old) all
 
     of_make : (dir : ℕ) (name : List ℕ) (f : File) → HasWords f → (number : ℕ) (after : Files)
         → MakeOk w who now dir name f number after → AllWords after
     of_make dir name f own number after o = subst AllWords (sym o.effect) (make_on w dir name f own all)
 
-    of_create : (dir : ℕ) (name : List ℕ) (a : Wanted) → WantsWords a → (number : ℕ) (after : Files)
+    of_create : (dir : ℕ) (name : List ℕ) (a : GivenFields) → WantsWords a → (number : ℕ) (after : Files)
         → CreateOk w who now dir name a number after → AllWords after
     of_create dir name a wants number after o = by (places w dir name) refl
       where
@@ -199,7 +199,7 @@ module _ (now : Timeval) (who : Caller) (says : SaysWords who now) where
     of_remove : (kind : Bool) (dir : ℕ) (name : List ℕ) (after : Files)
         → UnnameOk kind w who now dir name after → AllWords after
     of_remove kind dir name after o =
-        subst AllWords (sym o.effect) (touch_on (unnamed now w dir name o.number) dir (unname w dir name o.number all))
+        subst AllWords (sym o.effect) (touch_on (unlink now w dir name o.number) dir (unname w dir name o.number all))
 
     of_rename : (from : ℕ) (from_name : List ℕ) (to : ℕ) (to_name : List ℕ) (after : Files)
         → RenameOk w who now from from_name to to_name after → AllWords after
@@ -213,19 +213,19 @@ module _ (now : Timeval) (who : Caller) (says : SaysWords who now) where
     of_call = each_call w who now (λ call answer after. HasWordsIn call → AllWords after) (record {
       reads = λ call answer only asks. all;
       refused = λ call answer stat is asks. all;
-      set_attributes = λ file s a after o _ asks. of_set (number_for w file) (wanted now s) (asked now s says.seconds asks) after o;
+      set_attributes = λ file s a after o _ asks. of_set (number_for w file) (given_fields now s) (asked now s says.seconds asks) after o;
       write = λ file offset new a after o _ asks. of_write (number_for w file) offset new after o;
       create = λ dir name s number a after o _ asks.
-          of_create (number_for w dir) name (wanted now s) (asked now s says.seconds asks) number after o;
+          of_create (number_for w dir) name (given_fields now s) (asked now s says.seconds asks) number after o;
       make_dir = λ dir name s number a after o _ asks.
-          of_make (number_for w dir) name (new_directory who now (wanted now s))
-          (new_words (wanted now s) (asked now s says.seconds asks) 493 (Directory (record { next = 3; entries = [] }))) number after o;
+          of_make (number_for w dir) name (new_directory who now (given_fields now s))
+          (new_words (given_fields now s) (asked now s says.seconds asks) 493 (Directory (record { next = 3; entries = [] }))) number after o;
       symlink = λ dir name target s number after o asks.
-          of_make (number_for w dir) name (new_link who now target) (new_words nothing none_wanted 511 (Link target)) number after o;
+          of_make (number_for w dir) name (new_link who now target) (new_words no_fields none_wanted 511 (Symlink target)) number after o;
       link = λ from dir name after o asks.
           let n = number_for w from in
           let d = number_for w dir in
-          subst AllWords (sym o.effect) (touch_on (with_name (mark now w n) d name n) d (name_on (mark now w n) d name n (mark_on w n all)));
+          subst AllWords (sym o.effect) (touch_on (with_name (touch_ctime now w n) d name n) d (name_on (touch_ctime now w n) d name n (mark_on w n all)));
       remove = λ dir name after o asks. of_remove false (number_for w dir) name after o;
       remove_dir = λ dir name after o asks. of_remove true (number_for w dir) name after o;
       rename = λ from from_name to to_name after o asks. of_rename (number_for w from) from_name (number_for w to) to_name after o;
