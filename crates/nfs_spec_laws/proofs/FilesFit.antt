@@ -90,8 +90,8 @@ set_fits now time a is f fits body = record {
     either false t u ht hu = hu
 
 -- a new file is one where its body is within its limit
-new_fits : (who : Caller) (now : Timeval) → IsTime now → (a : GivenFields) → IsWanted a → (mode : ℕ) → mode < 4096
-    → (b : Body) → IsBody b → IsFile (new_file who now a mode b)
+new_fits : (who : Caller) (now : Timeval) → IsTime now → (a : GivenFields) → IsWanted a → (mode : ℕ)
+    → mode < 4096 → (b : Body) → IsBody b → IsFile (new_file who now a mode b)
 new_fits who now time a is mode small b fits = record {
   mode = unwrapped (λ m. m < 4096) a.mode mode is.mode small;
   atime = unwrapped IsTime a.atime now is.atime time;
@@ -123,7 +123,8 @@ nothing_is = record { mode = λ m h. cc; atime = λ t h. cc; mtime = λ t h. cc 
 
 module _ (who : Caller) (now : Timeval) (time : IsTime now) where
   -- what CREATE makes is a file
-  pub regular_fits : (a : GivenFields) → IsWanted a → unwrap_or a.size 0 ≤ 1048576 → IsFile (new_regular who now a)
+  pub regular_fits : (a : GivenFields) → IsWanted a → unwrap_or a.size 0 ≤ 1048576
+      → IsFile (new_regular who now a)
   regular_fits a is le =
       let size = unwrap_or a.size 0 in
       new_fits who now time a is 420 (omega arith) (Regular (replicate size 0)) (omega (arith, length-replicate {A = ℕ} size 0, le))

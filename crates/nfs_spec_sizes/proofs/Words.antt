@@ -108,7 +108,8 @@ module _ (now : Timeval) (who : Caller) (says : SaysWords who now) where
     ctime = either IsWord (gives_any a) now f.ctime says.seconds own.ctime;
   }
 
-  new_words : (a : GivenFields) → WantsWords a → (mode : ℕ) (body : Body) → HasWords (new_file who now a mode body)
+  new_words : (a : GivenFields) → WantsWords a → (mode : ℕ) (body : Body)
+      → HasWords (new_file who now a mode body)
   unfolding IsWord
   new_words a wants mode body = record {
     uid = one_of (who.uid == 0) _ who.uid (chosen (λ n. n < 2 ^ 32) a.uid who.uid wants.uid says.uid) says.uid;

@@ -35,19 +35,21 @@ pub record EachCall (w : Files) (who : Caller) (now : Timeval) (P : Call → Ans
       → P call answer w
   -- SETATTR, with the attributes after it
   pub set_attributes : (file : List ℕ) (s : Sattr) (a : Fattr) (after : Files)
-      → SetOk w who now (number_for w file) (given_fields now s) after → AttributesOk after (number_for w file) a
-      → P (calls.Setattr file s) (calls.Attributes (Ok a)) after
+      → SetOk w who now (number_for w file) (given_fields now s) after
+      → AttributesOk after (number_for w file) a → P (calls.Setattr file s) (calls.Attributes (Ok a)) after
   -- WRITE, with the attributes after it
   pub write : (file : List ℕ) (offset : ℕ) (new : List ℕ) (a : Fattr) (after : Files)
       → WriteOk w who now (number_for w file) offset new after → AttributesOk after (number_for w file) a
       → P (calls.Write file offset new) (calls.Attributes (Ok a)) after
   -- CREATE, with the attributes after it
   pub create : (dir name : List ℕ) (s : Sattr) (number : ℕ) (a : Fattr) (after : Files)
-      → CreateOk w who now (number_for w dir) name (given_fields now s) number after → AttributesOk after number a
+      → CreateOk w who now (number_for w dir) name (given_fields now s) number after
+      → AttributesOk after number a
       → P (calls.Create dir name s) (calls.DirOp (Ok (handle_of after.fsid number, a))) after
   -- MKDIR, with the attributes after it
   pub make_dir : (dir name : List ℕ) (s : Sattr) (number : ℕ) (a : Fattr) (after : Files)
-      → MakeDirOk w who now (number_for w dir) name (given_fields now s) number after → AttributesOk after number a
+      → MakeDirOk w who now (number_for w dir) name (given_fields now s) number after
+      → AttributesOk after number a
       → P (calls.Mkdir dir name s) (calls.DirOp (Ok (handle_of after.fsid number, a))) after
   -- SYMLINK
   pub symlink : (dir name target : List ℕ) (s : Sattr) (number : ℕ) (after : Files)

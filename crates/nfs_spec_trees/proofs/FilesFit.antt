@@ -80,7 +80,8 @@ pub touch_files : (now : Timeval) (w : Files) (d : ℕ) → IsTime now → AllFi
 touch_files now w d time all = changed_files w d (with_mtime now) all (λ f h. touched_fits now time f (all d f h))
 
 -- so does ctime alone
-pub mark_files : (now : Timeval) (w : Files) (d : ℕ) → IsTime now → AllFiles w → AllFiles (touch_ctime now w d)
+pub mark_files : (now : Timeval) (w : Files) (d : ℕ) → IsTime now → AllFiles w
+    → AllFiles (touch_ctime now w d)
 mark_files now w d time all = changed_files w d (with_ctime now) all (λ f h. marked_fits now time f (all d f h))
 
 -- ---- names

@@ -63,52 +63,52 @@ module _ (now : Timeval) (w : Files) (tree : IsFileTree w) (before : has_room w 
   not_next : dir ≢ w.next
   not_next e = absurd (none_some (sym (next_free w tree) ∙ sym (ap (file_at w) e) ∙ there))
 
-  module _ (f : File) (empty : (listing_in f.body).entries ≡ []) (low : (listing_in f.body).next ≤ 4294967295)
-    where
-      one : Files
-      one = with_new_file w f
+  module _ (f : File) (empty : (listing_in f.body).entries ≡ [])
+      (low : (listing_in f.body).next ≤ 4294967295) where
+    one : Files
+    one = with_new_file w f
 
-      there₁ : file_at one dir ≡ Some d
-      unfolding one
-      there₁ = new_other w f dir not_next ∙ there
+    there₁ : file_at one dir ≡ Some d
+    unfolding one
+    there₁ = new_other w f dir not_next ∙ there
 
-      entries₁ : entry_count one ≡ entry_count w
-      unfolding one
-      entries₁ = let none = ap length empty in omega (arith, total_new (λ g. length (listing_in g.body).entries) w f (next_free w tree), none)
+    entries₁ : entry_count one ≡ entry_count w
+    unfolding one
+    entries₁ = let none = ap length empty in omega (arith, total_new (λ g. length (listing_in g.body).entries) w f (next_free w tree), none)
 
-      blocks₁ : block_count one ≡ block_count w + blocks_in f.body
-      unfolding one
-      blocks₁ = total_new (λ g. blocks_in g.body) w f (next_free w tree)
+    blocks₁ : block_count one ≡ block_count w + blocks_in f.body
+    unfolding one
+    blocks₁ = total_new (λ g. blocks_in g.body) w f (next_free w tree)
 
-      all₁ : AllCookies one
-      unfolding one AllCookies
-      all₁ n g at = ⊎_elim
-          (λ e. let same = ap (λ (z : File). (listing_in z.body).next) (some_same (sym (new_here w f n e) ∙ at)) in omega (arith, same, low))
-          (λ ne. (within w before).cookies n g (sym (new_other w f n ne) ∙ at))
-          (cases_eq n w.next)
+    all₁ : AllCookies one
+    unfolding one AllCookies
+    all₁ n g at = ⊎_elim
+        (λ e. let same = ap (λ (z : File). (listing_in z.body).next) (some_same (sym (new_here w f n e) ∙ at)) in omega (arith, same, low))
+        (λ ne. (within w before).cookies n g (sym (new_other w f n ne) ∙ at))
+        (cases_eq n w.next)
 
-      -- room after a new file with a name, by the counts before
-      pub to_make :
-          (has_room (add_file now w dir name f) ≡ true) ↔ HasRoomToMake w (listing_in d.body).next (blocks_in f.body)
-      unfolding one
-      to_make = (
-        (λ h.
-            let n = named_needs one dir name w.next d there₁ is (free_in w dir name d there free) (touched_back now (with_name one dir name w.next) dir h) in
-            record {
-              files = omega (arith, count_new w f (next_free w tree), n.files);
-              entries = omega (arith, entries₁, n.entries);
-              blocks = omega (arith, blocks₁, n.blocks);
-              number = omega (arith, n.next);
-              cookie = n.cookie;
-            }),
-        (λ h. touched_on now (with_name one dir name w.next) dir (named_has one dir name w.next d there₁ is (free_in w dir name d there free) all₁ (record {
-          files = omega (arith, count_new w f (next_free w tree), h.files);
-          entries = omega (arith, entries₁, h.entries);
-          blocks = omega (arith, blocks₁, h.blocks);
-          next = omega (arith, h.number);
-          cookie = h.cookie;
-        }))),
-      )
+    -- room after a new file with a name, by the counts before
+    pub to_make : (has_room (add_file now w dir name f) ≡ true) ↔ HasRoomToMake w (listing_in d.body).next
+        (blocks_in f.body)
+    unfolding one
+    to_make = (
+      (λ h.
+          let n = named_needs one dir name w.next d there₁ is (free_in w dir name d there free) (touched_back now (with_name one dir name w.next) dir h) in
+          record {
+            files = omega (arith, count_new w f (next_free w tree), n.files);
+            entries = omega (arith, entries₁, n.entries);
+            blocks = omega (arith, blocks₁, n.blocks);
+            number = omega (arith, n.next);
+            cookie = n.cookie;
+          }),
+      (λ h. touched_on now (with_name one dir name w.next) dir (named_has one dir name w.next d there₁ is (free_in w dir name d there free) all₁ (record {
+        files = omega (arith, count_new w f (next_free w tree), h.files);
+        entries = omega (arith, entries₁, h.entries);
+        blocks = omega (arith, blocks₁, h.blocks);
+        next = omega (arith, h.number);
+        cookie = h.cookie;
+      }))),
+    )
 
 -- room after a name more, by the counts before
 pub to_link : (now : Timeval) (w : Files) → has_room w ≡ true → (dir : ℕ) (name : List ℕ) (d : File)
