@@ -13,7 +13,7 @@ use Rattle.nfs_spec_steps.specs.Granted.{MakeOk, CreateOk, LinkOk, UnnameOk, IsS
 use Rattle.nfs_spec_trees.proofs.Making.{make_added, link_added}
 use Rattle.nfs_spec_trees.proofs.Removing.{remove_taken}
 use Rattle.nfs_spec_trees.proofs.Renaming.{renames_paths}
-use Rattle.nfs_spec_laws.specs.Laws.{IsWanted, NamesIn, UnnamesIn, RenamesIn}
+use Rattle.nfs_spec_laws.specs.Laws.{AreValidFields, NamesIn, UnnamesIn, RenamesIn}
 use Rattle.nfs_spec_laws.proofs.FilesFit.{regular_fits}
 
 module _ (now : Timeval) (time : IsTime now) (w : Files) (tree : IsFileTree w) (who : Caller) where
@@ -27,7 +27,7 @@ module _ (now : Timeval) (time : IsTime now) (w : Files) (tree : IsFileTree w) (
   )
 
   -- CREATE of a name that isn't there
-  pub create_adds : (dir : ℕ) (name : List ℕ) → length name ≤ 255 → (a : GivenFields) → IsWanted a
+  pub create_adds : (dir : ℕ) (name : List ℕ) → length name ≤ 255 → (a : GivenFields) → AreValidFields a
       → (number : ℕ) (after : Files) → CreateOk w who now dir name a number after → places w dir name ≡ None
       → (number ≡ w.next) × NamesIn w after dir name number
   create_adds dir name bound a is number after o free =

@@ -20,7 +20,7 @@ use Rattle.nfs_spec_steps.specs.Granted.{SetOk, WriteOk, CreateOk, new_regular}
 use Rattle.nfs_spec_trees.specs.Anew.{Follows}
 use Rattle.nfs_spec_trees.proofs.GivenAnew.{nothing_given, same_given, cookie_changed}
 use Rattle.nfs_spec_trees.proofs.Making.{make_follows}
-use Rattle.nfs_spec_laws.specs.Laws.{IsWanted}
+use Rattle.nfs_spec_laws.specs.Laws.{AreValidFields}
 use Rattle.nfs_spec_laws.proofs.FilesFit.{set_lists, set_keeps, resized_fits, set_fits, rewritten_fits, regular_fits}
 
 -- files follow themselves
@@ -58,7 +58,7 @@ module _ (w : Files) (tree : IsFileTree w) (n : ℕ) (f : File) (change : File �
 
 module _ (now : Timeval) (time : IsTime now) (w : Files) (tree : IsFileTree w) (who : Caller) where
   -- SETATTR
-  pub set_follows : (n : ℕ) (a : GivenFields) → IsWanted a → (after : Files) → SetOk w who now n a after
+  pub set_follows : (n : ℕ) (a : GivenFields) → AreValidFields a → (after : Files) → SetOk w who now n a after
       → Follows w after
   set_follows n a is after o =
       let fits = tree.files n o.file o.there in
@@ -100,7 +100,7 @@ module _ (now : Timeval) (time : IsTime now) (w : Files) (tree : IsFileTree w) (
           })
 
   -- CREATE, of a new name or of one that is there
-  pub create_follows : (dir : ℕ) (name : List ℕ) → length name ≤ 255 → (a : GivenFields) → IsWanted a
+  pub create_follows : (dir : ℕ) (name : List ℕ) → length name ≤ 255 → (a : GivenFields) → AreValidFields a
       → (number : ℕ) (after : Files) → CreateOk w who now dir name a number after → Follows w after
   create_follows dir name bound a is number after o = by (places w dir name) refl
     where

@@ -8,7 +8,7 @@ use Rattle.nfs_spec.specs.Sattr.{GivenFields}
 use Rattle.nfs_spec.specs.NfsCalls.{Call, Create, Rename, Link, Symlink, Mkdir}
 
 -- what may be asked of attributes: twelve bits of mode, and times
-pub record IsWanted (a : GivenFields) : Type 0 where
+pub record AreValidFields (a : GivenFields) : Type 0 where
   pub mode : (mode : ℕ) → a.mode ≡ Some mode → mode < 4096
   pub atime : (t : Timeval) → a.atime ≡ Some t → IsTime t
   pub mtime : (t : Timeval) → a.mtime ≡ Some t → IsTime t

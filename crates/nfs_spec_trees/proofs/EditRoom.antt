@@ -72,10 +72,15 @@ put_blocks x k (Directory l) = refl
 
 -- what a name more asks of the files, in a directory whose next cookie is this
 pub record IsNamedWithin (w : Files) (next_cookie : ℕ) : Type 0 where
+  -- no more files than may be
   pub files : file_count w ≤ 8192
+  -- one entry less than may be
   pub entries : entry_count w + 1 ≤ 16384
+  -- no more blocks than may be
   pub blocks : block_count w ≤ 32768
+  -- no number above the last was given
   pub next : w.next ≤ 4294967295
+  -- the directory's next cookie may be given
   pub cookie : next_cookie ≤ 4294967294
 
 module _ (w : Files) (d : ℕ) (x : List ℕ) (k : ℕ) (f : File) (there : file_at w d ≡ Some f)
