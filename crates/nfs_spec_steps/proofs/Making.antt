@@ -92,13 +92,15 @@ module _ (w : Files) (who : Caller) (now : Timeval) (dir : ℕ) (name : List ℕ
       let r = bind_ok (check (is_regular f.0.body) stats.Exist) _ (number, after) f.2 in
       let s = bind_ok (set_attributes w who now n a) _ (number, after) r.2 in
       let b = regular f.0.body (check_ok (is_regular f.0.body) stats.Exist r.0 r.1) in
+      let set_again : set_attributes w who now n a ≡ Ok (tt, after) = s.1 ∙ ap (λ (v : Files). Ok (tt, v)) (sym (same_files s.2)) in
       record {
         file = f.0;
         bytes = b.0;
         there = file_ok w n f.0 f.1;
         regular = b.1;
         is_same = same_answer s.2;
-        set = set_ok w who now n a after (s.1 ∙ ap (λ (v : Files). Ok (tt, v)) (sym (same_files s.2)));
+        as_set_attributes = set_again;
+        set = set_ok w who now n a after set_again;
       }
     where
       regular : (b : Body) → is_regular b ≡ true → (bytes : List ℕ) × (b ≡ Regular bytes)

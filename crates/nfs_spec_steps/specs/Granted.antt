@@ -11,7 +11,7 @@ use Rattle.fs_changes.specs.Limits.{has_room}
 use Rattle.nfs_spec.specs.ProcedureChecks.{NumberedDir, may_search, may_write}
 use Rattle.nfs_spec.specs.Sattr.{GivenFields, no_fields}
 use Rattle.nfs_spec.specs.Changes.{check_owner, apply_fields, new_file, touch, touch_ctime, unlink}
-use Rattle.nfs_spec.specs.Procedures.{with_bytes_written, add_file, is_above, move_entry}
+use Rattle.nfs_spec.specs.Procedures.{set_attributes, with_bytes_written, add_file, is_above, move_entry}
 
 -- ---- directories
 
@@ -101,6 +101,7 @@ pub record CreateOverOk (fs : Files) (who : Caller) (now : Timeval) (n : ℕ) (a
   pub there : file_at fs n ≡ Some file
   pub regular : file.body ≡ Regular bytes
   pub is_same : number ≡ n
+  pub as_set_attributes : set_attributes fs who now n a ≡ Ok (tt, after)
   pub set : SetOk fs who now n a after
 
 -- CREATE of a new name made a regular file whose size is within its limit, in bytes
