@@ -59,7 +59,8 @@ pub record WriteOk (fs : Files) (who : Caller) (now : Timeval) (n offset : ℕ) 
   pub written : IsTrue (may_write who file)
   pub fits : new ≢ [] → offset + length new ≤ 1048576
   pub room : new ≢ [] → IsTrue (has_room after)
-  pub effect : after ≡ (if length new == 0 then fs else with_changed_file fs n (with_bytes_written now offset new old))
+  pub effect :
+      after ≡ (if length new == 0 then fs else with_changed_file fs n (with_bytes_written now offset new old))
 
 -- ---- CREATE, MKDIR, SYMLINK, LINK
 
@@ -175,7 +176,8 @@ pub record MoveOk (fs : Files) (now : Timeval) (from : ℕ) (from_name : List �
   pub replaces : (n cookie : ℕ) → places fs to to_name ≡ Some (n, cookie) → MayReplace fs file n
   pub cookie : (listing fs to).next ≤ 4294967294
   pub effect :
-      after ≡ move_entry now fs number from from_name to to_name (option_map (λ e. e.0) (places fs to to_name))
+      after
+      ≡ move_entry now fs number from from_name to to_name (option_map (λ e. e.0) (places fs to to_name))
 
 pub record RenameOk (fs : Files) (who : Caller) (now : Timeval) (from : ℕ) (from_name : List ℕ) (to : ℕ)
     (to_name : List ℕ) (after : Files) : Type 0 where
