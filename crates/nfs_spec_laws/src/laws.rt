@@ -1,22 +1,24 @@
 //! What holds of every call.
 
-ghost use Rattle.std.specs.Prelude.{◌≡◌, ◌≤◌, ◌<◌, ◌+◌, not, max, slice_index, IsTrue, ℕ, List, length, true, false, Some, None, Ok};
+ghost use Rattle.std.specs.Prelude.{◌≡◌, ◌↔◌, ◌≤◌, ◌+◌, IsTrue, ℕ, List, [], length, true, false, Some, None, Ok};
 ghost use Rattle.nfs_types.specs.Timeval.{Timeval};
 ghost use Rattle.nfs_types.specs.Caller.{Caller};
 ghost use Rattle.nfs_types.specs.declared.stat.Stat.{Stat};
 ghost use Rattle.nfs_types.specs.declared.attributes.Fattr.{Fattr};
-ghost use Rattle.fs_model.specs.Files.{File, Files, file_at, IsDirectory, is_directory, listing, places, names_of};
+ghost use Rattle.fs_model.specs.Files.{File, Files, file_at, IsDirectory, is_directory, listing, listing_in, places, names_of};
 ghost use Rattle.fs_model.specs.Trees.{IsTime, IsFileTree};
-ghost use Rattle.fs_changes.specs.Limits.{has_room};
+ghost use Rattle.fs_changes.specs.Edits.{with_changed_file, with_name};
+ghost use Rattle.fs_changes.specs.Limits.{has_room, block_count, blocks_in};
 ghost use Rattle.nfs_spec.specs.FileAttributes.{subdirectories};
 ghost use Rattle.nfs_spec.specs.Effects.{attributes_at};
-ghost use Rattle.nfs_spec.specs.Sattr.{GivenFields, no_fields};
-ghost use Rattle.nfs_spec.specs.Changes.{with_length, with_bytes_at};
-ghost use Rattle.nfs_spec.specs.Procedures.{create, make_dir, symlink, link, remove, remove_dir, rename, read};
+ghost use Rattle.nfs_spec.specs.Sattr.{GivenFields};
+ghost use Rattle.nfs_spec.specs.Changes.{touch, touch_ctime};
+ghost use Rattle.nfs_spec.specs.Procedures.{add_file, create, make_dir, symlink, link, remove, remove_dir, rename};
 ghost use Rattle.nfs_spec.specs.NfsCalls.{Call, call_does};
 ghost use Rattle.nfs_spec_trees.specs.Anew.{GivesAnew};
 ghost use Rattle.nfs_spec_steps.specs.Answers.{refusal_in, only_reads};
 ghost use Rattle.nfs_spec_steps.specs.Granted.{IsSameFile};
+ghost use Rattle.nfs_spec_laws.specs.Room.{HasRoomToMake, HasRoomToLink};
 ghost use Rattle.nfs_spec_laws.specs.Laws.{AreValidFields, IsBounded, NamesIn, UnnamesIn, RenamesIn};
 
 /// Every call leaves a tree a tree.
@@ -37,6 +39,27 @@ pub fn no_limit_is_passed()
     ensures { (fs : Files) (who : Caller) (now : Timeval) (call : Call) →
         IsFileTree fs → IsTime now → IsBounded call →
         IsTrue (has_room fs) → IsTrue (has_room (call_does fs who now call).1) }
+{}
+
+/// Where no limit is passed before, the room that a call asks for is told by the files before it: for a new
+/// file by how many files, entries and blocks there are, the next number and the directory's next cookie; for
+/// another name of a file by the entries and the cookie; for other bytes of a file by the blocks.
+pub fn room_is_told_before()
+    ensures make { (fs : Files) (now : Timeval) (dir : ℕ) (name : List ℕ) (d f : File) →
+        IsFileTree fs → IsTrue (has_room fs) → file_at fs dir ≡ Some d → is_directory d.body ≡ true →
+        places fs dir name ≡ None →
+        (listing_in f.body).entries ≡ [] → (listing_in f.body).next ≤ 4294967295 →
+        (IsTrue (has_room (add_file now fs dir name f))
+        ↔ HasRoomToMake fs (listing_in d.body).next (blocks_in f.body)) }
+    ensures link { (fs : Files) (now : Timeval) (from dir : ℕ) (name : List ℕ) (d : File) →
+        IsTrue (has_room fs) → file_at fs dir ≡ Some d → is_directory d.body ≡ true →
+        places fs dir name ≡ None →
+        (IsTrue (has_room (touch now (with_name (touch_ctime now fs from) dir name from) dir))
+        ↔ HasRoomToLink fs (listing_in d.body).next) }
+    ensures write { (fs : Files) (n : ℕ) (change : File → File) (f : File) →
+        IsTrue (has_room fs) → file_at fs n ≡ Some f → listing_in (change f).body ≡ listing_in f.body →
+        (IsTrue (has_room (with_changed_file fs n change))
+        ↔ (block_count fs + blocks_in (change f).body ≤ 32768 + blocks_in f.body)) }
 {}
 
 /// A refusal leaves the files as they were.
