@@ -14,7 +14,7 @@ ghost use Rattle.fs_model.specs.Files.{Files, file_at};
 ghost use Rattle.fs_model.specs.Trees.{IsFileTree};
 ghost use Rattle.fs_changes.specs.Limits.{has_room};
 ghost use Rattle.nfs_spec.specs.Effects.{does, getattr, lookup};
-ghost use Rattle.nfs_spec.specs.Readdir.{DirEntry, dir_entries, page_of, pages, last_cookie, entries_above, RisesAbove, IsLongestFront};
+ghost use Rattle.nfs_spec.specs.Readdir.{PageEntry, dir_entries, page_of, pages, last_cookie, entries_above, RisesAbove, IsLongestFront};
 ghost use Rattle.nfs_spec.specs.Opening.{epoch, hello, opening_files};
 ghost use Rattle.nfs_spec.specs.LawTerms.{lookup_at_path, IsSearchable, stat_of};
 
@@ -114,13 +114,13 @@ pub fn opening_files_are_a_tree()
 /// READDIR's pages, each from the last cookie of the one before, give each entry once and in order; eof says that
 /// none is left; and a page is the longest front whose costs fit.
 pub fn pages_give_each_entry_once()
-    ensures once { (es : List DirEntry) → RisesAbove 0 es → (counts : List ℕ) (cookie : ℕ) →
+    ensures once { (es : List PageEntry) → RisesAbove 0 es → (counts : List ℕ) (cookie : ℕ) →
         entries_above cookie es
         ≡ pages counts cookie es ++ entries_above (last_cookie cookie (pages counts cookie es)) es }
-    ensures eof { (es : List DirEntry) → RisesAbove 0 es → (cookie count : ℕ) →
+    ensures eof { (es : List PageEntry) → RisesAbove 0 es → (cookie count : ℕ) →
         (((page_of cookie count es).eof ≡ true)
         ↔ (entries_above (last_cookie cookie (page_of cookie count es).entries) es ≡ [])) }
-    ensures longest { (es : List DirEntry) (cookie count : ℕ) →
+    ensures longest { (es : List PageEntry) (cookie count : ℕ) →
         IsLongestFront (min count 8192) (entries_above cookie es) (page_of cookie count es).entries }
     ensures rising { (fs : Files) (dir : ℕ) (l : Listing) →
         IsRising 3 l.entries l.next → RisesAbove 0 (dir_entries fs dir l) }
