@@ -1,5 +1,5 @@
 -- Changes of files: one file more, one less, one with other contents, one name more, one less.
-use Rattle.std.specs.Prelude.{◌+◌, List, ℕ}
+use Rattle.std.specs.Prelude.{◌+◌}
 use Rattle.std.specs.Option.{option_map_or}
 use Rattle.std.specs.FinMap as finite
 use Rattle.fs_model.specs.Names.{Name}

@@ -20,9 +20,10 @@ entry_count fs = sum_by (λ f. length (listing_in f.body).entries) (finite.value
 abbrev pub file_count : Files → ℕ
 file_count fs = finite.len fs.files
 
--- no limit is passed: of files, entries and blocks in all, and no number and no cookie above the greatest was given
+-- no limit is passed: of files, entries and blocks in all; and no number and no cookie above the greatest was
+-- given
 abbrev pub has_room : Files → Bool
 has_room fs =
-    nat_le (file_count fs) max_files && (nat_le (entry_count fs) max_entries && (nat_le (block_count fs) max_blocks
-    && (nat_le fs.next (max_number + 1)
+    nat_le (file_count fs) max_files && (nat_le (entry_count fs) max_entries
+    && (nat_le (block_count fs) max_blocks && (nat_le fs.next (max_number + 1)
     && list_all (λ f. nat_le (listing_in f.body).next (max_number + 1)) (finite.values fs.files))))

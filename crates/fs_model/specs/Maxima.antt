@@ -1,4 +1,4 @@
--- The greatest sizes and counts: the protocol's (RFC 1094, sections 2.2.7, 2.3.3 and 2.3.10) and this server's.
+-- The greatest sizes and counts: the protocol's (RFC 1094, section 2.3) and this server's.
 use Rattle.std.specs.Prelude.{ℕ}
 
 -- bytes of a READ, a WRITE or a page of READDIR (MAXDATA)

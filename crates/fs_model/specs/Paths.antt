@@ -19,11 +19,12 @@ path_at at path = walk at (1, 0) path
 -- no directory has two paths
 abbrev pub HasOnePathEach : (FileNumber → Type 0) → Places → Type 0
 HasOnePathEach IsDirectory at =
-    (p q : FilePath) (number : FileNumber) (c d : Cookie) → IsDirectory number → path_at at p ≡ Some (number, c)
-    → path_at at q ≡ Some (number, d) → p ≡ q
+    (p q : FilePath) (number : FileNumber) (c d : Cookie) → IsDirectory number
+    → path_at at p ≡ Some (number, c) → path_at at q ≡ Some (number, d) → p ≡ q
 
 -- one path more
-pub record AddsPath (old new : FilePath → Option Place) (path : FilePath) (number : FileNumber) (cookie : Cookie) : Type 0 where
+pub record AddsPath
+    (old new : FilePath → Option Place) (path : FilePath) (number : FileNumber) (cookie : Cookie) : Type 0 where
   pub free : old path ≡ None
   pub added : new path ≡ Some (number, cookie)
   pub others : (p : FilePath) → p ≢ path → new p ≡ old p
@@ -40,10 +41,12 @@ pub record Renames (old new : FilePath → Option Place) (from to : FilePath) (c
   pub moved : new to ≡ option_map (λ e. (place_number e, cookie)) (old from)
   pub below : (r : FilePath) → r ≢ [] → new (to ++ r) ≡ old (from ++ r)
   pub gone : (r : FilePath) → ((s : FilePath) → from ++ r ≢ to ++ s) → new (from ++ r) ≡ None
-  pub others : (p : FilePath) → ((r : FilePath) → p ≢ to ++ r) → ((r : FilePath) → p ≢ from ++ r) → new p ≡ old p
+  pub others : (p : FilePath)
+      → ((r : FilePath) → p ≢ to ++ r) → ((r : FilePath) → p ≢ from ++ r) → new p ≡ old p
 
 -- The shape of a tree: what is there, what is a directory, what each lists.
-pub record IsTree (IsThere IsDirectory : FileNumber → Type 0) (parent : FileNumber → FileNumber) (at : Places) : Type 0 where
+pub record IsTree
+    (IsThere IsDirectory : FileNumber → Type 0) (parent : FileNumber → FileNumber) (at : Places) : Type 0 where
   pub root : IsDirectory 1
   pub there : (n : ℕ) → IsDirectory n → IsThere n
   pub reached : (n : ℕ) → IsDirectory n → (p : FilePath) × (c : ℕ) × (path_at at p ≡ Some (n, c))

@@ -1,5 +1,5 @@
 -- What it is that files are a tree.
-use Rattle.std.specs.Prelude.{◌≡◌, ◌≢◌, ℕ, ◌<◌, ◌≤◌, IsTrue, IsSome, Some, length}
+use Rattle.std.specs.Prelude.{◌≡◌, ◌≢◌, ◌<◌, ◌≤◌, IsTrue, IsSome, Some, length}
 use Rattle.nfs_types.specs.Timeval.{Timeval}
 use Rattle.fs_model.specs.Listing.{FileNumber, IsRising, HasDistinctNames}
 use Rattle.fs_model.specs.Paths.{IsTree}
@@ -7,8 +7,8 @@ use Rattle.fs_model.specs.Maxima.{max_file_size, max_target, max_name}
 use Rattle.fs_model.specs.Names.{Name, is_name}
 use Rattle.fs_model.specs.Files.{Body, Regular, Symlink, Directory, File, Files, file_at, IsDirectory, places, parent_of, names_of}
 
--- a body is within its limit, in bytes; the cookies of a directory rise from 3 to below the next, and its names
--- differ
+-- a body is within its limit, in bytes; the cookies of a directory rise from 3 to below the next, and its
+-- names differ
 abbrev pub IsBody : Body → Type 0
 IsBody (Regular bytes) = length bytes ≤ max_file_size
 IsBody (Symlink target) = length target ≤ max_target
@@ -31,5 +31,6 @@ pub record IsFileTree (fs : Files) : Type 0 where
   pub directories : (n : FileNumber) → n ≢ 1 → IsDirectory fs n → names_of fs n ≡ 1
   pub named : (n : FileNumber) → n ≢ 1 → IsSome (file_at fs n) → 0 < names_of fs n
   pub numbers : (n : FileNumber) → IsSome (file_at fs n) → (1 ≤ n) × (n < fs.next)
-  pub names : (n : FileNumber) (name : Name) → IsSome (places fs n name) → IsTrue (is_name name) × (length name ≤ max_name)
+  pub names : (n : FileNumber) (name : Name) → IsSome (places fs n name)
+      → IsTrue (is_name name) × (length name ≤ max_name)
   pub files : (n : FileNumber) (f : File) → file_at fs n ≡ Some f → IsFile f

@@ -35,7 +35,7 @@ longest count (e ∷ es) = by (leb (cost e) count) refl (longest (count - cost e
     }
 
 -- all are above what the first is above
-all_above : (c low : ℕ) (es : List PageEntry) → c ≤ low → RisesAbove low es → entries_above c es ≡ es
+pub all_above : (c low : ℕ) (es : List PageEntry) → c ≤ low → RisesAbove low es → entries_above c es ≡ es
 all_above c low [] le up = refl
 all_above c low (e ∷ es) le up =
     cond-true _ _ _ (lt-ltb c e.cookie (omega (arith, le, up.0))) ∙ ap (λ l. e ∷ l) (all_above c e.cookie es (omega (arith, le, up.0)) up.1)
@@ -67,7 +67,8 @@ behind : (low : ℕ) (es : List PageEntry) → RisesAbove low es → (c : ℕ) (
 behind low es up c [] rest h = h
 behind low es up c (e ∷ some) rest h = behind low es up e.cookie some rest (next_above low c es up e (some ++ rest) h)
 
-last-append : (c : ℕ) (some rest : List PageEntry) → last_cookie c (some ++ rest) ≡ last_cookie (last_cookie c some) rest
+-- the last cookie of two lists, one after the other
+pub last-append : (c : ℕ) (some rest : List PageEntry) → last_cookie c (some ++ rest) ≡ last_cookie (last_cookie c some) rest
 last-append c [] rest = refl
 last-append c (e ∷ some) rest = last-append e.cookie some rest
 

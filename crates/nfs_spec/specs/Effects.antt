@@ -1,6 +1,6 @@
--- What each procedure does (RFC 1094, section 2.2): its result, and the files after it. The stat is that of the
--- first check that fails, in the order written, and then the files are as before.
-use Rattle.std.specs.Prelude.{ℕ, List, Option, Some, None, Result, Ok, Err, option_map, nat_eq, if◌then◌else◌}
+-- What each procedure does (RFC 1094, section 2.2): its result, and the files after it. The stat is that of
+-- the first check that fails, in the order written, and then the files are as before.
+use Rattle.std.specs.Prelude.{Option, Some, None, Result, Ok, Err, option_map, nat_eq, if◌then◌else◌}
 use Rattle.std.specs.Cmp.Lexicographic.{pointwise}
 use Rattle.nfs_types.specs.Timeval.{Timeval}
 use Rattle.nfs_types.specs.Caller.{Caller}
@@ -24,8 +24,8 @@ attributes_at fs n = do
   f ← file_of fs n
   Ok (attributes_of fs n f)
 
--- the number that a name stands for in a directory, by its own number, the one above and what it lists: `.` is itself,
--- and `..` the directory above
+-- the number that a name stands for in a directory, by its own number, the one above and what it lists: `.` is
+-- itself, and `..` the directory above
 abbrev pub number_in_listing : FileNumber → FileNumber → Listing → Name → Option FileNumber
 number_in_listing own above l name =
     if pointwise nat_eq name dot then Some own

@@ -1,5 +1,5 @@
 -- What the laws of effects speak of.
-use Rattle.std.specs.Prelude.{◌≡◌, ℕ, List, Option, Some, None, IsTrue, Result, Ok, Err}
+use Rattle.std.specs.Prelude.{◌≡◌, Option, Some, None, IsTrue, Result, Ok, Err}
 use Rattle.nfs_types.specs.Caller.{Caller}
 use Rattle.nfs_types.specs.Handle.{FileHandle, number_in, handle_of}
 use Rattle.nfs_types.specs.Results.{Results, Null, Attributes, DirOp}

@@ -1,4 +1,5 @@
--- What each call does to a server's files (RFC 1094, section 2.2): its answer, and the files after it. Arguments that mean nothing (READ's totalcount, WRITE's beginoffset and totalcount) are left out.
+-- What each call does to a server's files (RFC 1094, section 2.2): its answer, and the files after it. Arguments
+-- that mean nothing (READ's totalcount, WRITE's beginoffset and totalcount) are left out.
 use Rattle.std.specs.Prelude.{ℕ, List, Result, Ok, Err, unwrap_or}
 use Rattle.nfs_types.specs.Timeval.{Timeval}
 use Rattle.nfs_types.specs.Caller.{Caller}
@@ -86,7 +87,8 @@ call_does fs who now (Setattr file s) =
 call_does fs who now Root = (Nothing, fs)
 call_does fs who now (Lookup dir name) = (DirOp (lookup fs who dir name), fs)
 call_does fs who now (Readlink file) = (Target (tree.read_link fs (number_for fs file)), fs)
-call_does fs who now (Read file offset count) = (Bytes (tree.read fs who (number_for fs file) offset count), fs)
+call_does fs who now (Read file offset count) =
+    (Bytes (tree.read fs who (number_for fs file) offset count), fs)
 call_does fs who now Writecache = (Nothing, fs)
 call_does fs who now (Write file offset new) =
     answer_and_files Attributes fs (with_attributes (number_for fs file)
@@ -97,7 +99,8 @@ call_does fs who now (Create dir name s) =
 call_does fs who now (Remove dir name) =
     answer_and_files Status fs (tree.remove fs who now (number_for fs dir) name)
 call_does fs who now (Rename from from_name to to_name) =
-    answer_and_files Status fs (tree.rename fs who now (number_for fs from) from_name (number_for fs to) to_name)
+    answer_and_files Status fs
+    (tree.rename fs who now (number_for fs from) from_name (number_for fs to) to_name)
 call_does fs who now (Link from dir name) =
     answer_and_files Status fs (tree.link fs who now (number_for fs from) (number_for fs dir) name)
 call_does fs who now (Symlink dir name target s) =

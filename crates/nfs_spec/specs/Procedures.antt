@@ -1,5 +1,5 @@
--- What each procedure does to numbered files (RFC 1094, section 2.2): its checks in the order written, each with
--- its stat, then its effect.
+-- What each procedure does to numbered files (RFC 1094, section 2.2): its checks in the order written, each
+-- with its stat, then its effect.
 use Rattle.std.specs.Prelude.{ℕ, zero, suc, ◌+◌, ◌-◌, ◌==◌, ◌||◌, ◌&&◌, not, Bool, true, false, List, [], take, drop, length, replicate, min, Option, Some, None, Result, Ok, option_map, is_some, unwrap_or, if◌then◌else◌}
 use Rattle.std.specs.Option.{option_map_or}
 use Rattle.nfs_types.specs.Timeval.{Timeval}
@@ -82,7 +82,8 @@ abbrev pub create_new : Files → Caller → Timeval → NumberedDir → Name �
 create_new fs who now d name a = do
   _ ← check (may_write who d.file) stats.Acces
   _ ← check_size (unwrap_or a.size 0)
-  let after = add_file now fs d.number name (new_file who now a 0o644 (Regular (replicate (unwrap_or a.size 0) 0)))
+  let zeros = replicate (unwrap_or a.size 0) 0
+  let after = add_file now fs d.number name (new_file who now a 0o644 (Regular zeros))
   _ ← check_room after
   Ok (fs.next, after)
 
@@ -93,7 +94,7 @@ create fs who now dir name a = do
   _ ← check (is_name name) stats.Acces
   _ ← check (may_search who d.file) stats.Acces
   option_map_or (λ e. create_over fs who now a (place_number e)) (entry_at d.listing name)
-    (create_new fs who now d name a)
+      (create_new fs who now d name a)
 
 -- a new file that needs Edit, a free name and Room
 abbrev pub make : Files → Caller → Timeval → FileNumber → Name → File → Effect FileNumber
@@ -173,9 +174,11 @@ unlink_target now fs dir name target =
     record fs { files = option_map_or (λ n. (unlink now fs dir name n).files) target fs.files }
 
 -- the entry comes last in its new directory, with a new cookie
-abbrev pub move_entry : Timeval → Files → FileNumber → FileNumber → Name → FileNumber → Name → Option FileNumber → Files
+abbrev pub move_entry :
+    Timeval → Files → FileNumber → FileNumber → Name → FileNumber → Name → Option FileNumber → Files
 move_entry now fs n from from_name to to_name target =
-    let moved = with_name (without_name (unlink_target now fs to to_name target) from from_name) to to_name n in
+    let left = without_name (unlink_target now fs to to_name target) from from_name in
+    let moved = with_name left to to_name n in
     touch now (touch now (touch_ctime now moved n) from) to
 
 -- RENAME (section 2.2.12); where the target is the same file, nothing changes

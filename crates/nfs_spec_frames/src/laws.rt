@@ -13,6 +13,7 @@ ghost use Rattle.nfs_spec_steps.specs.Answers.{refusal_in};
 ghost use Rattle.nfs_spec_frames.specs.Named.{IsNoneOf, named_by, files_made, set_by, written_by, KeepsKind, KeepsAttributes, KeepsBytes, KeepsAt};
 ghost use Rattle.nfs_spec_frames.specs.Done.{Did};
 ghost use Rattle.nfs_spec_frames.specs.Gone.{IsGone, HasOneNameLess};
+ghost use Rattle.nfs_spec_trees.specs.Anew.{GivesAnew};
 ghost use Rattle.nfs_spec_frames.specs.Runs.{Request, files_after, AreBounded};
 
 /// What a call doesn't name stays: the node's number, the next number but where a file was made, and every
@@ -57,6 +58,14 @@ pub fn runs_keep_a_tree_within_its_limits()
     ensures opening { (fsid : ℕ) (requests : List Request) → AreBounded requests →
         IsFileTree (files_after (opening_files fsid) requests)
         × IsTrue (has_room (files_after (opening_files fsid) requests)) }
+{}
+
+/// Over calls one after the other too numbers and cookies are never used again: what is there after them was
+/// there before, or has a number not given before; an entry of a directory was in it, or has a cookie not given
+/// in it before.
+pub fn runs_give_nothing_again()
+    ensures { (fs : Files) (requests : List Request) → IsFileTree fs → AreBounded requests →
+        GivesAnew fs (files_after fs requests) }
 {}
 
 /// REMOVE of a file's last name takes the file away, so that no path leads to its number; RMDIR takes the
