@@ -1,8 +1,6 @@
-pub mod CallCases
 pub mod UnnamedFiles
 pub mod BeforeAndAfter
 pub mod KeptParts
 pub mod Runs
-pub mod RunsGiveAnew
 pub mod CallEffects
 pub mod LastName
