@@ -1,27 +1,31 @@
--- A roster's members as a text, one after the other, and the member with a number.
+-- A roster's members as a text, one after the other; the member with a number; and that members have no
+-- fault exactly where they fit and rise.
+-- Serves: Roster::write by add_members, Roster::new, Checked::vouch (authenticator).
 use Rattle.std.proofs.Common.{◌≡◌, ◌==◌, ℕ, Bool, true, false, cond, List, [], ◌∷◌, ◌++◌, length, Result, Ok, Err, Option, Some, None, refl, sym, ap, ◌∙◌, append_assoc}
 use Rattle.std.specs.Prelude.{IsTrue, ◌&&◌, nat_lt}
 use Rattle.std.proofs.lemmas.Bool.{eqb-true}
 use Rattle.std.proofs.lemmas.List.{length-map}
 use Rattle.std.specs.List.{flat_map}
-use Rattle.xdr.specs.Item.{array, spelling, number_spelling}
+use Rattle.xdr.specs.Item.{spelling, number_spelling}
 use Rattle.xdr.specs.Writing.{Adds}
 use Rattle.authenticator.specs.declared.member.Member.{Member}
 use Rattle.authenticator.specs.declared.refusal.RosterFault.{RosterFault}
 use Rattle.authenticator.specs.declared.refusal.RosterFault.TheVariants.{BadNumber, BadHeight, NotRising}
-use Rattle.authenticator.specs.Roster.{member_item, member_value, roster_value, is_node, is_height, rises_above, EachFits, first_of, first_fault, member_of}
+use Rattle.authenticator.specs.Roster.{member_item, member_value, roster_item, roster_value, is_node, is_height, rises_above, EachFits, first_of, first_fault, member_of}
 
 -- the members' texts
 abbrev pub texts : List Member → List ℕ
 texts ms = flat_map (λ m. spelling member_item (member_value m)) ms
 
+-- the same over the members' values
 members_text : (ms : List Member) → texts ms ≡ flat_map (spelling member_item) (roster_value ms)
 members_text [] = refl
 members_text (m ∷ ms) = ap (λ x. spelling member_item (member_value m) ++ x) (members_text ms)
 
 -- their texts behind their count
-pub counted : {E : Type 0} (ms : List Member) (old first new : List ℕ) (r : Result (Unit {0}) E) → first ≡ old ++ number_spelling 4 (length ms)
-    → Adds (texts ms) first r new → Adds (spelling (array 64 member_item) (roster_value ms)) old r new
+pub counted : {E : Type 0} (ms : List Member) (old first new : List ℕ) (r : Result (Unit {0}) E)
+    → first ≡ old ++ number_spelling 4 (length ms)
+    → Adds (texts ms) first r new → Adds (spelling roster_item (roster_value ms)) old r new
 counted ms old first new (Ok x) e h =
     let same : length (roster_value ms) ≡ length ms = length-map ms member_value in
     rw (same, ← members_text ms) (h ∙ ap (λ a. a ++ texts ms) e ∙ append_assoc old (number_spelling 4 (length ms)) (texts ms))

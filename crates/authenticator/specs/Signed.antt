@@ -26,6 +26,7 @@ IsSignedIn ms a = IsSomeAnd (member_of ms a.node) (λ m. IsSignedBy m a)
 abbrev pub authenticator_item : Item
 authenticator_item = pair word (pair number_item (pair (fixed 32) signature_item))
 
+-- what the text says
 abbrev pub authenticator_value : Authenticator → Value authenticator_item
 authenticator_value a = (a.node, (a.number, (a.hash, signature_value a.signature)))
 

@@ -14,12 +14,17 @@ use sha2::{Digest, Sha256};
 use std::alloc::{AllocError, Global};
 use xdr::{FromText, FromXdr, ReadError, Reader, Writer, put_back_on_err};
 
-/// A node's word, by its signature, that its log has this hash at this number.
+/// A node's word, by its signature, that its log has this hash at this number. Nothing is checked of it:
+/// `check` makes a `Checked` value of one that is a member's and signed.
 #[derive(Drop)]
 pub struct Authenticator {
+    /// The number of the node that signs.
     pub node: u32,
+    /// The place in its log.
     pub number: Number,
+    /// The hash of its log there.
     pub hash: [u8; 32],
+    /// Its signature of `signed_digest` of these.
     pub signature: Signature,
 }
 
@@ -35,6 +40,7 @@ pub fn signed_digest(node: u32, number: Number, hash: &[u8; 32]) -> [u8; 32]
     text.finalize()
 }
 
+/// The number in four bytes, high byte first.
 #[tactic(auto, unfolding(xdr::specs::Item::number_spelling))]
 fn word_text(word: u32) -> [u8; 4]
     ensures { result ≡ number_spelling 4 word }
@@ -42,6 +48,7 @@ fn word_text(word: u32) -> [u8; 4]
     word.to_be_bytes()
 }
 
+/// The number in eight bytes, high byte first.
 #[tactic(auto, unfolding(xdr::specs::Item::number_spelling))]
 fn hyper_text(hyper: u64) -> [u8; 8]
     ensures { result ≡ number_spelling 8 hyper }
@@ -111,7 +118,8 @@ impl Authenticator {
     /// Appends the text. Where memory was refused the bytes are as they were.
     pub fn write(&self, out: &mut Vec<u8>) -> Result<(), AllocError>
         ensures fits { OnOk result (Fits authenticator_item (authenticator_value self.now)) }
-        ensures text { Writes authenticator_item (authenticator_value self.now) out.old.items result out.new.items }
+        ensures text { Writes authenticator_item (authenticator_value self.now)
+            out.old.items result out.new.items }
     {
         let start = out.len();
         match add_fields(self, out) {
@@ -126,7 +134,8 @@ impl Authenticator {
 
 fn add_fields(authenticator: &Authenticator, out: &mut Vec<u8>) -> Result<(), AllocError>
     ensures fits { OnOk result (Fits authenticator_item (authenticator_value authenticator.now)) }
-    ensures text { Adds (spelling authenticator_item (authenticator_value authenticator.now)) out.old.items result out.new.items }
+    ensures text { Adds (spelling authenticator_item (authenticator_value authenticator.now))
+        out.old.items result out.new.items }
 {
     out.put_u32(authenticator.node)?;
     authenticator.number.write(out)?;

@@ -13,12 +13,12 @@ use crate::roster::Roster;
 use std::alloc::Global;
 use xdr::{TextError, read_text};
 
-/// A value that shows what a node signed.
+/// A value that shows what a node signed: an authenticator, or what one is made of.
 pub trait Signs: Drop {
     /// The node's authenticator that the value shows.
     ghost shows: { Self → Authenticator };
 
-    /// The node that signs.
+    /// The number of the node that signs.
     fn signer(&self) -> u32
         ensures { result ≡ (shows self.now).node };
 }
@@ -41,8 +41,8 @@ pub struct Checked<T: Signs> {
 }
 
 impl<T: Signs> Checked<T> {
-    #[tactic(auto, using(crate::proofs::Members::member_node))]
     /// The value, checked already: by `is_signed_by` or the like. It tests nothing.
+    #[tactic(auto, using(crate::proofs::Members::member_node))]
     pub fn vouch(roster: &Roster, value: T) -> Checked<T>
         requires { IsSignedIn roster.now (T.shows value) }
         ensures value { result.value ≡ value }
@@ -77,8 +77,9 @@ impl<T: Signs> Checked<T> {
     }
 }
 
-/// Checks an authenticator's text: `Garbage` where it is none, else `UnknownNode` where the node that it names is no
-/// member, else `BadSignature` where that one didn't sign it. `NoMemory` comes only where a growth was refused.
+/// Checks an authenticator's text: `Garbage` where it is none, else `UnknownNode` where the node that it
+/// names is no member, else `BadSignature` where that one didn't sign it. `NoMemory` comes only where a
+/// growth was refused.
 pub fn check(
     alloc: Global,
     roster: &Roster,

@@ -1,4 +1,4 @@
-//! Rosters, authenticators, and facts that are checked to be signed.
+//! Rosters, authenticators, and values that are checked to be signed.
 #![tactic(auto)]
 
 mod authenticator;
@@ -12,7 +12,7 @@ mod tests;
 
 pub use authenticator::{Authenticator, is_signed_by, signed_digest};
 pub use checked::{Checked, Signs, check};
-pub use member::{Kind, Member};
+pub use member::{Kind, MAX_NODE, Member};
 pub use number::Number;
 pub use refusal::{Refusal, RosterFault};
-pub use roster::Roster;
+pub use roster::{MAX_MEMBERS, Roster};

@@ -7,20 +7,26 @@ ghost use Rattle.xdr.specs.ReadError.{xdr_fault};
 ghost use Rattle.xdr.specs.Writing.{Adds, Writes};
 ghost use Rattle.authenticator.specs.Roster.{kind_number, is_node, is_kind, is_height, member_item, member_value};
 
+use merkle_keys::MAX_HEIGHT;
 use std::alloc::{AllocError, Global};
 use xdr::{FromXdr, ReadError, Reader, Writer, XdrFault, all_or_nothing, put_back_on_err};
 
-/// What a member does.
+/// What a node does in the service.
 #[derive(Clone, Copy, Debug, PartialEq, Eq)]
 pub enum Kind {
+    /// It serves files.
     Server = 1,
+    /// It calls a server.
     Client = 2,
 }
 
-/// A member of a roster. A roster's members have numbers from 1 to 64 and heights from 1 to 16.
+/// What a roster says of a node. The members of a roster have numbers from 1 to `MAX_NODE` and heights from
+/// 1 to `merkle_keys::MAX_HEIGHT`; a member by itself may have any.
 #[derive(Clone, Copy, Debug, PartialEq, Eq)]
 pub struct Member {
+    /// The node's number.
     pub node: u32,
+    /// What the node does.
     pub kind: Kind,
     /// The public key: the root of its tree of keys.
     pub root: [u8; 32],
@@ -29,10 +35,7 @@ pub struct Member {
 }
 
 /// The greatest number of a member.
-pub(crate) const MAX_NODE: u32 = 64;
-
-/// The greatest height of a tree of keys.
-pub(crate) const MAX_HEIGHT: u32 = 16;
+pub const MAX_NODE: u32 = 64;
 
 impl<'a> FromXdr<'a> for Member {
     ghost item = { member_item };

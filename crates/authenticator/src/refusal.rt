@@ -38,8 +38,8 @@ impl Refusal {
     }
 }
 
-/// Why members are no roster: `TooMany` before the others, which are told of the first member that has one, in this
-/// order.
+/// Why members are no roster: `TooMany` before the others, which are of the first member that has a fault, in
+/// this order.
 #[derive(Clone, Copy, Debug, PartialEq, Eq, Error)]
 pub enum RosterFault {
     /// There are more than 64 members.

@@ -2,20 +2,22 @@
 
 ghost use Rattle.std.specs.Prelude.{◌≡◌, IfOk, MatchResult, ◌↔◌, IsTrue, IsOk, IfNone, Some, None, map, List};
 ghost use Rattle.std.specs.List.{flat_map};
-ghost use Rattle.xdr.specs.Item.{Value, Fits, spelling, array};
+ghost use Rattle.xdr.specs.Item.{Value, Fits, spelling};
 ghost use Rattle.xdr.specs.Text.{IsText, GivesText};
 ghost use Rattle.xdr.specs.TextError.{is_no_text};
 ghost use Rattle.xdr.specs.declared.text.TextError.TheVariants.{NoMemory};
 ghost use Rattle.xdr.specs.Writing.{Writes, Adds};
-ghost use Rattle.authenticator.specs.Roster.{member_item, member_value, roster_text, roster_value, rises_above, IsRoster, EachFits, member_fault, first_fault, roster_fault, member_of};
+ghost use Rattle.authenticator.specs.Roster.{member_item, member_value, roster_item, roster_text, roster_value, rises_above, IsRoster, EachFits, member_fault, first_fault, roster_fault, member_of};
 
-use crate::member::{MAX_HEIGHT, MAX_NODE, Member, write_member};
+use crate::member::{MAX_NODE, Member, write_member};
 use crate::refusal::RosterFault;
+use merkle_keys::MAX_HEIGHT;
 use std::alloc::{AllocError, Global};
 use std::marker::Model;
 use xdr::{FromText, ReadError, Reader, TextError, Writer, all_or_nothing, read_array, read_text};
 
-/// The members of a service: at most 64, by rising numbers from 1 to 64, at heights from 1 to 16.
+/// The members of a service: at most `MAX_MEMBERS`, by rising numbers from 1 to `MAX_NODE`, with heights
+/// from 1 to `merkle_keys::MAX_HEIGHT`.
 #[derive(Drop)]
 pub struct Roster {
     members: Vec<Member>,
@@ -34,9 +36,9 @@ impl Model for Roster {
 }
 
 /// The most members of a roster.
-const MAX_MEMBERS: u32 = 64;
+pub const MAX_MEMBERS: u32 = 64;
 
-// What a roster's text may hold, but for the order.
+// The members that a roster's text holds, before their order is tested.
 #[derive(Drop)]
 struct Members {
     members: Vec<Member>,
@@ -53,12 +55,12 @@ impl<'a> FromText<'a> for Members {
     }
 
     fn has_text(&self) -> bool {
-        rise(&self.members)
+        are_rising(&self.members)
     }
 }
 
 /// Whether each number is above the one before.
-fn rise(members: &[Member]) -> bool
+fn are_rising(members: &[Member]) -> bool
     ensures { result ≡ rises_above 0 (roster_value members.now) }
 {
     let mut low = 0;
@@ -126,13 +128,15 @@ fn same_members(own: &[Member], others: &[Member]) -> bool
 }
 
 impl Roster {
-    /// The roster of these members, in this order. `TooMany` comes where they are more than 64, else the fault of the
-    /// first member that has one: `BadNumber` where its number isn't from 1 to 64, else `BadHeight` where its height
-    /// isn't from 1 to 16, else `NotRising` where its number isn't above the one before. Takes no memory.
+    /// The roster of these members, in this order. `TooMany` comes where they are more than 64, else the
+    /// fault of the first member that has one: `BadNumber` where its number isn't from 1 to 64, else
+    /// `BadHeight` where its height isn't from 1 to 16, else `NotRising` where its number isn't above the
+    /// one before. Takes no memory.
     pub fn new(members: Vec<Member>) -> Result<Roster, RosterFault>
         ensures members { IfOk result (λ r. r ≡ members.items) }
         ensures exact { IsOk result ↔ IsRoster members.items }
-        ensures fault { MatchResult result (λ _. roster_fault members.items ≡ None) (λ e. roster_fault members.items ≡ Some e) }
+        ensures fault { MatchResult result
+            (λ _. roster_fault members.items ≡ None) (λ e. roster_fault members.items ≡ Some e) }
     {
         if members.len() > MAX_MEMBERS as usize {
             return Err(RosterFault::TooMany);
@@ -143,12 +147,13 @@ impl Roster {
         }
     }
 
-    /// The roster whose text the bytes are. `NotAText` comes exactly where they are the text of none, `NoMemory`
-    /// only where a growth was refused.
+    /// The roster whose text the bytes are. `NotAText` comes exactly where they are the text of none,
+    /// `NoMemory` only where a growth was refused.
     pub fn read(alloc: Global, bytes: &[u8]) -> Result<Roster, TextError>
         ensures exact { GivesText is_no_text roster_text roster_value bytes.now result }
         ensures found { IfOk result (λ r. IsText roster_text (roster_value r) bytes.now) }
-        ensures only { (v : Value roster_text.item) → IsText roster_text v bytes.now → MatchResult result (λ r. roster_value r ≡ v) (λ e. e ≡ NoMemory) }
+        ensures only { (v : Value roster_text.item) → IsText roster_text v bytes.now →
+            MatchResult result (λ r. roster_value r ≡ v) (λ e. e ≡ NoMemory) }
     {
         let Members { members } = read_text(alloc, bytes)?;
         Ok(Roster { members })
@@ -165,7 +170,7 @@ impl Roster {
         all_or_nothing(out, start, written)
     }
 
-    /// A copy.
+    /// A copy. Takes memory once.
     pub fn try_clone(&self, alloc: Global) -> Result<Roster, AllocError>
         ensures { IfOk result (λ r. r ≡ self.now) }
     {
@@ -180,14 +185,14 @@ impl Roster {
         same_members(&self.members, &other.members)
     }
 
-    /// The members.
+    /// The members, by rising numbers.
     pub fn members(&self) -> &[Member]
         ensures { result.now ≡ self.now }
     {
         &self.members
     }
 
-    /// The member with a number.
+    /// The member with a node's number. It looks at one member after the other.
     pub fn member(&self, node: u32) -> Option<Member>
         ensures { result ≡ member_of self.now node }
     {
@@ -195,6 +200,7 @@ impl Roster {
     }
 }
 
+/// The first member with this number.
 fn find_member(members: &[Member], node: u32) -> Option<Member>
     ensures { result ≡ member_of members.now node }
 {
@@ -206,16 +212,19 @@ fn find_member(members: &[Member], node: u32) -> Option<Member>
     None
 }
 
+/// Appends the count and each member's text.
 fn add_members(members: &[Member], out: &mut Vec<u8>) -> Result<(), AllocError>
-    requires { Fits (array 64 member_item) (roster_value members.now) }
-    ensures { Adds (spelling (array 64 member_item) (roster_value members.now)) out.old.items result out.new.items }
+    requires { Fits roster_item (roster_value members.now) }
+    ensures { Adds (spelling roster_item (roster_value members.now)) out.old.items result out.new.items }
 {
     out.put_u32(members.len() as u32)?;
     add_each(members, out)
 }
 
+/// Appends each member's text.
 fn add_each(members: &[Member], out: &mut Vec<u8>) -> Result<(), AllocError>
-    ensures { Adds (flat_map (λ m. spelling member_item (member_value m)) members.now) out.old.items result out.new.items }
+    ensures { Adds (flat_map (λ m. spelling member_item (member_value m)) members.now)
+        out.old.items result out.new.items }
 {
     for member in members {
         write_member(member, out)?;

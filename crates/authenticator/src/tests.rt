@@ -102,7 +102,8 @@ fn wrong_at(
     None
 }
 
-// The first of the places of node, number, hash and leaf whose lowest bit, changed, gets another answer than it should.
+// The first of the places of node, number, hash and leaf whose lowest bit, changed, gets another answer
+// than it should.
 fn wrong_in_front(alloc: Global, roster: &Roster, text: &mut [u8]) -> Option<usize> {
     for place in 0..48usize {
         let wanted = if place < 4 {
@@ -170,8 +171,8 @@ fn changed_texts(rt: HostRuntime) -> Result<(), Fail> {
     Ok(())
 }
 
-// What `check` answers to authenticators of node 1 and of node 2 under the roster of a text, if it is one's; and whether
-// the roster's own text is the same.
+// What `check` answers to authenticators of node 1 and of node 2 under the roster of a text, if it is
+// one's; and whether the roster's own text is the same.
 fn answers(
     alloc: Global,
     text: &[u8],
@@ -188,8 +189,8 @@ fn answers(
     Ok(Some((by_first, by_second, again.as_slice() == text)))
 }
 
-// What they have to be where the lowest bit of a byte of a roster of two is changed: the roots may be any bytes, and the
-// second number may be 3, but nothing else leaves a roster.
+// What they have to be where the lowest bit of a byte of a roster of two is changed: the roots may be any
+// bytes, and the second number may be 3, but nothing else leaves a roster.
 fn wanted_at(place: usize) -> Option<(Option<Refusal>, Option<Refusal>, bool)> {
     match place {
         12..44 => Some((Some(Refusal::BadSignature), None, true)),
@@ -315,8 +316,9 @@ fn roster_faults(rt: HostRuntime) -> Result<(), AllocError> {
     Ok(())
 }
 
-// An authenticator's text at height 1 with its path gone on to height 16, put together by hand: the leaf's number has more
-// bits, and behind the one node stand 15 that are made up. With it the root to which they lead.
+// An authenticator's text at height 1 with its path gone on to height 16, put together by hand: the leaf's
+// number has more bits, and behind the one node stand 15 that are made up. With it the root to which they
+// lead.
 fn raised(
     alloc: Global,
     low: &[u8],
@@ -382,7 +384,8 @@ fn changed_at_greatest_height(rt: HostRuntime) -> Result<(), Fail> {
     let (mut text, root) = raised(rt.alloc(), &low, signer.root(), 0xa954)?;
     let members = Vec::from_slice(rt.alloc(), &[member(1, Kind::Client, root, 16)])?;
     let roster = Roster::new(members)?;
-    // The leaf's number: 2 to the 16 and more, another bit 15, another bit 0. Fifteen and seventeen nodes, and other nodes.
+    // The leaf's number: 2 to the 16 and more, another bit 15, another bit 0. Fifteen and seventeen nodes,
+    // and other nodes.
     let table = [
         (45, 1, Refusal::BadSignature),
         (46, 0x80, Refusal::BadSignature),

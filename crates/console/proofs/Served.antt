@@ -1,6 +1,6 @@
 -- Records and replies, one after the other.
 use Rattle.std.proofs.Common.{◌≡◌, ◌⊎◌, inl, inr, ℕ, ◌+◌, List, [], ◌∷◌, ◌++◌, arith, length, sym, ap, ◌∙◌, refl, length-append, append_assoc, subst}
-use Rattle.std.specs.Prelude.{Option, Some, None, IfSome}
+use Rattle.std.specs.Prelude.{Option, Some, None, IfSome, Result, Err}
 use Rattle.std.specs.Io.KnownBytes.{Consumes, Appends}
 use Rattle.std.proofs.KnownBytes.{Consumes-trans, Consumes-nil, Appends-trans, Appends-nil}
 use Rattle.std.proofs.lemmas.List.{append-nil}
@@ -10,17 +10,17 @@ use Rattle.records.specs.Writing.{WritesFront}
 use Rattle.records.proofs.Streams.{AreRecords-push}
 use Rattle.records.specs.declared.fault.RecordFault.{RecordFault}
 use Rattle.records.specs.declared.fault.RecordFault.TheVariants as faults
-use Rattle.records.specs.Reading.{FailsUnless}
+use Rattle.records.specs.Reading.{FailsUnless, StopsAt, TakesToLimit, TakesAll, fault_after}
 use Rattle.nfs_types.specs.Timeval.{Timeval}
 use Rattle.service.specs.World.{World, opening_world}
 use Rattle.service.specs.Replies.{reply_owed, world_after}
 use Rattle.service.specs.Owed.{record_of, replies_owed, world_after_all}
-use Rattle.console.specs.RunRpc.{time_of, timed, owed, Serves, ServesUpTo, ServesPart, EndsWith}
+use Rattle.console.specs.RunRpc.{time_of, with_times, text_owed, Serves, ServesUpTo, ServesPart, EndsWith, StopsBetweenRecords, StopsInReply, StopsAfterRecords, LeavesOff}
 
-timed-push : (k : ℕ) (rs : List (List ℕ)) (r : List ℕ) → timed k (rs ++ r ∷ []) ≡ timed k rs ++ (time_of (k + length rs), r) ∷ []
-timed-push k [] r = let e : k + 0 ≡ k = omega arith in rw e refl
-timed-push k (s ∷ rs) r =
-    let e : k + length (s ∷ rs) ≡ (k + 1) + length rs = omega arith in rw e (ap (λ (cs : List (Timeval × List ℕ)). (time_of k, s) ∷ cs) (timed-push (k + 1) rs r))
+with_times-push : (k : ℕ) (rs : List (List ℕ)) (r : List ℕ) → with_times k (rs ++ r ∷ []) ≡ with_times k rs ++ (time_of (k + length rs), r) ∷ []
+with_times-push k [] r = let e : k + 0 ≡ k = omega arith in rw e refl
+with_times-push k (s ∷ rs) r =
+    let e : k + length (s ∷ rs) ≡ (k + 1) + length rs = omega arith in rw e (ap (λ (cs : List (Timeval × List ℕ)). (time_of k, s) ∷ cs) (with_times-push (k + 1) rs r))
 
 replies_owed-push : (w : World) (cs : List (Timeval × List ℕ)) (time : Timeval) (r : List ℕ)
     → replies_owed w (cs ++ (time, r) ∷ []) ≡ replies_owed w cs ++ record_of (reply_owed (world_after_all w cs) time r)
@@ -35,13 +35,13 @@ world_after_all-push w (c ∷ cs) time r = world_after_all-push (world_after w c
 
 -- the world after some records
 abbrev pub world_at : List (List ℕ) → World
-world_at records = world_after_all (opening_world 1) (timed 1 records)
+world_at records = world_after_all (opening_world 1) (with_times 1 records)
 
 pub world_at-push : (rs : List (List ℕ)) (r : List ℕ) → world_at (rs ++ r ∷ []) ≡ world_after (world_at rs) (time_of (1 + length rs)) r
-world_at-push rs r = ap (world_after_all (opening_world 1)) (timed-push 1 rs r) ∙ world_after_all-push (opening_world 1) (timed 1 rs) (time_of (1 + length rs)) r
+world_at-push rs r = ap (world_after_all (opening_world 1)) (with_times-push 1 rs r) ∙ world_after_all-push (opening_world 1) (with_times 1 rs) (time_of (1 + length rs)) r
 
-pub owed-push : (rs : List (List ℕ)) (r : List ℕ) → owed (rs ++ r ∷ []) ≡ owed rs ++ record_of (reply_owed (world_at rs) (time_of (1 + length rs)) r)
-owed-push rs r = ap (replies_owed (opening_world 1)) (timed-push 1 rs r) ∙ replies_owed-push (opening_world 1) (timed 1 rs) (time_of (1 + length rs)) r
+pub text_owed-push : (rs : List (List ℕ)) (r : List ℕ) → text_owed (rs ++ r ∷ []) ≡ text_owed rs ++ record_of (reply_owed (world_at rs) (time_of (1 + length rs)) r)
+text_owed-push rs r = ap (replies_owed (opening_world 1)) (with_times-push 1 rs r) ∙ replies_owed-push (opening_world 1) (with_times 1 rs) (time_of (1 + length rs)) r
 
 -- these records were read, and their replies written
 pub record Progress (now : World) (k : ℕ) (before mid written_before written : Option (List ℕ)) : Type 0 where
@@ -51,7 +51,7 @@ pub record Progress (now : World) (k : ℕ) (before mid written_before written :
   pub count_is : 1 + length records ≡ k
   pub taken : Consumes before mid text
   pub world_is : now ≡ world_at records
-  pub replied : Appends written_before written (owed records)
+  pub replied : Appends written_before written (text_owed records)
 
 pub begins : (now : World) (before written : Option (List ℕ)) → now ≡ opening_world 1 → Progress now 1 before before written written
 begins now before written e = record { records = []; text = []; are_records = refl; count_is = refl; taken = Consumes-nil before; world_is = e; replied = Appends-nil written }
@@ -65,7 +65,7 @@ pushes now next k before mid mid' written_before written written' more r p is ta
   count_is = omega (arith, length-append p.records (r ∷ []), p.count_is);
   taken = Consumes-trans _ _ _ _ _ p.taken taken;
   world_is = e ∙ ap (λ (w : World). world_after w (time_of k) r) p.world_is ∙ rw (← p.count_is) (sym (world_at-push p.records r));
-  replied = rw (owed-push p.records r, p.count_is, ← p.world_is) (Appends-trans _ _ _ _ _ p.replied wrote);
+  replied = rw (text_owed-push p.records r, p.count_is, ← p.world_is) (Appends-trans _ _ _ _ _ p.replied wrote);
 }
 
 -- what was read and not read, where the input is known
@@ -84,9 +84,9 @@ falls_short now k before mid mid' written_before written written' more r front u
       rest = rest;
       are_records = AreRecords-push p.text p.records more r p.are_records is;
       input_is = is_input;
-      front = owed p.records ++ front;
+      front = text_owed p.records ++ front;
       unwritten = unwritten;
-      owed_is = rw (owed-push p.records r, p.count_is, ← p.world_is) (ap (λ (t : List ℕ). owed p.records ++ t) e ∙ sym (append_assoc (owed p.records) front unwritten));
+      owed_is = rw (text_owed-push p.records r, p.count_is, ← p.world_is) (ap (λ (t : List ℕ). text_owed p.records ++ t) e ∙ sym (append_assoc (text_owed p.records) front unwritten));
       written = Appends-trans _ _ _ _ _ p.replied wrote;
     })
 
@@ -98,9 +98,9 @@ stops now k before mid written_before written p = known before mid p.text (λ in
   rest = rest;
   are_records = p.are_records;
   input_is = is_input;
-  front = owed p.records;
+  front = text_owed p.records;
   unwritten = [];
-  owed_is = sym (append-nil (owed p.records));
+  owed_is = sym (append-nil (text_owed p.records));
   written = p.replied;
 })
 
@@ -168,3 +168,65 @@ pub record Turn (now : World) (k : ℕ) (before mid written_before written : Opt
 -- nothing was read, and nothing written
 pub nothing_yet : (before written : Option (List ℕ)) → IfSome before (λ input. EndsWith faults.NoMemory input written written)
 nothing_yet before written = stays (opening_world 1) 1 before before written written (begins (opening_world 1) before written refl)
+
+-- ---- what was taken of the reader
+
+-- all records that were taken are answered
+pub stops_between : {now : World} {k : ℕ} {before mid written_before written : Option (List ℕ)} → Progress now k before mid written_before written
+    → StopsBetweenRecords before mid written_before written
+stops_between p = record {
+  answered = p.records;
+  unanswered = [];
+  text = p.text;
+  one_at_most = omega arith;
+  are_records = subst (λ (rs : List (List ℕ)). AreRecords p.text rs) (sym (append-nil p.records)) p.are_records;
+  taken = p.taken;
+  written = p.replied;
+}
+
+-- nothing was taken
+pub stops_at_once : (before written : Option (List ℕ)) → StopsBetweenRecords before before written written
+stops_at_once before written = stops_between (begins (opening_world 1) before written refl)
+
+-- all records that were taken are answered, and more was taken
+stops_after : {now : World} {k : ℕ} {before mid mid' written_before written : Option (List ℕ)} (Takes : Option (List ℕ) → Option (List ℕ) → Type 0)
+    → Progress now k before mid written_before written → Takes mid mid' → StopsAfterRecords Takes before mid' written_before written
+stops_after {mid = mid} Takes p h = record { answered = p.records; text = p.text; between = mid; are_records = p.are_records; taken = p.taken; then_takes = h; written = p.replied }
+
+-- no record could be read
+pub leaves_off_reading : {now : World} {k : ℕ} {before mid mid' written_before written : Option (List ℕ)} {failed : Option RecordFault} (e : RecordFault)
+    → Progress now k before mid written_before written → failed ≡ fault_after {A = Unit {0}} None (Err e) → ((e ≡ faults.NoMemory) → mid' ≡ mid) → StopsAt e mid mid'
+    → LeavesOff e failed before mid' written_before written
+leaves_off_reading faults.NoMemory p f same h = rw (same refl) (stops_between p)
+leaves_off_reading faults.RecordTooLong p f same h = stops_after TakesToLimit p h
+leaves_off_reading faults.Device p f same h = rw f (stops_after (λ _ _. Unit {0}) p tt)
+leaves_off_reading faults.EndInRecord p f same h = stops_after TakesAll p h
+
+-- a record was read and its reply not wholly written: the device failed, or memory was refused
+pub leaves_off_answering : {now : World} {k : ℕ} {before mid written_before written written' : Option (List ℕ)} {more r : List ℕ} (failed : Option RecordFault) (mid' : Option (List ℕ)) (e : RecordFault)
+    → Progress now k before mid written_before written → IsRecord more r → Consumes mid mid' more → failed ≡ None
+    → ((e ≡ faults.Device) → WritesFront written written' (record_of (reply_owed now (time_of k) r))) → ((e ≡ faults.NoMemory) → written' ≡ written)
+    → (e ≡ faults.Device) ⊎ (e ≡ faults.NoMemory) → LeavesOff e failed before mid' written_before written'
+leaves_off_answering {more = more} {r = r} failed mid' e p is taken fresh front same (inl d) =
+    let f = front d in rw (d, fresh) (record {
+      answered = p.records;
+      last = r;
+      text = p.text ++ more;
+      front = f.0;
+      unwritten = f.1;
+      are_records = AreRecords-push p.text p.records more r p.are_records is;
+      taken = Consumes-trans _ _ _ _ _ p.taken taken;
+      owed_is = rw (text_owed-push p.records r, p.count_is, ← p.world_is) (ap (λ (t : List ℕ). text_owed p.records ++ t) f.2);
+      is_short = f.3;
+      written = Appends-trans _ _ _ _ _ p.replied f.4;
+    })
+leaves_off_answering {more = more} {r = r} failed mid' e p is taken fresh front same (inr m) =
+    rw (m, same m) (record {
+      answered = p.records;
+      unanswered = r ∷ [];
+      text = p.text ++ more;
+      one_at_most = omega arith;
+      are_records = AreRecords-push p.text p.records more r p.are_records is;
+      taken = Consumes-trans _ _ _ _ _ p.taken taken;
+      written = p.replied;
+    })

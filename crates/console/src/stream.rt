@@ -8,7 +8,7 @@ ghost use Rattle.records.specs.Writing.{WritesPart, WritesFront};
 ghost use Rattle.service.specs.Replies.{reply_owed, world_after};
 ghost use Rattle.service.specs.Owed.{record_of};
 ghost use Rattle.records.specs.declared.fault.RecordFault.TheVariants.{Device, NoMemory};
-ghost use Rattle.console.specs.RunRpc.{time_of, Serves, EndsWith, StandsAfter};
+ghost use Rattle.console.specs.RunRpc.{time_of, Serves, EndsWith, LeavesOff, StandsAfter};
 
 use nfs_types::Time;
 use rpc::{Counting, RecordFault, RecordReader, write_record};
@@ -81,6 +81,9 @@ pub fn run_rpc<R: Read + Drop, W: Write>(
         Serves count input (W.contents writer.old.inner) (W.contents writer.new.inner))) }
     ensures fault { IfErr result (λ e. IfSome (R.remaining reader.old.reader.inner) (λ input.
         EndsWith e input (W.contents writer.old.inner) (W.contents writer.new.inner))) }
+    ensures taken { IfErr result (λ e. LeavesOff e reader.new.fault
+        (R.remaining reader.old.reader.inner) (R.remaining reader.new.reader.inner)
+        (W.contents writer.old.inner) (W.contents writer.new.inner)) }
     ensures end { OnOk result (IsAtEnd (R.remaining reader.new.reader.inner)) }
     ensures kept { OnOk result ((reader.new.fault ≡ None) × (reader.new.reader.count ≡ reader.old.reader.count) × (writer.new.count ≡ writer.old.count)) }
     ensures stands { IfErr result (λ e. StandsAfter e reader.new.fault reader.old.reader.count reader.new.reader.count writer.old.count writer.new.count) }

@@ -1,2 +1,2 @@
-pub mod Joining
-pub mod Showing
+pub mod LeafTexts
+pub mod ShownKeys

@@ -1,15 +1,17 @@
 //! Keys that sign once.
 
 ghost use Rattle.std.specs.Prelude.{◌≡◌, ◌<◌, ◌^◌, IfOk, IfErr, OnOk, not, ◌++◌, if◌then◌else◌};
-ghost use Rattle.lamport.specs.Lamport.{LeafKey, secret, public_hash, leaf_node, shown_secrets, other_hashes};
+ghost use Rattle.lamport.specs.Lamport.{LeafKey, secret, public_hash, leaf_hash, shown_secrets, other_hashes};
 
 use crate::shown::{digest_bit, leaf_start};
 use sha2::{Digest, Sha256};
 use std::alloc::{AllocError, AllocFailed, Global};
 use std::marker::Model;
 
-/// A key for one signature: the secrets of one leaf of a master secret. It can be neither copied nor
-/// let go: `sign` or `discard` spends it. Who makes keys of a master secret makes each leaf's once.
+/// A key for one signature: the secrets of one leaf of a master secret. It can be neither copied nor let
+/// go: `sign` or `discard` spends it, so that one value signs once. Nothing stops a second value of the
+/// same leaf: whoever makes keys must see that of each leaf's keys at most one signs, since two signatures
+/// by one leaf show both secrets of each bit in which their digests differ.
 pub struct OneTimeKey {
     master: [u8; 32],
     leaf: u32,
@@ -23,7 +25,7 @@ impl Model for OneTimeKey {
     ghost view = { λ k. record { master = k.master; leaf = k.leaf } };
 }
 
-/// What a key's signature of a digest holds, 8,192 bytes each.
+/// What a key's signature of a digest holds: two texts of `TEXT_SIZE` bytes.
 #[derive(Drop)]
 pub struct OneTimeSignature {
     /// For each bit of the digest the secret of its place and value.
@@ -32,14 +34,14 @@ pub struct OneTimeSignature {
     pub other: Vec<u8>,
 }
 
-/// The places of a digest's bits: one secret is shown for each.
-const PLACES: u32 = 256;
+/// The places of a digest's bits: a signature shows one secret for each.
+pub const PLACES: u32 = 256;
 
-/// The bytes of 256 secrets or hashes.
-const TEXT: usize = 8192;
+/// The bytes of a secret or a hash for each place: 32 of them each.
+pub const TEXT_SIZE: usize = 8192;
 
 impl OneTimeKey {
-    /// The key of a leaf.
+    /// The key of a leaf. It holds the master secret, and makes each secret when it is asked for.
     pub fn new(master: [u8; 32], leaf: u32) -> OneTimeKey
         ensures { result ≡ record { master = master; leaf = leaf } }
     {
@@ -53,9 +55,10 @@ impl OneTimeKey {
         self.hash(u32::from(place), bit)
     }
 
-    /// The key's node in a tree of keys: the digest of the byte 0 and all public hashes.
-    pub fn node(&self) -> [u8; 32]
-        ensures { result ≡ leaf_node (public_hash self.now) }
+    /// The hash of the key's leaf in a tree of keys: the digest of the byte 0 and all 512 public hashes. It
+    /// takes 1,281 compressions of SHA-256.
+    pub fn leaf_hash(&self) -> [u8; 32]
+        ensures { result ≡ leaf_hash (public_hash self.now) }
     {
         let mut text = leaf_start();
         for place in 0..PLACES {
@@ -65,7 +68,8 @@ impl OneTimeKey {
         text.finalize()
     }
 
-    /// Signs a digest, which spends the key. Where memory was refused the key comes back.
+    /// Signs a digest, which spends the key, by 768 compressions of SHA-256. Where memory was refused the
+    /// key comes back, and nothing was shown of it. Takes `TEXT_SIZE` bytes twice.
     pub fn sign(
         self,
         alloc: Global,
@@ -93,8 +97,8 @@ impl OneTimeKey {
         ensures shown { IfOk result (λ s. s.shown.items ≡ shown_secrets self.now digest.now) }
         ensures other { IfOk result (λ s. s.other.items ≡ other_hashes self.now digest.now) }
     {
-        let mut shown = Vec::with_capacity(alloc, TEXT)?;
-        let mut other = Vec::with_capacity(alloc, TEXT)?;
+        let mut shown = Vec::with_capacity(alloc, TEXT_SIZE)?;
+        let mut other = Vec::with_capacity(alloc, TEXT_SIZE)?;
         for place in 0..PLACES {
             let bit = digest_bit(digest, place);
             self.show(place, bit, &mut shown, &mut other)?;
@@ -111,7 +115,8 @@ impl OneTimeKey {
         other: &mut Vec<u8>,
     ) -> Result<(), AllocError>
         ensures shown { OnOk result (shown.new.items ≡ shown.old.items ++ secret self.now place bit) }
-        ensures other { OnOk result (other.new.items ≡ other.old.items ++ public_hash self.now place (not bit)) }
+        ensures other { OnOk result
+            (other.new.items ≡ other.old.items ++ public_hash self.now place (not bit)) }
     {
         shown.extend_from_slice(&self.secret(place, bit))?;
         other.extend_from_slice(&self.hash(place, !bit))

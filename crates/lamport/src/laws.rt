@@ -1,7 +1,7 @@
 //! What holds of what a signature shows.
 
 ghost use Rattle.std.specs.Prelude.{◌≡◌, ℕ, Bool, List};
-ghost use Rattle.lamport.specs.Lamport.{LeafKey, Shows, public_hash, leaf_node, shown_hash, shown_secrets, other_hashes};
+ghost use Rattle.lamport.specs.Lamport.{LeafKey, Shows, public_hash, leaf_hash, shown_hash, shown_secrets, other_hashes};
 
 /// What a key shows of itself for a digest shows its public hashes.
 pub fn a_key_shows_itself()
@@ -9,11 +9,11 @@ pub fn a_key_shows_itself()
         Shows digest (shown_secrets key digest) (other_hashes key digest) (public_hash key) }
 {}
 
-/// Whatever a signature holds, the public hashes that it gives are shown by it, and no other key's node
-/// is: keys that one signature shows have one node.
+/// Whatever a signature holds, it shows the public hashes that it gives, and of one leaf alone: all keys
+/// that one signature shows have one leaf hash.
 pub fn a_signature_shows_one_key()
     ensures shown { (digest shown other : List ℕ) →
         Shows digest shown other (shown_hash digest shown other) }
     ensures one { (digest shown other : List ℕ) (hash : ℕ → Bool → List ℕ) →
-        Shows digest shown other hash → leaf_node hash ≡ leaf_node (shown_hash digest shown other) }
+        Shows digest shown other hash → leaf_hash hash ≡ leaf_hash (shown_hash digest shown other) }
 {}

@@ -2,11 +2,10 @@
 #![tactic(auto)]
 
 mod key;
-mod laws;
+pub mod laws;
 mod shown;
 
-pub use key::{OneTimeKey, OneTimeSignature};
-pub use laws::{a_key_shows_itself, a_signature_shows_one_key};
+pub use key::{OneTimeKey, OneTimeSignature, PLACES, TEXT_SIZE};
 pub use shown::shown_key;
 
 #[cfg(test)]

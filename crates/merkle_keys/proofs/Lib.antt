@@ -1,2 +1,4 @@
-pub mod Climbing
-pub mod Fitting
+pub mod StoredTrees
+pub mod Paths
+pub mod LeafSignatures
+pub mod SignatureTexts

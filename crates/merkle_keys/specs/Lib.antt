@@ -1,4 +1,4 @@
 pub mod Tree
 pub mod Signing
-pub mod Nodes
+pub mod StoredTree
 pub mod FaultNumbers

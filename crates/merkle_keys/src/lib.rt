@@ -1,7 +1,7 @@
 //! Keys that sign many times: one-time keys under a tree of SHA-256 digests.
 #![tactic(auto)]
 
-mod laws;
+pub mod laws;
 mod signature;
 mod signer;
 #[cfg(test)]
@@ -9,6 +9,5 @@ mod tests;
 mod text;
 mod tree;
 
-pub use laws::{each_leaf_signs_under_the_root, signed_under_the_key_shown};
-pub use signature::{Signature, verify};
+pub use signature::{MAX_HEIGHT, Signature, verify};
 pub use signer::{SignFault, Signer};

@@ -83,7 +83,7 @@ fn changed_bits(rt: HostRuntime) -> Result<(), SignFault> {
     let mut signer = Signer::new(rt.alloc(), MASTER, 3)?;
     signer.sign(&ABC)?.write(&mut text)?;
     // In turn of the leaf number, of the first and the last secret shown, of the first and the last hash
-    // beside them, and of the first and the last node.
+    // sibling them, and of the first and the last node.
     for place in [3, 4, 8_195, 8_196, 16_387, 16_392, 16_487] {
         assert!(rt; place < text.len());
         text[place] ^= 1;

@@ -8,12 +8,10 @@ ghost use Rattle.xdr.specs.ReadError.{xdr_fault};
 ghost use Rattle.xdr.specs.Writing.{Writes, Adds};
 ghost use Rattle.merkle_keys.specs.Signing.{signature_item, signature_value};
 
-use crate::signature::Signature;
+use crate::signature::{MAX_HEIGHT, Signature};
+use lamport::TEXT_SIZE;
 use std::alloc::{AllocError, Global};
 use xdr::{FromXdr, ReadError, Reader, Writer, XdrFault, all_or_nothing, put_back_on_err};
-
-/// A text has at most so many nodes.
-const MAX_NODES: u32 = 16;
 
 impl<'a> FromXdr<'a> for Signature {
     ghost item = { signature_item };
@@ -31,33 +29,34 @@ fn read_fields<'a>(alloc: Global, reader: &mut Reader<'a>) -> Result<Signature, 
     ensures { GivesUnless xdr_fault signature_item signature_value reader.old result reader.new }
 {
     let leaf = reader.u32()?;
-    let shown = Vec::from_slice(alloc, reader.fixed::<8192>()?)?;
-    let other = Vec::from_slice(alloc, reader.fixed::<8192>()?)?;
-    let nodes = read_nodes(alloc, reader)?;
+    let shown = Vec::from_slice(alloc, reader.fixed::<TEXT_SIZE>()?)?;
+    let other = Vec::from_slice(alloc, reader.fixed::<TEXT_SIZE>()?)?;
+    let path = read_path(alloc, reader)?;
     Ok(Signature {
         leaf,
         shown,
         other,
-        nodes,
+        path,
     })
 }
 
-fn read_nodes<'a>(alloc: Global, reader: &mut Reader<'a>) -> Result<Vec<[u8; 32]>, ReadError>
-    ensures few { IfOk result (λ v. length v.items ≤ 16) }
-    ensures text { GivesUnless xdr_fault (array 16 (fixed 32)) (λ v. v.items) reader.old result reader.new }
+fn read_path<'a>(alloc: Global, reader: &mut Reader<'a>) -> Result<Vec<[u8; 32]>, ReadError>
+    ensures few { IfOk result (λ v. length v.items ≤ MAX_HEIGHT) }
+    ensures text { GivesUnless xdr_fault (array MAX_HEIGHT (fixed 32)) (λ v. v.items)
+        reader.old result reader.new }
 {
     let count = reader.u32()?;
-    if count > MAX_NODES {
+    if count > MAX_HEIGHT {
         return Err(ReadError::Fault(XdrFault::TooLong));
     }
-    let mut nodes = Vec::with_capacity(alloc, count as usize)?;
+    let mut path = Vec::with_capacity(alloc, count as usize)?;
     for _ in 0..count {
-        nodes.push(read_node(reader)?)?;
+        path.push(read_hash(reader)?)?;
     }
-    Ok(nodes)
+    Ok(path)
 }
 
-fn read_node(reader: &mut Reader<'_>) -> Result<[u8; 32], ReadError>
+fn read_hash(reader: &mut Reader<'_>) -> Result<[u8; 32], ReadError>
     ensures { ReadsUnless xdr_fault (fixed 32) (λ b. b) reader.old result reader.new }
 {
     Ok(*reader.fixed::<32>()?)
@@ -70,7 +69,7 @@ impl Signature {
         ensures text { Writes signature_item (signature_value self.now) out.old.items result out.new.items }
     {
         let start = out.len();
-        let written = add_fields(self.leaf, &self.shown, &self.other, &self.nodes, out);
+        let written = add_fields(self.leaf, &self.shown, &self.other, &self.path, out);
         all_or_nothing(out, start, written)
     }
 }
@@ -79,28 +78,29 @@ fn add_fields(
     leaf: u32,
     shown: &[u8],
     other: &[u8],
-    nodes: &[[u8; 32]],
+    path: &[[u8; 32]],
     out: &mut Vec<u8>,
 ) -> Result<(), AllocError>
-    requires shown { length shown.now ≡ 8192 }
-    requires other { length other.now ≡ 8192 }
-    requires nodes { length nodes.now ≤ 16 }
-    ensures fits { Fits signature_item (leaf, (shown.now, (other.now, nodes.now))) }
-    ensures text { Adds (spelling signature_item (leaf, (shown.now, (other.now, nodes.now)))) out.old.items result out.new.items }
+    requires shown { length shown.now ≡ TEXT_SIZE }
+    requires other { length other.now ≡ TEXT_SIZE }
+    requires path { length path.now ≤ MAX_HEIGHT }
+    ensures fits { Fits signature_item (leaf, (shown.now, (other.now, path.now))) }
+    ensures text { Adds (spelling signature_item (leaf, (shown.now, (other.now, path.now))))
+        out.old.items result out.new.items }
 {
     out.put_u32(leaf)?;
     out.put_fixed(shown)?;
     out.put_fixed(other)?;
-    add_nodes(nodes, out)
+    add_path(path, out)
 }
 
-fn add_nodes(nodes: &[[u8; 32]], out: &mut Vec<u8>) -> Result<(), AllocError>
-    requires { length nodes.now ≤ 16 }
-    ensures { Adds (spelling (array 16 (fixed 32)) nodes.now) out.old.items result out.new.items }
+fn add_path(path: &[[u8; 32]], out: &mut Vec<u8>) -> Result<(), AllocError>
+    requires { length path.now ≤ MAX_HEIGHT }
+    ensures { Adds (spelling (array MAX_HEIGHT (fixed 32)) path.now) out.old.items result out.new.items }
 {
-    out.put_u32(nodes.len() as u32)?;
-    for node in nodes {
-        out.put_fixed(node)?;
+    out.put_u32(path.len() as u32)?;
+    for hash in path {
+        out.put_fixed(hash)?;
     }
     Ok(())
 }

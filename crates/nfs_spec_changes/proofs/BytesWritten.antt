@@ -12,8 +12,8 @@ use Rattle.nfs_spec.specs.Sattr.{Wanted}
 use Rattle.nfs_spec.specs.Changes.{resized, resized_body, written, check_resize, set}
 use Rattle.nfs_spec.specs.Procedures.{rewritten}
 use Rattle.nfs_types.specs.declared.stat.Stat.TheVariants as stats
-use Rattle.nfs_spec_laws.proofs.Steps.{bind_ok}
-use Rattle.nfs_spec_laws.proofs.Bodies.{bytes_ok, length-resized}
+use Rattle.nfs_spec_steps.proofs.Steps.{bind_ok, bytes_ok}
+use Rattle.nfs_spec_laws.proofs.Bytes.{length-resized}
 use Rattle.nfs_spec_laws.proofs.Bytes.{written_length, resized_byte, byte_before, byte_behind, byte_new}
 use Rattle.nfs_spec_changes.specs.Changed.{Becomes, ChangesBytes, old_byte, IsWritten, IsResized, Makes}
 use Rattle.nfs_spec_changes.proofs.Granted.{IsSet, IsWrote, created}

@@ -16,10 +16,8 @@ use Rattle.nfs_spec.specs.Checks.{◌>>=◌, Found, file_of, dir_of, listing_or,
 use Rattle.nfs_spec.specs.Sattr.{Wanted}
 use Rattle.nfs_spec.specs.Changes.{check_owner, check_resize, set, new_file, touch, mark, unnamed}
 use Rattle.nfs_spec.specs.Procedures.{set_attributes, write, rewritten, made, is_regular, create_over, create_new, create, make, link, remove, remove_dir, is_above, check_target, moved, rename}
-use Rattle.nfs_spec_laws.specs.Laws.{IsSameFile}
-use Rattle.nfs_spec_laws.proofs.Steps.{IsFound, bind_ok, check_ok, found_ok, ok_same, directory_ok, dir_ok, free_ok, number_ok}
-use Rattle.nfs_spec_laws.proofs.Bodies.{bytes_ok, no_entries, no_length}
-use Rattle.nfs_spec_laws.proofs.Kept.{place_found}
+use Rattle.nfs_spec_steps.specs.Granted.{IsSameFile, IsFound}
+use Rattle.nfs_spec_steps.proofs.Steps.{bind_ok, check_ok, found_ok, ok_same, directory_ok, dir_ok, free_ok, number_ok, bytes_ok, no_entries, no_length, place_found}
 
 module _ (w : Files) (who : Caller) (now : Timeval) where
   pub record IsSet (n : ℕ) (a : Wanted) (w' : Files) : Type 0 where

@@ -21,7 +21,7 @@ use Rattle.fs_changes.proofs.Adding.{one_same}
 use Rattle.nfs_spec.specs.Sattr.{Wanted}
 use Rattle.nfs_spec.specs.Changes.{set, touch, touched, mark, marked, unnamed, after_unlink}
 use Rattle.nfs_spec.specs.Procedures.{rewritten, made}
-use Rattle.nfs_spec_trees.proofs.Fitting.{dir_file, is_dir, next_free, distinct_names}
+use Rattle.nfs_spec_trees.proofs.FilesFit.{dir_file, is_dir, next_free, distinct_names}
 use Rattle.nfs_spec_changes.specs.Changed.{Becomes, LosesName, IsSetTo, IsRewritten, Makes, Links, Unnames}
 use Rattle.nfs_spec_changes.proofs.Granted.{IsSet, IsWrote, IsNew, IsLinked, IsRemoved}
 use Rattle.nfs_spec_changes.proofs.DirectoryEntries.{listing_of, begins_at, at_same, at_other, at_relisted, at_touched, becomes_touched, becomes_marked}

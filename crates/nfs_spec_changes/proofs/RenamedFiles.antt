@@ -17,7 +17,7 @@ use Rattle.fs_changes.proofs.Finite.{changed_here, changed_other, gone_other}
 use Rattle.fs_changes.proofs.PathChanges.{no_return}
 use Rattle.nfs_spec.specs.Changes.{touch, touched, mark, marked, unnamed, after_unlink}
 use Rattle.nfs_spec.specs.Procedures.{climbs_to, is_above, cleared}
-use Rattle.nfs_spec_trees.proofs.Fitting.{dir_file}
+use Rattle.nfs_spec_trees.proofs.FilesFit.{dir_file}
 use Rattle.nfs_spec_changes.specs.Changed.{Becomes, IsMarked, IsTouched, LosesName, Moves}
 use Rattle.nfs_spec_changes.proofs.Granted.{IsRenamed}
 use Rattle.nfs_spec_changes.proofs.OtherFiles.{unnamed_other, moved_apart, before_mark}

@@ -8,7 +8,7 @@ ghost use Rattle.fs_model.specs.Trees.{IsFileTree};
 ghost use Rattle.nfs_spec.specs.Sattr.{Wanted, nothing};
 ghost use Rattle.nfs_spec.specs.Changes.{new_file};
 ghost use Rattle.nfs_spec.specs.Procedures.{set_attributes, write, create, make_dir, symlink, link, remove, remove_dir, rename};
-ghost use Rattle.nfs_spec_laws.specs.Laws.{IsSameFile};
+ghost use Rattle.nfs_spec_steps.specs.Granted.{IsSameFile};
 ghost use Rattle.nfs_spec_changes.specs.Changed.{Becomes, IsSetTo, IsRewritten, IsWritten, IsResized, ChangesBytes, Makes, Links, Unnames, Moves};
 
 /// SETATTR keeps what isn't given, and CREATE of a name that is there does as SETATTR; WRITE keeps all but

@@ -27,8 +27,8 @@ use Rattle.nfs_spec.specs.Laws.{stat_in}
 use Rattle.nfs_spec.specs.Calls as calls
 use Rattle.nfs_spec.specs.Calls.{Call, Answer, told, with_attributes, with_handle, without_number, number_for, call_does}
 use Rattle.nfs_spec.proofs.Present.{named_there}
-use Rattle.nfs_spec_laws.specs.Laws.{refusal_in}
-use Rattle.nfs_spec_laws.proofs.Steps.{bind_ok, found_ok, ok_same, directory_ok}
+use Rattle.nfs_spec_steps.specs.Answers.{refusal_in}
+use Rattle.nfs_spec_steps.proofs.Steps.{bind_ok, found_ok, ok_same, directory_ok}
 use Rattle.nfs_spec_errors.specs.Checks.{Checks, first_failing, is_there}
 use Rattle.nfs_spec_errors.specs.Tables.{lookup_checks, checks_of}
 use Rattle.nfs_spec_errors.proofs.StepsInTurn.{HasStat}

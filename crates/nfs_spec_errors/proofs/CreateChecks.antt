@@ -16,8 +16,8 @@ use Rattle.nfs_spec.specs.Checks.{Found, file_of, dir_of, check, check_size, che
 use Rattle.nfs_spec.specs.Sattr.{Wanted}
 use Rattle.nfs_spec.specs.Changes.{new_file}
 use Rattle.nfs_spec.specs.Procedures.{set_attributes, create_over, create_new, create, is_regular, made}
-use Rattle.nfs_spec_laws.proofs.Steps.{IsFound, found_ok, dir_ok}
-use Rattle.nfs_spec_laws.proofs.Kept.{place_found}
+use Rattle.nfs_spec_steps.specs.Granted.{IsFound}
+use Rattle.nfs_spec_steps.proofs.Steps.{found_ok, dir_ok, place_found}
 use Rattle.nfs_spec_errors.specs.Checks.{Checks, holds_at, given}
 use Rattle.nfs_spec_errors.specs.Tables.{set_checks, create_checks}
 use Rattle.nfs_spec_errors.proofs.StepsInTurn.{HasStat, in_turn, done, of_check, of_same, of_that_file, of_dir, test_at, named_file}

@@ -17,7 +17,7 @@ use Rattle.nfs_spec.specs.Procedures.{set_attributes, read_link, read, write, cr
 use Rattle.nfs_spec.specs.Calls as calls
 use Rattle.nfs_spec.specs.Calls.{Call, Answer, told, with_attributes, with_handle, without_number, number_for, call_does}
 use Rattle.nfs_spec.specs.Laws.{stat_in}
-use Rattle.nfs_spec_laws.specs.Laws.{refusal_in}
+use Rattle.nfs_spec_steps.specs.Answers.{refusal_in}
 use Rattle.fs_model.specs.Listing.{entry_at}
 use Rattle.fs_model.proofs.Walks.{none_some, some_same}
 use Rattle.nfs_types.specs.Handle.{number_in}

@@ -11,7 +11,7 @@ use Rattle.nfs_spec.specs.Attributes.{is_directory_at}
 use Rattle.nfs_spec.specs.Checks.{file_of, dir_of, check, check_room, check_edit, check_free}
 use Rattle.nfs_spec.specs.Changes.{touch, mark}
 use Rattle.nfs_spec.specs.Procedures.{link}
-use Rattle.nfs_spec_laws.proofs.Steps.{found_ok, dir_ok}
+use Rattle.nfs_spec_steps.proofs.Steps.{found_ok, dir_ok}
 use Rattle.nfs_spec_errors.specs.Checks.{is_dir}
 use Rattle.nfs_spec_errors.specs.Tables.{link_checks}
 use Rattle.nfs_spec_errors.proofs.StepsInTurn.{HasStat, in_turn, done, of_check, of_same, of_file, of_dir, test_at, of_edit, of_free}

@@ -10,8 +10,7 @@ use Rattle.fs_model.specs.Files.{Body, Regular, Link, Directory, Files, file_at,
 use Rattle.fs_model.specs.Trees.{IsFileTree}
 use Rattle.nfs_spec.specs.Checks.{file_of, dir_of, listing_or, check, check_edit, number_at}
 use Rattle.nfs_spec.specs.Procedures.{remove, remove_dir}
-use Rattle.nfs_spec_laws.proofs.Steps.{found_ok, directory_ok, dir_ok, number_ok}
-use Rattle.nfs_spec_laws.proofs.Kept.{place_found}
+use Rattle.nfs_spec_steps.proofs.Steps.{found_ok, directory_ok, dir_ok, number_ok, place_found}
 use Rattle.nfs_spec_errors.specs.Checks.{holds_named, is_dir}
 use Rattle.nfs_spec_errors.specs.Tables.{remove_checks, remove_dir_checks}
 use Rattle.nfs_spec_errors.proofs.StepsInTurn.{HasStat, in_turn, done, of_same, of_that_file, of_dir, test_named, named_file, of_edit, of_number}

@@ -13,8 +13,8 @@ use Rattle.fs_model.specs.Files.{File, Files, file_at, listing, listing_in, is_d
 use Rattle.fs_model.specs.Trees.{IsFileTree}
 use Rattle.nfs_spec.specs.Checks.{◌>>=◌, Found, file_of, dir_of, check, check_cookie, check_edit, number_at}
 use Rattle.nfs_spec.specs.Procedures.{is_above, check_target, moved, rename}
-use Rattle.nfs_spec_laws.proofs.Steps.{IsFound, found_ok, dir_ok, number_ok}
-use Rattle.nfs_spec_laws.proofs.Kept.{place_found}
+use Rattle.nfs_spec_steps.specs.Granted.{IsFound}
+use Rattle.nfs_spec_steps.proofs.Steps.{found_ok, dir_ok, number_ok, place_found}
 use Rattle.nfs_spec_errors.specs.Checks.{Checks, holds_named, is_dir, lists_nothing}
 use Rattle.nfs_spec_errors.specs.Tables.{is_same_file, is_named_above, rename_checks}
 use Rattle.nfs_spec_errors.proofs.StepsInTurn.{HasStat, in_turn, done, of_same, of_that_file, of_dir, test_named, named_file, of_edit, of_number}

@@ -16,7 +16,7 @@ use Rattle.nfs_spec.specs.Checks.{◌>>=◌, file_of, check, check_room, bytes_o
 use Rattle.nfs_spec.specs.Sattr.{Wanted}
 use Rattle.nfs_spec.specs.Changes.{check_owner, check_resize, set, is_in_group}
 use Rattle.nfs_spec.specs.Procedures.{set_attributes}
-use Rattle.nfs_spec_laws.proofs.Steps.{found_ok}
+use Rattle.nfs_spec_steps.proofs.Steps.{found_ok}
 use Rattle.nfs_spec_errors.specs.Checks.{first_failing, holds_at, given, is_link}
 use Rattle.nfs_spec_errors.specs.Tables.{set_checks}
 use Rattle.nfs_spec_errors.proofs.StepsInTurn.{HasStat, in_turn, done, of_check, of_same, of_file, test_at}

@@ -15,8 +15,8 @@ use Rattle.fs_model.specs.Trees.{IsFileTree}
 use Rattle.fs_model.proofs.Walks.{none_some}
 use Rattle.nfs_spec.specs.Checks.{◌>>=◌, Found, found_or, listing_or, file_of, dir_of, check, check_edit, check_free, number_at, may_search, may_write}
 use Rattle.nfs_spec.specs.Laws.{stat_in}
-use Rattle.nfs_spec_laws.proofs.Steps.{IsFound}
-use Rattle.nfs_spec_laws.proofs.Kept.{place_found}
+use Rattle.nfs_spec_steps.specs.Granted.{IsFound}
+use Rattle.nfs_spec_steps.proofs.Steps.{place_found}
 use Rattle.nfs_spec_errors.specs.Checks.{Checks, first_failing, holds_at, holds_named}
 use Rattle.nfs_spec_errors.specs.Tables.{file_checks, directory_checks, edit_checks}
 

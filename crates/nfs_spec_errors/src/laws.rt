@@ -13,7 +13,7 @@ ghost use Rattle.nfs_spec.specs.Laws.{stat_in};
 ghost use Rattle.nfs_spec.specs.Sattr.{Wanted};
 ghost use Rattle.nfs_spec.specs.Procedures.{set_attributes, read_link, read, write, create, remove, rename, link, symlink, make_dir, remove_dir, read_dir, figures};
 ghost use Rattle.nfs_spec.specs.Calls.{Call, call_does};
-ghost use Rattle.nfs_spec_laws.specs.Laws.{refusal_in};
+ghost use Rattle.nfs_spec_steps.specs.Answers.{refusal_in};
 ghost use Rattle.nfs_spec_errors.specs.Checks.{first_failing};
 ghost use Rattle.nfs_spec_errors.specs.Tables.{file_checks, set_checks, lookup_checks, read_link_checks, read_checks, write_checks, create_checks, remove_checks, rename_checks, link_checks, symlink_checks, make_dir_checks, remove_dir_checks, read_dir_checks, checks_of};
 

@@ -17,8 +17,8 @@ use Rattle.nfs_spec.specs.Effects.{attributes_at}
 use Rattle.nfs_spec.specs.Procedures.{set_attributes, write, create, make_dir, symlink, link, remove, remove_dir, rename}
 use Rattle.nfs_spec.specs.Calls as calls
 use Rattle.nfs_spec.specs.Calls.{Call, Answer, told, with_attributes, with_handle, without_number, number_for, call_does}
-use Rattle.nfs_spec_laws.specs.Laws.{only_reads, refusal_in}
-use Rattle.nfs_spec_laws.proofs.Steps.{bind_ok, ok_same}
+use Rattle.nfs_spec_steps.specs.Answers.{only_reads, refusal_in}
+use Rattle.nfs_spec_steps.proofs.Steps.{bind_ok, ok_same}
 use Rattle.nfs_spec_frames.specs.Named.{makes, files_made}
 
 module _ (P : Answer → Files → Type 0) (w : Files) where

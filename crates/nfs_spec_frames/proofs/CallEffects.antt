@@ -14,7 +14,7 @@ use Rattle.nfs_spec.specs.Changes.{new_file}
 use Rattle.nfs_spec.specs.Procedures.{rewritten}
 use Rattle.nfs_spec.specs.Calls as calls
 use Rattle.nfs_spec.specs.Calls.{Call, Answer, number_for, call_does}
-use Rattle.nfs_spec_laws.specs.Laws.{only_reads, refusal_in}
+use Rattle.nfs_spec_steps.specs.Answers.{only_reads, refusal_in}
 use Rattle.nfs_spec_changes.specs.Changed.{Makes}
 use Rattle.nfs_spec_changes.proofs.Granted.{IsSet, IsWrote, IsNew, IsCreated, created, set_ok, write_ok, make_ok, create_ok, link_ok, remove_ok, remove_dir_ok, rename_ok}
 use Rattle.nfs_spec_changes.proofs.NamedFiles.{set_becomes, wrote_becomes, made_makes, linked_links, removed_unnames, directory_gone}

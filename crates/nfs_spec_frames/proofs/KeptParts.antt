@@ -12,7 +12,7 @@ use Rattle.fs_changes.specs.Edits.{relisted_body}
 use Rattle.nfs_spec.specs.Sattr.{wanted}
 use Rattle.nfs_spec.specs.Changes.{written, resized_body}
 use Rattle.nfs_spec.specs.Calls.{Call, number_for, call_does}
-use Rattle.nfs_spec_trees.proofs.Fitting.{next_free}
+use Rattle.nfs_spec_trees.proofs.FilesFit.{next_free}
 use Rattle.nfs_spec_frames.specs.Named.{IsNoneOf, set_by, written_by, KeepsKind, KeepsAttributes, KeepsBytes, KeepsAt}
 use Rattle.nfs_spec_frames.proofs.UnnamedFiles.{at_name}
 use Rattle.nfs_spec_frames.proofs.BeforeAndAfter.{Step, steps}

@@ -20,11 +20,9 @@ use Rattle.fs_changes.proofs.Taking.{IsTaken, stays_taken}
 use Rattle.nfs_spec.specs.Checks.{file_of, dir_of, listing_or, check, check_edit, number_at}
 use Rattle.nfs_spec.specs.Changes.{touch, touched, marked, unnamed, after_unlink}
 use Rattle.nfs_spec.specs.Procedures.{remove, remove_dir}
-use Rattle.nfs_spec_trees.proofs.Fitting.{is_dir}
-use Rattle.nfs_spec_trees.proofs.Removed.{touched_taken}
-use Rattle.nfs_spec_laws.proofs.Steps.{bind_ok, check_ok, found_ok, ok_same, directory_ok, dir_ok, number_ok}
-use Rattle.nfs_spec_laws.proofs.Bodies.{no_entries, no_length}
-use Rattle.nfs_spec_laws.proofs.Kept.{place_found}
+use Rattle.nfs_spec_trees.proofs.FilesFit.{is_dir}
+use Rattle.nfs_spec_trees.proofs.Removing.{touched_taken}
+use Rattle.nfs_spec_steps.proofs.Steps.{bind_ok, check_ok, found_ok, ok_same, directory_ok, dir_ok, number_ok, no_entries, no_length, place_found}
 use Rattle.nfs_spec_frames.specs.Gone.{IsGone, HasOneNameLess}
 
 no_kind : (w : Files) (n : ℕ) → kind w n ≡ None → file_at w n ≡ None

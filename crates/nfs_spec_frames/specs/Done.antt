@@ -7,7 +7,7 @@ use Rattle.fs_model.specs.Files.{Regular, Directory, File, Files, file_at, place
 use Rattle.nfs_spec.specs.Sattr.{Wanted, wanted, nothing}
 use Rattle.nfs_spec.specs.Changes.{new_file}
 use Rattle.nfs_spec.specs.Calls.{Call, Setattr, Write, Create, Remove, Rename, Link, Symlink, Mkdir, Rmdir, number_for}
-use Rattle.nfs_spec_laws.specs.Laws.{IsSameFile}
+use Rattle.nfs_spec_steps.specs.Granted.{IsSameFile}
 use Rattle.nfs_spec_changes.specs.Changed.{Becomes, IsSetTo, IsRewritten, ChangesBytes, IsWritten, IsResized, Makes, Links, Unnames, Moves}
 
 -- attributes are set of a file, and with a size its bytes

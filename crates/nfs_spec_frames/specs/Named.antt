@@ -5,7 +5,7 @@ use Rattle.fs_model.specs.Listing.{Listing}
 use Rattle.fs_model.specs.Files.{Body, Regular, Directory, File, Files, file_at, places}
 use Rattle.fs_model.specs.Files as bodies
 use Rattle.nfs_spec.specs.Calls.{Call, Setattr, Write, Create, Remove, Rename, Link, Symlink, Mkdir, Rmdir, Answer, number_for}
-use Rattle.nfs_spec_laws.specs.Laws.{refusal_in}
+use Rattle.nfs_spec_steps.specs.Answers.{refusal_in}
 
 -- a number is none of these
 abbrev pub IsNoneOf : ℕ → List ℕ → Type 0

@@ -9,7 +9,7 @@ ghost use Rattle.fs_changes.specs.Limits.{has_room};
 ghost use Rattle.nfs_spec.specs.Procedures.{remove, remove_dir};
 ghost use Rattle.nfs_spec.specs.Calls.{Call, call_does};
 ghost use Rattle.nfs_spec.specs.Opening.{opening_files};
-ghost use Rattle.nfs_spec_laws.specs.Laws.{refusal_in};
+ghost use Rattle.nfs_spec_steps.specs.Answers.{refusal_in};
 ghost use Rattle.nfs_spec_frames.specs.Named.{IsNoneOf, named_by, files_made, set_by, written_by, KeepsKind, KeepsAttributes, KeepsBytes, KeepsAt};
 ghost use Rattle.nfs_spec_frames.specs.Done.{Did};
 ghost use Rattle.nfs_spec_frames.specs.Gone.{IsGone, HasOneNameLess};

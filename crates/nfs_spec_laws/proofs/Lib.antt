@@ -1,7 +1,6 @@
-pub mod Steps
-pub mod Bodies
-pub mod Kept
-pub mod Gone
-pub mod Stays
-pub mod Determined
 pub mod Bytes
+pub mod FilesFit
+pub mod Setting
+pub mod Paths
+pub mod EveryCall
+pub mod Determined

@@ -1,13 +1,11 @@
 -- What the laws of procedures speak of.
-use Rattle.std.specs.Prelude.{◌≡◌, ℕ, ◌<◌, ◌≤◌, List, [], ◌∷◌, ◌++◌, length, Bool, true, false, Option, Some, None}
+use Rattle.std.specs.Prelude.{◌≡◌, ℕ, ◌<◌, ◌≤◌, List, [], ◌∷◌, ◌++◌, length, Some}
 use Rattle.nfs_types.specs.Timeval.{Timeval}
-use Rattle.nfs_types.specs.declared.stat.Stat.{Stat}
 use Rattle.fs_model.specs.Paths.{path_at, AddsPath, TakesPath, Renames}
 use Rattle.fs_model.specs.Files.{Files, listing, places}
 use Rattle.fs_model.specs.Trees.{IsTime}
 use Rattle.nfs_spec.specs.Sattr.{Wanted}
-use Rattle.nfs_spec.specs.Laws.{stat_in}
-use Rattle.nfs_spec.specs.Calls.{Call, Null, Getattr, Root, Lookup, Readlink, Read, Writecache, Readdir, Statfs, Create, Rename, Link, Symlink, Mkdir, Answer, Nothing, Attributes, DirOp, Target, Bytes, Status, Entries, Free}
+use Rattle.nfs_spec.specs.Calls.{Call, Create, Rename, Link, Symlink, Mkdir}
 
 -- what may be asked of attributes: twelve bits of mode, and times
 pub record IsWanted (a : Wanted) : Type 0 where
@@ -26,43 +24,19 @@ IsBounded _ = Unit {0}
 
 -- from each path of the directory there is one path more, with the directory's next cookie
 abbrev pub NamesIn : Files → Files → ℕ → List ℕ → ℕ → Type 0
-NamesIn w w' dir name number = (path : List (List ℕ)) (cookie : ℕ) → path_at (places w) path ≡ Some (dir, cookie)
+NamesIn w w' dir name number =
+    (path : List (List ℕ)) (cookie : ℕ) → path_at (places w) path ≡ Some (dir, cookie)
     → AddsPath (path_at (places w)) (path_at (places w')) (path ++ name ∷ []) number (listing w dir).next
 
 -- one path less
 abbrev pub UnnamesIn : Files → Files → ℕ → List ℕ → Type 0
-UnnamesIn w w' dir name = (path : List (List ℕ)) (cookie : ℕ) → path_at (places w) path ≡ Some (dir, cookie)
+UnnamesIn w w' dir name =
+    (path : List (List ℕ)) (cookie : ℕ) → path_at (places w) path ≡ Some (dir, cookie)
     → TakesPath (path_at (places w)) (path_at (places w')) (path ++ name ∷ [])
 
 -- the paths through the one name go on through the other
 abbrev pub RenamesIn : Files → Files → ℕ → List ℕ → ℕ → List ℕ → Type 0
-RenamesIn w w' from from_name to to_name = (p q : List (List ℕ)) (c d : ℕ) → path_at (places w) p ≡ Some (from, c) → path_at (places w) q ≡ Some (to, d)
-    → Renames (path_at (places w)) (path_at (places w')) (p ++ from_name ∷ []) (q ++ to_name ∷ []) (listing w to).next
-
--- the stat of a call that was refused
-abbrev pub refusal_in : Answer → Option Stat
-refusal_in Nothing = None
-refusal_in (Attributes r) = stat_in r
-refusal_in (DirOp r) = stat_in r
-refusal_in (Target r) = stat_in r
-refusal_in (Bytes r) = stat_in r
-refusal_in (Status r) = stat_in r
-refusal_in (Entries r) = stat_in r
-refusal_in (Free r) = stat_in r
-
--- the calls that only read
-abbrev pub only_reads : Call → Bool
-only_reads Null = true
-only_reads (Getattr file) = true
-only_reads Root = true
-only_reads (Lookup dir name) = true
-only_reads (Readlink file) = true
-only_reads (Read file offset count) = true
-only_reads Writecache = true
-only_reads (Readdir dir cookie count) = true
-only_reads (Statfs file) = true
-only_reads _ = false
-
--- two names stand for one file
-abbrev pub IsSameFile : Files → ℕ → List ℕ → ℕ → List ℕ → Type 0
-IsSameFile w from from_name to to_name = (n : ℕ) × (b : ℕ) × (c : ℕ) × (places w from from_name ≡ Some (n, b)) × (places w to to_name ≡ Some (n, c))
+RenamesIn w w' from from_name to to_name =
+    (p q : List (List ℕ)) (c d : ℕ) → path_at (places w) p ≡ Some (from, c) → path_at (places w) q ≡ Some (to, d)
+    → Renames (path_at (places w)) (path_at (places w'))
+    (p ++ from_name ∷ []) (q ++ to_name ∷ []) (listing w to).next

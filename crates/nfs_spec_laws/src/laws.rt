@@ -15,7 +15,9 @@ ghost use Rattle.nfs_spec.specs.Changes.{resized, written};
 ghost use Rattle.nfs_spec.specs.Procedures.{create, make_dir, symlink, link, remove, remove_dir, rename, read};
 ghost use Rattle.nfs_spec.specs.Calls.{Call, call_does};
 ghost use Rattle.nfs_spec_trees.specs.Anew.{GivesAnew};
-ghost use Rattle.nfs_spec_laws.specs.Laws.{IsWanted, IsBounded, NamesIn, UnnamesIn, RenamesIn, IsSameFile, refusal_in, only_reads};
+ghost use Rattle.nfs_spec_steps.specs.Answers.{refusal_in, only_reads};
+ghost use Rattle.nfs_spec_steps.specs.Granted.{IsSameFile};
+ghost use Rattle.nfs_spec_laws.specs.Laws.{IsWanted, IsBounded, NamesIn, UnnamesIn, RenamesIn};
 
 /// Every call leaves a tree a tree.
 pub fn trees_stay_trees()
@@ -23,8 +25,8 @@ pub fn trees_stay_trees()
         IsFileTree w → IsTime now → IsBounded call → IsFileTree (call_does w who now call).1 }
 {}
 
-/// Numbers and cookies are never used again: what is there after a call was there before it, or has a number not
-/// given before; an entry of a directory was in it, or has a cookie not given in it before.
+/// Numbers and cookies are never used again: what is there after a call was there before it, or has a number
+/// not given before; an entry of a directory was in it, or has a cookie not given in it before.
 pub fn nothing_is_given_again()
     ensures { (w : Files) (who : Caller) (now : Timeval) (call : Call) →
         IsFileTree w → IsTime now → IsBounded call → GivesAnew w (call_does w who now call).1 }
@@ -57,8 +59,8 @@ pub fn calls_are_determined()
         call_does w one now call ≡ call_does w other now call }
 {}
 
-/// CREATE of a name that isn't there, MKDIR and SYMLINK add one path, with the next number and the directory's
-/// next cookie; LINK adds one path to an old number.
+/// CREATE of a name that isn't there, MKDIR and SYMLINK add one path, with the next number and the
+/// directory's next cookie; LINK adds one path to an old number.
 pub fn making_adds_a_path()
     ensures create { (w after : Files) (who : Caller) (now : Timeval) (dir : ℕ) (name : List ℕ) (a : Wanted)
         (number : ℕ) → IsFileTree w → IsTime now → IsWanted a → length name ≤ 255 →
@@ -96,24 +98,8 @@ pub fn renaming_moves_paths()
         × ((IsSameFile w from from_name to to_name → ⊥) → RenamesIn w after from from_name to to_name) }
 {}
 
-/// Byte i of what is written is the one written, else the old one, else zero; of what is cut or grown, the old
-/// one, else zero. Past the end of a list its byte is read as zero.
-pub fn bytes_are_written()
-    ensures length { (offset : ℕ) (new old : List ℕ) →
-        length (written offset new old) ≡ max (offset + length new) (length old) }
-    ensures new { (offset : ℕ) (new old : List ℕ) (i : ℕ) → i < length new →
-        slice_index (written offset new old) (offset + i) ≡ slice_index new i }
-    ensures before { (offset : ℕ) (new old : List ℕ) (i : ℕ) → i < offset →
-        slice_index (written offset new old) i ≡ slice_index old i }
-    ensures behind { (offset : ℕ) (new old : List ℕ) (i : ℕ) → offset + length new ≤ i →
-        slice_index (written offset new old) i ≡ slice_index old i }
-    ensures size { (size : ℕ) (old : List ℕ) → length (resized size old) ≡ size }
-    ensures resized { (size : ℕ) (old : List ℕ) (i : ℕ) → i < size →
-        slice_index (resized size old) i ≡ slice_index old i }
-{}
-
-/// The nlink that attributes tell is the number of names, and of a directory two and its subdirectories; in a tree it
-/// is never 0, and of a file with two names at least two.
+/// The nlink that attributes tell is the number of names, and of a directory two and its subdirectories; in a
+/// tree it is never 0, and of a file with two names at least two.
 pub fn links_are_counted()
     ensures names { (w : Files) (n : ℕ) (f : File) (a : Fattr) → file_at w n ≡ Some f →
         is_directory f.body ≡ false → attributes_at w n ≡ Ok a → a.nlink ≡ names_of w n }

@@ -9,7 +9,7 @@ use Rattle.nfs_spec.specs.Checks.{◌>>=◌}
 use Rattle.nfs_spec.specs.Changes.{Effect}
 use Rattle.nfs_spec.specs.Effects.{attributes_at}
 use Rattle.nfs_spec.specs.Calls.{Answer, told, with_attributes, with_handle, without_number}
-use Rattle.nfs_spec_laws.proofs.Steps.{bind_ok, ok_same}
+use Rattle.nfs_spec_steps.proofs.Steps.{bind_ok, ok_same}
 
 -- two Ok that are the same have the same files
 pub in_files : {A : Type 0} (Q : Files → Type 0) {x y : A × Files} → ◌≡◌ {A = Result (A × Files) Stat} (Ok x) (Ok y) → Q x.1 → Q y.1

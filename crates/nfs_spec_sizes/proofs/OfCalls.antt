@@ -24,7 +24,7 @@ use Rattle.nfs_spec.specs.Reading.{Entry, Page}
 use Rattle.nfs_spec.specs.Procedures.{Figures, set_attributes, read_link, read, write, create, make_dir, read_dir, figures}
 use Rattle.nfs_spec.specs.Calls as calls
 use Rattle.nfs_spec.specs.Calls.{Call, Answer, told, with_attributes, with_handle, number_for, call_does}
-use Rattle.nfs_spec_laws.proofs.Steps.{bind_ok, found_ok, ok_same, dir_ok}
+use Rattle.nfs_spec_steps.proofs.Steps.{bind_ok, found_ok, ok_same, dir_ok}
 use Rattle.call_items.specs.Items.{path, entry}
 use Rattle.call_items.specs.Texts.{entry_value, figures_value, IsSpelled}
 use Rattle.nfs_spec_sizes.proofs.Values.{outcome_fits, AreSpelled, attributes_fit, EntryFits, page_fits}

@@ -19,7 +19,7 @@ use Rattle.nfs_spec.specs.Changes.{touch, touched, mark, marked, unnamed, check_
 use Rattle.nfs_spec.specs.Procedures.{set_attributes, write, rewritten, made, create, create_over, create_new, make, is_regular, link, remove, remove_dir, is_above, check_target, cleared, moved, rename}
 use Rattle.nfs_spec.specs.Calls as calls
 use Rattle.nfs_spec.specs.Calls.{Call, number_for, call_does}
-use Rattle.nfs_spec_laws.proofs.Steps.{bind_ok}
+use Rattle.nfs_spec_steps.proofs.Steps.{bind_ok}
 use Rattle.nfs_spec_sizes.proofs.Effects.{in_files, of_told, of_attributes, of_handle, of_number}
 use Rattle.nfs_spec_sizes.specs.Bounds.{HasWords, AsksWords, SaysWords, HasWordsIn}
 

@@ -1,4 +1,5 @@
 -- The way up from a directory: what it passes is what is above.
+-- Serves: above_is_by_paths; renaming_moves_paths and trees_stay_trees in nfs_spec_laws.
 use Rattle.std.proofs.Common.{◌≡◌, ◌≢◌, ⊎_elim, ℕ, zero, suc, ◌≤◌, true, false, List, [], ◌∷◌, ◌++◌, length, Option, Some, None, IsSome, is_some, option_and_then, ◌||◌, refl, sym, ap, subst, ◌∙◌, arith, length-append, eqb, eq-eqb}
 use Rattle.std.proofs.lemmas.Bool.{cases_eq, eqb-true, or_left, or_right, or_cases}
 use Rattle.std.proofs.lemmas.Map.Keys.{IsDistinct-cons}

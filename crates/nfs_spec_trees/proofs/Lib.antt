@@ -1,8 +1,9 @@
-pub mod Fitting
-pub mod Given
-pub mod Made
-pub mod Removed
+pub mod FilesFit
+pub mod GivenAnew
+pub mod Making
+pub mod Removing
 pub mod Above
+pub mod EditRoom
 pub mod RenameRoom
 pub mod RoomBefore
-pub mod Renamed
+pub mod Renaming

@@ -1,23 +1,22 @@
--- Room, told by the files before a call.
-use Rattle.std.proofs.Common.{◌≡◌, ◌≢◌, ⊎_elim, ℕ, ◌+◌, ◌≤◌, Bool, true, false, cond, List, [], ◌∷◌, length, Option, Some, None, nat_eq, option_map, option_and_then, refl, sym, ap, ◌∙◌, arith}
+-- Room after an effect, told by the files before it.
+-- Serves: room_is_told_before.
+use Rattle.std.proofs.Common.{◌≡◌, ◌≢◌, ⊎_elim, ℕ, ◌+◌, ◌≤◌, true, List, [], length, Option, Some, None, option_map, refl, sym, ap, ◌∙◌, arith}
 use Rattle.std.specs.Prelude.{◌↔◌}
-use Rattle.std.specs.Map.{lookup, remove_entry}
-use Rattle.std.specs.Cmp.Lexicographic.{pointwise}
 use Rattle.std.proofs.lemmas.Bool.{cases_eq}
-use Rattle.std.proofs.lemmas.List.{length-append}
 use Rattle.nfs_types.specs.Timeval.{Timeval}
-use Rattle.fs_model.specs.Listing.{Listing, entry_at, with_entry}
-use Rattle.fs_model.specs.Files.{Body, Regular, Link, Directory, File, Files, file_at, listing_in, is_directory, places}
+use Rattle.fs_model.specs.Listing.{Listing, entry_at}
+use Rattle.fs_model.specs.Files.{Body, File, Files, file_at, listing_in, is_directory, places}
 use Rattle.fs_model.specs.Trees.{IsFileTree}
 use Rattle.fs_model.proofs.Walks.{none_some, some_same}
-use Rattle.fs_changes.specs.Edits.{with_changed_file, with_new_file, relisted, relisted_body, with_name}
-use Rattle.fs_changes.specs.Limits.{blocks_in, entry_count, file_count, block_count, has_room}
+use Rattle.fs_changes.specs.Edits.{with_changed_file, with_new_file, with_name}
+use Rattle.fs_changes.specs.Limits.{blocks_in, entry_count, block_count, has_room}
 use Rattle.fs_changes.proofs.Finite.{nothing_changes, changed_next, changed_here, changed_other, new_here, new_other, total, total_changed, total_new}
-use Rattle.fs_changes.proofs.Room.{count_new, count_changed, AllCookies, within, room, still_room, changed_no_more, same_smaller}
+use Rattle.fs_changes.proofs.Room.{count_new, count_changed, AllCookies, within, room, still_room}
 use Rattle.nfs_spec.specs.Changes.{touch, touched, mark, marked}
 use Rattle.nfs_spec.specs.Procedures.{made}
 use Rattle.nfs_spec_trees.specs.Room.{HasRoomToMake, HasRoomToLink}
-use Rattle.nfs_spec_trees.proofs.Fitting.{next_free}
+use Rattle.nfs_spec_trees.proofs.FilesFit.{next_free}
+use Rattle.nfs_spec_trees.proofs.EditRoom.{touch_no_more, mark_no_more, free_in, named_needs, named_has}
 
 -- ---- a change that leaves bodies
 
@@ -48,78 +47,13 @@ module _ (w : Files) (k : ℕ) (change : File → File) (keeps : (f : File) → 
         cookies = λ n f there. let g = body_there n f there in let same = ap (λ b. (listing_in b).next) g.2 in omega (arith, was.cookies n g.0 g.1, same);
       })
 
--- ---- an entry more
-
-length-same : (t : List ℕ → Bool) (es : List (List ℕ × (ℕ × ℕ))) → lookup t es ≡ None → length (remove_entry t es) ≡ length es
-length-same t [] h = refl
-length-same t (e ∷ es) h = elim (t e.0) as (λ b. cond b (Some e.1) (lookup t es) ≡ None → length (cond b es (e ∷ remove_entry t es)) ≡ length (e ∷ es)) [
-  | true ↦ λ is. absurd (none_some (sym is))
-  | false ↦ λ is. omega (arith, length-same t es is)
-] h
-
-put_entries : (x : List ℕ) (k : ℕ) (b : Body) → is_directory b ≡ true → entry_at (listing_in b) x ≡ None → length (listing_in (relisted_body (λ l. with_entry l x k) b)).entries ≡ length (listing_in b).entries + 1
-put_entries x k (Regular bytes) is free = absurd cc
-put_entries x k (Link target) is free = absurd cc
-put_entries x k (Directory l) is free = omega (arith, length-append (remove_entry (pointwise nat_eq x) l.entries) ((x, (k, l.next)) ∷ []), length-same (pointwise nat_eq x) l.entries free)
-
-put_next : (x : List ℕ) (k : ℕ) (b : Body) → is_directory b ≡ true → (listing_in (relisted_body (λ l. with_entry l x k) b)).next ≡ (listing_in b).next + 1
-put_next x k (Regular bytes) is = absurd cc
-put_next x k (Link target) is = absurd cc
-put_next x k (Directory l) is = refl
-
-put_blocks : (x : List ℕ) (k : ℕ) (b : Body) → blocks_in (relisted_body (λ l. with_entry l x k) b) ≡ blocks_in b
-put_blocks x k (Regular bytes) = refl
-put_blocks x k (Link target) = refl
-put_blocks x k (Directory l) = refl
-
--- what a name more asks of the files
-record IsNamedWithin (w : Files) (next_cookie : ℕ) : Type 0 where
-  files : file_count w ≤ 8192
-  entries : entry_count w + 1 ≤ 16384
-  blocks : block_count w ≤ 32768
-  next : w.next ≤ 4294967295
-  cookie : next_cookie ≤ 4294967294
-
-module _ (w : Files) (d : ℕ) (x : List ℕ) (k : ℕ) (f : File) (there : file_at w d ≡ Some f) (is : is_directory f.body ≡ true) (free : entry_at (listing_in f.body) x ≡ None) where
-  abbrev put : File → File
-  put = relisted (λ l. with_entry l x k)
-
-  named_needs : has_room (with_name w d x k) ≡ true → IsNamedWithin w (listing_in f.body).next
-  unfolding AllCookies
-  named_needs h =
-      let was = within (with_name w d x k) h in
-      let own = was.cookies d (put f) (changed_here w d put d refl ∙ ap (option_map put) there) in
-      record {
-        files = omega (arith, count_changed w d put, was.files);
-        entries = omega (arith, total_changed (λ g. length (listing_in g.body).entries) w d put f there, put_entries x k f.body is free, was.entries);
-        blocks = omega (arith, total_changed (λ g. blocks_in g.body) w d put f there, put_blocks x k f.body, was.blocks);
-        next = omega (arith, changed_next w d put 0, was.next);
-        cookie = omega (arith, own, put_next x k f.body is);
-      }
-
-  named_has : AllCookies w → IsNamedWithin w (listing_in f.body).next → has_room (with_name w d x k) ≡ true
-  unfolding AllCookies
-  named_has all h = room (with_name w d x k) (record {
-    files = omega (arith, count_changed w d put, h.files);
-    entries = omega (arith, total_changed (λ g. length (listing_in g.body).entries) w d put f there, put_entries x k f.body is free, h.entries);
-    blocks = omega (arith, total_changed (λ g. blocks_in g.body) w d put f there, put_blocks x k f.body, h.blocks);
-    next = omega (arith, changed_next w d put 0, h.next);
-    cookies = λ n g at. ⊎_elim
-        (λ e. let same = ap (λ (z : File). (listing_in z.body).next) (some_same (sym (changed_here w d put n e ∙ ap (option_map put) there) ∙ at)) in omega (arith, same, put_next x k f.body is, h.cookie))
-        (λ ne. all n g (sym (changed_other w d put n ne) ∙ at))
-        (cases_eq n d);
-  })
-
 -- ---- in a tree
-
-free_in : (w : Files) (d : ℕ) (x : List ℕ) (f : File) → file_at w d ≡ Some f → places w d x ≡ None → entry_at (listing_in f.body) x ≡ None
-free_in w d x f there free = sym (ap (option_and_then (λ f. entry_at (listing_in f.body) x)) there) ∙ free
 
 touched_back : (now : Timeval) (w : Files) (d : ℕ) → has_room (touch now w d) ≡ true → has_room w ≡ true
 touched_back now w d = room_back w d (touched now) (λ f. refl)
 
 touched_on : (now : Timeval) (w : Files) (d : ℕ) → has_room w ≡ true → has_room (touch now w d) ≡ true
-touched_on now w d = still_room w (touch now w d) (changed_no_more w d (touched now) (λ f. same_smaller f (touched now f) refl))
+touched_on now w d = still_room w (touch now w d) (touch_no_more now w d)
 
 module _ (now : Timeval) (w : Files) (tree : IsFileTree w) (before : has_room w ≡ true) (dir : ℕ) (name : List ℕ) (d : File) (there : file_at w dir ≡ Some d) (is : is_directory d.body ≡ true) (free : places w dir name ≡ None) where
   not_next : dir ≢ w.next
@@ -148,6 +82,7 @@ module _ (now : Timeval) (w : Files) (tree : IsFileTree w) (before : has_room w 
         (λ ne. (within w before).cookies n g (sym (new_other w f n ne) ∙ at))
         (cases_eq n w.next)
 
+    -- room after a new file with a name, by the counts before
     pub to_make : (has_room (made now w dir name f) ≡ true) ↔ HasRoomToMake w (listing_in d.body).next (blocks_in f.body)
     unfolding one
     to_make = (
@@ -169,6 +104,7 @@ module _ (now : Timeval) (w : Files) (tree : IsFileTree w) (before : has_room w 
       }))),
     )
 
+-- room after a name more, by the counts before
 pub to_link : (now : Timeval) (w : Files) → has_room w ≡ true → (dir : ℕ) (name : List ℕ) (d : File) → file_at w dir ≡ Some d → is_directory d.body ≡ true → places w dir name ≡ None → (from : ℕ)
     → (has_room (touch now (with_name (mark now w from) dir name from) dir) ≡ true) ↔ HasRoomToLink w (listing_in d.body).next
 to_link now w before dir name d there is free from =
@@ -178,13 +114,14 @@ to_link now w before dir name d there is free from =
     let free_g : entry_at (listing_in g.0.body) name ≡ None = ap (λ b. entry_at (listing_in b) name) g.2 ∙ free_in w dir name d there free in
     let same_next = ap (λ b. (listing_in b).next) g.2 in
     let same_entries = same_total w from (marked now) (λ f. refl) (λ b. length (listing_in b).entries) in
-    let within_v = within v (still_room w v (changed_no_more w from (marked now) (λ f. same_smaller f (marked now f) refl)) before) in (
+    let within_v = within v (still_room w v (mark_no_more now w from) before) in (
       (λ h. let n = named_needs v dir name from g.0 g.1 is_g free_g (touched_back now (with_name v dir name from) dir h) in record { entries = omega (arith, same_entries, n.entries); cookie = omega (arith, same_next, n.cookie) }),
       (λ h. touched_on now (with_name v dir name from) dir (named_has v dir name from g.0 g.1 is_g free_g within_v.cookies (record { files = within_v.files; entries = omega (arith, same_entries, h.entries); blocks = within_v.blocks; next = within_v.next; cookie = omega (arith, same_next, h.cookie) }))),
     )
 
 -- ---- other bytes
 
+-- room after other bytes, by the blocks before
 pub to_write : (w : Files) → has_room w ≡ true → (n : ℕ) (change : File → File) (f : File) → file_at w n ≡ Some f → listing_in (change f).body ≡ listing_in f.body
     → (has_room (with_changed_file w n change) ≡ true) ↔ (block_count w + blocks_in (change f).body ≤ 32768 + blocks_in f.body)
 unfolding AllCookies

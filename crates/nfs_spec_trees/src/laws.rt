@@ -17,18 +17,23 @@ pub fn above_is_by_paths()
         ((is_above w upper dir ≡ true) ↔ IsAbove (places w) upper dir) }
 {}
 
-/// Where no limit is passed before, the room that a call asks for is told by the files before it: for a new file by how many
-/// files, entries and blocks there are, the next number and the directory's next cookie; for another name of a file by the
-/// entries and the cookie; for other bytes of a file by the blocks.
+/// Where no limit is passed before, the room that a call asks for is told by the files before it: for a new
+/// file by how many files, entries and blocks there are, the next number and the directory's next cookie; for
+/// another name of a file by the entries and the cookie; for other bytes of a file by the blocks.
 pub fn room_is_told_before()
     ensures make { (w : Files) (now : Timeval) (dir : ℕ) (name : List ℕ) (d f : File) →
         IsFileTree w → IsTrue (has_room w) → file_at w dir ≡ Some d → is_directory d.body ≡ true →
-        places w dir name ≡ None → (listing_in f.body).entries ≡ [] → (listing_in f.body).next ≤ 4294967295 →
-        (IsTrue (has_room (made now w dir name f)) ↔ HasRoomToMake w (listing_in d.body).next (blocks_in f.body)) }
+        places w dir name ≡ None →
+        (listing_in f.body).entries ≡ [] → (listing_in f.body).next ≤ 4294967295 →
+        (IsTrue (has_room (made now w dir name f))
+        ↔ HasRoomToMake w (listing_in d.body).next (blocks_in f.body)) }
     ensures link { (w : Files) (now : Timeval) (from dir : ℕ) (name : List ℕ) (d : File) →
-        IsTrue (has_room w) → file_at w dir ≡ Some d → is_directory d.body ≡ true → places w dir name ≡ None →
-        (IsTrue (has_room (touch now (with_name (mark now w from) dir name from) dir)) ↔ HasRoomToLink w (listing_in d.body).next) }
+        IsTrue (has_room w) → file_at w dir ≡ Some d → is_directory d.body ≡ true →
+        places w dir name ≡ None →
+        (IsTrue (has_room (touch now (with_name (mark now w from) dir name from) dir))
+        ↔ HasRoomToLink w (listing_in d.body).next) }
     ensures write { (w : Files) (n : ℕ) (change : File → File) (f : File) →
         IsTrue (has_room w) → file_at w n ≡ Some f → listing_in (change f).body ≡ listing_in f.body →
-        (IsTrue (has_room (with_changed_file w n change)) ↔ (block_count w + blocks_in (change f).body ≤ 32768 + blocks_in f.body)) }
+        (IsTrue (has_room (with_changed_file w n change))
+        ↔ (block_count w + blocks_in (change f).body ≤ 32768 + blocks_in f.body)) }
 {}

@@ -12,7 +12,7 @@ use Rattle.std.proofs.lemmas.List.Concat.{flat_map-cons, flat_map-append}
 use Rattle.std.proofs.lemmas.List.Folds.{concat-append}
 use Rattle.records.specs.declared.fault.RecordFault.{RecordFault}
 use Rattle.records.specs.declared.fault.RecordFault.TheVariants as faults
-use Rattle.records.specs.Reading.{Grows, IsShorter, IsCutMark, Never, Fails, TakesRecord, TakesToLimit, StopsAt, EndsAt}
+use Rattle.records.specs.Reading.{Grows, IsShorter, IsCutMark, Never, Fails, TakesRecord, TakesToLimit, StopsAt, EndsAt, IsPartOfRecord}
 use Rattle.records.proofs.Marks.{length-mark}
 use Rattle.records.specs.declared.record.TheConstants.{MAX_RECORD, MAX_FRAGMENTS}
 
@@ -50,12 +50,14 @@ after_known None mid bytes taken f h = tt
 after_known (Some xs) None bytes taken f h = absurd taken
 after_known (Some xs) (Some ys) bytes taken f h = f xs ys taken h
 
--- the bytes end in a step, after what was taken before it
-pub stops_after : (e : RecordFault) (before mid after : Option (List ℕ)) (bytes : List ℕ) → Consumes before mid bytes → EndsAt e mid after → StopsAt e before after
-stops_after faults.NoMemory before mid after bytes taken h = tt
-stops_after faults.RecordTooLong before mid after bytes taken h = absurd h
-stops_after faults.Device before mid after bytes taken h = tt
-stops_after faults.EndInRecord before mid after bytes taken (more, taken', end) = (bytes ++ more, Consumes-trans _ _ _ _ _ taken taken', end)
+-- a step comes to a fault after what was taken before it; what it had taken when a device failed is a part of a
+-- record behind that
+stops_after : (e : RecordFault) (before mid after : Option (List ℕ)) (bytes : List ℕ) (IsPart : List ℕ → Type 0) → Consumes before mid bytes
+    → ((more : List ℕ) → IsPart more → IsPartOfRecord (bytes ++ more)) → EndsAt e IsPart mid after → StopsAt e before after
+stops_after faults.NoMemory before mid after bytes IsPart taken is_part h = tt
+stops_after faults.RecordTooLong before mid after bytes IsPart taken is_part h = absurd h
+stops_after faults.Device before mid after bytes IsPart taken is_part (more, taken', part) = (bytes ++ more, Consumes-trans _ _ _ _ _ taken taken', is_part more part)
+stops_after faults.EndInRecord before mid after bytes IsPart taken is_part (more, taken', end) = (bytes ++ more, Consumes-trans _ _ _ _ _ taken taken', end)
 
 -- a fault within a mark, after some fragments
 pub fails_at_mark : (e : RecordFault) (text : List ℕ) (count : ℕ) (before mid : Option (List ℕ)) (m n : ℕ) → Progress text count before mid
@@ -80,6 +82,40 @@ length-fragments : (pieces : List (List ℕ)) → 0 < length pieces → 0 < leng
 length-fragments [] h = absurd (omega arith)
 length-fragments (p ∷ ps) h =
     omega (arith, ap length (flat_map-cons (fragment false) p ps), length-append (fragment false p) (fragments ps), length-append (mark false (length p)) p, length-mark false (length p))
+
+-- some fragments and less than a mark are a part of a record
+part_at_mark : (pieces : List (List ℕ)) (more : List ℕ) → AreWithin pieces → length more < 4 → IsPartOfRecord (fragments pieces ++ more)
+part_at_mark [] [] fits lt = inl refl
+part_at_mark (p ∷ ps) [] fits lt =
+    inr (record {
+      pieces = p ∷ ps;
+      tail = [];
+      bytes_are = refl;
+      within = fits;
+      tail_is = inl lt;
+      some = omega (arith, length-append (fragments (p ∷ ps)) [], length-fragments (p ∷ ps) (omega arith));
+    })
+part_at_mark pieces (b ∷ bs) fits lt =
+    inr (record { pieces = pieces; tail = b ∷ bs; bytes_are = refl; within = fits; tail_is = inl lt; some = omega (arith, length-append (fragments pieces) (b ∷ bs)) })
+
+-- what was taken where a step within a mark came to a fault
+pub stops_at_mark : (e : RecordFault) (text : List ℕ) (count : ℕ) (before mid after : Option (List ℕ)) → Progress text count before mid
+    → EndsAt e (IsShorter 4) mid after → StopsAt e before after
+stops_at_mark e text count before mid after p h =
+    stops_after e before mid after (fragments p.pieces) (IsShorter 4) p.taken (λ more lt. part_at_mark p.pieces more (within text count before mid p) lt) h
+
+-- what was taken where a step within a fragment came to a fault
+pub stops_at_piece : (e : RecordFault) (text : List ℕ) (count : ℕ) (before mid after then' : Option (List ℕ)) (is_last : Bool) (len : ℕ) → Progress text count before mid
+    → Consumes mid after (mark is_last len) → count < MAX_FRAGMENTS → length text + len ≤ MAX_RECORD → EndsAt e (IsShorter len) after then' → StopsAt e before then'
+stops_at_piece e text count before mid after then' is_last len p taken few fits h =
+    stops_after e before after then' (fragments p.pieces ++ mark is_last len) (IsShorter len) (Consumes-trans _ _ _ _ _ p.taken taken) (λ more lt. inr (record {
+      pieces = p.pieces;
+      tail = mark is_last len ++ more;
+      bytes_are = append_assoc (fragments p.pieces) (mark is_last len) more;
+      within = within text count before mid p;
+      tail_is = inr (record { is_last = is_last; len = len; front = more; bytes_are = refl; is_short = lt; fits = has_room text count before mid p len few fits });
+      some = omega (arith, length-append (fragments p.pieces ++ mark is_last len) more, length-append (fragments p.pieces) (mark is_last len), length-mark is_last len);
+    })) h
 
 -- the bytes end after a fragment that isn't the last
 pub fails_at_end : (text : List ℕ) (count : ℕ) (before mid : Option (List ℕ)) → Progress text count before mid → 0 < count → IfSome mid (λ bytes. bytes ≡ []) → IfSome before IsUnfinished

@@ -1,11 +1,11 @@
 -- What the steps of reading a record do.
-use Rattle.std.specs.Prelude.{◌≡◌, ◌<◌, ◌++◌, ◌^◌, ℕ, List, [], length, Bool, true, false, Result, Ok, Err, Option, Some, None, IfSome}
+use Rattle.std.specs.Prelude.{◌≡◌, ◌<◌, ◌++◌, ◌^◌, ◌⊎◌, ℕ, List, [], length, Bool, true, false, Result, Ok, Err, Option, Some, None, IfSome}
 use Rattle.std.specs.Io.KnownBytes.{Consumes, Keeps, IsAtEnd}
 use Rattle.records.specs.declared.record.Mark.{Mark}
 use Rattle.records.specs.declared.fault.RecordFault.{RecordFault}
 use Rattle.records.specs.declared.fault.RecordFault.TheVariants as faults
 use Rattle.records.specs.Count.{Rises, CountedDevice}
-use Rattle.records.specs.Record.{mark, fragments, AreWithin, Passes, IsRecord}
+use Rattle.records.specs.Record.{mark, fragments, AreWithin, Passes, IsRecord, IsUnfinished}
 
 -- a reader with its count, and the fault that it answers from now on
 pub record RecordSource (R : Type 0) : Type 0 where
@@ -79,19 +79,27 @@ FailsUnless faults.RecordTooLong passes ends known old new = IfSome known passes
 FailsUnless faults.Device passes ends known old new = Rises old new
 FailsUnless faults.EndInRecord passes ends known old new = IfSome known ends × (new ≡ old)
 
--- What was taken of the stream where no record was read. A device's failure says nothing of it.
+-- Nothing of a record, or less than a whole one.
+abbrev pub IsPartOfRecord : List ℕ → Type 0
+IsPartOfRecord bytes = (bytes ≡ []) ⊎ IsUnfinished bytes
+
+-- Some bytes were taken, of which this holds.
+abbrev pub TakesPart : (List ℕ → Type 0) → Option (List ℕ) → Option (List ℕ) → Type 0
+TakesPart IsPart old new = (bytes : List ℕ) × Consumes old new bytes × IsPart bytes
+
+-- What was taken of the stream where no record was read.
 abbrev pub StopsAt : RecordFault → Option (List ℕ) → Option (List ℕ) → Type 0
 StopsAt faults.NoMemory old new = Unit {0}
 StopsAt faults.RecordTooLong old new = TakesToLimit old new
-StopsAt faults.Device old new = Unit {0}
+StopsAt faults.Device old new = TakesPart IsPartOfRecord old new
 StopsAt faults.EndInRecord old new = TakesAll old new
 
--- The same of a step that looks at no limit.
-abbrev pub EndsAt : RecordFault → Option (List ℕ) → Option (List ℕ) → Type 0
-EndsAt faults.NoMemory old new = ⊥
-EndsAt faults.RecordTooLong old new = ⊥
-EndsAt faults.Device old new = Unit {0}
-EndsAt faults.EndInRecord old new = TakesAll old new
+-- The same of a step that looks at no limit, and takes at most so much before a device fails.
+abbrev pub EndsAt : RecordFault → (IsPart : List ℕ → Type 0) → Option (List ℕ) → Option (List ℕ) → Type 0
+EndsAt faults.NoMemory IsPart old new = ⊥
+EndsAt faults.RecordTooLong IsPart old new = ⊥
+EndsAt faults.Device IsPart old new = TakesPart IsPart old new
+EndsAt faults.EndInRecord IsPart old new = TakesAll old new
 
 -- The fault that a reader answers from then on.
 abbrev pub fault_after : {A : Type 0} → Option RecordFault → Result A RecordFault → Option RecordFault

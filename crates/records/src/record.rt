@@ -5,7 +5,7 @@ ghost use Rattle.std.specs.Option.{option_map};
 ghost use Rattle.std.specs.Io.KnownBytes.{Consumes, IsAtEnd};
 ghost use Rattle.records.specs.Count.{Rises};
 ghost use Rattle.records.specs.Record.{mark, IsUnfinished, PassesLimit};
-ghost use Rattle.records.specs.Reading.{BeginsWithMark, Grows, Fails, FailsUnless, StopsAt, EndsAt, IsCutMark, Never, IsShorter, Takes, TakesRecord, fault_after};
+ghost use Rattle.records.specs.Reading.{BeginsWithMark, Grows, Fails, FailsUnless, StopsAt, EndsAt, TakesPart, IsCutMark, Never, IsShorter, Takes, TakesRecord, fault_after};
 
 use crate::counting::Counting;
 use crate::fault::RecordFault;
@@ -31,7 +31,8 @@ struct Mark {
     len: u32,
 }
 
-/// Fills a buffer, or as much of it as there are bytes.
+/// Fills a buffer, or as much of it as there are bytes. Where a read fails, what was read before it, less than
+/// the buffer holds, is lost.
 fn fill<R: Read>(reader: &mut Counting<R>, buf: &mut [u8]) -> io::Result<usize>
     ensures bound { IfOk result (λ n. n ≤ length buf.new) }
     ensures bytes { IfOk result (λ n.
@@ -39,6 +40,8 @@ fn fill<R: Read>(reader: &mut Counting<R>, buf: &mut [u8]) -> io::Result<usize>
     ensures end { IfOk result (λ n. n < length buf.new → IsAtEnd (R.remaining reader.new.inner)) }
     ensures kept { OnOk result (reader.new.count ≡ reader.old.count) }
     ensures device { OnErr result (Rises reader.old.count reader.new.count) }
+    ensures part { OnErr result (TakesPart (IsShorter (length buf.new))
+        (R.remaining reader.old.inner) (R.remaining reader.new.inner)) }
 {
     let mut at = 0;
     while at < buf.len() {
@@ -78,7 +81,7 @@ fn read_mark<R: Read>(reader: &mut Counting<R>) -> Result<Option<Mark>, RecordFa
     ensures fault { IfErr result (λ e.
         Fails e Never IsCutMark (R.remaining reader.old.inner) reader.old.count reader.new.count) }
     ensures taken { IfErr result (λ e.
-        EndsAt e (R.remaining reader.old.inner) (R.remaining reader.new.inner)) }
+        EndsAt e (IsShorter 4) (R.remaining reader.old.inner) (R.remaining reader.new.inner)) }
 {
     let mut bytes = [0u8; 4];
     match fill(reader, &mut bytes) {
@@ -103,7 +106,7 @@ fn read_piece<R: Read>(
     ensures fault { IfErr result (λ e.
         Fails e Never (IsShorter len) (R.remaining reader.old.inner) reader.old.count reader.new.count) }
     ensures taken { IfErr result (λ e.
-        EndsAt e (R.remaining reader.old.inner) (R.remaining reader.new.inner)) }
+        EndsAt e (IsShorter len) (R.remaining reader.old.inner) (R.remaining reader.new.inner)) }
 {
     let start = joined.len();
     joined.resize(start + len as usize, 0).unwrap();
@@ -126,7 +129,7 @@ fn passes_limit(count: u32, joined: &[u8], len: u32) -> bool
 }
 
 /// Reads the next record into an empty vector, and says whether there was one.
-#[tactic(auto, using(crate::proofs::Fragments::stops_after))]
+#[tactic(auto)]
 fn read_record<R: Read>(reader: &mut Counting<R>, joined: &mut Vec<u8>) -> Result<bool, RecordFault>
     requires empty { joined.old.items ≡ [] }
     requires room { MAX_RECORD ≤ vec_capacity joined.old }
@@ -213,8 +216,8 @@ impl<R: Read + Drop> RecordReader<R> {
     /// `NoMemory` comes before anything is read, and the next call tries again. `RecordTooLong`
     /// comes at the mark that passes a limit, and no byte behind that mark is read; `EndInRecord`
     /// where the bytes end within a record, and then the reader is at its end, as it is where there
-    /// is no record; `Device` where a read failed, an interrupted one too. Each of these three is
-    /// answered from then on, without a read.
+    /// is no record; `Device` where a read failed, an interrupted one too, and then less than a whole
+    /// record was read. Each of these three is answered from then on, without a read.
     pub fn next(&mut self, alloc: Global) -> Result<Option<Vec<u8>>, RecordFault>
         ensures found { IfOk result (λ found. TakesRecord (option_map (λ v. v.items) found)
             (R.remaining self.old.reader.inner) (R.remaining self.new.reader.inner)) }

@@ -1,28 +1,17 @@
-use Rattle.std.proofs.Common.{◌≡◌, ℕ, ◌+◌, ◌≤◌, true, false, [], Option, Some, None, Ok, refl, sym, ap, subst, ◌∙◌, arith}
+use Rattle.std.proofs.Common.{◌≡◌, ℕ, ◌+◌, ◌≤◌, true, false, [], Option, Some, refl, sym, ap, subst, ◌∙◌, arith}
 use Rattle.std.specs.Prelude.{option_map, is_some}
 use Rattle.std.specs.Option.{option_map_or}
 use Rattle.nfs_types.specs.declared.attributes.Fattr.{Fattr}
-use Rattle.nfs_types.specs.declared.stat.Stat.TheVariants as stats
 use Rattle.fs_model.specs.Files.{Body, Regular, Link, Directory, File, Files, file_at, is_directory, IsDirectory, listing_in, names_of}
 use Rattle.fs_model.proofs.Walks.{some_same}
 use Rattle.fs_model.proofs.Counts.{has_two}
-use Rattle.nfs_spec.specs.Attributes.{attributes_of, nlink_of, subdirectories}
-use Rattle.nfs_spec.specs.Checks.{◌>>=◌, found_or}
-use Rattle.nfs_spec.specs.Effects.{attributes_at}
+use Rattle.nfs_spec.specs.Attributes.{nlink_of, subdirectories}
+use Rattle.nfs_spec_steps.specs.Read.{AttributesOk}
+use Rattle.nfs_spec_steps.proofs.Reading.{attributes_ok}
 use Rattle.nfs_spec_laws.proofs.laws.links_are_counted.Goals as goal
 
--- attributes are of a file that is there
-pub record AreOf (w : Files) (n : ℕ) (a : Fattr) : Type 0 where
-  pub file : File
-  pub there : file_at w n ≡ Some file
-  pub nlink : a.nlink ≡ nlink_of w n file.body
-
-told : (w : Files) (n : ℕ) (a : Fattr) → attributes_at w n ≡ Ok a → AreOf w n a
-told w n a e = by (file_at w n) refl e
-  where
-    by : (o : Option File) → file_at w n ≡ o → (found_or stats.Stale o >>= λ f. Ok (attributes_of w n f)) ≡ Ok a → AreOf w n a
-    by None is h = absurd cc
-    by (Some f) is h = let same : attributes_of w n f ≡ a = cc in record { file = f; there = is; nlink = ap (λ (r : Fattr). r.nlink) (sym same) }
+nlink : (w : Files) (n : ℕ) (a : Fattr) (o : AttributesOk w n a) → a.nlink ≡ nlink_of w n o.file.body
+nlink w n a o = ap (λ (b : Fattr). b.nlink) o.answer
 
 named_only : (w : Files) (n : ℕ) (b : Body) → is_directory b ≡ false → nlink_of w n b ≡ names_of w n
 named_only w n (Regular bytes) e = refl
@@ -36,17 +25,17 @@ two_and w n (Directory l) e = refl
 
 pub returns-clause-names : goal.returns-clause-names
 returns-clause-names c w n f a there kind e =
-    let t = told w n a e in
+    let t = attributes_ok w n a e in
     let same : t.file ≡ f = some_same (sym t.there ∙ there) in
-    t.nlink ∙ named_only w n t.file.body (ap (λ (g : File). is_directory g.body) same ∙ kind)
+    nlink w n a t ∙ named_only w n t.file.body (ap (λ (g : File). is_directory g.body) same ∙ kind)
 
 kind_of : (w : Files) (n : ℕ) (f : File) → file_at w n ≡ Some f → IsDirectory w n → is_directory f.body ≡ true
 kind_of w n f there is = some_same (ap (option_map (λ (g : File). is_directory g.body)) (sym there) ∙ is)
 
 pub returns-clause-directory : goal.returns-clause-directory
 returns-clause-directory c w n a is e =
-    let t = told w n a e in
-    t.nlink ∙ two_and w n t.file.body (kind_of w n t.file t.there is)
+    let t = attributes_ok w n a e in
+    nlink w n a t ∙ two_and w n t.file.body (kind_of w n t.file t.there is)
     ∙ ap (λ (o : Option File). 2 + subdirectories w (option_map_or (λ f. listing_in f.body) o (record { next = 0; entries = [] }))) (sym t.there)
 
 -- one name at least, of what is no directory
@@ -63,14 +52,14 @@ root_kind w n e is = subst (IsDirectory w) (sym e) is
 
 pub returns-clause-some : goal.returns-clause-some
 returns-clause-some c w n a tree e =
-    let t = told w n a e in
+    let t = attributes_ok w n a e in
     let there : is_some (file_at w n) ≡ true = ap (λ (o : Option File). is_some o) t.there in
     let other : is_directory t.file.body ≡ false → n ≡ 1 → ⊥ = λ not is. true_not_false (sym (kind_of w n t.file t.there (root_kind w n is tree.tree.root)) ∙ not) in
     let more : 1 ≤ nlink_of w n t.file.body = least w n 1 t.file.body (omega arith) (λ not. tree.named n (other not) there) in
-    omega (arith, more, t.nlink)
+    omega (arith, more, nlink w n a t)
 
 pub returns-clause-two : goal.returns-clause-two
 returns-clause-two c w n dir other k b x y a p q differ e =
-    let t = told w n a e in
+    let t = attributes_ok w n a e in
     let more : 2 ≤ nlink_of w n t.file.body = least w n 2 t.file.body (omega arith) (λ _. has_two w n dir other k b x y p q differ) in
-    omega (arith, more, t.nlink)
+    omega (arith, more, nlink w n a t)

@@ -1,4 +1,4 @@
-use Rattle.nfs_spec_laws.proofs.Stays.{stays}
+use Rattle.nfs_spec_laws.proofs.EveryCall.{stays}
 use Rattle.nfs_spec_laws.proofs.laws.no_limit_is_passed.Goals as goal
 
 pub returns : goal.returns

@@ -1,4 +1,4 @@
-use Rattle.nfs_spec_laws.proofs.Stays.{stays}
+use Rattle.nfs_spec_laws.proofs.EveryCall.{stays}
 use Rattle.nfs_spec_laws.proofs.laws.nothing_is_given_again.Goals as goal
 
 pub returns : goal.returns

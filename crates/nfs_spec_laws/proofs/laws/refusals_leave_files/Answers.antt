@@ -1,4 +1,4 @@
-use Rattle.nfs_spec_laws.proofs.Stays.{refusals}
+use Rattle.nfs_spec_laws.proofs.EveryCall.{refusals}
 use Rattle.nfs_spec_laws.proofs.laws.refusals_leave_files.Goals as goal
 
 pub returns : goal.returns

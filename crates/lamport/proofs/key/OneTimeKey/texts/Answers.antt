@@ -1,5 +1,6 @@
 use Rattle.std.proofs.Common.{◌≡◌, arith}
-use Rattle.lamport.proofs.Joining.{shown_front_none, other_front_none, shown_front_more, other_front_more, shown_front_all, other_front_all}
+use Rattle.lamport.specs.declared.key.TheConstants.{PLACES}
+use Rattle.lamport.proofs.LeafTexts.{shown_front_none, other_front_none, shown_front_more, other_front_more, shown_front_all, other_front_all}
 use Rattle.lamport.proofs.key.OneTimeKey.texts.Goals as goal
 
 pub loop-place-init : goal.loop-place-init
@@ -16,10 +17,10 @@ loop-place-preserved c = record {
 
 pub returns-clause-shown : goal.returns-clause-shown
 returns-clause-shown c =
-    let all : c.loop-place.place ≡ 256 = omega arith in
+    let all : c.loop-place.place ≡ PLACES = omega arith in
     rw (shown_front_all, ← all) c.loop-place.invariant.shown
 
 pub returns-clause-other : goal.returns-clause-other
 returns-clause-other c =
-    let all : c.loop-place.place ≡ 256 = omega arith in
+    let all : c.loop-place.place ≡ PLACES = omega arith in
     rw (other_front_all, ← all) c.loop-place.invariant.other

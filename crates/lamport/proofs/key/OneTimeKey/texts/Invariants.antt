@@ -1,5 +1,5 @@
 use Rattle.std.proofs.Common.{◌≡◌}
-use Rattle.lamport.proofs.Joining.{shown_front, other_front}
+use Rattle.lamport.proofs.LeafTexts.{shown_front, other_front}
 use Rattle.lamport.proofs.key.OneTimeKey.texts.Given as goal
 
 abbrev pub invariant-loop-place : goal.invariant-loop-place

@@ -1,0 +1,7 @@
+use Rattle.sha2.specs.Hashers.{Holds256}
+use Rattle.lamport.specs.Lamport.{public_hash}
+use Rattle.lamport.proofs.LeafTexts.{leaf_front}
+use Rattle.lamport.proofs.key.OneTimeKey.leaf_hash.Given as goal
+
+abbrev pub invariant-loop-place : goal.invariant-loop-place
+invariant-loop-place l = Holds256 l.text (leaf_front (public_hash l.self) l.place)

@@ -1,7 +1,0 @@
-use Rattle.sha2.specs.Hashers.{Holds256}
-use Rattle.lamport.specs.Lamport.{public_hash}
-use Rattle.lamport.proofs.Joining.{leaf_front}
-use Rattle.lamport.proofs.key.OneTimeKey.node.Given as goal
-
-abbrev pub invariant-loop-place : goal.invariant-loop-place
-invariant-loop-place l = Holds256 l.text (leaf_front (public_hash l.self) l.place)

@@ -1,0 +1,7 @@
+pub mod Steps
+pub mod Setting
+pub mod Making
+pub mod Removing
+pub mod Renaming
+pub mod Reading
+pub mod EachCall
