@@ -9,8 +9,8 @@ use Rattle.xdr.specs.Item.{empty, Value, IsBytes, spelling}
 use Rattle.xdr.specs.Reading.{Read, ◌>>=◌, read_at}
 use Rattle.xdr.proofs.Front.{bind_ok, done, ok_is}
 use Rattle.xdr.proofs.Exact.{takes, again}
-use Rattle.nfs_spec.specs.Calls as calls
-use Rattle.nfs_spec.specs.Calls.{Call}
+use Rattle.nfs_spec.specs.NfsCalls as calls
+use Rattle.nfs_spec.specs.NfsCalls.{Call}
 use Rattle.call_items.specs.Texts.{Procedure, procedures, procedure_numbered, said, call_at, SaysCall}
 
 some_is : {A : Type 0} {a b : A} → Some a ≡ Some b → a ≡ b

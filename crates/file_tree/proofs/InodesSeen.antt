@@ -9,10 +9,10 @@ use Rattle.nfs_types.specs.Caller.{Caller}
 use Rattle.nfs_types.specs.declared.stat.Stat.TheVariants as stats
 use Rattle.fs_model.specs.Files.{File, Files, file_at, parent_of}
 use Rattle.fs_model.specs.Trees.{IsBody}
-use Rattle.nfs_spec.specs.Checks.{◌>>=◌, found_or, listing_or, may_search}
-use Rattle.nfs_spec.specs.Attributes.{attributes_of}
+use Rattle.nfs_spec.specs.ProcedureChecks.{◌>>=◌, ok_or, listing_or, may_search}
+use Rattle.nfs_spec.specs.FileAttributes.{attributes_of}
 use Rattle.nfs_spec.specs.Effects.{attributes_at, number_named, number_at_name}
-use Rattle.inodes.specs.LookUp.{number_listed}
+use Rattle.nfs_spec.specs.Effects.{number_in_listing}
 use Rattle.inodes.specs.Inodes.{body_in, file_in, inode_at, files_of, parent_in, KeepsParent, AreTree, fattr_of}
 use Rattle.inodes.specs.InodeLookUp.{look_up_in}
 use Rattle.inodes.specs.declared.inode.Body as stored
@@ -33,21 +33,21 @@ module _ (fsid next : ℕ) (inodes : List (ℕ × Inode)) where
 
   -- STALE where no inode has a number
   pub attributes_none : (n : ℕ) → inode_at inodes n ≡ None → attributes_at (files_of fsid next inodes) n ≡ Err stats.Stale
-  attributes_none n none = ap (λ o. found_or stats.Stale o >>= (λ f. Ok (attributes_of (files_of fsid next inodes) n f))) (file_seen n ∙ ap (option_map file_in) none)
+  attributes_none n none = ap (λ o. ok_or stats.Stale o >>= (λ f. Ok (attributes_of (files_of fsid next inodes) n f))) (file_seen n ∙ ap (option_map file_in) none)
 
   -- the same of a look-up
   pub number_none : (who : Caller) (n : ℕ) (name : List ℕ) → inode_at inodes n ≡ None → number_at_name (files_of fsid next inodes) who n name ≡ Err stats.Stale
   number_none who n name none =
-      ap (λ o. found_or stats.Stale o >>= (λ f. listing_or stats.NotDir f.body >>= (λ l. if may_search who f then found_or stats.NoEnt (number_named (files_of fsid next inodes) n l name) else Err stats.Acces)))
+      ap (λ o. ok_or stats.Stale o >>= (λ f. listing_or stats.NotDir f.body >>= (λ l. if may_search who f then ok_or stats.NoEnt (number_named (files_of fsid next inodes) n l name) else Err stats.Acces)))
       (file_seen n ∙ ap (option_map file_in) none)
 
 -- in a directory, the one above is the one that it keeps
 named_in : (w : Files) (who : Caller) (n : ℕ) (name : List ℕ) (f : File) (b : stored.Body) → KeepsParent b (parent_of w n)
-    → (listing_or stats.NotDir (body_in b) >>= (λ l. if may_search who f then found_or stats.NoEnt (number_named w n l name) else Err stats.Acces))
-    ≡ (listing_or stats.NotDir (body_in b) >>= (λ l. if may_search who f then found_or stats.NoEnt (number_listed n (parent_in b) l name) else Err stats.Acces))
+    → (listing_or stats.NotDir (body_in b) >>= (λ l. if may_search who f then ok_or stats.NoEnt (number_named w n l name) else Err stats.Acces))
+    ≡ (listing_or stats.NotDir (body_in b) >>= (λ l. if may_search who f then ok_or stats.NoEnt (number_in_listing n (parent_in b) l name) else Err stats.Acces))
 named_in w who n name f (code.Regular bytes) kept = refl
 named_in w who n name f (code.Link target) kept = refl
-named_in w who n name f (code.Directory parent l) kept = ap (λ above. if may_search who f then found_or stats.NoEnt (number_listed n above l name) else Err stats.Acces) (sym kept)
+named_in w who n name f (code.Directory parent l) kept = ap (λ above. if may_search who f then ok_or stats.NoEnt (number_in_listing n above l name) else Err stats.Acces) (sym kept)
 
 -- where an inode has a number
 module _ (fsid next : ℕ) (inodes : List (ℕ × Inode)) (tree : AreTree fsid next inodes) (n : ℕ) (inode : Inode) (at : inode_at inodes n ≡ Some inode) where
@@ -61,11 +61,11 @@ module _ (fsid next : ℕ) (inodes : List (ℕ × Inode)) (tree : AreTree fsid n
   -- its attributes are those that it keeps
   pub attributes_some : attributes_at (files_of fsid next inodes) n ≡ Ok (fattr_of fsid n inode)
   attributes_some =
-      ap (λ o. found_or stats.Stale o >>= (λ f. Ok (attributes_of (files_of fsid next inodes) n f))) there
+      ap (λ o. ok_or stats.Stale o >>= (λ f. Ok (attributes_of (files_of fsid next inodes) n f))) there
       ∙ ap (λ k. Ok (record (fattr_of fsid n inode) { nlink = k })) (sym (tree.counted n inode at).nlink)
 
   -- and a look-up in it is one in the files
   pub number_some : (who : Caller) (name : List ℕ) → number_at_name (files_of fsid next inodes) who n name ≡ look_up_in who n inode name
   number_some who name =
-      ap (λ o. found_or stats.Stale o >>= (λ f. listing_or stats.NotDir f.body >>= (λ l. if may_search who f then found_or stats.NoEnt (number_named (files_of fsid next inodes) n l name) else Err stats.Acces))) there
+      ap (λ o. ok_or stats.Stale o >>= (λ f. listing_or stats.NotDir f.body >>= (λ l. if may_search who f then ok_or stats.NoEnt (number_named (files_of fsid next inodes) n l name) else Err stats.Acces))) there
       ∙ named_in (files_of fsid next inodes) who n name (file_in inode) inode.body (tree.counted n inode at).parent

@@ -7,11 +7,11 @@ use Rattle.nfs_types.specs.declared.stat.Stat.{Stat}
 use Rattle.nfs_types.specs.declared.stat.Stat.TheVariants as stats
 use Rattle.fs_model.specs.Listing.{entry_at}
 use Rattle.fs_model.specs.Names.{dot_dot, is_name}
-use Rattle.fs_model.specs.Files.{Body, Regular, Link, Directory, File, Files, file_at, listing_in, is_directory, places, parent_of}
+use Rattle.fs_model.specs.Files.{Body, Regular, Symlink, Directory, File, Files, file_at, listing_in, is_directory, places, parent_of}
 use Rattle.fs_model.specs.Trees.{IsFileTree}
 use Rattle.fs_model.proofs.Walks.{step_last}
 use Rattle.fs_model.proofs.Parents.{parent_path}
-use Rattle.nfs_spec.specs.Checks.{◌>>=◌, found_or, listing_or, may_search}
+use Rattle.nfs_spec.specs.ProcedureChecks.{◌>>=◌, ok_or, listing_or, may_search}
 use Rattle.nfs_spec.specs.Effects.{number_named, number_at_name}
 use Rattle.nfs_spec.proofs.Lookups.{plain_name}
 use Rattle.file_tree.specs.LookUps.{LeadsOn, LeadsBack}
@@ -30,16 +30,16 @@ module _ (w : Files) (who : Caller) (dir : ℕ) (name : List ℕ) where
       same : ◌≡◌ {A = Result ℕ Stat} (Err e) (Err stats.NoEnt) → e ≡ stats.NoEnt
       same h = cc
 
-  found : (o : Option ℕ) → IsAt o (found_or stats.NoEnt o)
+  found : (o : Option ℕ) → IsAt o (ok_or stats.NoEnt o)
   found None = record { found = λ k h. cc; absent = λ h. refl }
   found (Some n) = record { found = λ k h. cc; absent = λ h. cc }
 
   module _ (named : is_name name ≡ true) where
-    listed : (f : File) (b : Body) → IsAt (option_map (λ e. e.0) (entry_at (listing_in b) name)) (listing_or stats.NotDir b >>= (λ l. if may_search who f then found_or stats.NoEnt (number_named w dir l name) else Err stats.Acces))
+    listed : (f : File) (b : Body) → IsAt (option_map (λ e. e.0) (entry_at (listing_in b) name)) (listing_or stats.NotDir b >>= (λ l. if may_search who f then ok_or stats.NoEnt (number_named w dir l name) else Err stats.Acces))
     listed f (Regular bytes) = no _ stats.NotDir (λ h. cc)
-    listed f (Link target) = no _ stats.NotDir (λ h. cc)
-    listed f (Directory l) = elim (may_search who f) as (λ b. IsAt (option_map (λ e. e.0) (entry_at l name)) (if b then found_or stats.NoEnt (number_named w dir l name) else Err stats.Acces)) [
-      | true ↦ subst (λ o. IsAt (option_map (λ e. e.0) (entry_at l name)) (found_or stats.NoEnt o))
+    listed f (Symlink target) = no _ stats.NotDir (λ h. cc)
+    listed f (Directory l) = elim (may_search who f) as (λ b. IsAt (option_map (λ e. e.0) (entry_at l name)) (if b then ok_or stats.NoEnt (number_named w dir l name) else Err stats.Acces)) [
+      | true ↦ subst (λ o. IsAt (option_map (λ e. e.0) (entry_at l name)) (ok_or stats.NoEnt o))
           (sym (plain_name w dir l name named))
           (found (option_map (λ e. e.0) (entry_at l name)))
       | false ↦ no _ stats.Acces (λ h. cc)
@@ -48,7 +48,7 @@ module _ (w : Files) (who : Caller) (dir : ℕ) (name : List ℕ) where
     -- a look-up of a plain name tells what is there
     pub at_name : IsAt (option_map (λ e. e.0) (places w dir name)) (number_at_name w who dir name)
     at_name = elim (file_at w dir) as (λ o. IsAt (option_map (λ e. e.0) (option_and_then (λ f. entry_at (listing_in f.body) name) o))
-        (found_or stats.Stale o >>= (λ f. listing_or stats.NotDir f.body >>= (λ l. if may_search who f then found_or stats.NoEnt (number_named w dir l name) else Err stats.Acces)))) [
+        (ok_or stats.Stale o >>= (λ f. listing_or stats.NotDir f.body >>= (λ l. if may_search who f then ok_or stats.NoEnt (number_named w dir l name) else Err stats.Acces)))) [
           | None ↦ no _ stats.Stale (λ h. cc)
           | Some f ↦ listed f f.body
         ]
@@ -63,13 +63,13 @@ module _ (w : Files) (who : Caller) (dir k : ℕ) where
   searched true h = cc
   searched false h = cc
 
-  in_body : (f : File) (b : Body) → (listing_or stats.NotDir b >>= (λ l. if may_search who f then found_or stats.NoEnt (number_named w dir l dot_dot) else Err stats.Acces)) ≡ Ok k
+  in_body : (f : File) (b : Body) → (listing_or stats.NotDir b >>= (λ l. if may_search who f then ok_or stats.NoEnt (number_named w dir l dot_dot) else Err stats.Acces)) ≡ Ok k
       → (is_directory b ≡ true) × (parent_of w dir ≡ k)
   in_body f (Regular bytes) h = cc
-  in_body f (Link target) h = cc
+  in_body f (Symlink target) h = cc
   in_body f (Directory l) h = (refl, searched (may_search who f) h)
 
-  in_file : (o : Option File) → (found_or stats.Stale o >>= (λ f. listing_or stats.NotDir f.body >>= (λ l. if may_search who f then found_or stats.NoEnt (number_named w dir l dot_dot) else Err stats.Acces))) ≡ Ok k
+  in_file : (o : Option File) → (ok_or stats.Stale o >>= (λ f. listing_or stats.NotDir f.body >>= (λ l. if may_search who f then ok_or stats.NoEnt (number_named w dir l dot_dot) else Err stats.Acces))) ≡ Ok k
       → (option_map (λ f. is_directory f.body) o ≡ Some true) × (parent_of w dir ≡ k)
   in_file None h = cc
   in_file (Some f) h = let b = in_body f f.body h in (ap (λ t. Some t) b.0, b.1)

@@ -8,9 +8,9 @@ use Rattle.fs_model.specs.Files.{Regular, Directory, is_directory, parent_of}
 use Rattle.fs_model.specs.Trees.{IsFileTree}
 use Rattle.fs_model.proofs.Walks.{some_same, none_some}
 use Rattle.fs_model.proofs.Counts.{same_number}
-use Rattle.nfs_spec.specs.Attributes.{nlink_of}
+use Rattle.nfs_spec.specs.FileAttributes.{nlink_of}
 use Rattle.nfs_spec.specs.Opening.{opening_root, opening_hello, opening_files}
-use Rattle.nfs_spec.proofs.Opened.{hello_there, opening_names}
+use Rattle.nfs_spec.proofs.OpeningFiles.{hello_there, opening_names}
 use Rattle.nfs_spec.proofs.OpeningTree.{opening_is_tree}
 use Rattle.inodes.specs.Inodes.{body_in, file_in, inode_at, files_of, KeepsParent, IsCounted, AreTree}
 use Rattle.inodes.specs.declared.inode.Body as stored

@@ -5,9 +5,9 @@ use Rattle.std.specs.BTreeMap.{is_at}
 use Rattle.std.specs.Map.{lookup}
 use Rattle.std.specs.FinMap as finite
 use Rattle.nfs_types.specs.declared.attributes.Fattr.{Fattr}
-use Rattle.fs_model.specs.Files.{Body, Regular, Link, Directory, File, Files, parent_of}
+use Rattle.fs_model.specs.Files.{Body, Regular, Symlink, Directory, File, Files, parent_of}
 use Rattle.fs_model.specs.Trees.{IsFileTree}
-use Rattle.nfs_spec.specs.Attributes.{type_of, type_bits, size_of, nlink_of}
+use Rattle.nfs_spec.specs.FileAttributes.{type_of, type_bits, size_of, nlink_of}
 use Rattle.inodes.specs.declared.inode.Body as stored
 use Rattle.inodes.specs.declared.inode.Body.TheVariants as code
 use Rattle.inodes.specs.declared.inode.Inode.{Inode}
@@ -16,7 +16,7 @@ use Rattle.inodes.specs.declared.inode.TheConstants.{BLOCK_SIZE}
 -- what an inode holds, as callers see it
 abbrev pub body_in : stored.Body → Body
 body_in (code.Regular bytes) = Regular bytes.items
-body_in (code.Link target) = Link target.items
+body_in (code.Link target) = Symlink target.items
 body_in (code.Directory parent listing) = Directory listing
 
 -- an inode as callers see it

@@ -1,4 +1,3 @@
 pub mod Entries
-pub mod LookUp
 pub mod Inodes
 pub mod InodeLookUp

@@ -5,7 +5,7 @@ ghost use Rattle.std.specs.Cmp.Lexicographic.{pointwise};
 ghost use Rattle.std.specs.Map.{lookup, remove_entry};
 ghost use Rattle.fs_model.specs.Listing.{Listing, entry_at, with_entry, without_entry};
 ghost use Rattle.inodes.specs.Entries.{entries_of};
-ghost use Rattle.inodes.specs.LookUp.{number_listed};
+ghost use Rattle.nfs_spec.specs.Effects.{number_in_listing};
 
 use crate::names::is_name;
 use indexmap::IndexMap;
@@ -86,7 +86,7 @@ impl Directory {
     /// The number that a name stands for in this directory, whose own number and the one above are given:
     /// its own for `.`, the one above for `..`. None where it lists no such name, or it may be none.
     pub fn number_at(&self, own: u32, above: u32, name: &[u8]) -> Option<u32>
-        ensures { result ≡ number_listed own above self.now name.now }
+        ensures { result ≡ number_in_listing own above self.now name.now }
     {
         if name == b".".as_slice() {
             Some(own)

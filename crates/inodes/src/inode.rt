@@ -33,7 +33,7 @@ pub enum Body {
 impl Body {
     ghost use Rattle.std.specs.Prelude.{◌≡◌, ◌≤◌};
     ghost use Rattle.fs_model.specs.Trees.{IsBody};
-    ghost use Rattle.nfs_spec.specs.Attributes.{type_of, type_bits, size_of};
+    ghost use Rattle.nfs_spec.specs.FileAttributes.{type_of, type_bits, size_of};
     ghost use Rattle.inodes.specs.Inodes.{body_in};
 
     /// What the file is.
@@ -93,7 +93,7 @@ impl Inode {
     ghost use Rattle.fs_model.specs.Trees.{IsBody};
     ghost use Rattle.std.specs.Prelude.{◌≤◌};
     ghost use Rattle.std.specs.Result.{result_map_both};
-    ghost use Rattle.nfs_spec.specs.Checks.{class_of, permits, may_search, owns, may_read, may_write, bytes_of, target_of};
+    ghost use Rattle.nfs_spec.specs.ProcedureChecks.{class_of, permits, may_search, owns, may_read, may_write, bytes_of, target_of};
     ghost use Rattle.inodes.specs.Inodes.{body_in, file_in, fattr_of};
     ghost use Rattle.inodes.specs.InodeLookUp.{look_up_in};
 

@@ -11,12 +11,12 @@ use Rattle.fs_model.specs.Files.{Directory, File, Files, file_at, is_directory, 
 use Rattle.fs_model.specs.Trees.{IsFileTree}
 use Rattle.fs_model.proofs.Walks.{some_same, step_last}
 use Rattle.fs_model.proofs.OnePath.{one_path}
-use Rattle.fs_changes.specs.Edits.{with_name, without_name, relisted}
+use Rattle.fs_changes.specs.Edits.{with_name, without_name, map_listing}
 use Rattle.fs_changes.specs.Limits.{file_count}
 use Rattle.fs_changes.proofs.Finite.{changed_here, changed_other, gone_other}
 use Rattle.fs_changes.proofs.PathChanges.{no_return}
-use Rattle.nfs_spec.specs.Changes.{touch, touched, mark, marked, unnamed, after_unlink}
-use Rattle.nfs_spec.specs.Procedures.{climbs_to, is_above, cleared}
+use Rattle.nfs_spec.specs.Changes.{touch, with_mtime, touch_ctime, with_ctime, unlink, after_unlink}
+use Rattle.nfs_spec.specs.Procedures.{climbs_to, is_above, unlink_target}
 use Rattle.nfs_spec_trees.proofs.FilesFit.{dir_file}
 use Rattle.nfs_spec_changes.specs.Changed.{Becomes, IsMarked, IsTouched, LosesName, Moves}
 use Rattle.nfs_spec_changes.proofs.Granted.{IsRenamed}
@@ -43,7 +43,7 @@ module _ (w : Files) (who : Caller) (now : Timeval) (tree : IsFileTree w) where
 
     w₁ : Files
     unfolding t
-    w₁ = cleared now w to to_name t
+    w₁ = unlink_target now w to to_name t
 
     w₂ : Files
     unfolding w₁
@@ -55,7 +55,7 @@ module _ (w : Files) (who : Caller) (now : Timeval) (tree : IsFileTree w) where
 
     w₄ : Files
     unfolding w₃
-    w₄ = mark now w₃ o.number
+    w₄ = touch_ctime now w₃ o.number
 
     w₅ : Files
     unfolding w₄
@@ -99,7 +99,7 @@ module _ (w : Files) (who : Caller) (now : Timeval) (tree : IsFileTree w) where
     unfolding t w₁
     cleared_same m ne not = by (places w to to_name) refl
       where
-        by : (p : Option (ℕ × ℕ)) → places w to to_name ≡ p → file_at (cleared now w to to_name (option_map (λ e. e.0) p)) m ≡ file_at w m
+        by : (p : Option (ℕ × ℕ)) → places w to to_name ≡ p → file_at (unlink_target now w to to_name (option_map (λ e. e.0) p)) m ≡ file_at w m
         by None is = refl
         by (Some e) is = unnamed_other now w to to_name e.0 m ne (not e.0 e.1 is)
 
@@ -123,9 +123,9 @@ module _ (w : Files) (who : Caller) (now : Timeval) (tree : IsFileTree w) where
 
         kept : (k : ℕ) → k ≢ to → (b : Bool) → file_at (after_unlink b now (without_name w to to_name) k) to ≡ file_at (without_name w to to_name) to
         kept k apart true = gone_other (without_name w to to_name) k to (λ e. apart (sym e))
-        kept k apart false = changed_other (without_name w to to_name) k (marked now) to (λ e. apart (sym e))
+        kept k apart false = changed_other (without_name w to to_name) k (with_ctime now) to (λ e. apart (sym e))
 
-        by : (p : Option (ℕ × ℕ)) → places w to to_name ≡ p → (l : Listing) × IsClear (cleared now w to to_name (option_map (λ e. e.0) p)) l
+        by : (p : Option (ℕ × ℕ)) → places w to to_name ≡ p → (l : Listing) × IsClear (unlink_target now w to to_name (option_map (λ e. e.0) p)) l
         by None is =
             let free : entry_at to_listing.0 to_name ≡ None = sym (entry_here w who now to o.to_file to_listing.0 o.to_there to_listing.1 to_name) ∙ is in
             (to_listing.0, record { at = begin; is = sym (without_free to_listing.0 to_name free) })
@@ -133,7 +133,7 @@ module _ (w : Files) (who : Caller) (now : Timeval) (tree : IsFileTree w) where
             let less_at = at_relisted w to o.to_file o.to_file.mtime o.to_file.ctime to_listing.0 begin (λ m. without_entry m to_name) in (
               without_entry to_listing.0 to_name,
               record {
-                at = at_same (without_name w to to_name) to o.to_file o.to_file.mtime o.to_file.ctime (without_entry to_listing.0 to_name) less_at (unnamed now w to to_name e.0)
+                at = at_same (without_name w to to_name) to o.to_file o.to_file.mtime o.to_file.ctime (without_entry to_listing.0 to_name) less_at (unlink now w to to_name e.0)
                     (kept e.0 (target_to e.0 e.1 is) (eqb (names_of (without_name w to to_name) e.0) 0));
                 is = refl;
               },
@@ -148,10 +148,10 @@ module _ (w : Files) (who : Caller) (now : Timeval) (tree : IsFileTree w) where
         let f = o.to_file in
         let l₁ = clear.0 in
         let l₂ = with_entry l₁ to_name o.number in
-        let a₂ = at_other w₁ to f f.mtime f.ctime l₁ clear.1.at from (relisted (λ m. without_entry m from_name)) (λ e. ne (sym e)) in
+        let a₂ = at_other w₁ to f f.mtime f.ctime l₁ clear.1.at from (map_listing (λ m. without_entry m from_name)) (λ e. ne (sym e)) in
         let a₃ = at_relisted w₂ to f f.mtime f.ctime l₁ a₂ (λ m. with_entry m to_name o.number) in
-        let a₄ = at_other w₃ to f f.mtime f.ctime l₂ a₃ o.number (marked now) (λ e. number_to (sym e)) in
-        let a₅ = at_other w₄ to f f.mtime f.ctime l₂ a₄ from (touched now) (λ e. ne (sym e)) in
+        let a₄ = at_other w₃ to f f.mtime f.ctime l₂ a₃ o.number (with_ctime now) (λ e. number_to (sym e)) in
+        let a₅ = at_other w₄ to f f.mtime f.ctime l₂ a₄ from (with_mtime now) (λ e. ne (sym e)) in
         becomes_touched now w after to f to_listing.0 l₂ (λ l. with_entry l to_name o.number) o.to_there to_listing.1 (at_touched w₅ to f f.mtime f.ctime l₂ a₅ now)
         (ap (λ l. with_entry l to_name o.number) clear.1.is ∙ with_without to_listing.0 to_name o.number to_distinct)
 
@@ -164,10 +164,10 @@ module _ (w : Files) (who : Caller) (now : Timeval) (tree : IsFileTree w) where
         let l₁ = without_entry l.0 from_name in
         let a₁ = at_same w from df.0 df.0.mtime df.0.ctime l.0 (begins_at w from df.0 l.0 df.1 l.1) w₁ (cleared_same from ne (λ k c at e. target_from k c at (sym e))) in
         let a₂ = at_relisted w₁ from df.0 df.0.mtime df.0.ctime l.0 a₁ (λ m. without_entry m from_name) in
-        let a₃ = at_other w₂ from df.0 df.0.mtime df.0.ctime l₁ a₂ to (relisted (λ m. with_entry m to_name o.number)) ne in
-        let a₄ = at_other w₃ from df.0 df.0.mtime df.0.ctime l₁ a₃ o.number (marked now) (λ e. number_from (sym e)) in
+        let a₃ = at_other w₂ from df.0 df.0.mtime df.0.ctime l₁ a₂ to (map_listing (λ m. with_entry m to_name o.number)) ne in
+        let a₄ = at_other w₃ from df.0 df.0.mtime df.0.ctime l₁ a₃ o.number (with_ctime now) (λ e. number_from (sym e)) in
         let a₅ = at_touched w₄ from df.0 df.0.mtime df.0.ctime l₁ a₄ now in
-        becomes_touched now w after from df.0 l.0 l₁ (λ m. without_entry m from_name) df.1 l.1 (at_other w₅ from df.0 now now l₁ a₅ to (touched now) ne) refl
+        becomes_touched now w after from df.0 l.0 l₁ (λ m. without_entry m from_name) df.1 l.1 (at_other w₅ from df.0 now now l₁ a₅ to (with_mtime now) ne) refl
 
     -- both, where they are one
     within_to : from ≡ to → Becomes w after to (IsTouched now (λ l. with_entry (without_entry (without_entry l to_name) from_name) to_name o.number))
@@ -179,7 +179,7 @@ module _ (w : Files) (who : Caller) (now : Timeval) (tree : IsFileTree w) where
         let l₃ = with_entry l₂ to_name o.number in
         let a₂ : IsAt w₂ to f f.mtime f.ctime l₂ = subst (λ m. IsAt (without_name w₁ m from_name) to f f.mtime f.ctime l₂) (sym e) (at_relisted w₁ to f f.mtime f.ctime l₁ clear.1.at (λ m. without_entry m from_name)) in
         let a₃ = at_relisted w₂ to f f.mtime f.ctime l₂ a₂ (λ m. with_entry m to_name o.number) in
-        let a₄ = at_other w₃ to f f.mtime f.ctime l₃ a₃ o.number (marked now) (λ e. number_to (sym e)) in
+        let a₄ = at_other w₃ to f f.mtime f.ctime l₃ a₃ o.number (with_ctime now) (λ e. number_to (sym e)) in
         let a₅ : IsAt w₅ to f now now l₃ = subst (λ m. IsAt (touch now w₄ m) to f now now l₃) (sym e) (at_touched w₄ to f f.mtime f.ctime l₃ a₄ now) in
         becomes_touched now w after to f to_listing.0 l₃ (λ l. with_entry (without_entry (without_entry l to_name) from_name) to_name o.number) o.to_there to_listing.1 (at_touched w₅ to f now now l₃ a₅ now)
         (ap (λ l. with_entry (without_entry l from_name) to_name o.number) clear.1.is)
@@ -190,8 +190,8 @@ module _ (w : Files) (who : Caller) (now : Timeval) (tree : IsFileTree w) where
     unfolding t w₁ w₂ w₃ w₄ w₅ after
     file_marked = becomes_marked now w after o.number o.file o.there
         (moved_apart now w o.number from from_name to to_name t o.number number_from number_to
-        ∙ changed_here w₃ o.number (marked now) o.number refl
-        ∙ ap (option_map (marked now)) (before_mark now w o.number from from_name to to_name t o.number number_from number_to ∙ cleared_same o.number number_to (λ k c at e. target_number k c at (sym e)) ∙ o.there))
+        ∙ changed_here w₃ o.number (with_ctime now) o.number refl
+        ∙ ap (option_map (with_ctime now)) (before_mark now w o.number from from_name to to_name t o.number number_from number_to ∙ cleared_same o.number number_to (λ k c at e. target_number k c at (sym e)) ∙ o.there))
 
     target_loses : (k c : ℕ) → places w to to_name ≡ Some (k, c) → LosesName now w after k
     unfolding t w₁ w₂ w₃ w₄ w₅ after
@@ -199,9 +199,9 @@ module _ (w : Files) (who : Caller) (now : Timeval) (tree : IsFileTree w) where
         let g = o.empty k c at in
         loses w who now tree to to_name k c at g.0 g.1 g.2 after
         (moved_apart now w o.number from from_name to to_name t k (target_from k c at) (target_to k c at)
-        ∙ changed_other w₃ o.number (marked now) k (target_number k c at)
+        ∙ changed_other w₃ o.number (with_ctime now) k (target_number k c at)
         ∙ before_mark now w o.number from from_name to to_name t k (target_from k c at) (target_to k c at)
-        ∙ ap (λ p. file_at (cleared now w to to_name (option_map (λ e. e.0) p)) k) at)
+        ∙ ap (λ p. file_at (unlink_target now w to to_name (option_map (λ e. e.0) p)) k) at)
 
     -- RENAME of another file
     pub renamed_moves : Moves now w w' from from_name to to_name

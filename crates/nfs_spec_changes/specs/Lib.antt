@@ -7,5 +7,5 @@ pub use Rattle.fs_model.specs.Trees
 pub use Rattle.nfs_spec.specs.Sattr
 pub use Rattle.nfs_spec.specs.Changes
 pub use Rattle.nfs_spec.specs.Procedures
-pub use Rattle.nfs_spec.specs.Calls
+pub use Rattle.nfs_spec.specs.NfsCalls
 pub mod Changed

@@ -6,9 +6,9 @@ use Rattle.nfs_types.specs.Timeval.{Timeval}
 use Rattle.nfs_types.specs.Caller.{Caller}
 use Rattle.nfs_types.specs.declared.stat.Stat.TheVariants as stats
 use Rattle.fs_model.specs.Listing.{Listing}
-use Rattle.fs_model.specs.Files.{Body, Regular, Link, Directory, Files, file_at, listing_in, is_directory, places}
+use Rattle.fs_model.specs.Files.{Body, Regular, Symlink, Directory, Files, file_at, listing_in, is_directory, places}
 use Rattle.fs_model.specs.Trees.{IsFileTree}
-use Rattle.nfs_spec.specs.Checks.{file_of, dir_of, listing_or, check, check_edit, number_at}
+use Rattle.nfs_spec.specs.ProcedureChecks.{file_of, dir_of, listing_or, check, check_edit, number_at}
 use Rattle.nfs_spec.specs.Procedures.{remove, remove_dir}
 use Rattle.nfs_spec_steps.proofs.Steps.{found_ok, directory_ok, dir_ok, number_ok, place_found}
 use Rattle.nfs_spec_errors.specs.Checks.{holds_named, is_dir}
@@ -32,7 +32,7 @@ module _ (w : Files) (tree : IsFileTree w) (who : Caller) (now : Timeval) (dir :
 
   of_listing : (b : Body) → HasStat (listing_or stats.NotDir b) ((is_directory b, stats.NotDir) ∷ [])
   of_listing (Regular bytes) = record { says = refl }
-  of_listing (Link target) = record { says = refl }
+  of_listing (Symlink target) = record { says = refl }
   of_listing (Directory l) = record { says = refl }
 
   -- RMDIR: `remove_dir_checks`

@@ -8,13 +8,13 @@ use Rattle.std.specs.Option.{option_map_or}
 use Rattle.nfs_types.specs.Timeval.{Timeval}
 use Rattle.nfs_types.specs.Caller.{Caller}
 use Rattle.nfs_types.specs.declared.stat.Stat.TheVariants as stats
-use Rattle.fs_model.specs.Files.{Body, Regular, Link, Directory, File, Files, file_at, is_directory}
+use Rattle.fs_model.specs.Files.{Body, Regular, Symlink, Directory, File, Files, file_at, is_directory}
 use Rattle.fs_changes.specs.Edits.{with_changed_file}
 use Rattle.fs_changes.specs.Limits.{has_room}
-use Rattle.nfs_spec.specs.Attributes.{is_directory_at}
-use Rattle.nfs_spec.specs.Checks.{◌>>=◌, file_of, check, check_room, bytes_of, owns, may_write}
-use Rattle.nfs_spec.specs.Sattr.{Wanted}
-use Rattle.nfs_spec.specs.Changes.{check_owner, check_resize, set, is_in_group}
+use Rattle.nfs_spec.specs.FileAttributes.{is_directory_at}
+use Rattle.nfs_spec.specs.ProcedureChecks.{◌>>=◌, file_of, check, check_room, bytes_of, owns, may_write}
+use Rattle.nfs_spec.specs.Sattr.{GivenFields}
+use Rattle.nfs_spec.specs.Changes.{check_owner, check_resize, apply_fields, is_in_group}
 use Rattle.nfs_spec.specs.Procedures.{set_attributes}
 use Rattle.nfs_spec_steps.proofs.Steps.{found_ok}
 use Rattle.nfs_spec_errors.specs.Checks.{first_failing, holds_at, given, is_link}
@@ -27,10 +27,10 @@ given_same (Some x) p q same = same x
 
 resize_by : (b : Body) (m z : Bool) → HasStat (bytes_of b >>= λ _. check m stats.Acces >>= λ _. check z stats.FBig) ((not (is_directory b), stats.IsDir) ∷ (not (is_link b), stats.NxIo) ∷ (m, stats.Acces) ∷ (z, stats.FBig) ∷ [])
 resize_by (Regular bytes) m z = record { says = (in_turn (check m stats.Acces) (λ _. check z stats.FBig) (of_check m stats.Acces) (λ _ _. of_check z stats.FBig)).says }
-resize_by (Link target) m z = record { says = refl }
+resize_by (Symlink target) m z = record { says = refl }
 resize_by (Directory l) m z = record { says = refl }
 
-module _ (w : Files) (who : Caller) (n : ℕ) (a : Wanted) (f : File) (there : file_at w n ≡ Some f) where
+module _ (w : Files) (who : Caller) (n : ℕ) (a : GivenFields) (f : File) (there : file_at w n ≡ Some f) where
   of_owner : HasStat (check_owner who f a) (
       (holds_at w n (owns who) || (who.uid == 0) || (is_none a.mode && is_none a.atime && is_none a.mtime), stats.Perm)
       ∷ (given a.uid (λ uid. (who.uid == 0) || holds_at w n (λ f. owns who f && (uid == f.uid))), stats.Perm)
@@ -69,10 +69,10 @@ of_room None room = record { says = refl }
 of_room (Some size) room = record { says = (of_check room stats.NoSpc).says }
 
 -- SETATTR: the file, the owner's tests, those of a size, and room
-pub of_set : (w : Files) (who : Caller) (now : Timeval) (n : ℕ) (a : Wanted) → HasStat (set_attributes w who now n a) (set_checks w who now n a)
+pub of_set : (w : Files) (who : Caller) (now : Timeval) (n : ℕ) (a : GivenFields) → HasStat (set_attributes w who now n a) (set_checks w who now n a)
 of_set w who now n a =
     in_turn (file_of w n) _ (of_file w n) (λ f is.
     let there = found_ok stats.Stale (file_at w n) f is in
     in_turn (check_owner who f a) _ (of_owner w who n a f there) (λ _ _.
     in_turn (check_resize who f a.size) _ (of_resize w who n a f there a.size) (λ _ _.
-    in_turn (cond (is_some a.size) (check_room (with_changed_file w n (set now a))) (Ok tt)) _ (of_room a.size (has_room (with_changed_file w n (set now a)))) (λ _ _. done _))))
+    in_turn (cond (is_some a.size) (check_room (with_changed_file w n (apply_fields now a))) (Ok tt)) _ (of_room a.size (has_room (with_changed_file w n (apply_fields now a)))) (λ _ _. done _))))

@@ -10,11 +10,11 @@ use Rattle.nfs_types.specs.declared.stat.Stat.{Stat}
 use Rattle.nfs_types.specs.declared.stat.Stat.TheVariants as stats
 use Rattle.fs_model.specs.Listing.{entry_at}
 use Rattle.fs_model.specs.Names.{is_name}
-use Rattle.fs_model.specs.Files.{Body, Regular, Link, Directory, File, Files, file_at, is_directory, places}
+use Rattle.fs_model.specs.Files.{Body, Regular, Symlink, Directory, File, Files, file_at, is_directory, places}
 use Rattle.fs_model.specs.Trees.{IsFileTree}
 use Rattle.fs_model.proofs.Walks.{none_some}
-use Rattle.nfs_spec.specs.Checks.{◌>>=◌, Found, found_or, listing_or, file_of, dir_of, check, check_edit, check_free, number_at, may_search, may_write}
-use Rattle.nfs_spec.specs.Laws.{stat_in}
+use Rattle.nfs_spec.specs.ProcedureChecks.{◌>>=◌, NumberedDir, ok_or, listing_or, file_of, dir_of, check, check_edit, check_free, number_at, may_search, may_write}
+use Rattle.nfs_spec.specs.LawTerms.{stat_in}
 use Rattle.nfs_spec_steps.specs.Granted.{IsFound}
 use Rattle.nfs_spec_steps.proofs.Steps.{place_found}
 use Rattle.nfs_spec_errors.specs.Checks.{Checks, first_failing, holds_at, holds_named}
@@ -71,15 +71,15 @@ of_same b c e same = record { says = (of_check b e).says ∙ ap (λ x. first_fai
 pub of_file : (w : Files) (n : ℕ) → HasStat (file_of w n) (file_checks w n)
 of_file w n = record { says = by (file_at w n) }
   where
-    by : (o : Option File) → stat_in (found_or stats.Stale o) ≡ first_failing ((is_some o, stats.Stale) ∷ [])
+    by : (o : Option File) → stat_in (ok_or stats.Stale o) ≡ first_failing ((is_some o, stats.Stale) ∷ [])
     by None = refl
     by (Some f) = refl
 
 -- a file that is there
 pub of_that_file : (w : Files) (n : ℕ) (f : File) → file_at w n ≡ Some f → HasStat (file_of w n) []
-of_that_file w n f there = record { says = ap (λ o. stat_in (found_or stats.Stale o)) there }
+of_that_file w n f there = record { says = ap (λ o. stat_in (ok_or stats.Stale o)) there }
 
-abbrev found : Found → Result Found Stat
+abbrev found : NumberedDir → Result NumberedDir Stat
 found d = Ok d
 
 -- looking a directory up: STALE, then NOTDIR
@@ -88,10 +88,10 @@ of_dir w n = record { says = by (file_at w n) }
   where
     listed : (f : File) (b : Body) → stat_in (listing_or stats.NotDir b >>= λ l. found (record { number = n; file = f; listing = l })) ≡ first_failing ((is_directory b, stats.NotDir) ∷ [])
     listed f (Regular bytes) = refl
-    listed f (Link target) = refl
+    listed f (Symlink target) = refl
     listed f (Directory l) = refl
 
-    by : (o : Option File) → stat_in (found_or stats.Stale o >>= λ f. listing_or stats.NotDir f.body >>= λ l. found (record { number = n; file = f; listing = l }))
+    by : (o : Option File) → stat_in (ok_or stats.Stale o >>= λ f. listing_or stats.NotDir f.body >>= λ l. found (record { number = n; file = f; listing = l }))
         ≡ first_failing ((is_some o, stats.Stale) ∷ (option_map_or (λ f. is_directory f.body) o false, stats.NotDir) ∷ [])
     by None = refl
     by (Some f) = listed f f.body
@@ -116,7 +116,7 @@ named_file w tree dir name n c at = by (file_at w n) refl (tree.tree.named dir n
 
 -- ---- in a directory that was found
 
-module _ (w : Files) (n : ℕ) (d : Found) (is : IsFound w n d) (name : List ℕ) where
+module _ (w : Files) (n : ℕ) (d : NumberedDir) (is : IsFound w n d) (name : List ℕ) where
   -- an edit of the directory: the rule for names, then search and write permission
   pub of_edit : (who : Caller) → HasStat (check_edit who d name) (edit_checks w who n name)
   of_edit who =
@@ -131,6 +131,6 @@ module _ (w : Files) (n : ℕ) (d : Found) (is : IsFound w n d) (name : List ℕ
   pub of_number : HasStat (number_at d name) ((is_some (places w n name), stats.NoEnt) ∷ [])
   of_number = record { says = by (entry_at d.listing name) ∙ ap (λ (o : Option (ℕ × ℕ)). first_failing ((is_some o, stats.NoEnt) ∷ [])) (sym (place_found w n d is name)) }
     where
-      by : (o : Option (ℕ × ℕ)) → stat_in (found_or stats.NoEnt (option_map (λ e. e.0) o)) ≡ first_failing ((is_some o, stats.NoEnt) ∷ [])
+      by : (o : Option (ℕ × ℕ)) → stat_in (ok_or stats.NoEnt (option_map (λ e. e.0) o)) ≡ first_failing ((is_some o, stats.NoEnt) ∷ [])
       by None = refl
       by (Some e) = refl

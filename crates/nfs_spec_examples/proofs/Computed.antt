@@ -12,9 +12,9 @@ use Rattle.std.specs.List.{list_all}
 use Rattle.nfs_types.specs.Timeval.{Timeval}
 use Rattle.fs_model.specs.Listing.{with_entry}
 use Rattle.fs_model.specs.Files.{File, file_at, listing_in}
-use Rattle.fs_changes.specs.Edits.{with_changed_file, with_name, without_file, relisted}
-use Rattle.nfs_spec.specs.Changes.{touch, touched, mark, marked}
-use Rattle.nfs_spec.specs.Procedures.{made}
+use Rattle.fs_changes.specs.Edits.{with_changed_file, with_name, without_file, map_listing}
+use Rattle.nfs_spec.specs.Changes.{touch, with_mtime, touch_ctime, with_ctime}
+use Rattle.nfs_spec.specs.Procedures.{add_file}
 use Rattle.fs_changes.specs.Limits.{has_room, blocks_in, block_count, entry_count}
 use Rattle.nfs_spec_examples.specs.Worked.{files_from}
 
@@ -97,36 +97,36 @@ changed_in next es n change f there = ap (λ (o : Option File). record { fsid = 
 
 -- a new file with a name, in a directory of a list
 pub made_is : (now : Timeval) (next : ℕ) (es : List (ℕ × File)) (dir : ℕ) (name : List ℕ) (f d : File) (target : List (ℕ × File)) → finite.find nat_cmp dir ((next, f) ∷ es) ≡ Some d
-    → in_order ((dir, touched now (relisted (λ l. with_entry l name next) d)) ∷ (dir, relisted (λ l. with_entry l name next) d) ∷ (next, f) ∷ es) ≡ in_order target
-    → (made now (files_from next es) dir name f).files ≡ (files_from (next + 1) target).files
+    → in_order ((dir, with_mtime now (map_listing (λ l. with_entry l name next) d)) ∷ (dir, map_listing (λ l. with_entry l name next) d) ∷ (next, f) ∷ es) ≡ in_order target
+    → (add_file now (files_from next es) dir name f).files ≡ (files_from (next + 1) target).files
 made_is now next es dir name f d target there same =
-    let put : File → File = relisted (λ l. with_entry l name next) in
+    let put : File → File = map_listing (λ l. with_entry l name next) in
     ap (λ w. w.files) (ap (λ w. touch now w dir) (changed_in (next + 1) ((next, f) ∷ es) dir put d there)
-    ∙ changed_in (next + 1) ((dir, put d) ∷ (next, f) ∷ es) dir (touched now) (put d) (found_first dir (put d) ((next, f) ∷ es))
-    ∙ same_files (next + 1) ((dir, touched now (put d)) ∷ (dir, put d) ∷ (next, f) ∷ es) target same)
+    ∙ changed_in (next + 1) ((dir, put d) ∷ (next, f) ∷ es) dir (with_mtime now) (put d) (found_first dir (put d) ((next, f) ∷ es))
+    ∙ same_files (next + 1) ((dir, with_mtime now (put d)) ∷ (dir, put d) ∷ (next, f) ∷ es) target same)
 
 -- another name for a file, in a directory of a list
 pub named_is : (now : Timeval) (next : ℕ) (es : List (ℕ × File)) (n dir : ℕ) (name : List ℕ) (d : File) (target : List (ℕ × File)) → finite.find nat_cmp dir es ≡ Some d
-    → in_order ((dir, touched now (relisted (λ l. with_entry l name n) d)) ∷ (dir, relisted (λ l. with_entry l name n) d) ∷ es) ≡ in_order target
+    → in_order ((dir, with_mtime now (map_listing (λ l. with_entry l name n) d)) ∷ (dir, map_listing (λ l. with_entry l name n) d) ∷ es) ≡ in_order target
     → (touch now (with_name (files_from next es) dir name n) dir).files ≡ (files_from next target).files
 named_is now next es n dir name d target there same =
-    let put : File → File = relisted (λ l. with_entry l name n) in
+    let put : File → File = map_listing (λ l. with_entry l name n) in
     ap (λ w. w.files) (ap (λ w. touch now w dir) (changed_in next es dir put d there)
-    ∙ changed_in next ((dir, put d) ∷ es) dir (touched now) (put d) (found_first dir (put d) es)
-    ∙ same_files next ((dir, touched now (put d)) ∷ (dir, put d) ∷ es) target same)
+    ∙ changed_in next ((dir, put d) ∷ es) dir (with_mtime now) (put d) (found_first dir (put d) es)
+    ∙ same_files next ((dir, with_mtime now (put d)) ∷ (dir, put d) ∷ es) target same)
 
 -- a directory is touched when a file has a name less
-pub marked_is : (now : Timeval) (next : ℕ) (es : List (ℕ × File)) (n dir : ℕ) (f d : File) (target : List (ℕ × File)) → finite.find nat_cmp n es ≡ Some f → finite.find nat_cmp dir ((n, marked now f) ∷ es) ≡ Some d
-    → in_order ((dir, touched now d) ∷ (n, marked now f) ∷ es) ≡ in_order target → (touch now (mark now (files_from next es) n) dir).files ≡ (files_from next target).files
+pub marked_is : (now : Timeval) (next : ℕ) (es : List (ℕ × File)) (n dir : ℕ) (f d : File) (target : List (ℕ × File)) → finite.find nat_cmp n es ≡ Some f → finite.find nat_cmp dir ((n, with_ctime now f) ∷ es) ≡ Some d
+    → in_order ((dir, with_mtime now d) ∷ (n, with_ctime now f) ∷ es) ≡ in_order target → (touch now (touch_ctime now (files_from next es) n) dir).files ≡ (files_from next target).files
 marked_is now next es n dir f d target there dir_there same =
-    ap (λ w. w.files) (ap (λ w. touch now w dir) (changed_in next es n (marked now) f there)
-    ∙ changed_in next ((n, marked now f) ∷ es) dir (touched now) d dir_there
-    ∙ same_files next ((dir, touched now d) ∷ (n, marked now f) ∷ es) target same)
+    ap (λ w. w.files) (ap (λ w. touch now w dir) (changed_in next es n (with_ctime now) f there)
+    ∙ changed_in next ((n, with_ctime now f) ∷ es) dir (with_mtime now) d dir_there
+    ∙ same_files next ((dir, with_mtime now d) ∷ (n, with_ctime now f) ∷ es) target same)
 
 -- and when a file is gone
 pub gone_is : (now : Timeval) (next : ℕ) (es : List (ℕ × File)) (n dir : ℕ) (d : File) (target : List (ℕ × File)) → finite.find nat_cmp dir (list_without n es) ≡ Some d
-    → in_order ((dir, touched now d) ∷ list_without n es) ≡ in_order target → (touch now (without_file (files_from next es) n) dir).files ≡ (files_from next target).files
+    → in_order ((dir, with_mtime now d) ∷ list_without n es) ≡ in_order target → (touch now (without_file (files_from next es) n) dir).files ≡ (files_from next target).files
 gone_is now next es n dir d target there same =
     ap (λ w. w.files) (ap (λ m. touch now (record { fsid = 1; next = next; files = m }) dir) (without_in n es)
-    ∙ changed_in next (list_without n es) dir (touched now) d there
-    ∙ same_files next ((dir, touched now d) ∷ list_without n es) target same)
+    ∙ changed_in next (list_without n es) dir (with_mtime now) d there
+    ∙ same_files next ((dir, with_mtime now d) ∷ list_without n es) target same)

@@ -4,7 +4,7 @@ use Rattle.std.specs.Prelude.{ℕ, List, [], ◌∷◌, ◌++◌, codes, replica
 use Rattle.std.specs.FinMap as finite
 use Rattle.nfs_types.specs.Timeval.{Timeval}
 use Rattle.nfs_types.specs.Caller.{Caller}
-use Rattle.fs_model.specs.Files.{Regular, Link, Directory, File, Files}
+use Rattle.fs_model.specs.Files.{Regular, Symlink, Directory, File, Files}
 use Rattle.nfs_spec.specs.Sattr.{Sattr}
 use Rattle.nfs_spec.specs.Opening.{epoch, first_file, hello, opening_root, opening_hello}
 
@@ -120,7 +120,7 @@ with_next = (1, root_again) ∷ (1, root_again) ∷ (3, empty_file) ∷ (1, root
 
 -- a link to `t`
 abbrev pub link_to_t : File
-link_to_t = first_file 0x1ff (Link (codes "t"))
+link_to_t = first_file 0x1ff (Symlink (codes "t"))
 
 -- `b` and `c`
 abbrev pub b : List ℕ

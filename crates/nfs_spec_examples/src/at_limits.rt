@@ -5,7 +5,7 @@ ghost use Rattle.nfs_types.specs.Caller.{nobody};
 ghost use Rattle.nfs_types.specs.declared.stat.Stat.TheVariants as stats;
 ghost use Rattle.nfs_types.specs.declared.attributes.FileType.TheVariants as types;
 ghost use Rattle.fs_model.specs.Names.{is_name};
-ghost use Rattle.nfs_spec.specs.Sattr.{wanted};
+ghost use Rattle.nfs_spec.specs.Sattr.{given_fields};
 ghost use Rattle.nfs_spec.specs.Opening.{epoch, hello, opening_files};
 ghost use Rattle.nfs_spec.specs.Effects.{attributes_at};
 ghost use Rattle.nfs_spec.specs.Procedures.{write, create, rename};
@@ -41,11 +41,11 @@ pub fn any_text_is_written()
 /// `y`.
 pub fn any_name_is_made()
     ensures any { (name : List ℕ) → is_name name ≡ true → name ≢ hello →
-        create (opening_files 1) superuser epoch 1 name (wanted epoch (size_alone ignored))
+        create (opening_files 1) superuser epoch 1 name (given_fields epoch (size_alone ignored))
         ≡ Ok (3, files_from 4 (with_file_named name)) }
-    ensures x { create (opening_files 1) superuser epoch 1 x (wanted epoch (size_alone ignored))
+    ensures x { create (opening_files 1) superuser epoch 1 x (given_fields epoch (size_alone ignored))
         ≡ Ok (3, files_from 4 with_x) }
-    ensures y { create (files_from 4 with_x) superuser epoch 1 y (wanted epoch (size_alone ignored))
+    ensures y { create (files_from 4 with_x) superuser epoch 1 y (given_fields epoch (size_alone ignored))
         ≡ Ok (4, files_from 5 with_three) }
 {}
 
@@ -56,9 +56,9 @@ pub fn the_last_number_and_cookie()
     ensures full { rename (files_from 3 (with_cookie past_last)) superuser epoch 1 hello 1 a
         ≡ Err stats.NoSpc }
     ensures number { create (files_from past_last (with_cookie 4)) superuser epoch 1 a
-        (wanted epoch (size_alone ignored))
+        (given_fields epoch (size_alone ignored))
         ≡ Err stats.NoSpc }
     ensures cookie { create (files_from 3 (with_cookie past_last)) superuser epoch 1 a
-        (wanted epoch (size_alone ignored))
+        (given_fields epoch (size_alone ignored))
         ≡ Err stats.NoSpc }
 {}

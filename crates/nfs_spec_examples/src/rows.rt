@@ -6,11 +6,11 @@ ghost use Rattle.nfs_types.specs.Handle.{handle_of};
 ghost use Rattle.nfs_types.specs.declared.stat.Stat.TheVariants as stats;
 ghost use Rattle.nfs_types.specs.declared.attributes.FileType.TheVariants as types;
 ghost use Rattle.fs_model.specs.Names.{dot, dot_dot};
-ghost use Rattle.nfs_spec.specs.Attributes.{attributes_of};
-ghost use Rattle.nfs_spec.specs.Sattr.{wanted};
+ghost use Rattle.nfs_spec.specs.FileAttributes.{attributes_of};
+ghost use Rattle.nfs_spec.specs.Sattr.{given_fields};
 ghost use Rattle.nfs_spec.specs.Opening.{epoch, hello, first_file, opening_root, opening_hello, opening_files};
 ghost use Rattle.nfs_spec.specs.Effects.{attributes_at, number_at_name, getattr};
-ghost use Rattle.nfs_spec.specs.Procedures.{read, write, read_dir, read_link, figures, set_attributes, create, make_dir, symlink, rename, link, remove, remove_dir};
+ghost use Rattle.nfs_spec.specs.Procedures.{read, write, read_dir, read_link, stat_fs, set_attributes, create, make_dir, symlink, rename, link, remove, remove_dir};
 ghost use Rattle.fs_model.specs.Files.{Regular, names_of};
 ghost use Rattle.nfs_spec_examples.specs.Worked.{superuser, size_alone, ignored, files_from, with_cut, with_unlinked, a, d, with_directory, with_renamed, with_link, root_between, soon, with_written, empty_file, with_made, root_emptied, with_next, link_to_t, b, c, with_inner, with_nested, with_nested_renamed, x, y, with_three, with_two};
 
@@ -33,7 +33,7 @@ pub fn reads_of_the_opening()
       entries = record { fileid = 2; name = hello; cookie = 3 } ∷ [];
       eof = true;
     }) }
-    ensures free { figures (opening_files 1) 1 ≡ Ok (record {
+    ensures free { stat_fs (opening_files 1) 1 ≡ Ok (record {
       transfer_size = 8192;
       block_size = 512;
       blocks = 32768;
@@ -45,13 +45,13 @@ pub fn reads_of_the_opening()
 /// SETATTR of size 0 by user 0, and what is free then; MKDIR, RENAME of a directory, LINK and REMOVE, each
 /// with all the files after it.
 pub fn changes_on_small_files()
-    ensures cut { set_attributes (opening_files 1) superuser epoch 2 (wanted epoch (size_alone 0))
+    ensures cut { set_attributes (opening_files 1) superuser epoch 2 (given_fields epoch (size_alone 0))
         ≡ Ok (
           tt,
           files_from 3
               ((2, first_file 0x1a4 (Regular [])) ∷ (1, opening_root) ∷ (2, opening_hello) ∷ []),
         ) }
-    ensures free { figures (files_from 3 with_cut) 1
+    ensures free { stat_fs (files_from 3 with_cut) 1
         ≡ Ok (record {
           transfer_size = 8192;
           block_size = 512;
@@ -59,7 +59,7 @@ pub fn changes_on_small_files()
           free = 32768;
           available = 32768;
         }) }
-    ensures make_dir { make_dir (opening_files 1) superuser epoch 1 a (wanted epoch (size_alone ignored))
+    ensures make_dir { make_dir (opening_files 1) superuser epoch 1 a (given_fields epoch (size_alone ignored))
         ≡ Ok (3, files_from 4 with_directory) }
     ensures rename { rename (files_from 4 with_directory) superuser epoch 1 a 1 d
         ≡ Ok (tt, files_from 4 with_renamed) }
@@ -95,12 +95,12 @@ pub fn files_made_and_removed()
       mtime = soon;
       ctime = soon;
     }) }
-    ensures create { create (opening_files 1) superuser epoch 1 a (wanted epoch (size_alone ignored))
+    ensures create { create (opening_files 1) superuser epoch 1 a (given_fields epoch (size_alone ignored))
         ≡ Ok (3, files_from 4 (with_made empty_file)) }
-    ensures create_over { create (opening_files 1) superuser epoch 1 hello (wanted epoch (size_alone 0))
+    ensures create_over { create (opening_files 1) superuser epoch 1 hello (given_fields epoch (size_alone 0))
         ≡ Ok (2, files_from 3 with_cut) }
     ensures exists { create (files_from 4 with_directory) superuser epoch 1 a
-        (wanted epoch (size_alone ignored))
+        (given_fields epoch (size_alone ignored))
         ≡ Err stats.Exist }
     ensures symlink { symlink (opening_files 1) superuser epoch 1 a (codes "t")
         ≡ Ok (3, files_from 4 (with_made link_to_t)) }
@@ -113,7 +113,7 @@ pub fn files_made_and_removed()
         ≡ Ok (tt, files_from 3 ((1, root_emptied) ∷ [])) }
     ensures stale { getattr (files_from 3 ((1, root_emptied) ∷ [])) (handle_of 1 2) ≡ Err stats.Stale }
     ensures next { create (files_from 3 ((1, root_emptied) ∷ [])) superuser epoch 1 hello
-        (wanted epoch (size_alone ignored))
+        (given_fields epoch (size_alone ignored))
         ≡ Ok (3, files_from 4 with_next) }
 {}
 
@@ -122,9 +122,9 @@ pub fn files_made_and_removed()
 /// one below it.
 pub fn names_below_a_renamed_directory()
     ensures make_dir { make_dir (files_from 4 with_directory) superuser epoch 3 b
-        (wanted epoch (size_alone ignored))
+        (given_fields epoch (size_alone ignored))
         ≡ Ok (4, files_from 5 with_inner) }
-    ensures create { create (files_from 5 with_inner) superuser epoch 4 c (wanted epoch (size_alone ignored))
+    ensures create { create (files_from 5 with_inner) superuser epoch 4 c (given_fields epoch (size_alone ignored))
         ≡ Ok (5, files_from 6 with_nested) }
     ensures rename { rename (files_from 6 with_nested) superuser epoch 1 a 1 d
         ≡ Ok (tt, files_from 6 with_nested_renamed) }

@@ -7,15 +7,15 @@ use Rattle.std.proofs.lemmas.Bool.{cases_eq}
 use Rattle.nfs_types.specs.Timeval.{Timeval}
 use Rattle.nfs_types.specs.Caller.{Caller}
 use Rattle.fs_model.specs.Listing.{Listing, with_entry, without_entry}
-use Rattle.fs_model.specs.Files.{Regular, Link, Directory, File, Files, file_at, places, names_of}
+use Rattle.fs_model.specs.Files.{Regular, Symlink, Directory, File, Files, file_at, places, names_of}
 use Rattle.fs_model.proofs.Walks.{some_same}
-use Rattle.fs_changes.specs.Edits.{with_changed_file, with_new_file, without_file, with_name, without_name, relisted}
+use Rattle.fs_changes.specs.Edits.{with_changed_file, with_new_file, without_file, with_name, without_name, map_listing}
 use Rattle.fs_changes.proofs.Finite.{new_other, changed_here, changed_other, gone_here, gone_other}
-use Rattle.nfs_spec.specs.Sattr.{Sattr, wanted, nothing}
-use Rattle.nfs_spec.specs.Changes.{set, new_file, touch, touched, mark, marked, unnamed, after_unlink}
-use Rattle.nfs_spec.specs.Procedures.{rewritten, made, cleared, moved}
-use Rattle.nfs_spec.specs.Calls as calls
-use Rattle.nfs_spec.specs.Calls.{Call, Answer, number_for, call_does}
+use Rattle.nfs_spec.specs.Sattr.{Sattr, given_fields, no_fields}
+use Rattle.nfs_spec.specs.Changes.{apply_fields, new_file, touch, with_mtime, touch_ctime, with_ctime, unlink, after_unlink}
+use Rattle.nfs_spec.specs.Procedures.{with_bytes_written, add_file, unlink_target, move_entry}
+use Rattle.nfs_spec.specs.NfsCalls as calls
+use Rattle.nfs_spec.specs.NfsCalls.{Call, Answer, number_for, call_does}
 use Rattle.nfs_spec_changes.proofs.Granted.{IsNew, IsCreated, created, set_ok, write_ok, make_ok, create_ok, link_ok, remove_ok, remove_dir_ok, rename_ok}
 use Rattle.nfs_spec_frames.proofs.CallCases.{every}
 
@@ -60,91 +60,91 @@ module _ (R : File → File → Type 0) (same : (f : File) → R f f) (joins : (
         (λ ne. stays_as (file_at w n) (file_at (without_file w k) n) (gone_other w k n ne))
         (cases_eq n k)
 
-    module _ (now : Timeval) (marks : (f : File) → R f (marked now f)) (touches : (f : File) → R f (touched now f)) (relists : (change : Listing → Listing) (f : File) → R f (relisted change f)) where
+    module _ (now : Timeval) (marks : (f : File) → R f (with_ctime now f)) (touches : (f : File) → R f (with_mtime now f)) (relists : (change : Listing → Listing) (f : File) → R f (map_listing change f)) where
       -- one change more
       on : (w v : Files) (k : ℕ) (change : File → File) → ((f : File) → R f (change f)) → Step R (file_at w n) (file_at v n) → Step R (file_at w n) (file_at (with_changed_file v k change) n)
       on w v k change h a = goes_on (file_at w n) (file_at v n) (file_at (with_changed_file v k change) n) a (changes v k change (λ f _ _. h f))
 
-      made_step : (w : Files) (dir : ℕ) (name : List ℕ) (f : File) → n ≢ w.next → Step R (file_at w n) (file_at (made now w dir name f) n)
+      made_step : (w : Files) (dir : ℕ) (name : List ℕ) (f : File) → n ≢ w.next → Step R (file_at w n) (file_at (add_file now w dir name f) n)
       made_step w dir name f ne =
-          on w (with_name (with_new_file w f) dir name w.next) dir (touched now) touches
-          (on w (with_new_file w f) dir (relisted (λ l. with_entry l name w.next)) (relists (λ l. with_entry l name w.next))
+          on w (with_name (with_new_file w f) dir name w.next) dir (with_mtime now) touches
+          (on w (with_new_file w f) dir (map_listing (λ l. with_entry l name w.next)) (relists (λ l. with_entry l name w.next))
           (stays_as (file_at w n) (file_at (with_new_file w f) n) (new_other w f n ne)))
 
-      linked_step : (w : Files) (from dir : ℕ) (name : List ℕ) → Step R (file_at w n) (file_at (touch now (with_name (mark now w from) dir name from) dir) n)
+      linked_step : (w : Files) (from dir : ℕ) (name : List ℕ) → Step R (file_at w n) (file_at (touch now (with_name (touch_ctime now w from) dir name from) dir) n)
       linked_step w from dir name =
-          on w (with_name (mark now w from) dir name from) dir (touched now) touches
-          (on w (mark now w from) dir (relisted (λ l. with_entry l name from)) (relists (λ l. with_entry l name from))
-          (changes w from (marked now) (λ f _ _. marks f)))
+          on w (with_name (touch_ctime now w from) dir name from) dir (with_mtime now) touches
+          (on w (touch_ctime now w from) dir (map_listing (λ l. with_entry l name from)) (relists (λ l. with_entry l name from))
+          (changes w from (with_ctime now) (λ f _ _. marks f)))
 
-      unnamed_step : (w : Files) (dir : ℕ) (name : List ℕ) (k : ℕ) → Step R (file_at w n) (file_at (unnamed now w dir name k) n)
+      unnamed_step : (w : Files) (dir : ℕ) (name : List ℕ) (k : ℕ) → Step R (file_at w n) (file_at (unlink now w dir name k) n)
       unnamed_step w dir name k = by (eqb (names_of (without_name w dir name) k) 0)
         where
           less : Step R (file_at w n) (file_at (without_name w dir name) n)
-          less = changes w dir (relisted (λ l. without_entry l name)) (λ f _ _. relists (λ l. without_entry l name) f)
+          less = changes w dir (map_listing (λ l. without_entry l name)) (λ f _ _. relists (λ l. without_entry l name) f)
 
           by : (b : Bool) → Step R (file_at w n) (file_at (after_unlink b now (without_name w dir name) k) n)
           by true = goes_on (file_at w n) (file_at (without_name w dir name) n) (file_at (without_file (without_name w dir name) k) n) less (leaves (without_name w dir name) k)
-          by false = on w (without_name w dir name) k (marked now) marks less
+          by false = on w (without_name w dir name) k (with_ctime now) marks less
 
-      removed_step : (w : Files) (dir : ℕ) (name : List ℕ) (k : ℕ) → Step R (file_at w n) (file_at (touch now (unnamed now w dir name k) dir) n)
-      removed_step w dir name k = on w (unnamed now w dir name k) dir (touched now) touches (unnamed_step w dir name k)
+      removed_step : (w : Files) (dir : ℕ) (name : List ℕ) (k : ℕ) → Step R (file_at w n) (file_at (touch now (unlink now w dir name k) dir) n)
+      removed_step w dir name k = on w (unlink now w dir name k) dir (with_mtime now) touches (unnamed_step w dir name k)
 
-      cleared_step : (w : Files) (dir : ℕ) (name : List ℕ) (t : Option ℕ) → Step R (file_at w n) (file_at (cleared now w dir name t) n)
+      cleared_step : (w : Files) (dir : ℕ) (name : List ℕ) (t : Option ℕ) → Step R (file_at w n) (file_at (unlink_target now w dir name t) n)
       cleared_step w dir name None = stays (file_at w n)
       cleared_step w dir name (Some k) = unnamed_step w dir name k
 
-      moved_step : (w : Files) (k from : ℕ) (from_name : List ℕ) (to : ℕ) (to_name : List ℕ) (t : Option ℕ) → Step R (file_at w n) (file_at (moved now w k from from_name to to_name t) n)
+      moved_step : (w : Files) (k from : ℕ) (from_name : List ℕ) (to : ℕ) (to_name : List ℕ) (t : Option ℕ) → Step R (file_at w n) (file_at (move_entry now w k from from_name to to_name t) n)
       moved_step w k from from_name to to_name t =
-          let w₁ = cleared now w to to_name t in
+          let w₁ = unlink_target now w to to_name t in
           let w₂ = without_name w₁ from from_name in
           let w₃ = with_name w₂ to to_name k in
-          on w (touch now (mark now w₃ k) from) to (touched now) touches
-          (on w (mark now w₃ k) from (touched now) touches
-          (on w w₃ k (marked now) marks
-          (on w w₂ to (relisted (λ l. with_entry l to_name k)) (relists (λ l. with_entry l to_name k))
-          (on w w₁ from (relisted (λ l. without_entry l from_name)) (relists (λ l. without_entry l from_name)) (cleared_step w to to_name t)))))
+          on w (touch now (touch_ctime now w₃ k) from) to (with_mtime now) touches
+          (on w (touch_ctime now w₃ k) from (with_mtime now) touches
+          (on w w₃ k (with_ctime now) marks
+          (on w w₂ to (map_listing (λ l. with_entry l to_name k)) (relists (λ l. with_entry l to_name k))
+          (on w w₁ from (map_listing (λ l. without_entry l from_name)) (relists (λ l. without_entry l from_name)) (cleared_step w to to_name t)))))
 
       -- over every call, where it may be set and written so
       module _ (w : Files) (who : Caller) (A : Call → Type 0) (old : n ≢ w.next)
-          (sets : (file : List ℕ) (s : Sattr) → A (calls.Setattr file s) → n ≡ number_for w file → (f : File) → R f (set now (wanted now s) f))
-          (creates : (dir name : List ℕ) (s : Sattr) → A (calls.Create dir name s) → (k c : ℕ) → places w (number_for w dir) name ≡ Some (k, c) → n ≡ k → (f : File) → R f (set now (wanted now s) f))
-          (writes : (file : List ℕ) (offset : ℕ) (new : List ℕ) → A (calls.Write file offset new) → n ≡ number_for w file → (before : List ℕ) (f : File) → f.body ≡ Regular before → R f (rewritten now offset new before f)) where
+          (sets : (file : List ℕ) (s : Sattr) → A (calls.Setattr file s) → n ≡ number_for w file → (f : File) → R f (apply_fields now (given_fields now s) f))
+          (creates : (dir name : List ℕ) (s : Sattr) → A (calls.Create dir name s) → (k c : ℕ) → places w (number_for w dir) name ≡ Some (k, c) → n ≡ k → (f : File) → R f (apply_fields now (given_fields now s) f))
+          (writes : (file : List ℕ) (offset : ℕ) (new : List ℕ) → A (calls.Write file offset new) → n ≡ number_for w file → (before : List ℕ) (f : File) → f.body ≡ Regular before → R f (with_bytes_written now offset new before f)) where
         abbrev After : Call → Answer → Files → Type 0
         After call answer w' = A call → Step R (file_at w n) (file_at w' n)
 
         to_same : (v w' : Files) → w' ≡ v → Step R (file_at w n) (file_at v n) → Step R (file_at w n) (file_at w' n)
         to_same v w' is a = subst (λ u. Step R (file_at w n) (file_at u n)) (sym is) a
 
-        wrote_step : (k offset : ℕ) (new before : List ℕ) → ((f : File) → n ≡ k → file_at w k ≡ Some f → R f (rewritten now offset new before f)) → (b : Bool)
-            → Step R (file_at w n) (file_at (if b then w else with_changed_file w k (rewritten now offset new before)) n)
+        wrote_step : (k offset : ℕ) (new before : List ℕ) → ((f : File) → n ≡ k → file_at w k ≡ Some f → R f (with_bytes_written now offset new before f)) → (b : Bool)
+            → Step R (file_at w n) (file_at (if b then w else with_changed_file w k (with_bytes_written now offset new before)) n)
         wrote_step k offset new before h true = stays (file_at w n)
-        wrote_step k offset new before h false = changes w k (rewritten now offset new before) h
+        wrote_step k offset new before h false = changes w k (with_bytes_written now offset new before) h
 
         new_step : (dir : ℕ) (name : List ℕ) (f : File) (x : ℕ × Files) → IsNew w who now dir name f x → Step R (file_at w n) (file_at x.1 n)
-        new_step dir name f x new = to_same (made now w dir name f) x.1 new.is (made_step w dir name f old)
+        new_step dir name f x new = to_same (add_file now w dir name f) x.1 new.is (made_step w dir name f old)
 
         -- over every call, by its procedure
         pub steps : (call : Call) → A call → Step R (file_at w n) (file_at (call_does w who now call).1 n)
         steps = every w who now After
             (λ call answer none why a. stays (file_at w n))
-            (λ file s y x h a. let o = set_ok w who now (number_for w file) (wanted now s) x h in to_same _ x.1 o.is (changes w (number_for w file) (set now (wanted now s)) (λ f e _. sets file s a e f)))
+            (λ file s y x h a. let o = set_ok w who now (number_for w file) (given_fields now s) x h in to_same _ x.1 o.is (changes w (number_for w file) (apply_fields now (given_fields now s)) (λ f e _. sets file s a e f)))
             (λ file offset new y x h a. let o = write_ok w who now (number_for w file) offset new x h in
             to_same _ x.1 o.is (wrote_step (number_for w file) offset new o.old (λ f e is. writes file offset new a e o.old f (ap (λ (g : File). g.body) (some_same (sym is ∙ o.there)) ∙ o.regular)) (length new == 0)))
-            (λ dir name s y x h a. made_or_set dir name s a x (places w (number_for w dir) name) refl (create_ok w who now (number_for w dir) name (wanted now s) x h))
+            (λ dir name s y x h a. made_or_set dir name s a x (places w (number_for w dir) name) refl (create_ok w who now (number_for w dir) name (given_fields now s) x h))
             (λ dir name x h a. let o = remove_ok w who now (number_for w dir) name x h in to_same _ x.1 o.is (removed_step w (number_for w dir) name o.number))
             (λ from from_name to to_name x h a. ⊎_elim
             (λ is. to_same w x.1 is.1 (stays (file_at w n)))
             (λ o. to_same _ x.1 o.is (moved_step w o.number (number_for w from) from_name (number_for w to) to_name (option_map (λ e. e.0) (places w (number_for w to) to_name))))
             (rename_ok w who now (number_for w from) from_name (number_for w to) to_name x h))
             (λ from dir name x h a. let o = link_ok w who now (number_for w from) (number_for w dir) name x h in to_same _ x.1 o.is (linked_step w (number_for w from) (number_for w dir) name))
-            (λ dir name target s x h a. let f = new_file who now nothing 511 (Link target) in new_step (number_for w dir) name f x (make_ok w who now (number_for w dir) name f x h))
-            (λ dir name s y x h a. let f = new_file who now (wanted now s) 493 (Directory (record { next = 3; entries = [] })) in new_step (number_for w dir) name f x (make_ok w who now (number_for w dir) name f x h))
+            (λ dir name target s x h a. let f = new_file who now no_fields 511 (Symlink target) in new_step (number_for w dir) name f x (make_ok w who now (number_for w dir) name f x h))
+            (λ dir name s y x h a. let f = new_file who now (given_fields now s) 493 (Directory (record { next = 3; entries = [] })) in new_step (number_for w dir) name f x (make_ok w who now (number_for w dir) name f x h))
             (λ dir name x h a. let o = remove_dir_ok w who now (number_for w dir) name x h in to_same _ x.1 o.is (removed_step w (number_for w dir) name o.number))
           where
-            made_or_set : (dir name : List ℕ) (s : Sattr) → A (calls.Create dir name s) → (x : ℕ × Files) (o : Option (ℕ × ℕ)) → places w (number_for w dir) name ≡ o → IsCreated w who now (number_for w dir) name (wanted now s) x
+            made_or_set : (dir name : List ℕ) (s : Sattr) → A (calls.Create dir name s) → (x : ℕ × Files) (o : Option (ℕ × ℕ)) → places w (number_for w dir) name ≡ o → IsCreated w who now (number_for w dir) name (given_fields now s) x
                 → Step R (file_at w n) (file_at x.1 n)
-            made_or_set dir name s a x None is h = new_step (number_for w dir) name (created w who now (wanted now s)) x (h.fresh is)
+            made_or_set dir name s a x None is h = new_step (number_for w dir) name (created w who now (given_fields now s)) x (h.fresh is)
             made_or_set dir name s a x (Some e) is h =
-                let o = set_ok w who now e.0 (wanted now s) (tt, x.1) (h.over e.0 e.1 is).1 in
-                to_same _ x.1 o.is (changes w e.0 (set now (wanted now s)) (λ f m _. creates dir name s a e.0 e.1 is m f))
+                let o = set_ok w who now e.0 (given_fields now s) (tt, x.1) (h.over e.0 e.1 is).1 in
+                to_same _ x.1 o.is (changes w e.0 (apply_fields now (given_fields now s)) (λ f m _. creates dir name s a e.0 e.1 is m f))

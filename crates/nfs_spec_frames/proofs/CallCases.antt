@@ -10,19 +10,19 @@ use Rattle.nfs_types.specs.Handle.{handle_of}
 use Rattle.nfs_types.specs.declared.attributes.Fattr.{Fattr}
 use Rattle.nfs_types.specs.declared.stat.Stat.{Stat}
 use Rattle.fs_model.specs.Files.{Files}
-use Rattle.nfs_spec.specs.Checks.{◌>>=◌}
-use Rattle.nfs_spec.specs.Sattr.{Sattr, wanted}
+use Rattle.nfs_spec.specs.ProcedureChecks.{◌>>=◌}
+use Rattle.nfs_spec.specs.Sattr.{Sattr, given_fields}
 use Rattle.nfs_spec.specs.Changes.{Effect}
 use Rattle.nfs_spec.specs.Effects.{attributes_at}
 use Rattle.nfs_spec.specs.Procedures.{set_attributes, write, create, make_dir, symlink, link, remove, remove_dir, rename}
-use Rattle.nfs_spec.specs.Calls as calls
-use Rattle.nfs_spec.specs.Calls.{Call, Answer, told, with_attributes, with_handle, without_number, number_for, call_does}
+use Rattle.nfs_spec.specs.NfsCalls as calls
+use Rattle.nfs_spec.specs.NfsCalls.{Call, Answer, answer_and_files, with_attributes, with_handle, without_number, number_for, call_does}
 use Rattle.nfs_spec_steps.specs.Answers.{only_reads, refusal_in}
 use Rattle.nfs_spec_steps.proofs.Steps.{bind_ok, ok_same}
 use Rattle.nfs_spec_frames.specs.Named.{makes, files_made}
 
 module _ (P : Answer → Files → Type 0) (w : Files) where
-  told_keeps : {A : Type 0} (say : Result A Stat → Answer) (e : Effect A) → ((s : Stat) → P (say (Err s)) w) → ((y : A) (x : A × Files) → e ≡ Ok x → P (say (Ok y)) x.1) → P (told say w e).0 (told say w e).1
+  told_keeps : {A : Type 0} (say : Result A Stat → Answer) (e : Effect A) → ((s : Stat) → P (say (Err s)) w) → ((y : A) (x : A × Files) → e ≡ Ok x → P (say (Ok y)) x.1) → P (answer_and_files say w e).0 (answer_and_files say w e).1
   told_keeps say (Ok x) still done = done x.0 x refl
   told_keeps say (Err s) still done = still s
 
@@ -58,14 +58,14 @@ none_made w call answer s h = ap (λ o. if makes w call && is_none o then 1 else
 
 module _ (w : Files) (who : Caller) (now : Timeval) (P : Call → Answer → Files → Type 0)
     (still : (call : Call) (answer : Answer) → files_made w call answer ≡ 0 → (only_reads call ≡ true) ⊎ ((s : Stat) × (refusal_in answer ≡ Some s)) → P call answer w)
-    (sets : (file : List ℕ) (s : Sattr) (y : Fattr) (x : Unit {0} × Files) → set_attributes w who now (number_for w file) (wanted now s) ≡ Ok x → P (calls.Setattr file s) (calls.Attributes (Ok y)) x.1)
+    (sets : (file : List ℕ) (s : Sattr) (y : Fattr) (x : Unit {0} × Files) → set_attributes w who now (number_for w file) (given_fields now s) ≡ Ok x → P (calls.Setattr file s) (calls.Attributes (Ok y)) x.1)
     (writes : (file : List ℕ) (offset : ℕ) (new : List ℕ) (y : Fattr) (x : Unit {0} × Files) → write w who now (number_for w file) offset new ≡ Ok x → P (calls.Write file offset new) (calls.Attributes (Ok y)) x.1)
-    (creates : (dir name : List ℕ) (s : Sattr) (y : List ℕ × Fattr) (x : ℕ × Files) → create w who now (number_for w dir) name (wanted now s) ≡ Ok x → P (calls.Create dir name s) (calls.DirOp (Ok y)) x.1)
+    (creates : (dir name : List ℕ) (s : Sattr) (y : List ℕ × Fattr) (x : ℕ × Files) → create w who now (number_for w dir) name (given_fields now s) ≡ Ok x → P (calls.Create dir name s) (calls.DirOp (Ok y)) x.1)
     (removes : (dir name : List ℕ) (x : Unit {0} × Files) → remove w who now (number_for w dir) name ≡ Ok x → P (calls.Remove dir name) (calls.Status (Ok tt)) x.1)
     (renames : (from from_name to to_name : List ℕ) (x : Unit {0} × Files) → rename w who now (number_for w from) from_name (number_for w to) to_name ≡ Ok x → P (calls.Rename from from_name to to_name) (calls.Status (Ok tt)) x.1)
     (links : (from dir name : List ℕ) (x : Unit {0} × Files) → link w who now (number_for w from) (number_for w dir) name ≡ Ok x → P (calls.Link from dir name) (calls.Status (Ok tt)) x.1)
     (symlinks : (dir name target : List ℕ) (s : Sattr) (x : ℕ × Files) → symlink w who now (number_for w dir) name target ≡ Ok x → P (calls.Symlink dir name target s) (calls.Status (Ok tt)) x.1)
-    (makes_dirs : (dir name : List ℕ) (s : Sattr) (y : List ℕ × Fattr) (x : ℕ × Files) → make_dir w who now (number_for w dir) name (wanted now s) ≡ Ok x → P (calls.Mkdir dir name s) (calls.DirOp (Ok y)) x.1)
+    (makes_dirs : (dir name : List ℕ) (s : Sattr) (y : List ℕ × Fattr) (x : ℕ × Files) → make_dir w who now (number_for w dir) name (given_fields now s) ≡ Ok x → P (calls.Mkdir dir name s) (calls.DirOp (Ok y)) x.1)
     (removes_dirs : (dir name : List ℕ) (x : Unit {0} × Files) → remove_dir w who now (number_for w dir) name ≡ Ok x → P (calls.Rmdir dir name) (calls.Status (Ok tt)) x.1) where
   -- by cases of the call, each with what its procedure did
   pub every : (call : Call) → P call (call_does w who now call).0 (call_does w who now call).1

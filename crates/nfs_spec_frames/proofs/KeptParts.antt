@@ -5,13 +5,13 @@ use Rattle.std.proofs.Common.{◌≡◌, ◌≢◌, ℕ, Option, Some, None, ref
 use Rattle.nfs_types.specs.Timeval.{Timeval}
 use Rattle.nfs_types.specs.Caller.{Caller}
 use Rattle.fs_model.specs.Listing.{Listing}
-use Rattle.fs_model.specs.Files.{Body, Regular, Link, Directory, File, Files, file_at}
+use Rattle.fs_model.specs.Files.{Body, Regular, Symlink, Directory, File, Files, file_at}
 use Rattle.fs_model.specs.Trees.{IsFileTree}
 use Rattle.fs_model.proofs.Walks.{none_some}
-use Rattle.fs_changes.specs.Edits.{relisted_body}
-use Rattle.nfs_spec.specs.Sattr.{wanted}
-use Rattle.nfs_spec.specs.Changes.{written, resized_body}
-use Rattle.nfs_spec.specs.Calls.{Call, number_for, call_does}
+use Rattle.fs_changes.specs.Edits.{map_body_listing}
+use Rattle.nfs_spec.specs.Sattr.{given_fields}
+use Rattle.nfs_spec.specs.Changes.{with_bytes_at, body_with_length}
+use Rattle.nfs_spec.specs.NfsCalls.{Call, number_for, call_does}
 use Rattle.nfs_spec_trees.proofs.FilesFit.{next_free}
 use Rattle.nfs_spec_frames.specs.Named.{IsNoneOf, set_by, written_by, KeepsKind, KeepsAttributes, KeepsBytes, KeepsAt}
 use Rattle.nfs_spec_frames.proofs.UnnamedFiles.{at_name}
@@ -43,23 +43,23 @@ old_number w tree n f is e = none_some (sym (next_free w tree) ∙ ap (file_at w
 
 kind_same : (b : Body) → KeepsKind b b
 kind_same (Regular bytes) = (bytes, refl)
-kind_same (Link target) = refl
+kind_same (Symlink target) = refl
 kind_same (Directory l) = (l, refl)
 
 kind_on : (a b c : Body) → KeepsKind a b → KeepsKind b c → KeepsKind a c
 kind_on (Regular bytes) b c h k = subst (λ v. KeepsKind v c) h.1 k
-kind_on (Link target) b c h k = subst (λ v. KeepsKind v c) h k
+kind_on (Symlink target) b c h k = subst (λ v. KeepsKind v c) h k
 kind_on (Directory l) b c h k = subst (λ v. KeepsKind v c) h.1 k
 
-kind_relisted : (change : Listing → Listing) (b : Body) → KeepsKind b (relisted_body change b)
+kind_relisted : (change : Listing → Listing) (b : Body) → KeepsKind b (map_body_listing change b)
 kind_relisted change (Regular bytes) = (bytes, refl)
-kind_relisted change (Link target) = refl
+kind_relisted change (Symlink target) = refl
 kind_relisted change (Directory l) = (change l, refl)
 
-kind_resized : (size : Option ℕ) (b : Body) → KeepsKind b (resized_body size b)
+kind_resized : (size : Option ℕ) (b : Body) → KeepsKind b (body_with_length size b)
 kind_resized None b = kind_same b
 kind_resized (Some size) (Regular bytes) = (_, refl)
-kind_resized (Some size) (Link target) = refl
+kind_resized (Some size) (Symlink target) = refl
 kind_resized (Some size) (Directory l) = (l, refl)
 
 module _ (w : Files) (who : Caller) (now : Timeval) (tree : IsFileTree w) where
@@ -69,9 +69,9 @@ module _ (w : Files) (who : Caller) (now : Timeval) (tree : IsFileTree w) where
       let R : File → File → Type 0 = λ f g. KeepsKind f.body g.body in
       between R (file_at w n) (file_at (call_does w who now call).1 n)
       (steps R (λ f. kind_same f.body) (λ f g h a b. kind_on f.body g.body h.body a b) n now (λ f. kind_same f.body) (λ f. kind_same f.body) (λ change f. kind_relisted change f.body) w who (λ call. Unit {0}) (old_number w tree n old is)
-      (λ file s a e f. kind_resized (wanted now s).size f.body)
-      (λ dir name s a k c at e f. kind_resized (wanted now s).size f.body)
-      (λ file offset new a e before f regular. subst (λ b. KeepsKind b (Regular (written offset new before))) (sym regular) (_, refl))
+      (λ file s a e f. kind_resized (given_fields now s).size f.body)
+      (λ dir name s a k c at e f. kind_resized (given_fields now s).size f.body)
+      (λ file offset new a e before f regular. subst (λ b. KeepsKind b (Regular (with_bytes_at offset new before))) (sym regular) (_, refl))
       call tt) old new is is'
 
   -- ---- mode, owner, group and atime
@@ -93,8 +93,8 @@ module _ (w : Files) (who : Caller) (now : Timeval) (tree : IsFileTree w) where
 
   -- ---- bytes
 
-  bytes_relisted : (change : Listing → Listing) (b : Body) → KeepsBytes b (relisted_body change b)
-  bytes_relisted change b bytes is = ap (relisted_body change) is
+  bytes_relisted : (change : Listing → Listing) (b : Body) → KeepsBytes b (map_body_listing change b)
+  bytes_relisted change b bytes is = ap (map_body_listing change) is
 
   -- bytes of regular files
   pub bytes : (call : Call) (n : ℕ) → IsNoneOf n (written_by w call) → KeepsAt (λ old new. KeepsBytes old.body new.body) w (call_does w who now call).1 n

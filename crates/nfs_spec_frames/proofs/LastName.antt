@@ -17,8 +17,8 @@ use Rattle.fs_changes.proofs.Finite.{changed_here, changed_other, gone_here}
 use Rattle.fs_changes.proofs.Shapes.{kind}
 use Rattle.fs_changes.proofs.Adding.{one_same}
 use Rattle.fs_changes.proofs.Taking.{IsTaken, stays_taken}
-use Rattle.nfs_spec.specs.Checks.{file_of, dir_of, listing_or, check, check_edit, number_at}
-use Rattle.nfs_spec.specs.Changes.{touch, touched, marked, unnamed, after_unlink}
+use Rattle.nfs_spec.specs.ProcedureChecks.{file_of, dir_of, listing_or, check, check_edit, number_at}
+use Rattle.nfs_spec.specs.Changes.{touch, with_mtime, with_ctime, unlink, after_unlink}
 use Rattle.nfs_spec.specs.Procedures.{remove, remove_dir}
 use Rattle.nfs_spec_trees.proofs.FilesFit.{is_dir}
 use Rattle.nfs_spec_trees.proofs.Removing.{touched_taken}
@@ -43,24 +43,24 @@ module _ (now : Timeval) (dir n : ℕ) where
 
   ctime_by : (b : Bool) (v : Files) (g : File) → file_at (touch now (after_unlink b now v n) dir) n ≡ Some g → g.ctime ≡ now
   ctime_by b v g h = ⊎_elim
-      (λ e. mapped (touched now) (λ f. refl) _ g (sym (changed_here (after_unlink b now v n) dir (touched now) n e) ∙ h))
-      (λ ne. by b (sym (changed_other (after_unlink b now v n) dir (touched now) n ne) ∙ h))
+      (λ e. mapped (with_mtime now) (λ f. refl) _ g (sym (changed_here (after_unlink b now v n) dir (with_mtime now) n e) ∙ h))
+      (λ ne. by b (sym (changed_other (after_unlink b now v n) dir (with_mtime now) n ne) ∙ h))
       (cases_eq n dir)
     where
       by : (b : Bool) → file_at (after_unlink b now v n) n ≡ Some g → g.ctime ≡ now
       by true h = absurd (none_some (sym (gone_here v n n refl) ∙ h))
-      by false h = mapped (marked now) (λ f. refl) _ g (sym (changed_here v n (marked now) n refl) ∙ h)
+      by false h = mapped (with_ctime now) (λ f. refl) _ g (sym (changed_here v n (with_ctime now) n refl) ∙ h)
 
 module _ (now : Timeval) (time : IsTime now) (w : Files) (tree : IsFileTree w) (dir : ℕ) (name : List ℕ) (n c : ℕ) (had : places w dir name ≡ Some (n, c))
     (f : File) (there : file_at w n ≡ Some f) (empty : (listing_in f.body).entries ≡ []) where
   after : Files
-  after = touch now (unnamed now w dir name n) dir
+  after = touch now (unlink now w dir name n) dir
 
   a : IsTaken w after dir name n c
   unfolding after
   a = touched_taken now time w tree dir name n c had f there empty
 
-  is_gone : names_of w n ≡ 1 → IsGone (touch now (unnamed now w dir name n) dir) n
+  is_gone : names_of w n ≡ 1 → IsGone (touch now (unlink now w dir name n) dir) n
   unfolding after
   is_gone single = record {
     file = none;
@@ -80,7 +80,7 @@ module _ (now : Timeval) (time : IsTime now) (w : Files) (tree : IsFileTree w) (
           tf h = cc
       some_there (Some g) e h = absurd (none_some (sym none ∙ e))
 
-  is_less : 1 < names_of w n → HasOneNameLess w (touch now (unnamed now w dir name n) dir) now n
+  is_less : 1 < names_of w n → HasOneNameLess w (touch now (unlink now w dir name n) dir) now n
   unfolding after
   is_less more = ⊎_elim
       (λ l. by (file_at after n) refl l.0)
@@ -90,7 +90,7 @@ module _ (now : Timeval) (time : IsTime now) (w : Files) (tree : IsFileTree w) (
       ctime : (g : File) → file_at after n ≡ Some g → g.ctime ≡ now
       ctime g h = ctime_by now dir n (names_of (without_name w dir name) n == 0) (without_name w dir name) g h
 
-      by : (o : Option File) → file_at after n ≡ o → kind after n ≡ Some false → HasOneNameLess w (touch now (unnamed now w dir name n) dir) now n
+      by : (o : Option File) → file_at after n ≡ o → kind after n ≡ Some false → HasOneNameLess w (touch now (unlink now w dir name n) dir) now n
       by None e k = absurd (none_some (sym (ap (option_map (λ f. is_directory f.body)) e) ∙ k))
       by (Some g) e k = record { file = g; there = e; ctime = ctime g e; names = omega (arith, a.names n, one_same n n refl) }
 
@@ -98,7 +98,7 @@ module _ (now : Timeval) (time : IsTime now) (w after : Files) (tree : IsFileTre
   same_number : (m b : ℕ) → places w dir name ≡ Some (m, b) → m ≡ n
   same_number m b h = ap (λ (p : ℕ × ℕ). p.0) (some_same (sym h ∙ at))
 
-  of_remove : (Q : Files → Type 0) → ((f : File) → file_at w n ≡ Some f → (listing_in f.body).entries ≡ [] → Q (touch now (unnamed now w dir name n) dir)) → remove w who now dir name ≡ Ok (tt, after) → Q after
+  of_remove : (Q : Files → Type 0) → ((f : File) → file_at w n ≡ Some f → (listing_in f.body).entries ≡ [] → Q (touch now (unlink now w dir name n) dir)) → remove w who now dir name ≡ Ok (tt, after) → Q after
   of_remove Q says h =
       let p = bind_ok (dir_of w dir) _ (tt, after) h in
       let q = bind_ok (check_edit who p.0 name) _ (tt, after) p.2 in
@@ -108,7 +108,7 @@ module _ (now : Timeval) (time : IsTime now) (w after : Files) (tree : IsFileTre
       let e = number_ok p.0 name m.0 m.1 in
       let same = same_number m.0 e.0 (place_found w dir p.0 (dir_ok w dir p.0 p.1) name ∙ e.1) in
       let there : file_at w n ≡ Some f.0 = ap (λ k. file_at w k) (sym same) ∙ found_ok stats.Stale (file_at w m.0) f.0 f.1 in
-      subst Q (ap (λ k. touch now (unnamed now w dir name k) dir) (sym same) ∙ ap (λ (y : Unit {0} × Files). y.1) (ok_same r.2))
+      subst Q (ap (λ k. touch now (unlink now w dir name k) dir) (sym same) ∙ ap (λ (y : Unit {0} × Files). y.1) (ok_same r.2))
       (says f.0 there (no_entries f.0.body (not-true (is_directory f.0.body) (check_ok (not (is_directory f.0.body)) stats.IsDir r.0 r.1))))
 
   -- REMOVE of a last name
@@ -134,5 +134,5 @@ module _ (now : Timeval) (time : IsTime now) (w after : Files) (tree : IsFileTre
       let is = directory_ok stats.NotDir f.0.body l.0 l.1 in
       let empty : (listing_in f.0.body).entries ≡ [] = ap (λ (y : Listing). y.entries) is.1 ∙ no_length l.0.entries (eqb-true _ 0 (check_ok (length l.0.entries == 0) stats.NotEmpty r.0 r.1)) in
       let not_root : n ≢ 1 = λ root. root_has_no_name w tree dir c name (at ∙ ap (λ k. Some (k, c)) root) in
-      subst (λ v. IsGone v n) (ap (λ k. touch now (unnamed now w dir name k) dir) (sym same) ∙ ap (λ (y : Unit {0} × Files). y.1) (ok_same r.2))
+      subst (λ v. IsGone v n) (ap (λ k. touch now (unlink now w dir name k) dir) (sym same) ∙ ap (λ (y : Unit {0} × Files). y.1) (ok_same r.2))
       (is_gone now time w tree dir name n c at f.0 there empty (tree.directories n not_root (is_dir w n f.0 there is.0)))

@@ -5,7 +5,7 @@ use Rattle.std.specs.Prelude.{IsTrue}
 use Rattle.fs_model.specs.Files.{Files}
 use Rattle.fs_model.specs.Trees.{IsFileTree}
 use Rattle.fs_changes.specs.Limits.{has_room}
-use Rattle.nfs_spec.specs.Calls.{call_does}
+use Rattle.nfs_spec.specs.NfsCalls.{call_does}
 use Rattle.nfs_spec_laws.proofs.EveryCall.{stays}
 use Rattle.nfs_spec_frames.specs.Runs.{Request, files_after, AreBounded}
 

@@ -6,14 +6,14 @@ use Rattle.std.specs.Prelude.{◌&&◌, is_none, if◌then◌else◌, ◌==◌, 
 use Rattle.std.specs.Option.{option_map_or}
 use Rattle.nfs_types.specs.Timeval.{Timeval}
 use Rattle.nfs_types.specs.Caller.{Caller}
-use Rattle.fs_model.specs.Files.{File, Files, file_at, places, Link, Directory}
+use Rattle.fs_model.specs.Files.{File, Files, file_at, places, Symlink, Directory}
 use Rattle.fs_model.proofs.Walks.{none_some, some_same}
 use Rattle.fs_changes.specs.Edits.{with_changed_file}
 use Rattle.fs_changes.proofs.Finite.{changed_other}
-use Rattle.nfs_spec.specs.Sattr.{Wanted, wanted, nothing}
-use Rattle.nfs_spec.specs.Changes.{set, new_file}
-use Rattle.nfs_spec.specs.Procedures.{rewritten}
-use Rattle.nfs_spec.specs.Calls.{Call, Answer, number_for, call_does}
+use Rattle.nfs_spec.specs.Sattr.{GivenFields, given_fields, no_fields}
+use Rattle.nfs_spec.specs.Changes.{apply_fields, new_file}
+use Rattle.nfs_spec.specs.Procedures.{with_bytes_written}
+use Rattle.nfs_spec.specs.NfsCalls.{Call, Answer, number_for, call_does}
 use Rattle.nfs_spec_frames.specs.Named.{IsNoneOf, named_at, named_by, files_made}
 use Rattle.nfs_spec_changes.proofs.Granted.{IsNew, IsCreated, created, set_ok, write_ok, make_ok, create_ok, link_ok, remove_ok, remove_dir_ok, rename_ok}
 use Rattle.nfs_spec_frames.proofs.CallCases.{every}
@@ -39,7 +39,7 @@ module _ (w : Files) (who : Caller) (now : Timeval) where
   head_new : (dir : ℕ) (name : List ℕ) (f : File) (x : ℕ × Files) → IsNew w who now dir name f x → IsHead w x.1 (w.next + 1)
   head_new dir name f x new = record { node = ap (λ (u : Files). u.fsid) new.is; next_is = ap (λ (u : Files). u.next) new.is }
 
-  head_written : (n offset : ℕ) (new old : List ℕ) (b : Bool) (w' : Files) → w' ≡ (if b then w else with_changed_file w n (rewritten now offset new old)) → IsHead w w' (w.next + 0)
+  head_written : (n offset : ℕ) (new old : List ℕ) (b : Bool) (w' : Files) → w' ≡ (if b then w else with_changed_file w n (with_bytes_written now offset new old)) → IsHead w w' (w.next + 0)
   head_written n offset new old true w' is = head_same w w' is refl refl
   head_written n offset new old false w' is = head_same _ w' is refl refl
 
@@ -47,20 +47,20 @@ module _ (w : Files) (who : Caller) (now : Timeval) where
   pub heads : (call : Call) → HeadAfter call (call_does w who now call).0 (call_does w who now call).1
   heads = every w who now HeadAfter
       (λ call answer none why. record { node = refl; next_is = omega (arith, none) })
-      (λ file s y x h. head_same _ x.1 (set_ok w who now (number_for w file) (wanted now s) x h).is refl refl)
+      (λ file s y x h. head_same _ x.1 (set_ok w who now (number_for w file) (given_fields now s) x h).is refl refl)
       (λ file offset new y x h. let o = write_ok w who now (number_for w file) offset new x h in head_written (number_for w file) offset new o.old (length new == 0) x.1 o.is)
-      (λ dir name s y x h. creates (number_for w dir) name (wanted now s) x (places w (number_for w dir) name) refl (create_ok w who now (number_for w dir) name (wanted now s) x h))
+      (λ dir name s y x h. creates (number_for w dir) name (given_fields now s) x (places w (number_for w dir) name) refl (create_ok w who now (number_for w dir) name (given_fields now s) x h))
       (λ dir name x h. head_same _ x.1 (remove_ok w who now (number_for w dir) name x h).is refl refl)
       (λ from from_name to to_name x h. ⊎_elim
       (λ same. head_same w x.1 same.1 refl refl)
       (λ o. head_same _ x.1 o.is refl refl)
       (rename_ok w who now (number_for w from) from_name (number_for w to) to_name x h))
       (λ from dir name x h. head_same _ x.1 (link_ok w who now (number_for w from) (number_for w dir) name x h).is refl refl)
-      (λ dir name target s x h. head_new (number_for w dir) name (new_file who now nothing 511 (Link target)) x (make_ok w who now (number_for w dir) name (new_file who now nothing 511 (Link target)) x h))
-      (λ dir name s y x h. let f = new_file who now (wanted now s) 493 (Directory (record { next = 3; entries = [] })) in head_new (number_for w dir) name f x (make_ok w who now (number_for w dir) name f x h))
+      (λ dir name target s x h. head_new (number_for w dir) name (new_file who now no_fields 511 (Symlink target)) x (make_ok w who now (number_for w dir) name (new_file who now no_fields 511 (Symlink target)) x h))
+      (λ dir name s y x h. let f = new_file who now (given_fields now s) 493 (Directory (record { next = 3; entries = [] })) in head_new (number_for w dir) name f x (make_ok w who now (number_for w dir) name f x h))
       (λ dir name x h. head_same _ x.1 (remove_dir_ok w who now (number_for w dir) name x h).is refl refl)
     where
-      creates : (dir : ℕ) (name : List ℕ) (a : Wanted) (x : ℕ × Files) (o : Option (ℕ × ℕ)) → places w dir name ≡ o → IsCreated w who now dir name a x
+      creates : (dir : ℕ) (name : List ℕ) (a : GivenFields) (x : ℕ × Files) (o : Option (ℕ × ℕ)) → places w dir name ≡ o → IsCreated w who now dir name a x
           → IsHead w x.1 (w.next + (if is_none (places w dir name) && true then 1 else 0))
       creates dir name a x None is h = subst (λ (o : Option (ℕ × ℕ)). IsHead w x.1 (w.next + (if is_none o && true then 1 else 0))) (sym is) (head_new dir name (created w who now a) x (h.fresh is))
       creates dir name a x (Some e) is h =
@@ -72,9 +72,9 @@ module _ (w : Files) (who : Caller) (now : Timeval) where
   abbrev OthersAfter : Call → Answer → Files → Type 0
   OthersAfter call answer w' = (n : ℕ) → IsNoneOf n (named_by w call) → file_at w' n ≡ file_at w n
 
-  wrote_other : (k offset : ℕ) (new old : List ℕ) (b : Bool) (n : ℕ) → n ≢ k → file_at (if b then w else with_changed_file w k (rewritten now offset new old)) n ≡ file_at w n
+  wrote_other : (k offset : ℕ) (new old : List ℕ) (b : Bool) (n : ℕ) → n ≢ k → file_at (if b then w else with_changed_file w k (with_bytes_written now offset new old)) n ≡ file_at w n
   wrote_other k offset new old true n ne = refl
-  wrote_other k offset new old false n ne = changed_other w k (rewritten now offset new old) n ne
+  wrote_other k offset new old false n ne = changed_other w k (with_bytes_written now offset new old) n ne
 
   -- what is found at a name is among what it names
   pub at_name : (dir : ℕ) (name : List ℕ) (k c n : ℕ) → places w dir name ≡ Some (k, c) → IsNoneOf n (named_at w dir name) → n ≢ k
@@ -95,23 +95,23 @@ module _ (w : Files) (who : Caller) (now : Timeval) where
   pub others : (call : Call) → OthersAfter call (call_does w who now call).0 (call_does w who now call).1
   others = every w who now OthersAfter
       (λ call answer none why n h. refl)
-      (λ file s y x h n ns. let o = set_ok w who now (number_for w file) (wanted now s) x h in ap (λ v. file_at v n) o.is ∙ changed_other w (number_for w file) (set now (wanted now s)) n ns.0)
+      (λ file s y x h n ns. let o = set_ok w who now (number_for w file) (given_fields now s) x h in ap (λ v. file_at v n) o.is ∙ changed_other w (number_for w file) (apply_fields now (given_fields now s)) n ns.0)
       (λ file offset new y x h n ns. let o = write_ok w who now (number_for w file) offset new x h in ap (λ v. file_at v n) o.is ∙ wrote_other (number_for w file) offset new o.old (length new == 0) n ns.0)
-      (λ dir name s y x h n ns. creates (number_for w dir) name (wanted now s) x (places w (number_for w dir) name) refl (create_ok w who now (number_for w dir) name (wanted now s) x h) n ns)
+      (λ dir name s y x h n ns. creates (number_for w dir) name (given_fields now s) x (places w (number_for w dir) name) refl (create_ok w who now (number_for w dir) name (given_fields now s) x h) n ns)
       (λ dir name x h n ns. let o = remove_ok w who now (number_for w dir) name x h in ap (λ v. file_at v n) o.is ∙ removed_other now w (number_for w dir) name o.number n ns.0 (at_name (number_for w dir) name o.number o.cookie n o.at ns.1))
       (λ from from_name to to_name x h n ns. let both = none_of_both n (named_at w (number_for w from) from_name) (named_at w (number_for w to) to_name) ns.1.1 in ⊎_elim
       (λ same. ap (λ v. file_at v n) same.1)
       (λ o. ap (λ v. file_at v n) o.is ∙ moved_other now w o.number (number_for w from) from_name (number_for w to) to_name (option_map (λ e. e.0) (places w (number_for w to) to_name)) n ns.0 ns.1.0 (at_name (number_for w from) from_name o.number o.cookie n o.at both.0) (at_target (number_for w to) to_name n both.1))
       (rename_ok w who now (number_for w from) from_name (number_for w to) to_name x h))
       (λ from dir name x h n ns. let o = link_ok w who now (number_for w from) (number_for w dir) name x h in ap (λ v. file_at v n) o.is ∙ linked_other now w (number_for w from) (number_for w dir) name n ns.0 ns.1.0)
-      (λ dir name target s x h n ns. new_other (number_for w dir) name (new_file who now nothing 511 (Link target)) x (make_ok w who now (number_for w dir) name (new_file who now nothing 511 (Link target)) x h) n ns.0 ns.1.0)
-      (λ dir name s y x h n ns. let f = new_file who now (wanted now s) 493 (Directory (record { next = 3; entries = [] })) in new_other (number_for w dir) name f x (make_ok w who now (number_for w dir) name f x h) n ns.0 ns.1.0)
+      (λ dir name target s x h n ns. new_other (number_for w dir) name (new_file who now no_fields 511 (Symlink target)) x (make_ok w who now (number_for w dir) name (new_file who now no_fields 511 (Symlink target)) x h) n ns.0 ns.1.0)
+      (λ dir name s y x h n ns. let f = new_file who now (given_fields now s) 493 (Directory (record { next = 3; entries = [] })) in new_other (number_for w dir) name f x (make_ok w who now (number_for w dir) name f x h) n ns.0 ns.1.0)
       (λ dir name x h n ns. let o = remove_dir_ok w who now (number_for w dir) name x h in ap (λ v. file_at v n) o.is ∙ removed_other now w (number_for w dir) name o.number n ns.0 (at_name (number_for w dir) name o.number o.cookie n o.at ns.1))
     where
       new_other : (dir : ℕ) (name : List ℕ) (f : File) (x : ℕ × Files) → IsNew w who now dir name f x → (n : ℕ) → n ≢ dir → n ≢ w.next → file_at x.1 n ≡ file_at w n
       new_other dir name f x new n nd nn = ap (λ v. file_at v n) new.is ∙ made_other now w dir name f n nd nn
 
-      creates : (dir : ℕ) (name : List ℕ) (a : Wanted) (x : ℕ × Files) (o : Option (ℕ × ℕ)) → places w dir name ≡ o → IsCreated w who now dir name a x
+      creates : (dir : ℕ) (name : List ℕ) (a : GivenFields) (x : ℕ × Files) (o : Option (ℕ × ℕ)) → places w dir name ≡ o → IsCreated w who now dir name a x
           → (n : ℕ) → IsNoneOf n (option_map_or (λ e. e.0 ∷ []) (places w dir name) (dir ∷ w.next ∷ [])) → file_at x.1 n ≡ file_at w n
       creates dir name a x None is h n ns =
           let own = subst (λ (o : Option (ℕ × ℕ)). IsNoneOf n (option_map_or (λ e. e.0 ∷ []) o (dir ∷ w.next ∷ []))) is ns in
@@ -119,4 +119,4 @@ module _ (w : Files) (who : Caller) (now : Timeval) where
       creates dir name a x (Some e) is h n ns =
           let own = subst (λ (o : Option (ℕ × ℕ)). IsNoneOf n (option_map_or (λ e. e.0 ∷ []) o (dir ∷ w.next ∷ []))) is ns in
           let o = set_ok w who now e.0 a (tt, x.1) (h.over e.0 e.1 is).1 in
-          ap (λ v. file_at v n) o.is ∙ changed_other w e.0 (set now a) n own.0
+          ap (λ v. file_at v n) o.is ∙ changed_other w e.0 (apply_fields now a) n own.0

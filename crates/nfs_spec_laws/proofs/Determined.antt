@@ -4,8 +4,8 @@ use Rattle.std.proofs.Common.{◌≡◌, ℕ, List, Option, refl, ◌∙◌}
 use Rattle.nfs_types.specs.Timeval.{Timeval}
 use Rattle.nfs_types.specs.Caller.{Caller}
 use Rattle.fs_model.specs.Files.{Files}
-use Rattle.nfs_spec.specs.Calls as calls
-use Rattle.nfs_spec.specs.Calls.{Call, call_does}
+use Rattle.nfs_spec.specs.NfsCalls as calls
+use Rattle.nfs_spec.specs.NfsCalls.{Call, call_does}
 
 any_machine : (w : Files) (uid gid : ℕ) (gids : List ℕ) (a b : Option (List ℕ)) (now : Timeval) (call : Call)
     → call_does w (record { uid = uid; gid = gid; gids = gids; machine_name = a }) now call ≡ call_does w (record { uid = uid; gid = gid; gids = gids; machine_name = b }) now call

@@ -9,8 +9,8 @@ use Rattle.nfs_types.specs.declared.stat.Stat.{Stat}
 use Rattle.fs_model.specs.Files.{Files}
 use Rattle.fs_model.specs.Trees.{IsTime, IsFileTree}
 use Rattle.fs_model.proofs.Walks.{none_some}
-use Rattle.nfs_spec.specs.Sattr.{wanted}
-use Rattle.nfs_spec.specs.Calls.{Call, number_for, call_does}
+use Rattle.nfs_spec.specs.Sattr.{given_fields}
+use Rattle.nfs_spec.specs.NfsCalls.{Call, number_for, call_does}
 use Rattle.nfs_spec_steps.specs.Answers.{refusal_in}
 use Rattle.nfs_spec_steps.specs.Granted.{RenameOk, new_directory, new_link}
 use Rattle.nfs_spec_steps.proofs.EachCall.{each_call}
@@ -35,12 +35,12 @@ module _ (now : Timeval) (time : IsTime now) (w : Files) (tree : IsFileTree w) (
   stays = each_call w who now (λ call answer after. IsBounded call → Follows w after) (record {
     reads = λ call answer only bound. unchanged w tree;
     refused = λ call answer stat says bound. unchanged w tree;
-    set_attributes = λ file s a after o _ bound. set_follows now time w tree who (number_for w file) (wanted now s) (wanted_is now s time) after o;
+    set_attributes = λ file s a after o _ bound. set_follows now time w tree who (number_for w file) (given_fields now s) (wanted_is now s time) after o;
     write = λ file offset new a after o _ bound. write_follows now time w tree who (number_for w file) offset new after o;
-    create = λ dir name s number a after o _ bound. create_follows now time w tree who (number_for w dir) name bound (wanted now s) (wanted_is now s time) number after o;
+    create = λ dir name s number a after o _ bound. create_follows now time w tree who (number_for w dir) name bound (given_fields now s) (wanted_is now s time) number after o;
     make_dir = λ dir name s number a after o _ bound.
-        make_follows now time w tree who (number_for w dir) name bound (new_directory who now (wanted now s)) refl
-        (directory_fits who now time (wanted now s) (wanted_is now s time)) number after o;
+        make_follows now time w tree who (number_for w dir) name bound (new_directory who now (given_fields now s)) refl
+        (directory_fits who now time (given_fields now s) (wanted_is now s time)) number after o;
     symlink = λ dir name target s number after o bound.
         make_follows now time w tree who (number_for w dir) name bound.0 (new_link who now target) refl (link_fits who now time target bound.1) number after o;
     link = λ from dir name after o bound. link_follows now time w tree who (number_for w dir) name bound (number_for w from) after o;

@@ -8,7 +8,7 @@ use Rattle.fs_model.specs.Trees.{IsTime, IsFile, IsFileTree}
 use Rattle.fs_model.proofs.Walks.{one_number}
 use Rattle.fs_changes.proofs.Adding.{adds_path}
 use Rattle.fs_changes.proofs.Taking.{takes_path}
-use Rattle.nfs_spec.specs.Sattr.{Wanted}
+use Rattle.nfs_spec.specs.Sattr.{GivenFields}
 use Rattle.nfs_spec_steps.specs.Granted.{MakeOk, CreateOk, LinkOk, UnnameOk, IsSameFile, RenameOk, new_regular}
 use Rattle.nfs_spec_trees.proofs.Making.{make_added, link_added}
 use Rattle.nfs_spec_trees.proofs.Removing.{remove_taken}
@@ -26,7 +26,7 @@ module _ (now : Timeval) (time : IsTime now) (w : Files) (tree : IsFileTree w) (
   )
 
   -- CREATE of a name that isn't there
-  pub create_adds : (dir : ℕ) (name : List ℕ) → length name ≤ 255 → (a : Wanted) → IsWanted a → (number : ℕ) (after : Files)
+  pub create_adds : (dir : ℕ) (name : List ℕ) → length name ≤ 255 → (a : GivenFields) → IsWanted a → (number : ℕ) (after : Files)
       → CreateOk w who now dir name a number after → places w dir name ≡ None → (number ≡ w.next) × NamesIn w after dir name number
   create_adds dir name bound a is number after o free =
       let new = o.fresh free in

@@ -5,10 +5,10 @@ use Rattle.nfs_types.specs.Handle.{handle_of}
 use Rattle.nfs_types.specs.declared.attributes.Fattr.{Fattr}
 use Rattle.nfs_types.specs.declared.stat.Stat.{Stat}
 use Rattle.fs_model.specs.Files.{Files}
-use Rattle.nfs_spec.specs.Checks.{◌>>=◌}
+use Rattle.nfs_spec.specs.ProcedureChecks.{◌>>=◌}
 use Rattle.nfs_spec.specs.Changes.{Effect}
 use Rattle.nfs_spec.specs.Effects.{attributes_at}
-use Rattle.nfs_spec.specs.Calls.{Answer, told, with_attributes, with_handle, without_number}
+use Rattle.nfs_spec.specs.NfsCalls.{Answer, answer_and_files, with_attributes, with_handle, without_number}
 use Rattle.nfs_spec_steps.proofs.Steps.{bind_ok, ok_same}
 
 -- two Ok that are the same have the same files
@@ -16,7 +16,7 @@ pub in_files : {A : Type 0} (Q : Files → Type 0) {x y : A × Files} → ◌≡
 in_files Q h q = subst (λ z. Q z.1) (ok_same h) q
 
 -- of an effect's answer: what holds before and after holds of the files that are left
-pub of_told : {A : Type 0} (Q : Files → Type 0) (say : Result A Stat → Answer) (w : Files) (e : Effect A) → Q w → ((x : A × Files) → e ≡ Ok x → Q x.1) → Q (told say w e).1
+pub of_told : {A : Type 0} (Q : Files → Type 0) (say : Result A Stat → Answer) (w : Files) (e : Effect A) → Q w → ((x : A × Files) → e ≡ Ok x → Q x.1) → Q (answer_and_files say w e).1
 of_told Q say w (Ok x) same after = after x refl
 of_told Q say w (Err e) same after = same
 

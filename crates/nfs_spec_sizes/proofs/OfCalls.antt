@@ -14,16 +14,16 @@ use Rattle.nfs_types.specs.Attributes.{fattr, fattr_value}
 use Rattle.nfs_types.specs.declared.attributes.Fattr.{Fattr}
 use Rattle.nfs_types.specs.declared.stat.Stat.{Stat}
 use Rattle.nfs_types.specs.declared.stat.Stat.TheVariants as stats
-use Rattle.fs_model.specs.Files.{Body, Regular, Link, Directory, Files, file_at}
+use Rattle.fs_model.specs.Files.{Body, Regular, Symlink, Directory, Files, file_at}
 use Rattle.fs_model.specs.Trees.{IsBody}
-use Rattle.nfs_spec.specs.Checks.{◌>>=◌, file_of, number_of, dir_of, check, bytes_of, target_of, permits, may_read}
-use Rattle.nfs_spec.specs.Sattr.{wanted}
+use Rattle.nfs_spec.specs.ProcedureChecks.{◌>>=◌, file_of, number_of, dir_of, check, bytes_of, target_of, permits, may_read}
+use Rattle.nfs_spec.specs.Sattr.{given_fields}
 use Rattle.nfs_spec.specs.Changes.{Effect}
 use Rattle.nfs_spec.specs.Effects.{attributes_at, number_at_name, getattr, lookup}
-use Rattle.nfs_spec.specs.Reading.{Entry, Page}
-use Rattle.nfs_spec.specs.Procedures.{Figures, set_attributes, read_link, read, write, create, make_dir, read_dir, figures}
-use Rattle.nfs_spec.specs.Calls as calls
-use Rattle.nfs_spec.specs.Calls.{Call, Answer, told, with_attributes, with_handle, number_for, call_does}
+use Rattle.nfs_spec.specs.Readdir.{DirEntry, Page}
+use Rattle.nfs_spec.specs.Procedures.{FsStats, set_attributes, read_link, read, write, create, make_dir, read_dir, stat_fs}
+use Rattle.nfs_spec.specs.NfsCalls as calls
+use Rattle.nfs_spec.specs.NfsCalls.{Call, Answer, answer_and_files, with_attributes, with_handle, number_for, call_does}
 use Rattle.nfs_spec_steps.proofs.Steps.{bind_ok, found_ok, ok_same, dir_ok}
 use Rattle.call_items.specs.Items.{path, entry}
 use Rattle.call_items.specs.Texts.{entry_value, figures_value, IsSpelled}
@@ -68,11 +68,11 @@ of_dir_op r fits = record { fits = outcome_fits (pair fhandle fattr) pair_value 
 of_status : (r : Result (Unit {0}) Stat) → IsSpelled (calls.Status r)
 of_status r = record { fits = outcome_fits empty (λ x. x) r (λ x h. tt); cookies = tt }
 
-entries_fit : (es : List Entry) → AllByRecursion EntryFits es → AllByRecursion (Fits entry) (map entry_value es)
+entries_fit : (es : List DirEntry) → AllByRecursion EntryFits es → AllByRecursion (Fits entry) (map entry_value es)
 entries_fit [] a = tt
 entries_fit (e ∷ es) a = ((a.0.fileid, ((omega (arith, a.0.name), a.0.name), length-bytes_high_first 4 e.cookie)), entries_fit es a.1)
 
-cookies_fit : (es : List Entry) → AllByRecursion EntryFits es → AllByRecursion (λ c. c < 2 ^ 32) (map (λ e. e.cookie) es)
+cookies_fit : (es : List DirEntry) → AllByRecursion EntryFits es → AllByRecursion (λ c. c < 2 ^ 32) (map (λ e. e.cookie) es)
 cookies_fit [] a = tt
 cookies_fit (e ∷ es) a = (a.0.cookie, cookies_fit es a.1)
 
@@ -80,11 +80,11 @@ of_entries : (r : Result Page Stat) → ((p : Page) → r ≡ Ok p → AllByRecu
 of_entries (Ok p) fits = record { fits = outcome_fits (pair (linked entry) flag) page_value (Ok p) (λ q h. (entries_fit q.entries (fits q h), tt)); cookies = cookies_fit p.entries (fits p refl) }
 of_entries (Err e) fits = record { fits = outcome_fits (pair (linked entry) flag) page_value (Err e) (λ q h. (entries_fit q.entries (fits q h), tt)); cookies = tt }
 
-of_told : {A : Type 0} (say : Result A Stat → Answer) (w : Files) (e : Effect A) → AreSpelled (told say w e).1 → ((s : Stat) → IsSpelled (say (Err s))) → ((x : A × Files) → e ≡ Ok x → AreSpelled x.1 → IsSpelled (say (Ok x.0))) → IsSpelled (told say w e).0
+of_told : {A : Type 0} (say : Result A Stat → Answer) (w : Files) (e : Effect A) → AreSpelled (answer_and_files say w e).1 → ((s : Stat) → IsSpelled (say (Err s))) → ((x : A × Files) → e ≡ Ok x → AreSpelled x.1 → IsSpelled (say (Ok x.0))) → IsSpelled (answer_and_files say w e).0
 of_told say w (Ok x) after refused given = given x refl after
 of_told say w (Err e) after refused given = refused e
 
-told_attributes : (w : Files) (n : ℕ) (e : Effect (Unit {0})) → AreSpelled (told calls.Attributes w (with_attributes n e)).1 → IsSpelled (told calls.Attributes w (with_attributes n e)).0
+told_attributes : (w : Files) (n : ℕ) (e : Effect (Unit {0})) → AreSpelled (answer_and_files calls.Attributes w (with_attributes n e)).1 → IsSpelled (answer_and_files calls.Attributes w (with_attributes n e)).0
 told_attributes w n e after = of_told calls.Attributes w (with_attributes n e) after (λ s. of_attributes (Err s) (λ a h. absurd (never h))) (λ x h spelled.
     let p = bind_ok e _ x h in
     let q = bind_ok (attributes_at p.0.1 n) _ x p.2 in
@@ -97,7 +97,7 @@ told_attributes w n e after = of_told calls.Attributes w (with_attributes n e) a
 abbrev handled : ℕ × Files → Fattr → Effect (List ℕ × Fattr)
 handled y a = Ok ((handle_of y.1.fsid y.0, a), y.1)
 
-told_handle : (w : Files) (e : Effect ℕ) → AreSpelled (told calls.DirOp w (with_handle e)).1 → IsSpelled (told calls.DirOp w (with_handle e)).0
+told_handle : (w : Files) (e : Effect ℕ) → AreSpelled (answer_and_files calls.DirOp w (with_handle e)).1 → IsSpelled (answer_and_files calls.DirOp w (with_handle e)).0
 told_handle w e after = of_told calls.DirOp w (with_handle e) after (λ s. of_dir_op (Err s) (λ a h. absurd (never h))) (λ x h spelled.
     let p = bind_ok e (λ y. attributes_at y.1 y.0 >>= handled y) x h in
     let q = bind_ok (attributes_at p.0.1 p.0.0) (handled p.0) x p.2 in
@@ -108,7 +108,7 @@ told_handle w e after = of_told calls.DirOp w (with_handle e) after (λ s. of_di
     never : {A : Type 0} {s : Stat} {a : A} → Err s ≡ Ok a → ⊥
     never h = cc
 
-told_status : (w : Files) (e : Effect (Unit {0})) → IsSpelled (told calls.Status w e).0
+told_status : (w : Files) (e : Effect (Unit {0})) → IsSpelled (answer_and_files calls.Status w e).0
 told_status w (Ok x) = of_status (Ok x.0)
 told_status w (Err e) = of_status (Err e)
 
@@ -139,7 +139,7 @@ module _ (w : Files) (h : AreSpelled w) (who : Caller) where
     where
       by : (b : Body) (t : List ℕ) → target_of b ≡ Ok t → IsBody b → length t ≤ 1024
       by (Regular bytes) t e body = absurd cc
-      by (Link target) t e body = let same = ap length (ok_same e) in omega (arith, same, body)
+      by (Symlink target) t e body = let same = ap length (ok_same e) in omega (arith, same, body)
       by (Directory l) t e body = absurd cc
 
   of_bytes : (n offset count : ℕ) → IsSpelled (calls.Bytes (read w who n offset count))
@@ -160,11 +160,11 @@ module _ (w : Files) (h : AreSpelled w) (who : Caller) where
       let found = dir_ok w n d.0 d.1 in
       subst (λ (p : Page). AllByRecursion EntryFits p.entries) (ok_same may.2) (page_fits w h n d.0.file d.0.listing found.there found.directory found.listing cookie count))
 
-  of_free : (n : ℕ) → IsSpelled (calls.Free (figures w n))
+  of_free : (n : ℕ) → IsSpelled (calls.Free (stat_fs w n))
   of_free n = record {
-    fits = outcome_fits (pair word (pair word (pair word (pair word word)))) figures_value (figures w n) (λ x is.
+    fits = outcome_fits (pair word (pair word (pair word (pair word word)))) figures_value (stat_fs w n) (λ x is.
         let f = bind_ok (file_of w n) _ x is in
-        subst (λ (x : Figures). Fits (pair word (pair word (pair word (pair word word)))) (figures_value x)) (ok_same f.2) (omega arith, (omega arith, (omega arith, (omega arith, omega arith)))));
+        subst (λ (x : FsStats). Fits (pair word (pair word (pair word (pair word word)))) (figures_value x)) (ok_same f.2) (omega arith, (omega arith, (omega arith, (omega arith, omega arith)))));
     cookies = tt;
   }
 
@@ -177,19 +177,19 @@ nothing = record { fits = tt; cookies = tt }
 pub of_call : (w : Files) (who : Caller) (now : Timeval) → AreSpelled w → (call : Call) → AreSpelled (call_does w who now call).1 → IsSpelled (call_does w who now call).0
 of_call w who now h calls.Null after = nothing
 of_call w who now h (calls.Getattr file) after = of_getattr w h who file
-of_call w who now h (calls.Setattr file s) after = told_attributes w (number_for w file) (set_attributes w who now (number_for w file) (wanted now s)) after
+of_call w who now h (calls.Setattr file s) after = told_attributes w (number_for w file) (set_attributes w who now (number_for w file) (given_fields now s)) after
 of_call w who now h calls.Root after = nothing
 of_call w who now h (calls.Lookup dir name) after = of_lookup w h who dir name
 of_call w who now h (calls.Readlink file) after = of_target w h who (number_for w file)
 of_call w who now h (calls.Read file offset count) after = of_bytes w h who (number_for w file) offset count
 of_call w who now h calls.Writecache after = nothing
 of_call w who now h (calls.Write file offset new) after = told_attributes w (number_for w file) (write w who now (number_for w file) offset new) after
-of_call w who now h (calls.Create dir name s) after = told_handle w (create w who now (number_for w dir) name (wanted now s)) after
+of_call w who now h (calls.Create dir name s) after = told_handle w (create w who now (number_for w dir) name (given_fields now s)) after
 of_call w who now h (calls.Remove dir name) after = told_status w _
 of_call w who now h (calls.Rename from from_name to to_name) after = told_status w _
 of_call w who now h (calls.Link from dir name) after = told_status w _
 of_call w who now h (calls.Symlink dir name target s) after = told_status w _
-of_call w who now h (calls.Mkdir dir name s) after = told_handle w (make_dir w who now (number_for w dir) name (wanted now s)) after
+of_call w who now h (calls.Mkdir dir name s) after = told_handle w (make_dir w who now (number_for w dir) name (given_fields now s)) after
 of_call w who now h (calls.Rmdir dir name) after = told_status w _
 of_call w who now h (calls.Readdir dir cookie count) after = of_page w h who (number_for w dir) cookie count
 of_call w who now h (calls.Statfs file) after = of_free w h who (number_for w file)

@@ -7,10 +7,10 @@ use Rattle.nfs_types.specs.Handle.{number_in}
 use Rattle.nfs_types.specs.declared.attributes.Fattr.{Fattr}
 use Rattle.nfs_types.specs.declared.stat.Stat.TheVariants as stats
 use Rattle.fs_model.specs.Listing.{Listing}
-use Rattle.fs_model.specs.Files.{Body, Regular, Link, Directory, Files, is_directory, listing_in}
-use Rattle.nfs_spec.specs.Checks.{file_of, number_of, dir_of, bytes_of, check, permits, may_read}
+use Rattle.fs_model.specs.Files.{Body, Regular, Symlink, Directory, Files, is_directory, listing_in}
+use Rattle.nfs_spec.specs.ProcedureChecks.{file_of, number_of, dir_of, bytes_of, check, permits, may_read}
 use Rattle.nfs_spec.specs.Effects.{attributes_at, number_at_name, getattr, lookup}
-use Rattle.nfs_spec.specs.Reading.{Page}
+use Rattle.nfs_spec.specs.Readdir.{Page}
 use Rattle.nfs_spec.specs.Procedures.{read_link, read, read_dir}
 use Rattle.nfs_spec_steps.specs.Read.{AttributesOk, GetattrOk, LookupOk, ReadLinkOk, ReadOk, ReadDirOk}
 use Rattle.nfs_spec_steps.proofs.Steps.{bind_ok, check_ok, found_ok, file_ok, ok_same, bytes_ok, target_ok, dir_ok}
@@ -86,5 +86,5 @@ read_dir_ok w who n cookie count page h =
   where
     lists : (b : Body) (l : Listing) → is_directory b ≡ true → listing_in b ≡ l → b ≡ Directory l
     lists (Regular bytes) l is h = absurd cc
-    lists (Link target) l is h = absurd cc
+    lists (Symlink target) l is h = absurd cc
     lists (Directory m) l is h = ap (λ x. Directory x) h

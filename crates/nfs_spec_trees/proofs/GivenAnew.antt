@@ -5,15 +5,15 @@ use Rattle.std.specs.Option.{option_map_or}
 use Rattle.std.proofs.lemmas.Bool.{cases_eq}
 use Rattle.nfs_types.specs.Timeval.{Timeval}
 use Rattle.fs_model.specs.Listing.{with_entry, without_entry}
-use Rattle.fs_model.specs.Files.{Body, Regular, Link, Directory, File, Files, file_at, listing_in, listing, IsDirectory, places, names_of}
+use Rattle.fs_model.specs.Files.{Body, Regular, Symlink, Directory, File, Files, file_at, listing_in, listing, IsDirectory, places, names_of}
 use Rattle.fs_model.proofs.Walks.{none_some, some_same, same_place}
-use Rattle.fs_changes.specs.Edits.{with_changed_file, with_new_file, without_file, relisted, relisted_body, with_name, without_name}
+use Rattle.fs_changes.specs.Edits.{with_changed_file, with_new_file, without_file, map_listing, map_body_listing, with_name, without_name}
 use Rattle.fs_changes.proofs.Finite.{new_other, changed_here, changed_other, gone_other}
 use Rattle.fs_changes.proofs.Shapes.{kind, IsSameShape, is_some-kind}
 use Rattle.fs_changes.proofs.Adding.{IsAdded}
 use Rattle.fs_changes.proofs.Taking.{IsTaken}
 use Rattle.fs_changes.proofs.Moving.{IsRenamed}
-use Rattle.nfs_spec.specs.Changes.{touch, mark, touched, marked, unnamed, after_unlink}
+use Rattle.nfs_spec.specs.Changes.{touch, touch_ctime, with_mtime, with_ctime, unlink, after_unlink}
 use Rattle.nfs_spec_trees.specs.Anew.{GivesAnew}
 
 -- ---- the next cookie
@@ -34,31 +34,31 @@ cookie_changed w k change grows n = ⊎_elim
     by None e = let before = ap next_of e in let after = ap (λ o. next_of (option_map change o)) e in omega (arith, before, after)
     by (Some f) e = let before = ap next_of e in let after = ap (λ o. next_of (option_map change o)) e in omega (arith, before, after, grows f e)
 
-more_after : (x : List ℕ) (k : ℕ) (b : Body) → (listing_in b).next ≤ (listing_in (relisted_body (λ l. with_entry l x k) b)).next
+more_after : (x : List ℕ) (k : ℕ) (b : Body) → (listing_in b).next ≤ (listing_in (map_body_listing (λ l. with_entry l x k) b)).next
 more_after x k (Regular bytes) = omega arith
-more_after x k (Link target) = omega arith
+more_after x k (Symlink target) = omega arith
 more_after x k (Directory l) = omega arith
 
-less_after : (x : List ℕ) (b : Body) → (listing_in b).next ≤ (listing_in (relisted_body (λ l. without_entry l x) b)).next
+less_after : (x : List ℕ) (b : Body) → (listing_in b).next ≤ (listing_in (map_body_listing (λ l. without_entry l x) b)).next
 less_after x (Regular bytes) = omega arith
-less_after x (Link target) = omega arith
+less_after x (Symlink target) = omega arith
 less_after x (Directory l) = omega arith
 
 -- a name more lets no next cookie fall
 pub cookie_named : (w : Files) (d : ℕ) (x : List ℕ) (k n : ℕ) → (listing w n).next ≤ (listing (with_name w d x k) n).next
-cookie_named w d x k = cookie_changed w d (relisted (λ l. with_entry l x k)) (λ f _. more_after x k f.body)
+cookie_named w d x k = cookie_changed w d (map_listing (λ l. with_entry l x k)) (λ f _. more_after x k f.body)
 
 -- nor does a name less
 pub cookie_unnamed : (w : Files) (d : ℕ) (x : List ℕ) (n : ℕ) → (listing w n).next ≤ (listing (without_name w d x) n).next
-cookie_unnamed w d x = cookie_changed w d (relisted (λ l. without_entry l x)) (λ f _. less_after x f.body)
+cookie_unnamed w d x = cookie_changed w d (map_listing (λ l. without_entry l x)) (λ f _. less_after x f.body)
 
 -- nor do times
 pub cookie_touched : (now : Timeval) (w : Files) (d n : ℕ) → (listing w n).next ≤ (listing (touch now w d) n).next
-cookie_touched now w d = cookie_changed w d (touched now) (λ f _. omega arith)
+cookie_touched now w d = cookie_changed w d (with_mtime now) (λ f _. omega arith)
 
 -- nor does ctime alone
-pub cookie_marked : (now : Timeval) (w : Files) (d n : ℕ) → (listing w n).next ≤ (listing (mark now w d) n).next
-cookie_marked now w d = cookie_changed w d (marked now) (λ f _. omega arith)
+pub cookie_marked : (now : Timeval) (w : Files) (d n : ℕ) → (listing w n).next ≤ (listing (touch_ctime now w d) n).next
+cookie_marked now w d = cookie_changed w d (with_ctime now) (λ f _. omega arith)
 
 -- nor does a new file, of the numbers that were there
 pub cookie_new : (w : Files) (f : File) (n : ℕ) → n ≢ w.next → (listing w n).next ≤ (listing (with_new_file w f) n).next
@@ -71,7 +71,7 @@ unfolding next_of
 cookie_gone w k n ne = let same = ap next_of (gone_other w k n ne) in omega (arith, same)
 
 -- a directory that a name's going leaves
-pub cookie_taken : (now : Timeval) (w : Files) (d : ℕ) (x : List ℕ) (k n : ℕ) → n ≢ k → (listing w n).next ≤ (listing (unnamed now w d x k) n).next
+pub cookie_taken : (now : Timeval) (w : Files) (d : ℕ) (x : List ℕ) (k n : ℕ) → n ≢ k → (listing w n).next ≤ (listing (unlink now w d x k) n).next
 cookie_taken now w d x k n ne = by (eqb (names_of (without_name w d x) k) 0)
   where
     by : (b : Bool) → (listing w n).next ≤ (listing (after_unlink b now (without_name w d x) k) n).next

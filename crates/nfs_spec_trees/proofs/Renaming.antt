@@ -8,17 +8,17 @@ use Rattle.nfs_types.specs.Timeval.{Timeval}
 use Rattle.nfs_types.specs.Caller.{Caller}
 use Rattle.fs_model.specs.Listing.{Listing, entry_at, without_entry}
 use Rattle.fs_model.specs.Paths.{Places, walk, path_at, Renames}
-use Rattle.fs_model.specs.Files.{Body, Regular, Link, Directory, File, Files, file_at, listing_in, listing, is_directory, places, names_of}
+use Rattle.fs_model.specs.Files.{Body, Regular, Symlink, Directory, File, Files, file_at, listing_in, listing, is_directory, places, names_of}
 use Rattle.fs_model.specs.Trees.{IsTime, IsFileTree}
 use Rattle.fs_model.proofs.Walks.{none_some, some_same, same_place}
-use Rattle.fs_changes.specs.Edits.{with_changed_file, relisted, relisted_body, with_name, without_name}
+use Rattle.fs_changes.specs.Edits.{with_changed_file, map_listing, map_body_listing, with_name, without_name}
 use Rattle.fs_changes.proofs.Finite.{changed_here, changed_other, gone_other}
 use Rattle.fs_changes.proofs.Listings.{leads}
 use Rattle.fs_changes.proofs.Shapes.{kind, is_some-kind, AllFiles, IsSameShape, IsNamed, IsUnnamed, same_then, named_shape, unnamed_shape}
 use Rattle.fs_changes.proofs.Taking.{stays_taken}
 use Rattle.fs_changes.proofs.Moving.{IsRenamed, IsMoved, renames_path, stays_moved}
-use Rattle.nfs_spec.specs.Changes.{touch, mark, marked, after_unlink}
-use Rattle.nfs_spec.specs.Procedures.{is_above, cleared}
+use Rattle.nfs_spec.specs.Changes.{touch, touch_ctime, with_ctime, after_unlink}
+use Rattle.nfs_spec.specs.Procedures.{is_above, unlink_target}
 use Rattle.nfs_spec_steps.specs.Granted.{MayReplace, MoveOk, RenameOk}
 use Rattle.nfs_spec_steps.proofs.Steps.{listing_there}
 use Rattle.nfs_spec_trees.proofs.FilesFit.{dir_file, is_dir, touch_shape, mark_shape, touch_files, mark_files, named_files, unnamed_files, distinct_names}
@@ -53,13 +53,13 @@ next_changed w k change keeps n = ⊎_elim
     by None = refl
     by (Some f) = ap (λ m. Some m) (keeps f)
 
-taken_next : (x : List ℕ) (b : Body) → (listing_in (relisted_body (λ l. without_entry l x) b)).next ≡ (listing_in b).next
+taken_next : (x : List ℕ) (b : Body) → (listing_in (map_body_listing (λ l. without_entry l x) b)).next ≡ (listing_in b).next
 taken_next x (Regular bytes) = refl
-taken_next x (Link target) = refl
+taken_next x (Symlink target) = refl
 taken_next x (Directory l) = refl
 
 next_unnamed : (w : Files) (d : ℕ) (x : List ℕ) (n : ℕ) → next_in (without_name w d x) n ≡ next_in w n
-next_unnamed w d x = next_changed w d (relisted (λ l. without_entry l x)) (λ f. taken_next x f.body)
+next_unnamed w d x = next_changed w d (map_listing (λ l. without_entry l x)) (λ f. taken_next x f.body)
 
 -- ---- what stood at the new name is gone
 
@@ -76,7 +76,7 @@ module _ (now : Timeval) (time : IsTime now) (w : Files) (tree : IsFileTree w) (
   unlists : (t c : ℕ) → places w d x ≡ Some (t, c) → (y : List ℕ) → places w t y ≡ None
   unlists t c h y = let g = target t c h in ap (option_and_then (λ f. entry_at (listing_in f.body) y)) g.there ∙ ap (λ (es : List (List ℕ × (ℕ × ℕ))). lookup (pointwise nat_eq y) es) g.empty
 
-  is_cleared : (o : Option (ℕ × ℕ)) → places w d x ≡ o → IsCleared w (cleared now w d x (option_map (λ e. e.0) o)) d x
+  is_cleared : (o : Option (ℕ × ℕ)) → places w d x ≡ o → IsCleared w (unlink_target now w d x (option_map (λ e. e.0) o)) d x
   unfolding next_in
   is_cleared None h = record { tree = tree; free = h; rest = λ n y not. refl; kinds = λ n not. refl; cookie = refl; anew = nothing_given w }
   is_cleared (Some t) h =
@@ -93,7 +93,7 @@ module _ (now : Timeval) (time : IsTime now) (w : Files) (tree : IsFileTree w) (
     where
       by_left : (b : Bool) (k : ℕ) → k ≢ d → next_in (after_unlink b now (without_name w d x) k) d ≡ next_in w d
       by_left true k not = ap (option_map (λ f. (listing_in f.body).next)) (gone_other (without_name w d x) k d (λ e. not (sym e))) ∙ next_unnamed w d x d
-      by_left false k not = next_changed (without_name w d x) k (marked now) (λ f. refl) d ∙ next_unnamed w d x d
+      by_left false k not = next_changed (without_name w d x) k (with_ctime now) (λ f. refl) d ∙ next_unnamed w d x d
 
 -- ---- the whole
 
@@ -118,7 +118,7 @@ module _ (now : Timeval) (time : IsTime now) (w : Files) (tree : IsFileTree w) (
   target t c h = m.replaces t c h
 
   w₁ : Files
-  w₁ = cleared now w to to_name (option_map (λ e. e.0) (places w to to_name))
+  w₁ = unlink_target now w to to_name (option_map (λ e. e.0) (places w to to_name))
 
   a₁ : IsCleared w w₁ to to_name
   unfolding w₁
@@ -171,7 +171,7 @@ module _ (now : Timeval) (time : IsTime now) (w : Files) (tree : IsFileTree w) (
   more = subst (λ c. IsNamed w₂ (with_name w₂ to to_name o.number) to to_name o.number c) same_cookie (named_shape w₂ to to_name to_file.0 to_file.1 to_file.2 (distinct_names w₂ to to_file.0 files₂ to_file.1) o.number)
 
   w₄ : Files
-  w₄ = mark now w₃ o.number
+  w₄ = touch_ctime now w₃ o.number
 
   w₅ : Files
   w₅ = touch now w₄ from

@@ -12,8 +12,8 @@ use Rattle.fs_changes.specs.Edits.{with_changed_file, with_new_file, with_name}
 use Rattle.fs_changes.specs.Limits.{blocks_in, entry_count, block_count, has_room}
 use Rattle.fs_changes.proofs.Finite.{nothing_changes, changed_next, changed_here, changed_other, new_here, new_other, total, total_changed, total_new}
 use Rattle.fs_changes.proofs.Room.{count_new, count_changed, AllCookies, within, room, still_room}
-use Rattle.nfs_spec.specs.Changes.{touch, touched, mark, marked}
-use Rattle.nfs_spec.specs.Procedures.{made}
+use Rattle.nfs_spec.specs.Changes.{touch, with_mtime, touch_ctime, with_ctime}
+use Rattle.nfs_spec.specs.Procedures.{add_file}
 use Rattle.nfs_spec_trees.specs.Room.{HasRoomToMake, HasRoomToLink}
 use Rattle.nfs_spec_trees.proofs.FilesFit.{next_free}
 use Rattle.nfs_spec_trees.proofs.EditRoom.{touch_no_more, mark_no_more, free_in, named_needs, named_has}
@@ -50,7 +50,7 @@ module _ (w : Files) (k : ℕ) (change : File → File) (keeps : (f : File) → 
 -- ---- in a tree
 
 touched_back : (now : Timeval) (w : Files) (d : ℕ) → has_room (touch now w d) ≡ true → has_room w ≡ true
-touched_back now w d = room_back w d (touched now) (λ f. refl)
+touched_back now w d = room_back w d (with_mtime now) (λ f. refl)
 
 touched_on : (now : Timeval) (w : Files) (d : ℕ) → has_room w ≡ true → has_room (touch now w d) ≡ true
 touched_on now w d = still_room w (touch now w d) (touch_no_more now w d)
@@ -83,7 +83,7 @@ module _ (now : Timeval) (w : Files) (tree : IsFileTree w) (before : has_room w 
         (cases_eq n w.next)
 
     -- room after a new file with a name, by the counts before
-    pub to_make : (has_room (made now w dir name f) ≡ true) ↔ HasRoomToMake w (listing_in d.body).next (blocks_in f.body)
+    pub to_make : (has_room (add_file now w dir name f) ≡ true) ↔ HasRoomToMake w (listing_in d.body).next (blocks_in f.body)
     unfolding one
     to_make = (
       (λ h.
@@ -106,14 +106,14 @@ module _ (now : Timeval) (w : Files) (tree : IsFileTree w) (before : has_room w 
 
 -- room after a name more, by the counts before
 pub to_link : (now : Timeval) (w : Files) → has_room w ≡ true → (dir : ℕ) (name : List ℕ) (d : File) → file_at w dir ≡ Some d → is_directory d.body ≡ true → places w dir name ≡ None → (from : ℕ)
-    → (has_room (touch now (with_name (mark now w from) dir name from) dir) ≡ true) ↔ HasRoomToLink w (listing_in d.body).next
+    → (has_room (touch now (with_name (touch_ctime now w from) dir name from) dir) ≡ true) ↔ HasRoomToLink w (listing_in d.body).next
 to_link now w before dir name d there is free from =
-    let v = mark now w from in
-    let g = body_there w from (marked now) (λ f. refl) dir d there in
+    let v = touch_ctime now w from in
+    let g = body_there w from (with_ctime now) (λ f. refl) dir d there in
     let is_g : is_directory g.0.body ≡ true = ap is_directory g.2 ∙ is in
     let free_g : entry_at (listing_in g.0.body) name ≡ None = ap (λ b. entry_at (listing_in b) name) g.2 ∙ free_in w dir name d there free in
     let same_next = ap (λ b. (listing_in b).next) g.2 in
-    let same_entries = same_total w from (marked now) (λ f. refl) (λ b. length (listing_in b).entries) in
+    let same_entries = same_total w from (with_ctime now) (λ f. refl) (λ b. length (listing_in b).entries) in
     let within_v = within v (still_room w v (mark_no_more now w from) before) in (
       (λ h. let n = named_needs v dir name from g.0 g.1 is_g free_g (touched_back now (with_name v dir name from) dir h) in record { entries = omega (arith, same_entries, n.entries); cookie = omega (arith, same_next, n.cookie) }),
       (λ h. touched_on now (with_name v dir name from) dir (named_has v dir name from g.0 g.1 is_g free_g within_v.cookies (record { files = within_v.files; entries = omega (arith, same_entries, h.entries); blocks = within_v.blocks; next = within_v.next; cookie = omega (arith, same_next, h.cookie) }))),

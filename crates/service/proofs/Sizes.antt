@@ -20,7 +20,7 @@ use Rattle.nfs_types.specs.declared.attributes.Fattr.{Fattr}
 use Rattle.nfs_types.specs.declared.stat.Stat.{Stat}
 use Rattle.nfs_types.specs.declared.stat.Stat.TheVariants as stats
 use Rattle.fs_model.specs.Files.{Files}
-use Rattle.nfs_spec.specs.Checks.{◌>>=◌, number_of}
+use Rattle.nfs_spec.specs.ProcedureChecks.{◌>>=◌, number_of}
 use Rattle.nfs_spec.specs.Effects.{does, getattr, attributes_at, number_at_name}
 use Rattle.service.specs.World.{World, at_time}
 use Rattle.service.specs.Replies.{OrRefusal, call_or_refusal, call_reply, reply_to, reply_of_call, reply_owed}

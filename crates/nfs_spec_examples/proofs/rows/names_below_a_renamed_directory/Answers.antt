@@ -1,7 +1,7 @@
 use Rattle.std.proofs.Common.{◌≡◌, true, false, None, refl, ap, ◌∙◌, ◌∷◌, length}
 use Rattle.std.specs.FinMap as finite
 use Rattle.fs_changes.specs.Limits.{file_count}
-use Rattle.nfs_spec.specs.Procedures.{climbs_to, is_above, moved}
+use Rattle.nfs_spec.specs.Procedures.{climbs_to, is_above, move_entry}
 use Rattle.nfs_spec.specs.Opening.{epoch}
 use Rattle.nfs_spec_examples.specs.Worked.{files_from, a, b, c, d, empty_directory, empty_file, directory_of, root_between, root_renamed, with_directory, with_inner, with_nested, with_nested_renamed}
 use Rattle.nfs_spec_examples.proofs.Computed.{file_of_list, room_of, entries_of}
@@ -52,7 +52,7 @@ counted_renamed = finite.len-entries (files_from 6 with_nested_renamed).files �
 above : is_above (files_from 6 with_nested_renamed) 3 4 ≡ true
 above = ap (λ k. climbs_to k (files_from 6 with_nested_renamed) 3 4) counted_renamed ∙ rw (entries_of 6 with_nested_renamed) refl
 
-all_moved : moved epoch (files_from 6 with_nested) 3 1 a 1 d None ≡ files_from 6 with_nested_renamed
+all_moved : move_entry epoch (files_from 6 with_nested) 3 1 a 1 d None ≡ files_from 6 with_nested_renamed
 all_moved =
     rw (
       file_of_list 6 with_nested 1,

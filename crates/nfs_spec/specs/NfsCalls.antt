@@ -7,13 +7,13 @@ use Rattle.nfs_types.specs.Handle.{handle_of, number_in}
 use Rattle.nfs_types.specs.declared.attributes.Fattr.{Fattr}
 use Rattle.nfs_types.specs.declared.stat.Stat.{Stat}
 use Rattle.fs_model.specs.Files.{Files}
-use Rattle.nfs_spec.specs.Checks.{◌>>=◌}
-use Rattle.nfs_spec.specs.Sattr.{Sattr, wanted}
+use Rattle.nfs_spec.specs.ProcedureChecks.{◌>>=◌}
+use Rattle.nfs_spec.specs.Sattr.{Sattr, given_fields}
 use Rattle.nfs_spec.specs.Changes.{Effect}
 use Rattle.nfs_spec.specs.Effects.{attributes_at, getattr, lookup}
-use Rattle.nfs_spec.specs.Reading.{Page}
+use Rattle.nfs_spec.specs.Readdir.{Page}
 use Rattle.nfs_spec.specs.Procedures as tree
-use Rattle.nfs_spec.specs.Procedures.{Figures}
+use Rattle.nfs_spec.specs.Procedures.{FsStats}
 
 -- a call, by its file handles, names and numbers
 pub data Call : Type 0 where
@@ -45,16 +45,16 @@ pub data Answer : Type 0 where
   Bytes : Result (Fattr × List ℕ) Stat → Answer
   Status : Result (Unit {0}) Stat → Answer
   Entries : Result Page Stat → Answer
-  Free : Result Figures Stat → Answer
+  Free : Result FsStats Stat → Answer
 
 -- the file number that a handle names here; another handle names 0, which no file has
 abbrev pub number_for : Files → List ℕ → ℕ
-number_for w handle = unwrap_or (number_in w.fsid handle) 0
+number_for fs handle = unwrap_or (number_in fs.fsid handle) 0
 
 -- an effect's answer, and the files after it: a refusal leaves them as they were
-abbrev pub told : {A : Type 0} → (Result A Stat → Answer) → Files → Effect A → Answer × Files
-told say w (Ok x) = (say (Ok x.0), x.1)
-told say w (Err e) = (say (Err e), w)
+abbrev pub answer_and_files : {A : Type 0} → (Result A Stat → Answer) → Files → Effect A → Answer × Files
+answer_and_files say fs (Ok x) = (say (Ok x.0), x.1)
+answer_and_files say fs (Err e) = (say (Err e), fs)
 
 -- with the attributes after it, of a number or of the number that it gives
 abbrev pub with_attributes : ℕ → Effect (Unit {0}) → Effect Fattr
@@ -76,21 +76,21 @@ without_number e = do
   Ok (tt, x.1)
 
 abbrev pub call_does : Files → Caller → Timeval → Call → Answer × Files
-call_does w who now Null = (Nothing, w)
-call_does w who now (Getattr file) = (Attributes (getattr w file), w)
-call_does w who now (Setattr file s) = told Attributes w (with_attributes (number_for w file) (tree.set_attributes w who now (number_for w file) (wanted now s)))
-call_does w who now Root = (Nothing, w)
-call_does w who now (Lookup dir name) = (DirOp (lookup w who dir name), w)
-call_does w who now (Readlink file) = (Target (tree.read_link w (number_for w file)), w)
-call_does w who now (Read file offset count) = (Bytes (tree.read w who (number_for w file) offset count), w)
-call_does w who now Writecache = (Nothing, w)
-call_does w who now (Write file offset new) = told Attributes w (with_attributes (number_for w file) (tree.write w who now (number_for w file) offset new))
-call_does w who now (Create dir name s) = told DirOp w (with_handle (tree.create w who now (number_for w dir) name (wanted now s)))
-call_does w who now (Remove dir name) = told Status w (tree.remove w who now (number_for w dir) name)
-call_does w who now (Rename from from_name to to_name) = told Status w (tree.rename w who now (number_for w from) from_name (number_for w to) to_name)
-call_does w who now (Link from dir name) = told Status w (tree.link w who now (number_for w from) (number_for w dir) name)
-call_does w who now (Symlink dir name target s) = told Status w (without_number (tree.symlink w who now (number_for w dir) name target))
-call_does w who now (Mkdir dir name s) = told DirOp w (with_handle (tree.make_dir w who now (number_for w dir) name (wanted now s)))
-call_does w who now (Rmdir dir name) = told Status w (tree.remove_dir w who now (number_for w dir) name)
-call_does w who now (Readdir dir cookie count) = (Entries (tree.read_dir w who (number_for w dir) cookie count), w)
-call_does w who now (Statfs file) = (Free (tree.figures w (number_for w file)), w)
+call_does fs who now Null = (Nothing, fs)
+call_does fs who now (Getattr file) = (Attributes (getattr fs file), fs)
+call_does fs who now (Setattr file s) = answer_and_files Attributes fs (with_attributes (number_for fs file) (tree.set_attributes fs who now (number_for fs file) (given_fields now s)))
+call_does fs who now Root = (Nothing, fs)
+call_does fs who now (Lookup dir name) = (DirOp (lookup fs who dir name), fs)
+call_does fs who now (Readlink file) = (Target (tree.read_link fs (number_for fs file)), fs)
+call_does fs who now (Read file offset count) = (Bytes (tree.read fs who (number_for fs file) offset count), fs)
+call_does fs who now Writecache = (Nothing, fs)
+call_does fs who now (Write file offset new) = answer_and_files Attributes fs (with_attributes (number_for fs file) (tree.write fs who now (number_for fs file) offset new))
+call_does fs who now (Create dir name s) = answer_and_files DirOp fs (with_handle (tree.create fs who now (number_for fs dir) name (given_fields now s)))
+call_does fs who now (Remove dir name) = answer_and_files Status fs (tree.remove fs who now (number_for fs dir) name)
+call_does fs who now (Rename from from_name to to_name) = answer_and_files Status fs (tree.rename fs who now (number_for fs from) from_name (number_for fs to) to_name)
+call_does fs who now (Link from dir name) = answer_and_files Status fs (tree.link fs who now (number_for fs from) (number_for fs dir) name)
+call_does fs who now (Symlink dir name target s) = answer_and_files Status fs (without_number (tree.symlink fs who now (number_for fs dir) name target))
+call_does fs who now (Mkdir dir name s) = answer_and_files DirOp fs (with_handle (tree.make_dir fs who now (number_for fs dir) name (given_fields now s)))
+call_does fs who now (Rmdir dir name) = answer_and_files Status fs (tree.remove_dir fs who now (number_for fs dir) name)
+call_does fs who now (Readdir dir cookie count) = (Entries (tree.read_dir fs who (number_for fs dir) cookie count), fs)
+call_does fs who now (Statfs file) = (Free (tree.stat_fs fs (number_for fs file)), fs)

@@ -8,7 +8,7 @@ use Rattle.nfs_types.specs.declared.stat.Stat.TheVariants as stats
 use Rattle.fs_model.specs.Listing.{Listing, entry_at}
 use Rattle.fs_model.specs.Names.{is_name}
 use Rattle.fs_changes.specs.Limits.{has_room}
-use Rattle.fs_model.specs.Files.{Body, Regular, Link, Directory, File, Files, file_at}
+use Rattle.fs_model.specs.Files.{Body, Regular, Symlink, Directory, File, Files, file_at}
 
 -- one step after the other, up to the first that is refused
 infixl 10 ◌>>=◌
@@ -17,21 +17,21 @@ abbrev pub ◌>>=◌ : {A B : Type 0} → Result A Stat → (A → Result B Stat
 (Err e) >>= f = Err e
 
 -- what is there, or a stat
-abbrev pub found_or : {A : Type 0} → Stat → Option A → Result A Stat
-found_or e None = Err e
-found_or e (Some x) = Ok x
+abbrev pub ok_or : {A : Type 0} → Stat → Option A → Result A Stat
+ok_or e None = Err e
+ok_or e (Some x) = Ok x
 
 -- a file of a number: STALE where there is none
 abbrev pub file_of : Files → ℕ → Result File Stat
-file_of w n = found_or stats.Stale (file_at w n)
+file_of fs n = ok_or stats.Stale (file_at fs n)
 
 -- the number that a file handle names here: STALE where it names none
 abbrev pub number_of : Files → List ℕ → Result ℕ Stat
-number_of w handle = found_or stats.Stale (number_in w.fsid handle)
+number_of fs handle = ok_or stats.Stale (number_in fs.fsid handle)
 
 abbrev pub listing_or : Stat → Body → Result Listing Stat
 listing_or e (Regular bytes) = Err e
-listing_or e (Link target) = Err e
+listing_or e (Symlink target) = Err e
 listing_or e (Directory l) = Ok l
 
 -- ---- permission
@@ -69,7 +69,7 @@ check_size size = check (nat_le size 1048576) stats.FBig
 
 -- Room
 abbrev pub check_room : Files → Result (Unit {0}) Stat
-check_room w = check (has_room w) stats.NoSpc
+check_room fs = check (has_room fs) stats.NoSpc
 
 -- Room for a cookie: NOSPC where a directory would give one above 4294967294
 abbrev pub check_cookie : Listing → Result (Unit {0}) Stat
@@ -78,38 +78,38 @@ check_cookie l = check (nat_le l.next 4294967294) stats.NoSpc
 -- the bytes of a regular file: ISDIR, NXIO
 abbrev pub bytes_of : Body → Result (List ℕ) Stat
 bytes_of (Regular bytes) = Ok bytes
-bytes_of (Link target) = Err stats.NxIo
+bytes_of (Symlink target) = Err stats.NxIo
 bytes_of (Directory l) = Err stats.IsDir
 
 -- the target of a link: NXIO
 abbrev pub target_of : Body → Result (List ℕ) Stat
 target_of (Regular bytes) = Err stats.NxIo
-target_of (Link target) = Ok target
+target_of (Symlink target) = Ok target
 target_of (Directory l) = Err stats.NxIo
 
 -- a directory with its number
-pub record Found : Type 0 where
+pub record NumberedDir : Type 0 where
   pub number : ℕ
   pub file : File
   pub listing : Listing
 
 -- Dir: STALE, then NOTDIR
-abbrev pub dir_of : Files → ℕ → Result Found Stat
-dir_of w n = do
-  f ← file_of w n
+abbrev pub dir_of : Files → ℕ → Result NumberedDir Stat
+dir_of fs n = do
+  f ← file_of fs n
   l ← listing_or stats.NotDir f.body
   Ok (record { number = n; file = f; listing = l })
 
 -- Edit: the name rule, then search and write permission in that directory, else ACCES
-abbrev pub check_edit : Caller → Found → List ℕ → Result (Unit {0}) Stat
+abbrev pub check_edit : Caller → NumberedDir → List ℕ → Result (Unit {0}) Stat
 check_edit who d name = do
   _ ← check (is_name name) stats.Acces
   check (may_search who d.file && may_write who d.file) stats.Acces
 
 -- what a name stands for: NOENT
-abbrev pub number_at : Found → List ℕ → Result ℕ Stat
-number_at d name = found_or stats.NoEnt (option_map (λ e. e.0) (entry_at d.listing name))
+abbrev pub number_at : NumberedDir → List ℕ → Result ℕ Stat
+number_at d name = ok_or stats.NoEnt (option_map (λ e. e.0) (entry_at d.listing name))
 
 -- a name is free: EXIST
-abbrev pub check_free : Found → List ℕ → Result (Unit {0}) Stat
+abbrev pub check_free : NumberedDir → List ℕ → Result (Unit {0}) Stat
 check_free d name = check (is_none (entry_at d.listing name)) stats.Exist

@@ -8,24 +8,24 @@ use Rattle.nfs_types.specs.declared.stat.Stat.{Stat}
 use Rattle.nfs_types.specs.declared.stat.Stat.TheVariants as stats
 use Rattle.fs_model.specs.Paths.{path_at}
 use Rattle.fs_model.specs.Files.{File, Files, file_at, is_directory, places}
-use Rattle.nfs_spec.specs.Checks.{◌>>=◌, found_or, may_search}
+use Rattle.nfs_spec.specs.ProcedureChecks.{◌>>=◌, ok_or, may_search}
 use Rattle.nfs_spec.specs.Effects.{attributes_at}
 
 -- a path's file handle and attributes, NOENT where it leads nowhere
-abbrev pub found_at : Files → List (List ℕ) → Result (List ℕ × Fattr) Stat
-found_at w path = do
-  e ← found_or stats.NoEnt (path_at (places w) path)
-  a ← attributes_at w e.0
-  Ok (handle_of w.fsid e.0, a)
+abbrev pub lookup_at_path : Files → List (List ℕ) → Result (List ℕ × Fattr) Stat
+lookup_at_path fs path = do
+  e ← ok_or stats.NoEnt (path_at (places fs) path)
+  a ← attributes_at fs e.0
+  Ok (handle_of fs.fsid e.0, a)
 
 -- a file handle is that of the directory at a path, which the caller may search
-pub record IsSearched (w : Files) (who : Caller) (handle : List ℕ) (path : List (List ℕ)) : Type 0 where
+pub record IsSearchable (fs : Files) (who : Caller) (handle : List ℕ) (path : List (List ℕ)) : Type 0 where
   pub number : ℕ
   pub cookie : ℕ
   pub file : File
-  pub named : number_in w.fsid handle ≡ Some number
-  pub reached : path_at (places w) path ≡ Some (number, cookie)
-  pub there : file_at w number ≡ Some file
+  pub named : number_in fs.fsid handle ≡ Some number
+  pub reached : path_at (places fs) path ≡ Some (number, cookie)
+  pub there : file_at fs number ≡ Some file
   pub directory : IsTrue (is_directory file.body)
   pub searched : IsTrue (may_search who file)
 

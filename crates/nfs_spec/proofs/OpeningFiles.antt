@@ -11,9 +11,9 @@ use Rattle.nfs_types.specs.Handle.{handle_of, number_in}
 use Rattle.nfs_types.specs.declared.stat.Stat.TheVariants as stats
 use Rattle.fs_model.specs.Files.{File, Files, file_at, listing_in, is_directory, names_of, names_in}
 use Rattle.fs_changes.specs.Limits.{blocks_in, has_room}
-use Rattle.nfs_spec.specs.Attributes.{attributes_of, nlink_of}
+use Rattle.nfs_spec.specs.FileAttributes.{attributes_of, nlink_of}
 use Rattle.nfs_spec.specs.Effects.{attributes_at, number_at_name, getattr, lookup}
-use Rattle.nfs_spec.specs.Checks.{◌>>=◌, found_or}
+use Rattle.nfs_spec.specs.ProcedureChecks.{◌>>=◌, ok_or}
 use Rattle.nfs_spec.specs.Opening.{hello, opening_root, opening_hello, opening_files}
 
 pub root_there : (fsid : ℕ) → file_at (opening_files fsid) 1 ≡ Some opening_root
@@ -65,19 +65,19 @@ hello_nlink : nlink_of (opening_files 1) 2 opening_hello.body ≡ 1
 hello_nlink = opening_names 1 2
 
 root_attributes : attributes_at (opening_files 1) 1 ≡ Ok (record (attributes_of (opening_files 1) 1 opening_root) { nlink = 2 })
-root_attributes = ap (λ o. found_or stats.Stale o >>= λ f. Ok (attributes_of (opening_files 1) 1 f)) (root_there 1) ∙ ap (λ a. Ok a) (with_nlink (opening_files 1) 1 opening_root 2 root_nlink)
+root_attributes = ap (λ o. ok_or stats.Stale o >>= λ f. Ok (attributes_of (opening_files 1) 1 f)) (root_there 1) ∙ ap (λ a. Ok a) (with_nlink (opening_files 1) 1 opening_root 2 root_nlink)
 
 hello_attributes : attributes_at (opening_files 1) 2 ≡ Ok (record (attributes_of (opening_files 1) 2 opening_hello) { nlink = 1 })
-hello_attributes = ap (λ o. found_or stats.Stale o >>= λ f. Ok (attributes_of (opening_files 1) 2 f)) (hello_there 1) ∙ ap (λ a. Ok a) (with_nlink (opening_files 1) 2 opening_hello 1 hello_nlink)
+hello_attributes = ap (λ o. ok_or stats.Stale o >>= λ f. Ok (attributes_of (opening_files 1) 2 f)) (hello_there 1) ∙ ap (λ a. Ok a) (with_nlink (opening_files 1) 2 opening_hello 1 hello_nlink)
 
 pub root_shows : getattr (opening_files 1) (handle_of 1 1) ≡ Ok (record (attributes_of (opening_files 1) 1 opening_root) { nlink = 2 })
-root_shows = ap (λ o. found_or stats.Stale o >>= attributes_at (opening_files 1)) root_handle ∙ root_attributes
+root_shows = ap (λ o. ok_or stats.Stale o >>= attributes_at (opening_files 1)) root_handle ∙ root_attributes
 
 hello_found : number_at_name (opening_files 1) nobody 1 hello ≡ Ok 2
 hello_found = rw (root_there 1) refl
 
 pub hello_shows : lookup (opening_files 1) nobody (handle_of 1 1) hello ≡ Ok (handle_of 1 2, record (attributes_of (opening_files 1) 2 opening_hello) { nlink = 1 })
 hello_shows =
-    ap (λ o. found_or stats.Stale o >>= λ d. number_at_name (opening_files 1) nobody d hello >>= λ n. attributes_at (opening_files 1) n >>= λ a. Ok (handle_of 1 n, a)) root_handle
+    ap (λ o. ok_or stats.Stale o >>= λ d. number_at_name (opening_files 1) nobody d hello >>= λ n. attributes_at (opening_files 1) n >>= λ a. Ok (handle_of 1 n, a)) root_handle
     ∙ ap (λ r. r >>= λ n. attributes_at (opening_files 1) n >>= λ a. Ok (handle_of 1 n, a)) hello_found
     ∙ ap (λ r. r >>= λ a. Ok (handle_of 1 2, a)) hello_attributes

@@ -8,7 +8,7 @@ use Rattle.std.specs.FinMap as finite
 use Rattle.std.proofs.lemmas.Bool.{cond-true, cond-false}
 use Rattle.fs_model.specs.Listing.{entry_at, IsRising, HasDistinctNames}
 use Rattle.fs_model.specs.Paths.{path_at}
-use Rattle.fs_model.specs.Files.{Body, Regular, Link, Directory, File, Files, file_at, listing_in, is_directory, IsDirectory, places, nameless_body, nameless}
+use Rattle.fs_model.specs.Files.{Body, Regular, Symlink, Directory, File, Files, file_at, listing_in, is_directory, IsDirectory, places, body_without_entries, without_entries}
 use Rattle.fs_model.specs.Trees.{IsBody, IsFileTree}
 use Rattle.fs_model.proofs.Walks.{none_some, some_same, step_last}
 use Rattle.fs_model.proofs.Reached.{not_before}
@@ -73,26 +73,26 @@ same_entries low low' (e ∷ es) (f ∷ fs) high high' up up' d d' same =
 
 -- ---- bodies and files
 
-same_body : (b c : Body) → IsBody b → IsBody c → nameless_body b ≡ nameless_body c → ((y : List ℕ) → entry_at (listing_in b) y ≡ entry_at (listing_in c) y) → b ≡ c
+same_body : (b c : Body) → IsBody b → IsBody c → body_without_entries b ≡ body_without_entries c → ((y : List ℕ) → entry_at (listing_in b) y ≡ entry_at (listing_in c) y) → b ≡ c
 same_body (Regular x) (Regular y) fits fits' same looks = same
-same_body (Regular x) (Link y) fits fits' same looks = same
+same_body (Regular x) (Symlink y) fits fits' same looks = same
 same_body (Regular x) (Directory m) fits fits' same looks = absurd (cc)
-same_body (Link x) (Regular y) fits fits' same looks = same
-same_body (Link x) (Link y) fits fits' same looks = same
-same_body (Link x) (Directory m) fits fits' same looks = absurd (cc)
+same_body (Symlink x) (Regular y) fits fits' same looks = same
+same_body (Symlink x) (Symlink y) fits fits' same looks = same
+same_body (Symlink x) (Directory m) fits fits' same looks = absurd (cc)
 same_body (Directory l) (Regular y) fits fits' same looks = absurd (cc)
-same_body (Directory l) (Link y) fits fits' same looks = absurd (cc)
+same_body (Directory l) (Symlink y) fits fits' same looks = absurd (cc)
 same_body (Directory l) (Directory m) fits fits' same looks =
     let entries = same_entries 3 3 l.entries m.entries l.next m.next fits.0 fits'.0 fits.1 fits'.1 looks in
     let next : l.next ≡ m.next = ap (λ b. (listing_in b).next) same in
     λ i. Directory (record { next = next i; entries = entries i })
 
-same_kind : (b : Body) → is_directory (nameless_body b) ≡ is_directory b
+same_kind : (b : Body) → is_directory (body_without_entries b) ≡ is_directory b
 same_kind (Regular bytes) = refl
-same_kind (Link target) = refl
+same_kind (Symlink target) = refl
 same_kind (Directory l) = refl
 
-same_file : (f g : File) → nameless f ≡ nameless g → f.body ≡ g.body → f ≡ g
+same_file : (f g : File) → without_entries f ≡ without_entries g → f.body ≡ g.body → f ≡ g
 same_file f g same body = λ i. record {
   mode = (same i).mode;
   uid = (same i).uid;
@@ -104,8 +104,8 @@ same_file f g same body = λ i. record {
 }
 
 module _ (v w : Files) (tree : IsFileTree v) (tree' : IsFileTree w) (paths : (p : List (List ℕ)) → path_at (places v) p ≡ path_at (places w) p)
-    (files : (n : ℕ) → option_map nameless (file_at v n) ≡ option_map nameless (file_at w n)) where
-  kind_of : (o : Option File) → option_map (λ f. is_directory f.body) (option_map nameless o) ≡ option_map (λ f. is_directory f.body) o
+    (files : (n : ℕ) → option_map without_entries (file_at v n) ≡ option_map without_entries (file_at w n)) where
+  kind_of : (o : Option File) → option_map (λ f. is_directory f.body) (option_map without_entries o) ≡ option_map (λ f. is_directory f.body) o
   kind_of None = refl
   kind_of (Some f) = ap (λ b. Some b) (same_kind f.body)
 
@@ -130,10 +130,10 @@ module _ (v w : Files) (tree : IsFileTree v) (tree' : IsFileTree w) (paths : (p 
     where
       by : (o q : Option File) → file_at v n ≡ o → file_at w n ≡ q → file_at v n ≡ file_at w n
       by None None h k = h ∙ sym k
-      by None (Some g) h k = absurd (none_some (sym (ap (option_map nameless) h) ∙ files n ∙ ap (option_map nameless) k))
-      by (Some f) None h k = absurd (none_some (sym (ap (option_map nameless) k) ∙ sym (files n) ∙ ap (option_map nameless) h))
+      by None (Some g) h k = absurd (none_some (sym (ap (option_map without_entries) h) ∙ files n ∙ ap (option_map without_entries) k))
+      by (Some f) None h k = absurd (none_some (sym (ap (option_map without_entries) k) ∙ sym (files n) ∙ ap (option_map without_entries) h))
       by (Some f) (Some g) h k =
-          let same = some_same (sym (ap (option_map nameless) h) ∙ files n ∙ ap (option_map nameless) k) in
+          let same = some_same (sym (ap (option_map without_entries) h) ∙ files n ∙ ap (option_map without_entries) k) in
           let looks : (y : List ℕ) → entry_at (listing_in f.body) y ≡ entry_at (listing_in g.body) y =
           λ y. sym (ap (option_and_then (λ f. entry_at (listing_in f.body) y)) h) ∙ same_places n y ∙ ap (option_and_then (λ f. entry_at (listing_in f.body) y)) k in
           h ∙ ap (λ x. Some x) (same_file f g same (same_body f.body g.body (tree.files n f h).body (tree'.files n g k).body (ap (λ (x : File). x.body) same) looks)) ∙ sym k
