@@ -32,6 +32,10 @@ number_named fs dir l name =
     else if is_name name then option_map (λ e. e.0) (entry_at l name)
     else None
 
+-- of files: the directory above the root is the root
+abbrev pub number_named : Files → ℕ → Listing → List ℕ → Option ℕ
+number_named fs dir l name = number_in_listing dir (parent_of fs dir) l name
+
 -- STALE, NOTDIR; search permission, else ACCES; NOENT
 abbrev pub number_at_name : Files → Caller → ℕ → List ℕ → Result ℕ Stat
 number_at_name fs who dir name = do
