@@ -24,11 +24,12 @@ attributes_at fs n = do
   f ← file_of fs n
   Ok (attributes_of fs n f)
 
--- the number that a directory has at a name: `.` is itself, and `..` the directory above, which for the root is itself
-abbrev pub number_named : Files → ℕ → Listing → List ℕ → Option ℕ
-number_named fs dir l name =
-    if pointwise nat_eq name dot then Some dir
-    else if pointwise nat_eq name dot_dot then Some (parent_of fs dir)
+-- the number that a name stands for in a directory, by its own number, the one above and what it lists: `.` is itself,
+-- and `..` the directory above
+abbrev pub number_in_listing : ℕ → ℕ → Listing → List ℕ → Option ℕ
+number_in_listing own above l name =
+    if pointwise nat_eq name dot then Some own
+    else if pointwise nat_eq name dot_dot then Some above
     else if is_name name then option_map (λ e. e.0) (entry_at l name)
     else None
 

@@ -59,8 +59,8 @@ RisesAbove low [] = Unit {0}
 RisesAbove low (e ∷ es) = (low < e.cookie) × RisesAbove e.cookie es
 
 -- the longest front of a list whose costs add up to at most the count
-pub record IsLongestFront (count : ℕ) (es longest_front : List DirEntry) : Type 0 where
+pub record IsLongestFront (count : ℕ) (es page : List DirEntry) : Type 0 where
   pub rest : List DirEntry
-  pub splits : es ≡ longest_front ++ rest
-  pub fits : sum_by cost longest_front ≤ count
-  pub longest : (e : DirEntry) (more : List DirEntry) → rest ≡ e ∷ more → count < sum_by cost longest_front + cost e
+  pub splits : es ≡ page ++ rest
+  pub fits : sum_by cost page ≤ count
+  pub longest : (e : DirEntry) (more : List DirEntry) → rest ≡ e ∷ more → count < sum_by cost page + cost e
