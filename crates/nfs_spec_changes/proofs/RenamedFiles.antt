@@ -18,7 +18,7 @@ use Rattle.fs_changes.proofs.PathChanges.{no_return}
 use Rattle.nfs_spec.specs.Changes.{touch, with_mtime, touch_ctime, with_ctime, unlink, after_unlink}
 use Rattle.nfs_spec.specs.Procedures.{climbs_to, is_above, unlink_target}
 use Rattle.nfs_spec_trees.proofs.FilesFit.{dir_file}
-use Rattle.nfs_spec_changes.specs.Changed.{Becomes, IsMarked, IsTouched, LosesName, Moves}
+use Rattle.nfs_spec_changes.specs.Changed.{Becomes, ChangesCtime, IsTouched, LosesName, Moves}
 use Rattle.nfs_spec_steps.specs.Granted.{RenameOk, MoveOk}
 use Rattle.nfs_spec_changes.proofs.OtherFiles.{unnamed_other, moved_apart, before_mark}
 use Rattle.nfs_spec_changes.proofs.DirectoryEntries.{without_free, with_without, IsAt, listing_of, begins_at, at_same, at_other, at_relisted, at_touched, becomes_touched, becomes_marked}
@@ -186,7 +186,7 @@ module _ (w : Files) (who : Caller) (now : Timeval) (tree : IsFileTree w) where
 
     -- ---- the files
 
-    file_marked : Becomes w after o.number (IsMarked now)
+    file_marked : Becomes w after o.number (ChangesCtime now)
     unfolding t w₁ w₂ w₃ w₄ w₅ after
     file_marked = becomes_marked now w after o.number o.file o.there
         (moved_apart now w o.number from from_name to to_name t o.number number_from number_to

@@ -26,13 +26,13 @@ use Rattle.nfs_spec.specs.NfsCalls as calls
 use Rattle.nfs_spec.specs.NfsCalls.{Call, Answer, answer_and_files, with_attributes, with_handle, without_number, number_for, call_does}
 use Rattle.nfs_spec.proofs.Present.{named_there}
 use Rattle.nfs_spec_steps.specs.Answers.{refusal_in}
-use Rattle.nfs_spec_steps.proofs.Steps.{bind_ok, found_ok, directory_ok}
+use Rattle.nfs_spec_steps.proofs.Steps.{bind_ok, no_error, found_ok, directory_ok}
 use Rattle.nfs_spec_steps.specs.Granted.{SetOk, WriteOk, MakeOk, CreateOk}
 use Rattle.nfs_spec_steps.proofs.Setting.{set_ok, write_ok}
 use Rattle.nfs_spec_steps.proofs.Making.{make_ok, create_ok}
 use Rattle.nfs_spec_errors.specs.Checks.{Checks, first_failing, is_there}
 use Rattle.nfs_spec_errors.specs.Tables.{lookup_checks, checks_of}
-use Rattle.nfs_spec_errors.proofs.StepsInTurn.{HasStat}
+use Rattle.nfs_spec_errors.proofs.StepsInTurn.{HasStat, no_some}
 use Rattle.nfs_spec_errors.proofs.ReaderChecks.{of_getattr, of_lookup, of_read_link, of_read, of_read_dir, of_figures}
 use Rattle.nfs_spec_errors.proofs.WriteChecks.{of_write}
 use Rattle.nfs_spec_errors.proofs.MakeChecks.{of_make}
@@ -56,9 +56,6 @@ then_something (Err e) f some = refl
 shown : {B : Type 0} (w : Files) (n : ℕ) (give : Fattr → B) → IsSome (file_at w n) → stat_in (attributes_at w n >>= λ a. Ok (give a)) ≡ None
 shown w n give there = by (file_at w n) there
   where
-    no_some : false ≡ true → ⊥
-    no_some h = cc
-
     by : (o : Option File) → IsSome o → stat_in ((ok_or stats.Stale o >>= λ f. Ok (attributes_of w n f)) >>= λ a. Ok (give a)) ≡ None
     by None h = absurd (no_some h)
     by (Some f) h = refl
@@ -134,10 +131,7 @@ module _ (w : Files) (tree : IsFileTree w) where
     where
       by : (b : Bool) (o : Option ℕ) → cond b (ok_or stats.NoEnt o) (Err stats.Acces) ≡ Ok n → o ≡ Some n
       by true o h = found_ok stats.NoEnt o n h
-      by false o h = absurd (never h)
-        where
-          never : ◌≡◌ {A = Result ℕ Stat} (Err stats.Acces) (Ok n) → ⊥
-          never h = cc
+      by false o h = absurd (no_error h)
 
   abbrev found_with : ℕ → Fattr → Result (List ℕ × Fattr) Stat
   found_with n a = Ok (handle_of w.fsid n, a)

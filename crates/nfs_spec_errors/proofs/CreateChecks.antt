@@ -18,7 +18,7 @@ use Rattle.nfs_spec.specs.Changes.{new_file}
 use Rattle.nfs_spec.specs.Procedures.{set_attributes, create_over, create_new, create, is_regular, add_file}
 use Rattle.nfs_spec_steps.specs.Granted.{IsFound}
 use Rattle.nfs_spec_steps.proofs.Steps.{found_ok, dir_ok, place_found}
-use Rattle.nfs_spec_errors.specs.Checks.{Checks, holds_at, given}
+use Rattle.nfs_spec_errors.specs.Checks.{Checks, holds_at, if_given}
 use Rattle.nfs_spec_errors.specs.Tables.{set_checks, create_checks}
 use Rattle.nfs_spec_errors.proofs.StepsInTurn.{HasStat, in_turn, done, of_check, of_same, of_that_file, of_dir, of_test_at, named_file}
 use Rattle.nfs_spec_errors.proofs.SetattrChecks.{of_set}
@@ -33,7 +33,7 @@ module _ (w : Files) (tree : IsFileTree w) (who : Caller) (now : Timeval) (dir :
         in_turn (check (is_regular f.body) stats.Exist) _ (of_test_at w n f there (λ f. is_regular f.body) stats.Exist) (λ _ _.
         in_turn (set_attributes w who now n a) _ (of_set w who now n a) (λ _ _. done _)))
 
-    of_size : (size : Option ℕ) → HasStat (check_size (unwrap_or size 0)) ((given size (λ size. nat_le size 1048576), stats.FBig) ∷ [])
+    of_size : (size : Option ℕ) → HasStat (check_size (unwrap_or size 0)) ((if_given size (λ size. nat_le size 1048576), stats.FBig) ∷ [])
     of_size None = record { says = refl }
     of_size (Some size) = record { says = (of_check (nat_le size 1048576) stats.FBig).says }
 
@@ -41,7 +41,7 @@ module _ (w : Files) (tree : IsFileTree w) (who : Caller) (now : Timeval) (dir :
     new n = add_file now w n name (new_file who now a 420 (Regular (replicate (unwrap_or a.size 0) 0)))
 
     abbrev new_checks : Checks
-    new_checks = (holds_at w dir (may_write who), stats.Acces) ∷ (given a.size (λ size. nat_le size 1048576), stats.FBig) ∷ (has_room (new dir), stats.NoSpc) ∷ []
+    new_checks = (holds_at w dir (may_write who), stats.Acces) ∷ (if_given a.size (λ size. nat_le size 1048576), stats.FBig) ∷ (has_room (new dir), stats.NoSpc) ∷ []
 
     of_new : (d : NumberedDir) → IsFound w dir d → HasStat (create_new w who now d name a) new_checks
     of_new d found =

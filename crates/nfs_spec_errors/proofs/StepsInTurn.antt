@@ -22,17 +22,15 @@ use Rattle.nfs_spec_errors.specs.Tables.{file_checks, directory_checks, edit_che
 
 -- ---- lists of checks
 
-some_none : {A : Type 0} {x : A} → Some x ≡ None → ⊥
-some_none h = cc
-
-no_some : false ≡ true → ⊥
+-- what is there is not none
+pub no_some : false ≡ true → ⊥
 no_some h = cc
 
 passed : (cs ds : Checks) → first_failing cs ≡ None → first_failing (cs ++ ds) ≡ first_failing ds
 passed [] ds h = refl
 passed (c ∷ cs) ds h = elim c.0 as (λ b. cond b (first_failing cs) (Some c.1) ≡ None → cond b (first_failing (cs ++ ds)) (Some c.1) ≡ first_failing ds) [
   | true ↦ λ is. passed cs ds is
-  | false ↦ λ is. absurd (some_none is)
+  | false ↦ λ is. absurd (none_some (sym is))
 ] h
 
 failed : (cs ds : Checks) (e : Stat) → first_failing cs ≡ Some e → first_failing (cs ++ ds) ≡ Some e

@@ -18,7 +18,7 @@ use Rattle.nfs_spec.specs.Procedures.{with_bytes_written, add_file, is_regular, 
 use Rattle.nfs_spec.specs.NfsCalls as calls
 use Rattle.nfs_spec_steps.specs.Granted.{new_regular, new_directory, new_link}
 use Rattle.nfs_spec.specs.NfsCalls.{Call, number_for}
-use Rattle.nfs_spec_errors.specs.Checks.{Checks, is_there, holds_at, holds_named, names_directory, given, is_link, lists_nothing, bytes_at}
+use Rattle.nfs_spec_errors.specs.Checks.{Checks, is_there, holds_at, holds_named, names_directory, if_given, is_link, lists_nothing, bytes_at}
 
 -- ---- shared
 
@@ -56,13 +56,13 @@ abbrev pub set_checks : Files → Caller → Timeval → ℕ → GivenFields →
 set_checks fs who now n a =
     (is_there fs n, stats.Stale)
     ∷ (holds_at fs n (owns who) || (who.uid == 0) || keeps_mode_and_times a, stats.Perm)
-    ∷ (given a.uid (λ uid. (who.uid == 0) || holds_at fs n (λ f. owns who f && (uid == f.uid))), stats.Perm)
-    ∷ (given a.gid (λ gid. (who.uid == 0) || holds_at fs n (may_give_group who gid)), stats.Perm)
-    ∷ (given a.size (λ size. not (is_directory_at fs n)), stats.IsDir)
-    ∷ (given a.size (λ size. not (holds_at fs n (λ f. is_link f.body))), stats.NxIo)
-    ∷ (given a.size (λ size. holds_at fs n (may_write who)), stats.Acces)
-    ∷ (given a.size (λ size. nat_le size 1048576), stats.FBig)
-    ∷ (given a.size (λ size. has_room (with_changed_file fs n (apply_fields now a))), stats.NoSpc)
+    ∷ (if_given a.uid (λ uid. (who.uid == 0) || holds_at fs n (λ f. owns who f && (uid == f.uid))), stats.Perm)
+    ∷ (if_given a.gid (λ gid. (who.uid == 0) || holds_at fs n (may_give_group who gid)), stats.Perm)
+    ∷ (if_given a.size (λ size. not (is_directory_at fs n)), stats.IsDir)
+    ∷ (if_given a.size (λ size. not (holds_at fs n (λ f. is_link f.body))), stats.NxIo)
+    ∷ (if_given a.size (λ size. holds_at fs n (may_write who)), stats.Acces)
+    ∷ (if_given a.size (λ size. nat_le size 1048576), stats.FBig)
+    ∷ (if_given a.size (λ size. has_room (with_changed_file fs n (apply_fields now a))), stats.NoSpc)
     ∷ []
 
 -- LOOKUP (section 2.2.5)
@@ -110,7 +110,7 @@ create_over_checks fs who now a n =
 abbrev pub create_new_checks : Files → Caller → Timeval → ℕ → List ℕ → GivenFields → Checks
 create_new_checks fs who now dir name a =
     (holds_at fs dir (may_write who), stats.Acces)
-    ∷ (given a.size (λ size. nat_le size 1048576), stats.FBig)
+    ∷ (if_given a.size (λ size. nat_le size 1048576), stats.FBig)
     ∷ (has_room (add_file now fs dir name (new_regular who now a)), stats.NoSpc)
     ∷ []
 

@@ -13,7 +13,7 @@ use Rattle.nfs_spec.specs.Sattr.{given_fields}
 use Rattle.nfs_spec.specs.Changes.{with_bytes_at, body_with_length}
 use Rattle.nfs_spec.specs.NfsCalls.{Call, number_for, call_does}
 use Rattle.nfs_spec_trees.proofs.FilesFit.{next_free}
-use Rattle.nfs_spec_frames.specs.Named.{IsNoneOf, set_by, written_by, KeepsKind, KeepsAttributes, KeepsBytes, KeepsAt}
+use Rattle.nfs_spec_frames.specs.Named.{IsNoneOf, files_set_by, files_written_by, KeepsKind, KeepsAttributes, KeepsBytes, KeepsAt}
 use Rattle.nfs_spec_frames.proofs.UnnamedFiles.{at_name}
 use Rattle.nfs_spec_frames.proofs.BeforeAndAfter.{Step, steps}
 
@@ -87,7 +87,7 @@ module _ (w : Files) (who : Caller) (now : Timeval) (tree : IsFileTree w) where
   attributes_same f = record { mode = refl; uid = refl; gid = refl; atime = refl }
 
   -- mode, owner, group and atime
-  pub attributes : (call : Call) (n : ℕ) → IsNoneOf n (set_by w call) → KeepsAt KeepsAttributes w (call_does w who now call).1 n
+  pub attributes : (call : Call) (n : ℕ) → IsNoneOf n (files_set_by w call) → KeepsAt KeepsAttributes w (call_does w who now call).1 n
   attributes call n ns old new is is' =
       between KeepsAttributes (file_at w n) (file_at (call_does w who now call).1 n)
       (steps KeepsAttributes now (record {
@@ -96,7 +96,7 @@ module _ (w : Files) (who : Caller) (now : Timeval) (tree : IsFileTree w) where
         marks = λ f. record { mode = refl; uid = refl; gid = refl; atime = refl };
         touches = λ f. record { mode = refl; uid = refl; gid = refl; atime = refl };
         relists = λ change f. record { mode = refl; uid = refl; gid = refl; atime = refl };
-      }) n w who (λ call. IsNoneOf n (set_by w call)) (old_number w tree n old is) (record {
+      }) n w who (λ call. IsNoneOf n (files_set_by w call)) (old_number w tree n old is) (record {
         sets = λ file s a e f. absurd (a.0 e);
         creates = λ dir name s a k c at e f. absurd (at_name w who now (number_for w dir) name k c n at a e);
         writes = λ file offset new a e before f regular. record { mode = refl; uid = refl; gid = refl; atime = refl };
@@ -109,7 +109,7 @@ module _ (w : Files) (who : Caller) (now : Timeval) (tree : IsFileTree w) where
   bytes_relisted change b bytes is = ap (map_body_listing change) is
 
   -- bytes of regular files
-  pub bytes : (call : Call) (n : ℕ) → IsNoneOf n (written_by w call) → KeepsAt (λ old new. KeepsBytes old.body new.body) w (call_does w who now call).1 n
+  pub bytes : (call : Call) (n : ℕ) → IsNoneOf n (files_written_by w call) → KeepsAt (λ old new. KeepsBytes old.body new.body) w (call_does w who now call).1 n
   bytes call n ns old new is is' =
       let R : File → File → Type 0 = λ f g. KeepsBytes f.body g.body in
       between R (file_at w n) (file_at (call_does w who now call).1 n)
@@ -119,7 +119,7 @@ module _ (w : Files) (who : Caller) (now : Timeval) (tree : IsFileTree w) where
         marks = λ f bytes h. h;
         touches = λ f bytes h. h;
         relists = λ change f. bytes_relisted change f.body;
-      }) n w who (λ call. IsNoneOf n (written_by w call)) (old_number w tree n old is) (record {
+      }) n w who (λ call. IsNoneOf n (files_written_by w call)) (old_number w tree n old is) (record {
         sets = λ file s a e f. absurd (a.0 e);
         creates = λ dir name s a k c at e f. absurd (at_name w who now (number_for w dir) name k c n at a e);
         writes = λ file offset new a e before f regular. absurd (a.0 e);

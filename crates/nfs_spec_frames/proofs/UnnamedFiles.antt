@@ -17,13 +17,13 @@ use Rattle.nfs_spec.specs.Procedures.{with_bytes_written}
 use Rattle.nfs_spec.specs.NfsCalls as calls
 use Rattle.nfs_spec.specs.NfsCalls.{Call, Answer, number_for, call_does}
 use Rattle.nfs_spec_steps.specs.Answers.{only_reads, refusal_in}
-use Rattle.nfs_spec_frames.specs.Named.{IsNoneOf, named_at, named_by, makes, files_made}
+use Rattle.nfs_spec_frames.specs.Named.{IsNoneOf, files_at_name, files_named_by, makes_file, files_made}
 use Rattle.nfs_spec_steps.specs.Granted.{MakeOk, CreateOk, RenameOk}
 use Rattle.nfs_spec_steps.proofs.EachCall.{each_call}
 use Rattle.nfs_spec_changes.proofs.OtherFiles.{made_other, linked_other, removed_other, moved_other}
 
 -- a call that only reads makes no file, nor does one that is refused
-reader_makes_none : (w : Files) (call : Call) → only_reads call ≡ true → makes w call ≡ false
+reader_makes_none : (w : Files) (call : Call) → only_reads call ≡ true → makes_file w call ≡ false
 reader_makes_none w calls.Null h = refl
 reader_makes_none w (calls.Getattr file) h = refl
 reader_makes_none w (calls.Setattr file s) h = absurd cc
@@ -44,7 +44,7 @@ reader_makes_none w (calls.Readdir dir cookie count) h = refl
 reader_makes_none w (calls.Statfs file) h = refl
 
 refused_makes_none : (w : Files) (call : Call) (answer : Answer) (stat : Stat) → refusal_in answer ≡ Some stat → files_made w call answer ≡ 0
-refused_makes_none w call answer stat h = ap (λ o. if makes w call && is_none o then 1 else 0) h ∙ by (makes w call)
+refused_makes_none w call answer stat h = ap (λ o. if makes_file w call && is_none o then 1 else 0) h ∙ by (makes_file w call)
   where
     by : (b : Bool) → ◌≡◌ {A = ℕ} (if b && false then 1 else 0) 0
     by true = refl
@@ -103,17 +103,17 @@ module _ (w : Files) (who : Caller) (now : Timeval) where
   -- ---- the files that are none of those named
 
   abbrev OthersAfter : Call → Answer → Files → Type 0
-  OthersAfter call answer w' = (n : ℕ) → IsNoneOf n (named_by w call) → file_at w' n ≡ file_at w n
+  OthersAfter call answer w' = (n : ℕ) → IsNoneOf n (files_named_by w call) → file_at w' n ≡ file_at w n
 
   wrote_other : (k offset : ℕ) (new old : List ℕ) (b : Bool) (n : ℕ) → n ≢ k → file_at (if b then w else with_changed_file w k (with_bytes_written now offset new old)) n ≡ file_at w n
   wrote_other k offset new old true n ne = refl
   wrote_other k offset new old false n ne = changed_other w k (with_bytes_written now offset new old) n ne
 
   -- what is found at a name is among what it names
-  pub at_name : (dir : ℕ) (name : List ℕ) (k c n : ℕ) → places w dir name ≡ Some (k, c) → IsNoneOf n (named_at w dir name) → n ≢ k
+  pub at_name : (dir : ℕ) (name : List ℕ) (k c n : ℕ) → places w dir name ≡ Some (k, c) → IsNoneOf n (files_at_name w dir name) → n ≢ k
   at_name dir name k c n is h = (subst (λ (o : Option (ℕ × ℕ)). IsNoneOf n (option_map_or (λ e. e.0 ∷ []) o [])) is h).0
 
-  at_target : (dir : ℕ) (name : List ℕ) (n : ℕ) → IsNoneOf n (named_at w dir name) → (k : ℕ) → option_map (λ e. e.0) (places w dir name) ≡ Some k → n ≢ k
+  at_target : (dir : ℕ) (name : List ℕ) (n : ℕ) → IsNoneOf n (files_at_name w dir name) → (k : ℕ) → option_map (λ e. e.0) (places w dir name) ≡ Some k → n ≢ k
   at_target dir name n h k is = by (places w dir name) refl is
     where
       by : (o : Option (ℕ × ℕ)) → places w dir name ≡ o → option_map (λ e. e.0) o ≡ Some k → n ≢ k
@@ -137,9 +137,9 @@ module _ (w : Files) (who : Caller) (now : Timeval) where
       ap (λ v. file_at v n) (o.over e.0 e.1 is).set.effect ∙ changed_other w e.0 (apply_fields now a) n own.0
 
   renamed_other : (from : ℕ) (from_name : List ℕ) (to : ℕ) (to_name : List ℕ) (w' : Files) → RenameOk w who now from from_name to to_name w'
-      → (n : ℕ) → IsNoneOf n (from ∷ to ∷ named_at w from from_name ++ named_at w to to_name) → file_at w' n ≡ file_at w n
+      → (n : ℕ) → IsNoneOf n (from ∷ to ∷ files_at_name w from from_name ++ files_at_name w to to_name) → file_at w' n ≡ file_at w n
   renamed_other from from_name to to_name w' o n ns =
-      let both = none_of_both n (named_at w from from_name) (named_at w to to_name) ns.1.1 in
+      let both = none_of_both n (files_at_name w from from_name) (files_at_name w to to_name) ns.1.1 in
       ⊎_elim
       (λ same. ap (λ v. file_at v n) same.1)
       (λ m. ap (λ v. file_at v n) m.effect

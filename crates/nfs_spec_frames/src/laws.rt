@@ -11,7 +11,7 @@ ghost use Rattle.nfs_spec.specs.NfsCalls.{Call, call_does};
 ghost use Rattle.nfs_spec.specs.Opening.{opening_files};
 ghost use Rattle.nfs_spec_trees.specs.Anew.{GivesAnew};
 ghost use Rattle.nfs_spec_steps.specs.Answers.{refusal_in};
-ghost use Rattle.nfs_spec_frames.specs.Named.{IsNoneOf, named_by, files_made, set_by, written_by, KeepsKind, KeepsAttributes, KeepsBytes, KeepsAt};
+ghost use Rattle.nfs_spec_frames.specs.Named.{IsNoneOf, files_named_by, files_made, files_set_by, files_written_by, KeepsKind, KeepsAttributes, KeepsBytes, KeepsAt};
 ghost use Rattle.nfs_spec_frames.specs.Done.{Did};
 ghost use Rattle.nfs_spec_frames.specs.Gone.{IsGone, HasOneNameLess};
 ghost use Rattle.nfs_spec_frames.specs.Runs.{Request, files_after, AreBounded};
@@ -24,7 +24,7 @@ pub fn calls_keep_the_files_they_do_not_name()
     ensures next { (fs : Files) (who : Caller) (now : Timeval) (call : Call) →
         (call_does fs who now call).1.next ≡ fs.next + files_made fs call (call_does fs who now call).0 }
     ensures others { (fs : Files) (who : Caller) (now : Timeval) (call : Call) (n : ℕ) →
-        IsNoneOf n (named_by fs call) → file_at (call_does fs who now call).1 n ≡ file_at fs n }
+        IsNoneOf n (files_named_by fs call) → file_at (call_does fs who now call).1 n ≡ file_at fs n }
     ensures absent { (fs : Files) (who : Caller) (now : Timeval) (call : Call) (n : ℕ) →
         n ≢ fs.next → file_at fs n ≡ None → file_at (call_does fs who now call).1 n ≡ None }
 {}
@@ -42,9 +42,9 @@ pub fn files_stay_what_they_are()
     ensures kinds { (fs : Files) (who : Caller) (now : Timeval) (call : Call) (n : ℕ) → IsFileTree fs →
         KeepsAt (λ old new. KeepsKind old.body new.body) fs (call_does fs who now call).1 n }
     ensures attributes { (fs : Files) (who : Caller) (now : Timeval) (call : Call) (n : ℕ) → IsFileTree fs →
-        IsNoneOf n (set_by fs call) → KeepsAt KeepsAttributes fs (call_does fs who now call).1 n }
+        IsNoneOf n (files_set_by fs call) → KeepsAt KeepsAttributes fs (call_does fs who now call).1 n }
     ensures bytes { (fs : Files) (who : Caller) (now : Timeval) (call : Call) (n : ℕ) → IsFileTree fs →
-        IsNoneOf n (written_by fs call) →
+        IsNoneOf n (files_written_by fs call) →
         KeepsAt (λ old new. KeepsBytes old.body new.body) fs (call_does fs who now call).1 n }
 {}
 
