@@ -4,6 +4,7 @@ pub use Rattle.xdr.specs.Writing
 pub use Rattle.xdr.specs.Text
 pub mod Timeval
 pub mod Handle
+pub mod Terms
 pub mod Attributes
 pub mod Sattr
 pub mod Caller

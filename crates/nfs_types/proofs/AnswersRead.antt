@@ -21,7 +21,7 @@ use Rattle.nfs_types.specs.declared.arguments.NfsProcedure.TheVariants as proced
 use Rattle.nfs_types.specs.declared.results.FsStats.{FsStats}
 use Rattle.nfs_types.specs.Items.{path, nfsdata, entry, fs_stats}
 use Rattle.nfs_types.specs.Calls as calls
-use Rattle.nfs_types.specs.Calls.{Answer, DirEntry, Page}
+use Rattle.nfs_types.specs.Calls.{Answer, PageEntry, Page}
 use Rattle.nfs_types.specs.Texts.{entry_value, fs_stats_value, answer_item, answer_text, procedure_of, IsSpelled, IsAnswerTo}
 
 -- ---- attributes and stats
@@ -104,10 +104,10 @@ outcome_again a view back make r rest same fits =
 cookie_is : (c : ℕ) → c < 2 ^ 32 → big_number 4 (big_bytes 4 c) ≡ c
 cookie_is c lt = ap (big_number 4) (sym (append-nil (big_bytes 4 c))) ∙ big_number-reads_back 4 c [] (omega (arith, lt))
 
-abbrev entry_from : Value entry → DirEntry
+abbrev entry_from : Value entry → PageEntry
 entry_from v = record { fileid = v.0; name = v.1.0; cookie = big_number 4 v.1.1 }
 
-entries_are : (es : List DirEntry) → AllByRecursion (λ c. c < 2 ^ 32) (map (λ e. e.cookie) es) → map entry_from (map entry_value es) ≡ es
+entries_are : (es : List PageEntry) → AllByRecursion (λ c. c < 2 ^ 32) (map (λ e. e.cookie) es) → map entry_from (map entry_value es) ≡ es
 entries_are [] all = refl
 entries_are (e ∷ es) all =
     let first : entry_from (entry_value e) ≡ e = ap (λ (c : ℕ). record e { cookie = c }) (cookie_is e.cookie all.0) in
@@ -121,7 +121,7 @@ page_is : (r : Result Page Stat) → IsSpelled (calls.Entries r) → (p : Page) 
 page_is (Ok q) h p is =
     let same : q ≡ p = cc in
     let all = entries_are q.entries h.cookies in
-    ap (λ (x : Page). page_from (map entry_value x.entries, x.eof)) (sym same) ∙ ap (λ (es : List DirEntry). record { entries = es; eof = q.eof }) all ∙ same
+    ap (λ (x : Page). page_from (map entry_value x.entries, x.eof)) (sym same) ∙ ap (λ (es : List PageEntry). record { entries = es; eof = q.eof }) all ∙ same
 page_is (Err e) h p is = absurd cc
 
 abbrev fs_stats_from : Value fs_stats → FsStats

@@ -1,33 +1,33 @@
 -- What the program's results say.
 use Rattle.std.specs.Prelude.{ℕ, ◌<◌, ◌^◌, All, List, [], ◌++◌, length, map, Result, Ok, Err}
 use Rattle.xdr.specs.Item.{word, flag, empty, linked, spelling}
-use Rattle.nfs_items.specs.Handle.{fhandle}
+use Rattle.nfs_items.specs.Handle.{FileHandle, fhandle}
 use Rattle.nfs_items.specs.Attributes.{fattr, fattr_value, stat_value}
 use Rattle.nfs_items.specs.declared.attributes.Fattr.{Fattr}
 use Rattle.nfs_items.specs.declared.stat.Stat.{Stat}
 use Rattle.nfs_types.specs.declared.results.DirOpOk.{DirOpOk}
 use Rattle.nfs_types.specs.declared.results.ReadOk.{ReadOk}
-use Rattle.nfs_types.specs.declared.results.PageEntry.{PageEntry}
+use Rattle.nfs_types.specs.declared.results.PageEntry as stored_entry
 use Rattle.nfs_types.specs.declared.results.Page as stored
 use Rattle.nfs_types.specs.declared.results.NfsResult.{NfsResult}
 use Rattle.nfs_types.specs.declared.results.NfsResult.TheVariants as code
 use Rattle.nfs_types.specs.Items.{path, nfsdata, entry, fs_stats}
 use Rattle.nfs_types.specs.Texts.{entry_value, fs_stats_value}
 use Rattle.nfs_types.specs.Calls as calls
-use Rattle.nfs_types.specs.Calls.{Answer, DirEntry, Page, Handle}
+use Rattle.nfs_types.specs.Calls.{Answer, PageEntry, Page}
 
 -- an outcome with another result
 abbrev pub outcome_of : {X Y : Type 0} → (X → Y) → Result X Stat → Result Y Stat
 outcome_of view (Ok x) = Ok (view x)
 outcome_of view (Err e) = Err e
 
-abbrev pub entry_of : PageEntry → DirEntry
+abbrev pub entry_of : stored_entry.PageEntry → PageEntry
 entry_of e = record { fileid = e.fileid; name = e.name.now; cookie = e.cookie }
 
 abbrev pub page_of : stored.Page → Page
 page_of p = record { entries = map entry_of p.entries.items; eof = p.eof }
 
-abbrev pub dir_op_of : DirOpOk → Handle × Fattr
+abbrev pub dir_op_of : DirOpOk → FileHandle × Fattr
 dir_op_of x = (x.file.0, x.attributes)
 
 abbrev pub bytes_of : ReadOk → Fattr × List ℕ

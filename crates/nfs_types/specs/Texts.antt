@@ -11,7 +11,7 @@ use Rattle.nfs_types.specs.declared.results.FsStats.{FsStats}
 use Rattle.nfs_types.specs.declared.arguments.NfsProcedure.{NfsProcedure}
 use Rattle.nfs_types.specs.declared.arguments.NfsProcedure.TheVariants as procedures
 use Rattle.nfs_types.specs.Calls as calls
-use Rattle.nfs_types.specs.Calls.{Call, Answer, DirEntry, Page}
+use Rattle.nfs_types.specs.Calls.{Call, Answer, PageEntry, Page}
 use Rattle.nfs_types.specs.Items.{nfsdata, path, diropargs, sattrargs, readargs, writeargs, createargs, renameargs, linkargs, symlinkargs, readdirargs, attrstat, diropres, readlinkres, readres, status, entry, readdirres, fs_stats, statfsres}
 
 -- ---- arguments
@@ -70,7 +70,7 @@ SaysCall procedure bytes call rest =
 
 -- ---- results
 
-abbrev pub entry_value : DirEntry → Value entry
+abbrev pub entry_value : PageEntry → Value entry
 entry_value e = (e.fileid, (e.name, big_bytes 4 e.cookie))
 
 abbrev pub fs_stats_value : FsStats → Value fs_stats
