@@ -208,15 +208,7 @@ read_dir fs who n cookie count = do
   _ ← check (may_read who d.file) stats.Acces
   Ok (page_of cookie count (dir_entries fs n d.listing))
 
--- what STATFS answers (section 2.2.18): sizes in bytes, and counts of blocks of the second
-pub record FsStats : Type 0 where
-  pub transfer_size : ℕ
-  pub block_size : ℕ
-  pub blocks : ℕ
-  pub free : ℕ
-  pub available : ℕ
-
--- STATFS (section 2.2.18): in blocks, free is what regular files leave
+-- STATFS (section 2.2.18): free is what regular files leave
 abbrev pub stat_fs : Files → FileNumber → Result FsStats Stat
 stat_fs fs n = do
   f ← file_of fs n

@@ -8,6 +8,10 @@ use Rattle.nfs_types.specs.Calls.{PageEntry, Page}
 use Rattle.fs_model.specs.Listing.{DirEntry, Listing, entry_name, entry_number, entry_cookie}
 use Rattle.fs_model.specs.Files.{Files, parent_of}
 
+-- an entry of a directory as READDIR gives it
+abbrev pub page_entry : DirEntry → PageEntry
+page_entry e = record { fileid = entry_number e; name = entry_name e; cookie = entry_cookie e }
+
 -- `.` and `..`, then the entries in order of insertion
 abbrev pub dir_entries : Files → FileNumber → Listing → List PageEntry
 dir_entries fs dir l =

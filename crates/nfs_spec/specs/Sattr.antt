@@ -3,6 +3,10 @@ use Rattle.std.specs.Prelude.{ℕ, ◌%◌, ◌==◌, ◌||◌, nat_lt, Bool, Op
 use Rattle.nfs_items.specs.Timeval.{Timeval}
 use Rattle.nfs_items.specs.declared.sattr.Sattr.{Sattr}
 
+-- the word of all ones
+abbrev pub all_ones : ℕ
+all_ones = 0xffff_ffff
+
 -- a word of all ones is ignored
 abbrev pub given_word : ℕ → Option ℕ
 given_word n = if n == all_ones then None else Some n
