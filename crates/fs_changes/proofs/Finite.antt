@@ -36,7 +36,7 @@ module _ (w : Files) (f : File) (n : ℕ) where
   new_other e = finite.get-insert nat_cmp_total w.files w.next f n ∙ ap (λ b. cond b (Some f) (file_at w n)) (cmp_other n w.next e)
 
 -- the files with a change of what stands at a number, by what stands there
-pub by_file : Files → ℕ → (File → File) → Option File → Files
+unfoldable pub by_file : Files → ℕ → (File → File) → Option File → Files
 by_file w k change o = record w { files = option_map_or (λ f. finite.insert w.files k (change f)) o w.files }
 
 module _ (w : Files) (k : ℕ) (change : File → File) (n : ℕ) where

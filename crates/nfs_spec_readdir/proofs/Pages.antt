@@ -1,12 +1,13 @@
 -- READDIR's pages give each entry once, in order.
--- Serves: pages_give_each_entry_once, readdir_gives_the_listing_once (nfs_spec).
+-- Serves: pages_give_each_entry_once, readdir_gives_the_listing_once (nfs_spec_readdir).
 use Rattle.std.proofs.Common.{◌≡◌, ℕ, ◌+◌, ◌-◌, ◌<◌, ◌≤◌, Bool, true, false, cond, List, [], ◌∷◌, ◌++◌, length, map, min, leb, ltb, refl, sym, ap, ◌∙◌, arith, append_assoc, length-append}
 use Rattle.std.specs.Prelude.{◌↔◌}
 use Rattle.std.proofs.lemmas.Bool.{ltb-true, ltb-false, lt-ltb, le-ltb, leb-true, leb-false, eqb-true, eq-eqb, cond-true, cond-false}
 use Rattle.std.proofs.lemmas.List.Sums.{sum_by-cons}
 use Rattle.fs_model.specs.Listing.{Listing, IsRising}
 use Rattle.fs_model.specs.Files.{Files}
-use Rattle.nfs_spec.specs.Readdir.{PageEntry, cost, longest_front, page_of, last_cookie, pages, entries_above, RisesAbove, IsLongestFront, dir_entries}
+use Rattle.nfs_spec.specs.Readdir.{PageEntry, cost, longest_front, page_of, dir_entries}
+use Rattle.nfs_spec_readdir.specs.Pages.{last_cookie, pages, entries_above, RisesAbove, IsLongestFront}
 
 list_head : {A : Type 0} {x y : A} {xs ys : List A} → x ∷ xs ≡ y ∷ ys → x ≡ y
 list_head h = cc
