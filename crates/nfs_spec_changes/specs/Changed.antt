@@ -33,7 +33,7 @@ pub record LosesName (now : Timeval) (fs fs' : Files) (n : ℕ) : Type 0 where
 
 -- ---- bytes
 
--- of old bytes, none behind the end: the byte there, else zero
+-- byte i of the bytes before, zero past their end
 abbrev pub old_byte : List ℕ → ℕ → ℕ
 old_byte old i = if nat_lt i (length old) then slice_index old i else 0
 
