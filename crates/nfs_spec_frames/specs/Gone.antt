@@ -1,5 +1,5 @@
 -- What becomes of a file whose name goes.
-use Rattle.std.specs.Prelude.{◌≡◌, ◌≢◌, ℕ, ◌+◌, List, Some, None}
+use Rattle.std.specs.Prelude.{◌≡◌, ◌≢◌, ◌+◌, Some, None}
 use Rattle.nfs_types.specs.Timeval.{Timeval}
 use Rattle.fs_model.specs.Paths.{path_at}
 use Rattle.fs_model.specs.Listing.{FileNumber, Cookie}
