@@ -14,7 +14,7 @@ use Rattle.fs_changes.proofs.Finite.{nothing_changes, changed_next, changed_here
 use Rattle.fs_changes.proofs.Room.{count_new, count_changed, AllCookies, within, room, still_room}
 use Rattle.nfs_spec.specs.Changes.{touch, with_mtime, touch_ctime, with_ctime}
 use Rattle.nfs_spec.specs.Procedures.{add_file}
-use Rattle.nfs_spec_trees.specs.Room.{HasRoomToMake, HasRoomToLink}
+use Rattle.nfs_spec_laws.specs.Room.{HasRoomToMake, HasRoomToLink}
 use Rattle.nfs_spec_trees.proofs.FilesFit.{next_free}
 use Rattle.nfs_spec_trees.proofs.EditRoom.{touch_no_more, mark_no_more, free_in, named_needs, named_has}
 
@@ -118,7 +118,8 @@ to_link now w before dir name d there is free from =
     let v = touch_ctime now w from in
     let g = body_there w from (with_ctime now) (λ f. refl) dir d there in
     let is_g : is_directory g.0.body ≡ true = ap is_directory g.2 ∙ is in
-    let free_g : entry_at (listing_in g.0.body) name ≡ None = ap (λ b. entry_at (listing_in b) name) g.2 ∙ free_in w dir name d there free in
+    let free_g : entry_at (listing_in g.0.body) name ≡ None = ap (λ b. entry_at (listing_in b) name) g.2
+    ∙ free_in w dir name d there free in
     let same_next = ap (λ b. (listing_in b).next) g.2 in
     let same_entries = same_total w from (with_ctime now) (λ f. refl) (λ b. length (listing_in b).entries) in
     let within_v = within v (still_room w v (mark_no_more now w from) before) in (
