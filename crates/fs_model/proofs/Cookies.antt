@@ -2,7 +2,7 @@
 -- Serves: trees_stay_trees (nfs_spec_laws), `Directory::put` (inodes).
 use Rattle.std.proofs.Common.{ℕ, ◌+◌, ◌≤◌, Bool, true, false, cond, List, [], ◌∷◌, ◌++◌, arith}
 use Rattle.std.specs.Map.{remove_entry}
-use Rattle.fs_model.specs.Names.{Name}
+use Rattle.nfs_items.specs.Terms.{Name}
 use Rattle.fs_model.specs.Listing.{DirEntry, IsRising}
 
 -- what rises from a cookie rises from a lower one

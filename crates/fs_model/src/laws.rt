@@ -1,8 +1,9 @@
 //! What holds of every tree of files.
 
 ghost use Rattle.std.specs.Prelude.{◌≡◌, ◌≢◌, [], ◌∷◌, ◌++◌, List, ℕ, Option, Some, None, IsSome, option_map};
-ghost use Rattle.fs_model.specs.Names.{Name, FilePath};
-ghost use Rattle.fs_model.specs.Listing.{FileNumber, Cookie, Place};
+ghost use Rattle.nfs_items.specs.Terms.{Name, FileNumber, Cookie};
+ghost use Rattle.fs_model.specs.Names.{FilePath};
+ghost use Rattle.fs_model.specs.Listing.{Place};
 ghost use Rattle.fs_model.specs.Paths.{Places, walk, path_at, ChangesPlace, HasOnePathEach};
 ghost use Rattle.fs_model.specs.Files.{Files, file_at, IsDirectory, places, without_entries};
 ghost use Rattle.fs_model.specs.Trees.{IsFileTree};

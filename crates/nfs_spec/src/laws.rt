@@ -1,19 +1,18 @@
 //! What holds of every effect.
 
 ghost use Rattle.std.specs.Prelude.{◌≡◌, ◌≢◌, [], ◌∷◌, ◌++◌, List, ℕ, Some, Ok, Err, IsTrue, IsSome};
-ghost use Rattle.nfs_types.specs.Timeval.{Timeval};
-ghost use Rattle.nfs_types.specs.Caller.{Caller, nobody};
-ghost use Rattle.nfs_types.specs.Handle.{FileHandle, number_in, handle_of};
-ghost use Rattle.nfs_types.specs.Arguments.{Arguments, Null, Getattr, Lookup};
-ghost use Rattle.nfs_types.specs.declared.stat.Stat.{Stat};
-ghost use Rattle.nfs_types.specs.declared.stat.Stat.TheVariants as stats;
-ghost use Rattle.nfs_types.specs.declared.attributes.FileType.TheVariants as types;
-ghost use Rattle.fs_model.specs.Names.{Name, FilePath, dot, dot_dot, is_name};
-ghost use Rattle.fs_model.specs.Listing.{FileNumber};
+ghost use Rattle.nfs_items.specs.Timeval.{Timeval};
+ghost use Rattle.nfs_items.specs.Caller.{Caller, nobody};
+ghost use Rattle.nfs_items.specs.Handle.{FileHandle, number_in, handle_of};
+ghost use Rattle.nfs_items.specs.declared.stat.Stat.{Stat};
+ghost use Rattle.nfs_items.specs.declared.stat.Stat.TheVariants as stats;
+ghost use Rattle.nfs_items.specs.declared.attributes.FileType.TheVariants as types;
+ghost use Rattle.nfs_items.specs.Terms.{Name, FileNumber};
+ghost use Rattle.fs_model.specs.Names.{FilePath, dot, dot_dot, is_name};
 ghost use Rattle.fs_model.specs.Files.{Files, file_at};
 ghost use Rattle.fs_model.specs.Trees.{IsFileTree};
 ghost use Rattle.fs_changes.specs.Limits.{has_room};
-ghost use Rattle.nfs_spec.specs.Effects.{does, getattr, lookup};
+ghost use Rattle.nfs_spec.specs.Effects.{getattr, lookup};
 ghost use Rattle.nfs_spec.specs.Opening.{epoch, hello, opening_files};
 ghost use Rattle.nfs_spec.specs.NfsCalls.{call_does};
 ghost use Rattle.nfs_spec.specs.LawTerms.{lookup_at_path, IsSearchable};
@@ -31,29 +30,6 @@ pub fn lookup_goes_by_paths()
         lookup fs who dir dot_dot ≡ lookup_at_path fs front }
     ensures root { (fs : Files) (who : Caller) (dir : FileHandle) →
         IsSearchable fs who dir [] → lookup fs who dir dot_dot ≡ lookup_at_path fs [] }
-{}
-
-/// A refusal leaves the files as they were.
-pub fn refusals_change_nothing()
-    ensures { (fs : Files) (who : Caller) (now : Timeval) (call : Arguments) (stat : Stat) →
-        stat_of (does fs who now call).0 ≡ Some stat → (does fs who now call).1 ≡ fs }
-{}
-
-/// NULL, GETATTR and LOOKUP leave the files as they are.
-pub fn readers_change_nothing()
-    ensures null { (fs : Files) (who : Caller) (now : Timeval) → (does fs who now Null).1 ≡ fs }
-    ensures getattr { (fs : Files) (who : Caller) (now : Timeval) (file : FileHandle) →
-        (does fs who now (Getattr file)).1 ≡ fs }
-    ensures lookup { (fs : Files) (who : Caller) (now : Timeval) (dir : FileHandle) (name : Name) →
-        (does fs who now (Lookup dir name)).1 ≡ fs }
-{}
-
-/// The result and the files after a call are told by the files before it, the caller's user and groups, the
-/// time and the call: the name of the caller's machine says nothing.
-pub fn effects_are_determined()
-    ensures { (fs : Files) (one other : Caller) (now : Timeval) (call : Arguments) →
-        one.uid ≡ other.uid → one.gid ≡ other.gid → one.gids ≡ other.gids →
-        does fs one now call ≡ does fs other now call }
 {}
 
 /// In a tree the handle of a file that is there is not STALE.
@@ -110,4 +86,10 @@ pub fn opening_files_show()
 pub fn opening_files_are_a_tree()
     ensures tree { (fsid : ℕ) → IsFileTree (opening_files fsid) }
     ensures room { (fsid : ℕ) → IsTrue (has_room (opening_files fsid)) }
+{}
+
+/// A call is answered by an answer of its procedure.
+pub fn calls_are_answered_by_their_procedures()
+    ensures { (fs : Files) (who : Caller) (now : Timeval) (call : Call) →
+        IsAnswerTo (procedure_in call) (call_does fs who now call).0 }
 {}

@@ -1,8 +1,8 @@
 -- What becomes of the files that a call names.
 use Rattle.std.specs.Prelude.{◌≡◌, ◌≢◌, ℕ, ◌+◌, ◌-◌, ◌<◌, ◌&&◌, nat_le, nat_lt, max, List, length, slice_index, Some, None, if◌then◌else◌}
-use Rattle.nfs_types.specs.Timeval.{Timeval}
-use Rattle.fs_model.specs.Listing.{Listing, with_entry, without_entry, FileNumber, Cookie}
-use Rattle.fs_model.specs.Names.{Name}
+use Rattle.nfs_items.specs.Timeval.{Timeval}
+use Rattle.nfs_items.specs.Terms.{FileNumber, Cookie, Name}
+use Rattle.fs_model.specs.Listing.{Listing, with_entry, without_entry}
 use Rattle.fs_model.specs.Files.{Regular, Directory, File, Files, file_at, places, names_of}
 use Rattle.nfs_spec.specs.Sattr.{GivenFields}
 use Rattle.nfs_spec.specs.Changes.{apply_fields}

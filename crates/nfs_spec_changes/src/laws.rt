@@ -1,10 +1,9 @@
 //! What becomes of the files that a procedure names.
 
 ghost use Rattle.std.specs.Prelude.{◌≡◌, ◌≢◌, ℕ, List, [], replicate, unwrap_or, Some, None, Ok};
-ghost use Rattle.nfs_types.specs.Timeval.{Timeval};
-ghost use Rattle.nfs_types.specs.Caller.{Caller};
-ghost use Rattle.fs_model.specs.Listing.{FileNumber, Cookie};
-ghost use Rattle.fs_model.specs.Names.{Name};
+ghost use Rattle.nfs_items.specs.Timeval.{Timeval};
+ghost use Rattle.nfs_items.specs.Caller.{Caller};
+ghost use Rattle.nfs_items.specs.Terms.{FileNumber, Cookie, Name};
 ghost use Rattle.fs_model.specs.Files.{Body, Regular, Symlink, Directory, File, Files, file_at, places};
 ghost use Rattle.fs_model.specs.Trees.{IsFileTree};
 ghost use Rattle.nfs_spec.specs.Sattr.{GivenFields, no_fields};

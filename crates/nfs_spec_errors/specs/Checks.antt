@@ -3,8 +3,7 @@ use Rattle.std.specs.Prelude.{ℕ, ◌==◌, Bool, true, false, List, [], ◌∷
 use Rattle.std.specs.Option.{option_map_or}
 use Rattle.nfs_items.specs.declared.stat.Stat.{Stat}
 use Rattle.fs_model.specs.Files as bodies
-use Rattle.fs_model.specs.Listing.{FileNumber}
-use Rattle.fs_model.specs.Names.{Name}
+use Rattle.nfs_items.specs.Terms.{FileNumber, Name}
 use Rattle.fs_model.specs.Files.{Body, File, Files, file_at, listing_in, is_directory, places}
 
 abbrev pub Checks : Type 0

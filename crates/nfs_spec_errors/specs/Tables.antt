@@ -2,12 +2,13 @@
 -- standard leaves the choice and the order of stats open.
 use Rattle.std.specs.Prelude.{ℕ, ◌+◌, ◌==◌, ◌||◌, ◌&&◌, not, nat_le, Bool, false, List, [], ◌∷◌, ◌++◌, length, Option, is_some, is_none, if◌then◌else◌}
 use Rattle.std.specs.Option.{option_map_or}
-use Rattle.nfs_types.specs.Timeval.{Timeval}
-use Rattle.nfs_types.specs.Caller.{Caller}
+use Rattle.nfs_items.specs.Timeval.{Timeval}
+use Rattle.nfs_items.specs.Caller.{Caller}
 use Rattle.fs_model.specs.Maxima.{max_file_size, max_number}
-use Rattle.fs_model.specs.Listing.{FileNumber, Place}
-use Rattle.nfs_types.specs.declared.stat.Stat.TheVariants as stats
-use Rattle.fs_model.specs.Names.{is_name, Name}
+use Rattle.nfs_items.specs.Terms.{FileNumber, Name}
+use Rattle.fs_model.specs.Listing.{Place}
+use Rattle.nfs_items.specs.declared.stat.Stat.TheVariants as stats
+use Rattle.fs_model.specs.Names.{is_name}
 use Rattle.fs_model.specs.Files.{File, Files, listing, places}
 use Rattle.fs_changes.specs.Edits.{with_changed_file, with_name}
 use Rattle.fs_changes.specs.Limits.{has_room}

@@ -2,12 +2,11 @@
 //! `stat_in` and `refusal_in` are the stat of a result and of an answer, none where they are Ok.
 
 ghost use Rattle.std.specs.Prelude.{◌≡◌, ◌≢◌, ℕ, List, Some};
-ghost use Rattle.nfs_types.specs.Timeval.{Timeval};
-ghost use Rattle.nfs_types.specs.Caller.{Caller};
-ghost use Rattle.fs_model.specs.Listing.{FileNumber, Cookie};
-ghost use Rattle.fs_model.specs.Names.{Name};
-ghost use Rattle.nfs_types.specs.declared.stat.Stat.{Stat};
-ghost use Rattle.nfs_types.specs.declared.stat.Stat.TheVariants as stats;
+ghost use Rattle.nfs_items.specs.Timeval.{Timeval};
+ghost use Rattle.nfs_items.specs.Caller.{Caller};
+ghost use Rattle.nfs_items.specs.Terms.{FileNumber, Cookie, Name};
+ghost use Rattle.nfs_items.specs.declared.stat.Stat.{Stat};
+ghost use Rattle.nfs_items.specs.declared.stat.Stat.TheVariants as stats;
 ghost use Rattle.fs_model.specs.Files.{Files};
 ghost use Rattle.fs_model.specs.Trees.{IsFileTree};
 ghost use Rattle.nfs_spec.specs.Effects.{attributes_at, number_at_name};

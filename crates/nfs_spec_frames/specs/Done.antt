@@ -1,9 +1,8 @@
 -- What a call that was not refused did to the files that it names.
 use Rattle.std.specs.Prelude.{◌≡◌, ◌≢◌, ℕ, List, [], Some, None}
-use Rattle.nfs_types.specs.Timeval.{Timeval}
-use Rattle.nfs_types.specs.Caller.{Caller}
-use Rattle.fs_model.specs.Listing.{FileNumber, Cookie}
-use Rattle.fs_model.specs.Names.{Name}
+use Rattle.nfs_items.specs.Timeval.{Timeval}
+use Rattle.nfs_items.specs.Caller.{Caller}
+use Rattle.nfs_items.specs.Terms.{FileNumber, Cookie, Name}
 use Rattle.fs_model.specs.Files.{Files, file_at, places}
 use Rattle.nfs_spec.specs.Sattr.{GivenFields, given_fields}
 use Rattle.nfs_types.specs.Calls.{Call, Setattr, Write, Create, Remove, Rename, Link, Symlink, Mkdir, Rmdir}

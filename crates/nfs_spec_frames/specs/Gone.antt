@@ -1,8 +1,8 @@
 -- What becomes of a file whose name goes.
 use Rattle.std.specs.Prelude.{◌≡◌, ◌≢◌, ◌+◌, Some, None}
-use Rattle.nfs_types.specs.Timeval.{Timeval}
+use Rattle.nfs_items.specs.Timeval.{Timeval}
 use Rattle.fs_model.specs.Paths.{path_at}
-use Rattle.fs_model.specs.Listing.{FileNumber, Cookie}
+use Rattle.nfs_items.specs.Terms.{FileNumber, Cookie}
 use Rattle.fs_model.specs.Names.{FilePath}
 use Rattle.fs_model.specs.Files.{File, Files, file_at, places, names_of}
 

@@ -1,8 +1,8 @@
 -- Which files a call names.
 use Rattle.std.specs.Prelude.{◌≡◌, ◌≢◌, ℕ, ◌&&◌, Bool, true, false, List, [], ◌∷◌, ◌++◌, Some, is_none, if◌then◌else◌}
 use Rattle.std.specs.Option.{option_map_or}
-use Rattle.fs_model.specs.Listing.{Listing, FileNumber}
-use Rattle.fs_model.specs.Names.{Name}
+use Rattle.nfs_items.specs.Terms.{FileNumber, Name}
+use Rattle.fs_model.specs.Listing.{Listing}
 use Rattle.fs_model.specs.Files.{Body, Regular, Directory, File, Files, file_at, places}
 use Rattle.fs_model.specs.Files as bodies
 use Rattle.nfs_types.specs.Calls.{Call, Setattr, Write, Create, Remove, Rename, Link, Symlink, Mkdir, Rmdir, Answer}

@@ -1,10 +1,9 @@
 //! What every call leaves.
 
 ghost use Rattle.std.specs.Prelude.{◌≡◌, ◌≢◌, ◌+◌, ◌<◌, ℕ, IsTrue, List, Some, None, Ok};
-ghost use Rattle.nfs_types.specs.Timeval.{Timeval};
-ghost use Rattle.nfs_types.specs.Caller.{Caller};
-ghost use Rattle.fs_model.specs.Listing.{FileNumber, Cookie};
-ghost use Rattle.fs_model.specs.Names.{Name};
+ghost use Rattle.nfs_items.specs.Timeval.{Timeval};
+ghost use Rattle.nfs_items.specs.Caller.{Caller};
+ghost use Rattle.nfs_items.specs.Terms.{FileNumber, Cookie, Name};
 ghost use Rattle.fs_model.specs.Files.{Files, file_at, listing, IsDirectory, places, names_of};
 ghost use Rattle.fs_model.specs.Trees.{IsTime, IsFileTree};
 ghost use Rattle.fs_changes.specs.Limits.{has_room};

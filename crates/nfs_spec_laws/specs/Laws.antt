@@ -1,8 +1,8 @@
 -- What the laws of procedures speak of.
 use Rattle.std.specs.Prelude.{◌≡◌, ℕ, ◌<◌, ◌≤◌, [], ◌∷◌, ◌++◌, length, Some}
-use Rattle.nfs_types.specs.Timeval.{Timeval}
-use Rattle.fs_model.specs.Listing.{FileNumber, Cookie}
-use Rattle.fs_model.specs.Names.{Name, FilePath}
+use Rattle.nfs_items.specs.Timeval.{Timeval}
+use Rattle.nfs_items.specs.Terms.{FileNumber, Cookie, Name}
+use Rattle.fs_model.specs.Names.{FilePath}
 use Rattle.fs_model.specs.Maxima.{max_name, max_target}
 use Rattle.fs_model.specs.Paths.{path_at, AddsPath, TakesPath, Renames}
 use Rattle.fs_model.specs.Files.{Files, listing, places}

@@ -6,7 +6,8 @@ use Rattle.std.proofs.lemmas.Bool.{ltb-true, ltb-false, lt-ltb, le-ltb, leb-true
 use Rattle.std.proofs.lemmas.List.Sums.{sum_by-cons}
 use Rattle.fs_model.specs.Listing.{Listing, IsRising}
 use Rattle.fs_model.specs.Files.{Files}
-use Rattle.nfs_spec.specs.Readdir.{PageEntry, cost, longest_front, page_of, dir_entries}
+use Rattle.nfs_types.specs.Calls.{PageEntry}
+use Rattle.nfs_spec.specs.Readdir.{cost, longest_front, page_of, dir_entries}
 use Rattle.nfs_spec_readdir.specs.Pages.{last_cookie, pages, entries_above, RisesAbove, IsLongestFront}
 
 list_head : {A : Type 0} {x y : A} {xs ys : List A} → x ∷ xs ≡ y ∷ ys → x ≡ y

@@ -11,7 +11,8 @@ use Rattle.fs_model.specs.Listing.{Listing, IsRising}
 use Rattle.fs_model.specs.Files.{Body, Regular, Symlink, Directory, File, Files, file_at}
 use Rattle.fs_model.specs.Trees.{IsBody, IsFileTree}
 use Rattle.nfs_spec.specs.ProcedureChecks.{◌>>=◌, NumberedDir, ok_or, listing_or, dir_of, may_read, check}
-use Rattle.nfs_spec.specs.Readdir.{PageEntry, Page, dir_entries, page_of}
+use Rattle.nfs_types.specs.Calls.{PageEntry, Page}
+use Rattle.nfs_spec.specs.Readdir.{dir_entries, page_of}
 use Rattle.nfs_spec_readdir.specs.Pages.{last_cookie, pages, entries_above, RisesAbove}
 use Rattle.nfs_spec.specs.NfsCalls.{number_for}
 use Rattle.nfs_spec_readdir.specs.ReaddirCalls.{Lists, page_or_none, readdir_page, readdir_gives}

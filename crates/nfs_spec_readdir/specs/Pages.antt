@@ -1,8 +1,9 @@
 -- Pages of a listing, one after the other (RFC 1094, section 2.2.17).
 use Rattle.std.specs.Prelude.{ℕ, ◌+◌, nat_lt, List, [], ◌∷◌, ◌++◌, ◌≡◌, ◌<◌, ◌≤◌, sum_by}
 use Rattle.std.specs.List.{filter}
-use Rattle.fs_model.specs.Listing.{Cookie}
-use Rattle.nfs_spec.specs.Readdir.{PageEntry, cost, page_of}
+use Rattle.nfs_items.specs.Terms.{Cookie}
+use Rattle.nfs_types.specs.Calls.{PageEntry}
+use Rattle.nfs_spec.specs.Readdir.{cost, page_of}
 
 -- the cookie of the last entry
 abbrev pub last_cookie : Cookie → List PageEntry → Cookie

@@ -7,9 +7,10 @@ use Rattle.nfs_items.specs.declared.stat.Stat.{Stat}
 use Rattle.nfs_items.specs.Terms.{Cookie}
 use Rattle.fs_model.specs.Files.{Files}
 use Rattle.nfs_spec.specs.ProcedureChecks.{NumberedDir, dir_of, may_read}
-use Rattle.nfs_spec.specs.Readdir.{PageEntry, Page, dir_entries}
+use Rattle.nfs_types.specs.Calls.{PageEntry, Page, Answer, Entries, Readdir}
+use Rattle.nfs_spec.specs.Readdir.{dir_entries}
 use Rattle.nfs_spec_readdir.specs.Pages.{last_cookie}
-use Rattle.nfs_spec.specs.NfsCalls.{Answer, Entries, Readdir, number_for, call_does}
+use Rattle.nfs_spec.specs.NfsCalls.{number_for, call_does}
 
 -- what a caller reads of a directory that it may read: `.`, `..`, and the entries in order of insertion
 pub record Lists (fs : Files) (who : Caller) (handle : FileHandle) (es : List PageEntry) : Type 0 where

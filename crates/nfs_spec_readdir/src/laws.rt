@@ -1,14 +1,16 @@
 //! What holds of calls of READDIR, one after the other.
 
 ghost use Rattle.std.specs.Prelude.{◌≡◌, ◌↔◌, min, true, [], ◌∷◌, ◌++◌, List, ℕ};
-ghost use Rattle.nfs_types.specs.Timeval.{Timeval};
-ghost use Rattle.nfs_types.specs.Caller.{Caller};
-ghost use Rattle.nfs_types.specs.Handle.{FileHandle};
+ghost use Rattle.nfs_items.specs.Timeval.{Timeval};
+ghost use Rattle.nfs_items.specs.Caller.{Caller};
+ghost use Rattle.nfs_items.specs.Handle.{FileHandle};
 ghost use Rattle.fs_model.specs.Maxima.{max_data};
-ghost use Rattle.fs_model.specs.Listing.{FileNumber, Cookie, Listing, IsRising};
+ghost use Rattle.nfs_items.specs.Terms.{FileNumber, Cookie};
+ghost use Rattle.fs_model.specs.Listing.{Listing, IsRising};
 ghost use Rattle.fs_model.specs.Files.{Files};
 ghost use Rattle.fs_model.specs.Trees.{IsFileTree};
-ghost use Rattle.nfs_spec.specs.Readdir.{PageEntry, dir_entries, page_of};
+ghost use Rattle.nfs_types.specs.Calls.{PageEntry};
+ghost use Rattle.nfs_spec.specs.Readdir.{dir_entries, page_of};
 ghost use Rattle.nfs_spec_readdir.specs.Pages.{pages, last_cookie, entries_above, RisesAbove, IsLongestFront};
 ghost use Rattle.nfs_spec_readdir.specs.ReaddirCalls.{Lists, readdir_page, readdir_gives};
 

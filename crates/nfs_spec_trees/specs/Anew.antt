@@ -1,7 +1,6 @@
 -- Numbers and cookies are never used again.
 use Rattle.std.specs.Prelude.{◌≡◌, ◌⊎◌, ◌≤◌, Some, IsSome, IsTrue}
-use Rattle.fs_model.specs.Listing.{FileNumber, Cookie}
-use Rattle.fs_model.specs.Names.{Name}
+use Rattle.nfs_items.specs.Terms.{FileNumber, Cookie, Name}
 use Rattle.fs_model.specs.Files.{Files, file_at, listing, IsDirectory, places}
 use Rattle.fs_changes.specs.Limits.{has_room}
 use Rattle.fs_model.specs.Trees.{IsFileTree}
