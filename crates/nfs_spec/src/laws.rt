@@ -8,6 +8,8 @@ ghost use Rattle.nfs_items.specs.declared.stat.Stat.{Stat};
 ghost use Rattle.nfs_items.specs.declared.stat.Stat.TheVariants as stats;
 ghost use Rattle.nfs_items.specs.declared.attributes.FileType.TheVariants as types;
 ghost use Rattle.nfs_items.specs.Terms.{Name, FileNumber};
+ghost use Rattle.nfs_types.specs.Calls.{Call};
+ghost use Rattle.nfs_types.specs.Texts.{procedure_in, IsAnswerTo};
 ghost use Rattle.fs_model.specs.Names.{FilePath, dot, dot_dot, is_name};
 ghost use Rattle.fs_model.specs.Files.{Files, file_at};
 ghost use Rattle.fs_model.specs.Trees.{IsFileTree};

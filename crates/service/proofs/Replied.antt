@@ -37,8 +37,8 @@ module _ (w : World) (time : Timeval) (bytes : List ℕ) where
   unfolding reply_owed world_after
   call_replied r given call text files e now is t f =
       let both = of_call call text files (message_at bytes) (subst (λ x. GivesCall x (message_at bytes)) e given)
-        (λ m rest of. t m rest of ∙ ap (λ (n : Timeval). (reply_to w.files n m rest).0) is)
-        (λ m rest of. f m rest of ∙ ap (λ (n : Timeval). (reply_to w.files n m rest).1) is) in
+      (λ m rest of. t m rest of ∙ ap (λ (n : Timeval). (reply_to w.files n m rest).0) is)
+      (λ m rest of. f m rest of ∙ ap (λ (n : Timeval). (reply_to w.files n m rest).1) is) in
       (both.0, ap (after_reply w time) both.1)
 
   -- where no call was read, no reply is owed, and the clock alone moves

@@ -9,22 +9,22 @@ use Rattle.service.proofs.service.Service.answer.Goals.{in-Ok+in_ok-reply_to-in-
 
 pub returns-clause-reply : goal.returns-clause-reply
 returns-clause-reply c = elim c.match-read_call.branch [
-  in-Ok+in_ok-reply_to-in-Ok w ↦
-    rw (w.reply-is, ← c.self.view_is) ((call_replied _ c.args.time c.args.bytes.now c.read_call.result c.read_call.ensures.exact w.in-Ok.call
+  | in-Ok+in_ok-reply_to-in-Ok w ↦
+      rw (w.reply-is, ← c.self.view_is) ((call_replied _ c.args.time c.args.bytes.now c.read_call.result c.read_call.ensures.exact w.in-Ok.call
       w.in_ok-reply_to-in-Ok.field-0.items w.reply_to.new.tree w.in-Ok.is c.later-now.result c.later-now.ensures
       w.in_ok-reply_to-in-Ok.ensures.text w.in_ok-reply_to-in-Ok.ensures.files).0)
   | in-Err w ↦
-    rw (w.reply-is, ← c.self.view_is) ((fault_replied _ c.args.time c.args.bytes.now c.read_call.result c.read_call.ensures.exact w.in-Err.field-0 w.in-Err.is).0)
+      rw (w.reply-is, ← c.self.view_is) ((fault_replied _ c.args.time c.args.bytes.now c.read_call.result c.read_call.ensures.exact w.in-Err.field-0 w.in-Err.is).0)
 ]
 
 pub returns-clause-world : goal.returns-clause-world
 returns-clause-world c = elim c.match-read_call.branch [
-  in-Ok+in_ok-reply_to-in-Ok w ↦
-    rw (w.self-inside-is, ← c.self.view_is, c.later-now.ensures) ((call_replied _ c.args.time c.args.bytes.now c.read_call.result c.read_call.ensures.exact w.in-Ok.call
+  | in-Ok+in_ok-reply_to-in-Ok w ↦
+      rw (w.self-inside-is, ← c.self.view_is, c.later-now.ensures) ((call_replied _ c.args.time c.args.bytes.now c.read_call.result c.read_call.ensures.exact w.in-Ok.call
       w.in_ok-reply_to-in-Ok.field-0.items w.reply_to.new.tree w.in-Ok.is c.later-now.result c.later-now.ensures
       w.in_ok-reply_to-in-Ok.ensures.text w.in_ok-reply_to-in-Ok.ensures.files).1)
   | in-Err w ↦
-    rw (w.self-inside-is, ← c.self.view_is, c.later-now.ensures) ((fault_replied _ c.args.time c.args.bytes.now c.read_call.result c.read_call.ensures.exact w.in-Err.field-0 w.in-Err.is).1)
+      rw (w.self-inside-is, ← c.self.view_is, c.later-now.ensures) ((fault_replied _ c.args.time c.args.bytes.now c.read_call.result c.read_call.ensures.exact w.in-Err.field-0 w.in-Err.is).1)
 ]
 
 pub returns-clause-size : goal.returns-clause-size
