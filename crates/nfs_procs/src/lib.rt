@@ -42,7 +42,8 @@ fn getattr(tree: &Tree, file: FileHandle) -> Result<Fattr, Stat>
 
 /// LOOKUP (section 2.2.5). Stale where the file handle names no file here.
 fn lookup(tree: &Tree, who: &Who, args: DirOpArgs) -> Result<DirOpOk, Stat>
-    ensures { outcome_of dir_op_of result ≡ lookup tree.now (caller_of who.now) args.entry.dir.0 args.entry.name.now }
+    ensures { outcome_of dir_op_of result
+        ≡ lookup tree.now (caller_of who.now) args.entry.dir.0 args.entry.name.now }
 {
     let Some(dir) = args.dir.number_in(tree.fsid()) else {
         return Err(Stat::Stale);
@@ -65,7 +66,8 @@ fn answer_into(
     out: &mut Vec<u8>,
 ) -> Result<(), AllocError>
     requires { IsTrue (is_served (procedure_in (call_of args.now))) }
-    ensures text { Appends (answer_text (call_does tree.now (caller_of who.now) now (call_of args.now)).0) out.old.items result out.new.items }
+    ensures text { Appends (answer_text (call_does tree.now (caller_of who.now) now (call_of args.now)).0)
+        out.old.items result out.new.items }
     ensures files { (call_does tree.now (caller_of who.now) now (call_of args.now)).1 ≡ tree.now }
 {
     match args {
@@ -87,7 +89,8 @@ pub fn nfs_call(
     out: &mut Vec<u8>,
 ) -> Result<(), AllocError>
     requires { IsTrue (is_served (procedure_in (call_of args.now))) }
-    ensures text { Appends (answer_text (call_does tree.old (caller_of who.now) now (call_of args.now)).0) out.old.items result out.new.items }
+    ensures text { Appends (answer_text (call_does tree.old (caller_of who.now) now (call_of args.now)).0)
+        out.old.items result out.new.items }
     ensures files { OnOk result (tree.new ≡ (call_does tree.old (caller_of who.now) now (call_of args.now)).1) }
     ensures err { OnErr result (tree.new ≡ tree.old) }
 {
