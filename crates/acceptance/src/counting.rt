@@ -10,51 +10,36 @@ use std::test::Fail;
 fn a_read_asks_the_device_once(rt: HostRuntime) -> Result<(), Fail> {
     let mut device = Counting::new(SlowReader::new(&[7, 8, 9], 2));
     let mut buf = [0; 2];
-    let answers = [
+    for (call, taken) in [
         (1, Some(1)),
         (2, None),
         (3, Some(1)),
         (4, Some(1)),
         (5, Some(0)),
-    ];
-    for (call, taken) in answers {
-        assert_eq!(rt; device.read(&mut buf).ok(), taken, "call {call}");
-        assert_eq!(rt; device.get_ref().calls, call);
-        assert_eq!(rt; device.count(), u64::from(call >= 2), "call {call}");
+    ] {
+        let answer = device.read(&mut buf).ok();
+        let asked = device.get_ref().calls;
+        let refused = u64::from(call >= 2);
+        assert!(rt; answer == taken && asked == call && device.count() == refused);
     }
-    assert_eq!(rt; buf[0], 9);
+    assert!(rt; buf[0] == 9);
     Ok(())
 }
 
 #[test]
-fn a_write_asks_the_device_once(rt: HostRuntime) -> Result<(), Fail> {
+fn a_write_and_a_flush_ask_the_device_once(rt: HostRuntime) -> Result<(), Fail> {
     for (refusal, refused) in [(Refusal::Error, None), (Refusal::TakesNothing, Some(0))] {
         let mut device = Counting::new(SlowWriter::new(rt.alloc(), 1, 2, refusal));
-        for (call, taken) in [(1, Some(1)), (2, refused), (3, Some(1))] {
-            assert_eq!(rt;
-                device.write(&[7, 8]).ok(),
-                taken,
-                "{refusal:?}, call {call}"
-            );
-            assert_eq!(rt; device.get_ref().calls, call);
-            assert_eq!(rt;
-                device.count(),
-                u64::from(call >= 2),
-                "{refusal:?}, call {call}"
-            );
-        }
+        let first = device.write(&[7, 8]).ok();
+        assert!(rt; first == Some(1) && device.get_ref().calls == 1 && device.count() == 0);
+        let second = device.write(&[7, 8]).ok();
+        assert!(rt; second == refused && device.get_ref().calls == 2 && device.count() == 1);
+        let third = device.flush();
+        assert!(rt; third.is_ok() && device.get_ref().calls == 3 && device.count() == 1);
     }
-    Ok(())
-}
-
-#[test]
-fn a_flush_asks_the_device_once(rt: HostRuntime) -> Result<(), Fail> {
-    let mut device = Counting::new(SlowWriter::new(rt.alloc(), 1, 2, Refusal::Error));
-    for (call, is_done) in [(1, true), (2, false), (3, true)] {
-        assert_eq!(rt; device.flush().is_ok(), is_done, "call {call}");
-        assert_eq!(rt; device.get_ref().calls, call);
-        assert_eq!(rt; device.count(), u64::from(call >= 2), "call {call}");
-    }
+    let mut device = Counting::new(SlowWriter::new(rt.alloc(), 1, 1, Refusal::Error));
+    let flush = device.flush();
+    assert!(rt; flush.is_err() && device.get_ref().calls == 1 && device.count() == 1);
     Ok(())
 }
 
@@ -62,10 +47,10 @@ fn a_flush_asks_the_device_once(rt: HostRuntime) -> Result<(), Fail> {
 #[test]
 fn a_short_record_is_one_write(rt: HostRuntime) -> Result<(), Fail> {
     let bytes = [7u8; 253];
-    for (len, calls) in [(0, 1), (252, 1), (253, 2)] {
+    for (len, calls) in [(252, 1), (253, 2)] {
         let mut device = Counting::new(SlowWriter::new(rt.alloc(), usize::MAX, 0, Refusal::Error));
-        assert!(rt; write_record(&mut device, &bytes[..len]).is_ok());
-        assert_eq!(rt; device.get_ref().calls, calls, "{len} bytes");
+        let done = write_record(&mut device, &bytes[..len]);
+        assert!(rt; done.is_ok() && device.get_ref().calls == calls);
     }
     Ok(())
 }
