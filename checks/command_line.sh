@@ -1,60 +1,214 @@
 #!/usr/bin/env bash
-# The command line of nfsacc and its record faults: each case has its words and its standard input; of each the status
-# and the line that is printed are compared. The program is built once, without proofs.
+# The program nfsacc from outside: what it writes to streams of records, each of its statuses, the lines that it prints,
+# a device that fails, and want of memory. It tries the programs that the gate left in crates/nfsacc/out, one for each
+# compiler; where none is there, or a source is newer, rt run makes one. Want of memory is shown on a copy, built without
+# proofs.
 set -euo pipefail
-cd "$(dirname "$0")/../crates/nfsacc"
+cd "$(dirname "$0")/.."
+. checks/scratch_crate.sh
+top=$PWD
+cases=$top/checks/command_line
+
+below=($(crates_below nfsacc | cut -d: -f1))
+made=()
+for program in crates/nfsacc/out/nfsacc crates/nfsacc/out/nfsacc.by-rattle; do
+    if [ -f "$program" ]; then
+        newer=$(find "${below[@]/#/crates/}" -name out -prune -o -newer "$program" \( -name '*.rt' -o -name '*.antt' \) -print)
+        if [ -z "$newer" ]; then made+=("$top/$program"); fi
+    fi
+done
+if [ ${#made[@]} -eq 0 ]; then
+    (cd crates/nfsacc && rt run -- --version)
+    made=("$top/crates/nfsacc/out/nfsacc")
+fi
 
 work=$(mktemp -d)
-log=$(mktemp)
-trap 'rm -rf "$work" "$log"' EXIT
+trap 'rm -rf "$work"' EXIT
+mkdir "$work/run"
+cd "$work/run"
 
-# A case's name, its standard input as printf writes it, and its words.
-add() {
-    local name=$1 input=$2
+fail() {
+    echo "$program: $1" >&2
+    shift
+    for file in "$@"; do
+        echo "-- $file:" >&2
+        head -c 600 "$file" >&2
+    done
+    exit 1
+}
+
+# run STATUS WORD.. runs the program on the file `in` and wants this status; it writes to `out` and to `said`.
+run() {
+    local status=$1 got=0
+    shift
+    env --default-signal=PIPE "$program" "$@" < in > out 2> said || got=$?
+    [ "$got" -eq "$status" ] || fail "status $got where $status is wanted, of: $*" said
+}
+
+# A text of words, as checks/command_line/streams.txt has them, as printf writes it.
+escaped() {
+    awk -v text="$1" 'BEGIN {
+        count = split(text, parts, " ")
+        for (i = 1; i <= count; i++) {
+            times = 1
+            word = parts[i]
+            if (split(word, pair, "*") == 2) { word = pair[1]; times = pair[2] }
+            if (word ~ /^\./) word = substr(word, 2)
+            else while (length(word) < 8) word = "0" word
+            gsub(/../, "\\x&", word)
+            for (j = 0; j < times; j++) printf "%s", word
+        }
+    }'
+}
+
+# Each stream of the table, whole; then those that end with a record fault, in the one line that names it.
+check_streams() {
+    local line name input output fault='' status=0 count=0
+    while IFS= read -r line; do
+        case $line in
+            '#'* | '') continue ;;
+            'record fault '*) fault=$line status=1; continue ;;
+        esac
+        name=${line%%: *}
+        input=${line#*: }
+        output=${input#*->}
+        printf "$(escaped "${input%%->*}")" > in
+        printf "$(escaped "$output")" > owed
+        run $status rpc
+        cmp -s out owed || fail "$name: it wrote" out
+        if [ -n "$fault" ]; then echo "nfsacc: $fault"; fi > line
+        cmp -s said line || fail "$name: it said" said
+        count=$((count + 1))
+    done < "$cases/streams.txt"
+    [ "$count" -eq 115 ] || fail "$count streams were tried"
+}
+
+# The record of NULL, cut anywhere, and its header, cut anywhere and a record again.
+check_cuts() {
+    local len status size
+    printf "$(escaped '80000028 1 0 2 186a3 2 0 0*4')" > null
+    for ((len = 0; len <= 44; len++)); do
+        head -c $len null > in
+        status=1 size=0
+        if [ $len -eq 0 ]; then status=0; fi
+        if [ $len -eq 44 ]; then status=0 size=28; fi
+        run $status rpc
+        [ "$(wc -c < out)" -eq $size ] || fail "$len bytes of a record: it wrote" out
+    done
+    tail -c 40 null > header
+    for ((len = 0; len <= 40; len++)); do
+        { printf "$(escaped "$(printf %x $((0x80000000 + len)))")"; head -c $len header; } > in
+        size=0
+        if [ $len -eq 40 ]; then size=28; fi
+        run 0 rpc
+        [ "$(wc -c < out)" -eq $size ] || fail "$len bytes of a header: it wrote" out
+    done
+}
+
+# Many records, each of them answered: up to the end, and up to a fault.
+check_many_records() {
+    local many=70000
+    printf "$(escaped '80000028 1 0 2 186a3 2 0 0*4')" > null
+    printf "$(escaped '80000018 1 1 0*4')" > reply
+    for ((i = 0; i < 100; i++)); do cat null; done > nulls
+    for ((i = 0; i < 100; i++)); do cat reply; done > replies
+    for ((i = 0; i < many / 100; i++)); do cat nulls; done > in
+    for ((i = 0; i < many / 100; i++)); do cat replies; done > owed
+    run 0 rpc
+    cmp -s out owed || fail "$many records: $(wc -c < out) bytes were written"
+    printf '\x80' >> in
+    run 1 rpc
+    cmp -s out owed || fail "$many records and a cut mark: $(wc -c < out) bytes were written"
+}
+
+# says STATUS PATTERN WORD.. wants this status of an empty input, a line of this pattern, and no reply.
+says() {
+    local status=$1 pattern=$2
     shift 2
-    printf "$input" > "$work/$name"
-    if [ $# -gt 0 ]; then
-        printf '%s\n' "$@" > "$work/$name.args"
-    fi
+    : > in
+    run "$status" "$@"
+    grep -qxhE "$pattern" out said || fail "no line '$pattern' of: $*" out said
 }
 
-add empty '' rpc
-add too_long '\x80\x00\x30\x01' rpc
-add cut '\x00\x00\x00\x04\x00\x00' rpc
-add help '' --help
-add version '' --version
-add no_words ''
-add unknown '' serve-all
-add end_of_flags '' rpc --
-add behind_flags '' -- rpc
-add one_word_more '' rpc now
-add unknown_flag '' rpc --fast
-
-rt try --cases "$work" > "$log" 2>&1
-
-want() {
-    if ! grep -qxE "$1" "$log"; then
-        echo "no line '$1' in:" >&2
-        cat "$log" >&2
-        exit 1
-    fi
+check_words() {
+    : > in
+    run 0 rpc --
+    [ ! -s out ] && [ ! -s said ] || fail 'rpc --' out said
+    says 0 'nfsacc 0\.1\.0' --version
+    says 0 'Usage: .*' --help
+    says 2 'Usage: .*'
+    says 2 "error: unrecognized subcommand 'serve-all'" serve-all
+    says 2 "error: unrecognized subcommand 'RPC'" RPC
+    says 2 ".*" -- rpc
+    says 2 "error: unexpected argument 'now' found" rpc now
+    says 2 "error: unexpected argument 'rpc' found" rpc rpc
+    says 2 "error: unexpected argument '--fast' found" rpc --fast
+    says 2 'nfsacc: the command line is no text' $'\xff'
 }
 
-want 'case=empty run=ended status=0 .*'
-want 'nfsacc: record fault 3'
-want 'case=too_long run=ended status=1 .*'
-want 'nfsacc: record fault 5'
-want 'case=cut run=ended status=1 .*'
-want 'case=help run=ended status=0 .*'
-want 'nfsacc 0\.1\.0'
-want 'case=version run=ended status=0 .*'
-want 'case=no_words run=ended status=2 .*'
-want "error: unrecognized subcommand 'serve-all'"
-want 'case=unknown run=ended status=2 .*'
-want 'case=end_of_flags run=ended status=0 .*'
-want 'case=behind_flags run=ended status=2 .*'
-want "error: unexpected argument 'now' found"
-want 'case=one_word_more run=ended status=2 .*'
-want "error: unexpected argument '--fast' found"
-want 'case=unknown_flag run=ended status=2 .*'
-echo "the command line answers as it should"
+# A device that fails ends the run with status 4 and a line, never with a signal: a full one, a pipe that nobody reads any
+# more, and a folder that is read as a file.
+check_devices() {
+    local got closed full=/dev/full
+    cp "$top/crates/nfsacc/stdin" in
+    for words in rpc --version --help; do
+        got=0
+        "$program" $words < in > "$full" 2> said || got=$?
+        [ $got -eq 4 ] || fail "status $got of $words on a full device" said
+    done
+    exec {closed}> >(:)
+    wait $!
+    got=0
+    env --default-signal=PIPE "$program" rpc < in >&"$closed" 2> said || got=$?
+    exec {closed}>&-
+    [ $got -eq 4 ] || fail "status $got on a closed pipe" said
+    grep -qx 'nfsacc: a device failed' said || fail 'a closed pipe' said
+    got=0
+    "$program" rpc < / > out 2> said || got=$?
+    [ $got -eq 4 ] || fail "status $got of a folder" said
+    grep -qx 'nfsacc: a device failed' said || fail 'a folder' said
+    got=0
+    printf '\x80\x00\x30\x01' > in
+    "$program" rpc < in > out 2> "$full" || got=$?
+    [ $got -eq 1 ] || fail "status $got of a record fault that can't be told"
+}
+
+# Want of memory ends the run with status 3 and a line. A copy of the program reads a byte first and makes as many requests
+# for memory; of all its requests the one of number $most is refused: so in each run another one of the program's own. A
+# few can be refused without harm, as those for the words of an error's text: such a run ends as it would with memory.
+check_memory() (
+    local most=56 words usual request name
+    sed -e 's/^use std::process::ExitCode;$/use std::io::Read;\n&/' \
+        -e "/^fn main(rt: HostRuntime) -> ExitCode {\$/r $cases/take_memory.txt" "$top/crates/nfsacc/src/main.rt" > main.rt
+    cd "$top"
+    scratch_crate nfsacc_memory "$OLDPWD/main.rt" console rpc records clap
+    mkdir "$work/cases"
+    for words in rpc serve-all; do
+        for ((request = 1; request <= most; request++)); do
+            name=$work/cases/$words.$(printf %02d "$request")
+            { printf "\\x$(printf %x $((most - request)))"; cat "$top/crates/nfsacc/stdin"; } > "$name"
+            echo "$words" > "$name.args"
+        done
+    done
+    rt try --steps 1 --fail-alloc "$most" --cases "$work/cases" > "$work/log" 2>&1 || { cat "$work/log" >&2; exit 1; }
+    for words in rpc:0 serve-all:2; do
+        usual=${words#*:}
+        grep -a "^case=${words%:*}\." "$work/log" | sed -E 's/.* run=ended status=([0-9]+) .*/\1/' > "$work/statuses"
+        if grep -qvx "[3$usual]" "$work/statuses" || [ "$(tail -1 "$work/statuses")" != "$usual" ] \
+            || [ "$(grep -cx 3 "$work/statuses")" -lt 30 ]; then
+            cat "$work/log" >&2
+            exit 1
+        fi
+    done
+    [ "$(grep -ac '^nfsacc: out of memory$' "$work/log")" -eq "$(grep -ac ' status=3 ' "$work/log")" ]
+)
+
+for program in "${made[@]}"; do
+    check_streams
+    check_cuts
+    check_many_records
+    check_words
+    check_devices
+done
+check_memory
+echo "the program answers, says and ends as it should, as ${#made[@]} of the compilers build it"

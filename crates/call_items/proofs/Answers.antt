@@ -1,4 +1,5 @@
--- Answers are told by their texts.
+-- The item of an answer is that of its procedure's results, and its text tells it: values of one text are one answer.
+-- Serves: `answers_are_spelled`, `answers_have_one_meaning`.
 use Rattle.std.proofs.Common.{◌≡◌, ℕ, zero, suc, ◌<◌, ◌^◌, cond, eqb, List, [], ◌∷◌, ◌++◌, map, Some, Result, Ok, Err, refl, sym, ap, subst, ◌∙◌, append-nil, arith}
 use Rattle.std.specs.List.{slice_get, AllByRecursion}
 use Rattle.byteorder.specs.Endian.{big_number, big_bytes}
@@ -17,16 +18,16 @@ use Rattle.nfs_types.specs.declared.stat.Stat.{Stat}
 use Rattle.nfs_types.specs.declared.stat.Stat.TheVariants as stats
 use Rattle.fs_model.specs.Files.{Files}
 use Rattle.nfs_spec.specs.Changes.{Effect}
-use Rattle.nfs_spec.specs.Procedures.{Figures}
-use Rattle.nfs_spec.specs.Reading.{Entry, Page}
-use Rattle.nfs_spec.specs.Calls as calls
-use Rattle.nfs_spec.specs.Calls.{Call, Answer, told, call_does}
+use Rattle.nfs_spec.specs.Procedures.{FsStats}
+use Rattle.nfs_spec.specs.Readdir.{DirEntry, Page}
+use Rattle.nfs_spec.specs.NfsCalls as calls
+use Rattle.nfs_spec.specs.NfsCalls.{Call, Answer, answer_and_files, call_does}
 use Rattle.call_items.specs.Items.{path, status, entry}
 use Rattle.call_items.specs.Texts.{Procedure, procedures, procedure_numbered, entry_value, figures_value, answer_item, answer_text, IsSpelled}
 
 -- ---- the item of an answer is that of its procedure
 
-told_item : {A : Type 0} (say : Result A Stat → Answer) (i : Item) → ((r : Result A Stat) → answer_item (say r) ≡ i) → (w : Files) (e : Effect A) → answer_item (told say w e).0 ≡ i
+told_item : {A : Type 0} (say : Result A Stat → Answer) (i : Item) → ((r : Result A Stat) → answer_item (say r) ≡ i) → (w : Files) (e : Effect A) → answer_item (answer_and_files say w e).0 ≡ i
 told_item say i says w (Ok x) = says (Ok x.0)
 told_item say i says w (Err e) = says (Err e)
 
@@ -42,6 +43,7 @@ all_answered : AllByRecursion IsAnswered procedures
 all_answered =
     ((λ v w who now. refl), ((λ v w who now. refl), ((λ v w who now. told_item calls.Attributes attrstat (λ r. refl) w _), ((λ v w who now. refl), ((λ v w who now. refl), ((λ v w who now. refl), ((λ v w who now. refl), ((λ v w who now. refl), ((λ v w who now. told_item calls.Attributes attrstat (λ r. refl) w _), ((λ v w who now. told_item calls.DirOp diropres (λ r. refl) w _), ((λ v w who now. told_item calls.Status status (λ r. refl) w _), ((λ v w who now. told_item calls.Status status (λ r. refl) w _), ((λ v w who now. told_item calls.Status status (λ r. refl) w _), ((λ v w who now. told_item calls.Status status (λ r. refl) w _), ((λ v w who now. told_item calls.DirOp diropres (λ r. refl) w _), ((λ v w who now. told_item calls.Status status (λ r. refl) w _), ((λ v w who now. refl), ((λ v w who now. refl), tt))))))))))))))))))
 
+-- what a call is answered is of its procedure's results
 pub answered : (n : ℕ) (p : Procedure) → procedure_numbered n ≡ Some p → (v : Value p.arguments) (w : Files) (who : Caller) (now : Timeval) → answer_item (call_does w who now (p.says v)).0 ≡ p.results
 answered n p is = of_all IsAnswered procedures all_answered n p is
 
@@ -81,18 +83,18 @@ outcome_is a view (Err stats.WFlush) = refl
 
 viewed_same : {X Y : Type 0} (view : X → Y) (r s : Result X Stat) → ((x y : X) → r ≡ Ok x → s ≡ Ok y → view x ≡ view y → x ≡ y) → viewed view r ≡ viewed view s → r ≡ s
 unfolding viewed
-viewed_same view (Ok x) (Ok y) told h = ap Ok (told x y refl refl cc)
-viewed_same view (Ok x) (Err e) told h = absurd cc
-viewed_same view (Err e) (Ok y) told h = absurd cc
-viewed_same view (Err e) (Err f) told h = cc
+viewed_same view (Ok x) (Ok y) answer_and_files h = ap Ok (answer_and_files x y refl refl cc)
+viewed_same view (Ok x) (Err e) answer_and_files h = absurd cc
+viewed_same view (Err e) (Ok y) answer_and_files h = absurd cc
+viewed_same view (Err e) (Err f) answer_and_files h = cc
 
 -- the texts of two outcomes under one item
 outcome_same : {X : Type 0} (a : Item) (view : X → Value a) (r s : Result X Stat) → ((x y : X) → r ≡ Ok x → s ≡ Ok y → view x ≡ view y → x ≡ y)
     → (x y : List ℕ) → Fits (stat_or a) (outcome_value a view r) → Fits (stat_or a) (outcome_value a view s)
     → spelling (stat_or a) (outcome_value a view r) ++ x ≡ spelling (stat_or a) (outcome_value a view s) ++ y → (r ≡ s) × (x ≡ y)
-outcome_same a view r s told x y fits fits' e =
+outcome_same a view r s answer_and_files x y fits fits' e =
     let both = one_meaning (stat_or a) (outcome_value a view r) (outcome_value a view s) x y fits fits' e in
-    (viewed_same view r s told (sym (outcome_is a view r) ∙ ap (outcome_at a) both.0 ∙ outcome_is a view s), both.1)
+    (viewed_same view r s answer_and_files (sym (outcome_is a view r) ∙ ap (outcome_at a) both.0 ∙ outcome_is a view s), both.1)
 
 -- ---- attributes, entries and figures
 
@@ -120,10 +122,10 @@ turned_back view back same x y h = sym (same x) ∙ ap back h ∙ same y
 cookie_is : (c : ℕ) → c < 2 ^ 32 → big_number 4 (big_bytes 4 c) ≡ c
 cookie_is c lt = ap (big_number 4) (sym (append-nil (big_bytes 4 c))) ∙ big_number-reads_back 4 c [] (omega (arith, lt))
 
-abbrev entry_from : Value entry → Entry
+abbrev entry_from : Value entry → DirEntry
 entry_from v = record { fileid = v.0; name = v.1.0; cookie = big_number 4 v.1.1 }
 
-entries_are : (es : List Entry) → AllByRecursion (λ c. c < 2 ^ 32) (map (λ e. e.cookie) es) → map entry_from (map entry_value es) ≡ es
+entries_are : (es : List DirEntry) → AllByRecursion (λ c. c < 2 ^ 32) (map (λ e. e.cookie) es) → map entry_from (map entry_value es) ≡ es
 entries_are [] all = refl
 entries_are (e ∷ es) all =
     let first : entry_from (entry_value e) ≡ e = ap (λ (c : ℕ). record e { cookie = c }) (cookie_is e.cookie all.0) in
@@ -176,18 +178,19 @@ of_status r s x y h k e = made calls.Status r s x y (outcome_same empty (λ x. x
 of_entries : (r s : Result Page Stat) → HasOneMeaning (calls.Entries r) (calls.Entries s)
 of_entries r s x y h k e = made calls.Entries r s x y (outcome_same (pair (linked entry) flag) (λ p. (map entry_value p.entries, p.eof)) r s (page_told r s h k) x y h.fits k.fits e)
 
-of_free : (r s : Result Figures Stat) → HasOneMeaning (calls.Free r) (calls.Free s)
+of_free : (r s : Result FsStats Stat) → HasOneMeaning (calls.Free r) (calls.Free s)
 of_free r s x y h k e =
     made calls.Free r s x y
     (outcome_same (pair word (pair word (pair word (pair word word)))) figures_value r s
     (λ a b _ _ v. turned_back figures_value (λ v. record { transfer_size = v.0; block_size = v.1.0; blocks = v.1.1.0; free = v.1.1.1.0; available = v.1.1.1.1 }) (λ f. refl) a b v) x y h.fits k.fits e)
 
-of_told : {A : Type 0} (say : Result A Stat → Answer) → ((r s : Result A Stat) → HasOneMeaning (say r) (say s)) → (w other : Files) (e f : Effect A) → HasOneMeaning (told say w e).0 (told say other f).0
+of_told : {A : Type 0} (say : Result A Stat → Answer) → ((r s : Result A Stat) → HasOneMeaning (say r) (say s)) → (w other : Files) (e f : Effect A) → HasOneMeaning (answer_and_files say w e).0 (answer_and_files say other f).0
 of_told say one w other (Ok x) (Ok y) = one (Ok x.0) (Ok y.0)
 of_told say one w other (Ok x) (Err f) = one (Ok x.0) (Err f)
 of_told say one w other (Err e) (Ok y) = one (Err e) (Ok y.0)
 of_told say one w other (Err e) (Err f) = one (Err e) (Err f)
 
+-- answers to one call have one meaning, whatever the files, callers and times are
 pub of_call : (w other : Files) (who caller : Caller) (now time : Timeval) (call : Call) → HasOneMeaning (call_does w who now call).0 (call_does other caller time call).0
 of_call w other who caller now time calls.Null = of_nothing
 of_call w other who caller now time (calls.Getattr file) = of_attributes _ _

@@ -1,4 +1,5 @@
--- Arguments are read as they are spelled.
+-- Arguments are read as they are spelled: what reading gives, each fault, and that bytes say one call at most.
+-- Serves: `arguments_are_read_as_spelled`.
 use Rattle.std.proofs.Common.{◌≡◌, ℕ, ◌<◌, List, ◌++◌, Some, None, Ok, Err, option_map, sym, ap, ◌∙◌, arith, ⊎_elim}
 use Rattle.std.specs.Prelude.{◌↔◌}
 use Rattle.std.proofs.lemmas.Option.{slice_get_past, slice_get-get_or}
@@ -8,8 +9,8 @@ use Rattle.xdr.specs.Item.{empty, Value, IsBytes, spelling}
 use Rattle.xdr.specs.Reading.{Read, ◌>>=◌, read_at}
 use Rattle.xdr.proofs.Front.{bind_ok, done, ok_is}
 use Rattle.xdr.proofs.Exact.{takes, again}
-use Rattle.nfs_spec.specs.Calls as calls
-use Rattle.nfs_spec.specs.Calls.{Call}
+use Rattle.nfs_spec.specs.NfsCalls as calls
+use Rattle.nfs_spec.specs.NfsCalls.{Call}
 use Rattle.call_items.specs.Texts.{Procedure, procedures, procedure_numbered, said, call_at, SaysCall}
 
 some_is : {A : Type 0} {a b : A} → Some a ≡ Some b → a ≡ b
@@ -32,12 +33,14 @@ module _ (n : ℕ) (p : Procedure) (is : procedure_numbered n ≡ Some p) where
   own : (bytes : List ℕ) → call_at n bytes ≡ Some (said p.arguments p.says bytes)
   own bytes = ap (option_map (λ (p : Procedure). said p.arguments p.says bytes)) is
 
+  -- a call is read exactly where bytes say it
   pub exact : (bytes rest : List ℕ) (call : Call) → IsBytes bytes → (call_at n bytes ≡ Some (Ok (call, rest))) ↔ SaysCall p bytes call rest
   exact bytes rest call bound = (
     (λ h. is_said p bytes rest call bound (some_is (sym (own bytes) ∙ h))),
     (λ s. own bytes ∙ ap (λ r. Some r) (says p bytes rest call s)),
   )
 
+  -- a fault is met exactly where reading the arguments' item meets it
   pub faults : (bytes : List ℕ) (fault : XdrFault) → (call_at n bytes ≡ Some (Err fault)) ↔ (read_at p.arguments bytes ≡ Err fault)
   faults bytes fault = (
     (λ h. failed (read_at p.arguments bytes) (some_is (sym (own bytes) ∙ h))),
@@ -48,6 +51,7 @@ module _ (n : ℕ) (p : Procedure) (is : procedure_numbered n ≡ Some p) where
       failed (Ok x) h = absurd cc
       failed (Err e) h = cc
 
+  -- bytes say one call at most
   pub one_call : (bytes x y : List ℕ) (a b : Call) → SaysCall p bytes a x → SaysCall p bytes b y → (a ≡ b) × (x ≡ y)
   one_call bytes x y a b s t =
       let both = ok_is (a, x) (b, y) (sym (says p bytes x a s) ∙ says p bytes y b t) in
@@ -56,6 +60,7 @@ module _ (n : ℕ) (p : Procedure) (is : procedure_numbered n ≡ Some p) where
 first : Procedure
 first = record { arguments = empty; says = λ v. calls.Null; results = empty }
 
+-- numbers above 17 are of no procedure
 pub none : (n : ℕ) (bytes : List ℕ) → (call_at n bytes ≡ None) ↔ (17 < n)
 none n bytes = (
   (λ h. ⊎_elim

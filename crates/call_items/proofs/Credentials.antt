@@ -1,4 +1,5 @@
--- Credentials say callers.
+-- The caller that the body of an AUTH_SYS credential says, and the body that says a caller.
+-- Serves: `credentials_say_callers`.
 use Rattle.std.proofs.Common.{◌≡◌, ℕ, ◌<◌, ◌^◌, Bool, true, false, List, [], ◌∷◌, ◌++◌, length, Option, Some, None, Ok, option_map, refl, sym, ap, ◌∙◌, append-nil, arith}
 use Rattle.std.specs.Prelude.{◌==◌}
 use Rattle.std.proofs.lemmas.Bool.{eqb-true}
@@ -25,6 +26,7 @@ fits_is stamp name uid gid gids f = (f.0, record { name = f.1.0.1; uid = f.1.1.0
 is_fits : (stamp : ℕ) (name : List ℕ) (uid gid : ℕ) (gids : List ℕ) → stamp < 2 ^ 32 → IsCaller name uid gid gids → Fits authsys_parms (stamp, (name, (uid, (gid, gids))))
 is_fits stamp name uid gid gids s c = (s, ((omega (arith, c.name), c.name), (c.uid, (c.gid, (omega (arith, c.count), c.count, c.gids)))))
 
+-- a body that says a caller is the spelling of its parts, within their bounds
 pub said : (body : List ℕ) (who : Caller) → IsBytes body → caller_in body ≡ Some who
     → (stamp : ℕ) × (name : List ℕ) × (uid : ℕ) × (gid : ℕ) × (gids : List ℕ) × (stamp < 2 ^ 32) × IsCaller name uid gid gids × (who ≡ caller_from name uid gid gids) × (body ≡ body_of stamp name uid gid gids)
 said body who bound h =
@@ -34,6 +36,7 @@ said body who bound h =
     let f = fits_is v.0 v.1.0 v.1.1.0 v.1.1.1.0 v.1.1.1.1 t.0 in
     (v.0, v.1.0, v.1.1.0, v.1.1.1.0, v.1.1.1.1, f.0, f.1, sym p.2, t.2)
 
+-- such a spelling says the caller of these parts
 pub spelled : (stamp : ℕ) (name : List ℕ) (uid gid : ℕ) (gids : List ℕ) → stamp < 2 ^ 32 → IsCaller name uid gid gids → caller_in (body_of stamp name uid gid gids) ≡ Some (caller_from name uid gid gids)
 spelled stamp name uid gid gids s c = ap (option_map caller_of_parms) (text_is stamp name uid gid gids (is_fits stamp name uid gid gids s c))
   where
@@ -46,6 +49,7 @@ some_left : (byte : ℕ) (others : List ℕ) (b : Bool) → (length (byte ∷ ot
 some_left byte others false e = e
 some_left byte others true e = let zero_long : length (byte ∷ others) ≡ 0 = eqb-true _ _ e in absurd (omega arith)
 
+-- and with a byte more it says none
 pub more : (body : List ℕ) (who : Caller) (byte : ℕ) (others : List ℕ) → IsBytes body → caller_in body ≡ Some who → caller_in (body ++ byte ∷ others) ≡ None
 more body who byte others bound h =
     let p = parms_in body who h in

@@ -1,4 +1,4 @@
-pub use Rattle.nfs_spec.specs.Calls
+pub use Rattle.nfs_spec.specs.NfsCalls
 pub mod Items
 pub mod Texts
 pub mod Credentials

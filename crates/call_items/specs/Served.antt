@@ -4,8 +4,8 @@ use Rattle.xdr.specs.Reading.{Read}
 use Rattle.nfs_types.specs.Arguments.{Arguments, Null, Getattr, Lookup}
 use Rattle.nfs_types.specs.declared.arguments.NfsProcedure.{NfsProcedure}
 use Rattle.nfs_types.specs.declared.arguments.NfsProcedure.TheVariants as procedures
-use Rattle.nfs_spec.specs.Calls as calls
-use Rattle.nfs_spec.specs.Calls.{Call}
+use Rattle.nfs_spec.specs.NfsCalls as calls
+use Rattle.nfs_spec.specs.NfsCalls.{Call}
 
 -- the number of a procedure that is served
 abbrev pub number_of : NfsProcedure → ℕ

@@ -9,10 +9,10 @@ use Rattle.nfs_types.specs.Attributes.{fattr, fattr_value, outcome_value}
 use Rattle.nfs_types.specs.Arguments.{diropargs}
 use Rattle.nfs_types.specs.Results.{attrstat, attrstat_value, diropres, diropres_value}
 use Rattle.nfs_spec.specs.Sattr.{Sattr}
-use Rattle.nfs_spec.specs.Reading.{Entry}
-use Rattle.nfs_spec.specs.Procedures.{Figures}
-use Rattle.nfs_spec.specs.Calls as calls
-use Rattle.nfs_spec.specs.Calls.{Call, Answer}
+use Rattle.nfs_spec.specs.Readdir.{DirEntry}
+use Rattle.nfs_spec.specs.Procedures.{FsStats}
+use Rattle.nfs_spec.specs.NfsCalls as calls
+use Rattle.nfs_spec.specs.NfsCalls.{Call, Answer}
 use Rattle.call_items.specs.Items.{sattr, path, sattrargs, readargs, writeargs, createargs, renameargs, linkargs, symlinkargs, readdirargs, readlinkres, readres, status, entry, readdirres, statfsres}
 
 -- ---- arguments
@@ -75,10 +75,10 @@ SaysCall p bytes call rest = (v : Value p.arguments) × Fits p.arguments v × (c
 
 -- ---- results
 
-abbrev pub entry_value : Entry → Value entry
+abbrev pub entry_value : DirEntry → Value entry
 entry_value e = (e.fileid, (e.name, big_bytes 4 e.cookie))
 
-abbrev pub figures_value : Figures → Value (pair word (pair word (pair word (pair word word))))
+abbrev pub figures_value : FsStats → Value (pair word (pair word (pair word (pair word word))))
 figures_value f = (f.transfer_size, (f.block_size, (f.blocks, (f.free, f.available))))
 
 -- the item of an answer, and its value

@@ -11,7 +11,7 @@ ghost use Rattle.nfs_types.specs.Results.{results_text};
 ghost use Rattle.nfs_types.specs.declared.arguments.NfsProcedure.{NfsProcedure};
 ghost use Rattle.fs_model.specs.Files.{Files};
 ghost use Rattle.nfs_spec.specs.Effects.{does};
-ghost use Rattle.nfs_spec.specs.Calls.{Call, Answer, call_does};
+ghost use Rattle.nfs_spec.specs.NfsCalls.{Call, Answer, call_does};
 ghost use Rattle.call_items.specs.Texts.{Procedure, procedure_numbered, call_at, SaysCall, answer_item, answer_value, answer_text, IsSpelled};
 ghost use Rattle.call_items.specs.Served.{number_of, call_of, call_read};
 ghost use Rattle.call_items.specs.Credentials.{caller_in, body_of, caller_from, IsCaller};

@@ -9,7 +9,7 @@ ghost use Rattle.call_items.specs.Credentials.{caller_in, caller_from};
 ghost use Rattle.nfs_types.specs.declared.stat.Stat.TheVariants as stats;
 ghost use Rattle.nfs_types.specs.declared.attributes.FileType.TheVariants as types;
 ghost use Rattle.nfs_spec.specs.Opening.{epoch};
-ghost use Rattle.nfs_spec.specs.Calls as calls;
+ghost use Rattle.nfs_spec.specs.NfsCalls as calls;
 ghost use Rattle.call_items.specs.Texts.{call_at, answer_text};
 
 /// STATFS of the files that a server begins with, and of those where no block is taken; what READ of `hello` gives from

@@ -1,3 +1,3 @@
-mod Seen
-mod Paths
-mod Opened
+mod InodesSeen
+mod LookUpPaths
+mod OpeningInodes

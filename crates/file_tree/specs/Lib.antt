@@ -1,13 +1,1 @@
-pub use Rattle.nfs_types.specs.Timeval
-pub use Rattle.nfs_types.specs.Caller
-pub use Rattle.nfs_types.specs.CallerOf
-pub use Rattle.fs_model.specs.Listing
-pub use Rattle.fs_model.specs.Paths
-pub use Rattle.fs_model.specs.Names
-pub use Rattle.fs_model.specs.Files
-pub use Rattle.fs_model.specs.Trees
-pub use Rattle.nfs_spec.specs.Checks
-pub use Rattle.nfs_spec.specs.Attributes
-pub use Rattle.nfs_spec.specs.Effects
-pub use Rattle.nfs_spec.specs.Opening
 pub mod LookUps

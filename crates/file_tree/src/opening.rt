@@ -1,20 +1,20 @@
-//! The nodes that each server begins with.
+//! The inodes that each server begins with.
 
 ghost use Rattle.std.specs.Prelude.{◌≡◌, IfOk};
 ghost use Rattle.nfs_spec.specs.Opening.{first_file, opening_root, opening_hello};
-ghost use Rattle.inodes.specs.Nodes.{body_in, file_in, KeepsParent};
+ghost use Rattle.inodes.specs.Inodes.{body_in, file_in, KeepsParent};
 
-use inodes::{Body, Directory, Node};
+use inodes::{Body, Directory, Inode};
 use nfs_types::Time;
 use std::alloc::{AllocError, Global};
 
 /// A file of user and group 0 whose times are 0.
-fn first_node(mode: u16, nlink: u32, body: Body) -> Node
+fn first_inode(mode: u16, nlink: u32, body: Body) -> Inode
     ensures file { file_in result ≡ first_file mode (body_in body) }
     ensures nlink { result.nlink ≡ nlink }
     ensures body { result.body ≡ body }
 {
-    Node {
+    Inode {
         mode,
         nlink,
         uid: 0,
@@ -27,21 +27,21 @@ fn first_node(mode: u16, nlink: u32, body: Body) -> Node
 }
 
 /// The directory `/`, with `hello` under number 2.
-pub fn root_node(alloc: Global) -> Result<Node, AllocError>
-    ensures file { IfOk result (λ node. file_in node ≡ opening_root) }
-    ensures nlink { IfOk result (λ node. node.nlink ≡ 2) }
-    ensures parent { IfOk result (λ node. KeepsParent node.body 1) }
+pub fn root_inode(alloc: Global) -> Result<Inode, AllocError>
+    ensures file { IfOk result (λ inode. file_in inode ≡ opening_root) }
+    ensures nlink { IfOk result (λ inode. inode.nlink ≡ 2) }
+    ensures parent { IfOk result (λ inode. KeepsParent inode.body 1) }
 {
     let mut listing = Directory::new(alloc);
     listing.put(b"hello".to_vec(alloc)?, 2)?;
-    Ok(first_node(0o777, 2, Body::Directory { parent: 1, listing }))
+    Ok(first_inode(0o777, 2, Body::Directory { parent: 1, listing }))
 }
 
 /// The regular file `hello`.
-pub fn hello_node(alloc: Global) -> Result<Node, AllocError>
-    ensures file { IfOk result (λ node. file_in node ≡ opening_hello) }
-    ensures nlink { IfOk result (λ node. node.nlink ≡ 1) }
+pub fn hello_inode(alloc: Global) -> Result<Inode, AllocError>
+    ensures file { IfOk result (λ inode. file_in inode ≡ opening_hello) }
+    ensures nlink { IfOk result (λ inode. inode.nlink ≡ 1) }
 {
     let bytes = b"hello\n".to_vec(alloc)?;
-    Ok(first_node(0o644, 1, Body::Regular(bytes)))
+    Ok(first_inode(0o644, 1, Body::Regular(bytes)))
 }

@@ -9,8 +9,8 @@ ghost use Rattle.nfs_spec.specs.Effects.{attributes_at, number_at_name};
 ghost use Rattle.nfs_spec.specs.Opening.{opening_files};
 ghost use Rattle.file_tree.specs.LookUps.{LeadsOn, LeadsBack};
 
-use crate::opening::{hello_node, root_node};
-use inodes::Node;
+use crate::opening::{hello_inode, root_inode};
+use inodes::Inode;
 use nfs_types::{Fattr, Stat, Who};
 use std::alloc::{AllocError, Global};
 use std::collections::BTreeMap;
@@ -21,38 +21,39 @@ use std::marker::Model;
 pub struct Tree {
     fsid: u32,
     next: u32,
-    nodes: BTreeMap<u32, Node>,
+    inodes: BTreeMap<u32, Inode>,
 }
 
 impl Model for Tree {
     ghost use Rattle.fs_model.specs.Files.{Files, files_code};
-    ghost use Rattle.inodes.specs.Nodes.{files_of, AreTree};
+    ghost use Rattle.inodes.specs.Inodes.{files_of, AreTree};
 
     ghost Value = { Files };
 
     ghost coded = { files_code };
 
-    ghost view = { λ t. files_of t.fsid t.next t.nodes.entries };
+    ghost view = { λ t. files_of t.fsid t.next t.inodes.entries };
 
-    ghost invariant = { λ t. AreTree t.fsid t.next t.nodes.entries };
+    ghost invariant = { λ t. AreTree t.fsid t.next t.inodes.entries };
 }
 
 impl Tree {
-    /// The files that each server begins with, for the node of a number: the directory `/` and the file `/hello`.
+    /// The files that each server begins with, for the server of a number: the directory `/` and the file
+    /// `/hello`.
     pub fn opening(alloc: Global, fsid: u32) -> Result<Tree, AllocError>
         ensures { IfOk result (λ tree. tree ≡ opening_files fsid) }
     {
-        let mut nodes = BTreeMap::new(alloc);
-        nodes.insert(1, root_node(alloc)?)?;
-        nodes.insert(2, hello_node(alloc)?)?;
+        let mut inodes = BTreeMap::new(alloc);
+        inodes.insert(1, root_inode(alloc)?)?;
+        inodes.insert(2, hello_inode(alloc)?)?;
         Ok(Tree {
             fsid,
             next: 3,
-            nodes,
+            inodes,
         })
     }
 
-    /// The number of the node whose files these are.
+    /// The number of the server whose files these are.
     pub fn fsid(&self) -> u32
         ensures { result ≡ self.now.fsid }
     {
@@ -70,27 +71,29 @@ impl Tree {
     pub fn attributes(&self, number: u32) -> Result<Fattr, Stat>
         ensures { result ≡ attributes_at self.now number }
     {
-        let Some(node) = self.nodes.get(&number) else {
+        let Some(inode) = self.inodes.get(&number) else {
             return Err(Stat::Stale);
         };
-        Ok(node.attributes(self.fsid, number))
+        Ok(inode.attributes(self.fsid, number))
     }
 
-    /// The number that a directory has at a name (RFC 1094, section 2.2.5): `.` is itself, and `..` the directory
-    /// above, which for the root is the root. Stale where no file has the directory's number, NotDir where that
-    /// file is none, Acces where the caller may not search it, and then NoEnt.
+    /// The number that a directory has at a name (RFC 1094, section 2.2.5): `.` is itself, and `..` the
+    /// directory above, which for the root is the root. Stale where no file has the directory's number,
+    /// NotDir where that file is none, Acces where the caller may not search it, and then NoEnt.
     pub fn lookup(&self, who: &Who, dir: u32, name: &[u8]) -> Result<u32, Stat>
         ensures result { result ≡ number_at_name self.now (caller_of who.now) dir name.now }
 
         // A path to the directory, one name longer, leads to the number.
-        ensures found { IfOk result (λ number. IsTrue (is_name name.now) → LeadsOn (places self.now) dir name.now (Some number)) }
-        ensures absent { result ≡ Err Stat.NoEnt → IsTrue (is_name name.now) → LeadsOn (places self.now) dir name.now None }
+        ensures found { IfOk result (λ number. IsTrue (is_name name.now) →
+            LeadsOn (places self.now) dir name.now (Some number)) }
+        ensures absent { result ≡ Err Stat.NoEnt → IsTrue (is_name name.now) →
+            LeadsOn (places self.now) dir name.now None }
 
         // A path to the directory, one name shorter, leads to the one above.
         ensures above { name.now ≡ dot_dot → IfOk result (λ number. LeadsBack (places self.now) dir number) }
     {
-        match self.nodes.get(&dir) {
-            Some(node) => node.number_at(who, dir, name),
+        match self.inodes.get(&dir) {
+            Some(inode) => inode.number_at(who, dir, name),
             None => Err(Stat::Stale),
         }
     }

@@ -3,7 +3,7 @@ use Rattle.std.proofs.Common.{◌≡◌, ◌≢◌, ⊎_elim, ℕ, ◌+◌, ◌<
 use Rattle.std.specs.Prelude.{IsTrue, length}
 use Rattle.std.proofs.lemmas.Bool.{cases_eq}
 use Rattle.fs_model.specs.Names.{is_name}
-use Rattle.fs_model.specs.Paths.{path_at, AddsPath, Changes}
+use Rattle.fs_model.specs.Paths.{path_at, AddsPath, ChangesPlace}
 use Rattle.fs_model.specs.Files.{Files, IsDirectory, places, names_of}
 use Rattle.fs_model.specs.Trees.{IsFileTree}
 use Rattle.fs_model.proofs.Walks.{none_some, one_number, same_place}
@@ -23,7 +23,7 @@ one_other n k ne = ap (λ b. cond b 1 0) (ne_eqb k n (λ e. ne (sym e)))
 pub record IsAdded (w w' : Files) (d : ℕ) (x : List ℕ) (k cookie : ℕ) : Type 0 where
   pub dir : kind w d ≡ Some true
   pub free : places w d x ≡ None
-  pub change : Changes (places w) (places w') d x (Some (k, cookie))
+  pub change : ChangesPlace (places w) (places w') d x (Some (k, cookie))
   pub empty : (y : List ℕ) → places w' k y ≡ None
   pub kinds : (n : ℕ) → n ≢ k → kind w' n ≡ kind w n
   pub there : IsSome (kind w' k)

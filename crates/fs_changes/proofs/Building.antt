@@ -10,7 +10,7 @@ use Rattle.std.proofs.lemmas.List.Sums.{sum_by-cons}
 use Rattle.fs_model.specs.Listing.{entry_at}
 use Rattle.fs_model.specs.Names.{is_name}
 use Rattle.fs_model.specs.Paths.{path_at}
-use Rattle.fs_model.specs.Files.{Body, Regular, Link, Directory, Files, file_at, listing_in, is_directory, places, names_in, names_of, parent_of}
+use Rattle.fs_model.specs.Files.{Body, Regular, Symlink, Directory, Files, file_at, listing_in, is_directory, places, names_in, names_of, parent_of}
 use Rattle.fs_model.specs.Trees.{IsFileTree}
 use Rattle.fs_model.proofs.Walks.{none_some, some_same}
 use Rattle.fs_model.proofs.Counts.{same_number, count_of_one, place_in, file_in, own_name, has_name, all_names}
@@ -56,7 +56,7 @@ lists_of w n y e h = let f = place_in w n y e h in ap (option_map (λ f. is_dire
   where
     by : (b : Body) → entry_at (listing_in b) y ≡ Some e → is_directory b ≡ true
     by (Regular bytes) h = absurd (none_some h)
-    by (Link target) h = absurd (none_some h)
+    by (Symlink target) h = absurd (none_some h)
     by (Directory l) h = refl
 
 there_of : (w : Files) (n : ℕ) (b : Bool) → kind w n ≡ Some b → IsSome (file_at w n)

@@ -6,5 +6,5 @@ pub mod PathChanges
 pub mod Adding
 pub mod Taking
 pub mod Moving
-pub mod Attributes
+pub mod SameShape
 pub mod Room

@@ -1,6 +1,6 @@
 -- What the changes of a tree do to its paths.
 use Rattle.std.proofs.Common.{◌≡◌, ◌≢◌, ◌⊎◌, inl, inr, ⊎_elim, ℕ, List, [], ◌∷◌, ◌++◌, length, Option, Some, None, is_some, option_and_then, option_map, refl, sym, ap, subst, ◌∙◌, append_assoc, append-nil, length-append, arith}
-use Rattle.fs_model.specs.Paths.{Places, walk, path_at, HasOnePathEach, AddsPath, TakesPath, Renames, Changes}
+use Rattle.fs_model.specs.Paths.{Places, walk, path_at, HasOnePathEach, AddsPath, TakesPath, Renames, ChangesPlace}
 use Rattle.fs_model.proofs.Walks.{walk_same, same_name, same_place, step, step_last}
 
 -- a path does not go on to itself
@@ -35,7 +35,7 @@ unpassed at to p h = walk_same at to (1, 0) p (λ q r y f split reached. ⊎_eli
 -- one path, for each name after it
 module _ (at : Places) (IsDirectory : ℕ → Type 0) (once : HasOnePathEach IsDirectory at)
     (path : List (List ℕ)) (d c : ℕ) (x : List ℕ) (is_dir : IsDirectory d) (is_at : path_at at path ≡ Some (d, c))
-    (to : Places) (o : Option (ℕ × ℕ)) (change : Changes at to d x o) where
+    (to : Places) (o : Option (ℕ × ℕ)) (change : ChangesPlace at to d x o) where
   -- a path that doesn't pass the place is as it was
   pub apart : (p : List (List ℕ)) → ((r : List (List ℕ)) → p ≢ (path ++ x ∷ []) ++ r) → path_at to p ≡ path_at at p
   apart p not = unpassed at to p (λ n y. ⊎_elim
@@ -59,7 +59,7 @@ module _ (at : Places) (IsDirectory : ℕ → Type 0) (once : HasOnePathEach IsD
     (path : List (List ℕ)) (d c : ℕ) (x : List ℕ) (is_dir : IsDirectory d) (is_at : path_at at path ≡ Some (d, c))
     (to : Places) where
   -- one new name of something that has no names below
-  pub adds : (k cookie : ℕ) → Changes at to d x (Some (k, cookie)) → at d x ≡ None → ((y : List ℕ) → to k y ≡ None)
+  pub adds : (k cookie : ℕ) → ChangesPlace at to d x (Some (k, cookie)) → at d x ≡ None → ((y : List ℕ) → to k y ≡ None)
       → AddsPath (path_at at) (path_at to) (path ++ x ∷ []) k cookie
   adds k cookie change free empty = record {
     free = step_last at path x d c is_at ∙ free;
@@ -73,7 +73,7 @@ module _ (at : Places) (IsDirectory : ℕ → Type 0) (once : HasOnePathEach IsD
   }
 
   -- one name less, of something that has no names below
-  pub takes : (k cookie : ℕ) → Changes at to d x None → at d x ≡ Some (k, cookie) → ((y : List ℕ) → at k y ≡ None)
+  pub takes : (k cookie : ℕ) → ChangesPlace at to d x None → at d x ≡ Some (k, cookie) → ((y : List ℕ) → at k y ≡ None)
       → TakesPath (path_at at) (path_at to) (path ++ x ∷ [])
   takes k cookie change had empty = record {
     had = ap is_some (step_last at path x d c is_at ∙ had);

@@ -11,11 +11,11 @@ use Rattle.std.specs.FinMap as finite
 use Rattle.std.specs.FinMap.Entries.{find, below_all, is_sorted}
 use Rattle.std.proofs.lemmas.Bool.{and_parts, and_from, leb-true, le-leb, cases_eq, cond-true, cond-false}
 use Rattle.fs_model.specs.Listing.{without_entry}
-use Rattle.fs_model.specs.Files.{Body, Regular, Link, Directory, File, Files, file_at, listing_in}
+use Rattle.fs_model.specs.Files.{Body, Regular, Symlink, Directory, File, Files, file_at, listing_in}
 use Rattle.fs_model.proofs.Walks.{none_some, some_same}
 use Rattle.fs_model.proofs.Counts.{same_number}
 use Rattle.fs_model.proofs.Reached.{both_of}
-use Rattle.fs_changes.specs.Edits.{with_changed_file, with_new_file, without_file, relisted, relisted_body, without_name}
+use Rattle.fs_changes.specs.Edits.{with_changed_file, with_new_file, without_file, map_listing, map_body_listing, without_name}
 use Rattle.fs_changes.specs.Limits.{blocks_in, block_count, entry_count, file_count, has_room}
 use Rattle.fs_changes.proofs.Finite.{nothing_changes, changed_next, changed_here, changed_other, gone_here, gone_other, total_changed, total_gone, none_above, cmp_same}
 
@@ -181,26 +181,26 @@ length-removed t (e ∷ es) = elim (t e.0) as (λ b. length (cond b es (e ∷ re
   | false ↦ omega (arith, length-removed t es)
 ]
 
-unnamed_smaller : (x : List ℕ) (f : File) → IsSmaller f (relisted (λ l. without_entry l x) f)
+unnamed_smaller : (x : List ℕ) (f : File) → IsSmaller f (map_listing (λ l. without_entry l x) f)
 unnamed_smaller x f = record { entries = entries f.body; blocks = blocks f.body; next = next f.body }
   where
-    entries : (b : Body) → length (listing_in (relisted_body (λ l. without_entry l x) b)).entries ≤ length (listing_in b).entries
+    entries : (b : Body) → length (listing_in (map_body_listing (λ l. without_entry l x) b)).entries ≤ length (listing_in b).entries
     entries (Regular bytes) = omega arith
-    entries (Link target) = omega arith
+    entries (Symlink target) = omega arith
     entries (Directory l) = length-removed (pointwise nat_eq x) l.entries
 
-    blocks : (b : Body) → blocks_in (relisted_body (λ l. without_entry l x) b) ≤ blocks_in b
+    blocks : (b : Body) → blocks_in (map_body_listing (λ l. without_entry l x) b) ≤ blocks_in b
     blocks (Regular bytes) = omega arith
-    blocks (Link target) = omega arith
+    blocks (Symlink target) = omega arith
     blocks (Directory l) = omega arith
 
-    next : (b : Body) → (listing_in (relisted_body (λ l. without_entry l x) b)).next ≤ (listing_in b).next
+    next : (b : Body) → (listing_in (map_body_listing (λ l. without_entry l x) b)).next ≤ (listing_in b).next
     next (Regular bytes) = omega arith
-    next (Link target) = omega arith
+    next (Symlink target) = omega arith
     next (Directory l) = omega arith
 
 pub unnamed_no_more : (w : Files) (d : ℕ) (x : List ℕ) → IsNoMore w (without_name w d x)
-unnamed_no_more w d x = changed_no_more w d (relisted (λ l. without_entry l x)) (unnamed_smaller x)
+unnamed_no_more w d x = changed_no_more w d (map_listing (λ l. without_entry l x)) (unnamed_smaller x)
 
 -- a file with the same body takes as much
 pub same_smaller : (f g : File) → g.body ≡ f.body → IsSmaller f g

@@ -4,10 +4,10 @@ use Rattle.std.specs.Map.{lookup}
 use Rattle.std.specs.Cmp.Lexicographic.{pointwise}
 use Rattle.std.proofs.lemmas.Bool.{cases_eq}
 use Rattle.fs_model.specs.Listing.{Listing, entry_at, with_entry, without_entry, HasDistinctNames}
-use Rattle.fs_model.specs.Paths.{Changes}
-use Rattle.fs_model.specs.Files.{Body, Regular, Link, Directory, File, Files, file_at, listing_in, is_directory, places, one_if, names_in, names_of}
+use Rattle.fs_model.specs.Paths.{ChangesPlace}
+use Rattle.fs_model.specs.Files.{Body, Regular, Symlink, Directory, File, Files, file_at, listing_in, is_directory, places, one_if, names_in, names_of}
 use Rattle.fs_model.specs.Trees.{IsFile}
-use Rattle.fs_changes.specs.Edits.{with_new_file, with_changed_file, without_file, relisted_body, relisted, with_name, without_name}
+use Rattle.fs_changes.specs.Edits.{with_new_file, with_changed_file, without_file, map_body_listing, map_listing, with_name, without_name}
 use Rattle.fs_model.proofs.Walks.{none_some, some_same, same_name}
 use Rattle.fs_changes.proofs.Finite.{new_here, new_other, changed_next, nothing_changes, changed_here, changed_other, gone_here, gone_other, total_new, total_changed, total_without}
 use Rattle.fs_changes.proofs.Listings.{one, leads, with_entry_here, with_entry_other, without_entry_here, without_entry_other, names_with_entry, names_without_entry}
@@ -96,51 +96,51 @@ module _ (w : Files) (k : ℕ) (change : File → File) where
 
 -- ---- one directory relisted
 
-directory_relisted : (change : Listing → Listing) (b : Body) → is_directory (relisted_body change b) ≡ is_directory b
+directory_relisted : (change : Listing → Listing) (b : Body) → is_directory (map_body_listing change b) ≡ is_directory b
 directory_relisted change (Regular bytes) = refl
-directory_relisted change (Link target) = refl
+directory_relisted change (Symlink target) = refl
 directory_relisted change (Directory l) = refl
 
-listing_relisted : (change : Listing → Listing) (b : Body) → is_directory b ≡ true → listing_in (relisted_body change b) ≡ change (listing_in b)
+listing_relisted : (change : Listing → Listing) (b : Body) → is_directory b ≡ true → listing_in (map_body_listing change b) ≡ change (listing_in b)
 listing_relisted change (Regular bytes) h = cc
-listing_relisted change (Link target) h = cc
+listing_relisted change (Symlink target) h = cc
 listing_relisted change (Directory l) h = refl
 
 module _ (w : Files) (d : ℕ) (f : File) (there : file_at w d ≡ Some f) (is : is_directory f.body ≡ true) (change : Listing → Listing) where
-  own_listing : listing_in (relisted change f).body ≡ change (listing_in f.body)
+  own_listing : listing_in (map_listing change f).body ≡ change (listing_in f.body)
   own_listing = listing_relisted change f.body is
 
-  pub relisted_here : (y : List ℕ) → places (with_changed_file w d (relisted change)) d y ≡ entry_at (change (listing_in f.body)) y
+  pub relisted_here : (y : List ℕ) → places (with_changed_file w d (map_listing change)) d y ≡ entry_at (change (listing_in f.body)) y
   unfolding read_place
-  relisted_here y = ap (read_place y) (changed_here w d (relisted change) d refl ∙ ap (option_map (relisted change)) there) ∙ ap (λ l. entry_at l y) own_listing
+  relisted_here y = ap (read_place y) (changed_here w d (map_listing change) d refl ∙ ap (option_map (map_listing change)) there) ∙ ap (λ l. entry_at l y) own_listing
 
-  pub relisted_other : (n : ℕ) (y : List ℕ) → n ≢ d → places (with_changed_file w d (relisted change)) n y ≡ places w n y
+  pub relisted_other : (n : ℕ) (y : List ℕ) → n ≢ d → places (with_changed_file w d (map_listing change)) n y ≡ places w n y
   unfolding read_place
-  relisted_other n y not = ap (read_place y) (changed_other w d (relisted change) n not)
+  relisted_other n y not = ap (read_place y) (changed_other w d (map_listing change) n not)
 
   pub own_places : (y : List ℕ) → places w d y ≡ entry_at (listing_in f.body) y
   unfolding read_place
   own_places y = ap (read_place y) there
 
-  pub relisted_kinds : (n : ℕ) → kind (with_changed_file w d (relisted change)) n ≡ kind w n
-  relisted_kinds = changed_kinds w d (relisted change) (λ g _. directory_relisted change g.body)
+  pub relisted_kinds : (n : ℕ) → kind (with_changed_file w d (map_listing change)) n ≡ kind w n
+  relisted_kinds = changed_kinds w d (map_listing change) (λ g _. directory_relisted change g.body)
 
-  pub relisted_names : (n : ℕ) → names_of (with_changed_file w d (relisted change)) n + sum_by (one_if n) (listing_in f.body).entries ≡ names_of w n + sum_by (one_if n) (change (listing_in f.body)).entries
+  pub relisted_names : (n : ℕ) → names_of (with_changed_file w d (map_listing change)) n + sum_by (one_if n) (listing_in f.body).entries ≡ names_of w n + sum_by (one_if n) (change (listing_in f.body)).entries
   relisted_names n =
-      let all = total_changed (names_in n) w d (relisted change) f there in
+      let all = total_changed (names_in n) w d (map_listing change) f there in
       let own = ap (λ l. sum_by (one_if n) l.entries) own_listing in
       omega (arith, all, own)
 
 -- what a name more does
 pub record IsNamed (w w' : Files) (d : ℕ) (x : List ℕ) (k cookie : ℕ) : Type 0 where
-  pub change : Changes (places w) (places w') d x (Some (k, cookie))
+  pub change : ChangesPlace (places w) (places w') d x (Some (k, cookie))
   pub kinds : (n : ℕ) → kind w' n ≡ kind w n
   pub names : (n : ℕ) → names_of w' n + leads n (places w d x) ≡ names_of w n + one n k
   pub next : w'.next ≡ w.next
 
 -- what a name less does
 pub record IsUnnamed (w w' : Files) (d : ℕ) (x : List ℕ) : Type 0 where
-  pub change : Changes (places w) (places w') d x None
+  pub change : ChangesPlace (places w) (places w') d x None
   pub kinds : (n : ℕ) → kind w' n ≡ kind w n
   pub names : (n : ℕ) → names_of w' n + leads n (places w d x) ≡ names_of w n
   pub next : w'.next ≡ w.next
@@ -161,7 +161,7 @@ module _ (w : Files) (d : ℕ) (x : List ℕ) (f : File) (there : file_at w d �
         let own = names_with_entry n (listing_in f.body) x k in
         let old = ap (leads n) (own_places w d f there is (λ l. l) x) in
         omega (arith, all, own, old);
-    next = changed_next w d (relisted (λ l. with_entry l x k)) 0;
+    next = changed_next w d (map_listing (λ l. with_entry l x k)) 0;
   }
     where
       by_name : (n : ℕ) (y : List ℕ) → ((n ≡ d) × (y ≡ x) → ⊥) → n ≡ d → (y ≡ x) ⊎ (y ≢ x) → places (with_name w d x k) n y ≡ places w n y
@@ -185,7 +185,7 @@ module _ (w : Files) (d : ℕ) (x : List ℕ) (f : File) (there : file_at w d �
         let own = names_without_entry n (listing_in f.body) x in
         let old = ap (leads n) (own_places w d f there is (λ l. l) x) in
         omega (arith, all, own, old);
-    next = changed_next w d (relisted (λ l. without_entry l x)) 0;
+    next = changed_next w d (map_listing (λ l. without_entry l x)) 0;
   }
     where
       by_name : (n : ℕ) (y : List ℕ) → ((n ≡ d) × (y ≡ x) → ⊥) → n ≡ d → (y ≡ x) ⊎ (y ≢ x) → places (without_name w d x) n y ≡ places w n y

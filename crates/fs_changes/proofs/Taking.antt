@@ -1,7 +1,7 @@
 -- A name less leaves a tree a tree, with one path less.
 use Rattle.std.proofs.Common.{◌≡◌, ◌≢◌, ◌⊎◌, ⊎_elim, ℕ, ◌+◌, ◌<◌, ◌≤◌, Bool, true, false, List, [], ◌∷◌, ◌++◌, Option, Some, None, IsSome, is_some, sym, ap, ◌∙◌, arith}
 use Rattle.std.proofs.lemmas.Bool.{cases_eq}
-use Rattle.fs_model.specs.Paths.{path_at, TakesPath, Changes}
+use Rattle.fs_model.specs.Paths.{path_at, TakesPath, ChangesPlace}
 use Rattle.fs_model.specs.Files.{Files, IsDirectory, places, names_of}
 use Rattle.fs_model.specs.Trees.{IsFileTree}
 use Rattle.fs_model.proofs.Walks.{none_some, one_number, same_place, step_last}
@@ -16,7 +16,7 @@ use Rattle.fs_changes.proofs.Adding.{one_other}
 -- a name less of a number that lists nothing: a file with names left, or gone with its last name
 pub record IsTaken (w w' : Files) (d : ℕ) (x : List ℕ) (k cookie : ℕ) : Type 0 where
   pub had : places w d x ≡ Some (k, cookie)
-  pub change : Changes (places w) (places w') d x None
+  pub change : ChangesPlace (places w) (places w') d x None
   pub empty : (y : List ℕ) → places w k y ≡ None
   pub kinds : (n : ℕ) → n ≢ k → kind w' n ≡ kind w n
   pub left : ((kind w' k ≡ Some false) × (kind w k ≡ Some false) × (0 < names_of w' k)) ⊎ ((kind w' k ≡ None) × (names_of w' k ≡ 0))

@@ -3,33 +3,33 @@ use Rattle.std.specs.Prelude.{ℕ, ◌+◌, List}
 use Rattle.std.specs.Option.{option_map_or}
 use Rattle.std.specs.FinMap as finite
 use Rattle.fs_model.specs.Listing.{Listing, with_entry, without_entry}
-use Rattle.fs_model.specs.Files.{Body, Regular, Link, Directory, File, Files, file_at}
+use Rattle.fs_model.specs.Files.{Body, Regular, Symlink, Directory, File, Files, file_at}
 
 -- one more file, under the next number
 abbrev pub with_new_file : Files → File → Files
-with_new_file w f = record { fsid = w.fsid; next = w.next + 1; files = finite.insert w.files w.next f }
+with_new_file fs f = record { fsid = fs.fsid; next = fs.next + 1; files = finite.insert fs.files fs.next f }
 
 -- the file of a number, changed; nothing where there is none
 abbrev pub with_changed_file : Files → ℕ → (File → File) → Files
-with_changed_file w n change = record { fsid = w.fsid; next = w.next; files = option_map_or (λ f. finite.insert w.files n (change f)) (file_at w n) w.files }
+with_changed_file fs n change = record { fsid = fs.fsid; next = fs.next; files = option_map_or (λ f. finite.insert fs.files n (change f)) (file_at fs n) fs.files }
 
 -- without the file of a number, which is never used again
 abbrev pub without_file : Files → ℕ → Files
-without_file w n = record { fsid = w.fsid; next = w.next; files = finite.remove w.files n }
+without_file fs n = record { fsid = fs.fsid; next = fs.next; files = finite.remove fs.files n }
 
 -- only a directory lists names
-abbrev pub relisted_body : (Listing → Listing) → Body → Body
-relisted_body change (Regular bytes) = Regular bytes
-relisted_body change (Link target) = Link target
-relisted_body change (Directory l) = Directory (change l)
+abbrev pub map_body_listing : (Listing → Listing) → Body → Body
+map_body_listing change (Regular bytes) = Regular bytes
+map_body_listing change (Symlink target) = Symlink target
+map_body_listing change (Directory l) = Directory (change l)
 
-abbrev pub relisted : (Listing → Listing) → File → File
-relisted change f = record { mode = f.mode; uid = f.uid; gid = f.gid; atime = f.atime; mtime = f.mtime; ctime = f.ctime; body = relisted_body change f.body }
+abbrev pub map_listing : (Listing → Listing) → File → File
+map_listing change f = record { mode = f.mode; uid = f.uid; gid = f.gid; atime = f.atime; mtime = f.mtime; ctime = f.ctime; body = map_body_listing change f.body }
 
 -- a name more in a directory, the last, with the directory's next cookie
 abbrev pub with_name : Files → ℕ → List ℕ → ℕ → Files
-with_name w dir name number = with_changed_file w dir (relisted (λ l. with_entry l name number))
+with_name fs dir name number = with_changed_file fs dir (map_listing (λ l. with_entry l name number))
 
 -- a name less in a directory
 abbrev pub without_name : Files → ℕ → List ℕ → Files
-without_name w dir name = with_changed_file w dir (relisted (λ l. without_entry l name))
+without_name fs dir name = with_changed_file fs dir (map_listing (λ l. without_entry l name))

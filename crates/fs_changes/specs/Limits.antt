@@ -2,26 +2,26 @@
 use Rattle.std.specs.Prelude.{ℕ, ◌+◌, ◌/◌, ◌&&◌, nat_le, Bool, length, sum_by}
 use Rattle.std.specs.List.{list_all}
 use Rattle.std.specs.FinMap as finite
-use Rattle.fs_model.specs.Files.{Body, Regular, Link, Directory, Files, listing_in}
+use Rattle.fs_model.specs.Files.{Body, Regular, Symlink, Directory, Files, listing_in}
 
 -- blocks of 512 bytes, of regular files alone
 abbrev pub blocks_in : Body → ℕ
 blocks_in (Regular bytes) = (length bytes + 511) / 512
-blocks_in (Link target) = 0
+blocks_in (Symlink target) = 0
 blocks_in (Directory l) = 0
 
 abbrev pub block_count : Files → ℕ
-block_count w = sum_by (λ f. blocks_in f.body) (finite.values w.files)
+block_count fs = sum_by (λ f. blocks_in f.body) (finite.values fs.files)
 
 abbrev pub entry_count : Files → ℕ
-entry_count w = sum_by (λ f. length (listing_in f.body).entries) (finite.values w.files)
+entry_count fs = sum_by (λ f. length (listing_in f.body).entries) (finite.values fs.files)
 
 abbrev pub file_count : Files → ℕ
-file_count w = finite.len w.files
+file_count fs = finite.len fs.files
 
 -- no limit is passed: 8,192 files, 16,384 entries and 32,768 blocks in all, and no number and no cookie above
 -- 4294967294 was given
 abbrev pub has_room : Files → Bool
-has_room w =
-    nat_le (file_count w) 8192 && (nat_le (entry_count w) 16384 && (nat_le (block_count w) 32768 && (nat_le w.next 4294967295
-    && list_all (λ f. nat_le (listing_in f.body).next 4294967295) (finite.values w.files))))
+has_room fs =
+    nat_le (file_count fs) 8192 && (nat_le (entry_count fs) 16384 && (nat_le (block_count fs) 32768 && (nat_le fs.next 4294967295
+    && list_all (λ f. nat_le (listing_in f.body).next 4294967295) (finite.values fs.files))))

@@ -3,4 +3,4 @@ pub mod Counts
 pub mod OnePath
 pub mod Parents
 pub mod Reached
-pub mod Told
+pub mod FilesByPaths

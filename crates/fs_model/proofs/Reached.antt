@@ -14,7 +14,7 @@ use Rattle.std.proofs.lemmas.Bool.{cases_eq, cases_lt, eqb-true, cond-true, cond
 use Rattle.std.proofs.lemmas.List.Sums.{sum_by-cons}
 use Rattle.fs_model.specs.Listing.{entry_at, HasDistinctNames}
 use Rattle.fs_model.specs.Paths.{path_at}
-use Rattle.fs_model.specs.Files.{File, Body, Regular, Link, Directory, Files, file_at, listing_in, places, one_if, names_in, names_of}
+use Rattle.fs_model.specs.Files.{File, Body, Regular, Symlink, Directory, Files, file_at, listing_in, places, one_if, names_in, names_of}
 use Rattle.fs_model.specs.Trees.{IsFileTree, IsBody}
 use Rattle.fs_model.proofs.Walks.{none_some, one_number, step_last, last_name, last_step}
 use Rattle.fs_model.proofs.Counts.{all_names, find_lookup}
@@ -62,7 +62,7 @@ sorted_distinct (e ∷ es) h = let b = both_of (below_all nat_cmp e.0 es) (is_so
 pub distinct_in : (b : Body) → IsBody b → HasDistinctNames (listing_in b).entries
 unfolding IsDistinct
 distinct_in (Regular bytes) h = tt
-distinct_in (Link target) h = tt
+distinct_in (Symlink target) h = tt
 distinct_in (Directory l) h = h.1
 
 named_one : (n : ℕ) (p : ℕ × ℕ) → 0 < one_if n ([], p) → p.0 ≡ n

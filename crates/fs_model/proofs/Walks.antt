@@ -1,7 +1,7 @@
 -- The laws of walks, over the definitions alone.
 use Rattle.std.proofs.Common.{◌≡◌, ◌≢◌, ◌⊎◌, inl, inr, ⊎_elim, ℕ, List, [], ◌∷◌, ◌++◌, Option, Some, None, option_and_then, refl, sym, ap, ◌∙◌, append_assoc, append-nil}
 use Rattle.std.proofs.lemmas.Bool.{cases_eq}
-use Rattle.fs_model.specs.Paths.{Places, walk, path_at, Changes}
+use Rattle.fs_model.specs.Paths.{Places, walk, path_at, ChangesPlace}
 
 pub none_some : {A : Type 0} {a : A} → None ≡ Some a → ⊥
 none_some h = cc
@@ -82,7 +82,7 @@ pub step_last : (at : Places) (p : List (List ℕ)) (x : List ℕ) (d c : ℕ) �
 step_last at p x d c h = ap (path_at at) (sym (append-nil (p ++ x ∷ []))) ∙ step at p [] x d c h ∙ elim (at d x) as (λ o. option_and_then (λ f. walk at f []) o ≡ o) [ None ↦ refl | Some f ↦ refl ]
 
 -- a walk that doesn't pass the place that changes is as it was
-pub walk_apart : (at to : Places) (d : ℕ) (x : List ℕ) (o : Option (ℕ × ℕ)) → Changes at to d x o → (e : ℕ × ℕ) (p : List (List ℕ))
+pub walk_apart : (at to : Places) (d : ℕ) (x : List ℕ) (o : Option (ℕ × ℕ)) → ChangesPlace at to d x o → (e : ℕ × ℕ) (p : List (List ℕ))
     → ((q r : List (List ℕ)) (c : ℕ) → walk at e q ≡ Some (d, c) → p ≢ q ++ x ∷ r) → walk to e p ≡ walk at e p
 walk_apart at to d x o change e p not = walk_same at to e p (λ q r y f split reached. ⊎_elim
     (λ same. absurd (not q r f.1 (reached ∙ ap (λ n. Some (n, f.1)) same.0) (split ∙ ap (λ z. q ++ z ∷ r) same.1)))

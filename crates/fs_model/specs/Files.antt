@@ -12,7 +12,7 @@ use Rattle.fs_model.specs.Listing.{Listing, entry_at}
 -- what a file holds: bytes, a target, or the names of a directory
 pub data Body : Type 0 where
   Regular : List ℕ → Body
-  Link : List ℕ → Body
+  Symlink : List ℕ → Body
   Directory : Listing → Body
 
 -- a file: the twelve kept bits of its mode, its owner, its group, its times, and what it holds
@@ -38,17 +38,17 @@ BodyParts = List ℕ ⊎ (List ℕ ⊎ (ℕ × List (List ℕ × (ℕ × ℕ))))
 
 abbrev pub body_parts : Body → BodyParts
 body_parts (Regular bytes) = inl bytes
-body_parts (Link target) = inr (inl target)
+body_parts (Symlink target) = inr (inl target)
 body_parts (Directory l) = inr (inr (l.next, l.entries))
 
 abbrev pub body_from : BodyParts → Body
 body_from (inl bytes) = Regular bytes
-body_from (inr (inl target)) = Link target
+body_from (inr (inl target)) = Symlink target
 body_from (inr (inr p)) = Directory (record { next = p.0; entries = p.1 })
 
 pub body_back : (b : Body) → body_from (body_parts b) ≡ b
 body_back (Regular bytes) = refl
-body_back (Link target) = refl
+body_back (Symlink target) = refl
 body_back (Directory l) = refl
 
 abbrev pub body_code : Coded Body
@@ -62,35 +62,35 @@ file_code =
 
 abbrev pub files_code : Coded Files
 files_code =
-    code_by (ℕ × (ℕ × finite.FinMap nat_cmp File)) (coded× coded_ℕ (coded× coded_ℕ (finite.code coded_ℕ file_code))) (λ w. (w.fsid, (w.next, w.files)))
+    code_by (ℕ × (ℕ × finite.FinMap nat_cmp File)) (coded× coded_ℕ (coded× coded_ℕ (finite.code coded_ℕ file_code))) (λ fs. (fs.fsid, (fs.next, fs.files)))
     (λ p. record { fsid = p.0; next = p.1.0; files = p.1.1 }) (λ _. refl)
 
 -- ---- what is read off the files
 
 -- the file of a number
 abbrev pub file_at : Files → ℕ → Option File
-file_at w n = finite.get w.files n
+file_at fs n = finite.get fs.files n
 
 -- what a body lists: only a directory lists names
 abbrev pub listing_in : Body → Listing
 listing_in (Regular bytes) = record { next = 0; entries = [] }
-listing_in (Link target) = record { next = 0; entries = [] }
+listing_in (Symlink target) = record { next = 0; entries = [] }
 listing_in (Directory l) = l
 
 abbrev pub is_directory : Body → Bool
 is_directory (Regular bytes) = false
-is_directory (Link target) = false
+is_directory (Symlink target) = false
 is_directory (Directory l) = true
 
 abbrev pub listing : Files → ℕ → Listing
-listing w n = option_map_or (λ f. listing_in f.body) (file_at w n) (record { next = 0; entries = [] })
+listing fs n = option_map_or (λ f. listing_in f.body) (file_at fs n) (record { next = 0; entries = [] })
 
 abbrev pub IsDirectory : Files → ℕ → Type 0
-IsDirectory w n = option_map (λ f. is_directory f.body) (file_at w n) ≡ Some true
+IsDirectory fs n = option_map (λ f. is_directory f.body) (file_at fs n) ≡ Some true
 
 -- what a number has at a name: a file number, and a cookie
 abbrev pub places : Files → ℕ → List ℕ → Option (ℕ × ℕ)
-places w n name = option_and_then (λ f. entry_at (listing_in f.body) name) (file_at w n)
+places fs n name = option_and_then (λ f. entry_at (listing_in f.body) name) (file_at fs n)
 
 -- 1 where an entry names the number, else 0
 abbrev pub one_if : ℕ → List ℕ × (ℕ × ℕ) → ℕ
@@ -101,17 +101,17 @@ abbrev pub names_in : ℕ → File → ℕ
 names_in n f = sum_by (one_if n) (listing_in f.body).entries
 
 abbrev pub names_of : Files → ℕ → ℕ
-names_of w n = sum_by (names_in n) (finite.values w.files)
+names_of fs n = sum_by (names_in n) (finite.values fs.files)
 
 -- the number of the directory that names a directory; the root's is the root
 abbrev pub parent_of : Files → ℕ → ℕ
-parent_of w n = if n == 1 then 1 else option_map_or (λ e. e.0) (find (λ e. nat_lt 0 (names_in n e.1)) (finite.entries w.files)) 1
+parent_of fs n = if n == 1 then 1 else option_map_or (λ e. e.0) (find (λ e. nat_lt 0 (names_in n e.1)) (finite.entries fs.files)) 1
 
 -- a file without the names that it lists
-abbrev pub nameless_body : Body → Body
-nameless_body (Regular bytes) = Regular bytes
-nameless_body (Link target) = Link target
-nameless_body (Directory l) = Directory (record { next = l.next; entries = [] })
+abbrev pub body_without_entries : Body → Body
+body_without_entries (Regular bytes) = Regular bytes
+body_without_entries (Symlink target) = Symlink target
+body_without_entries (Directory l) = Directory (record { next = l.next; entries = [] })
 
-abbrev pub nameless : File → File
-nameless f = record { mode = f.mode; uid = f.uid; gid = f.gid; atime = f.atime; mtime = f.mtime; ctime = f.ctime; body = nameless_body f.body }
+abbrev pub without_entries : File → File
+without_entries f = record { mode = f.mode; uid = f.uid; gid = f.gid; atime = f.atime; mtime = f.mtime; ctime = f.ctime; body = body_without_entries f.body }

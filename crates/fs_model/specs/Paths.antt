@@ -48,7 +48,7 @@ pub record IsTree (IsThere IsDirectory : ℕ → Type 0) (parent : ℕ → ℕ) 
   pub up : (n : ℕ) (y : List ℕ) (k c : ℕ) → at n y ≡ Some (k, c) → IsDirectory k → parent k ≡ n
 
 -- one place changes, and no other
-pub record Changes (at to : Places) (d : ℕ) (x : List ℕ) (o : Option (ℕ × ℕ)) : Type 0 where
+pub record ChangesPlace (at to : Places) (d : ℕ) (x : List ℕ) (o : Option (ℕ × ℕ)) : Type 0 where
   pub here : to d x ≡ o
   pub rest : (n : ℕ) (y : List ℕ) → ((n ≡ d) × (y ≡ x) → ⊥) → to n y ≡ at n y
 

@@ -4,12 +4,12 @@ use Rattle.nfs_types.specs.Timeval.{Timeval}
 use Rattle.fs_model.specs.Listing.{IsRising, HasDistinctNames}
 use Rattle.fs_model.specs.Paths.{IsTree}
 use Rattle.fs_model.specs.Names.{is_name}
-use Rattle.fs_model.specs.Files.{Body, Regular, Link, Directory, File, Files, file_at, IsDirectory, places, parent_of, names_of}
+use Rattle.fs_model.specs.Files.{Body, Regular, Symlink, Directory, File, Files, file_at, IsDirectory, places, parent_of, names_of}
 
 -- a body is within its limit, in bytes; the cookies of a directory rise from 3 to below the next, and its names differ
 abbrev pub IsBody : Body → Type 0
 IsBody (Regular bytes) = length bytes ≤ 1048576
-IsBody (Link target) = length target ≤ 1024
+IsBody (Symlink target) = length target ≤ 1024
 IsBody (Directory l) = IsRising 3 l.entries l.next × HasDistinctNames l.entries
 
 abbrev pub IsTime : Timeval → Type 0
@@ -23,11 +23,11 @@ pub record IsFile (f : File) : Type 0 where
   pub body : IsBody f.body
 
 -- the files are a tree of numbers from 1 to below the next
-pub record IsFileTree (w : Files) : Type 0 where
-  pub tree : IsTree (λ n. IsSome (file_at w n)) (IsDirectory w) (parent_of w) (places w)
-  pub root : names_of w 1 ≡ 0
-  pub directories : (n : ℕ) → n ≢ 1 → IsDirectory w n → names_of w n ≡ 1
-  pub named : (n : ℕ) → n ≢ 1 → IsSome (file_at w n) → 0 < names_of w n
-  pub numbers : (n : ℕ) → IsSome (file_at w n) → (1 ≤ n) × (n < w.next)
-  pub names : (n : ℕ) (name : List ℕ) → IsSome (places w n name) → IsTrue (is_name name) × (length name ≤ 255)
-  pub files : (n : ℕ) (f : File) → file_at w n ≡ Some f → IsFile f
+pub record IsFileTree (fs : Files) : Type 0 where
+  pub tree : IsTree (λ n. IsSome (file_at fs n)) (IsDirectory fs) (parent_of fs) (places fs)
+  pub root : names_of fs 1 ≡ 0
+  pub directories : (n : ℕ) → n ≢ 1 → IsDirectory fs n → names_of fs n ≡ 1
+  pub named : (n : ℕ) → n ≢ 1 → IsSome (file_at fs n) → 0 < names_of fs n
+  pub numbers : (n : ℕ) → IsSome (file_at fs n) → (1 ≤ n) × (n < fs.next)
+  pub names : (n : ℕ) (name : List ℕ) → IsSome (places fs n name) → IsTrue (is_name name) × (length name ≤ 255)
+  pub files : (n : ℕ) (f : File) → file_at fs n ≡ Some f → IsFile f

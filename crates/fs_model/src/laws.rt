@@ -1,14 +1,14 @@
 //! What holds of every tree of files.
 
 ghost use Rattle.std.specs.Prelude.{◌≡◌, ◌≢◌, [], ◌∷◌, ◌++◌, List, ℕ, Option, Some, None, IsSome, option_map};
-ghost use Rattle.fs_model.specs.Paths.{Places, walk, path_at, Changes, HasOnePathEach};
-ghost use Rattle.fs_model.specs.Files.{Files, file_at, IsDirectory, places, nameless};
+ghost use Rattle.fs_model.specs.Paths.{Places, walk, path_at, ChangesPlace, HasOnePathEach};
+ghost use Rattle.fs_model.specs.Files.{Files, file_at, IsDirectory, places, without_entries};
 ghost use Rattle.fs_model.specs.Trees.{IsFileTree};
 
 /// The walk along a path changes under a change of one place only where it passes that place.
 pub fn walks_change_where_they_pass()
     ensures { (at to : Places) (directory : ℕ) (name : List ℕ) (place : Option (ℕ × ℕ)) →
-        Changes at to directory name place → (from : ℕ × ℕ) (path : List (List ℕ)) →
+        ChangesPlace at to directory name place → (from : ℕ × ℕ) (path : List (List ℕ)) →
         ((front rest : List (List ℕ)) (cookie : ℕ) →
         walk at from front ≡ Some (directory, cookie) → path ≢ front ++ name ∷ rest) →
         walk to from path ≡ walk at from path }
@@ -16,26 +16,26 @@ pub fn walks_change_where_they_pass()
 
 /// A directory has one path.
 pub fn directories_have_one_path()
-    ensures { (w : Files) → IsFileTree w → HasOnePathEach (IsDirectory w) (places w) }
+    ensures { (fs : Files) → IsFileTree fs → HasOnePathEach (IsDirectory fs) (places fs) }
 {}
 
 /// What stands above the last name of a path is the path of a directory, and that directory has the name.
 pub fn parents_are_directories()
-    ensures { (w : Files) → IsFileTree w → (path : List (List ℕ)) (name : List ℕ) (number cookie : ℕ) →
-        path_at (places w) (path ++ name ∷ []) ≡ Some (number, cookie) →
-        (parent : ℕ) × (parent_cookie : ℕ) × (path_at (places w) path ≡ Some (parent, parent_cookie))
-        × IsDirectory w parent × (places w parent name ≡ Some (number, cookie)) }
+    ensures { (fs : Files) → IsFileTree fs → (path : List (List ℕ)) (name : List ℕ) (number cookie : ℕ) →
+        path_at (places fs) (path ++ name ∷ []) ≡ Some (number, cookie) →
+        (parent : ℕ) × (parent_cookie : ℕ) × (path_at (places fs) path ≡ Some (parent, parent_cookie))
+        × IsDirectory fs parent × (places fs parent name ≡ Some (number, cookie)) }
 {}
 
 /// The numbers of files are those that paths lead to: a number with no path left is gone.
 pub fn numbers_have_paths()
-    ensures path { (w : Files) → IsFileTree w → (number : ℕ) → IsSome (file_at w number) →
-        (path : List (List ℕ)) × (cookie : ℕ) × (path_at (places w) path ≡ Some (number, cookie)) }
-    ensures there { (w : Files) → IsFileTree w → (path : List (List ℕ)) (number cookie : ℕ) →
-        path_at (places w) path ≡ Some (number, cookie) → IsSome (file_at w number) }
-    ensures gone { (w : Files) → IsFileTree w → (number : ℕ) →
-        ((path : List (List ℕ)) (cookie : ℕ) → path_at (places w) path ≢ Some (number, cookie)) →
-        file_at w number ≡ None }
+    ensures path { (fs : Files) → IsFileTree fs → (number : ℕ) → IsSome (file_at fs number) →
+        (path : List (List ℕ)) × (cookie : ℕ) × (path_at (places fs) path ≡ Some (number, cookie)) }
+    ensures there { (fs : Files) → IsFileTree fs → (path : List (List ℕ)) (number cookie : ℕ) →
+        path_at (places fs) path ≡ Some (number, cookie) → IsSome (file_at fs number) }
+    ensures gone { (fs : Files) → IsFileTree fs → (number : ℕ) →
+        ((path : List (List ℕ)) (cookie : ℕ) → path_at (places fs) path ≢ Some (number, cookie)) →
+        file_at fs number ≡ None }
 {}
 
 /// Files are told by their paths and by what each file holds beside its names: its attributes, its bytes or
@@ -44,6 +44,6 @@ pub fn files_are_told_by_paths()
     ensures { (one other : Files) → IsFileTree one → IsFileTree other →
         one.fsid ≡ other.fsid → one.next ≡ other.next →
         ((path : List (List ℕ)) → path_at (places one) path ≡ path_at (places other) path) →
-        ((number : ℕ) → option_map nameless (file_at one number) ≡ option_map nameless (file_at other number)) →
+        ((number : ℕ) → option_map without_entries (file_at one number) ≡ option_map without_entries (file_at other number)) →
         one ≡ other }
 {}

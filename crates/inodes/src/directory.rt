@@ -4,20 +4,24 @@ ghost use Rattle.std.specs.Prelude.{◌≡◌, ◌≢◌, ◌<◌, ◌^◌, ◌-
 ghost use Rattle.std.specs.Cmp.Lexicographic.{pointwise};
 ghost use Rattle.std.specs.Map.{lookup, remove_entry};
 ghost use Rattle.fs_model.specs.Listing.{Listing, entry_at, with_entry};
-ghost use Rattle.inodes.specs.Listed.{listed};
-ghost use Rattle.inodes.specs.LookUp.{number_listed};
+ghost use Rattle.inodes.specs.Entries.{entries_of};
+ghost use Rattle.nfs_spec.specs.Effects.{number_in_listing};
 
 use crate::names::is_name;
 use indexmap::IndexMap;
 use std::alloc::{AllocError, Global};
 use std::marker::Model;
 
+/// The cookie of a directory's first entry: 1 and 2 are those of `.` and `..`.
+pub const FIRST_COOKIE: u32 = 3;
+
 /// What a name stands for.
 #[derive(Clone, Copy)]
 pub struct Entry {
     /// The number of the file.
     pub number: u32,
-    /// The entry's place in the order of insertion, from 3; no two entries that a directory ever had share one.
+    /// The entry's place in the order of insertion, from `FIRST_COOKIE`; no two entries that a directory ever
+    /// had share one.
     pub cookie: u32,
 }
 
@@ -30,22 +34,23 @@ pub struct Directory {
 
 impl Model for Directory {
     ghost use Rattle.fs_model.specs.Listing.{Listing, IsRising};
-    ghost use Rattle.inodes.specs.Listed.{listed};
+    ghost use Rattle.inodes.specs.declared.directory.TheConstants.{FIRST_COOKIE};
+    ghost use Rattle.inodes.specs.Entries.{entries_of};
 
     ghost Value = { Listing };
 
-    ghost view = { λ a. record { next = a.next; entries = listed a.entries.entries } };
+    ghost view = { λ a. record { next = a.next; entries = entries_of a.entries.entries } };
 
-    ghost invariant = { λ a. IsRising 3 (listed a.entries.entries) a.next };
+    ghost invariant = { λ a. IsRising FIRST_COOKIE (entries_of a.entries.entries) a.next };
 }
 
 impl Directory {
-    /// A directory with no entries, whose first gets cookie 3.
+    /// A directory with no entries, whose first gets `FIRST_COOKIE`.
     pub fn new(alloc: Global) -> Self
-        ensures { result ≡ record { next = 3; entries = [] } }
+        ensures { result ≡ record { next = FIRST_COOKIE; entries = [] } }
     {
         Directory {
-            next: 3,
+            next: FIRST_COOKIE,
             entries: IndexMap::new(alloc),
         }
     }
@@ -64,9 +69,10 @@ impl Directory {
         self.entries.get(name).copied()
     }
 
-    /// The number that a name stands for in this directory, whose own number and the one above are given.
+    /// The number that a name stands for in this directory, whose own number and the one above are given:
+    /// its own for `.`, the one above for `..`. None where it lists no such name, or it may be none.
     pub fn number_at(&self, own: u32, above: u32, name: &[u8]) -> Option<u32>
-        ensures { result ≡ number_listed own above self.now name.now }
+        ensures { result ≡ number_in_listing own above self.now name.now }
     {
         if name == b".".as_slice() {
             Some(own)
@@ -79,13 +85,15 @@ impl Directory {
         }
     }
 
-    /// Puts a name last, with the next cookie, in place of the entry that it has. Where memory is refused nothing changes.
+    /// Puts a name last, with the next cookie, in place of the entry that it has. Where memory is refused
+    /// nothing changes.
     #[tactic(auto, using(crate::proofs::Rising::rising_put))]
     pub fn put(&mut self, name: Vec<u8>, number: u32) -> Result<(), AllocError>
         requires { self.old.next < 2 ^ 32 - 1 }
         ensures ok { OnOk result (self.new ≡ with_entry self.old name.items number) }
         ensures here { OnOk result (entry_at self.new name.items ≡ Some (number, self.old.next)) }
-        ensures others { OnOk result ((q : List ℕ) → q ≢ name.items → entry_at self.new q ≡ entry_at self.old q) }
+        ensures others { OnOk result ((q : List ℕ) → q ≢ name.items →
+            entry_at self.new q ≡ entry_at self.old q) }
         ensures err { OnErr result (self.new ≡ self.old) }
     {
         let cookie = self.next;
@@ -101,12 +109,15 @@ fn put_last(
     name: Vec<u8>,
     entry: Entry,
 ) -> Result<(), AllocError>
-    ensures ok { OnOk result (listed entries.new.entries
-        ≡ remove_entry (pointwise nat_eq name.items) (listed entries.old.entries) ++ (name.items, (entry.number, entry.cookie)) ∷ []) }
-    ensures here { OnOk result (lookup (pointwise nat_eq name.items) (listed entries.new.entries) ≡ Some (entry.number, entry.cookie)) }
+    ensures ok { OnOk result (entries_of entries.new.entries
+        ≡ remove_entry (pointwise nat_eq name.items) (entries_of entries.old.entries)
+        ++ (name.items, (entry.number, entry.cookie)) ∷ []) }
+    ensures here { OnOk result (lookup (pointwise nat_eq name.items) (entries_of entries.new.entries)
+        ≡ Some (entry.number, entry.cookie)) }
     ensures others { OnOk result ((q : List ℕ) → q ≢ name.items →
-        lookup (pointwise nat_eq q) (listed entries.new.entries) ≡ lookup (pointwise nat_eq q) (listed entries.old.entries)) }
-    ensures err { OnErr result (listed entries.new.entries ≡ listed entries.old.entries) }
+        lookup (pointwise nat_eq q) (entries_of entries.new.entries)
+        ≡ lookup (pointwise nat_eq q) (entries_of entries.old.entries)) }
+    ensures err { OnErr result (entries_of entries.new.entries ≡ entries_of entries.old.entries) }
 {
     entries.reserve(1)?;
     entries.shift_remove(name.as_slice());

@@ -1,10 +1,11 @@
-//! Files as nodes under numbers, each with what would else be counted: its names, and the directory above.
+//! Files as they are stored: an inode keeps, beside the file, what would else be counted: how many names it
+//! has, and the directory above.
 #![tactic(auto)]
 
 mod directory;
+mod inode;
 mod names;
-mod node;
 
-pub use directory::{Directory, Entry};
+pub use directory::{Directory, Entry, FIRST_COOKIE};
+pub use inode::{BLOCK_SIZE, Body, Inode, MAX_FILE_SIZE};
 pub use names::is_name;
-pub use node::{Body, Node};

@@ -4,7 +4,8 @@ ghost use Rattle.std.specs.Prelude.{◌≡◌, ◌==◌, ◌&&◌, not};
 ghost use Rattle.std.specs.List.{list_all};
 ghost use Rattle.fs_model.specs.Names.{is_name};
 
-/// Whether a name may stand in a directory: it is not empty, `.` or `..`, and no byte of it is zero or a slash.
+/// Whether a name may stand in a directory: it is not empty, `.` or `..`, and no byte of it is zero or a
+/// slash.
 pub fn is_name(name: &[u8]) -> bool
     ensures { result ≡ is_name name.now }
 {

@@ -21,7 +21,7 @@ fn getattr(tree: &Tree, file: FileHandle) -> Result<Fattr, Stat>
     }
 }
 
-/// LOOKUP (section 2.2.5).
+/// LOOKUP (section 2.2.5). Stale where the file handle names no file here.
 fn lookup(tree: &Tree, who: &Who, args: DirOpArgs) -> Result<DirOpOk, Stat>
     ensures { diropres_of result ≡ lookup tree.now (caller_of who.now) args.entry.dir.0 args.entry.name.now }
 {
@@ -36,17 +36,19 @@ fn lookup(tree: &Tree, who: &Who, args: DirOpArgs) -> Result<DirOpOk, Stat>
     })
 }
 
-/// What a caller's call at a time answers, and what it does to the files. A refusal is a stat within the result, and
-/// leaves the files as they were. Where memory is refused, the files are as they were too; NULL, GETATTR and LOOKUP take
-/// none.
+/// What a caller's call at a time answers, and what it does to the files. A refusal is a stat within the
+/// result, and leaves the files as they were. Where memory is refused, the files are as they were too; NULL,
+/// GETATTR and LOOKUP take none.
 pub fn nfs_call(
     tree: &mut Tree,
     who: &Who,
     now: Time,
     args: NfsArgs,
 ) -> Result<NfsResult, AllocError>
-    ensures result { IfOk result (λ r. results_of r ≡ (does tree.old (caller_of who.now) now (arguments_of args.entry)).0) }
-    ensures files { IfOk result (λ r. tree.new ≡ (does tree.old (caller_of who.now) now (arguments_of args.entry)).1) }
+    ensures result { IfOk result (λ r.
+        results_of r ≡ (does tree.old (caller_of who.now) now (arguments_of args.entry)).0) }
+    ensures files { IfOk result (λ r.
+        tree.new ≡ (does tree.old (caller_of who.now) now (arguments_of args.entry)).1) }
     ensures err { OnErr result (tree.new ≡ tree.old) }
     ensures no_memory { IsOk result }
 {

@@ -1,4 +1,4 @@
-pub mod Opened
+pub mod OpeningFiles
 pub mod Lookups
 pub mod Present
 pub mod OpeningTree

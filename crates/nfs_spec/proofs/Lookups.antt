@@ -11,17 +11,17 @@ use Rattle.nfs_types.specs.declared.stat.Stat.TheVariants as stats
 use Rattle.fs_model.specs.Listing.{Listing, entry_at}
 use Rattle.fs_model.specs.Names.{dot, dot_dot, is_name}
 use Rattle.fs_model.specs.Paths.{path_at}
-use Rattle.fs_model.specs.Files.{Body, Regular, Link, Directory, Files, listing_in, is_directory, IsDirectory, places}
+use Rattle.fs_model.specs.Files.{Body, Regular, Symlink, Directory, Files, listing_in, is_directory, IsDirectory, places}
 use Rattle.fs_model.specs.Trees.{IsFileTree}
 use Rattle.fs_model.proofs.Walks.{step_last}
 use Rattle.fs_model.proofs.Parents.{parent_path}
-use Rattle.nfs_spec.specs.Checks.{◌>>=◌, found_or, listing_or, may_search}
+use Rattle.nfs_spec.specs.ProcedureChecks.{◌>>=◌, ok_or, listing_or, may_search}
 use Rattle.nfs_spec.specs.Effects.{attributes_at, number_named, number_at_name, lookup}
-use Rattle.nfs_spec.specs.Laws.{found_at, IsSearched}
+use Rattle.nfs_spec.specs.LawTerms.{lookup_at_path, IsSearchable}
 
 pub its_listing : (e : Stat) (b : Body) → is_directory b ≡ true → listing_or e b ≡ Ok (listing_in b)
 its_listing e (Regular bytes) h = cc
-its_listing e (Link target) h = cc
+its_listing e (Symlink target) h = cc
 its_listing e (Directory l) h = refl
 
 abbrev pub shown : Files → Result ℕ Stat → Result (List ℕ × Fattr) Stat
@@ -35,32 +35,32 @@ plain_name w d l name is =
     let c = and_parts (not (pointwise nat_eq name dot_dot)) _ b.1 in
     cond-false _ _ _ (not-true _ b.0) ∙ cond-false _ _ _ (not-true _ c.0) ∙ cond-true _ _ _ is
 
-numbered : (w : Files) (o : Option (ℕ × ℕ)) → shown w (found_or stats.NoEnt (option_map (λ e. e.0) o)) ≡ (found_or stats.NoEnt o >>= λ e. attributes_at w e.0 >>= λ a. Ok (handle_of w.fsid e.0, a))
+numbered : (w : Files) (o : Option (ℕ × ℕ)) → shown w (ok_or stats.NoEnt (option_map (λ e. e.0) o)) ≡ (ok_or stats.NoEnt o >>= λ e. attributes_at w e.0 >>= λ a. Ok (handle_of w.fsid e.0, a))
 numbered w None = refl
 numbered w (Some e) = refl
 
-module _ (w : Files) (who : Caller) (dir : List ℕ) (path : List (List ℕ)) (s : IsSearched w who dir path) where
-  searched : (name : List ℕ) → lookup w who dir name ≡ shown w (found_or stats.NoEnt (number_named w s.number (listing_in s.file.body) name))
+module _ (w : Files) (who : Caller) (dir : List ℕ) (path : List (List ℕ)) (s : IsSearchable w who dir path) where
+  searched : (name : List ℕ) → lookup w who dir name ≡ shown w (ok_or stats.NoEnt (number_named w s.number (listing_in s.file.body) name))
   searched name =
-      ap (λ o. found_or stats.Stale o >>= λ d. shown w (number_at_name w who d name)) s.named
-      ∙ ap (λ o. shown w (found_or stats.Stale o >>= λ f. listing_or stats.NotDir f.body >>= λ l. cond (may_search who f) (found_or stats.NoEnt (number_named w s.number l name)) (Err stats.Acces))) s.there
-      ∙ ap (λ r. shown w (r >>= λ l. cond (may_search who s.file) (found_or stats.NoEnt (number_named w s.number l name)) (Err stats.Acces))) (its_listing stats.NotDir s.file.body s.directory)
-      ∙ ap (λ b. shown w (cond b (found_or stats.NoEnt (number_named w s.number (listing_in s.file.body) name)) (Err stats.Acces))) s.searched
+      ap (λ o. ok_or stats.Stale o >>= λ d. shown w (number_at_name w who d name)) s.named
+      ∙ ap (λ o. shown w (ok_or stats.Stale o >>= λ f. listing_or stats.NotDir f.body >>= λ l. cond (may_search who f) (ok_or stats.NoEnt (number_named w s.number l name)) (Err stats.Acces))) s.there
+      ∙ ap (λ r. shown w (r >>= λ l. cond (may_search who s.file) (ok_or stats.NoEnt (number_named w s.number l name)) (Err stats.Acces))) (its_listing stats.NotDir s.file.body s.directory)
+      ∙ ap (λ b. shown w (cond b (ok_or stats.NoEnt (number_named w s.number (listing_in s.file.body) name)) (Err stats.Acces))) s.searched
 
   own_place : (name : List ℕ) → path_at (places w) (path ++ name ∷ []) ≡ entry_at (listing_in s.file.body) name
   own_place name = step_last (places w) path name s.number s.cookie s.reached ∙ ap (option_and_then (λ f. entry_at (listing_in f.body) name)) s.there
 
-  pub lookup_name : (name : List ℕ) → is_name name ≡ true → lookup w who dir name ≡ found_at w (path ++ name ∷ [])
+  pub lookup_name : (name : List ℕ) → is_name name ≡ true → lookup w who dir name ≡ lookup_at_path w (path ++ name ∷ [])
   lookup_name name is =
       searched name
-      ∙ ap (λ o. shown w (found_or stats.NoEnt o)) (plain_name w s.number (listing_in s.file.body) name is ∙ ap (option_map (λ e. e.0)) (sym (own_place name)))
+      ∙ ap (λ o. shown w (ok_or stats.NoEnt o)) (plain_name w s.number (listing_in s.file.body) name is ∙ ap (option_map (λ e. e.0)) (sym (own_place name)))
       ∙ numbered w (path_at (places w) (path ++ name ∷ []))
 
   is_dir : IsDirectory w s.number
   is_dir = ap (option_map (λ f. is_directory f.body)) s.there ∙ ap (λ b. Some b) s.directory
 
-pub lookup_above : (w : Files) (who : Caller) (dir last : List ℕ) (front : List (List ℕ)) → IsFileTree w → IsSearched w who dir (front ++ last ∷ []) → lookup w who dir dot_dot ≡ found_at w front
+pub lookup_above : (w : Files) (who : Caller) (dir last : List ℕ) (front : List (List ℕ)) → IsFileTree w → IsSearchable w who dir (front ++ last ∷ []) → lookup w who dir dot_dot ≡ lookup_at_path w front
 lookup_above w who dir last front tree s =
     let above = parent_path w tree s.number s.cookie (is_dir w who dir (front ++ last ∷ []) s) front last s.reached in
     searched w who dir (front ++ last ∷ []) s dot_dot
-    ∙ ap (λ (o : Option (ℕ × ℕ)). found_or stats.NoEnt o >>= λ e. attributes_at w e.0 >>= λ a. Ok (handle_of w.fsid e.0, a)) (sym above.1)
+    ∙ ap (λ (o : Option (ℕ × ℕ)). ok_or stats.NoEnt o >>= λ e. attributes_at w e.0 >>= λ a. Ok (handle_of w.fsid e.0, a)) (sym above.1)

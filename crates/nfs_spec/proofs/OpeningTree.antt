@@ -15,7 +15,7 @@ use Rattle.fs_model.proofs.Walks.{some_same, none_some, one_number}
 use Rattle.fs_model.proofs.Counts.{same_number}
 use Rattle.nfs_spec.specs.Opening.{hello, opening_root, opening_hello, opening_files}
 use Rattle.nfs_spec.proofs.Present.{none_there}
-use Rattle.nfs_spec.proofs.Opened.{root_there, hello_there, opening_names}
+use Rattle.nfs_spec.proofs.OpeningFiles.{root_there, hello_there, opening_names}
 
 wrong_number : ◌≡◌ {A = ℕ} 2 1 → ⊥
 wrong_number h = absurd (omega arith)

@@ -5,7 +5,7 @@ use Rattle.std.proofs.lemmas.Bool.{ltb-true, ltb-false, lt-ltb, le-ltb, leb-true
 use Rattle.std.proofs.lemmas.List.Sums.{sum_by-cons}
 use Rattle.fs_model.specs.Listing.{Listing, IsRising}
 use Rattle.fs_model.specs.Files.{Files}
-use Rattle.nfs_spec.specs.Reading.{Entry, cost, front, page_of, last_cookie, pages, entries_above, RisesAbove, IsLongestFront, listed}
+use Rattle.nfs_spec.specs.Readdir.{DirEntry, cost, longest_front, page_of, last_cookie, pages, entries_above, RisesAbove, IsLongestFront, dir_entries}
 
 list_head : {A : Type 0} {x y : A} {xs ys : List A} → x ∷ xs ≡ y ∷ ys → x ≡ y
 list_head h = cc
@@ -16,16 +16,16 @@ list_tail h = cc
 no_cons : {A : Type 0} {x : A} {xs : List A} → [] ≡ x ∷ xs → ⊥
 no_cons h = cc
 
-pub longest : (count : ℕ) (es : List Entry) → IsLongestFront count es (front count es)
+pub longest : (count : ℕ) (es : List DirEntry) → IsLongestFront count es (longest_front count es)
 longest count [] = record { rest = []; splits = refl; fits = omega arith; longest = λ e more h. absurd (no_cons h) }
 longest count (e ∷ es) = by (leb (cost e) count) refl (longest (count - cost e) es)
   where
-    by : (b : Bool) → leb (cost e) count ≡ b → IsLongestFront (count - cost e) es (front (count - cost e) es) → IsLongestFront count (e ∷ es) (cond b (e ∷ front (count - cost e) es) [])
+    by : (b : Bool) → leb (cost e) count ≡ b → IsLongestFront (count - cost e) es (longest_front (count - cost e) es) → IsLongestFront count (e ∷ es) (cond b (e ∷ longest_front (count - cost e) es) [])
     by true is next = record {
       rest = next.rest;
       splits = ap (λ l. e ∷ l) next.splits;
-      fits = omega (arith, sum_by-cons cost e (front (count - cost e) es), next.fits, leb-true (cost e) count is);
-      longest = λ f more h. omega (arith, sum_by-cons cost e (front (count - cost e) es), next.longest f more h, leb-true (cost e) count is);
+      fits = omega (arith, sum_by-cons cost e (longest_front (count - cost e) es), next.fits, leb-true (cost e) count is);
+      longest = λ f more h. omega (arith, sum_by-cons cost e (longest_front (count - cost e) es), next.longest f more h, leb-true (cost e) count is);
     }
     by false is next = record {
       rest = e ∷ es;
@@ -35,24 +35,24 @@ longest count (e ∷ es) = by (leb (cost e) count) refl (longest (count - cost e
     }
 
 -- all are above what the first is above
-all_above : (c low : ℕ) (es : List Entry) → c ≤ low → RisesAbove low es → entries_above c es ≡ es
+all_above : (c low : ℕ) (es : List DirEntry) → c ≤ low → RisesAbove low es → entries_above c es ≡ es
 all_above c low [] le up = refl
 all_above c low (e ∷ es) le up =
     cond-true _ _ _ (lt-ltb c e.cookie (omega (arith, le, up.0))) ∙ ap (λ l. e ∷ l) (all_above c e.cookie es (omega (arith, le, up.0)) up.1)
 
-first_above : (c : ℕ) (es : List Entry) (e : Entry) (more : List Entry) → entries_above c es ≡ e ∷ more → c < e.cookie
+first_above : (c : ℕ) (es : List DirEntry) (e : DirEntry) (more : List DirEntry) → entries_above c es ≡ e ∷ more → c < e.cookie
 first_above c [] e more h = absurd (no_cons h)
 first_above c (g ∷ gs) e more h = elim (ltb c g.cookie) as (λ b. ltb c g.cookie ≡ b → cond b (g ∷ entries_above c gs) (entries_above c gs) ≡ e ∷ more → c < e.cookie) [
-  | true ↦ λ is k. let same = ap (λ (x : Entry). x.cookie) (list_head k) in omega (arith, same, ltb-true c g.cookie is)
+  | true ↦ λ is k. let same = ap (λ (x : DirEntry). x.cookie) (list_head k) in omega (arith, same, ltb-true c g.cookie is)
   | false ↦ λ is k. first_above c gs e more k
 ] refl h
 
 -- above the first that is above are the others that are
-next_above : (low c : ℕ) (es : List Entry) → RisesAbove low es → (e : Entry) (more : List Entry) → entries_above c es ≡ e ∷ more → entries_above e.cookie es ≡ more
+next_above : (low c : ℕ) (es : List DirEntry) → RisesAbove low es → (e : DirEntry) (more : List DirEntry) → entries_above c es ≡ e ∷ more → entries_above e.cookie es ≡ more
 next_above low c [] up e more h = absurd (no_cons h)
 next_above low c (g ∷ gs) up e more h = elim (ltb c g.cookie) as (λ b. ltb c g.cookie ≡ b → cond b (g ∷ entries_above c gs) (entries_above c gs) ≡ e ∷ more → entries_above e.cookie (g ∷ gs) ≡ more) [
   | true ↦ λ is k.
-      let same : g.cookie ≡ e.cookie = ap (λ (x : Entry). x.cookie) (list_head k) in
+      let same : g.cookie ≡ e.cookie = ap (λ (x : DirEntry). x.cookie) (list_head k) in
       let above = ltb-true c g.cookie is in
       cond-false _ _ _ (le-ltb e.cookie g.cookie (omega (arith, same)))
       ∙ all_above e.cookie g.cookie gs (omega (arith, same)) up.1 ∙ sym (all_above c g.cookie gs (omega (arith, above)) up.1) ∙ list_tail k
@@ -63,22 +63,22 @@ next_above low c (g ∷ gs) up e more h = elim (ltb c g.cookie) as (λ b. ltb c 
 ] refl h
 
 -- what is behind a front is above its last cookie
-behind : (low : ℕ) (es : List Entry) → RisesAbove low es → (c : ℕ) (some rest : List Entry) → entries_above c es ≡ some ++ rest → entries_above (last_cookie c some) es ≡ rest
+behind : (low : ℕ) (es : List DirEntry) → RisesAbove low es → (c : ℕ) (some rest : List DirEntry) → entries_above c es ≡ some ++ rest → entries_above (last_cookie c some) es ≡ rest
 behind low es up c [] rest h = h
 behind low es up c (e ∷ some) rest h = behind low es up e.cookie some rest (next_above low c es up e (some ++ rest) h)
 
-last-append : (c : ℕ) (some rest : List Entry) → last_cookie c (some ++ rest) ≡ last_cookie (last_cookie c some) rest
+last-append : (c : ℕ) (some rest : List DirEntry) → last_cookie c (some ++ rest) ≡ last_cookie (last_cookie c some) rest
 last-append c [] rest = refl
 last-append c (e ∷ some) rest = last-append e.cookie some rest
 
 -- a page, and then what is above its last cookie
-one_page : (low : ℕ) (es : List Entry) → RisesAbove low es → (c count : ℕ)
+one_page : (low : ℕ) (es : List DirEntry) → RisesAbove low es → (c count : ℕ)
     → entries_above c es ≡ (page_of c count es).entries ++ entries_above (last_cookie c (page_of c count es).entries) es
 one_page low es up c count =
     let l = longest (min count 8192) (entries_above c es) in
     l.splits ∙ ap (λ r. (page_of c count es).entries ++ r) (sym (behind low es up c (page_of c count es).entries l.rest l.splits))
 
-pub each_once : (low : ℕ) (es : List Entry) → RisesAbove low es → (counts : List ℕ) (c : ℕ)
+pub each_once : (low : ℕ) (es : List DirEntry) → RisesAbove low es → (counts : List ℕ) (c : ℕ)
     → entries_above c es ≡ pages counts c es ++ entries_above (last_cookie c (pages counts c es)) es
 each_once low es up [] c = refl
 each_once low es up (count ∷ counts) c =
@@ -93,7 +93,7 @@ no_length [] h = refl
 no_length (x ∷ xs) h = absurd (omega arith)
 
 -- eof is that none is above the last cookie
-pub eof_is : (low : ℕ) (es : List Entry) → RisesAbove low es → (c count : ℕ)
+pub eof_is : (low : ℕ) (es : List DirEntry) → RisesAbove low es → (c count : ℕ)
     → ((page_of c count es).eof ≡ true) ↔ (entries_above (last_cookie c (page_of c count es).entries) es ≡ [])
 eof_is low es up c count =
     let p = (page_of c count es).entries in
@@ -108,5 +108,5 @@ rises : (low : ℕ) (es : List (List ℕ × (ℕ × ℕ))) (high c : ℕ) → c 
 rises low [] high c lt up = tt
 rises low (e ∷ es) high c lt up = (omega (arith, up.0), rises (e.1.1 + 1) es high e.1.1 (omega arith) up.1)
 
-pub listed_rises : (w : Files) (dir : ℕ) (l : Listing) → IsRising 3 l.entries l.next → RisesAbove 0 (listed w dir l)
+pub listed_rises : (w : Files) (dir : ℕ) (l : Listing) → IsRising 3 l.entries l.next → RisesAbove 0 (dir_entries w dir l)
 listed_rises w dir l up = (omega arith, (omega arith, rises 3 l.entries l.next 2 (omega arith) up))

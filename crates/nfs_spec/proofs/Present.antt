@@ -9,12 +9,12 @@ use Rattle.nfs_types.specs.declared.stat.Stat.{Stat}
 use Rattle.nfs_types.specs.declared.stat.Stat.TheVariants as stats
 use Rattle.fs_model.specs.Listing.{Listing, entry_at}
 use Rattle.fs_model.specs.Names.{dot, dot_dot, is_name}
-use Rattle.fs_model.specs.Files.{Body, Regular, Link, Directory, File, Files, file_at, listing_in, is_directory, IsDirectory, places, parent_of}
+use Rattle.fs_model.specs.Files.{Body, Regular, Symlink, Directory, File, Files, file_at, listing_in, is_directory, IsDirectory, places, parent_of}
 use Rattle.fs_model.specs.Trees.{IsFileTree}
 use Rattle.fs_model.proofs.Walks.{some_same, none_some}
 use Rattle.fs_model.proofs.Parents.{parent_there}
-use Rattle.nfs_spec.specs.Checks.{◌>>=◌, found_or, listing_or, may_search}
-use Rattle.nfs_spec.specs.Attributes.{attributes_of}
+use Rattle.nfs_spec.specs.ProcedureChecks.{◌>>=◌, ok_or, listing_or, may_search}
+use Rattle.nfs_spec.specs.FileAttributes.{attributes_of}
 use Rattle.nfs_spec.specs.Effects.{attributes_at, number_named, number_at_name, getattr, lookup}
 use Rattle.nfs_spec.proofs.Lookups.{shown}
 
@@ -33,8 +33,8 @@ getattr_there w file n named there h = by (file_at w n) refl
     by : (o : Option File) → file_at w n ≡ o → ⊥
     by None e = none_there (file_at w n) e there
     by (Some f) e = ok_not_stale (
-        sym (ap (λ o. found_or stats.Stale o >>= λ f. Ok (attributes_of w n f)) e)
-        ∙ sym (ap (λ o. found_or stats.Stale o >>= attributes_at w) named) ∙ h)
+        sym (ap (λ o. ok_or stats.Stale o >>= λ f. Ok (attributes_of w n f)) e)
+        ∙ sym (ap (λ o. ok_or stats.Stale o >>= attributes_at w) named) ∙ h)
 
 given : Files → ℕ → Fattr → Result (List ℕ × Fattr) Stat
 given w n a = Ok (handle_of w.fsid n, a)
@@ -45,7 +45,7 @@ there_shows w n there h = by (file_at w n) refl
   where
     by : (o : Option File) → file_at w n ≡ o → ⊥
     by None e = none_there (file_at w n) e there
-    by (Some f) e = ok_not_stale (sym (ap (λ o. (found_or stats.Stale o >>= λ f. Ok (attributes_of w n f)) >>= given w n) e) ∙ h)
+    by (Some f) e = ok_not_stale (sym (ap (λ o. (ok_or stats.Stale o >>= λ f. Ok (attributes_of w n f)) >>= given w n) e) ∙ h)
 
 module _ (w : Files) (tree : IsFileTree w) (d : ℕ) (l : Listing) (there : IsSome (file_at w d)) (is_dir : IsDirectory w d)
     (own : (y : List ℕ) → places w d y ≡ entry_at l y) where
@@ -65,14 +65,14 @@ module _ (w : Files) (tree : IsFileTree w) (d : ℕ) (l : Listing) (there : IsSo
 pub lookup_there : (w : Files) (who : Caller) (dir name : List ℕ) (d : ℕ) → IsFileTree w → number_in w.fsid dir ≡ Some d → IsSome (file_at w d) → lookup w who dir name ≢ Err stats.Stale
 lookup_there w who dir name d tree named there h = by (file_at w d) refl
   where
-    by_name : (l : Listing) → IsDirectory w d → ((y : List ℕ) → places w d y ≡ entry_at l y) → (o : Option ℕ) → number_named w d l name ≡ o → shown w (found_or stats.NoEnt o) ≢ Err stats.Stale
+    by_name : (l : Listing) → IsDirectory w d → ((y : List ℕ) → places w d y ≡ entry_at l y) → (o : Option ℕ) → number_named w d l name ≡ o → shown w (ok_or stats.NoEnt o) ≢ Err stats.Stale
     by_name l is own None e h = cc
     by_name l is own (Some n) e h = there_shows w n (named_there w tree d l there is own name n e) h
 
     by_body : (f : File) (b : Body) (allowed : Bool) → file_at w d ≡ Some f → f.body ≡ b
-        → shown w (listing_or stats.NotDir b >>= λ l. cond allowed (found_or stats.NoEnt (number_named w d l name)) (Err stats.Acces)) ≢ Err stats.Stale
+        → shown w (listing_or stats.NotDir b >>= λ l. cond allowed (ok_or stats.NoEnt (number_named w d l name)) (Err stats.Acces)) ≢ Err stats.Stale
     by_body f (Regular bytes) allowed e is h = cc
-    by_body f (Link target) allowed e is h = cc
+    by_body f (Symlink target) allowed e is h = cc
     by_body f (Directory l) false e is h = cc
     by_body f (Directory l) true e is h = by_name l
         (ap (option_map (λ f. is_directory f.body)) e ∙ ap (λ b. Some (is_directory b)) is)
@@ -82,6 +82,6 @@ lookup_there w who dir name d tree named there h = by (file_at w d) refl
     by : (o : Option File) → file_at w d ≡ o → ⊥
     by None e = none_there (file_at w d) e there
     by (Some f) e = by_body f f.body (may_search who f) e refl (
-        sym (ap (λ o. found_or stats.Stale o >>= λ n. shown w (number_at_name w who n name)) named
-        ∙ ap (λ o. shown w (found_or stats.Stale o >>= λ f. listing_or stats.NotDir f.body >>= λ l. cond (may_search who f) (found_or stats.NoEnt (number_named w d l name)) (Err stats.Acces))) e)
+        sym (ap (λ o. ok_or stats.Stale o >>= λ n. shown w (number_at_name w who n name)) named
+        ∙ ap (λ o. shown w (ok_or stats.Stale o >>= λ f. listing_or stats.NotDir f.body >>= λ l. cond (may_search who f) (ok_or stats.NoEnt (number_named w d l name)) (Err stats.Acces))) e)
         ∙ h)

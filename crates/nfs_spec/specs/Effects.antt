@@ -14,49 +14,54 @@ use Rattle.nfs_types.specs.declared.stat.Stat.TheVariants as stats
 use Rattle.fs_model.specs.Listing.{Listing, entry_at}
 use Rattle.fs_model.specs.Names.{dot, dot_dot, is_name}
 use Rattle.fs_model.specs.Files.{Files, parent_of}
-use Rattle.nfs_spec.specs.Checks.{◌>>=◌, found_or, file_of, number_of, listing_or, may_search}
-use Rattle.nfs_spec.specs.Attributes.{attributes_of}
+use Rattle.nfs_spec.specs.ProcedureChecks.{◌>>=◌, ok_or, file_of, number_of, listing_or, may_search}
+use Rattle.nfs_spec.specs.FileAttributes.{attributes_of}
 
 -- ---- of a file number
 
 abbrev pub attributes_at : Files → ℕ → Result Fattr Stat
-attributes_at w n = do
-  f ← file_of w n
-  Ok (attributes_of w n f)
+attributes_at fs n = do
+  f ← file_of fs n
+  Ok (attributes_of fs n f)
 
--- the number that a directory has at a name: `.` is itself, and `..` the directory above, which for the root is itself
-abbrev pub number_named : Files → ℕ → Listing → List ℕ → Option ℕ
-number_named w dir l name =
-    if pointwise nat_eq name dot then Some dir
-    else if pointwise nat_eq name dot_dot then Some (parent_of w dir)
+-- the number that a name stands for in a directory, by its own number, the one above and what it lists: `.` is itself,
+-- and `..` the directory above
+abbrev pub number_in_listing : ℕ → ℕ → Listing → List ℕ → Option ℕ
+number_in_listing own above l name =
+    if pointwise nat_eq name dot then Some own
+    else if pointwise nat_eq name dot_dot then Some above
     else if is_name name then option_map (λ e. e.0) (entry_at l name)
     else None
 
+-- of files: the directory above the root is the root
+abbrev pub number_named : Files → ℕ → Listing → List ℕ → Option ℕ
+number_named fs dir l name = number_in_listing dir (parent_of fs dir) l name
+
 -- STALE, NOTDIR; search permission, else ACCES; NOENT
 abbrev pub number_at_name : Files → Caller → ℕ → List ℕ → Result ℕ Stat
-number_at_name w who dir name = do
-  f ← file_of w dir
+number_at_name fs who dir name = do
+  f ← file_of fs dir
   l ← listing_or stats.NotDir f.body
-  if may_search who f then found_or stats.NoEnt (number_named w dir l name) else Err stats.Acces
+  if may_search who f then ok_or stats.NoEnt (number_named fs dir l name) else Err stats.Acces
 
 -- ---- of a file handle
 
 -- GETATTR (section 2.2.2)
 abbrev pub getattr : Files → List ℕ → Result Fattr Stat
-getattr w file = do
-  n ← number_of w file
-  attributes_at w n
+getattr fs file = do
+  n ← number_of fs file
+  attributes_at fs n
 
 -- LOOKUP (section 2.2.5)
 abbrev pub lookup : Files → Caller → List ℕ → List ℕ → Result (List ℕ × Fattr) Stat
-lookup w who dir name = do
-  d ← number_of w dir
-  n ← number_at_name w who d name
-  a ← attributes_at w n
-  Ok (handle_of w.fsid n, a)
+lookup fs who dir name = do
+  d ← number_of fs dir
+  n ← number_at_name fs who d name
+  a ← attributes_at fs n
+  Ok (handle_of fs.fsid n, a)
 
 -- the result of a procedure, and the files after it
 abbrev pub does : Files → Caller → Timeval → Arguments → Results × Files
-does w who now Null = (results.Null, w)
-does w who now (Getattr file) = (Attributes (getattr w file), w)
-does w who now (Lookup dir name) = (DirOp (lookup w who dir name), w)
+does fs who now Null = (results.Null, fs)
+does fs who now (Getattr file) = (Attributes (getattr fs file), fs)
+does fs who now (Lookup dir name) = (DirOp (lookup fs who dir name), fs)

@@ -9,200 +9,200 @@ use Rattle.nfs_types.specs.declared.stat.Stat.{Stat}
 use Rattle.nfs_types.specs.declared.stat.Stat.TheVariants as stats
 use Rattle.fs_model.specs.Listing.{entry_at}
 use Rattle.fs_model.specs.Names.{is_name}
-use Rattle.fs_model.specs.Files.{Body, Regular, Link, Directory, File, Files, is_directory, listing_in, parent_of}
+use Rattle.fs_model.specs.Files.{Body, Regular, Symlink, Directory, File, Files, is_directory, listing_in, parent_of}
 use Rattle.fs_changes.specs.Edits.{with_new_file, with_changed_file, with_name, without_name}
 use Rattle.fs_changes.specs.Limits.{block_count, file_count}
-use Rattle.nfs_spec.specs.Attributes.{attributes_of}
-use Rattle.nfs_spec.specs.Checks.{◌>>=◌, Found, file_of, listing_or, dir_of, check, check_size, check_room, check_cookie, check_edit, check_free, number_at, bytes_of, target_of, permits, may_search, may_read, may_write}
-use Rattle.nfs_spec.specs.Sattr.{Wanted, nothing}
-use Rattle.nfs_spec.specs.Changes.{Effect, touch, mark, touched, written, check_owner, check_resize, set, new_file, unnamed}
-use Rattle.nfs_spec.specs.Reading.{Page, listed, page_of}
+use Rattle.nfs_spec.specs.FileAttributes.{attributes_of}
+use Rattle.nfs_spec.specs.ProcedureChecks.{◌>>=◌, NumberedDir, file_of, listing_or, dir_of, check, check_size, check_room, check_cookie, check_edit, check_free, number_at, bytes_of, target_of, permits, may_search, may_read, may_write}
+use Rattle.nfs_spec.specs.Sattr.{GivenFields, no_fields}
+use Rattle.nfs_spec.specs.Changes.{Effect, touch, touch_ctime, with_mtime, with_bytes_at, check_owner, check_resize, apply_fields, new_file, unlink}
+use Rattle.nfs_spec.specs.Readdir.{Page, dir_entries, page_of}
 
 -- SETATTR (section 2.2.3)
-abbrev pub set_attributes : Files → Caller → Timeval → ℕ → Wanted → Effect (Unit {0})
-set_attributes w who now n a = do
-  f ← file_of w n
+abbrev pub set_attributes : Files → Caller → Timeval → ℕ → GivenFields → Effect (Unit {0})
+set_attributes fs who now n a = do
+  f ← file_of fs n
   _ ← check_owner who f a
   _ ← check_resize who f a.size
-  let after = with_changed_file w n (set now a)
+  let after = with_changed_file fs n (apply_fields now a)
   _ ← if is_some a.size then check_room after else Ok tt
   Ok (tt, after)
 
 -- READLINK (section 2.2.6)
 abbrev pub read_link : Files → ℕ → Result (List ℕ) Stat
-read_link w n = do
-  f ← file_of w n
+read_link fs n = do
+  f ← file_of fs n
   target_of f.body
 
 -- READ (section 2.2.7): at most count and 8192 bytes from the offset, none past the end
 abbrev pub read : Files → Caller → ℕ → ℕ → ℕ → Result (Fattr × List ℕ) Stat
-read w who n offset count = do
-  f ← file_of w n
+read fs who n offset count = do
+  f ← file_of fs n
   bytes ← bytes_of f.body
   _ ← check (may_read who f || permits who f 1) stats.Acces
-  Ok (attributes_of w n f, take (min count 8192) (drop offset bytes))
+  Ok (attributes_of fs n f, take (min count 8192) (drop offset bytes))
 
-abbrev pub rewritten : Timeval → ℕ → List ℕ → List ℕ → File → File
-rewritten now offset new old f = touched now (record f { body = Regular (written offset new old) })
+abbrev pub with_bytes_written : Timeval → ℕ → List ℕ → List ℕ → File → File
+with_bytes_written now offset new old f = with_mtime now (record f { body = Regular (with_bytes_at offset new old) })
 
 -- WRITE (section 2.2.9): of no bytes, nothing changes
 abbrev pub write : Files → Caller → Timeval → ℕ → ℕ → List ℕ → Effect (Unit {0})
-write w who now n offset new = do
-  f ← file_of w n
+write fs who now n offset new = do
+  f ← file_of fs n
   old ← bytes_of f.body
   _ ← check (may_write who f) stats.Acces
-  let after = with_changed_file w n (rewritten now offset new old)
-  if length new == 0 then Ok (tt, w) else do
+  let after = with_changed_file fs n (with_bytes_written now offset new old)
+  if length new == 0 then Ok (tt, fs) else do
     _ ← check_size (offset + length new)
     _ ← check_room after
     Ok (tt, after)
 
 -- a new file with a name
-abbrev pub made : Timeval → Files → ℕ → List ℕ → File → Files
-made now w dir name f = touch now (with_name (with_new_file w f) dir name w.next) dir
+abbrev pub add_file : Timeval → Files → ℕ → List ℕ → File → Files
+add_file now fs dir name f = touch now (with_name (with_new_file fs f) dir name fs.next) dir
 
 abbrev pub is_regular : Body → Bool
 is_regular (Regular bytes) = true
-is_regular (Link target) = false
+is_regular (Symlink target) = false
 is_regular (Directory l) = false
 
 -- CREATE of a name that is there: EXIST unless regular, else as SETATTR
-abbrev pub create_over : Files → Caller → Timeval → Wanted → ℕ → Effect ℕ
-create_over w who now a n = do
-  f ← file_of w n
+abbrev pub create_over : Files → Caller → Timeval → GivenFields → ℕ → Effect ℕ
+create_over fs who now a n = do
+  f ← file_of fs n
   _ ← check (is_regular f.body) stats.Exist
-  after ← set_attributes w who now n a
+  after ← set_attributes fs who now n a
   Ok (n, after.1)
 
 -- CREATE of a new name: write permission in the directory, else ACCES; FBIG; Room
-abbrev pub create_new : Files → Caller → Timeval → Found → List ℕ → Wanted → Effect ℕ
-create_new w who now d name a = do
+abbrev pub create_new : Files → Caller → Timeval → NumberedDir → List ℕ → GivenFields → Effect ℕ
+create_new fs who now d name a = do
   _ ← check (may_write who d.file) stats.Acces
   _ ← check_size (unwrap_or a.size 0)
-  let after = made now w d.number name (new_file who now a 420 (Regular (replicate (unwrap_or a.size 0) 0)))
+  let after = add_file now fs d.number name (new_file who now a 420 (Regular (replicate (unwrap_or a.size 0) 0)))
   _ ← check_room after
-  Ok (w.next, after)
+  Ok (fs.next, after)
 
 -- CREATE (section 2.2.10)
-abbrev pub create : Files → Caller → Timeval → ℕ → List ℕ → Wanted → Effect ℕ
-create w who now dir name a = do
-  d ← dir_of w dir
+abbrev pub create : Files → Caller → Timeval → ℕ → List ℕ → GivenFields → Effect ℕ
+create fs who now dir name a = do
+  d ← dir_of fs dir
   _ ← check (is_name name) stats.Acces
   _ ← check (may_search who d.file) stats.Acces
-  option_map_or (λ e. create_over w who now a e.0) (entry_at d.listing name) (create_new w who now d name a)
+  option_map_or (λ e. create_over fs who now a e.0) (entry_at d.listing name) (create_new fs who now d name a)
 
 -- a new file that needs Edit, a free name and Room
 abbrev pub make : Files → Caller → Timeval → ℕ → List ℕ → File → Effect ℕ
-make w who now dir name f = do
-  d ← dir_of w dir
+make fs who now dir name f = do
+  d ← dir_of fs dir
   _ ← check_edit who d name
   _ ← check_free d name
-  let after = made now w dir name f
+  let after = add_file now fs dir name f
   _ ← check_room after
-  Ok (w.next, after)
+  Ok (fs.next, after)
 
 -- MKDIR (section 2.2.15): mode or 0755
-abbrev pub make_dir : Files → Caller → Timeval → ℕ → List ℕ → Wanted → Effect ℕ
-make_dir w who now dir name a = make w who now dir name (new_file who now a 493 (Directory (record { next = 3; entries = [] })))
+abbrev pub make_dir : Files → Caller → Timeval → ℕ → List ℕ → GivenFields → Effect ℕ
+make_dir fs who now dir name a = make fs who now dir name (new_file who now a 493 (Directory (record { next = 3; entries = [] })))
 
 -- SYMLINK (section 2.2.14): mode 0777, the caller's, and all times now
 abbrev pub symlink : Files → Caller → Timeval → ℕ → List ℕ → List ℕ → Effect ℕ
-symlink w who now dir name target = make w who now dir name (new_file who now nothing 511 (Link target))
+symlink fs who now dir name target = make fs who now dir name (new_file who now no_fields 511 (Symlink target))
 
 -- LINK (section 2.2.13)
 abbrev pub link : Files → Caller → Timeval → ℕ → ℕ → List ℕ → Effect (Unit {0})
-link w who now from dir name = do
-  f ← file_of w from
+link fs who now from dir name = do
+  f ← file_of fs from
   _ ← check (not (is_directory f.body)) stats.IsDir
-  d ← dir_of w dir
+  d ← dir_of fs dir
   _ ← check_edit who d name
   _ ← check_free d name
-  let after = touch now (with_name (mark now w from) dir name from) dir
+  let after = touch now (with_name (touch_ctime now fs from) dir name from) dir
   _ ← check_room after
   Ok (tt, after)
 
 -- REMOVE (section 2.2.11)
 abbrev pub remove : Files → Caller → Timeval → ℕ → List ℕ → Effect (Unit {0})
-remove w who now dir name = do
-  d ← dir_of w dir
+remove fs who now dir name = do
+  d ← dir_of fs dir
   _ ← check_edit who d name
   n ← number_at d name
-  f ← file_of w n
+  f ← file_of fs n
   _ ← check (not (is_directory f.body)) stats.IsDir
-  Ok (tt, touch now (unnamed now w dir name n) dir)
+  Ok (tt, touch now (unlink now fs dir name n) dir)
 
 -- RMDIR (section 2.2.16)
 abbrev pub remove_dir : Files → Caller → Timeval → ℕ → List ℕ → Effect (Unit {0})
-remove_dir w who now dir name = do
-  d ← dir_of w dir
+remove_dir fs who now dir name = do
+  d ← dir_of fs dir
   _ ← check_edit who d name
   n ← number_at d name
-  f ← file_of w n
+  f ← file_of fs n
   l ← listing_or stats.NotDir f.body
   _ ← check (length l.entries == 0) stats.NotEmpty
-  Ok (tt, touch now (unnamed now w dir name n) dir)
+  Ok (tt, touch now (unlink now fs dir name n) dir)
 
 -- whether a number is a directory or above it, in at most as many steps up as the first number says
 abbrev pub climbs_to : ℕ → Files → ℕ → ℕ → Bool
-climbs_to zero w upper dir = upper == dir
-climbs_to (suc k) w upper dir = (upper == dir) || climbs_to k w upper (parent_of w dir)
+climbs_to zero fs upper dir = upper == dir
+climbs_to (suc k) fs upper dir = (upper == dir) || climbs_to k fs upper (parent_of fs dir)
 
 -- no way up is longer than there are files
 abbrev pub is_above : Files → ℕ → ℕ → Bool
-is_above w upper dir = climbs_to (file_count w) w upper dir
+is_above fs upper dir = climbs_to (file_count fs) fs upper dir
 
 -- what stands at the new name goes as it may: a directory over another kind is NOTDIR, another kind over a
 -- directory ISDIR, and a directory that is not empty NOTEMPTY
 abbrev pub check_target : Files → File → Option ℕ → Result (Unit {0}) Stat
-check_target w f None = Ok tt
-check_target w f (Some n) = do
-  t ← file_of w n
+check_target fs f None = Ok tt
+check_target fs f (Some n) = do
+  t ← file_of fs n
   _ ← check (not (is_directory f.body) || is_directory t.body) stats.NotDir
   _ ← check (is_directory f.body || not (is_directory t.body)) stats.IsDir
   check (length (listing_in t.body).entries == 0) stats.NotEmpty
 
 -- the target goes as by REMOVE or RMDIR
-abbrev pub cleared : Timeval → Files → ℕ → List ℕ → Option ℕ → Files
-cleared now w dir name target = record { fsid = w.fsid; next = w.next; files = option_map_or (λ n. (unnamed now w dir name n).files) target w.files }
+abbrev pub unlink_target : Timeval → Files → ℕ → List ℕ → Option ℕ → Files
+unlink_target now fs dir name target = record { fsid = fs.fsid; next = fs.next; files = option_map_or (λ n. (unlink now fs dir name n).files) target fs.files }
 
 -- the entry comes last in its new directory, with a new cookie
-abbrev pub moved : Timeval → Files → ℕ → ℕ → List ℕ → ℕ → List ℕ → Option ℕ → Files
-moved now w n from from_name to to_name target =
-    touch now (touch now (mark now (with_name (without_name (cleared now w to to_name target) from from_name) to to_name n) n) from) to
+abbrev pub move_entry : Timeval → Files → ℕ → ℕ → List ℕ → ℕ → List ℕ → Option ℕ → Files
+move_entry now fs n from from_name to to_name target =
+    touch now (touch now (touch_ctime now (with_name (without_name (unlink_target now fs to to_name target) from from_name) to to_name n) n) from) to
 
 -- RENAME (section 2.2.12); where the target is the same file, nothing changes
 abbrev pub rename : Files → Caller → Timeval → ℕ → List ℕ → ℕ → List ℕ → Effect (Unit {0})
-rename w who now from from_name to to_name = do
-  d ← dir_of w from
-  e ← dir_of w to
+rename fs who now from from_name to to_name = do
+  d ← dir_of fs from
+  e ← dir_of fs to
   _ ← check_edit who d from_name
   _ ← check_edit who e to_name
   n ← number_at d from_name
-  f ← file_of w n
+  f ← file_of fs n
   let target = option_map (λ e. e.0) (entry_at e.listing to_name)
-  let after = moved now w n from from_name to to_name target
-  if option_map_or (λ t. t == n) target false then Ok (tt, w) else do
-    _ ← check (not (is_directory f.body && is_above w n to)) stats.Acces
-    _ ← check_target w f target
+  let after = move_entry now fs n from from_name to to_name target
+  if option_map_or (λ t. t == n) target false then Ok (tt, fs) else do
+    _ ← check (not (is_directory f.body && is_above fs n to)) stats.Acces
+    _ ← check_target fs f target
     _ ← check_cookie e.listing
     Ok (tt, after)
 
 -- READDIR (section 2.2.17)
 abbrev pub read_dir : Files → Caller → ℕ → ℕ → ℕ → Result Page Stat
-read_dir w who n cookie count = do
-  d ← dir_of w n
+read_dir fs who n cookie count = do
+  d ← dir_of fs n
   _ ← check (may_read who d.file) stats.Acces
-  Ok (page_of cookie count (listed w n d.listing))
+  Ok (page_of cookie count (dir_entries fs n d.listing))
 
 -- STATFS (section 2.2.18): in blocks, free is what regular files leave
-pub record Figures : Type 0 where
+pub record FsStats : Type 0 where
   pub transfer_size : ℕ
   pub block_size : ℕ
   pub blocks : ℕ
   pub free : ℕ
   pub available : ℕ
 
-abbrev pub figures : Files → ℕ → Result Figures Stat
-figures w n = do
-  f ← file_of w n
-  Ok (record { transfer_size = 8192; block_size = 512; blocks = 32768; free = 32768 - block_count w; available = 32768 - block_count w })
+abbrev pub stat_fs : Files → ℕ → Result FsStats Stat
+stat_fs fs n = do
+  f ← file_of fs n
+  Ok (record { transfer_size = 8192; block_size = 512; blocks = 32768; free = 32768 - block_count fs; available = 32768 - block_count fs })

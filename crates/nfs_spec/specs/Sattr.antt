@@ -23,7 +23,7 @@ abbrev pub given_time : Timeval → Timeval → Option Timeval
 given_time now t = if t.seconds == 4294967295 then None else if nat_lt 999999 t.microseconds then Some now else Some t
 
 -- what is given
-pub record Wanted : Type 0 where
+pub record GivenFields : Type 0 where
   pub mode : Option ℕ
   pub uid : Option ℕ
   pub gid : Option ℕ
@@ -31,8 +31,8 @@ pub record Wanted : Type 0 where
   pub atime : Option Timeval
   pub mtime : Option Timeval
 
-abbrev pub wanted : Timeval → Sattr → Wanted
-wanted now s = record {
+abbrev pub given_fields : Timeval → Sattr → GivenFields
+given_fields now s = record {
   mode = given_mode s.mode;
   uid = given_word s.uid;
   gid = given_word s.gid;
@@ -41,9 +41,9 @@ wanted now s = record {
   mtime = given_time now s.mtime;
 }
 
-abbrev pub wants_any : Wanted → Bool
-wants_any a = is_some a.mode || is_some a.uid || is_some a.gid || is_some a.size || is_some a.atime || is_some a.mtime
+abbrev pub gives_any : GivenFields → Bool
+gives_any a = is_some a.mode || is_some a.uid || is_some a.gid || is_some a.size || is_some a.atime || is_some a.mtime
 
 -- nothing is given
-abbrev pub nothing : Wanted
-nothing = record { mode = None; uid = None; gid = None; size = None; atime = None; mtime = None }
+abbrev pub no_fields : GivenFields
+no_fields = record { mode = None; uid = None; gid = None; size = None; atime = None; mtime = None }

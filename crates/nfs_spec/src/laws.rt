@@ -14,56 +14,56 @@ ghost use Rattle.fs_model.specs.Files.{Files, file_at};
 ghost use Rattle.fs_model.specs.Trees.{IsFileTree};
 ghost use Rattle.fs_changes.specs.Limits.{has_room};
 ghost use Rattle.nfs_spec.specs.Effects.{does, getattr, lookup};
-ghost use Rattle.nfs_spec.specs.Reading.{Entry, listed, page_of, pages, last_cookie, entries_above, RisesAbove, IsLongestFront};
+ghost use Rattle.nfs_spec.specs.Readdir.{DirEntry, dir_entries, page_of, pages, last_cookie, entries_above, RisesAbove, IsLongestFront};
 ghost use Rattle.nfs_spec.specs.Opening.{epoch, hello, opening_files};
-ghost use Rattle.nfs_spec.specs.Laws.{found_at, IsSearched, stat_of};
+ghost use Rattle.nfs_spec.specs.LawTerms.{lookup_at_path, IsSearchable, stat_of};
 
 /// LOOKUP gives what a path with the name at its end leads to; of `.` the directory itself, and of `..` the
 /// directory of the path without its last name, which for the root is the root.
 pub fn lookup_goes_by_paths()
-    ensures name { (w : Files) (who : Caller) (dir name : List ℕ) (path : List (List ℕ)) →
-        IsSearched w who dir path → IsTrue (is_name name) →
-        lookup w who dir name ≡ found_at w (path ++ name ∷ []) }
-    ensures dot { (w : Files) (who : Caller) (dir : List ℕ) (path : List (List ℕ)) →
-        IsSearched w who dir path → lookup w who dir dot ≡ found_at w path }
-    ensures above { (w : Files) (who : Caller) (dir last : List ℕ) (front : List (List ℕ)) →
-        IsFileTree w → IsSearched w who dir (front ++ last ∷ []) →
-        lookup w who dir dot_dot ≡ found_at w front }
-    ensures root { (w : Files) (who : Caller) (dir : List ℕ) →
-        IsSearched w who dir [] → lookup w who dir dot_dot ≡ found_at w [] }
+    ensures name { (fs : Files) (who : Caller) (dir name : List ℕ) (path : List (List ℕ)) →
+        IsSearchable fs who dir path → IsTrue (is_name name) →
+        lookup fs who dir name ≡ lookup_at_path fs (path ++ name ∷ []) }
+    ensures dot { (fs : Files) (who : Caller) (dir : List ℕ) (path : List (List ℕ)) →
+        IsSearchable fs who dir path → lookup fs who dir dot ≡ lookup_at_path fs path }
+    ensures above { (fs : Files) (who : Caller) (dir last : List ℕ) (front : List (List ℕ)) →
+        IsFileTree fs → IsSearchable fs who dir (front ++ last ∷ []) →
+        lookup fs who dir dot_dot ≡ lookup_at_path fs front }
+    ensures root { (fs : Files) (who : Caller) (dir : List ℕ) →
+        IsSearchable fs who dir [] → lookup fs who dir dot_dot ≡ lookup_at_path fs [] }
 {}
 
 /// A refusal leaves the files as they were.
 pub fn refusals_change_nothing()
-    ensures { (w : Files) (who : Caller) (now : Timeval) (call : Arguments) (stat : Stat) →
-        stat_of (does w who now call).0 ≡ Some stat → (does w who now call).1 ≡ w }
+    ensures { (fs : Files) (who : Caller) (now : Timeval) (call : Arguments) (stat : Stat) →
+        stat_of (does fs who now call).0 ≡ Some stat → (does fs who now call).1 ≡ fs }
 {}
 
 /// NULL, GETATTR and LOOKUP leave the files as they are.
 pub fn readers_change_nothing()
-    ensures null { (w : Files) (who : Caller) (now : Timeval) → (does w who now Null).1 ≡ w }
-    ensures getattr { (w : Files) (who : Caller) (now : Timeval) (file : List ℕ) →
-        (does w who now (Getattr file)).1 ≡ w }
-    ensures lookup { (w : Files) (who : Caller) (now : Timeval) (dir name : List ℕ) →
-        (does w who now (Lookup dir name)).1 ≡ w }
+    ensures null { (fs : Files) (who : Caller) (now : Timeval) → (does fs who now Null).1 ≡ fs }
+    ensures getattr { (fs : Files) (who : Caller) (now : Timeval) (file : List ℕ) →
+        (does fs who now (Getattr file)).1 ≡ fs }
+    ensures lookup { (fs : Files) (who : Caller) (now : Timeval) (dir name : List ℕ) →
+        (does fs who now (Lookup dir name)).1 ≡ fs }
 {}
 
 /// The result and the files after a call are told by the files before it, the caller's user and groups, the
 /// time and the call: the name of the caller's machine says nothing.
 pub fn effects_are_determined()
-    ensures { (w : Files) (one other : Caller) (now : Timeval) (call : Arguments) →
+    ensures { (fs : Files) (one other : Caller) (now : Timeval) (call : Arguments) →
         one.uid ≡ other.uid → one.gid ≡ other.gid → one.gids ≡ other.gids →
-        does w one now call ≡ does w other now call }
+        does fs one now call ≡ does fs other now call }
 {}
 
 /// In a tree the handle of a file that is there is not STALE.
 pub fn what_is_there_is_not_stale()
-    ensures getattr { (w : Files) (file : List ℕ) (number : ℕ) →
-        number_in w.fsid file ≡ Some number → IsSome (file_at w number) →
-        getattr w file ≢ Err stats.Stale }
-    ensures lookup { (w : Files) (who : Caller) (dir name : List ℕ) (number : ℕ) → IsFileTree w →
-        number_in w.fsid dir ≡ Some number → IsSome (file_at w number) →
-        lookup w who dir name ≢ Err stats.Stale }
+    ensures getattr { (fs : Files) (file : List ℕ) (number : ℕ) →
+        number_in fs.fsid file ≡ Some number → IsSome (file_at fs number) →
+        getattr fs file ≢ Err stats.Stale }
+    ensures lookup { (fs : Files) (who : Caller) (dir name : List ℕ) (number : ℕ) → IsFileTree fs →
+        number_in fs.fsid dir ≡ Some number → IsSome (file_at fs number) →
+        lookup fs who dir name ≢ Err stats.Stale }
 {}
 
 /// GETATTR of the root, and LOOKUP of `hello` in it, in the files that a server begins with.
@@ -114,14 +114,14 @@ pub fn opening_files_are_a_tree()
 /// READDIR's pages, each from the last cookie of the one before, give each entry once and in order; eof says that
 /// none is left; and a page is the longest front whose costs fit.
 pub fn pages_give_each_entry_once()
-    ensures once { (es : List Entry) → RisesAbove 0 es → (counts : List ℕ) (cookie : ℕ) →
+    ensures once { (es : List DirEntry) → RisesAbove 0 es → (counts : List ℕ) (cookie : ℕ) →
         entries_above cookie es
         ≡ pages counts cookie es ++ entries_above (last_cookie cookie (pages counts cookie es)) es }
-    ensures eof { (es : List Entry) → RisesAbove 0 es → (cookie count : ℕ) →
+    ensures eof { (es : List DirEntry) → RisesAbove 0 es → (cookie count : ℕ) →
         (((page_of cookie count es).eof ≡ true)
         ↔ (entries_above (last_cookie cookie (page_of cookie count es).entries) es ≡ [])) }
-    ensures longest { (es : List Entry) (cookie count : ℕ) →
+    ensures longest { (es : List DirEntry) (cookie count : ℕ) →
         IsLongestFront (min count 8192) (entries_above cookie es) (page_of cookie count es).entries }
-    ensures rising { (w : Files) (dir : ℕ) (l : Listing) →
-        IsRising 3 l.entries l.next → RisesAbove 0 (listed w dir l) }
+    ensures rising { (fs : Files) (dir : ℕ) (l : Listing) →
+        IsRising 3 l.entries l.next → RisesAbove 0 (dir_entries fs dir l) }
 {}

@@ -1,22 +1,19 @@
 -- Byte i is the one written, else the old one, else zero, of a file after WRITE, SETATTR and CREATE.
 -- Serves: bytes_are_what_was_written (nfs_spec_changes); calls_change_what_they_name (nfs_spec_frames).
-use Rattle.std.proofs.Common.{◌≡◌, ◌≢◌, ℕ, ◌+◌, ◌-◌, Bool, true, false, List, [], length, replicate, Some, Ok, get_or, refl, sym, ap, ◌∙◌, arith}
+use Rattle.std.proofs.Common.{◌≡◌, ◌≢◌, ℕ, ◌+◌, ◌-◌, Bool, true, false, List, [], length, replicate, Some, get_or, refl, ap, ◌∙◌, arith}
 use Rattle.std.specs.Prelude.{unwrap_or, nat_le, nat_lt, ◌&&◌, if◌then◌else◌}
 use Rattle.std.proofs.lemmas.Bool.{leb-true, leb-false, ltb-true, ltb-false}
 use Rattle.std.proofs.lemmas.List.{get_or_past}
 use Rattle.nfs_types.specs.Timeval.{Timeval}
 use Rattle.nfs_types.specs.Caller.{Caller}
 use Rattle.fs_model.specs.Files.{Regular, File, Files, file_at}
-use Rattle.nfs_spec.specs.Checks.{◌>>=◌, check, check_size, bytes_of, may_write}
-use Rattle.nfs_spec.specs.Sattr.{Wanted}
-use Rattle.nfs_spec.specs.Changes.{resized, resized_body, written, check_resize, set}
-use Rattle.nfs_spec.specs.Procedures.{rewritten}
-use Rattle.nfs_types.specs.declared.stat.Stat.TheVariants as stats
-use Rattle.nfs_spec_steps.proofs.Steps.{bind_ok, bytes_ok}
+use Rattle.nfs_spec.specs.Sattr.{GivenFields}
+use Rattle.nfs_spec.specs.Changes.{with_length, body_with_length, with_bytes_at, apply_fields}
+use Rattle.nfs_spec.specs.Procedures.{with_bytes_written}
 use Rattle.nfs_spec_laws.proofs.Bytes.{length-resized}
 use Rattle.nfs_spec_laws.proofs.Bytes.{written_length, resized_byte, byte_before, byte_behind, byte_new}
 use Rattle.nfs_spec_changes.specs.Changed.{Becomes, ChangesBytes, old_byte, IsWritten, IsResized, Makes}
-use Rattle.nfs_spec_changes.proofs.Granted.{IsSet, IsWrote, created}
+use Rattle.nfs_spec_steps.specs.Granted.{SetOk, WriteOk, new_regular}
 use Rattle.nfs_spec_changes.proofs.NamedFiles.{changed_is, wrote_is}
 
 -- past the end of a list its byte is read as zero
@@ -27,50 +24,44 @@ old_is old i = by (nat_lt i (length old)) refl
     by true is = refl
     by false is = get_or_past old i 0 (ltb-false i (length old) is)
 
-is_written : (offset : ℕ) (new old : List ℕ) → IsWritten offset new old (written offset new old)
+is_written : (offset : ℕ) (new old : List ℕ) → IsWritten offset new old (with_bytes_at offset new old)
 is_written offset new old = record { long = written_length offset new old; byte = λ i lt. by i (nat_le offset i) refl (nat_lt i (offset + length new)) refl }
   where
-    by : (i : ℕ) (a : Bool) → nat_le offset i ≡ a → (b : Bool) → nat_lt i (offset + length new) ≡ b → get_or (written offset new old) i 0 ≡ (if a && b then get_or new (i - offset) 0 else old_byte old i)
+    by : (i : ℕ) (a : Bool) → nat_le offset i ≡ a → (b : Bool) → nat_lt i (offset + length new) ≡ b → get_or (with_bytes_at offset new old) i 0 ≡ (if a && b then get_or new (i - offset) 0 else old_byte old i)
     by i false ea b eb = let before = leb-false offset i ea in byte_before offset new old i (omega (arith, before)) ∙ old_is old i
     by i true ea false eb = let behind = ltb-false i (offset + length new) eb in byte_behind offset new old i (omega (arith, behind)) ∙ old_is old i
     by i true ea true eb =
         let from = leb-true offset i ea in
         let below = ltb-true i (offset + length new) eb in
         let place : i ≡ offset + (i - offset) = omega (arith, from) in
-        ap (λ n. get_or (written offset new old) n 0) place ∙ byte_new offset new old (i - offset) (omega (arith, from, below))
+        ap (λ n. get_or (with_bytes_at offset new old) n 0) place ∙ byte_new offset new old (i - offset) (omega (arith, from, below))
 
-is_resized : (size : ℕ) (old : List ℕ) → IsResized size old (resized size old)
+is_resized : (size : ℕ) (old : List ℕ) → IsResized size old (with_length size old)
 is_resized size old = record { long = length-resized size old; byte = λ i lt. resized_byte size old i lt ∙ old_is old i }
-
--- only a regular file is given a size
-regular : (who : Caller) (f : File) (size : ℕ) → check_resize who f (Some size) ≡ Ok tt → (bytes : List ℕ) × (f.body ≡ Regular bytes)
-regular who f size h =
-    let p = bind_ok (bytes_of f.body) (λ _. check (may_write who f) stats.Acces >>= λ _. check_size size) tt h in
-    (p.0, bytes_ok f.body p.0 p.1)
 
 module _ (w : Files) (who : Caller) (now : Timeval) where
   -- after WRITE of some bytes
-  pub wrote_bytes : (n offset : ℕ) (new : List ℕ) → new ≢ [] → (w' : Files) → IsWrote w who now n offset new w' → Becomes w w' n (ChangesBytes (IsWritten offset new))
+  pub wrote_bytes : (n offset : ℕ) (new : List ℕ) → new ≢ [] → (w' : Files) → WriteOk w who now n offset new w' → Becomes w w' n (ChangesBytes (IsWritten offset new))
   wrote_bytes n offset new some w' o = record {
     old = o.file;
-    new = rewritten now offset new o.old o.file;
+    new = with_bytes_written now offset new o.old o.file;
     was = o.there;
     is = wrote_is w who now n offset new some w' o;
-    change = record { before = o.old; after = written offset new o.old; was = o.regular; is = refl; change = is_written offset new o.old };
+    change = record { before = o.old; after = with_bytes_at offset new o.old; was = o.regular; is = refl; change = is_written offset new o.old };
   }
 
   -- after SETATTR with a size
-  pub set_bytes : (n size : ℕ) (a : Wanted) → a.size ≡ Some size → (w' : Files) → IsSet w who now n a w' → Becomes w w' n (ChangesBytes (IsResized size))
+  pub set_bytes : (n size : ℕ) (a : GivenFields) → a.size ≡ Some size → (w' : Files) → SetOk w who now n a w' → Becomes w w' n (ChangesBytes (IsResized size))
   set_bytes n size a given w' o =
-      let r = regular who o.file size (ap (check_resize who o.file) (sym given) ∙ o.resized) in
+      let r = o.resize size given in
       record {
         old = o.file;
-        new = set now a o.file;
+        new = apply_fields now a o.file;
         was = o.there;
-        is = changed_is w who now w' n o.file (set now a) o.there o.is;
-        change = record { before = r.0; after = resized size r.0; was = r.1; is = ap (λ s. resized_body s o.file.body) given ∙ ap (resized_body (Some size)) r.1; change = is_resized size r.0 };
+        is = changed_is w who now w' n o.file (apply_fields now a) o.there o.effect;
+        change = record { before = r.bytes; after = with_length size r.bytes; was = r.regular; is = ap (λ s. body_with_length s o.file.body) given ∙ ap (body_with_length (Some size)) r.regular; change = is_resized size r.bytes };
       }
 
   -- after CREATE of a new name with a size
-  pub made_bytes : (dir : ℕ) (name : List ℕ) (a : Wanted) (number size : ℕ) (w' : Files) → a.size ≡ Some size → Makes now w w' dir name number (created w who now a) → (g : File) × (file_at w' number ≡ Some g) × (g.body ≡ Regular (replicate size 0))
-  made_bytes dir name a number size w' given m = (created w who now a, m.made, ap (λ s. Regular (replicate (unwrap_or s 0) 0)) given)
+  pub made_bytes : (dir : ℕ) (name : List ℕ) (a : GivenFields) (number size : ℕ) (w' : Files) → a.size ≡ Some size → Makes now w w' dir name number (new_regular who now a) → (g : File) × (file_at w' number ≡ Some g) × (g.body ≡ Regular (replicate size 0))
+  made_bytes dir name a number size w' given m = (new_regular who now a, m.made, ap (λ s. Regular (replicate (unwrap_or s 0) 0)) given)

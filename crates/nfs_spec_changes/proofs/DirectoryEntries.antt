@@ -6,13 +6,13 @@ use Rattle.std.specs.Map.{lookup, remove_entry}
 use Rattle.std.specs.Cmp.Lexicographic.{pointwise}
 use Rattle.nfs_types.specs.Timeval.{Timeval}
 use Rattle.fs_model.specs.Listing.{Listing, entry_at, with_entry, without_entry, HasDistinctNames}
-use Rattle.fs_model.specs.Files.{Body, Regular, Link, Directory, File, Files, file_at, is_directory}
+use Rattle.fs_model.specs.Files.{Body, Regular, Symlink, Directory, File, Files, file_at, is_directory}
 use Rattle.fs_model.proofs.Walks.{none_some}
-use Rattle.fs_changes.specs.Edits.{with_changed_file, relisted}
+use Rattle.fs_changes.specs.Edits.{with_changed_file, map_listing}
 use Rattle.fs_changes.proofs.Finite.{changed_here, changed_other}
 use Rattle.fs_changes.proofs.Listings.{without_entry_here}
-use Rattle.nfs_spec.specs.Changes.{touch, touched, marked}
-use Rattle.nfs_spec_changes.specs.Changed.{Becomes, IsMarked, IsTouched}
+use Rattle.nfs_spec.specs.Changes.{touch, with_mtime, with_ctime}
+use Rattle.nfs_spec_changes.specs.Changed.{Becomes, ChangesCtime, IsTouched}
 
 module _ {X : Type 0} (x : List ℕ) where
   free_removed : (es : List (List ℕ × X)) → lookup (pointwise nat_eq x) es ≡ None → remove_entry (pointwise nat_eq x) es ≡ es
@@ -42,7 +42,7 @@ pub record IsAt (v : Files) (d : ℕ) (f : File) (mtime ctime : Timeval) (l : Li
 -- a directory's body is a listing
 pub listing_of : (b : Body) → is_directory b ≡ true → (l : Listing) × (b ≡ Directory l)
 listing_of (Regular bytes) h = absurd cc
-listing_of (Link target) h = absurd cc
+listing_of (Symlink target) h = absurd cc
 listing_of (Directory l) h = (l, refl)
 
 -- as it stands at first
@@ -59,12 +59,12 @@ module _ (v : Files) (d : ℕ) (f : File) (mtime ctime : Timeval) (l : Listing) 
   at_other k change ne = at_same (with_changed_file v k change) (changed_other v k change d ne)
 
   -- with other names
-  pub at_relisted : (change : Listing → Listing) → IsAt (with_changed_file v d (relisted change)) d f mtime ctime (change l)
-  at_relisted change = record { at = changed_here v d (relisted change) d refl ∙ ap (option_map (relisted change)) a.at }
+  pub at_relisted : (change : Listing → Listing) → IsAt (with_changed_file v d (map_listing change)) d f mtime ctime (change l)
+  at_relisted change = record { at = changed_here v d (map_listing change) d refl ∙ ap (option_map (map_listing change)) a.at }
 
   -- with its times now
   pub at_touched : (now : Timeval) → IsAt (touch now v d) d f now now l
-  at_touched now = record { at = changed_here v d (touched now) d refl ∙ ap (option_map (touched now)) a.at }
+  at_touched now = record { at = changed_here v d (with_mtime now) d refl ∙ ap (option_map (with_mtime now)) a.at }
 
 -- a directory was touched, with its names changed so
 pub becomes_touched : (now : Timeval) (w w' : Files) (d : ℕ) (f : File) (l m : Listing) (change : Listing → Listing) → file_at w d ≡ Some f → f.body ≡ Directory l → IsAt w' d f now now m → m ≡ change l → Becomes w w' d (IsTouched now change)
@@ -77,5 +77,5 @@ becomes_touched now w w' d f l m change there is a e = record {
 }
 
 -- a file was marked
-pub becomes_marked : (now : Timeval) (w w' : Files) (n : ℕ) (f : File) → file_at w n ≡ Some f → file_at w' n ≡ Some (marked now f) → Becomes w w' n (IsMarked now)
-becomes_marked now w w' n f there is = record { old = f; new = marked now f; was = there; is = is; change = refl }
+pub becomes_marked : (now : Timeval) (w w' : Files) (n : ℕ) (f : File) → file_at w n ≡ Some f → file_at w' n ≡ Some (with_ctime now f) → Becomes w w' n (ChangesCtime now)
+becomes_marked now w w' n f there is = record { old = f; new = with_ctime now f; was = there; is = is; change = refl }

@@ -3,20 +3,20 @@ use Rattle.std.specs.Prelude.{◌≡◌, ◌≢◌, ℕ, ◌+◌, ◌-◌, ◌<�
 use Rattle.nfs_types.specs.Timeval.{Timeval}
 use Rattle.fs_model.specs.Listing.{Listing, with_entry, without_entry}
 use Rattle.fs_model.specs.Files.{Regular, Directory, File, Files, file_at, places, names_of}
-use Rattle.nfs_spec.specs.Sattr.{Wanted}
-use Rattle.nfs_spec.specs.Changes.{set}
+use Rattle.nfs_spec.specs.Sattr.{GivenFields}
+use Rattle.nfs_spec.specs.Changes.{apply_fields}
 
 -- the file of a number is there, and becomes one that stands so to it
-pub record Becomes (w w' : Files) (n : ℕ) (Change : File → File → Type 0) : Type 0 where
+pub record Becomes (fs fs' : Files) (n : ℕ) (Change : File → File → Type 0) : Type 0 where
   pub old : File
   pub new : File
-  pub was : file_at w n ≡ Some old
-  pub is : file_at w' n ≡ Some new
+  pub was : file_at fs n ≡ Some old
+  pub is : file_at fs' n ≡ Some new
   pub change : Change old new
 
 -- ctime is now, and all else stays
-abbrev pub IsMarked : Timeval → File → File → Type 0
-IsMarked now old new = new ≡ record old { ctime = now }
+abbrev pub ChangesCtime : Timeval → File → File → Type 0
+ChangesCtime now old new = new ≡ record old { ctime = now }
 
 -- ---- directories
 
@@ -27,9 +27,9 @@ pub record IsTouched (now : Timeval) (change : Listing → Listing) (old new : F
   pub is : new ≡ record old { mtime = now; ctime = now; body = Directory (change listing) }
 
 -- a name goes: with the last one the file is gone, else its ctime is now
-pub record LosesName (now : Timeval) (w w' : Files) (n : ℕ) : Type 0 where
-  pub last : names_of w n ≡ 1 → file_at w' n ≡ None
-  pub others : names_of w n ≢ 1 → Becomes w w' n (IsMarked now)
+pub record LosesName (now : Timeval) (fs fs' : Files) (n : ℕ) : Type 0 where
+  pub last : names_of fs n ≡ 1 → file_at fs' n ≡ None
+  pub others : names_of fs n ≢ 1 → Becomes fs fs' n (ChangesCtime now)
 
 -- ---- bytes
 
@@ -64,8 +64,8 @@ pub record ChangesBytes (Change : List ℕ → List ℕ → Type 0) (old new : F
 
 -- SETATTR: what is given is set, and the rest stays; mtime is now where a size is given, and ctime where
 -- anything is; bytes stay where no size is given, and a directory's entries and a link's target always
-abbrev pub IsSetTo : Timeval → Wanted → File → File → Type 0
-IsSetTo now a old new = new ≡ set now a old
+abbrev pub IsSetTo : Timeval → GivenFields → File → File → Type 0
+IsSetTo now a old new = new ≡ apply_fields now a old
 
 -- WRITE: mtime and ctime are now, and all but these and the bytes stays
 abbrev pub IsRewritten : Timeval → File → File → Type 0
@@ -73,27 +73,27 @@ IsRewritten now old new = new ≡ record old { mtime = now; ctime = now; body = 
 
 -- CREATE of a new name, MKDIR, SYMLINK: a file has the next number, which had none, and a name in the
 -- directory, which was free
-pub record Makes (now : Timeval) (w w' : Files) (dir : ℕ) (name : List ℕ) (number : ℕ) (file : File)
+pub record Makes (now : Timeval) (fs fs' : Files) (dir : ℕ) (name : List ℕ) (number : ℕ) (file : File)
     : Type 0 where
-  pub number_is : number ≡ w.next
-  pub free : file_at w number ≡ None
-  pub unused : places w dir name ≡ None
-  pub made : file_at w' number ≡ Some file
-  pub directory : Becomes w w' dir (IsTouched now (λ l. with_entry l name number))
+  pub number_is : number ≡ fs.next
+  pub free : file_at fs number ≡ None
+  pub unused : places fs dir name ≡ None
+  pub made : file_at fs' number ≡ Some file
+  pub directory : Becomes fs fs' dir (IsTouched now (λ l. with_entry l name number))
 
 -- LINK: a file has another name, which was free
-pub record Links (now : Timeval) (w w' : Files) (number dir : ℕ) (name : List ℕ) : Type 0 where
-  pub unused : places w dir name ≡ None
-  pub file : Becomes w w' number (IsMarked now)
-  pub directory : Becomes w w' dir (IsTouched now (λ l. with_entry l name number))
+pub record Links (now : Timeval) (fs fs' : Files) (number dir : ℕ) (name : List ℕ) : Type 0 where
+  pub unused : places fs dir name ≡ None
+  pub file : Becomes fs fs' number (ChangesCtime now)
+  pub directory : Becomes fs fs' dir (IsTouched now (λ l. with_entry l name number))
 
 -- REMOVE, RMDIR: what the name stood for loses it
-pub record Unnames (now : Timeval) (w w' : Files) (dir : ℕ) (name : List ℕ) : Type 0 where
+pub record Unnames (now : Timeval) (fs fs' : Files) (dir : ℕ) (name : List ℕ) : Type 0 where
   pub number : ℕ
   pub cookie : ℕ
-  pub was : places w dir name ≡ Some (number, cookie)
-  pub file : LosesName now w w' number
-  pub directory : Becomes w w' dir (IsTouched now (λ l. without_entry l name))
+  pub was : places fs dir name ≡ Some (number, cookie)
+  pub file : LosesName now fs fs' number
+  pub directory : Becomes fs fs' dir (IsTouched now (λ l. without_entry l name))
 
 -- RENAME in one directory: what stood at the new name goes, then the old name, and the new one comes last
 abbrev pub renamed_within : List ℕ → List ℕ → ℕ → Listing → Listing
@@ -101,14 +101,14 @@ renamed_within from_name to_name number l =
     with_entry (without_entry (without_entry l to_name) from_name) to_name number
 
 -- RENAME: the file has another name, and what stood there loses it
-pub record Moves (now : Timeval) (w w' : Files) (from : ℕ) (from_name : List ℕ) (to : ℕ) (to_name : List ℕ)
+pub record Moves (now : Timeval) (fs fs' : Files) (from : ℕ) (from_name : List ℕ) (to : ℕ) (to_name : List ℕ)
     : Type 0 where
   pub number : ℕ
   pub cookie : ℕ
-  pub was : places w from from_name ≡ Some (number, cookie)
-  pub file : Becomes w w' number (IsMarked now)
-  pub target : (t c : ℕ) → places w to to_name ≡ Some (t, c) → LosesName now w w' t
-  pub source : from ≢ to → Becomes w w' from (IsTouched now (λ l. without_entry l from_name))
-  pub apart : from ≢ to → Becomes w w' to (IsTouched now (λ l. with_entry l to_name number))
+  pub was : places fs from from_name ≡ Some (number, cookie)
+  pub file : Becomes fs fs' number (ChangesCtime now)
+  pub target : (t c : ℕ) → places fs to to_name ≡ Some (t, c) → LosesName now fs fs' t
+  pub source : from ≢ to → Becomes fs fs' from (IsTouched now (λ l. without_entry l from_name))
+  pub apart : from ≢ to → Becomes fs fs' to (IsTouched now (λ l. with_entry l to_name number))
   pub within : from ≡ to
-      → Becomes w w' to (IsTouched now (renamed_within from_name to_name number))
+      → Becomes fs fs' to (IsTouched now (renamed_within from_name to_name number))

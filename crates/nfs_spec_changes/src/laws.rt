@@ -3,58 +3,58 @@
 ghost use Rattle.std.specs.Prelude.{◌≡◌, ◌≢◌, ℕ, List, [], replicate, unwrap_or, Some, None, Ok};
 ghost use Rattle.nfs_types.specs.Timeval.{Timeval};
 ghost use Rattle.nfs_types.specs.Caller.{Caller};
-ghost use Rattle.fs_model.specs.Files.{Body, Regular, Link, Directory, File, Files, file_at, places};
+ghost use Rattle.fs_model.specs.Files.{Body, Regular, Symlink, Directory, File, Files, file_at, places};
 ghost use Rattle.fs_model.specs.Trees.{IsFileTree};
-ghost use Rattle.nfs_spec.specs.Sattr.{Wanted, nothing};
+ghost use Rattle.nfs_spec.specs.Sattr.{GivenFields, no_fields};
 ghost use Rattle.nfs_spec.specs.Changes.{new_file};
 ghost use Rattle.nfs_spec.specs.Procedures.{set_attributes, write, create, make_dir, symlink, link, remove, remove_dir, rename};
-ghost use Rattle.nfs_spec_steps.specs.Granted.{IsSameFile};
+ghost use Rattle.nfs_spec_steps.specs.Granted.{IsSameFile, new_regular, new_directory, new_link};
 ghost use Rattle.nfs_spec_changes.specs.Changed.{Becomes, IsSetTo, IsRewritten, IsWritten, IsResized, ChangesBytes, Makes, Links, Unnames, Moves};
 
 /// SETATTR keeps what isn't given, and CREATE of a name that is there does as SETATTR; WRITE keeps all but
 /// the bytes, mtime and ctime, and of no bytes everything.
 pub fn setting_keeps_the_rest()
-    ensures set_attributes { (w after : Files) (who : Caller) (now : Timeval) (n : ℕ) (a : Wanted) →
-        set_attributes w who now n a ≡ Ok (tt, after) → Becomes w after n (IsSetTo now a) }
-    ensures create { (w after : Files) (who : Caller) (now : Timeval) (dir n cookie number : ℕ)
-        (name : List ℕ) (a : Wanted) → places w dir name ≡ Some (n, cookie) →
-        create w who now dir name a ≡ Ok (number, after) →
-        (number ≡ n) × (set_attributes w who now n a ≡ Ok (tt, after)) }
-    ensures write { (w after : Files) (who : Caller) (now : Timeval) (n offset : ℕ) (new : List ℕ) →
-        new ≢ [] → write w who now n offset new ≡ Ok (tt, after) → Becomes w after n (IsRewritten now) }
-    ensures nothing { (w after : Files) (who : Caller) (now : Timeval) (n offset : ℕ) →
-        write w who now n offset [] ≡ Ok (tt, after) → after ≡ w }
+    ensures set_attributes { (fs after : Files) (who : Caller) (now : Timeval) (n : ℕ) (a : GivenFields) →
+        set_attributes fs who now n a ≡ Ok (tt, after) → Becomes fs after n (IsSetTo now a) }
+    ensures create { (fs after : Files) (who : Caller) (now : Timeval) (dir n cookie number : ℕ)
+        (name : List ℕ) (a : GivenFields) → places fs dir name ≡ Some (n, cookie) →
+        create fs who now dir name a ≡ Ok (number, after) →
+        (number ≡ n) × (set_attributes fs who now n a ≡ Ok (tt, after)) }
+    ensures write { (fs after : Files) (who : Caller) (now : Timeval) (n offset : ℕ) (new : List ℕ) →
+        new ≢ [] → write fs who now n offset new ≡ Ok (tt, after) → Becomes fs after n (IsRewritten now) }
+    ensures nothing { (fs after : Files) (who : Caller) (now : Timeval) (n offset : ℕ) →
+        write fs who now n offset [] ≡ Ok (tt, after) → after ≡ fs }
 {}
 
 /// CREATE of a name that isn't there, MKDIR and SYMLINK put a new file under the next number, and its name
 /// last in the directory; LINK puts a name there of a file that keeps all but ctime. Of the directory all
 /// else stays but mtime and ctime.
 pub fn making_keeps_the_rest()
-    ensures create { (w after : Files) (who : Caller) (now : Timeval) (dir number : ℕ) (name : List ℕ)
-        (a : Wanted) → IsFileTree w → places w dir name ≡ None →
-        create w who now dir name a ≡ Ok (number, after) →
-        Makes now w after dir name number
-        (new_file who now a 420 (Regular (replicate (unwrap_or a.size 0) 0))) }
-    ensures make_dir { (w after : Files) (who : Caller) (now : Timeval) (dir number : ℕ) (name : List ℕ)
-        (a : Wanted) → IsFileTree w → make_dir w who now dir name a ≡ Ok (number, after) →
-        Makes now w after dir name number
-        (new_file who now a 493 (Directory (record { next = 3; entries = [] }))) }
-    ensures symlink { (w after : Files) (who : Caller) (now : Timeval) (dir number : ℕ)
-        (name target : List ℕ) → IsFileTree w → symlink w who now dir name target ≡ Ok (number, after) →
-        Makes now w after dir name number (new_file who now nothing 511 (Link target)) }
-    ensures link { (w after : Files) (who : Caller) (now : Timeval) (from dir : ℕ) (name : List ℕ) →
-        link w who now from dir name ≡ Ok (tt, after) → Links now w after from dir name }
+    ensures create { (fs after : Files) (who : Caller) (now : Timeval) (dir number : ℕ) (name : List ℕ)
+        (a : GivenFields) → IsFileTree fs → places fs dir name ≡ None →
+        create fs who now dir name a ≡ Ok (number, after) →
+        Makes now fs after dir name number
+        (new_regular who now a) }
+    ensures make_dir { (fs after : Files) (who : Caller) (now : Timeval) (dir number : ℕ) (name : List ℕ)
+        (a : GivenFields) → IsFileTree fs → make_dir fs who now dir name a ≡ Ok (number, after) →
+        Makes now fs after dir name number
+        (new_directory who now a) }
+    ensures symlink { (fs after : Files) (who : Caller) (now : Timeval) (dir number : ℕ)
+        (name target : List ℕ) → IsFileTree fs → symlink fs who now dir name target ≡ Ok (number, after) →
+        Makes now fs after dir name number (new_link who now target) }
+    ensures link { (fs after : Files) (who : Caller) (now : Timeval) (from dir : ℕ) (name : List ℕ) →
+        link fs who now from dir name ≡ Ok (tt, after) → Links now fs after from dir name }
 {}
 
 /// A new file's owner and group are the caller's, whatever is given; only user 0 gives others. Its mode and
 /// times are those given, else the procedure's mode and the time of the call; ctime is always that.
 pub fn new_files_are_their_callers()
-    ensures caller { (who : Caller) (now : Timeval) (a : Wanted) (mode : ℕ) (body : Body) → who.uid ≢ 0 →
+    ensures caller { (who : Caller) (now : Timeval) (a : GivenFields) (mode : ℕ) (body : Body) → who.uid ≢ 0 →
         ((new_file who now a mode body).uid ≡ who.uid) × ((new_file who now a mode body).gid ≡ who.gid) }
-    ensures root { (who : Caller) (now : Timeval) (a : Wanted) (mode : ℕ) (body : Body) → who.uid ≡ 0 →
+    ensures root { (who : Caller) (now : Timeval) (a : GivenFields) (mode : ℕ) (body : Body) → who.uid ≡ 0 →
         ((new_file who now a mode body).uid ≡ unwrap_or a.uid 0)
         × ((new_file who now a mode body).gid ≡ unwrap_or a.gid who.gid) }
-    ensures given { (who : Caller) (now : Timeval) (a : Wanted) (mode : ℕ) (body : Body) →
+    ensures given { (who : Caller) (now : Timeval) (a : GivenFields) (mode : ℕ) (body : Body) →
         ((new_file who now a mode body).mode ≡ unwrap_or a.mode mode)
         × ((new_file who now a mode body).atime ≡ unwrap_or a.atime now)
         × ((new_file who now a mode body).mtime ≡ unwrap_or a.mtime now)
@@ -65,12 +65,13 @@ pub fn new_files_are_their_callers()
 /// all but ctime; RMDIR too, and what it stood for is gone. Of the directory all else stays but mtime and
 /// ctime.
 pub fn removing_keeps_the_rest()
-    ensures remove { (w after : Files) (who : Caller) (now : Timeval) (dir : ℕ) (name : List ℕ) →
-        IsFileTree w → remove w who now dir name ≡ Ok (tt, after) → Unnames now w after dir name }
-    ensures remove_dir { (w after : Files) (who : Caller) (now : Timeval) (dir : ℕ) (name : List ℕ) →
-        IsFileTree w → remove_dir w who now dir name ≡ Ok (tt, after) → Unnames now w after dir name }
-    ensures gone { (w after : Files) (who : Caller) (now : Timeval) (dir n cookie : ℕ) (name : List ℕ) →
-        IsFileTree w → places w dir name ≡ Some (n, cookie) → remove_dir w who now dir name ≡ Ok (tt, after) →
+    ensures remove { (fs after : Files) (who : Caller) (now : Timeval) (dir : ℕ) (name : List ℕ) →
+        IsFileTree fs → remove fs who now dir name ≡ Ok (tt, after) → Unnames now fs after dir name }
+    ensures remove_dir { (fs after : Files) (who : Caller) (now : Timeval) (dir : ℕ) (name : List ℕ) →
+        IsFileTree fs → remove_dir fs who now dir name ≡ Ok (tt, after) → Unnames now fs after dir name }
+    ensures gone { (fs after : Files) (who : Caller) (now : Timeval) (dir n cookie : ℕ) (name : List ℕ) →
+        IsFileTree fs → places fs dir name ≡ Some (n, cookie) →
+        remove_dir fs who now dir name ≡ Ok (tt, after) →
         file_at after n ≡ None }
 {}
 
@@ -78,22 +79,22 @@ pub fn removing_keeps_the_rest()
 /// keeps all but ctime, and what stood at the new name loses it. Of the directories all else stays but mtime
 /// and ctime.
 pub fn renaming_keeps_the_rest()
-    ensures { (w after : Files) (who : Caller) (now : Timeval) (from to : ℕ) (from_name to_name : List ℕ) →
-        IsFileTree w → rename w who now from from_name to to_name ≡ Ok (tt, after) →
-        (IsSameFile w from from_name to to_name → ⊥) → Moves now w after from from_name to to_name }
+    ensures { (fs after : Files) (who : Caller) (now : Timeval) (from to : ℕ) (from_name to_name : List ℕ) →
+        IsFileTree fs → rename fs who now from from_name to to_name ≡ Ok (tt, after) →
+        (IsSameFile fs from from_name to to_name → ⊥) → Moves now fs after from from_name to to_name }
 {}
 
 /// Byte i is the one written, else the old one, else zero: after WRITE of some bytes, after SETATTR with a
 /// size, and after CREATE of a new name with a size, where all are zero.
 pub fn bytes_are_what_was_written()
-    ensures write { (w after : Files) (who : Caller) (now : Timeval) (n offset : ℕ) (new : List ℕ) →
-        new ≢ [] → write w who now n offset new ≡ Ok (tt, after) →
-        Becomes w after n (ChangesBytes (IsWritten offset new)) }
-    ensures set_attributes { (w after : Files) (who : Caller) (now : Timeval) (n size : ℕ) (a : Wanted) →
-        a.size ≡ Some size → set_attributes w who now n a ≡ Ok (tt, after) →
-        Becomes w after n (ChangesBytes (IsResized size)) }
-    ensures create { (w after : Files) (who : Caller) (now : Timeval) (dir number size : ℕ) (name : List ℕ)
-        (a : Wanted) → IsFileTree w → a.size ≡ Some size → places w dir name ≡ None →
-        create w who now dir name a ≡ Ok (number, after) →
+    ensures write { (fs after : Files) (who : Caller) (now : Timeval) (n offset : ℕ) (new : List ℕ) →
+        new ≢ [] → write fs who now n offset new ≡ Ok (tt, after) →
+        Becomes fs after n (ChangesBytes (IsWritten offset new)) }
+    ensures set_attributes { (fs after : Files) (who : Caller) (now : Timeval) (n size : ℕ)
+        (a : GivenFields) → a.size ≡ Some size → set_attributes fs who now n a ≡ Ok (tt, after) →
+        Becomes fs after n (ChangesBytes (IsResized size)) }
+    ensures create { (fs after : Files) (who : Caller) (now : Timeval) (dir number size : ℕ) (name : List ℕ)
+        (a : GivenFields) → IsFileTree fs → a.size ≡ Some size → places fs dir name ≡ None →
+        create fs who now dir name a ≡ Ok (number, after) →
         (g : File) × (file_at after number ≡ Some g) × (g.body ≡ Regular (replicate size 0)) }
 {}

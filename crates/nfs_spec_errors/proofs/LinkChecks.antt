@@ -7,9 +7,9 @@ use Rattle.nfs_types.specs.declared.stat.Stat.TheVariants as stats
 use Rattle.fs_model.specs.Files.{Files, file_at, is_directory}
 use Rattle.fs_changes.specs.Edits.{with_name}
 use Rattle.fs_changes.specs.Limits.{has_room}
-use Rattle.nfs_spec.specs.Attributes.{is_directory_at}
-use Rattle.nfs_spec.specs.Checks.{file_of, dir_of, check, check_room, check_edit, check_free}
-use Rattle.nfs_spec.specs.Changes.{touch, mark}
+use Rattle.nfs_spec.specs.FileAttributes.{is_directory_at}
+use Rattle.nfs_spec.specs.ProcedureChecks.{file_of, dir_of, check, check_room, check_edit, check_free}
+use Rattle.nfs_spec.specs.Changes.{touch, touch_ctime}
 use Rattle.nfs_spec.specs.Procedures.{link}
 use Rattle.nfs_spec_steps.proofs.Steps.{found_ok, dir_ok}
 use Rattle.nfs_spec_errors.specs.Checks.{is_dir}
@@ -19,7 +19,7 @@ use Rattle.nfs_spec_errors.proofs.StepsInTurn.{HasStat, in_turn, done, of_check,
 -- LINK: the file, its kind, the directory, the edit, the free name, and room
 pub of_link : (w : Files) (who : Caller) (now : Timeval) (from dir : ℕ) (name : List ℕ) → HasStat (link w who now from dir name) (link_checks w who now from dir name)
 of_link w who now from dir name =
-    let after = touch now (with_name (mark now w from) dir name from) dir in
+    let after = touch now (with_name (touch_ctime now w from) dir name from) dir in
     in_turn (file_of w from) _ (of_file w from) (λ f is.
     let there = found_ok stats.Stale (file_at w from) f is in
     in_turn (check (not (is_directory f.body)) stats.IsDir) _ (of_same (not (is_directory f.body)) (not (is_directory_at w from)) stats.IsDir (ap not (test_at w from f is_dir there))) (λ _ _.

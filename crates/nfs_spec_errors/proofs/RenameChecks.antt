@@ -11,8 +11,8 @@ use Rattle.nfs_types.specs.declared.stat.Stat.TheVariants as stats
 use Rattle.fs_model.specs.Listing.{Listing, entry_at}
 use Rattle.fs_model.specs.Files.{File, Files, file_at, listing, listing_in, is_directory, places}
 use Rattle.fs_model.specs.Trees.{IsFileTree}
-use Rattle.nfs_spec.specs.Checks.{◌>>=◌, Found, file_of, dir_of, check, check_cookie, check_edit, number_at}
-use Rattle.nfs_spec.specs.Procedures.{is_above, check_target, moved, rename}
+use Rattle.nfs_spec.specs.ProcedureChecks.{◌>>=◌, NumberedDir, file_of, dir_of, check, check_cookie, check_edit, number_at}
+use Rattle.nfs_spec.specs.Procedures.{is_above, check_target, move_entry, rename}
 use Rattle.nfs_spec_steps.specs.Granted.{IsFound}
 use Rattle.nfs_spec_steps.proofs.Steps.{found_ok, dir_ok, number_ok, place_found}
 use Rattle.nfs_spec_errors.specs.Checks.{Checks, holds_named, is_dir, lists_nothing}
@@ -27,7 +27,7 @@ abbrev target_checks : Bool → Bool → Bool → Bool → Checks
 target_checks free source target empty = (free || not source || target, stats.NotDir) ∷ (free || source || not target, stats.IsDir) ∷ (free || empty, stats.NotEmpty) ∷ []
 
 module _ (w : Files) (tree : IsFileTree w) (who : Caller) (now : Timeval) (from : ℕ) (from_name : List ℕ) (to : ℕ) (to_name : List ℕ) where
-  module _ (e : Found) (found : IsFound w to e) (n b : ℕ) (at : places w from from_name ≡ Some (n, b)) (f : File) (there : file_at w n ≡ Some f) where
+  module _ (e : NumberedDir) (found : IsFound w to e) (n b : ℕ) (at : places w from from_name ≡ Some (n, b)) (f : File) (there : file_at w n ≡ Some f) where
     same_is : is_same_file w from from_name to to_name ≡ option_map_or (λ t. t == n) (option_map (λ e. e.0) (entry_at e.listing to_name)) false
     same_is =
         ap (λ (o : Option (ℕ × ℕ)). option_map_or (λ s. option_map_or (λ t. t.0 == s.0) (places w to to_name) false) o false) at
@@ -80,7 +80,7 @@ module _ (w : Files) (tree : IsFileTree w) (who : Caller) (now : Timeval) (from 
     target = option_map (λ e. e.0) (entry_at e.listing to_name)
 
     abbrev moving : Result (Unit {0} × Files) Stat
-    moving = check (not (is_directory f.body && is_above w n to)) stats.Acces >>= λ _. check_target w f target >>= λ _. check_cookie e.listing >>= λ _. Ok (tt, moved now w n from from_name to to_name target)
+    moving = check (not (is_directory f.body && is_above w n to)) stats.Acces >>= λ _. check_target w f target >>= λ _. check_cookie e.listing >>= λ _. Ok (tt, move_entry now w n from from_name to to_name target)
 
     of_moving : HasStat moving moving_checks
     of_moving =

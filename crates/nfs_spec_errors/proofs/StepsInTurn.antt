@@ -1,8 +1,7 @@
 -- A step's stat is that of the first of its checks that fails, and of steps in turn that of the first of all
 -- their checks: `in_turn` joins them; the steps that procedures share follow, each with its checks.
--- Serves: stats_of_set_attributes, stats_of_create, stats_of_remove, stats_of_remove_dir, stats_of_link,
--- stats_of_rename, stats_of_calls (nfs_spec_errors).
-use Rattle.std.proofs.Common.{◌≡◌, ℕ, Bool, true, false, cond, List, [], ◌∷◌, ◌++◌, Option, Some, None, Result, Ok, Err, option_map, refl, sym, ap, ◌∙◌}
+-- Serves: all laws of nfs_spec_errors but some_stats_are_never_given.
+use Rattle.std.proofs.Common.{◌≡◌, ℕ, Bool, true, false, cond, List, [], ◌∷◌, ◌++◌, Option, Some, None, Result, Ok, Err, option_map, not, refl, sym, ap, subst, ◌∙◌}
 use Rattle.std.specs.Prelude.{◌&&◌, is_some, is_none, IsSome}
 use Rattle.std.specs.Option.{option_map_or}
 use Rattle.nfs_types.specs.Caller.{Caller}
@@ -10,29 +9,28 @@ use Rattle.nfs_types.specs.declared.stat.Stat.{Stat}
 use Rattle.nfs_types.specs.declared.stat.Stat.TheVariants as stats
 use Rattle.fs_model.specs.Listing.{entry_at}
 use Rattle.fs_model.specs.Names.{is_name}
-use Rattle.fs_model.specs.Files.{Body, Regular, Link, Directory, File, Files, file_at, is_directory, places}
+use Rattle.fs_model.specs.Files.{Body, Regular, Symlink, Directory, File, Files, file_at, is_directory, places}
 use Rattle.fs_model.specs.Trees.{IsFileTree}
 use Rattle.fs_model.proofs.Walks.{none_some}
-use Rattle.nfs_spec.specs.Checks.{◌>>=◌, Found, found_or, listing_or, file_of, dir_of, check, check_edit, check_free, number_at, may_search, may_write}
-use Rattle.nfs_spec.specs.Laws.{stat_in}
+use Rattle.nfs_spec.specs.FileAttributes.{is_directory_at}
+use Rattle.nfs_spec.specs.ProcedureChecks.{◌>>=◌, NumberedDir, ok_or, listing_or, file_of, dir_of, check, check_edit, check_free, number_at, bytes_of, target_of, may_search, may_write}
+use Rattle.nfs_spec.specs.LawTerms.{stat_in}
 use Rattle.nfs_spec_steps.specs.Granted.{IsFound}
 use Rattle.nfs_spec_steps.proofs.Steps.{place_found}
-use Rattle.nfs_spec_errors.specs.Checks.{Checks, first_failing, holds_at, holds_named}
+use Rattle.nfs_spec_errors.specs.Checks.{Checks, first_failing, holds_at, holds_named, is_dir, is_link}
 use Rattle.nfs_spec_errors.specs.Tables.{file_checks, directory_checks, edit_checks}
 
 -- ---- lists of checks
 
-some_none : {A : Type 0} {x : A} → Some x ≡ None → ⊥
-some_none h = cc
-
-no_some : false ≡ true → ⊥
+-- what is there is not none
+pub no_some : false ≡ true → ⊥
 no_some h = cc
 
 passed : (cs ds : Checks) → first_failing cs ≡ None → first_failing (cs ++ ds) ≡ first_failing ds
 passed [] ds h = refl
 passed (c ∷ cs) ds h = elim c.0 as (λ b. cond b (first_failing cs) (Some c.1) ≡ None → cond b (first_failing (cs ++ ds)) (Some c.1) ≡ first_failing ds) [
   | true ↦ λ is. passed cs ds is
-  | false ↦ λ is. absurd (some_none is)
+  | false ↦ λ is. absurd (none_some (sym is))
 ] h
 
 failed : (cs ds : Checks) (e : Stat) → first_failing cs ≡ Some e → first_failing (cs ++ ds) ≡ Some e
@@ -71,15 +69,15 @@ of_same b c e same = record { says = (of_check b e).says ∙ ap (λ x. first_fai
 pub of_file : (w : Files) (n : ℕ) → HasStat (file_of w n) (file_checks w n)
 of_file w n = record { says = by (file_at w n) }
   where
-    by : (o : Option File) → stat_in (found_or stats.Stale o) ≡ first_failing ((is_some o, stats.Stale) ∷ [])
+    by : (o : Option File) → stat_in (ok_or stats.Stale o) ≡ first_failing ((is_some o, stats.Stale) ∷ [])
     by None = refl
     by (Some f) = refl
 
 -- a file that is there
 pub of_that_file : (w : Files) (n : ℕ) (f : File) → file_at w n ≡ Some f → HasStat (file_of w n) []
-of_that_file w n f there = record { says = ap (λ o. stat_in (found_or stats.Stale o)) there }
+of_that_file w n f there = record { says = ap (λ o. stat_in (ok_or stats.Stale o)) there }
 
-abbrev found : Found → Result Found Stat
+abbrev found : NumberedDir → Result NumberedDir Stat
 found d = Ok d
 
 -- looking a directory up: STALE, then NOTDIR
@@ -88,10 +86,10 @@ of_dir w n = record { says = by (file_at w n) }
   where
     listed : (f : File) (b : Body) → stat_in (listing_or stats.NotDir b >>= λ l. found (record { number = n; file = f; listing = l })) ≡ first_failing ((is_directory b, stats.NotDir) ∷ [])
     listed f (Regular bytes) = refl
-    listed f (Link target) = refl
+    listed f (Symlink target) = refl
     listed f (Directory l) = refl
 
-    by : (o : Option File) → stat_in (found_or stats.Stale o >>= λ f. listing_or stats.NotDir f.body >>= λ l. found (record { number = n; file = f; listing = l }))
+    by : (o : Option File) → stat_in (ok_or stats.Stale o >>= λ f. listing_or stats.NotDir f.body >>= λ l. found (record { number = n; file = f; listing = l }))
         ≡ first_failing ((is_some o, stats.Stale) ∷ (option_map_or (λ f. is_directory f.body) o false, stats.NotDir) ∷ [])
     by None = refl
     by (Some f) = listed f f.body
@@ -114,9 +112,44 @@ named_file w tree dir name n c at = by (file_at w n) refl (tree.tree.named dir n
     by None e some = absurd (no_some some)
     by (Some f) e some = (f, e)
 
+-- ---- what a file holds
+
+-- the listing of a body: NOTDIR
+pub of_listing : (b : Body) → HasStat (listing_or stats.NotDir b) ((is_directory b, stats.NotDir) ∷ [])
+of_listing (Regular bytes) = record { says = refl }
+of_listing (Symlink target) = record { says = refl }
+of_listing (Directory l) = record { says = refl }
+
+module _ (w : Files) (n : ℕ) (f : File) (there : file_at w n ≡ Some f) where
+  -- the listing of a file that is there
+  pub of_listing_at : HasStat (listing_or stats.NotDir f.body) ((is_directory_at w n, stats.NotDir) ∷ [])
+  of_listing_at = subst (λ (b : Bool). HasStat (listing_or stats.NotDir f.body) ((b, stats.NotDir) ∷ [])) (sym (test_at w n f is_dir there)) (of_listing f.body)
+
+  -- its bytes: ISDIR, then NXIO
+  pub of_bytes_at : HasStat (bytes_of f.body) ((not (is_directory_at w n), stats.IsDir) ∷ (not (holds_at w n (λ f. is_link f.body)), stats.NxIo) ∷ [])
+  of_bytes_at = subst (λ (o : Option File). HasStat (bytes_of f.body) ((not (option_map_or is_dir o false), stats.IsDir) ∷ (not (option_map_or (λ f. is_link f.body) o false), stats.NxIo) ∷ [])) (sym there) (by f.body)
+    where
+      by : (b : Body) → HasStat (bytes_of b) ((not (is_directory b), stats.IsDir) ∷ (not (is_link b), stats.NxIo) ∷ [])
+      by (Regular bytes) = record { says = refl }
+      by (Symlink target) = record { says = refl }
+      by (Directory l) = record { says = refl }
+
+  -- its target: NXIO
+  pub of_target_at : HasStat (target_of f.body) ((holds_at w n (λ f. is_link f.body), stats.NxIo) ∷ [])
+  of_target_at = subst (λ (b : Bool). HasStat (target_of f.body) ((b, stats.NxIo) ∷ [])) (sym (test_at w n f (λ f. is_link f.body) there)) (by f.body)
+    where
+      by : (b : Body) → HasStat (target_of b) ((is_link b, stats.NxIo) ∷ [])
+      by (Regular bytes) = record { says = refl }
+      by (Symlink target) = record { says = refl }
+      by (Directory l) = record { says = refl }
+
+  -- a check of it
+  pub of_test_at : (test : File → Bool) (e : Stat) → HasStat (check (test f) e) ((holds_at w n test, e) ∷ [])
+  of_test_at test e = of_same (test f) (holds_at w n test) e (test_at w n f test there)
+
 -- ---- in a directory that was found
 
-module _ (w : Files) (n : ℕ) (d : Found) (is : IsFound w n d) (name : List ℕ) where
+module _ (w : Files) (n : ℕ) (d : NumberedDir) (is : IsFound w n d) (name : List ℕ) where
   -- an edit of the directory: the rule for names, then search and write permission
   pub of_edit : (who : Caller) → HasStat (check_edit who d name) (edit_checks w who n name)
   of_edit who =
@@ -131,6 +164,6 @@ module _ (w : Files) (n : ℕ) (d : Found) (is : IsFound w n d) (name : List ℕ
   pub of_number : HasStat (number_at d name) ((is_some (places w n name), stats.NoEnt) ∷ [])
   of_number = record { says = by (entry_at d.listing name) ∙ ap (λ (o : Option (ℕ × ℕ)). first_failing ((is_some o, stats.NoEnt) ∷ [])) (sym (place_found w n d is name)) }
     where
-      by : (o : Option (ℕ × ℕ)) → stat_in (found_or stats.NoEnt (option_map (λ e. e.0) o)) ≡ first_failing ((is_some o, stats.NoEnt) ∷ [])
+      by : (o : Option (ℕ × ℕ)) → stat_in (ok_or stats.NoEnt (option_map (λ e. e.0) o)) ≡ first_failing ((is_some o, stats.NoEnt) ∷ [])
       by None = refl
       by (Some e) = refl

@@ -17,15 +17,15 @@ first_failing (c ∷ cs) = if c.0 then first_failing cs else Some c.1
 
 -- whether a number has a file
 abbrev pub is_there : Files → ℕ → Bool
-is_there w n = is_some (file_at w n)
+is_there fs n = is_some (file_at fs n)
 
 -- whether a number has a file that passes a test
 abbrev pub holds_at : Files → ℕ → (File → Bool) → Bool
-holds_at w n test = option_map_or test (file_at w n) false
+holds_at fs n test = option_map_or test (file_at fs n) false
 
 -- whether a name in a directory stands for a file that passes a test
 abbrev pub holds_named : Files → ℕ → List ℕ → (File → Bool) → Bool
-holds_named w dir name test = option_map_or (λ e. holds_at w e.0 test) (places w dir name) false
+holds_named fs dir name test = option_map_or (λ e. holds_at fs e.0 test) (places fs dir name) false
 
 -- whether a file is a directory
 abbrev pub is_dir : File → Bool
@@ -33,16 +33,16 @@ is_dir f = is_directory f.body
 
 -- whether a name in a directory stands for a directory
 abbrev pub names_directory : Files → ℕ → List ℕ → Bool
-names_directory w dir name = holds_named w dir name is_dir
+names_directory fs dir name = holds_named fs dir name is_dir
 
 -- whether what is given passes a test; what is not given does
-abbrev pub given : {A : Type 0} → Option A → (A → Bool) → Bool
-given o test = option_map_or test o true
+abbrev pub if_given : {A : Type 0} → Option A → (A → Bool) → Bool
+if_given o test = option_map_or test o true
 
 -- whether it is a symbolic link
 abbrev pub is_link : Body → Bool
 is_link (bodies.Regular bytes) = false
-is_link (bodies.Link target) = true
+is_link (bodies.Symlink target) = true
 is_link (bodies.Directory l) = false
 
 -- whether a directory lists nothing
@@ -52,9 +52,9 @@ lists_nothing f = length (listing_in f.body).entries == 0
 -- the bytes of a regular file, else none
 abbrev pub bytes_in : Body → List ℕ
 bytes_in (bodies.Regular bytes) = bytes
-bytes_in (bodies.Link target) = []
+bytes_in (bodies.Symlink target) = []
 bytes_in (bodies.Directory l) = []
 
 -- the bytes of a number's regular file
 abbrev pub bytes_at : Files → ℕ → List ℕ
-bytes_at w n = option_map_or (λ f. bytes_in f.body) (file_at w n) []
+bytes_at fs n = option_map_or (λ f. bytes_in f.body) (file_at fs n) []

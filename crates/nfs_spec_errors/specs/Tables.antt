@@ -1,45 +1,46 @@
 -- The checks of each procedure of NFS version 2 (RFC 1094, section 2.2), in order, each with its stat. The
 -- standard leaves the choice and the order of stats open.
-use Rattle.std.specs.Prelude.{ℕ, ◌+◌, ◌==◌, ◌||◌, ◌&&◌, not, nat_le, Bool, false, List, [], ◌∷◌, ◌++◌, length, replicate, Option, is_some, is_none, unwrap_or, if◌then◌else◌}
+use Rattle.std.specs.Prelude.{ℕ, ◌+◌, ◌==◌, ◌||◌, ◌&&◌, not, nat_le, Bool, false, List, [], ◌∷◌, ◌++◌, length, Option, is_some, is_none, if◌then◌else◌}
 use Rattle.std.specs.Option.{option_map_or}
 use Rattle.nfs_types.specs.Timeval.{Timeval}
 use Rattle.nfs_types.specs.Caller.{Caller}
 use Rattle.nfs_types.specs.declared.stat.Stat.TheVariants as stats
 use Rattle.fs_model.specs.Names.{is_name}
-use Rattle.fs_model.specs.Files.{Regular, Link, Directory, File, Files, listing, places}
+use Rattle.fs_model.specs.Files.{File, Files, listing, places}
 use Rattle.fs_changes.specs.Edits.{with_changed_file, with_name}
 use Rattle.fs_changes.specs.Limits.{has_room}
-use Rattle.nfs_spec.specs.Attributes.{is_directory_at}
-use Rattle.nfs_spec.specs.Checks.{permits, may_search, may_read, may_write, owns}
+use Rattle.nfs_spec.specs.FileAttributes.{is_directory_at}
+use Rattle.nfs_spec.specs.ProcedureChecks.{permits, may_search, may_read, may_write, owns}
 use Rattle.nfs_spec.specs.Effects.{number_named}
-use Rattle.nfs_spec.specs.Sattr.{Wanted, wanted, nothing}
-use Rattle.nfs_spec.specs.Changes.{touch, mark, set, new_file, is_in_group}
-use Rattle.nfs_spec.specs.Procedures.{rewritten, made, is_regular, is_above}
-use Rattle.nfs_spec.specs.Calls as calls
-use Rattle.nfs_spec.specs.Calls.{Call, number_for}
-use Rattle.nfs_spec_errors.specs.Checks.{Checks, is_there, holds_at, holds_named, names_directory, given, is_link, lists_nothing, bytes_at}
+use Rattle.nfs_spec.specs.Sattr.{GivenFields, given_fields}
+use Rattle.nfs_spec.specs.Changes.{touch, touch_ctime, apply_fields, is_in_group}
+use Rattle.nfs_spec.specs.Procedures.{with_bytes_written, add_file, is_regular, is_above}
+use Rattle.nfs_spec.specs.NfsCalls as calls
+use Rattle.nfs_spec_steps.specs.Granted.{new_regular, new_directory, new_link}
+use Rattle.nfs_spec.specs.NfsCalls.{Call, number_for}
+use Rattle.nfs_spec_errors.specs.Checks.{Checks, is_there, holds_at, holds_named, names_directory, if_given, is_link, lists_nothing, bytes_at}
 
 -- ---- shared
 
 -- a file: STALE
 abbrev pub file_checks : Files → ℕ → Checks
-file_checks w n = (is_there w n, stats.Stale) ∷ []
+file_checks fs n = (is_there fs n, stats.Stale) ∷ []
 
 -- a directory: STALE, then NOTDIR
 abbrev pub directory_checks : Files → ℕ → Checks
-directory_checks w dir = (is_there w dir, stats.Stale) ∷ (is_directory_at w dir, stats.NotDir) ∷ []
+directory_checks fs dir = (is_there fs dir, stats.Stale) ∷ (is_directory_at fs dir, stats.NotDir) ∷ []
 
 -- an edit of a directory: the rule for names, then search and write permission in it, else ACCES
 abbrev pub edit_checks : Files → Caller → ℕ → List ℕ → Checks
-edit_checks w who dir name =
+edit_checks fs who dir name =
     (is_name name, stats.Acces)
-    ∷ (holds_at w dir (λ f. may_search who f && may_write who f), stats.Acces)
+    ∷ (holds_at fs dir (λ f. may_search who f && may_write who f), stats.Acces)
     ∷ []
 
 -- ---- each procedure, by file numbers
 
 -- whether neither mode nor a time is given
-abbrev pub keeps_mode_and_times : Wanted → Bool
+abbrev pub keeps_mode_and_times : GivenFields → Bool
 keeps_mode_and_times a = is_none a.mode && is_none a.atime && is_none a.mtime
 
 -- whether a caller may give a file this group as its owner: the same, or one of its own
@@ -51,193 +52,192 @@ may_give_group who gid f = owns who f && ((gid == f.gid) || is_in_group who gid)
 -- SETATTR (section 2.2.3): mode or a time by one who is neither owner nor user 0, uid by one who is neither
 -- user 0 nor the owner giving the same, gid by one who is neither user 0 nor the owner giving the same or one
 -- of its own groups; and what is asked of a given size
-abbrev pub set_checks : Files → Caller → Timeval → ℕ → Wanted → Checks
-set_checks w who now n a =
-    (is_there w n, stats.Stale)
-    ∷ (holds_at w n (owns who) || (who.uid == 0) || keeps_mode_and_times a, stats.Perm)
-    ∷ (given a.uid (λ uid. (who.uid == 0) || holds_at w n (λ f. owns who f && (uid == f.uid))), stats.Perm)
-    ∷ (given a.gid (λ gid. (who.uid == 0) || holds_at w n (may_give_group who gid)), stats.Perm)
-    ∷ (given a.size (λ size. not (is_directory_at w n)), stats.IsDir)
-    ∷ (given a.size (λ size. not (holds_at w n (λ f. is_link f.body))), stats.NxIo)
-    ∷ (given a.size (λ size. holds_at w n (may_write who)), stats.Acces)
-    ∷ (given a.size (λ size. nat_le size 1048576), stats.FBig)
-    ∷ (given a.size (λ size. has_room (with_changed_file w n (set now a))), stats.NoSpc)
+abbrev pub set_checks : Files → Caller → Timeval → ℕ → GivenFields → Checks
+set_checks fs who now n a =
+    (is_there fs n, stats.Stale)
+    ∷ (holds_at fs n (owns who) || (who.uid == 0) || keeps_mode_and_times a, stats.Perm)
+    ∷ (if_given a.uid (λ uid. (who.uid == 0) || holds_at fs n (λ f. owns who f && (uid == f.uid))), stats.Perm)
+    ∷ (if_given a.gid (λ gid. (who.uid == 0) || holds_at fs n (may_give_group who gid)), stats.Perm)
+    ∷ (if_given a.size (λ size. not (is_directory_at fs n)), stats.IsDir)
+    ∷ (if_given a.size (λ size. not (holds_at fs n (λ f. is_link f.body))), stats.NxIo)
+    ∷ (if_given a.size (λ size. holds_at fs n (may_write who)), stats.Acces)
+    ∷ (if_given a.size (λ size. nat_le size 1048576), stats.FBig)
+    ∷ (if_given a.size (λ size. has_room (with_changed_file fs n (apply_fields now a))), stats.NoSpc)
     ∷ []
 
 -- LOOKUP (section 2.2.5)
 abbrev pub lookup_checks : Files → Caller → ℕ → List ℕ → Checks
-lookup_checks w who dir name =
-    directory_checks w dir
-    ++ (holds_at w dir (may_search who), stats.Acces)
-    ∷ (is_some (number_named w dir (listing w dir) name), stats.NoEnt)
+lookup_checks fs who dir name =
+    directory_checks fs dir
+    ++ (holds_at fs dir (may_search who), stats.Acces)
+    ∷ (is_some (number_named fs dir (listing fs dir) name), stats.NoEnt)
     ∷ []
 
 -- READLINK (section 2.2.6)
 abbrev pub read_link_checks : Files → ℕ → Checks
-read_link_checks w n = (is_there w n, stats.Stale) ∷ (holds_at w n (λ f. is_link f.body), stats.NxIo) ∷ []
+read_link_checks fs n = (is_there fs n, stats.Stale) ∷ (holds_at fs n (λ f. is_link f.body), stats.NxIo) ∷ []
 
 -- READ (section 2.2.7)
 abbrev pub read_checks : Files → Caller → ℕ → Checks
-read_checks w who n =
-    (is_there w n, stats.Stale)
-    ∷ (not (is_directory_at w n), stats.IsDir)
-    ∷ (not (holds_at w n (λ f. is_link f.body)), stats.NxIo)
-    ∷ (holds_at w n (λ f. may_read who f || permits who f 1), stats.Acces)
+read_checks fs who n =
+    (is_there fs n, stats.Stale)
+    ∷ (not (is_directory_at fs n), stats.IsDir)
+    ∷ (not (holds_at fs n (λ f. is_link f.body)), stats.NxIo)
+    ∷ (holds_at fs n (λ f. may_read who f || permits who f 1), stats.Acces)
     ∷ []
 
 -- the files after a write
 abbrev pub after_write : Files → Timeval → ℕ → ℕ → List ℕ → Files
-after_write w now n offset new = with_changed_file w n (rewritten now offset new (bytes_at w n))
+after_write fs now n offset new = with_changed_file fs n (with_bytes_written now offset new (bytes_at fs n))
 
 -- WRITE (section 2.2.9): the last two are asked only of some bytes
 abbrev pub write_checks : Files → Caller → Timeval → ℕ → ℕ → List ℕ → Checks
-write_checks w who now n offset new =
-    (is_there w n, stats.Stale)
-    ∷ (not (is_directory_at w n), stats.IsDir)
-    ∷ (not (holds_at w n (λ f. is_link f.body)), stats.NxIo)
-    ∷ (holds_at w n (may_write who), stats.Acces)
+write_checks fs who now n offset new =
+    (is_there fs n, stats.Stale)
+    ∷ (not (is_directory_at fs n), stats.IsDir)
+    ∷ (not (holds_at fs n (λ f. is_link f.body)), stats.NxIo)
+    ∷ (holds_at fs n (may_write who), stats.Acces)
     ∷ ((length new == 0) || nat_le (offset + length new) 1048576, stats.FBig)
-    ∷ ((length new == 0) || has_room (after_write w now n offset new), stats.NoSpc)
+    ∷ ((length new == 0) || has_room (after_write fs now n offset new), stats.NoSpc)
     ∷ []
 
 -- CREATE (section 2.2.10): of a name that is there EXIST unless regular, and then as SETATTR; of a new one
 -- write permission in the directory, and what is asked of a size
-abbrev pub create_over_checks : Files → Caller → Timeval → Wanted → ℕ → Checks
-create_over_checks w who now a n =
-    (holds_at w n (λ f. is_regular f.body), stats.Exist) ∷ set_checks w who now n a
+abbrev pub create_over_checks : Files → Caller → Timeval → GivenFields → ℕ → Checks
+create_over_checks fs who now a n =
+    (holds_at fs n (λ f. is_regular f.body), stats.Exist) ∷ set_checks fs who now n a
 
-abbrev pub create_new_checks : Files → Caller → Timeval → ℕ → List ℕ → Wanted → Checks
-create_new_checks w who now dir name a =
-    let new = new_file who now a 420 (Regular (replicate (unwrap_or a.size 0) 0)) in
-    (holds_at w dir (may_write who), stats.Acces)
-    ∷ (given a.size (λ size. nat_le size 1048576), stats.FBig)
-    ∷ (has_room (made now w dir name new), stats.NoSpc)
+abbrev pub create_new_checks : Files → Caller → Timeval → ℕ → List ℕ → GivenFields → Checks
+create_new_checks fs who now dir name a =
+    (holds_at fs dir (may_write who), stats.Acces)
+    ∷ (if_given a.size (λ size. nat_le size 1048576), stats.FBig)
+    ∷ (has_room (add_file now fs dir name (new_regular who now a)), stats.NoSpc)
     ∷ []
 
 -- by what stands at the name
-abbrev pub create_at_checks : Files → Caller → Timeval → ℕ → List ℕ → Wanted → Option (ℕ × ℕ) → Checks
-create_at_checks w who now dir name a place =
-    option_map_or (λ e. create_over_checks w who now a e.0) place (create_new_checks w who now dir name a)
+abbrev pub create_at_checks : Files → Caller → Timeval → ℕ → List ℕ → GivenFields → Option (ℕ × ℕ) → Checks
+create_at_checks fs who now dir name a place =
+    option_map_or (λ e. create_over_checks fs who now a e.0) place (create_new_checks fs who now dir name a)
 
-abbrev pub create_checks : Files → Caller → Timeval → ℕ → List ℕ → Wanted → Checks
-create_checks w who now dir name a =
-    directory_checks w dir
+abbrev pub create_checks : Files → Caller → Timeval → ℕ → List ℕ → GivenFields → Checks
+create_checks fs who now dir name a =
+    directory_checks fs dir
     ++ (is_name name, stats.Acces)
-    ∷ (holds_at w dir (may_search who), stats.Acces)
-    ∷ create_at_checks w who now dir name a (places w dir name)
+    ∷ (holds_at fs dir (may_search who), stats.Acces)
+    ∷ create_at_checks fs who now dir name a (places fs dir name)
 
 -- REMOVE (section 2.2.11)
 abbrev pub remove_checks : Files → Caller → ℕ → List ℕ → Checks
-remove_checks w who dir name =
-    directory_checks w dir ++ edit_checks w who dir name
-    ++ (is_some (places w dir name), stats.NoEnt)
-    ∷ (not (names_directory w dir name), stats.IsDir)
+remove_checks fs who dir name =
+    directory_checks fs dir ++ edit_checks fs who dir name
+    ++ (is_some (places fs dir name), stats.NoEnt)
+    ∷ (not (names_directory fs dir name), stats.IsDir)
     ∷ []
 
 -- whether a name stands for this number
 abbrev pub stands_for : Files → ℕ → List ℕ → ℕ → Bool
-stands_for w dir name n = option_map_or (λ e. e.0 == n) (places w dir name) false
+stands_for fs dir name n = option_map_or (λ e. e.0 == n) (places fs dir name) false
 
 -- whether two names stand for one file
 abbrev pub is_same_file : Files → ℕ → List ℕ → ℕ → List ℕ → Bool
-is_same_file w from from_name to to_name =
-    option_map_or (λ s. stands_for w to to_name s.0) (places w from from_name) false
+is_same_file fs from from_name to to_name =
+    option_map_or (λ s. stands_for fs to to_name s.0) (places fs from from_name) false
 
 -- whether a name stands for a directory that is another, or above it
 abbrev pub is_named_above : Files → ℕ → List ℕ → ℕ → Bool
-is_named_above w dir name lower =
-    names_directory w dir name && option_map_or (λ e. is_above w e.0 lower) (places w dir name) false
+is_named_above fs dir name lower =
+    names_directory fs dir name && option_map_or (λ e. is_above fs e.0 lower) (places fs dir name) false
 
 -- whether nothing has a name, or what has it passes a test with what the other name stands for: a directory
 -- goes over a directory alone, another kind over another kind
 abbrev pub may_replace_as_directory : Files → ℕ → List ℕ → ℕ → List ℕ → Bool
-may_replace_as_directory w from from_name to to_name =
-    is_none (places w to to_name) || not (names_directory w from from_name) || names_directory w to to_name
+may_replace_as_directory fs from from_name to to_name =
+    is_none (places fs to to_name) || not (names_directory fs from from_name) || names_directory fs to to_name
 
 abbrev pub may_replace_as_other : Files → ℕ → List ℕ → ℕ → List ℕ → Bool
-may_replace_as_other w from from_name to to_name =
-    is_none (places w to to_name) || names_directory w from from_name || not (names_directory w to to_name)
+may_replace_as_other fs from from_name to to_name =
+    is_none (places fs to to_name) || names_directory fs from from_name || not (names_directory fs to to_name)
 
 -- whether nothing has a name, or what has it lists nothing
 abbrev pub is_free_or_empty : Files → ℕ → List ℕ → Bool
-is_free_or_empty w dir name = is_none (places w dir name) || holds_named w dir name lists_nothing
+is_free_or_empty fs dir name = is_none (places fs dir name) || holds_named fs dir name lists_nothing
 
 -- RENAME (section 2.2.12): where both names stand for one file, no more is asked
 abbrev pub rename_checks : Files → Caller → ℕ → List ℕ → ℕ → List ℕ → Checks
-rename_checks w who from from_name to to_name =
-    directory_checks w from ++ directory_checks w to
-    ++ edit_checks w who from from_name ++ edit_checks w who to to_name
-    ++ (is_some (places w from from_name), stats.NoEnt)
-    ∷ (if is_same_file w from from_name to to_name then [] else
-    (not (is_named_above w from from_name to), stats.Acces)
-    ∷ (may_replace_as_directory w from from_name to to_name, stats.NotDir)
-    ∷ (may_replace_as_other w from from_name to to_name, stats.IsDir)
-    ∷ (is_free_or_empty w to to_name, stats.NotEmpty)
-    ∷ (nat_le (listing w to).next 4294967294, stats.NoSpc)
+rename_checks fs who from from_name to to_name =
+    directory_checks fs from ++ directory_checks fs to
+    ++ edit_checks fs who from from_name ++ edit_checks fs who to to_name
+    ++ (is_some (places fs from from_name), stats.NoEnt)
+    ∷ (if is_same_file fs from from_name to to_name then [] else
+    (not (is_named_above fs from from_name to), stats.Acces)
+    ∷ (may_replace_as_directory fs from from_name to to_name, stats.NotDir)
+    ∷ (may_replace_as_other fs from from_name to to_name, stats.IsDir)
+    ∷ (is_free_or_empty fs to to_name, stats.NotEmpty)
+    ∷ (nat_le (listing fs to).next 4294967294, stats.NoSpc)
     ∷ [])
 
 -- LINK (section 2.2.13)
 abbrev pub link_checks : Files → Caller → Timeval → ℕ → ℕ → List ℕ → Checks
-link_checks w who now from dir name =
-    (is_there w from, stats.Stale)
-    ∷ (not (is_directory_at w from), stats.IsDir)
-    ∷ directory_checks w dir ++ edit_checks w who dir name
-    ++ (is_none (places w dir name), stats.Exist)
-    ∷ (has_room (touch now (with_name (mark now w from) dir name from) dir), stats.NoSpc)
+link_checks fs who now from dir name =
+    (is_there fs from, stats.Stale)
+    ∷ (not (is_directory_at fs from), stats.IsDir)
+    ∷ directory_checks fs dir ++ edit_checks fs who dir name
+    ++ (is_none (places fs dir name), stats.Exist)
+    ∷ (has_room (touch now (with_name (touch_ctime now fs from) dir name from) dir), stats.NoSpc)
     ∷ []
 
 -- SYMLINK (section 2.2.14)
 abbrev pub symlink_checks : Files → Caller → Timeval → ℕ → List ℕ → List ℕ → Checks
-symlink_checks w who now dir name target =
-    directory_checks w dir ++ edit_checks w who dir name
-    ++ (is_none (places w dir name), stats.Exist)
-    ∷ (has_room (made now w dir name (new_file who now nothing 511 (Link target))), stats.NoSpc)
+symlink_checks fs who now dir name target =
+    directory_checks fs dir ++ edit_checks fs who dir name
+    ++ (is_none (places fs dir name), stats.Exist)
+    ∷ (has_room (add_file now fs dir name (new_link who now target)), stats.NoSpc)
     ∷ []
 
 -- MKDIR (section 2.2.15)
-abbrev pub make_dir_checks : Files → Caller → Timeval → ℕ → List ℕ → Wanted → Checks
-make_dir_checks w who now dir name a =
-    let new = new_file who now a 493 (Directory (record { next = 3; entries = [] })) in
-    directory_checks w dir ++ edit_checks w who dir name
-    ++ (is_none (places w dir name), stats.Exist)
-    ∷ (has_room (made now w dir name new), stats.NoSpc)
+abbrev pub make_dir_checks : Files → Caller → Timeval → ℕ → List ℕ → GivenFields → Checks
+make_dir_checks fs who now dir name a =
+    directory_checks fs dir ++ edit_checks fs who dir name
+    ++ (is_none (places fs dir name), stats.Exist)
+    ∷ (has_room (add_file now fs dir name (new_directory who now a)), stats.NoSpc)
     ∷ []
 
 -- RMDIR (section 2.2.16)
 abbrev pub remove_dir_checks : Files → Caller → ℕ → List ℕ → Checks
-remove_dir_checks w who dir name =
-    directory_checks w dir ++ edit_checks w who dir name
-    ++ (is_some (places w dir name), stats.NoEnt)
-    ∷ (names_directory w dir name, stats.NotDir)
-    ∷ (holds_named w dir name lists_nothing, stats.NotEmpty)
+remove_dir_checks fs who dir name =
+    directory_checks fs dir ++ edit_checks fs who dir name
+    ++ (is_some (places fs dir name), stats.NoEnt)
+    ∷ (names_directory fs dir name, stats.NotDir)
+    ∷ (holds_named fs dir name lists_nothing, stats.NotEmpty)
     ∷ []
 
 -- READDIR (section 2.2.17)
 abbrev pub read_dir_checks : Files → Caller → ℕ → Checks
-read_dir_checks w who dir = directory_checks w dir ++ (holds_at w dir (may_read who), stats.Acces) ∷ []
+read_dir_checks fs who dir = directory_checks fs dir ++ (holds_at fs dir (may_read who), stats.Acces) ∷ []
 
 -- ---- each call, by file handles
 
 abbrev pub checks_of : Files → Caller → Timeval → Call → Checks
-checks_of w who now calls.Null = []
-checks_of w who now (calls.Getattr file) = file_checks w (number_for w file)
-checks_of w who now (calls.Setattr file s) = set_checks w who now (number_for w file) (wanted now s)
-checks_of w who now calls.Root = []
-checks_of w who now (calls.Lookup dir name) = lookup_checks w who (number_for w dir) name
-checks_of w who now (calls.Readlink file) = read_link_checks w (number_for w file)
-checks_of w who now (calls.Read file offset count) = read_checks w who (number_for w file)
-checks_of w who now calls.Writecache = []
-checks_of w who now (calls.Write file offset new) = write_checks w who now (number_for w file) offset new
-checks_of w who now (calls.Create dir name s) = create_checks w who now (number_for w dir) name (wanted now s)
-checks_of w who now (calls.Remove dir name) = remove_checks w who (number_for w dir) name
-checks_of w who now (calls.Rename from from_name to to_name) =
-    rename_checks w who (number_for w from) from_name (number_for w to) to_name
-checks_of w who now (calls.Link from dir name) =
-    link_checks w who now (number_for w from) (number_for w dir) name
-checks_of w who now (calls.Symlink dir name target s) =
-    symlink_checks w who now (number_for w dir) name target
-checks_of w who now (calls.Mkdir dir name s) =
-    make_dir_checks w who now (number_for w dir) name (wanted now s)
-checks_of w who now (calls.Rmdir dir name) = remove_dir_checks w who (number_for w dir) name
-checks_of w who now (calls.Readdir dir cookie count) = read_dir_checks w who (number_for w dir)
-checks_of w who now (calls.Statfs file) = file_checks w (number_for w file)
+checks_of fs who now calls.Null = []
+checks_of fs who now (calls.Getattr file) = file_checks fs (number_for fs file)
+checks_of fs who now (calls.Setattr file s) = set_checks fs who now (number_for fs file) (given_fields now s)
+checks_of fs who now calls.Root = []
+checks_of fs who now (calls.Lookup dir name) = lookup_checks fs who (number_for fs dir) name
+checks_of fs who now (calls.Readlink file) = read_link_checks fs (number_for fs file)
+checks_of fs who now (calls.Read file offset count) = read_checks fs who (number_for fs file)
+checks_of fs who now calls.Writecache = []
+checks_of fs who now (calls.Write file offset new) = write_checks fs who now (number_for fs file) offset new
+checks_of fs who now (calls.Create dir name s) =
+    create_checks fs who now (number_for fs dir) name (given_fields now s)
+checks_of fs who now (calls.Remove dir name) = remove_checks fs who (number_for fs dir) name
+checks_of fs who now (calls.Rename from from_name to to_name) =
+    rename_checks fs who (number_for fs from) from_name (number_for fs to) to_name
+checks_of fs who now (calls.Link from dir name) =
+    link_checks fs who now (number_for fs from) (number_for fs dir) name
+checks_of fs who now (calls.Symlink dir name target s) =
+    symlink_checks fs who now (number_for fs dir) name target
+checks_of fs who now (calls.Mkdir dir name s) =
+    make_dir_checks fs who now (number_for fs dir) name (given_fields now s)
+checks_of fs who now (calls.Rmdir dir name) = remove_dir_checks fs who (number_for fs dir) name
+checks_of fs who now (calls.Readdir dir cookie count) = read_dir_checks fs who (number_for fs dir)
+checks_of fs who now (calls.Statfs file) = file_checks fs (number_for fs file)

@@ -1,25 +1,26 @@
 -- A file that is made, linked and removed, each time with all files after the call.
-use Rattle.std.specs.Prelude.{ℕ, List, [], ◌∷◌}
+use Rattle.std.specs.Prelude.{ℕ, List, [], ◌∷◌, codes}
 use Rattle.fs_model.specs.Files.{Directory, File}
 use Rattle.nfs_spec.specs.Opening.{first_file, hello, opening_hello}
 use Rattle.nfs_spec_examples.specs.Worked.{empty_file, empty_directory, link_to_t}
 
 -- `e`, `f`, `g` and `s`
 abbrev pub e : List ℕ
-e = 101 ∷ []
+e = codes "e"
 
 abbrev pub f : List ℕ
-f = 102 ∷ []
+f = codes "f"
 
 abbrev pub g : List ℕ
-g = 103 ∷ []
+g = codes "g"
 
 abbrev pub s : List ℕ
-s = 115 ∷ []
+s = codes "s"
 
 -- the root with `hello` and these
 abbrev pub root_of : ℕ → List (List ℕ × (ℕ × ℕ)) → File
-root_of next entries = first_file 511 (Directory (record { next = next; entries = (hello, (2, 3)) ∷ entries }))
+root_of next entries =
+    first_file 0x1ff (Directory (record { next = next; entries = (hello, (2, 3)) ∷ entries }))
 
 -- with `f`; and with `g`, which is the same file; with `g` alone; and with neither
 abbrev pub with_f : List (ℕ × File)
@@ -39,10 +40,16 @@ abbrev pub with_f_again : List (ℕ × File)
 with_f_again = (1, root_of 7 ((f, (4, 6)) ∷ [])) ∷ (2, opening_hello) ∷ (4, empty_file) ∷ []
 
 abbrev pub with_s : List (ℕ × File)
-with_s = (1, root_of 8 ((f, (4, 6)) ∷ (s, (5, 7)) ∷ [])) ∷ (2, opening_hello) ∷ (4, empty_file) ∷ (5, link_to_t) ∷ []
+with_s =
+    (1, root_of 8 ((f, (4, 6)) ∷ (s, (5, 7)) ∷ []))
+    ∷ (2, opening_hello) ∷ (4, empty_file) ∷ (5, link_to_t) ∷ []
 
 abbrev pub with_e : List (ℕ × File)
-with_e = (1, root_of 9 ((f, (4, 6)) ∷ (s, (5, 7)) ∷ (e, (6, 8)) ∷ [])) ∷ (2, opening_hello) ∷ (4, empty_file) ∷ (5, link_to_t) ∷ (6, empty_directory) ∷ []
+with_e =
+    (1, root_of 9 ((f, (4, 6)) ∷ (s, (5, 7)) ∷ (e, (6, 8)) ∷ []))
+    ∷ (2, opening_hello) ∷ (4, empty_file) ∷ (5, link_to_t) ∷ (6, empty_directory) ∷ []
 
 abbrev pub without_e : List (ℕ × File)
-without_e = (1, root_of 9 ((f, (4, 6)) ∷ (s, (5, 7)) ∷ [])) ∷ (2, opening_hello) ∷ (4, empty_file) ∷ (5, link_to_t) ∷ []
+without_e =
+    (1, root_of 9 ((f, (4, 6)) ∷ (s, (5, 7)) ∷ []))
+    ∷ (2, opening_hello) ∷ (4, empty_file) ∷ (5, link_to_t) ∷ []

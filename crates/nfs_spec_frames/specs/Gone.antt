@@ -5,9 +5,9 @@ use Rattle.fs_model.specs.Paths.{path_at}
 use Rattle.fs_model.specs.Files.{File, Files, file_at, places, names_of}
 
 -- a number is no file's, and no path leads to it
-pub record IsGone (w : Files) (n : ℕ) : Type 0 where
-  pub file : file_at w n ≡ None
-  pub paths : (path : List (List ℕ)) (cookie : ℕ) → path_at (places w) path ≢ Some (n, cookie)
+pub record IsGone (fs : Files) (n : ℕ) : Type 0 where
+  pub file : file_at fs n ≡ None
+  pub paths : (path : List (List ℕ)) (cookie : ℕ) → path_at (places fs) path ≢ Some (n, cookie)
 
 -- a file has one name less than before, and was changed now
 pub record HasOneNameLess (before after : Files) (now : Timeval) (n : ℕ) : Type 0 where

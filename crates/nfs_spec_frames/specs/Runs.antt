@@ -4,7 +4,7 @@ use Rattle.nfs_types.specs.Timeval.{Timeval}
 use Rattle.nfs_types.specs.Caller.{Caller}
 use Rattle.fs_model.specs.Files.{Files}
 use Rattle.fs_model.specs.Trees.{IsTime}
-use Rattle.nfs_spec.specs.Calls.{Call, call_does}
+use Rattle.nfs_spec.specs.NfsCalls.{Call, call_does}
 use Rattle.nfs_spec_laws.specs.Laws.{IsBounded}
 
 -- a call, with its caller and the time of it
@@ -15,8 +15,8 @@ pub record Request : Type 0 where
 
 -- the files after calls, one after the other
 abbrev pub files_after : Files → List Request → Files
-files_after w [] = w
-files_after w (r ∷ requests) = files_after (call_does w r.who r.now r.call).1 requests
+files_after fs [] = fs
+files_after fs (r ∷ requests) = files_after (call_does fs r.who r.now r.call).1 requests
 
 -- times are times, and names and targets are within the protocol's bounds
 abbrev pub AreBounded : List Request → Type 0

@@ -3,17 +3,18 @@
 use Rattle.std.proofs.Common.{◌≡◌, ⊎_elim, ℕ, ◌+◌, ◌-◌, ◌<◌, ◌≤◌, List, ◌++◌, length, take, drop, replicate, max, get_or, refl, sym, ap, ◌∙◌, arith, length-append, length-take, length-drop}
 use Rattle.std.proofs.lemmas.Bool.{cases_lt}
 use Rattle.std.proofs.lemmas.List.{length-replicate, get_or_append_left, get_or-append_right, get_or-take, get_or-drop, get_or-replicate, get_or_past}
-use Rattle.nfs_spec.specs.Changes.{resized, written}
+use Rattle.nfs_spec.specs.Changes.{with_length, with_bytes_at}
 
 -- what is cut or grown has the size asked for
-pub length-resized : (size : ℕ) (bytes : List ℕ) → length (resized size bytes) ≡ size
+pub length-resized : (size : ℕ) (bytes : List ℕ) → length (with_length size bytes) ≡ size
 length-resized size bytes =
     omega (arith, length-append (take size bytes) (replicate (size - length bytes) 0), length-take size bytes, length-replicate {A = ℕ} (size - length bytes) 0)
 
 -- what is written ends where the new bytes end, or the old ones
-pub written_length : (offset : ℕ) (new old : List ℕ) → length (written offset new old) ≡ max (offset + length new) (length old)
+pub written_length : (offset : ℕ) (new old : List ℕ)
+    → length (with_bytes_at offset new old) ≡ max (offset + length new) (length old)
 written_length offset new old =
-    let whole = length-append (resized offset old) (new ++ drop (offset + length new) old) in
+    let whole = length-append (with_length offset old) (new ++ drop (offset + length new) old) in
     let front = length-resized offset old in
     let back = length-append new (drop (offset + length new) old) in
     let rest = length-drop (offset + length new) old in
@@ -21,11 +22,12 @@ written_length offset new old =
 
 -- and within any size that both are within
 pub length-written : (offset : ℕ) (new old : List ℕ) (top : ℕ) → offset + length new ≤ top → length old ≤ top
-    → length (written offset new old) ≤ top
+    → length (with_bytes_at offset new old) ≤ top
 length-written offset new old top fits was = omega (arith, written_length offset new old)
 
 -- what is cut or grown keeps the bytes in front; behind them are zeros
-pub resized_byte : (size : ℕ) (old : List ℕ) (i : ℕ) → i < size → get_or (resized size old) i 0 ≡ get_or old i 0
+pub resized_byte : (size : ℕ) (old : List ℕ) (i : ℕ) → i < size
+    → get_or (with_length size old) i 0 ≡ get_or old i 0
 resized_byte size old i lt = ⊎_elim
     (λ inside.
     let long : i < length (take size old) = omega (arith, length-take size old) in
@@ -38,24 +40,27 @@ resized_byte size old i lt = ⊎_elim
     (cases_lt i (length old))
 
 -- a byte before the place is the old one
-pub byte_before : (offset : ℕ) (new old : List ℕ) (i : ℕ) → i < offset → get_or (written offset new old) i 0 ≡ get_or old i 0
+pub byte_before : (offset : ℕ) (new old : List ℕ) (i : ℕ) → i < offset
+    → get_or (with_bytes_at offset new old) i 0 ≡ get_or old i 0
 byte_before offset new old i lt =
-    let long : i < length (resized offset old) = omega (arith, length-resized offset old) in
-    get_or_append_left (resized offset old) (new ++ drop (offset + length new) old) 0 i long ∙ resized_byte offset old i lt
+    let long : i < length (with_length offset old) = omega (arith, length-resized offset old) in
+    get_or_append_left (with_length offset old) (new ++ drop (offset + length new) old) 0 i long ∙ resized_byte offset old i lt
 
 -- a byte behind the new ones is the old one
-pub byte_behind : (offset : ℕ) (new old : List ℕ) (i : ℕ) → offset + length new ≤ i → get_or (written offset new old) i 0 ≡ get_or old i 0
+pub byte_behind : (offset : ℕ) (new old : List ℕ) (i : ℕ) → offset + length new ≤ i
+    → get_or (with_bytes_at offset new old) i 0 ≡ get_or old i 0
 byte_behind offset new old i le =
     let place : (offset + length new) + ((i - offset) - length new) ≡ i = omega arith in
-    get_or-append_right (resized offset old) (new ++ drop (offset + length new) old) offset i 0 (length-resized offset old) (omega arith)
+    get_or-append_right (with_length offset old) (new ++ drop (offset + length new) old) offset i 0 (length-resized offset old) (omega arith)
     ∙ get_or-append_right new (drop (offset + length new) old) (length new) (i - offset) 0 refl (omega arith)
     ∙ get_or-drop (offset + length new) old ((i - offset) - length new) 0
     ∙ ap (λ n. get_or old n 0) place
 
 -- a byte at the place is the new one
-pub byte_new : (offset : ℕ) (new old : List ℕ) (i : ℕ) → i < length new → get_or (written offset new old) (offset + i) 0 ≡ get_or new i 0
+pub byte_new : (offset : ℕ) (new old : List ℕ) (i : ℕ) → i < length new
+    → get_or (with_bytes_at offset new old) (offset + i) 0 ≡ get_or new i 0
 byte_new offset new old i lt =
     let place : (offset + i) - offset ≡ i = omega arith in
-    get_or-append_right (resized offset old) (new ++ drop (offset + length new) old) offset (offset + i) 0 (length-resized offset old) (omega arith)
+    get_or-append_right (with_length offset old) (new ++ drop (offset + length new) old) offset (offset + i) 0 (length-resized offset old) (omega arith)
     ∙ ap (λ n. get_or (new ++ drop (offset + length new) old) n 0) place
     ∙ get_or_append_left new (drop (offset + length new) old) 0 i lt

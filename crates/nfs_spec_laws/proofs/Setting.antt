@@ -10,17 +10,17 @@ use Rattle.fs_model.specs.Trees.{IsTime, IsFile, IsFileTree}
 use Rattle.fs_model.proofs.Walks.{some_same}
 use Rattle.fs_changes.specs.Edits.{with_changed_file}
 use Rattle.fs_changes.specs.Limits.{has_room}
-use Rattle.fs_changes.proofs.Attributes.{stays_shaped}
+use Rattle.fs_changes.proofs.SameShape.{stays_shaped}
 use Rattle.fs_changes.proofs.Room.{same_smaller, changed_no_more, still_room}
 use Rattle.fs_changes.proofs.Shapes.{IsSameShape, same_shape, changed_files}
-use Rattle.nfs_spec.specs.Sattr.{Wanted}
-use Rattle.nfs_spec.specs.Changes.{resized_body, set}
-use Rattle.nfs_spec.specs.Procedures.{rewritten}
+use Rattle.nfs_spec.specs.Sattr.{GivenFields}
+use Rattle.nfs_spec.specs.Changes.{body_with_length, apply_fields}
+use Rattle.nfs_spec.specs.Procedures.{with_bytes_written}
 use Rattle.nfs_spec_steps.specs.Granted.{SetOk, WriteOk, CreateOk, new_regular}
 use Rattle.nfs_spec_trees.specs.Anew.{Follows}
 use Rattle.nfs_spec_trees.proofs.GivenAnew.{nothing_given, same_given, cookie_changed}
 use Rattle.nfs_spec_trees.proofs.Making.{make_follows}
-use Rattle.nfs_spec_laws.specs.Laws.{IsWanted}
+use Rattle.nfs_spec_laws.specs.Laws.{AreValidFields}
 use Rattle.nfs_spec_laws.proofs.FilesFit.{set_lists, set_keeps, resized_fits, set_fits, rewritten_fits, regular_fits}
 
 -- files follow themselves
@@ -35,7 +35,8 @@ record IsQuiet (w : Files) (n : ℕ) (f : File) (change : File → File) : Type 
   fits : IsFile (change f)
   room : has_room w ≡ true → has_room (with_changed_file w n change) ≡ true
 
-module _ (w : Files) (tree : IsFileTree w) (n : ℕ) (f : File) (change : File → File) (quiet : IsQuiet w n f change) where
+module _ (w : Files) (tree : IsFileTree w) (n : ℕ) (f : File) (change : File → File)
+    (quiet : IsQuiet w n f change) where
   -- what holds of the file holds of each that is found there
   at_own : (P : File → Type 0) → P f → (g : File) → file_at w n ≡ Some g → P g
   at_own P own g there = subst P (some_same (sym quiet.there ∙ there)) own
@@ -57,10 +58,11 @@ module _ (w : Files) (tree : IsFileTree w) (n : ℕ) (f : File) (change : File �
 
 module _ (now : Timeval) (time : IsTime now) (w : Files) (tree : IsFileTree w) (who : Caller) where
   -- SETATTR
-  pub set_follows : (n : ℕ) (a : Wanted) → IsWanted a → (after : Files) → SetOk w who now n a after → Follows w after
+  pub set_follows : (n : ℕ) (a : GivenFields) → AreValidFields a → (after : Files) → SetOk w who now n a after
+      → Follows w after
   set_follows n a is after o =
       let fits = tree.files n o.file o.there in
-      subst (Follows w) (sym o.effect) (quiet_follows w tree n o.file (set now a) (record {
+      subst (Follows w) (sym o.effect) (quiet_follows w tree n o.file (apply_fields now a) (record {
         there = o.there;
         lists = set_lists a.size o.file.body;
         keeps = set_keeps a.size o.file.body;
@@ -68,17 +70,19 @@ module _ (now : Timeval) (time : IsTime now) (w : Files) (tree : IsFileTree w) (
         room = in_room a.size refl;
       }))
     where
-      in_room : (size : Option ℕ) → a.size ≡ size → has_room w ≡ true → has_room (with_changed_file w n (set now a)) ≡ true
+      in_room : (size : Option ℕ) → a.size ≡ size → has_room w ≡ true
+          → has_room (with_changed_file w n (apply_fields now a)) ≡ true
       in_room (Some size) e = λ _. subst (λ v. has_room v ≡ true) o.effect (o.room size e)
-      in_room None e = still_room w (with_changed_file w n (set now a))
-          (changed_no_more w n (set now a) (λ f. same_smaller f (set now a f) (ap (λ size. resized_body size f.body) e)))
+      in_room None e = still_room w (with_changed_file w n (apply_fields now a))
+          (changed_no_more w n (apply_fields now a) (λ f. same_smaller f (apply_fields now a f) (ap (λ size. body_with_length size f.body) e)))
 
   -- WRITE
-  pub write_follows : (n offset : ℕ) (new : List ℕ) (after : Files) → WriteOk w who now n offset new after → Follows w after
+  pub write_follows : (n offset : ℕ) (new : List ℕ) (after : Files) → WriteOk w who now n offset new after
+      → Follows w after
   write_follows n offset new after o = subst (Follows w) (sym o.effect) (by (length new == 0) refl)
     where
       changed : Files
-      changed = with_changed_file w n (rewritten now offset new o.old)
+      changed = with_changed_file w n (with_bytes_written now offset new o.old)
 
       tf : true ≡ false → ⊥
       tf h = cc
@@ -87,7 +91,7 @@ module _ (now : Timeval) (time : IsTime now) (w : Files) (tree : IsFileTree w) (
       by true e = unchanged w tree
       by false e =
           let some : new ≢ [] = λ is. tf (sym (ap (λ (bytes : List ℕ). length bytes == 0) is) ∙ e) in
-          quiet_follows w tree n o.file (rewritten now offset new o.old) (record {
+          quiet_follows w tree n o.file (with_bytes_written now offset new o.old) (record {
             there = o.there;
             lists = sym (ap listing_in o.regular);
             keeps = sym (ap is_directory o.regular);
@@ -96,8 +100,8 @@ module _ (now : Timeval) (time : IsTime now) (w : Files) (tree : IsFileTree w) (
           })
 
   -- CREATE, of a new name or of one that is there
-  pub create_follows : (dir : ℕ) (name : List ℕ) → length name ≤ 255 → (a : Wanted) → IsWanted a → (number : ℕ) (after : Files)
-      → CreateOk w who now dir name a number after → Follows w after
+  pub create_follows : (dir : ℕ) (name : List ℕ) → length name ≤ 255 → (a : GivenFields) → AreValidFields a
+      → (number : ℕ) (after : Files) → CreateOk w who now dir name a number after → Follows w after
   create_follows dir name bound a is number after o = by (places w dir name) refl
     where
       by : (p : Option (ℕ × ℕ)) → places w dir name ≡ p → Follows w after

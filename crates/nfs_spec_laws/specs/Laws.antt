@@ -4,11 +4,11 @@ use Rattle.nfs_types.specs.Timeval.{Timeval}
 use Rattle.fs_model.specs.Paths.{path_at, AddsPath, TakesPath, Renames}
 use Rattle.fs_model.specs.Files.{Files, listing, places}
 use Rattle.fs_model.specs.Trees.{IsTime}
-use Rattle.nfs_spec.specs.Sattr.{Wanted}
-use Rattle.nfs_spec.specs.Calls.{Call, Create, Rename, Link, Symlink, Mkdir}
+use Rattle.nfs_spec.specs.Sattr.{GivenFields}
+use Rattle.nfs_spec.specs.NfsCalls.{Call, Create, Rename, Link, Symlink, Mkdir}
 
 -- what may be asked of attributes: twelve bits of mode, and times
-pub record IsWanted (a : Wanted) : Type 0 where
+pub record AreValidFields (a : GivenFields) : Type 0 where
   pub mode : (mode : ℕ) → a.mode ≡ Some mode → mode < 4096
   pub atime : (t : Timeval) → a.atime ≡ Some t → IsTime t
   pub mtime : (t : Timeval) → a.mtime ≡ Some t → IsTime t
@@ -24,19 +24,20 @@ IsBounded _ = Unit {0}
 
 -- from each path of the directory there is one path more, with the directory's next cookie
 abbrev pub NamesIn : Files → Files → ℕ → List ℕ → ℕ → Type 0
-NamesIn w w' dir name number =
-    (path : List (List ℕ)) (cookie : ℕ) → path_at (places w) path ≡ Some (dir, cookie)
-    → AddsPath (path_at (places w)) (path_at (places w')) (path ++ name ∷ []) number (listing w dir).next
+NamesIn fs fs' dir name number =
+    (path : List (List ℕ)) (cookie : ℕ) → path_at (places fs) path ≡ Some (dir, cookie)
+    → AddsPath (path_at (places fs)) (path_at (places fs')) (path ++ name ∷ []) number (listing fs dir).next
 
 -- one path less
 abbrev pub UnnamesIn : Files → Files → ℕ → List ℕ → Type 0
-UnnamesIn w w' dir name =
-    (path : List (List ℕ)) (cookie : ℕ) → path_at (places w) path ≡ Some (dir, cookie)
-    → TakesPath (path_at (places w)) (path_at (places w')) (path ++ name ∷ [])
+UnnamesIn fs fs' dir name =
+    (path : List (List ℕ)) (cookie : ℕ) → path_at (places fs) path ≡ Some (dir, cookie)
+    → TakesPath (path_at (places fs)) (path_at (places fs')) (path ++ name ∷ [])
 
 -- the paths through the one name go on through the other
 abbrev pub RenamesIn : Files → Files → ℕ → List ℕ → ℕ → List ℕ → Type 0
-RenamesIn w w' from from_name to to_name =
-    (p q : List (List ℕ)) (c d : ℕ) → path_at (places w) p ≡ Some (from, c) → path_at (places w) q ≡ Some (to, d)
-    → Renames (path_at (places w)) (path_at (places w'))
-    (p ++ from_name ∷ []) (q ++ to_name ∷ []) (listing w to).next
+RenamesIn fs fs' from from_name to to_name =
+    (p q : List (List ℕ)) (c d : ℕ)
+    → path_at (places fs) p ≡ Some (from, c) → path_at (places fs) q ≡ Some (to, d)
+    → Renames (path_at (places fs)) (path_at (places fs'))
+    (p ++ from_name ∷ []) (q ++ to_name ∷ []) (listing fs to).next

@@ -8,105 +8,106 @@ ghost use Rattle.nfs_types.specs.declared.attributes.Fattr.{Fattr};
 ghost use Rattle.fs_model.specs.Files.{File, Files, file_at, IsDirectory, is_directory, listing, places, names_of};
 ghost use Rattle.fs_model.specs.Trees.{IsTime, IsFileTree};
 ghost use Rattle.fs_changes.specs.Limits.{has_room};
-ghost use Rattle.nfs_spec.specs.Attributes.{subdirectories};
+ghost use Rattle.nfs_spec.specs.FileAttributes.{subdirectories};
 ghost use Rattle.nfs_spec.specs.Effects.{attributes_at};
-ghost use Rattle.nfs_spec.specs.Sattr.{Wanted, nothing};
-ghost use Rattle.nfs_spec.specs.Changes.{resized, written};
+ghost use Rattle.nfs_spec.specs.Sattr.{GivenFields, no_fields};
+ghost use Rattle.nfs_spec.specs.Changes.{with_length, with_bytes_at};
 ghost use Rattle.nfs_spec.specs.Procedures.{create, make_dir, symlink, link, remove, remove_dir, rename, read};
-ghost use Rattle.nfs_spec.specs.Calls.{Call, call_does};
+ghost use Rattle.nfs_spec.specs.NfsCalls.{Call, call_does};
 ghost use Rattle.nfs_spec_trees.specs.Anew.{GivesAnew};
 ghost use Rattle.nfs_spec_steps.specs.Answers.{refusal_in, only_reads};
 ghost use Rattle.nfs_spec_steps.specs.Granted.{IsSameFile};
-ghost use Rattle.nfs_spec_laws.specs.Laws.{IsWanted, IsBounded, NamesIn, UnnamesIn, RenamesIn};
+ghost use Rattle.nfs_spec_laws.specs.Laws.{AreValidFields, IsBounded, NamesIn, UnnamesIn, RenamesIn};
 
 /// Every call leaves a tree a tree.
 pub fn trees_stay_trees()
-    ensures { (w : Files) (who : Caller) (now : Timeval) (call : Call) →
-        IsFileTree w → IsTime now → IsBounded call → IsFileTree (call_does w who now call).1 }
+    ensures { (fs : Files) (who : Caller) (now : Timeval) (call : Call) →
+        IsFileTree fs → IsTime now → IsBounded call → IsFileTree (call_does fs who now call).1 }
 {}
 
 /// Numbers and cookies are never used again: what is there after a call was there before it, or has a number
 /// not given before; an entry of a directory was in it, or has a cookie not given in it before.
 pub fn nothing_is_given_again()
-    ensures { (w : Files) (who : Caller) (now : Timeval) (call : Call) →
-        IsFileTree w → IsTime now → IsBounded call → GivesAnew w (call_does w who now call).1 }
+    ensures { (fs : Files) (who : Caller) (now : Timeval) (call : Call) →
+        IsFileTree fs → IsTime now → IsBounded call → GivesAnew fs (call_does fs who now call).1 }
 {}
 
 /// No call passes a limit: on files, entries, blocks, numbers or cookies.
 pub fn no_limit_is_passed()
-    ensures { (w : Files) (who : Caller) (now : Timeval) (call : Call) →
-        IsFileTree w → IsTime now → IsBounded call →
-        IsTrue (has_room w) → IsTrue (has_room (call_does w who now call).1) }
+    ensures { (fs : Files) (who : Caller) (now : Timeval) (call : Call) →
+        IsFileTree fs → IsTime now → IsBounded call →
+        IsTrue (has_room fs) → IsTrue (has_room (call_does fs who now call).1) }
 {}
 
 /// A refusal leaves the files as they were.
 pub fn refusals_leave_files()
-    ensures { (w : Files) (who : Caller) (now : Timeval) (call : Call) (stat : Stat) →
-        refusal_in (call_does w who now call).0 ≡ Some stat → (call_does w who now call).1 ≡ w }
+    ensures { (fs : Files) (who : Caller) (now : Timeval) (call : Call) (stat : Stat) →
+        refusal_in (call_does fs who now call).0 ≡ Some stat → (call_does fs who now call).1 ≡ fs }
 {}
 
 /// A call that only reads leaves the files as they are.
 pub fn readers_leave_files()
-    ensures { (w : Files) (who : Caller) (now : Timeval) (call : Call) →
-        only_reads call ≡ true → (call_does w who now call).1 ≡ w }
+    ensures { (fs : Files) (who : Caller) (now : Timeval) (call : Call) →
+        only_reads call ≡ true → (call_does fs who now call).1 ≡ fs }
 {}
 
 /// The answer and the files after a call are told by the files before it, the caller's user and groups, the
 /// time and the call.
 pub fn calls_are_determined()
-    ensures { (w : Files) (one other : Caller) (now : Timeval) (call : Call) →
+    ensures { (fs : Files) (one other : Caller) (now : Timeval) (call : Call) →
         one.uid ≡ other.uid → one.gid ≡ other.gid → one.gids ≡ other.gids →
-        call_does w one now call ≡ call_does w other now call }
+        call_does fs one now call ≡ call_does fs other now call }
 {}
 
 /// CREATE of a name that isn't there, MKDIR and SYMLINK add one path, with the next number and the
 /// directory's next cookie; LINK adds one path to an old number.
 pub fn making_adds_a_path()
-    ensures create { (w after : Files) (who : Caller) (now : Timeval) (dir : ℕ) (name : List ℕ) (a : Wanted)
-        (number : ℕ) → IsFileTree w → IsTime now → IsWanted a → length name ≤ 255 →
-        create w who now dir name a ≡ Ok (number, after) → places w dir name ≡ None →
-        (number ≡ w.next) × NamesIn w after dir name number }
-    ensures make_dir { (w after : Files) (who : Caller) (now : Timeval) (dir : ℕ) (name : List ℕ) (a : Wanted)
-        (number : ℕ) → IsFileTree w → IsTime now → IsWanted a → length name ≤ 255 →
-        make_dir w who now dir name a ≡ Ok (number, after) →
-        (number ≡ w.next) × NamesIn w after dir name number }
-    ensures symlink { (w after : Files) (who : Caller) (now : Timeval) (dir : ℕ) (name target : List ℕ)
-        (number : ℕ) → IsFileTree w → IsTime now → length name ≤ 255 → length target ≤ 1024 →
-        symlink w who now dir name target ≡ Ok (number, after) →
-        (number ≡ w.next) × NamesIn w after dir name number }
-    ensures link { (w after : Files) (who : Caller) (now : Timeval) (from dir : ℕ) (name : List ℕ) →
-        IsFileTree w → IsTime now → length name ≤ 255 →
-        link w who now from dir name ≡ Ok (tt, after) → NamesIn w after dir name from }
+    ensures create { (fs after : Files) (who : Caller) (now : Timeval) (dir : ℕ) (name : List ℕ)
+        (a : GivenFields) (number : ℕ) → IsFileTree fs → IsTime now → AreValidFields a → length name ≤ 255 →
+        create fs who now dir name a ≡ Ok (number, after) → places fs dir name ≡ None →
+        (number ≡ fs.next) × NamesIn fs after dir name number }
+    ensures make_dir { (fs after : Files) (who : Caller) (now : Timeval) (dir : ℕ) (name : List ℕ)
+        (a : GivenFields) (number : ℕ) → IsFileTree fs → IsTime now → AreValidFields a → length name ≤ 255 →
+        make_dir fs who now dir name a ≡ Ok (number, after) →
+        (number ≡ fs.next) × NamesIn fs after dir name number }
+    ensures symlink { (fs after : Files) (who : Caller) (now : Timeval) (dir : ℕ) (name target : List ℕ)
+        (number : ℕ) → IsFileTree fs → IsTime now → length name ≤ 255 → length target ≤ 1024 →
+        symlink fs who now dir name target ≡ Ok (number, after) →
+        (number ≡ fs.next) × NamesIn fs after dir name number }
+    ensures link { (fs after : Files) (who : Caller) (now : Timeval) (from dir : ℕ) (name : List ℕ) →
+        IsFileTree fs → IsTime now → length name ≤ 255 →
+        link fs who now from dir name ≡ Ok (tt, after) → NamesIn fs after dir name from }
 {}
 
 /// REMOVE and RMDIR take one path out.
 pub fn removing_takes_a_path()
-    ensures remove { (w after : Files) (who : Caller) (now : Timeval) (dir : ℕ) (name : List ℕ) →
-        IsFileTree w → IsTime now →
-        remove w who now dir name ≡ Ok (tt, after) → UnnamesIn w after dir name }
-    ensures remove_dir { (w after : Files) (who : Caller) (now : Timeval) (dir : ℕ) (name : List ℕ) →
-        IsFileTree w → IsTime now →
-        remove_dir w who now dir name ≡ Ok (tt, after) → UnnamesIn w after dir name }
+    ensures remove { (fs after : Files) (who : Caller) (now : Timeval) (dir : ℕ) (name : List ℕ) →
+        IsFileTree fs → IsTime now →
+        remove fs who now dir name ≡ Ok (tt, after) → UnnamesIn fs after dir name }
+    ensures remove_dir { (fs after : Files) (who : Caller) (now : Timeval) (dir : ℕ) (name : List ℕ) →
+        IsFileTree fs → IsTime now →
+        remove_dir fs who now dir name ≡ Ok (tt, after) → UnnamesIn fs after dir name }
 {}
 
 /// RENAME moves a path and all below it, with a new cookie; of the same file it changes nothing.
 pub fn renaming_moves_paths()
-    ensures { (w after : Files) (who : Caller) (now : Timeval) (from : ℕ) (from_name : List ℕ) (to : ℕ)
-        (to_name : List ℕ) → IsFileTree w → IsTime now → length to_name ≤ 255 →
-        rename w who now from from_name to to_name ≡ Ok (tt, after) →
-        (IsSameFile w from from_name to to_name → after ≡ w)
-        × ((IsSameFile w from from_name to to_name → ⊥) → RenamesIn w after from from_name to to_name) }
+    ensures { (fs after : Files) (who : Caller) (now : Timeval) (from : ℕ) (from_name : List ℕ) (to : ℕ)
+        (to_name : List ℕ) → IsFileTree fs → IsTime now → length to_name ≤ 255 →
+        rename fs who now from from_name to to_name ≡ Ok (tt, after) →
+        (IsSameFile fs from from_name to to_name → after ≡ fs)
+        × ((IsSameFile fs from from_name to to_name → ⊥) → RenamesIn fs after from from_name to to_name) }
 {}
 
 /// The nlink that attributes tell is the number of names, and of a directory two and its subdirectories; in a
 /// tree it is never 0, and of a file with two names at least two.
 pub fn links_are_counted()
-    ensures names { (w : Files) (n : ℕ) (f : File) (a : Fattr) → file_at w n ≡ Some f →
-        is_directory f.body ≡ false → attributes_at w n ≡ Ok a → a.nlink ≡ names_of w n }
-    ensures directory { (w : Files) (n : ℕ) (a : Fattr) → IsDirectory w n →
-        attributes_at w n ≡ Ok a → a.nlink ≡ 2 + subdirectories w (listing w n) }
-    ensures some { (w : Files) (n : ℕ) (a : Fattr) → IsFileTree w → attributes_at w n ≡ Ok a → 1 ≤ a.nlink }
-    ensures two { (w : Files) (n dir other c b : ℕ) (x y : List ℕ) (a : Fattr) →
-        places w dir x ≡ Some (n, c) → places w other y ≡ Some (n, b) → ((dir ≡ other) × (x ≡ y) → ⊥) →
-        attributes_at w n ≡ Ok a → 2 ≤ a.nlink }
+    ensures names { (fs : Files) (n : ℕ) (f : File) (a : Fattr) → file_at fs n ≡ Some f →
+        is_directory f.body ≡ false → attributes_at fs n ≡ Ok a → a.nlink ≡ names_of fs n }
+    ensures directory { (fs : Files) (n : ℕ) (a : Fattr) → IsDirectory fs n →
+        attributes_at fs n ≡ Ok a → a.nlink ≡ 2 + subdirectories fs (listing fs n) }
+    ensures some { (fs : Files) (n : ℕ) (a : Fattr) → IsFileTree fs →
+        attributes_at fs n ≡ Ok a → 1 ≤ a.nlink }
+    ensures two { (fs : Files) (n dir other c b : ℕ) (x y : List ℕ) (a : Fattr) →
+        places fs dir x ≡ Some (n, c) → places fs other y ≡ Some (n, b) → ((dir ≡ other) × (x ≡ y) → ⊥) →
+        attributes_at fs n ≡ Ok a → 2 ≤ a.nlink }
 {}

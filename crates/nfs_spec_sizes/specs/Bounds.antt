@@ -4,7 +4,7 @@ use Rattle.nfs_types.specs.Timeval.{Timeval}
 use Rattle.nfs_types.specs.Caller.{Caller}
 use Rattle.fs_model.specs.Files.{File, Files, file_at}
 use Rattle.nfs_spec.specs.Sattr.{Sattr}
-use Rattle.nfs_spec.specs.Calls.{Call, Setattr, Create, Mkdir}
+use Rattle.nfs_spec.specs.NfsCalls.{Call, Setattr, Create, Mkdir}
 
 -- owner, group and seconds of a file are words
 pub record HasWords (f : File) : Type 0 where
@@ -15,9 +15,9 @@ pub record HasWords (f : File) : Type 0 where
   pub ctime : f.ctime.seconds < 2 ^ 32
 
 -- so is the server's number, and so are those of each file
-pub record AreWords (w : Files) : Type 0 where
-  pub fsid : w.fsid < 2 ^ 32
-  pub files : (n : ℕ) (f : File) → file_at w n ≡ Some f → HasWords f
+pub record AreWords (fs : Files) : Type 0 where
+  pub fsid : fs.fsid < 2 ^ 32
+  pub files : (n : ℕ) (f : File) → file_at fs n ≡ Some f → HasWords f
 
 -- owner, group and seconds that a sattr gives are words
 pub record AsksWords (s : Sattr) : Type 0 where
@@ -32,6 +32,7 @@ pub record SaysWords (who : Caller) (now : Timeval) : Type 0 where
   pub gid : who.gid < 2 ^ 32
   pub seconds : now.seconds < 2 ^ 32
 
+-- the attributes that a call brings, where it brings any, are words
 abbrev pub HasWordsIn : Call → Type 0
 HasWordsIn (Setattr file s) = AsksWords s
 HasWordsIn (Create dir name s) = AsksWords s

@@ -8,7 +8,7 @@ use Rattle.nfs_types.specs.Caller.{Caller}
 use Rattle.nfs_types.specs.declared.stat.Stat.TheVariants as stats
 use Rattle.fs_model.specs.Listing.{Listing}
 use Rattle.fs_model.specs.Files.{Files, is_directory}
-use Rattle.nfs_spec.specs.Checks.{file_of, dir_of, listing_or, check, check_edit, number_at}
+use Rattle.nfs_spec.specs.ProcedureChecks.{file_of, dir_of, listing_or, check, check_edit, number_at}
 use Rattle.nfs_spec.specs.Procedures.{remove, remove_dir}
 use Rattle.nfs_spec_steps.specs.Granted.{RemoveOk, RemoveDirOk}
 use Rattle.nfs_spec_steps.proofs.Steps.{bind_ok, check_ok, file_ok, directory_ok, dir_ok, edit_ok, number_ok, place_found, no_entries, no_length, same_files}

@@ -11,13 +11,14 @@ use Rattle.nfs_types.specs.declared.stat.Stat.{Stat}
 use Rattle.nfs_types.specs.declared.stat.Stat.TheVariants as stats
 use Rattle.fs_model.specs.Listing.{Listing, entry_at}
 use Rattle.fs_model.specs.Files.{File, Files, is_directory, listing_in, places}
-use Rattle.nfs_spec.specs.Checks.{◌>>=◌, Found, file_of, dir_of, check, check_cookie, check_edit, number_at}
-use Rattle.nfs_spec.specs.Procedures.{is_above, check_target, moved, rename}
+use Rattle.nfs_spec.specs.ProcedureChecks.{◌>>=◌, NumberedDir, file_of, dir_of, check, check_cookie, check_edit, number_at}
+use Rattle.nfs_spec.specs.Procedures.{is_above, check_target, move_entry, rename}
 use Rattle.nfs_spec_steps.specs.Granted.{IsFound, IsSameFile, MayReplace, MoveOk, RenameOk}
 use Rattle.nfs_spec_steps.proofs.Steps.{bind_ok, check_ok, file_ok, dir_ok, edit_ok, number_ok, place_found, listing_found, no_length, same_files}
 
 -- what was let through as a target may be replaced
-pub target_ok : (w : Files) (f : File) (t : ℕ) (u : Unit {0}) → check_target w f (Some t) ≡ Ok u → MayReplace w f t
+pub target_ok : (w : Files) (f : File) (t : ℕ) (u : Unit {0}) → check_target w f (Some t) ≡ Ok u
+    → MayReplace w f t
 target_ok w f t u h =
     let g = bind_ok (file_of w t) _ u h in
     let a = bind_ok (check (not (is_directory f.body) || is_directory g.0.body) stats.NotDir) _ u g.2 in
@@ -38,8 +39,10 @@ target_ok w f t u h =
     agree true false p q = p
     agree false true p q = sym q
 
-module _ (w : Files) (who : Caller) (now : Timeval) (from : ℕ) (from_name : List ℕ) (to : ℕ) (to_name : List ℕ) (after : Files) where
-  module _ (e : Found) (found : IsFound w to e) (n b : ℕ) (at : places w from from_name ≡ Some (n, b)) (f : File) where
+module _ (w : Files) (who : Caller) (now : Timeval) (from : ℕ) (from_name : List ℕ) (to : ℕ)
+    (to_name : List ℕ) (after : Files) where
+  module _ (e : NumberedDir) (found : IsFound w to e) (n b : ℕ) (at : places w from from_name ≡ Some (n, b))
+      (f : File) where
     abbrev target : Option ℕ
     target = option_map (λ p. p.0) (entry_at e.listing to_name)
 
@@ -73,7 +76,7 @@ module _ (w : Files) (who : Caller) (now : Timeval) (from : ℕ) (from_name : Li
     end same =
         if same then Ok (tt, w)
         else check (not (is_directory f.body && is_above w n to)) stats.Acces >>= λ _. check_target w f target
-        >>= λ _. check_cookie e.listing >>= λ _. Ok (tt, moved now w n from from_name to to_name target)
+        >>= λ _. check_cookie e.listing >>= λ _. Ok (tt, move_entry now w n from from_name to to_name target)
 
     ends : (same : Bool) → is_it target ≡ same → end same ≡ Ok (tt, after)
         → (IsSameFile w from from_name to to_name × (after ≡ w)) ⊎ MoveOk w now from from_name to to_name n f after
@@ -89,11 +92,12 @@ module _ (w : Files) (who : Caller) (now : Timeval) (from : ℕ) (from_name : Li
               (check_ok (not (is_directory f.body && is_above w n to)) stats.Acces a.0 a.1);
           replaces = λ k c is. target_ok w f k t.0 (ap (λ o. check_target w f (option_map (λ p. p.0) o)) (sym is ∙ here) ∙ t.1);
           cookie = omega (arith, ap (λ (l : Listing). l.next) (listing_found w to e found), low);
-          effect = same_files c.2 ∙ ap (λ o. moved now w n from from_name to to_name (option_map (λ p. p.0) o)) (sym here);
+          effect = same_files c.2 ∙ ap (λ o. move_entry now w n from from_name to to_name (option_map (λ p. p.0) o)) (sym here);
         })
 
   -- RENAME
-  pub rename_ok : rename w who now from from_name to to_name ≡ Ok (tt, after) → RenameOk w who now from from_name to to_name after
+  pub rename_ok : rename w who now from from_name to to_name ≡ Ok (tt, after)
+      → RenameOk w who now from from_name to to_name after
   rename_ok h =
       let d = bind_ok (dir_of w from) _ (tt, after) h in
       let e = bind_ok (dir_of w to) _ (tt, after) d.2 in

@@ -11,15 +11,16 @@ use Rattle.nfs_types.specs.declared.stat.Stat.TheVariants as stats
 use Rattle.fs_model.specs.Files.{File, Files}
 use Rattle.fs_changes.specs.Edits.{with_changed_file}
 use Rattle.fs_changes.specs.Limits.{has_room}
-use Rattle.nfs_spec.specs.Checks.{◌>>=◌, file_of, bytes_of, check, check_size, check_room, may_write}
-use Rattle.nfs_spec.specs.Sattr.{Wanted}
-use Rattle.nfs_spec.specs.Changes.{check_owner, check_resize, set}
-use Rattle.nfs_spec.specs.Procedures.{set_attributes, write, rewritten}
+use Rattle.nfs_spec.specs.ProcedureChecks.{◌>>=◌, file_of, bytes_of, check, check_size, check_room, may_write}
+use Rattle.nfs_spec.specs.Sattr.{GivenFields}
+use Rattle.nfs_spec.specs.Changes.{check_owner, check_resize, apply_fields}
+use Rattle.nfs_spec.specs.Procedures.{set_attributes, write, with_bytes_written}
 use Rattle.nfs_spec_steps.specs.Granted.{ResizeOk, SetOk, WriteOk}
 use Rattle.nfs_spec_steps.proofs.Steps.{bind_ok, check_ok, size_ok, file_ok, bytes_ok, no_length, same_files}
 
 -- a size that was let through
-pub resize_ok : (who : Caller) (f : File) (size : ℕ) (u : Unit {0}) → check_resize who f (Some size) ≡ Ok u → ResizeOk who f size
+pub resize_ok : (who : Caller) (f : File) (size : ℕ) (u : Unit {0}) → check_resize who f (Some size) ≡ Ok u
+    → ResizeOk who f size
 resize_ok who f size u h =
     let a = bind_ok (bytes_of f.body) _ u h in
     let b = bind_ok (check (may_write who f) stats.Acces) _ u a.2 in
@@ -31,10 +32,10 @@ resize_ok who f size u h =
     }
 
 -- SETATTR
-pub set_ok : (w : Files) (who : Caller) (now : Timeval) (n : ℕ) (a : Wanted) (after : Files)
+pub set_ok : (w : Files) (who : Caller) (now : Timeval) (n : ℕ) (a : GivenFields) (after : Files)
     → set_attributes w who now n a ≡ Ok (tt, after) → SetOk w who now n a after
 set_ok w who now n a after h =
-    let changed = with_changed_file w n (set now a) in
+    let changed = with_changed_file w n (apply_fields now a) in
     let room : Result (Unit {0}) Stat = if is_some a.size then check_room changed else Ok tt in
     let f = bind_ok (file_of w n) _ (tt, after) h in
     let o = bind_ok (check_owner who f.0 a) _ (tt, after) f.2 in
@@ -56,7 +57,7 @@ set_ok w who now n a after h =
 module _ (w : Files) (who : Caller) (now : Timeval) (n offset : ℕ) (new : List ℕ) (after : Files) where
   -- the files with the bytes written
   abbrev changed : List ℕ → Files
-  changed old = with_changed_file w n (rewritten now offset new old)
+  changed old = with_changed_file w n (with_bytes_written now offset new old)
 
   -- what is left of WRITE when it may write
   abbrev end : List ℕ → Bool → Result (Unit {0} × Files) Stat

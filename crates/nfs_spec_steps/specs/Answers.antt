@@ -1,9 +1,9 @@
 -- What an answer says of its call.
 use Rattle.std.specs.Prelude.{Bool, true, false, Option, None}
 use Rattle.nfs_types.specs.declared.stat.Stat.{Stat}
-use Rattle.nfs_spec.specs.Laws.{stat_in}
-use Rattle.nfs_spec.specs.Calls.{Call, Null, Getattr, Root, Lookup, Readlink, Read, Writecache, Readdir, Statfs}
-use Rattle.nfs_spec.specs.Calls.{Answer, Nothing, Attributes, DirOp, Target, Bytes, Status, Entries, Free}
+use Rattle.nfs_spec.specs.LawTerms.{stat_in}
+use Rattle.nfs_spec.specs.NfsCalls.{Call, Null, Getattr, Root, Lookup, Readlink, Read, Writecache, Readdir, Statfs}
+use Rattle.nfs_spec.specs.NfsCalls.{Answer, Nothing, Attributes, DirOp, Target, Bytes, Status, Entries, Free}
 
 -- the stat of a call that was refused
 abbrev pub refusal_in : Answer → Option Stat

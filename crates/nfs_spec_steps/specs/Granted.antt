@@ -5,27 +5,27 @@ use Rattle.std.specs.Prelude.{Some, None, option_map, Ok, unwrap_or, if◌then�
 use Rattle.nfs_types.specs.Timeval.{Timeval}
 use Rattle.nfs_types.specs.Caller.{Caller}
 use Rattle.fs_model.specs.Names.{is_name}
-use Rattle.fs_model.specs.Files.{Regular, Link, Directory, File, Files, file_at, is_directory, listing_in, listing, places}
+use Rattle.fs_model.specs.Files.{Regular, Symlink, Directory, File, Files, file_at, is_directory, listing_in, listing, places}
 use Rattle.fs_changes.specs.Edits.{with_changed_file, with_name}
 use Rattle.fs_changes.specs.Limits.{has_room}
-use Rattle.nfs_spec.specs.Checks.{Found, may_search, may_write}
-use Rattle.nfs_spec.specs.Sattr.{Wanted, nothing}
-use Rattle.nfs_spec.specs.Changes.{check_owner, set, new_file, touch, mark, unnamed}
-use Rattle.nfs_spec.specs.Procedures.{rewritten, made, is_above, moved}
+use Rattle.nfs_spec.specs.ProcedureChecks.{NumberedDir, may_search, may_write}
+use Rattle.nfs_spec.specs.Sattr.{GivenFields, no_fields}
+use Rattle.nfs_spec.specs.Changes.{check_owner, apply_fields, new_file, touch, touch_ctime, unlink}
+use Rattle.nfs_spec.specs.Procedures.{set_attributes, with_bytes_written, add_file, is_above, move_entry}
 
 -- ---- directories
 
 -- a directory was found under a number
-pub record IsFound (w : Files) (n : ℕ) (d : Found) : Type 0 where
+pub record IsFound (fs : Files) (n : ℕ) (d : NumberedDir) : Type 0 where
   pub number : d.number ≡ n
-  pub there : file_at w n ≡ Some d.file
+  pub there : file_at fs n ≡ Some d.file
   pub directory : is_directory d.file.body ≡ true
   pub listing : listing_in d.file.body ≡ d.listing
 
 -- a directory is there, a name may stand in it, and the caller may search it and write to it
-pub record MayEdit (w : Files) (who : Caller) (dir : ℕ) (name : List ℕ) : Type 0 where
+pub record MayEdit (fs : Files) (who : Caller) (dir : ℕ) (name : List ℕ) : Type 0 where
   pub file : File
-  pub there : file_at w dir ≡ Some file
+  pub there : file_at fs dir ≡ Some file
   pub directory : is_directory file.body ≡ true
   pub named : IsTrue (is_name name)
   pub searched : IsTrue (may_search who file)
@@ -40,151 +40,154 @@ pub record ResizeOk (who : Caller) (file : File) (size : ℕ) : Type 0 where
   pub written : IsTrue (may_write who file)
   pub fits : size ≤ 1048576
 
-pub record SetOk (w : Files) (who : Caller) (now : Timeval) (n : ℕ) (a : Wanted) (after : Files)
+pub record SetOk (fs : Files) (who : Caller) (now : Timeval) (n : ℕ) (a : GivenFields) (after : Files)
     : Type 0 where
   pub file : File
-  pub there : file_at w n ≡ Some file
+  pub there : file_at fs n ≡ Some file
   pub owner : check_owner who file a ≡ Ok tt
   pub resize : (size : ℕ) → a.size ≡ Some size → ResizeOk who file size
   pub room : (size : ℕ) → a.size ≡ Some size → IsTrue (has_room after)
-  pub effect : after ≡ with_changed_file w n (set now a)
+  pub effect : after ≡ with_changed_file fs n (apply_fields now a)
 
 -- of no bytes nothing changes
-pub record WriteOk (w : Files) (who : Caller) (now : Timeval) (n offset : ℕ) (new : List ℕ) (after : Files)
+pub record WriteOk (fs : Files) (who : Caller) (now : Timeval) (n offset : ℕ) (new : List ℕ) (after : Files)
     : Type 0 where
   pub file : File
   pub old : List ℕ
-  pub there : file_at w n ≡ Some file
+  pub there : file_at fs n ≡ Some file
   pub regular : file.body ≡ Regular old
   pub written : IsTrue (may_write who file)
   pub fits : new ≢ [] → offset + length new ≤ 1048576
   pub room : new ≢ [] → IsTrue (has_room after)
-  pub effect : after ≡ (if length new == 0 then w else with_changed_file w n (rewritten now offset new old))
+  pub effect :
+      after ≡ (if length new == 0 then fs else with_changed_file fs n (with_bytes_written now offset new old))
 
 -- ---- CREATE, MKDIR, SYMLINK, LINK
 
 -- the file that CREATE makes: mode 0644, and zeros up to a given size
-abbrev pub new_regular : Caller → Timeval → Wanted → File
+abbrev pub new_regular : Caller → Timeval → GivenFields → File
 new_regular who now a = new_file who now a 420 (Regular (replicate (unwrap_or a.size 0) 0))
 
 -- the directory that MKDIR makes: mode 0755, and no entries; the first cookie will be 3
-abbrev pub new_directory : Caller → Timeval → Wanted → File
+abbrev pub new_directory : Caller → Timeval → GivenFields → File
 new_directory who now a = new_file who now a 493 (Directory (record { next = 3; entries = [] }))
 
 -- the link that SYMLINK makes: mode 0777
 abbrev pub new_link : Caller → Timeval → List ℕ → File
-new_link who now target = new_file who now nothing 511 (Link target)
+new_link who now target = new_file who now no_fields 511 (Symlink target)
 
 -- a file was made under the next number, with a name that was free
-pub record MakeOk (w : Files) (who : Caller) (now : Timeval) (dir : ℕ) (name : List ℕ) (f : File)
+pub record MakeOk (fs : Files) (who : Caller) (now : Timeval) (dir : ℕ) (name : List ℕ) (f : File)
     (number : ℕ) (after : Files) : Type 0 where
-  pub directory : MayEdit w who dir name
-  pub free : places w dir name ≡ None
+  pub directory : MayEdit fs who dir name
+  pub free : places fs dir name ≡ None
   pub room : IsTrue (has_room after)
-  pub is_next : number ≡ w.next
-  pub effect : after ≡ made now w dir name f
+  pub is_next : number ≡ fs.next
+  pub effect : after ≡ add_file now fs dir name f
 
-abbrev pub MakeDirOk : Files → Caller → Timeval → ℕ → List ℕ → Wanted → ℕ → Files → Type 0
-MakeDirOk w who now dir name a number after =
-    MakeOk w who now dir name (new_directory who now a) number after
+abbrev pub MakeDirOk : Files → Caller → Timeval → ℕ → List ℕ → GivenFields → ℕ → Files → Type 0
+MakeDirOk fs who now dir name a number after =
+    MakeOk fs who now dir name (new_directory who now a) number after
 
 abbrev pub SymlinkOk : Files → Caller → Timeval → ℕ → List ℕ → List ℕ → ℕ → Files → Type 0
-SymlinkOk w who now dir name target number after =
-    MakeOk w who now dir name (new_link who now target) number after
+SymlinkOk fs who now dir name target number after =
+    MakeOk fs who now dir name (new_link who now target) number after
 
 -- CREATE of a name that is there did as SETATTR of its regular file
-pub record CreateOverOk (w : Files) (who : Caller) (now : Timeval) (n : ℕ) (a : Wanted) (number : ℕ)
+pub record CreateOverOk (fs : Files) (who : Caller) (now : Timeval) (n : ℕ) (a : GivenFields) (number : ℕ)
     (after : Files) : Type 0 where
   pub file : File
   pub bytes : List ℕ
-  pub there : file_at w n ≡ Some file
+  pub there : file_at fs n ≡ Some file
   pub regular : file.body ≡ Regular bytes
   pub is_same : number ≡ n
-  pub set : SetOk w who now n a after
+  pub as_set_attributes : set_attributes fs who now n a ≡ Ok (tt, after)
+  pub set : SetOk fs who now n a after
 
 -- CREATE of a new name made a regular file whose size is within its limit, in bytes
-pub record CreateNewOk (w : Files) (who : Caller) (now : Timeval) (dir : ℕ) (name : List ℕ) (a : Wanted)
+pub record CreateNewOk (fs : Files) (who : Caller) (now : Timeval) (dir : ℕ) (name : List ℕ) (a : GivenFields)
     (number : ℕ) (after : Files) : Type 0 where
   pub fits : unwrap_or a.size 0 ≤ 1048576
-  pub make : MakeOk w who now dir name (new_regular who now a) number after
+  pub make : MakeOk fs who now dir name (new_regular who now a) number after
 
-pub record CreateOk (w : Files) (who : Caller) (now : Timeval) (dir : ℕ) (name : List ℕ) (a : Wanted)
+pub record CreateOk (fs : Files) (who : Caller) (now : Timeval) (dir : ℕ) (name : List ℕ) (a : GivenFields)
     (number : ℕ) (after : Files) : Type 0 where
   pub file : File
-  pub there : file_at w dir ≡ Some file
+  pub there : file_at fs dir ≡ Some file
   pub directory : is_directory file.body ≡ true
   pub named : IsTrue (is_name name)
   pub searched : IsTrue (may_search who file)
-  pub fresh : places w dir name ≡ None → CreateNewOk w who now dir name a number after
-  pub over : (n cookie : ℕ) → places w dir name ≡ Some (n, cookie) → CreateOverOk w who now n a number after
+  pub fresh : places fs dir name ≡ None → CreateNewOk fs who now dir name a number after
+  pub over : (n cookie : ℕ) → places fs dir name ≡ Some (n, cookie) → CreateOverOk fs who now n a number after
 
-pub record LinkOk (w : Files) (who : Caller) (now : Timeval) (from dir : ℕ) (name : List ℕ) (after : Files)
+pub record LinkOk (fs : Files) (who : Caller) (now : Timeval) (from dir : ℕ) (name : List ℕ) (after : Files)
     : Type 0 where
   pub file : File
-  pub there : file_at w from ≡ Some file
+  pub there : file_at fs from ≡ Some file
   pub plain : is_directory file.body ≡ false
-  pub directory : MayEdit w who dir name
-  pub free : places w dir name ≡ None
+  pub directory : MayEdit fs who dir name
+  pub free : places fs dir name ≡ None
   pub room : IsTrue (has_room after)
-  pub effect : after ≡ touch now (with_name (mark now w from) dir name from) dir
+  pub effect : after ≡ touch now (with_name (touch_ctime now fs from) dir name from) dir
 
 -- ---- REMOVE, RMDIR
 
 -- a name of a directory, or of what is none, goes; what it stood for lists nothing
-pub record UnnameOk (of_directory : Bool) (w : Files) (who : Caller) (now : Timeval) (dir : ℕ)
+pub record UnnameOk (of_directory : Bool) (fs : Files) (who : Caller) (now : Timeval) (dir : ℕ)
     (name : List ℕ) (after : Files) : Type 0 where
-  pub directory : MayEdit w who dir name
+  pub directory : MayEdit fs who dir name
   pub number : ℕ
   pub cookie : ℕ
-  pub is_named : places w dir name ≡ Some (number, cookie)
+  pub is_named : places fs dir name ≡ Some (number, cookie)
   pub file : File
-  pub there : file_at w number ≡ Some file
+  pub there : file_at fs number ≡ Some file
   pub kind : is_directory file.body ≡ of_directory
   pub empty : (listing_in file.body).entries ≡ []
-  pub effect : after ≡ touch now (unnamed now w dir name number) dir
+  pub effect : after ≡ touch now (unlink now fs dir name number) dir
 
 abbrev pub RemoveOk : Files → Caller → Timeval → ℕ → List ℕ → Files → Type 0
-RemoveOk w who now dir name after = UnnameOk false w who now dir name after
+RemoveOk fs who now dir name after = UnnameOk false fs who now dir name after
 
 abbrev pub RemoveDirOk : Files → Caller → Timeval → ℕ → List ℕ → Files → Type 0
-RemoveDirOk w who now dir name after = UnnameOk true w who now dir name after
+RemoveDirOk fs who now dir name after = UnnameOk true fs who now dir name after
 
 -- ---- RENAME
 
 -- two names stand for one file
 abbrev pub IsSameFile : Files → ℕ → List ℕ → ℕ → List ℕ → Type 0
-IsSameFile w from from_name to to_name =
+IsSameFile fs from from_name to to_name =
     (n : ℕ) × (b : ℕ) × (c : ℕ)
-    × (places w from from_name ≡ Some (n, b)) × (places w to to_name ≡ Some (n, c))
+    × (places fs from from_name ≡ Some (n, b)) × (places fs to to_name ≡ Some (n, c))
 
 -- a file may take the place of another: that one lists nothing, and is a directory exactly where the first
 -- is one
-pub record MayReplace (w : Files) (file : File) (n : ℕ) : Type 0 where
+pub record MayReplace (fs : Files) (file : File) (n : ℕ) : Type 0 where
   pub other : File
-  pub there : file_at w n ≡ Some other
+  pub there : file_at fs n ≡ Some other
   pub kind : is_directory other.body ≡ is_directory file.body
   pub empty : (listing_in other.body).entries ≡ []
 
 -- an entry moves, over what may stand at the new name; the file is not the directory that it goes to, nor
 -- above it
-pub record MoveOk (w : Files) (now : Timeval) (from : ℕ) (from_name : List ℕ) (to : ℕ) (to_name : List ℕ)
+pub record MoveOk (fs : Files) (now : Timeval) (from : ℕ) (from_name : List ℕ) (to : ℕ) (to_name : List ℕ)
     (number : ℕ) (file : File) (after : Files) : Type 0 where
-  pub other : (cookie : ℕ) → places w to to_name ≢ Some (number, cookie)
-  pub not_above : (is_directory file.body && is_above w number to) ≡ false
-  pub replaces : (n cookie : ℕ) → places w to to_name ≡ Some (n, cookie) → MayReplace w file n
-  pub cookie : (listing w to).next ≤ 4294967294
+  pub other : (cookie : ℕ) → places fs to to_name ≢ Some (number, cookie)
+  pub not_above : (is_directory file.body && is_above fs number to) ≡ false
+  pub replaces : (n cookie : ℕ) → places fs to to_name ≡ Some (n, cookie) → MayReplace fs file n
+  pub cookie : (listing fs to).next ≤ 4294967294
   pub effect :
-      after ≡ moved now w number from from_name to to_name (option_map (λ e. e.0) (places w to to_name))
+      after
+      ≡ move_entry now fs number from from_name to to_name (option_map (λ e. e.0) (places fs to to_name))
 
-pub record RenameOk (w : Files) (who : Caller) (now : Timeval) (from : ℕ) (from_name : List ℕ) (to : ℕ)
+pub record RenameOk (fs : Files) (who : Caller) (now : Timeval) (from : ℕ) (from_name : List ℕ) (to : ℕ)
     (to_name : List ℕ) (after : Files) : Type 0 where
-  pub source : MayEdit w who from from_name
-  pub target : MayEdit w who to to_name
+  pub source : MayEdit fs who from from_name
+  pub target : MayEdit fs who to to_name
   pub number : ℕ
   pub cookie : ℕ
-  pub is_named : places w from from_name ≡ Some (number, cookie)
+  pub is_named : places fs from from_name ≡ Some (number, cookie)
   pub file : File
-  pub there : file_at w number ≡ Some file
+  pub there : file_at fs number ≡ Some file
   pub outcome :
-      (IsSameFile w from from_name to to_name × (after ≡ w))
-      ⊎ MoveOk w now from from_name to to_name number file after
+      (IsSameFile fs from from_name to to_name × (after ≡ fs))
+      ⊎ MoveOk fs now from from_name to to_name number file after

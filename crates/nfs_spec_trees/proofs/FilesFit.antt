@@ -3,29 +3,32 @@
 use Rattle.std.proofs.Common.{◌≡◌, ⊎_elim, ℕ, Bool, true, false, List, Option, Some, None, IsSome, is_some, option_map, refl, sym, ap, ◌∙◌, arith}
 use Rattle.nfs_types.specs.Timeval.{Timeval}
 use Rattle.fs_model.specs.Listing.{Listing, with_entry, without_entry, HasDistinctNames}
-use Rattle.fs_model.specs.Files.{Body, Regular, Link, Directory, File, Files, file_at, listing_in, is_directory, names_of}
+use Rattle.fs_model.specs.Files.{Body, Regular, Symlink, Directory, File, Files, file_at, listing_in, is_directory, names_of}
 use Rattle.fs_model.specs.Trees.{IsBody, IsTime, IsFile, IsFileTree}
 use Rattle.fs_model.proofs.Walks.{none_some}
 use Rattle.fs_model.proofs.Reached.{distinct_in, place_of}
 use Rattle.std.proofs.lemmas.Bool.{cases_lt}
-use Rattle.fs_changes.specs.Edits.{with_changed_file, relisted, relisted_body}
+use Rattle.fs_changes.specs.Edits.{with_changed_file, map_listing, map_body_listing}
 use Rattle.fs_changes.proofs.Listings.{with_entry_distinct, without_entry_distinct, rising_pushed, rising_removed}
 use Rattle.fs_changes.proofs.Shapes.{kind, AllFiles, IsSameShape, same_shape, changed_files}
-use Rattle.nfs_spec.specs.Changes.{touched, marked, touch, mark}
+use Rattle.nfs_spec.specs.Changes.{with_mtime, with_ctime, touch, touch_ctime}
 
 -- a directory is a file that lists
-pub dir_file : (w : Files) (n : ℕ) → kind w n ≡ Some true → (f : File) × (file_at w n ≡ Some f) × (is_directory f.body ≡ true)
+pub dir_file : (w : Files) (n : ℕ) → kind w n ≡ Some true
+    → (f : File) × (file_at w n ≡ Some f) × (is_directory f.body ≡ true)
 dir_file w n h = by (file_at w n) refl
   where
     same : {a b : Bool} → Some a ≡ Some b → a ≡ b
     same h = cc
 
-    by : (o : Option File) → file_at w n ≡ o → (f : File) × (file_at w n ≡ Some f) × (is_directory f.body ≡ true)
+    by : (o : Option File) → file_at w n ≡ o
+        → (f : File) × (file_at w n ≡ Some f) × (is_directory f.body ≡ true)
     by None e = absurd (none_some (sym (ap (option_map (λ f. is_directory f.body)) e) ∙ h))
     by (Some f) e = (f, e, same (sym (ap (option_map (λ f. is_directory f.body)) e) ∙ h))
 
 -- a file that lists names makes its number a directory's
-pub is_dir : (w : Files) (n : ℕ) (f : File) → file_at w n ≡ Some f → is_directory f.body ≡ true → kind w n ≡ Some true
+pub is_dir : (w : Files) (n : ℕ) (f : File) → file_at w n ≡ Some f → is_directory f.body ≡ true
+    → kind w n ≡ Some true
 is_dir w n f there is = ap (option_map (λ f. is_directory f.body)) there ∙ ap (λ b. Some b) is
 
 -- a number with a file has one
@@ -57,52 +60,57 @@ next_unnamed w tree = ⊎_elim
 -- ---- times
 
 -- a file whose mtime and ctime are set to a time stays one
-pub touched_fits : (now : Timeval) → IsTime now → (f : File) → IsFile f → IsFile (touched now f)
+pub touched_fits : (now : Timeval) → IsTime now → (f : File) → IsFile f → IsFile (with_mtime now f)
 touched_fits now time f fits = record { mode = fits.mode; atime = fits.atime; mtime = time; ctime = time; body = fits.body }
 
 -- a file whose ctime is set to a time stays one
-pub marked_fits : (now : Timeval) → IsTime now → (f : File) → IsFile f → IsFile (marked now f)
+pub marked_fits : (now : Timeval) → IsTime now → (f : File) → IsFile f → IsFile (with_ctime now f)
 marked_fits now time f fits = record { mode = fits.mode; atime = fits.atime; mtime = fits.mtime; ctime = time; body = fits.body }
 
 -- times change nothing of the tree's shape
 pub touch_shape : (now : Timeval) (w : Files) (d : ℕ) → IsSameShape w (touch now w d)
-touch_shape now w d = same_shape w d (touched now) (λ f _. refl) (λ f _. refl)
+touch_shape now w d = same_shape w d (with_mtime now) (λ f _. refl) (λ f _. refl)
 
 -- neither does ctime alone
-pub mark_shape : (now : Timeval) (w : Files) (d : ℕ) → IsSameShape w (mark now w d)
-mark_shape now w d = same_shape w d (marked now) (λ f _. refl) (λ f _. refl)
+pub mark_shape : (now : Timeval) (w : Files) (d : ℕ) → IsSameShape w (touch_ctime now w d)
+mark_shape now w d = same_shape w d (with_ctime now) (λ f _. refl) (λ f _. refl)
 
 -- times leave each file one
 pub touch_files : (now : Timeval) (w : Files) (d : ℕ) → IsTime now → AllFiles w → AllFiles (touch now w d)
-touch_files now w d time all = changed_files w d (touched now) all (λ f h. touched_fits now time f (all d f h))
+touch_files now w d time all = changed_files w d (with_mtime now) all (λ f h. touched_fits now time f (all d f h))
 
 -- so does ctime alone
-pub mark_files : (now : Timeval) (w : Files) (d : ℕ) → IsTime now → AllFiles w → AllFiles (mark now w d)
-mark_files now w d time all = changed_files w d (marked now) all (λ f h. marked_fits now time f (all d f h))
+pub mark_files : (now : Timeval) (w : Files) (d : ℕ) → IsTime now → AllFiles w
+    → AllFiles (touch_ctime now w d)
+mark_files now w d time all = changed_files w d (with_ctime now) all (λ f h. marked_fits now time f (all d f h))
 
 -- ---- names
 
-named_body : (x : List ℕ) (k : ℕ) (b : Body) → IsBody b → IsBody (relisted_body (λ l. with_entry l x k) b)
+named_body : (x : List ℕ) (k : ℕ) (b : Body) → IsBody b → IsBody (map_body_listing (λ l. with_entry l x k) b)
 named_body x k (Regular bytes) h = h
-named_body x k (Link target) h = h
+named_body x k (Symlink target) h = h
 named_body x k (Directory l) h = (rising_pushed 3 _ l.next x k (rising_removed 3 _ l.entries l.next h.0), with_entry_distinct l x k h.1)
 
-unnamed_body : (x : List ℕ) (b : Body) → IsBody b → IsBody (relisted_body (λ l. without_entry l x) b)
+unnamed_body : (x : List ℕ) (b : Body) → IsBody b → IsBody (map_body_listing (λ l. without_entry l x) b)
 unnamed_body x (Regular bytes) h = h
-unnamed_body x (Link target) h = h
+unnamed_body x (Symlink target) h = h
 unnamed_body x (Directory l) h = (rising_removed 3 _ l.entries l.next h.0, without_entry_distinct l x h.1)
 
-relisted_fits : (change : Listing → Listing) (f : File) → IsFile f → IsBody (relisted_body change f.body) → IsFile (relisted change f)
+relisted_fits : (change : Listing → Listing) (f : File) → IsFile f → IsBody (map_body_listing change f.body)
+    → IsFile (map_listing change f)
 relisted_fits change f fits body = record { mode = fits.mode; atime = fits.atime; mtime = fits.mtime; ctime = fits.ctime; body = body }
 
 -- a name more leaves each file one
-pub named_files : (w : Files) (d : ℕ) (x : List ℕ) (k : ℕ) → AllFiles w → AllFiles (with_changed_file w d (relisted (λ l. with_entry l x k)))
-named_files w d x k all = changed_files w d (relisted (λ l. with_entry l x k)) all (λ f h. relisted_fits (λ l. with_entry l x k) f (all d f h) (named_body x k f.body (all d f h).body))
+pub named_files : (w : Files) (d : ℕ) (x : List ℕ) (k : ℕ) → AllFiles w
+    → AllFiles (with_changed_file w d (map_listing (λ l. with_entry l x k)))
+named_files w d x k all = changed_files w d (map_listing (λ l. with_entry l x k)) all (λ f h. relisted_fits (λ l. with_entry l x k) f (all d f h) (named_body x k f.body (all d f h).body))
 
 -- a name less leaves each file one
-pub unnamed_files : (w : Files) (d : ℕ) (x : List ℕ) → AllFiles w → AllFiles (with_changed_file w d (relisted (λ l. without_entry l x)))
-unnamed_files w d x all = changed_files w d (relisted (λ l. without_entry l x)) all (λ f h. relisted_fits (λ l. without_entry l x) f (all d f h) (unnamed_body x f.body (all d f h).body))
+pub unnamed_files : (w : Files) (d : ℕ) (x : List ℕ) → AllFiles w
+    → AllFiles (with_changed_file w d (map_listing (λ l. without_entry l x)))
+unnamed_files w d x all = changed_files w d (map_listing (λ l. without_entry l x)) all (λ f h. relisted_fits (λ l. without_entry l x) f (all d f h) (unnamed_body x f.body (all d f h).body))
 
 -- a directory's names differ
-pub distinct_names : (w : Files) (d : ℕ) (f : File) → AllFiles w → file_at w d ≡ Some f → HasDistinctNames (listing_in f.body).entries
+pub distinct_names : (w : Files) (d : ℕ) (f : File) → AllFiles w → file_at w d ≡ Some f
+    → HasDistinctNames (listing_in f.body).entries
 distinct_names w d f all there = distinct_in f.body (all d f there).body

@@ -11,8 +11,8 @@ use Rattle.fs_changes.proofs.Finite.{new_other, changed_other}
 use Rattle.fs_changes.proofs.Listings.{leads}
 use Rattle.fs_changes.proofs.Shapes.{kind, AllFiles, IsSameShape, IsNamed, IsOneMore, new_shape, named_shape, new_files, is_some-kind}
 use Rattle.fs_changes.proofs.Adding.{IsAdded, stays_added}
-use Rattle.nfs_spec.specs.Changes.{touch, mark, marked}
-use Rattle.nfs_spec.specs.Procedures.{made}
+use Rattle.nfs_spec.specs.Changes.{touch, touch_ctime, with_ctime}
+use Rattle.nfs_spec.specs.Procedures.{add_file}
 use Rattle.nfs_spec_steps.specs.Granted.{MayEdit, MakeOk, LinkOk}
 use Rattle.nfs_spec_steps.proofs.Steps.{listing_there}
 use Rattle.nfs_spec_trees.specs.Anew.{GivesAnew, Follows}
@@ -27,8 +27,9 @@ unlisted w n y not tree = by (places w n y) refl
     by None e = e
     by (Some p) e = absurd (not (tree.tree.lists n y p.0 p.1 e))
 
-module _ (now : Timeval) (time : IsTime now) (w : Files) (tree : IsFileTree w) (who : Caller) (dir : ℕ) (name : List ℕ)
-    (edit : MayEdit w who dir name) (free : places w dir name ≡ None) (bound : length name ≤ 255) where
+module _ (now : Timeval) (time : IsTime now) (w : Files) (tree : IsFileTree w) (who : Caller) (dir : ℕ)
+    (name : List ℕ) (edit : MayEdit w who dir name) (free : places w dir name ≡ None)
+    (bound : length name ≤ 255) where
   next_cookie : (listing_in edit.file.body).next ≡ (listing w dir).next
   next_cookie = ap (λ (l : Listing). l.next) (sym (listing_there w dir edit.file edit.there))
 
@@ -61,11 +62,11 @@ module _ (now : Timeval) (time : IsTime now) (w : Files) (tree : IsFileTree w) (
         subst (IsNamed w₁ (with_name w₁ dir name w.next) dir name w.next) next_cookie
         (named_shape w₁ dir name edit.file there₁ edit.directory (distinct_names w₁ dir edit.file files₁ there₁) w.next)
 
-    touched_shape : IsSameShape w₂ (made now w dir name f)
+    touched_shape : IsSameShape w₂ (add_file now w dir name f)
     unfolding w₁ w₂
     touched_shape = touch_shape now w₂ dir
 
-    made_added : IsAdded w (made now w dir name f) dir name w.next (listing w dir).next
+    made_added : IsAdded w (add_file now w dir name f) dir name w.next (listing w dir).next
     unfolding w₁ w₂
     made_added = record {
       dir = is_dir w dir edit.file edit.there edit.directory;
@@ -96,7 +97,7 @@ module _ (now : Timeval) (time : IsTime now) (w : Files) (tree : IsFileTree w) (
 
   module _ (k : ℕ) (f : File) (there_k : file_at w k ≡ Some f) (no_dir : is_directory f.body ≡ false) where
     u₁ : Files
-    u₁ = mark now w k
+    u₁ = touch_ctime now w k
 
     u₂ : Files
     unfolding u₁
@@ -117,7 +118,7 @@ module _ (now : Timeval) (time : IsTime now) (w : Files) (tree : IsFileTree w) (
 
     u_there : file_at u₁ dir ≡ Some edit.file
     unfolding u₁
-    u_there = changed_other w k (marked now) dir apart ∙ edit.there
+    u_there = changed_other w k (with_ctime now) dir apart ∙ edit.there
 
     u_files : AllFiles u₁
     unfolding u₁
@@ -129,11 +130,12 @@ module _ (now : Timeval) (time : IsTime now) (w : Files) (tree : IsFileTree w) (
         subst (IsNamed u₁ (with_name u₁ dir name k) dir name k) next_cookie
         (named_shape u₁ dir name edit.file u_there edit.directory (distinct_names u₁ dir edit.file u_files u_there) k)
 
-    u_touched : IsSameShape u₂ (touch now (with_name (mark now w k) dir name k) dir)
+    u_touched : IsSameShape u₂ (touch now (with_name (touch_ctime now w k) dir name k) dir)
     unfolding u₁ u₂
     u_touched = touch_shape now u₂ dir
 
-    linked_added : IsAdded w (touch now (with_name (mark now w k) dir name k) dir) dir name k (listing w dir).next
+    linked_added :
+        IsAdded w (touch now (with_name (touch_ctime now w k) dir name k) dir) dir name k (listing w dir).next
     unfolding u₁ u₂
     linked_added = record {
       dir = is_dir w dir edit.file edit.there edit.directory;
@@ -165,20 +167,22 @@ module _ (now : Timeval) (time : IsTime now) (w : Files) (tree : IsFileTree w) (
 not_next : (w : Files) → IsFileTree w → (n : ℕ) → IsDirectory w n → n ≢ w.next
 not_next w tree n is e = absurd (omega (arith, e, tree.numbers n (tree.tree.there n is)))
 
-module _ (now : Timeval) (time : IsTime now) (w : Files) (tree : IsFileTree w) (who : Caller) (dir : ℕ) (name : List ℕ) (bound : length name ≤ 255) where
-  module _ (f : File) (empty : (listing_in f.body).entries ≡ []) (fits : IsFile f) (number : ℕ) (after : Files) (o : MakeOk w who now dir name f number after) where
-    as_made : (P : ℕ → Files → Type 0) → P w.next (made now w dir name f) → P number after
+module _ (now : Timeval) (time : IsTime now) (w : Files) (tree : IsFileTree w) (who : Caller) (dir : ℕ)
+    (name : List ℕ) (bound : length name ≤ 255) where
+  module _ (f : File) (empty : (listing_in f.body).entries ≡ []) (fits : IsFile f) (number : ℕ)
+      (after : Files) (o : MakeOk w who now dir name f number after) where
+    as_made : (P : ℕ → Files → Type 0) → P w.next (add_file now w dir name f) → P number after
     as_made P h = subst (λ n. P n after) (sym o.is_next) (subst (P w.next) (sym o.effect) h)
 
     -- what makes a file adds one entry, with the next number and the directory's next cookie
     pub make_added : IsAdded w after dir name number (listing w dir).next
     make_added = as_made (λ n v. IsAdded w v dir name n (listing w dir).next) (made_added now time w tree who dir name o.directory o.free bound f empty fits)
 
-    given : GivesAnew w (made now w dir name f)
+    given : GivesAnew w (add_file now w dir name f)
     given =
         let one = with_new_file w f in
         let a = made_added now time w tree who dir name o.directory o.free bound f empty fits in
-        added_given w (made now w dir name f) dir name w.next (listing w dir).next a (omega arith) (inr (omega arith))
+        added_given w (add_file now w dir name f) dir name w.next (listing w dir).next a (omega arith) (inr (omega arith))
         (λ n is. omega (
           arith,
           cookie_new w f n (not_next w tree n is),
@@ -195,16 +199,17 @@ module _ (now : Timeval) (time : IsTime now) (w : Files) (tree : IsFileTree w) (
     }
 
   module _ (from : ℕ) (after : Files) (o : LinkOk w who now from dir name after) where
-    linked : IsAdded w (touch now (with_name (mark now w from) dir name from) dir) dir name from (listing w dir).next
+    linked : IsAdded w (touch now (with_name (touch_ctime now w from) dir name from) dir) dir name from
+        (listing w dir).next
     linked = linked_added now time w tree who dir name o.directory o.free bound from o.file o.there o.plain
 
     -- LINK adds one entry, with the file's number and the directory's next cookie
     pub link_added : IsAdded w after dir name from (listing w dir).next
     link_added = subst (λ (v : Files). IsAdded w v dir name from (listing w dir).next) (sym o.effect) linked
 
-    given_linked : GivesAnew w (touch now (with_name (mark now w from) dir name from) dir)
+    given_linked : GivesAnew w (touch now (with_name (touch_ctime now w from) dir name from) dir)
     given_linked =
-        let one = mark now w from in
+        let one = touch_ctime now w from in
         added_given w (touch now (with_name one dir name from) dir) dir name from (listing w dir).next linked (omega arith) (inl (ap is_some o.there))
         (λ n is. omega (
           arith,

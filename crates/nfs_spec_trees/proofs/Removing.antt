@@ -19,7 +19,7 @@ use Rattle.fs_changes.proofs.Shapes.{kind, AllFiles, IsSameShape, IsUnnamed, IsO
 use Rattle.fs_changes.proofs.Adding.{one_same}
 use Rattle.fs_changes.proofs.Taking.{IsTaken, stays_taken}
 use Rattle.fs_changes.proofs.Room.{no_more_then, still_room}
-use Rattle.nfs_spec.specs.Changes.{touch, mark, unnamed, after_unlink}
+use Rattle.nfs_spec.specs.Changes.{touch, touch_ctime, unlink, after_unlink}
 use Rattle.nfs_spec_steps.specs.Granted.{UnnameOk}
 use Rattle.nfs_spec_trees.specs.Anew.{Follows}
 use Rattle.nfs_spec_trees.proofs.EditRoom.{touch_no_more, unlink_no_more}
@@ -27,7 +27,8 @@ use Rattle.nfs_spec_trees.proofs.GivenAnew.{taken_given, cookie_taken, cookie_to
 use Rattle.nfs_spec_trees.proofs.FilesFit.{dir_file, is_dir, touch_shape, mark_shape, touch_files, mark_files, unnamed_files, distinct_names}
 
 -- what is taken is taken, whatever changes but the shape
-pub taken_then : (u v w : Files) (d : ℕ) (x : List ℕ) (k c : ℕ) → IsTaken u v d x k c → IsSameShape v w → AllFiles w → IsTaken u w d x k c
+pub taken_then : (u v w : Files) (d : ℕ) (x : List ℕ) (k c : ℕ) → IsTaken u v d x k c → IsSameShape v w
+    → AllFiles w → IsTaken u w d x k c
 taken_then u v w d x k c a s files = record {
   had = a.had;
   change = record { here = s.places d x ∙ a.change.here; rest = λ n y not. s.places n y ∙ a.change.rest n y not };
@@ -42,8 +43,9 @@ taken_then u v w d x k c a s files = record {
   files = files;
 }
 
-module _ (now : Timeval) (time : IsTime now) (w : Files) (tree : IsFileTree w) (d : ℕ) (x : List ℕ) (n c : ℕ) (had : places w d x ≡ Some (n, c))
-    (f : File) (there : file_at w n ≡ Some f) (empty : (listing_in f.body).entries ≡ []) where
+module _ (now : Timeval) (time : IsTime now) (w : Files) (tree : IsFileTree w) (d : ℕ) (x : List ℕ) (n c : ℕ)
+    (had : places w d x ≡ Some (n, c)) (f : File) (there : file_at w n ≡ Some f)
+    (empty : (listing_in f.body).entries ≡ []) where
   nothing_below : (y : List ℕ) → places w n y ≡ None
   nothing_below y = ap (option_and_then (λ f. entry_at (listing_in f.body) y)) there ∙ ap (λ (es : List (List ℕ × (ℕ × ℕ))). lookup (pointwise nat_eq y) es) empty
 
@@ -97,7 +99,7 @@ module _ (now : Timeval) (time : IsTime now) (w : Files) (tree : IsFileTree w) (
           let own = one_same n n refl in
           absurd (omega (arith, some, less.names n, own_leads n, own, tree.directories n not_root (is_dir w n f there e)))
 
-  some_left : 0 < names_of w₁ n → IsTaken w (mark now w₁ n) d x n c
+  some_left : 0 < names_of w₁ n → IsTaken w (touch_ctime now w₁ n) d x n c
   some_left some =
       let s = mark_shape now w₁ n in
       let own : kind w n ≡ Some false = ap (option_map (λ f. is_directory f.body)) there ∙ ap (λ b. Some b) (plain some) in
@@ -113,7 +115,7 @@ module _ (now : Timeval) (time : IsTime now) (w : Files) (tree : IsFileTree w) (
       }
 
   -- a name goes, and with the last one the file: one entry less, and nothing else of the shape
-  pub unnamed_taken : IsTaken w (unnamed now w d x n) d x n c
+  pub unnamed_taken : IsTaken w (unlink now w d x n) d x n c
   unfolding w₁
   unnamed_taken = by (eqb (names_of w₁ n) 0) refl
     where
@@ -125,16 +127,16 @@ module _ (now : Timeval) (time : IsTime now) (w : Files) (tree : IsFileTree w) (
           positive m ne = omega arith
 
   -- and the directory's times change nothing of that
-  pub touched_taken : IsTaken w (touch now (unnamed now w d x n) d) d x n c
+  pub touched_taken : IsTaken w (touch now (unlink now w d x n) d) d x n c
   touched_taken =
-      let v = unnamed now w d x n in
+      let v = unlink now w d x n in
       taken_then w v (touch now v d) d x n c unnamed_taken (touch_shape now v d) (touch_files now v d time unnamed_taken.files)
 
 -- ---- REMOVE, RMDIR
 
-module _ (now : Timeval) (time : IsTime now) (w : Files) (tree : IsFileTree w) (who : Caller) (dir : ℕ) (name : List ℕ) (after : Files)
-    (kind : Bool) (o : UnnameOk kind w who now dir name after) where
-  taken : IsTaken w (touch now (unnamed now w dir name o.number) dir) dir name o.number o.cookie
+module _ (now : Timeval) (time : IsTime now) (w : Files) (tree : IsFileTree w) (who : Caller) (dir : ℕ)
+    (name : List ℕ) (after : Files) (kind : Bool) (o : UnnameOk kind w who now dir name after) where
+  taken : IsTaken w (touch now (unlink now w dir name o.number) dir) dir name o.number o.cookie
   taken = touched_taken now time w tree dir name o.number o.cookie o.is_named o.file o.there o.empty
 
   -- one entry goes
@@ -144,12 +146,12 @@ module _ (now : Timeval) (time : IsTime now) (w : Files) (tree : IsFileTree w) (
   -- what takes a name leaves a tree a tree, gives nothing, and passes no limit
   pub remove_follows : Follows w after
   remove_follows =
-      let end = touch now (unnamed now w dir name o.number) dir in
+      let end = touch now (unlink now w dir name o.number) dir in
       subst (Follows w) (sym o.effect) (record {
         tree = stays_taken w end tree dir name o.number o.cookie taken;
         anew = taken_given w end dir name o.number o.cookie taken
-            (λ n ne. omega (arith, cookie_taken now w dir name o.number n ne, cookie_touched now (unnamed now w dir name o.number) dir n))
+            (λ n ne. omega (arith, cookie_taken now w dir name o.number n ne, cookie_touched now (unlink now w dir name o.number) dir n))
             (ap is_some o.there);
         room = still_room w end
-            (no_more_then w (unnamed now w dir name o.number) end (unlink_no_more now w dir name o.number) (touch_no_more now (unnamed now w dir name o.number) dir));
+            (no_more_then w (unlink now w dir name o.number) end (unlink_no_more now w dir name o.number) (touch_no_more now (unlink now w dir name o.number) dir));
       })

@@ -12,8 +12,8 @@ use Rattle.fs_changes.specs.Edits.{with_changed_file, with_new_file, with_name}
 use Rattle.fs_changes.specs.Limits.{blocks_in, entry_count, block_count, has_room}
 use Rattle.fs_changes.proofs.Finite.{nothing_changes, changed_next, changed_here, changed_other, new_here, new_other, total, total_changed, total_new}
 use Rattle.fs_changes.proofs.Room.{count_new, count_changed, AllCookies, within, room, still_room}
-use Rattle.nfs_spec.specs.Changes.{touch, touched, mark, marked}
-use Rattle.nfs_spec.specs.Procedures.{made}
+use Rattle.nfs_spec.specs.Changes.{touch, with_mtime, touch_ctime, with_ctime}
+use Rattle.nfs_spec.specs.Procedures.{add_file}
 use Rattle.nfs_spec_trees.specs.Room.{HasRoomToMake, HasRoomToLink}
 use Rattle.nfs_spec_trees.proofs.FilesFit.{next_free}
 use Rattle.nfs_spec_trees.proofs.EditRoom.{touch_no_more, mark_no_more, free_in, named_needs, named_has}
@@ -24,12 +24,14 @@ module _ (w : Files) (k : ℕ) (change : File → File) (keeps : (f : File) → 
   same_total : (p : Body → ℕ) → total (λ f. p f.body) (with_changed_file w k change) ≡ total (λ f. p f.body) w
   same_total p = by (file_at w k) refl
     where
-      by : (o : Option File) → file_at w k ≡ o → total (λ f. p f.body) (with_changed_file w k change) ≡ total (λ f. p f.body) w
+      by : (o : Option File) → file_at w k ≡ o
+          → total (λ f. p f.body) (with_changed_file w k change) ≡ total (λ f. p f.body) w
       by None e = ap (total (λ f. p f.body)) (nothing_changes w k change 0 e)
       by (Some f) e = let same = ap p (keeps f) in omega (arith, total_changed (λ g. p g.body) w k change f e, same)
 
   -- a file after the change has the body that it had
-  body_there : (n : ℕ) (f : File) → file_at w n ≡ Some f → (g : File) × (file_at (with_changed_file w k change) n ≡ Some g) × (g.body ≡ f.body)
+  body_there : (n : ℕ) (f : File) → file_at w n ≡ Some f
+      → (g : File) × (file_at (with_changed_file w k change) n ≡ Some g) × (g.body ≡ f.body)
   body_there n f there = ⊎_elim
       (λ e. (change f, changed_here w k change n e ∙ ap (option_map change) (sym (ap (file_at w) e) ∙ there), keeps f))
       (λ ne. (f, changed_other w k change n ne ∙ there, refl))
@@ -50,16 +52,19 @@ module _ (w : Files) (k : ℕ) (change : File → File) (keeps : (f : File) → 
 -- ---- in a tree
 
 touched_back : (now : Timeval) (w : Files) (d : ℕ) → has_room (touch now w d) ≡ true → has_room w ≡ true
-touched_back now w d = room_back w d (touched now) (λ f. refl)
+touched_back now w d = room_back w d (with_mtime now) (λ f. refl)
 
 touched_on : (now : Timeval) (w : Files) (d : ℕ) → has_room w ≡ true → has_room (touch now w d) ≡ true
 touched_on now w d = still_room w (touch now w d) (touch_no_more now w d)
 
-module _ (now : Timeval) (w : Files) (tree : IsFileTree w) (before : has_room w ≡ true) (dir : ℕ) (name : List ℕ) (d : File) (there : file_at w dir ≡ Some d) (is : is_directory d.body ≡ true) (free : places w dir name ≡ None) where
+module _ (now : Timeval) (w : Files) (tree : IsFileTree w) (before : has_room w ≡ true) (dir : ℕ)
+    (name : List ℕ) (d : File) (there : file_at w dir ≡ Some d) (is : is_directory d.body ≡ true)
+    (free : places w dir name ≡ None) where
   not_next : dir ≢ w.next
   not_next e = absurd (none_some (sym (next_free w tree) ∙ sym (ap (file_at w) e) ∙ there))
 
-  module _ (f : File) (empty : (listing_in f.body).entries ≡ []) (low : (listing_in f.body).next ≤ 4294967295) where
+  module _ (f : File) (empty : (listing_in f.body).entries ≡ [])
+      (low : (listing_in f.body).next ≤ 4294967295) where
     one : Files
     one = with_new_file w f
 
@@ -83,7 +88,8 @@ module _ (now : Timeval) (w : Files) (tree : IsFileTree w) (before : has_room w 
         (cases_eq n w.next)
 
     -- room after a new file with a name, by the counts before
-    pub to_make : (has_room (made now w dir name f) ≡ true) ↔ HasRoomToMake w (listing_in d.body).next (blocks_in f.body)
+    pub to_make : (has_room (add_file now w dir name f) ≡ true) ↔ HasRoomToMake w (listing_in d.body).next
+        (blocks_in f.body)
     unfolding one
     to_make = (
       (λ h.
@@ -105,15 +111,16 @@ module _ (now : Timeval) (w : Files) (tree : IsFileTree w) (before : has_room w 
     )
 
 -- room after a name more, by the counts before
-pub to_link : (now : Timeval) (w : Files) → has_room w ≡ true → (dir : ℕ) (name : List ℕ) (d : File) → file_at w dir ≡ Some d → is_directory d.body ≡ true → places w dir name ≡ None → (from : ℕ)
-    → (has_room (touch now (with_name (mark now w from) dir name from) dir) ≡ true) ↔ HasRoomToLink w (listing_in d.body).next
+pub to_link : (now : Timeval) (w : Files) → has_room w ≡ true → (dir : ℕ) (name : List ℕ) (d : File)
+    → file_at w dir ≡ Some d → is_directory d.body ≡ true → places w dir name ≡ None → (from : ℕ)
+    → (has_room (touch now (with_name (touch_ctime now w from) dir name from) dir) ≡ true) ↔ HasRoomToLink w (listing_in d.body).next
 to_link now w before dir name d there is free from =
-    let v = mark now w from in
-    let g = body_there w from (marked now) (λ f. refl) dir d there in
+    let v = touch_ctime now w from in
+    let g = body_there w from (with_ctime now) (λ f. refl) dir d there in
     let is_g : is_directory g.0.body ≡ true = ap is_directory g.2 ∙ is in
     let free_g : entry_at (listing_in g.0.body) name ≡ None = ap (λ b. entry_at (listing_in b) name) g.2 ∙ free_in w dir name d there free in
     let same_next = ap (λ b. (listing_in b).next) g.2 in
-    let same_entries = same_total w from (marked now) (λ f. refl) (λ b. length (listing_in b).entries) in
+    let same_entries = same_total w from (with_ctime now) (λ f. refl) (λ b. length (listing_in b).entries) in
     let within_v = within v (still_room w v (mark_no_more now w from) before) in (
       (λ h. let n = named_needs v dir name from g.0 g.1 is_g free_g (touched_back now (with_name v dir name from) dir h) in record { entries = omega (arith, same_entries, n.entries); cookie = omega (arith, same_next, n.cookie) }),
       (λ h. touched_on now (with_name v dir name from) dir (named_has v dir name from g.0 g.1 is_g free_g within_v.cookies (record { files = within_v.files; entries = omega (arith, same_entries, h.entries); blocks = within_v.blocks; next = within_v.next; cookie = omega (arith, same_next, h.cookie) }))),
@@ -122,7 +129,8 @@ to_link now w before dir name d there is free from =
 -- ---- other bytes
 
 -- room after other bytes, by the blocks before
-pub to_write : (w : Files) → has_room w ≡ true → (n : ℕ) (change : File → File) (f : File) → file_at w n ≡ Some f → listing_in (change f).body ≡ listing_in f.body
+pub to_write : (w : Files) → has_room w ≡ true → (n : ℕ) (change : File → File) (f : File)
+    → file_at w n ≡ Some f → listing_in (change f).body ≡ listing_in f.body
     → (has_room (with_changed_file w n change) ≡ true) ↔ (block_count w + blocks_in (change f).body ≤ 32768 + blocks_in f.body)
 unfolding AllCookies
 to_write w before n change f there lists =

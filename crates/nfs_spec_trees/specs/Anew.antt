@@ -6,15 +6,15 @@ use Rattle.fs_model.specs.Trees.{IsFileTree}
 
 -- what is there was there, or has a number that was not given before; an entry of a directory was in it, or
 -- has a cookie that was not given in it before
-pub record GivesAnew (w w' : Files) : Type 0 where
-  pub next : w.next ≤ w'.next
-  pub numbers : (n : ℕ) → IsSome (file_at w' n) → IsSome (file_at w n) ⊎ (w.next ≤ n)
-  pub cookies : (n : ℕ) → IsDirectory w n → IsDirectory w' n → (listing w n).next ≤ (listing w' n).next
-  pub entries : (n : ℕ) (name : List ℕ) (k c : ℕ) → IsDirectory w n → places w' n name ≡ Some (k, c)
-      → (places w n name ≡ Some (k, c)) ⊎ ((listing w n).next ≤ c)
+pub record GivesAnew (fs fs' : Files) : Type 0 where
+  pub next : fs.next ≤ fs'.next
+  pub numbers : (n : ℕ) → IsSome (file_at fs' n) → IsSome (file_at fs n) ⊎ (fs.next ≤ n)
+  pub cookies : (n : ℕ) → IsDirectory fs n → IsDirectory fs' n → (listing fs n).next ≤ (listing fs' n).next
+  pub entries : (n : ℕ) (name : List ℕ) (k c : ℕ) → IsDirectory fs n → places fs' n name ≡ Some (k, c)
+      → (places fs n name ≡ Some (k, c)) ⊎ ((listing fs n).next ≤ c)
 
 -- a tree follows in which numbers and cookies are given anew, and no limit is passed that was not
-pub record Follows (w w' : Files) : Type 0 where
-  pub tree : IsFileTree w'
-  pub anew : GivesAnew w w'
-  pub room : IsTrue (has_room w) → IsTrue (has_room w')
+pub record Follows (fs fs' : Files) : Type 0 where
+  pub tree : IsFileTree fs'
+  pub anew : GivesAnew fs fs'
+  pub room : IsTrue (has_room fs) → IsTrue (has_room fs')

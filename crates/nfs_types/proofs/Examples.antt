@@ -1,5 +1,6 @@
--- What the definitions give on bytes from the wire.
-use Rattle.std.proofs.Common.{◌≡◌, ℕ, List, [], ◌∷◌, ◌++◌, replicate, Some, Ok, Err, refl}
+-- What the definitions give on bytes from the wire: handles, LOOKUP's arguments, attributes and a refusal.
+-- Serves: readers of specs/Handle, Arguments and Results; no proof cites it.
+use Rattle.std.proofs.Common.{◌≡◌, ℕ, List, [], ◌∷◌, ◌++◌, replicate, codes, Some, Ok, Err, refl}
 use Rattle.xdr.specs.declared.fault.XdrFault.TheVariants.{Padding}
 use Rattle.xdr.specs.Item.{number_spelling}
 use Rattle.xdr.specs.Reading.{number_at, fixed_at, opaque_at}
@@ -17,7 +18,7 @@ root : List ℕ
 root = 0 ∷ 0 ∷ 0 ∷ 1 ∷ 0 ∷ 0 ∷ 0 ∷ 1 ∷ replicate 24 0
 
 hello : List ℕ
-hello = 104 ∷ 101 ∷ 108 ∷ 108 ∷ 111 ∷ []
+hello = codes "hello"
 
 handle_of-root : handle_of 1 1 ≡ root
 unfolding root handle_of
@@ -42,9 +43,9 @@ lookup-padding = refl
 start : Timeval
 start = record { seconds = 0; microseconds = 0 }
 
--- the root's attributes, and those of a file of six bytes
+-- the root's attributes, with mode 0040777
 root_attributes : Fattr
-root_attributes = record { file_type = Directory; mode = 16895; nlink = 2; uid = 0; gid = 0; size = 512; blocksize = 512; rdev = 0; blocks = 1; fsid = 1; fileid = 1; atime = start; mtime = start; ctime = start }
+root_attributes = record { file_type = Directory; mode = 0x41ff; nlink = 2; uid = 0; gid = 0; size = 512; blocksize = 512; rdev = 0; blocks = 1; fsid = 1; fileid = 1; atime = start; mtime = start; ctime = start }
 
 attrstat-spelling : results_text (Attributes (Ok root_attributes))
     ≡ 0 ∷ 0 ∷ 0 ∷ 0 ∷ 0 ∷ 0 ∷ 0 ∷ 2 ∷ 0 ∷ 0 ∷ 65 ∷ 255 ∷ 0 ∷ 0 ∷ 0 ∷ 2 ∷ 0 ∷ 0 ∷ 0 ∷ 0 ∷ 0 ∷ 0 ∷ 0 ∷ 0 ∷ 0 ∷ 0 ∷ 2 ∷ 0 ∷ 0 ∷ 0 ∷ 2 ∷ 0 ∷ 0 ∷ 0 ∷ 0 ∷ 0 ∷ 0 ∷ 0 ∷ 0 ∷ 1 ∷ 0 ∷ 0 ∷ 0 ∷ 1 ∷ 0 ∷ 0 ∷ 0 ∷ 1 ∷ replicate 24 0

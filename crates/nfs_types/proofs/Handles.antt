@@ -1,4 +1,5 @@
--- What a handle says.
+-- The file number that a handle tells, and that no other bytes tell it.
+-- Serves: `laws::handles_tell_numbers`.
 use Rattle.std.proofs.Common.{◌≡◌, ℕ, ◌^◌, ◌<◌, Bool, true, false, cond, List, ◌++◌, drop, replicate, Some, None, refl, sym, ap, ◌∙◌}
 use Rattle.std.specs.Prelude.{◌↔◌, nat_eq}
 use Rattle.std.specs.Cmp.Lexicographic.{pointwise}
@@ -21,6 +22,7 @@ node_at-handle_of : (fsid number : ℕ) → fsid < 2 ^ 32 → big_number 4 (hand
 unfolding handle_of
 node_at-handle_of fsid number lt = big_number-reads_back 4 fsid (big_bytes 4 number ++ replicate 24 0) lt
 
+-- a handle tells the number that it was made of
 pub number_in-handle_of : (fsid number : ℕ) → number < 2 ^ 32 → number_in fsid (handle_of fsid number) ≡ Some number
 unfolding number_in number_at
 number_in-handle_of fsid number lt =
@@ -32,6 +34,7 @@ test_passed : (test : Bool) (m n : ℕ) → cond test (Some m) None ≡ Some n �
 test_passed true m n e = (refl, cc)
 test_passed false m n e = absurd cc
 
+-- bytes tell a number exactly where they are its handle
 pub number_in-is : (fsid number : ℕ) (handle : List ℕ) → IsBytes handle → (number_in fsid handle ≡ Some number) ↔ ((number < 2 ^ 32) × (handle ≡ handle_of fsid number))
 unfolding number_in number_at
 number_in-is fsid number handle bound = (
@@ -43,6 +46,7 @@ number_in-is fsid number handle bound = (
   (λ h. rw (h.1) (number_in-handle_of fsid number h.0)),
 )
 
+-- one handle is of one file on one node
 pub handle_of-same : (fsid number other_fsid other : ℕ) → fsid < 2 ^ 32 → number < 2 ^ 32 → other_fsid < 2 ^ 32 → other < 2 ^ 32
     → handle_of fsid number ≡ handle_of other_fsid other → (fsid ≡ other_fsid) × (number ≡ other)
 handle_of-same fsid number other_fsid other f n g o e = (

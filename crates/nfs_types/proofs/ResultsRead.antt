@@ -1,4 +1,5 @@
--- Results are told by their text.
+-- A reading of results that gives back what was spelled, so that no spelling of results begins another.
+-- Serves: `laws::results_have_one_meaning`.
 use Rattle.std.proofs.Common.{◌≡◌, ℕ, zero, suc, List, ◌++◌, cond, eqb, Result, Ok, Err, refl, sym, ap, ◌∙◌}
 use Rattle.xdr.specs.Item.{Item, Value, spelling, Fits, pair}
 use Rattle.xdr.specs.Reading.{Read, ◌>>=◌, read_at}
@@ -85,6 +86,7 @@ results_again procedures.Lookup (DirOp r) rest h =
     outcome_again (pair fhandle fattr) (λ x. (x.0, fattr_value x.1)) (λ v. (v.0, fattr_at v.1)) DirOp (λ x. ap (λ (a : Fattr). (x.0, a)) (fattr_at-value x.1)) r rest h
 results_again _ _ rest h = absurd h
 
+-- where a spelling begins another, both are of the same results
 pub one_meaning : (procedure : NfsProcedure) (r s : Results) (x y : List ℕ) → AreResults procedure r → AreResults procedure s → results_text r ++ x ≡ results_text s ++ y → (r ≡ s) × (x ≡ y)
 one_meaning procedure r s x y fits fits' e =
     let both = ok_is (r, x) (s, y) (sym (results_again procedure r x fits) ∙ ap (results_at procedure) e ∙ results_again procedure s y fits') in

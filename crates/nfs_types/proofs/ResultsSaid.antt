@@ -1,4 +1,5 @@
--- The spelling of results, told by what they are.
+-- The spelling of results, told by their cases: OK and what is behind it, or the stat alone.
+-- Serves: `write_result`.
 use Rattle.std.proofs.Common.{◌≡◌, Ok, Err, refl}
 use Rattle.std.specs.Prelude.{Result}
 use Rattle.std.proofs.lemmas.List.{append-nil}
@@ -32,6 +33,7 @@ outcome_says : {X : Type 0} (a : Item) (view : X → Value a) (r : Result X Stat
 outcome_says a view (Ok x) = refl
 outcome_says a view (Err e) = stat_says a e
 
+-- the spelling of results, by their cases
 pub results_say : (r : Results) → results_text r ≡ results_bytes r
 results_say Null = refl
 results_say (Attributes r) = outcome_says fattr fattr_value r

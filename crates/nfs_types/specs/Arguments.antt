@@ -4,21 +4,22 @@ use Rattle.xdr.specs.declared.fault.XdrFault.{XdrFault}
 use Rattle.xdr.specs.Item.{Item, opaque, pair, Value, spelling, Fits}
 use Rattle.xdr.specs.Reading.{Read, ◌>>=◌, read_at}
 use Rattle.nfs_types.specs.Handle.{fhandle}
+use Rattle.nfs_types.specs.declared.limits.TheConstants.{MAXNAMLEN}
 use Rattle.nfs_types.specs.declared.arguments.NfsProcedure.{NfsProcedure}
 use Rattle.nfs_types.specs.declared.arguments.NfsProcedure.TheVariants as procedures
 use Rattle.nfs_types.specs.declared.arguments.DirOpArgs.{DirOpArgs}
 use Rattle.nfs_types.specs.declared.arguments.NfsArgs.{NfsArgs}
 use Rattle.nfs_types.specs.declared.arguments.NfsArgs.TheVariants as code
 
--- a name: string<MAXNAMLEN> (section 2.3.7)
+-- a name (section 2.3.7): string<MAXNAMLEN>, at most 255 bytes
 abbrev pub filename : Item
-filename = opaque 255
+filename = opaque MAXNAMLEN
 
 -- diropargs (section 2.3.10)
 abbrev pub diropargs : Item
 diropargs = pair fhandle filename
 
--- a procedure with its arguments, without where they lie in memory: a file handle is 32 bytes, a name at most 255
+-- a procedure with its arguments, without where they lie in memory: file handles and names are bytes
 pub data Arguments : Type 0 where
   Null : Arguments
   Getattr : List ℕ → Arguments
@@ -26,7 +27,11 @@ pub data Arguments : Type 0 where
 
 -- the procedure of a number
 abbrev pub procedure_at : ℕ → Option NfsProcedure
-procedure_at n = if n == 0 then Some procedures.Null else if n == 1 then Some procedures.Getattr else if n == 4 then Some procedures.Lookup else None
+procedure_at n =
+    if n == 0 then Some procedures.Null
+    else if n == 1 then Some procedures.Getattr
+    else if n == 4 then Some procedures.Lookup
+    else None
 
 abbrev pub procedure_of : Arguments → NfsProcedure
 procedure_of Null = procedures.Null

@@ -17,16 +17,34 @@ ftype_number Regular = 1
 ftype_number Directory = 2
 ftype_number Link = 5
 
--- fattr (section 2.3.5)
+-- a file's three times: atime, mtime, ctime
+abbrev pub times : Item
+times = pair timeval (pair timeval timeval)
+
+abbrev pub times_value : Fattr → Value times
+times_value a = (timeval_value a.atime, (timeval_value a.mtime, timeval_value a.ctime))
+
+-- the last fields of a fattr: blocksize, rdev, blocks, fsid, fileid and the times
+abbrev pub fattr_end : Item
+fattr_end = pair word (pair word (pair word (pair word (pair word times))))
+
+abbrev pub fattr_end_value : Fattr → Value fattr_end
+fattr_end_value a = (a.blocksize, (a.rdev, (a.blocks, (a.fsid, (a.fileid, times_value a)))))
+
+-- fattr (section 2.3.5): type, mode, nlink, uid, gid, size, and the last fields
 abbrev pub fattr : Item
-fattr = pair ftype (pair word (pair word (pair word (pair word (pair word (pair word (pair word (pair word (pair word (pair word (pair timeval (pair timeval timeval))))))))))))
+fattr = pair ftype (pair word (pair word (pair word (pair word (pair word fattr_end)))))
 
 abbrev pub fattr_value : Fattr → Value fattr
-fattr_value a = ((ftype_number a.file_type, tt), (a.mode, (a.nlink, (a.uid, (a.gid, (a.size, (a.blocksize, (a.rdev, (a.blocks, (a.fsid, (a.fileid, (timeval_value a.atime, (timeval_value a.mtime, timeval_value a.ctime)))))))))))))
+fattr_value a =
+    ((ftype_number a.file_type, tt), (a.mode, (a.nlink, (a.uid, (a.gid, (a.size, fattr_end_value a))))))
 
 -- stat (section 2.3.1): OK is 0
 abbrev pub is_stat : ℕ → Bool
-is_stat n = (n == 0) || (n == 1) || (n == 2) || (n == 5) || (n == 6) || (n == 13) || (n == 17) || (n == 19) || (n == 20) || (n == 21) || (n == 27) || (n == 28) || (n == 30) || (n == 63) || (n == 66) || (n == 69) || (n == 70) || (n == 99)
+is_stat n =
+    (n == 0) || (n == 1) || (n == 2) || (n == 5) || (n == 6) || (n == 13) || (n == 17) || (n == 19)
+    || (n == 20) || (n == 21) || (n == 27) || (n == 28) || (n == 30) || (n == 63) || (n == 66) || (n == 69)
+    || (n == 70) || (n == 99)
 
 -- a stat, and behind OK an item
 abbrev pub stat_or : Item → Item

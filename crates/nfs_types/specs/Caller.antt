@@ -1,5 +1,6 @@
 -- Who calls (RFC 5531, section 8 and appendix A).
 use Rattle.std.specs.Prelude.{ℕ, List, [], Option, None}
+use Rattle.nfs_types.specs.declared.who.TheConstants.{NOBODY_ID}
 
 -- the caller's user, group and further groups, and the name of its machine where AUTH_SYS gave one
 pub record Caller : Type 0 where
@@ -8,6 +9,6 @@ pub record Caller : Type 0 where
   pub gids : List ℕ
   pub machine_name : Option (List ℕ)
 
--- the caller that AUTH_NONE stands for
+-- the caller that AUTH_NONE stands for: user and group 65534
 abbrev pub nobody : Caller
-nobody = record { uid = 65534; gid = 65534; gids = []; machine_name = None }
+nobody = record { uid = NOBODY_ID; gid = NOBODY_ID; gids = []; machine_name = None }

@@ -15,4 +15,6 @@ handle_of fsid number = big_bytes 4 fsid ++ (big_bytes 4 number ++ replicate 24 
 -- the file number of a handle, if it is this node's
 unfoldable pub number_in : ℕ → List ℕ → Option ℕ
 number_in fsid handle =
-    if pointwise nat_eq handle (handle_of fsid (big_number 4 (drop 4 handle))) then Some (big_number 4 (drop 4 handle)) else None
+    if pointwise nat_eq handle (handle_of fsid (big_number 4 (drop 4 handle)))
+    then Some (big_number 4 (drop 4 handle))
+    else None

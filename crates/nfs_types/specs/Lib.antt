@@ -1,6 +1,3 @@
-pub use Rattle.xdr.specs.Item
-pub use Rattle.xdr.specs.Reading
-pub use Rattle.xdr.specs.Writing
 pub mod Timeval
 pub mod Handle
 pub mod Caller

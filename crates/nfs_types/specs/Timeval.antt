@@ -9,7 +9,9 @@ pub record Timeval : Type 0 where
   pub microseconds : ℕ
 
 abbrev pub timeval_code : Coded Timeval
-timeval_code = code_by (ℕ × ℕ) (coded× coded_ℕ coded_ℕ) (λ t. (t.seconds, t.microseconds)) (λ p. record { seconds = p.0; microseconds = p.1 }) (λ _. refl)
+timeval_code =
+    code_by (ℕ × ℕ) (coded× coded_ℕ coded_ℕ)
+    (λ t. (t.seconds, t.microseconds)) (λ p. record { seconds = p.0; microseconds = p.1 }) (λ _. refl)
 
 abbrev pub timeval : Item
 timeval = pair word word
@@ -19,7 +21,8 @@ timeval_value t = (t.seconds, t.microseconds)
 
 -- whether the first time is before the second
 abbrev pub is_before : Timeval → Timeval → Bool
-is_before a b = nat_lt a.seconds b.seconds || ((a.seconds == b.seconds) && nat_lt a.microseconds b.microseconds)
+is_before a b =
+    nat_lt a.seconds b.seconds || ((a.seconds == b.seconds) && nat_lt a.microseconds b.microseconds)
 
 -- the later of two times
 abbrev pub later : Timeval → Timeval → Timeval

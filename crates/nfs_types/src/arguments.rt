@@ -32,7 +32,7 @@ impl NfsProcedure {
 #[derive(Clone, Copy, Debug)]
 pub struct DirOpArgs<'a> {
     pub dir: FileHandle,
-    /// At most 255 bytes.
+    /// At most `MAXNAMLEN` bytes.
     pub name: &'a [u8],
 }
 

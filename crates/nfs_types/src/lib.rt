@@ -4,7 +4,8 @@
 mod arguments;
 mod attributes;
 mod handle;
-mod laws;
+pub mod laws;
+mod limits;
 mod reading;
 mod results;
 mod stat;
@@ -15,7 +16,7 @@ mod writing;
 pub use arguments::{DirOpArgs, NfsArgs, NfsProcedure};
 pub use attributes::{Fattr, FileType};
 pub use handle::FileHandle;
-pub use laws::{arguments_have_one_meaning, handles_tell_numbers, results_have_one_meaning};
+pub use limits::MAXNAMLEN;
 pub use reading::read_args;
 pub use results::{DirOpOk, NfsResult};
 pub use stat::Stat;

@@ -7,16 +7,17 @@ ghost use Rattle.nfs_types.specs.Arguments.{diropargs, diropargs_value, Argument
 
 use crate::arguments::{DirOpArgs, NfsArgs, NfsProcedure};
 use crate::handle::FileHandle;
+use crate::limits::MAXNAMLEN;
 use xdr::{Reader, XdrFault};
-
-/// The greatest length of a name in bytes (RFC 1094, section 2.3.7, filename).
-const MAXNAMLEN: u32 = 255;
 
 /// Reads a procedure's arguments from the front of bytes, and ignores what follows them (RFC 1094,
 /// section 2.2). The fault is the first from left to right.
 pub fn read_args(procedure: NfsProcedure, bytes: &[u8]) -> Result<NfsArgs<'_>, XdrFault>
-    ensures found { IfOk result (λ a. (procedure_of (arguments_of a) ≡ procedure) × AreArguments (arguments_of a) × BeginsWithArguments (arguments_of a) bytes.now) }
-    ensures only { (a : Arguments) → procedure_of a ≡ procedure → AreArguments a → BeginsWithArguments a bytes.now → IsOkAnd result (λ x. arguments_of x ≡ a) }
+    ensures found { IfOk result (λ a. (procedure_of (arguments_of a) ≡ procedure)
+        × AreArguments (arguments_of a) × BeginsWithArguments (arguments_of a) bytes.now) }
+    ensures only { (a : Arguments) →
+        procedure_of a ≡ procedure → AreArguments a → BeginsWithArguments a bytes.now →
+        IsOkAnd result (λ x. arguments_of x ≡ a) }
     ensures exact { ReadsArguments procedure bytes.now result }
 {
     read_arguments(procedure, &mut Reader::new(bytes))

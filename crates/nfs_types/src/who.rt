@@ -2,6 +2,9 @@
 
 use std::alloc::Global;
 
+/// The user and the group that AUTH_NONE stands for on this server.
+const NOBODY_ID: u32 = 65534;
+
 /// The caller of a procedure.
 #[derive(Drop)]
 pub struct Who<'a> {
@@ -18,13 +21,13 @@ impl<'a> Who<'a> {
     ghost use Rattle.nfs_types.specs.Caller.{nobody};
     ghost use Rattle.nfs_types.specs.CallerOf.{caller_of};
 
-    /// The caller that AUTH_NONE stands for (RFC 5531, section 10.1): user and group 65534.
+    /// The caller that AUTH_NONE stands for (RFC 5531, section 10.1).
     pub fn nobody(alloc: Global) -> Who<'a>
         ensures { caller_of result ≡ nobody }
     {
         Who {
-            uid: 65534,
-            gid: 65534,
+            uid: NOBODY_ID,
+            gid: NOBODY_ID,
             gids: Vec::new(alloc),
             machine_name: None,
         }

@@ -17,7 +17,8 @@ use xdr::{Writer, all_or_nothing};
 /// The stat of a call that was done (RFC 1094, section 2.3.1).
 const OK: u32 = 0;
 
-/// Appends what a procedure answers (RFC 1094, section 2.2). Where memory is refused, the bytes stay as they were.
+/// Appends the results of a procedure (RFC 1094, section 2.2). Where memory is refused, the bytes stay as
+/// they were.
 #[tactic(auto, using(crate::proofs::ResultsSaid::results_say))]
 pub fn write_result(answer: &NfsResult, out: &mut Vec<u8>) -> Result<(), AllocError>
     ensures { Appends (results_text (results_of answer.now)) out.old.items result out.new.items }
@@ -38,7 +39,8 @@ fn add_result(answer: &NfsResult, out: &mut Vec<u8>) -> Result<(), AllocError>
 }
 
 fn add_attributes(outcome: &Result<Fattr, Stat>, out: &mut Vec<u8>) -> Result<(), AllocError>
-    ensures { Adds (outcome_text (λ a. spelling fattr (fattr_value a)) outcome.now) out.old.items result out.new.items }
+    ensures { Adds (outcome_text (λ a. spelling fattr (fattr_value a)) outcome.now)
+        out.old.items result out.new.items }
 {
     match outcome {
         Ok(attributes) => {
@@ -50,7 +52,8 @@ fn add_attributes(outcome: &Result<Fattr, Stat>, out: &mut Vec<u8>) -> Result<()
 }
 
 fn add_dir_op(outcome: &Result<DirOpOk, Stat>, out: &mut Vec<u8>) -> Result<(), AllocError>
-    ensures { Adds (outcome_text (λ x. spelling fhandle x.0 ++ spelling fattr (fattr_value x.1)) (diropres_of outcome.now)) out.old.items result out.new.items }
+    ensures { Adds (outcome_text (λ x. spelling fhandle x.0 ++ spelling fattr (fattr_value x.1))
+        (diropres_of outcome.now)) out.old.items result out.new.items }
 {
     match outcome {
         Ok(found) => {

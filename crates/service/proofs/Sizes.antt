@@ -1,9 +1,11 @@
--- A reply fits a record.
+-- A reply fits a record: bounds on the spelling of each result, and so on the reply owed.
+-- Serves: `Service::answer`.
 use Rattle.std.proofs.Common.{◌≡◌, ℕ, ◌≤◌, List, [], ◌++◌, length, Result, Ok, Err, arith, refl, length-append, lit≤}
 use Rattle.std.specs.Prelude.{Option, Some, None, IfSome, option_map}
 use Rattle.xdr.specs.Item.{Item, spelling, number_spelling, pair}
 use Rattle.xdr.specs.Reading.{Read}
 use Rattle.xdr.proofs.Front.{length-number_spelling}
+use Rattle.records.specs.declared.record.TheConstants.{MAX_RECORD}
 use Rattle.rpc.specs.Call.{Message, OtherVersion, Version2, message_at}
 use Rattle.rpc.specs.Reply.{reply_text}
 use Rattle.rpc.specs.declared.reply.ReplyBody.{ReplyBody}
@@ -18,10 +20,10 @@ use Rattle.nfs_types.specs.declared.attributes.Fattr.{Fattr}
 use Rattle.nfs_types.specs.declared.stat.Stat.{Stat}
 use Rattle.nfs_types.specs.declared.stat.Stat.TheVariants as stats
 use Rattle.fs_model.specs.Files.{Files}
-use Rattle.nfs_spec.specs.Checks.{◌>>=◌, number_of}
+use Rattle.nfs_spec.specs.ProcedureChecks.{◌>>=◌, number_of}
 use Rattle.nfs_spec.specs.Effects.{does, getattr, attributes_at, number_at_name}
 use Rattle.service.specs.World.{World, at_time}
-use Rattle.service.specs.Replies.{Checked, checked, answered, reply_to, reply_of_call, reply_owed}
+use Rattle.service.specs.Replies.{OrRefusal, call_or_refusal, call_reply, reply_to, reply_of_call, reply_owed}
 
 body_length : (xid : ℕ) (body : ReplyBody) → length (reply_text (record { xid = xid; body = body })) ≤ 36
 body_length xid bodies.Success = simp (length-append, length-number_spelling) (lit≤ tt)
@@ -88,24 +90,25 @@ results_length w who now Null = omega arith
 results_length w who now (Getattr file) = omega (arith, attrstat_length (getattr w file))
 results_length w who now (Lookup dir name) = lookup_length w who name (number_of w dir)
 
-answered_length : (w : Files) (now : Timeval) (xid : ℕ) (c : Checked (Caller × Arguments)) → length (answered w now xid c).0 ≤ 12288
-answered_length w now xid (Err body) = omega (arith, body_length xid body)
-answered_length w now xid (Ok (who, a)) =
+call_reply_length : (w : Files) (now : Timeval) (xid : ℕ) (c : OrRefusal (Caller × Arguments)) → length (call_reply w now xid c).0 ≤ MAX_RECORD
+call_reply_length w now xid (Err body) = omega (arith, body_length xid body)
+call_reply_length w now xid (Ok (who, a)) =
     omega (arith, length-append (reply_text (record { xid = xid; body = bodies.Success })) (results_text (does w who now a).0), body_length xid bodies.Success, results_length w who now a)
 
-reply_length : (w : Files) (now : Timeval) (m : Message) (arguments : List ℕ) → length (reply_to w now m arguments).0 ≤ 12288
+reply_length : (w : Files) (now : Timeval) (m : Message) (arguments : List ℕ) → length (reply_to w now m arguments).0 ≤ MAX_RECORD
 reply_length w now (OtherVersion xid version) arguments = omega (arith, body_length xid (bodies.RpcMismatch 2 2))
-reply_length w now (Version2 xid h) arguments = answered_length w now xid (checked h arguments)
+reply_length w now (Version2 xid h) arguments = call_reply_length w now xid (call_or_refusal h arguments)
 
-call_length : (w : World) (now : Timeval) (read : Read Message) → IfSome (reply_of_call w now read) (λ text. length text ≤ 12288)
+call_length : (w : World) (now : Timeval) (read : Read Message) → IfSome (reply_of_call w now read) (λ text. length text ≤ MAX_RECORD)
 call_length w now (Ok x) = reply_length w.files now x.0 x.1
 call_length w now (Err e) = tt
 
--- what is owed has at most 12,288 bytes
-pub fits_a_record : (w : World) (time : Timeval) (bytes : List ℕ) → IfSome (reply_owed w time bytes) (λ text. length text ≤ 12288)
+-- what is owed has at most MAX_RECORD bytes
+pub fits_a_record : (w : World) (time : Timeval) (bytes : List ℕ) → IfSome (reply_owed w time bytes) (λ text. length text ≤ MAX_RECORD)
 unfolding reply_owed
 fits_a_record w time bytes = call_length w (at_time w time).clock (message_at bytes)
 
-pub mapped_fits : {X : Type 0} (text : X → List ℕ) (r : Option X) (owed : Option (List ℕ)) → option_map text r ≡ owed → IfSome owed (λ t. length t ≤ 12288) → IfSome r (λ v. length (text v) ≤ 12288)
+-- and so has what was made, where it is what is owed
+pub mapped_fits : {X : Type 0} (text : X → List ℕ) (r : Option X) (owed : Option (List ℕ)) → option_map text r ≡ owed → IfSome owed (λ t. length t ≤ MAX_RECORD) → IfSome r (λ v. length (text v) ≤ MAX_RECORD)
 mapped_fits text None owed e h = tt
 mapped_fits text (Some v) owed e h = rw (← e) at h

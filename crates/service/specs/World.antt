@@ -13,8 +13,10 @@ pub record World : Type 0 where
 
 abbrev pub world_code : Coded World
 world_code =
-    code_by (Files × (Timeval × List (List ℕ × List ℕ))) (coded× files_code (coded× timeval_code (coded_list (coded× (coded_list coded_ℕ) (coded_list coded_ℕ)))))
-    (λ w. (w.files, (w.clock, w.mounts))) (λ p. record { files = p.0; clock = p.1.0; mounts = p.1.1 }) (λ _. refl)
+    code_by (Files × (Timeval × List (List ℕ × List ℕ)))
+    (coded× files_code (coded× timeval_code (coded_list (coded× (coded_list coded_ℕ) (coded_list coded_ℕ)))))
+    (λ w. (w.files, (w.clock, w.mounts)))
+    (λ p. record { files = p.0; clock = p.1.0; mounts = p.1.1 }) (λ _. refl)
 
 -- the world that the server of a node begins with
 abbrev pub opening_world : ℕ → World

@@ -1,6 +1,7 @@
 //! What holds of the reply that is owed.
 
 ghost use Rattle.std.specs.Prelude.{◌≡◌, List, ℕ, Option};
+ghost use Rattle.service.specs.declared.service.TheConstants.{AUTH_NONE, NFS_PROGRAM, NFS_VERSION, RPC_VERSION};
 ghost use Rattle.xdr.specs.Item.{IsBytes};
 ghost use Rattle.nfs_types.specs.Timeval.{Timeval};
 ghost use Rattle.service.specs.World.{World};
@@ -12,8 +13,17 @@ pub fn one_answer()
         Answers w time bytes v r → Answers w time bytes u s → (v ≡ u) × (r ≡ s) }
 {}
 
-/// Each record has an answer, which two functions compute.
-pub fn answers_owed()
+/// Each record has an answer, which `reply_owed` and `world_after` compute.
+pub fn reply_owed_is_the_answer()
     ensures { (w : World) (time : Timeval) (bytes : List ℕ) → IsBytes bytes →
         Answers w time bytes (world_after w time bytes) (reply_owed w time bytes) }
+{}
+
+/// The numbers that the definitions cite are the standards': AUTH_NONE (RFC 5531, section 8.2), version 2 of
+/// RPC, and program 100003 of version 2.
+pub fn numbers_are_the_standards()
+    ensures flavor { AUTH_NONE ≡ 0 }
+    ensures rpc { RPC_VERSION ≡ 2 }
+    ensures program { NFS_PROGRAM ≡ 100003 }
+    ensures version { NFS_VERSION ≡ 2 }
 {}

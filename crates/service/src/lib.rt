@@ -1,8 +1,7 @@
 //! One record to one reply.
 #![tactic(auto)]
 
-mod laws;
+pub mod laws;
 mod service;
 
-pub use laws::{answers_owed, one_answer};
 pub use service::Service;

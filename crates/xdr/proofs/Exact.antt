@@ -2,15 +2,14 @@
 -- both by induction on the type, with a pair of lemmas for each way to make a type of others.
 -- Serves: reads_what_is_spelled, no_spelling_begins_another, reads_each_text; the laws of rpc, nfs_types,
 -- call_items and log_entries, and one_list_of_records in records.
-use Rattle.std.proofs.Common.{◌≡◌, ℕ, zero, suc, ◌^◌, ◌<◌, ◌≤◌, Bool, true, false, cond, ltb, List, [], ◌∷◌, ◌++◌, length, Result, Ok, Err, refl, sym, ap, subst, ◌∙◌, append_assoc, arith}
-use Rattle.std.specs.Prelude.{IsTrue, ◌↔◌, IfOk, IsOkAnd, Option, Some, None, IfSome}
+use Rattle.std.proofs.Common.{◌≡◌, ℕ, zero, suc, ◌^◌, ◌<◌, ◌≤◌, Bool, true, false, cond, ltb, List, [], ◌∷◌, ◌++◌, length, Ok, Err, refl, sym, ap, subst, ◌∙◌, append_assoc, arith}
+use Rattle.std.specs.Prelude.{IsTrue, ◌↔◌, Option, Some, None, IfSome}
 use Rattle.std.specs.List.{flat_map, AllByRecursion}
 use Rattle.std.proofs.lemmas.Bool.{ltb-false, le-ltb}
 use Rattle.std.proofs.lemmas.List.{length-append}
 use Rattle.std.proofs.lemmas.List.Concat.{flat_map-cons}
 use Rattle.xdr.specs.declared.fault.XdrFault.TheVariants.{TooLong, BadEnum}
 use Rattle.xdr.specs.Item.{Item, word, hyper, flag, opaque, fixed, empty, pair, array, choice, optional, linked, repeated, word_where, hyper_where, Value, number_spelling, optional_spelling, linked_spelling, spelling, Fits, IsBytes}
-use Rattle.xdr.specs.declared.fault.XdrFault.{XdrFault}
 use Rattle.xdr.specs.Reading.{Read, ◌>>=◌, number_at, flag_at, optional_at, linked_at, tested_at, items_at, read_at}
 use Rattle.xdr.proofs.Front.{bind_ok, guard_ok, guard_true, done, ok_is, Takes, Takes-then, number_takes, number_again, length-number_spelling, back4, back8, flag_takes, flag_again, fixed_takes, fixed_again, opaque_takes, opaque_again}
 

@@ -1,15 +1,15 @@
 -- A text is read exactly where it is spelled, with nothing behind it; and what follows of a call that reads one.
 -- Serves: read_text, text_of, reads_each_text; in crates above the laws of their texts (secure_log, call_items).
-use Rattle.std.proofs.Common.{◌≡◌, ◌==◌, ℕ, length, Bool, true, false, cond, List, [], ◌∷◌, ◌++◌, Result, Ok, Err, Option, Some, None, refl, sym, ap, ◌∙◌, arith}
+use Rattle.std.proofs.Common.{◌≡◌, ◌==◌, ℕ, length, Bool, true, false, cond, List, [], ◌∷◌, ◌++◌, Result, Ok, Err, Some, None, refl, sym, ap, ◌∙◌, arith}
 use Rattle.std.specs.Prelude.{◌↔◌, IfOk, MatchResult}
 use Rattle.std.specs.Bool.{OnTrue}
 use Rattle.std.proofs.lemmas.Bool.{eqb-true}
 use Rattle.std.proofs.lemmas.List.{append-nil}
 use Rattle.xdr.specs.declared.fault.XdrFault.{XdrFault}
-use Rattle.xdr.specs.Item.{Item, Value, spelling, Fits, IsBytes}
+use Rattle.xdr.specs.Item.{Value, spelling, IsBytes}
 use Rattle.xdr.specs.Reading.{Read, read_at}
 use Rattle.xdr.specs.Text.{Text, IsText, whole, text_at, GivesText}
-use Rattle.xdr.proofs.Front.{done, ok_is}
+use Rattle.xdr.proofs.Front.{done}
 use Rattle.xdr.proofs.Exact.{takes, again, one_meaning}
 
 -- a whole text was read to its end and passed its test

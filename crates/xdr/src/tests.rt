@@ -13,12 +13,12 @@ use std::test::Fail;
 struct Numbers(Vec<u32>);
 
 impl<'a> FromText<'a> for Numbers {
-    ghost text = { record { item = array 4 word; test = λ ns. nat_lt 0 (length ns) } };
+    ghost text = { record { item = array 100 word; test = λ ns. nat_lt 0 (length ns) } };
 
     ghost value = { λ n. n.0.items };
 
     fn read_front(alloc: Global, reader: &mut Reader<'a>) -> Result<Numbers, ReadError> {
-        Ok(Numbers(read_array(alloc, reader, 4)?))
+        Ok(Numbers(read_array(alloc, reader, 100)?))
     }
 
     fn has_text(&self) -> bool {
@@ -42,6 +42,19 @@ fn writes_each_item(rt: HostRuntime) -> Result<(), Fail> {
     assert_eq!(rt; out.len(), 40);
     assert_eq!(rt; &out[..16], numbers.as_slice());
     assert_eq!(rt; &out[16..], texts.as_slice());
+    Ok(())
+}
+
+#[test]
+fn writes_and_reads_long_items(rt: HostRuntime) -> Result<(), Fail> {
+    let mut out = Vec::new(rt.alloc());
+    out.put_u32(100)?;
+    out.put_u32s(&[7; 100])?;
+    let numbers: Numbers = read_text(rt.alloc(), &out)?;
+    assert_eq!(rt; numbers.0.as_slice(), [7; 100].as_slice());
+    out.put_opaque(&[8; 12288])?;
+    out.put_fixed(&[9; 12285])?;
+    assert_eq!(rt; out.len(), 404 + 12292 + 12288);
     Ok(())
 }
 

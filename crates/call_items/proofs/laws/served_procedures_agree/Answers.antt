@@ -10,7 +10,7 @@ use Rattle.nfs_types.specs.declared.arguments.NfsProcedure.{NfsProcedure}
 use Rattle.nfs_types.specs.declared.arguments.NfsProcedure.TheVariants as procedures
 use Rattle.fs_model.specs.Files.{Files}
 use Rattle.nfs_spec.specs.Effects.{does}
-use Rattle.nfs_spec.specs.Calls.{Call, call_does}
+use Rattle.nfs_spec.specs.NfsCalls.{Call, call_does}
 use Rattle.call_items.specs.Texts.{call_at, answer_text}
 use Rattle.call_items.specs.Served.{number_of, call_of, call_read}
 use Rattle.call_items.proofs.laws.served_procedures_agree.Goals as goal

@@ -1,4 +1,4 @@
-use Rattle.fs_model.proofs.Told.{told}
+use Rattle.fs_model.proofs.FilesByPaths.{told}
 use Rattle.fs_model.proofs.laws.files_are_told_by_paths.Goals as goal
 
 pub returns : goal.returns

@@ -3,7 +3,7 @@ use Rattle.std.specs.Cmp.Lexicographic.{pointwise}
 use Rattle.std.specs.Map.{remove_entry, lookup}
 use Rattle.indexmap.specs.IndexMap.{get_by}
 use Rattle.indexmap.proofs.CallerLemmas.{insert_entry-new}
-use Rattle.inodes.specs.Listed.{listed}
+use Rattle.inodes.specs.Entries.{entries_of}
 use Rattle.inodes.proofs.Listings.{put-shown, lookup-shown, lookup-kept}
 use Rattle.inodes.proofs.directory.put_last.Goals as goal
 
@@ -14,7 +14,7 @@ returns-clause-ok c =
     let kept = c.shift_remove.ensures.entries
     ∙ ap (λ n. remove_entry (λ k. pointwise nat_eq n k.items) c.reserve.new.self.entries) c.as_slice.ensures.value
     ∙ ap (remove_entry (λ k. pointwise nat_eq c.args.name.items k.items)) c.reserve.ensures.entries in
-    ap listed (added ∙ insert_entry-new _ c.shift_remove.new.self c.args.name c.args.entry none ∙ ap (λ es. es ++ (c.args.name, c.args.entry) ∷ []) kept)
+    ap entries_of (added ∙ insert_entry-new _ c.shift_remove.new.self c.args.name c.args.entry none ∙ ap (λ es. es ++ (c.args.name, c.args.entry) ∷ []) kept)
     ∙ put-shown (λ k. k.items) (λ e. (e.number, e.cookie)) (pointwise nat_eq c.args.name.items) c.args.entries.now.entries c.args.name c.args.entry
 
 pub returns-clause-here : goal.returns-clause-here
@@ -26,4 +26,4 @@ pub returns-clause-others : goal.returns-clause-others
 returns-clause-others c = λ q other.
     lookup-kept (λ k. k.items) (λ e. (e.number, e.cookie)) c.args.name.items c.shift_remove.new.self.entries c.insert.new.self.entries (rw c.unwrap.ensures at c.insert.ensures.updates).3 q other
     ∙ lookup-kept (λ k. k.items) (λ e. (e.number, e.cookie)) c.as_slice.result.now c.reserve.new.self.entries c.shift_remove.new.self.entries c.shift_remove.ensures.updates.3 q (λ e. other (e ∙ c.as_slice.ensures.value))
-    ∙ ap (λ es. lookup (pointwise nat_eq q) (listed es)) c.reserve.ensures.entries
+    ∙ ap (λ es. lookup (pointwise nat_eq q) (entries_of es)) c.reserve.ensures.entries

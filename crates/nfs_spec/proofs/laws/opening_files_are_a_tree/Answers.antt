@@ -1,4 +1,4 @@
-use Rattle.nfs_spec.proofs.Opened.{opening_room}
+use Rattle.nfs_spec.proofs.OpeningFiles.{opening_room}
 use Rattle.nfs_spec.proofs.OpeningTree.{opening_is_tree}
 use Rattle.nfs_spec.proofs.laws.opening_files_are_a_tree.Goals as goal
 

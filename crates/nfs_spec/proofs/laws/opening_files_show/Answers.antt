@@ -1,4 +1,4 @@
-use Rattle.nfs_spec.proofs.Opened.{root_shows, hello_shows}
+use Rattle.nfs_spec.proofs.OpeningFiles.{root_shows, hello_shows}
 use Rattle.nfs_spec.proofs.laws.opening_files_show.Goals as goal
 
 pub returns-clause-root : goal.returns-clause-root

@@ -1,5 +1,5 @@
 use Rattle.nfs_spec.proofs.Pages.{longest, each_once, eof_is, listed_rises}
-use Rattle.nfs_spec.specs.Reading.{entries_above}
+use Rattle.nfs_spec.specs.Readdir.{entries_above}
 use Rattle.std.proofs.Common.{min}
 use Rattle.nfs_spec.proofs.laws.pages_give_each_entry_once.Goals as goal
 

@@ -1,7 +1,7 @@
 use Rattle.std.proofs.Common.{refl, [], ◌∷◌}
 use Rattle.nfs_spec.specs.Opening.{epoch, hello, opening_root, opening_hello}
 use Rattle.fs_changes.proofs.Listings.{name_other}
-use Rattle.nfs_spec.proofs.Opened.{root_there}
+use Rattle.nfs_spec.proofs.OpeningFiles.{root_there}
 use Rattle.nfs_spec_examples.specs.Worked.{x, y, empty_file, root_with, with_three}
 use Rattle.nfs_spec_examples.specs.Linked.{root_of}
 use Rattle.nfs_spec_examples.specs.AtLimits.{with_file_named, with_x}

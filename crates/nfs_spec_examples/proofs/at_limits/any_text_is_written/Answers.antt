@@ -1,5 +1,5 @@
 use Rattle.std.proofs.Common.{refl, append-nil}
-use Rattle.nfs_spec.proofs.Opened.{hello_there}
+use Rattle.nfs_spec.proofs.OpeningFiles.{hello_there}
 use Rattle.nfs_spec_examples.specs.AtLimits.{with_bytes}
 use Rattle.nfs_spec_examples.proofs.Computed.{file_of_list, room_of, entries_of}
 use Rattle.nfs_spec_examples.proofs.at_limits.any_text_is_written.Goals as goal

@@ -1,8 +1,8 @@
 use Rattle.std.proofs.Common.{◌≡◌, ℕ, List, None, refl, [], ◌∷◌}
 use Rattle.fs_model.specs.Files.{Directory, File}
 use Rattle.nfs_spec.specs.Opening.{epoch, hello, first_file, opening_hello}
-use Rattle.nfs_spec.specs.Procedures.{moved}
-use Rattle.nfs_spec_examples.specs.Worked.{files_of, a, empty_file}
+use Rattle.nfs_spec.specs.Procedures.{move_entry}
+use Rattle.nfs_spec_examples.specs.Worked.{files_from, a, empty_file}
 use Rattle.nfs_spec_examples.specs.Linked.{root_of}
 use Rattle.nfs_spec_examples.specs.AtLimits.{with_cookie, with_last_cookie}
 use Rattle.nfs_spec_examples.proofs.Computed.{file_of_list, room_of, made_is, same_files}
@@ -18,7 +18,7 @@ behind = first_file 511 (Directory (record { next = 4294967295; entries = (a, (2
 abbrev es : List (ℕ × File)
 es = with_cookie 4294967294
 
-all_moved : moved epoch (files_of 3 es) 2 1 hello 1 a None ≡ files_of 3 with_last_cookie
+all_moved : move_entry epoch (files_from 3 es) 2 1 hello 1 a None ≡ files_from 3 with_last_cookie
 all_moved =
     rw (
       file_of_list 3 es 1,

@@ -3,7 +3,7 @@ use Rattle.nfs_types.specs.Handle.{handle_of, number_in}
 use Rattle.nfs_spec.specs.Opening.{epoch, opening_root, opening_hello}
 use Rattle.nfs_spec_examples.specs.Worked.{empty_file}
 use Rattle.nfs_spec_examples.specs.Linked.{f, g, root_of, with_f, with_f_and_g, with_g, with_neither, with_f_again}
-use Rattle.nfs_spec.proofs.Opened.{root_there}
+use Rattle.nfs_spec.proofs.OpeningFiles.{root_there}
 use Rattle.nfs_spec_examples.proofs.Computed.{file_of_list, room_of, entries_of, made_is, named_is, marked_is, gone_is}
 use Rattle.nfs_spec_examples.proofs.linked.one_file_under_two_names.Goals as goal
 

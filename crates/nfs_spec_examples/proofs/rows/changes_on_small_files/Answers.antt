@@ -1,11 +1,11 @@
 use Rattle.std.proofs.Common.{◌≡◌, true, false, None, refl, ap, ◌∙◌, [], ◌∷◌, length}
 use Rattle.std.specs.FinMap as finite
 use Rattle.fs_changes.specs.Limits.{file_count}
-use Rattle.nfs_spec.specs.Procedures.{climbs_to, is_above, moved}
+use Rattle.nfs_spec.specs.Procedures.{climbs_to, is_above, move_entry}
 use Rattle.fs_model.specs.Files.{Regular}
 use Rattle.nfs_spec.specs.Opening.{epoch, first_file, opening_root, opening_hello}
-use Rattle.nfs_spec_examples.specs.Worked.{files_of, a, d, root_with, empty_directory, root_between, root_renamed, with_directory, with_renamed, with_link}
-use Rattle.nfs_spec.proofs.Opened.{root_there, hello_there}
+use Rattle.nfs_spec_examples.specs.Worked.{files_from, a, d, root_with, empty_directory, root_between, root_renamed, with_directory, with_renamed, with_link}
+use Rattle.nfs_spec.proofs.OpeningFiles.{root_there, hello_there}
 use Rattle.nfs_spec_examples.proofs.Computed.{file_of_list, room_of, entries_of}
 use Rattle.nfs_spec_examples.proofs.rows.changes_on_small_files.Goals as goal
 
@@ -47,16 +47,16 @@ returns-clause-link c =
 pub returns-clause-names : goal.returns-clause-names
 returns-clause-names c = rw (entries_of 3 with_link) refl
 
-counted : file_count (files_of 4 with_directory) ≡ 3
-counted = finite.len-entries (files_of 4 with_directory).files ∙ ap length (entries_of 4 with_directory)
+counted : file_count (files_from 4 with_directory) ≡ 3
+counted = finite.len-entries (files_from 4 with_directory).files ∙ ap length (entries_of 4 with_directory)
 
-not_above : is_above (files_of 4 with_directory) 3 1 ≡ false
-not_above = ap (λ k. climbs_to k (files_of 4 with_directory) 3 1) counted
+not_above : is_above (files_from 4 with_directory) 3 1 ≡ false
+not_above = ap (λ k. climbs_to k (files_from 4 with_directory) 3 1) counted
 
-above_itself : is_above (files_of 4 with_directory) 3 3 ≡ true
-above_itself = ap (λ k. climbs_to k (files_of 4 with_directory) 3 3) counted
+above_itself : is_above (files_from 4 with_directory) 3 3 ≡ true
+above_itself = ap (λ k. climbs_to k (files_from 4 with_directory) 3 3) counted
 
-all_moved : moved epoch (files_of 4 with_directory) 3 1 a 1 d None ≡ files_of 4 with_renamed
+all_moved : move_entry epoch (files_from 4 with_directory) 3 1 a 1 d None ≡ files_from 4 with_renamed
 all_moved =
     rw (
       file_of_list 4 with_directory 1,

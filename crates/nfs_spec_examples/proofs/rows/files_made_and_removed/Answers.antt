@@ -3,8 +3,8 @@ use Rattle.nfs_types.specs.Handle.{handle_of, number_in}
 use Rattle.fs_changes.specs.Edits.{without_file}
 use Rattle.nfs_spec.specs.Changes.{touch}
 use Rattle.nfs_spec.specs.Opening.{epoch, opening_root, opening_hello}
-use Rattle.nfs_spec_examples.specs.Worked.{files_of, a, root_with, empty_file, link_to_t, root_between, root_emptied, root_again, with_directory, with_written, with_made, with_next}
-use Rattle.nfs_spec.proofs.Opened.{root_there, hello_there}
+use Rattle.nfs_spec_examples.specs.Worked.{files_from, a, root_with, empty_file, link_to_t, root_between, root_emptied, root_again, with_directory, with_written, with_made, with_next}
+use Rattle.nfs_spec.proofs.OpeningFiles.{root_there, hello_there}
 use Rattle.nfs_spec_examples.proofs.Computed.{file_of_list, room_of, entries_of, without_in, same_files}
 use Rattle.nfs_spec_examples.proofs.rows.files_made_and_removed.Goals as goal
 
@@ -42,7 +42,7 @@ pub returns-clause-target : goal.returns-clause-target
 returns-clause-target c = rw (file_of_list 4 (with_made link_to_t) 3) refl
 
 -- the directory that was made is gone
-emptied : touch epoch (without_file (files_of 4 ((1, root_between) ∷ with_directory)) 3) 1 ≡ files_of 4 ((1, root_between) ∷ (2, opening_hello) ∷ [])
+emptied : touch epoch (without_file (files_from 4 ((1, root_between) ∷ with_directory)) 3) 1 ≡ files_from 4 ((1, root_between) ∷ (2, opening_hello) ∷ [])
 emptied =
     rw (
       without_in 3 ((1, root_between) ∷ with_directory),
@@ -62,7 +62,7 @@ pub returns-clause-left : goal.returns-clause-left
 returns-clause-left c = rw (file_of_list 4 ((1, root_between) ∷ (2, opening_hello) ∷ []) 1) refl
 
 -- the file whose last name is removed is gone
-removed : touch epoch (without_file (files_of 3 ((1, root_emptied) ∷ (1, opening_root) ∷ (2, opening_hello) ∷ [])) 2) 1 ≡ files_of 3 ((1, root_emptied) ∷ [])
+removed : touch epoch (without_file (files_from 3 ((1, root_emptied) ∷ (1, opening_root) ∷ (2, opening_hello) ∷ [])) 2) 1 ≡ files_from 3 ((1, root_emptied) ∷ [])
 removed =
     rw (
       without_in 2 ((1, root_emptied) ∷ (1, opening_root) ∷ (2, opening_hello) ∷ []),

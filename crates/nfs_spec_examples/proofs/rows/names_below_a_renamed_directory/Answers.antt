@@ -1,9 +1,9 @@
 use Rattle.std.proofs.Common.{◌≡◌, true, false, None, refl, ap, ◌∙◌, ◌∷◌, length}
 use Rattle.std.specs.FinMap as finite
 use Rattle.fs_changes.specs.Limits.{file_count}
-use Rattle.nfs_spec.specs.Procedures.{climbs_to, is_above, moved}
+use Rattle.nfs_spec.specs.Procedures.{climbs_to, is_above, move_entry}
 use Rattle.nfs_spec.specs.Opening.{epoch}
-use Rattle.nfs_spec_examples.specs.Worked.{files_of, a, b, c, d, empty_directory, empty_file, directory_of, root_between, root_renamed, with_directory, with_inner, with_nested, with_nested_renamed}
+use Rattle.nfs_spec_examples.specs.Worked.{files_from, a, b, c, d, empty_directory, empty_file, directory_of, root_between, root_renamed, with_directory, with_inner, with_nested, with_nested_renamed}
 use Rattle.nfs_spec_examples.proofs.Computed.{file_of_list, room_of, entries_of}
 use Rattle.nfs_spec_examples.proofs.rows.names_below_a_renamed_directory.Goals as goal
 
@@ -40,19 +40,19 @@ returns-clause-old _ = rw (file_of_list 6 with_nested_renamed 1) refl
 pub returns-clause-root : goal.returns-clause-root
 returns-clause-root _ = rw (file_of_list 6 with_nested_renamed 1, file_of_list 6 with_nested_renamed 2, file_of_list 6 with_nested_renamed 3) refl
 
-counted : file_count (files_of 6 with_nested) ≡ 5
-counted = finite.len-entries (files_of 6 with_nested).files ∙ ap length (entries_of 6 with_nested)
+counted : file_count (files_from 6 with_nested) ≡ 5
+counted = finite.len-entries (files_from 6 with_nested).files ∙ ap length (entries_of 6 with_nested)
 
-not_above : is_above (files_of 6 with_nested) 3 1 ≡ false
-not_above = ap (λ k. climbs_to k (files_of 6 with_nested) 3 1) counted
+not_above : is_above (files_from 6 with_nested) 3 1 ≡ false
+not_above = ap (λ k. climbs_to k (files_from 6 with_nested) 3 1) counted
 
-counted_renamed : file_count (files_of 6 with_nested_renamed) ≡ 5
-counted_renamed = finite.len-entries (files_of 6 with_nested_renamed).files ∙ ap length (entries_of 6 with_nested_renamed)
+counted_renamed : file_count (files_from 6 with_nested_renamed) ≡ 5
+counted_renamed = finite.len-entries (files_from 6 with_nested_renamed).files ∙ ap length (entries_of 6 with_nested_renamed)
 
-above : is_above (files_of 6 with_nested_renamed) 3 4 ≡ true
-above = ap (λ k. climbs_to k (files_of 6 with_nested_renamed) 3 4) counted_renamed ∙ rw (entries_of 6 with_nested_renamed) refl
+above : is_above (files_from 6 with_nested_renamed) 3 4 ≡ true
+above = ap (λ k. climbs_to k (files_from 6 with_nested_renamed) 3 4) counted_renamed ∙ rw (entries_of 6 with_nested_renamed) refl
 
-all_moved : moved epoch (files_of 6 with_nested) 3 1 a 1 d None ≡ files_of 6 with_nested_renamed
+all_moved : move_entry epoch (files_from 6 with_nested) 3 1 a 1 d None ≡ files_from 6 with_nested_renamed
 all_moved =
     rw (
       file_of_list 6 with_nested 1,

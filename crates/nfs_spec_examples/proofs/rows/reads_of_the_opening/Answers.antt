@@ -1,5 +1,5 @@
 use Rattle.std.proofs.Common.{refl}
-use Rattle.nfs_spec.proofs.Opened.{root_there, hello_there, opening_entries}
+use Rattle.nfs_spec.proofs.OpeningFiles.{root_there, hello_there, opening_entries}
 use Rattle.nfs_spec_examples.proofs.rows.reads_of_the_opening.Goals as goal
 
 pub returns-clause-middle : goal.returns-clause-middle

@@ -1,5 +1,5 @@
 use Rattle.nfs_spec.specs.Opening.{opening_files}
-use Rattle.nfs_spec.proofs.Opened.{opening_room}
+use Rattle.nfs_spec.proofs.OpeningFiles.{opening_room}
 use Rattle.nfs_spec.proofs.OpeningTree.{opening_is_tree}
 use Rattle.nfs_spec_frames.proofs.Runs.{trees, rooms}
 use Rattle.nfs_spec_frames.proofs.laws.runs_keep_a_tree_within_its_limits.Goals as goal

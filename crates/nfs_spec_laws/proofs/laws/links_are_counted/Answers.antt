@@ -2,10 +2,10 @@ use Rattle.std.proofs.Common.{◌≡◌, ℕ, ◌+◌, ◌≤◌, true, false, [
 use Rattle.std.specs.Prelude.{option_map, is_some}
 use Rattle.std.specs.Option.{option_map_or}
 use Rattle.nfs_types.specs.declared.attributes.Fattr.{Fattr}
-use Rattle.fs_model.specs.Files.{Body, Regular, Link, Directory, File, Files, file_at, is_directory, IsDirectory, listing_in, names_of}
+use Rattle.fs_model.specs.Files.{Body, Regular, Symlink, Directory, File, Files, file_at, is_directory, IsDirectory, listing_in, names_of}
 use Rattle.fs_model.proofs.Walks.{some_same}
 use Rattle.fs_model.proofs.Counts.{has_two}
-use Rattle.nfs_spec.specs.Attributes.{nlink_of, subdirectories}
+use Rattle.nfs_spec.specs.FileAttributes.{nlink_of, subdirectories}
 use Rattle.nfs_spec_steps.specs.Read.{AttributesOk}
 use Rattle.nfs_spec_steps.proofs.Reading.{attributes_ok}
 use Rattle.nfs_spec_laws.proofs.laws.links_are_counted.Goals as goal
@@ -15,12 +15,13 @@ nlink w n a o = ap (λ (b : Fattr). b.nlink) o.answer
 
 named_only : (w : Files) (n : ℕ) (b : Body) → is_directory b ≡ false → nlink_of w n b ≡ names_of w n
 named_only w n (Regular bytes) e = refl
-named_only w n (Link target) e = refl
+named_only w n (Symlink target) e = refl
 named_only w n (Directory l) e = absurd cc
 
-two_and : (w : Files) (n : ℕ) (b : Body) → is_directory b ≡ true → nlink_of w n b ≡ 2 + subdirectories w (listing_in b)
+two_and : (w : Files) (n : ℕ) (b : Body) → is_directory b ≡ true
+    → nlink_of w n b ≡ 2 + subdirectories w (listing_in b)
 two_and w n (Regular bytes) e = absurd cc
-two_and w n (Link target) e = absurd cc
+two_and w n (Symlink target) e = absurd cc
 two_and w n (Directory l) e = refl
 
 pub returns-clause-names : goal.returns-clause-names
@@ -39,9 +40,10 @@ returns-clause-directory c w n a is e =
     ∙ ap (λ (o : Option File). 2 + subdirectories w (option_map_or (λ f. listing_in f.body) o (record { next = 0; entries = [] }))) (sym t.there)
 
 -- one name at least, of what is no directory
-least : (w : Files) (n k : ℕ) (b : Body) → k ≤ 2 → (is_directory b ≡ false → k ≤ names_of w n) → k ≤ nlink_of w n b
+least : (w : Files) (n k : ℕ) (b : Body) → k ≤ 2 → (is_directory b ≡ false → k ≤ names_of w n)
+    → k ≤ nlink_of w n b
 least w n k (Regular bytes) small h = h refl
-least w n k (Link target) small h = h refl
+least w n k (Symlink target) small h = h refl
 least w n k (Directory l) small h = omega arith
 
 true_not_false : true ≡ false → ⊥

@@ -3,7 +3,7 @@ use Rattle.nfs_types.specs.Timeval.{Timeval}
 use Rattle.nfs_types.specs.Caller.{Caller}
 use Rattle.fs_model.specs.Files.{Files}
 use Rattle.fs_changes.proofs.Room.{within}
-use Rattle.nfs_spec.specs.Calls.{Call, call_does}
+use Rattle.nfs_spec.specs.NfsCalls.{Call, call_does}
 use Rattle.nfs_spec_laws.proofs.EveryCall.{stays}
 use Rattle.nfs_spec_frames.proofs.UnnamedFiles.{heads}
 use Rattle.nfs_spec_sizes.specs.Bounds.{AreWords, SaysWords, HasWordsIn}

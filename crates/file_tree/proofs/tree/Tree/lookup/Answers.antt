@@ -4,20 +4,20 @@ use Rattle.nfs_types.specs.CallerOf.{caller_of}
 use Rattle.nfs_types.specs.declared.stat.Stat.{Stat}
 use Rattle.fs_model.specs.Trees.{IsFileTree}
 use Rattle.nfs_spec.specs.Effects.{number_at_name}
-use Rattle.file_tree.proofs.Seen.{number_none, number_some}
-use Rattle.file_tree.proofs.Paths.{at_name, leads_on, leads_back}
+use Rattle.file_tree.proofs.InodesSeen.{number_none, number_some}
+use Rattle.file_tree.proofs.LookUpPaths.{at_name, leads_on, leads_back}
 use Rattle.file_tree.proofs.tree.Tree.lookup.Goals as goal
 
 pub returns-in-Some-clause-result : goal.returns-in-Some-clause-result
 returns-in-Some-clause-result c =
     c.number_at.ensures
-    ∙ sym (number_some c.self.inside.fsid c.self.inside.next c.self.inside.nodes.entries c.self.invariant c.args.dir c.in-Some.node.now
+    ∙ sym (number_some c.self.inside.fsid c.self.inside.next c.self.inside.inodes.entries c.self.invariant c.args.dir c.in-Some.inode.now
     (sym c.get.ensures.value ∙ ap option_copied c.in-Some.is) (caller_of c.args.who.now) c.args.name.now)
     ∙ ap (λ w. number_at_name w (caller_of c.args.who.now) c.args.dir c.args.name.now) c.self.view_is
 
 pub returns-in-None-clause-result : goal.returns-in-None-clause-result
 returns-in-None-clause-result c =
-    sym (number_none c.self.inside.fsid c.self.inside.next c.self.inside.nodes.entries (caller_of c.args.who.now) c.args.dir c.args.name.now (sym c.get.ensures.value ∙ ap option_copied c.in-None.is))
+    sym (number_none c.self.inside.fsid c.self.inside.next c.self.inside.inodes.entries (caller_of c.args.who.now) c.args.dir c.args.name.now (sym c.get.ensures.value ∙ ap option_copied c.in-None.is))
     ∙ ap (λ w. number_at_name w (caller_of c.args.who.now) c.args.dir c.args.name.now) c.self.view_is
 
 if_ok : (r : Result ℕ Stat) (P : ℕ → Type 0) → ((k : ℕ) → r ≡ Ok k → P k) → IfOk r P

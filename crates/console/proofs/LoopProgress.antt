@@ -1,0 +1,256 @@
+-- The loop over records: what it has done before the k-th record (Progress, Turn), and what follows at each of its ends:
+-- the input is at its end (serves), no record could be read (ends, leaves_off_reading), a record was read and its reply
+-- not wholly written (unanswered, leaves_off_answering), memory was refused before the first (nothing_yet, stops_at_once).
+-- Serves: run_rpc (console).
+use Rattle.std.proofs.Common.{◌≡◌, ◌⊎◌, inl, inr, ℕ, ◌+◌, List, [], ◌∷◌, ◌++◌, arith, length, sym, ap, ◌∙◌, refl, length-append, append_assoc, subst}
+use Rattle.std.specs.Prelude.{Option, Some, None, IfSome, Result, Err}
+use Rattle.std.specs.Io.KnownBytes.{Consumes, Appends}
+use Rattle.std.proofs.KnownBytes.{Consumes-trans, Consumes-nil, Appends-trans, Appends-nil}
+use Rattle.std.proofs.lemmas.List.{append-nil}
+use Rattle.records.specs.Record.{IsRecord, IsUnfinished, PassesLimit}
+use Rattle.records.specs.Stream.{AreRecords}
+use Rattle.records.specs.Writing.{WritesFront}
+use Rattle.records.proofs.Streams.{AreRecords-push}
+use Rattle.records.specs.declared.fault.RecordFault.{RecordFault}
+use Rattle.records.specs.declared.fault.RecordFault.TheVariants as faults
+use Rattle.records.specs.Reading.{FailsUnless, StopsAt, TakesToLimit, TakesAll, TakesPart, IsPartOfRecord, fault_after}
+use Rattle.nfs_types.specs.Timeval.{Timeval}
+use Rattle.service.specs.World.{World, opening_world}
+use Rattle.service.specs.Replies.{reply_owed, world_after}
+use Rattle.service.specs.Owed.{record_of, replies_owed, world_after_all}
+use Rattle.console.specs.RunRpc.{time_of, with_times, text_owed, Serves, ServesUpTo, ServesPart, EndsWith, StopsBetweenRecords, StopsInReply, StopsAfterRecords, LeavesOff}
+
+-- ---- one record more: its time, what is owed to it, and the world after it
+
+with_times-push : (k : ℕ) (rs : List (List ℕ)) (r : List ℕ) → with_times k (rs ++ r ∷ []) ≡ with_times k rs ++ (time_of (k + length rs), r) ∷ []
+with_times-push k [] r = let e : k + 0 ≡ k = omega arith in rw e refl
+with_times-push k (s ∷ rs) r =
+    let e : k + length (s ∷ rs) ≡ (k + 1) + length rs = omega arith in rw e (ap (λ (cs : List (Timeval × List ℕ)). (time_of k, s) ∷ cs) (with_times-push (k + 1) rs r))
+
+replies_owed-push : (w : World) (cs : List (Timeval × List ℕ)) (time : Timeval) (r : List ℕ)
+    → replies_owed w (cs ++ (time, r) ∷ []) ≡ replies_owed w cs ++ record_of (reply_owed (world_after_all w cs) time r)
+replies_owed-push w [] time r = append-nil (record_of (reply_owed w time r))
+replies_owed-push w (c ∷ cs) time r =
+    ap (λ (t : List ℕ). record_of (reply_owed w c.0 c.1) ++ t) (replies_owed-push (world_after w c.0 c.1) cs time r)
+    ∙ sym (append_assoc (record_of (reply_owed w c.0 c.1)) (replies_owed (world_after w c.0 c.1) cs) (record_of (reply_owed (world_after_all (world_after w c.0 c.1) cs) time r)))
+
+world_after_all-push : (w : World) (cs : List (Timeval × List ℕ)) (time : Timeval) (r : List ℕ) → world_after_all w (cs ++ (time, r) ∷ []) ≡ world_after (world_after_all w cs) time r
+world_after_all-push w [] time r = refl
+world_after_all-push w (c ∷ cs) time r = world_after_all-push (world_after w c.0 c.1) cs time r
+
+-- the world after some records
+abbrev pub world_at : List (List ℕ) → World
+world_at records = world_after_all (opening_world 1) (with_times 1 records)
+
+-- the world after one record more
+pub world_at-push : (rs : List (List ℕ)) (r : List ℕ) → world_at (rs ++ r ∷ []) ≡ world_after (world_at rs) (time_of (1 + length rs)) r
+world_at-push rs r = ap (world_after_all (opening_world 1)) (with_times-push 1 rs r) ∙ world_after_all-push (opening_world 1) (with_times 1 rs) (time_of (1 + length rs)) r
+
+-- what is owed to one record more stands behind what is owed to those before it
+pub text_owed-push : (rs : List (List ℕ)) (r : List ℕ) → text_owed (rs ++ r ∷ []) ≡ text_owed rs ++ record_of (reply_owed (world_at rs) (time_of (1 + length rs)) r)
+text_owed-push rs r = ap (replies_owed (opening_world 1)) (with_times-push 1 rs r) ∙ replies_owed-push (opening_world 1) (with_times 1 rs) (time_of (1 + length rs)) r
+
+-- ---- what the loop has done so far
+
+-- before the k-th record: these records were read, and their replies written
+pub record Progress (now : World) (k : ℕ) (before mid written_before written : Option (List ℕ)) : Type 0 where
+  -- the records
+  pub records : List (List ℕ)
+  -- their text in the stream
+  pub text : List ℕ
+  -- which is these records, however each is cut
+  pub are_records : AreRecords text records
+  -- k - 1 of them
+  pub count_is : 1 + length records ≡ k
+  -- the reader has lost their text
+  pub taken : Consumes before mid text
+  -- the server is as they leave it
+  pub world_is : now ≡ world_at records
+  -- all that is owed to them was written
+  pub replied : Appends written_before written (text_owed records)
+
+-- nothing was read, and nothing written
+pub begins : (now : World) (before written : Option (List ℕ)) → now ≡ opening_world 1 → Progress now 1 before before written written
+begins now before written e = record { records = []; text = []; are_records = refl; count_is = refl; taken = Consumes-nil before; world_is = e; replied = Appends-nil written }
+
+-- one record more was read, and its reply written
+pub pushes : (now next : World) (k : ℕ) (before mid mid' written_before written written' : Option (List ℕ)) (more r : List ℕ) → Progress now k before mid written_before written
+    → IsRecord more r → Consumes mid mid' more → next ≡ world_after now (time_of k) r → Appends written written' (record_of (reply_owed now (time_of k) r)) → Progress next (k + 1) before mid' written_before written'
+pushes now next k before mid mid' written_before written written' more r p is taken e wrote = record {
+  records = p.records ++ r ∷ [];
+  text = p.text ++ more;
+  are_records = AreRecords-push p.text p.records more r p.are_records is;
+  count_is = omega (arith, length-append p.records (r ∷ []), p.count_is);
+  taken = Consumes-trans _ _ _ _ _ p.taken taken;
+  world_is = e ∙ ap (λ (w : World). world_after w (time_of k) r) p.world_is ∙ rw (← p.count_is) (sym (world_at-push p.records r));
+  replied = rw (text_owed-push p.records r, p.count_is, ← p.world_is) (Appends-trans _ _ _ _ _ p.replied wrote);
+}
+
+-- ---- what was written, where the input is known
+
+-- what was read and not read, where the input is known
+known : (before mid : Option (List ℕ)) (text : List ℕ) (P : List ℕ → Type 0) → Consumes before mid text → ((input rest : List ℕ) → mid ≡ Some rest → input ≡ text ++ rest → P input) → IfSome before P
+known None mid text P taken f = tt
+known (Some xs) None text P taken f = absurd taken
+known (Some xs) (Some ys) text P taken f = f xs ys refl taken
+
+-- a reply that was written in part
+falls_short : (now : World) (k : ℕ) (before mid mid' written_before written written' : Option (List ℕ)) (more r front unwritten : List ℕ) → Progress now k before mid written_before written
+    → IsRecord more r → Consumes mid mid' more → record_of (reply_owed now (time_of k) r) ≡ front ++ unwritten → Appends written written' front → IfSome before (λ input. ServesPart input written_before written')
+falls_short now k before mid mid' written_before written written' more r front unwritten p is taken e wrote =
+    known before mid' (p.text ++ more) (λ input. ServesPart input written_before written') (Consumes-trans _ _ _ _ _ p.taken taken) (λ input rest left is_input. record {
+      records = p.records ++ r ∷ [];
+      text = p.text ++ more;
+      rest = rest;
+      are_records = AreRecords-push p.text p.records more r p.are_records is;
+      input_is = is_input;
+      front = text_owed p.records ++ front;
+      unwritten = unwritten;
+      owed_is = rw (text_owed-push p.records r, p.count_is, ← p.world_is) (ap (λ (t : List ℕ). text_owed p.records ++ t) e ∙ sym (append_assoc (text_owed p.records) front unwritten));
+      written = Appends-trans _ _ _ _ _ p.replied wrote;
+    })
+
+-- all that was owed so far stands written
+pub stops : (now : World) (k : ℕ) (before mid written_before written : Option (List ℕ)) → Progress now k before mid written_before written → IfSome before (λ input. ServesPart input written_before written)
+stops now k before mid written_before written p = known before mid p.text (λ input. ServesPart input written_before written) p.taken (λ input rest left is_input. record {
+  records = p.records;
+  text = p.text;
+  rest = rest;
+  are_records = p.are_records;
+  input_is = is_input;
+  front = text_owed p.records;
+  unwritten = [];
+  owed_is = sym (append-nil (text_owed p.records));
+  written = p.replied;
+})
+
+-- the input is at its end
+pub serves : (now : World) (k : ℕ) (before mid written_before written : Option (List ℕ)) (count : ℕ) → Progress now k before mid written_before written → count + 1 ≡ k
+    → IfSome mid (λ bytes. bytes ≡ []) → IfSome before (λ input. Serves count input written_before written)
+serves now k before mid written_before written count p counted end = known before mid p.text (λ input. Serves count input written_before written) p.taken (λ input rest left is_input.
+    let none : rest ≡ [] = at_end mid rest left end in
+    let whole : input ≡ p.text = is_input ∙ ap (λ (t : List ℕ). p.text ++ t) none ∙ append-nil p.text in
+    record { records = p.records; are_records = subst (λ (t : List ℕ). AreRecords t p.records) (sym whole) p.are_records; count_is = omega (arith, p.count_is); written = p.replied })
+  where
+    at_end : (mid : Option (List ℕ)) (rest : List ℕ) → mid ≡ Some rest → IfSome mid (λ bytes. bytes ≡ []) → rest ≡ []
+    at_end None rest e h = absurd cc
+    at_end (Some xs) rest e h = let same : xs ≡ rest = cc in sym same ∙ h
+
+-- the input goes on with bytes of which something holds
+up_to : (P : List ℕ → Type 0) (now : World) (k : ℕ) (before mid written_before written : Option (List ℕ)) → Progress now k before mid written_before written
+    → IfSome mid P → IfSome before (λ input. ServesUpTo P input written_before written)
+up_to P now k before mid written_before written p h = known before mid p.text (λ input. ServesUpTo P input written_before written) p.taken (λ input rest left is_input. record {
+  records = p.records;
+  text = p.text;
+  rest = rest;
+  are_records = p.are_records;
+  input_is = is_input;
+  rest_is = at_rest mid rest left h;
+  written = p.replied;
+})
+  where
+    at_rest : (mid : Option (List ℕ)) (rest : List ℕ) → mid ≡ Some rest → IfSome mid P → P rest
+    at_rest None rest e h = absurd cc
+    at_rest (Some xs) rest e h = let same : xs ≡ rest = cc in subst P same h
+
+-- all that was owed so far stands written, and memory was refused
+pub stays : (now : World) (k : ℕ) (before mid written_before written : Option (List ℕ)) → Progress now k before mid written_before written → IfSome before (λ input. EndsWith faults.NoMemory input written_before written)
+stays now k before mid written_before written p = up_to (λ _. Unit {0}) now k before mid written_before written p (any mid)
+  where
+    any : (mid : Option (List ℕ)) → IfSome mid (λ _. Unit {0})
+    any None = tt
+    any (Some xs) = tt
+
+-- a record was read and its reply not wholly written: the device failed, or memory was refused
+pub unanswered : (e : RecordFault) (now : World) (k : ℕ) (before mid mid' written_before written written' : Option (List ℕ)) (more r : List ℕ) → Progress now k before mid written_before written
+    → IsRecord more r → Consumes mid mid' more → ((e ≡ faults.Device) → WritesFront written written' (record_of (reply_owed now (time_of k) r))) → ((e ≡ faults.NoMemory) → written' ≡ written)
+    → (e ≡ faults.Device) ⊎ (e ≡ faults.NoMemory) → IfSome before (λ input. EndsWith e input written_before written')
+unanswered e now k before mid mid' written_before written written' more r p is taken front same (inl d) =
+    let f = front d in rw d (falls_short now k before mid mid' written_before written written' more r f.0 f.1 p is taken f.2 f.4)
+unanswered e now k before mid mid' written_before written written' more r p is taken front same (inr m) =
+    rw (m, same m) (stays now k before mid written_before written p)
+
+-- no record could be read
+pub ends : (e : RecordFault) (now : World) (k : ℕ) (before mid written_before written : Option (List ℕ)) (m n : ℕ) → Progress now k before mid written_before written
+    → FailsUnless e PassesLimit IsUnfinished mid m n → IfSome before (λ input. EndsWith e input written_before written)
+ends faults.NoMemory now k before mid written_before written m n p h = stays now k before mid written_before written p
+ends faults.RecordTooLong now k before mid written_before written m n p h = up_to PassesLimit now k before mid written_before written p h.0
+ends faults.Device now k before mid written_before written m n p h = stops now k before mid written_before written p
+ends faults.EndInRecord now k before mid written_before written m n p h = up_to IsUnfinished now k before mid written_before written p h.0
+
+-- the loop before the k-th record: no fault has come, and nothing was counted
+pub record Turn (now : World) (k : ℕ) (before mid written_before written : Option (List ℕ)) (failed : Option RecordFault) (reads reads_now writes writes_now : ℕ) : Type 0 where
+  -- what was read and written
+  pub progress : Progress now k before mid written_before written
+  -- the reader has no fault
+  pub fresh : failed ≡ None
+  -- no read failed
+  pub reads_same : reads_now ≡ reads
+  -- no write failed
+  pub writes_same : writes_now ≡ writes
+
+-- memory was refused before the first record
+pub nothing_yet : (before written : Option (List ℕ)) → IfSome before (λ input. EndsWith faults.NoMemory input written written)
+nothing_yet before written = stays (opening_world 1) 1 before before written written (begins (opening_world 1) before written refl)
+
+-- ---- what was taken of the reader
+
+-- all records that were taken are answered
+pub stops_between : {now : World} {k : ℕ} {before mid written_before written : Option (List ℕ)} → Progress now k before mid written_before written
+    → StopsBetweenRecords before mid written_before written
+stops_between p = record {
+  answered = p.records;
+  unanswered = [];
+  text = p.text;
+  one_at_most = omega arith;
+  are_records = subst (λ (rs : List (List ℕ)). AreRecords p.text rs) (sym (append-nil p.records)) p.are_records;
+  taken = p.taken;
+  written = p.replied;
+}
+
+-- nothing was taken
+pub stops_at_once : (before written : Option (List ℕ)) → StopsBetweenRecords before before written written
+stops_at_once before written = stops_between (begins (opening_world 1) before written refl)
+
+-- all records that were taken are answered, and more was taken
+stops_after : {now : World} {k : ℕ} {before mid mid' written_before written : Option (List ℕ)} (Takes : Option (List ℕ) → Option (List ℕ) → Type 0)
+    → Progress now k before mid written_before written → Takes mid mid' → StopsAfterRecords Takes before mid' written_before written
+stops_after {mid = mid} Takes p h = record { answered = p.records; text = p.text; between = mid; are_records = p.are_records; taken = p.taken; then_takes = h; written = p.replied }
+
+-- no record could be read
+pub leaves_off_reading : {now : World} {k : ℕ} {before mid mid' written_before written : Option (List ℕ)} {failed : Option RecordFault} (e : RecordFault)
+    → Progress now k before mid written_before written → failed ≡ fault_after {A = Unit {0}} None (Err e) → ((e ≡ faults.NoMemory) → mid' ≡ mid) → StopsAt e mid mid'
+    → LeavesOff e failed before mid' written_before written
+leaves_off_reading faults.NoMemory p f same h = rw (same refl) (stops_between p)
+leaves_off_reading faults.RecordTooLong p f same h = stops_after TakesToLimit p h
+leaves_off_reading faults.Device p f same h = rw f (stops_after (TakesPart IsPartOfRecord) p h)
+leaves_off_reading faults.EndInRecord p f same h = stops_after TakesAll p h
+
+-- a record was read and its reply not wholly written: the device failed, or memory was refused
+pub leaves_off_answering : {now : World} {k : ℕ} {before mid written_before written written' : Option (List ℕ)} {more r : List ℕ} (failed : Option RecordFault) (mid' : Option (List ℕ)) (e : RecordFault)
+    → Progress now k before mid written_before written → IsRecord more r → Consumes mid mid' more → failed ≡ None
+    → ((e ≡ faults.Device) → WritesFront written written' (record_of (reply_owed now (time_of k) r))) → ((e ≡ faults.NoMemory) → written' ≡ written)
+    → (e ≡ faults.Device) ⊎ (e ≡ faults.NoMemory) → LeavesOff e failed before mid' written_before written'
+leaves_off_answering {more = more} {r = r} failed mid' e p is taken fresh front same (inl d) =
+    let f = front d in rw (d, fresh) (record {
+      answered = p.records;
+      last = r;
+      text = p.text ++ more;
+      front = f.0;
+      unwritten = f.1;
+      are_records = AreRecords-push p.text p.records more r p.are_records is;
+      taken = Consumes-trans _ _ _ _ _ p.taken taken;
+      owed_is = rw (text_owed-push p.records r, p.count_is, ← p.world_is) (ap (λ (t : List ℕ). text_owed p.records ++ t) f.2);
+      is_short = f.3;
+      written = Appends-trans _ _ _ _ _ p.replied f.4;
+    })
+leaves_off_answering {more = more} {r = r} failed mid' e p is taken fresh front same (inr m) =
+    rw (m, same m) (record {
+      answered = p.records;
+      unanswered = r ∷ [];
+      text = p.text ++ more;
+      one_at_most = omega arith;
+      are_records = AreRecords-push p.text p.records more r p.are_records is;
+      taken = Consumes-trans _ _ _ _ _ p.taken taken;
+      written = p.replied;
+    })

@@ -1,0 +1,86 @@
+-- Nodes, and the files that they are.
+use Rattle.std.specs.Prelude.{◌≡◌, ℕ, ◌+◌, ◌-◌, ◌/◌, List, map, Option, Some}
+use Rattle.std.specs.Ordering.{nat_cmp}
+use Rattle.std.specs.BTreeMap.{is_at}
+use Rattle.std.specs.Map.{lookup}
+use Rattle.std.specs.FinMap as finite
+use Rattle.nfs_types.specs.declared.attributes.Fattr.{Fattr}
+use Rattle.fs_model.specs.Files.{Body, Regular, Symlink, Directory, File, Files, parent_of}
+use Rattle.fs_model.specs.Trees.{IsFileTree}
+use Rattle.nfs_spec.specs.FileAttributes.{type_of, type_bits, size_of, nlink_of}
+use Rattle.inodes.specs.declared.inode.Body as stored
+use Rattle.inodes.specs.declared.inode.Body.TheVariants as code
+use Rattle.inodes.specs.declared.inode.Inode.{Inode}
+use Rattle.inodes.specs.declared.inode.TheConstants.{BLOCK_SIZE}
+
+-- what an inode holds, as callers see it
+abbrev pub body_in : stored.Body → Body
+body_in (code.Regular bytes) = Regular bytes.items
+body_in (code.Link target) = Symlink target.items
+body_in (code.Directory parent listing) = Directory listing
+
+-- an inode as callers see it
+abbrev pub file_in : Inode → File
+file_in inode = record {
+  mode = inode.mode;
+  uid = inode.uid;
+  gid = inode.gid;
+  atime = inode.atime;
+  mtime = inode.mtime;
+  ctime = inode.ctime;
+  body = body_in inode.body;
+}
+
+-- the inode of a number
+abbrev pub inode_at : List (ℕ × Inode) → ℕ → Option Inode
+inode_at inodes n = lookup (is_at (nat_cmp n)) inodes
+
+-- the files that inodes are
+abbrev pub files_of : ℕ → ℕ → List (ℕ × Inode) → Files
+files_of fsid next inodes = record {
+  fsid = fsid;
+  next = next;
+  files = finite.from_entries (map (λ (e : ℕ × Inode). (e.0, file_in e.1)) inodes);
+}
+
+-- the directory above, as kept with a directory
+abbrev pub parent_in : stored.Body → ℕ
+parent_in (code.Regular bytes) = 1
+parent_in (code.Link target) = 1
+parent_in (code.Directory parent listing) = parent
+
+-- a directory keeps the number of the one above
+abbrev pub KeepsParent : stored.Body → ℕ → Type 0
+KeepsParent (code.Regular bytes) above = Unit {0}
+KeepsParent (code.Link target) above = Unit {0}
+KeepsParent (code.Directory parent listing) above = parent ≡ above
+
+-- what an inode keeps beside its file is what counting over the files gives
+pub record IsCounted (w : Files) (n : ℕ) (inode : Inode) : Type 0 where
+  pub nlink : inode.nlink ≡ nlink_of w n (body_in inode.body)
+  pub parent : KeepsParent inode.body (parent_of w n)
+
+-- the inodes are a tree of files
+pub record AreTree (fsid next : ℕ) (inodes : List (ℕ × Inode)) : Type 0 where
+  pub tree : IsFileTree (files_of fsid next inodes)
+  pub counted : (n : ℕ) (inode : Inode) → inode_at inodes n ≡ Some inode →
+      IsCounted (files_of fsid next inodes) n inode
+
+-- an inode's attributes (RFC 1094, section 2.3.5), with the nlink that it keeps
+abbrev pub fattr_of : ℕ → ℕ → Inode → Fattr
+fattr_of fsid number inode = record {
+  file_type = type_of (body_in inode.body);
+  mode = type_bits (body_in inode.body) + inode.mode;
+  nlink = inode.nlink;
+  uid = inode.uid;
+  gid = inode.gid;
+  size = size_of (body_in inode.body);
+  blocksize = BLOCK_SIZE;
+  rdev = 0;
+  blocks = (size_of (body_in inode.body) + (BLOCK_SIZE - 1)) / BLOCK_SIZE;
+  fsid = fsid;
+  fileid = number;
+  atime = inode.atime;
+  mtime = inode.mtime;
+  ctime = inode.ctime;
+}

@@ -1,0 +1,148 @@
+//! A file as it is stored.
+
+use crate::directory::Directory;
+use nfs_types::{Fattr, FileType, Stat, Time, Who};
+
+/// The greatest size of a regular file in bytes.
+pub const MAX_FILE_SIZE: u32 = 1_048_576;
+
+/// The size of a block in bytes, which is also the size of every directory.
+pub const BLOCK_SIZE: u32 = 512;
+
+/// What a file holds.
+#[derive(Drop)]
+pub enum Body {
+    /// At most `MAX_FILE_SIZE` bytes.
+    Regular(Vec<u8>),
+    /// The target of a symbolic link, at most 1,024 bytes.
+    Link(Vec<u8>),
+    Directory {
+        /// The number of the directory above; the root's own for the root.
+        parent: u32,
+        listing: Directory,
+    },
+}
+
+impl Body {
+    ghost use Rattle.std.specs.Prelude.{◌≡◌, ◌≤◌};
+    ghost use Rattle.fs_model.specs.Trees.{IsBody};
+    ghost use Rattle.nfs_spec.specs.FileAttributes.{type_of, type_bits, size_of};
+    ghost use Rattle.inodes.specs.Inodes.{body_in};
+
+    /// What the file is.
+    pub fn file_type(&self) -> FileType
+        ensures { result ≡ type_of (body_in self.now) }
+    {
+        match self {
+            Body::Regular(_) => FileType::Regular,
+            Body::Link(_) => FileType::Link,
+            Body::Directory { .. } => FileType::Directory,
+        }
+    }
+
+    /// The bits of a mode that tell the type.
+    pub fn type_bits(&self) -> u16
+        ensures { result ≡ type_bits (body_in self.now) }
+    {
+        match self {
+            Body::Regular(_) => 0o100000,
+            Body::Link(_) => 0o120000,
+            Body::Directory { .. } => 0o040000,
+        }
+    }
+
+    /// In bytes; a block for a directory.
+    pub fn size(&self) -> u32
+        requires { IsBody (body_in self.now) }
+        ensures value { result ≡ size_of (body_in self.now) }
+        ensures bound { result ≤ MAX_FILE_SIZE }
+    {
+        match self {
+            Body::Regular(bytes) => bytes.len() as u32,
+            Body::Link(target) => target.len() as u32,
+            Body::Directory { .. } => BLOCK_SIZE,
+        }
+    }
+}
+
+/// A file with its attributes.
+#[derive(Drop)]
+pub struct Inode {
+    /// The twelve kept bits of the mode, of which the low nine are the permissions.
+    pub mode: u16,
+    /// The names of a file or link; two and the subdirectories of a directory.
+    pub nlink: u32,
+    pub uid: u32,
+    pub gid: u32,
+    pub atime: Time,
+    pub mtime: Time,
+    pub ctime: Time,
+    pub body: Body,
+}
+
+impl Inode {
+    ghost use Rattle.std.specs.Prelude.{◌≡◌};
+    ghost use Rattle.nfs_types.specs.CallerOf.{caller_of};
+    ghost use Rattle.fs_model.specs.Trees.{IsBody};
+    ghost use Rattle.nfs_spec.specs.ProcedureChecks.{class_of, may_search};
+    ghost use Rattle.inodes.specs.Inodes.{body_in, file_in, fattr_of};
+    ghost use Rattle.inodes.specs.InodeLookUp.{look_up_in};
+
+    /// The attributes (RFC 1094, section 2.3.5) under the server's number and a file's.
+    pub fn attributes(&self, fsid: u32, number: u32) -> Fattr
+        requires { IsBody (body_in self.now.body) }
+        ensures { result ≡ fattr_of fsid number self.now }
+    {
+        let size = self.body.size();
+        Fattr {
+            file_type: self.body.file_type(),
+            mode: u32::from(self.body.type_bits()) + u32::from(self.mode),
+            nlink: self.nlink,
+            uid: self.uid,
+            gid: self.gid,
+            size,
+            blocksize: BLOCK_SIZE,
+            rdev: 0,
+            blocks: (size + BLOCK_SIZE - 1) / BLOCK_SIZE,
+            fsid,
+            fileid: number,
+            atime: self.atime,
+            mtime: self.mtime,
+            ctime: self.ctime,
+        }
+    }
+
+    /// The caller's class, as a factor of the bits of others: the owner's, the group's or that of others.
+    fn class_of(&self, who: &Who) -> u16
+        ensures { result ≡ class_of (caller_of who.now) (file_in self.now) }
+    {
+        if who.uid == self.uid {
+            0o100
+        } else if who.gid == self.gid || who.gids.contains(&self.gid) {
+            0o010
+        } else {
+            0o001
+        }
+    }
+
+    /// Whether a caller may search a directory: by the execute bit of its class, and uid 0 always.
+    pub fn may_search(&self, who: &Who) -> bool
+        ensures { result ≡ may_search (caller_of who.now) (file_in self.now) }
+    {
+        who.uid == 0 || self.mode & self.class_of(who) != 0
+    }
+
+    /// The number that a name stands for in a directory under the given number, `.` and `..` too. NotDir
+    /// comes first, then Acces where the caller may not search it, then NoEnt.
+    pub fn number_at(&self, who: &Who, number: u32, name: &[u8]) -> Result<u32, Stat>
+        ensures { result ≡ look_up_in (caller_of who.now) number self.now name.now }
+    {
+        let Body::Directory { parent, listing } = &self.body else {
+            return Err(Stat::NotDir);
+        };
+        if !self.may_search(who) {
+            return Err(Stat::Acces);
+        }
+        listing.number_at(number, *parent, name).ok_or(Stat::NoEnt)
+    }
+}

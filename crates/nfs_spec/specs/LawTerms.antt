@@ -1,0 +1,40 @@
+-- What the laws of effects speak of.
+use Rattle.std.specs.Prelude.{◌≡◌, ℕ, List, Option, Some, None, IsTrue, Result, Ok, Err}
+use Rattle.nfs_types.specs.Caller.{Caller}
+use Rattle.nfs_types.specs.Handle.{number_in, handle_of}
+use Rattle.nfs_types.specs.Results.{Results, Null, Attributes, DirOp}
+use Rattle.nfs_types.specs.declared.attributes.Fattr.{Fattr}
+use Rattle.nfs_types.specs.declared.stat.Stat.{Stat}
+use Rattle.nfs_types.specs.declared.stat.Stat.TheVariants as stats
+use Rattle.fs_model.specs.Paths.{path_at}
+use Rattle.fs_model.specs.Files.{File, Files, file_at, is_directory, places}
+use Rattle.nfs_spec.specs.ProcedureChecks.{◌>>=◌, ok_or, may_search}
+use Rattle.nfs_spec.specs.Effects.{attributes_at}
+
+-- a path's file handle and attributes, NOENT where it leads nowhere
+abbrev pub lookup_at_path : Files → List (List ℕ) → Result (List ℕ × Fattr) Stat
+lookup_at_path fs path = do
+  e ← ok_or stats.NoEnt (path_at (places fs) path)
+  a ← attributes_at fs e.0
+  Ok (handle_of fs.fsid e.0, a)
+
+-- a file handle is that of the directory at a path, which the caller may search
+pub record IsSearchable (fs : Files) (who : Caller) (handle : List ℕ) (path : List (List ℕ)) : Type 0 where
+  pub number : ℕ
+  pub cookie : ℕ
+  pub file : File
+  pub named : number_in fs.fsid handle ≡ Some number
+  pub reached : path_at (places fs) path ≡ Some (number, cookie)
+  pub there : file_at fs number ≡ Some file
+  pub directory : IsTrue (is_directory file.body)
+  pub searched : IsTrue (may_search who file)
+
+-- the stat of what was refused
+abbrev pub stat_in : {X : Type 0} → Result X Stat → Option Stat
+stat_in (Ok x) = None
+stat_in (Err e) = Some e
+
+abbrev pub stat_of : Results → Option Stat
+stat_of Null = None
+stat_of (Attributes r) = stat_in r
+stat_of (DirOp r) = stat_in r

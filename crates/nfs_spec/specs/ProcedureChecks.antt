@@ -1,0 +1,115 @@
+-- The checks that procedures share, each with its stat.
+use Rattle.std.specs.Prelude.{ℕ, ◌*◌, ◌==◌, ◌||◌, ◌&&◌, nat_lt, nat_le, bit_and, option_map, is_none, Bool, List, Option, Some, None, Result, Ok, Err, if◌then◌else◌}
+use Rattle.std.specs.List.{list_any}
+use Rattle.nfs_types.specs.Caller.{Caller}
+use Rattle.nfs_types.specs.Handle.{number_in}
+use Rattle.nfs_types.specs.declared.stat.Stat.{Stat}
+use Rattle.nfs_types.specs.declared.stat.Stat.TheVariants as stats
+use Rattle.fs_model.specs.Listing.{Listing, entry_at}
+use Rattle.fs_model.specs.Names.{is_name}
+use Rattle.fs_changes.specs.Limits.{has_room}
+use Rattle.fs_model.specs.Files.{Body, Regular, Symlink, Directory, File, Files, file_at}
+
+-- one step after the other, up to the first that is refused
+infixl 10 ◌>>=◌
+abbrev pub ◌>>=◌ : {A B : Type 0} → Result A Stat → (A → Result B Stat) → Result B Stat
+(Ok x) >>= f = f x
+(Err e) >>= f = Err e
+
+-- what is there, or a stat
+abbrev pub ok_or : {A : Type 0} → Stat → Option A → Result A Stat
+ok_or e None = Err e
+ok_or e (Some x) = Ok x
+
+-- a file of a number: STALE where there is none
+abbrev pub file_of : Files → ℕ → Result File Stat
+file_of fs n = ok_or stats.Stale (file_at fs n)
+
+-- the number that a file handle names here: STALE where it names none
+abbrev pub number_of : Files → List ℕ → Result ℕ Stat
+number_of fs handle = ok_or stats.Stale (number_in fs.fsid handle)
+
+abbrev pub listing_or : Stat → Body → Result Listing Stat
+listing_or e (Regular bytes) = Err e
+listing_or e (Symlink target) = Err e
+listing_or e (Directory l) = Ok l
+
+-- ---- permission
+
+-- the class's bits, as a factor of the bits of others: the owner's, the group's or those of others
+abbrev pub class_of : Caller → File → ℕ
+class_of who f = if who.uid == f.uid then 64 else if (who.gid == f.gid) || list_any (λ g. g == f.gid) who.gids then 8 else 1
+
+-- read is 4, write 2, execute or search 1
+abbrev pub permits : Caller → File → ℕ → Bool
+permits who f access = (who.uid == 0) || nat_lt 0 (bit_and f.mode (class_of who f * access))
+
+-- search is a directory's execute bit, for its owner too
+abbrev pub may_search : Caller → File → Bool
+may_search who f = permits who f 1
+
+-- the owner may always read and write
+abbrev pub owns : Caller → File → Bool
+owns who f = who.uid == f.uid
+
+abbrev pub may_read : Caller → File → Bool
+may_read who f = owns who f || permits who f 4
+
+abbrev pub may_write : Caller → File → Bool
+may_write who f = owns who f || permits who f 2
+
+-- ---- checks that say nothing but their stat
+
+abbrev pub check : Bool → Stat → Result (Unit {0}) Stat
+check b e = if b then Ok tt else Err e
+
+-- a number within a limit
+abbrev pub check_size : ℕ → Result (Unit {0}) Stat
+check_size size = check (nat_le size 1048576) stats.FBig
+
+-- Room
+abbrev pub check_room : Files → Result (Unit {0}) Stat
+check_room fs = check (has_room fs) stats.NoSpc
+
+-- Room for a cookie: NOSPC where a directory would give one above 4294967294
+abbrev pub check_cookie : Listing → Result (Unit {0}) Stat
+check_cookie l = check (nat_le l.next 4294967294) stats.NoSpc
+
+-- the bytes of a regular file: ISDIR, NXIO
+abbrev pub bytes_of : Body → Result (List ℕ) Stat
+bytes_of (Regular bytes) = Ok bytes
+bytes_of (Symlink target) = Err stats.NxIo
+bytes_of (Directory l) = Err stats.IsDir
+
+-- the target of a link: NXIO
+abbrev pub target_of : Body → Result (List ℕ) Stat
+target_of (Regular bytes) = Err stats.NxIo
+target_of (Symlink target) = Ok target
+target_of (Directory l) = Err stats.NxIo
+
+-- a directory with its number
+pub record NumberedDir : Type 0 where
+  pub number : ℕ
+  pub file : File
+  pub listing : Listing
+
+-- Dir: STALE, then NOTDIR
+abbrev pub dir_of : Files → ℕ → Result NumberedDir Stat
+dir_of fs n = do
+  f ← file_of fs n
+  l ← listing_or stats.NotDir f.body
+  Ok (record { number = n; file = f; listing = l })
+
+-- Edit: the name rule, then search and write permission in that directory, else ACCES
+abbrev pub check_edit : Caller → NumberedDir → List ℕ → Result (Unit {0}) Stat
+check_edit who d name = do
+  _ ← check (is_name name) stats.Acces
+  check (may_search who d.file && may_write who d.file) stats.Acces
+
+-- what a name stands for: NOENT
+abbrev pub number_at : NumberedDir → List ℕ → Result ℕ Stat
+number_at d name = ok_or stats.NoEnt (option_map (λ e. e.0) (entry_at d.listing name))
+
+-- a name is free: EXIST
+abbrev pub check_free : NumberedDir → List ℕ → Result (Unit {0}) Stat
+check_free d name = check (is_none (entry_at d.listing name)) stats.Exist
