@@ -1,6 +1,6 @@
 #!/usr/bin/env bash
 # Want of memory at each request inside the readers, writers and checks of rosters, authenticators, entries and segments,
-# and inside Log::append, leaves all as it was: the program beside this script runs with each request refused in turn.
+# and inside Log::reserve and Log::append, leaves all as it was: the program beside this script runs with each request refused in turn.
 set -euo pipefail
 cd "$(dirname "$0")/.."
 . checks/scratch_crate.sh
@@ -8,7 +8,7 @@ cd "$(dirname "$0")/.."
 scratch_crate log_memory checks/log_refused_memory/main.rt.txt secure_log authenticator merkle_keys xdr
 refuse_each 90
 for call in Roster::read Roster::write Roster::try_clone Authenticator::write check Entry::read Entry::write \
-    Log::append OpenSegment::write check_segment; do
+    Log::reserve Log::append OpenSegment::write check_segment; do
     count=$(grep -c "^refused 1 in $call, " "$work/lines" || true)
     if [ "$count" -eq 0 ]; then
         echo "no request of $call was refused:" >&2
