@@ -1,7 +1,7 @@
 //! Keys that sign once.
 
 ghost use Rattle.std.specs.Prelude.{◌≡◌, ◌<◌, ◌^◌, ◌+◌, ◌≤◌, IfOk, IfErr, not, ◌++◌, if◌then◌else◌, vec_len, vec_capacity};
-ghost use Rattle.lamport.specs.Lamport.{LeafKey, secret, public_hash, leaf_hash, shown_secrets, other_hashes};
+ghost use Rattle.lamport.specs.Lamport.{LeafKey, digest_bit, secret, public_hash, leaf_hash, shown_secrets, other_hashes};
 
 use crate::buffers::TextBuffers;
 use crate::shown::{digest_bit, leaf_start};
@@ -111,11 +111,26 @@ impl OneTimeKey {
             mut other,
         } = buffers;
         for place in 0..PLACES {
-            let bit = digest_bit(digest, place);
-            add_32(&mut shown, &self.secret(place, bit));
-            add_32(&mut other, &self.hash(place, !bit));
+            add_32(&mut shown, &self.shown_secret(digest, place));
+            add_32(&mut other, &self.other_hash(digest, place));
         }
         OneTimeSignature { shown, other }
+    }
+
+    // The secret of a place and the digest's bit there.
+    fn shown_secret(&self, digest: &[u8; 32], place: u32) -> [u8; 32]
+        requires { place < PLACES }
+        ensures { result ≡ secret self.now place (digest_bit digest.now place) }
+    {
+        self.secret(place, digest_bit(digest, place))
+    }
+
+    // The public hash of a place and the other bit value.
+    fn other_hash(&self, digest: &[u8; 32], place: u32) -> [u8; 32]
+        requires { place < PLACES }
+        ensures { result ≡ public_hash self.now place (not (digest_bit digest.now place)) }
+    {
+        self.hash(place, !digest_bit(digest, place))
     }
 
     #[tactic(auto, unfolding(crate::specs::Lamport::public_hash))]

@@ -16,13 +16,11 @@ loop-place-init c = record {
 pub loop-place-preserved : goal.loop-place-preserved
 loop-place-preserved c =
     let so_far = c.loop-place.invariant in
-    let secret = rw c.digest_bit-bit.ensures at c.secret.ensures in
-    let hash = rw c.digest_bit-bit.ensures at c.hash.ensures in
     record {
-      shown = rw (shown_front_more, ← so_far.shown, ← secret) c.add_32.ensures.items;
+      shown = rw (shown_front_more, ← so_far.shown, ← c.shown_secret.ensures) c.add_32.ensures.items;
       shown_len = omega (arith, c.add_32.ensures.len, so_far.shown_len);
       shown_room = omega (arith, c.add_32.ensures.capacity, so_far.shown_room);
-      other = rw (other_front_more, ← so_far.other, ← hash) c.add_32-in-loop-place.ensures.items;
+      other = rw (other_front_more, ← so_far.other, ← c.other_hash.ensures) c.add_32-in-loop-place.ensures.items;
       other_len = omega (arith, c.add_32-in-loop-place.ensures.len, so_far.other_len);
       other_room = omega (arith, c.add_32-in-loop-place.ensures.capacity, so_far.other_room);
     }
