@@ -13,7 +13,7 @@ below=($(crates_below nfsacc | cut -d: -f1))
 made=()
 for program in crates/nfsacc/out/nfsacc crates/nfsacc/out/nfsacc.by-rattle; do
     if [ -f "$program" ]; then
-        newer=$(find "${below[@]/#/crates/}" -newer "$program" \( -name '*.rt' -o -name '*.antt' \))
+        newer=$(find "${below[@]/#/crates/}" -name out -prune -o -newer "$program" \( -name '*.rt' -o -name '*.antt' \) -print)
         if [ -z "$newer" ]; then made+=("$top/$program"); fi
     fi
 done

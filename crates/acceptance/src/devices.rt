@@ -1,18 +1,30 @@
-//! Readers and writers that fail in the middle of a stream.
+//! Readers and writers that fail in the middle of a stream, and how often a writer is called.
 
 use crate::texts::Stream;
 use console::run_rpc;
 use rpc::{Counting, RecordFault, RecordReader};
+use std::alloc::Global;
 use std::io;
 use std::io::{ErrorKind, Read, Write};
 use std::test::Fail;
 
 /// Gives one byte a call, and fails at one call.
 #[derive(Drop)]
-struct SlowReader<'a> {
+pub struct SlowReader<'a> {
     bytes: &'a [u8],
-    calls: u64,
+    pub calls: u64,
     fails_at: u64,
+}
+
+impl<'a> SlowReader<'a> {
+    /// Fails at the call of this number, from 1 on; at none where it is 0.
+    pub fn new(bytes: &'a [u8], fails_at: u64) -> Self {
+        SlowReader {
+            bytes,
+            calls: 0,
+            fails_at,
+        }
+    }
 }
 
 impl Read for SlowReader<'_> {
@@ -35,18 +47,33 @@ impl Read for SlowReader<'_> {
 
 /// How a call of a writer fails.
 #[derive(Clone, Copy, Debug)]
-enum Refusal {
+pub enum Refusal {
     Error,
     TakesNothing,
 }
 
-/// Takes one byte a call, and fails at one call.
+/// Takes so many bytes a call at most, and fails at one call.
 #[derive(Drop)]
-struct SlowWriter {
+pub struct SlowWriter {
     taken: Vec<u8>,
-    calls: u64,
+    most: usize,
+    pub calls: u64,
     fails_at: u64,
     refusal: Refusal,
+}
+
+impl SlowWriter {
+    /// Takes so many bytes a call at most, and fails at the call of this number, from 1 on; at none where it
+    /// is 0.
+    pub fn new(alloc: Global, most: usize, fails_at: u64, refusal: Refusal) -> Self {
+        SlowWriter {
+            taken: Vec::new(alloc),
+            most,
+            calls: 0,
+            fails_at,
+            refusal,
+        }
+    }
 }
 
 impl Write for SlowWriter {
@@ -58,14 +85,16 @@ impl Write for SlowWriter {
                 Refusal::TakesNothing => Ok(0),
             };
         }
-        let Some(byte) = buf.first() else {
-            return Ok(0);
-        };
-        self.taken.push(*byte)?;
-        Ok(1)
+        let piece = &buf[..buf.len().min(self.most)];
+        self.taken.extend_from_slice(piece)?;
+        Ok(piece.len())
     }
 
     fn flush(&mut self) -> io::Result<()> {
+        self.calls = self.calls.saturating_add(1);
+        if self.calls == self.fails_at {
+            return Err(io::Error::from(ErrorKind::Other));
+        }
         Ok(())
     }
 }
@@ -76,11 +105,7 @@ fn a_failed_read_ends_the_stream(rt: HostRuntime) -> Result<(), Fail> {
     let output = Stream::of_replies(rt.alloc())?;
     for read in 0..input.bytes.len() + 1 {
         let fails_at = read as u64 + 1;
-        let mut reader = RecordReader::new(Counting::new(SlowReader {
-            bytes: &input.bytes,
-            calls: 0,
-            fails_at,
-        }));
+        let mut reader = RecordReader::new(Counting::new(SlowReader::new(&input.bytes, fails_at)));
         let mut writer = Counting::new(Vec::new(rt.alloc()));
         let done = run_rpc(rt.alloc(), &mut reader, &mut writer);
         assert_eq!(rt; done, Err(RecordFault::Device), "after {read}");
@@ -105,12 +130,8 @@ fn a_failed_write_ends_the_stream(rt: HostRuntime) -> Result<(), Fail> {
     for refusal in [Refusal::Error, Refusal::TakesNothing] {
         for written in 0..output.bytes.len() {
             let mut reader = RecordReader::new(Counting::new(input.bytes.as_slice()));
-            let mut writer = Counting::new(SlowWriter {
-                taken: Vec::new(rt.alloc()),
-                calls: 0,
-                fails_at: written as u64 + 1,
-                refusal,
-            });
+            let fails_at = written as u64 + 1;
+            let mut writer = Counting::new(SlowWriter::new(rt.alloc(), 1, fails_at, refusal));
             let done = run_rpc(rt.alloc(), &mut reader, &mut writer);
             assert_eq!(rt;
                 done,
@@ -130,5 +151,19 @@ fn a_failed_write_ends_the_stream(rt: HostRuntime) -> Result<(), Fail> {
             );
         }
     }
+    Ok(())
+}
+
+/// A reply goes out by one write: by two, a connection would wait for the other side between them.
+#[test]
+fn a_reply_is_one_write(rt: HostRuntime) -> Result<(), Fail> {
+    let input = Stream::of_calls(rt.alloc())?;
+    let output = Stream::of_replies(rt.alloc())?;
+    let mut reader = RecordReader::new(Counting::new(input.bytes.as_slice()));
+    let mut writer = Counting::new(SlowWriter::new(rt.alloc(), usize::MAX, 0, Refusal::Error));
+    let done = run_rpc(rt.alloc(), &mut reader, &mut writer);
+    assert_eq!(rt; done, Ok(4));
+    assert_eq!(rt; writer.get_ref().taken.as_slice(), output.bytes.as_slice());
+    assert_eq!(rt; writer.get_ref().calls, 4);
     Ok(())
 }

@@ -2,9 +2,9 @@
 #![tactic(auto)]
 
 #[cfg(test)]
-mod calls;
-#[cfg(test)]
 mod commands;
+#[cfg(test)]
+mod counting;
 #[cfg(test)]
 mod devices;
 #[cfg(test)]

@@ -10,32 +10,57 @@ pub struct Stream {
     pub ends: [usize; 4],
 }
 
-/// NULL, NULL in two fragments, GETATTR of the root, and LOOKUP of hello in it.
-const CALLS: &str = "\
-80000028 1 0 2 186a3 2 0 0 0 0 0
-4 1 80000024 0 2 186a3 2 0 0 0 0 0
-80000048 2 0 2 186a3 2 1 0*4 1 1 0*6
-80000054 3 0 2 186a3 2 4 0*4 1 1 0*6 5 68656c6c 6f000000";
+/// A record of a call of NULL, and the record of the reply to it.
+pub const NULL: [u32; 11] = [0x80000028, 1, 0, 2, 100003, 2, 0, 0, 0, 0, 0];
 
-const REPLIES: &str = "\
-80000018 1 1 0 0 0 0
-80000018 1 1 0 0 0 0
-80000060 2 1 0 0 0 0 0 2 41ff 2 0 0 200 200 0 1 1 1 0*6
-80000080 3 1 0 0 0 0 0 1 2 0*6 1 81a4 1 0 0 6 200 0 1 1 2 0*6";
+pub const NULL_REPLY: [u32; 7] = [0x80000018, 1, 1, 0, 0, 0, 0];
+
+const NULL_IN_TWO_FRAGMENTS: [u32; 12] = [4, 1, 0x80000024, 0, 2, 100003, 2, 0, 0, 0, 0, 0];
+
+/// GETATTR of the root.
+const GETATTR: [u32; 19] = [
+    0x80000048, 2, 0, 2, 100003, 2, 1, 0, 0, 0, 0, 1, 1, 0, 0, 0, 0, 0, 0,
+];
+
+const GETATTR_REPLY: [u32; 25] = [
+    0x80000060, 2, 1, 0, 0, 0, 0, 0, 2, 0o40777, 2, 0, 0, 512, 512, 0, 1, 1, 1, 0, 0, 0, 0, 0, 0,
+];
+
+/// LOOKUP of `hello` in the root.
+const LOOKUP: [u32; 22] = [
+    0x80000054, 3, 0, 2, 100003, 2, 4, 0, 0, 0, 0, 1, 1, 0, 0, 0, 0, 0, 0, 5, 0x68656c6c,
+    0x6f000000,
+];
+
+const LOOKUP_REPLY: [u32; 33] = [
+    0x80000080, 3, 1, 0, 0, 0, 0, 0, 1, 2, 0, 0, 0, 0, 0, 0, 1, 0o100644, 1, 0, 0, 6, 512, 0, 1, 1,
+    2, 0, 0, 0, 0, 0, 0,
+];
+
+/// Four texts, joined.
+fn stream_of(alloc: Global, texts: [&[u32]; 4]) -> Result<Stream, AllocError> {
+    let mut joined = Vec::new(alloc);
+    let mut ends = [0; 4];
+    for i in 0..4 {
+        joined.extend_from_slice(&bytes(alloc, texts[i])?)?;
+        ends[i] = joined.len();
+    }
+    Ok(Stream {
+        bytes: joined,
+        ends,
+    })
+}
 
 impl Stream {
     pub fn of_calls(alloc: Global) -> Result<Stream, AllocError> {
-        Ok(Stream {
-            bytes: bytes(alloc, CALLS)?,
-            ends: [44, 92, 168, 256],
-        })
+        stream_of(alloc, [&NULL, &NULL_IN_TWO_FRAGMENTS, &GETATTR, &LOOKUP])
     }
 
     pub fn of_replies(alloc: Global) -> Result<Stream, AllocError> {
-        Ok(Stream {
-            bytes: bytes(alloc, REPLIES)?,
-            ends: [28, 56, 156, 288],
-        })
+        stream_of(
+            alloc,
+            [&NULL_REPLY, &NULL_REPLY, &GETATTR_REPLY, &LOOKUP_REPLY],
+        )
     }
 
     /// How many records end within the first bytes, so many of them.

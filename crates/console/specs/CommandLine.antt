@@ -5,10 +5,15 @@ use Rattle.clap.specs.Simple.{App, new_shape, with_subcommand}
 use Rattle.console.specs.declared.command_line.Request.{Request}
 use Rattle.console.specs.declared.command_line.Request.TheVariants as requests
 
--- nfsacc, as the library that reads command lines sees it: it has a version and subcommands, of which one must be named
+-- nfsacc, as the library that reads command lines sees it: it has a version and subcommands, of which one
+-- must be named
 abbrev pub nfsacc : App
 nfsacc = record {
-  top = record (new_shape (codes "nfsacc")) { has_version = true; arg_required_else_help = true; subcommand_required = true };
+  top = record (new_shape (codes "nfsacc")) {
+    has_version = true;
+    arg_required_else_help = true;
+    subcommand_required = true;
+  };
   subs = [];
 }
 

@@ -1,19 +1,19 @@
 -- What the loop over records owes.
-use Rattle.std.specs.Prelude.{◌≡◌, ◌<◌, ◌≤◌, ◌+◌, ◌⊎◌, ℕ, min, List, [], ◌∷◌, ◌++◌, length, Option, Some, None}
+use Rattle.std.specs.Prelude.{◌≡◌, ◌<◌, ◌≤◌, ◌+◌, ◌-◌, ◌^◌, ◌⊎◌, ℕ, min, List, [], ◌∷◌, ◌++◌, length, Option, Some, None}
 use Rattle.std.specs.Io.KnownBytes.{Appends, Consumes}
 use Rattle.records.specs.Count.{Rises}
 use Rattle.records.specs.Record.{IsUnfinished, PassesLimit}
 use Rattle.records.specs.Stream.{AreRecords}
-use Rattle.records.specs.Reading.{TakesToLimit, TakesAll}
+use Rattle.records.specs.Reading.{TakesToLimit, TakesAll, TakesPart, IsPartOfRecord}
 use Rattle.records.specs.declared.fault.RecordFault.{RecordFault}
 use Rattle.records.specs.declared.fault.RecordFault.TheVariants as faults
 use Rattle.nfs_types.specs.Timeval.{Timeval}
 use Rattle.service.specs.World.{opening_world}
 use Rattle.service.specs.Owed.{replies_owed}
 
--- the time of the k-th record
+-- the time of the k-th record: k seconds, at most the greatest number of 32 bits
 abbrev pub time_of : ℕ → Timeval
-time_of k = record { seconds = min k 4294967295; microseconds = 0 }
+time_of k = record { seconds = min k (2 ^ 32 - 1); microseconds = 0 }
 
 -- the records from the k-th on, each with its time
 abbrev pub with_times : ℕ → List (List ℕ) → List (Timeval × List ℕ)
@@ -32,7 +32,8 @@ pub record Serves (count : ℕ) (input : List ℕ) (before after : Option (List 
   pub written : Appends before after (text_owed records)
 
 -- The input is records, and then bytes of which this holds; the whole text owed to those records was written.
-pub record ServesUpTo (IsRest : List ℕ → Type 0) (input : List ℕ) (before after : Option (List ℕ)) : Type 0 where
+pub record ServesUpTo (IsRest : List ℕ → Type 0) (input : List ℕ)
+    (before after : Option (List ℕ)) : Type 0 where
   pub records : List (List ℕ)
   pub text : List ℕ
   pub rest : List ℕ
@@ -72,8 +73,8 @@ pub record StopsBetweenRecords (left left' before after : Option (List ℕ)) : T
   pub taken : Consumes left left' text
   pub written : Appends before after (text_owed answered)
 
--- Whole records were taken. What is owed to all of them but the last was written, and a beginning of the reply to the
--- last, but not all of it.
+-- Whole records were taken. What is owed to all of them but the last was written, and a beginning of the
+-- reply to the last, but not all of it.
 pub record StopsInReply (left left' before after : Option (List ℕ)) : Type 0 where
   pub answered : List (List ℕ)
   pub last : List ℕ
@@ -97,17 +98,20 @@ pub record StopsAfterRecords (Takes : Option (List ℕ) → Option (List ℕ) �
   pub then_takes : Takes between left'
   pub written : Appends before after (text_owed answered)
 
--- What was taken and written where the loop ends with a fault. Device came from a write where the reader has no fault,
--- and else from a read, of which nothing is known.
+-- What was taken and written where the loop ends with a fault. Device came from a write where the reader has
+-- no fault, and else from a read: then less than a whole record was taken behind those that were answered.
 abbrev pub LeavesOff : RecordFault → Option RecordFault → (left left' before after : Option (List ℕ)) → Type 0
 LeavesOff faults.NoMemory failed left left' before after = StopsBetweenRecords left left' before after
-LeavesOff faults.RecordTooLong failed left left' before after = StopsAfterRecords TakesToLimit left left' before after
+LeavesOff faults.RecordTooLong failed left left' before after =
+    StopsAfterRecords TakesToLimit left left' before after
 LeavesOff faults.Device None left left' before after = StopsInReply left left' before after
-LeavesOff faults.Device (Some e) left left' before after = StopsAfterRecords (λ _ _. Unit {0}) left left' before after
-LeavesOff faults.EndInRecord failed left left' before after = StopsAfterRecords TakesAll left left' before after
+LeavesOff faults.Device (Some e) left left' before after =
+    StopsAfterRecords (TakesPart IsPartOfRecord) left left' before after
+LeavesOff faults.EndInRecord failed left left' before after =
+    StopsAfterRecords TakesAll left left' before after
 
--- What stands after a fault: the fault that the reader answers from then on, and the counts of the reader and of the
--- writer, before and after.
+-- What stands after a fault: the fault that the reader answers from then on, and the counts of the reader and
+-- of the writer, before and after.
 abbrev pub StandsAfter : RecordFault → Option RecordFault → ℕ → ℕ → ℕ → ℕ → Type 0
 StandsAfter faults.NoMemory failed reads reads' writes writes' =
     (failed ≡ None) × (reads' ≡ reads) × (writes' ≡ writes)

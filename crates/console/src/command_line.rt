@@ -33,21 +33,22 @@ fn commands<'a>(alloc: Global) -> Result<Command<'a>, AllocError>
 }
 
 /// The same as `parse`, by the rules that the words are read by.
-fn matched(alloc: Global, words: &[String]) -> Result<Request, Error>
+fn request_by_rules(alloc: Global, words: &[String]) -> Result<Request, Error>
     ensures { FailsBy (fault_of commands (map string_bytes words.now)) result }
 {
     commands(alloc)?.try_get_matches_from(words)?;
     Ok(Request::Rpc)
 }
 
-/// The request that the words of a command line make, the program's name first: `rpc` alone, or with `--` behind it, is
-/// `Rpc`. The error says what is wrong with other words, or is the help or the version that they ask for; its kind is
-/// OutOfMemory where memory was refused.
+/// The request that the words of a command line make, the program's name first: `rpc` alone, or with `--`
+/// behind it, is `Rpc`. The error says what is wrong with other words, or is the help or the version that
+/// they ask for; its kind is OutOfMemory where memory was refused.
 #[tactic(auto, using(crate::proofs::CommandLines::is_none))]
 pub fn parse(alloc: Global, words: &[String]) -> Result<Request, Error>
     ensures ok { IfOk result (λ r. request_in (map string_bytes words.now) ≡ Some r) }
-    ensures err { IfErr result (λ e. (kind_of e ≡ ErrorKind.OutOfMemory) ⊎ (request_in (map string_bytes words.now) ≡ None)) }
+    ensures err { IfErr result (λ e.
+        (kind_of e ≡ ErrorKind.OutOfMemory) ⊎ (request_in (map string_bytes words.now) ≡ None)) }
     ensures kinds { FailsBy (fault_of commands (map string_bytes words.now)) result }
 {
-    matched(alloc, words)
+    request_by_rules(alloc, words)
 }

@@ -5,6 +5,7 @@ ghost use Rattle.std.specs.Option.{option_map};
 ghost use Rattle.std.specs.Io.KnownBytes.{Appends, IsAtEnd};
 ghost use Rattle.records.specs.Count.{Rises, CountsErr};
 ghost use Rattle.records.specs.Writing.{WritesPart, WritesFront};
+ghost use Rattle.records.specs.declared.record.TheConstants.{MAX_RECORD};
 ghost use Rattle.service.specs.Replies.{reply_owed, world_after};
 ghost use Rattle.service.specs.Owed.{record_of};
 ghost use Rattle.records.specs.declared.fault.RecordFault.TheVariants.{Device, NoMemory};
@@ -19,11 +20,11 @@ use std::io::{Read, Write};
 /// The node that serves.
 const NODE: u32 = 1;
 
-/// The time of the k-th record: k seconds, at most 4294967295.
+/// The time of the k-th record: k seconds, at most the greatest that a time has.
 fn time_of_record(k: u64) -> Time
     ensures { result ≡ time_of k }
 {
-    let seconds = k.min(4294967295) as u32;
+    let seconds = k.min(u64::from(u32::MAX)) as u32;
     Time::new(seconds, 0).unwrap()
 }
 
@@ -32,8 +33,9 @@ fn write_reply<W: Write>(
     writer: &mut Counting<W>,
     reply: &Option<Vec<u8>>,
 ) -> Result<(), RecordFault>
-    requires { IfSome reply.now (λ v. length v.items ≤ 12288) }
-    ensures text { WritesPart (W.contents writer.old.inner) (W.contents writer.new.inner) (record_of (option_map (λ v. v.items) reply.now)) result }
+    requires { IfSome reply.now (λ v. length v.items ≤ MAX_RECORD) }
+    ensures text { WritesPart (W.contents writer.old.inner) (W.contents writer.new.inner)
+        (record_of (option_map (λ v. v.items) reply.now)) result }
     ensures count { CountsErr result writer.old.count writer.new.count }
     ensures fault { IfErr result (λ e. e ≡ RecordFault.Device) }
 {
@@ -51,10 +53,14 @@ fn serve<W: Write>(
     time: Time,
     bytes: &[u8],
 ) -> Result<(), RecordFault>
-    ensures text { OnOk result (Appends (W.contents writer.old.inner) (W.contents writer.new.inner) (record_of (reply_owed service.old time bytes.now))) }
+    ensures text { OnOk result (Appends (W.contents writer.old.inner) (W.contents writer.new.inner)
+        (record_of (reply_owed service.old time bytes.now))) }
     ensures world { OnOk result (service.new ≡ world_after service.old time bytes.now) }
     ensures kept { OnOk result (writer.new.count ≡ writer.old.count) }
-    ensures device { IsErrOf result Device → WritesFront (W.contents writer.old.inner) (W.contents writer.new.inner) (record_of (reply_owed service.old time bytes.now)) × Rises writer.old.count writer.new.count }
+    ensures device { IsErrOf result Device →
+        WritesFront (W.contents writer.old.inner) (W.contents writer.new.inner)
+        (record_of (reply_owed service.old time bytes.now))
+        × Rises writer.old.count writer.new.count }
     ensures memory { IsErrOf result NoMemory → writer.new ≡ writer.old }
     ensures fault { IfErr result (λ e. (e ≡ RecordFault.Device) ⊎ (e ≡ RecordFault.NoMemory)) }
 {
@@ -64,13 +70,16 @@ fn serve<W: Write>(
     write_reply(writer, &reply)
 }
 
-/// Answers each record of a stream as the server of node 1 would, from the files that it begins with; the k-th record
-/// has the time (k, 0), at most (4294967295, 0). A reply is written before the next record is read.
+/// Answers each record of a stream as the server of node 1 would, from the files that it begins with. The
+/// k-th record has the time (k, 0), at most (4294967295, 0). A reply is written before the next record is
+/// read.
 ///
-/// `Ok` is the count of records. `RecordTooLong` and `EndInRecord` come where the input goes on with bytes that pass a
-/// limit, or end within a record; what is owed to the records before them was written. `Device` comes where a read or
-/// a write failed, and `NoMemory` where memory was refused, or after 2^64 - 2 records: then a beginning of what is owed
-/// was written.
+/// `Ok` is the count of records. `RecordTooLong` and `EndInRecord` come where the input goes on with bytes
+/// that pass a limit, or end within a record: what is owed to the records before them was written, and the
+/// reader has taken no byte behind the limit, or all. `Device` comes where a read or a write failed: all
+/// records that were taken are answered, or all but the last, of whose reply a part was written. `NoMemory`
+/// comes where memory was refused, or after 2^64 - 2 records: the records that were taken are answered, or
+/// all but the last. Then the reader stands behind whole records, and can be read on.
 pub fn run_rpc<R: Read + Drop, W: Write>(
     alloc: Global,
     reader: &mut RecordReader<R>,
@@ -85,9 +94,12 @@ pub fn run_rpc<R: Read + Drop, W: Write>(
         (R.remaining reader.old.reader.inner) (R.remaining reader.new.reader.inner)
         (W.contents writer.old.inner) (W.contents writer.new.inner)) }
     ensures end { OnOk result (IsAtEnd (R.remaining reader.new.reader.inner)) }
-    ensures kept { OnOk result ((reader.new.fault ≡ None) × (reader.new.reader.count ≡ reader.old.reader.count) × (writer.new.count ≡ writer.old.count)) }
-    ensures stands { IfErr result (λ e. StandsAfter e reader.new.fault reader.old.reader.count reader.new.reader.count writer.old.count writer.new.count) }
-    ensures device { IsErrOf result Device → Rises reader.old.reader.count reader.new.reader.count ⊎ Rises writer.old.count writer.new.count }
+    ensures kept { OnOk result ((reader.new.fault ≡ None)
+        × (reader.new.reader.count ≡ reader.old.reader.count) × (writer.new.count ≡ writer.old.count)) }
+    ensures stands { IfErr result (λ e. StandsAfter e reader.new.fault
+        reader.old.reader.count reader.new.reader.count writer.old.count writer.new.count) }
+    ensures device { IsErrOf result Device →
+        Rises reader.old.reader.count reader.new.reader.count ⊎ Rises writer.old.count writer.new.count }
 {
     let Ok(mut service) = Service::opening(alloc, NODE) else {
         return Err(RecordFault::NoMemory);

@@ -1,9 +1,9 @@
 //! A directory: names in order of insertion.
 
-ghost use Rattle.std.specs.Prelude.{◌≡◌, ◌≢◌, ◌<◌, ◌^◌, ◌-◌, ℕ, List, [], ◌∷◌, ◌++◌, Some, OnOk, OnErr, option_map, nat_eq};
+ghost use Rattle.std.specs.Prelude.{◌≡◌, ◌≢◌, ◌<◌, ◌^◌, ◌-◌, ℕ, List, [], ◌∷◌, ◌++◌, length, ◌==◌, Some, None, OnOk, OnErr, option_map, nat_eq};
 ghost use Rattle.std.specs.Cmp.Lexicographic.{pointwise};
 ghost use Rattle.std.specs.Map.{lookup, remove_entry};
-ghost use Rattle.fs_model.specs.Listing.{Listing, entry_at, with_entry};
+ghost use Rattle.fs_model.specs.Listing.{Listing, entry_at, with_entry, without_entry};
 ghost use Rattle.inodes.specs.Entries.{entries_of};
 ghost use Rattle.nfs_spec.specs.Effects.{number_in_listing};
 
@@ -62,6 +62,20 @@ impl Directory {
         self.next
     }
 
+    /// How many entries it has.
+    pub fn len(&self) -> usize
+        ensures { result ≡ length self.now.entries }
+    {
+        self.entries.len()
+    }
+
+    /// Whether it has none.
+    pub fn is_empty(&self) -> bool
+        ensures { result ≡ (length self.now.entries == 0) }
+    {
+        self.entries.is_empty()
+    }
+
     /// The entry with a name.
     pub fn find(&self, name: &[u8]) -> Option<Entry>
         ensures { option_map (λ e. (e.number, e.cookie)) result ≡ entry_at self.now name.now }
@@ -101,6 +115,28 @@ impl Directory {
         self.next = cookie + 1;
         Ok(())
     }
+
+    /// Takes a name out, if it is there; the others keep their order and their cookies, and the next cookie stays.
+    #[tactic(auto, using(crate::proofs::Rising::rising_removed))]
+    pub fn remove(&mut self, name: &[u8])
+        ensures new { self.new ≡ without_entry self.old name.now }
+        ensures gone { entry_at self.new name.now ≡ None }
+        ensures others { (q : List ℕ) → q ≢ name.now → entry_at self.new q ≡ entry_at self.old q }
+    {
+        take_out(&mut self.entries, name);
+    }
+}
+
+/// Takes an entry out; the others keep their order.
+fn take_out(entries: &mut IndexMap<Vec<u8>, Entry>, name: &[u8])
+    ensures new { entries_of entries.new.entries
+        ≡ remove_entry (pointwise nat_eq name.now) (entries_of entries.old.entries) }
+    ensures gone { lookup (pointwise nat_eq name.now) (entries_of entries.new.entries) ≡ None }
+    ensures others { (q : List ℕ) → q ≢ name.now →
+        lookup (pointwise nat_eq q) (entries_of entries.new.entries)
+        ≡ lookup (pointwise nat_eq q) (entries_of entries.old.entries) }
+{
+    entries.shift_remove(name);
 }
 
 /// Puts an entry last, in place of the one that its name has. Where memory is refused nothing changes.

@@ -9,6 +9,13 @@ pub const MAX_FILE_SIZE: u32 = 1_048_576;
 /// The size of a block in bytes, which is also the size of every directory.
 pub const BLOCK_SIZE: u32 = 512;
 
+/// The bits that permit others to read, to write, and to search or execute.
+const READ: u16 = 0o4;
+
+const WRITE: u16 = 0o2;
+
+const SEARCH: u16 = 0o1;
+
 /// What a file holds.
 #[derive(Drop)]
 pub enum Body {
@@ -84,7 +91,9 @@ impl Inode {
     ghost use Rattle.std.specs.Prelude.{◌≡◌};
     ghost use Rattle.nfs_types.specs.CallerOf.{caller_of};
     ghost use Rattle.fs_model.specs.Trees.{IsBody};
-    ghost use Rattle.nfs_spec.specs.ProcedureChecks.{class_of, may_search};
+    ghost use Rattle.std.specs.Prelude.{◌≤◌};
+    ghost use Rattle.std.specs.Result.{result_map_both};
+    ghost use Rattle.nfs_spec.specs.ProcedureChecks.{class_of, permits, may_search, owns, may_read, may_write, bytes_of, target_of};
     ghost use Rattle.inodes.specs.Inodes.{body_in, file_in, fattr_of};
     ghost use Rattle.inodes.specs.InodeLookUp.{look_up_in};
 
@@ -114,7 +123,8 @@ impl Inode {
 
     /// The caller's class, as a factor of the bits of others: the owner's, the group's or that of others.
     fn class_of(&self, who: &Who) -> u16
-        ensures { result ≡ class_of (caller_of who.now) (file_in self.now) }
+        ensures value { result ≡ class_of (caller_of who.now) (file_in self.now) }
+        ensures bound { result ≤ 0x40 }
     {
         if who.uid == self.uid {
             0o100
@@ -125,11 +135,62 @@ impl Inode {
         }
     }
 
-    /// Whether a caller may search a directory: by the execute bit of its class, and uid 0 always.
+    /// Whether a bit of its class, `READ`, `WRITE` or `SEARCH`, permits a caller; uid 0 always.
+    fn permits(&self, who: &Who, access: u16) -> bool
+        requires { access ≤ 7 }
+        ensures { result ≡ permits (caller_of who.now) (file_in self.now) access }
+    {
+        who.uid == 0 || self.mode & (self.class_of(who) * access) != 0
+    }
+
+    /// Whether a caller may search a directory, or execute a file: by the execute bit of its class, and uid 0
+    /// always.
     pub fn may_search(&self, who: &Who) -> bool
         ensures { result ≡ may_search (caller_of who.now) (file_in self.now) }
     {
-        who.uid == 0 || self.mode & self.class_of(who) != 0
+        self.permits(who, SEARCH)
+    }
+
+    /// Whether a caller is the owner.
+    pub fn owns(&self, who: &Who) -> bool
+        ensures { result ≡ owns (caller_of who.now) (file_in self.now) }
+    {
+        who.uid == self.uid
+    }
+
+    /// Whether a caller may read: the owner always, else by the read bit of its class, and uid 0 always.
+    pub fn may_read(&self, who: &Who) -> bool
+        ensures { result ≡ may_read (caller_of who.now) (file_in self.now) }
+    {
+        self.owns(who) || self.permits(who, READ)
+    }
+
+    /// Whether a caller may write: the owner always, else by the write bit of its class, and uid 0 always.
+    pub fn may_write(&self, who: &Who) -> bool
+        ensures { result ≡ may_write (caller_of who.now) (file_in self.now) }
+    {
+        self.owns(who) || self.permits(who, WRITE)
+    }
+
+    /// The bytes of a regular file. IsDir for a directory, NxIo for a symbolic link.
+    pub fn bytes(&self) -> Result<&[u8], Stat>
+        ensures { result_map_both (λ bytes. bytes.now) (λ e. e) result ≡ bytes_of (body_in self.now.body) }
+    {
+        match &self.body {
+            Body::Regular(bytes) => Ok(bytes.as_slice()),
+            Body::Link(_) => Err(Stat::NxIo),
+            Body::Directory { .. } => Err(Stat::IsDir),
+        }
+    }
+
+    /// The target of a symbolic link. NxIo for other files.
+    pub fn target(&self) -> Result<&[u8], Stat>
+        ensures { result_map_both (λ target. target.now) (λ e. e) result ≡ target_of (body_in self.now.body) }
+    {
+        match &self.body {
+            Body::Link(target) => Ok(target.as_slice()),
+            Body::Regular(_) | Body::Directory { .. } => Err(Stat::NxIo),
+        }
     }
 
     /// The number that a name stands for in a directory under the given number, `.` and `..` too. NotDir

@@ -1,22 +1,19 @@
 -- Byte i is the one written, else the old one, else zero, of a file after WRITE, SETATTR and CREATE.
 -- Serves: bytes_are_what_was_written (nfs_spec_changes); calls_change_what_they_name (nfs_spec_frames).
-use Rattle.std.proofs.Common.{◌≡◌, ◌≢◌, ℕ, ◌+◌, ◌-◌, Bool, true, false, List, [], length, replicate, Some, Ok, get_or, refl, sym, ap, ◌∙◌, arith}
+use Rattle.std.proofs.Common.{◌≡◌, ◌≢◌, ℕ, ◌+◌, ◌-◌, Bool, true, false, List, [], length, replicate, Some, get_or, refl, ap, ◌∙◌, arith}
 use Rattle.std.specs.Prelude.{unwrap_or, nat_le, nat_lt, ◌&&◌, if◌then◌else◌}
 use Rattle.std.proofs.lemmas.Bool.{leb-true, leb-false, ltb-true, ltb-false}
 use Rattle.std.proofs.lemmas.List.{get_or_past}
 use Rattle.nfs_types.specs.Timeval.{Timeval}
 use Rattle.nfs_types.specs.Caller.{Caller}
 use Rattle.fs_model.specs.Files.{Regular, File, Files, file_at}
-use Rattle.nfs_spec.specs.ProcedureChecks.{◌>>=◌, check, check_size, bytes_of, may_write}
 use Rattle.nfs_spec.specs.Sattr.{GivenFields}
-use Rattle.nfs_spec.specs.Changes.{with_length, body_with_length, with_bytes_at, check_resize, apply_fields}
+use Rattle.nfs_spec.specs.Changes.{with_length, body_with_length, with_bytes_at, apply_fields}
 use Rattle.nfs_spec.specs.Procedures.{with_bytes_written}
-use Rattle.nfs_types.specs.declared.stat.Stat.TheVariants as stats
-use Rattle.nfs_spec_steps.proofs.Steps.{bind_ok, bytes_ok}
 use Rattle.nfs_spec_laws.proofs.Bytes.{length-resized}
 use Rattle.nfs_spec_laws.proofs.Bytes.{written_length, resized_byte, byte_before, byte_behind, byte_new}
 use Rattle.nfs_spec_changes.specs.Changed.{Becomes, ChangesBytes, old_byte, IsWritten, IsResized, Makes}
-use Rattle.nfs_spec_changes.proofs.Granted.{IsSet, IsWrote, created}
+use Rattle.nfs_spec_steps.specs.Granted.{SetOk, WriteOk, new_regular}
 use Rattle.nfs_spec_changes.proofs.NamedFiles.{changed_is, wrote_is}
 
 -- past the end of a list its byte is read as zero
@@ -42,15 +39,9 @@ is_written offset new old = record { long = written_length offset new old; byte 
 is_resized : (size : ℕ) (old : List ℕ) → IsResized size old (with_length size old)
 is_resized size old = record { long = length-resized size old; byte = λ i lt. resized_byte size old i lt ∙ old_is old i }
 
--- only a regular file is given a size
-regular : (who : Caller) (f : File) (size : ℕ) → check_resize who f (Some size) ≡ Ok tt → (bytes : List ℕ) × (f.body ≡ Regular bytes)
-regular who f size h =
-    let p = bind_ok (bytes_of f.body) (λ _. check (may_write who f) stats.Acces >>= λ _. check_size size) tt h in
-    (p.0, bytes_ok f.body p.0 p.1)
-
 module _ (w : Files) (who : Caller) (now : Timeval) where
   -- after WRITE of some bytes
-  pub wrote_bytes : (n offset : ℕ) (new : List ℕ) → new ≢ [] → (w' : Files) → IsWrote w who now n offset new w' → Becomes w w' n (ChangesBytes (IsWritten offset new))
+  pub wrote_bytes : (n offset : ℕ) (new : List ℕ) → new ≢ [] → (w' : Files) → WriteOk w who now n offset new w' → Becomes w w' n (ChangesBytes (IsWritten offset new))
   wrote_bytes n offset new some w' o = record {
     old = o.file;
     new = with_bytes_written now offset new o.old o.file;
@@ -60,17 +51,17 @@ module _ (w : Files) (who : Caller) (now : Timeval) where
   }
 
   -- after SETATTR with a size
-  pub set_bytes : (n size : ℕ) (a : GivenFields) → a.size ≡ Some size → (w' : Files) → IsSet w who now n a w' → Becomes w w' n (ChangesBytes (IsResized size))
+  pub set_bytes : (n size : ℕ) (a : GivenFields) → a.size ≡ Some size → (w' : Files) → SetOk w who now n a w' → Becomes w w' n (ChangesBytes (IsResized size))
   set_bytes n size a given w' o =
-      let r = regular who o.file size (ap (check_resize who o.file) (sym given) ∙ o.resized) in
+      let r = o.resize size given in
       record {
         old = o.file;
         new = apply_fields now a o.file;
         was = o.there;
-        is = changed_is w who now w' n o.file (apply_fields now a) o.there o.is;
-        change = record { before = r.0; after = with_length size r.0; was = r.1; is = ap (λ s. body_with_length s o.file.body) given ∙ ap (body_with_length (Some size)) r.1; change = is_resized size r.0 };
+        is = changed_is w who now w' n o.file (apply_fields now a) o.there o.effect;
+        change = record { before = r.bytes; after = with_length size r.bytes; was = r.regular; is = ap (λ s. body_with_length s o.file.body) given ∙ ap (body_with_length (Some size)) r.regular; change = is_resized size r.bytes };
       }
 
   -- after CREATE of a new name with a size
-  pub made_bytes : (dir : ℕ) (name : List ℕ) (a : GivenFields) (number size : ℕ) (w' : Files) → a.size ≡ Some size → Makes now w w' dir name number (created w who now a) → (g : File) × (file_at w' number ≡ Some g) × (g.body ≡ Regular (replicate size 0))
-  made_bytes dir name a number size w' given m = (created w who now a, m.made, ap (λ s. Regular (replicate (unwrap_or s 0) 0)) given)
+  pub made_bytes : (dir : ℕ) (name : List ℕ) (a : GivenFields) (number size : ℕ) (w' : Files) → a.size ≡ Some size → Makes now w w' dir name number (new_regular who now a) → (g : File) × (file_at w' number ≡ Some g) × (g.body ≡ Regular (replicate size 0))
+  made_bytes dir name a number size w' given m = (new_regular who now a, m.made, ap (λ s. Regular (replicate (unwrap_or s 0) 0)) given)

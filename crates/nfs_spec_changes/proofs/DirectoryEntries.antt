@@ -12,7 +12,7 @@ use Rattle.fs_changes.specs.Edits.{with_changed_file, map_listing}
 use Rattle.fs_changes.proofs.Finite.{changed_here, changed_other}
 use Rattle.fs_changes.proofs.Listings.{without_entry_here}
 use Rattle.nfs_spec.specs.Changes.{touch, with_mtime, with_ctime}
-use Rattle.nfs_spec_changes.specs.Changed.{Becomes, IsMarked, IsTouched}
+use Rattle.nfs_spec_changes.specs.Changed.{Becomes, ChangesCtime, IsTouched}
 
 module _ {X : Type 0} (x : List ℕ) where
   free_removed : (es : List (List ℕ × X)) → lookup (pointwise nat_eq x) es ≡ None → remove_entry (pointwise nat_eq x) es ≡ es
@@ -77,5 +77,5 @@ becomes_touched now w w' d f l m change there is a e = record {
 }
 
 -- a file was marked
-pub becomes_marked : (now : Timeval) (w w' : Files) (n : ℕ) (f : File) → file_at w n ≡ Some f → file_at w' n ≡ Some (with_ctime now f) → Becomes w w' n (IsMarked now)
+pub becomes_marked : (now : Timeval) (w w' : Files) (n : ℕ) (f : File) → file_at w n ≡ Some f → file_at w' n ≡ Some (with_ctime now f) → Becomes w w' n (ChangesCtime now)
 becomes_marked now w w' n f there is = record { old = f; new = with_ctime now f; was = there; is = is; change = refl }

@@ -1,4 +1,3 @@
-pub mod Granted
 pub mod OtherFiles
 pub mod DirectoryEntries
 pub mod NamedFiles

@@ -23,7 +23,7 @@ use Rattle.nfs_spec.specs.Changes.{apply_fields, touch, with_mtime, touch_ctime,
 use Rattle.nfs_spec.specs.Procedures.{with_bytes_written, add_file}
 use Rattle.nfs_spec_trees.proofs.FilesFit.{dir_file, is_dir, next_free, distinct_names}
 use Rattle.nfs_spec_changes.specs.Changed.{Becomes, LosesName, IsSetTo, IsRewritten, Makes, Links, Unnames}
-use Rattle.nfs_spec_changes.proofs.Granted.{IsSet, IsWrote, IsNew, IsLinked, IsRemoved}
+use Rattle.nfs_spec_steps.specs.Granted.{SetOk, WriteOk, MakeOk, LinkOk, UnnameOk}
 use Rattle.nfs_spec_changes.proofs.DirectoryEntries.{listing_of, begins_at, at_same, at_other, at_relisted, at_touched, becomes_touched, becomes_marked}
 
 -- ---- SETATTR, WRITE
@@ -34,8 +34,8 @@ module _ (w : Files) (who : Caller) (now : Timeval) where
   changed_is w' n f change there is = ap (λ v. file_at v n) is ∙ changed_here w n change n refl ∙ ap (option_map change) there
 
   -- SETATTR: the file has what was given
-  pub set_becomes : (n : ℕ) (a : GivenFields) (w' : Files) → IsSet w who now n a w' → Becomes w w' n (IsSetTo now a)
-  set_becomes n a w' o = record { old = o.file; new = apply_fields now a o.file; was = o.there; is = changed_is w' n o.file (apply_fields now a) o.there o.is; change = refl }
+  pub set_becomes : (n : ℕ) (a : GivenFields) (w' : Files) → SetOk w who now n a w' → Becomes w w' n (IsSetTo now a)
+  set_becomes n a w' o = record { old = o.file; new = apply_fields now a o.file; was = o.there; is = changed_is w' n o.file (apply_fields now a) o.there o.effect; change = refl }
 
   -- bytes that are some are not none
   pub some_length : (new : List ℕ) → new ≢ [] → (length new == 0) ≡ false
@@ -43,12 +43,12 @@ module _ (w : Files) (who : Caller) (now : Timeval) where
   some_length (b ∷ new) h = ne_eqb (length (b ∷ new)) 0 (λ e. absurd (omega (arith, e)))
 
   -- WRITE of some bytes: the file after it
-  pub wrote_is : (n offset : ℕ) (new : List ℕ) → new ≢ [] → (w' : Files) (o : IsWrote w who now n offset new w') → file_at w' n ≡ Some (with_bytes_written now offset new o.old o.file)
+  pub wrote_is : (n offset : ℕ) (new : List ℕ) → new ≢ [] → (w' : Files) (o : WriteOk w who now n offset new w') → file_at w' n ≡ Some (with_bytes_written now offset new o.old o.file)
   wrote_is n offset new some w' o =
-      changed_is w' n o.file (with_bytes_written now offset new o.old) o.there (o.is ∙ ap (λ b. if b then w else with_changed_file w n (with_bytes_written now offset new o.old)) (some_length new some))
+      changed_is w' n o.file (with_bytes_written now offset new o.old) o.there (o.effect ∙ ap (λ b. if b then w else with_changed_file w n (with_bytes_written now offset new o.old)) (some_length new some))
 
   -- WRITE of some bytes: all but mtime, ctime and the bytes stays
-  pub wrote_becomes : (n offset : ℕ) (new : List ℕ) → new ≢ [] → (w' : Files) → IsWrote w who now n offset new w' → Becomes w w' n (IsRewritten now)
+  pub wrote_becomes : (n offset : ℕ) (new : List ℕ) → new ≢ [] → (w' : Files) → WriteOk w who now n offset new w' → Becomes w w' n (IsRewritten now)
   wrote_becomes n offset new some w' o = record { old = o.file; new = with_bytes_written now offset new o.old o.file; was = o.there; is = wrote_is n offset new some w' o; change = refl }
 
   -- ---- CREATE, MKDIR, SYMLINK, LINK
@@ -58,37 +58,37 @@ module _ (w : Files) (who : Caller) (now : Timeval) where
   entry_here d f l there is x = ap (option_and_then (λ f. entry_at (listing_in f.body) x)) there ∙ ap (λ b. entry_at (listing_in b) x) is
 
   -- CREATE of a new name, MKDIR, SYMLINK
-  pub made_makes : IsFileTree w → (dir : ℕ) (name : List ℕ) (f : File) (x : ℕ × Files) → IsNew w who now dir name f x → Makes now w x.1 dir name x.0 f
-  made_makes tree dir name f x o =
-      let l = listing_of o.dir_file.body o.directory in
+  pub made_makes : IsFileTree w → (dir : ℕ) (name : List ℕ) (f : File) (number : ℕ) (w' : Files) → MakeOk w who now dir name f number w' → Makes now w w' dir name number f
+  made_makes tree dir name f number w' o =
+      let l = listing_of o.directory.file.body o.directory.directory in
       let w₁ = with_new_file w f in
       let w₂ = with_name w₁ dir name w.next in
-      let b₁ = at_same w dir o.dir_file o.dir_file.mtime o.dir_file.ctime l.0 (begins_at w dir o.dir_file l.0 o.there l.1) w₁ (new_other w f dir (λ e. apart (sym e))) in
-      let b₂ = at_relisted w₁ dir o.dir_file o.dir_file.mtime o.dir_file.ctime l.0 b₁ (λ m. with_entry m name w.next) in
-      let b₃ = at_touched w₂ dir o.dir_file o.dir_file.mtime o.dir_file.ctime (with_entry l.0 name w.next) b₂ now in
-      let own = becomes_touched now w (add_file now w dir name f) dir o.dir_file l.0 (with_entry l.0 name w.next) (λ m. with_entry m name w.next) o.there l.1 b₃ refl in
+      let b₁ = at_same w dir o.directory.file o.directory.file.mtime o.directory.file.ctime l.0 (begins_at w dir o.directory.file l.0 o.directory.there l.1) w₁ (new_other w f dir (λ e. apart (sym e))) in
+      let b₂ = at_relisted w₁ dir o.directory.file o.directory.file.mtime o.directory.file.ctime l.0 b₁ (λ m. with_entry m name w.next) in
+      let b₃ = at_touched w₂ dir o.directory.file o.directory.file.mtime o.directory.file.ctime (with_entry l.0 name w.next) b₂ now in
+      let own = becomes_touched now w (add_file now w dir name f) dir o.directory.file l.0 (with_entry l.0 name w.next) (λ m. with_entry m name w.next) o.directory.there l.1 b₃ refl in
       let new : file_at (add_file now w dir name f) w.next ≡ Some f = changed_other w₂ dir (with_mtime now) w.next apart ∙ changed_other w₁ dir (map_listing (λ m. with_entry m name w.next)) w.next apart ∙ new_here w f w.next refl in
       let whole : Makes now w (add_file now w dir name f) dir name w.next f = record { number_is = refl; free = next_free w tree; unused = o.free; made = new; directory = own } in
-      subst (λ k. Makes now w x.1 dir name k f) (sym o.number) (subst (λ v. Makes now w v dir name w.next f) (sym o.is) whole)
+      subst (λ k. Makes now w w' dir name k f) (sym o.is_next) (subst (λ v. Makes now w v dir name w.next f) (sym o.effect) whole)
     where
       apart : w.next ≢ dir
-      apart e = none_some (sym (next_free w tree) ∙ ap (file_at w) e ∙ o.there)
+      apart e = none_some (sym (next_free w tree) ∙ ap (file_at w) e ∙ o.directory.there)
 
   -- LINK
-  pub linked_links : (from dir : ℕ) (name : List ℕ) (w' : Files) → IsLinked w who now from dir name w' → Links now w w' from dir name
+  pub linked_links : (from dir : ℕ) (name : List ℕ) (w' : Files) → LinkOk w who now from dir name w' → Links now w w' from dir name
   linked_links from dir name w' o =
-      let l = listing_of o.dir_file.body o.directory in
+      let l = listing_of o.directory.file.body o.directory.directory in
       let w₁ = touch_ctime now w from in
       let w₂ = with_name w₁ dir name from in
-      let b₁ = at_other w dir o.dir_file o.dir_file.mtime o.dir_file.ctime l.0 (begins_at w dir o.dir_file l.0 o.dir_there l.1) from (with_ctime now) (λ e. apart (sym e)) in
-      let b₂ = at_relisted w₁ dir o.dir_file o.dir_file.mtime o.dir_file.ctime l.0 b₁ (λ m. with_entry m name from) in
-      let b₃ = at_touched w₂ dir o.dir_file o.dir_file.mtime o.dir_file.ctime (with_entry l.0 name from) b₂ now in
-      let own = becomes_touched now w (touch now w₂ dir) dir o.dir_file l.0 (with_entry l.0 name from) (λ m. with_entry m name from) o.dir_there l.1 b₃ refl in
+      let b₁ = at_other w dir o.directory.file o.directory.file.mtime o.directory.file.ctime l.0 (begins_at w dir o.directory.file l.0 o.directory.there l.1) from (with_ctime now) (λ e. apart (sym e)) in
+      let b₂ = at_relisted w₁ dir o.directory.file o.directory.file.mtime o.directory.file.ctime l.0 b₁ (λ m. with_entry m name from) in
+      let b₃ = at_touched w₂ dir o.directory.file o.directory.file.mtime o.directory.file.ctime (with_entry l.0 name from) b₂ now in
+      let own = becomes_touched now w (touch now w₂ dir) dir o.directory.file l.0 (with_entry l.0 name from) (λ m. with_entry m name from) o.directory.there l.1 b₃ refl in
       let file : file_at (touch now w₂ dir) from ≡ Some (with_ctime now o.file) = changed_other w₂ dir (with_mtime now) from apart ∙ changed_other w₁ dir (map_listing (λ m. with_entry m name from)) from apart ∙ changed_here w from (with_ctime now) from refl ∙ ap (option_map (with_ctime now)) o.there in
-      subst (λ v. Links now w v from dir name) (sym o.is) (record { unused = o.free; file = becomes_marked now w (touch now w₂ dir) from o.file o.there file; directory = own })
+      subst (λ v. Links now w v from dir name) (sym o.effect) (record { unused = o.free; file = becomes_marked now w (touch now w₂ dir) from o.file o.there file; directory = own })
     where
       apart : from ≢ dir
-      apart e = tf (sym o.directory ∙ ap (λ (f : File). is_directory f.body) (some_same (sym o.dir_there ∙ ap (file_at w) (sym e) ∙ o.there)) ∙ o.plain)
+      apart e = tf (sym o.directory.directory ∙ ap (λ (f : File). is_directory f.body) (some_same (sym o.directory.there ∙ ap (file_at w) (sym e) ∙ o.there)) ∙ o.plain)
         where
           tf : true ≡ false → ⊥
           tf h = cc
@@ -128,29 +128,29 @@ module _ (w : Files) (who : Caller) (now : Timeval) where
           w₁ = without_name w d x
 
     -- REMOVE and RMDIR
-    pub removed_unnames : (directory : Bool) (dir : ℕ) (name : List ℕ) (w' : Files) → IsRemoved w who now directory dir name w' → Unnames now w w' dir name
+    pub removed_unnames : (directory : Bool) (dir : ℕ) (name : List ℕ) (w' : Files) → UnnameOk directory w who now dir name w' → Unnames now w w' dir name
     removed_unnames directory dir name w' o =
-        let df = dir_file w dir (tree.tree.lists dir name o.number o.cookie o.at) in
+        let df = dir_file w dir (tree.tree.lists dir name o.number o.cookie o.is_named) in
         let l = listing_of df.0.body df.2 in
         let w₁ = without_name w dir name in
         let v = unlink now w dir name o.number in
-        let apart = lists_none o.number dir o.file o.there o.empty name (o.number, o.cookie) o.at in
+        let apart = lists_none o.number dir o.file o.there o.empty name (o.number, o.cookie) o.is_named in
         let b₁ = at_relisted w dir df.0 df.0.mtime df.0.ctime l.0 (begins_at w dir df.0 l.0 df.1 l.1) (λ m. without_entry m name) in
         let b₂ = at_same w₁ dir df.0 df.0.mtime df.0.ctime (without_entry l.0 name) b₁ v (kept apart (eqb (names_of w₁ o.number) 0)) in
         let b₃ = at_touched v dir df.0 df.0.mtime df.0.ctime (without_entry l.0 name) b₂ now in
         let own = becomes_touched now w (touch now v dir) dir df.0 l.0 (without_entry l.0 name) (λ m. without_entry m name) df.1 l.1 b₃ refl in
-        let lost = loses dir name o.number o.cookie o.at o.file o.there o.empty (touch now v dir) (changed_other v dir (with_mtime now) o.number apart) in
-        subst (λ u. Unnames now w u dir name) (sym o.is) (record { number = o.number; cookie = o.cookie; was = o.at; file = lost; directory = own })
+        let lost = loses dir name o.number o.cookie o.is_named o.file o.there o.empty (touch now v dir) (changed_other v dir (with_mtime now) o.number apart) in
+        subst (λ u. Unnames now w u dir name) (sym o.effect) (record { number = o.number; cookie = o.cookie; was = o.is_named; file = lost; directory = own })
       where
         kept : o.number ≢ dir → (b : Bool) → file_at (after_unlink b now (without_name w dir name) o.number) dir ≡ file_at (without_name w dir name) dir
         kept apart true = gone_other (without_name w dir name) o.number dir (λ e. apart (sym e))
         kept apart false = changed_other (without_name w dir name) o.number (with_ctime now) dir (λ e. apart (sym e))
 
     -- a directory has one name
-    pub directory_gone : (dir : ℕ) (name : List ℕ) (n c : ℕ) → places w dir name ≡ Some (n, c) → (w' : Files) → IsRemoved w who now true dir name w' → file_at w' n ≡ None
+    pub directory_gone : (dir : ℕ) (name : List ℕ) (n c : ℕ) → places w dir name ≡ Some (n, c) → (w' : Files) → UnnameOk true w who now dir name w' → file_at w' n ≡ None
     directory_gone dir name n c at w' o =
         let u = removed_unnames true dir name w' o in
-        let not_root : o.number ≢ 1 = λ e. root_has_no_name w tree dir o.cookie name (o.at ∙ ap (λ m. Some (m, o.cookie)) e) in
+        let not_root : o.number ≢ 1 = λ e. root_has_no_name w tree dir o.cookie name (o.is_named ∙ ap (λ m. Some (m, o.cookie)) e) in
         let same : n ≡ u.number = ap (λ (e : ℕ × ℕ). e.0) (some_same (sym at ∙ u.was)) in
-        let same' : n ≡ o.number = ap (λ (e : ℕ × ℕ). e.0) (some_same (sym at ∙ o.at)) in
+        let same' : n ≡ o.number = ap (λ (e : ℕ × ℕ). e.0) (some_same (sym at ∙ o.is_named)) in
         ap (file_at w') same ∙ u.file.last (ap (names_of w) (sym same ∙ same') ∙ tree.directories o.number not_root (is_dir w o.number o.file o.there o.kind))

@@ -18,8 +18,8 @@ use Rattle.fs_changes.proofs.PathChanges.{no_return}
 use Rattle.nfs_spec.specs.Changes.{touch, with_mtime, touch_ctime, with_ctime, unlink, after_unlink}
 use Rattle.nfs_spec.specs.Procedures.{climbs_to, is_above, unlink_target}
 use Rattle.nfs_spec_trees.proofs.FilesFit.{dir_file}
-use Rattle.nfs_spec_changes.specs.Changed.{Becomes, IsMarked, IsTouched, LosesName, Moves}
-use Rattle.nfs_spec_changes.proofs.Granted.{IsRenamed}
+use Rattle.nfs_spec_changes.specs.Changed.{Becomes, ChangesCtime, IsTouched, LosesName, Moves}
+use Rattle.nfs_spec_steps.specs.Granted.{RenameOk, MoveOk}
 use Rattle.nfs_spec_changes.proofs.OtherFiles.{unnamed_other, moved_apart, before_mark}
 use Rattle.nfs_spec_changes.proofs.DirectoryEntries.{without_free, with_without, IsAt, listing_of, begins_at, at_same, at_other, at_relisted, at_touched, becomes_touched, becomes_marked}
 use Rattle.nfs_spec_changes.proofs.NamedFiles.{entry_here, lists_none, distinct_in, loses}
@@ -37,7 +37,7 @@ module _ (w : Files) (who : Caller) (now : Timeval) (tree : IsFileTree w) where
   climbs zero n = eq-eqb n n refl
   climbs (suc k) n = ap (λ b. b || climbs_to k w n (parent_of w n)) (eq-eqb n n refl)
 
-  module _ (from : ℕ) (from_name : List ℕ) (to : ℕ) (to_name : List ℕ) (w' : Files) (o : IsRenamed w who now from from_name to to_name w') where
+  module _ (from : ℕ) (from_name : List ℕ) (to : ℕ) (to_name : List ℕ) (w' : Files) (o : RenameOk w who now from from_name to to_name w') (m : MoveOk w now from from_name to to_name o.number o.file w') where
     t : Option ℕ
     t = option_map (λ e. e.0) (places w to to_name)
 
@@ -67,10 +67,10 @@ module _ (w : Files) (who : Caller) (now : Timeval) (tree : IsFileTree w) where
 
     after_is : w' ≡ after
     unfolding t w₁ w₂ w₃ w₄ w₅ after
-    after_is = o.is
+    after_is = m.effect
 
     number_from : o.number ≢ from
-    number_from = lists_other from from_name o.number o.cookie o.at
+    number_from = lists_other from from_name o.number o.cookie o.is_named
 
     number_to : o.number ≢ to
     number_to e = tf (sym (climbs (file_count w) to) ∙ ap (λ m. is_above w m to) (sym e) ∙ low)
@@ -79,20 +79,20 @@ module _ (w : Files) (who : Caller) (now : Timeval) (tree : IsFileTree w) where
         tf h = cc
 
         directory : is_directory o.file.body ≡ true
-        directory = ap (λ (f : File). is_directory f.body) (some_same (sym o.there ∙ ap (file_at w) e ∙ o.to_there)) ∙ o.to_directory
+        directory = ap (λ (f : File). is_directory f.body) (some_same (sym o.there ∙ ap (file_at w) e ∙ o.target.there)) ∙ o.target.directory
 
         low : is_above w o.number to ≡ false
-        low = sym (ap (λ b. b && is_above w o.number to) directory) ∙ o.low
+        low = sym (ap (λ b. b && is_above w o.number to) directory) ∙ m.not_above
 
     module _ (k c : ℕ) (at : places w to to_name ≡ Some (k, c)) where
       target_to : k ≢ to
-      target_to = let g = o.empty k c at in lists_none w who now k to g.0 g.1 g.2 to_name (k, c) at
+      target_to = let g = m.replaces k c at in lists_none w who now k to g.other g.there g.empty to_name (k, c) at
 
       target_from : k ≢ from
-      target_from = let g = o.empty k c at in lists_none w who now k from g.0 g.1 g.2 from_name (o.number, o.cookie) o.at
+      target_from = let g = m.replaces k c at in lists_none w who now k from g.other g.there g.empty from_name (o.number, o.cookie) o.is_named
 
       target_number : k ≢ o.number
-      target_number e = o.other c (at ∙ ap (λ m. Some (m, c)) e)
+      target_number e = m.other c (at ∙ ap (λ m. Some (m, c)) e)
 
     -- what is neither to nor the target is as it was until the entry moves
     cleared_same : (m : ℕ) → m ≢ to → ((k c : ℕ) → places w to to_name ≡ Some (k, c) → m ≢ k) → file_at w₁ m ≡ file_at w m
@@ -104,22 +104,22 @@ module _ (w : Files) (who : Caller) (now : Timeval) (tree : IsFileTree w) where
         by (Some e) is = unnamed_other now w to to_name e.0 m ne (not e.0 e.1 is)
 
     -- the to directory, with nothing at the new name
-    to_listing : (l : Listing) × (o.to_file.body ≡ Directory l)
-    to_listing = listing_of o.to_file.body o.to_directory
+    to_listing : (l : Listing) × (o.target.file.body ≡ Directory l)
+    to_listing = listing_of o.target.file.body o.target.directory
 
     to_distinct : HasDistinctNames to_listing.0.entries
-    to_distinct = distinct_in w who now tree to o.to_file to_listing.0 o.to_there to_listing.1
+    to_distinct = distinct_in w who now tree to o.target.file to_listing.0 o.target.there to_listing.1
 
     record IsClear (v : Files) (l : Listing) : Type 0 where
-      at : IsAt v to o.to_file o.to_file.mtime o.to_file.ctime l
+      at : IsAt v to o.target.file o.target.file.mtime o.target.file.ctime l
       is : l ≡ without_entry to_listing.0 to_name
 
     clear : (l : Listing) × IsClear w₁ l
     unfolding t w₁
     clear = by (places w to to_name) refl
       where
-        begin : IsAt w to o.to_file o.to_file.mtime o.to_file.ctime to_listing.0
-        begin = begins_at w to o.to_file to_listing.0 o.to_there to_listing.1
+        begin : IsAt w to o.target.file o.target.file.mtime o.target.file.ctime to_listing.0
+        begin = begins_at w to o.target.file to_listing.0 o.target.there to_listing.1
 
         kept : (k : ℕ) → k ≢ to → (b : Bool) → file_at (after_unlink b now (without_name w to to_name) k) to ≡ file_at (without_name w to to_name) to
         kept k apart true = gone_other (without_name w to to_name) k to (λ e. apart (sym e))
@@ -127,13 +127,13 @@ module _ (w : Files) (who : Caller) (now : Timeval) (tree : IsFileTree w) where
 
         by : (p : Option (ℕ × ℕ)) → places w to to_name ≡ p → (l : Listing) × IsClear (unlink_target now w to to_name (option_map (λ e. e.0) p)) l
         by None is =
-            let free : entry_at to_listing.0 to_name ≡ None = sym (entry_here w who now to o.to_file to_listing.0 o.to_there to_listing.1 to_name) ∙ is in
+            let free : entry_at to_listing.0 to_name ≡ None = sym (entry_here w who now to o.target.file to_listing.0 o.target.there to_listing.1 to_name) ∙ is in
             (to_listing.0, record { at = begin; is = sym (without_free to_listing.0 to_name free) })
         by (Some e) is =
-            let less_at = at_relisted w to o.to_file o.to_file.mtime o.to_file.ctime to_listing.0 begin (λ m. without_entry m to_name) in (
+            let less_at = at_relisted w to o.target.file o.target.file.mtime o.target.file.ctime to_listing.0 begin (λ m. without_entry m to_name) in (
               without_entry to_listing.0 to_name,
               record {
-                at = at_same (without_name w to to_name) to o.to_file o.to_file.mtime o.to_file.ctime (without_entry to_listing.0 to_name) less_at (unlink now w to to_name e.0)
+                at = at_same (without_name w to to_name) to o.target.file o.target.file.mtime o.target.file.ctime (without_entry to_listing.0 to_name) less_at (unlink now w to to_name e.0)
                     (kept e.0 (target_to e.0 e.1 is) (eqb (names_of (without_name w to to_name) e.0) 0));
                 is = refl;
               },
@@ -145,21 +145,21 @@ module _ (w : Files) (who : Caller) (now : Timeval) (tree : IsFileTree w) where
     apart_to : from ≢ to → Becomes w after to (IsTouched now (λ l. with_entry l to_name o.number))
     unfolding w₂ w₃ w₄ w₅ after
     apart_to ne =
-        let f = o.to_file in
+        let f = o.target.file in
         let l₁ = clear.0 in
         let l₂ = with_entry l₁ to_name o.number in
         let a₂ = at_other w₁ to f f.mtime f.ctime l₁ clear.1.at from (map_listing (λ m. without_entry m from_name)) (λ e. ne (sym e)) in
         let a₃ = at_relisted w₂ to f f.mtime f.ctime l₁ a₂ (λ m. with_entry m to_name o.number) in
         let a₄ = at_other w₃ to f f.mtime f.ctime l₂ a₃ o.number (with_ctime now) (λ e. number_to (sym e)) in
         let a₅ = at_other w₄ to f f.mtime f.ctime l₂ a₄ from (with_mtime now) (λ e. ne (sym e)) in
-        becomes_touched now w after to f to_listing.0 l₂ (λ l. with_entry l to_name o.number) o.to_there to_listing.1 (at_touched w₅ to f f.mtime f.ctime l₂ a₅ now)
+        becomes_touched now w after to f to_listing.0 l₂ (λ l. with_entry l to_name o.number) o.target.there to_listing.1 (at_touched w₅ to f f.mtime f.ctime l₂ a₅ now)
         (ap (λ l. with_entry l to_name o.number) clear.1.is ∙ with_without to_listing.0 to_name o.number to_distinct)
 
     -- the from directory, where the other is another
     apart_from : from ≢ to → Becomes w after from (IsTouched now (λ l. without_entry l from_name))
     unfolding w₂ w₃ w₄ w₅ after
     apart_from ne =
-        let df = dir_file w from (tree.tree.lists from from_name o.number o.cookie o.at) in
+        let df = dir_file w from (tree.tree.lists from from_name o.number o.cookie o.is_named) in
         let l = listing_of df.0.body df.2 in
         let l₁ = without_entry l.0 from_name in
         let a₁ = at_same w from df.0 df.0.mtime df.0.ctime l.0 (begins_at w from df.0 l.0 df.1 l.1) w₁ (cleared_same from ne (λ k c at e. target_from k c at (sym e))) in
@@ -173,7 +173,7 @@ module _ (w : Files) (who : Caller) (now : Timeval) (tree : IsFileTree w) where
     within_to : from ≡ to → Becomes w after to (IsTouched now (λ l. with_entry (without_entry (without_entry l to_name) from_name) to_name o.number))
     unfolding w₂ w₃ w₄ w₅ after
     within_to e =
-        let f = o.to_file in
+        let f = o.target.file in
         let l₁ = clear.0 in
         let l₂ = without_entry l₁ from_name in
         let l₃ = with_entry l₂ to_name o.number in
@@ -181,12 +181,12 @@ module _ (w : Files) (who : Caller) (now : Timeval) (tree : IsFileTree w) where
         let a₃ = at_relisted w₂ to f f.mtime f.ctime l₂ a₂ (λ m. with_entry m to_name o.number) in
         let a₄ = at_other w₃ to f f.mtime f.ctime l₃ a₃ o.number (with_ctime now) (λ e. number_to (sym e)) in
         let a₅ : IsAt w₅ to f now now l₃ = subst (λ m. IsAt (touch now w₄ m) to f now now l₃) (sym e) (at_touched w₄ to f f.mtime f.ctime l₃ a₄ now) in
-        becomes_touched now w after to f to_listing.0 l₃ (λ l. with_entry (without_entry (without_entry l to_name) from_name) to_name o.number) o.to_there to_listing.1 (at_touched w₅ to f now now l₃ a₅ now)
+        becomes_touched now w after to f to_listing.0 l₃ (λ l. with_entry (without_entry (without_entry l to_name) from_name) to_name o.number) o.target.there to_listing.1 (at_touched w₅ to f now now l₃ a₅ now)
         (ap (λ l. with_entry (without_entry l from_name) to_name o.number) clear.1.is)
 
     -- ---- the files
 
-    file_marked : Becomes w after o.number (IsMarked now)
+    file_marked : Becomes w after o.number (ChangesCtime now)
     unfolding t w₁ w₂ w₃ w₄ w₅ after
     file_marked = becomes_marked now w after o.number o.file o.there
         (moved_apart now w o.number from from_name to to_name t o.number number_from number_to
@@ -196,8 +196,8 @@ module _ (w : Files) (who : Caller) (now : Timeval) (tree : IsFileTree w) where
     target_loses : (k c : ℕ) → places w to to_name ≡ Some (k, c) → LosesName now w after k
     unfolding t w₁ w₂ w₃ w₄ w₅ after
     target_loses k c at =
-        let g = o.empty k c at in
-        loses w who now tree to to_name k c at g.0 g.1 g.2 after
+        let g = m.replaces k c at in
+        loses w who now tree to to_name k c at g.other g.there g.empty after
         (moved_apart now w o.number from from_name to to_name t k (target_from k c at) (target_to k c at)
         ∙ changed_other w₃ o.number (with_ctime now) k (target_number k c at)
         ∙ before_mark now w o.number from from_name to to_name t k (target_from k c at) (target_to k c at)
@@ -208,7 +208,7 @@ module _ (w : Files) (who : Caller) (now : Timeval) (tree : IsFileTree w) where
     renamed_moves = subst (λ v. Moves now w v from from_name to to_name) (sym after_is) (record {
       number = o.number;
       cookie = o.cookie;
-      was = o.at;
+      was = o.is_named;
       file = file_marked;
       target = target_loses;
       source = apart_from;

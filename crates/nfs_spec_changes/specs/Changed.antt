@@ -15,8 +15,8 @@ pub record Becomes (fs fs' : Files) (n : ℕ) (Change : File → File → Type 0
   pub change : Change old new
 
 -- ctime is now, and all else stays
-abbrev pub IsMarked : Timeval → File → File → Type 0
-IsMarked now old new = new ≡ record old { ctime = now }
+abbrev pub ChangesCtime : Timeval → File → File → Type 0
+ChangesCtime now old new = new ≡ record old { ctime = now }
 
 -- ---- directories
 
@@ -29,7 +29,7 @@ pub record IsTouched (now : Timeval) (change : Listing → Listing) (old new : F
 -- a name goes: with the last one the file is gone, else its ctime is now
 pub record LosesName (now : Timeval) (fs fs' : Files) (n : ℕ) : Type 0 where
   pub last : names_of fs n ≡ 1 → file_at fs' n ≡ None
-  pub others : names_of fs n ≢ 1 → Becomes fs fs' n (IsMarked now)
+  pub others : names_of fs n ≢ 1 → Becomes fs fs' n (ChangesCtime now)
 
 -- ---- bytes
 
@@ -84,7 +84,7 @@ pub record Makes (now : Timeval) (fs fs' : Files) (dir : ℕ) (name : List ℕ) 
 -- LINK: a file has another name, which was free
 pub record Links (now : Timeval) (fs fs' : Files) (number dir : ℕ) (name : List ℕ) : Type 0 where
   pub unused : places fs dir name ≡ None
-  pub file : Becomes fs fs' number (IsMarked now)
+  pub file : Becomes fs fs' number (ChangesCtime now)
   pub directory : Becomes fs fs' dir (IsTouched now (λ l. with_entry l name number))
 
 -- REMOVE, RMDIR: what the name stood for loses it
@@ -106,7 +106,7 @@ pub record Moves (now : Timeval) (fs fs' : Files) (from : ℕ) (from_name : List
   pub number : ℕ
   pub cookie : ℕ
   pub was : places fs from from_name ≡ Some (number, cookie)
-  pub file : Becomes fs fs' number (IsMarked now)
+  pub file : Becomes fs fs' number (ChangesCtime now)
   pub target : (t c : ℕ) → places fs to to_name ≡ Some (t, c) → LosesName now fs fs' t
   pub source : from ≢ to → Becomes fs fs' from (IsTouched now (λ l. without_entry l from_name))
   pub apart : from ≢ to → Becomes fs fs' to (IsTouched now (λ l. with_entry l to_name number))

@@ -1,11 +1,1 @@
-pub use Rattle.nfs_types.specs.Timeval
-pub use Rattle.nfs_types.specs.Caller
-pub use Rattle.fs_model.specs.Listing
-pub use Rattle.fs_model.specs.Paths
-pub use Rattle.fs_model.specs.Files
-pub use Rattle.fs_model.specs.Trees
-pub use Rattle.nfs_spec.specs.Sattr
-pub use Rattle.nfs_spec.specs.Changes
-pub use Rattle.nfs_spec.specs.Procedures
-pub use Rattle.nfs_spec.specs.NfsCalls
 pub mod Changed

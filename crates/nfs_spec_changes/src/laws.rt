@@ -8,7 +8,7 @@ ghost use Rattle.fs_model.specs.Trees.{IsFileTree};
 ghost use Rattle.nfs_spec.specs.Sattr.{GivenFields, no_fields};
 ghost use Rattle.nfs_spec.specs.Changes.{new_file};
 ghost use Rattle.nfs_spec.specs.Procedures.{set_attributes, write, create, make_dir, symlink, link, remove, remove_dir, rename};
-ghost use Rattle.nfs_spec_steps.specs.Granted.{IsSameFile};
+ghost use Rattle.nfs_spec_steps.specs.Granted.{IsSameFile, new_regular, new_directory, new_link};
 ghost use Rattle.nfs_spec_changes.specs.Changed.{Becomes, IsSetTo, IsRewritten, IsWritten, IsResized, ChangesBytes, Makes, Links, Unnames, Moves};
 
 /// SETATTR keeps what isn't given, and CREATE of a name that is there does as SETATTR; WRITE keeps all but
@@ -34,14 +34,14 @@ pub fn making_keeps_the_rest()
         (a : GivenFields) → IsFileTree fs → places fs dir name ≡ None →
         create fs who now dir name a ≡ Ok (number, after) →
         Makes now fs after dir name number
-        (new_file who now a 420 (Regular (replicate (unwrap_or a.size 0) 0))) }
+        (new_regular who now a) }
     ensures make_dir { (fs after : Files) (who : Caller) (now : Timeval) (dir number : ℕ) (name : List ℕ)
         (a : GivenFields) → IsFileTree fs → make_dir fs who now dir name a ≡ Ok (number, after) →
         Makes now fs after dir name number
-        (new_file who now a 493 (Directory (record { next = 3; entries = [] }))) }
+        (new_directory who now a) }
     ensures symlink { (fs after : Files) (who : Caller) (now : Timeval) (dir number : ℕ)
         (name target : List ℕ) → IsFileTree fs → symlink fs who now dir name target ≡ Ok (number, after) →
-        Makes now fs after dir name number (new_file who now no_fields 511 (Symlink target)) }
+        Makes now fs after dir name number (new_link who now target) }
     ensures link { (fs after : Files) (who : Caller) (now : Timeval) (from dir : ℕ) (name : List ℕ) →
         link fs who now from dir name ≡ Ok (tt, after) → Links now fs after from dir name }
 {}
@@ -70,7 +70,8 @@ pub fn removing_keeps_the_rest()
     ensures remove_dir { (fs after : Files) (who : Caller) (now : Timeval) (dir : ℕ) (name : List ℕ) →
         IsFileTree fs → remove_dir fs who now dir name ≡ Ok (tt, after) → Unnames now fs after dir name }
     ensures gone { (fs after : Files) (who : Caller) (now : Timeval) (dir n cookie : ℕ) (name : List ℕ) →
-        IsFileTree fs → places fs dir name ≡ Some (n, cookie) → remove_dir fs who now dir name ≡ Ok (tt, after) →
+        IsFileTree fs → places fs dir name ≡ Some (n, cookie) →
+        remove_dir fs who now dir name ≡ Ok (tt, after) →
         file_at after n ≡ None }
 {}
 
@@ -89,8 +90,8 @@ pub fn bytes_are_what_was_written()
     ensures write { (fs after : Files) (who : Caller) (now : Timeval) (n offset : ℕ) (new : List ℕ) →
         new ≢ [] → write fs who now n offset new ≡ Ok (tt, after) →
         Becomes fs after n (ChangesBytes (IsWritten offset new)) }
-    ensures set_attributes { (fs after : Files) (who : Caller) (now : Timeval) (n size : ℕ) (a : GivenFields) →
-        a.size ≡ Some size → set_attributes fs who now n a ≡ Ok (tt, after) →
+    ensures set_attributes { (fs after : Files) (who : Caller) (now : Timeval) (n size : ℕ)
+        (a : GivenFields) → a.size ≡ Some size → set_attributes fs who now n a ≡ Ok (tt, after) →
         Becomes fs after n (ChangesBytes (IsResized size)) }
     ensures create { (fs after : Files) (who : Caller) (now : Timeval) (dir number size : ℕ) (name : List ℕ)
         (a : GivenFields) → IsFileTree fs → a.size ≡ Some size → places fs dir name ≡ None →

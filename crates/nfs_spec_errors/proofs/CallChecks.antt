@@ -1,9 +1,8 @@
 -- Each call, by file handles, gives in a tree the stat of the first of `checks_of` that fails: what a call
 -- adds to its procedure (a handle to be read, attributes to be shown) gives no stat but STALE.
 -- Serves: stats_of_calls (nfs_spec_errors).
-use Rattle.std.proofs.Common.{◌≡◌, ⊎_elim, ℕ, ◌+◌, Bool, true, false, cond, List, [], ◌∷◌, length, replicate, Option, Some, None, Result, Ok, Err, is_some, option_map, option_and_then, refl, sym, ap, subst, ◌∙◌, arith}
+use Rattle.std.proofs.Common.{◌≡◌, ⊎_elim, ℕ, Bool, true, false, cond, List, [], ◌∷◌, length, Option, Some, None, Result, Ok, Err, is_some, option_map, option_and_then, refl, sym, ap, subst, ◌∙◌, arith}
 use Rattle.std.specs.Prelude.{IsSome, unwrap_or, ◌==◌}
-use Rattle.std.specs.Option.{option_map_or}
 use Rattle.std.proofs.lemmas.Bool.{cases_eq}
 use Rattle.nfs_types.specs.Timeval.{Timeval}
 use Rattle.nfs_types.specs.Caller.{Caller}
@@ -12,28 +11,31 @@ use Rattle.nfs_types.specs.declared.attributes.Fattr.{Fattr}
 use Rattle.nfs_types.specs.declared.stat.Stat.{Stat}
 use Rattle.nfs_types.specs.declared.stat.Stat.TheVariants as stats
 use Rattle.fs_model.specs.Listing.{entry_at}
-use Rattle.fs_model.specs.Names.{is_name}
-use Rattle.fs_model.specs.Files.{File, Files, Regular, file_at, listing_in, is_directory}
+use Rattle.fs_model.specs.Files.{File, Files, file_at, listing_in, is_directory, places}
 use Rattle.fs_model.specs.Trees.{IsFileTree}
 use Rattle.fs_changes.specs.Edits.{with_changed_file, with_new_file, with_name}
 use Rattle.fs_changes.proofs.Finite.{changed_here, changed_other, new_here}
 use Rattle.nfs_spec.specs.FileAttributes.{attributes_of}
-use Rattle.nfs_spec.specs.ProcedureChecks.{◌>>=◌, NumberedDir, ok_or, file_of, dir_of, listing_or, check, check_size, check_room, check_edit, check_free, bytes_of, may_search, may_write}
+use Rattle.nfs_spec.specs.ProcedureChecks.{◌>>=◌, ok_or, file_of, listing_or, may_search}
 use Rattle.nfs_spec.specs.Sattr.{GivenFields, given_fields}
-use Rattle.nfs_spec.specs.Changes.{Effect, check_owner, check_resize, apply_fields, new_file}
+use Rattle.nfs_spec.specs.Changes.{Effect, apply_fields}
 use Rattle.nfs_spec.specs.Effects.{attributes_at, number_named, number_at_name}
-use Rattle.nfs_spec.specs.Procedures.{set_attributes, write, with_bytes_written, add_file, create, create_over, create_new, make, is_regular}
+use Rattle.nfs_spec.specs.Procedures.{with_bytes_written, add_file}
 use Rattle.nfs_spec.specs.LawTerms.{stat_in}
 use Rattle.nfs_spec.specs.NfsCalls as calls
 use Rattle.nfs_spec.specs.NfsCalls.{Call, Answer, answer_and_files, with_attributes, with_handle, without_number, number_for, call_does}
 use Rattle.nfs_spec.proofs.Present.{named_there}
 use Rattle.nfs_spec_steps.specs.Answers.{refusal_in}
-use Rattle.nfs_spec_steps.proofs.Steps.{bind_ok, found_ok, ok_same, directory_ok}
+use Rattle.nfs_spec_steps.proofs.Steps.{bind_ok, no_error, found_ok, directory_ok}
+use Rattle.nfs_spec_steps.specs.Granted.{SetOk, WriteOk, MakeOk, CreateOk}
+use Rattle.nfs_spec_steps.proofs.Setting.{set_ok, write_ok}
+use Rattle.nfs_spec_steps.proofs.Making.{make_ok, create_ok}
 use Rattle.nfs_spec_errors.specs.Checks.{Checks, first_failing, is_there}
 use Rattle.nfs_spec_errors.specs.Tables.{lookup_checks, checks_of}
-use Rattle.nfs_spec_errors.proofs.StepsInTurn.{HasStat}
+use Rattle.nfs_spec_errors.proofs.StepsInTurn.{HasStat, no_some}
 use Rattle.nfs_spec_errors.proofs.ReaderChecks.{of_getattr, of_lookup, of_read_link, of_read, of_read_dir, of_figures}
-use Rattle.nfs_spec_errors.proofs.WriteMkdirSymlinkChecks.{of_write, of_make_dir, of_symlink}
+use Rattle.nfs_spec_errors.proofs.WriteChecks.{of_write}
+use Rattle.nfs_spec_errors.proofs.MakeChecks.{of_make}
 use Rattle.nfs_spec_errors.proofs.SetattrChecks.{of_set}
 use Rattle.nfs_spec_errors.proofs.LinkChecks.{of_link}
 use Rattle.nfs_spec_errors.proofs.RemoveChecks.{of_remove, of_remove_dir}
@@ -54,9 +56,6 @@ then_something (Err e) f some = refl
 shown : {B : Type 0} (w : Files) (n : ℕ) (give : Fattr → B) → IsSome (file_at w n) → stat_in (attributes_at w n >>= λ a. Ok (give a)) ≡ None
 shown w n give there = by (file_at w n) there
   where
-    no_some : false ≡ true → ⊥
-    no_some h = cc
-
     by : (o : Option File) → IsSome o → stat_in ((ok_or stats.Stale o >>= λ f. Ok (attributes_of w n f)) >>= λ a. Ok (give a)) ≡ None
     by None h = absurd (no_some h)
     by (Some f) h = refl
@@ -82,61 +81,28 @@ kept w k change n h = ⊎_elim
     same None = refl
     same (Some f) = refl
 
-set_there : (w : Files) (who : Caller) (now : Timeval) (n : ℕ) (a : GivenFields) (x : Unit {0} × Files) → set_attributes w who now n a ≡ Ok x → IsSome (file_at x.1 n)
-set_there w who now n a x h =
-    let p = bind_ok (file_of w n) _ x h in
-    let q = bind_ok (check_owner who p.0 a) _ x p.2 in
-    let r = bind_ok (check_resize who p.0 a.size) _ x q.2 in
-    let s = bind_ok (cond (is_some a.size) (check_room (with_changed_file w n (apply_fields now a))) (Ok tt)) _ x r.2 in
-    subst (λ (y : Unit {0} × Files). IsSome (file_at y.1 n)) (ok_same s.2) (kept w n (apply_fields now a) n (ap is_some (found_ok stats.Stale (file_at w n) p.0 p.1)))
+set_there : (w : Files) (who : Caller) (now : Timeval) (n : ℕ) (a : GivenFields) (after : Files) → SetOk w who now n a after → IsSome (file_at after n)
+set_there w who now n a after o = subst (λ (v : Files). IsSome (file_at v n)) (sym o.effect) (kept w n (apply_fields now a) n (ap is_some o.there))
 
-write_there : (w : Files) (who : Caller) (now : Timeval) (n offset : ℕ) (new : List ℕ) (x : Unit {0} × Files) → write w who now n offset new ≡ Ok x → IsSome (file_at x.1 n)
-write_there w who now n offset new x h =
-    let p = bind_ok (file_of w n) _ x h in
-    let q = bind_ok (bytes_of p.0.body) _ x p.2 in
-    let r = bind_ok (check (may_write who p.0) stats.Acces) _ x q.2 in
-    by q.0 (ap is_some (found_ok stats.Stale (file_at w n) p.0 p.1)) (length new == 0) r.2
+write_there : (w : Files) (who : Caller) (now : Timeval) (n offset : ℕ) (new : List ℕ) (after : Files) → WriteOk w who now n offset new after → IsSome (file_at after n)
+write_there w who now n offset new after o = subst (λ (v : Files). IsSome (file_at v n)) (sym o.effect) (by (length new == 0))
   where
-    by : (old : List ℕ) → IsSome (file_at w n) → (b : Bool)
-        → cond b (Ok (tt, w)) (check_size (offset + length new) >>= λ _. check_room (with_changed_file w n (with_bytes_written now offset new old)) >>= λ _. Ok (tt, with_changed_file w n (with_bytes_written now offset new old))) ≡ Ok x
-        → IsSome (file_at x.1 n)
-    by old there true h = subst (λ (y : Unit {0} × Files). IsSome (file_at y.1 n)) (ok_same h) there
-    by old there false h =
-        let after = with_changed_file w n (with_bytes_written now offset new old) in
-        let s = bind_ok (check_size (offset + length new)) _ x h in
-        let t = bind_ok (check_room after) _ x s.2 in
-        subst (λ (y : Unit {0} × Files). IsSome (file_at y.1 n)) (ok_same t.2) (kept w n (with_bytes_written now offset new old) n there)
+    by : (b : Bool) → IsSome (file_at (cond b w (with_changed_file w n (with_bytes_written now offset new o.old))) n)
+    by true = ap is_some o.there
+    by false = kept w n (with_bytes_written now offset new o.old) n (ap is_some o.there)
 
 made_there : (now : Timeval) (w : Files) (dir : ℕ) (name : List ℕ) (f : File) → IsSome (file_at (add_file now w dir name f) w.next)
 made_there now w dir name f = kept (with_name (with_new_file w f) dir name w.next) dir _ w.next (kept (with_new_file w f) dir _ w.next (ap is_some (new_here w f w.next refl)))
 
-create_there : (w : Files) (who : Caller) (now : Timeval) (dir : ℕ) (name : List ℕ) (a : GivenFields) (x : ℕ × Files) → create w who now dir name a ≡ Ok x → IsSome (file_at x.1 x.0)
-create_there w who now dir name a x h =
-    let p = bind_ok (dir_of w dir) _ x h in
-    let q = bind_ok (check (is_name name) stats.Acces) _ x p.2 in
-    let r = bind_ok (check (may_search who p.0.file) stats.Acces) _ x q.2 in
-    by p.0 (entry_at p.0.listing name) r.2
-  where
-    by : (d : NumberedDir) (o : Option (ℕ × ℕ)) → option_map_or (λ e. create_over w who now a e.0) o (create_new w who now d name a) ≡ Ok x → IsSome (file_at x.1 x.0)
-    by d (Some e) h =
-        let p = bind_ok (file_of w e.0) _ x h in
-        let q = bind_ok (check (is_regular p.0.body) stats.Exist) _ x p.2 in
-        let r = bind_ok (set_attributes w who now e.0 a) _ x q.2 in
-        subst (λ (y : ℕ × Files). IsSome (file_at y.1 y.0)) (ok_same r.2) (set_there w who now e.0 a r.0 r.1)
-    by d None h =
-        let f = new_file who now a 420 (Regular (replicate (unwrap_or a.size 0) 0)) in
-        let p = bind_ok (check (may_write who d.file) stats.Acces) _ x h in
-        let q = bind_ok (check_size (unwrap_or a.size 0)) _ x p.2 in
-        let r = bind_ok (check_room (add_file now w d.number name f)) _ x q.2 in
-        subst (λ (y : ℕ × Files). IsSome (file_at y.1 y.0)) (ok_same r.2) (made_there now w d.number name f)
+make_there : (w : Files) (who : Caller) (now : Timeval) (dir : ℕ) (name : List ℕ) (f : File) (number : ℕ) (after : Files) → MakeOk w who now dir name f number after → IsSome (file_at after number)
+make_there w who now dir name f number after o = subst (λ (v : Files). IsSome (file_at v number)) (sym o.effect) (subst (λ n. IsSome (file_at (add_file now w dir name f) n)) (sym o.is_next) (made_there now w dir name f))
 
-make_there : (w : Files) (who : Caller) (now : Timeval) (dir : ℕ) (name : List ℕ) (f : File) (x : ℕ × Files) → make w who now dir name f ≡ Ok x → IsSome (file_at x.1 x.0)
-make_there w who now dir name f x h =
-    let p = bind_ok (dir_of w dir) _ x h in
-    let q = bind_ok (check_edit who p.0 name) _ x p.2 in
-    let r = bind_ok (check_free p.0 name) _ x q.2 in
-    let s = bind_ok (check_room (add_file now w dir name f)) _ x r.2 in
-    subst (λ (y : ℕ × Files). IsSome (file_at y.1 y.0)) (ok_same s.2) (made_there now w dir name f)
+create_there : (w : Files) (who : Caller) (now : Timeval) (dir : ℕ) (name : List ℕ) (a : GivenFields) (number : ℕ) (after : Files) → CreateOk w who now dir name a number after → IsSome (file_at after number)
+create_there w who now dir name a number after o = by (places w dir name) refl
+  where
+    by : (place : Option (ℕ × ℕ)) → places w dir name ≡ place → IsSome (file_at after number)
+    by None free = make_there w who now dir name _ number after (o.fresh free).make
+    by (Some e) at = let over = o.over e.0 e.1 at in subst (λ n. IsSome (file_at after n)) (sym over.is_same) (set_there w who now e.0 a after over.set)
 
 -- ---- handles
 
@@ -165,10 +131,7 @@ module _ (w : Files) (tree : IsFileTree w) where
     where
       by : (b : Bool) (o : Option ℕ) → cond b (ok_or stats.NoEnt o) (Err stats.Acces) ≡ Ok n → o ≡ Some n
       by true o h = found_ok stats.NoEnt o n h
-      by false o h = absurd (never h)
-        where
-          never : ◌≡◌ {A = Result ℕ Stat} (Err stats.Acces) (Ok n) → ⊥
-          never h = cc
+      by false o h = absurd (no_error h)
 
   abbrev found_with : ℕ → Fattr → Result (List ℕ × Fattr) Stat
   found_with n a = Ok (handle_of w.fsid n, a)
@@ -176,34 +139,34 @@ module _ (w : Files) (tree : IsFileTree w) where
   looked_up : (who : Caller) (name : List ℕ) (dir : ℕ) → HasStat (number_at_name w who dir name >>= λ n. attributes_at w n >>= found_with n) (lookup_checks w who dir name)
   looked_up who name dir = record {
     says = then_something (number_at_name w who dir name) (λ n. attributes_at w n >>= found_with n) (λ n h. shown w n (λ a. (handle_of w.fsid n, a)) (lookup_there who dir name n h))
-        ∙ of_lookup w who dir name;
+        ∙ (of_lookup w who dir name).says;
   }
 
   -- a call's refusal is the first of its checks that fails
   pub of_calls : (who : Caller) (now : Timeval) (call : Call) → refusal_in (call_does w who now call).0 ≡ first_failing (checks_of w who now call)
   of_calls who now calls.Null = refl
-  of_calls who now (calls.Getattr file) = by_handle (number_in w.fsid file) (attributes_at w) (λ n. []) (λ n. record { says = of_getattr w n })
+  of_calls who now (calls.Getattr file) = by_handle (number_in w.fsid file) (attributes_at w) (λ n. []) (of_getattr w)
   of_calls who now (calls.Setattr file s) =
       let n = number_for w file in
-      of_told calls.Attributes (λ r. refl) w _ ∙ of_attributes n _ (set_there w who now n (given_fields now s)) ∙ (of_set w who now n (given_fields now s)).says
+      of_told calls.Attributes (λ r. refl) w _ ∙ of_attributes n _ (λ x h. set_there w who now n (given_fields now s) x.1 (set_ok w who now n (given_fields now s) x.1 h)) ∙ (of_set w who now n (given_fields now s)).says
   of_calls who now calls.Root = refl
   of_calls who now (calls.Lookup dir name) = by_handle (number_in w.fsid dir) (λ d. number_at_name w who d name >>= λ n. attributes_at w n >>= found_with n) _ (looked_up who name)
-  of_calls who now (calls.Readlink file) = of_read_link w (number_for w file)
-  of_calls who now (calls.Read file offset count) = of_read w who (number_for w file) offset count
+  of_calls who now (calls.Readlink file) = (of_read_link w (number_for w file)).says
+  of_calls who now (calls.Read file offset count) = (of_read w who (number_for w file) offset count).says
   of_calls who now calls.Writecache = refl
   of_calls who now (calls.Write file offset new) =
       let n = number_for w file in
-      of_told calls.Attributes (λ r. refl) w _ ∙ of_attributes n _ (write_there w who now n offset new) ∙ of_write w who now n offset new
+      of_told calls.Attributes (λ r. refl) w _ ∙ of_attributes n _ (λ x h. write_there w who now n offset new x.1 (write_ok w who now n offset new x.1 h)) ∙ (of_write w who now n offset new).says
   of_calls who now (calls.Create dir name s) =
       let d = number_for w dir in
-      of_told calls.DirOp (λ r. refl) w _ ∙ of_handle _ (create_there w who now d name (given_fields now s)) ∙ (of_create w tree who now d name (given_fields now s)).says
+      of_told calls.DirOp (λ r. refl) w _ ∙ of_handle _ (λ x h. create_there w who now d name (given_fields now s) x.0 x.1 (create_ok w who now d name (given_fields now s) x.0 x.1 h)) ∙ (of_create w tree who now d name (given_fields now s)).says
   of_calls who now (calls.Remove dir name) = of_told calls.Status (λ r. refl) w _ ∙ (of_remove w tree who now (number_for w dir) name).says
   of_calls who now (calls.Rename from from_name to to_name) = of_told calls.Status (λ r. refl) w _ ∙ (of_rename w tree who now (number_for w from) from_name (number_for w to) to_name).says
   of_calls who now (calls.Link from dir name) = of_told calls.Status (λ r. refl) w _ ∙ (of_link w who now (number_for w from) (number_for w dir) name).says
-  of_calls who now (calls.Symlink dir name target s) = of_told calls.Status (λ r. refl) w _ ∙ of_no_number _ ∙ of_symlink w who now (number_for w dir) name target
+  of_calls who now (calls.Symlink dir name target s) = of_told calls.Status (λ r. refl) w _ ∙ of_no_number _ ∙ (of_make w who now (number_for w dir) name _).says
   of_calls who now (calls.Mkdir dir name s) =
       let d = number_for w dir in
-      of_told calls.DirOp (λ r. refl) w _ ∙ of_handle _ (make_there w who now d name _) ∙ of_make_dir w who now d name (given_fields now s)
+      of_told calls.DirOp (λ r. refl) w _ ∙ of_handle _ (λ x h. make_there w who now d name _ x.0 x.1 (make_ok w who now d name _ x.0 x.1 h)) ∙ (of_make w who now d name _).says
   of_calls who now (calls.Rmdir dir name) = of_told calls.Status (λ r. refl) w _ ∙ (of_remove_dir w tree who now (number_for w dir) name).says
-  of_calls who now (calls.Readdir dir cookie count) = of_read_dir w who (number_for w dir) cookie count
-  of_calls who now (calls.Statfs file) = of_figures w (number_for w file)
+  of_calls who now (calls.Readdir dir cookie count) = (of_read_dir w who (number_for w dir) cookie count).says
+  of_calls who now (calls.Statfs file) = (of_figures w (number_for w file)).says

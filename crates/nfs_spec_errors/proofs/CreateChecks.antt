@@ -18,9 +18,9 @@ use Rattle.nfs_spec.specs.Changes.{new_file}
 use Rattle.nfs_spec.specs.Procedures.{set_attributes, create_over, create_new, create, is_regular, add_file}
 use Rattle.nfs_spec_steps.specs.Granted.{IsFound}
 use Rattle.nfs_spec_steps.proofs.Steps.{found_ok, dir_ok, place_found}
-use Rattle.nfs_spec_errors.specs.Checks.{Checks, holds_at, given}
+use Rattle.nfs_spec_errors.specs.Checks.{Checks, holds_at, if_given}
 use Rattle.nfs_spec_errors.specs.Tables.{set_checks, create_checks}
-use Rattle.nfs_spec_errors.proofs.StepsInTurn.{HasStat, in_turn, done, of_check, of_same, of_that_file, of_dir, test_at, named_file}
+use Rattle.nfs_spec_errors.proofs.StepsInTurn.{HasStat, in_turn, done, of_check, of_same, of_that_file, of_dir, of_test_at, named_file}
 use Rattle.nfs_spec_errors.proofs.SetattrChecks.{of_set}
 
 module _ (w : Files) (tree : IsFileTree w) (who : Caller) (now : Timeval) (dir : ℕ) (name : List ℕ) where
@@ -30,10 +30,10 @@ module _ (w : Files) (tree : IsFileTree w) (who : Caller) (now : Timeval) (dir :
         let own = named_file w tree dir name n c place in
         in_turn (file_of w n) _ (of_that_file w n own.0 own.1) (λ f is.
         let there = found_ok stats.Stale (file_at w n) f is in
-        in_turn (check (is_regular f.body) stats.Exist) _ (of_same (is_regular f.body) (holds_at w n (λ f. is_regular f.body)) stats.Exist (test_at w n f (λ f. is_regular f.body) there)) (λ _ _.
+        in_turn (check (is_regular f.body) stats.Exist) _ (of_test_at w n f there (λ f. is_regular f.body) stats.Exist) (λ _ _.
         in_turn (set_attributes w who now n a) _ (of_set w who now n a) (λ _ _. done _)))
 
-    of_size : (size : Option ℕ) → HasStat (check_size (unwrap_or size 0)) ((given size (λ size. nat_le size 1048576), stats.FBig) ∷ [])
+    of_size : (size : Option ℕ) → HasStat (check_size (unwrap_or size 0)) ((if_given size (λ size. nat_le size 1048576), stats.FBig) ∷ [])
     of_size None = record { says = refl }
     of_size (Some size) = record { says = (of_check (nat_le size 1048576) stats.FBig).says }
 
@@ -41,11 +41,11 @@ module _ (w : Files) (tree : IsFileTree w) (who : Caller) (now : Timeval) (dir :
     new n = add_file now w n name (new_file who now a 420 (Regular (replicate (unwrap_or a.size 0) 0)))
 
     abbrev new_checks : Checks
-    new_checks = (holds_at w dir (may_write who), stats.Acces) ∷ (given a.size (λ size. nat_le size 1048576), stats.FBig) ∷ (has_room (new dir), stats.NoSpc) ∷ []
+    new_checks = (holds_at w dir (may_write who), stats.Acces) ∷ (if_given a.size (λ size. nat_le size 1048576), stats.FBig) ∷ (has_room (new dir), stats.NoSpc) ∷ []
 
     of_new : (d : NumberedDir) → IsFound w dir d → HasStat (create_new w who now d name a) new_checks
     of_new d found =
-        in_turn (check (may_write who d.file) stats.Acces) _ (of_same (may_write who d.file) (holds_at w dir (may_write who)) stats.Acces (test_at w dir d.file (may_write who) found.there)) (λ _ _.
+        in_turn (check (may_write who d.file) stats.Acces) _ (of_test_at w dir d.file found.there (may_write who) stats.Acces) (λ _ _.
         in_turn (check_size (unwrap_or a.size 0)) _ (of_size a.size) (λ _ _.
         in_turn (check_room (new d.number)) _ (of_same (has_room (new d.number)) (has_room (new dir)) stats.NoSpc (ap (λ n. has_room (new n)) (sym found.number))) (λ _ _. done _)))
 
@@ -55,7 +55,7 @@ module _ (w : Files) (tree : IsFileTree w) (who : Caller) (now : Timeval) (dir :
         in_turn (dir_of w dir) _ (of_dir w dir) (λ d is.
         let found = dir_ok w dir d is in
         in_turn (check (is_name name) stats.Acces) _ (of_check (is_name name) stats.Acces) (λ _ _.
-        in_turn (check (may_search who d.file) stats.Acces) _ (of_same (may_search who d.file) (holds_at w dir (may_search who)) stats.Acces (test_at w dir d.file (may_search who) found.there)) (λ _ _.
+        in_turn (check (may_search who d.file) stats.Acces) _ (of_test_at w dir d.file found.there (may_search who) stats.Acces) (λ _ _.
         ends d found (entry_at d.listing name) (place_found w dir d found name))))
       where
         ends : (d : NumberedDir) (found : IsFound w dir d) (o : Option (ℕ × ℕ)) → places w dir name ≡ o

@@ -21,6 +21,7 @@ use Rattle.nfs_spec_steps.specs.Answers.{refusal_in}
 use Rattle.fs_model.specs.Listing.{entry_at}
 use Rattle.fs_model.proofs.Walks.{none_some, some_same}
 use Rattle.nfs_types.specs.Handle.{number_in}
+use Rattle.nfs_spec_errors.proofs.StepsInTurn.{no_some}
 
 -- whether a stat is none of IO, NODEV, ROFS, NAMETOOLONG, DQUOT and WFLUSH
 abbrev is_ever_given : Stat → Bool
@@ -42,11 +43,8 @@ IsNoneOfSix e = (e ≢ stats.Io) × (e ≢ stats.NoDev) × (e ≢ stats.RoFs) ×
 none_of_six : (e : Stat) → IsGiven e → IsNoneOfSix e
 none_of_six e h = (differs stats.Io refl, differs stats.NoDev refl, differs stats.RoFs refl, differs stats.NameTooLong refl, differs stats.DQuot refl, differs stats.WFlush refl)
   where
-    never : false ≡ true → ⊥
-    never h = cc
-
     differs : (s : Stat) → is_ever_given s ≡ false → e ≢ s
-    differs s out is = never (sym out ∙ sym (ap is_ever_given is) ∙ h)
+    differs s out is = no_some (sym out ∙ sym (ap is_ever_given is) ∙ h)
 
 -- a result is Ok, or its stat is one that is given
 abbrev Gives : {A : Type 0} → Result A Stat → Type 0

@@ -1,7 +1,7 @@
-pub mod StatsByBody
 pub mod StepsInTurn
 pub mod ReaderChecks
-pub mod WriteMkdirSymlinkChecks
+pub mod WriteChecks
+pub mod MakeChecks
 pub mod SetattrChecks
 pub mod LinkChecks
 pub mod RemoveChecks

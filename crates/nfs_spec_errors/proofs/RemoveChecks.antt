@@ -1,19 +1,19 @@
 -- REMOVE and RMDIR give in a tree the stat of the first of their checks that fails.
 -- Serves: stats_of_remove, stats_of_remove_dir; by CallChecks stats_of_calls (nfs_spec_errors).
-use Rattle.std.proofs.Common.{◌≡◌, ℕ, Bool, not, List, [], ◌∷◌, length, Some, refl, sym, ap, subst, ◌∙◌}
+use Rattle.std.proofs.Common.{◌≡◌, ℕ, Bool, not, List, [], ◌∷◌, length, Some, sym, ap, subst, ◌∙◌}
 use Rattle.std.specs.Prelude.{◌==◌}
 use Rattle.nfs_types.specs.Timeval.{Timeval}
 use Rattle.nfs_types.specs.Caller.{Caller}
 use Rattle.nfs_types.specs.declared.stat.Stat.TheVariants as stats
 use Rattle.fs_model.specs.Listing.{Listing}
-use Rattle.fs_model.specs.Files.{Body, Regular, Symlink, Directory, Files, file_at, listing_in, is_directory, places}
+use Rattle.fs_model.specs.Files.{Files, file_at, listing_in, is_directory, places}
 use Rattle.fs_model.specs.Trees.{IsFileTree}
 use Rattle.nfs_spec.specs.ProcedureChecks.{file_of, dir_of, listing_or, check, check_edit, number_at}
 use Rattle.nfs_spec.specs.Procedures.{remove, remove_dir}
 use Rattle.nfs_spec_steps.proofs.Steps.{found_ok, directory_ok, dir_ok, number_ok, place_found}
 use Rattle.nfs_spec_errors.specs.Checks.{holds_named, is_dir}
 use Rattle.nfs_spec_errors.specs.Tables.{remove_checks, remove_dir_checks}
-use Rattle.nfs_spec_errors.proofs.StepsInTurn.{HasStat, in_turn, done, of_same, of_that_file, of_dir, test_named, named_file, of_edit, of_number}
+use Rattle.nfs_spec_errors.proofs.StepsInTurn.{HasStat, in_turn, done, of_same, of_that_file, of_dir, test_named, named_file, of_listing, of_edit, of_number}
 
 module _ (w : Files) (tree : IsFileTree w) (who : Caller) (now : Timeval) (dir : ℕ) (name : List ℕ) where
   -- REMOVE: `remove_checks`
@@ -29,11 +29,6 @@ module _ (w : Files) (tree : IsFileTree w) (who : Caller) (now : Timeval) (dir :
       in_turn (file_of w n) _ (of_that_file w n own.0 own.1) (λ f is.
       let there = found_ok stats.Stale (file_at w n) f is in
       in_turn (check (not (is_directory f.body)) stats.IsDir) _ (of_same (not (is_directory f.body)) (not (holds_named w dir name is_dir)) stats.IsDir (ap not (test_named w dir name n p.0 f is_dir place there))) (λ _ _. done _)))))
-
-  of_listing : (b : Body) → HasStat (listing_or stats.NotDir b) ((is_directory b, stats.NotDir) ∷ [])
-  of_listing (Regular bytes) = record { says = refl }
-  of_listing (Symlink target) = record { says = refl }
-  of_listing (Directory l) = record { says = refl }
 
   -- RMDIR: `remove_dir_checks`
   pub of_remove_dir : HasStat (remove_dir w who now dir name) (remove_dir_checks w who dir name)

@@ -1,8 +1,7 @@
 -- A step's stat is that of the first of its checks that fails, and of steps in turn that of the first of all
 -- their checks: `in_turn` joins them; the steps that procedures share follow, each with its checks.
--- Serves: stats_of_set_attributes, stats_of_create, stats_of_remove, stats_of_remove_dir, stats_of_link,
--- stats_of_rename, stats_of_calls (nfs_spec_errors).
-use Rattle.std.proofs.Common.{◌≡◌, ℕ, Bool, true, false, cond, List, [], ◌∷◌, ◌++◌, Option, Some, None, Result, Ok, Err, option_map, refl, sym, ap, ◌∙◌}
+-- Serves: all laws of nfs_spec_errors but some_stats_are_never_given.
+use Rattle.std.proofs.Common.{◌≡◌, ℕ, Bool, true, false, cond, List, [], ◌∷◌, ◌++◌, Option, Some, None, Result, Ok, Err, option_map, not, refl, sym, ap, subst, ◌∙◌}
 use Rattle.std.specs.Prelude.{◌&&◌, is_some, is_none, IsSome}
 use Rattle.std.specs.Option.{option_map_or}
 use Rattle.nfs_types.specs.Caller.{Caller}
@@ -13,26 +12,25 @@ use Rattle.fs_model.specs.Names.{is_name}
 use Rattle.fs_model.specs.Files.{Body, Regular, Symlink, Directory, File, Files, file_at, is_directory, places}
 use Rattle.fs_model.specs.Trees.{IsFileTree}
 use Rattle.fs_model.proofs.Walks.{none_some}
-use Rattle.nfs_spec.specs.ProcedureChecks.{◌>>=◌, NumberedDir, ok_or, listing_or, file_of, dir_of, check, check_edit, check_free, number_at, may_search, may_write}
+use Rattle.nfs_spec.specs.FileAttributes.{is_directory_at}
+use Rattle.nfs_spec.specs.ProcedureChecks.{◌>>=◌, NumberedDir, ok_or, listing_or, file_of, dir_of, check, check_edit, check_free, number_at, bytes_of, target_of, may_search, may_write}
 use Rattle.nfs_spec.specs.LawTerms.{stat_in}
 use Rattle.nfs_spec_steps.specs.Granted.{IsFound}
 use Rattle.nfs_spec_steps.proofs.Steps.{place_found}
-use Rattle.nfs_spec_errors.specs.Checks.{Checks, first_failing, holds_at, holds_named}
+use Rattle.nfs_spec_errors.specs.Checks.{Checks, first_failing, holds_at, holds_named, is_dir, is_link}
 use Rattle.nfs_spec_errors.specs.Tables.{file_checks, directory_checks, edit_checks}
 
 -- ---- lists of checks
 
-some_none : {A : Type 0} {x : A} → Some x ≡ None → ⊥
-some_none h = cc
-
-no_some : false ≡ true → ⊥
+-- what is there is not none
+pub no_some : false ≡ true → ⊥
 no_some h = cc
 
 passed : (cs ds : Checks) → first_failing cs ≡ None → first_failing (cs ++ ds) ≡ first_failing ds
 passed [] ds h = refl
 passed (c ∷ cs) ds h = elim c.0 as (λ b. cond b (first_failing cs) (Some c.1) ≡ None → cond b (first_failing (cs ++ ds)) (Some c.1) ≡ first_failing ds) [
   | true ↦ λ is. passed cs ds is
-  | false ↦ λ is. absurd (some_none is)
+  | false ↦ λ is. absurd (none_some (sym is))
 ] h
 
 failed : (cs ds : Checks) (e : Stat) → first_failing cs ≡ Some e → first_failing (cs ++ ds) ≡ Some e
@@ -113,6 +111,41 @@ named_file w tree dir name n c at = by (file_at w n) refl (tree.tree.named dir n
     by : (o : Option File) → file_at w n ≡ o → IsSome o → (f : File) × (file_at w n ≡ Some f)
     by None e some = absurd (no_some some)
     by (Some f) e some = (f, e)
+
+-- ---- what a file holds
+
+-- the listing of a body: NOTDIR
+pub of_listing : (b : Body) → HasStat (listing_or stats.NotDir b) ((is_directory b, stats.NotDir) ∷ [])
+of_listing (Regular bytes) = record { says = refl }
+of_listing (Symlink target) = record { says = refl }
+of_listing (Directory l) = record { says = refl }
+
+module _ (w : Files) (n : ℕ) (f : File) (there : file_at w n ≡ Some f) where
+  -- the listing of a file that is there
+  pub of_listing_at : HasStat (listing_or stats.NotDir f.body) ((is_directory_at w n, stats.NotDir) ∷ [])
+  of_listing_at = subst (λ (b : Bool). HasStat (listing_or stats.NotDir f.body) ((b, stats.NotDir) ∷ [])) (sym (test_at w n f is_dir there)) (of_listing f.body)
+
+  -- its bytes: ISDIR, then NXIO
+  pub of_bytes_at : HasStat (bytes_of f.body) ((not (is_directory_at w n), stats.IsDir) ∷ (not (holds_at w n (λ f. is_link f.body)), stats.NxIo) ∷ [])
+  of_bytes_at = subst (λ (o : Option File). HasStat (bytes_of f.body) ((not (option_map_or is_dir o false), stats.IsDir) ∷ (not (option_map_or (λ f. is_link f.body) o false), stats.NxIo) ∷ [])) (sym there) (by f.body)
+    where
+      by : (b : Body) → HasStat (bytes_of b) ((not (is_directory b), stats.IsDir) ∷ (not (is_link b), stats.NxIo) ∷ [])
+      by (Regular bytes) = record { says = refl }
+      by (Symlink target) = record { says = refl }
+      by (Directory l) = record { says = refl }
+
+  -- its target: NXIO
+  pub of_target_at : HasStat (target_of f.body) ((holds_at w n (λ f. is_link f.body), stats.NxIo) ∷ [])
+  of_target_at = subst (λ (b : Bool). HasStat (target_of f.body) ((b, stats.NxIo) ∷ [])) (sym (test_at w n f (λ f. is_link f.body) there)) (by f.body)
+    where
+      by : (b : Body) → HasStat (target_of b) ((is_link b, stats.NxIo) ∷ [])
+      by (Regular bytes) = record { says = refl }
+      by (Symlink target) = record { says = refl }
+      by (Directory l) = record { says = refl }
+
+  -- a check of it
+  pub of_test_at : (test : File → Bool) (e : Stat) → HasStat (check (test f) e) ((holds_at w n test, e) ∷ [])
+  of_test_at test e = of_same (test f) (holds_at w n test) e (test_at w n f test there)
 
 -- ---- in a directory that was found
 

@@ -36,8 +36,8 @@ abbrev pub names_directory : Files → ℕ → List ℕ → Bool
 names_directory fs dir name = holds_named fs dir name is_dir
 
 -- whether what is given passes a test; what is not given does
-abbrev pub given : {A : Type 0} → Option A → (A → Bool) → Bool
-given o test = option_map_or test o true
+abbrev pub if_given : {A : Type 0} → Option A → (A → Bool) → Bool
+if_given o test = option_map_or test o true
 
 -- whether it is a symbolic link
 abbrev pub is_link : Body → Bool

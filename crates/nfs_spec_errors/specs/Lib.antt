@@ -1,9 +1,2 @@
-pub use Rattle.nfs_types.specs.Timeval
-pub use Rattle.nfs_types.specs.Caller
-pub use Rattle.fs_model.specs.Files
-pub use Rattle.fs_model.specs.Trees
-pub use Rattle.nfs_spec.specs.Sattr
-pub use Rattle.nfs_spec.specs.Procedures
-pub use Rattle.nfs_spec.specs.NfsCalls
 pub mod Checks
 pub mod Tables

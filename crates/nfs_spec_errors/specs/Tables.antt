@@ -1,23 +1,24 @@
 -- The checks of each procedure of NFS version 2 (RFC 1094, section 2.2), in order, each with its stat. The
 -- standard leaves the choice and the order of stats open.
-use Rattle.std.specs.Prelude.{ℕ, ◌+◌, ◌==◌, ◌||◌, ◌&&◌, not, nat_le, Bool, false, List, [], ◌∷◌, ◌++◌, length, replicate, Option, is_some, is_none, unwrap_or, if◌then◌else◌}
+use Rattle.std.specs.Prelude.{ℕ, ◌+◌, ◌==◌, ◌||◌, ◌&&◌, not, nat_le, Bool, false, List, [], ◌∷◌, ◌++◌, length, Option, is_some, is_none, if◌then◌else◌}
 use Rattle.std.specs.Option.{option_map_or}
 use Rattle.nfs_types.specs.Timeval.{Timeval}
 use Rattle.nfs_types.specs.Caller.{Caller}
 use Rattle.nfs_types.specs.declared.stat.Stat.TheVariants as stats
 use Rattle.fs_model.specs.Names.{is_name}
-use Rattle.fs_model.specs.Files.{Regular, Symlink, Directory, File, Files, listing, places}
+use Rattle.fs_model.specs.Files.{File, Files, listing, places}
 use Rattle.fs_changes.specs.Edits.{with_changed_file, with_name}
 use Rattle.fs_changes.specs.Limits.{has_room}
 use Rattle.nfs_spec.specs.FileAttributes.{is_directory_at}
 use Rattle.nfs_spec.specs.ProcedureChecks.{permits, may_search, may_read, may_write, owns}
 use Rattle.nfs_spec.specs.Effects.{number_named}
-use Rattle.nfs_spec.specs.Sattr.{GivenFields, given_fields, no_fields}
-use Rattle.nfs_spec.specs.Changes.{touch, touch_ctime, apply_fields, new_file, is_in_group}
+use Rattle.nfs_spec.specs.Sattr.{GivenFields, given_fields}
+use Rattle.nfs_spec.specs.Changes.{touch, touch_ctime, apply_fields, is_in_group}
 use Rattle.nfs_spec.specs.Procedures.{with_bytes_written, add_file, is_regular, is_above}
 use Rattle.nfs_spec.specs.NfsCalls as calls
+use Rattle.nfs_spec_steps.specs.Granted.{new_regular, new_directory, new_link}
 use Rattle.nfs_spec.specs.NfsCalls.{Call, number_for}
-use Rattle.nfs_spec_errors.specs.Checks.{Checks, is_there, holds_at, holds_named, names_directory, given, is_link, lists_nothing, bytes_at}
+use Rattle.nfs_spec_errors.specs.Checks.{Checks, is_there, holds_at, holds_named, names_directory, if_given, is_link, lists_nothing, bytes_at}
 
 -- ---- shared
 
@@ -55,13 +56,13 @@ abbrev pub set_checks : Files → Caller → Timeval → ℕ → GivenFields →
 set_checks fs who now n a =
     (is_there fs n, stats.Stale)
     ∷ (holds_at fs n (owns who) || (who.uid == 0) || keeps_mode_and_times a, stats.Perm)
-    ∷ (given a.uid (λ uid. (who.uid == 0) || holds_at fs n (λ f. owns who f && (uid == f.uid))), stats.Perm)
-    ∷ (given a.gid (λ gid. (who.uid == 0) || holds_at fs n (may_give_group who gid)), stats.Perm)
-    ∷ (given a.size (λ size. not (is_directory_at fs n)), stats.IsDir)
-    ∷ (given a.size (λ size. not (holds_at fs n (λ f. is_link f.body))), stats.NxIo)
-    ∷ (given a.size (λ size. holds_at fs n (may_write who)), stats.Acces)
-    ∷ (given a.size (λ size. nat_le size 1048576), stats.FBig)
-    ∷ (given a.size (λ size. has_room (with_changed_file fs n (apply_fields now a))), stats.NoSpc)
+    ∷ (if_given a.uid (λ uid. (who.uid == 0) || holds_at fs n (λ f. owns who f && (uid == f.uid))), stats.Perm)
+    ∷ (if_given a.gid (λ gid. (who.uid == 0) || holds_at fs n (may_give_group who gid)), stats.Perm)
+    ∷ (if_given a.size (λ size. not (is_directory_at fs n)), stats.IsDir)
+    ∷ (if_given a.size (λ size. not (holds_at fs n (λ f. is_link f.body))), stats.NxIo)
+    ∷ (if_given a.size (λ size. holds_at fs n (may_write who)), stats.Acces)
+    ∷ (if_given a.size (λ size. nat_le size 1048576), stats.FBig)
+    ∷ (if_given a.size (λ size. has_room (with_changed_file fs n (apply_fields now a))), stats.NoSpc)
     ∷ []
 
 -- LOOKUP (section 2.2.5)
@@ -108,10 +109,9 @@ create_over_checks fs who now a n =
 
 abbrev pub create_new_checks : Files → Caller → Timeval → ℕ → List ℕ → GivenFields → Checks
 create_new_checks fs who now dir name a =
-    let new = new_file who now a 420 (Regular (replicate (unwrap_or a.size 0) 0)) in
     (holds_at fs dir (may_write who), stats.Acces)
-    ∷ (given a.size (λ size. nat_le size 1048576), stats.FBig)
-    ∷ (has_room (add_file now fs dir name new), stats.NoSpc)
+    ∷ (if_given a.size (λ size. nat_le size 1048576), stats.FBig)
+    ∷ (has_room (add_file now fs dir name (new_regular who now a)), stats.NoSpc)
     ∷ []
 
 -- by what stands at the name
@@ -191,16 +191,15 @@ abbrev pub symlink_checks : Files → Caller → Timeval → ℕ → List ℕ �
 symlink_checks fs who now dir name target =
     directory_checks fs dir ++ edit_checks fs who dir name
     ++ (is_none (places fs dir name), stats.Exist)
-    ∷ (has_room (add_file now fs dir name (new_file who now no_fields 511 (Symlink target))), stats.NoSpc)
+    ∷ (has_room (add_file now fs dir name (new_link who now target)), stats.NoSpc)
     ∷ []
 
 -- MKDIR (section 2.2.15)
 abbrev pub make_dir_checks : Files → Caller → Timeval → ℕ → List ℕ → GivenFields → Checks
 make_dir_checks fs who now dir name a =
-    let new = new_file who now a 493 (Directory (record { next = 3; entries = [] })) in
     directory_checks fs dir ++ edit_checks fs who dir name
     ++ (is_none (places fs dir name), stats.Exist)
-    ∷ (has_room (add_file now fs dir name new), stats.NoSpc)
+    ∷ (has_room (add_file now fs dir name (new_directory who now a)), stats.NoSpc)
     ∷ []
 
 -- RMDIR (section 2.2.16)
@@ -228,7 +227,8 @@ checks_of fs who now (calls.Readlink file) = read_link_checks fs (number_for fs 
 checks_of fs who now (calls.Read file offset count) = read_checks fs who (number_for fs file)
 checks_of fs who now calls.Writecache = []
 checks_of fs who now (calls.Write file offset new) = write_checks fs who now (number_for fs file) offset new
-checks_of fs who now (calls.Create dir name s) = create_checks fs who now (number_for fs dir) name (given_fields now s)
+checks_of fs who now (calls.Create dir name s) =
+    create_checks fs who now (number_for fs dir) name (given_fields now s)
 checks_of fs who now (calls.Remove dir name) = remove_checks fs who (number_for fs dir) name
 checks_of fs who now (calls.Rename from from_name to to_name) =
     rename_checks fs who (number_for fs from) from_name (number_for fs to) to_name

@@ -23,7 +23,8 @@ pub fn stats_are_of_the_first_failing_check()
     ensures getattr { (fs : Files) (n : ℕ) → stat_in (attributes_at fs n) ≡ first_failing (file_checks fs n) }
     ensures lookup { (fs : Files) (who : Caller) (dir : ℕ) (name : List ℕ) →
         stat_in (number_at_name fs who dir name) ≡ first_failing (lookup_checks fs who dir name) }
-    ensures read_link { (fs : Files) (n : ℕ) → stat_in (read_link fs n) ≡ first_failing (read_link_checks fs n) }
+    ensures read_link { (fs : Files) (n : ℕ) →
+        stat_in (read_link fs n) ≡ first_failing (read_link_checks fs n) }
     ensures read { (fs : Files) (who : Caller) (n offset count : ℕ) →
         stat_in (read fs who n offset count) ≡ first_failing (read_checks fs who n) }
     ensures read_dir { (fs : Files) (who : Caller) (dir cookie count : ℕ) →
@@ -35,7 +36,8 @@ pub fn stats_are_of_the_first_failing_check()
 pub fn stats_of_changes_are_of_the_first_failing_check()
     ensures write { (fs : Files) (who : Caller) (now : Timeval) (n offset : ℕ) (new : List ℕ) →
         stat_in (write fs who now n offset new) ≡ first_failing (write_checks fs who now n offset new) }
-    ensures make_dir { (fs : Files) (who : Caller) (now : Timeval) (dir : ℕ) (name : List ℕ) (a : GivenFields) →
+    ensures make_dir { (fs : Files) (who : Caller) (now : Timeval) (dir : ℕ) (name : List ℕ)
+        (a : GivenFields) →
         stat_in (make_dir fs who now dir name a) ≡ first_failing (make_dir_checks fs who now dir name a) }
     ensures symlink { (fs : Files) (who : Caller) (now : Timeval) (dir : ℕ) (name target : List ℕ) →
         stat_in (symlink fs who now dir name target)

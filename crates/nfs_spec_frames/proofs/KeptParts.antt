@@ -13,7 +13,7 @@ use Rattle.nfs_spec.specs.Sattr.{given_fields}
 use Rattle.nfs_spec.specs.Changes.{with_bytes_at, body_with_length}
 use Rattle.nfs_spec.specs.NfsCalls.{Call, number_for, call_does}
 use Rattle.nfs_spec_trees.proofs.FilesFit.{next_free}
-use Rattle.nfs_spec_frames.specs.Named.{IsNoneOf, set_by, written_by, KeepsKind, KeepsAttributes, KeepsBytes, KeepsAt}
+use Rattle.nfs_spec_frames.specs.Named.{IsNoneOf, files_set_by, files_written_by, KeepsKind, KeepsAttributes, KeepsBytes, KeepsAt}
 use Rattle.nfs_spec_frames.proofs.UnnamedFiles.{at_name}
 use Rattle.nfs_spec_frames.proofs.BeforeAndAfter.{Step, steps}
 
@@ -23,8 +23,8 @@ use Rattle.nfs_spec_frames.proofs.BeforeAndAfter.{Step, steps}
 pub absent : (w : Files) (who : Caller) (now : Timeval) (call : Call) (n : ℕ) → n ≢ w.next → file_at w n ≡ None → file_at (call_does w who now call).1 n ≡ None
 absent w who now call n ne none =
     subst (λ (o : Option File). Step (λ f g. Unit {0}) o (file_at (call_does w who now call).1 n)) none
-    (steps (λ f g. Unit {0}) (λ f. tt) (λ f g h a b. tt) n now (λ f. tt) (λ f. tt) (λ change f. tt) w who (λ call. Unit {0}) ne
-    (λ file s a e f. tt) (λ dir name s a k c is e f. tt) (λ file offset new a e before f is. tt) call tt)
+    (steps (λ f g. Unit {0}) now (record { same = λ f. tt; joins = λ f g h a b. tt; marks = λ f. tt; touches = λ f. tt; relists = λ change f. tt }) n w who (λ call. Unit {0}) ne
+    (record { sets = λ file s a e f. tt; creates = λ dir name s a k c is e f. tt; writes = λ file offset new a e before f is. tt }) call tt)
 
 -- what stands between two files that are there
 between : (R : File → File → Type 0) (a b : Option File) → Step R a b → (f g : File) → a ≡ Some f → b ≡ Some g → R f g
@@ -68,10 +68,17 @@ module _ (w : Files) (who : Caller) (now : Timeval) (tree : IsFileTree w) where
   kinds call n old new is is' =
       let R : File → File → Type 0 = λ f g. KeepsKind f.body g.body in
       between R (file_at w n) (file_at (call_does w who now call).1 n)
-      (steps R (λ f. kind_same f.body) (λ f g h a b. kind_on f.body g.body h.body a b) n now (λ f. kind_same f.body) (λ f. kind_same f.body) (λ change f. kind_relisted change f.body) w who (λ call. Unit {0}) (old_number w tree n old is)
-      (λ file s a e f. kind_resized (given_fields now s).size f.body)
-      (λ dir name s a k c at e f. kind_resized (given_fields now s).size f.body)
-      (λ file offset new a e before f regular. subst (λ b. KeepsKind b (Regular (with_bytes_at offset new before))) (sym regular) (_, refl))
+      (steps R now (record {
+        same = λ f. kind_same f.body;
+        joins = λ f g h a b. kind_on f.body g.body h.body a b;
+        marks = λ f. kind_same f.body;
+        touches = λ f. kind_same f.body;
+        relists = λ change f. kind_relisted change f.body;
+      }) n w who (λ call. Unit {0}) (old_number w tree n old is) (record {
+        sets = λ file s a e f. kind_resized (given_fields now s).size f.body;
+        creates = λ dir name s a k c at e f. kind_resized (given_fields now s).size f.body;
+        writes = λ file offset new a e before f regular. subst (λ b. KeepsKind b (Regular (with_bytes_at offset new before))) (sym regular) (_, refl);
+      })
       call tt) old new is is'
 
   -- ---- mode, owner, group and atime
@@ -80,15 +87,20 @@ module _ (w : Files) (who : Caller) (now : Timeval) (tree : IsFileTree w) where
   attributes_same f = record { mode = refl; uid = refl; gid = refl; atime = refl }
 
   -- mode, owner, group and atime
-  pub attributes : (call : Call) (n : ℕ) → IsNoneOf n (set_by w call) → KeepsAt KeepsAttributes w (call_does w who now call).1 n
+  pub attributes : (call : Call) (n : ℕ) → IsNoneOf n (files_set_by w call) → KeepsAt KeepsAttributes w (call_does w who now call).1 n
   attributes call n ns old new is is' =
       between KeepsAttributes (file_at w n) (file_at (call_does w who now call).1 n)
-      (steps KeepsAttributes attributes_same (λ f g h a b. record { mode = b.mode ∙ a.mode; uid = b.uid ∙ a.uid; gid = b.gid ∙ a.gid; atime = b.atime ∙ a.atime }) n now
-      (λ f. record { mode = refl; uid = refl; gid = refl; atime = refl }) (λ f. record { mode = refl; uid = refl; gid = refl; atime = refl }) (λ change f. record { mode = refl; uid = refl; gid = refl; atime = refl })
-      w who (λ call. IsNoneOf n (set_by w call)) (old_number w tree n old is)
-      (λ file s a e f. absurd (a.0 e))
-      (λ dir name s a k c at e f. absurd (at_name w who now (number_for w dir) name k c n at a e))
-      (λ file offset new a e before f regular. record { mode = refl; uid = refl; gid = refl; atime = refl })
+      (steps KeepsAttributes now (record {
+        same = attributes_same;
+        joins = λ f g h a b. record { mode = b.mode ∙ a.mode; uid = b.uid ∙ a.uid; gid = b.gid ∙ a.gid; atime = b.atime ∙ a.atime };
+        marks = λ f. record { mode = refl; uid = refl; gid = refl; atime = refl };
+        touches = λ f. record { mode = refl; uid = refl; gid = refl; atime = refl };
+        relists = λ change f. record { mode = refl; uid = refl; gid = refl; atime = refl };
+      }) n w who (λ call. IsNoneOf n (files_set_by w call)) (old_number w tree n old is) (record {
+        sets = λ file s a e f. absurd (a.0 e);
+        creates = λ dir name s a k c at e f. absurd (at_name w who now (number_for w dir) name k c n at a e);
+        writes = λ file offset new a e before f regular. record { mode = refl; uid = refl; gid = refl; atime = refl };
+      })
       call ns) old new is is'
 
   -- ---- bytes
@@ -97,13 +109,19 @@ module _ (w : Files) (who : Caller) (now : Timeval) (tree : IsFileTree w) where
   bytes_relisted change b bytes is = ap (map_body_listing change) is
 
   -- bytes of regular files
-  pub bytes : (call : Call) (n : ℕ) → IsNoneOf n (written_by w call) → KeepsAt (λ old new. KeepsBytes old.body new.body) w (call_does w who now call).1 n
+  pub bytes : (call : Call) (n : ℕ) → IsNoneOf n (files_written_by w call) → KeepsAt (λ old new. KeepsBytes old.body new.body) w (call_does w who now call).1 n
   bytes call n ns old new is is' =
       let R : File → File → Type 0 = λ f g. KeepsBytes f.body g.body in
       between R (file_at w n) (file_at (call_does w who now call).1 n)
-      (steps R (λ f bytes h. h) (λ f g h a b bytes own. b bytes (a bytes own)) n now (λ f bytes h. h) (λ f bytes h. h) (λ change f. bytes_relisted change f.body)
-      w who (λ call. IsNoneOf n (written_by w call)) (old_number w tree n old is)
-      (λ file s a e f. absurd (a.0 e))
-      (λ dir name s a k c at e f. absurd (at_name w who now (number_for w dir) name k c n at a e))
-      (λ file offset new a e before f regular. absurd (a.0 e))
+      (steps R now (record {
+        same = λ f bytes h. h;
+        joins = λ f g h a b bytes own. b bytes (a bytes own);
+        marks = λ f bytes h. h;
+        touches = λ f bytes h. h;
+        relists = λ change f. bytes_relisted change f.body;
+      }) n w who (λ call. IsNoneOf n (files_written_by w call)) (old_number w tree n old is) (record {
+        sets = λ file s a e f. absurd (a.0 e);
+        creates = λ dir name s a k c at e f. absurd (at_name w who now (number_for w dir) name k c n at a e);
+        writes = λ file offset new a e before f regular. absurd (a.0 e);
+      })
       call ns) old new is is'

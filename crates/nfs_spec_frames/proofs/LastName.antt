@@ -1,12 +1,10 @@
 -- A name that goes, and the file with the last one.
 -- Serves: the_last_name_takes_the_file (nfs_spec_frames).
-use Rattle.std.proofs.Common.{◌≡◌, ◌≢◌, ⊎_elim, ℕ, ◌<◌, Bool, true, false, not, List, [], length, Option, Some, None, Ok, IsSome, is_some, option_map, refl, sym, ap, subst, ◌∙◌, arith}
+use Rattle.std.proofs.Common.{◌≡◌, ◌≢◌, ⊎_elim, ℕ, ◌<◌, Bool, true, false, List, [], Option, Some, None, Ok, IsSome, is_some, option_map, refl, sym, ap, subst, ◌∙◌, arith}
 use Rattle.std.specs.Prelude.{◌==◌}
-use Rattle.std.proofs.lemmas.Bool.{cases_eq, eqb-true, not-true}
+use Rattle.std.proofs.lemmas.Bool.{cases_eq}
 use Rattle.nfs_types.specs.Timeval.{Timeval}
 use Rattle.nfs_types.specs.Caller.{Caller}
-use Rattle.nfs_types.specs.declared.stat.Stat.TheVariants as stats
-use Rattle.fs_model.specs.Listing.{Listing}
 use Rattle.fs_model.specs.Files.{File, Files, file_at, listing_in, is_directory, places, names_of}
 use Rattle.fs_model.specs.Trees.{IsTime, IsFileTree}
 use Rattle.fs_model.proofs.Walks.{none_some, some_same}
@@ -17,12 +15,12 @@ use Rattle.fs_changes.proofs.Finite.{changed_here, changed_other, gone_here}
 use Rattle.fs_changes.proofs.Shapes.{kind}
 use Rattle.fs_changes.proofs.Adding.{one_same}
 use Rattle.fs_changes.proofs.Taking.{IsTaken, stays_taken}
-use Rattle.nfs_spec.specs.ProcedureChecks.{file_of, dir_of, listing_or, check, check_edit, number_at}
 use Rattle.nfs_spec.specs.Changes.{touch, with_mtime, with_ctime, unlink, after_unlink}
 use Rattle.nfs_spec.specs.Procedures.{remove, remove_dir}
 use Rattle.nfs_spec_trees.proofs.FilesFit.{is_dir}
 use Rattle.nfs_spec_trees.proofs.Removing.{touched_taken}
-use Rattle.nfs_spec_steps.proofs.Steps.{bind_ok, check_ok, found_ok, ok_same, directory_ok, dir_ok, number_ok, no_entries, no_length, place_found}
+use Rattle.nfs_spec_steps.specs.Granted.{UnnameOk}
+use Rattle.nfs_spec_steps.proofs.Removing.{remove_ok, remove_dir_ok}
 use Rattle.nfs_spec_frames.specs.Gone.{IsGone, HasOneNameLess}
 
 no_kind : (w : Files) (n : ℕ) → kind w n ≡ None → file_at w n ≡ None
@@ -95,44 +93,33 @@ module _ (now : Timeval) (time : IsTime now) (w : Files) (tree : IsFileTree w) (
       by (Some g) e k = record { file = g; there = e; ctime = ctime g e; names = omega (arith, a.names n, one_same n n refl) }
 
 module _ (now : Timeval) (time : IsTime now) (w after : Files) (tree : IsFileTree w) (who : Caller) (dir : ℕ) (name : List ℕ) (n c : ℕ) (at : places w dir name ≡ Some (n, c)) where
-  same_number : (m b : ℕ) → places w dir name ≡ Some (m, b) → m ≡ n
-  same_number m b h = ap (λ (p : ℕ × ℕ). p.0) (some_same (sym h ∙ at))
+  -- the file that lost its name is the one that the name stood for
+  module _ (of_directory : Bool) (o : UnnameOk of_directory w who now dir name after) where
+    is_same : o.number ≡ n
+    is_same = ap (λ (p : ℕ × ℕ). p.0) (some_same (sym o.is_named ∙ at))
 
-  of_remove : (Q : Files → Type 0) → ((f : File) → file_at w n ≡ Some f → (listing_in f.body).entries ≡ [] → Q (touch now (unlink now w dir name n) dir)) → remove w who now dir name ≡ Ok (tt, after) → Q after
-  of_remove Q says h =
-      let p = bind_ok (dir_of w dir) _ (tt, after) h in
-      let q = bind_ok (check_edit who p.0 name) _ (tt, after) p.2 in
-      let m = bind_ok (number_at p.0 name) _ (tt, after) q.2 in
-      let f = bind_ok (file_of w m.0) _ (tt, after) m.2 in
-      let r = bind_ok (check (not (is_directory f.0.body)) stats.IsDir) _ (tt, after) f.2 in
-      let e = number_ok p.0 name m.0 m.1 in
-      let same = same_number m.0 e.0 (place_found w dir p.0 (dir_ok w dir p.0 p.1) name ∙ e.1) in
-      let there : file_at w n ≡ Some f.0 = ap (λ k. file_at w k) (sym same) ∙ found_ok stats.Stale (file_at w m.0) f.0 f.1 in
-      subst Q (ap (λ k. touch now (unlink now w dir name k) dir) (sym same) ∙ ap (λ (y : Unit {0} × Files). y.1) (ok_same r.2))
-      (says f.0 there (no_entries f.0.body (not-true (is_directory f.0.body) (check_ok (not (is_directory f.0.body)) stats.IsDir r.0 r.1))))
+    was_there : file_at w n ≡ Some o.file
+    was_there = ap (λ k. file_at w k) (sym is_same) ∙ o.there
+
+    effect : after ≡ touch now (unlink now w dir name n) dir
+    effect = o.effect ∙ ap (λ k. touch now (unlink now w dir name k) dir) is_same
 
   -- REMOVE of a last name
   pub last : names_of w n ≡ 1 → remove w who now dir name ≡ Ok (tt, after) → IsGone after n
-  last single h = of_remove (λ v. IsGone v n) (λ f there empty. is_gone now time w tree dir name n c at f there empty single) h
+  last single h =
+      let o = remove_ok w who now dir name after h in
+      subst (λ v. IsGone v n) (sym (effect false o)) (is_gone now time w tree dir name n c at o.file (was_there false o) o.empty single)
 
   -- REMOVE of a name where another is left
   pub more_left : 1 < names_of w n → remove w who now dir name ≡ Ok (tt, after) → HasOneNameLess w after now n
-  more_left more h = of_remove (λ v. HasOneNameLess w v now n) (λ f there empty. is_less now time w tree dir name n c at f there empty more) h
+  more_left more h =
+      let o = remove_ok w who now dir name after h in
+      subst (λ v. HasOneNameLess w v now n) (sym (effect false o)) (is_less now time w tree dir name n c at o.file (was_there false o) o.empty more)
 
   -- RMDIR
   pub directory : remove_dir w who now dir name ≡ Ok (tt, after) → IsGone after n
   directory h =
-      let p = bind_ok (dir_of w dir) _ (tt, after) h in
-      let q = bind_ok (check_edit who p.0 name) _ (tt, after) p.2 in
-      let m = bind_ok (number_at p.0 name) _ (tt, after) q.2 in
-      let f = bind_ok (file_of w m.0) _ (tt, after) m.2 in
-      let l = bind_ok (listing_or stats.NotDir f.0.body) _ (tt, after) f.2 in
-      let r = bind_ok (check (length l.0.entries == 0) stats.NotEmpty) _ (tt, after) l.2 in
-      let e = number_ok p.0 name m.0 m.1 in
-      let same = same_number m.0 e.0 (place_found w dir p.0 (dir_ok w dir p.0 p.1) name ∙ e.1) in
-      let there : file_at w n ≡ Some f.0 = ap (λ k. file_at w k) (sym same) ∙ found_ok stats.Stale (file_at w m.0) f.0 f.1 in
-      let is = directory_ok stats.NotDir f.0.body l.0 l.1 in
-      let empty : (listing_in f.0.body).entries ≡ [] = ap (λ (y : Listing). y.entries) is.1 ∙ no_length l.0.entries (eqb-true _ 0 (check_ok (length l.0.entries == 0) stats.NotEmpty r.0 r.1)) in
+      let o = remove_dir_ok w who now dir name after h in
       let not_root : n ≢ 1 = λ root. root_has_no_name w tree dir c name (at ∙ ap (λ k. Some (k, c)) root) in
-      subst (λ v. IsGone v n) (ap (λ k. touch now (unlink now w dir name k) dir) (sym same) ∙ ap (λ (y : Unit {0} × Files). y.1) (ok_same r.2))
-      (is_gone now time w tree dir name n c at f.0 there empty (tree.directories n not_root (is_dir w n f.0 there is.0)))
+      subst (λ v. IsGone v n) (sym (effect true o))
+      (is_gone now time w tree dir name n c at o.file (was_there true o) o.empty (tree.directories n not_root (is_dir w n o.file (was_there true o) o.kind)))

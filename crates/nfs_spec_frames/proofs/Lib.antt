@@ -1,4 +1,3 @@
-pub mod CallCases
 pub mod UnnamedFiles
 pub mod BeforeAndAfter
 pub mod KeptParts

@@ -1,13 +1,11 @@
 -- What a call that was not refused did to the files that it names.
-use Rattle.std.specs.Prelude.{◌≡◌, ◌≢◌, ℕ, List, [], replicate, unwrap_or, Some, None}
+use Rattle.std.specs.Prelude.{◌≡◌, ◌≢◌, ℕ, List, [], Some, None}
 use Rattle.nfs_types.specs.Timeval.{Timeval}
 use Rattle.nfs_types.specs.Caller.{Caller}
-use Rattle.fs_model.specs.Files as bodies
-use Rattle.fs_model.specs.Files.{Regular, Directory, File, Files, file_at, places}
-use Rattle.nfs_spec.specs.Sattr.{GivenFields, given_fields, no_fields}
-use Rattle.nfs_spec.specs.Changes.{new_file}
+use Rattle.fs_model.specs.Files.{Files, file_at, places}
+use Rattle.nfs_spec.specs.Sattr.{GivenFields, given_fields}
 use Rattle.nfs_spec.specs.NfsCalls.{Call, Setattr, Write, Create, Remove, Rename, Link, Symlink, Mkdir, Rmdir, number_for}
-use Rattle.nfs_spec_steps.specs.Granted.{IsSameFile}
+use Rattle.nfs_spec_steps.specs.Granted.{IsSameFile, new_regular, new_directory, new_link}
 use Rattle.nfs_spec_changes.specs.Changed.{Becomes, IsSetTo, IsRewritten, ChangesBytes, IsWritten, IsResized, Makes, Links, Unnames, Moves}
 
 -- attributes are set of a file, and with a size its bytes
@@ -22,11 +20,10 @@ pub record IsWrittenAt (now : Timeval) (fs fs' : Files) (n offset : ℕ) (new : 
   pub none : new ≡ [] → fs' ≡ fs
 
 -- a file that is there has attributes set; else one is made
-pub record IsCreatedAt (who : Caller) (now : Timeval) (fs fs' : Files) (dir : ℕ) (name : List ℕ) (a : GivenFields)
-    : Type 0 where
+pub record IsCreatedAt (who : Caller) (now : Timeval) (fs fs' : Files) (dir : ℕ) (name : List ℕ)
+    (a : GivenFields) : Type 0 where
   pub over : (n c : ℕ) → places fs dir name ≡ Some (n, c) → IsSetAt now fs fs' n a
-  pub fresh : places fs dir name ≡ None
-      → Makes now fs fs' dir name fs.next (new_file who now a 420 (Regular (replicate (unwrap_or a.size 0) 0)))
+  pub fresh : places fs dir name ≡ None → Makes now fs fs' dir name fs.next (new_regular who now a)
 
 -- what the name stood for is gone
 pub record IsGoneAt (now : Timeval) (fs fs' : Files) (dir : ℕ) (name : List ℕ) : Type 0 where
@@ -43,13 +40,12 @@ pub record IsMovedAt (now : Timeval) (fs fs' : Files) (from : ℕ) (from_name : 
 abbrev pub Did : Files → Caller → Timeval → Call → Files → Type 0
 Did fs who now (Setattr file s) fs' = IsSetAt now fs fs' (number_for fs file) (given_fields now s)
 Did fs who now (Write file offset new) fs' = IsWrittenAt now fs fs' (number_for fs file) offset new
-Did fs who now (Create dir name s) fs' = IsCreatedAt who now fs fs' (number_for fs dir) name (given_fields now s)
+Did fs who now (Create dir name s) fs' =
+    IsCreatedAt who now fs fs' (number_for fs dir) name (given_fields now s)
 Did fs who now (Mkdir dir name s) fs' =
-    let new = new_file who now (given_fields now s) 493 (Directory (record { next = 3; entries = [] })) in
-    Makes now fs fs' (number_for fs dir) name fs.next new
+    Makes now fs fs' (number_for fs dir) name fs.next (new_directory who now (given_fields now s))
 Did fs who now (Symlink dir name target s) fs' =
-    let new = new_file who now no_fields 511 (bodies.Symlink target) in
-    Makes now fs fs' (number_for fs dir) name fs.next new
+    Makes now fs fs' (number_for fs dir) name fs.next (new_link who now target)
 Did fs who now (Link from dir name) fs' = Links now fs fs' (number_for fs from) (number_for fs dir) name
 Did fs who now (Remove dir name) fs' = Unnames now fs fs' (number_for fs dir) name
 Did fs who now (Rmdir dir name) fs' = IsGoneAt now fs fs' (number_for fs dir) name

@@ -1,8 +1,3 @@
-pub use Rattle.nfs_types.specs.Timeval
-pub use Rattle.nfs_types.specs.Caller
-pub use Rattle.fs_model.specs.Files
-pub use Rattle.fs_model.specs.Trees
-pub use Rattle.nfs_spec.specs.NfsCalls
 pub mod Named
 pub mod Runs
 pub mod Done

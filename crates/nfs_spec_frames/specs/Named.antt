@@ -13,52 +13,52 @@ IsNoneOf n [] = Unit {0}
 IsNoneOf n (m ∷ ms) = (n ≢ m) × IsNoneOf n ms
 
 -- what a name stands for, if it stands for anything
-abbrev pub named_at : Files → ℕ → List ℕ → List ℕ
-named_at fs dir name = option_map_or (λ e. e.0 ∷ []) (places fs dir name) []
+abbrev pub files_at_name : Files → ℕ → List ℕ → List ℕ
+files_at_name fs dir name = option_map_or (λ e. e.0 ∷ []) (places fs dir name) []
 
 -- the numbers of the files that a call names: of SETATTR and WRITE the file; of CREATE the file that is
 -- there, else the directory and the new number; of MKDIR and SYMLINK the directory and the new number; of
 -- LINK the file and the directory; of REMOVE and RMDIR the directory and what the name stands for; of RENAME
 -- both directories and what both names stand for; of the others none
-abbrev pub named_by : Files → Call → List ℕ
-named_by fs (Setattr file s) = number_for fs file ∷ []
-named_by fs (Write file offset new) = number_for fs file ∷ []
-named_by fs (Create dir name s) =
+abbrev pub files_named_by : Files → Call → List ℕ
+files_named_by fs (Setattr file s) = number_for fs file ∷ []
+files_named_by fs (Write file offset new) = number_for fs file ∷ []
+files_named_by fs (Create dir name s) =
     option_map_or (λ e. e.0 ∷ []) (places fs (number_for fs dir) name) (number_for fs dir ∷ fs.next ∷ [])
-named_by fs (Mkdir dir name s) = number_for fs dir ∷ fs.next ∷ []
-named_by fs (Symlink dir name target s) = number_for fs dir ∷ fs.next ∷ []
-named_by fs (Link from dir name) = number_for fs from ∷ number_for fs dir ∷ []
-named_by fs (Remove dir name) = number_for fs dir ∷ named_at fs (number_for fs dir) name
-named_by fs (Rmdir dir name) = number_for fs dir ∷ named_at fs (number_for fs dir) name
-named_by fs (Rename from from_name to to_name) =
+files_named_by fs (Mkdir dir name s) = number_for fs dir ∷ fs.next ∷ []
+files_named_by fs (Symlink dir name target s) = number_for fs dir ∷ fs.next ∷ []
+files_named_by fs (Link from dir name) = number_for fs from ∷ number_for fs dir ∷ []
+files_named_by fs (Remove dir name) = number_for fs dir ∷ files_at_name fs (number_for fs dir) name
+files_named_by fs (Rmdir dir name) = number_for fs dir ∷ files_at_name fs (number_for fs dir) name
+files_named_by fs (Rename from from_name to to_name) =
     number_for fs from
     ∷ number_for fs to
-    ∷ named_at fs (number_for fs from) from_name
-    ++ named_at fs (number_for fs to) to_name
-named_by fs _ = []
+    ∷ files_at_name fs (number_for fs from) from_name
+    ++ files_at_name fs (number_for fs to) to_name
+files_named_by fs _ = []
 
 -- a call makes a file unless it is refused: CREATE of a name that isn't there, MKDIR and SYMLINK
-abbrev pub makes : Files → Call → Bool
-makes fs (Create dir name s) = is_none (places fs (number_for fs dir) name)
-makes fs (Mkdir dir name s) = true
-makes fs (Symlink dir name target s) = true
-makes fs _ = false
+abbrev pub makes_file : Files → Call → Bool
+makes_file fs (Create dir name s) = is_none (places fs (number_for fs dir) name)
+makes_file fs (Mkdir dir name s) = true
+makes_file fs (Symlink dir name target s) = true
+makes_file fs _ = false
 
 -- one where a call made a file, else none
 abbrev pub files_made : Files → Call → Answer → ℕ
-files_made fs call answer = if makes fs call && is_none (refusal_in answer) then 1 else 0
+files_made fs call answer = if makes_file fs call && is_none (refusal_in answer) then 1 else 0
 
 -- the numbers of the files whose attributes a call sets: of SETATTR the file, of CREATE the file that is
 -- there
-abbrev pub set_by : Files → Call → List ℕ
-set_by fs (Setattr file s) = number_for fs file ∷ []
-set_by fs (Create dir name s) = named_at fs (number_for fs dir) name
-set_by fs _ = []
+abbrev pub files_set_by : Files → Call → List ℕ
+files_set_by fs (Setattr file s) = number_for fs file ∷ []
+files_set_by fs (Create dir name s) = files_at_name fs (number_for fs dir) name
+files_set_by fs _ = []
 
 -- and of those to which it may give other bytes: of WRITE the file too
-abbrev pub written_by : Files → Call → List ℕ
-written_by fs (Write file offset new) = number_for fs file ∷ []
-written_by fs call = set_by fs call
+abbrev pub files_written_by : Files → Call → List ℕ
+files_written_by fs (Write file offset new) = number_for fs file ∷ []
+files_written_by fs call = files_set_by fs call
 
 -- a file is of the kind that it was, and a link has the target that it had
 abbrev pub KeepsKind : Body → Body → Type 0

@@ -3,14 +3,15 @@
 ghost use Rattle.std.specs.Prelude.{◌≡◌, ◌≢◌, ◌+◌, ◌<◌, ℕ, IsTrue, List, Some, None, Ok};
 ghost use Rattle.nfs_types.specs.Timeval.{Timeval};
 ghost use Rattle.nfs_types.specs.Caller.{Caller};
-ghost use Rattle.fs_model.specs.Files.{Files, file_at, places, names_of};
+ghost use Rattle.fs_model.specs.Files.{Files, file_at, listing, IsDirectory, places, names_of};
 ghost use Rattle.fs_model.specs.Trees.{IsTime, IsFileTree};
 ghost use Rattle.fs_changes.specs.Limits.{has_room};
 ghost use Rattle.nfs_spec.specs.Procedures.{remove, remove_dir};
 ghost use Rattle.nfs_spec.specs.NfsCalls.{Call, call_does};
 ghost use Rattle.nfs_spec.specs.Opening.{opening_files};
+ghost use Rattle.nfs_spec_trees.specs.Anew.{GivesAnew};
 ghost use Rattle.nfs_spec_steps.specs.Answers.{refusal_in};
-ghost use Rattle.nfs_spec_frames.specs.Named.{IsNoneOf, named_by, files_made, set_by, written_by, KeepsKind, KeepsAttributes, KeepsBytes, KeepsAt};
+ghost use Rattle.nfs_spec_frames.specs.Named.{IsNoneOf, files_named_by, files_made, files_set_by, files_written_by, KeepsKind, KeepsAttributes, KeepsBytes, KeepsAt};
 ghost use Rattle.nfs_spec_frames.specs.Done.{Did};
 ghost use Rattle.nfs_spec_frames.specs.Gone.{IsGone, HasOneNameLess};
 ghost use Rattle.nfs_spec_frames.specs.Runs.{Request, files_after, AreBounded};
@@ -23,7 +24,7 @@ pub fn calls_keep_the_files_they_do_not_name()
     ensures next { (fs : Files) (who : Caller) (now : Timeval) (call : Call) →
         (call_does fs who now call).1.next ≡ fs.next + files_made fs call (call_does fs who now call).0 }
     ensures others { (fs : Files) (who : Caller) (now : Timeval) (call : Call) (n : ℕ) →
-        IsNoneOf n (named_by fs call) → file_at (call_does fs who now call).1 n ≡ file_at fs n }
+        IsNoneOf n (files_named_by fs call) → file_at (call_does fs who now call).1 n ≡ file_at fs n }
     ensures absent { (fs : Files) (who : Caller) (now : Timeval) (call : Call) (n : ℕ) →
         n ≢ fs.next → file_at fs n ≡ None → file_at (call_does fs who now call).1 n ≡ None }
 {}
@@ -41,9 +42,9 @@ pub fn files_stay_what_they_are()
     ensures kinds { (fs : Files) (who : Caller) (now : Timeval) (call : Call) (n : ℕ) → IsFileTree fs →
         KeepsAt (λ old new. KeepsKind old.body new.body) fs (call_does fs who now call).1 n }
     ensures attributes { (fs : Files) (who : Caller) (now : Timeval) (call : Call) (n : ℕ) → IsFileTree fs →
-        IsNoneOf n (set_by fs call) → KeepsAt KeepsAttributes fs (call_does fs who now call).1 n }
+        IsNoneOf n (files_set_by fs call) → KeepsAt KeepsAttributes fs (call_does fs who now call).1 n }
     ensures bytes { (fs : Files) (who : Caller) (now : Timeval) (call : Call) (n : ℕ) → IsFileTree fs →
-        IsNoneOf n (written_by fs call) →
+        IsNoneOf n (files_written_by fs call) →
         KeepsAt (λ old new. KeepsBytes old.body new.body) fs (call_does fs who now call).1 n }
 {}
 
@@ -59,6 +60,19 @@ pub fn runs_keep_a_tree_within_its_limits()
         × IsTrue (has_room (files_after (opening_files fsid) requests)) }
 {}
 
+/// Over calls one after the other too no number and no cookie is used again: a number that was given and has
+/// no file gets none, and in a directory an entry with a cookie that was given before is the entry that had
+/// it.
+pub fn runs_give_nothing_again()
+    ensures anew { (fs : Files) (requests : List Request) → IsFileTree fs → AreBounded requests →
+        GivesAnew fs (files_after fs requests) }
+    ensures number { (fs : Files) (requests : List Request) (n : ℕ) → IsFileTree fs → AreBounded requests →
+        n < fs.next → file_at fs n ≡ None → file_at (files_after fs requests) n ≡ None }
+    ensures cookie { (fs : Files) (requests : List Request) (n k c : ℕ) (name : List ℕ) → IsFileTree fs →
+        AreBounded requests → IsDirectory fs n → c < (listing fs n).next →
+        places (files_after fs requests) n name ≡ Some (k, c) → places fs n name ≡ Some (k, c) }
+{}
+
 /// REMOVE of a file's last name takes the file away, so that no path leads to its number; RMDIR takes the
 /// directory away. Where a name is left, REMOVE leaves the file with one name less, and its ctime is the time
 /// of the call.
@@ -69,7 +83,7 @@ pub fn the_last_name_takes_the_file()
     ensures more { (fs after : Files) (who : Caller) (now : Timeval) (dir : ℕ) (name : List ℕ) (n c : ℕ) →
         IsFileTree fs → IsTime now → places fs dir name ≡ Some (n, c) → 1 < names_of fs n →
         remove fs who now dir name ≡ Ok (tt, after) → HasOneNameLess fs after now n }
-    ensures directory { (fs after : Files) (who : Caller) (now : Timeval) (dir : ℕ) (name : List ℕ) (n c : ℕ) →
-        IsFileTree fs → IsTime now → places fs dir name ≡ Some (n, c) →
+    ensures directory { (fs after : Files) (who : Caller) (now : Timeval) (dir : ℕ) (name : List ℕ)
+        (n c : ℕ) → IsFileTree fs → IsTime now → places fs dir name ≡ Some (n, c) →
         remove_dir fs who now dir name ≡ Ok (tt, after) → IsGone after n }
 {}

@@ -11,7 +11,8 @@ length-resized size bytes =
     omega (arith, length-append (take size bytes) (replicate (size - length bytes) 0), length-take size bytes, length-replicate {A = ℕ} (size - length bytes) 0)
 
 -- what is written ends where the new bytes end, or the old ones
-pub written_length : (offset : ℕ) (new old : List ℕ) → length (with_bytes_at offset new old) ≡ max (offset + length new) (length old)
+pub written_length : (offset : ℕ) (new old : List ℕ)
+    → length (with_bytes_at offset new old) ≡ max (offset + length new) (length old)
 written_length offset new old =
     let whole = length-append (with_length offset old) (new ++ drop (offset + length new) old) in
     let front = length-resized offset old in
@@ -25,7 +26,8 @@ pub length-written : (offset : ℕ) (new old : List ℕ) (top : ℕ) → offset 
 length-written offset new old top fits was = omega (arith, written_length offset new old)
 
 -- what is cut or grown keeps the bytes in front; behind them are zeros
-pub resized_byte : (size : ℕ) (old : List ℕ) (i : ℕ) → i < size → get_or (with_length size old) i 0 ≡ get_or old i 0
+pub resized_byte : (size : ℕ) (old : List ℕ) (i : ℕ) → i < size
+    → get_or (with_length size old) i 0 ≡ get_or old i 0
 resized_byte size old i lt = ⊎_elim
     (λ inside.
     let long : i < length (take size old) = omega (arith, length-take size old) in
@@ -38,13 +40,15 @@ resized_byte size old i lt = ⊎_elim
     (cases_lt i (length old))
 
 -- a byte before the place is the old one
-pub byte_before : (offset : ℕ) (new old : List ℕ) (i : ℕ) → i < offset → get_or (with_bytes_at offset new old) i 0 ≡ get_or old i 0
+pub byte_before : (offset : ℕ) (new old : List ℕ) (i : ℕ) → i < offset
+    → get_or (with_bytes_at offset new old) i 0 ≡ get_or old i 0
 byte_before offset new old i lt =
     let long : i < length (with_length offset old) = omega (arith, length-resized offset old) in
     get_or_append_left (with_length offset old) (new ++ drop (offset + length new) old) 0 i long ∙ resized_byte offset old i lt
 
 -- a byte behind the new ones is the old one
-pub byte_behind : (offset : ℕ) (new old : List ℕ) (i : ℕ) → offset + length new ≤ i → get_or (with_bytes_at offset new old) i 0 ≡ get_or old i 0
+pub byte_behind : (offset : ℕ) (new old : List ℕ) (i : ℕ) → offset + length new ≤ i
+    → get_or (with_bytes_at offset new old) i 0 ≡ get_or old i 0
 byte_behind offset new old i le =
     let place : (offset + length new) + ((i - offset) - length new) ≡ i = omega arith in
     get_or-append_right (with_length offset old) (new ++ drop (offset + length new) old) offset i 0 (length-resized offset old) (omega arith)
@@ -53,7 +57,8 @@ byte_behind offset new old i le =
     ∙ ap (λ n. get_or old n 0) place
 
 -- a byte at the place is the new one
-pub byte_new : (offset : ℕ) (new old : List ℕ) (i : ℕ) → i < length new → get_or (with_bytes_at offset new old) (offset + i) 0 ≡ get_or new i 0
+pub byte_new : (offset : ℕ) (new old : List ℕ) (i : ℕ) → i < length new
+    → get_or (with_bytes_at offset new old) (offset + i) 0 ≡ get_or new i 0
 byte_new offset new old i lt =
     let place : (offset + i) - offset ≡ i = omega arith in
     get_or-append_right (with_length offset old) (new ++ drop (offset + length new) old) offset (offset + i) 0 (length-resized offset old) (omega arith)

@@ -29,7 +29,8 @@ any_machine w uid gid gids a b now (calls.Readdir dir cookie count) = refl
 any_machine w uid gid gids a b now (calls.Statfs file) = refl
 
 -- a call's answer and files hang on the caller's user and groups alone
-pub determined : (w : Files) (one other : Caller) (now : Timeval) (call : Call) → one.uid ≡ other.uid → one.gid ≡ other.gid → one.gids ≡ other.gids → call_does w one now call ≡ call_does w other now call
+pub determined : (w : Files) (one other : Caller) (now : Timeval) (call : Call) → one.uid ≡ other.uid
+    → one.gid ≡ other.gid → one.gids ≡ other.gids → call_does w one now call ≡ call_does w other now call
 determined w one other now call u g s =
     (λ i. call_does w (record { uid = u i; gid = g i; gids = s i; machine_name = one.machine_name }) now call)
     ∙ any_machine w other.uid other.gid other.gids one.machine_name other.machine_name now call

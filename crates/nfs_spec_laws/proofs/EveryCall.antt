@@ -19,12 +19,12 @@ use Rattle.nfs_spec_trees.proofs.Making.{make_follows, link_follows}
 use Rattle.nfs_spec_trees.proofs.Removing.{remove_follows}
 use Rattle.nfs_spec_trees.proofs.Renaming.{renames_follows}
 use Rattle.nfs_spec_laws.specs.Laws.{IsBounded}
-use Rattle.nfs_spec_laws.proofs.FilesFit.{wanted_is, directory_fits, link_fits}
+use Rattle.nfs_spec_laws.proofs.FilesFit.{given_are_valid, directory_fits, link_fits}
 use Rattle.nfs_spec_laws.proofs.Setting.{unchanged, set_follows, write_follows, create_follows}
 
 module _ (now : Timeval) (time : IsTime now) (w : Files) (tree : IsFileTree w) (who : Caller) where
-  rename_follows : (from : ℕ) (from_name : List ℕ) (to : ℕ) (to_name : List ℕ) → length to_name ≤ 255 → (after : Files)
-      → RenameOk w who now from from_name to to_name after → Follows w after
+  rename_follows : (from : ℕ) (from_name : List ℕ) (to : ℕ) (to_name : List ℕ) → length to_name ≤ 255
+      → (after : Files) → RenameOk w who now from from_name to to_name after → Follows w after
   rename_follows from from_name to to_name bound after o = ⊎_elim
       (λ same. subst (Follows w) (sym same.1) (unchanged w tree))
       (λ m. renames_follows now time w tree who from from_name to to_name after o m bound)
@@ -35,12 +35,12 @@ module _ (now : Timeval) (time : IsTime now) (w : Files) (tree : IsFileTree w) (
   stays = each_call w who now (λ call answer after. IsBounded call → Follows w after) (record {
     reads = λ call answer only bound. unchanged w tree;
     refused = λ call answer stat says bound. unchanged w tree;
-    set_attributes = λ file s a after o _ bound. set_follows now time w tree who (number_for w file) (given_fields now s) (wanted_is now s time) after o;
+    set_attributes = λ file s a after o _ bound. set_follows now time w tree who (number_for w file) (given_fields now s) (given_are_valid now s time) after o;
     write = λ file offset new a after o _ bound. write_follows now time w tree who (number_for w file) offset new after o;
-    create = λ dir name s number a after o _ bound. create_follows now time w tree who (number_for w dir) name bound (given_fields now s) (wanted_is now s time) number after o;
+    create = λ dir name s number a after o _ bound. create_follows now time w tree who (number_for w dir) name bound (given_fields now s) (given_are_valid now s time) number after o;
     make_dir = λ dir name s number a after o _ bound.
         make_follows now time w tree who (number_for w dir) name bound (new_directory who now (given_fields now s)) refl
-        (directory_fits who now time (given_fields now s) (wanted_is now s time)) number after o;
+        (directory_fits who now time (given_fields now s) (given_are_valid now s time)) number after o;
     symlink = λ dir name target s number after o bound.
         make_follows now time w tree who (number_for w dir) name bound.0 (new_link who now target) refl (link_fits who now time target bound.1) number after o;
     link = λ from dir name after o bound. link_follows now time w tree who (number_for w dir) name bound (number_for w from) after o;
@@ -50,8 +50,8 @@ module _ (now : Timeval) (time : IsTime now) (w : Files) (tree : IsFileTree w) (
   })
 
 -- a refusal leaves the files as they were
-pub refusals : (w : Files) (who : Caller) (now : Timeval) (call : Call) (stat : Stat) → refusal_in (call_does w who now call).0 ≡ Some stat
-    → (call_does w who now call).1 ≡ w
+pub refusals : (w : Files) (who : Caller) (now : Timeval) (call : Call) (stat : Stat)
+    → refusal_in (call_does w who now call).0 ≡ Some stat → (call_does w who now call).1 ≡ w
 refusals w who now call stat = each_call w who now (λ call answer after. refusal_in answer ≡ Some stat → after ≡ w) (record {
   reads = λ call answer only h. refl;
   refused = λ call answer stat says h. refl;

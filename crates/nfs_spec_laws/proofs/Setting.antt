@@ -20,7 +20,7 @@ use Rattle.nfs_spec_steps.specs.Granted.{SetOk, WriteOk, CreateOk, new_regular}
 use Rattle.nfs_spec_trees.specs.Anew.{Follows}
 use Rattle.nfs_spec_trees.proofs.GivenAnew.{nothing_given, same_given, cookie_changed}
 use Rattle.nfs_spec_trees.proofs.Making.{make_follows}
-use Rattle.nfs_spec_laws.specs.Laws.{IsWanted}
+use Rattle.nfs_spec_laws.specs.Laws.{AreValidFields}
 use Rattle.nfs_spec_laws.proofs.FilesFit.{set_lists, set_keeps, resized_fits, set_fits, rewritten_fits, regular_fits}
 
 -- files follow themselves
@@ -35,7 +35,8 @@ record IsQuiet (w : Files) (n : ℕ) (f : File) (change : File → File) : Type 
   fits : IsFile (change f)
   room : has_room w ≡ true → has_room (with_changed_file w n change) ≡ true
 
-module _ (w : Files) (tree : IsFileTree w) (n : ℕ) (f : File) (change : File → File) (quiet : IsQuiet w n f change) where
+module _ (w : Files) (tree : IsFileTree w) (n : ℕ) (f : File) (change : File → File)
+    (quiet : IsQuiet w n f change) where
   -- what holds of the file holds of each that is found there
   at_own : (P : File → Type 0) → P f → (g : File) → file_at w n ≡ Some g → P g
   at_own P own g there = subst P (some_same (sym quiet.there ∙ there)) own
@@ -57,7 +58,8 @@ module _ (w : Files) (tree : IsFileTree w) (n : ℕ) (f : File) (change : File �
 
 module _ (now : Timeval) (time : IsTime now) (w : Files) (tree : IsFileTree w) (who : Caller) where
   -- SETATTR
-  pub set_follows : (n : ℕ) (a : GivenFields) → IsWanted a → (after : Files) → SetOk w who now n a after → Follows w after
+  pub set_follows : (n : ℕ) (a : GivenFields) → AreValidFields a → (after : Files) → SetOk w who now n a after
+      → Follows w after
   set_follows n a is after o =
       let fits = tree.files n o.file o.there in
       subst (Follows w) (sym o.effect) (quiet_follows w tree n o.file (apply_fields now a) (record {
@@ -68,13 +70,15 @@ module _ (now : Timeval) (time : IsTime now) (w : Files) (tree : IsFileTree w) (
         room = in_room a.size refl;
       }))
     where
-      in_room : (size : Option ℕ) → a.size ≡ size → has_room w ≡ true → has_room (with_changed_file w n (apply_fields now a)) ≡ true
+      in_room : (size : Option ℕ) → a.size ≡ size → has_room w ≡ true
+          → has_room (with_changed_file w n (apply_fields now a)) ≡ true
       in_room (Some size) e = λ _. subst (λ v. has_room v ≡ true) o.effect (o.room size e)
       in_room None e = still_room w (with_changed_file w n (apply_fields now a))
           (changed_no_more w n (apply_fields now a) (λ f. same_smaller f (apply_fields now a f) (ap (λ size. body_with_length size f.body) e)))
 
   -- WRITE
-  pub write_follows : (n offset : ℕ) (new : List ℕ) (after : Files) → WriteOk w who now n offset new after → Follows w after
+  pub write_follows : (n offset : ℕ) (new : List ℕ) (after : Files) → WriteOk w who now n offset new after
+      → Follows w after
   write_follows n offset new after o = subst (Follows w) (sym o.effect) (by (length new == 0) refl)
     where
       changed : Files
@@ -96,8 +100,8 @@ module _ (now : Timeval) (time : IsTime now) (w : Files) (tree : IsFileTree w) (
           })
 
   -- CREATE, of a new name or of one that is there
-  pub create_follows : (dir : ℕ) (name : List ℕ) → length name ≤ 255 → (a : GivenFields) → IsWanted a → (number : ℕ) (after : Files)
-      → CreateOk w who now dir name a number after → Follows w after
+  pub create_follows : (dir : ℕ) (name : List ℕ) → length name ≤ 255 → (a : GivenFields) → AreValidFields a
+      → (number : ℕ) (after : Files) → CreateOk w who now dir name a number after → Follows w after
   create_follows dir name bound a is number after o = by (places w dir name) refl
     where
       by : (p : Option (ℕ × ℕ)) → places w dir name ≡ p → Follows w after

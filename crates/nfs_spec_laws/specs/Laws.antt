@@ -8,7 +8,7 @@ use Rattle.nfs_spec.specs.Sattr.{GivenFields}
 use Rattle.nfs_spec.specs.NfsCalls.{Call, Create, Rename, Link, Symlink, Mkdir}
 
 -- what may be asked of attributes: twelve bits of mode, and times
-pub record IsWanted (a : GivenFields) : Type 0 where
+pub record AreValidFields (a : GivenFields) : Type 0 where
   pub mode : (mode : ℕ) → a.mode ≡ Some mode → mode < 4096
   pub atime : (t : Timeval) → a.atime ≡ Some t → IsTime t
   pub mtime : (t : Timeval) → a.mtime ≡ Some t → IsTime t
@@ -37,6 +37,7 @@ UnnamesIn fs fs' dir name =
 -- the paths through the one name go on through the other
 abbrev pub RenamesIn : Files → Files → ℕ → List ℕ → ℕ → List ℕ → Type 0
 RenamesIn fs fs' from from_name to to_name =
-    (p q : List (List ℕ)) (c d : ℕ) → path_at (places fs) p ≡ Some (from, c) → path_at (places fs) q ≡ Some (to, d)
+    (p q : List (List ℕ)) (c d : ℕ)
+    → path_at (places fs) p ≡ Some (from, c) → path_at (places fs) q ≡ Some (to, d)
     → Renames (path_at (places fs)) (path_at (places fs'))
     (p ++ from_name ∷ []) (q ++ to_name ∷ []) (listing fs to).next

@@ -17,7 +17,7 @@ ghost use Rattle.nfs_spec.specs.NfsCalls.{Call, call_does};
 ghost use Rattle.nfs_spec_trees.specs.Anew.{GivesAnew};
 ghost use Rattle.nfs_spec_steps.specs.Answers.{refusal_in, only_reads};
 ghost use Rattle.nfs_spec_steps.specs.Granted.{IsSameFile};
-ghost use Rattle.nfs_spec_laws.specs.Laws.{IsWanted, IsBounded, NamesIn, UnnamesIn, RenamesIn};
+ghost use Rattle.nfs_spec_laws.specs.Laws.{AreValidFields, IsBounded, NamesIn, UnnamesIn, RenamesIn};
 
 /// Every call leaves a tree a tree.
 pub fn trees_stay_trees()
@@ -62,12 +62,12 @@ pub fn calls_are_determined()
 /// CREATE of a name that isn't there, MKDIR and SYMLINK add one path, with the next number and the
 /// directory's next cookie; LINK adds one path to an old number.
 pub fn making_adds_a_path()
-    ensures create { (fs after : Files) (who : Caller) (now : Timeval) (dir : ℕ) (name : List ℕ) (a : GivenFields)
-        (number : ℕ) → IsFileTree fs → IsTime now → IsWanted a → length name ≤ 255 →
+    ensures create { (fs after : Files) (who : Caller) (now : Timeval) (dir : ℕ) (name : List ℕ)
+        (a : GivenFields) (number : ℕ) → IsFileTree fs → IsTime now → AreValidFields a → length name ≤ 255 →
         create fs who now dir name a ≡ Ok (number, after) → places fs dir name ≡ None →
         (number ≡ fs.next) × NamesIn fs after dir name number }
-    ensures make_dir { (fs after : Files) (who : Caller) (now : Timeval) (dir : ℕ) (name : List ℕ) (a : GivenFields)
-        (number : ℕ) → IsFileTree fs → IsTime now → IsWanted a → length name ≤ 255 →
+    ensures make_dir { (fs after : Files) (who : Caller) (now : Timeval) (dir : ℕ) (name : List ℕ)
+        (a : GivenFields) (number : ℕ) → IsFileTree fs → IsTime now → AreValidFields a → length name ≤ 255 →
         make_dir fs who now dir name a ≡ Ok (number, after) →
         (number ≡ fs.next) × NamesIn fs after dir name number }
     ensures symlink { (fs after : Files) (who : Caller) (now : Timeval) (dir : ℕ) (name target : List ℕ)
@@ -105,7 +105,8 @@ pub fn links_are_counted()
         is_directory f.body ≡ false → attributes_at fs n ≡ Ok a → a.nlink ≡ names_of fs n }
     ensures directory { (fs : Files) (n : ℕ) (a : Fattr) → IsDirectory fs n →
         attributes_at fs n ≡ Ok a → a.nlink ≡ 2 + subdirectories fs (listing fs n) }
-    ensures some { (fs : Files) (n : ℕ) (a : Fattr) → IsFileTree fs → attributes_at fs n ≡ Ok a → 1 ≤ a.nlink }
+    ensures some { (fs : Files) (n : ℕ) (a : Fattr) → IsFileTree fs →
+        attributes_at fs n ≡ Ok a → 1 ≤ a.nlink }
     ensures two { (fs : Files) (n dir other c b : ℕ) (x y : List ℕ) (a : Fattr) →
         places fs dir x ≡ Some (n, c) → places fs other y ≡ Some (n, b) → ((dir ≡ other) × (x ≡ y) → ⊥) →
         attributes_at fs n ≡ Ok a → 2 ≤ a.nlink }

@@ -1,4 +1,3 @@
-pub mod Effects
 pub mod Values
 pub mod OfCalls
 pub mod Words

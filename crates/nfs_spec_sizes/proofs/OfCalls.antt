@@ -1,7 +1,6 @@
 -- The answer of each call fits, each kind by itself and then call by call.
 -- Serves: `laws::answers_have_a_spelling` (its clause `spelled`).
-use Rattle.std.proofs.Common.{◌≡◌, ℕ, ◌<◌, ◌≤◌, ◌^◌, List, [], ◌∷◌, ◌++◌, length, map, drop, min, replicate, Result, Ok, Err, refl, sym, ap, subst, ◌∙◌, arith}
-use Rattle.std.specs.Prelude.{◌||◌}
+use Rattle.std.proofs.Common.{◌≡◌, ℕ, ◌<◌, ◌≤◌, ◌^◌, Bool, true, false, List, [], ◌∷◌, ◌++◌, length, map, drop, min, replicate, Some, Result, Ok, Err, refl, sym, ap, subst, ◌∙◌, arith}
 use Rattle.std.specs.List.{AllByRecursion}
 use Rattle.std.proofs.lemmas.List.{length-take, length-append, length-replicate}
 use Rattle.byteorder.specs.Endian.{big_bytes}
@@ -13,28 +12,29 @@ use Rattle.nfs_types.specs.Handle.{fhandle, handle_of}
 use Rattle.nfs_types.specs.Attributes.{fattr, fattr_value}
 use Rattle.nfs_types.specs.declared.attributes.Fattr.{Fattr}
 use Rattle.nfs_types.specs.declared.stat.Stat.{Stat}
-use Rattle.nfs_types.specs.declared.stat.Stat.TheVariants as stats
-use Rattle.fs_model.specs.Files.{Body, Regular, Symlink, Directory, Files, file_at}
+use Rattle.fs_model.specs.Files.{Files, is_directory, listing_in}
 use Rattle.fs_model.specs.Trees.{IsBody}
-use Rattle.nfs_spec.specs.ProcedureChecks.{◌>>=◌, file_of, number_of, dir_of, check, bytes_of, target_of, permits, may_read}
-use Rattle.nfs_spec.specs.Sattr.{given_fields}
-use Rattle.nfs_spec.specs.Changes.{Effect}
-use Rattle.nfs_spec.specs.Effects.{attributes_at, number_at_name, getattr, lookup}
-use Rattle.nfs_spec.specs.Readdir.{DirEntry, Page}
-use Rattle.nfs_spec.specs.Procedures.{FsStats, set_attributes, read_link, read, write, create, make_dir, read_dir, stat_fs}
+use Rattle.fs_model.proofs.Walks.{none_some}
+use Rattle.nfs_spec.specs.ProcedureChecks.{file_of}
+use Rattle.nfs_spec.specs.Effects.{getattr, lookup}
+use Rattle.nfs_spec.specs.LawTerms.{stat_in}
+use Rattle.nfs_spec.specs.Readdir.{PageEntry, Page}
+use Rattle.nfs_spec.specs.Procedures.{FsStats, read_link, read, read_dir, stat_fs}
 use Rattle.nfs_spec.specs.NfsCalls as calls
-use Rattle.nfs_spec.specs.NfsCalls.{Call, Answer, answer_and_files, with_attributes, with_handle, number_for, call_does}
-use Rattle.nfs_spec_steps.proofs.Steps.{bind_ok, found_ok, ok_same, dir_ok}
+use Rattle.nfs_spec.specs.NfsCalls.{Call, Answer, number_for, call_does}
+use Rattle.nfs_spec_steps.specs.Answers.{refusal_in, only_reads}
+use Rattle.nfs_spec_steps.specs.Read.{AttributesOk}
+use Rattle.nfs_spec_steps.proofs.Steps.{bind_ok, ok_same}
+use Rattle.nfs_spec_steps.proofs.Reading.{getattr_ok, lookup_ok, read_link_ok, read_ok, read_dir_ok}
+use Rattle.nfs_spec_steps.proofs.EachCall.{each_call}
 use Rattle.call_items.specs.Items.{path, entry}
 use Rattle.call_items.specs.Texts.{entry_value, figures_value, IsSpelled}
 use Rattle.nfs_spec_sizes.proofs.Values.{outcome_fits, AreSpelled, attributes_fit, EntryFits, page_fits}
 
 -- ---- values
 
-at_fits : (w : Files) → AreSpelled w → (n : ℕ) (a : Fattr) → attributes_at w n ≡ Ok a → Fits fattr (fattr_value a)
-at_fits w h n a is =
-    let p = bind_ok (file_of w n) _ a is in
-    subst (λ (a : Fattr). Fits fattr (fattr_value a)) (ok_same p.2) (attributes_fit w h n p.0 (found_ok stats.Stale (file_at w n) p.0 p.1))
+at_fits : (w : Files) → AreSpelled w → (n : ℕ) (a : Fattr) → AttributesOk w n a → Fits fattr (fattr_value a)
+at_fits w h n a o = subst (λ (a : Fattr). Fits fattr (fattr_value a)) (sym o.answer) (attributes_fit w h n o.file o.there)
 
 handle_fits : (fsid n : ℕ) → length (handle_of fsid n) ≡ 32
 unfolding handle_of
@@ -59,106 +59,124 @@ page_value p = (map entry_value p.entries, p.eof)
 
 -- ---- each kind of answer
 
-of_attributes : (r : Result Fattr Stat) → ((a : Fattr) → r ≡ Ok a → Fits fattr (fattr_value a)) → IsSpelled (calls.Attributes r)
+of_attributes : (r : Result Fattr Stat) → ((a : Fattr) → r ≡ Ok a → Fits fattr (fattr_value a))
+    → IsSpelled (calls.Attributes r)
 of_attributes r fits = record { fits = outcome_fits fattr fattr_value r fits; cookies = tt }
 
-of_dir_op : (r : Result (List ℕ × Fattr) Stat) → ((x : List ℕ × Fattr) → r ≡ Ok x → Fits (pair fhandle fattr) (pair_value x)) → IsSpelled (calls.DirOp r)
+of_dir_op : (r : Result (List ℕ × Fattr) Stat)
+    → ((x : List ℕ × Fattr) → r ≡ Ok x → Fits (pair fhandle fattr) (pair_value x)) → IsSpelled (calls.DirOp r)
 of_dir_op r fits = record { fits = outcome_fits (pair fhandle fattr) pair_value r fits; cookies = tt }
 
 of_status : (r : Result (Unit {0}) Stat) → IsSpelled (calls.Status r)
 of_status r = record { fits = outcome_fits empty (λ x. x) r (λ x h. tt); cookies = tt }
 
-entries_fit : (es : List DirEntry) → AllByRecursion EntryFits es → AllByRecursion (Fits entry) (map entry_value es)
+entries_fit : (es : List PageEntry) → AllByRecursion EntryFits es
+    → AllByRecursion (Fits entry) (map entry_value es)
 entries_fit [] a = tt
 entries_fit (e ∷ es) a = ((a.0.fileid, ((omega (arith, a.0.name), a.0.name), length-bytes_high_first 4 e.cookie)), entries_fit es a.1)
 
-cookies_fit : (es : List DirEntry) → AllByRecursion EntryFits es → AllByRecursion (λ c. c < 2 ^ 32) (map (λ e. e.cookie) es)
+cookies_fit : (es : List PageEntry) → AllByRecursion EntryFits es
+    → AllByRecursion (λ c. c < 2 ^ 32) (map (λ e. e.cookie) es)
 cookies_fit [] a = tt
 cookies_fit (e ∷ es) a = (a.0.cookie, cookies_fit es a.1)
 
-of_entries : (r : Result Page Stat) → ((p : Page) → r ≡ Ok p → AllByRecursion EntryFits p.entries) → IsSpelled (calls.Entries r)
+of_entries : (r : Result Page Stat) → ((p : Page) → r ≡ Ok p → AllByRecursion EntryFits p.entries)
+    → IsSpelled (calls.Entries r)
 of_entries (Ok p) fits = record { fits = outcome_fits (pair (linked entry) flag) page_value (Ok p) (λ q h. (entries_fit q.entries (fits q h), tt)); cookies = cookies_fit p.entries (fits p refl) }
 of_entries (Err e) fits = record { fits = outcome_fits (pair (linked entry) flag) page_value (Err e) (λ q h. (entries_fit q.entries (fits q h), tt)); cookies = tt }
 
-of_told : {A : Type 0} (say : Result A Stat → Answer) (w : Files) (e : Effect A) → AreSpelled (answer_and_files say w e).1 → ((s : Stat) → IsSpelled (say (Err s))) → ((x : A × Files) → e ≡ Ok x → AreSpelled x.1 → IsSpelled (say (Ok x.0))) → IsSpelled (answer_and_files say w e).0
-of_told say w (Ok x) after refused given = given x refl after
-of_told say w (Err e) after refused given = refused e
+-- ---- calls that change files
 
-told_attributes : (w : Files) (n : ℕ) (e : Effect (Unit {0})) → AreSpelled (answer_and_files calls.Attributes w (with_attributes n e)).1 → IsSpelled (answer_and_files calls.Attributes w (with_attributes n e)).0
-told_attributes w n e after = of_told calls.Attributes w (with_attributes n e) after (λ s. of_attributes (Err s) (λ a h. absurd (never h))) (λ x h spelled.
-    let p = bind_ok e _ x h in
-    let q = bind_ok (attributes_at p.0.1 n) _ x p.2 in
-    let same = ok_same q.2 in
-    of_attributes (Ok x.0) (λ a is. subst (λ (a : Fattr). Fits fattr (fattr_value a)) (ap (λ (y : Fattr × Files). y.0) same ∙ ok_same is) (at_fits p.0.1 (subst AreSpelled (sym (ap (λ (y : Fattr × Files). y.1) same)) spelled) n q.0 q.1)))
+never : {A : Type 0} {s : Stat} {a : A} → Err s ≡ Ok a → ⊥
+never h = cc
+
+-- what is granted isn't refused
+granted : {A : Type 0} (r : Result A Stat) (x : A) (stat : Stat) → r ≡ Ok x → stat_in r ≡ Some stat → ⊥
+granted r x stat is h = none_some (sym (ap stat_in is) ∙ h)
+
+-- a refusal has a spelling
+refusal_spelled : (answer : Answer) (stat : Stat) → refusal_in answer ≡ Some stat → IsSpelled answer
+refusal_spelled calls.Nothing stat h = absurd (none_some h)
+refusal_spelled (calls.Attributes r) stat h = of_attributes r (λ a is. absurd (granted r a stat is h))
+refusal_spelled (calls.DirOp r) stat h = of_dir_op r (λ x is. absurd (granted r x stat is h))
+refusal_spelled (calls.Target r) stat h =
+    record { fits = outcome_fits path (λ target. target) r (λ t is. absurd (granted r t stat is h)); cookies = tt }
+refusal_spelled (calls.Bytes r) stat h =
+    record { fits = outcome_fits (pair fattr (opaque 8192)) data_value r (λ x is. absurd (granted r x stat is h)); cookies = tt }
+refusal_spelled (calls.Status r) stat h = of_status r
+refusal_spelled (calls.Entries r) stat h = of_entries r (λ p is. absurd (granted r p stat is h))
+refusal_spelled (calls.Free r) stat h =
+    record { fits = outcome_fits (pair word (pair word (pair word (pair word word)))) figures_value r (λ x is. absurd (granted r x stat is h)); cookies = tt }
+
+-- the attributes of a number have a spelling
+attributes_spelled : (w : Files) → AreSpelled w → (n : ℕ) (a : Fattr) → AttributesOk w n a
+    → IsSpelled (calls.Attributes (Ok a))
+attributes_spelled w h n a o = of_attributes (Ok a) (λ b is. subst (λ (b : Fattr). Fits fattr (fattr_value b)) (ok_same is) (at_fits w h n a o))
+
+-- so have a number's handle and attributes
+handle_spelled : (w : Files) → AreSpelled w → (n : ℕ) (a : Fattr) → AttributesOk w n a
+    → IsSpelled (calls.DirOp (Ok (handle_of w.fsid n, a)))
+handle_spelled w h n a o = of_dir_op (Ok (handle_of w.fsid n, a)) (λ x is.
+    subst (λ (x : List ℕ × Fattr). Fits (pair fhandle fattr) (pair_value x)) (ok_same is) (handle_fits w.fsid n, at_fits w h n a o))
+
+-- a call that changes files is answered what has a spelling
+of_change : (w : Files) (who : Caller) (now : Timeval) (call : Call) → only_reads call ≡ false
+    → AreSpelled (call_does w who now call).1 → IsSpelled (call_does w who now call).0
+of_change w who now = each_call w who now (λ call answer after. only_reads call ≡ false → AreSpelled after → IsSpelled answer) (record {
+  reads = λ call answer only not h. absurd (both only not);
+  refused = λ call answer stat is not h. refusal_spelled answer stat is;
+  set_attributes = λ file s a after o at not h. attributes_spelled after h (number_for w file) a at;
+  write = λ file offset new a after o at not h. attributes_spelled after h (number_for w file) a at;
+  create = λ dir name s number a after o at not h. handle_spelled after h number a at;
+  make_dir = λ dir name s number a after o at not h. handle_spelled after h number a at;
+  symlink = λ dir name target s number after o not h. of_status (Ok tt);
+  link = λ from dir name after o not h. of_status (Ok tt);
+  remove = λ dir name after o not h. of_status (Ok tt);
+  remove_dir = λ dir name after o not h. of_status (Ok tt);
+  rename = λ from from_name to to_name after o not h. of_status (Ok tt);
+})
   where
-    never : {A : Type 0} {s : Stat} {a : A} → Err s ≡ Ok a → ⊥
-    never h = cc
-
-abbrev handled : ℕ × Files → Fattr → Effect (List ℕ × Fattr)
-handled y a = Ok ((handle_of y.1.fsid y.0, a), y.1)
-
-told_handle : (w : Files) (e : Effect ℕ) → AreSpelled (answer_and_files calls.DirOp w (with_handle e)).1 → IsSpelled (answer_and_files calls.DirOp w (with_handle e)).0
-told_handle w e after = of_told calls.DirOp w (with_handle e) after (λ s. of_dir_op (Err s) (λ a h. absurd (never h))) (λ x h spelled.
-    let p = bind_ok e (λ y. attributes_at y.1 y.0 >>= handled y) x h in
-    let q = bind_ok (attributes_at p.0.1 p.0.0) (handled p.0) x p.2 in
-    let same = ok_same q.2 in
-    of_dir_op (Ok x.0) (λ a is. subst (λ (a : List ℕ × Fattr). Fits (pair fhandle fattr) (pair_value a)) (ap (λ (y : (List ℕ × Fattr) × Files). y.0) same ∙ ok_same is)
-    (handle_fits p.0.1.fsid p.0.0, at_fits p.0.1 (subst AreSpelled (sym (ap (λ (y : (List ℕ × Fattr) × Files). y.1) same)) spelled) p.0.0 q.0 q.1)))
-  where
-    never : {A : Type 0} {s : Stat} {a : A} → Err s ≡ Ok a → ⊥
-    never h = cc
-
-told_status : (w : Files) (e : Effect (Unit {0})) → IsSpelled (answer_and_files calls.Status w e).0
-told_status w (Ok x) = of_status (Ok x.0)
-told_status w (Err e) = of_status (Err e)
+    both : {b : Bool} → b ≡ true → b ≡ false → ⊥
+    both p q = tf (sym p ∙ q)
+      where
+        tf : true ≡ false → ⊥
+        tf h = cc
 
 -- ---- calls that read
 
 module _ (w : Files) (h : AreSpelled w) (who : Caller) where
   of_getattr : (file : List ℕ) → IsSpelled (calls.Attributes (getattr w file))
-  of_getattr file = of_attributes (getattr w file) (λ a is. let p = bind_ok (number_of w file) _ a is in at_fits w h p.0 a p.2)
-
-  abbrev found_with : ℕ → Fattr → Result (List ℕ × Fattr) Stat
-  found_with n a = Ok (handle_of w.fsid n, a)
+  of_getattr file = of_attributes (getattr w file) (λ a is. let o = getattr_ok w file a is in at_fits w h o.number a o.attributes)
 
   of_lookup : (dir name : List ℕ) → IsSpelled (calls.DirOp (lookup w who dir name))
   of_lookup dir name = of_dir_op (lookup w who dir name) (λ x is.
-      let d = bind_ok (number_of w dir) (λ d. number_at_name w who d name >>= λ n. attributes_at w n >>= found_with n) x is in
-      let n = bind_ok (number_at_name w who d.0 name) (λ n. attributes_at w n >>= found_with n) x d.2 in
-      let a = bind_ok (attributes_at w n.0) (found_with n.0) x n.2 in
-      subst (λ (x : List ℕ × Fattr). Fits (pair fhandle fattr) (pair_value x)) (ok_same a.2) (handle_fits w.fsid n.0, at_fits w h n.0 a.0 a.1))
+      let o = lookup_ok w who dir name x.0 x.1 is in
+      (ap length o.answer ∙ handle_fits w.fsid o.number, at_fits w h o.number x.1 o.attributes))
 
   of_target : (n : ℕ) → IsSpelled (calls.Target (read_link w n))
   of_target n = record {
     fits = outcome_fits path (λ target. target) (read_link w n) (λ t is.
-        let f = bind_ok (file_of w n) _ t is in
-        let short = by f.0.body t f.2 (h.tree.files n f.0 (found_ok stats.Stale (file_at w n) f.0 f.1)).body in
+        let o = read_link_ok w n t is in
+        let short : length t ≤ 1024 = subst IsBody o.answer (h.tree.files n o.file o.there).body in
         (omega (arith, short), short));
     cookies = tt;
   }
-    where
-      by : (b : Body) (t : List ℕ) → target_of b ≡ Ok t → IsBody b → length t ≤ 1024
-      by (Regular bytes) t e body = absurd cc
-      by (Symlink target) t e body = let same = ap length (ok_same e) in omega (arith, same, body)
-      by (Directory l) t e body = absurd cc
 
   of_bytes : (n offset count : ℕ) → IsSpelled (calls.Bytes (read w who n offset count))
   of_bytes n offset count = record {
     fits = outcome_fits (pair fattr (opaque 8192)) data_value (read w who n offset count) (λ x is.
-        let f = bind_ok (file_of w n) _ x is in
-        let bytes = bind_ok (bytes_of f.0.body) _ x f.2 in
-        let may = bind_ok (check (may_read who f.0 || permits who f.0 1) stats.Acces) _ x bytes.2 in
-        subst (λ (x : Fattr × List ℕ). Fits (pair fattr (opaque 8192)) (data_value x)) (ok_same may.2)
-        (attributes_fit w h n f.0 (found_ok stats.Stale (file_at w n) f.0 f.1), (omega (arith, length-take (min count 8192) (drop offset bytes.0)), omega (arith, length-take (min count 8192) (drop offset bytes.0)))));
+        let o = read_ok w who n offset count x.0 x.1 is in
+        let short = ap length o.answer in
+        let long = length-take (min count 8192) (drop offset o.bytes) in
+        (at_fits w h n x.0 (record { file = o.file; there = o.there; answer = o.attributes }), (omega (arith, short, long), omega (arith, short, long))));
     cookies = tt;
   }
 
   of_page : (n cookie count : ℕ) → IsSpelled (calls.Entries (read_dir w who n cookie count))
   of_page n cookie count = of_entries (read_dir w who n cookie count) (λ p is.
-      let d = bind_ok (dir_of w n) _ p is in
-      let may = bind_ok (check (may_read who d.0.file) stats.Acces) _ p d.2 in
-      let found = dir_ok w n d.0 d.1 in
-      subst (λ (p : Page). AllByRecursion EntryFits p.entries) (ok_same may.2) (page_fits w h n d.0.file d.0.listing found.there found.directory found.listing cookie count))
+      let o = read_dir_ok w who n cookie count p is in
+      subst (λ (p : Page). AllByRecursion EntryFits p.entries) (sym o.answer)
+      (page_fits w h n o.file o.listing o.there (ap is_directory o.directory) (ap listing_in o.directory) cookie count))
 
   of_free : (n : ℕ) → IsSpelled (calls.Free (stat_fs w n))
   of_free n = record {
@@ -174,22 +192,24 @@ nothing : IsSpelled calls.Nothing
 nothing = record { fits = tt; cookies = tt }
 
 -- the answer of any call, where the files before and after it are within their bounds
-pub of_call : (w : Files) (who : Caller) (now : Timeval) → AreSpelled w → (call : Call) → AreSpelled (call_does w who now call).1 → IsSpelled (call_does w who now call).0
+-- what a call is answered has a spelling, where the files after it have
+pub of_call : (w : Files) (who : Caller) (now : Timeval) → AreSpelled w → (call : Call)
+    → AreSpelled (call_does w who now call).1 → IsSpelled (call_does w who now call).0
 of_call w who now h calls.Null after = nothing
 of_call w who now h (calls.Getattr file) after = of_getattr w h who file
-of_call w who now h (calls.Setattr file s) after = told_attributes w (number_for w file) (set_attributes w who now (number_for w file) (given_fields now s)) after
 of_call w who now h calls.Root after = nothing
 of_call w who now h (calls.Lookup dir name) after = of_lookup w h who dir name
 of_call w who now h (calls.Readlink file) after = of_target w h who (number_for w file)
 of_call w who now h (calls.Read file offset count) after = of_bytes w h who (number_for w file) offset count
 of_call w who now h calls.Writecache after = nothing
-of_call w who now h (calls.Write file offset new) after = told_attributes w (number_for w file) (write w who now (number_for w file) offset new) after
-of_call w who now h (calls.Create dir name s) after = told_handle w (create w who now (number_for w dir) name (given_fields now s)) after
-of_call w who now h (calls.Remove dir name) after = told_status w _
-of_call w who now h (calls.Rename from from_name to to_name) after = told_status w _
-of_call w who now h (calls.Link from dir name) after = told_status w _
-of_call w who now h (calls.Symlink dir name target s) after = told_status w _
-of_call w who now h (calls.Mkdir dir name s) after = told_handle w (make_dir w who now (number_for w dir) name (given_fields now s)) after
-of_call w who now h (calls.Rmdir dir name) after = told_status w _
 of_call w who now h (calls.Readdir dir cookie count) after = of_page w h who (number_for w dir) cookie count
 of_call w who now h (calls.Statfs file) after = of_free w h who (number_for w file)
+of_call w who now h (calls.Setattr file s) after = of_change w who now (calls.Setattr file s) refl after
+of_call w who now h (calls.Write file offset new) after = of_change w who now (calls.Write file offset new) refl after
+of_call w who now h (calls.Create dir name s) after = of_change w who now (calls.Create dir name s) refl after
+of_call w who now h (calls.Remove dir name) after = of_change w who now (calls.Remove dir name) refl after
+of_call w who now h (calls.Rename from from_name to to_name) after = of_change w who now (calls.Rename from from_name to to_name) refl after
+of_call w who now h (calls.Link from dir name) after = of_change w who now (calls.Link from dir name) refl after
+of_call w who now h (calls.Symlink dir name target s) after = of_change w who now (calls.Symlink dir name target s) refl after
+of_call w who now h (calls.Mkdir dir name s) after = of_change w who now (calls.Mkdir dir name s) refl after
+of_call w who now h (calls.Rmdir dir name) after = of_change w who now (calls.Rmdir dir name) refl after

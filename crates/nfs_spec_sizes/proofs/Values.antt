@@ -23,7 +23,7 @@ use Rattle.fs_changes.proofs.Finite.{total_without}
 use Rattle.fs_changes.proofs.Listings.{name_self}
 use Rattle.fs_changes.proofs.Room.{AllCookies, IsWithin}
 use Rattle.nfs_spec.specs.FileAttributes.{type_of, type_bits, nlink_of, size_of, is_directory_at, attributes_of}
-use Rattle.nfs_spec.specs.Readdir.{DirEntry, dir_entries, cost, longest_front, page_of}
+use Rattle.nfs_spec.specs.Readdir.{PageEntry, dir_entries, cost, longest_front, page_of}
 use Rattle.nfs_spec_sizes.specs.Bounds.{AreWords}
 
 -- ---- stats
@@ -48,7 +48,8 @@ stat_fits a stats.Stale = (omega arith, refl, tt)
 stat_fits a stats.WFlush = (omega arith, refl, tt)
 
 -- a result fits where its value does, and a stat always
-pub outcome_fits : {X : Type 0} (a : Item) (view : X → Value a) (r : Result X Stat) → ((x : X) → r ≡ Ok x → Fits a (view x)) → Fits (stat_or a) (outcome_value a view r)
+pub outcome_fits : {X : Type 0} (a : Item) (view : X → Value a) (r : Result X Stat)
+    → ((x : X) → r ≡ Ok x → Fits a (view x)) → Fits (stat_or a) (outcome_value a view r)
 outcome_fits a view (Ok x) fits = (omega arith, refl, fits x refl)
 outcome_fits a view (Err e) fits = stat_fits a e
 
@@ -62,10 +63,12 @@ names_few n (e ∷ es) = let parts = sum_by-cons (one_if n) e es in omega (arith
     one_few true = omega arith
     one_few false = omega arith
 
-length_few : (w : Files) (n : ℕ) (f : File) → file_at w n ≡ Some f → length (listing_in f.body).entries ≤ entry_count w
+length_few : (w : Files) (n : ℕ) (f : File) → file_at w n ≡ Some f
+    → length (listing_in f.body).entries ≤ entry_count w
 length_few w n f there = omega (arith, total_without (λ g. length (listing_in g.body).entries) w n f there)
 
-nlink_few : (w : Files) (n : ℕ) (f : File) → file_at w n ≡ Some f → (b : Body) → listing_in f.body ≡ listing_in b → nlink_of w n b ≤ entry_count w + 2
+nlink_few : (w : Files) (n : ℕ) (f : File) → file_at w n ≡ Some f → (b : Body)
+    → listing_in f.body ≡ listing_in b → nlink_of w n b ≤ entry_count w + 2
 nlink_few w n f there (Regular bytes) same = omega (arith, sum_by-le-sum_by (names_in n) (λ g. length (listing_in g.body).entries) (finite.values w.files) (λ g. names_few n (listing_in g.body).entries))
 nlink_few w n f there (Symlink target) same = omega (arith, sum_by-le-sum_by (names_in n) (λ g. length (listing_in g.body).entries) (finite.values w.files) (λ g. names_few n (listing_in g.body).entries))
 nlink_few w n f there (Directory l) same = omega (arith, count_by-le-length (λ (e : List ℕ × (ℕ × ℕ)). is_directory_at w e.1.0) l.entries, length_few w n f there, ap (λ (l : Listing). length l.entries) same)
@@ -99,7 +102,8 @@ pub number_fits : (w : Files) → AreSpelled w → (n : ℕ) → IsSome (file_at
 number_fits w h n there = omega (arith, (h.tree.numbers n there).1, h.room.next)
 
 -- and so are its attributes, each within its own bound
-pub attributes_fit : (w : Files) → AreSpelled w → (n : ℕ) (f : File) → file_at w n ≡ Some f → Fits fattr (fattr_value (attributes_of w n f))
+pub attributes_fit : (w : Files) → AreSpelled w → (n : ℕ) (f : File) → file_at w n ≡ Some f
+    → Fits fattr (fattr_value (attributes_of w n f))
 attributes_fit w h n f there =
     let own = h.tree.files n f there in
     let words = h.words.files n f there in
@@ -111,7 +115,9 @@ attributes_fit w h n f there =
 
 module _ (P : List ℕ → ℕ × ℕ → Type 0) where
   -- what holds of each look-up holds of each entry
-  all_entries : (es : List (List ℕ × (ℕ × ℕ))) → HasDistinctNames es → ((name : List ℕ) (v : ℕ × ℕ) → lookup (pointwise nat_eq name) es ≡ Some v → P name v) → AllByRecursion (λ e. P e.0 e.1) es
+  all_entries : (es : List (List ℕ × (ℕ × ℕ))) → HasDistinctNames es
+      → ((name : List ℕ) (v : ℕ × ℕ) → lookup (pointwise nat_eq name) es ≡ Some v → P name v)
+      → AllByRecursion (λ e. P e.0 e.1) es
   unfolding IsDistinct
   all_entries [] distinct holds = tt
   all_entries (e ∷ es) distinct holds = (
@@ -119,11 +125,14 @@ module _ (P : List ℕ → ℕ × ℕ → Type 0) where
     all_entries es distinct.1 (λ name v at. holds name v (behind name v at (pointwise nat_eq name e.0) refl)),
   )
     where
-      behind : (name : List ℕ) (v : ℕ × ℕ) → lookup (pointwise nat_eq name) es ≡ Some v → (b : Bool) → pointwise nat_eq name e.0 ≡ b → cond (pointwise nat_eq name e.0) (Some e.1) (lookup (pointwise nat_eq name) es) ≡ Some v
+      behind : (name : List ℕ) (v : ℕ × ℕ) → lookup (pointwise nat_eq name) es ≡ Some v → (b : Bool)
+          → pointwise nat_eq name e.0 ≡ b
+          → cond (pointwise nat_eq name e.0) (Some e.1) (lookup (pointwise nat_eq name) es) ≡ Some v
       behind name v at true same = absurd (none_some (sym (not_before nat_list_eq_equiv e.0 name same es distinct.0) ∙ at))
       behind name v at false other = ap (λ b. cond b (Some e.1) (lookup (pointwise nat_eq name) es)) other ∙ at
 
-low_cookies : (low : ℕ) (es : List (List ℕ × (ℕ × ℕ))) (high : ℕ) → IsRising low es high → AllByRecursion (λ e. e.1.1 < high) es
+low_cookies : (low : ℕ) (es : List (List ℕ × (ℕ × ℕ))) (high : ℕ) → IsRising low es high
+    → AllByRecursion (λ e. e.1.1 < high) es
 low_cookies low [] high h = tt
 low_cookies low (e ∷ es) high h = (omega (arith, at_most (e.1.1 + 1) es high h.1), low_cookies (e.1.1 + 1) es high h.1)
   where
@@ -132,7 +141,7 @@ low_cookies low (e ∷ es) high h = (omega (arith, at_most (e.1.1 + 1) es high h
     at_most low (e ∷ es) high h = omega (arith, h.0, at_most (e.1.1 + 1) es high h.1)
 
 -- an entry of a page fits
-pub record EntryFits (e : DirEntry) : Type 0 where
+pub record EntryFits (e : PageEntry) : Type 0 where
   -- its number is a word
   pub fileid : e.fileid < 2 ^ 32
   -- its name has at most MAXNAMLEN bytes
@@ -145,18 +154,21 @@ listed_fit : (es : List (List ℕ × (ℕ × ℕ))) → AllByRecursion (λ e. (e
 listed_fit [] a b = tt
 listed_fit (e ∷ es) a b = (record { fileid = a.0.0; name = a.0.1; cookie = b.0 }, listed_fit es a.1 b.1)
 
-weaker : (es : List (List ℕ × (ℕ × ℕ))) (high : ℕ) → high ≤ 4294967295 → AllByRecursion (λ e. e.1.1 < high) es → AllByRecursion (λ e. e.1.1 < 2 ^ 32) es
+weaker : (es : List (List ℕ × (ℕ × ℕ))) (high : ℕ) → high ≤ 4294967295 → AllByRecursion (λ e. e.1.1 < high) es
+    → AllByRecursion (λ e. e.1.1 < 2 ^ 32) es
 weaker [] high le a = tt
 weaker (e ∷ es) high le a = (omega (arith, le, a.0), weaker es high le a.1)
 
-all_front : (P : DirEntry → Type 0) (count : ℕ) (es : List DirEntry) → AllByRecursion P es → AllByRecursion P (longest_front count es)
+all_front : (P : PageEntry → Type 0) (count : ℕ) (es : List PageEntry) → AllByRecursion P es
+    → AllByRecursion P (longest_front count es)
 all_front P count [] a = tt
 all_front P count (e ∷ es) a = elim (nat_le (cost e) count) as (λ b. AllByRecursion P (cond b (e ∷ longest_front (count - cost e) es) [])) [
   | true ↦ (a.0, all_front P (count - cost e) es a.1)
   | false ↦ tt
 ]
 
-all_above : (P : DirEntry → Type 0) (test : DirEntry → Bool) (es : List DirEntry) → AllByRecursion P es → AllByRecursion P (filter test es)
+all_above : (P : PageEntry → Type 0) (test : PageEntry → Bool) (es : List PageEntry) → AllByRecursion P es
+    → AllByRecursion P (filter test es)
 all_above P test [] a = tt
 all_above P test (e ∷ es) a = elim (test e) as (λ b. AllByRecursion P (cond b (e ∷ filter test es) (filter test es))) [
   | true ↦ (a.0, all_above P test es a.1)
@@ -164,7 +176,9 @@ all_above P test (e ∷ es) a = elim (test e) as (λ b. AllByRecursion P (cond b
 ]
 
 -- each entry of a page fits
-pub page_fits : (w : Files) → AreSpelled w → (dir : ℕ) (f : File) (l : Listing) → file_at w dir ≡ Some f → is_directory f.body ≡ true → listing_in f.body ≡ l → (cookie count : ℕ) → AllByRecursion EntryFits (page_of cookie count (dir_entries w dir l)).entries
+pub page_fits : (w : Files) → AreSpelled w → (dir : ℕ) (f : File) (l : Listing) → file_at w dir ≡ Some f
+    → is_directory f.body ≡ true → listing_in f.body ≡ l → (cookie count : ℕ)
+    → AllByRecursion EntryFits (page_of cookie count (dir_entries w dir l)).entries
 unfolding AllCookies
 page_fits w h dir f l there is own cookie count =
     all_front EntryFits (min count 8192) _ (all_above EntryFits (λ e. nat_lt cookie e.cookie) (dir_entries w dir l) (
@@ -179,7 +193,8 @@ page_fits w h dir f l there is own cookie count =
       ),
     ))
   where
-    in_body : (b : Body) → is_directory b ≡ true → IsBody b → IsRising 3 (listing_in b).entries (listing_in b).next × HasDistinctNames (listing_in b).entries
+    in_body : (b : Body) → is_directory b ≡ true → IsBody b
+        → IsRising 3 (listing_in b).entries (listing_in b).next × HasDistinctNames (listing_in b).entries
     in_body (Regular bytes) is h = absurd cc
     in_body (Symlink target) is h = absurd cc
     in_body (Directory l) is h = h

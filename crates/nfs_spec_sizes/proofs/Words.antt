@@ -1,26 +1,21 @@
 -- Owners, groups and seconds that are words are words after each call.
 -- Serves: `laws::answers_have_a_spelling` (its clause `words`).
-use Rattle.std.proofs.Common.{◌≡◌, ⊎_elim, ℕ, ◌+◌, ◌<◌, ◌^◌, Bool, true, false, cond, not, List, [], length, replicate, Option, Some, None, Ok, option_map, is_some, refl, sym, subst, ◌∙◌}
-use Rattle.std.specs.Prelude.{◌==◌, ◌&&◌, unwrap_or, nat_lt}
-use Rattle.std.specs.Option.{option_map_or}
+use Rattle.std.proofs.Common.{◌≡◌, ⊎_elim, ℕ, ◌<◌, ◌^◌, Bool, true, false, cond, List, [], length, replicate, Option, Some, None, option_map, is_some, refl, sym, subst, ◌∙◌}
+use Rattle.std.specs.Prelude.{◌==◌, unwrap_or, nat_lt, if◌then◌else◌}
 use Rattle.std.proofs.lemmas.Bool.{cases_eq}
 use Rattle.nfs_types.specs.Timeval.{Timeval}
 use Rattle.nfs_types.specs.Caller.{Caller}
-use Rattle.nfs_types.specs.declared.stat.Stat.TheVariants as stats
-use Rattle.fs_model.specs.Listing.{Listing, entry_at}
-use Rattle.fs_model.specs.Names.{is_name}
-use Rattle.fs_model.specs.Files.{Body, Regular, Symlink, Directory, File, Files, file_at, is_directory, names_of}
+use Rattle.fs_model.specs.Listing.{Listing}
+use Rattle.fs_model.specs.Files.{Body, Regular, Symlink, Directory, File, Files, file_at, places, names_of}
 use Rattle.fs_model.proofs.Walks.{none_some, some_same}
 use Rattle.fs_changes.specs.Edits.{with_changed_file, with_new_file, without_file, with_name, without_name, map_listing}
 use Rattle.fs_changes.proofs.Finite.{changed_here, changed_other, gone_here, gone_other, new_here, new_other}
-use Rattle.nfs_spec.specs.ProcedureChecks.{◌>>=◌, NumberedDir, file_of, dir_of, listing_or, check, check_size, check_room, check_cookie, check_edit, check_free, number_at, bytes_of, may_search, may_write}
 use Rattle.nfs_spec.specs.Sattr.{Sattr, GivenFields, given_fields, gives_any, no_fields}
-use Rattle.nfs_spec.specs.Changes.{touch, with_mtime, touch_ctime, with_ctime, unlink, check_owner, check_resize, apply_fields, new_file, after_unlink}
-use Rattle.nfs_spec.specs.Procedures.{set_attributes, write, with_bytes_written, add_file, create, create_over, create_new, make, is_regular, link, remove, remove_dir, is_above, check_target, unlink_target, move_entry, rename}
-use Rattle.nfs_spec.specs.NfsCalls as calls
+use Rattle.nfs_spec.specs.Changes.{touch, with_mtime, touch_ctime, with_ctime, unlink, apply_fields, new_file, after_unlink}
+use Rattle.nfs_spec.specs.Procedures.{with_bytes_written, add_file, unlink_target, move_entry}
 use Rattle.nfs_spec.specs.NfsCalls.{Call, number_for, call_does}
-use Rattle.nfs_spec_steps.proofs.Steps.{bind_ok}
-use Rattle.nfs_spec_sizes.proofs.Effects.{in_files, of_told, of_attributes, of_handle, of_number}
+use Rattle.nfs_spec_steps.specs.Granted.{SetOk, WriteOk, MakeOk, CreateOk, UnnameOk, RenameOk, new_regular, new_directory, new_link}
+use Rattle.nfs_spec_steps.proofs.EachCall.{each_call}
 use Rattle.nfs_spec_sizes.specs.Bounds.{HasWords, AsksWords, SaysWords, HasWordsIn}
 
 abbrev pub AllWords : Files → Type 0
@@ -28,7 +23,8 @@ AllWords w = (n : ℕ) (f : File) → file_at w n ≡ Some f → HasWords f
 
 -- ---- changes
 
-changed : (w : Files) (k : ℕ) (change : File → File) → ((f : File) → HasWords f → HasWords (change f)) → AllWords w → AllWords (with_changed_file w k change)
+changed : (w : Files) (k : ℕ) (change : File → File) → ((f : File) → HasWords f → HasWords (change f))
+    → AllWords w → AllWords (with_changed_file w k change)
 changed w k change like all n g h = ⊎_elim
     (λ e. by (file_at w k) refl (sym (changed_here w k change n e) ∙ h))
     (λ ne. all n g (sym (changed_other w k change n ne) ∙ h))
@@ -68,7 +64,8 @@ word_asked : (b : Bool) (m n : ℕ) → m < 2 ^ 32 → cond b None (Some m) ≡ 
 word_asked true m n lt h = absurd (none_asked h)
 word_asked false m n lt h = subst (λ (k : ℕ). k < 2 ^ 32) (some_same h) lt
 
-time_asked : (b c : Bool) (now t u : Timeval) → now.seconds < 2 ^ 32 → t.seconds < 2 ^ 32 → cond b None (cond c (Some now) (Some t)) ≡ Some u → u.seconds < 2 ^ 32
+time_asked : (b c : Bool) (now t u : Timeval) → now.seconds < 2 ^ 32 → t.seconds < 2 ^ 32
+    → cond b None (cond c (Some now) (Some t)) ≡ Some u → u.seconds < 2 ^ 32
 time_asked true c now t u lt lt' h = absurd (none_asked h)
 time_asked false true now t u lt lt' h = subst (λ (v : Timeval). v.seconds < 2 ^ 32) (some_same h) lt
 time_asked false false now t u lt lt' h = subst (λ (v : Timeval). v.seconds < 2 ^ 32) (some_same h) lt'
@@ -84,7 +81,8 @@ asked now s lt h = record {
 none_wanted : WantsWords no_fields
 none_wanted = record { uid = λ n h. absurd (none_asked h); gid = λ n h. absurd (none_asked h); atime = λ t h. absurd (none_asked h); mtime = λ t h. absurd (none_asked h) }
 
-chosen : {A : Type 0} (P : A → Type 0) (o : Option A) (d : A) → ((x : A) → o ≡ Some x → P x) → P d → P (unwrap_or o d)
+chosen : {A : Type 0} (P : A → Type 0) (o : Option A) (d : A) → ((x : A) → o ≡ Some x → P x) → P d
+    → P (unwrap_or o d)
 chosen P None d some none = none
 chosen P (Some x) d some none = some x refl
 
@@ -110,7 +108,8 @@ module _ (now : Timeval) (who : Caller) (says : SaysWords who now) where
     ctime = either IsWord (gives_any a) now f.ctime says.seconds own.ctime;
   }
 
-  new_words : (a : GivenFields) → WantsWords a → (mode : ℕ) (body : Body) → HasWords (new_file who now a mode body)
+  new_words : (a : GivenFields) → WantsWords a → (mode : ℕ) (body : Body)
+      → HasWords (new_file who now a mode body)
   unfolding IsWord
   new_words a wants mode body = record {
     uid = one_of (who.uid == 0) _ who.uid (chosen (λ n. n < 2 ^ 32) a.uid who.uid wants.uid says.uid) says.uid;
@@ -145,147 +144,90 @@ module _ (now : Timeval) (who : Caller) (says : SaysWords who now) where
       by v true = gone v k
       by v false = mark_on v k
 
-  make_on : (w : Files) (d : ℕ) (x : List ℕ) (f : File) → HasWords f → AllWords w → AllWords (add_file now w d x f)
+  make_on : (w : Files) (d : ℕ) (x : List ℕ) (f : File) → HasWords f → AllWords w
+      → AllWords (add_file now w d x f)
   make_on w d x f own all = touch_on (with_name (with_new_file w f) d x w.next) d (name_on (with_new_file w f) d x w.next (new w f own all))
+
+  moved_words : (w : Files) → AllWords w
+      → (n from : ℕ) (from_name : List ℕ) (to : ℕ) (to_name : List ℕ) (target : Option ℕ)
+      → AllWords (move_entry now w n from from_name to to_name target)
+  moved_words w all n from from_name to to_name target =
+      let w₁ = unlink_target now w to to_name target in
+      let w₂ = without_name w₁ from from_name in
+      let w₃ = with_name w₂ to to_name n in
+      let w₄ = touch_ctime now w₃ n in
+      let w₅ = touch now w₄ from in
+      touch_on w₅ to (touch_on w₄ from (mark_on w₃ n (name_on w₂ to to_name n (name_off w₁ from from_name (clear target)))))
+    where
+      clear : (o : Option ℕ) → AllWords (unlink_target now w to to_name o)
+      clear None = all
+      clear (Some t) = unname w to to_name t all
+
+  rewritten_words : (offset : ℕ) (new old : List ℕ) (f : File) → HasWords f
+      → HasWords (with_bytes_written now offset new old f)
+  rewritten_words offset new old f own =
+      record { uid = own.uid; gid = own.gid; atime = own.atime; mtime = says.seconds; ctime = says.seconds }
 
   -- ---- each procedure
 
   module _ (w : Files) (all : AllWords w) where
-    of_set : (n : ℕ) (a : GivenFields) → WantsWords a → (x : Unit {0} × Files) → set_attributes w who now n a ≡ Ok x → AllWords x.1
-    of_set n a wants x h =
-        let p = bind_ok (file_of w n) _ x h in
-        let q = bind_ok (check_owner who p.0 a) _ x p.2 in
-        let r = bind_ok (check_resize who p.0 a.size) _ x q.2 in
-        let s = bind_ok (cond (is_some a.size) (check_room (with_changed_file w n (apply_fields now a))) (Ok tt)) _ x r.2 in
-        in_files AllWords s.2 (changed w n (apply_fields now a) (set_words a wants) all)
+    of_set : (n : ℕ) (a : GivenFields) → WantsWords a → (after : Files) → SetOk w who now n a after
+        → AllWords after
+    of_set n a wants after o = subst AllWords (sym o.effect) (changed w n (apply_fields now a) (set_words a wants) all)
 
-    of_write : (n offset : ℕ) (new : List ℕ) (x : Unit {0} × Files) → write w who now n offset new ≡ Ok x → AllWords x.1
-    of_write n offset new x h =
-        let p = bind_ok (file_of w n) _ x h in
-        let q = bind_ok (bytes_of p.0.body) _ x p.2 in
-        let r = bind_ok (check (may_write who p.0) stats.Acces) _ x q.2 in
-        by q.0 (length new == 0) r.2
+    of_write : (n offset : ℕ) (new : List ℕ) (after : Files) → WriteOk w who now n offset new after
+        → AllWords after
+    of_write n offset new after o = subst AllWords (sym o.effect) (by (length new == 0))
       where
-        by : (old : List ℕ) (b : Bool)
-            → cond b (Ok (tt, w)) (check_size (offset + length new) >>= λ _. check_room (with_changed_file w n (with_bytes_written now offset new old)) >>= λ _. Ok (tt, with_changed_file w n (with_bytes_written now offset new old))) ≡ Ok x
-            → AllWords x.1
-        by old true h = in_files AllWords h all
-        by old false h =
-            let s = bind_ok (check_size (offset + length new)) _ x h in
-            let t = bind_ok (check_room (with_changed_file w n (with_bytes_written now offset new old))) _ x s.2 in
-            in_files AllWords t.2 (changed w n (with_bytes_written now offset new old) (λ f own. record { uid = own.uid; gid = own.gid; atime = own.atime; mtime = says.seconds; ctime = says.seconds }) all)
+        by : (none : Bool)
+            → AllWords (if none then w else with_changed_file w n (with_bytes_written now offset new o.old))
+        by true = all
+        by false = changed w n (with_bytes_written now offset new o.old) (rewritten_words offset new o.old) all
 
-    of_make : (dir : ℕ) (name : List ℕ) (f : File) → HasWords f → (x : ℕ × Files) → make w who now dir name f ≡ Ok x → AllWords x.1
-    of_make dir name f own x h =
-        let p = bind_ok (dir_of w dir) _ x h in
-        let q = bind_ok (check_edit who p.0 name) _ x p.2 in
-        let r = bind_ok (check_free p.0 name) _ x q.2 in
-        let s = bind_ok (check_room (add_file now w dir name f)) _ x r.2 in
-        in_files AllWords s.2 (make_on w dir name f own all)
+    of_make : (dir : ℕ) (name : List ℕ) (f : File) → HasWords f → (number : ℕ) (after : Files)
+        → MakeOk w who now dir name f number after → AllWords after
+    of_make dir name f own number after o = subst AllWords (sym o.effect) (make_on w dir name f own all)
 
-    of_create : (dir : ℕ) (name : List ℕ) (a : GivenFields) → WantsWords a → (x : ℕ × Files) → create w who now dir name a ≡ Ok x → AllWords x.1
-    of_create dir name a wants x h =
-        let p = bind_ok (dir_of w dir) _ x h in
-        let q = bind_ok (check (is_name name) stats.Acces) _ x p.2 in
-        let r = bind_ok (check (may_search who p.0.file) stats.Acces) _ x q.2 in
-        by p.0 (entry_at p.0.listing name) r.2
+    of_create : (dir : ℕ) (name : List ℕ) (a : GivenFields) → WantsWords a → (number : ℕ) (after : Files)
+        → CreateOk w who now dir name a number after → AllWords after
+    of_create dir name a wants number after o = by (places w dir name) refl
       where
-        by : (d : NumberedDir) (o : Option (ℕ × ℕ)) → option_map_or (λ e. create_over w who now a e.0) o (create_new w who now d name a) ≡ Ok x → AllWords x.1
-        by d (Some e) h =
-            let p = bind_ok (file_of w e.0) _ x h in
-            let q = bind_ok (check (is_regular p.0.body) stats.Exist) _ x p.2 in
-            let r = bind_ok (set_attributes w who now e.0 a) _ x q.2 in
-            in_files AllWords r.2 (of_set e.0 a wants r.0 r.1)
-        by d None h =
-            let f = new_file who now a 420 (Regular (replicate (unwrap_or a.size 0) 0)) in
-            let p = bind_ok (check (may_write who d.file) stats.Acces) _ x h in
-            let q = bind_ok (check_size (unwrap_or a.size 0)) _ x p.2 in
-            let r = bind_ok (check_room (add_file now w d.number name f)) _ x q.2 in
-            in_files AllWords r.2 (make_on w d.number name f (new_words a wants 420 (Regular (replicate (unwrap_or a.size 0) 0))) all)
+        by : (p : Option (ℕ × ℕ)) → places w dir name ≡ p → AllWords after
+        by None free =
+            of_make dir name (new_regular who now a) (new_words a wants 420 (Regular (replicate (unwrap_or a.size 0) 0))) number after (o.fresh free).make
+        by (Some p) at = of_set p.0 a wants after (o.over p.0 p.1 at).set
 
-    of_link : (from dir : ℕ) (name : List ℕ) (x : Unit {0} × Files) → link w who now from dir name ≡ Ok x → AllWords x.1
-    of_link from dir name x h =
-        let two = with_name (touch_ctime now w from) dir name from in
-        let p = bind_ok (file_of w from) _ x h in
-        let q = bind_ok (check (not (is_directory p.0.body)) stats.IsDir) _ x p.2 in
-        let r = bind_ok (dir_of w dir) _ x q.2 in
-        let s = bind_ok (check_edit who r.0 name) _ x r.2 in
-        let t = bind_ok (check_free r.0 name) _ x s.2 in
-        let u = bind_ok (check_room (touch now two dir)) _ x t.2 in
-        in_files AllWords u.2 (touch_on two dir (name_on (touch_ctime now w from) dir name from (mark_on w from all)))
+    of_remove : (kind : Bool) (dir : ℕ) (name : List ℕ) (after : Files)
+        → UnnameOk kind w who now dir name after → AllWords after
+    of_remove kind dir name after o =
+        subst AllWords (sym o.effect) (touch_on (unlink now w dir name o.number) dir (unname w dir name o.number all))
 
-    of_remove : (dir : ℕ) (name : List ℕ) (x : Unit {0} × Files) → remove w who now dir name ≡ Ok x → AllWords x.1
-    of_remove dir name x h =
-        let p = bind_ok (dir_of w dir) _ x h in
-        let q = bind_ok (check_edit who p.0 name) _ x p.2 in
-        let n = bind_ok (number_at p.0 name) _ x q.2 in
-        let f = bind_ok (file_of w n.0) _ x n.2 in
-        let r = bind_ok (check (not (is_directory f.0.body)) stats.IsDir) _ x f.2 in
-        in_files AllWords r.2 (touch_on (unlink now w dir name n.0) dir (unname w dir name n.0 all))
+    of_rename : (from : ℕ) (from_name : List ℕ) (to : ℕ) (to_name : List ℕ) (after : Files)
+        → RenameOk w who now from from_name to to_name after → AllWords after
+    of_rename from from_name to to_name after o = ⊎_elim
+        (λ same. subst AllWords (sym same.1) all)
+        (λ m. subst AllWords (sym m.effect) (moved_words w all o.number from from_name to to_name (option_map (λ e. e.0) (places w to to_name))))
+        o.outcome
 
-    of_remove_dir : (dir : ℕ) (name : List ℕ) (x : Unit {0} × Files) → remove_dir w who now dir name ≡ Ok x → AllWords x.1
-    of_remove_dir dir name x h =
-        let p = bind_ok (dir_of w dir) _ x h in
-        let q = bind_ok (check_edit who p.0 name) _ x p.2 in
-        let n = bind_ok (number_at p.0 name) _ x q.2 in
-        let f = bind_ok (file_of w n.0) _ x n.2 in
-        let l = bind_ok (listing_or stats.NotDir f.0.body) _ x f.2 in
-        let r = bind_ok (check (length l.0.entries == 0) stats.NotEmpty) _ x l.2 in
-        in_files AllWords r.2 (touch_on (unlink now w dir name n.0) dir (unname w dir name n.0 all))
-
-    of_moved : (n from : ℕ) (from_name : List ℕ) (to : ℕ) (to_name : List ℕ) (target : Option ℕ) → AllWords (move_entry now w n from from_name to to_name target)
-    of_moved n from from_name to to_name target =
-        let w₁ = unlink_target now w to to_name target in
-        let w₂ = without_name w₁ from from_name in
-        let w₃ = with_name w₂ to to_name n in
-        let w₄ = touch_ctime now w₃ n in
-        let w₅ = touch now w₄ from in
-        touch_on w₅ to (touch_on w₄ from (mark_on w₃ n (name_on w₂ to to_name n (name_off w₁ from from_name (clear target)))))
-      where
-        clear : (o : Option ℕ) → AllWords (unlink_target now w to to_name o)
-        clear None = all
-        clear (Some t) = unname w to to_name t all
-
-    of_rename : (from : ℕ) (from_name : List ℕ) (to : ℕ) (to_name : List ℕ) (x : Unit {0} × Files) → rename w who now from from_name to to_name ≡ Ok x → AllWords x.1
-    of_rename from from_name to to_name x h =
-        let p = bind_ok (dir_of w from) _ x h in
-        let q = bind_ok (dir_of w to) _ x p.2 in
-        let r = bind_ok (check_edit who p.0 from_name) _ x q.2 in
-        let s = bind_ok (check_edit who q.0 to_name) _ x r.2 in
-        let n = bind_ok (number_at p.0 from_name) _ x s.2 in
-        let f = bind_ok (file_of w n.0) _ x n.2 in
-        let target = option_map (λ (p : ℕ × ℕ). p.0) (entry_at q.0.listing to_name) in
-        by q.0 n.0 f.0 target (option_map_or (λ t. t == n.0) target false) f.2
-      where
-        by : (e : NumberedDir) (n : ℕ) (f : File) (target : Option ℕ) (v : Bool)
-            → cond v (Ok (tt, w)) (check (not (is_directory f.body && is_above w n to)) stats.Acces >>= λ _. check_target w f target >>= λ _. check_cookie e.listing >>= λ _. Ok (tt, move_entry now w n from from_name to to_name target)) ≡ Ok x
-            → AllWords x.1
-        by e n f target true h = in_files AllWords h all
-        by e n f target false h =
-            let p = bind_ok (check (not (is_directory f.body && is_above w n to)) stats.Acces) _ x h in
-            let q = bind_ok (check_target w f target) _ x p.2 in
-            let r = bind_ok (check_cookie e.listing) _ x q.2 in
-            in_files AllWords r.2 (of_moved n from from_name to to_name target)
-
-    -- after any call whose attributes are words
+    -- words of files stay words after every call that brings words
     pub of_call : (call : Call) → HasWordsIn call → AllWords (call_does w who now call).1
-    of_call calls.Null asks = all
-    of_call (calls.Getattr file) asks = all
-    of_call (calls.Setattr file s) asks = of_told AllWords calls.Attributes w _ all (of_attributes AllWords (number_for w file) _ (of_set (number_for w file) (given_fields now s) (asked now s says.seconds asks)))
-    of_call calls.Root asks = all
-    of_call (calls.Lookup dir name) asks = all
-    of_call (calls.Readlink file) asks = all
-    of_call (calls.Read file offset count) asks = all
-    of_call calls.Writecache asks = all
-    of_call (calls.Write file offset new) asks = of_told AllWords calls.Attributes w _ all (of_attributes AllWords (number_for w file) _ (of_write (number_for w file) offset new))
-    of_call (calls.Create dir name s) asks = of_told AllWords calls.DirOp w _ all (of_handle AllWords _ (of_create (number_for w dir) name (given_fields now s) (asked now s says.seconds asks)))
-    of_call (calls.Remove dir name) asks = of_told AllWords calls.Status w _ all (of_remove (number_for w dir) name)
-    of_call (calls.Rename from from_name to to_name) asks = of_told AllWords calls.Status w _ all (of_rename (number_for w from) from_name (number_for w to) to_name)
-    of_call (calls.Link from dir name) asks = of_told AllWords calls.Status w _ all (of_link (number_for w from) (number_for w dir) name)
-    of_call (calls.Symlink dir name target s) asks = of_told AllWords calls.Status w _ all (of_number AllWords _ (of_make (number_for w dir) name (new_file who now no_fields 511 (Symlink target)) (new_words no_fields none_wanted 511 (Symlink target))))
-    of_call (calls.Mkdir dir name s) asks =
-        let body = Directory (record { next = 3; entries = [] }) in
-        of_told AllWords calls.DirOp w _ all (of_handle AllWords _ (of_make (number_for w dir) name (new_file who now (given_fields now s) 493 body) (new_words (given_fields now s) (asked now s says.seconds asks) 493 body)))
-    of_call (calls.Rmdir dir name) asks = of_told AllWords calls.Status w _ all (of_remove_dir (number_for w dir) name)
-    of_call (calls.Readdir dir cookie count) asks = all
-    of_call (calls.Statfs file) asks = all
+    of_call = each_call w who now (λ call answer after. HasWordsIn call → AllWords after) (record {
+      reads = λ call answer only asks. all;
+      refused = λ call answer stat is asks. all;
+      set_attributes = λ file s a after o _ asks. of_set (number_for w file) (given_fields now s) (asked now s says.seconds asks) after o;
+      write = λ file offset new a after o _ asks. of_write (number_for w file) offset new after o;
+      create = λ dir name s number a after o _ asks.
+          of_create (number_for w dir) name (given_fields now s) (asked now s says.seconds asks) number after o;
+      make_dir = λ dir name s number a after o _ asks.
+          of_make (number_for w dir) name (new_directory who now (given_fields now s))
+          (new_words (given_fields now s) (asked now s says.seconds asks) 493 (Directory (record { next = 3; entries = [] }))) number after o;
+      symlink = λ dir name target s number after o asks.
+          of_make (number_for w dir) name (new_link who now target) (new_words no_fields none_wanted 511 (Symlink target)) number after o;
+      link = λ from dir name after o asks.
+          let n = number_for w from in
+          let d = number_for w dir in
+          subst AllWords (sym o.effect) (touch_on (with_name (touch_ctime now w n) d name n) d (name_on (touch_ctime now w n) d name n (mark_on w n all)));
+      remove = λ dir name after o asks. of_remove false (number_for w dir) name after o;
+      remove_dir = λ dir name after o asks. of_remove true (number_for w dir) name after o;
+      rename = λ from from_name to to_name after o asks. of_rename (number_for w from) from_name (number_for w to) to_name after o;
+    })

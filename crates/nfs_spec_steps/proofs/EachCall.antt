@@ -26,33 +26,38 @@ use Rattle.nfs_spec_steps.proofs.Renaming.{rename_ok}
 use Rattle.nfs_spec_steps.proofs.Reading.{attributes_ok}
 
 -- a fact of a call, its answer and the files after it, shown of each kind of call
-pub record EachCall (w : Files) (who : Caller) (now : Timeval) (P : Call → Answer → Files → Type 0) : Type 0 where
+pub record EachCall (w : Files) (who : Caller) (now : Timeval) (P : Call → Answer → Files → Type 0)
+    : Type 0 where
   -- a call that only reads
   pub reads : (call : Call) (answer : Answer) → only_reads call ≡ true → P call answer w
   -- a call that was refused
-  pub refused : (call : Call) (answer : Answer) (stat : Stat) → refusal_in answer ≡ Some stat → P call answer w
+  pub refused : (call : Call) (answer : Answer) (stat : Stat) → refusal_in answer ≡ Some stat
+      → P call answer w
   -- SETATTR, with the attributes after it
   pub set_attributes : (file : List ℕ) (s : Sattr) (a : Fattr) (after : Files)
-      → SetOk w who now (number_for w file) (given_fields now s) after → AttributesOk after (number_for w file) a
-      → P (calls.Setattr file s) (calls.Attributes (Ok a)) after
+      → SetOk w who now (number_for w file) (given_fields now s) after
+      → AttributesOk after (number_for w file) a → P (calls.Setattr file s) (calls.Attributes (Ok a)) after
   -- WRITE, with the attributes after it
   pub write : (file : List ℕ) (offset : ℕ) (new : List ℕ) (a : Fattr) (after : Files)
       → WriteOk w who now (number_for w file) offset new after → AttributesOk after (number_for w file) a
       → P (calls.Write file offset new) (calls.Attributes (Ok a)) after
   -- CREATE, with the attributes after it
   pub create : (dir name : List ℕ) (s : Sattr) (number : ℕ) (a : Fattr) (after : Files)
-      → CreateOk w who now (number_for w dir) name (given_fields now s) number after → AttributesOk after number a
+      → CreateOk w who now (number_for w dir) name (given_fields now s) number after
+      → AttributesOk after number a
       → P (calls.Create dir name s) (calls.DirOp (Ok (handle_of after.fsid number, a))) after
   -- MKDIR, with the attributes after it
   pub make_dir : (dir name : List ℕ) (s : Sattr) (number : ℕ) (a : Fattr) (after : Files)
-      → MakeDirOk w who now (number_for w dir) name (given_fields now s) number after → AttributesOk after number a
+      → MakeDirOk w who now (number_for w dir) name (given_fields now s) number after
+      → AttributesOk after number a
       → P (calls.Mkdir dir name s) (calls.DirOp (Ok (handle_of after.fsid number, a))) after
   -- SYMLINK
   pub symlink : (dir name target : List ℕ) (s : Sattr) (number : ℕ) (after : Files)
       → SymlinkOk w who now (number_for w dir) name target number after
       → P (calls.Symlink dir name target s) (calls.Status (Ok tt)) after
   -- LINK
-  pub link : (from dir name : List ℕ) (after : Files) → LinkOk w who now (number_for w from) (number_for w dir) name after
+  pub link : (from dir name : List ℕ) (after : Files)
+      → LinkOk w who now (number_for w from) (number_for w dir) name after
       → P (calls.Link from dir name) (calls.Status (Ok tt)) after
   -- REMOVE
   pub remove : (dir name : List ℕ) (after : Files) → RemoveOk w who now (number_for w dir) name after
@@ -70,13 +75,14 @@ pub record EachCall (w : Files) (who : Caller) (now : Timeval) (P : Call → Ans
 module _ (P : Answer → Files → Type 0) (w : Files) where
   -- an effect was refused, and the files are as they were, or granted
   of_effect : {A : Type 0} (say : Result A Stat → Answer) (e : Effect A) → ((s : Stat) → P (say (Err s)) w)
-      → ((x : A) (after : Files) → e ≡ Ok (x, after) → P (say (Ok x)) after) → P (answer_and_files say w e).0 (answer_and_files say w e).1
+      → ((x : A) (after : Files) → e ≡ Ok (x, after) → P (say (Ok x)) after)
+      → P (answer_and_files say w e).0 (answer_and_files say w e).1
   of_effect say (Ok x) refused granted = granted x.0 x.1 refl
   of_effect say (Err s) refused granted = refused s
 
 -- an effect whose answer is the attributes after it
-attributes_granted : (n : ℕ) (e : Effect (Unit {0})) (a : Fattr) (after : Files) → with_attributes n e ≡ Ok (a, after)
-    → (e ≡ Ok (tt, after)) × AttributesOk after n a
+attributes_granted : (n : ℕ) (e : Effect (Unit {0})) (a : Fattr) (after : Files)
+    → with_attributes n e ≡ Ok (a, after) → (e ≡ Ok (tt, after)) × AttributesOk after n a
 attributes_granted n e a after h =
     let p = bind_ok e _ (a, after) h in
     let q = bind_ok (attributes_at p.0.1 n) _ (a, after) p.2 in
@@ -92,7 +98,8 @@ record IsHandled (e : Effect ℕ) (handle : List ℕ) (a : Fattr) (after : Files
   attributes : AttributesOk after number a
   is_named : handle_of after.fsid number ≡ handle
 
-handle_granted : (e : Effect ℕ) (handle : List ℕ) (a : Fattr) (after : Files) → with_handle e ≡ Ok ((handle, a), after) → IsHandled e handle a after
+handle_granted : (e : Effect ℕ) (handle : List ℕ) (a : Fattr) (after : Files)
+    → with_handle e ≡ Ok ((handle, a), after) → IsHandled e handle a after
 handle_granted e handle a after h =
     let p = bind_ok e _ ((handle, a), after) h in
     let q = bind_ok (attributes_at p.0.1 p.0.0) (given p.0) ((handle, a), after) p.2 in
@@ -108,16 +115,19 @@ handle_granted e handle a after h =
     given x a = Ok ((handle_of x.1.fsid x.0, a), x.1)
 
 -- an effect whose number is left out
-number_granted : (e : Effect ℕ) (after : Files) → without_number e ≡ Ok (tt, after) → (number : ℕ) × (e ≡ Ok (number, after))
+number_granted : (e : Effect ℕ) (after : Files) → without_number e ≡ Ok (tt, after)
+    → (number : ℕ) × (e ≡ Ok (number, after))
 number_granted e after h =
     let p = bind_ok e _ (tt, after) h in
     (p.0.0, p.1 ∙ ap (λ (x : Unit {0} × Files). Ok (p.0.0, x.1)) (ok_same p.2))
 
 -- ---- every call
 
-module _ (w : Files) (who : Caller) (now : Timeval) (P : Call → Answer → Files → Type 0) (each : EachCall w who now P) where
+module _ (w : Files) (who : Caller) (now : Timeval) (P : Call → Answer → Files → Type 0)
+    (each : EachCall w who now P) where
   -- a granted effect with a file handle
-  handled : (call : Call) (e : Effect ℕ) (handle : List ℕ) (a : Fattr) (after : Files) → with_handle e ≡ Ok ((handle, a), after)
+  handled : (call : Call) (e : Effect ℕ) (handle : List ℕ) (a : Fattr) (after : Files)
+      → with_handle e ≡ Ok ((handle, a), after)
       → ((number : ℕ) → e ≡ Ok (number, after) → AttributesOk after number a → P call (calls.DirOp (Ok (handle_of after.fsid number, a))) after)
       → P call (calls.DirOp (Ok (handle, a))) after
   handled call e handle a after h says =

@@ -27,8 +27,9 @@ in_room : (v after : Files) (u : Unit {0}) → after ≡ v → check_room v ≡ 
 in_room v after u same h = subst (λ x. has_room x ≡ true) (sym same) (check_ok (has_room v) stats.NoSpc u h)
 
 -- a new file that needs Edit, a free name and room
-pub make_ok : (w : Files) (who : Caller) (now : Timeval) (dir : ℕ) (name : List ℕ) (f : File) (number : ℕ) (after : Files)
-    → make w who now dir name f ≡ Ok (number, after) → MakeOk w who now dir name f number after
+pub make_ok : (w : Files) (who : Caller) (now : Timeval) (dir : ℕ) (name : List ℕ) (f : File) (number : ℕ)
+    (after : Files) → make w who now dir name f ≡ Ok (number, after)
+    → MakeOk w who now dir name f number after
 make_ok w who now dir name f number after h =
     let d = bind_ok (dir_of w dir) _ (number, after) h in
     let e = bind_ok (check_edit who d.0 name) _ (number, after) d.2 in
@@ -44,20 +45,24 @@ make_ok w who now dir name f number after h =
     }
 
 -- MKDIR
-pub make_dir_ok : (w : Files) (who : Caller) (now : Timeval) (dir : ℕ) (name : List ℕ) (a : GivenFields) (number : ℕ) (after : Files)
-    → make_dir w who now dir name a ≡ Ok (number, after) → MakeDirOk w who now dir name a number after
+pub make_dir_ok : (w : Files) (who : Caller) (now : Timeval) (dir : ℕ) (name : List ℕ) (a : GivenFields)
+    (number : ℕ) (after : Files) → make_dir w who now dir name a ≡ Ok (number, after)
+    → MakeDirOk w who now dir name a number after
 make_dir_ok w who now dir name a number after h = make_ok w who now dir name (new_directory who now a) number after h
 
 -- SYMLINK
-pub symlink_ok : (w : Files) (who : Caller) (now : Timeval) (dir : ℕ) (name target : List ℕ) (number : ℕ) (after : Files)
-    → symlink w who now dir name target ≡ Ok (number, after) → SymlinkOk w who now dir name target number after
+pub symlink_ok : (w : Files) (who : Caller) (now : Timeval) (dir : ℕ) (name target : List ℕ) (number : ℕ)
+    (after : Files) → symlink w who now dir name target ≡ Ok (number, after)
+    → SymlinkOk w who now dir name target number after
 symlink_ok w who now dir name target number after h = make_ok w who now dir name (new_link who now target) number after h
 
 -- ---- CREATE
 
-module _ (w : Files) (who : Caller) (now : Timeval) (dir : ℕ) (name : List ℕ) (a : GivenFields) (number : ℕ) (after : Files) where
-  new_ok : (d : NumberedDir) → IsFound w dir d → is_name name ≡ true → may_search who d.file ≡ true → places w dir name ≡ None
-      → create_new w who now d name a ≡ Ok (number, after) → CreateNewOk w who now dir name a number after
+module _ (w : Files) (who : Caller) (now : Timeval) (dir : ℕ) (name : List ℕ) (a : GivenFields) (number : ℕ)
+    (after : Files) where
+  new_ok : (d : NumberedDir) → IsFound w dir d → is_name name ≡ true → may_search who d.file ≡ true
+      → places w dir name ≡ None → create_new w who now d name a ≡ Ok (number, after)
+      → CreateNewOk w who now dir name a number after
   new_ok d found named searched free h =
       let f = new_regular who now a in
       let p = bind_ok (check (may_write who d.file) stats.Acces) _ (number, after) h in
@@ -87,13 +92,15 @@ module _ (w : Files) (who : Caller) (now : Timeval) (dir : ℕ) (name : List ℕ
       let r = bind_ok (check (is_regular f.0.body) stats.Exist) _ (number, after) f.2 in
       let s = bind_ok (set_attributes w who now n a) _ (number, after) r.2 in
       let b = regular f.0.body (check_ok (is_regular f.0.body) stats.Exist r.0 r.1) in
+      let set_again : set_attributes w who now n a ≡ Ok (tt, after) = s.1 ∙ ap (λ (v : Files). Ok (tt, v)) (sym (same_files s.2)) in
       record {
         file = f.0;
         bytes = b.0;
         there = file_ok w n f.0 f.1;
         regular = b.1;
         is_same = same_answer s.2;
-        set = set_ok w who now n a after (s.1 ∙ ap (λ (v : Files). Ok (tt, v)) (sym (same_files s.2)));
+        as_set_attributes = set_again;
+        set = set_ok w who now n a after set_again;
       }
     where
       regular : (b : Body) → is_regular b ≡ true → (bytes : List ℕ) × (b ≡ Regular bytes)
@@ -106,7 +113,8 @@ module _ (w : Files) (who : Caller) (now : Timeval) (dir : ℕ) (name : List ℕ
   end d o = option_map_or (λ e. create_over w who now a e.0) o (create_new w who now d name a)
 
   -- CREATE
-  pub create_ok : create w who now dir name a ≡ Ok (number, after) → CreateOk w who now dir name a number after
+  pub create_ok : create w who now dir name a ≡ Ok (number, after)
+      → CreateOk w who now dir name a number after
   create_ok h =
       let d = bind_ok (dir_of w dir) _ (number, after) h in
       let p = bind_ok (check (is_name name) stats.Acces) _ (number, after) d.2 in

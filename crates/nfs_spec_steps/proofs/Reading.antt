@@ -28,8 +28,8 @@ getattr_ok w handle a h =
     record { number = n.0; is_named = found_ok stats.Stale (number_in w.fsid handle) n.0 n.1; attributes = attributes_ok w n.0 a n.2 }
 
 -- LOOKUP
-pub lookup_ok : (w : Files) (who : Caller) (dir name handle : List ℕ) (a : Fattr) → lookup w who dir name ≡ Ok (handle, a)
-    → LookupOk w who dir name handle a
+pub lookup_ok : (w : Files) (who : Caller) (dir name handle : List ℕ) (a : Fattr)
+    → lookup w who dir name ≡ Ok (handle, a) → LookupOk w who dir name handle a
 lookup_ok w who dir name handle a h =
     let d = bind_ok (number_of w dir) _ (handle, a) h in
     let n = bind_ok (number_at_name w who d.0 name) _ (handle, a) d.2 in
@@ -51,8 +51,8 @@ read_link_ok w n target h =
     record { file = f.0; there = file_ok w n f.0 f.1; answer = target_ok f.0.body target f.2 }
 
 -- READ
-pub read_ok : (w : Files) (who : Caller) (n offset count : ℕ) (a : Fattr) (part : List ℕ) → read w who n offset count ≡ Ok (a, part)
-    → ReadOk w who n offset count a part
+pub read_ok : (w : Files) (who : Caller) (n offset count : ℕ) (a : Fattr) (part : List ℕ)
+    → read w who n offset count ≡ Ok (a, part) → ReadOk w who n offset count a part
 read_ok w who n offset count a part h =
     let f = bind_ok (file_of w n) _ (a, part) h in
     let b = bind_ok (bytes_of f.0.body) _ (a, part) f.2 in
@@ -69,8 +69,8 @@ read_ok w who n offset count a part h =
     }
 
 -- READDIR
-pub read_dir_ok : (w : Files) (who : Caller) (n cookie count : ℕ) (page : Page) → read_dir w who n cookie count ≡ Ok page
-    → ReadDirOk w who n cookie count page
+pub read_dir_ok : (w : Files) (who : Caller) (n cookie count : ℕ) (page : Page)
+    → read_dir w who n cookie count ≡ Ok page → ReadDirOk w who n cookie count page
 read_dir_ok w who n cookie count page h =
     let d = bind_ok (dir_of w n) _ page h in
     let may = bind_ok (check (may_read who d.0.file) stats.Acces) _ page d.2 in

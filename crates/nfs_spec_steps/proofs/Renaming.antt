@@ -17,7 +17,8 @@ use Rattle.nfs_spec_steps.specs.Granted.{IsFound, IsSameFile, MayReplace, MoveOk
 use Rattle.nfs_spec_steps.proofs.Steps.{bind_ok, check_ok, file_ok, dir_ok, edit_ok, number_ok, place_found, listing_found, no_length, same_files}
 
 -- what was let through as a target may be replaced
-pub target_ok : (w : Files) (f : File) (t : ℕ) (u : Unit {0}) → check_target w f (Some t) ≡ Ok u → MayReplace w f t
+pub target_ok : (w : Files) (f : File) (t : ℕ) (u : Unit {0}) → check_target w f (Some t) ≡ Ok u
+    → MayReplace w f t
 target_ok w f t u h =
     let g = bind_ok (file_of w t) _ u h in
     let a = bind_ok (check (not (is_directory f.body) || is_directory g.0.body) stats.NotDir) _ u g.2 in
@@ -38,8 +39,10 @@ target_ok w f t u h =
     agree true false p q = p
     agree false true p q = sym q
 
-module _ (w : Files) (who : Caller) (now : Timeval) (from : ℕ) (from_name : List ℕ) (to : ℕ) (to_name : List ℕ) (after : Files) where
-  module _ (e : NumberedDir) (found : IsFound w to e) (n b : ℕ) (at : places w from from_name ≡ Some (n, b)) (f : File) where
+module _ (w : Files) (who : Caller) (now : Timeval) (from : ℕ) (from_name : List ℕ) (to : ℕ)
+    (to_name : List ℕ) (after : Files) where
+  module _ (e : NumberedDir) (found : IsFound w to e) (n b : ℕ) (at : places w from from_name ≡ Some (n, b))
+      (f : File) where
     abbrev target : Option ℕ
     target = option_map (λ p. p.0) (entry_at e.listing to_name)
 
@@ -93,7 +96,8 @@ module _ (w : Files) (who : Caller) (now : Timeval) (from : ℕ) (from_name : Li
         })
 
   -- RENAME
-  pub rename_ok : rename w who now from from_name to to_name ≡ Ok (tt, after) → RenameOk w who now from from_name to to_name after
+  pub rename_ok : rename w who now from from_name to to_name ≡ Ok (tt, after)
+      → RenameOk w who now from from_name to to_name after
   rename_ok h =
       let d = bind_ok (dir_of w from) _ (tt, after) h in
       let e = bind_ok (dir_of w to) _ (tt, after) d.2 in

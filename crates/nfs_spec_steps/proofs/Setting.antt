@@ -19,7 +19,8 @@ use Rattle.nfs_spec_steps.specs.Granted.{ResizeOk, SetOk, WriteOk}
 use Rattle.nfs_spec_steps.proofs.Steps.{bind_ok, check_ok, size_ok, file_ok, bytes_ok, no_length, same_files}
 
 -- a size that was let through
-pub resize_ok : (who : Caller) (f : File) (size : ℕ) (u : Unit {0}) → check_resize who f (Some size) ≡ Ok u → ResizeOk who f size
+pub resize_ok : (who : Caller) (f : File) (size : ℕ) (u : Unit {0}) → check_resize who f (Some size) ≡ Ok u
+    → ResizeOk who f size
 resize_ok who f size u h =
     let a = bind_ok (bytes_of f.body) _ u h in
     let b = bind_ok (check (may_write who f) stats.Acces) _ u a.2 in

@@ -81,7 +81,8 @@ listing_ok e (Symlink target) l h = absurd (no_error h)
 listing_ok e (Directory m) l h = ap (λ x. Directory x) (ok_same h)
 
 -- what gives a listing is a directory, and lists that
-pub directory_ok : (e : Stat) (b : Body) (l : Listing) → listing_or e b ≡ Ok l → (is_directory b ≡ true) × (listing_in b ≡ l)
+pub directory_ok : (e : Stat) (b : Body) (l : Listing) → listing_or e b ≡ Ok l
+    → (is_directory b ≡ true) × (listing_in b ≡ l)
 directory_ok e b l h = let own = listing_ok e b l h in (ap is_directory own, ap listing_in own)
 
 -- what is no directory lists nothing
@@ -110,7 +111,8 @@ dir_ok w n d h =
     (record { number = refl; there = file_ok w n a.0 a.1; directory = l.0; listing = l.1 })
 
 -- what a directory has at a name, by what was found
-pub place_found : (w : Files) (dir : ℕ) (d : NumberedDir) → IsFound w dir d → (name : List ℕ) → places w dir name ≡ entry_at d.listing name
+pub place_found : (w : Files) (dir : ℕ) (d : NumberedDir) → IsFound w dir d → (name : List ℕ)
+    → places w dir name ≡ entry_at d.listing name
 place_found w dir d found name =
     ap (option_and_then (λ f. entry_at (listing_in f.body) name)) found.there ∙ ap (λ l. entry_at l name) found.listing
 
@@ -123,8 +125,8 @@ pub listing_found : (w : Files) (dir : ℕ) (d : NumberedDir) → IsFound w dir 
 listing_found w dir d found = listing_there w dir d.file found.there ∙ found.listing
 
 -- who may change a name in a directory that was found
-pub edit_ok : (w : Files) (who : Caller) (dir : ℕ) (d : NumberedDir) (name : List ℕ) (u : Unit {0}) → IsFound w dir d
-    → check_edit who d name ≡ Ok u → MayEdit w who dir name
+pub edit_ok : (w : Files) (who : Caller) (dir : ℕ) (d : NumberedDir) (name : List ℕ) (u : Unit {0})
+    → IsFound w dir d → check_edit who d name ≡ Ok u → MayEdit w who dir name
 edit_ok w who dir d name u found h =
     let a = bind_ok (check (is_name name) stats.Acces) _ u h in
     let both = and_parts (may_search who d.file) (may_write who d.file)
@@ -139,7 +141,8 @@ edit_ok w who dir d name u found h =
     }
 
 -- a name that was let through stands for nothing
-pub free_ok : (d : NumberedDir) (name : List ℕ) (u : Unit {0}) → check_free d name ≡ Ok u → entry_at d.listing name ≡ None
+pub free_ok : (d : NumberedDir) (name : List ℕ) (u : Unit {0}) → check_free d name ≡ Ok u
+    → entry_at d.listing name ≡ None
 free_ok d name u h = none (entry_at d.listing name) (check_ok (is_none (entry_at d.listing name)) stats.Exist u h)
   where
     none : (o : Option (ℕ × ℕ)) → is_none o ≡ true → o ≡ None
@@ -150,7 +153,8 @@ free_ok d name u h = none (entry_at d.listing name) (check_ok (is_none (entry_at
         tf h = cc
 
 -- a number that was found stands at the name, with a cookie
-pub number_ok : (d : NumberedDir) (name : List ℕ) (n : ℕ) → number_at d name ≡ Ok n → (c : ℕ) × (entry_at d.listing name ≡ Some (n, c))
+pub number_ok : (d : NumberedDir) (name : List ℕ) (n : ℕ) → number_at d name ≡ Ok n
+    → (c : ℕ) × (entry_at d.listing name ≡ Some (n, c))
 number_ok d name n h = by (entry_at d.listing name) (found_ok stats.NoEnt (option_map (λ e. e.0) (entry_at d.listing name)) n h)
   where
     by : (o : Option (ℕ × ℕ)) → option_map (λ e. e.0) o ≡ Some n → (c : ℕ) × (o ≡ Some (n, c))

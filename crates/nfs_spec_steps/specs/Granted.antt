@@ -11,7 +11,7 @@ use Rattle.fs_changes.specs.Limits.{has_room}
 use Rattle.nfs_spec.specs.ProcedureChecks.{NumberedDir, may_search, may_write}
 use Rattle.nfs_spec.specs.Sattr.{GivenFields, no_fields}
 use Rattle.nfs_spec.specs.Changes.{check_owner, apply_fields, new_file, touch, touch_ctime, unlink}
-use Rattle.nfs_spec.specs.Procedures.{with_bytes_written, add_file, is_above, move_entry}
+use Rattle.nfs_spec.specs.Procedures.{set_attributes, with_bytes_written, add_file, is_above, move_entry}
 
 -- ---- directories
 
@@ -59,7 +59,8 @@ pub record WriteOk (fs : Files) (who : Caller) (now : Timeval) (n offset : ℕ) 
   pub written : IsTrue (may_write who file)
   pub fits : new ≢ [] → offset + length new ≤ 1048576
   pub room : new ≢ [] → IsTrue (has_room after)
-  pub effect : after ≡ (if length new == 0 then fs else with_changed_file fs n (with_bytes_written now offset new old))
+  pub effect :
+      after ≡ (if length new == 0 then fs else with_changed_file fs n (with_bytes_written now offset new old))
 
 -- ---- CREATE, MKDIR, SYMLINK, LINK
 
@@ -100,6 +101,7 @@ pub record CreateOverOk (fs : Files) (who : Caller) (now : Timeval) (n : ℕ) (a
   pub there : file_at fs n ≡ Some file
   pub regular : file.body ≡ Regular bytes
   pub is_same : number ≡ n
+  pub as_set_attributes : set_attributes fs who now n a ≡ Ok (tt, after)
   pub set : SetOk fs who now n a after
 
 -- CREATE of a new name made a regular file whose size is within its limit, in bytes
@@ -174,7 +176,8 @@ pub record MoveOk (fs : Files) (now : Timeval) (from : ℕ) (from_name : List �
   pub replaces : (n cookie : ℕ) → places fs to to_name ≡ Some (n, cookie) → MayReplace fs file n
   pub cookie : (listing fs to).next ≤ 4294967294
   pub effect :
-      after ≡ move_entry now fs number from from_name to to_name (option_map (λ e. e.0) (places fs to to_name))
+      after
+      ≡ move_entry now fs number from from_name to to_name (option_map (λ e. e.0) (places fs to to_name))
 
 pub record RenameOk (fs : Files) (who : Caller) (now : Timeval) (from : ℕ) (from_name : List ℕ) (to : ℕ)
     (to_name : List ℕ) (after : Files) : Type 0 where

@@ -18,11 +18,11 @@ pub fn granted_changes_pass_their_checks()
         set_attributes fs who now n a ≡ Ok (tt, after) → SetOk fs who now n a after }
     ensures write { (fs after : Files) (who : Caller) (now : Timeval) (n offset : ℕ) (new : List ℕ) →
         write fs who now n offset new ≡ Ok (tt, after) → WriteOk fs who now n offset new after }
-    ensures create { (fs after : Files) (who : Caller) (now : Timeval) (dir : ℕ) (name : List ℕ) (a : GivenFields)
-        (number : ℕ) → create fs who now dir name a ≡ Ok (number, after) →
+    ensures create { (fs after : Files) (who : Caller) (now : Timeval) (dir : ℕ) (name : List ℕ)
+        (a : GivenFields) (number : ℕ) → create fs who now dir name a ≡ Ok (number, after) →
         CreateOk fs who now dir name a number after }
-    ensures make_dir { (fs after : Files) (who : Caller) (now : Timeval) (dir : ℕ) (name : List ℕ) (a : GivenFields)
-        (number : ℕ) → make_dir fs who now dir name a ≡ Ok (number, after) →
+    ensures make_dir { (fs after : Files) (who : Caller) (now : Timeval) (dir : ℕ) (name : List ℕ)
+        (a : GivenFields) (number : ℕ) → make_dir fs who now dir name a ≡ Ok (number, after) →
         MakeDirOk fs who now dir name a number after }
     ensures symlink { (fs after : Files) (who : Caller) (now : Timeval) (dir : ℕ) (name target : List ℕ)
         (number : ℕ) → symlink fs who now dir name target ≡ Ok (number, after) →

@@ -25,32 +25,38 @@ trail : Places → ℕ × ℕ → List (List ℕ) → List ℕ
 trail at e [] = []
 trail at e (y ∷ p) = option_map_or (λ f. f.0 ∷ trail at f p) (at e.0 y) []
 
-trail-next : (at : Places) (e f : ℕ × ℕ) (y : List ℕ) (p : List (List ℕ)) → at e.0 y ≡ Some f → trail at e (y ∷ p) ≡ f.0 ∷ trail at f p
+trail-next : (at : Places) (e f : ℕ × ℕ) (y : List ℕ) (p : List (List ℕ)) → at e.0 y ≡ Some f
+    → trail at e (y ∷ p) ≡ f.0 ∷ trail at f p
 unfolding trail
 trail-next at e f y p h = ap (λ o. option_map_or (λ f. f.0 ∷ trail at f p) o []) h
 
 -- a walk that goes on goes through a place
-first_step : (at : Places) (e : ℕ × ℕ) (y : List ℕ) (p : List (List ℕ)) (n c : ℕ) → walk at e (y ∷ p) ≡ Some (n, c) → (f : ℕ × ℕ) × (at e.0 y ≡ Some f) × (walk at f p ≡ Some (n, c))
+first_step : (at : Places) (e : ℕ × ℕ) (y : List ℕ) (p : List (List ℕ)) (n c : ℕ)
+    → walk at e (y ∷ p) ≡ Some (n, c) → (f : ℕ × ℕ) × (at e.0 y ≡ Some f) × (walk at f p ≡ Some (n, c))
 first_step at e y p n c h = by (at e.0 y) refl
   where
     by : (o : Option (ℕ × ℕ)) → at e.0 y ≡ o → (f : ℕ × ℕ) × (at e.0 y ≡ Some f) × (walk at f p ≡ Some (n, c))
     by None k = absurd (none_some (sym (ap (option_and_then (λ f. walk at f p)) k) ∙ h))
     by (Some f) k = (f, k, sym (ap (option_and_then (λ f. walk at f p)) k) ∙ h)
 
-length-trail : (at : Places) (e : ℕ × ℕ) (p : List (List ℕ)) (n c : ℕ) → walk at e p ≡ Some (n, c) → length (trail at e p) ≡ length p
+length-trail : (at : Places) (e : ℕ × ℕ) (p : List (List ℕ)) (n c : ℕ) → walk at e p ≡ Some (n, c)
+    → length (trail at e p) ≡ length p
 unfolding trail
 length-trail at e [] n c h = refl
 length-trail at e (y ∷ p) n c h = let s = first_step at e y p n c h in ap length (trail-next at e s.0 y p s.1) ∙ ap suc (length-trail at s.0 p n c s.2)
 
 module _ (w : Files) (tree : IsFileTree w) where
   -- each number on the way to a directory is one
-  pub on_way : (f : ℕ × ℕ) (p : List (List ℕ)) (n c : ℕ) → walk (places w) f p ≡ Some (n, c) → IsDirectory w n → IsDirectory w f.0
+  pub on_way : (f : ℕ × ℕ) (p : List (List ℕ)) (n c : ℕ) → walk (places w) f p ≡ Some (n, c) → IsDirectory w n
+      → IsDirectory w f.0
   on_way f [] n c h is = subst (IsDirectory w) (sym (one_number f.0 f.1 n c h)) is
   on_way f (y ∷ p) n c h is = let s = first_step (places w) f y p n c h in tree.tree.lists f.0 y s.0.0 s.0.1 s.1
 
   -- a number is not on the way from a longer path
-  apart_trail : (m c : ℕ) (pm : List (List ℕ)) → IsDirectory w m → path_at (places w) pm ≡ Some (m, c) → (q : List (List ℕ)) (e : ℕ × ℕ) → path_at (places w) q ≡ Some e → length pm ≤ length q
-      → (p : List (List ℕ)) (n d : ℕ) → walk (places w) e p ≡ Some (n, d) → IsDirectory w n → AllByRecursion (λ z. eq_by_cmp nat_cmp m z ≡ false) (trail (places w) e p)
+  apart_trail : (m c : ℕ) (pm : List (List ℕ)) → IsDirectory w m → path_at (places w) pm ≡ Some (m, c)
+      → (q : List (List ℕ)) (e : ℕ × ℕ) → path_at (places w) q ≡ Some e → length pm ≤ length q
+      → (p : List (List ℕ)) (n d : ℕ) → walk (places w) e p ≡ Some (n, d) → IsDirectory w n
+      → AllByRecursion (λ z. eq_by_cmp nat_cmp m z ≡ false) (trail (places w) e p)
   unfolding trail
   apart_trail m c pm is at_m q e at_q le [] n d h last = tt
   apart_trail m c pm is at_m q e at_q le (y ∷ p) n d h last =
@@ -62,7 +68,9 @@ module _ (w : Files) (tree : IsFileTree w) where
         apart_trail m c pm is at_m (q ++ y ∷ []) s.0 at_next (omega arith) p n d s.2 last,
       )
 
-  distinct_trail : (q : List (List ℕ)) (e : ℕ × ℕ) → path_at (places w) q ≡ Some e → (p : List (List ℕ)) (n d : ℕ) → walk (places w) e p ≡ Some (n, d) → IsDirectory w n → IsDistinct (eq_by_cmp nat_cmp) (trail (places w) e p)
+  distinct_trail : (q : List (List ℕ)) (e : ℕ × ℕ) → path_at (places w) q ≡ Some e
+      → (p : List (List ℕ)) (n d : ℕ) → walk (places w) e p ≡ Some (n, d) → IsDirectory w n
+      → IsDistinct (eq_by_cmp nat_cmp) (trail (places w) e p)
   unfolding trail IsDistinct
   distinct_trail q e at_q [] n d h last = tt
   distinct_trail q e at_q (y ∷ p) n d h last =
@@ -74,7 +82,8 @@ module _ (w : Files) (tree : IsFileTree w) where
       (distinct_trail (q ++ y ∷ []) s.0 at_next p n d s.2 last))
 
   -- what is on the way is there
-  there_trail : (e : ℕ × ℕ) (p : List (List ℕ)) (n d : ℕ) → walk (places w) e p ≡ Some (n, d) → (m : ℕ) → list_any (eq_by_cmp nat_cmp m) (trail (places w) e p) ≡ true → IsSome (file_at w m)
+  there_trail : (e : ℕ × ℕ) (p : List (List ℕ)) (n d : ℕ) → walk (places w) e p ≡ Some (n, d) → (m : ℕ)
+      → list_any (eq_by_cmp nat_cmp m) (trail (places w) e p) ≡ true → IsSome (file_at w m)
   unfolding trail
   there_trail e [] n d h m any = absurd (tf any)
     where
@@ -88,14 +97,16 @@ module _ (w : Files) (tree : IsFileTree w) where
       (cases_eq m s.0.0)
 
   -- a path to a directory has no more names than there are files
-  pub path_length : (p : List (List ℕ)) (n c : ℕ) → IsDirectory w n → path_at (places w) p ≡ Some (n, c) → length p ≤ file_count w
+  pub path_length : (p : List (List ℕ)) (n c : ℕ) → IsDirectory w n → path_at (places w) p ≡ Some (n, c)
+      → length p ≤ file_count w
   path_length p n c is h =
       let all = length-le_from_keys (eq_by_cmp_equiv nat_cmp_total) (trail (places w) (1, 0) p) (finite.entries w.files)
       (distinct_trail [] (1, 0) refl p n c h is)
       (λ q any. ap is_some (sym (find_lookup q (finite.entries w.files)) ∙ sym (finite.get-entries w.files q)) ∙ there_trail (1, 0) p n c h q any) in
       omega (arith, all, length-trail (places w) (1, 0) p n c h, finite.len-entries w.files)
 
-  climbs : (k : ℕ) (s sc : ℕ) (r : List (List ℕ)) (dir c : ℕ) → length r ≤ k → IsDirectory w dir → walk (places w) (s, sc) r ≡ Some (dir, c) → climbs_to k w s dir ≡ true
+  climbs : (k : ℕ) (s sc : ℕ) (r : List (List ℕ)) (dir c : ℕ) → length r ≤ k → IsDirectory w dir
+      → walk (places w) (s, sc) r ≡ Some (dir, c) → climbs_to k w s dir ≡ true
   climbs zero s sc r dir c le is h = ⊎_elim
       (λ e. eq-eqb s dir (one_number s sc dir c (sym (ap (walk (places w) (s, sc)) e) ∙ h)))
       (λ l. absurd (omega (arith, le, ap length l.2, length-append l.0 (l.1 ∷ []))))
@@ -110,14 +121,17 @@ module _ (w : Files) (tree : IsFileTree w) where
       (last_name r)
 
   -- what a walk leads down from is above
-  pub above_found : (s sc : ℕ) (r : List (List ℕ)) (dir c : ℕ) → IsDirectory w dir → walk (places w) (s, sc) r ≡ Some (dir, c) → is_above w s dir ≡ true
+  pub above_found : (s sc : ℕ) (r : List (List ℕ)) (dir c : ℕ) → IsDirectory w dir
+      → walk (places w) (s, sc) r ≡ Some (dir, c) → is_above w s dir ≡ true
   above_found s sc r dir c is h =
       let top = tree.tree.reached s (on_way (s, sc) r dir c h is) in
       let whole : (b : ℕ) × (path_at (places w) (top.0 ++ r) ≡ Some (dir, b)) = on_path s sc top.1 top.0 r dir c top.2 h in
       climbs (file_count w) s sc r dir c (omega (arith, path_length (top.0 ++ r) dir whole.0 is whole.1, length-append top.0 r)) is h
     where
       -- where a walk begins, its cookie says nothing of where it ends
-      on_path : (s sc tc : ℕ) (p r : List (List ℕ)) (dir c : ℕ) → path_at (places w) p ≡ Some (s, tc) → walk (places w) (s, sc) r ≡ Some (dir, c) → (b : ℕ) × (path_at (places w) (p ++ r) ≡ Some (dir, b))
+      on_path : (s sc tc : ℕ) (p r : List (List ℕ)) (dir c : ℕ) → path_at (places w) p ≡ Some (s, tc)
+          → walk (places w) (s, sc) r ≡ Some (dir, c)
+          → (b : ℕ) × (path_at (places w) (p ++ r) ≡ Some (dir, b))
       on_path s sc tc p [] dir c at h = (tc, walk_on (places w) (1, 0) (s, tc) p [] at ∙ ap (λ n. Some (n, tc)) (one_number s sc dir c h))
       on_path s sc tc p (y ∷ r) dir c at h = (c, walk_on (places w) (1, 0) (s, tc) p (y ∷ r) at ∙ h)
 
@@ -137,11 +151,15 @@ module _ (w : Files) (tree : IsFileTree w) where
       (cases_eq dir 1))
       (or_cases (eqb s dir) (climbs_to k w s (parent_of w dir)) h)
     where
-      one_more : (q : List (List ℕ)) (x : List ℕ) (d parent b dir c : ℕ) → parent ≡ d → walk (places w) (s, 0) q ≡ Some (parent, b) → places w d x ≡ Some (dir, c) → walk (places w) (s, 0) (q ++ x ∷ []) ≡ Some (dir, c)
+      one_more : (q : List (List ℕ)) (x : List ℕ) (d parent b dir c : ℕ) → parent ≡ d
+          → walk (places w) (s, 0) q ≡ Some (parent, b) → places w d x ≡ Some (dir, c)
+          → walk (places w) (s, 0) (q ++ x ∷ []) ≡ Some (dir, c)
       one_more q x d parent b dir c up at h = walk_on (places w) (s, 0) (parent, b) q (x ∷ []) at ∙ ap (option_and_then (λ f. walk (places w) f [])) (ap (λ m. places w m x) up ∙ h)
 
-      by_last : (dir : ℕ) → IsDirectory w dir → dir ≢ 1 → (p : List (List ℕ)) (c : ℕ) → path_at (places w) p ≡ Some (dir, c)
-          → (IsDirectory w (parent_of w dir) → IsAbove (places w) s (parent_of w dir)) → IsAbove (places w) s dir
+      by_last : (dir : ℕ) → IsDirectory w dir → dir ≢ 1 → (p : List (List ℕ)) (c : ℕ)
+          → path_at (places w) p ≡ Some (dir, c)
+          → (IsDirectory w (parent_of w dir) → IsAbove (places w) s (parent_of w dir))
+          → IsAbove (places w) s dir
       by_last dir is not p c at next = ⊎_elim
           (λ e. absurd (not (one_number dir c 1 0 (sym at ∙ ap (path_at (places w)) e))))
           (λ l.

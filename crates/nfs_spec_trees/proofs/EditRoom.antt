@@ -26,7 +26,8 @@ pub mark_no_more : (now : Timeval) (w : Files) (n : ℕ) → IsNoMore w (touch_c
 mark_no_more now w n = changed_no_more w n (with_ctime now) (λ f. same_smaller f (with_ctime now f) refl)
 
 -- nor does a name less, whether the file goes with it or stays
-pub unlink_no_more : (now : Timeval) (w : Files) (dir : ℕ) (name : List ℕ) (n : ℕ) → IsNoMore w (unlink now w dir name n)
+pub unlink_no_more : (now : Timeval) (w : Files) (dir : ℕ) (name : List ℕ) (n : ℕ)
+    → IsNoMore w (unlink now w dir name n)
 unlink_no_more now w dir name n = no_more_then w less _ (unnamed_no_more w dir name) (by (eqb (names_of less n) 0))
   where
     less : Files
@@ -39,40 +40,51 @@ unlink_no_more now w dir name n = no_more_then w less _ (unnamed_no_more w dir n
 -- ---- a name more
 
 -- a name that a directory doesn't have stands at no entry of it
-pub free_in : (w : Files) (d : ℕ) (x : List ℕ) (f : File) → file_at w d ≡ Some f → places w d x ≡ None → entry_at (listing_in f.body) x ≡ None
+pub free_in : (w : Files) (d : ℕ) (x : List ℕ) (f : File) → file_at w d ≡ Some f → places w d x ≡ None
+    → entry_at (listing_in f.body) x ≡ None
 free_in w d x f there free = sym (ap (option_and_then (λ f. entry_at (listing_in f.body) x)) there) ∙ free
 
-length-same : (t : List ℕ → Bool) (es : List (List ℕ × (ℕ × ℕ))) → lookup t es ≡ None → length (remove_entry t es) ≡ length es
+length-same : (t : List ℕ → Bool) (es : List (List ℕ × (ℕ × ℕ))) → lookup t es ≡ None
+    → length (remove_entry t es) ≡ length es
 length-same t [] h = refl
 length-same t (e ∷ es) h = elim (t e.0) as (λ b. cond b (Some e.1) (lookup t es) ≡ None → length (cond b es (e ∷ remove_entry t es)) ≡ length (e ∷ es)) [
   | true ↦ λ is. absurd (none_some (sym is))
   | false ↦ λ is. omega (arith, length-same t es is)
 ] h
 
-put_entries : (x : List ℕ) (k : ℕ) (b : Body) → is_directory b ≡ true → entry_at (listing_in b) x ≡ None → length (listing_in (map_body_listing (λ l. with_entry l x k) b)).entries ≡ length (listing_in b).entries + 1
+put_entries : (x : List ℕ) (k : ℕ) (b : Body) → is_directory b ≡ true → entry_at (listing_in b) x ≡ None
+    → length (listing_in (map_body_listing (λ l. with_entry l x k) b)).entries ≡ length (listing_in b).entries + 1
 put_entries x k (Regular bytes) is free = absurd cc
 put_entries x k (Symlink target) is free = absurd cc
 put_entries x k (Directory l) is free = omega (arith, length-append (remove_entry (pointwise nat_eq x) l.entries) ((x, (k, l.next)) ∷ []), length-same (pointwise nat_eq x) l.entries free)
 
-put_next : (x : List ℕ) (k : ℕ) (b : Body) → is_directory b ≡ true → (listing_in (map_body_listing (λ l. with_entry l x k) b)).next ≡ (listing_in b).next + 1
+put_next : (x : List ℕ) (k : ℕ) (b : Body) → is_directory b ≡ true
+    → (listing_in (map_body_listing (λ l. with_entry l x k) b)).next ≡ (listing_in b).next + 1
 put_next x k (Regular bytes) is = absurd cc
 put_next x k (Symlink target) is = absurd cc
 put_next x k (Directory l) is = refl
 
-put_blocks : (x : List ℕ) (k : ℕ) (b : Body) → blocks_in (map_body_listing (λ l. with_entry l x k) b) ≡ blocks_in b
+put_blocks : (x : List ℕ) (k : ℕ) (b : Body)
+    → blocks_in (map_body_listing (λ l. with_entry l x k) b) ≡ blocks_in b
 put_blocks x k (Regular bytes) = refl
 put_blocks x k (Symlink target) = refl
 put_blocks x k (Directory l) = refl
 
 -- what a name more asks of the files, in a directory whose next cookie is this
 pub record IsNamedWithin (w : Files) (next_cookie : ℕ) : Type 0 where
+  -- no more files than may be
   pub files : file_count w ≤ 8192
+  -- one entry less than may be
   pub entries : entry_count w + 1 ≤ 16384
+  -- no more blocks than may be
   pub blocks : block_count w ≤ 32768
+  -- no number above the last was given
   pub next : w.next ≤ 4294967295
+  -- the directory's next cookie may be given
   pub cookie : next_cookie ≤ 4294967294
 
-module _ (w : Files) (d : ℕ) (x : List ℕ) (k : ℕ) (f : File) (there : file_at w d ≡ Some f) (is : is_directory f.body ≡ true) (free : entry_at (listing_in f.body) x ≡ None) where
+module _ (w : Files) (d : ℕ) (x : List ℕ) (k : ℕ) (f : File) (there : file_at w d ≡ Some f)
+    (is : is_directory f.body ≡ true) (free : entry_at (listing_in f.body) x ≡ None) where
   abbrev put : File → File
   put = map_listing (λ l. with_entry l x k)
 
@@ -91,7 +103,8 @@ module _ (w : Files) (d : ℕ) (x : List ℕ) (k : ℕ) (f : File) (there : file
       }
 
   -- and where there was room, the limits are kept
-  pub named_has : AllCookies w → IsNamedWithin w (listing_in f.body).next → has_room (with_name w d x k) ≡ true
+  pub named_has : AllCookies w → IsNamedWithin w (listing_in f.body).next
+      → has_room (with_name w d x k) ≡ true
   unfolding AllCookies
   named_has all h = room (with_name w d x k) (record {
     files = omega (arith, count_changed w d put, h.files);

@@ -14,18 +14,21 @@ use Rattle.fs_changes.proofs.Shapes.{kind, AllFiles, IsSameShape, same_shape, ch
 use Rattle.nfs_spec.specs.Changes.{with_mtime, with_ctime, touch, touch_ctime}
 
 -- a directory is a file that lists
-pub dir_file : (w : Files) (n : ℕ) → kind w n ≡ Some true → (f : File) × (file_at w n ≡ Some f) × (is_directory f.body ≡ true)
+pub dir_file : (w : Files) (n : ℕ) → kind w n ≡ Some true
+    → (f : File) × (file_at w n ≡ Some f) × (is_directory f.body ≡ true)
 dir_file w n h = by (file_at w n) refl
   where
     same : {a b : Bool} → Some a ≡ Some b → a ≡ b
     same h = cc
 
-    by : (o : Option File) → file_at w n ≡ o → (f : File) × (file_at w n ≡ Some f) × (is_directory f.body ≡ true)
+    by : (o : Option File) → file_at w n ≡ o
+        → (f : File) × (file_at w n ≡ Some f) × (is_directory f.body ≡ true)
     by None e = absurd (none_some (sym (ap (option_map (λ f. is_directory f.body)) e) ∙ h))
     by (Some f) e = (f, e, same (sym (ap (option_map (λ f. is_directory f.body)) e) ∙ h))
 
 -- a file that lists names makes its number a directory's
-pub is_dir : (w : Files) (n : ℕ) (f : File) → file_at w n ≡ Some f → is_directory f.body ≡ true → kind w n ≡ Some true
+pub is_dir : (w : Files) (n : ℕ) (f : File) → file_at w n ≡ Some f → is_directory f.body ≡ true
+    → kind w n ≡ Some true
 is_dir w n f there is = ap (option_map (λ f. is_directory f.body)) there ∙ ap (λ b. Some b) is
 
 -- a number with a file has one
@@ -77,7 +80,8 @@ pub touch_files : (now : Timeval) (w : Files) (d : ℕ) → IsTime now → AllFi
 touch_files now w d time all = changed_files w d (with_mtime now) all (λ f h. touched_fits now time f (all d f h))
 
 -- so does ctime alone
-pub mark_files : (now : Timeval) (w : Files) (d : ℕ) → IsTime now → AllFiles w → AllFiles (touch_ctime now w d)
+pub mark_files : (now : Timeval) (w : Files) (d : ℕ) → IsTime now → AllFiles w
+    → AllFiles (touch_ctime now w d)
 mark_files now w d time all = changed_files w d (with_ctime now) all (λ f h. marked_fits now time f (all d f h))
 
 -- ---- names
@@ -92,17 +96,21 @@ unnamed_body x (Regular bytes) h = h
 unnamed_body x (Symlink target) h = h
 unnamed_body x (Directory l) h = (rising_removed 3 _ l.entries l.next h.0, without_entry_distinct l x h.1)
 
-relisted_fits : (change : Listing → Listing) (f : File) → IsFile f → IsBody (map_body_listing change f.body) → IsFile (map_listing change f)
+relisted_fits : (change : Listing → Listing) (f : File) → IsFile f → IsBody (map_body_listing change f.body)
+    → IsFile (map_listing change f)
 relisted_fits change f fits body = record { mode = fits.mode; atime = fits.atime; mtime = fits.mtime; ctime = fits.ctime; body = body }
 
 -- a name more leaves each file one
-pub named_files : (w : Files) (d : ℕ) (x : List ℕ) (k : ℕ) → AllFiles w → AllFiles (with_changed_file w d (map_listing (λ l. with_entry l x k)))
+pub named_files : (w : Files) (d : ℕ) (x : List ℕ) (k : ℕ) → AllFiles w
+    → AllFiles (with_changed_file w d (map_listing (λ l. with_entry l x k)))
 named_files w d x k all = changed_files w d (map_listing (λ l. with_entry l x k)) all (λ f h. relisted_fits (λ l. with_entry l x k) f (all d f h) (named_body x k f.body (all d f h).body))
 
 -- a name less leaves each file one
-pub unnamed_files : (w : Files) (d : ℕ) (x : List ℕ) → AllFiles w → AllFiles (with_changed_file w d (map_listing (λ l. without_entry l x)))
+pub unnamed_files : (w : Files) (d : ℕ) (x : List ℕ) → AllFiles w
+    → AllFiles (with_changed_file w d (map_listing (λ l. without_entry l x)))
 unnamed_files w d x all = changed_files w d (map_listing (λ l. without_entry l x)) all (λ f h. relisted_fits (λ l. without_entry l x) f (all d f h) (unnamed_body x f.body (all d f h).body))
 
 -- a directory's names differ
-pub distinct_names : (w : Files) (d : ℕ) (f : File) → AllFiles w → file_at w d ≡ Some f → HasDistinctNames (listing_in f.body).entries
+pub distinct_names : (w : Files) (d : ℕ) (f : File) → AllFiles w → file_at w d ≡ Some f
+    → HasDistinctNames (listing_in f.body).entries
 distinct_names w d f all there = distinct_in f.body (all d f there).body

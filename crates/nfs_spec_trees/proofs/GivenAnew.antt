@@ -22,7 +22,8 @@ next_of : Option File → ℕ
 next_of o = (option_map_or (λ f. listing_in f.body) o (record { next = 0; entries = [] })).next
 
 -- a change of one file that lets its next cookie not fall lets none fall
-pub cookie_changed : (w : Files) (k : ℕ) (change : File → File) → ((f : File) → file_at w k ≡ Some f → (listing_in f.body).next ≤ (listing_in (change f).body).next)
+pub cookie_changed : (w : Files) (k : ℕ) (change : File → File)
+    → ((f : File) → file_at w k ≡ Some f → (listing_in f.body).next ≤ (listing_in (change f).body).next)
     → (n : ℕ) → (listing w n).next ≤ (listing (with_changed_file w k change) n).next
 unfolding next_of
 cookie_changed w k change grows n = ⊎_elim
@@ -30,38 +31,46 @@ cookie_changed w k change grows n = ⊎_elim
     (λ ne. let same = ap next_of (changed_other w k change n ne) in omega (arith, same))
     (cases_eq n k)
   where
-    by : (o : Option File) → file_at w k ≡ o → next_of (file_at w k) ≤ next_of (option_map change (file_at w k))
+    by : (o : Option File) → file_at w k ≡ o
+        → next_of (file_at w k) ≤ next_of (option_map change (file_at w k))
     by None e = let before = ap next_of e in let after = ap (λ o. next_of (option_map change o)) e in omega (arith, before, after)
     by (Some f) e = let before = ap next_of e in let after = ap (λ o. next_of (option_map change o)) e in omega (arith, before, after, grows f e)
 
-more_after : (x : List ℕ) (k : ℕ) (b : Body) → (listing_in b).next ≤ (listing_in (map_body_listing (λ l. with_entry l x k) b)).next
+more_after : (x : List ℕ) (k : ℕ) (b : Body)
+    → (listing_in b).next ≤ (listing_in (map_body_listing (λ l. with_entry l x k) b)).next
 more_after x k (Regular bytes) = omega arith
 more_after x k (Symlink target) = omega arith
 more_after x k (Directory l) = omega arith
 
-less_after : (x : List ℕ) (b : Body) → (listing_in b).next ≤ (listing_in (map_body_listing (λ l. without_entry l x) b)).next
+less_after : (x : List ℕ) (b : Body)
+    → (listing_in b).next ≤ (listing_in (map_body_listing (λ l. without_entry l x) b)).next
 less_after x (Regular bytes) = omega arith
 less_after x (Symlink target) = omega arith
 less_after x (Directory l) = omega arith
 
 -- a name more lets no next cookie fall
-pub cookie_named : (w : Files) (d : ℕ) (x : List ℕ) (k n : ℕ) → (listing w n).next ≤ (listing (with_name w d x k) n).next
+pub cookie_named : (w : Files) (d : ℕ) (x : List ℕ) (k n : ℕ)
+    → (listing w n).next ≤ (listing (with_name w d x k) n).next
 cookie_named w d x k = cookie_changed w d (map_listing (λ l. with_entry l x k)) (λ f _. more_after x k f.body)
 
 -- nor does a name less
-pub cookie_unnamed : (w : Files) (d : ℕ) (x : List ℕ) (n : ℕ) → (listing w n).next ≤ (listing (without_name w d x) n).next
+pub cookie_unnamed : (w : Files) (d : ℕ) (x : List ℕ) (n : ℕ)
+    → (listing w n).next ≤ (listing (without_name w d x) n).next
 cookie_unnamed w d x = cookie_changed w d (map_listing (λ l. without_entry l x)) (λ f _. less_after x f.body)
 
 -- nor do times
-pub cookie_touched : (now : Timeval) (w : Files) (d n : ℕ) → (listing w n).next ≤ (listing (touch now w d) n).next
+pub cookie_touched : (now : Timeval) (w : Files) (d n : ℕ)
+    → (listing w n).next ≤ (listing (touch now w d) n).next
 cookie_touched now w d = cookie_changed w d (with_mtime now) (λ f _. omega arith)
 
 -- nor does ctime alone
-pub cookie_marked : (now : Timeval) (w : Files) (d n : ℕ) → (listing w n).next ≤ (listing (touch_ctime now w d) n).next
+pub cookie_marked : (now : Timeval) (w : Files) (d n : ℕ)
+    → (listing w n).next ≤ (listing (touch_ctime now w d) n).next
 cookie_marked now w d = cookie_changed w d (with_ctime now) (λ f _. omega arith)
 
 -- nor does a new file, of the numbers that were there
-pub cookie_new : (w : Files) (f : File) (n : ℕ) → n ≢ w.next → (listing w n).next ≤ (listing (with_new_file w f) n).next
+pub cookie_new : (w : Files) (f : File) (n : ℕ) → n ≢ w.next
+    → (listing w n).next ≤ (listing (with_new_file w f) n).next
 unfolding next_of
 cookie_new w f n ne = let same = ap next_of (new_other w f n ne) in omega (arith, same)
 
@@ -71,7 +80,8 @@ unfolding next_of
 cookie_gone w k n ne = let same = ap next_of (gone_other w k n ne) in omega (arith, same)
 
 -- a directory that a name's going leaves
-pub cookie_taken : (now : Timeval) (w : Files) (d : ℕ) (x : List ℕ) (k n : ℕ) → n ≢ k → (listing w n).next ≤ (listing (unlink now w d x k) n).next
+pub cookie_taken : (now : Timeval) (w : Files) (d : ℕ) (x : List ℕ) (k n : ℕ) → n ≢ k
+    → (listing w n).next ≤ (listing (unlink now w d x k) n).next
 cookie_taken now w d x k n ne = by (eqb (names_of (without_name w d x) k) 0)
   where
     by : (b : Bool) → (listing w n).next ≤ (listing (after_unlink b now (without_name w d x) k) n).next
@@ -88,7 +98,8 @@ there_since : (w w' : Files) (n : ℕ) → kind w' n ≡ kind w n → IsSome (fi
 there_since w w' n same is = is_some-kind w n ∙ ap is_some (sym same) ∙ sym (is_some-kind w' n) ∙ is
 
 -- files of one shape, whose cookies don't fall, give nothing
-pub same_given : (w w' : Files) → IsSameShape w w' → ((n : ℕ) → (listing w n).next ≤ (listing w' n).next) → GivesAnew w w'
+pub same_given : (w w' : Files) → IsSameShape w w' → ((n : ℕ) → (listing w n).next ≤ (listing w' n).next)
+    → GivesAnew w w'
 same_given w w' s cookies = record {
   next = omega (arith, s.next);
   numbers = λ n is. inl (there_since w w' n (s.kinds n) is);
@@ -97,7 +108,8 @@ same_given w w' s cookies = record {
 }
 
 -- an entry more is given anew: its cookie, and its number if that wasn't there
-pub added_given : (w w' : Files) (d : ℕ) (x : List ℕ) (k cookie : ℕ) → IsAdded w w' d x k cookie → (listing w d).next ≤ cookie → IsSome (file_at w k) ⊎ (w.next ≤ k)
+pub added_given : (w w' : Files) (d : ℕ) (x : List ℕ) (k cookie : ℕ) → IsAdded w w' d x k cookie
+    → (listing w d).next ≤ cookie → IsSome (file_at w k) ⊎ (w.next ≤ k)
     → ((n : ℕ) → IsDirectory w n → (listing w n).next ≤ (listing w' n).next) → GivesAnew w w'
 added_given w w' d x k cookie a new known cookies = record {
   next = a.next;
@@ -119,7 +131,8 @@ added_given w w' d x k cookie a new known cookies = record {
     second h = ap (λ (e : ℕ × ℕ). e.1) (some_same h)
 
 -- an entry less gives nothing
-pub taken_given : (w w' : Files) (d : ℕ) (x : List ℕ) (k c : ℕ) → IsTaken w w' d x k c → ((n : ℕ) → n ≢ k → (listing w n).next ≤ (listing w' n).next) → IsSome (file_at w k) → GivesAnew w w'
+pub taken_given : (w w' : Files) (d : ℕ) (x : List ℕ) (k c : ℕ) → IsTaken w w' d x k c
+    → ((n : ℕ) → n ≢ k → (listing w n).next ≤ (listing w' n).next) → IsSome (file_at w k) → GivesAnew w w'
 taken_given w w' d x k c a cookies there = record {
   next = a.next;
   numbers = λ n is. ⊎_elim
@@ -140,8 +153,11 @@ taken_given w w' d x k c a cookies there = record {
     no_directory is = ⊎_elim (λ l. some_false (sym l.0 ∙ is)) (λ l. none_some (sym l.0 ∙ is)) a.left
 
 -- an entry that moves is given a new cookie, and nothing else
-pub renamed_given : (w w' : Files) (d₁ : ℕ) (x₁ : List ℕ) (d₂ : ℕ) (x₂ : List ℕ) (s sc cookie : ℕ) → IsRenamed w w' d₁ x₁ d₂ x₂ s sc cookie → (listing w d₂).next ≤ cookie
-    → w.next ≤ w'.next → ((n : ℕ) → IsSome (file_at w' n) → IsSome (file_at w n) ⊎ (w.next ≤ n)) → ((n : ℕ) → IsDirectory w n → IsDirectory w' n → (listing w n).next ≤ (listing w' n).next) → GivesAnew w w'
+pub renamed_given : (w w' : Files) (d₁ : ℕ) (x₁ : List ℕ) (d₂ : ℕ) (x₂ : List ℕ) (s sc cookie : ℕ)
+    → IsRenamed w w' d₁ x₁ d₂ x₂ s sc cookie → (listing w d₂).next ≤ cookie → w.next ≤ w'.next
+    → ((n : ℕ) → IsSome (file_at w' n) → IsSome (file_at w n) ⊎ (w.next ≤ n))
+    → ((n : ℕ) → IsDirectory w n → IsDirectory w' n → (listing w n).next ≤ (listing w' n).next)
+    → GivesAnew w w'
 renamed_given w w' d₁ x₁ d₂ x₂ s sc cookie a new next there cookies = record {
   next = next;
   numbers = there;

@@ -27,8 +27,9 @@ unlisted w n y not tree = by (places w n y) refl
     by None e = e
     by (Some p) e = absurd (not (tree.tree.lists n y p.0 p.1 e))
 
-module _ (now : Timeval) (time : IsTime now) (w : Files) (tree : IsFileTree w) (who : Caller) (dir : ℕ) (name : List ℕ)
-    (edit : MayEdit w who dir name) (free : places w dir name ≡ None) (bound : length name ≤ 255) where
+module _ (now : Timeval) (time : IsTime now) (w : Files) (tree : IsFileTree w) (who : Caller) (dir : ℕ)
+    (name : List ℕ) (edit : MayEdit w who dir name) (free : places w dir name ≡ None)
+    (bound : length name ≤ 255) where
   next_cookie : (listing_in edit.file.body).next ≡ (listing w dir).next
   next_cookie = ap (λ (l : Listing). l.next) (sym (listing_there w dir edit.file edit.there))
 
@@ -133,7 +134,8 @@ module _ (now : Timeval) (time : IsTime now) (w : Files) (tree : IsFileTree w) (
     unfolding u₁ u₂
     u_touched = touch_shape now u₂ dir
 
-    linked_added : IsAdded w (touch now (with_name (touch_ctime now w k) dir name k) dir) dir name k (listing w dir).next
+    linked_added :
+        IsAdded w (touch now (with_name (touch_ctime now w k) dir name k) dir) dir name k (listing w dir).next
     unfolding u₁ u₂
     linked_added = record {
       dir = is_dir w dir edit.file edit.there edit.directory;
@@ -165,8 +167,10 @@ module _ (now : Timeval) (time : IsTime now) (w : Files) (tree : IsFileTree w) (
 not_next : (w : Files) → IsFileTree w → (n : ℕ) → IsDirectory w n → n ≢ w.next
 not_next w tree n is e = absurd (omega (arith, e, tree.numbers n (tree.tree.there n is)))
 
-module _ (now : Timeval) (time : IsTime now) (w : Files) (tree : IsFileTree w) (who : Caller) (dir : ℕ) (name : List ℕ) (bound : length name ≤ 255) where
-  module _ (f : File) (empty : (listing_in f.body).entries ≡ []) (fits : IsFile f) (number : ℕ) (after : Files) (o : MakeOk w who now dir name f number after) where
+module _ (now : Timeval) (time : IsTime now) (w : Files) (tree : IsFileTree w) (who : Caller) (dir : ℕ)
+    (name : List ℕ) (bound : length name ≤ 255) where
+  module _ (f : File) (empty : (listing_in f.body).entries ≡ []) (fits : IsFile f) (number : ℕ)
+      (after : Files) (o : MakeOk w who now dir name f number after) where
     as_made : (P : ℕ → Files → Type 0) → P w.next (add_file now w dir name f) → P number after
     as_made P h = subst (λ n. P n after) (sym o.is_next) (subst (P w.next) (sym o.effect) h)
 
@@ -195,7 +199,8 @@ module _ (now : Timeval) (time : IsTime now) (w : Files) (tree : IsFileTree w) (
     }
 
   module _ (from : ℕ) (after : Files) (o : LinkOk w who now from dir name after) where
-    linked : IsAdded w (touch now (with_name (touch_ctime now w from) dir name from) dir) dir name from (listing w dir).next
+    linked : IsAdded w (touch now (with_name (touch_ctime now w from) dir name from) dir) dir name from
+        (listing w dir).next
     linked = linked_added now time w tree who dir name o.directory o.free bound from o.file o.there o.plain
 
     -- LINK adds one entry, with the file's number and the directory's next cookie

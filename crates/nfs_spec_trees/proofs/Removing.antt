@@ -27,7 +27,8 @@ use Rattle.nfs_spec_trees.proofs.GivenAnew.{taken_given, cookie_taken, cookie_to
 use Rattle.nfs_spec_trees.proofs.FilesFit.{dir_file, is_dir, touch_shape, mark_shape, touch_files, mark_files, unnamed_files, distinct_names}
 
 -- what is taken is taken, whatever changes but the shape
-pub taken_then : (u v w : Files) (d : ℕ) (x : List ℕ) (k c : ℕ) → IsTaken u v d x k c → IsSameShape v w → AllFiles w → IsTaken u w d x k c
+pub taken_then : (u v w : Files) (d : ℕ) (x : List ℕ) (k c : ℕ) → IsTaken u v d x k c → IsSameShape v w
+    → AllFiles w → IsTaken u w d x k c
 taken_then u v w d x k c a s files = record {
   had = a.had;
   change = record { here = s.places d x ∙ a.change.here; rest = λ n y not. s.places n y ∙ a.change.rest n y not };
@@ -42,8 +43,9 @@ taken_then u v w d x k c a s files = record {
   files = files;
 }
 
-module _ (now : Timeval) (time : IsTime now) (w : Files) (tree : IsFileTree w) (d : ℕ) (x : List ℕ) (n c : ℕ) (had : places w d x ≡ Some (n, c))
-    (f : File) (there : file_at w n ≡ Some f) (empty : (listing_in f.body).entries ≡ []) where
+module _ (now : Timeval) (time : IsTime now) (w : Files) (tree : IsFileTree w) (d : ℕ) (x : List ℕ) (n c : ℕ)
+    (had : places w d x ≡ Some (n, c)) (f : File) (there : file_at w n ≡ Some f)
+    (empty : (listing_in f.body).entries ≡ []) where
   nothing_below : (y : List ℕ) → places w n y ≡ None
   nothing_below y = ap (option_and_then (λ f. entry_at (listing_in f.body) y)) there ∙ ap (λ (es : List (List ℕ × (ℕ × ℕ))). lookup (pointwise nat_eq y) es) empty
 
@@ -132,8 +134,8 @@ module _ (now : Timeval) (time : IsTime now) (w : Files) (tree : IsFileTree w) (
 
 -- ---- REMOVE, RMDIR
 
-module _ (now : Timeval) (time : IsTime now) (w : Files) (tree : IsFileTree w) (who : Caller) (dir : ℕ) (name : List ℕ) (after : Files)
-    (kind : Bool) (o : UnnameOk kind w who now dir name after) where
+module _ (now : Timeval) (time : IsTime now) (w : Files) (tree : IsFileTree w) (who : Caller) (dir : ℕ)
+    (name : List ℕ) (after : Files) (kind : Bool) (o : UnnameOk kind w who now dir name after) where
   taken : IsTaken w (touch now (unlink now w dir name o.number) dir) dir name o.number o.cookie
   taken = touched_taken now time w tree dir name o.number o.cookie o.is_named o.file o.there o.empty
 

@@ -15,7 +15,8 @@ use Rattle.nfs_spec.specs.Changes.{touch, touch_ctime}
 use Rattle.nfs_spec.specs.Procedures.{unlink_target, move_entry}
 use Rattle.nfs_spec_trees.proofs.EditRoom.{touch_no_more, mark_no_more, unlink_no_more, free_in, named_has}
 
-length-one_less : {X : Type 0} (t : List ℕ → Bool) (v : X) (es : List (List ℕ × X)) → lookup t es ≡ Some v → length (remove_entry t es) + 1 ≡ length es
+length-one_less : {X : Type 0} (t : List ℕ → Bool) (v : X) (es : List (List ℕ × X)) → lookup t es ≡ Some v
+    → length (remove_entry t es) + 1 ≡ length es
 length-one_less t v [] h = absurd (none_some h)
 length-one_less t v (e ∷ es) h = elim (t e.0) as (λ b. cond b (Some e.1) (lookup t es) ≡ Some v → length (cond b es (e ∷ remove_entry t es)) + 1 ≡ length (e ∷ es)) [
   | true ↦ λ is. omega arith
@@ -24,14 +25,16 @@ length-one_less t v (e ∷ es) h = elim (t e.0) as (λ b. cond b (Some e.1) (loo
 
 -- ---- bodies
 
-taken_one : (x : List ℕ) (v : ℕ × ℕ) (b : Body) → entry_at (listing_in b) x ≡ Some v → length (listing_in (map_body_listing (λ l. without_entry l x) b)).entries + 1 ≡ length (listing_in b).entries
+taken_one : (x : List ℕ) (v : ℕ × ℕ) (b : Body) → entry_at (listing_in b) x ≡ Some v
+    → length (listing_in (map_body_listing (λ l. without_entry l x) b)).entries + 1 ≡ length (listing_in b).entries
 taken_one x v (Regular bytes) h = absurd (none_some h)
 taken_one x v (Symlink target) h = absurd (none_some h)
 taken_one x v (Directory l) h = length-one_less (pointwise nat_eq x) v l.entries h
 
 -- ---- an entry less
 
-one_less : (w : Files) (d : ℕ) (x : List ℕ) (v : ℕ × ℕ) → places w d x ≡ Some v → entry_count (without_name w d x) + 1 ≡ entry_count w
+one_less : (w : Files) (d : ℕ) (x : List ℕ) (v : ℕ × ℕ) → places w d x ≡ Some v
+    → entry_count (without_name w d x) + 1 ≡ entry_count w
 one_less w d x v h = by (file_at w d) refl
   where
     by : (o : Option File) → file_at w d ≡ o → entry_count (without_name w d x) + 1 ≡ entry_count w
@@ -43,16 +46,18 @@ one_less w d x v h = by (file_at w d) refl
 -- ---- the whole
 
 -- what goes to make room at the new name takes nothing
-cleared_no_more : (now : Timeval) (w : Files) (d : ℕ) (x : List ℕ) (o : Option ℕ) → IsNoMore w (unlink_target now w d x o)
+cleared_no_more : (now : Timeval) (w : Files) (d : ℕ) (x : List ℕ) (o : Option ℕ)
+    → IsNoMore w (unlink_target now w d x o)
 cleared_no_more now w d x None =
     record { files = omega arith; entries = omega arith; blocks = omega arith; next = omega arith; cookies = λ all. all }
 cleared_no_more now w d x (Some n) = unlink_no_more now w d x n
 
 -- where the target directory's next cookie may be given, a rename passes no limit that was kept
-pub moved_room : (now : Timeval) (w : Files) (s d₁ : ℕ) (x₁ : List ℕ) (d₂ : ℕ) (x₂ : List ℕ) (o : Option ℕ) (v : ℕ × ℕ)
-    → places (unlink_target now w d₂ x₂ o) d₁ x₁ ≡ Some v → (f : File) → file_at (without_name (unlink_target now w d₂ x₂ o) d₁ x₁) d₂ ≡ Some f
-    → is_directory f.body ≡ true → places (without_name (unlink_target now w d₂ x₂ o) d₁ x₁) d₂ x₂ ≡ None
-    → (listing_in f.body).next ≤ 4294967294 → has_room w ≡ true → has_room (move_entry now w s d₁ x₁ d₂ x₂ o) ≡ true
+pub moved_room : (now : Timeval) (w : Files) (s d₁ : ℕ) (x₁ : List ℕ) (d₂ : ℕ) (x₂ : List ℕ) (o : Option ℕ)
+    (v : ℕ × ℕ) → places (unlink_target now w d₂ x₂ o) d₁ x₁ ≡ Some v → (f : File)
+    → file_at (without_name (unlink_target now w d₂ x₂ o) d₁ x₁) d₂ ≡ Some f → is_directory f.body ≡ true
+    → places (without_name (unlink_target now w d₂ x₂ o) d₁ x₁) d₂ x₂ ≡ None → (listing_in f.body).next ≤ 4294967294
+    → has_room w ≡ true → has_room (move_entry now w s d₁ x₁ d₂ x₂ o) ≡ true
 moved_room now w s d₁ x₁ d₂ x₂ o v source f there is free low h =
     let w₁ = unlink_target now w d₂ x₂ o in
     let w₂ = without_name w₁ d₁ x₁ in

@@ -29,11 +29,13 @@ use Rattle.nfs_spec_trees.proofs.RenameRoom.{moved_room}
 use Rattle.nfs_spec_trees.proofs.Above.{above_found, on_way}
 
 -- a walk where less lies is one where more lies
-walk_less : (at to : Places) → ((n : ℕ) (y : List ℕ) (e : ℕ × ℕ) → to n y ≡ Some e → at n y ≡ Some e) → (e f : ℕ × ℕ) (p : List (List ℕ)) → walk to e p ≡ Some f → walk at e p ≡ Some f
+walk_less : (at to : Places) → ((n : ℕ) (y : List ℕ) (e : ℕ × ℕ) → to n y ≡ Some e → at n y ≡ Some e)
+    → (e f : ℕ × ℕ) (p : List (List ℕ)) → walk to e p ≡ Some f → walk at e p ≡ Some f
 walk_less at to less e f [] h = h
 walk_less at to less e f (y ∷ p) h = by (to e.0 y) refl (λ g. walk_less at to less g f p)
   where
-    by : (o : Option (ℕ × ℕ)) → to e.0 y ≡ o → ((g : ℕ × ℕ) → walk to g p ≡ Some f → walk at g p ≡ Some f) → walk at e (y ∷ p) ≡ Some f
+    by : (o : Option (ℕ × ℕ)) → to e.0 y ≡ o → ((g : ℕ × ℕ) → walk to g p ≡ Some f → walk at g p ≡ Some f)
+        → walk at e (y ∷ p) ≡ Some f
     by None is next = absurd (none_some (sym (ap (option_and_then (λ g. walk to g p)) is) ∙ h))
     by (Some g) is next = ap (option_and_then (λ g. walk at g p)) (less e.0 y g is) ∙ next g (sym (ap (option_and_then (λ g. walk to g p)) is) ∙ h)
 
@@ -42,18 +44,22 @@ walk_less at to less e f (y ∷ p) h = by (to e.0 y) refl (λ g. walk_less at to
 next_in : Files → ℕ → Option ℕ
 next_in w n = option_map (λ f. (listing_in f.body).next) (file_at w n)
 
-next_changed : (w : Files) (k : ℕ) (change : File → File) → ((f : File) → (listing_in (change f).body).next ≡ (listing_in f.body).next) → (n : ℕ) → next_in (with_changed_file w k change) n ≡ next_in w n
+next_changed : (w : Files) (k : ℕ) (change : File → File)
+    → ((f : File) → (listing_in (change f).body).next ≡ (listing_in f.body).next) → (n : ℕ)
+    → next_in (with_changed_file w k change) n ≡ next_in w n
 unfolding next_in
 next_changed w k change keeps n = ⊎_elim
     (λ e. ap (option_map (λ f. (listing_in f.body).next)) (changed_here w k change n e) ∙ by (file_at w k) ∙ sym (ap (λ m. option_map (λ f. (listing_in f.body).next) (file_at w m)) e))
     (λ ne. ap (option_map (λ f. (listing_in f.body).next)) (changed_other w k change n ne))
     (cases_eq n k)
   where
-    by : (o : Option File) → option_map (λ f. (listing_in f.body).next) (option_map change o) ≡ option_map (λ f. (listing_in f.body).next) o
+    by : (o : Option File)
+        → option_map (λ f. (listing_in f.body).next) (option_map change o) ≡ option_map (λ f. (listing_in f.body).next) o
     by None = refl
     by (Some f) = ap (λ m. Some m) (keeps f)
 
-taken_next : (x : List ℕ) (b : Body) → (listing_in (map_body_listing (λ l. without_entry l x) b)).next ≡ (listing_in b).next
+taken_next : (x : List ℕ) (b : Body)
+    → (listing_in (map_body_listing (λ l. without_entry l x) b)).next ≡ (listing_in b).next
 taken_next x (Regular bytes) = refl
 taken_next x (Symlink target) = refl
 taken_next x (Directory l) = refl
@@ -76,7 +82,8 @@ module _ (now : Timeval) (time : IsTime now) (w : Files) (tree : IsFileTree w) (
   unlists : (t c : ℕ) → places w d x ≡ Some (t, c) → (y : List ℕ) → places w t y ≡ None
   unlists t c h y = let g = target t c h in ap (option_and_then (λ f. entry_at (listing_in f.body) y)) g.there ∙ ap (λ (es : List (List ℕ × (ℕ × ℕ))). lookup (pointwise nat_eq y) es) g.empty
 
-  is_cleared : (o : Option (ℕ × ℕ)) → places w d x ≡ o → IsCleared w (unlink_target now w d x (option_map (λ e. e.0) o)) d x
+  is_cleared : (o : Option (ℕ × ℕ)) → places w d x ≡ o
+      → IsCleared w (unlink_target now w d x (option_map (λ e. e.0) o)) d x
   unfolding next_in
   is_cleared None h = record { tree = tree; free = h; rest = λ n y not. refl; kinds = λ n not. refl; cookie = refl; anew = nothing_given w }
   is_cleared (Some t) h =
@@ -91,14 +98,17 @@ module _ (now : Timeval) (time : IsTime now) (w : Files) (tree : IsFileTree w) (
         cookie = by_left (eqb (names_of (without_name w d x) t.0) 0) t.0 (λ e. none_some (sym (unlists t.0 t.1 h x) ∙ ap (λ m. places w m x) e ∙ h));
       }
     where
-      by_left : (b : Bool) (k : ℕ) → k ≢ d → next_in (after_unlink b now (without_name w d x) k) d ≡ next_in w d
+      by_left : (b : Bool) (k : ℕ) → k ≢ d
+          → next_in (after_unlink b now (without_name w d x) k) d ≡ next_in w d
       by_left true k not = ap (option_map (λ f. (listing_in f.body).next)) (gone_other (without_name w d x) k d (λ e. not (sym e))) ∙ next_unnamed w d x d
       by_left false k not = next_changed (without_name w d x) k (with_ctime now) (λ f. refl) d ∙ next_unnamed w d x d
 
 -- ---- the whole
 
-module _ (now : Timeval) (time : IsTime now) (w : Files) (tree : IsFileTree w) (who : Caller) (from : ℕ) (from_name : List ℕ) (to : ℕ) (to_name : List ℕ) (after : Files)
-    (o : RenameOk w who now from from_name to to_name after) (m : MoveOk w now from from_name to to_name o.number o.file after) (bound : length to_name ≤ 255) where
+module _ (now : Timeval) (time : IsTime now) (w : Files) (tree : IsFileTree w) (who : Caller) (from : ℕ)
+    (from_name : List ℕ) (to : ℕ) (to_name : List ℕ) (after : Files)
+    (o : RenameOk w who now from from_name to to_name after)
+    (m : MoveOk w now from from_name to to_name o.number o.file after) (bound : length to_name ≤ 255) where
   dir₂ : kind w to ≡ Some true
   dir₂ = is_dir w to o.target.file o.target.there o.target.directory
 
@@ -125,7 +135,8 @@ module _ (now : Timeval) (time : IsTime now) (w : Files) (tree : IsFileTree w) (
   a₁ = is_cleared now time w tree to to_name o.file target (places w to to_name) refl
 
   -- what lists is not the target
-  lists_on : (n : ℕ) (y : List ℕ) (e : ℕ × ℕ) → places w n y ≡ Some e → (c : ℕ) → places w to to_name ≢ Some (n, c)
+  lists_on : (n : ℕ) (y : List ℕ) (e : ℕ × ℕ) → places w n y ≡ Some e → (c : ℕ)
+      → places w to to_name ≢ Some (n, c)
   lists_on n y e h c is = none_some (sym (unlists now time w tree to to_name o.file target n c is y) ∙ h)
 
   not_target₂ : (c : ℕ) → places w to to_name ≢ Some (to, c)
@@ -193,7 +204,8 @@ module _ (now : Timeval) (time : IsTime now) (w : Files) (tree : IsFileTree w) (
   taken : places end from from_name ≡ None
   taken = shape.places from from_name ∙ more.change.rest from from_name apart ∙ less.change.here
 
-  rest : (n : ℕ) (y : List ℕ) → ((n ≡ from) × (y ≡ from_name) → ⊥) → ((n ≡ to) × (y ≡ to_name) → ⊥) → places end n y ≡ places w₁ n y
+  rest : (n : ℕ) (y : List ℕ) → ((n ≡ from) × (y ≡ from_name) → ⊥) → ((n ≡ to) × (y ≡ to_name) → ⊥)
+      → places end n y ≡ places w₁ n y
   rest n y n₁ n₂ = shape.places n y ∙ more.change.rest n y n₂ ∙ less.change.rest n y n₁
 
   free₂ : places w₂ to to_name ≡ None
@@ -267,7 +279,8 @@ module _ (now : Timeval) (time : IsTime now) (w : Files) (tree : IsFileTree w) (
   })
 
   -- what the one path led to is at the other, with all below it and the directory's next cookie
-  pub renames_paths : (p q : List (List ℕ)) (b c : ℕ) → path_at (places w) p ≡ Some (from, b) → path_at (places w) q ≡ Some (to, c)
+  pub renames_paths : (p q : List (List ℕ)) (b c : ℕ) → path_at (places w) p ≡ Some (from, b)
+      → path_at (places w) q ≡ Some (to, c)
       → Renames (path_at (places w)) (path_at (places after)) (p ++ from_name ∷ []) (q ++ to_name ∷ []) (listing w to).next
   unfolding w₁ w₂ w₃ w₄ w₅ end
   renames_paths p q b c at_from at_to =

@@ -24,12 +24,14 @@ module _ (w : Files) (k : ℕ) (change : File → File) (keeps : (f : File) → 
   same_total : (p : Body → ℕ) → total (λ f. p f.body) (with_changed_file w k change) ≡ total (λ f. p f.body) w
   same_total p = by (file_at w k) refl
     where
-      by : (o : Option File) → file_at w k ≡ o → total (λ f. p f.body) (with_changed_file w k change) ≡ total (λ f. p f.body) w
+      by : (o : Option File) → file_at w k ≡ o
+          → total (λ f. p f.body) (with_changed_file w k change) ≡ total (λ f. p f.body) w
       by None e = ap (total (λ f. p f.body)) (nothing_changes w k change 0 e)
       by (Some f) e = let same = ap p (keeps f) in omega (arith, total_changed (λ g. p g.body) w k change f e, same)
 
   -- a file after the change has the body that it had
-  body_there : (n : ℕ) (f : File) → file_at w n ≡ Some f → (g : File) × (file_at (with_changed_file w k change) n ≡ Some g) × (g.body ≡ f.body)
+  body_there : (n : ℕ) (f : File) → file_at w n ≡ Some f
+      → (g : File) × (file_at (with_changed_file w k change) n ≡ Some g) × (g.body ≡ f.body)
   body_there n f there = ⊎_elim
       (λ e. (change f, changed_here w k change n e ∙ ap (option_map change) (sym (ap (file_at w) e) ∙ there), keeps f))
       (λ ne. (f, changed_other w k change n ne ∙ there, refl))
@@ -55,11 +57,14 @@ touched_back now w d = room_back w d (with_mtime now) (λ f. refl)
 touched_on : (now : Timeval) (w : Files) (d : ℕ) → has_room w ≡ true → has_room (touch now w d) ≡ true
 touched_on now w d = still_room w (touch now w d) (touch_no_more now w d)
 
-module _ (now : Timeval) (w : Files) (tree : IsFileTree w) (before : has_room w ≡ true) (dir : ℕ) (name : List ℕ) (d : File) (there : file_at w dir ≡ Some d) (is : is_directory d.body ≡ true) (free : places w dir name ≡ None) where
+module _ (now : Timeval) (w : Files) (tree : IsFileTree w) (before : has_room w ≡ true) (dir : ℕ)
+    (name : List ℕ) (d : File) (there : file_at w dir ≡ Some d) (is : is_directory d.body ≡ true)
+    (free : places w dir name ≡ None) where
   not_next : dir ≢ w.next
   not_next e = absurd (none_some (sym (next_free w tree) ∙ sym (ap (file_at w) e) ∙ there))
 
-  module _ (f : File) (empty : (listing_in f.body).entries ≡ []) (low : (listing_in f.body).next ≤ 4294967295) where
+  module _ (f : File) (empty : (listing_in f.body).entries ≡ [])
+      (low : (listing_in f.body).next ≤ 4294967295) where
     one : Files
     one = with_new_file w f
 
@@ -83,7 +88,8 @@ module _ (now : Timeval) (w : Files) (tree : IsFileTree w) (before : has_room w 
         (cases_eq n w.next)
 
     -- room after a new file with a name, by the counts before
-    pub to_make : (has_room (add_file now w dir name f) ≡ true) ↔ HasRoomToMake w (listing_in d.body).next (blocks_in f.body)
+    pub to_make : (has_room (add_file now w dir name f) ≡ true) ↔ HasRoomToMake w (listing_in d.body).next
+        (blocks_in f.body)
     unfolding one
     to_make = (
       (λ h.
@@ -105,7 +111,8 @@ module _ (now : Timeval) (w : Files) (tree : IsFileTree w) (before : has_room w 
     )
 
 -- room after a name more, by the counts before
-pub to_link : (now : Timeval) (w : Files) → has_room w ≡ true → (dir : ℕ) (name : List ℕ) (d : File) → file_at w dir ≡ Some d → is_directory d.body ≡ true → places w dir name ≡ None → (from : ℕ)
+pub to_link : (now : Timeval) (w : Files) → has_room w ≡ true → (dir : ℕ) (name : List ℕ) (d : File)
+    → file_at w dir ≡ Some d → is_directory d.body ≡ true → places w dir name ≡ None → (from : ℕ)
     → (has_room (touch now (with_name (touch_ctime now w from) dir name from) dir) ≡ true) ↔ HasRoomToLink w (listing_in d.body).next
 to_link now w before dir name d there is free from =
     let v = touch_ctime now w from in
@@ -122,7 +129,8 @@ to_link now w before dir name d there is free from =
 -- ---- other bytes
 
 -- room after other bytes, by the blocks before
-pub to_write : (w : Files) → has_room w ≡ true → (n : ℕ) (change : File → File) (f : File) → file_at w n ≡ Some f → listing_in (change f).body ≡ listing_in f.body
+pub to_write : (w : Files) → has_room w ≡ true → (n : ℕ) (change : File → File) (f : File)
+    → file_at w n ≡ Some f → listing_in (change f).body ≡ listing_in f.body
     → (has_room (with_changed_file w n change) ≡ true) ↔ (block_count w + blocks_in (change f).body ≤ 32768 + blocks_in f.body)
 unfolding AllCookies
 to_write w before n change f there lists =

@@ -1,6 +1,6 @@
 use Rattle.std.proofs.Common.{◌∙◌, ap, Err}
 use Rattle.std.proofs.lemmas.Result.{err_from_is_err_and}
-use Rattle.console.proofs.Served.{nothing_yet, unanswered, pushes, stops_between, stops_at_once, leaves_off_reading, leaves_off_answering}
+use Rattle.console.proofs.LoopProgress.{nothing_yet, unanswered, pushes, stops_between, stops_at_once, leaves_off_reading, leaves_off_answering}
 use Rattle.console.proofs.stream.run_rpc.Goals as goal
 
 pub returns-in_default-clause-fault : goal.returns-in_default-clause-fault
@@ -36,7 +36,7 @@ returns-in_err-record-clause-taken g c =
     let p = err_from_is_err_and c.from_residual.result c.from_residual.ensures.1 in
     let failed = rw c.loop-k.invariant.fresh at c.in_err-record.ensures.failed in
     rw (p.1, p.2) (leaves_off_reading _ c.loop-k.invariant.progress failed (λ m. ap (λ r. g.R.Read.remaining r.reader.inner) (c.in_err-record.ensures.no_memory (ap Err m)))
-      (c.in_err-record.ensures.taken c.loop-k.invariant.fresh))
+    (c.in_err-record.ensures.taken c.loop-k.invariant.fresh))
 
 pub returns-in_err-serve-clause-taken : goal.returns-in_err-serve-clause-taken
 returns-in_err-serve-clause-taken g c =
@@ -45,4 +45,4 @@ returns-in_err-serve-clause-taken g c =
     let failed = rw c.loop-k.invariant.fresh at c.in_ok-record.ensures.failed in
     let front = rw (c.time_of_record.ensures, c.deref.ensures.value) at c.in_err-serve.ensures.device in
     rw (p.1, p.2) (leaves_off_answering _ _ _ c.loop-k.invariant.progress found.1 found.2 failed (λ d. (front (ap Err d)).0)
-      (λ m. ap (λ w. g.W.Write.contents w.inner) (c.in_err-serve.ensures.memory (ap Err m))) c.in_err-serve.ensures.fault)
+    (λ m. ap (λ w. g.W.Write.contents w.inner) (c.in_err-serve.ensures.memory (ap Err m))) c.in_err-serve.ensures.fault)

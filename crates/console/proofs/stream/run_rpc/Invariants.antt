@@ -1,4 +1,4 @@
-use Rattle.console.proofs.Served.{Turn}
+use Rattle.console.proofs.LoopProgress.{Turn}
 use Rattle.console.proofs.stream.run_rpc.Given as goal
 
 abbrev pub invariant-loop-k : goal.invariant-loop-k

@@ -18,7 +18,8 @@ named_only w n (Regular bytes) e = refl
 named_only w n (Symlink target) e = refl
 named_only w n (Directory l) e = absurd cc
 
-two_and : (w : Files) (n : ℕ) (b : Body) → is_directory b ≡ true → nlink_of w n b ≡ 2 + subdirectories w (listing_in b)
+two_and : (w : Files) (n : ℕ) (b : Body) → is_directory b ≡ true
+    → nlink_of w n b ≡ 2 + subdirectories w (listing_in b)
 two_and w n (Regular bytes) e = absurd cc
 two_and w n (Symlink target) e = absurd cc
 two_and w n (Directory l) e = refl
@@ -39,7 +40,8 @@ returns-clause-directory c w n a is e =
     ∙ ap (λ (o : Option File). 2 + subdirectories w (option_map_or (λ f. listing_in f.body) o (record { next = 0; entries = [] }))) (sym t.there)
 
 -- one name at least, of what is no directory
-least : (w : Files) (n k : ℕ) (b : Body) → k ≤ 2 → (is_directory b ≡ false → k ≤ names_of w n) → k ≤ nlink_of w n b
+least : (w : Files) (n k : ℕ) (b : Body) → k ≤ 2 → (is_directory b ≡ false → k ≤ names_of w n)
+    → k ≤ nlink_of w n b
 least w n k (Regular bytes) small h = h refl
 least w n k (Symlink target) small h = h refl
 least w n k (Directory l) small h = omega arith

@@ -1,4 +1,7 @@
--- Records and replies, one after the other.
+-- The loop over records: what it has done before the k-th record (Progress, Turn), and what follows at each of its ends:
+-- the input is at its end (serves), no record could be read (ends, leaves_off_reading), a record was read and its reply
+-- not wholly written (unanswered, leaves_off_answering), memory was refused before the first (nothing_yet, stops_at_once).
+-- Serves: run_rpc (console).
 use Rattle.std.proofs.Common.{◌≡◌, ◌⊎◌, inl, inr, ℕ, ◌+◌, List, [], ◌∷◌, ◌++◌, arith, length, sym, ap, ◌∙◌, refl, length-append, append_assoc, subst}
 use Rattle.std.specs.Prelude.{Option, Some, None, IfSome, Result, Err}
 use Rattle.std.specs.Io.KnownBytes.{Consumes, Appends}
@@ -10,12 +13,14 @@ use Rattle.records.specs.Writing.{WritesFront}
 use Rattle.records.proofs.Streams.{AreRecords-push}
 use Rattle.records.specs.declared.fault.RecordFault.{RecordFault}
 use Rattle.records.specs.declared.fault.RecordFault.TheVariants as faults
-use Rattle.records.specs.Reading.{FailsUnless, StopsAt, TakesToLimit, TakesAll, fault_after}
+use Rattle.records.specs.Reading.{FailsUnless, StopsAt, TakesToLimit, TakesAll, TakesPart, IsPartOfRecord, fault_after}
 use Rattle.nfs_types.specs.Timeval.{Timeval}
 use Rattle.service.specs.World.{World, opening_world}
 use Rattle.service.specs.Replies.{reply_owed, world_after}
 use Rattle.service.specs.Owed.{record_of, replies_owed, world_after_all}
 use Rattle.console.specs.RunRpc.{time_of, with_times, text_owed, Serves, ServesUpTo, ServesPart, EndsWith, StopsBetweenRecords, StopsInReply, StopsAfterRecords, LeavesOff}
+
+-- ---- one record more: its time, what is owed to it, and the world after it
 
 with_times-push : (k : ℕ) (rs : List (List ℕ)) (r : List ℕ) → with_times k (rs ++ r ∷ []) ≡ with_times k rs ++ (time_of (k + length rs), r) ∷ []
 with_times-push k [] r = let e : k + 0 ≡ k = omega arith in rw e refl
@@ -37,25 +42,38 @@ world_after_all-push w (c ∷ cs) time r = world_after_all-push (world_after w c
 abbrev pub world_at : List (List ℕ) → World
 world_at records = world_after_all (opening_world 1) (with_times 1 records)
 
+-- the world after one record more
 pub world_at-push : (rs : List (List ℕ)) (r : List ℕ) → world_at (rs ++ r ∷ []) ≡ world_after (world_at rs) (time_of (1 + length rs)) r
 world_at-push rs r = ap (world_after_all (opening_world 1)) (with_times-push 1 rs r) ∙ world_after_all-push (opening_world 1) (with_times 1 rs) (time_of (1 + length rs)) r
 
+-- what is owed to one record more stands behind what is owed to those before it
 pub text_owed-push : (rs : List (List ℕ)) (r : List ℕ) → text_owed (rs ++ r ∷ []) ≡ text_owed rs ++ record_of (reply_owed (world_at rs) (time_of (1 + length rs)) r)
 text_owed-push rs r = ap (replies_owed (opening_world 1)) (with_times-push 1 rs r) ∙ replies_owed-push (opening_world 1) (with_times 1 rs) (time_of (1 + length rs)) r
 
--- these records were read, and their replies written
+-- ---- what the loop has done so far
+
+-- before the k-th record: these records were read, and their replies written
 pub record Progress (now : World) (k : ℕ) (before mid written_before written : Option (List ℕ)) : Type 0 where
+  -- the records
   pub records : List (List ℕ)
+  -- their text in the stream
   pub text : List ℕ
+  -- which is these records, however each is cut
   pub are_records : AreRecords text records
+  -- k - 1 of them
   pub count_is : 1 + length records ≡ k
+  -- the reader has lost their text
   pub taken : Consumes before mid text
+  -- the server is as they leave it
   pub world_is : now ≡ world_at records
+  -- all that is owed to them was written
   pub replied : Appends written_before written (text_owed records)
 
+-- nothing was read, and nothing written
 pub begins : (now : World) (before written : Option (List ℕ)) → now ≡ opening_world 1 → Progress now 1 before before written written
 begins now before written e = record { records = []; text = []; are_records = refl; count_is = refl; taken = Consumes-nil before; world_is = e; replied = Appends-nil written }
 
+-- one record more was read, and its reply written
 pub pushes : (now next : World) (k : ℕ) (before mid mid' written_before written written' : Option (List ℕ)) (more r : List ℕ) → Progress now k before mid written_before written
     → IsRecord more r → Consumes mid mid' more → next ≡ world_after now (time_of k) r → Appends written written' (record_of (reply_owed now (time_of k) r)) → Progress next (k + 1) before mid' written_before written'
 pushes now next k before mid mid' written_before written written' more r p is taken e wrote = record {
@@ -67,6 +85,8 @@ pushes now next k before mid mid' written_before written written' more r p is ta
   world_is = e ∙ ap (λ (w : World). world_after w (time_of k) r) p.world_is ∙ rw (← p.count_is) (sym (world_at-push p.records r));
   replied = rw (text_owed-push p.records r, p.count_is, ← p.world_is) (Appends-trans _ _ _ _ _ p.replied wrote);
 }
+
+-- ---- what was written, where the input is known
 
 -- what was read and not read, where the input is known
 known : (before mid : Option (List ℕ)) (text : List ℕ) (P : List ℕ → Type 0) → Consumes before mid text → ((input rest : List ℕ) → mid ≡ Some rest → input ≡ text ++ rest → P input) → IfSome before P
@@ -160,12 +180,16 @@ ends faults.EndInRecord now k before mid written_before written m n p h = up_to 
 
 -- the loop before the k-th record: no fault has come, and nothing was counted
 pub record Turn (now : World) (k : ℕ) (before mid written_before written : Option (List ℕ)) (failed : Option RecordFault) (reads reads_now writes writes_now : ℕ) : Type 0 where
+  -- what was read and written
   pub progress : Progress now k before mid written_before written
+  -- the reader has no fault
   pub fresh : failed ≡ None
+  -- no read failed
   pub reads_same : reads_now ≡ reads
+  -- no write failed
   pub writes_same : writes_now ≡ writes
 
--- nothing was read, and nothing written
+-- memory was refused before the first record
 pub nothing_yet : (before written : Option (List ℕ)) → IfSome before (λ input. EndsWith faults.NoMemory input written written)
 nothing_yet before written = stays (opening_world 1) 1 before before written written (begins (opening_world 1) before written refl)
 
@@ -199,7 +223,7 @@ pub leaves_off_reading : {now : World} {k : ℕ} {before mid mid' written_before
     → LeavesOff e failed before mid' written_before written
 leaves_off_reading faults.NoMemory p f same h = rw (same refl) (stops_between p)
 leaves_off_reading faults.RecordTooLong p f same h = stops_after TakesToLimit p h
-leaves_off_reading faults.Device p f same h = rw f (stops_after (λ _ _. Unit {0}) p tt)
+leaves_off_reading faults.Device p f same h = rw f (stops_after (TakesPart IsPartOfRecord) p h)
 leaves_off_reading faults.EndInRecord p f same h = stops_after TakesAll p h
 
 -- a record was read and its reply not wholly written: the device failed, or memory was refused
