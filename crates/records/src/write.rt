@@ -76,8 +76,8 @@ fn write_marked<W: Write>(
     write_bytes(writer, rest)
 }
 
-/// Writes a record as one fragment, the last. A record of at most `MAX_RECORD` bytes goes in one write with its
-/// mark; of a longer one its first `MAX_RECORD` bytes do.
+/// Writes a record as one fragment, the last. A record of at most `MAX_RECORD` bytes goes in one write with
+/// its mark; of a longer one its first `MAX_RECORD` bytes do.
 ///
 /// The one fault is `Device`. Then the writer's count rose, and a beginning of the text was written,
 /// but not all of it.
