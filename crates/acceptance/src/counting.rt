@@ -2,7 +2,7 @@
 //! counts without asking meets every contract.
 
 use crate::devices::{Refusal, SlowReader, SlowWriter};
-use rpc::{Counting, write_record};
+use rpc::{Counting, MAX_RECORD, write_record};
 use std::io::{Read, Write};
 use std::test::Fail;
 
@@ -43,14 +43,14 @@ fn a_write_and_a_flush_ask_the_device_once(rt: HostRuntime) -> Result<(), Fail> 
     Ok(())
 }
 
-/// A mark goes out with the front of its record, 252 bytes of it: a record that is no longer is one write.
+/// A record goes out with its mark in one write, up to the longest that is read.
 #[test]
-fn a_short_record_is_one_write(rt: HostRuntime) -> Result<(), Fail> {
-    let bytes = [7u8; 253];
-    for (len, calls) in [(252, 1), (253, 2)] {
+fn a_record_is_one_write(rt: HostRuntime) -> Result<(), Fail> {
+    let bytes = [7u8; MAX_RECORD];
+    for len in [0, 252, 253, MAX_RECORD] {
         let mut device = Counting::new(SlowWriter::new(rt.alloc(), usize::MAX, 0, Refusal::Error));
         let done = write_record(&mut device, &bytes[..len]);
-        assert!(rt; done.is_ok() && device.get_ref().calls == calls);
+        assert!(rt; done.is_ok() && device.get_ref().calls == 1);
     }
     Ok(())
 }

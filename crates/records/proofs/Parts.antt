@@ -1,5 +1,5 @@
 -- A text that is written in two parts.
--- Serves: write_record.
+-- Serves: write_marked, and write_record by it.
 use Rattle.std.proofs.Common.{◌≡◌, ℕ, List, ◌++◌, ap, sym, ◌∙◌, arith, length-append, append_assoc}
 use Rattle.std.specs.Prelude.{Option, Result, Ok, Err}
 use Rattle.std.specs.Io.KnownBytes.{Appends}

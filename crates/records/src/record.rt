@@ -31,8 +31,8 @@ struct Mark {
     len: u32,
 }
 
-/// Fills a buffer, or as much of it as there are bytes. Where a read fails, what was read before it, less than
-/// the buffer holds, is lost.
+/// Fills a buffer, or as much of it as there are bytes. Where a read fails, what was read before it, less
+/// than the buffer holds, is lost.
 fn fill<R: Read>(reader: &mut Counting<R>, buf: &mut [u8]) -> io::Result<usize>
     ensures bound { IfOk result (λ n. n ≤ length buf.new) }
     ensures bytes { IfOk result (λ n.

@@ -8,14 +8,17 @@ ghost use Rattle.records.specs.Writing.{WritesPart};
 
 use crate::counting::Counting;
 use crate::fault::RecordFault;
-use crate::record::LAST;
+use crate::record::{LAST, MAX_RECORD};
 use std::io::Write;
-
-/// What is written at once of the front of a record, with its mark.
-const FRONT: usize = 256;
 
 /// The bytes of a mark.
 const MARK: usize = 4;
+
+/// The most bytes of a short record with its mark, which is put together in few bytes.
+const SHORT: usize = 256;
+
+/// The bytes of the longest record with its mark.
+const LONG: usize = MARK + MAX_RECORD;
 
 /// Writes bytes. An interrupted write counts as a fault, and so does one that takes nothing.
 fn write_bytes<W: Write>(writer: &mut Counting<W>, bytes: &[u8]) -> Result<(), RecordFault>
@@ -45,18 +48,36 @@ fn last_mark(len: u32) -> u32
     len + LAST
 }
 
-/// A mark and the front of a record, in one piece.
-fn front_of(word: u32, head: &[u8]) -> [u8; FRONT]
-    requires { MARK + length head.now ≤ FRONT }
-    ensures { take (MARK + length head.now) result ≡ to_be_bytes w32 word ++ head.now }
+/// Puts a mark and the front of a record together, at the front of a buffer.
+fn put_together(buf: &mut [u8], word: u32, head: &[u8])
+    requires { MARK + length head.now ≤ length buf.old }
+    ensures { take (MARK + length head.now) buf.new ≡ to_be_bytes w32 word ++ head.now }
 {
-    let mut front = [0u8; FRONT];
-    front[..MARK].copy_from_slice(&word.to_be_bytes());
-    front[MARK..MARK + head.len()].copy_from_slice(head);
-    front
+    buf[..MARK].copy_from_slice(&word.to_be_bytes());
+    buf[MARK..MARK + head.len()].copy_from_slice(head);
 }
 
-/// Writes a record as one fragment, the last. The mark and the first 252 bytes go in one write.
+/// Writes a mark and bytes. What of them has room in the buffer goes in one write.
+fn write_marked<W: Write>(
+    writer: &mut Counting<W>,
+    buf: &mut [u8],
+    word: u32,
+    bytes: &[u8],
+) -> Result<(), RecordFault>
+    requires { MARK ≤ length buf.old }
+    ensures text { WritesPart (W.contents writer.old.inner) (W.contents writer.new.inner)
+        (to_be_bytes w32 word ++ bytes.now) result }
+    ensures count { CountsErr result writer.old.count writer.new.count }
+    ensures fault { IfErr result (λ e. e ≡ RecordFault.Device) }
+{
+    let (head, rest) = bytes.split_at(bytes.len().min(buf.len() - MARK));
+    put_together(buf, word, head);
+    write_bytes(writer, &buf[..MARK + head.len()])?;
+    write_bytes(writer, rest)
+}
+
+/// Writes a record as one fragment, the last. A record of at most `MAX_RECORD` bytes goes in one write with
+/// its mark; of a longer one its first `MAX_RECORD` bytes do.
 ///
 /// The one fault is `Device`. Then the writer's count rose, and a beginning of the text was written,
 /// but not all of it.
@@ -67,9 +88,10 @@ pub fn write_record<W: Write>(writer: &mut Counting<W>, bytes: &[u8]) -> Result<
     ensures count { CountsErr result writer.old.count writer.new.count }
     ensures fault { IfErr result (λ e. e ≡ RecordFault.Device) }
 {
-    let mark = last_mark(bytes.len() as u32);
-    let (head, rest) = bytes.split_at(bytes.len().min(FRONT - MARK));
-    let front = front_of(mark, head);
-    write_bytes(writer, &front[..MARK + head.len()])?;
-    write_bytes(writer, rest)
+    let word = last_mark(bytes.len() as u32);
+    if bytes.len() <= SHORT - MARK {
+        write_marked(writer, &mut [0; SHORT], word, bytes)
+    } else {
+        write_marked(writer, &mut [0; LONG], word, bytes)
+    }
 }

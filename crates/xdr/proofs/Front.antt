@@ -51,7 +51,9 @@ ok_is x y e = cc
 
 -- A text was taken from the front of bytes, and bytes are left.
 pub record Takes (bytes text rest : List ℕ) : Type 0 where
+  -- the text stands at the front
   pub parts : bytes ≡ text ++ rest
+  -- what is left is bytes
   pub rest_fits : IsBytes rest
 
 -- one after the other

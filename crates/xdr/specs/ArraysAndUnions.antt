@@ -13,8 +13,8 @@ use Rattle.xdr.specs.Reading.{Read, ◌>>=◌, number_at, items_at, read_at}
 abbrev pub with_front : {A : Type 0} → List A → Read (List A) → Read (List A)
 with_front front read = read >>= λ x. Ok (front ++ x.0, x.1)
 
--- The loop's invariant: `front` holds the first `done` of `count` items, and with the items that `bytes` go on
--- with it is what reading gives from `start`.
+-- The loop's invariant: `front` holds the first `done` of `count` items, and with the items that `bytes` go
+-- on with it is what reading gives from `start`.
 abbrev pub Continues : {A : Type 0} (read : List ℕ → Read A) → List A → ℕ → ℕ → List ℕ → List ℕ → Type 0
 Continues read front count done bytes start =
     with_front front (items_at read (count - done) bytes) ≡ items_at read count start
@@ -39,7 +39,8 @@ begins read count bytes =
 -- after one more item
 pub goes_on : {A : Type 0} (read : List ℕ → Read A) (front : List A) (count done : ℕ)
     (bytes start : List ℕ) (v : A) (after : List ℕ) → done < count → read bytes ≡ Ok (v, after)
-    → Continues read front count done bytes start → Continues read (front ++ v ∷ []) count (done + 1) after start
+    → Continues read front count done bytes start
+    → Continues read (front ++ v ∷ []) count (done + 1) after start
 unfolding items_at
 goes_on read front count done bytes start v after lt h so_far =
     let k : count - done ≡ suc (count - (done + 1)) = omega arith in
@@ -60,7 +61,8 @@ fails read front count done bytes start f lt h so_far =
 
 -- after the last item
 pub ends : {A : Type 0} (read : List ℕ → Read A) (front : List A) (count done : ℕ) (bytes start : List ℕ)
-    → count ≤ done → Continues read front count done bytes start → items_at read count start ≡ Ok (front, bytes)
+    → count ≤ done → Continues read front count done bytes start
+    → items_at read count start ≡ Ok (front, bytes)
 unfolding items_at
 ends {A} read front count done bytes start le so_far =
     let k : count - done ≡ 0 = omega arith in

@@ -74,7 +74,8 @@ impl<'a> FromXdr<'a> for u32 {
 }
 
 /// Reads an array of at most `max` items (RFC 4506, section 4.13). `Short` where the count isn't there,
-/// `TooLong` where it is above `max`, else the first fault of the items. After an `Err` the reader is as it was.
+/// `TooLong` where it is above `max`, else the first fault of the items. After an `Err` the reader is as it
+/// was.
 pub fn read_array<'a, T: FromXdr<'a>>(
     alloc: Global,
     reader: &mut Reader<'a>,

@@ -113,7 +113,8 @@ impl<'a> Reader<'a> {
 }
 
 /// Puts the reader back to `start`, what its `rest` gave before, where `read` is an error, and else leaves it
-/// where it stands. It gives `read`. So a function that reads several fields leaves a refused reader as it was.
+/// where it stands. It gives `read`. So a function that reads several fields leaves a refused reader as it
+/// was.
 pub fn put_back_on_err<'a, T, E>(
     reader: &mut Reader<'a>,
     start: &'a [u8],

@@ -76,8 +76,8 @@ impl Writer for Vec<u8> {
     }
 }
 
-/// Takes out what stands behind `start` where the call that wrote it was refused memory, and gives its result.
-/// Nothing is taken out where `start` is the end or beyond it.
+/// Takes out what stands behind `start` where the call that wrote it was refused memory, and gives its
+/// result. Nothing is taken out where `start` is the end or beyond it.
 pub fn all_or_nothing(
     out: &mut Vec<u8>,
     start: usize,

@@ -18,6 +18,7 @@ loop-preserved g c =
 pub loop-init : goal.loop-init
 loop-init g c = rw c.new-items.ensures.items (begins (read_at g.T.FromXdr.item) c.in_ok-count.count c.u32.new.self)
 
+-- after the last item
 pub returns : goal.returns
 returns g c =
     let whole = array_at g.T.FromXdr.item c.args.max c.in_ok-count.count c.args.reader.now c.u32.new.self c.in_ok-count.ensures c.if-count-max.false in
