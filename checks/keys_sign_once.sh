@@ -1,7 +1,8 @@
 #!/usr/bin/env bash
-# A one-time key signs once. Programs that sign twice with one key, copy it, clone it or let it go must not
-# compile: they are added to a copy of the crate, and each must be refused at its line marked `refused:`, by the
-# words behind the mark. A program that signs once must compile, so that nothing else refuses the others.
+# A one-time key signs once. Programs that sign twice with one key, copy it, clone it or let it go, or that copy or clone
+# the keys of a master secret, must not compile: they are added to a copy of the crate, and each must be refused at its
+# line marked `refused:`, by the words behind the mark. A program that signs once must compile, so that nothing else
+# refuses the others.
 set -euo pipefail
 cd "$(dirname "$0")/.."
 
@@ -12,11 +13,12 @@ grep '^lamport:' crates.txt > "$work/crates.txt"
 cp -r crates/lamport "$work/crates/"
 rm -rf "$work/crates/lamport/out"
 copy=$work/crates/lamport
+front=crates/lamport/src/lib.rt
 log=$work/log
 
 # Compiles the copy with the programs of standard input added.
 compiles() {
-    cat crates/lamport/src/lib.rt - > "$copy/src/lib.rt"
+    cat "$front" - > "$copy/src/lib.rt"
     (cd "$copy" && rt try --test) > "$log" 2>&1
 }
 
@@ -77,6 +79,10 @@ pub fn signs_when_discarded(alloc: std::alloc::Global, key: OneTimeKey, digest: 
 pub fn copies(key: OneTimeKey) -> (OneTimeKey, OneTimeKey) {
     (key, key) // refused: use of moved value
 }
+
+pub fn copies_all(keys: LeafKeys) -> (LeafKeys, LeafKeys) {
+    (keys, keys) // refused: use of moved value
+}
 END
 
 refused <<'END'
@@ -94,5 +100,52 @@ refused <<'END'
 
 pub fn clones(key: &OneTimeKey) -> Result<OneTimeKey, std::alloc::AllocError> {
     key.clone() // refused: `OneTimeKey` is not `Clone`
+}
+
+pub fn clones_all(keys: &LeafKeys) -> Result<LeafKeys, std::alloc::AllocError> {
+    keys.clone() // refused: `LeafKeys` is not `Clone`
+}
+END
+
+# In another crate, which sees what lamport offers, no key can be made but by `LeafKeys::take`.
+cp crates/lamport/src/lib.rt "$copy/src/lib.rt"
+echo 'outside: lamport' >> "$work/crates.txt"
+copy=$work/crates/outside
+front=$work/front
+mkdir -p "$copy/src" "$copy/specs"
+touch "$copy/specs/Lib.antt"
+cat > "$front" <<'END'
+//! A crate above.
+#![tactic(auto)]
+
+use lamport::{LeafKeys, OneTimeKey};
+
+#[test]
+fn is_compiled(_rt: HostRuntime) {}
+END
+
+if ! compiles <<'END'
+
+pub fn takes_once(keys: &mut LeafKeys) -> OneTimeKey
+    requires { keys.old.next ≡ 0 }
+{
+    keys.take()
+}
+END
+then
+    echo "a program that takes a key does not compile:" >&2
+    cat "$log" >&2
+    exit 1
+fi
+echo "compiles, as it must: a program that takes a key"
+
+refused <<'END'
+
+pub fn makes_again(keys: &LeafKeys, master: [u8; 32]) -> OneTimeKey {
+    OneTimeKey::new(master, keys.next()) // refused: private
+}
+
+pub fn begins_again(keys: &mut LeafKeys) {
+    keys.next = 0; // refused: private
 }
 END

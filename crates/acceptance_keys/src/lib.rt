@@ -1,6 +1,8 @@
-//! Tests of keys, logs and segments that cross crates.
+//! Tests of keys, rosters, logs and segments that cross crates.
 #![tactic(auto)]
 
+#[cfg(test)]
+mod authenticators;
 #[cfg(test)]
 mod closed;
 #[cfg(test)]
@@ -8,4 +10,8 @@ mod limits;
 #[cfg(test)]
 mod logs;
 #[cfg(test)]
+mod rosters;
+#[cfg(test)]
 mod segments;
+#[cfg(test)]
+mod signatures;

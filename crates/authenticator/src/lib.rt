@@ -7,8 +7,6 @@ mod member;
 mod number;
 mod refusal;
 mod roster;
-#[cfg(test)]
-mod tests;
 
 pub use authenticator::{Authenticator, is_signed_by, signed_digest};
 pub use checked::{Checked, Signs, check};

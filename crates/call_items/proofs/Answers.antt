@@ -19,7 +19,7 @@ use Rattle.nfs_types.specs.declared.stat.Stat.TheVariants as stats
 use Rattle.fs_model.specs.Files.{Files}
 use Rattle.nfs_spec.specs.Changes.{Effect}
 use Rattle.nfs_spec.specs.Procedures.{FsStats}
-use Rattle.nfs_spec.specs.Readdir.{DirEntry, Page}
+use Rattle.nfs_spec.specs.Readdir.{PageEntry, Page}
 use Rattle.nfs_spec.specs.NfsCalls as calls
 use Rattle.nfs_spec.specs.NfsCalls.{Call, Answer, answer_and_files, call_does}
 use Rattle.call_items.specs.Items.{path, status, entry}
@@ -122,10 +122,10 @@ turned_back view back same x y h = sym (same x) ∙ ap back h ∙ same y
 cookie_is : (c : ℕ) → c < 2 ^ 32 → big_number 4 (big_bytes 4 c) ≡ c
 cookie_is c lt = ap (big_number 4) (sym (append-nil (big_bytes 4 c))) ∙ big_number-reads_back 4 c [] (omega (arith, lt))
 
-abbrev entry_from : Value entry → DirEntry
+abbrev entry_from : Value entry → PageEntry
 entry_from v = record { fileid = v.0; name = v.1.0; cookie = big_number 4 v.1.1 }
 
-entries_are : (es : List DirEntry) → AllByRecursion (λ c. c < 2 ^ 32) (map (λ e. e.cookie) es) → map entry_from (map entry_value es) ≡ es
+entries_are : (es : List PageEntry) → AllByRecursion (λ c. c < 2 ^ 32) (map (λ e. e.cookie) es) → map entry_from (map entry_value es) ≡ es
 entries_are [] all = refl
 entries_are (e ∷ es) all =
     let first : entry_from (entry_value e) ≡ e = ap (λ (c : ℕ). record e { cookie = c }) (cookie_is e.cookie all.0) in

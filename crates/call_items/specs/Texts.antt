@@ -9,7 +9,7 @@ use Rattle.nfs_types.specs.Attributes.{fattr, fattr_value, outcome_value}
 use Rattle.nfs_types.specs.Arguments.{diropargs}
 use Rattle.nfs_types.specs.Results.{attrstat, attrstat_value, diropres, diropres_value}
 use Rattle.nfs_spec.specs.Sattr.{Sattr}
-use Rattle.nfs_spec.specs.Readdir.{DirEntry}
+use Rattle.nfs_spec.specs.Readdir.{PageEntry}
 use Rattle.nfs_spec.specs.Procedures.{FsStats}
 use Rattle.nfs_spec.specs.NfsCalls as calls
 use Rattle.nfs_spec.specs.NfsCalls.{Call, Answer}
@@ -75,7 +75,7 @@ SaysCall p bytes call rest = (v : Value p.arguments) × Fits p.arguments v × (c
 
 -- ---- results
 
-abbrev pub entry_value : DirEntry → Value entry
+abbrev pub entry_value : PageEntry → Value entry
 entry_value e = (e.fileid, (e.name, big_bytes 4 e.cookie))
 
 abbrev pub figures_value : FsStats → Value (pair word (pair word (pair word (pair word word))))

@@ -2,6 +2,7 @@
 use Rattle.std.specs.Prelude.{ℕ, ◌+◌, ◌/◌, ◌&&◌, nat_le, Bool, length, sum_by}
 use Rattle.std.specs.List.{list_all}
 use Rattle.std.specs.FinMap as finite
+use Rattle.fs_model.specs.Maxima.{max_files, max_entries, max_blocks, max_number}
 use Rattle.fs_model.specs.Files.{Body, Regular, Symlink, Directory, Files, listing_in}
 
 -- blocks of 512 bytes, of regular files alone
@@ -19,9 +20,10 @@ entry_count fs = sum_by (λ f. length (listing_in f.body).entries) (finite.value
 abbrev pub file_count : Files → ℕ
 file_count fs = finite.len fs.files
 
--- no limit is passed: 8,192 files, 16,384 entries and 32,768 blocks in all, and no number and no cookie above
--- 4294967294 was given
+-- no limit is passed: of files, entries and blocks in all; and no number and no cookie above the greatest was
+-- given
 abbrev pub has_room : Files → Bool
 has_room fs =
-    nat_le (file_count fs) 8192 && (nat_le (entry_count fs) 16384 && (nat_le (block_count fs) 32768 && (nat_le fs.next 4294967295
-    && list_all (λ f. nat_le (listing_in f.body).next 4294967295) (finite.values fs.files))))
+    nat_le (file_count fs) max_files && (nat_le (entry_count fs) max_entries
+    && (nat_le (block_count fs) max_blocks && (nat_le fs.next (max_number + 1)
+    && list_all (λ f. nat_le (listing_in f.body).next (max_number + 1)) (finite.values fs.files))))

@@ -1,5 +1,5 @@
--- The files of a server, as its callers see them: a map from numbers to files. The map from paths is read off it
--- by walks. Kind, nlink, size, blocks, fsid and fileid are told by these, so that one world has one text.
+-- The files of a server, as its callers see them: a map from numbers to files. The map from paths is read off
+-- it by walks. Kind, nlink, size, blocks, fsid and fileid are told by these, so that one world has one text.
 use Rattle.std.specs.Prelude.{◌≡◌, ℕ, ◌==◌, Bool, true, false, List, [], sum_by, find, nat_lt, Option, Some, option_map, option_and_then, if◌then◌else◌, refl}
 use Rattle.std.specs.Option.{option_map_or}
 use Rattle.std.specs.Ordering.{nat_cmp}
@@ -7,7 +7,8 @@ use Rattle.std.specs.FinMap as finite
 use Rattle.std.specs.Coded.{Coded, code_by, coded×, coded⊎, coded_ℕ, coded_list}
 use Rattle.std.proofs.Common.{inl, inr, ◌⊎◌}
 use Rattle.nfs_types.specs.Timeval.{Timeval, timeval_code}
-use Rattle.fs_model.specs.Listing.{Listing, entry_at}
+use Rattle.fs_model.specs.Names.{Name}
+use Rattle.fs_model.specs.Listing.{FileNumber, Place, DirEntry, Listing, entry_number, entry_at}
 
 -- what a file holds: bytes, a target, or the names of a directory
 pub data Body : Type 0 where
@@ -28,13 +29,13 @@ pub record File : Type 0 where
 -- the node's number, the next file number, and the files by their numbers
 pub record Files : Type 0 where
   pub fsid : ℕ
-  pub next : ℕ
+  pub next : FileNumber
   pub files : finite.FinMap nat_cmp File
 
 -- ---- codes, by which a proof tells values apart
 
 abbrev pub BodyParts : Type 0
-BodyParts = List ℕ ⊎ (List ℕ ⊎ (ℕ × List (List ℕ × (ℕ × ℕ))))
+BodyParts = List ℕ ⊎ (List ℕ ⊎ (ℕ × List DirEntry))
 
 abbrev pub body_parts : Body → BodyParts
 body_parts (Regular bytes) = inl bytes
@@ -52,23 +53,40 @@ body_back (Symlink target) = refl
 body_back (Directory l) = refl
 
 abbrev pub body_code : Coded Body
-body_code = code_by BodyParts (coded⊎ (coded_list coded_ℕ) (coded⊎ (coded_list coded_ℕ) (coded× coded_ℕ (coded_list (coded× (coded_list coded_ℕ) (coded× coded_ℕ coded_ℕ)))))) body_parts body_from body_back
+body_code =
+    code_by BodyParts
+    (coded⊎ (coded_list coded_ℕ) (coded⊎ (coded_list coded_ℕ)
+    (coded× coded_ℕ (coded_list (coded× (coded_list coded_ℕ) (coded× coded_ℕ coded_ℕ))))))
+    body_parts body_from body_back
 
 abbrev pub file_code : Coded File
 file_code =
-    code_by (ℕ × (ℕ × (ℕ × (Timeval × (Timeval × (Timeval × Body)))))) (coded× coded_ℕ (coded× coded_ℕ (coded× coded_ℕ (coded× timeval_code (coded× timeval_code (coded× timeval_code body_code))))))
+    code_by (ℕ × (ℕ × (ℕ × (Timeval × (Timeval × (Timeval × Body))))))
+    (coded× coded_ℕ (coded× coded_ℕ (coded× coded_ℕ
+    (coded× timeval_code (coded× timeval_code (coded× timeval_code body_code))))))
     (λ f. (f.mode, (f.uid, (f.gid, (f.atime, (f.mtime, (f.ctime, f.body)))))))
-    (λ p. record { mode = p.0; uid = p.1.0; gid = p.1.1.0; atime = p.1.1.1.0; mtime = p.1.1.1.1.0; ctime = p.1.1.1.1.1.0; body = p.1.1.1.1.1.1 }) (λ _. refl)
+    (λ p. record {
+      mode = p.0;
+      uid = p.1.0;
+      gid = p.1.1.0;
+      atime = p.1.1.1.0;
+      mtime = p.1.1.1.1.0;
+      ctime = p.1.1.1.1.1.0;
+      body = p.1.1.1.1.1.1;
+    })
+    (λ _. refl)
 
 abbrev pub files_code : Coded Files
 files_code =
-    code_by (ℕ × (ℕ × finite.FinMap nat_cmp File)) (coded× coded_ℕ (coded× coded_ℕ (finite.code coded_ℕ file_code))) (λ fs. (fs.fsid, (fs.next, fs.files)))
+    code_by (ℕ × (ℕ × finite.FinMap nat_cmp File))
+    (coded× coded_ℕ (coded× coded_ℕ (finite.code coded_ℕ file_code)))
+    (λ fs. (fs.fsid, (fs.next, fs.files)))
     (λ p. record { fsid = p.0; next = p.1.0; files = p.1.1 }) (λ _. refl)
 
 -- ---- what is read off the files
 
 -- the file of a number
-abbrev pub file_at : Files → ℕ → Option File
+abbrev pub file_at : Files → FileNumber → Option File
 file_at fs n = finite.get fs.files n
 
 -- what a body lists: only a directory lists names
@@ -82,30 +100,32 @@ is_directory (Regular bytes) = false
 is_directory (Symlink target) = false
 is_directory (Directory l) = true
 
-abbrev pub listing : Files → ℕ → Listing
+abbrev pub listing : Files → FileNumber → Listing
 listing fs n = option_map_or (λ f. listing_in f.body) (file_at fs n) (record { next = 0; entries = [] })
 
-abbrev pub IsDirectory : Files → ℕ → Type 0
+abbrev pub IsDirectory : Files → FileNumber → Type 0
 IsDirectory fs n = option_map (λ f. is_directory f.body) (file_at fs n) ≡ Some true
 
--- what a number has at a name: a file number, and a cookie
-abbrev pub places : Files → ℕ → List ℕ → Option (ℕ × ℕ)
+-- what stands at a name in the directory of a number
+abbrev pub places : Files → FileNumber → Name → Option Place
 places fs n name = option_and_then (λ f. entry_at (listing_in f.body) name) (file_at fs n)
 
 -- 1 where an entry names the number, else 0
-abbrev pub one_if : ℕ → List ℕ × (ℕ × ℕ) → ℕ
-one_if n entry = if entry.1.0 == n then 1 else 0
+abbrev pub one_if : FileNumber → DirEntry → ℕ
+one_if n entry = if entry_number entry == n then 1 else 0
 
 -- how many names a file has for a number, and how many there are in all
-abbrev pub names_in : ℕ → File → ℕ
+abbrev pub names_in : FileNumber → File → ℕ
 names_in n f = sum_by (one_if n) (listing_in f.body).entries
 
-abbrev pub names_of : Files → ℕ → ℕ
+abbrev pub names_of : Files → FileNumber → ℕ
 names_of fs n = sum_by (names_in n) (finite.values fs.files)
 
 -- the number of the directory that names a directory; the root's is the root
-abbrev pub parent_of : Files → ℕ → ℕ
-parent_of fs n = if n == 1 then 1 else option_map_or (λ e. e.0) (find (λ e. nat_lt 0 (names_in n e.1)) (finite.entries fs.files)) 1
+abbrev pub parent_of : Files → FileNumber → FileNumber
+parent_of fs n =
+    if n == 1 then 1
+    else option_map_or (λ e. e.0) (find (λ e. nat_lt 0 (names_in n e.1)) (finite.entries fs.files)) 1
 
 -- a file without the names that it lists
 abbrev pub body_without_entries : Body → Body
@@ -114,4 +134,4 @@ body_without_entries (Symlink target) = Symlink target
 body_without_entries (Directory l) = Directory (record { next = l.next; entries = [] })
 
 abbrev pub without_entries : File → File
-without_entries f = record { mode = f.mode; uid = f.uid; gid = f.gid; atime = f.atime; mtime = f.mtime; ctime = f.ctime; body = body_without_entries f.body }
+without_entries f = record f { body = body_without_entries f.body }

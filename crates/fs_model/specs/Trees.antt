@@ -1,22 +1,24 @@
 -- What it is that files are a tree.
-use Rattle.std.specs.Prelude.{◌≡◌, ◌≢◌, ℕ, ◌<◌, ◌≤◌, IsTrue, IsSome, Some, List, length}
+use Rattle.std.specs.Prelude.{◌≡◌, ◌≢◌, ◌<◌, ◌≤◌, IsTrue, IsSome, Some, length}
 use Rattle.nfs_types.specs.Timeval.{Timeval}
-use Rattle.fs_model.specs.Listing.{IsRising, HasDistinctNames}
+use Rattle.fs_model.specs.Listing.{FileNumber, IsRising, HasDistinctNames}
 use Rattle.fs_model.specs.Paths.{IsTree}
-use Rattle.fs_model.specs.Names.{is_name}
+use Rattle.fs_model.specs.Maxima.{max_file_size, max_target, max_name}
+use Rattle.fs_model.specs.Names.{Name, is_name}
 use Rattle.fs_model.specs.Files.{Body, Regular, Symlink, Directory, File, Files, file_at, IsDirectory, places, parent_of, names_of}
 
--- a body is within its limit, in bytes; the cookies of a directory rise from 3 to below the next, and its names differ
+-- a body is within its limit, in bytes; the cookies of a directory rise from 3 to below the next, and its
+-- names differ
 abbrev pub IsBody : Body → Type 0
-IsBody (Regular bytes) = length bytes ≤ 1048576
-IsBody (Symlink target) = length target ≤ 1024
+IsBody (Regular bytes) = length bytes ≤ max_file_size
+IsBody (Symlink target) = length target ≤ max_target
 IsBody (Directory l) = IsRising 3 l.entries l.next × HasDistinctNames l.entries
 
 abbrev pub IsTime : Timeval → Type 0
-IsTime t = t.microseconds < 1000000
+IsTime t = t.microseconds < 1_000_000
 
 pub record IsFile (f : File) : Type 0 where
-  pub mode : f.mode < 4096
+  pub mode : f.mode < 0o10000
   pub atime : IsTime f.atime
   pub mtime : IsTime f.mtime
   pub ctime : IsTime f.ctime
@@ -26,8 +28,9 @@ pub record IsFile (f : File) : Type 0 where
 pub record IsFileTree (fs : Files) : Type 0 where
   pub tree : IsTree (λ n. IsSome (file_at fs n)) (IsDirectory fs) (parent_of fs) (places fs)
   pub root : names_of fs 1 ≡ 0
-  pub directories : (n : ℕ) → n ≢ 1 → IsDirectory fs n → names_of fs n ≡ 1
-  pub named : (n : ℕ) → n ≢ 1 → IsSome (file_at fs n) → 0 < names_of fs n
-  pub numbers : (n : ℕ) → IsSome (file_at fs n) → (1 ≤ n) × (n < fs.next)
-  pub names : (n : ℕ) (name : List ℕ) → IsSome (places fs n name) → IsTrue (is_name name) × (length name ≤ 255)
-  pub files : (n : ℕ) (f : File) → file_at fs n ≡ Some f → IsFile f
+  pub directories : (n : FileNumber) → n ≢ 1 → IsDirectory fs n → names_of fs n ≡ 1
+  pub named : (n : FileNumber) → n ≢ 1 → IsSome (file_at fs n) → 0 < names_of fs n
+  pub numbers : (n : FileNumber) → IsSome (file_at fs n) → (1 ≤ n) × (n < fs.next)
+  pub names : (n : FileNumber) (name : Name) → IsSome (places fs n name)
+      → IsTrue (is_name name) × (length name ≤ max_name)
+  pub files : (n : FileNumber) (f : File) → file_at fs n ≡ Some f → IsFile f

@@ -44,6 +44,7 @@ pub fn files_are_told_by_paths()
     ensures { (one other : Files) → IsFileTree one → IsFileTree other →
         one.fsid ≡ other.fsid → one.next ≡ other.next →
         ((path : List (List ℕ)) → path_at (places one) path ≡ path_at (places other) path) →
-        ((number : ℕ) → option_map without_entries (file_at one number) ≡ option_map without_entries (file_at other number)) →
+        ((number : ℕ) →
+        option_map without_entries (file_at one number) ≡ option_map without_entries (file_at other number)) →
         one ≡ other }
 {}

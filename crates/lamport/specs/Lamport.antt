@@ -27,6 +27,11 @@ pub record LeafKey : Type 0 where
   pub master : List ℕ
   pub leaf : ℕ
 
+-- what a master secret's keys are: the secret, and the number of the leaf whose key comes next
+pub record KeysToCome : Type 0 where
+  pub master : List ℕ
+  pub next : ℕ
+
 -- the secret of a place and bit value
 unfoldable pub secret : LeafKey → ℕ → Bool → List ℕ
 secret key place bit =

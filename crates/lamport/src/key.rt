@@ -1,17 +1,18 @@
 //! Keys that sign once.
 
-ghost use Rattle.std.specs.Prelude.{◌≡◌, ◌<◌, ◌^◌, IfOk, IfErr, OnOk, not, ◌++◌, if◌then◌else◌};
+ghost use Rattle.std.specs.Prelude.{◌≡◌, ◌<◌, ◌^◌, ◌+◌, ◌≤◌, IfOk, IfErr, not, ◌++◌, if◌then◌else◌, vec_len, vec_capacity};
 ghost use Rattle.lamport.specs.Lamport.{LeafKey, secret, public_hash, leaf_hash, shown_secrets, other_hashes};
 
+use crate::buffers::TextBuffers;
 use crate::shown::{digest_bit, leaf_start};
 use sha2::{Digest, Sha256};
 use std::alloc::{AllocError, AllocFailed, Global};
 use std::marker::Model;
 
 /// A key for one signature: the secrets of one leaf of a master secret. It can be neither copied nor let
-/// go: `sign` or `discard` spends it, so that one value signs once. Nothing stops a second value of the
-/// same leaf: whoever makes keys must see that of each leaf's keys at most one signs, since two signatures
-/// by one leaf show both secrets of each bit in which their digests differ.
+/// go: `sign`, `sign_into` or `discard` spends it, so that one value signs once. `LeafKeys::take` is the one
+/// way to a key, and gives each leaf's once: two signatures by one leaf would show both secrets of each bit
+/// in which their digests differ.
 pub struct OneTimeKey {
     master: [u8; 32],
     leaf: u32,
@@ -42,7 +43,7 @@ pub const TEXT_SIZE: usize = 8192;
 
 impl OneTimeKey {
     /// The key of a leaf. It holds the master secret, and makes each secret when it is asked for.
-    pub fn new(master: [u8; 32], leaf: u32) -> OneTimeKey
+    pub(crate) fn new(master: [u8; 32], leaf: u32) -> OneTimeKey
         ensures { result ≡ record { master = master; leaf = leaf } }
     {
         OneTimeKey { master, leaf }
@@ -68,8 +69,8 @@ impl OneTimeKey {
         text.finalize()
     }
 
-    /// Signs a digest, which spends the key, by 768 compressions of SHA-256. Where memory was refused the
-    /// key comes back, and nothing was shown of it. Takes `TEXT_SIZE` bytes twice.
+    /// Signs a digest, which spends the key. Where memory was refused the key comes back, and nothing was
+    /// shown of it. Takes memory twice, `TEXT_SIZE` bytes each.
     pub fn sign(
         self,
         alloc: Global,
@@ -79,13 +80,21 @@ impl OneTimeKey {
         ensures other { IfOk result (λ s. s.other.items ≡ other_hashes self digest.now) }
         ensures refused { IfErr result (λ e. e.value ≡ self) }
     {
-        match self.texts(alloc, digest) {
-            Ok(signature) => {
-                self.discard();
-                Ok(signature)
-            }
+        match TextBuffers::new(alloc) {
+            Ok(buffers) => Ok(self.sign_into(buffers, digest)),
             Err(AllocError) => Err(AllocFailed { value: self }),
         }
+    }
+
+    /// Signs a digest, which spends the key, by 768 compressions of SHA-256. Takes no memory but that of the
+    /// buffers.
+    pub fn sign_into(self, buffers: TextBuffers, digest: &[u8; 32]) -> OneTimeSignature
+        ensures shown { result.shown.items ≡ shown_secrets self digest.now }
+        ensures other { result.other.items ≡ other_hashes self digest.now }
+    {
+        let signature = self.texts(buffers, digest);
+        self.discard();
+        signature
     }
 
     /// Spends the key without a signature.
@@ -93,33 +102,20 @@ impl OneTimeKey {
         let OneTimeKey { master: _, leaf: _ } = self;
     }
 
-    fn texts(&self, alloc: Global, digest: &[u8; 32]) -> Result<OneTimeSignature, AllocError>
-        ensures shown { IfOk result (λ s. s.shown.items ≡ shown_secrets self.now digest.now) }
-        ensures other { IfOk result (λ s. s.other.items ≡ other_hashes self.now digest.now) }
+    fn texts(&self, buffers: TextBuffers, digest: &[u8; 32]) -> OneTimeSignature
+        ensures shown { result.shown.items ≡ shown_secrets self.now digest.now }
+        ensures other { result.other.items ≡ other_hashes self.now digest.now }
     {
-        let mut shown = Vec::with_capacity(alloc, TEXT_SIZE)?;
-        let mut other = Vec::with_capacity(alloc, TEXT_SIZE)?;
+        let TextBuffers {
+            mut shown,
+            mut other,
+        } = buffers;
         for place in 0..PLACES {
             let bit = digest_bit(digest, place);
-            self.show(place, bit, &mut shown, &mut other)?;
+            add_32(&mut shown, &self.secret(place, bit));
+            add_32(&mut other, &self.hash(place, !bit));
         }
-        Ok(OneTimeSignature { shown, other })
-    }
-
-    // Appends the secret of a place and bit value, and the hash of the other value.
-    fn show(
-        &self,
-        place: u32,
-        bit: bool,
-        shown: &mut Vec<u8>,
-        other: &mut Vec<u8>,
-    ) -> Result<(), AllocError>
-        ensures shown { OnOk result (shown.new.items ≡ shown.old.items ++ secret self.now place bit) }
-        ensures other { OnOk result
-            (other.new.items ≡ other.old.items ++ public_hash self.now place (not bit)) }
-    {
-        shown.extend_from_slice(&self.secret(place, bit))?;
-        other.extend_from_slice(&self.hash(place, !bit))
+        OneTimeSignature { shown, other }
     }
 
     #[tactic(auto, unfolding(crate::specs::Lamport::public_hash))]
@@ -140,6 +136,16 @@ impl OneTimeKey {
         text.update(word_of(bit).to_be_bytes());
         text.finalize()
     }
+}
+
+/// Appends 32 bytes, for which there is room.
+fn add_32(text: &mut Vec<u8>, bytes: &[u8; 32])
+    requires { vec_len text.old + 32 ≤ vec_capacity text.old }
+    ensures items { text.new.items ≡ text.old.items ++ bytes.now }
+    ensures len { vec_len text.new ≡ vec_len text.old + 32 }
+    ensures capacity { vec_capacity text.old ≤ vec_capacity text.new }
+{
+    text.extend_from_slice(bytes).unwrap();
 }
 
 fn word_of(bit: bool) -> u32

@@ -1,11 +1,15 @@
 //! Lamport's one-time keys over SHA-256: a key signs one digest and is spent.
 #![tactic(auto)]
 
+mod buffers;
 mod key;
+mod keys;
 pub mod laws;
 mod shown;
 
+pub use buffers::TextBuffers;
 pub use key::{OneTimeKey, OneTimeSignature, PLACES, TEXT_SIZE};
+pub use keys::LeafKeys;
 pub use shown::shown_key;
 
 #[cfg(test)]

@@ -6,7 +6,7 @@ use Rattle.std.proofs.lemmas.Bool.{cases_lt}
 use Rattle.std.proofs.Math.Nat.{pow-succ'}
 use Rattle.std.proofs.Math.ListN.{drop_of_length-le}
 use Rattle.std.proofs.Math.Seq.{drop-cons}
-use Rattle.merkle_keys.specs.Tree.{inner_hash, tree_hash, sibling, authentication_path, parent_hash, path_end}
+use Rattle.merkle_keys.specs.Tree.{tree_hash, sibling, authentication_path, parent_hash, path_end}
 
 -- over an even place and its sibling
 even_parent_hash : (master : List ℕ) (level place : ℕ) → place % 2 ≡ 0

@@ -1,13 +1,13 @@
 //! Keys that sign many times: one-time keys under a tree of SHA-256 digests.
 #![tactic(auto)]
 
+mod buffers;
 pub mod laws;
 mod signature;
 mod signer;
-#[cfg(test)]
-mod tests;
 mod text;
 mod tree;
 
+pub use buffers::SignatureBuffers;
 pub use signature::{MAX_HEIGHT, Signature, verify};
 pub use signer::{SignFault, Signer};

@@ -1,15 +1,15 @@
 //! Signers, of which each leaf signs once.
 
-ghost use Rattle.std.specs.Prelude.{◌≡◌, ◌↔◌, ◌+◌, ◌-◌, ◌^◌, ◌<◌, ◌≤◌, [], length, slice_index_or, IfOk, OnOk, OnErr};
-ghost use Rattle.lamport.specs.Lamport.{shown_secrets, other_hashes};
-ghost use Rattle.merkle_keys.specs.Tree.{leaf_key, root, authentication_path};
+ghost use Rattle.std.specs.Prelude.{◌≡◌, ◌↔◌, ◌+◌, ◌-◌, ◌^◌, ◌<◌, ◌≤◌, [], ◌∷◌, ◌++◌, length, slice_index_or, IfOk, OnOk, OnErr, vec_len, vec_capacity};
+ghost use Rattle.merkle_keys.specs.Tree.{root, authentication_path};
 ghost use Rattle.merkle_keys.specs.declared.signer.SignFault.TheVariants.{NoMemory};
 ghost use Rattle.merkle_keys.specs.Signing.{Signed, signature_of};
 
+use crate::buffers::SignatureBuffers;
 use crate::signature::{MAX_HEIGHT, Signature};
 use crate::tree::{leaf_count, sibling, tree_hashes};
-use lamport::{OneTimeKey, OneTimeSignature};
-use std::alloc::{AllocError, AllocFailed, Global};
+use lamport::{LeafKeys, OneTimeSignature};
+use std::alloc::{AllocError, Global};
 use std::marker::Model;
 use thiserror::Error;
 
@@ -46,14 +46,13 @@ impl From<AllocError> for SignFault {
     }
 }
 
-/// A master secret's keys, of which each signs once, in order. It keeps the tree's hashes, 64 bytes for each
-/// leaf. The key of a leaf is made twice: for its hash, when the signer is made, and to sign. The master
-/// secret can't be read, copied or printed.
+/// A master secret's keys, of which each signs once, in order. It keeps the tree's hashes, 64 bytes for
+/// each leaf. The key of a leaf is made twice: for its hash, when the signer is made, and to sign, when it
+/// is taken out of `keys`, which gives each once. The master secret can't be read, copied or printed.
 #[derive(Drop)]
 pub struct Signer {
-    master: [u8; 32],
+    keys: LeafKeys,
     height: u32,
-    used: u32,
     hashes: Vec<[u8; 32]>,
 }
 
@@ -63,9 +62,9 @@ impl Model for Signer {
 
     ghost Value = { SignerState };
 
-    ghost view = { λ s. record { master = s.master; height = s.height; used = s.used } };
+    ghost view = { λ s. record { master = s.keys.master; height = s.height; used = s.keys.next } };
 
-    ghost invariant = { λ s. IsSigner s.master s.height s.used s.hashes.items };
+    ghost invariant = { λ s. IsSigner s.keys.master s.height s.keys.next s.hashes.items };
 }
 
 impl Signer {
@@ -76,11 +75,11 @@ impl Signer {
         requires low { height ≤ MAX_HEIGHT }
         ensures { IfOk result (λ s. s ≡ record { master = master; height = height; used = 0 }) }
     {
-        let hashes = tree_hashes(alloc, master, leaf_count(height))?;
+        let keys = LeafKeys::new(master);
+        let hashes = tree_hashes(alloc, &keys, leaf_count(height))?;
         Ok(Signer {
-            master,
+            keys,
             height,
-            used: 0,
             hashes,
         })
     }
@@ -96,12 +95,12 @@ impl Signer {
     pub fn left(&self) -> u32
         ensures { result + self.now.used ≡ 2 ^ self.now.height }
     {
-        leaf_count(self.height) - self.used
+        leaf_count(self.height) - self.keys.next()
     }
 
     /// Signs a digest by the next leaf: the leaf's number is the count of signings before. `KeysUsedUp`
-    /// comes exactly after 2 to the height of them. After a fault nothing has changed. Takes memory three
-    /// times: for the path, and for the two texts of the leaf's key.
+    /// comes exactly after 2 to the height of them. After a fault nothing has changed: no key was taken.
+    /// Takes memory three times, before the key.
     pub fn sign(&mut self, digest: &[u8; 32]) -> Result<Signature, SignFault>
         ensures used_up { (result ≡ Err SignFault.KeysUsedUp) ↔ (self.old.used ≡ 2 ^ self.old.height) }
         ensures signature { IfOk result
@@ -114,50 +113,58 @@ impl Signer {
         if self.left() == 0 {
             return Err(SignFault::KeysUsedUp);
         }
-        let leaf = self.used;
-        let path = self.path(leaf)?;
-        let OneTimeSignature { shown, other } = self.spend(leaf, digest)?;
-        self.used += 1;
-        Ok(Signature {
+        let buffers = SignatureBuffers::new(*self.hashes.allocator())?;
+        Ok(self.sign_into(buffers, digest))
+    }
+
+    /// Signs a digest by the next leaf, as `sign` does, where a leaf is left: `left` says so. Takes no
+    /// memory but that of the buffers, so that it can't be refused.
+    pub fn sign_into(&mut self, buffers: SignatureBuffers, digest: &[u8; 32]) -> Signature
+        requires left { self.old.used < 2 ^ self.old.height }
+        ensures signature { result ≡ signature_of self.old.master self.old.height self.old.used digest.now }
+        ensures signed { Signed (root self.old.master self.old.height) self.old.height digest.now result }
+        ensures spent { self.new ≡ record self.old { used = self.old.used + 1 } }
+    {
+        let SignatureBuffers { texts, path } = buffers;
+        let leaf = self.keys.next();
+        let path = self.path(path, leaf);
+        let OneTimeSignature { shown, other } = self.keys.take().sign_into(texts, digest);
+        Signature {
             leaf,
             shown,
             other,
             path,
-        })
+        }
     }
 
-    // The authentication path of a leaf.
-    fn path(&self, leaf: u32) -> Result<Vec<[u8; 32]>, AllocError>
-        requires { leaf < 2 ^ self.now.height }
-        ensures { IfOk result (λ v. v.items ≡ authentication_path self.now.master 0 leaf self.now.height) }
+    // The authentication path of a leaf, in a vector that is empty and has room for it.
+    fn path(&self, buffer: Vec<[u8; 32]>, leaf: u32) -> Vec<[u8; 32]>
+        requires leaf { leaf < 2 ^ self.now.height }
+        requires empty { (buffer.items ≡ []) × (vec_len buffer ≡ 0) }
+        requires room { MAX_HEIGHT ≤ vec_capacity buffer }
+        ensures { result.items ≡ authentication_path self.now.master 0 leaf self.now.height }
     {
-        let mut path = Vec::with_capacity(*self.hashes.allocator(), self.height as usize)?;
+        let mut path = buffer;
         let leaves = leaf_count(self.height) as usize;
         let mut first = 0usize;
         let mut place = leaf as usize;
         for _level in 0..self.height {
-            path.push(self.hashes[first + sibling(place)])?;
+            add_hash(&mut path, self.hashes[first + sibling(place)]);
             first = leaves + first / 2;
             place /= 2;
         }
-        Ok(path)
+        path
     }
+}
 
-    // A leaf's one-time signature. Where memory was refused its key is let go unused.
-    fn spend(&self, leaf: u32, digest: &[u8; 32]) -> Result<OneTimeSignature, AllocError>
-        ensures shown { IfOk result
-            (λ s. s.shown.items ≡ shown_secrets (leaf_key self.now.master leaf) digest.now) }
-        ensures other { IfOk result
-            (λ s. s.other.items ≡ other_hashes (leaf_key self.now.master leaf) digest.now) }
-    {
-        match OneTimeKey::new(self.master, leaf).sign(*self.hashes.allocator(), digest) {
-            Ok(signature) => Ok(signature),
-            Err(AllocFailed { value }) => {
-                value.discard();
-                Err(AllocError)
-            }
-        }
-    }
+/// Appends a hash, for which there is room.
+fn add_hash(path: &mut Vec<[u8; 32]>, hash: [u8; 32])
+    requires { vec_len path.old < vec_capacity path.old }
+    ensures items { path.new.items ≡ path.old.items ++ hash ∷ [] }
+    ensures len { vec_len path.new ≡ vec_len path.old + 1 }
+    ensures capacity { vec_capacity path.old ≤ vec_capacity path.new }
+{
+    path.push(hash).unwrap();
 }
 
 /// The last of a tree's hashes.

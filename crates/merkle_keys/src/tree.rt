@@ -5,7 +5,7 @@ ghost use Rattle.merkle_keys.specs.Tree.{inner_hash, sibling, parent_hash, path_
 ghost use Rattle.merkle_keys.specs.StoredTree.{HoldsLeaves, HoldsTree};
 
 use crate::signature::MAX_HEIGHT;
-use lamport::OneTimeKey;
+use lamport::LeafKeys;
 use sha2::{Digest, Sha256};
 use std::alloc::{AllocError, Global};
 
@@ -68,29 +68,26 @@ fn parent_hash(place: u32, own: &[u8; 32], other: &[u8; 32]) -> [u8; 32]
 /// All hashes of a tree with so many leaves, level after level, the leaves first.
 pub(crate) fn tree_hashes(
     alloc: Global,
-    master: [u8; 32],
+    keys: &LeafKeys,
     leaves: u32,
 ) -> Result<Vec<[u8; 32]>, AllocError>
     requires some { 1 ≤ leaves }
     requires few { leaves ≤ 2 ^ MAX_HEIGHT }
-    ensures { IfOk result (λ v. HoldsTree master leaves (leaves - 1) v.items) }
+    ensures { IfOk result (λ v. HoldsTree keys.now.master leaves (leaves - 1) v.items) }
 {
-    let mut hashes = leaf_hashes(alloc, master, leaves)?;
+    let mut hashes = leaf_hashes(alloc, keys, leaves)?;
     add_inner_hashes(&mut hashes, leaves as usize)?;
     Ok(hashes)
 }
 
 /// The leaves' hashes, with room for those above them.
-fn leaf_hashes(alloc: Global, master: [u8; 32], leaves: u32) -> Result<Vec<[u8; 32]>, AllocError>
+fn leaf_hashes(alloc: Global, keys: &LeafKeys, leaves: u32) -> Result<Vec<[u8; 32]>, AllocError>
     requires few { leaves ≤ 2 ^ MAX_HEIGHT }
-    ensures { IfOk result (λ v. HoldsLeaves master leaves v.items) }
+    ensures { IfOk result (λ v. HoldsLeaves keys.now.master leaves v.items) }
 {
     let mut hashes = Vec::with_capacity(alloc, 2 * leaves as usize)?;
     for leaf in 0..leaves {
-        let key = OneTimeKey::new(master, leaf);
-        let hash = key.leaf_hash();
-        key.discard();
-        hashes.push(hash)?;
+        hashes.push(keys.leaf_hash(leaf))?;
     }
     Ok(hashes)
 }

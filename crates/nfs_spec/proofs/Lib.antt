@@ -3,3 +3,4 @@ pub mod Lookups
 pub mod Present
 pub mod OpeningTree
 pub mod Pages
+pub mod ReaddirCalls

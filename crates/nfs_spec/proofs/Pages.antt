@@ -5,7 +5,7 @@ use Rattle.std.proofs.lemmas.Bool.{ltb-true, ltb-false, lt-ltb, le-ltb, leb-true
 use Rattle.std.proofs.lemmas.List.Sums.{sum_by-cons}
 use Rattle.fs_model.specs.Listing.{Listing, IsRising}
 use Rattle.fs_model.specs.Files.{Files}
-use Rattle.nfs_spec.specs.Readdir.{DirEntry, cost, longest_front, page_of, last_cookie, pages, entries_above, RisesAbove, IsLongestFront, dir_entries}
+use Rattle.nfs_spec.specs.Readdir.{PageEntry, cost, longest_front, page_of, last_cookie, pages, entries_above, RisesAbove, IsLongestFront, dir_entries}
 
 list_head : {A : Type 0} {x y : A} {xs ys : List A} → x ∷ xs ≡ y ∷ ys → x ≡ y
 list_head h = cc
@@ -16,7 +16,7 @@ list_tail h = cc
 no_cons : {A : Type 0} {x : A} {xs : List A} → [] ≡ x ∷ xs → ⊥
 no_cons h = cc
 
-pub longest : (count : ℕ) (es : List DirEntry) → IsLongestFront count es (longest_front count es)
+pub longest : (count : ℕ) (es : List PageEntry) → IsLongestFront count es (longest_front count es)
 longest count [] = record { rest = []; splits = refl; fits = omega arith; longest = λ e more h. absurd (no_cons h) }
 longest count (e ∷ es) = by (leb (cost e) count) refl (longest (count - cost e) es)
   where
@@ -35,24 +35,24 @@ longest count (e ∷ es) = by (leb (cost e) count) refl (longest (count - cost e
     }
 
 -- all are above what the first is above
-all_above : (c low : ℕ) (es : List DirEntry) → c ≤ low → RisesAbove low es → entries_above c es ≡ es
+pub all_above : (c low : ℕ) (es : List PageEntry) → c ≤ low → RisesAbove low es → entries_above c es ≡ es
 all_above c low [] le up = refl
 all_above c low (e ∷ es) le up =
     cond-true _ _ _ (lt-ltb c e.cookie (omega (arith, le, up.0))) ∙ ap (λ l. e ∷ l) (all_above c e.cookie es (omega (arith, le, up.0)) up.1)
 
-first_above : (c : ℕ) (es : List DirEntry) (e : DirEntry) (more : List DirEntry) → entries_above c es ≡ e ∷ more → c < e.cookie
+first_above : (c : ℕ) (es : List PageEntry) (e : PageEntry) (more : List PageEntry) → entries_above c es ≡ e ∷ more → c < e.cookie
 first_above c [] e more h = absurd (no_cons h)
 first_above c (g ∷ gs) e more h = elim (ltb c g.cookie) as (λ b. ltb c g.cookie ≡ b → cond b (g ∷ entries_above c gs) (entries_above c gs) ≡ e ∷ more → c < e.cookie) [
-  | true ↦ λ is k. let same = ap (λ (x : DirEntry). x.cookie) (list_head k) in omega (arith, same, ltb-true c g.cookie is)
+  | true ↦ λ is k. let same = ap (λ (x : PageEntry). x.cookie) (list_head k) in omega (arith, same, ltb-true c g.cookie is)
   | false ↦ λ is k. first_above c gs e more k
 ] refl h
 
 -- above the first that is above are the others that are
-next_above : (low c : ℕ) (es : List DirEntry) → RisesAbove low es → (e : DirEntry) (more : List DirEntry) → entries_above c es ≡ e ∷ more → entries_above e.cookie es ≡ more
+next_above : (low c : ℕ) (es : List PageEntry) → RisesAbove low es → (e : PageEntry) (more : List PageEntry) → entries_above c es ≡ e ∷ more → entries_above e.cookie es ≡ more
 next_above low c [] up e more h = absurd (no_cons h)
 next_above low c (g ∷ gs) up e more h = elim (ltb c g.cookie) as (λ b. ltb c g.cookie ≡ b → cond b (g ∷ entries_above c gs) (entries_above c gs) ≡ e ∷ more → entries_above e.cookie (g ∷ gs) ≡ more) [
   | true ↦ λ is k.
-      let same : g.cookie ≡ e.cookie = ap (λ (x : DirEntry). x.cookie) (list_head k) in
+      let same : g.cookie ≡ e.cookie = ap (λ (x : PageEntry). x.cookie) (list_head k) in
       let above = ltb-true c g.cookie is in
       cond-false _ _ _ (le-ltb e.cookie g.cookie (omega (arith, same)))
       ∙ all_above e.cookie g.cookie gs (omega (arith, same)) up.1 ∙ sym (all_above c g.cookie gs (omega (arith, above)) up.1) ∙ list_tail k
@@ -63,22 +63,23 @@ next_above low c (g ∷ gs) up e more h = elim (ltb c g.cookie) as (λ b. ltb c 
 ] refl h
 
 -- what is behind a front is above its last cookie
-behind : (low : ℕ) (es : List DirEntry) → RisesAbove low es → (c : ℕ) (some rest : List DirEntry) → entries_above c es ≡ some ++ rest → entries_above (last_cookie c some) es ≡ rest
+behind : (low : ℕ) (es : List PageEntry) → RisesAbove low es → (c : ℕ) (some rest : List PageEntry) → entries_above c es ≡ some ++ rest → entries_above (last_cookie c some) es ≡ rest
 behind low es up c [] rest h = h
 behind low es up c (e ∷ some) rest h = behind low es up e.cookie some rest (next_above low c es up e (some ++ rest) h)
 
-last-append : (c : ℕ) (some rest : List DirEntry) → last_cookie c (some ++ rest) ≡ last_cookie (last_cookie c some) rest
+-- the last cookie of two lists, one after the other
+pub last-append : (c : ℕ) (some rest : List PageEntry) → last_cookie c (some ++ rest) ≡ last_cookie (last_cookie c some) rest
 last-append c [] rest = refl
 last-append c (e ∷ some) rest = last-append e.cookie some rest
 
 -- a page, and then what is above its last cookie
-one_page : (low : ℕ) (es : List DirEntry) → RisesAbove low es → (c count : ℕ)
+one_page : (low : ℕ) (es : List PageEntry) → RisesAbove low es → (c count : ℕ)
     → entries_above c es ≡ (page_of c count es).entries ++ entries_above (last_cookie c (page_of c count es).entries) es
 one_page low es up c count =
     let l = longest (min count 8192) (entries_above c es) in
     l.splits ∙ ap (λ r. (page_of c count es).entries ++ r) (sym (behind low es up c (page_of c count es).entries l.rest l.splits))
 
-pub each_once : (low : ℕ) (es : List DirEntry) → RisesAbove low es → (counts : List ℕ) (c : ℕ)
+pub each_once : (low : ℕ) (es : List PageEntry) → RisesAbove low es → (counts : List ℕ) (c : ℕ)
     → entries_above c es ≡ pages counts c es ++ entries_above (last_cookie c (pages counts c es)) es
 each_once low es up [] c = refl
 each_once low es up (count ∷ counts) c =
@@ -93,7 +94,7 @@ no_length [] h = refl
 no_length (x ∷ xs) h = absurd (omega arith)
 
 -- eof is that none is above the last cookie
-pub eof_is : (low : ℕ) (es : List DirEntry) → RisesAbove low es → (c count : ℕ)
+pub eof_is : (low : ℕ) (es : List PageEntry) → RisesAbove low es → (c count : ℕ)
     → ((page_of c count es).eof ≡ true) ↔ (entries_above (last_cookie c (page_of c count es).entries) es ≡ [])
 eof_is low es up c count =
     let p = (page_of c count es).entries in

@@ -6,6 +6,8 @@ use Rattle.nfs_types.specs.Timeval.{Timeval}
 use Rattle.nfs_types.specs.Caller.{Caller}
 use Rattle.nfs_types.specs.declared.stat.Stat.{Stat}
 use Rattle.nfs_types.specs.declared.stat.Stat.TheVariants as stats
+use Rattle.fs_model.specs.Names.{Name}
+use Rattle.fs_model.specs.Listing.{FileNumber}
 use Rattle.fs_model.specs.Files.{Body, Regular, Symlink, Directory, File, Files, names_of}
 use Rattle.fs_changes.specs.Edits.{with_changed_file, without_file, without_name}
 use Rattle.nfs_spec.specs.ProcedureChecks.{◌>>=◌, check, check_size, bytes_of, owns, may_write}
@@ -21,14 +23,14 @@ Effect A = Result (A × Files) Stat
 abbrev pub with_mtime : Timeval → File → File
 with_mtime now f = record f { mtime = now; ctime = now }
 
-abbrev pub touch : Timeval → Files → ℕ → Files
+abbrev pub touch : Timeval → Files → FileNumber → Files
 touch now fs dir = with_changed_file fs dir (with_mtime now)
 
 -- ctime is now
 abbrev pub with_ctime : Timeval → File → File
 with_ctime now f = record f { ctime = now }
 
-abbrev pub touch_ctime : Timeval → Files → ℕ → Files
+abbrev pub touch_ctime : Timeval → Files → FileNumber → Files
 touch_ctime now fs n = with_changed_file fs n (with_ctime now)
 
 -- ---- bytes
@@ -47,13 +49,15 @@ with_bytes_at offset new bytes = with_length offset bytes ++ (new ++ drop (offse
 abbrev pub is_in_group : Caller → ℕ → Bool
 is_in_group who gid = (who.gid == gid) || list_any (λ g. g == gid) who.gids
 
--- PERM: mode and times are set by the owner and uid 0; uid by uid 0, or the same by the owner; gid by uid 0, or
--- the same or one of its own groups by the owner
+-- PERM: mode and times are set by the owner and uid 0; uid by uid 0, or the same by the owner; gid by uid 0,
+-- or the same or one of its own groups by the owner
 abbrev pub check_owner : Caller → File → GivenFields → Result (Unit {0}) Stat
 check_owner who f a = do
-  _ ← check (owns who f || (who.uid == 0) || (is_none a.mode && is_none a.atime && is_none a.mtime)) stats.Perm
+  _ ← check (owns who f || (who.uid == 0) || (is_none a.mode && is_none a.atime && is_none a.mtime))
+      stats.Perm
   _ ← check (option_map_or (λ uid. (who.uid == 0) || (owns who f && (uid == f.uid))) a.uid true) stats.Perm
-  check (option_map_or (λ gid. (who.uid == 0) || (owns who f && ((gid == f.gid) || is_in_group who gid))) a.gid true) stats.Perm
+  check (option_map_or (λ gid. (who.uid == 0) || (owns who f && ((gid == f.gid) || is_in_group who gid))) a.gid true)
+      stats.Perm
 
 -- a given size: ISDIR, or NXIO for a link; ACCES without write permission; FBIG
 abbrev pub check_resize : Caller → File → Option ℕ → Result (Unit {0}) Stat
@@ -96,10 +100,13 @@ new_file who now a mode body = record {
 -- ---- names
 
 -- the files after a name of a number went: where it was the last the number is gone, else its ctime is now
-abbrev pub after_unlink : Bool → Timeval → Files → ℕ → Files
-after_unlink is_last now left n =
-    record { fsid = left.fsid; next = left.next; files = if is_last then (without_file left n).files else (touch_ctime now left n).files }
+abbrev pub after_unlink : Bool → Timeval → Files → FileNumber → Files
+after_unlink is_last now left n = record left {
+  files = if is_last then (without_file left n).files else (touch_ctime now left n).files;
+}
 
 -- a name of a number goes
-abbrev pub unlink : Timeval → Files → ℕ → List ℕ → ℕ → Files
-unlink now fs dir name n = let left = without_name fs dir name in after_unlink (names_of left n == 0) now left n
+abbrev pub unlink : Timeval → Files → FileNumber → Name → FileNumber → Files
+unlink now fs dir name n =
+    let left = without_name fs dir name in
+    after_unlink (names_of left n == 0) now left n

@@ -1,44 +1,44 @@
--- What each procedure does (RFC 1094, section 2.2): its result, and the files after it. The stat is that of the
--- first check that fails, in the order written, and then the files are as before.
-use Rattle.std.specs.Prelude.{ℕ, List, Option, Some, None, Result, Ok, Err, option_map, nat_eq, if◌then◌else◌}
+-- What each procedure does (RFC 1094, section 2.2): its result, and the files after it. The stat is that of
+-- the first check that fails, in the order written, and then the files are as before.
+use Rattle.std.specs.Prelude.{Option, Some, None, Result, Ok, Err, option_map, nat_eq, if◌then◌else◌}
 use Rattle.std.specs.Cmp.Lexicographic.{pointwise}
 use Rattle.nfs_types.specs.Timeval.{Timeval}
 use Rattle.nfs_types.specs.Caller.{Caller}
-use Rattle.nfs_types.specs.Handle.{handle_of}
+use Rattle.nfs_types.specs.Handle.{FileHandle, handle_of}
 use Rattle.nfs_types.specs.Arguments.{Arguments, Null, Getattr, Lookup}
 use Rattle.nfs_types.specs.Results.{Results, Attributes, DirOp}
 use Rattle.nfs_types.specs.Results as results
 use Rattle.nfs_types.specs.declared.attributes.Fattr.{Fattr}
 use Rattle.nfs_types.specs.declared.stat.Stat.{Stat}
 use Rattle.nfs_types.specs.declared.stat.Stat.TheVariants as stats
-use Rattle.fs_model.specs.Listing.{Listing, entry_at}
-use Rattle.fs_model.specs.Names.{dot, dot_dot, is_name}
+use Rattle.fs_model.specs.Names.{Name, dot, dot_dot, is_name}
+use Rattle.fs_model.specs.Listing.{FileNumber, Listing, place_number, entry_at}
 use Rattle.fs_model.specs.Files.{Files, parent_of}
 use Rattle.nfs_spec.specs.ProcedureChecks.{◌>>=◌, ok_or, file_of, number_of, listing_or, may_search}
 use Rattle.nfs_spec.specs.FileAttributes.{attributes_of}
 
 -- ---- of a file number
 
-abbrev pub attributes_at : Files → ℕ → Result Fattr Stat
+abbrev pub attributes_at : Files → FileNumber → Result Fattr Stat
 attributes_at fs n = do
   f ← file_of fs n
   Ok (attributes_of fs n f)
 
--- the number that a name stands for in a directory, by its own number, the one above and what it lists: `.` is itself,
--- and `..` the directory above
-abbrev pub number_in_listing : ℕ → ℕ → Listing → List ℕ → Option ℕ
+-- the number that a name stands for in a directory, by its own number, the one above and what it lists: `.` is
+-- itself, and `..` the directory above
+abbrev pub number_in_listing : FileNumber → FileNumber → Listing → Name → Option FileNumber
 number_in_listing own above l name =
     if pointwise nat_eq name dot then Some own
     else if pointwise nat_eq name dot_dot then Some above
-    else if is_name name then option_map (λ e. e.0) (entry_at l name)
+    else if is_name name then option_map place_number (entry_at l name)
     else None
 
 -- of files: the directory above the root is the root
-abbrev pub number_named : Files → ℕ → Listing → List ℕ → Option ℕ
+abbrev pub number_named : Files → FileNumber → Listing → Name → Option FileNumber
 number_named fs dir l name = number_in_listing dir (parent_of fs dir) l name
 
 -- STALE, NOTDIR; search permission, else ACCES; NOENT
-abbrev pub number_at_name : Files → Caller → ℕ → List ℕ → Result ℕ Stat
+abbrev pub number_at_name : Files → Caller → FileNumber → Name → Result FileNumber Stat
 number_at_name fs who dir name = do
   f ← file_of fs dir
   l ← listing_or stats.NotDir f.body
@@ -47,13 +47,13 @@ number_at_name fs who dir name = do
 -- ---- of a file handle
 
 -- GETATTR (section 2.2.2)
-abbrev pub getattr : Files → List ℕ → Result Fattr Stat
+abbrev pub getattr : Files → FileHandle → Result Fattr Stat
 getattr fs file = do
   n ← number_of fs file
   attributes_at fs n
 
 -- LOOKUP (section 2.2.5)
-abbrev pub lookup : Files → Caller → List ℕ → List ℕ → Result (List ℕ × Fattr) Stat
+abbrev pub lookup : Files → Caller → FileHandle → Name → Result (FileHandle × Fattr) Stat
 lookup fs who dir name = do
   d ← number_of fs dir
   n ← number_at_name fs who d name

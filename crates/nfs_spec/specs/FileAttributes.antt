@@ -5,7 +5,7 @@ use Rattle.std.proofs.Common.{false}
 use Rattle.nfs_types.specs.declared.attributes.FileType.{FileType}
 use Rattle.nfs_types.specs.declared.attributes.FileType.TheVariants as types
 use Rattle.nfs_types.specs.declared.attributes.Fattr.{Fattr}
-use Rattle.fs_model.specs.Listing.{Listing}
+use Rattle.fs_model.specs.Listing.{FileNumber, Listing, entry_number}
 use Rattle.fs_model.specs.Files.{Body, Regular, Symlink, Directory, File, Files, file_at, is_directory, names_of}
 
 abbrev pub type_of : Body → FileType
@@ -13,21 +13,21 @@ type_of (Regular bytes) = types.Regular
 type_of (Symlink target) = types.Link
 type_of (Directory l) = types.Directory
 
--- the bits of a mode that tell the type: directory 0040000, regular 0100000, link 0120000
+-- the bits of a mode that tell the type
 abbrev pub type_bits : Body → ℕ
-type_bits (Regular bytes) = 32768
-type_bits (Symlink target) = 40960
-type_bits (Directory l) = 16384
+type_bits (Regular bytes) = 0o100000
+type_bits (Symlink target) = 0o120000
+type_bits (Directory l) = 0o040000
 
 -- whether a number is a directory's
-abbrev pub is_directory_at : Files → ℕ → Bool
+abbrev pub is_directory_at : Files → FileNumber → Bool
 is_directory_at fs n = option_map_or (λ f. is_directory f.body) (file_at fs n) false
 
 abbrev pub subdirectories : Files → Listing → ℕ
-subdirectories fs l = count_by (λ e. is_directory_at fs e.1.0) l.entries
+subdirectories fs l = count_by (λ e. is_directory_at fs (entry_number e)) l.entries
 
--- a file or link has its names; a directory two, and its subdirectories
-abbrev pub nlink_of : Files → ℕ → Body → ℕ
+-- a regular file or symbolic link has its names; a directory two, and its subdirectories
+abbrev pub nlink_of : Files → FileNumber → Body → ℕ
 nlink_of fs n (Regular bytes) = names_of fs n
 nlink_of fs n (Symlink target) = names_of fs n
 nlink_of fs n (Directory l) = 2 + subdirectories fs l
@@ -38,7 +38,7 @@ size_of (Regular bytes) = length bytes
 size_of (Symlink target) = length target
 size_of (Directory l) = 512
 
-abbrev pub attributes_of : Files → ℕ → File → Fattr
+abbrev pub attributes_of : Files → FileNumber → File → Fattr
 attributes_of fs n f = record {
   file_type = type_of f.body;
   mode = type_bits f.body + f.mode;

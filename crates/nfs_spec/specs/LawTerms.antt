@@ -1,27 +1,29 @@
 -- What the laws of effects speak of.
-use Rattle.std.specs.Prelude.{◌≡◌, ℕ, List, Option, Some, None, IsTrue, Result, Ok, Err}
+use Rattle.std.specs.Prelude.{◌≡◌, Option, Some, None, IsTrue, Result, Ok, Err}
 use Rattle.nfs_types.specs.Caller.{Caller}
-use Rattle.nfs_types.specs.Handle.{number_in, handle_of}
+use Rattle.nfs_types.specs.Handle.{FileHandle, number_in, handle_of}
 use Rattle.nfs_types.specs.Results.{Results, Null, Attributes, DirOp}
 use Rattle.nfs_types.specs.declared.attributes.Fattr.{Fattr}
 use Rattle.nfs_types.specs.declared.stat.Stat.{Stat}
 use Rattle.nfs_types.specs.declared.stat.Stat.TheVariants as stats
+use Rattle.fs_model.specs.Names.{FilePath}
+use Rattle.fs_model.specs.Listing.{FileNumber, Cookie, place_number}
 use Rattle.fs_model.specs.Paths.{path_at}
 use Rattle.fs_model.specs.Files.{File, Files, file_at, is_directory, places}
 use Rattle.nfs_spec.specs.ProcedureChecks.{◌>>=◌, ok_or, may_search}
 use Rattle.nfs_spec.specs.Effects.{attributes_at}
 
 -- a path's file handle and attributes, NOENT where it leads nowhere
-abbrev pub lookup_at_path : Files → List (List ℕ) → Result (List ℕ × Fattr) Stat
+abbrev pub lookup_at_path : Files → FilePath → Result (FileHandle × Fattr) Stat
 lookup_at_path fs path = do
   e ← ok_or stats.NoEnt (path_at (places fs) path)
-  a ← attributes_at fs e.0
-  Ok (handle_of fs.fsid e.0, a)
+  a ← attributes_at fs (place_number e)
+  Ok (handle_of fs.fsid (place_number e), a)
 
 -- a file handle is that of the directory at a path, which the caller may search
-pub record IsSearchable (fs : Files) (who : Caller) (handle : List ℕ) (path : List (List ℕ)) : Type 0 where
-  pub number : ℕ
-  pub cookie : ℕ
+pub record IsSearchable (fs : Files) (who : Caller) (handle : FileHandle) (path : FilePath) : Type 0 where
+  pub number : FileNumber
+  pub cookie : Cookie
   pub file : File
   pub named : number_in fs.fsid handle ≡ Some number
   pub reached : path_at (places fs) path ≡ Some (number, cookie)

@@ -2,11 +2,12 @@
 use Rattle.std.specs.Prelude.{ℕ, ◌*◌, ◌==◌, ◌||◌, ◌&&◌, nat_lt, nat_le, bit_and, option_map, is_none, Bool, List, Option, Some, None, Result, Ok, Err, if◌then◌else◌}
 use Rattle.std.specs.List.{list_any}
 use Rattle.nfs_types.specs.Caller.{Caller}
-use Rattle.nfs_types.specs.Handle.{number_in}
+use Rattle.nfs_types.specs.Handle.{FileHandle, number_in}
 use Rattle.nfs_types.specs.declared.stat.Stat.{Stat}
 use Rattle.nfs_types.specs.declared.stat.Stat.TheVariants as stats
-use Rattle.fs_model.specs.Listing.{Listing, entry_at}
-use Rattle.fs_model.specs.Names.{is_name}
+use Rattle.fs_model.specs.Maxima.{max_file_size, max_number}
+use Rattle.fs_model.specs.Names.{Name, is_name}
+use Rattle.fs_model.specs.Listing.{FileNumber, Listing, place_number, entry_at}
 use Rattle.fs_changes.specs.Limits.{has_room}
 use Rattle.fs_model.specs.Files.{Body, Regular, Symlink, Directory, File, Files, file_at}
 
@@ -22,11 +23,11 @@ ok_or e None = Err e
 ok_or e (Some x) = Ok x
 
 -- a file of a number: STALE where there is none
-abbrev pub file_of : Files → ℕ → Result File Stat
+abbrev pub file_of : Files → FileNumber → Result File Stat
 file_of fs n = ok_or stats.Stale (file_at fs n)
 
 -- the number that a file handle names here: STALE where it names none
-abbrev pub number_of : Files → List ℕ → Result ℕ Stat
+abbrev pub number_of : Files → FileHandle → Result FileNumber Stat
 number_of fs handle = ok_or stats.Stale (number_in fs.fsid handle)
 
 abbrev pub listing_or : Stat → Body → Result Listing Stat
@@ -38,7 +39,10 @@ listing_or e (Directory l) = Ok l
 
 -- the class's bits, as a factor of the bits of others: the owner's, the group's or those of others
 abbrev pub class_of : Caller → File → ℕ
-class_of who f = if who.uid == f.uid then 64 else if (who.gid == f.gid) || list_any (λ g. g == f.gid) who.gids then 8 else 1
+class_of who f =
+    if who.uid == f.uid then 0o100
+    else if (who.gid == f.gid) || list_any (λ g. g == f.gid) who.gids then 0o010
+    else 0o001
 
 -- read is 4, write 2, execute or search 1
 abbrev pub permits : Caller → File → ℕ → Bool
@@ -65,15 +69,15 @@ check b e = if b then Ok tt else Err e
 
 -- a number within a limit
 abbrev pub check_size : ℕ → Result (Unit {0}) Stat
-check_size size = check (nat_le size 1048576) stats.FBig
+check_size size = check (nat_le size max_file_size) stats.FBig
 
 -- Room
 abbrev pub check_room : Files → Result (Unit {0}) Stat
 check_room fs = check (has_room fs) stats.NoSpc
 
--- Room for a cookie: NOSPC where a directory would give one above 4294967294
+-- Room for a cookie: NOSPC where a directory would give one above the greatest
 abbrev pub check_cookie : Listing → Result (Unit {0}) Stat
-check_cookie l = check (nat_le l.next 4294967294) stats.NoSpc
+check_cookie l = check (nat_le l.next max_number) stats.NoSpc
 
 -- the bytes of a regular file: ISDIR, NXIO
 abbrev pub bytes_of : Body → Result (List ℕ) Stat
@@ -89,27 +93,27 @@ target_of (Directory l) = Err stats.NxIo
 
 -- a directory with its number
 pub record NumberedDir : Type 0 where
-  pub number : ℕ
+  pub number : FileNumber
   pub file : File
   pub listing : Listing
 
 -- Dir: STALE, then NOTDIR
-abbrev pub dir_of : Files → ℕ → Result NumberedDir Stat
+abbrev pub dir_of : Files → FileNumber → Result NumberedDir Stat
 dir_of fs n = do
   f ← file_of fs n
   l ← listing_or stats.NotDir f.body
   Ok (record { number = n; file = f; listing = l })
 
 -- Edit: the name rule, then search and write permission in that directory, else ACCES
-abbrev pub check_edit : Caller → NumberedDir → List ℕ → Result (Unit {0}) Stat
+abbrev pub check_edit : Caller → NumberedDir → Name → Result (Unit {0}) Stat
 check_edit who d name = do
   _ ← check (is_name name) stats.Acces
   check (may_search who d.file && may_write who d.file) stats.Acces
 
 -- what a name stands for: NOENT
-abbrev pub number_at : NumberedDir → List ℕ → Result ℕ Stat
-number_at d name = ok_or stats.NoEnt (option_map (λ e. e.0) (entry_at d.listing name))
+abbrev pub number_at : NumberedDir → Name → Result FileNumber Stat
+number_at d name = ok_or stats.NoEnt (option_map place_number (entry_at d.listing name))
 
 -- a name is free: EXIST
-abbrev pub check_free : NumberedDir → List ℕ → Result (Unit {0}) Stat
+abbrev pub check_free : NumberedDir → Name → Result (Unit {0}) Stat
 check_free d name = check (is_none (entry_at d.listing name)) stats.Exist

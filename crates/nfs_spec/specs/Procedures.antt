@@ -1,5 +1,5 @@
--- What each procedure does to numbered files (RFC 1094, section 2.2): its checks in the order written, each with
--- its stat, then its effect.
+-- What each procedure does to numbered files (RFC 1094, section 2.2): its checks in the order written, each
+-- with its stat, then its effect.
 use Rattle.std.specs.Prelude.{ℕ, zero, suc, ◌+◌, ◌-◌, ◌==◌, ◌||◌, ◌&&◌, not, Bool, true, false, List, [], take, drop, length, replicate, min, Option, Some, None, Result, Ok, option_map, is_some, unwrap_or, if◌then◌else◌}
 use Rattle.std.specs.Option.{option_map_or}
 use Rattle.nfs_types.specs.Timeval.{Timeval}
@@ -7,8 +7,9 @@ use Rattle.nfs_types.specs.Caller.{Caller}
 use Rattle.nfs_types.specs.declared.attributes.Fattr.{Fattr}
 use Rattle.nfs_types.specs.declared.stat.Stat.{Stat}
 use Rattle.nfs_types.specs.declared.stat.Stat.TheVariants as stats
-use Rattle.fs_model.specs.Listing.{entry_at}
-use Rattle.fs_model.specs.Names.{is_name}
+use Rattle.fs_model.specs.Maxima.{max_data, max_blocks}
+use Rattle.fs_model.specs.Names.{Name, is_name}
+use Rattle.fs_model.specs.Listing.{FileNumber, Cookie, place_number, entry_at}
 use Rattle.fs_model.specs.Files.{Body, Regular, Symlink, Directory, File, Files, is_directory, listing_in, parent_of}
 use Rattle.fs_changes.specs.Edits.{with_new_file, with_changed_file, with_name, without_name}
 use Rattle.fs_changes.specs.Limits.{block_count, file_count}
@@ -19,7 +20,7 @@ use Rattle.nfs_spec.specs.Changes.{Effect, touch, touch_ctime, with_mtime, with_
 use Rattle.nfs_spec.specs.Readdir.{Page, dir_entries, page_of}
 
 -- SETATTR (section 2.2.3)
-abbrev pub set_attributes : Files → Caller → Timeval → ℕ → GivenFields → Effect (Unit {0})
+abbrev pub set_attributes : Files → Caller → Timeval → FileNumber → GivenFields → Effect (Unit {0})
 set_attributes fs who now n a = do
   f ← file_of fs n
   _ ← check_owner who f a
@@ -29,24 +30,26 @@ set_attributes fs who now n a = do
   Ok (tt, after)
 
 -- READLINK (section 2.2.6)
-abbrev pub read_link : Files → ℕ → Result (List ℕ) Stat
+abbrev pub read_link : Files → FileNumber → Result (List ℕ) Stat
 read_link fs n = do
   f ← file_of fs n
   target_of f.body
 
--- READ (section 2.2.7): at most count and 8192 bytes from the offset, none past the end
-abbrev pub read : Files → Caller → ℕ → ℕ → ℕ → Result (Fattr × List ℕ) Stat
+-- READ (section 2.2.7): at most count and MAXDATA bytes from the offset, none past the end
+abbrev pub read : Files → Caller → FileNumber → ℕ → ℕ → Result (Fattr × List ℕ) Stat
 read fs who n offset count = do
   f ← file_of fs n
   bytes ← bytes_of f.body
   _ ← check (may_read who f || permits who f 1) stats.Acces
-  Ok (attributes_of fs n f, take (min count 8192) (drop offset bytes))
+  Ok (attributes_of fs n f, take (min count max_data) (drop offset bytes))
 
+-- with bytes written at an offset
 abbrev pub with_bytes_written : Timeval → ℕ → List ℕ → List ℕ → File → File
-with_bytes_written now offset new old f = with_mtime now (record f { body = Regular (with_bytes_at offset new old) })
+with_bytes_written now offset new old f =
+    with_mtime now (record f { body = Regular (with_bytes_at offset new old) })
 
 -- WRITE (section 2.2.9): of no bytes, nothing changes
-abbrev pub write : Files → Caller → Timeval → ℕ → ℕ → List ℕ → Effect (Unit {0})
+abbrev pub write : Files → Caller → Timeval → FileNumber → ℕ → List ℕ → Effect (Unit {0})
 write fs who now n offset new = do
   f ← file_of fs n
   old ← bytes_of f.body
@@ -58,7 +61,7 @@ write fs who now n offset new = do
     Ok (tt, after)
 
 -- a new file with a name
-abbrev pub add_file : Timeval → Files → ℕ → List ℕ → File → Files
+abbrev pub add_file : Timeval → Files → FileNumber → Name → File → Files
 add_file now fs dir name f = touch now (with_name (with_new_file fs f) dir name fs.next) dir
 
 abbrev pub is_regular : Body → Bool
@@ -67,32 +70,34 @@ is_regular (Symlink target) = false
 is_regular (Directory l) = false
 
 -- CREATE of a name that is there: EXIST unless regular, else as SETATTR
-abbrev pub create_over : Files → Caller → Timeval → GivenFields → ℕ → Effect ℕ
+abbrev pub create_over : Files → Caller → Timeval → GivenFields → FileNumber → Effect FileNumber
 create_over fs who now a n = do
   f ← file_of fs n
   _ ← check (is_regular f.body) stats.Exist
   after ← set_attributes fs who now n a
   Ok (n, after.1)
 
--- CREATE of a new name: write permission in the directory, else ACCES; FBIG; Room
-abbrev pub create_new : Files → Caller → Timeval → NumberedDir → List ℕ → GivenFields → Effect ℕ
+-- CREATE of a new name: write permission in the directory, else ACCES; FBIG; Room; mode or 0644
+abbrev pub create_new : Files → Caller → Timeval → NumberedDir → Name → GivenFields → Effect FileNumber
 create_new fs who now d name a = do
   _ ← check (may_write who d.file) stats.Acces
   _ ← check_size (unwrap_or a.size 0)
-  let after = add_file now fs d.number name (new_file who now a 420 (Regular (replicate (unwrap_or a.size 0) 0)))
+  let zeros = replicate (unwrap_or a.size 0) 0
+  let after = add_file now fs d.number name (new_file who now a 0o644 (Regular zeros))
   _ ← check_room after
   Ok (fs.next, after)
 
 -- CREATE (section 2.2.10)
-abbrev pub create : Files → Caller → Timeval → ℕ → List ℕ → GivenFields → Effect ℕ
+abbrev pub create : Files → Caller → Timeval → FileNumber → Name → GivenFields → Effect FileNumber
 create fs who now dir name a = do
   d ← dir_of fs dir
   _ ← check (is_name name) stats.Acces
   _ ← check (may_search who d.file) stats.Acces
-  option_map_or (λ e. create_over fs who now a e.0) (entry_at d.listing name) (create_new fs who now d name a)
+  option_map_or (λ e. create_over fs who now a (place_number e)) (entry_at d.listing name)
+      (create_new fs who now d name a)
 
 -- a new file that needs Edit, a free name and Room
-abbrev pub make : Files → Caller → Timeval → ℕ → List ℕ → File → Effect ℕ
+abbrev pub make : Files → Caller → Timeval → FileNumber → Name → File → Effect FileNumber
 make fs who now dir name f = do
   d ← dir_of fs dir
   _ ← check_edit who d name
@@ -102,15 +107,17 @@ make fs who now dir name f = do
   Ok (fs.next, after)
 
 -- MKDIR (section 2.2.15): mode or 0755
-abbrev pub make_dir : Files → Caller → Timeval → ℕ → List ℕ → GivenFields → Effect ℕ
-make_dir fs who now dir name a = make fs who now dir name (new_file who now a 493 (Directory (record { next = 3; entries = [] })))
+abbrev pub make_dir : Files → Caller → Timeval → FileNumber → Name → GivenFields → Effect FileNumber
+make_dir fs who now dir name a =
+    make fs who now dir name (new_file who now a 0o755 (Directory (record { next = 3; entries = [] })))
 
 -- SYMLINK (section 2.2.14): mode 0777, the caller's, and all times now
-abbrev pub symlink : Files → Caller → Timeval → ℕ → List ℕ → List ℕ → Effect ℕ
-symlink fs who now dir name target = make fs who now dir name (new_file who now no_fields 511 (Symlink target))
+abbrev pub symlink : Files → Caller → Timeval → FileNumber → Name → List ℕ → Effect FileNumber
+symlink fs who now dir name target =
+    make fs who now dir name (new_file who now no_fields 0o777 (Symlink target))
 
 -- LINK (section 2.2.13)
-abbrev pub link : Files → Caller → Timeval → ℕ → ℕ → List ℕ → Effect (Unit {0})
+abbrev pub link : Files → Caller → Timeval → FileNumber → FileNumber → Name → Effect (Unit {0})
 link fs who now from dir name = do
   f ← file_of fs from
   _ ← check (not (is_directory f.body)) stats.IsDir
@@ -122,7 +129,7 @@ link fs who now from dir name = do
   Ok (tt, after)
 
 -- REMOVE (section 2.2.11)
-abbrev pub remove : Files → Caller → Timeval → ℕ → List ℕ → Effect (Unit {0})
+abbrev pub remove : Files → Caller → Timeval → FileNumber → Name → Effect (Unit {0})
 remove fs who now dir name = do
   d ← dir_of fs dir
   _ ← check_edit who d name
@@ -132,7 +139,7 @@ remove fs who now dir name = do
   Ok (tt, touch now (unlink now fs dir name n) dir)
 
 -- RMDIR (section 2.2.16)
-abbrev pub remove_dir : Files → Caller → Timeval → ℕ → List ℕ → Effect (Unit {0})
+abbrev pub remove_dir : Files → Caller → Timeval → FileNumber → Name → Effect (Unit {0})
 remove_dir fs who now dir name = do
   d ← dir_of fs dir
   _ ← check_edit who d name
@@ -143,17 +150,17 @@ remove_dir fs who now dir name = do
   Ok (tt, touch now (unlink now fs dir name n) dir)
 
 -- whether a number is a directory or above it, in at most as many steps up as the first number says
-abbrev pub climbs_to : ℕ → Files → ℕ → ℕ → Bool
+abbrev pub climbs_to : ℕ → Files → FileNumber → FileNumber → Bool
 climbs_to zero fs upper dir = upper == dir
 climbs_to (suc k) fs upper dir = (upper == dir) || climbs_to k fs upper (parent_of fs dir)
 
 -- no way up is longer than there are files
-abbrev pub is_above : Files → ℕ → ℕ → Bool
+abbrev pub is_above : Files → FileNumber → FileNumber → Bool
 is_above fs upper dir = climbs_to (file_count fs) fs upper dir
 
 -- what stands at the new name goes as it may: a directory over another kind is NOTDIR, another kind over a
 -- directory ISDIR, and a directory that is not empty NOTEMPTY
-abbrev pub check_target : Files → File → Option ℕ → Result (Unit {0}) Stat
+abbrev pub check_target : Files → File → Option FileNumber → Result (Unit {0}) Stat
 check_target fs f None = Ok tt
 check_target fs f (Some n) = do
   t ← file_of fs n
@@ -162,16 +169,20 @@ check_target fs f (Some n) = do
   check (length (listing_in t.body).entries == 0) stats.NotEmpty
 
 -- the target goes as by REMOVE or RMDIR
-abbrev pub unlink_target : Timeval → Files → ℕ → List ℕ → Option ℕ → Files
-unlink_target now fs dir name target = record { fsid = fs.fsid; next = fs.next; files = option_map_or (λ n. (unlink now fs dir name n).files) target fs.files }
+abbrev pub unlink_target : Timeval → Files → FileNumber → Name → Option FileNumber → Files
+unlink_target now fs dir name target =
+    record fs { files = option_map_or (λ n. (unlink now fs dir name n).files) target fs.files }
 
 -- the entry comes last in its new directory, with a new cookie
-abbrev pub move_entry : Timeval → Files → ℕ → ℕ → List ℕ → ℕ → List ℕ → Option ℕ → Files
+abbrev pub move_entry :
+    Timeval → Files → FileNumber → FileNumber → Name → FileNumber → Name → Option FileNumber → Files
 move_entry now fs n from from_name to to_name target =
-    touch now (touch now (touch_ctime now (with_name (without_name (unlink_target now fs to to_name target) from from_name) to to_name n) n) from) to
+    let left = without_name (unlink_target now fs to to_name target) from from_name in
+    let moved = with_name left to to_name n in
+    touch now (touch now (touch_ctime now moved n) from) to
 
 -- RENAME (section 2.2.12); where the target is the same file, nothing changes
-abbrev pub rename : Files → Caller → Timeval → ℕ → List ℕ → ℕ → List ℕ → Effect (Unit {0})
+abbrev pub rename : Files → Caller → Timeval → FileNumber → Name → FileNumber → Name → Effect (Unit {0})
 rename fs who now from from_name to to_name = do
   d ← dir_of fs from
   e ← dir_of fs to
@@ -179,7 +190,7 @@ rename fs who now from from_name to to_name = do
   _ ← check_edit who e to_name
   n ← number_at d from_name
   f ← file_of fs n
-  let target = option_map (λ e. e.0) (entry_at e.listing to_name)
+  let target = option_map place_number (entry_at e.listing to_name)
   let after = move_entry now fs n from from_name to to_name target
   if option_map_or (λ t. t == n) target false then Ok (tt, fs) else do
     _ ← check (not (is_directory f.body && is_above fs n to)) stats.Acces
@@ -188,13 +199,13 @@ rename fs who now from from_name to to_name = do
     Ok (tt, after)
 
 -- READDIR (section 2.2.17)
-abbrev pub read_dir : Files → Caller → ℕ → ℕ → ℕ → Result Page Stat
+abbrev pub read_dir : Files → Caller → FileNumber → Cookie → ℕ → Result Page Stat
 read_dir fs who n cookie count = do
   d ← dir_of fs n
   _ ← check (may_read who d.file) stats.Acces
   Ok (page_of cookie count (dir_entries fs n d.listing))
 
--- STATFS (section 2.2.18): in blocks, free is what regular files leave
+-- what STATFS answers (section 2.2.18): sizes in bytes, and counts of blocks of the second
 pub record FsStats : Type 0 where
   pub transfer_size : ℕ
   pub block_size : ℕ
@@ -202,7 +213,14 @@ pub record FsStats : Type 0 where
   pub free : ℕ
   pub available : ℕ
 
-abbrev pub stat_fs : Files → ℕ → Result FsStats Stat
+-- STATFS (section 2.2.18): free is what regular files leave
+abbrev pub stat_fs : Files → FileNumber → Result FsStats Stat
 stat_fs fs n = do
   f ← file_of fs n
-  Ok (record { transfer_size = 8192; block_size = 512; blocks = 32768; free = 32768 - block_count fs; available = 32768 - block_count fs })
+  Ok (record {
+    transfer_size = max_data;
+    block_size = 512;
+    blocks = max_blocks;
+    free = max_blocks - block_count fs;
+    available = max_blocks - block_count fs;
+  })

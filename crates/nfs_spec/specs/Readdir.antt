@@ -1,66 +1,72 @@
 -- READDIR's listing (RFC 1094, section 2.2.17).
 use Rattle.std.specs.Prelude.{ℕ, ◌+◌, ◌-◌, ◌*◌, ◌/◌, nat_le, nat_lt, min, Bool, List, [], ◌∷◌, ◌++◌, ◌≡◌, ◌<◌, ◌≤◌, length, map, sum_by, ◌==◌, if◌then◌else◌}
 use Rattle.std.specs.List.{filter}
-use Rattle.fs_model.specs.Listing.{Listing}
-use Rattle.fs_model.specs.Names.{dot, dot_dot}
+use Rattle.fs_model.specs.Maxima.{max_data}
+use Rattle.fs_model.specs.Names.{Name, dot, dot_dot}
+use Rattle.fs_model.specs.Listing.{FileNumber, Cookie, DirEntry, Listing, entry_name, entry_number, entry_cookie}
 use Rattle.fs_model.specs.Files.{Files, parent_of}
 
-pub record DirEntry : Type 0 where
-  pub fileid : ℕ
-  pub name : List ℕ
-  pub cookie : ℕ
+pub record PageEntry : Type 0 where
+  pub fileid : FileNumber
+  pub name : Name
+  pub cookie : Cookie
+
+abbrev pub page_entry : DirEntry → PageEntry
+page_entry e = record { fileid = entry_number e; name = entry_name e; cookie = entry_cookie e }
 
 -- `.` and `..`, then the entries in order of insertion
-abbrev pub dir_entries : Files → ℕ → Listing → List DirEntry
+abbrev pub dir_entries : Files → FileNumber → Listing → List PageEntry
 dir_entries fs dir l =
     record { fileid = dir; name = dot; cookie = 1 }
     ∷ record { fileid = parent_of fs dir; name = dot_dot; cookie = 2 }
-    ∷ map (λ (e : List ℕ × (ℕ × ℕ)). record { fileid = e.1.0; name = e.0; cookie = e.1.1 }) l.entries
+    ∷ map page_entry l.entries
 
--- 16 and the padded name
-abbrev pub cost : DirEntry → ℕ
+-- the bytes that an entry takes of the count: 16 and the padded name
+abbrev pub cost : PageEntry → ℕ
 cost e = 16 + 4 * ((length e.name + 3) / 4)
 
 -- the longest front whose costs add up to at most the count
-abbrev pub longest_front : ℕ → List DirEntry → List DirEntry
+abbrev pub longest_front : ℕ → List PageEntry → List PageEntry
 longest_front count [] = []
 longest_front count (e ∷ es) = if nat_le (cost e) count then e ∷ longest_front (count - cost e) es else []
 
 -- the entries of a page, and whether none is left
 pub record Page : Type 0 where
-  pub entries : List DirEntry
+  pub entries : List PageEntry
   pub eof : Bool
 
-abbrev pub page_of : ℕ → ℕ → List DirEntry → Page
+abbrev pub page_of : Cookie → ℕ → List PageEntry → Page
 page_of cookie count es =
     let above = filter (λ e. nat_lt cookie e.cookie) es in
-    let entries = longest_front (min count 8192) above in
+    let entries = longest_front (min count max_data) above in
     record { entries = entries; eof = length entries == length above }
 
 -- ---- one page after the other
 
 -- the cookie of the last entry
-abbrev pub last_cookie : ℕ → List DirEntry → ℕ
+abbrev pub last_cookie : Cookie → List PageEntry → Cookie
 last_cookie cookie [] = cookie
 last_cookie cookie (e ∷ es) = last_cookie e.cookie es
 
 -- what pages of these counts give, each from the last cookie of the one before
-abbrev pub pages : List ℕ → ℕ → List DirEntry → List DirEntry
+abbrev pub pages : List ℕ → Cookie → List PageEntry → List PageEntry
 pages [] cookie es = []
-pages (count ∷ counts) cookie es = (page_of cookie count es).entries ++ pages counts (last_cookie cookie (page_of cookie count es).entries) es
+pages (count ∷ counts) cookie es =
+    (page_of cookie count es).entries
+    ++ pages counts (last_cookie cookie (page_of cookie count es).entries) es
 
 -- the entries above a cookie
-abbrev pub entries_above : ℕ → List DirEntry → List DirEntry
+abbrev pub entries_above : Cookie → List PageEntry → List PageEntry
 entries_above cookie es = filter (λ e. nat_lt cookie e.cookie) es
 
 -- cookies rise, all above the first
-abbrev pub RisesAbove : ℕ → List DirEntry → Type 0
+abbrev pub RisesAbove : Cookie → List PageEntry → Type 0
 RisesAbove low [] = Unit {0}
 RisesAbove low (e ∷ es) = (low < e.cookie) × RisesAbove e.cookie es
 
 -- the longest front of a list whose costs add up to at most the count
-pub record IsLongestFront (count : ℕ) (es page : List DirEntry) : Type 0 where
-  pub rest : List DirEntry
+pub record IsLongestFront (count : ℕ) (es page : List PageEntry) : Type 0 where
+  pub rest : List PageEntry
   pub splits : es ≡ page ++ rest
   pub fits : sum_by cost page ≤ count
-  pub longest : (e : DirEntry) (more : List DirEntry) → rest ≡ e ∷ more → count < sum_by cost page + cost e
+  pub longest : (e : PageEntry) (more : List PageEntry) → rest ≡ e ∷ more → count < sum_by cost page + cost e

@@ -10,17 +10,24 @@ pub record Sattr : Type 0 where
   pub atime : Timeval
   pub mtime : Timeval
 
+-- the word of all ones
+abbrev pub all_ones : ℕ
+all_ones = 0xffff_ffff
+
 -- a word of all ones is ignored
 abbrev pub given_word : ℕ → Option ℕ
-given_word n = if n == 4294967295 then None else Some n
+given_word n = if n == all_ones then None else Some n
 
 -- a mode is ignored at 0000ffff too, and of another the low twelve bits are meant
 abbrev pub given_mode : ℕ → Option ℕ
-given_mode n = if (n == 4294967295) || (n == 65535) then None else Some (n % 4096)
+given_mode n = if (n == all_ones) || (n == 0xffff) then None else Some (n % 0o10000)
 
 -- a time is ignored where its seconds are all ones; with microseconds above 999,999 it is the clock reading
 abbrev pub given_time : Timeval → Timeval → Option Timeval
-given_time now t = if t.seconds == 4294967295 then None else if nat_lt 999999 t.microseconds then Some now else Some t
+given_time now t =
+    if t.seconds == all_ones then None
+    else if nat_lt 999_999 t.microseconds then Some now
+    else Some t
 
 -- what is given
 pub record GivenFields : Type 0 where
@@ -42,7 +49,8 @@ given_fields now s = record {
 }
 
 abbrev pub gives_any : GivenFields → Bool
-gives_any a = is_some a.mode || is_some a.uid || is_some a.gid || is_some a.size || is_some a.atime || is_some a.mtime
+gives_any a =
+    is_some a.mode || is_some a.uid || is_some a.gid || is_some a.size || is_some a.atime || is_some a.mtime
 
 -- nothing is given
 abbrev pub no_fields : GivenFields

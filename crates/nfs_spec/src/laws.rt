@@ -3,7 +3,7 @@
 ghost use Rattle.std.specs.Prelude.{◌≡◌, ◌≢◌, ◌↔◌, min, true, [], ◌∷◌, ◌++◌, List, ℕ, Some, Ok, Err, IsTrue, IsSome};
 ghost use Rattle.nfs_types.specs.Timeval.{Timeval};
 ghost use Rattle.nfs_types.specs.Caller.{Caller, nobody};
-ghost use Rattle.nfs_types.specs.Handle.{number_in, handle_of};
+ghost use Rattle.nfs_types.specs.Handle.{FileHandle, number_in, handle_of};
 ghost use Rattle.nfs_types.specs.Arguments.{Arguments, Null, Getattr, Lookup};
 ghost use Rattle.nfs_types.specs.declared.stat.Stat.{Stat};
 ghost use Rattle.nfs_types.specs.declared.stat.Stat.TheVariants as stats;
@@ -14,7 +14,8 @@ ghost use Rattle.fs_model.specs.Files.{Files, file_at};
 ghost use Rattle.fs_model.specs.Trees.{IsFileTree};
 ghost use Rattle.fs_changes.specs.Limits.{has_room};
 ghost use Rattle.nfs_spec.specs.Effects.{does, getattr, lookup};
-ghost use Rattle.nfs_spec.specs.Readdir.{DirEntry, dir_entries, page_of, pages, last_cookie, entries_above, RisesAbove, IsLongestFront};
+ghost use Rattle.nfs_spec.specs.Readdir.{PageEntry, dir_entries, page_of, pages, last_cookie, entries_above, RisesAbove, IsLongestFront};
+ghost use Rattle.nfs_spec.specs.ReaddirCalls.{Lists, readdir_page, readdir_gives};
 ghost use Rattle.nfs_spec.specs.Opening.{epoch, hello, opening_files};
 ghost use Rattle.nfs_spec.specs.LawTerms.{lookup_at_path, IsSearchable, stat_of};
 
@@ -111,17 +112,31 @@ pub fn opening_files_are_a_tree()
     ensures room { (fsid : ℕ) → IsTrue (has_room (opening_files fsid)) }
 {}
 
-/// READDIR's pages, each from the last cookie of the one before, give each entry once and in order; eof says that
-/// none is left; and a page is the longest front whose costs fit.
+/// READDIR's pages, each from the last cookie of the one before, give each entry once and in order; eof says
+/// that none is left; and a page is the longest front whose costs fit.
 pub fn pages_give_each_entry_once()
-    ensures once { (es : List DirEntry) → RisesAbove 0 es → (counts : List ℕ) (cookie : ℕ) →
+    ensures once { (es : List PageEntry) → RisesAbove 0 es → (counts : List ℕ) (cookie : ℕ) →
         entries_above cookie es
         ≡ pages counts cookie es ++ entries_above (last_cookie cookie (pages counts cookie es)) es }
-    ensures eof { (es : List DirEntry) → RisesAbove 0 es → (cookie count : ℕ) →
+    ensures eof { (es : List PageEntry) → RisesAbove 0 es → (cookie count : ℕ) →
         (((page_of cookie count es).eof ≡ true)
         ↔ (entries_above (last_cookie cookie (page_of cookie count es).entries) es ≡ [])) }
-    ensures longest { (es : List DirEntry) (cookie count : ℕ) →
+    ensures longest { (es : List PageEntry) (cookie count : ℕ) →
         IsLongestFront (min count 8192) (entries_above cookie es) (page_of cookie count es).entries }
     ensures rising { (fs : Files) (dir : ℕ) (l : Listing) →
         IsRising 3 l.entries l.next → RisesAbove 0 (dir_entries fs dir l) }
+{}
+
+/// Calls of READDIR of a directory that the caller may read, each from the last cookie of the one before, give the
+/// front of the listing, each entry once and in order, and what is left is above the last cookie; with a call that
+/// answers eof they have given the whole.
+pub fn readdir_gives_the_listing_once()
+    ensures front { (fs : Files) (who : Caller) (now : Timeval) (dir : FileHandle) (es : List PageEntry) →
+        IsFileTree fs → Lists fs who dir es → (counts : List ℕ) →
+        es ≡ readdir_gives fs who now dir 0 counts
+        ++ entries_above (last_cookie 0 (readdir_gives fs who now dir 0 counts)) es }
+    ensures whole { (fs : Files) (who : Caller) (now : Timeval) (dir : FileHandle) (es : List PageEntry) →
+        IsFileTree fs → Lists fs who dir es → (counts : List ℕ) (count : ℕ) →
+        (readdir_page fs who now dir (last_cookie 0 (readdir_gives fs who now dir 0 counts)) count).eof ≡ true →
+        readdir_gives fs who now dir 0 (counts ++ count ∷ []) ≡ es }
 {}

@@ -18,7 +18,7 @@ use Rattle.fs_model.proofs.Walks.{none_some}
 use Rattle.nfs_spec.specs.ProcedureChecks.{file_of}
 use Rattle.nfs_spec.specs.Effects.{getattr, lookup}
 use Rattle.nfs_spec.specs.LawTerms.{stat_in}
-use Rattle.nfs_spec.specs.Readdir.{DirEntry, Page}
+use Rattle.nfs_spec.specs.Readdir.{PageEntry, Page}
 use Rattle.nfs_spec.specs.Procedures.{FsStats, read_link, read, read_dir, stat_fs}
 use Rattle.nfs_spec.specs.NfsCalls as calls
 use Rattle.nfs_spec.specs.NfsCalls.{Call, Answer, number_for, call_does}
@@ -70,12 +70,12 @@ of_dir_op r fits = record { fits = outcome_fits (pair fhandle fattr) pair_value 
 of_status : (r : Result (Unit {0}) Stat) → IsSpelled (calls.Status r)
 of_status r = record { fits = outcome_fits empty (λ x. x) r (λ x h. tt); cookies = tt }
 
-entries_fit : (es : List DirEntry) → AllByRecursion EntryFits es
+entries_fit : (es : List PageEntry) → AllByRecursion EntryFits es
     → AllByRecursion (Fits entry) (map entry_value es)
 entries_fit [] a = tt
 entries_fit (e ∷ es) a = ((a.0.fileid, ((omega (arith, a.0.name), a.0.name), length-bytes_high_first 4 e.cookie)), entries_fit es a.1)
 
-cookies_fit : (es : List DirEntry) → AllByRecursion EntryFits es
+cookies_fit : (es : List PageEntry) → AllByRecursion EntryFits es
     → AllByRecursion (λ c. c < 2 ^ 32) (map (λ e. e.cookie) es)
 cookies_fit [] a = tt
 cookies_fit (e ∷ es) a = (a.0.cookie, cookies_fit es a.1)

@@ -23,7 +23,7 @@ use Rattle.fs_changes.proofs.Finite.{total_without}
 use Rattle.fs_changes.proofs.Listings.{name_self}
 use Rattle.fs_changes.proofs.Room.{AllCookies, IsWithin}
 use Rattle.nfs_spec.specs.FileAttributes.{type_of, type_bits, nlink_of, size_of, is_directory_at, attributes_of}
-use Rattle.nfs_spec.specs.Readdir.{DirEntry, dir_entries, cost, longest_front, page_of}
+use Rattle.nfs_spec.specs.Readdir.{PageEntry, dir_entries, cost, longest_front, page_of}
 use Rattle.nfs_spec_sizes.specs.Bounds.{AreWords}
 
 -- ---- stats
@@ -141,7 +141,7 @@ low_cookies low (e ∷ es) high h = (omega (arith, at_most (e.1.1 + 1) es high h
     at_most low (e ∷ es) high h = omega (arith, h.0, at_most (e.1.1 + 1) es high h.1)
 
 -- an entry of a page fits
-pub record EntryFits (e : DirEntry) : Type 0 where
+pub record EntryFits (e : PageEntry) : Type 0 where
   -- its number is a word
   pub fileid : e.fileid < 2 ^ 32
   -- its name has at most MAXNAMLEN bytes
@@ -159,7 +159,7 @@ weaker : (es : List (List ℕ × (ℕ × ℕ))) (high : ℕ) → high ≤ 429496
 weaker [] high le a = tt
 weaker (e ∷ es) high le a = (omega (arith, le, a.0), weaker es high le a.1)
 
-all_front : (P : DirEntry → Type 0) (count : ℕ) (es : List DirEntry) → AllByRecursion P es
+all_front : (P : PageEntry → Type 0) (count : ℕ) (es : List PageEntry) → AllByRecursion P es
     → AllByRecursion P (longest_front count es)
 all_front P count [] a = tt
 all_front P count (e ∷ es) a = elim (nat_le (cost e) count) as (λ b. AllByRecursion P (cond b (e ∷ longest_front (count - cost e) es) [])) [
@@ -167,7 +167,7 @@ all_front P count (e ∷ es) a = elim (nat_le (cost e) count) as (λ b. AllByRec
   | false ↦ tt
 ]
 
-all_above : (P : DirEntry → Type 0) (test : DirEntry → Bool) (es : List DirEntry) → AllByRecursion P es
+all_above : (P : PageEntry → Type 0) (test : PageEntry → Bool) (es : List PageEntry) → AllByRecursion P es
     → AllByRecursion P (filter test es)
 all_above P test [] a = tt
 all_above P test (e ∷ es) a = elim (test e) as (λ b. AllByRecursion P (cond b (e ∷ filter test es) (filter test es))) [

@@ -12,8 +12,8 @@ ghost use Rattle.call_items.specs.Texts.{IsSpelled};
 ghost use Rattle.nfs_spec_sizes.specs.Bounds.{AreWords, SaysWords, HasWordsIn};
 
 /// Where the files are a tree that passes no limit, and their owners, groups and seconds and those that a
-/// call brings are words, they are words after it, and its answer has a spelling: names, targets, data, numbers,
-/// cookies and counts are within their bounds.
+/// call brings are words, they are words after it, and its answer has a spelling: names, targets, data,
+/// numbers, cookies and counts are within their bounds.
 pub fn answers_have_a_spelling()
     ensures words { (fs : Files) (who : Caller) (now : Timeval) (call : Call) →
         AreWords fs → SaysWords who now → HasWordsIn call → AreWords (call_does fs who now call).1 }

@@ -4,7 +4,9 @@ use Rattle.std.specs.Prelude.{◌≡◌, ◌≢◌, ◌⊎◌, ℕ, ◌+◌, ◌
 use Rattle.std.specs.Prelude.{Some, None, option_map, Ok, unwrap_or, if◌then◌else◌}
 use Rattle.nfs_types.specs.Timeval.{Timeval}
 use Rattle.nfs_types.specs.Caller.{Caller}
-use Rattle.fs_model.specs.Names.{is_name}
+use Rattle.fs_model.specs.Listing.{FileNumber, Cookie}
+use Rattle.fs_model.specs.Maxima.{max_file_size, max_number}
+use Rattle.fs_model.specs.Names.{Name, is_name}
 use Rattle.fs_model.specs.Files.{Regular, Symlink, Directory, File, Files, file_at, is_directory, listing_in, listing, places}
 use Rattle.fs_changes.specs.Edits.{with_changed_file, with_name}
 use Rattle.fs_changes.specs.Limits.{has_room}
@@ -16,14 +18,14 @@ use Rattle.nfs_spec.specs.Procedures.{set_attributes, with_bytes_written, add_fi
 -- ---- directories
 
 -- a directory was found under a number
-pub record IsFound (fs : Files) (n : ℕ) (d : NumberedDir) : Type 0 where
+pub record IsFound (fs : Files) (n : FileNumber) (d : NumberedDir) : Type 0 where
   pub number : d.number ≡ n
   pub there : file_at fs n ≡ Some d.file
   pub directory : is_directory d.file.body ≡ true
   pub listing : listing_in d.file.body ≡ d.listing
 
 -- a directory is there, a name may stand in it, and the caller may search it and write to it
-pub record MayEdit (fs : Files) (who : Caller) (dir : ℕ) (name : List ℕ) : Type 0 where
+pub record MayEdit (fs : Files) (who : Caller) (dir : FileNumber) (name : Name) : Type 0 where
   pub file : File
   pub there : file_at fs dir ≡ Some file
   pub directory : is_directory file.body ≡ true
@@ -38,10 +40,10 @@ pub record ResizeOk (who : Caller) (file : File) (size : ℕ) : Type 0 where
   pub bytes : List ℕ
   pub regular : file.body ≡ Regular bytes
   pub written : IsTrue (may_write who file)
-  pub fits : size ≤ 1048576
+  pub fits : size ≤ max_file_size
 
-pub record SetOk (fs : Files) (who : Caller) (now : Timeval) (n : ℕ) (a : GivenFields) (after : Files)
-    : Type 0 where
+pub record SetOk (fs : Files) (who : Caller) (now : Timeval) (n : FileNumber) (a : GivenFields)
+    (after : Files) : Type 0 where
   pub file : File
   pub there : file_at fs n ≡ Some file
   pub owner : check_owner who file a ≡ Ok tt
@@ -50,14 +52,14 @@ pub record SetOk (fs : Files) (who : Caller) (now : Timeval) (n : ℕ) (a : Give
   pub effect : after ≡ with_changed_file fs n (apply_fields now a)
 
 -- of no bytes nothing changes
-pub record WriteOk (fs : Files) (who : Caller) (now : Timeval) (n offset : ℕ) (new : List ℕ) (after : Files)
-    : Type 0 where
+pub record WriteOk (fs : Files) (who : Caller) (now : Timeval) (n : FileNumber) (offset : ℕ) (new : List ℕ)
+    (after : Files) : Type 0 where
   pub file : File
   pub old : List ℕ
   pub there : file_at fs n ≡ Some file
   pub regular : file.body ≡ Regular old
   pub written : IsTrue (may_write who file)
-  pub fits : new ≢ [] → offset + length new ≤ 1048576
+  pub fits : new ≢ [] → offset + length new ≤ max_file_size
   pub room : new ≢ [] → IsTrue (has_room after)
   pub effect :
       after ≡ (if length new == 0 then fs else with_changed_file fs n (with_bytes_written now offset new old))
@@ -66,36 +68,37 @@ pub record WriteOk (fs : Files) (who : Caller) (now : Timeval) (n offset : ℕ) 
 
 -- the file that CREATE makes: mode 0644, and zeros up to a given size
 abbrev pub new_regular : Caller → Timeval → GivenFields → File
-new_regular who now a = new_file who now a 420 (Regular (replicate (unwrap_or a.size 0) 0))
+new_regular who now a = new_file who now a 0o644 (Regular (replicate (unwrap_or a.size 0) 0))
 
 -- the directory that MKDIR makes: mode 0755, and no entries; the first cookie will be 3
 abbrev pub new_directory : Caller → Timeval → GivenFields → File
-new_directory who now a = new_file who now a 493 (Directory (record { next = 3; entries = [] }))
+new_directory who now a = new_file who now a 0o755 (Directory (record { next = 3; entries = [] }))
 
 -- the link that SYMLINK makes: mode 0777
 abbrev pub new_link : Caller → Timeval → List ℕ → File
-new_link who now target = new_file who now no_fields 511 (Symlink target)
+new_link who now target = new_file who now no_fields 0o777 (Symlink target)
 
 -- a file was made under the next number, with a name that was free
-pub record MakeOk (fs : Files) (who : Caller) (now : Timeval) (dir : ℕ) (name : List ℕ) (f : File)
-    (number : ℕ) (after : Files) : Type 0 where
+pub record MakeOk (fs : Files) (who : Caller) (now : Timeval) (dir : FileNumber) (name : Name) (f : File)
+    (number : FileNumber) (after : Files) : Type 0 where
   pub directory : MayEdit fs who dir name
   pub free : places fs dir name ≡ None
   pub room : IsTrue (has_room after)
   pub is_next : number ≡ fs.next
   pub effect : after ≡ add_file now fs dir name f
 
-abbrev pub MakeDirOk : Files → Caller → Timeval → ℕ → List ℕ → GivenFields → ℕ → Files → Type 0
+abbrev pub MakeDirOk : Files → Caller → Timeval → FileNumber → Name → GivenFields → FileNumber → Files
+    → Type 0
 MakeDirOk fs who now dir name a number after =
     MakeOk fs who now dir name (new_directory who now a) number after
 
-abbrev pub SymlinkOk : Files → Caller → Timeval → ℕ → List ℕ → List ℕ → ℕ → Files → Type 0
+abbrev pub SymlinkOk : Files → Caller → Timeval → FileNumber → Name → List ℕ → FileNumber → Files → Type 0
 SymlinkOk fs who now dir name target number after =
     MakeOk fs who now dir name (new_link who now target) number after
 
 -- CREATE of a name that is there did as SETATTR of its regular file
-pub record CreateOverOk (fs : Files) (who : Caller) (now : Timeval) (n : ℕ) (a : GivenFields) (number : ℕ)
-    (after : Files) : Type 0 where
+pub record CreateOverOk (fs : Files) (who : Caller) (now : Timeval) (n : FileNumber) (a : GivenFields)
+    (number : FileNumber) (after : Files) : Type 0 where
   pub file : File
   pub bytes : List ℕ
   pub there : file_at fs n ≡ Some file
@@ -105,23 +108,24 @@ pub record CreateOverOk (fs : Files) (who : Caller) (now : Timeval) (n : ℕ) (a
   pub set : SetOk fs who now n a after
 
 -- CREATE of a new name made a regular file whose size is within its limit, in bytes
-pub record CreateNewOk (fs : Files) (who : Caller) (now : Timeval) (dir : ℕ) (name : List ℕ) (a : GivenFields)
-    (number : ℕ) (after : Files) : Type 0 where
-  pub fits : unwrap_or a.size 0 ≤ 1048576
+pub record CreateNewOk (fs : Files) (who : Caller) (now : Timeval) (dir : FileNumber) (name : Name)
+    (a : GivenFields) (number : FileNumber) (after : Files) : Type 0 where
+  pub fits : unwrap_or a.size 0 ≤ max_file_size
   pub make : MakeOk fs who now dir name (new_regular who now a) number after
 
-pub record CreateOk (fs : Files) (who : Caller) (now : Timeval) (dir : ℕ) (name : List ℕ) (a : GivenFields)
-    (number : ℕ) (after : Files) : Type 0 where
+pub record CreateOk (fs : Files) (who : Caller) (now : Timeval) (dir : FileNumber) (name : Name)
+    (a : GivenFields) (number : FileNumber) (after : Files) : Type 0 where
   pub file : File
   pub there : file_at fs dir ≡ Some file
   pub directory : is_directory file.body ≡ true
   pub named : IsTrue (is_name name)
   pub searched : IsTrue (may_search who file)
   pub fresh : places fs dir name ≡ None → CreateNewOk fs who now dir name a number after
-  pub over : (n cookie : ℕ) → places fs dir name ≡ Some (n, cookie) → CreateOverOk fs who now n a number after
+  pub over : (n : FileNumber) (cookie : Cookie) → places fs dir name ≡ Some (n, cookie)
+      → CreateOverOk fs who now n a number after
 
-pub record LinkOk (fs : Files) (who : Caller) (now : Timeval) (from dir : ℕ) (name : List ℕ) (after : Files)
-    : Type 0 where
+pub record LinkOk (fs : Files) (who : Caller) (now : Timeval) (from dir : FileNumber) (name : Name)
+    (after : Files) : Type 0 where
   pub file : File
   pub there : file_at fs from ≡ Some file
   pub plain : is_directory file.body ≡ false
@@ -133,11 +137,11 @@ pub record LinkOk (fs : Files) (who : Caller) (now : Timeval) (from dir : ℕ) (
 -- ---- REMOVE, RMDIR
 
 -- a name of a directory, or of what is none, goes; what it stood for lists nothing
-pub record UnnameOk (of_directory : Bool) (fs : Files) (who : Caller) (now : Timeval) (dir : ℕ)
-    (name : List ℕ) (after : Files) : Type 0 where
+pub record UnnameOk (of_directory : Bool) (fs : Files) (who : Caller) (now : Timeval) (dir : FileNumber)
+    (name : Name) (after : Files) : Type 0 where
   pub directory : MayEdit fs who dir name
-  pub number : ℕ
-  pub cookie : ℕ
+  pub number : FileNumber
+  pub cookie : Cookie
   pub is_named : places fs dir name ≡ Some (number, cookie)
   pub file : File
   pub there : file_at fs number ≡ Some file
@@ -145,23 +149,23 @@ pub record UnnameOk (of_directory : Bool) (fs : Files) (who : Caller) (now : Tim
   pub empty : (listing_in file.body).entries ≡ []
   pub effect : after ≡ touch now (unlink now fs dir name number) dir
 
-abbrev pub RemoveOk : Files → Caller → Timeval → ℕ → List ℕ → Files → Type 0
+abbrev pub RemoveOk : Files → Caller → Timeval → FileNumber → Name → Files → Type 0
 RemoveOk fs who now dir name after = UnnameOk false fs who now dir name after
 
-abbrev pub RemoveDirOk : Files → Caller → Timeval → ℕ → List ℕ → Files → Type 0
+abbrev pub RemoveDirOk : Files → Caller → Timeval → FileNumber → Name → Files → Type 0
 RemoveDirOk fs who now dir name after = UnnameOk true fs who now dir name after
 
 -- ---- RENAME
 
 -- two names stand for one file
-abbrev pub IsSameFile : Files → ℕ → List ℕ → ℕ → List ℕ → Type 0
+abbrev pub IsSameFile : Files → FileNumber → Name → FileNumber → Name → Type 0
 IsSameFile fs from from_name to to_name =
-    (n : ℕ) × (b : ℕ) × (c : ℕ)
+    (n : FileNumber) × (b : Cookie) × (c : Cookie)
     × (places fs from from_name ≡ Some (n, b)) × (places fs to to_name ≡ Some (n, c))
 
 -- a file may take the place of another: that one lists nothing, and is a directory exactly where the first
 -- is one
-pub record MayReplace (fs : Files) (file : File) (n : ℕ) : Type 0 where
+pub record MayReplace (fs : Files) (file : File) (n : FileNumber) : Type 0 where
   pub other : File
   pub there : file_at fs n ≡ Some other
   pub kind : is_directory other.body ≡ is_directory file.body
@@ -169,22 +173,23 @@ pub record MayReplace (fs : Files) (file : File) (n : ℕ) : Type 0 where
 
 -- an entry moves, over what may stand at the new name; the file is not the directory that it goes to, nor
 -- above it
-pub record MoveOk (fs : Files) (now : Timeval) (from : ℕ) (from_name : List ℕ) (to : ℕ) (to_name : List ℕ)
-    (number : ℕ) (file : File) (after : Files) : Type 0 where
-  pub other : (cookie : ℕ) → places fs to to_name ≢ Some (number, cookie)
+pub record MoveOk (fs : Files) (now : Timeval) (from : FileNumber) (from_name : Name) (to : FileNumber)
+    (to_name : Name) (number : FileNumber) (file : File) (after : Files) : Type 0 where
+  pub other : (cookie : Cookie) → places fs to to_name ≢ Some (number, cookie)
   pub not_above : (is_directory file.body && is_above fs number to) ≡ false
-  pub replaces : (n cookie : ℕ) → places fs to to_name ≡ Some (n, cookie) → MayReplace fs file n
-  pub cookie : (listing fs to).next ≤ 4294967294
+  pub replaces : (n : FileNumber) (cookie : Cookie) → places fs to to_name ≡ Some (n, cookie)
+      → MayReplace fs file n
+  pub cookie : (listing fs to).next ≤ max_number
   pub effect :
       after
       ≡ move_entry now fs number from from_name to to_name (option_map (λ e. e.0) (places fs to to_name))
 
-pub record RenameOk (fs : Files) (who : Caller) (now : Timeval) (from : ℕ) (from_name : List ℕ) (to : ℕ)
-    (to_name : List ℕ) (after : Files) : Type 0 where
+pub record RenameOk (fs : Files) (who : Caller) (now : Timeval) (from : FileNumber) (from_name : Name)
+    (to : FileNumber) (to_name : Name) (after : Files) : Type 0 where
   pub source : MayEdit fs who from from_name
   pub target : MayEdit fs who to to_name
-  pub number : ℕ
-  pub cookie : ℕ
+  pub number : FileNumber
+  pub cookie : Cookie
   pub is_named : places fs from from_name ≡ Some (number, cookie)
   pub file : File
   pub there : file_at fs number ≡ Some file

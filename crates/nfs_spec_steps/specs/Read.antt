@@ -1,9 +1,11 @@
 -- What follows from the Ok of a procedure that only reads.
 use Rattle.std.specs.Prelude.{◌≡◌, ℕ, ◌||◌, IsTrue, List, take, drop, min, Some, Ok}
 use Rattle.nfs_types.specs.Caller.{Caller}
-use Rattle.nfs_types.specs.Handle.{number_in, handle_of}
+use Rattle.nfs_types.specs.Handle.{FileHandle, number_in, handle_of}
 use Rattle.nfs_types.specs.declared.attributes.Fattr.{Fattr}
-use Rattle.fs_model.specs.Listing.{Listing}
+use Rattle.fs_model.specs.Names.{Name}
+use Rattle.fs_model.specs.Maxima.{max_data}
+use Rattle.fs_model.specs.Listing.{FileNumber, Cookie, Listing}
 use Rattle.fs_model.specs.Files.{Regular, Symlink, Directory, File, Files, file_at}
 use Rattle.nfs_spec.specs.FileAttributes.{attributes_of}
 use Rattle.nfs_spec.specs.ProcedureChecks.{permits, may_read}
@@ -11,40 +13,42 @@ use Rattle.nfs_spec.specs.Effects.{number_at_name}
 use Rattle.nfs_spec.specs.Readdir.{Page, dir_entries, page_of}
 
 -- attributes are those of a file that is there
-pub record AttributesOk (fs : Files) (n : ℕ) (a : Fattr) : Type 0 where
+pub record AttributesOk (fs : Files) (n : FileNumber) (a : Fattr) : Type 0 where
   pub file : File
   pub there : file_at fs n ≡ Some file
   pub answer : a ≡ attributes_of fs n file
 
-pub record GetattrOk (fs : Files) (handle : List ℕ) (a : Fattr) : Type 0 where
-  pub number : ℕ
+pub record GetattrOk (fs : Files) (handle : FileHandle) (a : Fattr) : Type 0 where
+  pub number : FileNumber
   pub is_named : number_in fs.fsid handle ≡ Some number
   pub attributes : AttributesOk fs number a
 
-pub record LookupOk (fs : Files) (who : Caller) (dir name handle : List ℕ) (a : Fattr) : Type 0 where
-  pub dir_number : ℕ
+pub record LookupOk (fs : Files) (who : Caller) (dir : FileHandle) (name : Name) (handle : FileHandle)
+    (a : Fattr) : Type 0 where
+  pub dir_number : FileNumber
   pub dir_is_named : number_in fs.fsid dir ≡ Some dir_number
-  pub number : ℕ
+  pub number : FileNumber
   pub is_named : number_at_name fs who dir_number name ≡ Ok number
   pub answer : handle ≡ handle_of fs.fsid number
   pub attributes : AttributesOk fs number a
 
-pub record ReadLinkOk (fs : Files) (n : ℕ) (target : List ℕ) : Type 0 where
+pub record ReadLinkOk (fs : Files) (n : FileNumber) (target : List ℕ) : Type 0 where
   pub file : File
   pub there : file_at fs n ≡ Some file
   pub answer : file.body ≡ Symlink target
 
-pub record ReadOk (fs : Files) (who : Caller) (n offset count : ℕ) (a : Fattr) (part : List ℕ)
-    : Type 0 where
+pub record ReadOk (fs : Files) (who : Caller) (n : FileNumber) (offset count : ℕ) (a : Fattr)
+    (part : List ℕ) : Type 0 where
   pub file : File
   pub bytes : List ℕ
   pub there : file_at fs n ≡ Some file
   pub regular : file.body ≡ Regular bytes
   pub permitted : IsTrue (may_read who file || permits who file 1)
   pub attributes : a ≡ attributes_of fs n file
-  pub answer : part ≡ take (min count 8192) (drop offset bytes)
+  pub answer : part ≡ take (min count max_data) (drop offset bytes)
 
-pub record ReadDirOk (fs : Files) (who : Caller) (n cookie count : ℕ) (page : Page) : Type 0 where
+pub record ReadDirOk (fs : Files) (who : Caller) (n : FileNumber) (cookie : Cookie) (count : ℕ)
+    (page : Page) : Type 0 where
   pub file : File
   pub listing : Listing
   pub there : file_at fs n ≡ Some file

@@ -5,5 +5,4 @@ pub mod Removing
 pub mod Above
 pub mod EditRoom
 pub mod RenameRoom
-pub mod RoomBefore
 pub mod Renaming

@@ -1,5 +1,7 @@
 -- Numbers and cookies are never used again.
 use Rattle.std.specs.Prelude.{◌≡◌, ◌⊎◌, ℕ, ◌≤◌, List, Some, IsSome, IsTrue}
+use Rattle.fs_model.specs.Listing.{FileNumber, Cookie}
+use Rattle.fs_model.specs.Names.{Name}
 use Rattle.fs_model.specs.Files.{Files, file_at, listing, IsDirectory, places}
 use Rattle.fs_changes.specs.Limits.{has_room}
 use Rattle.fs_model.specs.Trees.{IsFileTree}
@@ -8,9 +10,11 @@ use Rattle.fs_model.specs.Trees.{IsFileTree}
 -- has a cookie that was not given in it before
 pub record GivesAnew (fs fs' : Files) : Type 0 where
   pub next : fs.next ≤ fs'.next
-  pub numbers : (n : ℕ) → IsSome (file_at fs' n) → IsSome (file_at fs n) ⊎ (fs.next ≤ n)
-  pub cookies : (n : ℕ) → IsDirectory fs n → IsDirectory fs' n → (listing fs n).next ≤ (listing fs' n).next
-  pub entries : (n : ℕ) (name : List ℕ) (k c : ℕ) → IsDirectory fs n → places fs' n name ≡ Some (k, c)
+  pub numbers : (n : FileNumber) → IsSome (file_at fs' n) → IsSome (file_at fs n) ⊎ (fs.next ≤ n)
+  pub cookies : (n : FileNumber) → IsDirectory fs n → IsDirectory fs' n
+      → (listing fs n).next ≤ (listing fs' n).next
+  pub entries : (n : FileNumber) (name : Name) (k : FileNumber) (c : Cookie) → IsDirectory fs n
+      → places fs' n name ≡ Some (k, c)
       → (places fs n name ≡ Some (k, c)) ⊎ ((listing fs n).next ≤ c)
 
 -- a tree follows in which numbers and cookies are given anew, and no limit is passed that was not

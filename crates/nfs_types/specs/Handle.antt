@@ -5,15 +5,19 @@ use Rattle.std.specs.Cmp.Lexicographic.{pointwise}
 use Rattle.byteorder.specs.Endian.{big_bytes, big_number}
 use Rattle.xdr.specs.Item.{Item, fixed}
 
+-- a file handle, by its bytes
+abbrev pub FileHandle : Type 0
+FileHandle = List ℕ
+
 abbrev pub fhandle : Item
 fhandle = fixed 32
 
 -- the file handle of a file number
-unfoldable pub handle_of : ℕ → ℕ → List ℕ
+unfoldable pub handle_of : ℕ → ℕ → FileHandle
 handle_of fsid number = big_bytes 4 fsid ++ (big_bytes 4 number ++ replicate 24 0)
 
 -- the file number of a handle, if it is this node's
-unfoldable pub number_in : ℕ → List ℕ → Option ℕ
+unfoldable pub number_in : ℕ → FileHandle → Option ℕ
 number_in fsid handle =
     if pointwise nat_eq handle (handle_of fsid (big_number 4 (drop 4 handle)))
     then Some (big_number 4 (drop 4 handle))

@@ -5,15 +5,27 @@ use Rattle.lamport.proofs.key.OneTimeKey.texts.Goals as goal
 
 pub loop-place-init : goal.loop-place-init
 loop-place-init c = record {
-  shown = rw shown_front_none c.in_ok-shown.ensures.items;
-  other = rw other_front_none c.in_ok-other.ensures.items;
+  shown = rw shown_front_none c.args.buffers.shown_room.0;
+  shown_len = c.args.buffers.shown_room.1;
+  shown_room = c.args.buffers.shown_room.2;
+  other = rw other_front_none c.args.buffers.other_room.0;
+  other_len = c.args.buffers.other_room.1;
+  other_room = c.args.buffers.other_room.2;
 }
 
 pub loop-place-preserved : goal.loop-place-preserved
-loop-place-preserved c = record {
-  shown = rw (shown_front_more, ← c.loop-place.invariant.shown, ← c.digest_bit-bit.ensures) c.in_ok-show.ensures.shown;
-  other = rw (other_front_more, ← c.loop-place.invariant.other, ← c.digest_bit-bit.ensures) c.in_ok-show.ensures.other;
-}
+loop-place-preserved c =
+    let so_far = c.loop-place.invariant in
+    let secret = rw c.digest_bit-bit.ensures at c.secret.ensures in
+    let hash = rw c.digest_bit-bit.ensures at c.hash.ensures in
+    record {
+      shown = rw (shown_front_more, ← so_far.shown, ← secret) c.add_32.ensures.items;
+      shown_len = omega (arith, c.add_32.ensures.len, so_far.shown_len);
+      shown_room = omega (arith, c.add_32.ensures.capacity, so_far.shown_room);
+      other = rw (other_front_more, ← so_far.other, ← hash) c.add_32-in-loop-place.ensures.items;
+      other_len = omega (arith, c.add_32-in-loop-place.ensures.len, so_far.other_len);
+      other_room = omega (arith, c.add_32-in-loop-place.ensures.capacity, so_far.other_room);
+    }
 
 pub returns-clause-shown : goal.returns-clause-shown
 returns-clause-shown c =

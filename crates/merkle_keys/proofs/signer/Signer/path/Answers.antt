@@ -12,6 +12,9 @@ overflow_add-first c =
     let low : c.sibling.result < 2 * half = rw c.sibling.ensures (sibling-lt c.loop-level.place half (omega (arith, c.loop-level.invariant.place))) in
     omega (arith, c.loop-level.invariant.first, c.leaf_count-leaves.ensures.few, c.leaf_count-leaves.ensures.leaves)
 
+pub add_hash-requires : goal.add_hash-requires
+add_hash-requires c = omega (arith, c.loop-level.invariant.len, c.loop-level.invariant.room, c.self.invariant.low)
+
 pub index-requires : goal.index-requires
 index-requires c =
     let double = above_level c.loop-level._level c.self.inside.height c.loop-level-test.true in
@@ -33,7 +36,9 @@ loop-level-preserved c =
     record {
       first = omega (arith, c.loop-level.invariant.first, c.leaf_count-leaves.ensures.leaves);
       place = omega (arith, low);
-      front = rw c.in_ok-push.ensures.items (authentication_path_more _ _ _ _ _ _ _ c.loop-level-test.true c.loop-level.invariant.front own);
+      front = rw c.add_hash.ensures.items (authentication_path_more _ _ _ _ _ _ _ c.loop-level-test.true c.loop-level.invariant.front own);
+      len = omega (arith, c.add_hash.ensures.len, c.loop-level.invariant.len);
+      room = omega (arith, c.add_hash.ensures.capacity, c.loop-level.invariant.room);
     }
 
 -- after all levels the path is whole

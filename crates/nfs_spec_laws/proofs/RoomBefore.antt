@@ -14,7 +14,7 @@ use Rattle.fs_changes.proofs.Finite.{nothing_changes, changed_next, changed_here
 use Rattle.fs_changes.proofs.Room.{count_new, count_changed, AllCookies, within, room, still_room}
 use Rattle.nfs_spec.specs.Changes.{touch, with_mtime, touch_ctime, with_ctime}
 use Rattle.nfs_spec.specs.Procedures.{add_file}
-use Rattle.nfs_spec_trees.specs.Room.{HasRoomToMake, HasRoomToLink}
+use Rattle.nfs_spec_laws.specs.Room.{HasRoomToMake, HasRoomToLink}
 use Rattle.nfs_spec_trees.proofs.FilesFit.{next_free}
 use Rattle.nfs_spec_trees.proofs.EditRoom.{touch_no_more, mark_no_more, free_in, named_needs, named_has}
 

@@ -1,5 +1,5 @@
-use Rattle.nfs_spec_trees.proofs.RoomBefore.{to_make, to_link, to_write}
-use Rattle.nfs_spec_trees.proofs.laws.room_is_told_before.Goals as goal
+use Rattle.nfs_spec_laws.proofs.RoomBefore.{to_make, to_link, to_write}
+use Rattle.nfs_spec_laws.proofs.laws.room_is_told_before.Goals as goal
 
 pub returns-clause-make : goal.returns-clause-make
 returns-clause-make c w now dir name d f tree before there is free empty low = to_make now w tree before dir name d there is free f empty low
