@@ -73,17 +73,45 @@ pub record Progress (now : World) (k : ℕ) (before mid written_before written :
 pub begins : (now : World) (before written : Option (List ℕ)) → now ≡ opening_world 1 → Progress now 1 before before written written
 begins now before written e = record { records = []; text = []; are_records = refl; count_is = refl; taken = Consumes-nil before; world_is = e; replied = Appends-nil written }
 
+-- a record was read: its text was at the front of what was left
+pub record ReadsRecord (mid mid' : Option (List ℕ)) (more r : List ℕ) : Type 0 where
+  -- the record's text
+  pub is_record : IsRecord more r
+  -- the reader has lost it
+  pub taken : Consumes mid mid' more
+
+-- its reply was not wholly written
+pub record FailsToAnswer (e : RecordFault) (reply : List ℕ) (written written' : Option (List ℕ)) : Type 0 where
+  -- the device took a beginning of it
+  pub device : (e ≡ faults.Device) → WritesFront written written' reply
+  -- or memory was refused, and nothing was written
+  pub memory : (e ≡ faults.NoMemory) → written' ≡ written
+  -- one of the two
+  pub is_either : (e ≡ faults.Device) ⊎ (e ≡ faults.NoMemory)
+
+-- the records so far and this one
+with_record : {now : World} {k : ℕ} {before mid mid' written_before written : Option (List ℕ)} {more r : List ℕ} (p : Progress now k before mid written_before written)
+    → ReadsRecord mid mid' more r → AreRecords (p.text ++ more) (p.records ++ r ∷ []) × Consumes before mid' (p.text ++ more)
+with_record {more = more} {r = r} p reads =
+    (AreRecords-push p.text p.records more r p.are_records reads.is_record, Consumes-trans _ _ _ _ _ p.taken reads.taken)
+
+-- what is owed to the records so far and this one
+owed_with_record : {now : World} {k : ℕ} {before mid written_before written : Option (List ℕ)} (p : Progress now k before mid written_before written)
+    (r reply : List ℕ) → record_of (reply_owed now (time_of k) r) ≡ reply → text_owed (p.records ++ r ∷ []) ≡ text_owed p.records ++ reply
+owed_with_record p r reply e = rw (text_owed-push p.records r, p.count_is, ← p.world_is) (ap (λ (t : List ℕ). text_owed p.records ++ t) e)
+
 -- one record more was read, and its reply written
-pub pushes : (now next : World) (k : ℕ) (before mid mid' written_before written written' : Option (List ℕ)) (more r : List ℕ) → Progress now k before mid written_before written
-    → IsRecord more r → Consumes mid mid' more → next ≡ world_after now (time_of k) r → Appends written written' (record_of (reply_owed now (time_of k) r)) → Progress next (k + 1) before mid' written_before written'
-pushes now next k before mid mid' written_before written written' more r p is taken e wrote = record {
+pub pushes : {now next : World} {k : ℕ} {before mid mid' written_before written written' : Option (List ℕ)} {more r : List ℕ}
+    → Progress now k before mid written_before written → ReadsRecord mid mid' more r → next ≡ world_after now (time_of k) r
+    → Appends written written' (record_of (reply_owed now (time_of k) r)) → Progress next (k + 1) before mid' written_before written'
+pushes {now = now} {k = k} {more = more} {r = r} p reads e wrote = record {
   records = p.records ++ r ∷ [];
   text = p.text ++ more;
-  are_records = AreRecords-push p.text p.records more r p.are_records is;
+  are_records = (with_record p reads).0;
   count_is = omega (arith, length-append p.records (r ∷ []), p.count_is);
-  taken = Consumes-trans _ _ _ _ _ p.taken taken;
+  taken = (with_record p reads).1;
   world_is = e ∙ ap (λ (w : World). world_after w (time_of k) r) p.world_is ∙ rw (← p.count_is) (sym (world_at-push p.records r));
-  replied = rw (text_owed-push p.records r, p.count_is, ← p.world_is) (Appends-trans _ _ _ _ _ p.replied wrote);
+  replied = rw (owed_with_record p r _ refl) (Appends-trans _ _ _ _ _ p.replied wrote);
 }
 
 -- ---- what was written, where the input is known
@@ -95,19 +123,19 @@ known (Some xs) None text P taken f = absurd taken
 known (Some xs) (Some ys) text P taken f = f xs ys refl taken
 
 -- a reply that was written in part
-falls_short : (now : World) (k : ℕ) (before mid mid' written_before written written' : Option (List ℕ)) (more r front unwritten : List ℕ) → Progress now k before mid written_before written
-    → IsRecord more r → Consumes mid mid' more → record_of (reply_owed now (time_of k) r) ≡ front ++ unwritten → Appends written written' front → IfSome before (λ input. ServesPart input written_before written')
-falls_short now k before mid mid' written_before written written' more r front unwritten p is taken e wrote =
-    known before mid' (p.text ++ more) (λ input. ServesPart input written_before written') (Consumes-trans _ _ _ _ _ p.taken taken) (λ input rest left is_input. record {
+falls_short : {now : World} {k : ℕ} {before mid mid' written_before written : Option (List ℕ)} {more r : List ℕ} (written' : Option (List ℕ)) → Progress now k before mid written_before written
+    → ReadsRecord mid mid' more r → WritesFront written written' (record_of (reply_owed now (time_of k) r)) → IfSome before (λ input. ServesPart input written_before written')
+falls_short {before = before} {mid' = mid'} {written_before = written_before} {more = more} {r = r} written' p reads wrote =
+    known before mid' (p.text ++ more) (λ input. ServesPart input written_before written') (with_record p reads).1 (λ input rest left is_input. record {
       records = p.records ++ r ∷ [];
       text = p.text ++ more;
       rest = rest;
-      are_records = AreRecords-push p.text p.records more r p.are_records is;
+      are_records = (with_record p reads).0;
       input_is = is_input;
-      front = text_owed p.records ++ front;
-      unwritten = unwritten;
-      owed_is = rw (text_owed-push p.records r, p.count_is, ← p.world_is) (ap (λ (t : List ℕ). text_owed p.records ++ t) e ∙ sym (append_assoc (text_owed p.records) front unwritten));
-      written = Appends-trans _ _ _ _ _ p.replied wrote;
+      front = text_owed p.records ++ wrote.0;
+      unwritten = wrote.1;
+      owed_is = owed_with_record p r _ wrote.2 ∙ sym (append_assoc (text_owed p.records) wrote.0 wrote.1);
+      written = Appends-trans _ _ _ _ _ p.replied wrote.4;
     })
 
 -- all that was owed so far stands written
@@ -161,14 +189,14 @@ stays now k before mid written_before written p = up_to (λ _. Unit {0}) now k b
     any None = tt
     any (Some xs) = tt
 
--- a record was read and its reply not wholly written: the device failed, or memory was refused
-pub unanswered : (e : RecordFault) (now : World) (k : ℕ) (before mid mid' written_before written written' : Option (List ℕ)) (more r : List ℕ) → Progress now k before mid written_before written
-    → IsRecord more r → Consumes mid mid' more → ((e ≡ faults.Device) → WritesFront written written' (record_of (reply_owed now (time_of k) r))) → ((e ≡ faults.NoMemory) → written' ≡ written)
-    → (e ≡ faults.Device) ⊎ (e ≡ faults.NoMemory) → IfSome before (λ input. EndsWith e input written_before written')
-unanswered e now k before mid mid' written_before written written' more r p is taken front same (inl d) =
-    let f = front d in rw d (falls_short now k before mid mid' written_before written written' more r f.0 f.1 p is taken f.2 f.4)
-unanswered e now k before mid mid' written_before written written' more r p is taken front same (inr m) =
-    rw (m, same m) (stays now k before mid written_before written p)
+-- a record was read and its reply not wholly written
+pub unanswered : {e : RecordFault} {now : World} {k : ℕ} {before mid mid' written_before written written' : Option (List ℕ)} {more r : List ℕ} → Progress now k before mid written_before written
+    → ReadsRecord mid mid' more r → FailsToAnswer e (record_of (reply_owed now (time_of k) r)) written written' → IfSome before (λ input. EndsWith e input written_before written')
+unanswered {e = e} {before = before} {written_before = written_before} {written' = written'} p reads fails = by fails.is_either
+  where
+    by : (e ≡ faults.Device) ⊎ (e ≡ faults.NoMemory) → IfSome before (λ input. EndsWith e input written_before written')
+    by (inl d) = rw d (falls_short written' p reads (fails.device d))
+    by (inr m) = rw (m, fails.memory m) (stays _ _ _ _ _ _ p)
 
 -- no record could be read
 pub ends : (e : RecordFault) (now : World) (k : ℕ) (before mid written_before written : Option (List ℕ)) (m n : ℕ) → Progress now k before mid written_before written
@@ -226,31 +254,34 @@ leaves_off_reading faults.RecordTooLong p f same h = stops_after TakesToLimit p 
 leaves_off_reading faults.Device p f same h = rw f (stops_after (TakesPart IsPartOfRecord) p h)
 leaves_off_reading faults.EndInRecord p f same h = stops_after TakesAll p h
 
--- a record was read and its reply not wholly written: the device failed, or memory was refused
-pub leaves_off_answering : {now : World} {k : ℕ} {before mid written_before written written' : Option (List ℕ)} {more r : List ℕ} (failed : Option RecordFault) (mid' : Option (List ℕ)) (e : RecordFault)
-    → Progress now k before mid written_before written → IsRecord more r → Consumes mid mid' more → failed ≡ None
-    → ((e ≡ faults.Device) → WritesFront written written' (record_of (reply_owed now (time_of k) r))) → ((e ≡ faults.NoMemory) → written' ≡ written)
-    → (e ≡ faults.Device) ⊎ (e ≡ faults.NoMemory) → LeavesOff e failed before mid' written_before written'
-leaves_off_answering {more = more} {r = r} failed mid' e p is taken fresh front same (inl d) =
-    let f = front d in rw (d, fresh) (record {
+-- a record was read and its reply not wholly written
+pub leaves_off_answering : {e : RecordFault} {now : World} {k : ℕ} {before mid mid' written_before written written' : Option (List ℕ)} {more r : List ℕ} (failed : Option RecordFault)
+    → Progress now k before mid written_before written → ReadsRecord mid mid' more r → FailsToAnswer e (record_of (reply_owed now (time_of k) r)) written written'
+    → failed ≡ None → LeavesOff e failed before mid' written_before written'
+leaves_off_answering {e = e} {now = now} {k = k} {before = before} {mid' = mid'} {written_before = written_before} {written = written} {written' = written'} {more = more} {r = r} failed p reads fails fresh = by fails.is_either
+  where
+    in_reply : WritesFront written written' (record_of (reply_owed now (time_of k) r)) → StopsInReply before mid' written_before written'
+    in_reply wrote = record {
       answered = p.records;
       last = r;
       text = p.text ++ more;
-      front = f.0;
-      unwritten = f.1;
-      are_records = AreRecords-push p.text p.records more r p.are_records is;
-      taken = Consumes-trans _ _ _ _ _ p.taken taken;
-      owed_is = rw (text_owed-push p.records r, p.count_is, ← p.world_is) (ap (λ (t : List ℕ). text_owed p.records ++ t) f.2);
-      is_short = f.3;
-      written = Appends-trans _ _ _ _ _ p.replied f.4;
-    })
-leaves_off_answering {more = more} {r = r} failed mid' e p is taken fresh front same (inr m) =
-    rw (m, same m) (record {
+      front = wrote.0;
+      unwritten = wrote.1;
+      are_records = (with_record p reads).0;
+      taken = (with_record p reads).1;
+      owed_is = owed_with_record p r _ wrote.2;
+      is_short = wrote.3;
+      written = Appends-trans _ _ _ _ _ p.replied wrote.4;
+    }
+
+    by : (e ≡ faults.Device) ⊎ (e ≡ faults.NoMemory) → LeavesOff e failed before mid' written_before written'
+    by (inl d) = rw (d, fresh) (in_reply (fails.device d))
+    by (inr m) = rw (m, fails.memory m) (record {
       answered = p.records;
       unanswered = r ∷ [];
       text = p.text ++ more;
       one_at_most = omega arith;
-      are_records = AreRecords-push p.text p.records more r p.are_records is;
-      taken = Consumes-trans _ _ _ _ _ p.taken taken;
+      are_records = (with_record p reads).0;
+      taken = (with_record p reads).1;
       written = p.replied;
     })

@@ -1,4 +1,5 @@
 -- A name more leaves a tree a tree, with one path more.
+-- Serves: making_adds_a_path, trees_stay_trees (nfs_spec_laws).
 use Rattle.std.proofs.Common.{◌≡◌, ◌≢◌, ⊎_elim, ℕ, ◌+◌, ◌<◌, ◌≤◌, true, cond, List, [], ◌∷◌, ◌++◌, Some, None, IsSome, is_some, sym, ap, subst, ◌∙◌, arith, eq-eqb, ne_eqb}
 use Rattle.std.specs.Prelude.{IsTrue, length}
 use Rattle.std.proofs.lemmas.Bool.{cases_eq}
@@ -13,9 +14,11 @@ use Rattle.fs_changes.proofs.Shapes.{kind, AllFiles}
 use Rattle.fs_changes.proofs.Building.{IsWellNamed, built, facts}
 use Rattle.fs_changes.proofs.PathChanges.{adds}
 
+-- a number is itself once
 pub one_same : (n k : ℕ) → n ≡ k → one n k ≡ 1
 one_same n k e = ap (λ b. cond b 1 0) (eq-eqb k n (sym e))
 
+-- another number counts nothing
 pub one_other : (n k : ℕ) → n ≢ k → one n k ≡ 0
 one_other n k ne = ap (λ b. cond b 1 0) (ne_eqb k n (λ e. ne (sym e)))
 
@@ -39,6 +42,7 @@ module _ (w w' : Files) (tree : IsFileTree w) (d : ℕ) (x : List ℕ) (k cookie
   old : IsWellNamed w
   old = facts w tree
 
+  -- a name more is one path more
   pub adds_path : (path : List (List ℕ)) (c : ℕ) → path_at (places w) path ≡ Some (d, c) → AddsPath (path_at (places w)) (path_at (places w')) (path ++ x ∷ []) k cookie
   adds_path path c at = adds (places w) (IsDirectory w) (one_path w tree) path d c x a.dir at (places w') k cookie a.change a.free a.empty
 
@@ -68,6 +72,7 @@ module _ (w w' : Files) (tree : IsFileTree w) (d : ℕ) (x : List ℕ) (k cookie
       still : (m : ℕ) → IsSome (kind w m) → IsSome (kind w' m)
       still m is = ⊎_elim (λ e. subst (λ m. IsSome (kind w' m)) (sym e) a.there) (λ ne. ap is_some (a.kinds m ne) ∙ is) (cases_eq m k)
 
+  -- with a name more a tree stays a tree
   pub stays_added : IsFileTree w'
   stays_added = built w' (record {
     root_is = a.kinds 1 (λ e. a.not_root (sym e)) ∙ tree.tree.root;

@@ -1,4 +1,5 @@
 -- What it takes that files are a tree: the directory above one is told by the counts.
+-- Serves: trees_stay_trees (nfs_spec_laws), opening_files_are_a_tree (nfs_spec).
 use Rattle.std.proofs.Common.{◌≡◌, ◌≢◌, ℕ, ◌+◌, ◌<◌, ◌≤◌, Bool, true, false, cond, List, [], ◌∷◌, sum_by, Some, IsSome, is_some, option_map, refl, sym, ap, ◌∙◌, arith, eqb, ltb, ne_eqb}
 use Rattle.std.specs.Prelude.{find, nat_lt, IsTrue, length}
 use Rattle.std.specs.Option.{option_map_or}
@@ -74,6 +75,7 @@ pub record IsWellNamed (w : Files) : Type 0 where
   pub names : (n : ℕ) (name : List ℕ) → IsSome (places w n name) → IsTrue (is_name name) × (length name ≤ 255)
   pub files : AllFiles w
 
+-- files whose names are counted so are a tree
 pub built : (w : Files) → IsWellNamed w → IsFileTree w
 built w h = record {
   tree = record {

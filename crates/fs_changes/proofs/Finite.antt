@@ -1,4 +1,5 @@
 -- Files after a change, by their numbers, and sums over all files.
+-- Serves: the lemmas of all edits here and in nfs_spec_trees, nfs_spec_changes, nfs_spec_frames.
 use Rattle.std.proofs.Common.{◌≡◌, ◌≢◌, ℕ, ◌+◌, ◌≤◌, Bool, true, false, cond, not, T, List, [], ◌∷◌, sum_by, Option, Some, None, option_map, refl, sym, ap, ◌∙◌, arith, Ordering, Less, Equal, Greater}
 use Rattle.std.specs.Option.{option_map_or}
 use Rattle.std.specs.Ordering.{nat_cmp, eq_by_cmp, is_eq, is_lt}
@@ -11,9 +12,11 @@ use Rattle.fs_changes.specs.Edits.{with_new_file, with_changed_file, without_fil
 use Rattle.fs_model.proofs.Counts.{same_number, sum_by_second}
 use Rattle.fs_model.proofs.Reached.{both_of}
 
+-- a number compares as equal with itself
 pub cmp_same : (q k : ℕ) → q ≡ k → eq_by_cmp nat_cmp q k ≡ true
 cmp_same q k e = ap (λ m. eq_by_cmp nat_cmp q m) (sym e) ∙ (eq_by_cmp_equiv nat_cmp_total).refl q
 
+-- and with no other
 pub cmp_other : (q k : ℕ) → q ≢ k → eq_by_cmp nat_cmp q k ≡ false
 cmp_other q k not = by (eq_by_cmp nat_cmp q k) refl
   where
@@ -24,48 +27,57 @@ cmp_other q k not = by (eq_by_cmp nat_cmp q k) refl
 -- ---- files by their numbers
 
 module _ (w : Files) (f : File) (n : ℕ) where
+  -- the new number has the new file
   pub new_here : n ≡ w.next → file_at (with_new_file w f) n ≡ Some f
   new_here e = finite.get-insert nat_cmp_total w.files w.next f n ∙ ap (λ b. cond b (Some f) (file_at w n)) (cmp_same n w.next e)
 
+  -- other numbers have what they had
   pub new_other : n ≢ w.next → file_at (with_new_file w f) n ≡ file_at w n
   new_other e = finite.get-insert nat_cmp_total w.files w.next f n ∙ ap (λ b. cond b (Some f) (file_at w n)) (cmp_other n w.next e)
 
-module _ (w : Files) (k : ℕ) (change : File → File) (n : ℕ) where
-  by_file : Option File → Files
-  by_file o = record { fsid = w.fsid; next = w.next; files = option_map_or (λ f. finite.insert w.files k (change f)) o w.files }
+-- the files with a change of what stands at a number, by what stands there
+unfoldable pub by_file : Files → ℕ → (File → File) → Option File → Files
+by_file w k change o = record w { files = option_map_or (λ f. finite.insert w.files k (change f)) o w.files }
 
+module _ (w : Files) (k : ℕ) (change : File → File) (n : ℕ) where
+  -- the next number stays
   pub changed_next : (with_changed_file w k change).next ≡ w.next
   unfolding by_file
   changed_next = by (file_at w k)
     where
-      by : (o : Option File) → (by_file o).next ≡ w.next
+      by : (o : Option File) → (by_file w k change o).next ≡ w.next
       by None = refl
       by (Some f) = refl
 
+  -- a change of what is not there changes nothing
   pub nothing_changes : file_at w k ≡ None → with_changed_file w k change ≡ w
   unfolding by_file
-  nothing_changes is = ap by_file is
+  nothing_changes is = ap (by_file w k change) is
 
+  -- the number has its file, changed
   pub changed_here : n ≡ k → file_at (with_changed_file w k change) n ≡ option_map change (file_at w k)
   unfolding by_file
   changed_here e = by (file_at w k) refl
     where
-      by : (o : Option File) → file_at w k ≡ o → file_at (by_file o) n ≡ option_map change o
+      by : (o : Option File) → file_at w k ≡ o → file_at (by_file w k change o) n ≡ option_map change o
       by None is = ap (file_at w) e ∙ is
       by (Some f) is = finite.get-insert nat_cmp_total w.files k (change f) n ∙ ap (λ b. cond b (Some (change f)) (file_at w n)) (cmp_same n k e)
 
+  -- other numbers have what they had
   pub changed_other : n ≢ k → file_at (with_changed_file w k change) n ≡ file_at w n
   unfolding by_file
   changed_other e = by (file_at w k)
     where
-      by : (o : Option File) → file_at (by_file o) n ≡ file_at w n
+      by : (o : Option File) → file_at (by_file w k change o) n ≡ file_at w n
       by None = refl
       by (Some f) = finite.get-insert nat_cmp_total w.files k (change f) n ∙ ap (λ b. cond b (Some (change f)) (file_at w n)) (cmp_other n k e)
 
 module _ (w : Files) (k n : ℕ) where
+  -- the number has no file
   pub gone_here : n ≡ k → file_at (without_file w k) n ≡ None
   gone_here e = finite.get-remove nat_cmp_total w.files k n ∙ ap (λ b. cond b None (file_at w n)) (cmp_same n k e)
 
+  -- other numbers have what they had
   pub gone_other : n ≢ k → file_at (without_file w k) n ≡ file_at w n
   gone_other e = finite.get-remove nat_cmp_total w.files k n ∙ ap (λ b. cond b None (file_at w n)) (cmp_other n k e)
 
@@ -82,6 +94,7 @@ none_below x y lt (e ∷ es) h =
     let b = both_of (is_lt (nat_cmp y e.0)) (below_all nat_cmp y es) h in
     ap (λ r. cond (is_eq r) (Some e.1) (find nat_cmp x es)) (nat_cmp_total.trans x y e.0 lt (less _ b.0)) ∙ none_below x y lt es b.1
 
+-- what is below all keys is not found
 pub none_above : {X : Type 0} (x : ℕ) (es : List (ℕ × X)) → T (below_all nat_cmp x es) → find nat_cmp x es ≡ None
 none_above x [] h = refl
 none_above x (e ∷ es) h =
@@ -89,6 +102,7 @@ none_above x (e ∷ es) h =
     ap (λ r. cond (is_eq r) (Some e.1) (find nat_cmp x es)) (less _ b.0) ∙ none_above x es b.1
 
 module _ {X : Type 0} (f : X → ℕ) where
+  -- what an option counts
   pub had : Option X → ℕ
   had o = option_map_or f o 0
 
@@ -151,10 +165,12 @@ module _ (f : File → ℕ) (w : Files) where
       let before = in_all w.files in
       omega (arith, one, after, same, before)
 
+  -- a new file counts once more
   pub total_new : (g : File) → file_at w w.next ≡ None → total f (with_new_file w g) ≡ total f w + f g
   unfolding had
   total_new g none = let one = total_put w.next g in let zero = ap (had f) none in omega (arith, one, zero)
 
+  -- a changed file counts as changed and not as before
   pub total_changed : (k : ℕ) (change : File → File) (g : File) → file_at w k ≡ Some g → total f (with_changed_file w k change) + f g ≡ total f w + f (change g)
   unfolding had
   total_changed k change g there =
@@ -163,6 +179,7 @@ module _ (f : File → ℕ) (w : Files) where
       let same = ap (λ o. total f (record { fsid = w.fsid; next = w.next; files = option_map_or (λ h. finite.insert w.files k (change h)) o w.files })) there in
       omega (arith, one, old, same)
 
+  -- a file that is gone counts no more
   pub total_without : (k : ℕ) (g : File) → file_at w k ≡ Some g → total f (without_file w k) + f g ≡ total f w
   unfolding had
   total_without k g there =
@@ -172,6 +189,7 @@ module _ (f : File → ℕ) (w : Files) where
       let before = in_all w.files in
       omega (arith, less, after, same, before)
 
+  -- without a file the sum is no greater
   pub total_gone : (k : ℕ) → total f (without_file w k) ≤ total f w
   unfolding had
   total_gone k =

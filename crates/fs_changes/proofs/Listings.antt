@@ -1,19 +1,22 @@
 -- What a directory lists after a name more and a name less.
-use Rattle.std.proofs.Common.{◌≡◌, ◌≢◌, ℕ, ◌+◌, ◌≤◌, Bool, true, false, cond, List, [], ◌∷◌, ◌++◌, sum_by, Option, Some, None, nat_eq, eqb, refl, sym, ap, ◌∙◌, arith}
+-- Serves: trees_stay_trees (nfs_spec_laws); Shapes here.
+use Rattle.std.proofs.Common.{◌≡◌, ◌≢◌, ℕ, ◌+◌, Bool, true, false, cond, List, [], ◌∷◌, ◌++◌, sum_by, Option, Some, None, nat_eq, eqb, refl, sym, ap, ◌∙◌, arith}
 use Rattle.std.specs.Option.{option_map_or}
 use Rattle.std.specs.List.{IsDistinct, AllByRecursion}
 use Rattle.std.specs.Map.{lookup, remove_entry, keys_of}
 use Rattle.std.specs.Cmp.Lexicographic.{pointwise, same_text, nat_list_eq_equiv}
 use Rattle.std.proofs.lemmas.Bool.{cond-true, cond-false}
 use Rattle.std.proofs.lemmas.List.Sums.{sum_by-cons, sum_by_push}
-use Rattle.fs_model.specs.Listing.{Listing, entry_at, with_entry, without_entry, IsRising, HasDistinctNames}
+use Rattle.fs_model.specs.Listing.{Listing, entry_at, with_entry, without_entry, HasDistinctNames}
 use Rattle.fs_model.specs.Files.{one_if}
 use Rattle.fs_model.proofs.Walks.{none_some}
 use Rattle.fs_model.proofs.Reached.{not_before}
 
+-- a name is itself
 pub name_self : (x : List ℕ) → pointwise nat_eq x x ≡ true
 name_self x = nat_list_eq_equiv.refl x
 
+-- another name is another
 pub name_other : (x y : List ℕ) → x ≢ y → pointwise nat_eq x y ≡ false
 name_other x y not = by (pointwise nat_eq x y) refl
   where
@@ -88,24 +91,30 @@ module _ {X : Type 0} (x : List ℕ) where
 -- ---- a listing with a name more
 
 module _ (l : Listing) (x : List ℕ) (k : ℕ) (distinct : HasDistinctNames l.entries) where
+  -- the new entry is found
   pub with_entry_here : entry_at (with_entry l x k) x ≡ Some (k, l.next)
   with_entry_here = pushed_same x (k, l.next) (remove_entry (pointwise nat_eq x) l.entries) (removed_same x l.entries distinct)
 
+  -- other names find what they found
   pub with_entry_other : (y : List ℕ) → y ≢ x → entry_at (with_entry l x k) y ≡ entry_at l y
   with_entry_other y not = pushed_other x (k, l.next) y not (remove_entry (pointwise nat_eq x) l.entries) ∙ removed_other x y not l.entries
 
+  -- names stay distinct with one more
   pub with_entry_distinct : HasDistinctNames (with_entry l x k).entries
   with_entry_distinct = distinct_pushed x (k, l.next) (remove_entry (pointwise nat_eq x) l.entries) (distinct_removed x l.entries distinct) (removed_same x l.entries distinct)
 
 -- ---- and with a name less
 
 module _ (l : Listing) (x : List ℕ) (distinct : HasDistinctNames l.entries) where
+  -- the name finds nothing
   pub without_entry_here : entry_at (without_entry l x) x ≡ None
   without_entry_here = removed_same x l.entries distinct
 
+  -- other names find what they found
   pub without_entry_other : (y : List ℕ) → y ≢ x → entry_at (without_entry l x) y ≡ entry_at l y
   without_entry_other y not = removed_other x y not l.entries
 
+  -- names stay distinct with one less
   pub without_entry_distinct : HasDistinctNames (without_entry l x).entries
   without_entry_distinct = distinct_removed x l.entries distinct
 
@@ -119,28 +128,13 @@ one n k = cond (eqb k n) 1 0
 abbrev pub leads : ℕ → Option (ℕ × ℕ) → ℕ
 leads n o = option_map_or (λ p. one n p.0) o 0
 
+-- how often a number is named, with an entry less
 pub names_without_entry : (n : ℕ) (l : Listing) (x : List ℕ) → sum_by (one_if n) (without_entry l x).entries + leads n (entry_at l x) ≡ sum_by (one_if n) l.entries
 names_without_entry n l x = sum_removed x (λ (p : ℕ × ℕ). one n p.0) l.entries
 
+-- and with an entry more
 pub names_with_entry : (n : ℕ) (l : Listing) (x : List ℕ) (k : ℕ) → sum_by (one_if n) (with_entry l x k).entries + leads n (entry_at l x) ≡ sum_by (one_if n) l.entries + one n k
 names_with_entry n l x k =
     let less = names_without_entry n l x in
     let more = sum_by_push (one_if n) (without_entry l x).entries (x, (k, l.next)) in
     omega (arith, less, more)
-
--- ---- cookies
-
-pub rising_from : (low low' : ℕ) (es : List (List ℕ × (ℕ × ℕ))) (high : ℕ) → low' ≤ low → IsRising low es high → IsRising low' es high
-rising_from low low' [] high le h = omega arith
-rising_from low low' (e ∷ es) high le h = (omega (arith, h.0), h.1)
-
-pub rising_pushed : (low : ℕ) (es : List (List ℕ × (ℕ × ℕ))) (high : ℕ) (name : List ℕ) (number : ℕ) → IsRising low es high → IsRising low (es ++ (name, (number, high)) ∷ []) (high + 1)
-rising_pushed low [] high name number h = (h, omega arith)
-rising_pushed low (e ∷ es) high name number h = (h.0, rising_pushed (e.1.1 + 1) es high name number h.1)
-
-pub rising_removed : (low : ℕ) (test : List ℕ → Bool) (es : List (List ℕ × (ℕ × ℕ))) (high : ℕ) → IsRising low es high → IsRising low (remove_entry test es) high
-rising_removed low test [] high h = h
-rising_removed low test (e ∷ es) high h = elim (test e.0) as (λ b. IsRising low (cond b es (e ∷ remove_entry test es)) high) [
-  | true ↦ rising_from (e.1.1 + 1) low es high (omega (arith, h.0)) h.1
-  | false ↦ (h.0, rising_removed (e.1.1 + 1) test es high h.1)
-]

@@ -1,4 +1,5 @@
 -- Another name for what a name stands for leaves a tree a tree, and moves the paths below it.
+-- Serves: renaming_moves_paths, trees_stay_trees (nfs_spec_laws).
 use Rattle.std.proofs.Common.{◌≡◌, ◌≢◌, ⊎_elim, ℕ, ◌≤◌, true, false, List, [], ◌∷◌, ◌++◌, Option, Some, None, IsSome, is_some, option_map, option_and_then, sym, ap, subst, ◌∙◌, append-nil, arith}
 use Rattle.std.specs.Prelude.{IsTrue, length}
 use Rattle.fs_model.specs.Names.{is_name}
@@ -21,6 +22,7 @@ pub record IsRenamed (w w' : Files) (d₁ : ℕ) (x₁ : List ℕ) (d₂ : ℕ) 
   pub taken : places w' d₁ x₁ ≡ None
   pub rest : (n : ℕ) (y : List ℕ) → ((n ≡ d₁) × (y ≡ x₁) → ⊥) → ((n ≡ d₂) × (y ≡ x₂) → ⊥) → places w' n y ≡ places w n y
 
+-- another name for what a name stands for moves its path and those below
 pub renames_path : (w w' : Files) → IsFileTree w → (d₁ : ℕ) (x₁ : List ℕ) (d₂ : ℕ) (x₂ : List ℕ) (s sc cookie : ℕ) → IsRenamed w w' d₁ x₁ d₂ x₂ s sc cookie
     → (p₁ p₂ : List (List ℕ)) (c₁ c₂ : ℕ) → path_at (places w) p₁ ≡ Some (d₁, c₁) → path_at (places w) p₂ ≡ Some (d₂, c₂)
     → Renames (path_at (places w)) (path_at (places w')) (p₁ ++ x₁ ∷ []) (p₂ ++ x₂ ∷ []) cookie
@@ -77,6 +79,7 @@ module _ (w w' : Files) (tree : IsFileTree w) (d₁ : ℕ) (x₁ : List ℕ) (d�
       (same_place n d₁ y x₁))
       (same_place n d₂ y x₂)
 
+  -- with an entry moved a tree stays a tree
   pub stays_moved : IsFileTree w'
   stays_moved = built w' (record {
     root_is = a.kinds 1 ∙ tree.tree.root;

@@ -1,4 +1,5 @@
 -- What the changes of a tree do to its paths.
+-- Serves: making_adds_a_path, removing_takes_a_path, renaming_moves_paths (nfs_spec_laws).
 use Rattle.std.proofs.Common.{◌≡◌, ◌≢◌, ◌⊎◌, inl, inr, ⊎_elim, ℕ, List, [], ◌∷◌, ◌++◌, length, Option, Some, None, is_some, option_and_then, option_map, refl, sym, ap, subst, ◌∙◌, append_assoc, append-nil, length-append, arith}
 use Rattle.fs_model.specs.Paths.{Places, walk, path_at, HasOnePathEach, AddsPath, TakesPath, Renames, ChangesPlace}
 use Rattle.fs_model.proofs.Walks.{walk_same, same_name, same_place, step, step_last}
@@ -43,6 +44,7 @@ module _ (at : Places) (IsDirectory : ℕ → Type 0) (once : HasOnePathEach IsD
       (λ n₁. inl (change.rest n y n₁))
       (same_place n d y x))
 
+  -- the path of the changed directory stays
   pub own_kept : path_at to path ≡ Some (d, c)
   own_kept = apart path (λ r. no_return path [] r x) ∙ is_at
 
@@ -139,6 +141,7 @@ module _ (at to : Places) (IsDirectory : ℕ → Type 0) (once : HasOnePathEach 
       (same_place f.0 d₂ y x₂))
       (same_place f.0 d₁ y x₁))
 
+  -- the paths after a move, by those before
   pub renames : Renames (path_at at) (path_at to) (p₁ ++ x₁ ∷ []) (p₂ ++ x₂ ∷ []) cookie
   renames = record {
     had = ap is_some (step_last at p₁ x₁ d₁ c₁ at₁ ∙ source);

@@ -1,7 +1,7 @@
 -- What changes of files do to how much they take.
+-- Serves: no_limit_is_passed (nfs_spec_laws), room_is_told_before (nfs_spec_trees).
 use Rattle.std.proofs.Common.{◌≡◌, ⊎_elim, ℕ, ◌+◌, ◌-◌, ◌≤◌, Bool, true, false, cond, T, List, [], ◌∷◌, map, length, leb, Option, Some, None, is_some, option_map, nat_eq, refl, sym, ap, subst, ◌∙◌, arith}
 use Rattle.std.specs.Prelude.{nat_le}
-use Rattle.std.specs.Option.{option_map_or}
 use Rattle.std.specs.List.{list_all}
 use Rattle.std.specs.Map.{remove_entry}
 use Rattle.std.specs.Ordering.{nat_cmp, eq_by_cmp}
@@ -17,25 +17,25 @@ use Rattle.fs_model.proofs.Counts.{same_number}
 use Rattle.fs_model.proofs.Reached.{both_of}
 use Rattle.fs_changes.specs.Edits.{with_changed_file, with_new_file, without_file, map_listing, map_body_listing, without_name}
 use Rattle.fs_changes.specs.Limits.{blocks_in, block_count, entry_count, file_count, has_room}
-use Rattle.fs_changes.proofs.Finite.{nothing_changes, changed_next, changed_here, changed_other, gone_here, gone_other, total_changed, total_gone, none_above, cmp_same}
+use Rattle.fs_changes.proofs.Finite.{by_file, nothing_changes, changed_next, changed_here, changed_other, gone_here, gone_other, total_changed, total_gone, none_above, cmp_same}
 
 -- ---- how many files there are
 
+-- a new file is one more
 pub count_new : (w : Files) (f : File) → file_at w w.next ≡ None → file_count (with_new_file w f) ≡ file_count w + 1
 count_new w f none = finite.len-insert nat_cmp_total w.files w.next f ∙ ap (λ o. cond (is_some o) (file_count w) (file_count w + 1)) none
 
 module _ (w : Files) (k : ℕ) (change : File → File) where
-  by_file : Option File → Files
-  by_file o = record { fsid = w.fsid; next = w.next; files = option_map_or (λ f. finite.insert w.files k (change f)) o w.files }
-
+  -- a changed file is none more
   pub count_changed : file_count (with_changed_file w k change) ≡ file_count w
   unfolding by_file
   count_changed = by (file_at w k) refl
     where
-      by : (o : Option File) → file_at w k ≡ o → file_count (by_file o) ≡ file_count w
+      by : (o : Option File) → file_at w k ≡ o → file_count (by_file w k change o) ≡ file_count w
       by None e = refl
       by (Some f) e = finite.len-insert nat_cmp_total w.files k (change f) ∙ ap (λ o. cond (is_some o) (file_count w) (file_count w + 1)) e
 
+-- without a file there are no more
 pub count_gone : (w : Files) (k : ℕ) → file_count (without_file w k) ≤ file_count w
 count_gone w k = let e = finite.len-remove nat_cmp_total w.files k in by (is_some (file_at w k)) e
   where
@@ -45,6 +45,7 @@ count_gone w k = let e = finite.len-remove nat_cmp_total w.files k in by (is_som
 
 -- ---- cookies
 
+-- no cookie above the greatest was given
 unfoldable pub AllCookies : Files → Type 0
 AllCookies w = (n : ℕ) (f : File) → file_at w n ≡ Some f → (listing_in f.body).next ≤ 4294967295
 
@@ -75,6 +76,7 @@ module _ {X : Type 0} (p : X → Bool) where
 
 -- ---- room
 
+-- no limit is passed, by its parts
 pub record IsWithin (w : Files) : Type 0 where
   pub files : file_count w ≤ 8192
   pub entries : entry_count w ≤ 16384
@@ -85,6 +87,7 @@ pub record IsWithin (w : Files) : Type 0 where
 low_cookie : File → Bool
 low_cookie f = nat_le (listing_in f.body).next 4294967295
 
+-- the parts of having room
 pub within : (w : Files) → has_room w ≡ true → IsWithin w
 unfolding low_cookie AllCookies
 within w h =
@@ -100,6 +103,7 @@ within w h =
       cookies = λ n f there. leb-true _ _ (all_found low_cookie (finite.entries w.files) d.1 n f (sym (finite.get-entries w.files n) ∙ there));
     }
 
+-- room by its parts
 pub room : (w : Files) → IsWithin w → has_room w ≡ true
 unfolding low_cookie AllCookies
 room w h =
@@ -114,6 +118,7 @@ room w h =
 
 -- ---- what takes no more
 
+-- files take no more than others
 pub record IsNoMore (w w' : Files) : Type 0 where
   pub files : file_count w' ≤ file_count w
   pub entries : entry_count w' ≤ entry_count w
@@ -121,9 +126,11 @@ pub record IsNoMore (w w' : Files) : Type 0 where
   pub next : w'.next ≤ w.next
   pub cookies : AllCookies w → AllCookies w'
 
+-- no more and then no more is no more
 pub no_more_then : (u v w : Files) → IsNoMore u v → IsNoMore v w → IsNoMore u w
 no_more_then u v w a b = record { files = omega (arith, a.files, b.files); entries = omega (arith, a.entries, b.entries); blocks = omega (arith, a.blocks, b.blocks); next = omega (arith, a.next, b.next); cookies = λ all. b.cookies (a.cookies all) }
 
+-- what takes no more has room
 pub still_room : (w w' : Files) → IsNoMore w w' → has_room w ≡ true → has_room w' ≡ true
 still_room w w' a h =
     let was = within w h in
@@ -135,6 +142,7 @@ pub record IsSmaller (f g : File) : Type 0 where
   pub blocks : blocks_in g.body ≤ blocks_in f.body
   pub next : (listing_in g.body).next ≤ (listing_in f.body).next
 
+-- a change to a smaller file takes no more
 pub changed_no_more : (w : Files) (k : ℕ) (change : File → File) → ((f : File) → IsSmaller f (change f)) → IsNoMore w (with_changed_file w k change)
 unfolding AllCookies
 changed_no_more w k change small = by (file_at w k) refl
@@ -161,6 +169,7 @@ changed_no_more w k change small = by (file_at w k) refl
       cookies = cookies;
     }
 
+-- without a file they take no more
 pub gone_no_more : (w : Files) (k : ℕ) → IsNoMore w (without_file w k)
 unfolding AllCookies
 gone_no_more w k = record {
@@ -174,6 +183,7 @@ gone_no_more w k = record {
       (cases_eq n k);
 }
 
+-- without an entry a list is no longer
 pub length-removed : {X : Type 0} (t : List ℕ → Bool) (es : List (List ℕ × X)) → length (remove_entry t es) ≤ length es
 length-removed t [] = omega arith
 length-removed t (e ∷ es) = elim (t e.0) as (λ b. length (cond b es (e ∷ remove_entry t es)) ≤ length (e ∷ es)) [
@@ -199,6 +209,7 @@ unnamed_smaller x f = record { entries = entries f.body; blocks = blocks f.body;
     next (Symlink target) = omega arith
     next (Directory l) = omega arith
 
+-- a name less takes no more
 pub unnamed_no_more : (w : Files) (d : ℕ) (x : List ℕ) → IsNoMore w (without_name w d x)
 unnamed_no_more w d x = changed_no_more w d (map_listing (λ l. without_entry l x)) (unnamed_smaller x)
 

@@ -1,4 +1,5 @@
 -- Files of one shape are a tree where the others are.
+-- Serves: trees_stay_trees (nfs_spec_laws): SETATTR and WRITE.
 use Rattle.std.proofs.Common.{◌≡◌, is_some, sym, ap, ◌∙◌, arith}
 use Rattle.fs_model.specs.Paths.{path_at}
 use Rattle.fs_model.specs.Files.{Files, places}
@@ -6,9 +7,11 @@ use Rattle.fs_model.specs.Trees.{IsFileTree}
 use Rattle.fs_changes.proofs.Shapes.{AllFiles, IsSameShape}
 use Rattle.fs_changes.proofs.Building.{built, facts}
 
+-- files of one shape have the same places
 pub same_places : (w w' : Files) → IsSameShape w w' → places w' ≡ places w
 same_places w w' a = λ i. λ n y. a.places n y i
 
+-- files of the shape of a tree are a tree
 pub stays_shaped : (w w' : Files) → IsFileTree w → IsSameShape w w' → AllFiles w' → IsFileTree w'
 stays_shaped w w' tree a files = built w' (record {
   root_is = a.kinds 1 ∙ tree.tree.root;

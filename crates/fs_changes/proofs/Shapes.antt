@@ -1,4 +1,5 @@
 -- What changes of files leave of places, kinds and counts of names.
+-- Serves: trees_stay_trees (nfs_spec_laws); every edit of nfs_spec_trees.
 use Rattle.std.proofs.Common.{◌≡◌, ◌≢◌, ◌⊎◌, inl, inr, ⊎_elim, ℕ, ◌+◌, Bool, true, List, [], sum_by, Option, Some, None, is_some, nat_eq, option_map, option_and_then, refl, sym, ap, subst, ◌∙◌, arith}
 use Rattle.std.specs.Map.{lookup}
 use Rattle.std.specs.Cmp.Lexicographic.{pointwise}
@@ -20,6 +21,7 @@ kind w n = option_map (λ f. is_directory f.body) (file_at w n)
 abbrev pub AllFiles : Files → Type 0
 AllFiles w = (n : ℕ) (f : File) → file_at w n ≡ Some f → IsFile f
 
+-- a file is there exactly where it has a kind
 pub is_some-kind : (w : Files) (n : ℕ) → is_some (file_at w n) ≡ is_some (kind w n)
 is_some-kind w n = by (file_at w n)
   where
@@ -34,6 +36,7 @@ pub record IsSameShape (w w' : Files) : Type 0 where
   pub names : (n : ℕ) → names_of w' n ≡ names_of w n
   pub next : w'.next ≡ w.next
 
+-- one shape and then one shape is one shape
 pub same_then : (u v w : Files) → IsSameShape u v → IsSameShape v w → IsSameShape u w
 same_then u v w a b = record {
   places = λ n y. b.places n y ∙ a.places n y;
@@ -49,6 +52,7 @@ read_place y o = option_and_then (λ f. entry_at (listing_in f.body) y) o
 -- ---- one file changed
 
 module _ (w : Files) (k : ℕ) (change : File → File) where
+  -- a change that keeps a file its kind keeps all kinds
   pub changed_kinds : ((f : File) → file_at w k ≡ Some f → is_directory (change f).body ≡ is_directory f.body) → (n : ℕ) → kind (with_changed_file w k change) n ≡ kind w n
   changed_kinds keeps n = ⊎_elim
       (λ e. ap (option_map (λ f. is_directory f.body)) (changed_here w k change n e) ∙ by (file_at w k) refl ∙ sym (ap (kind w) e))
@@ -59,6 +63,7 @@ module _ (w : Files) (k : ℕ) (change : File → File) where
       by None is = sym (ap (option_map (λ f. is_directory f.body)) is)
       by (Some f) is = ap (λ b. Some b) (keeps f is) ∙ sym (ap (option_map (λ f. is_directory f.body)) is)
 
+  -- a change to a file within its limits leaves all so
   pub changed_files : AllFiles w → ((f : File) → file_at w k ≡ Some f → IsFile (change f)) → AllFiles (with_changed_file w k change)
   changed_files all fits n f h = ⊎_elim
       (λ e. by (file_at w k) refl (sym (changed_here w k change n e) ∙ h))
@@ -110,21 +115,26 @@ module _ (w : Files) (d : ℕ) (f : File) (there : file_at w d ≡ Some f) (is :
   own_listing : listing_in (map_listing change f).body ≡ change (listing_in f.body)
   own_listing = listing_relisted change f.body is
 
+  -- the changed directory has the places of its changed listing
   pub relisted_here : (y : List ℕ) → places (with_changed_file w d (map_listing change)) d y ≡ entry_at (change (listing_in f.body)) y
   unfolding read_place
   relisted_here y = ap (read_place y) (changed_here w d (map_listing change) d refl ∙ ap (option_map (map_listing change)) there) ∙ ap (λ l. entry_at l y) own_listing
 
+  -- other directories have the places that they had
   pub relisted_other : (n : ℕ) (y : List ℕ) → n ≢ d → places (with_changed_file w d (map_listing change)) n y ≡ places w n y
   unfolding read_place
   relisted_other n y not = ap (read_place y) (changed_other w d (map_listing change) n not)
 
+  -- a directory has the places of its listing
   pub own_places : (y : List ℕ) → places w d y ≡ entry_at (listing_in f.body) y
   unfolding read_place
   own_places y = ap (read_place y) there
 
+  -- kinds stay
   pub relisted_kinds : (n : ℕ) → kind (with_changed_file w d (map_listing change)) n ≡ kind w n
   relisted_kinds = changed_kinds w d (map_listing change) (λ g _. directory_relisted change g.body)
 
+  -- how often a number is named changes with the listing alone
   pub relisted_names : (n : ℕ) → names_of (with_changed_file w d (map_listing change)) n + sum_by (one_if n) (listing_in f.body).entries ≡ names_of w n + sum_by (one_if n) (change (listing_in f.body)).entries
   relisted_names n =
       let all = total_changed (names_in n) w d (map_listing change) f there in
@@ -146,6 +156,7 @@ pub record IsUnnamed (w w' : Files) (d : ℕ) (x : List ℕ) : Type 0 where
   pub next : w'.next ≡ w.next
 
 module _ (w : Files) (d : ℕ) (x : List ℕ) (f : File) (there : file_at w d ≡ Some f) (is : is_directory f.body ≡ true) (distinct : HasDistinctNames (listing_in f.body).entries) where
+  -- what a name more leaves
   pub named_shape : (k : ℕ) → IsNamed w (with_name w d x k) d x k (listing_in f.body).next
   named_shape k = record {
     change = record {
@@ -170,6 +181,7 @@ module _ (w : Files) (d : ℕ) (x : List ℕ) (f : File) (there : file_at w d �
           ap (λ m. places (with_name w d x k) m y) e ∙ relisted_here w d f there is (λ l. with_entry l x k) y ∙ with_entry_other (listing_in f.body) x k distinct y other
           ∙ sym (ap (λ m. places w m y) e ∙ own_places w d f there is (λ l. l) y)
 
+  -- what a name less leaves
   pub unnamed_shape : IsUnnamed w (without_name w d x) d x
   unnamed_shape = record {
     change = record {
@@ -196,6 +208,7 @@ module _ (w : Files) (d : ℕ) (x : List ℕ) (f : File) (there : file_at w d �
 
 -- ---- one file more, and one less, that lists nothing
 
+-- one file more, with no name yet
 pub record IsOneMore (w w' : Files) (k : ℕ) (directory : Bool) : Type 0 where
   pub places : (n : ℕ) (y : List ℕ) → places w' n y ≡ places w n y
   pub kinds : (n : ℕ) → n ≢ k → kind w' n ≡ kind w n
@@ -203,6 +216,7 @@ pub record IsOneMore (w w' : Files) (k : ℕ) (directory : Bool) : Type 0 where
   pub names : (n : ℕ) → names_of w' n ≡ names_of w n
   pub next : w'.next ≡ k + 1
 
+-- what a new file leaves
 pub new_shape : (w : Files) (f : File) → file_at w w.next ≡ None → (listing_in f.body).entries ≡ [] → IsOneMore w (with_new_file w f) w.next (is_directory f.body)
 unfolding read_place
 new_shape w f none empty = record {
@@ -219,6 +233,7 @@ new_shape w f none empty = record {
   next = refl;
 }
 
+-- one file less, which lists nothing
 pub record IsOneLess (w w' : Files) (k : ℕ) : Type 0 where
   pub places : (n : ℕ) (y : List ℕ) → places w' n y ≡ places w n y
   pub kinds : (n : ℕ) → n ≢ k → kind w' n ≡ kind w n
@@ -226,6 +241,7 @@ pub record IsOneLess (w w' : Files) (k : ℕ) : Type 0 where
   pub names : (n : ℕ) → names_of w' n ≡ names_of w n
   pub next : w'.next ≡ w.next
 
+-- what a file less leaves
 pub gone_shape : (w : Files) (k : ℕ) (f : File) → file_at w k ≡ Some f → (listing_in f.body).entries ≡ [] → IsOneLess w (without_file w k) k
 unfolding read_place
 gone_shape w k f there empty = record {
@@ -242,12 +258,14 @@ gone_shape w k f there empty = record {
   next = refl;
 }
 
+-- with a new file within its limits all are so
 pub new_files : (w : Files) (f : File) → AllFiles w → IsFile f → AllFiles (with_new_file w f)
 new_files w f all fits n g h = ⊎_elim
     (λ e. subst IsFile (some_same (sym (new_here w f n e) ∙ h)) fits)
     (λ ne. all n g (sym (new_other w f n ne) ∙ h))
     (cases_eq n w.next)
 
+-- with a file less all are so
 pub gone_files : (w : Files) (k : ℕ) → AllFiles w → AllFiles (without_file w k)
 gone_files w k all n g h = ⊎_elim
     (λ e. absurd (none_some (sym (gone_here w k n e) ∙ h)))

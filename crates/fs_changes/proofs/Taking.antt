@@ -1,4 +1,5 @@
 -- A name less leaves a tree a tree, with one path less.
+-- Serves: removing_takes_a_path, trees_stay_trees (nfs_spec_laws).
 use Rattle.std.proofs.Common.{◌≡◌, ◌≢◌, ◌⊎◌, ⊎_elim, ℕ, ◌+◌, ◌<◌, ◌≤◌, Bool, true, false, List, [], ◌∷◌, ◌++◌, Option, Some, None, IsSome, is_some, sym, ap, ◌∙◌, arith}
 use Rattle.std.proofs.lemmas.Bool.{cases_eq}
 use Rattle.fs_model.specs.Paths.{path_at, TakesPath, ChangesPlace}
@@ -34,6 +35,7 @@ nothing_there o e h = tf (sym (ap is_some e) ∙ h)
     tf h = cc
 
 module _ (w w' : Files) (tree : IsFileTree w) (d : ℕ) (x : List ℕ) (k cookie : ℕ) (a : IsTaken w w' d x k cookie) where
+  -- a name less is one path less
   pub takes_path : (path : List (List ℕ)) (c : ℕ) → path_at (places w) path ≡ Some (d, c) → TakesPath (path_at (places w)) (path_at (places w')) (path ++ x ∷ [])
   takes_path path c at = takes (places w) (IsDirectory w) (one_path w tree) path d c x (tree.tree.lists d x k cookie a.had) at (places w') k cookie a.change a.had a.empty
 
@@ -66,6 +68,7 @@ module _ (w w' : Files) (tree : IsFileTree w) (d : ℕ) (x : List ℕ) (k cookie
       (cases_eq m k))
       (same_place n d y x)
 
+  -- with a name less a tree stays a tree
   pub stays_taken : IsFileTree w'
   stays_taken = built w' (record {
     root_is = a.kinds 1 not_root ∙ tree.tree.root;

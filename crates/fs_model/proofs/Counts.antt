@@ -1,4 +1,5 @@
 -- Names are counted: a place that names a number is one name of it, and two places are two.
+-- Serves: directories_have_one_path, numbers_have_paths (fs_model); sums over files in fs_changes.
 use Rattle.std.proofs.Common.{◌≡◌, ◌≢◌, ⊎_elim, ℕ, ◌+◌, ◌≤◌, Bool, true, false, cond, List, [], ◌∷◌, map, Option, Some, None, nat_eq, sum_by, option_and_then, refl, sym, ap, subst, ◌∙◌, arith, eq-eqb}
 use Rattle.std.specs.Map.{lookup}
 use Rattle.std.specs.FinMap as finite
@@ -15,6 +16,7 @@ use Rattle.fs_model.proofs.Walks.{none_some, some_same}
 -- ---- of entries with keys
 
 module _ {K X : Type 0} (f : X → ℕ) where
+  -- an entry that is found counts in the sum
   pub count_of_one : (t : K → Bool) (es : List (K × X)) (v : X) → lookup t es ≡ Some v → f v ≤ sum_by (λ e. f e.1) es
   count_of_one t [] v h = absurd (none_some h)
   count_of_one t (e ∷ es) v h =
@@ -24,6 +26,7 @@ module _ {K X : Type 0} (f : X → ℕ) where
         | false ↦ λ is. let rest = count_of_one t es v is in omega (arith, parts, rest)
       ] h
 
+  -- two entries found under different keys count both
   pub count_of_two : (t u : K → Bool) → ((k : K) → t k ≡ true → u k ≡ false) → (es : List (K × X)) (v w : X)
       → lookup t es ≡ Some v → lookup u es ≡ Some w → f v + f w ≤ sum_by (λ e. f e.1) es
   count_of_two t u apart [] v w g h = absurd (none_some g)
@@ -40,10 +43,12 @@ module _ {K X : Type 0} (f : X → ℕ) where
         ] h
       ] refl g
 
+-- a sum over values is one over entries
 pub sum_by_second : {K X : Type 0} (f : X → ℕ) (es : List (K × X)) → sum_by f (map (λ e. e.1) es) ≡ sum_by (λ e. f e.1) es
 sum_by_second f [] = refl
 sum_by_second {K} {X} f (e ∷ es) = sum_by-cons f e.1 (map (λ (e : K × X). e.1) es) ∙ ap (λ n. f e.1 + n) (sum_by_second f es) ∙ sym (sum_by-cons (λ (e : K × X). f e.1) e es)
 
+-- the two look-ups of the library agree on numbers
 pub find_lookup : {X : Type 0} (q : ℕ) (es : List (ℕ × X)) → finite.find nat_cmp q es ≡ lookup (eq_by_cmp nat_cmp q) es
 find_lookup q [] = refl
 find_lookup q (e ∷ es) = ap (cond (eq_by_cmp nat_cmp q e.0) (Some e.1)) (find_lookup q es)
@@ -61,6 +66,7 @@ equal Greater h = absurd (tf h)
     tf : false ≡ true → ⊥
     tf h = cc
 
+-- numbers that compare as equal are one
 pub same_number : (q k : ℕ) → eq_by_cmp nat_cmp q k ≡ true → q ≡ k
 same_number q k e = finite.nat_cmp-IsAntisymmetric q k (equal (nat_cmp q k) e)
 
@@ -95,10 +101,12 @@ self n c = ap (λ b. cond b 1 0) (eq-eqb n n refl)
 pub file_in : (w : Files) (d : ℕ) (f : File) → file_at w d ≡ Some f → lookup (eq_by_cmp nat_cmp d) (finite.entries w.files) ≡ Some f
 file_in w d f h = sym (find_lookup d (finite.entries w.files)) ∙ sym (finite.get-entries w.files d) ∙ h
 
+-- the names of a number, summed over the entries of the map
 pub all_names : (w : Files) (n : ℕ) → names_of w n ≡ sum_by (λ e. names_in n e.1) (finite.entries w.files)
 all_names w n = sum_by_second (names_in n) (finite.entries w.files)
 
 module _ (w : Files) (n : ℕ) where
+  -- an entry for a number is a name of it
   pub own_name : (f : File) (x : List ℕ) (c : ℕ) → entry_at (listing_in f.body) x ≡ Some (n, c) → 1 ≤ names_in n f
   own_name f x c h = subst (λ m. m ≤ names_in n f) (self n c) (count_of_one (λ (p : ℕ × ℕ). one_if n ([], p)) (pointwise nat_eq x) (listing_in f.body).entries (n, c) h)
 

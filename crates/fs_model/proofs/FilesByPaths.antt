@@ -1,4 +1,5 @@
 -- Files are told by their paths, and by what each file holds beside its names.
+-- Serves: files_are_told_by_paths (fs_model).
 use Rattle.std.proofs.Common.{◌≡◌, ℕ, ◌+◌, ◌≤◌, Bool, true, false, cond, List, [], ◌∷◌, ◌++◌, Option, Some, None, nat_eq, option_map, option_and_then, refl, sym, ap, ◌∙◌, arith}
 use Rattle.std.specs.List.{IsDistinct}
 use Rattle.std.specs.Map.{lookup, keys_of}
@@ -138,6 +139,7 @@ module _ (v w : Files) (tree : IsFileTree v) (tree' : IsFileTree w) (paths : (p 
           λ y. sym (ap (option_and_then (λ f. entry_at (listing_in f.body) y)) h) ∙ same_places n y ∙ ap (option_and_then (λ f. entry_at (listing_in f.body) y)) k in
           h ∙ ap (λ x. Some x) (same_file f g same (same_body f.body g.body (tree.files n f h).body (tree'.files n g k).body (ap (λ (x : File). x.body) same) looks)) ∙ sym k
 
+  -- files with the same paths, which hold the same beside their names, are equal
   pub told : v.fsid ≡ w.fsid → v.next ≡ w.next → v ≡ w
   told fsid next =
       let all : v.files ≡ w.files = finite.same_map nat_cmp_total finite.nat_cmp-IsAntisymmetric v.files w.files same_at in

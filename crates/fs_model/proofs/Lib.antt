@@ -4,3 +4,4 @@ pub mod OnePath
 pub mod Parents
 pub mod Reached
 pub mod FilesByPaths
+pub mod Cookies

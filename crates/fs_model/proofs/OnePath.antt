@@ -1,4 +1,5 @@
 -- A directory has one name, so it has one path.
+-- Serves: directories_have_one_path (fs_model).
 use Rattle.std.proofs.Common.{◌≡◌, ◌≢◌, ⊎_elim, ℕ, zero, suc, ◌≤◌, List, [], ◌∷◌, ◌++◌, length, Some, sym, ap, ◌∙◌, length-append, arith}
 use Rattle.fs_model.specs.Paths.{path_at, HasOnePathEach}
 use Rattle.fs_model.specs.Files.{Files, IsDirectory, places}
@@ -50,5 +51,6 @@ module _ (w : Files) (tree : IsFileTree w) where
       (last_name q))
       (last_name p)
 
+-- in a tree a directory has one path
 pub one_path : (w : Files) → IsFileTree w → HasOnePathEach (IsDirectory w) (places w)
 one_path w tree p q n c d is hp hq = one_path_of w tree (length p) p q n c d (omega arith) is hp hq

@@ -1,4 +1,5 @@
 -- The directory that names a directory.
+-- Serves: lookup_goes_by_paths, what_is_there_is_not_stale (nfs_spec).
 use Rattle.std.proofs.Common.{◌≡◌, ⊎_elim, ℕ, List, [], ◌∷◌, ◌++◌, Some, IsSome, sym, ap, subst, ◌∙◌, eqb, eq-eqb}
 use Rattle.std.proofs.lemmas.Bool.{cond-true}
 use Rattle.fs_model.specs.Paths.{path_at}
@@ -6,6 +7,7 @@ use Rattle.fs_model.specs.Files.{Files, file_at, IsDirectory, places, parent_of}
 use Rattle.fs_model.specs.Trees.{IsFileTree}
 use Rattle.fs_model.proofs.Walks.{one_number, last_name, last_step}
 
+-- the root is above itself
 pub root_parent : (w : Files) (n : ℕ) → n ≡ 1 → parent_of w n ≡ 1
 root_parent w n e = cond-true (eqb n 1) 1 _ (eq-eqb n 1 e)
 

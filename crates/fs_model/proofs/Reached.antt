@@ -1,4 +1,5 @@
 -- What has a name has a path, and what a path leads to is there.
+-- Serves: numbers_have_paths (fs_model).
 use Rattle.std.proofs.Common.{◌≡◌, ◌≢◌, Option, ⊎_elim, ℕ, ◌<◌, Bool, true, false, cond, T, List, [], ◌∷◌, ◌++◌, sum_by, Some, None, IsSome, is_some, eqb, option_and_then, refl, sym, ap, subst, ◌∙◌, arith}
 use Rattle.std.specs.Prelude.{◌&&◌}
 use Rattle.std.specs.List.{IsDistinct, AllByRecursion}
@@ -20,6 +21,7 @@ use Rattle.fs_model.proofs.Walks.{none_some, one_number, step_last, last_name, l
 use Rattle.fs_model.proofs.Counts.{all_names, find_lookup}
 
 module _ {K X : Type 0} {eq : K → K → Bool} (laws : IsEquivalence eq) where
+  -- a key that differs from all of a list is not found in it
   pub not_before : (x k : K) → eq k x ≡ true → (es : List (K × X)) → AllByRecursion (λ y. eq x y ≡ false) (keys_of es) → lookup (eq k) es ≡ None
   not_before x k same [] all = refl
   not_before x k same (e ∷ es) all =
@@ -45,6 +47,7 @@ less_not_equal Less h = refl
 less_not_equal Equal h = absurd h
 less_not_equal Greater h = refl
 
+-- both parts of a conjunction hold
 pub both_of : (a b : Bool) → T (a && b) → T a × T b
 both_of true b h = (tt, h)
 both_of false b h = absurd h

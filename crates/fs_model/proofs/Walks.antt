@@ -1,11 +1,14 @@
 -- The laws of walks, over the definitions alone.
+-- Serves: walks_change_where_they_pass, parents_are_directories (fs_model); the laws of paths above.
 use Rattle.std.proofs.Common.{◌≡◌, ◌≢◌, ◌⊎◌, inl, inr, ⊎_elim, ℕ, List, [], ◌∷◌, ◌++◌, Option, Some, None, option_and_then, refl, sym, ap, ◌∙◌, append_assoc, append-nil}
 use Rattle.std.proofs.lemmas.Bool.{cases_eq}
 use Rattle.fs_model.specs.Paths.{Places, walk, path_at, ChangesPlace}
 
+-- nothing is not something
 pub none_some : {A : Type 0} {a : A} → None ≡ Some a → ⊥
 none_some h = cc
 
+-- what two equal options hold is one
 pub some_same : {A : Type 0} {a b : A} → Some a ≡ Some b → a ≡ b
 some_same h = cc
 
@@ -13,6 +16,7 @@ some_same h = cc
 pub one_number : (n c m d : ℕ) → ◌≡◌ {A = Option (ℕ × ℕ)} (Some (n, c)) (Some (m, d)) → n ≡ m
 one_number n c m d h = ap (λ (e : ℕ × ℕ). e.0) (some_same h)
 
+-- a walk along two paths is one walk after the other
 pub walk-append : (at : Places) (e : ℕ × ℕ) (p q : List (List ℕ)) → walk at e (p ++ q) ≡ option_and_then (λ f. walk at f q) (walk at e p)
 walk-append at e [] q = refl
 walk-append at e (y ∷ p) q = elim (at e.0 y) as (λ o. option_and_then (λ f. walk at f (p ++ q)) o ≡ option_and_then (λ f. walk at f q) (option_and_then (λ f. walk at f p) o)) [

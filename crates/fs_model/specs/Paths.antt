@@ -24,7 +24,8 @@ HasOnePathEach IsDirectory at =
 
 -- one path more
 pub record AddsPath
-    (old new : FilePath → Option Place) (path : FilePath) (number : FileNumber) (cookie : Cookie) : Type 0 where
+    (old new : FilePath → Option Place) (path : FilePath) (number : FileNumber) (cookie : Cookie)
+    : Type 0 where
   pub free : old path ≡ None
   pub added : new path ≡ Some (number, cookie)
   pub others : (p : FilePath) → p ≢ path → new p ≡ old p
@@ -46,7 +47,8 @@ pub record Renames (old new : FilePath → Option Place) (from to : FilePath) (c
 
 -- The shape of a tree: what is there, what is a directory, what each lists.
 pub record IsTree
-    (IsThere IsDirectory : FileNumber → Type 0) (parent : FileNumber → FileNumber) (at : Places) : Type 0 where
+    (IsThere IsDirectory : FileNumber → Type 0) (parent : FileNumber → FileNumber) (at : Places)
+    : Type 0 where
   pub root : IsDirectory 1
   pub there : (n : ℕ) → IsDirectory n → IsThere n
   pub reached : (n : ℕ) → IsDirectory n → (p : FilePath) × (c : ℕ) × (path_at at p ≡ Some (n, c))

@@ -1,15 +1,17 @@
 //! What holds of every tree of files.
 
 ghost use Rattle.std.specs.Prelude.{◌≡◌, ◌≢◌, [], ◌∷◌, ◌++◌, List, ℕ, Option, Some, None, IsSome, option_map};
+ghost use Rattle.fs_model.specs.Names.{Name, FilePath};
+ghost use Rattle.fs_model.specs.Listing.{FileNumber, Cookie, Place};
 ghost use Rattle.fs_model.specs.Paths.{Places, walk, path_at, ChangesPlace, HasOnePathEach};
 ghost use Rattle.fs_model.specs.Files.{Files, file_at, IsDirectory, places, without_entries};
 ghost use Rattle.fs_model.specs.Trees.{IsFileTree};
 
 /// The walk along a path changes under a change of one place only where it passes that place.
 pub fn walks_change_where_they_pass()
-    ensures { (at to : Places) (directory : ℕ) (name : List ℕ) (place : Option (ℕ × ℕ)) →
-        ChangesPlace at to directory name place → (from : ℕ × ℕ) (path : List (List ℕ)) →
-        ((front rest : List (List ℕ)) (cookie : ℕ) →
+    ensures { (at to : Places) (directory : FileNumber) (name : Name) (place : Option Place) →
+        ChangesPlace at to directory name place → (from : Place) (path : FilePath) →
+        ((front rest : FilePath) (cookie : Cookie) →
         walk at from front ≡ Some (directory, cookie) → path ≢ front ++ name ∷ rest) →
         walk to from path ≡ walk at from path }
 {}
@@ -21,20 +23,22 @@ pub fn directories_have_one_path()
 
 /// What stands above the last name of a path is the path of a directory, and that directory has the name.
 pub fn parents_are_directories()
-    ensures { (fs : Files) → IsFileTree fs → (path : List (List ℕ)) (name : List ℕ) (number cookie : ℕ) →
+    ensures { (fs : Files) → IsFileTree fs →
+        (path : FilePath) (name : Name) (number : FileNumber) (cookie : Cookie) →
         path_at (places fs) (path ++ name ∷ []) ≡ Some (number, cookie) →
-        (parent : ℕ) × (parent_cookie : ℕ) × (path_at (places fs) path ≡ Some (parent, parent_cookie))
+        (parent : FileNumber) × (parent_cookie : Cookie)
+        × (path_at (places fs) path ≡ Some (parent, parent_cookie))
         × IsDirectory fs parent × (places fs parent name ≡ Some (number, cookie)) }
 {}
 
 /// The numbers of files are those that paths lead to: a number with no path left is gone.
 pub fn numbers_have_paths()
-    ensures path { (fs : Files) → IsFileTree fs → (number : ℕ) → IsSome (file_at fs number) →
-        (path : List (List ℕ)) × (cookie : ℕ) × (path_at (places fs) path ≡ Some (number, cookie)) }
-    ensures there { (fs : Files) → IsFileTree fs → (path : List (List ℕ)) (number cookie : ℕ) →
+    ensures path { (fs : Files) → IsFileTree fs → (number : FileNumber) → IsSome (file_at fs number) →
+        (path : FilePath) × (cookie : Cookie) × (path_at (places fs) path ≡ Some (number, cookie)) }
+    ensures there { (fs : Files) → IsFileTree fs → (path : FilePath) (number : FileNumber) (cookie : Cookie) →
         path_at (places fs) path ≡ Some (number, cookie) → IsSome (file_at fs number) }
-    ensures gone { (fs : Files) → IsFileTree fs → (number : ℕ) →
-        ((path : List (List ℕ)) (cookie : ℕ) → path_at (places fs) path ≢ Some (number, cookie)) →
+    ensures gone { (fs : Files) → IsFileTree fs → (number : FileNumber) →
+        ((path : FilePath) (cookie : Cookie) → path_at (places fs) path ≢ Some (number, cookie)) →
         file_at fs number ≡ None }
 {}
 
@@ -43,8 +47,8 @@ pub fn numbers_have_paths()
 pub fn files_are_told_by_paths()
     ensures { (one other : Files) → IsFileTree one → IsFileTree other →
         one.fsid ≡ other.fsid → one.next ≡ other.next →
-        ((path : List (List ℕ)) → path_at (places one) path ≡ path_at (places other) path) →
-        ((number : ℕ) →
+        ((path : FilePath) → path_at (places one) path ≡ path_at (places other) path) →
+        ((number : FileNumber) →
         option_map without_entries (file_at one number) ≡ option_map without_entries (file_at other number)) →
         one ≡ other }
 {}

@@ -2,5 +2,3 @@ pub mod OpeningFiles
 pub mod Lookups
 pub mod Present
 pub mod OpeningTree
-pub mod Pages
-pub mod ReaddirCalls

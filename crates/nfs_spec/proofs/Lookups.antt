@@ -1,4 +1,5 @@
 -- LOOKUP goes by paths.
+-- Serves: lookup_goes_by_paths (nfs_spec).
 use Rattle.std.proofs.Common.{◌≡◌, ℕ, true, cond, List, [], ◌∷◌, ◌++◌, Option, Some, None, Result, Ok, Err, option_map, option_and_then, refl, sym, ap, ◌∙◌}
 use Rattle.std.specs.Prelude.{nat_eq, not}
 use Rattle.std.specs.Cmp.Lexicographic.{pointwise}
@@ -19,11 +20,13 @@ use Rattle.nfs_spec.specs.ProcedureChecks.{◌>>=◌, ok_or, listing_or, may_sea
 use Rattle.nfs_spec.specs.Effects.{attributes_at, number_named, number_at_name, lookup}
 use Rattle.nfs_spec.specs.LawTerms.{lookup_at_path, IsSearchable}
 
+-- a directory has its listing
 pub its_listing : (e : Stat) (b : Body) → is_directory b ≡ true → listing_or e b ≡ Ok (listing_in b)
 its_listing e (Regular bytes) h = cc
 its_listing e (Symlink target) h = cc
 its_listing e (Directory l) h = refl
 
+-- the handle and attributes of a number
 abbrev pub shown : Files → Result ℕ Stat → Result (List ℕ × Fattr) Stat
 shown w r = r >>= λ n. attributes_at w n >>= λ a. Ok (handle_of w.fsid n, a)
 
@@ -50,6 +53,7 @@ module _ (w : Files) (who : Caller) (dir : List ℕ) (path : List (List ℕ)) (s
   own_place : (name : List ℕ) → path_at (places w) (path ++ name ∷ []) ≡ entry_at (listing_in s.file.body) name
   own_place name = step_last (places w) path name s.number s.cookie s.reached ∙ ap (option_and_then (λ f. entry_at (listing_in f.body) name)) s.there
 
+  -- LOOKUP of a name gives what the path with it leads to
   pub lookup_name : (name : List ℕ) → is_name name ≡ true → lookup w who dir name ≡ lookup_at_path w (path ++ name ∷ [])
   lookup_name name is =
       searched name
@@ -59,6 +63,7 @@ module _ (w : Files) (who : Caller) (dir : List ℕ) (path : List (List ℕ)) (s
   is_dir : IsDirectory w s.number
   is_dir = ap (option_map (λ f. is_directory f.body)) s.there ∙ ap (λ b. Some b) s.directory
 
+-- LOOKUP of `..` gives what the path without its last name leads to
 pub lookup_above : (w : Files) (who : Caller) (dir last : List ℕ) (front : List (List ℕ)) → IsFileTree w → IsSearchable w who dir (front ++ last ∷ []) → lookup w who dir dot_dot ≡ lookup_at_path w front
 lookup_above w who dir last front tree s =
     let above = parent_path w tree s.number s.cookie (is_dir w who dir (front ++ last ∷ []) s) front last s.reached in

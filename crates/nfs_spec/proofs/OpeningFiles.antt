@@ -1,4 +1,5 @@
 -- The files that a server begins with.
+-- Serves: opening_files_show, opening_files_are_a_tree (nfs_spec).
 use Rattle.std.proofs.Common.{◌≡◌, ℕ, ◌+◌, Bool, cond, true, false, List, [], ◌∷◌, Option, Some, Ok, refl, sym, ap, ◌∙◌, map, sum_by, length, arith}
 use Rattle.std.specs.Prelude.{nat_le, ◌&&◌}
 use Rattle.std.specs.List.{list_all}
@@ -16,9 +17,11 @@ use Rattle.nfs_spec.specs.Effects.{attributes_at, number_at_name, getattr, looku
 use Rattle.nfs_spec.specs.ProcedureChecks.{◌>>=◌, ok_or}
 use Rattle.nfs_spec.specs.Opening.{hello, opening_root, opening_hello, opening_files}
 
+-- number 1 is the root
 pub root_there : (fsid : ℕ) → file_at (opening_files fsid) 1 ≡ Some opening_root
 root_there fsid = finite.get-from_entries nat_cmp_total ((1, opening_root) ∷ (2, opening_hello) ∷ []) 1
 
+-- number 2 is `hello`
 pub hello_there : (fsid : ℕ) → file_at (opening_files fsid) 2 ≡ Some opening_hello
 hello_there fsid = finite.get-from_entries nat_cmp_total ((1, opening_root) ∷ (2, opening_hello) ∷ []) 2
 
@@ -35,6 +38,7 @@ opening_entries fsid =
     finite.entries-insert nat_cmp_total _ 1 opening_root
     ∙ ap (finite.put nat_cmp 1 opening_root) (finite.entries-insert nat_cmp_total _ 2 opening_hello ∙ ap (finite.put nat_cmp 2 opening_hello) none_yet)
 
+-- names are counted over the two files
 pub opening_names : (fsid n : ℕ) → names_of (opening_files fsid) n ≡ sum_by (names_in n) (opening_root ∷ opening_hello ∷ [])
 opening_names fsid n = ap (λ (es : List (ℕ × File)). sum_by (names_in n) (map (λ e. e.1) es)) (opening_entries fsid)
 
@@ -44,6 +48,7 @@ room_in count es =
     nat_le count 8192 && (nat_le (sum_by (λ f. length (listing_in f.body).entries) (map (λ e. e.1) es)) 16384 && (nat_le (sum_by (λ f. blocks_in f.body) (map (λ e. e.1) es)) 32768 && (nat_le 3 4294967295
     && list_all (λ f. nat_le (listing_in f.body).next 4294967295) (map (λ e. e.1) es))))
 
+-- the opening files pass no limit
 pub opening_room : (fsid : ℕ) → has_room (opening_files fsid) ≡ true
 unfolding room_in
 opening_room fsid =
@@ -70,12 +75,14 @@ root_attributes = ap (λ o. ok_or stats.Stale o >>= λ f. Ok (attributes_of (ope
 hello_attributes : attributes_at (opening_files 1) 2 ≡ Ok (record (attributes_of (opening_files 1) 2 opening_hello) { nlink = 1 })
 hello_attributes = ap (λ o. ok_or stats.Stale o >>= λ f. Ok (attributes_of (opening_files 1) 2 f)) (hello_there 1) ∙ ap (λ a. Ok a) (with_nlink (opening_files 1) 2 opening_hello 1 hello_nlink)
 
+-- GETATTR of the root
 pub root_shows : getattr (opening_files 1) (handle_of 1 1) ≡ Ok (record (attributes_of (opening_files 1) 1 opening_root) { nlink = 2 })
 root_shows = ap (λ o. ok_or stats.Stale o >>= attributes_at (opening_files 1)) root_handle ∙ root_attributes
 
 hello_found : number_at_name (opening_files 1) nobody 1 hello ≡ Ok 2
 hello_found = rw (root_there 1) refl
 
+-- LOOKUP of `hello`
 pub hello_shows : lookup (opening_files 1) nobody (handle_of 1 1) hello ≡ Ok (handle_of 1 2, record (attributes_of (opening_files 1) 2 opening_hello) { nlink = 1 })
 hello_shows =
     ap (λ o. ok_or stats.Stale o >>= λ d. number_at_name (opening_files 1) nobody d hello >>= λ n. attributes_at (opening_files 1) n >>= λ a. Ok (handle_of 1 n, a)) root_handle

@@ -1,4 +1,5 @@
 -- The files that a server begins with are a tree.
+-- Serves: opening_files_are_a_tree (nfs_spec).
 use Rattle.std.proofs.Common.{◌≡◌, ◌⊎◌, inl, inr, ⊎_elim, ℕ, ◌<◌, ◌≤◌, Bool, true, false, cond, List, [], ◌∷◌, Option, Some, None, IsSome, is_some, option_map, option_and_then, refl, sym, ap, subst, ◌∙◌, arith, nat_eq, length}
 use Rattle.std.specs.Prelude.{IsTrue}
 use Rattle.std.specs.List.{IsDistinct}
@@ -78,6 +79,7 @@ module _ (fsid : ℕ) where
       b)
       (file_of_number n)
 
+  -- the opening files are a tree
   pub opening_is_tree : IsFileTree (opening_files fsid)
   opening_is_tree = record {
     tree = record {

@@ -1,4 +1,5 @@
 -- In a tree, what is there is not STALE.
+-- Serves: what_is_there_is_not_stale (nfs_spec).
 use Rattle.std.proofs.Common.{◌≡◌, ◌≢◌, ℕ, Bool, true, false, cond, List, Option, Some, None, Result, Ok, Err, IsSome, is_some, option_map, option_and_then, refl, sym, ap, subst, ◌∙◌}
 use Rattle.std.specs.Prelude.{nat_eq}
 use Rattle.std.specs.Cmp.Lexicographic.{pointwise}
@@ -18,6 +19,7 @@ use Rattle.nfs_spec.specs.FileAttributes.{attributes_of}
 use Rattle.nfs_spec.specs.Effects.{attributes_at, number_named, number_at_name, getattr, lookup}
 use Rattle.nfs_spec.proofs.Lookups.{shown}
 
+-- what is nothing is not there
 pub none_there : {A : Type 0} (o : Option A) → o ≡ None → IsSome o → ⊥
 none_there o e there = tf (sym (ap is_some e) ∙ there)
   where
@@ -27,6 +29,7 @@ none_there o e there = tf (sym (ap is_some e) ∙ there)
 ok_not_stale : {A : Type 0} {x : A} → Ok x ≢ Err stats.Stale
 ok_not_stale h = cc
 
+-- GETATTR of a file that is there is not STALE
 pub getattr_there : (w : Files) (file : List ℕ) (n : ℕ) → number_in w.fsid file ≡ Some n → IsSome (file_at w n) → getattr w file ≢ Err stats.Stale
 getattr_there w file n named there h = by (file_at w n) refl
   where
@@ -49,6 +52,7 @@ there_shows w n there h = by (file_at w n) refl
 
 module _ (w : Files) (tree : IsFileTree w) (d : ℕ) (l : Listing) (there : IsSome (file_at w d)) (is_dir : IsDirectory w d)
     (own : (y : List ℕ) → places w d y ≡ entry_at l y) where
+  -- what a name stands for in a tree is there
   pub named_there : (name : List ℕ) (n : ℕ) → number_named w d l name ≡ Some n → IsSome (file_at w n)
   named_there name n = dots (pointwise nat_eq name dot) (pointwise nat_eq name dot_dot) (is_name name)
     where
@@ -62,6 +66,7 @@ module _ (w : Files) (tree : IsFileTree w) (d : ℕ) (l : Listing) (there : IsSo
       dots false false true h = entry (entry_at l name) (own name) h
       dots false false false h = absurd (none_some h)
 
+-- LOOKUP in a directory that is there is not STALE
 pub lookup_there : (w : Files) (who : Caller) (dir name : List ℕ) (d : ℕ) → IsFileTree w → number_in w.fsid dir ≡ Some d → IsSome (file_at w d) → lookup w who dir name ≢ Err stats.Stale
 lookup_there w who dir name d tree named there h = by (file_at w d) refl
   where

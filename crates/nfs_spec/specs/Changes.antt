@@ -49,6 +49,10 @@ with_bytes_at offset new bytes = with_length offset bytes ++ (new ++ drop (offse
 abbrev pub is_in_group : Caller → ℕ → Bool
 is_in_group who gid = (who.gid == gid) || list_any (λ g. g == gid) who.gids
 
+-- uid 0 gives a file to any group, its owner to the same or one of its own
+abbrev pub may_give_group : Caller → File → ℕ → Bool
+may_give_group who f gid = (who.uid == 0) || (owns who f && ((gid == f.gid) || is_in_group who gid))
+
 -- PERM: mode and times are set by the owner and uid 0; uid by uid 0, or the same by the owner; gid by uid 0,
 -- or the same or one of its own groups by the owner
 abbrev pub check_owner : Caller → File → GivenFields → Result (Unit {0}) Stat
@@ -56,8 +60,7 @@ check_owner who f a = do
   _ ← check (owns who f || (who.uid == 0) || (is_none a.mode && is_none a.atime && is_none a.mtime))
       stats.Perm
   _ ← check (option_map_or (λ uid. (who.uid == 0) || (owns who f && (uid == f.uid))) a.uid true) stats.Perm
-  check (option_map_or (λ gid. (who.uid == 0) || (owns who f && ((gid == f.gid) || is_in_group who gid))) a.gid true)
-      stats.Perm
+  check (option_map_or (may_give_group who f) a.gid true) stats.Perm
 
 -- a given size: ISDIR, or NXIO for a link; ACCES without write permission; FBIG
 abbrev pub check_resize : Caller → File → Option ℕ → Result (Unit {0}) Stat

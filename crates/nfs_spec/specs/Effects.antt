@@ -24,8 +24,8 @@ attributes_at fs n = do
   f ← file_of fs n
   Ok (attributes_of fs n f)
 
--- the number that a name stands for in a directory, by its own number, the one above and what it lists: `.` is
--- itself, and `..` the directory above
+-- the number that a name stands for in a directory, by its own number, the one above and what it lists: `.`
+-- is itself, and `..` the directory above
 abbrev pub number_in_listing : FileNumber → FileNumber → Listing → Name → Option FileNumber
 number_in_listing own above l name =
     if pointwise nat_eq name dot then Some own

@@ -18,6 +18,5 @@ pub mod Effects
 pub mod Readdir
 pub mod Procedures
 pub mod NfsCalls
-pub mod ReaddirCalls
 pub mod Opening
 pub mod LawTerms

@@ -1,5 +1,5 @@
--- What each call does to a server's files (RFC 1094, section 2.2): its answer, and the files after it. Arguments
--- that mean nothing (READ's totalcount, WRITE's beginoffset and totalcount) are left out.
+-- What each call does to a server's files (RFC 1094, section 2.2): its answer, and the files after it.
+-- Arguments that mean nothing (READ's totalcount, WRITE's beginoffset and totalcount) are left out.
 use Rattle.std.specs.Prelude.{ℕ, List, Result, Ok, Err, unwrap_or}
 use Rattle.nfs_types.specs.Timeval.{Timeval}
 use Rattle.nfs_types.specs.Caller.{Caller}

@@ -1,6 +1,6 @@
 //! What holds of every effect.
 
-ghost use Rattle.std.specs.Prelude.{◌≡◌, ◌≢◌, ◌↔◌, min, true, [], ◌∷◌, ◌++◌, List, ℕ, Some, Ok, Err, IsTrue, IsSome};
+ghost use Rattle.std.specs.Prelude.{◌≡◌, ◌≢◌, [], ◌∷◌, ◌++◌, List, ℕ, Some, Ok, Err, IsTrue, IsSome};
 ghost use Rattle.nfs_types.specs.Timeval.{Timeval};
 ghost use Rattle.nfs_types.specs.Caller.{Caller, nobody};
 ghost use Rattle.nfs_types.specs.Handle.{FileHandle, number_in, handle_of};
@@ -8,29 +8,27 @@ ghost use Rattle.nfs_types.specs.Arguments.{Arguments, Null, Getattr, Lookup};
 ghost use Rattle.nfs_types.specs.declared.stat.Stat.{Stat};
 ghost use Rattle.nfs_types.specs.declared.stat.Stat.TheVariants as stats;
 ghost use Rattle.nfs_types.specs.declared.attributes.FileType.TheVariants as types;
-ghost use Rattle.fs_model.specs.Listing.{Listing, IsRising};
-ghost use Rattle.fs_model.specs.Names.{dot, dot_dot, is_name};
+ghost use Rattle.fs_model.specs.Names.{Name, FilePath, dot, dot_dot, is_name};
+ghost use Rattle.fs_model.specs.Listing.{FileNumber};
 ghost use Rattle.fs_model.specs.Files.{Files, file_at};
 ghost use Rattle.fs_model.specs.Trees.{IsFileTree};
 ghost use Rattle.fs_changes.specs.Limits.{has_room};
 ghost use Rattle.nfs_spec.specs.Effects.{does, getattr, lookup};
-ghost use Rattle.nfs_spec.specs.Readdir.{PageEntry, dir_entries, page_of, pages, last_cookie, entries_above, RisesAbove, IsLongestFront};
-ghost use Rattle.nfs_spec.specs.ReaddirCalls.{Lists, readdir_page, readdir_gives};
 ghost use Rattle.nfs_spec.specs.Opening.{epoch, hello, opening_files};
 ghost use Rattle.nfs_spec.specs.LawTerms.{lookup_at_path, IsSearchable, stat_of};
 
 /// LOOKUP gives what a path with the name at its end leads to; of `.` the directory itself, and of `..` the
 /// directory of the path without its last name, which for the root is the root.
 pub fn lookup_goes_by_paths()
-    ensures name { (fs : Files) (who : Caller) (dir name : List ℕ) (path : List (List ℕ)) →
+    ensures name { (fs : Files) (who : Caller) (dir : FileHandle) (name : Name) (path : FilePath) →
         IsSearchable fs who dir path → IsTrue (is_name name) →
         lookup fs who dir name ≡ lookup_at_path fs (path ++ name ∷ []) }
-    ensures dot { (fs : Files) (who : Caller) (dir : List ℕ) (path : List (List ℕ)) →
+    ensures dot { (fs : Files) (who : Caller) (dir : FileHandle) (path : FilePath) →
         IsSearchable fs who dir path → lookup fs who dir dot ≡ lookup_at_path fs path }
-    ensures above { (fs : Files) (who : Caller) (dir last : List ℕ) (front : List (List ℕ)) →
+    ensures above { (fs : Files) (who : Caller) (dir : FileHandle) (last : Name) (front : FilePath) →
         IsFileTree fs → IsSearchable fs who dir (front ++ last ∷ []) →
         lookup fs who dir dot_dot ≡ lookup_at_path fs front }
-    ensures root { (fs : Files) (who : Caller) (dir : List ℕ) →
+    ensures root { (fs : Files) (who : Caller) (dir : FileHandle) →
         IsSearchable fs who dir [] → lookup fs who dir dot_dot ≡ lookup_at_path fs [] }
 {}
 
@@ -43,9 +41,9 @@ pub fn refusals_change_nothing()
 /// NULL, GETATTR and LOOKUP leave the files as they are.
 pub fn readers_change_nothing()
     ensures null { (fs : Files) (who : Caller) (now : Timeval) → (does fs who now Null).1 ≡ fs }
-    ensures getattr { (fs : Files) (who : Caller) (now : Timeval) (file : List ℕ) →
+    ensures getattr { (fs : Files) (who : Caller) (now : Timeval) (file : FileHandle) →
         (does fs who now (Getattr file)).1 ≡ fs }
-    ensures lookup { (fs : Files) (who : Caller) (now : Timeval) (dir name : List ℕ) →
+    ensures lookup { (fs : Files) (who : Caller) (now : Timeval) (dir : FileHandle) (name : Name) →
         (does fs who now (Lookup dir name)).1 ≡ fs }
 {}
 
@@ -59,10 +57,11 @@ pub fn effects_are_determined()
 
 /// In a tree the handle of a file that is there is not STALE.
 pub fn what_is_there_is_not_stale()
-    ensures getattr { (fs : Files) (file : List ℕ) (number : ℕ) →
+    ensures getattr { (fs : Files) (file : FileHandle) (number : FileNumber) →
         number_in fs.fsid file ≡ Some number → IsSome (file_at fs number) →
         getattr fs file ≢ Err stats.Stale }
-    ensures lookup { (fs : Files) (who : Caller) (dir name : List ℕ) (number : ℕ) → IsFileTree fs →
+    ensures lookup { (fs : Files) (who : Caller) (dir : FileHandle) (name : Name) (number : FileNumber) →
+        IsFileTree fs →
         number_in fs.fsid dir ≡ Some number → IsSome (file_at fs number) →
         lookup fs who dir name ≢ Err stats.Stale }
 {}
@@ -110,33 +109,4 @@ pub fn opening_files_show()
 pub fn opening_files_are_a_tree()
     ensures tree { (fsid : ℕ) → IsFileTree (opening_files fsid) }
     ensures room { (fsid : ℕ) → IsTrue (has_room (opening_files fsid)) }
-{}
-
-/// READDIR's pages, each from the last cookie of the one before, give each entry once and in order; eof says
-/// that none is left; and a page is the longest front whose costs fit.
-pub fn pages_give_each_entry_once()
-    ensures once { (es : List PageEntry) → RisesAbove 0 es → (counts : List ℕ) (cookie : ℕ) →
-        entries_above cookie es
-        ≡ pages counts cookie es ++ entries_above (last_cookie cookie (pages counts cookie es)) es }
-    ensures eof { (es : List PageEntry) → RisesAbove 0 es → (cookie count : ℕ) →
-        (((page_of cookie count es).eof ≡ true)
-        ↔ (entries_above (last_cookie cookie (page_of cookie count es).entries) es ≡ [])) }
-    ensures longest { (es : List PageEntry) (cookie count : ℕ) →
-        IsLongestFront (min count 8192) (entries_above cookie es) (page_of cookie count es).entries }
-    ensures rising { (fs : Files) (dir : ℕ) (l : Listing) →
-        IsRising 3 l.entries l.next → RisesAbove 0 (dir_entries fs dir l) }
-{}
-
-/// Calls of READDIR of a directory that the caller may read, each from the last cookie of the one before, give the
-/// front of the listing, each entry once and in order, and what is left is above the last cookie; with a call that
-/// answers eof they have given the whole.
-pub fn readdir_gives_the_listing_once()
-    ensures front { (fs : Files) (who : Caller) (now : Timeval) (dir : FileHandle) (es : List PageEntry) →
-        IsFileTree fs → Lists fs who dir es → (counts : List ℕ) →
-        es ≡ readdir_gives fs who now dir 0 counts
-        ++ entries_above (last_cookie 0 (readdir_gives fs who now dir 0 counts)) es }
-    ensures whole { (fs : Files) (who : Caller) (now : Timeval) (dir : FileHandle) (es : List PageEntry) →
-        IsFileTree fs → Lists fs who dir es → (counts : List ℕ) (count : ℕ) →
-        (readdir_page fs who now dir (last_cookie 0 (readdir_gives fs who now dir 0 counts)) count).eof ≡ true →
-        readdir_gives fs who now dir 0 (counts ++ count ∷ []) ≡ es }
 {}

@@ -1,13 +1,14 @@
 -- What becomes of the files that a call names.
 use Rattle.std.specs.Prelude.{◌≡◌, ◌≢◌, ℕ, ◌+◌, ◌-◌, ◌<◌, ◌&&◌, nat_le, nat_lt, max, List, length, slice_index, Some, None, if◌then◌else◌}
 use Rattle.nfs_types.specs.Timeval.{Timeval}
-use Rattle.fs_model.specs.Listing.{Listing, with_entry, without_entry}
+use Rattle.fs_model.specs.Listing.{Listing, with_entry, without_entry, FileNumber, Cookie}
+use Rattle.fs_model.specs.Names.{Name}
 use Rattle.fs_model.specs.Files.{Regular, Directory, File, Files, file_at, places, names_of}
 use Rattle.nfs_spec.specs.Sattr.{GivenFields}
 use Rattle.nfs_spec.specs.Changes.{apply_fields}
 
 -- the file of a number is there, and becomes one that stands so to it
-pub record Becomes (fs fs' : Files) (n : ℕ) (Change : File → File → Type 0) : Type 0 where
+pub record Becomes (fs fs' : Files) (n : FileNumber) (Change : File → File → Type 0) : Type 0 where
   pub old : File
   pub new : File
   pub was : file_at fs n ≡ Some old
@@ -27,13 +28,13 @@ pub record IsTouched (now : Timeval) (change : Listing → Listing) (old new : F
   pub is : new ≡ record old { mtime = now; ctime = now; body = Directory (change listing) }
 
 -- a name goes: with the last one the file is gone, else its ctime is now
-pub record LosesName (now : Timeval) (fs fs' : Files) (n : ℕ) : Type 0 where
+pub record LosesName (now : Timeval) (fs fs' : Files) (n : FileNumber) : Type 0 where
   pub last : names_of fs n ≡ 1 → file_at fs' n ≡ None
   pub others : names_of fs n ≢ 1 → Becomes fs fs' n (ChangesCtime now)
 
 -- ---- bytes
 
--- of old bytes, none behind the end: the byte there, else zero
+-- byte i of the bytes before, zero past their end
 abbrev pub old_byte : List ℕ → ℕ → ℕ
 old_byte old i = if nat_lt i (length old) then slice_index old i else 0
 
@@ -73,8 +74,8 @@ IsRewritten now old new = new ≡ record old { mtime = now; ctime = now; body = 
 
 -- CREATE of a new name, MKDIR, SYMLINK: a file has the next number, which had none, and a name in the
 -- directory, which was free
-pub record Makes (now : Timeval) (fs fs' : Files) (dir : ℕ) (name : List ℕ) (number : ℕ) (file : File)
-    : Type 0 where
+pub record Makes (now : Timeval) (fs fs' : Files) (dir : FileNumber) (name : Name) (number : FileNumber)
+    (file : File) : Type 0 where
   pub number_is : number ≡ fs.next
   pub free : file_at fs number ≡ None
   pub unused : places fs dir name ≡ None
@@ -82,32 +83,32 @@ pub record Makes (now : Timeval) (fs fs' : Files) (dir : ℕ) (name : List ℕ) 
   pub directory : Becomes fs fs' dir (IsTouched now (λ l. with_entry l name number))
 
 -- LINK: a file has another name, which was free
-pub record Links (now : Timeval) (fs fs' : Files) (number dir : ℕ) (name : List ℕ) : Type 0 where
+pub record Links (now : Timeval) (fs fs' : Files) (number dir : FileNumber) (name : Name) : Type 0 where
   pub unused : places fs dir name ≡ None
   pub file : Becomes fs fs' number (ChangesCtime now)
   pub directory : Becomes fs fs' dir (IsTouched now (λ l. with_entry l name number))
 
 -- REMOVE, RMDIR: what the name stood for loses it
-pub record Unnames (now : Timeval) (fs fs' : Files) (dir : ℕ) (name : List ℕ) : Type 0 where
-  pub number : ℕ
-  pub cookie : ℕ
+pub record Unnames (now : Timeval) (fs fs' : Files) (dir : FileNumber) (name : Name) : Type 0 where
+  pub number : FileNumber
+  pub cookie : Cookie
   pub was : places fs dir name ≡ Some (number, cookie)
   pub file : LosesName now fs fs' number
   pub directory : Becomes fs fs' dir (IsTouched now (λ l. without_entry l name))
 
 -- RENAME in one directory: what stood at the new name goes, then the old name, and the new one comes last
-abbrev pub renamed_within : List ℕ → List ℕ → ℕ → Listing → Listing
+abbrev pub renamed_within : Name → Name → FileNumber → Listing → Listing
 renamed_within from_name to_name number l =
     with_entry (without_entry (without_entry l to_name) from_name) to_name number
 
 -- RENAME: the file has another name, and what stood there loses it
-pub record Moves (now : Timeval) (fs fs' : Files) (from : ℕ) (from_name : List ℕ) (to : ℕ) (to_name : List ℕ)
-    : Type 0 where
-  pub number : ℕ
-  pub cookie : ℕ
+pub record Moves (now : Timeval) (fs fs' : Files) (from : FileNumber) (from_name : Name) (to : FileNumber)
+    (to_name : Name) : Type 0 where
+  pub number : FileNumber
+  pub cookie : Cookie
   pub was : places fs from from_name ≡ Some (number, cookie)
   pub file : Becomes fs fs' number (ChangesCtime now)
-  pub target : (t c : ℕ) → places fs to to_name ≡ Some (t, c) → LosesName now fs fs' t
+  pub target : (t : FileNumber) (c : Cookie) → places fs to to_name ≡ Some (t, c) → LosesName now fs fs' t
   pub source : from ≢ to → Becomes fs fs' from (IsTouched now (λ l. without_entry l from_name))
   pub apart : from ≢ to → Becomes fs fs' to (IsTouched now (λ l. with_entry l to_name number))
   pub within : from ≡ to

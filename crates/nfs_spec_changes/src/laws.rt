@@ -3,6 +3,8 @@
 ghost use Rattle.std.specs.Prelude.{◌≡◌, ◌≢◌, ℕ, List, [], replicate, unwrap_or, Some, None, Ok};
 ghost use Rattle.nfs_types.specs.Timeval.{Timeval};
 ghost use Rattle.nfs_types.specs.Caller.{Caller};
+ghost use Rattle.fs_model.specs.Listing.{FileNumber, Cookie};
+ghost use Rattle.fs_model.specs.Names.{Name};
 ghost use Rattle.fs_model.specs.Files.{Body, Regular, Symlink, Directory, File, Files, file_at, places};
 ghost use Rattle.fs_model.specs.Trees.{IsFileTree};
 ghost use Rattle.nfs_spec.specs.Sattr.{GivenFields, no_fields};
@@ -14,15 +16,18 @@ ghost use Rattle.nfs_spec_changes.specs.Changed.{Becomes, IsSetTo, IsRewritten, 
 /// SETATTR keeps what isn't given, and CREATE of a name that is there does as SETATTR; WRITE keeps all but
 /// the bytes, mtime and ctime, and of no bytes everything.
 pub fn setting_keeps_the_rest()
-    ensures set_attributes { (fs after : Files) (who : Caller) (now : Timeval) (n : ℕ) (a : GivenFields) →
+    ensures set_attributes { (fs after : Files) (who : Caller) (now : Timeval) (n : FileNumber)
+        (a : GivenFields) →
         set_attributes fs who now n a ≡ Ok (tt, after) → Becomes fs after n (IsSetTo now a) }
-    ensures create { (fs after : Files) (who : Caller) (now : Timeval) (dir n cookie number : ℕ)
-        (name : List ℕ) (a : GivenFields) → places fs dir name ≡ Some (n, cookie) →
+    ensures create { (fs after : Files) (who : Caller) (now : Timeval) (dir n : FileNumber) (cookie : Cookie)
+        (number : FileNumber)
+        (name : Name) (a : GivenFields) → places fs dir name ≡ Some (n, cookie) →
         create fs who now dir name a ≡ Ok (number, after) →
         (number ≡ n) × (set_attributes fs who now n a ≡ Ok (tt, after)) }
-    ensures write { (fs after : Files) (who : Caller) (now : Timeval) (n offset : ℕ) (new : List ℕ) →
+    ensures write { (fs after : Files) (who : Caller) (now : Timeval) (n : FileNumber) (offset : ℕ)
+        (new : List ℕ) →
         new ≢ [] → write fs who now n offset new ≡ Ok (tt, after) → Becomes fs after n (IsRewritten now) }
-    ensures nothing { (fs after : Files) (who : Caller) (now : Timeval) (n offset : ℕ) →
+    ensures nothing { (fs after : Files) (who : Caller) (now : Timeval) (n : FileNumber) (offset : ℕ) →
         write fs who now n offset [] ≡ Ok (tt, after) → after ≡ fs }
 {}
 
@@ -30,19 +35,21 @@ pub fn setting_keeps_the_rest()
 /// last in the directory; LINK puts a name there of a file that keeps all but ctime. Of the directory all
 /// else stays but mtime and ctime.
 pub fn making_keeps_the_rest()
-    ensures create { (fs after : Files) (who : Caller) (now : Timeval) (dir number : ℕ) (name : List ℕ)
+    ensures create { (fs after : Files) (who : Caller) (now : Timeval) (dir number : FileNumber) (name : Name)
         (a : GivenFields) → IsFileTree fs → places fs dir name ≡ None →
         create fs who now dir name a ≡ Ok (number, after) →
         Makes now fs after dir name number
         (new_regular who now a) }
-    ensures make_dir { (fs after : Files) (who : Caller) (now : Timeval) (dir number : ℕ) (name : List ℕ)
+    ensures make_dir { (fs after : Files) (who : Caller) (now : Timeval) (dir number : FileNumber)
+        (name : Name)
         (a : GivenFields) → IsFileTree fs → make_dir fs who now dir name a ≡ Ok (number, after) →
         Makes now fs after dir name number
         (new_directory who now a) }
-    ensures symlink { (fs after : Files) (who : Caller) (now : Timeval) (dir number : ℕ)
-        (name target : List ℕ) → IsFileTree fs → symlink fs who now dir name target ≡ Ok (number, after) →
+    ensures symlink { (fs after : Files) (who : Caller) (now : Timeval) (dir number : FileNumber)
+        (name : Name) (target : List ℕ) → IsFileTree fs →
+        symlink fs who now dir name target ≡ Ok (number, after) →
         Makes now fs after dir name number (new_link who now target) }
-    ensures link { (fs after : Files) (who : Caller) (now : Timeval) (from dir : ℕ) (name : List ℕ) →
+    ensures link { (fs after : Files) (who : Caller) (now : Timeval) (from dir : FileNumber) (name : Name) →
         link fs who now from dir name ≡ Ok (tt, after) → Links now fs after from dir name }
 {}
 
@@ -65,11 +72,12 @@ pub fn new_files_are_their_callers()
 /// all but ctime; RMDIR too, and what it stood for is gone. Of the directory all else stays but mtime and
 /// ctime.
 pub fn removing_keeps_the_rest()
-    ensures remove { (fs after : Files) (who : Caller) (now : Timeval) (dir : ℕ) (name : List ℕ) →
+    ensures remove { (fs after : Files) (who : Caller) (now : Timeval) (dir : FileNumber) (name : Name) →
         IsFileTree fs → remove fs who now dir name ≡ Ok (tt, after) → Unnames now fs after dir name }
-    ensures remove_dir { (fs after : Files) (who : Caller) (now : Timeval) (dir : ℕ) (name : List ℕ) →
+    ensures remove_dir { (fs after : Files) (who : Caller) (now : Timeval) (dir : FileNumber) (name : Name) →
         IsFileTree fs → remove_dir fs who now dir name ≡ Ok (tt, after) → Unnames now fs after dir name }
-    ensures gone { (fs after : Files) (who : Caller) (now : Timeval) (dir n cookie : ℕ) (name : List ℕ) →
+    ensures gone { (fs after : Files) (who : Caller) (now : Timeval) (dir n : FileNumber) (cookie : Cookie)
+        (name : Name) →
         IsFileTree fs → places fs dir name ≡ Some (n, cookie) →
         remove_dir fs who now dir name ≡ Ok (tt, after) →
         file_at after n ≡ None }
@@ -79,7 +87,8 @@ pub fn removing_keeps_the_rest()
 /// keeps all but ctime, and what stood at the new name loses it. Of the directories all else stays but mtime
 /// and ctime.
 pub fn renaming_keeps_the_rest()
-    ensures { (fs after : Files) (who : Caller) (now : Timeval) (from to : ℕ) (from_name to_name : List ℕ) →
+    ensures { (fs after : Files) (who : Caller) (now : Timeval) (from to : FileNumber)
+        (from_name to_name : Name) →
         IsFileTree fs → rename fs who now from from_name to to_name ≡ Ok (tt, after) →
         (IsSameFile fs from from_name to to_name → ⊥) → Moves now fs after from from_name to to_name }
 {}
@@ -87,13 +96,15 @@ pub fn renaming_keeps_the_rest()
 /// Byte i is the one written, else the old one, else zero: after WRITE of some bytes, after SETATTR with a
 /// size, and after CREATE of a new name with a size, where all are zero.
 pub fn bytes_are_what_was_written()
-    ensures write { (fs after : Files) (who : Caller) (now : Timeval) (n offset : ℕ) (new : List ℕ) →
+    ensures write { (fs after : Files) (who : Caller) (now : Timeval) (n : FileNumber) (offset : ℕ)
+        (new : List ℕ) →
         new ≢ [] → write fs who now n offset new ≡ Ok (tt, after) →
         Becomes fs after n (ChangesBytes (IsWritten offset new)) }
-    ensures set_attributes { (fs after : Files) (who : Caller) (now : Timeval) (n size : ℕ)
+    ensures set_attributes { (fs after : Files) (who : Caller) (now : Timeval) (n : FileNumber) (size : ℕ)
         (a : GivenFields) → a.size ≡ Some size → set_attributes fs who now n a ≡ Ok (tt, after) →
         Becomes fs after n (ChangesBytes (IsResized size)) }
-    ensures create { (fs after : Files) (who : Caller) (now : Timeval) (dir number size : ℕ) (name : List ℕ)
+    ensures create { (fs after : Files) (who : Caller) (now : Timeval) (dir number : FileNumber) (size : ℕ)
+        (name : Name)
         (a : GivenFields) → IsFileTree fs → a.size ≡ Some size → places fs dir name ≡ None →
         create fs who now dir name a ≡ Ok (number, after) →
         (g : File) × (file_at after number ≡ Some g) × (g.body ≡ Regular (replicate size 0)) }

@@ -42,8 +42,6 @@ use Rattle.nfs_spec_errors.proofs.RemoveChecks.{of_remove, of_remove_dir}
 use Rattle.nfs_spec_errors.proofs.CreateChecks.{of_create}
 use Rattle.nfs_spec_errors.proofs.RenameChecks.{of_rename}
 
--- ---- what a call answers of an effect
-
 of_told : {A : Type 0} (say : Result A Stat → Answer) → ((r : Result A Stat) → refusal_in (say r) ≡ stat_in r) → (w : Files) (e : Effect A) → refusal_in (answer_and_files say w e).0 ≡ stat_in e
 of_told say says w (Ok x) = says (Ok x.0)
 of_told say says w (Err e) = says (Err e)

@@ -26,8 +26,7 @@ of_figures w n = in_turn (file_of w n) _ (of_file w n) (λ f _. done _)
 found_if : {A : Type 0} (b : Bool) (o : Option A) → HasStat (cond b (ok_or stats.NoEnt o) (Err stats.Acces)) ((b, stats.Acces) ∷ (is_some o, stats.NoEnt) ∷ [])
 found_if true None = record { says = refl }
 found_if true (Some x) = record { says = refl }
-found_if false None = record { says = refl }
-found_if false (Some x) = record { says = refl }
+found_if false o = record { says = refl }
 
 -- LOOKUP: `lookup_checks`
 pub of_lookup : (w : Files) (who : Caller) (dir : ℕ) (name : List ℕ) → HasStat (number_at_name w who dir name) (lookup_checks w who dir name)

@@ -20,8 +20,6 @@ use Rattle.nfs_spec_steps.proofs.Steps.{place_found}
 use Rattle.nfs_spec_errors.specs.Checks.{Checks, first_failing, holds_at, holds_named, is_dir, is_link}
 use Rattle.nfs_spec_errors.specs.Tables.{file_checks, directory_checks, edit_checks}
 
--- ---- lists of checks
-
 -- what is there is not none
 pub no_some : false ≡ true → ⊥
 no_some h = cc
@@ -53,8 +51,6 @@ in_turn {cs} {ds} (Err e) f first next = record { says = sym (failed cs ds e (sy
 -- nothing is left to check
 pub done : {A : Type 0} (x : A) → HasStat (Ok x) []
 done x = record { says = refl }
-
--- ---- one check
 
 -- one check by itself
 pub of_check : (b : Bool) (e : Stat) → HasStat (check b e) ((b, e) ∷ [])
@@ -94,8 +90,6 @@ of_dir w n = record { says = by (file_at w n) }
     by None = refl
     by (Some f) = listed f f.body
 
--- ---- what a test says
-
 -- a test of a number's file is the test of the file that is there
 pub test_at : (w : Files) (n : ℕ) (f : File) (test : File → Bool) → file_at w n ≡ Some f → holds_at w n test ≡ test f
 test_at w n f test there = ap (λ o. option_map_or test o false) there
@@ -111,8 +105,6 @@ named_file w tree dir name n c at = by (file_at w n) refl (tree.tree.named dir n
     by : (o : Option File) → file_at w n ≡ o → IsSome o → (f : File) × (file_at w n ≡ Some f)
     by None e some = absurd (no_some some)
     by (Some f) e some = (f, e)
-
--- ---- what a file holds
 
 -- the listing of a body: NOTDIR
 pub of_listing : (b : Body) → HasStat (listing_or stats.NotDir b) ((is_directory b, stats.NotDir) ∷ [])

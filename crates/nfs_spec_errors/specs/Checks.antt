@@ -3,6 +3,8 @@ use Rattle.std.specs.Prelude.{ℕ, ◌==◌, Bool, true, false, List, [], ◌∷
 use Rattle.std.specs.Option.{option_map_or}
 use Rattle.nfs_types.specs.declared.stat.Stat.{Stat}
 use Rattle.fs_model.specs.Files as bodies
+use Rattle.fs_model.specs.Listing.{FileNumber}
+use Rattle.fs_model.specs.Names.{Name}
 use Rattle.fs_model.specs.Files.{Body, File, Files, file_at, listing_in, is_directory, places}
 
 abbrev pub Checks : Type 0
@@ -16,15 +18,15 @@ first_failing (c ∷ cs) = if c.0 then first_failing cs else Some c.1
 -- ---- what is tested
 
 -- whether a number has a file
-abbrev pub is_there : Files → ℕ → Bool
+abbrev pub is_there : Files → FileNumber → Bool
 is_there fs n = is_some (file_at fs n)
 
 -- whether a number has a file that passes a test
-abbrev pub holds_at : Files → ℕ → (File → Bool) → Bool
+abbrev pub holds_at : Files → FileNumber → (File → Bool) → Bool
 holds_at fs n test = option_map_or test (file_at fs n) false
 
 -- whether a name in a directory stands for a file that passes a test
-abbrev pub holds_named : Files → ℕ → List ℕ → (File → Bool) → Bool
+abbrev pub holds_named : Files → FileNumber → Name → (File → Bool) → Bool
 holds_named fs dir name test = option_map_or (λ e. holds_at fs e.0 test) (places fs dir name) false
 
 -- whether a file is a directory
@@ -32,7 +34,7 @@ abbrev pub is_dir : File → Bool
 is_dir f = is_directory f.body
 
 -- whether a name in a directory stands for a directory
-abbrev pub names_directory : Files → ℕ → List ℕ → Bool
+abbrev pub names_directory : Files → FileNumber → Name → Bool
 names_directory fs dir name = holds_named fs dir name is_dir
 
 -- whether what is given passes a test; what is not given does
@@ -56,5 +58,5 @@ bytes_in (bodies.Symlink target) = []
 bytes_in (bodies.Directory l) = []
 
 -- the bytes of a number's regular file
-abbrev pub bytes_at : Files → ℕ → List ℕ
+abbrev pub bytes_at : Files → FileNumber → List ℕ
 bytes_at fs n = option_map_or (λ f. bytes_in f.body) (file_at fs n) []

@@ -2,6 +2,8 @@
 use Rattle.std.specs.Prelude.{◌≡◌, ◌≢◌, ℕ, List, [], Some, None}
 use Rattle.nfs_types.specs.Timeval.{Timeval}
 use Rattle.nfs_types.specs.Caller.{Caller}
+use Rattle.fs_model.specs.Listing.{FileNumber, Cookie}
+use Rattle.fs_model.specs.Names.{Name}
 use Rattle.fs_model.specs.Files.{Files, file_at, places}
 use Rattle.nfs_spec.specs.Sattr.{GivenFields, given_fields}
 use Rattle.nfs_spec.specs.NfsCalls.{Call, Setattr, Write, Create, Remove, Rename, Link, Symlink, Mkdir, Rmdir, number_for}
@@ -9,30 +11,31 @@ use Rattle.nfs_spec_steps.specs.Granted.{IsSameFile, new_regular, new_directory,
 use Rattle.nfs_spec_changes.specs.Changed.{Becomes, IsSetTo, IsRewritten, ChangesBytes, IsWritten, IsResized, Makes, Links, Unnames, Moves}
 
 -- attributes are set of a file, and with a size its bytes
-pub record IsSetAt (now : Timeval) (fs fs' : Files) (n : ℕ) (a : GivenFields) : Type 0 where
+pub record IsSetAt (now : Timeval) (fs fs' : Files) (n : FileNumber) (a : GivenFields) : Type 0 where
   pub attributes : Becomes fs fs' n (IsSetTo now a)
   pub bytes : (size : ℕ) → a.size ≡ Some size → Becomes fs fs' n (ChangesBytes (IsResized size))
 
 -- bytes are written to a file; of no bytes nothing changes
-pub record IsWrittenAt (now : Timeval) (fs fs' : Files) (n offset : ℕ) (new : List ℕ) : Type 0 where
+pub record IsWrittenAt (now : Timeval) (fs fs' : Files) (n : FileNumber) (offset : ℕ)
+    (new : List ℕ) : Type 0 where
   pub rest : new ≢ [] → Becomes fs fs' n (IsRewritten now)
   pub bytes : new ≢ [] → Becomes fs fs' n (ChangesBytes (IsWritten offset new))
   pub none : new ≡ [] → fs' ≡ fs
 
 -- a file that is there has attributes set; else one is made
-pub record IsCreatedAt (who : Caller) (now : Timeval) (fs fs' : Files) (dir : ℕ) (name : List ℕ)
+pub record IsCreatedAt (who : Caller) (now : Timeval) (fs fs' : Files) (dir : FileNumber) (name : Name)
     (a : GivenFields) : Type 0 where
-  pub over : (n c : ℕ) → places fs dir name ≡ Some (n, c) → IsSetAt now fs fs' n a
+  pub over : (n : FileNumber) (c : Cookie) → places fs dir name ≡ Some (n, c) → IsSetAt now fs fs' n a
   pub fresh : places fs dir name ≡ None → Makes now fs fs' dir name fs.next (new_regular who now a)
 
 -- what the name stood for is gone
-pub record IsGoneAt (now : Timeval) (fs fs' : Files) (dir : ℕ) (name : List ℕ) : Type 0 where
+pub record IsGoneAt (now : Timeval) (fs fs' : Files) (dir : FileNumber) (name : Name) : Type 0 where
   pub unnamed : Unnames now fs fs' dir name
-  pub gone : (n c : ℕ) → places fs dir name ≡ Some (n, c) → file_at fs' n ≡ None
+  pub gone : (n : FileNumber) (c : Cookie) → places fs dir name ≡ Some (n, c) → file_at fs' n ≡ None
 
 -- where both names stand for one file nothing changes
-pub record IsMovedAt (now : Timeval) (fs fs' : Files) (from : ℕ) (from_name : List ℕ) (to : ℕ)
-    (to_name : List ℕ) : Type 0 where
+pub record IsMovedAt (now : Timeval) (fs fs' : Files) (from : FileNumber) (from_name : Name) (to : FileNumber)
+    (to_name : Name) : Type 0 where
   pub same : IsSameFile fs from from_name to to_name → fs' ≡ fs
   pub moves : (IsSameFile fs from from_name to to_name → ⊥) → Moves now fs fs' from from_name to to_name
 

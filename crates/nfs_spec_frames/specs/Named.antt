@@ -1,26 +1,27 @@
 -- Which files a call names.
 use Rattle.std.specs.Prelude.{◌≡◌, ◌≢◌, ℕ, ◌&&◌, Bool, true, false, List, [], ◌∷◌, ◌++◌, Some, is_none, if◌then◌else◌}
 use Rattle.std.specs.Option.{option_map_or}
-use Rattle.fs_model.specs.Listing.{Listing}
+use Rattle.fs_model.specs.Listing.{Listing, FileNumber}
+use Rattle.fs_model.specs.Names.{Name}
 use Rattle.fs_model.specs.Files.{Body, Regular, Directory, File, Files, file_at, places}
 use Rattle.fs_model.specs.Files as bodies
 use Rattle.nfs_spec.specs.NfsCalls.{Call, Setattr, Write, Create, Remove, Rename, Link, Symlink, Mkdir, Rmdir, Answer, number_for}
 use Rattle.nfs_spec_steps.specs.Answers.{refusal_in}
 
 -- a number is none of these
-abbrev pub IsNoneOf : ℕ → List ℕ → Type 0
+abbrev pub IsNoneOf : FileNumber → List FileNumber → Type 0
 IsNoneOf n [] = Unit {0}
 IsNoneOf n (m ∷ ms) = (n ≢ m) × IsNoneOf n ms
 
 -- what a name stands for, if it stands for anything
-abbrev pub files_at_name : Files → ℕ → List ℕ → List ℕ
+abbrev pub files_at_name : Files → FileNumber → Name → List FileNumber
 files_at_name fs dir name = option_map_or (λ e. e.0 ∷ []) (places fs dir name) []
 
 -- the numbers of the files that a call names: of SETATTR and WRITE the file; of CREATE the file that is
 -- there, else the directory and the new number; of MKDIR and SYMLINK the directory and the new number; of
 -- LINK the file and the directory; of REMOVE and RMDIR the directory and what the name stands for; of RENAME
 -- both directories and what both names stand for; of the others none
-abbrev pub files_named_by : Files → Call → List ℕ
+abbrev pub files_named_by : Files → Call → List FileNumber
 files_named_by fs (Setattr file s) = number_for fs file ∷ []
 files_named_by fs (Write file offset new) = number_for fs file ∷ []
 files_named_by fs (Create dir name s) =
@@ -50,13 +51,13 @@ files_made fs call answer = if makes_file fs call && is_none (refusal_in answer)
 
 -- the numbers of the files whose attributes a call sets: of SETATTR the file, of CREATE the file that is
 -- there
-abbrev pub files_set_by : Files → Call → List ℕ
+abbrev pub files_set_by : Files → Call → List FileNumber
 files_set_by fs (Setattr file s) = number_for fs file ∷ []
 files_set_by fs (Create dir name s) = files_at_name fs (number_for fs dir) name
 files_set_by fs _ = []
 
 -- and of those to which it may give other bytes: of WRITE the file too
-abbrev pub files_written_by : Files → Call → List ℕ
+abbrev pub files_written_by : Files → Call → List FileNumber
 files_written_by fs (Write file offset new) = number_for fs file ∷ []
 files_written_by fs call = files_set_by fs call
 
@@ -78,5 +79,5 @@ abbrev pub KeepsBytes : Body → Body → Type 0
 KeepsBytes old new = (bytes : List ℕ) → old ≡ Regular bytes → new ≡ Regular bytes
 
 -- the file of a number, where it is there before and after, stands so to the one that it was
-abbrev pub KeepsAt : (File → File → Type 0) → Files → Files → ℕ → Type 0
+abbrev pub KeepsAt : (File → File → Type 0) → Files → Files → FileNumber → Type 0
 KeepsAt Kept fs fs' n = (old new : File) → file_at fs n ≡ Some old → file_at fs' n ≡ Some new → Kept old new

@@ -3,6 +3,8 @@
 ghost use Rattle.std.specs.Prelude.{◌≡◌, ◌≢◌, ◌+◌, ◌<◌, ℕ, IsTrue, List, Some, None, Ok};
 ghost use Rattle.nfs_types.specs.Timeval.{Timeval};
 ghost use Rattle.nfs_types.specs.Caller.{Caller};
+ghost use Rattle.fs_model.specs.Listing.{FileNumber, Cookie};
+ghost use Rattle.fs_model.specs.Names.{Name};
 ghost use Rattle.fs_model.specs.Files.{Files, file_at, listing, IsDirectory, places, names_of};
 ghost use Rattle.fs_model.specs.Trees.{IsTime, IsFileTree};
 ghost use Rattle.fs_changes.specs.Limits.{has_room};
@@ -23,9 +25,9 @@ pub fn calls_keep_the_files_they_do_not_name()
         (call_does fs who now call).1.fsid ≡ fs.fsid }
     ensures next { (fs : Files) (who : Caller) (now : Timeval) (call : Call) →
         (call_does fs who now call).1.next ≡ fs.next + files_made fs call (call_does fs who now call).0 }
-    ensures others { (fs : Files) (who : Caller) (now : Timeval) (call : Call) (n : ℕ) →
+    ensures others { (fs : Files) (who : Caller) (now : Timeval) (call : Call) (n : FileNumber) →
         IsNoneOf n (files_named_by fs call) → file_at (call_does fs who now call).1 n ≡ file_at fs n }
-    ensures absent { (fs : Files) (who : Caller) (now : Timeval) (call : Call) (n : ℕ) →
+    ensures absent { (fs : Files) (who : Caller) (now : Timeval) (call : Call) (n : FileNumber) →
         n ≢ fs.next → file_at fs n ≡ None → file_at (call_does fs who now call).1 n ≡ None }
 {}
 
@@ -39,11 +41,14 @@ pub fn calls_change_what_they_name()
 /// In a tree a file stays of its kind, and a link has its target; mode, owner, group and atime are set by
 /// SETATTR and by CREATE of a file that is there alone, and bytes by these and WRITE.
 pub fn files_stay_what_they_are()
-    ensures kinds { (fs : Files) (who : Caller) (now : Timeval) (call : Call) (n : ℕ) → IsFileTree fs →
+    ensures kinds { (fs : Files) (who : Caller) (now : Timeval) (call : Call) (n : FileNumber) →
+        IsFileTree fs →
         KeepsAt (λ old new. KeepsKind old.body new.body) fs (call_does fs who now call).1 n }
-    ensures attributes { (fs : Files) (who : Caller) (now : Timeval) (call : Call) (n : ℕ) → IsFileTree fs →
+    ensures attributes { (fs : Files) (who : Caller) (now : Timeval) (call : Call) (n : FileNumber) →
+        IsFileTree fs →
         IsNoneOf n (files_set_by fs call) → KeepsAt KeepsAttributes fs (call_does fs who now call).1 n }
-    ensures bytes { (fs : Files) (who : Caller) (now : Timeval) (call : Call) (n : ℕ) → IsFileTree fs →
+    ensures bytes { (fs : Files) (who : Caller) (now : Timeval) (call : Call) (n : FileNumber) →
+        IsFileTree fs →
         IsNoneOf n (files_written_by fs call) →
         KeepsAt (λ old new. KeepsBytes old.body new.body) fs (call_does fs who now call).1 n }
 {}
@@ -66,9 +71,11 @@ pub fn runs_keep_a_tree_within_its_limits()
 pub fn runs_give_nothing_again()
     ensures anew { (fs : Files) (requests : List Request) → IsFileTree fs → AreBounded requests →
         GivesAnew fs (files_after fs requests) }
-    ensures number { (fs : Files) (requests : List Request) (n : ℕ) → IsFileTree fs → AreBounded requests →
+    ensures number { (fs : Files) (requests : List Request) (n : FileNumber) → IsFileTree fs →
+        AreBounded requests →
         n < fs.next → file_at fs n ≡ None → file_at (files_after fs requests) n ≡ None }
-    ensures cookie { (fs : Files) (requests : List Request) (n k c : ℕ) (name : List ℕ) → IsFileTree fs →
+    ensures cookie { (fs : Files) (requests : List Request) (n k : FileNumber) (c : Cookie) (name : Name) →
+        IsFileTree fs →
         AreBounded requests → IsDirectory fs n → c < (listing fs n).next →
         places (files_after fs requests) n name ≡ Some (k, c) → places fs n name ≡ Some (k, c) }
 {}
@@ -77,13 +84,15 @@ pub fn runs_give_nothing_again()
 /// directory away. Where a name is left, REMOVE leaves the file with one name less, and its ctime is the time
 /// of the call.
 pub fn the_last_name_takes_the_file()
-    ensures last { (fs after : Files) (who : Caller) (now : Timeval) (dir : ℕ) (name : List ℕ) (n c : ℕ) →
+    ensures last { (fs after : Files) (who : Caller) (now : Timeval) (dir : FileNumber) (name : Name)
+        (n : FileNumber) (c : Cookie) →
         IsFileTree fs → IsTime now → places fs dir name ≡ Some (n, c) → names_of fs n ≡ 1 →
         remove fs who now dir name ≡ Ok (tt, after) → IsGone after n }
-    ensures more { (fs after : Files) (who : Caller) (now : Timeval) (dir : ℕ) (name : List ℕ) (n c : ℕ) →
+    ensures more { (fs after : Files) (who : Caller) (now : Timeval) (dir : FileNumber) (name : Name)
+        (n : FileNumber) (c : Cookie) →
         IsFileTree fs → IsTime now → places fs dir name ≡ Some (n, c) → 1 < names_of fs n →
         remove fs who now dir name ≡ Ok (tt, after) → HasOneNameLess fs after now n }
-    ensures directory { (fs after : Files) (who : Caller) (now : Timeval) (dir : ℕ) (name : List ℕ)
-        (n c : ℕ) → IsFileTree fs → IsTime now → places fs dir name ≡ Some (n, c) →
+    ensures directory { (fs after : Files) (who : Caller) (now : Timeval) (dir : FileNumber) (name : Name)
+        (n : FileNumber) (c : Cookie) → IsFileTree fs → IsTime now → places fs dir name ≡ Some (n, c) →
         remove_dir fs who now dir name ≡ Ok (tt, after) → IsGone after n }
 {}

@@ -31,7 +31,8 @@ pub resized_byte : (size : ℕ) (old : List ℕ) (i : ℕ) → i < size
 resized_byte size old i lt = ⊎_elim
     (λ inside.
     let long : i < length (take size old) = omega (arith, length-take size old) in
-    get_or_append_left (take size old) (replicate (size - length old) 0) 0 i long ∙ get_or-take size old i 0 lt)
+    get_or_append_left (take size old) (replicate (size - length old) 0) 0 i long
+    ∙ get_or-take size old i 0 lt)
     (λ past.
     let all : length (take size old) ≡ length old = omega (arith, length-take size old) in
     get_or-append_right (take size old) (replicate (size - length old) 0) (length old) i 0 all past
@@ -44,7 +45,8 @@ pub byte_before : (offset : ℕ) (new old : List ℕ) (i : ℕ) → i < offset
     → get_or (with_bytes_at offset new old) i 0 ≡ get_or old i 0
 byte_before offset new old i lt =
     let long : i < length (with_length offset old) = omega (arith, length-resized offset old) in
-    get_or_append_left (with_length offset old) (new ++ drop (offset + length new) old) 0 i long ∙ resized_byte offset old i lt
+    get_or_append_left (with_length offset old) (new ++ drop (offset + length new) old) 0 i long
+    ∙ resized_byte offset old i lt
 
 -- a byte behind the new ones is the old one
 pub byte_behind : (offset : ℕ) (new old : List ℕ) (i : ℕ) → offset + length new ≤ i

@@ -19,7 +19,7 @@ use Rattle.nfs_spec_laws.specs.Laws.{AreValidFields}
 use Rattle.nfs_spec_laws.proofs.Bytes.{length-resized, length-written}
 
 -- what holds of a value that is given and of the other holds of the one that is taken
-unwrapped : {A : Type 0} (P : A → Type 0) (o : Option A) (d : A) → ((x : A) → o ≡ Some x → P x) → P d
+pub unwrapped : {A : Type 0} (P : A → Type 0) (o : Option A) (d : A) → ((x : A) → o ≡ Some x → P x) → P d
     → P (unwrap_or o d)
 unwrapped P None d some none = none
 unwrapped P (Some x) d some none = some x refl

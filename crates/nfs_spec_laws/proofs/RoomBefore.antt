@@ -118,7 +118,8 @@ to_link now w before dir name d there is free from =
     let v = touch_ctime now w from in
     let g = body_there w from (with_ctime now) (λ f. refl) dir d there in
     let is_g : is_directory g.0.body ≡ true = ap is_directory g.2 ∙ is in
-    let free_g : entry_at (listing_in g.0.body) name ≡ None = ap (λ b. entry_at (listing_in b) name) g.2 ∙ free_in w dir name d there free in
+    let free_g : entry_at (listing_in g.0.body) name ≡ None = ap (λ b. entry_at (listing_in b) name) g.2
+    ∙ free_in w dir name d there free in
     let same_next = ap (λ b. (listing_in b).next) g.2 in
     let same_entries = same_total w from (with_ctime now) (λ f. refl) (λ b. length (listing_in b).entries) in
     let within_v = within v (still_room w v (mark_no_more now w from) before) in (

@@ -16,6 +16,7 @@ use Rattle.nfs_spec.specs.Procedures.{with_bytes_written, add_file, unlink_targe
 use Rattle.nfs_spec.specs.NfsCalls.{Call, number_for, call_does}
 use Rattle.nfs_spec_steps.specs.Granted.{SetOk, WriteOk, MakeOk, CreateOk, UnnameOk, RenameOk, new_regular, new_directory, new_link}
 use Rattle.nfs_spec_steps.proofs.EachCall.{each_call}
+use Rattle.nfs_spec_laws.proofs.FilesFit.{unwrapped}
 use Rattle.nfs_spec_sizes.specs.Bounds.{HasWords, AsksWords, SaysWords, HasWordsIn}
 
 abbrev pub AllWords : Files → Type 0
@@ -81,11 +82,6 @@ asked now s lt h = record {
 none_wanted : WantsWords no_fields
 none_wanted = record { uid = λ n h. absurd (none_asked h); gid = λ n h. absurd (none_asked h); atime = λ t h. absurd (none_asked h); mtime = λ t h. absurd (none_asked h) }
 
-chosen : {A : Type 0} (P : A → Type 0) (o : Option A) (d : A) → ((x : A) → o ≡ Some x → P x) → P d
-    → P (unwrap_or o d)
-chosen P None d some none = none
-chosen P (Some x) d some none = some x refl
-
 either : (P : Timeval → Type 0) (b : Bool) (t u : Timeval) → P t → P u → P (cond b t u)
 either P true t u p q = p
 either P false t u p q = q
@@ -101,10 +97,10 @@ module _ (now : Timeval) (who : Caller) (says : SaysWords who now) where
   set_words : (a : GivenFields) → WantsWords a → (f : File) → HasWords f → HasWords (apply_fields now a f)
   unfolding IsWord
   set_words a wants f own = record {
-    uid = chosen (λ n. n < 2 ^ 32) a.uid f.uid wants.uid own.uid;
-    gid = chosen (λ n. n < 2 ^ 32) a.gid f.gid wants.gid own.gid;
-    atime = chosen IsWord a.atime f.atime wants.atime own.atime;
-    mtime = chosen IsWord a.mtime _ wants.mtime (either IsWord (is_some a.size) now f.mtime says.seconds own.mtime);
+    uid = unwrapped (λ n. n < 2 ^ 32) a.uid f.uid wants.uid own.uid;
+    gid = unwrapped (λ n. n < 2 ^ 32) a.gid f.gid wants.gid own.gid;
+    atime = unwrapped IsWord a.atime f.atime wants.atime own.atime;
+    mtime = unwrapped IsWord a.mtime _ wants.mtime (either IsWord (is_some a.size) now f.mtime says.seconds own.mtime);
     ctime = either IsWord (gives_any a) now f.ctime says.seconds own.ctime;
   }
 
@@ -112,10 +108,10 @@ module _ (now : Timeval) (who : Caller) (says : SaysWords who now) where
       → HasWords (new_file who now a mode body)
   unfolding IsWord
   new_words a wants mode body = record {
-    uid = one_of (who.uid == 0) _ who.uid (chosen (λ n. n < 2 ^ 32) a.uid who.uid wants.uid says.uid) says.uid;
-    gid = one_of (who.uid == 0) _ who.gid (chosen (λ n. n < 2 ^ 32) a.gid who.gid wants.gid says.gid) says.gid;
-    atime = chosen IsWord a.atime now wants.atime says.seconds;
-    mtime = chosen IsWord a.mtime now wants.mtime says.seconds;
+    uid = one_of (who.uid == 0) _ who.uid (unwrapped (λ n. n < 2 ^ 32) a.uid who.uid wants.uid says.uid) says.uid;
+    gid = one_of (who.uid == 0) _ who.gid (unwrapped (λ n. n < 2 ^ 32) a.gid who.gid wants.gid says.gid) says.gid;
+    atime = unwrapped IsWord a.atime now wants.atime says.seconds;
+    mtime = unwrapped IsWord a.mtime now wants.mtime says.seconds;
     ctime = says.seconds;
   }
 

@@ -43,7 +43,8 @@ length-trail : (at : Places) (e : ℕ × ℕ) (p : List (List ℕ)) (n c : ℕ) 
     → length (trail at e p) ≡ length p
 unfolding trail
 length-trail at e [] n c h = refl
-length-trail at e (y ∷ p) n c h = let s = first_step at e y p n c h in ap length (trail-next at e s.0 y p s.1) ∙ ap suc (length-trail at s.0 p n c s.2)
+length-trail at e (y ∷ p) n c h = let s = first_step at e y p n c h in ap length (trail-next at e s.0 y p s.1)
+    ∙ ap suc (length-trail at s.0 p n c s.2)
 
 module _ (w : Files) (tree : IsFileTree w) where
   -- each number on the way to a directory is one
@@ -61,7 +62,8 @@ module _ (w : Files) (tree : IsFileTree w) where
   apart_trail m c pm is at_m q e at_q le [] n d h last = tt
   apart_trail m c pm is at_m q e at_q le (y ∷ p) n d h last =
       let s = first_step (places w) e y p n d h in
-      let at_next : path_at (places w) (q ++ y ∷ []) ≡ Some s.0 = walk_on (places w) (1, 0) e q (y ∷ []) at_q ∙ ap (option_and_then (λ f. walk (places w) f [])) s.1 in
+      let at_next : path_at (places w) (q ++ y ∷ []) ≡ Some s.0 = walk_on (places w) (1, 0) e q (y ∷ []) at_q
+      ∙ ap (option_and_then (λ f. walk (places w) f [])) s.1 in
       let long = length-append q (y ∷ []) in
       subst (AllByRecursion (λ z. eq_by_cmp nat_cmp m z ≡ false)) (sym (trail-next (places w) e s.0 y p s.1)) (
         cmp_other m s.0.0 (λ same. absurd (omega (arith, long, le, ap length (one_path w tree pm (q ++ y ∷ []) m c s.0.1 is at_m (at_next ∙ ap (λ k. Some (k, s.0.1)) (sym same)))))),
@@ -75,7 +77,8 @@ module _ (w : Files) (tree : IsFileTree w) where
   distinct_trail q e at_q [] n d h last = tt
   distinct_trail q e at_q (y ∷ p) n d h last =
       let s = first_step (places w) e y p n d h in
-      let at_next : path_at (places w) (q ++ y ∷ []) ≡ Some s.0 = walk_on (places w) (1, 0) e q (y ∷ []) at_q ∙ ap (option_and_then (λ f. walk (places w) f [])) s.1 in
+      let at_next : path_at (places w) (q ++ y ∷ []) ≡ Some s.0 = walk_on (places w) (1, 0) e q (y ∷ []) at_q
+      ∙ ap (option_and_then (λ f. walk (places w) f [])) s.1 in
       subst (IsDistinct (eq_by_cmp nat_cmp)) (sym (trail-next (places w) e s.0 y p s.1))
       (IsDistinct-cons (eq_by_cmp nat_cmp) s.0.0 (trail (places w) s.0 p)
       (apart_trail s.0.0 s.0.1 (q ++ y ∷ []) (on_way s.0 p n d s.2 last) at_next (q ++ y ∷ []) s.0 at_next (omega arith) p n d s.2 last)
@@ -154,7 +157,8 @@ module _ (w : Files) (tree : IsFileTree w) where
       one_more : (q : List (List ℕ)) (x : List ℕ) (d parent b dir c : ℕ) → parent ≡ d
           → walk (places w) (s, 0) q ≡ Some (parent, b) → places w d x ≡ Some (dir, c)
           → walk (places w) (s, 0) (q ++ x ∷ []) ≡ Some (dir, c)
-      one_more q x d parent b dir c up at h = walk_on (places w) (s, 0) (parent, b) q (x ∷ []) at ∙ ap (option_and_then (λ f. walk (places w) f [])) (ap (λ m. places w m x) up ∙ h)
+      one_more q x d parent b dir c up at h = walk_on (places w) (s, 0) (parent, b) q (x ∷ []) at
+          ∙ ap (option_and_then (λ f. walk (places w) f [])) (ap (λ m. places w m x) up ∙ h)
 
       by_last : (dir : ℕ) → IsDirectory w dir → dir ≢ 1 → (p : List (List ℕ)) (c : ℕ)
           → path_at (places w) p ≡ Some (dir, c)

@@ -9,7 +9,8 @@ use Rattle.fs_model.proofs.Walks.{none_some}
 use Rattle.fs_model.proofs.Reached.{distinct_in, place_of}
 use Rattle.std.proofs.lemmas.Bool.{cases_lt}
 use Rattle.fs_changes.specs.Edits.{with_changed_file, map_listing, map_body_listing}
-use Rattle.fs_changes.proofs.Listings.{with_entry_distinct, without_entry_distinct, rising_pushed, rising_removed}
+use Rattle.fs_model.proofs.Cookies.{rising_pushed, rising_removed}
+use Rattle.fs_changes.proofs.Listings.{with_entry_distinct, without_entry_distinct}
 use Rattle.fs_changes.proofs.Shapes.{kind, AllFiles, IsSameShape, same_shape, changed_files}
 use Rattle.nfs_spec.specs.Changes.{with_mtime, with_ctime, touch, touch_ctime}
 

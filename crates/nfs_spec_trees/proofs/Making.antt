@@ -75,7 +75,8 @@ module _ (now : Timeval) (time : IsTime now) (w : Files) (tree : IsFileTree w) (
         here = touched_shape.places dir name ∙ named.change.here;
         rest = λ n y not. touched_shape.places n y ∙ named.change.rest n y not ∙ more.places n y;
       };
-      empty = λ y. touched_shape.places w.next y ∙ named.change.rest w.next y (λ e. other (sym e.0)) ∙ more.places w.next y ∙ unlisted w w.next y next_no_dir tree;
+      empty = λ y. touched_shape.places w.next y ∙ named.change.rest w.next y (λ e. other (sym e.0))
+          ∙ more.places w.next y ∙ unlisted w w.next y next_no_dir tree;
       kinds = λ n ne. touched_shape.kinds n ∙ named.kinds n ∙ more.kinds n ne;
       there = ap is_some (touched_shape.kinds w.next ∙ named.kinds w.next ∙ more.new);
       not_root = λ e. absurd (omega (arith, e, tree.numbers 1 (tree.tree.there 1 tree.tree.root)));
@@ -144,7 +145,8 @@ module _ (now : Timeval) (time : IsTime now) (w : Files) (tree : IsFileTree w) (
         here = u_touched.places dir name ∙ u_named.change.here;
         rest = λ n y not. u_touched.places n y ∙ u_named.change.rest n y not ∙ marked_shape.places n y;
       };
-      empty = λ y. u_touched.places k y ∙ u_named.change.rest k y (λ e. apart (sym e.0)) ∙ marked_shape.places k y ∙ unlisted w k y (λ h. true_false (sym h ∙ kind_k)) tree;
+      empty = λ y. u_touched.places k y ∙ u_named.change.rest k y (λ e. apart (sym e.0))
+          ∙ marked_shape.places k y ∙ unlisted w k y (λ h. true_false (sym h ∙ kind_k)) tree;
       kinds = λ n ne. u_touched.kinds n ∙ u_named.kinds n ∙ marked_shape.kinds n;
       there = ap is_some (u_touched.kinds k ∙ u_named.kinds k ∙ marked_shape.kinds k ∙ kind_k);
       not_root = λ e. true_false (sym tree.tree.root ∙ ap (kind w) (sym e) ∙ kind_k);

@@ -47,7 +47,8 @@ module _ (now : Timeval) (time : IsTime now) (w : Files) (tree : IsFileTree w) (
     (had : places w d x ≡ Some (n, c)) (f : File) (there : file_at w n ≡ Some f)
     (empty : (listing_in f.body).entries ≡ []) where
   nothing_below : (y : List ℕ) → places w n y ≡ None
-  nothing_below y = ap (option_and_then (λ f. entry_at (listing_in f.body) y)) there ∙ ap (λ (es : List (List ℕ × (ℕ × ℕ))). lookup (pointwise nat_eq y) es) empty
+  nothing_below y = ap (option_and_then (λ f. entry_at (listing_in f.body) y)) there
+      ∙ ap (λ (es : List (List ℕ × (ℕ × ℕ))). lookup (pointwise nat_eq y) es) empty
 
   apart : n ≢ d
   apart e = none_some (sym (ap (λ m. places w m x) (sym e) ∙ nothing_below x) ∙ had)
@@ -102,7 +103,8 @@ module _ (now : Timeval) (time : IsTime now) (w : Files) (tree : IsFileTree w) (
   some_left : 0 < names_of w₁ n → IsTaken w (touch_ctime now w₁ n) d x n c
   some_left some =
       let s = mark_shape now w₁ n in
-      let own : kind w n ≡ Some false = ap (option_map (λ f. is_directory f.body)) there ∙ ap (λ b. Some b) (plain some) in
+      let own : kind w n ≡ Some false = ap (option_map (λ f. is_directory f.body)) there
+      ∙ ap (λ b. Some b) (plain some) in
       record {
         had = had;
         change = record { here = s.places d x ∙ less.change.here; rest = λ m y not. s.places m y ∙ less.change.rest m y not };

@@ -37,7 +37,8 @@ walk_less at to less e f (y ∷ p) h = by (to e.0 y) refl (λ g. walk_less at to
     by : (o : Option (ℕ × ℕ)) → to e.0 y ≡ o → ((g : ℕ × ℕ) → walk to g p ≡ Some f → walk at g p ≡ Some f)
         → walk at e (y ∷ p) ≡ Some f
     by None is next = absurd (none_some (sym (ap (option_and_then (λ g. walk to g p)) is) ∙ h))
-    by (Some g) is next = ap (option_and_then (λ g. walk at g p)) (less e.0 y g is) ∙ next g (sym (ap (option_and_then (λ g. walk to g p)) is) ∙ h)
+    by (Some g) is next = ap (option_and_then (λ g. walk at g p)) (less e.0 y g is)
+        ∙ next g (sym (ap (option_and_then (λ g. walk to g p)) is) ∙ h)
 
 -- ---- the next cookie of a directory
 
@@ -80,7 +81,8 @@ record IsCleared (w w₁ : Files) (d : ℕ) (x : List ℕ) : Type 0 where
 module _ (now : Timeval) (time : IsTime now) (w : Files) (tree : IsFileTree w) (d : ℕ) (x : List ℕ)
     (f : File) (target : (t c : ℕ) → places w d x ≡ Some (t, c) → MayReplace w f t) where
   unlists : (t c : ℕ) → places w d x ≡ Some (t, c) → (y : List ℕ) → places w t y ≡ None
-  unlists t c h y = let g = target t c h in ap (option_and_then (λ f. entry_at (listing_in f.body) y)) g.there ∙ ap (λ (es : List (List ℕ × (ℕ × ℕ))). lookup (pointwise nat_eq y) es) g.empty
+  unlists t c h y = let g = target t c h in ap (option_and_then (λ f. entry_at (listing_in f.body) y)) g.there
+      ∙ ap (λ (es : List (List ℕ × (ℕ × ℕ))). lookup (pointwise nat_eq y) es) g.empty
 
   is_cleared : (o : Option (ℕ × ℕ)) → places w d x ≡ o
       → IsCleared w (unlink_target now w d x (option_map (λ e. e.0) o)) d x
@@ -100,8 +102,10 @@ module _ (now : Timeval) (time : IsTime now) (w : Files) (tree : IsFileTree w) (
     where
       by_left : (b : Bool) (k : ℕ) → k ≢ d
           → next_in (after_unlink b now (without_name w d x) k) d ≡ next_in w d
-      by_left true k not = ap (option_map (λ f. (listing_in f.body).next)) (gone_other (without_name w d x) k d (λ e. not (sym e))) ∙ next_unnamed w d x d
-      by_left false k not = next_changed (without_name w d x) k (with_ctime now) (λ f. refl) d ∙ next_unnamed w d x d
+      by_left true k not = ap (option_map (λ f. (listing_in f.body).next)) (gone_other (without_name w d x) k d (λ e. not (sym e)))
+          ∙ next_unnamed w d x d
+      by_left false k not = next_changed (without_name w d x) k (with_ctime now) (λ f. refl) d
+          ∙ next_unnamed w d x d
 
 -- ---- the whole
 
@@ -149,7 +153,8 @@ module _ (now : Timeval) (time : IsTime now) (w : Files) (tree : IsFileTree w) (
   source₁ = a₁.rest from from_name apart ∙ o.is_named
 
   dir₁₁ : kind w₁ from ≡ Some true
-  dir₁₁ = a₁.kinds from (lists_on from from_name (o.number, o.cookie) o.is_named) ∙ tree.tree.lists from from_name o.number o.cookie o.is_named
+  dir₁₁ = a₁.kinds from (lists_on from from_name (o.number, o.cookie) o.is_named)
+      ∙ tree.tree.lists from from_name o.number o.cookie o.is_named
 
   dir₂₁ : kind w₁ to ≡ Some true
   dir₂₁ = a₁.kinds to not_target₂ ∙ dir₂

@@ -1,5 +1,5 @@
 -- Numbers and cookies are never used again.
-use Rattle.std.specs.Prelude.{◌≡◌, ◌⊎◌, ℕ, ◌≤◌, List, Some, IsSome, IsTrue}
+use Rattle.std.specs.Prelude.{◌≡◌, ◌⊎◌, ◌≤◌, Some, IsSome, IsTrue}
 use Rattle.fs_model.specs.Listing.{FileNumber, Cookie}
 use Rattle.fs_model.specs.Names.{Name}
 use Rattle.fs_model.specs.Files.{Files, file_at, listing, IsDirectory, places}

@@ -1,6 +1,5 @@
-use Rattle.std.proofs.Common.{◌≡◌, option_map, None, nat_eq, ap, subst, ◌∙◌}
+use Rattle.std.proofs.Common.{option_map, nat_eq, ap, ◌∙◌}
 use Rattle.std.specs.Cmp.Lexicographic.{pointwise}
-use Rattle.std.specs.Map.{remove_entry, lookup}
 use Rattle.inodes.specs.Entries.{entries_of}
 use Rattle.inodes.proofs.Listings.{remove_entry-shown, lookup-shown, lookup-kept}
 use Rattle.inodes.proofs.directory.take_out.Goals as goal

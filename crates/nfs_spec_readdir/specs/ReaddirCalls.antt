@@ -7,7 +7,8 @@ use Rattle.nfs_types.specs.declared.stat.Stat.{Stat}
 use Rattle.fs_model.specs.Listing.{Cookie}
 use Rattle.fs_model.specs.Files.{Files}
 use Rattle.nfs_spec.specs.ProcedureChecks.{NumberedDir, dir_of, may_read}
-use Rattle.nfs_spec.specs.Readdir.{PageEntry, Page, dir_entries, last_cookie}
+use Rattle.nfs_spec.specs.Readdir.{PageEntry, Page, dir_entries}
+use Rattle.nfs_spec_readdir.specs.Pages.{last_cookie}
 use Rattle.nfs_spec.specs.NfsCalls.{Answer, Entries, Readdir, number_for, call_does}
 
 -- what a caller reads of a directory that it may read: `.`, `..`, and the entries in order of insertion

@@ -1,7 +1,7 @@
-use Rattle.nfs_spec.proofs.Pages.{longest, each_once, eof_is, listed_rises}
-use Rattle.nfs_spec.specs.Readdir.{entries_above}
+use Rattle.nfs_spec_readdir.proofs.Pages.{longest, each_once, eof_is, listed_rises}
+use Rattle.nfs_spec_readdir.specs.Pages.{entries_above}
 use Rattle.std.proofs.Common.{min}
-use Rattle.nfs_spec.proofs.laws.pages_give_each_entry_once.Goals as goal
+use Rattle.nfs_spec_readdir.proofs.laws.pages_give_each_entry_once.Goals as goal
 
 pub returns-clause-once : goal.returns-clause-once
 returns-clause-once c = λ es up counts cookie. each_once 0 es up counts cookie

@@ -1,5 +1,5 @@
 -- READDIR's calls, each from the last cookie of the one before, give the whole listing once, in order, up to eof.
--- Serves: readdir_gives_the_listing_once (nfs_spec).
+-- Serves: readdir_gives_the_listing_once (nfs_spec_readdir).
 use Rattle.std.proofs.Common.{◌≡◌, ℕ, true, List, [], ◌∷◌, ◌++◌, Option, Some, None, Result, Ok, refl, sym, ap, subst, ◌∙◌, arith, append_assoc, append-nil}
 use Rattle.std.proofs.lemmas.Bool.{cond-true}
 use Rattle.nfs_types.specs.Timeval.{Timeval}
@@ -11,10 +11,11 @@ use Rattle.fs_model.specs.Listing.{Listing, IsRising}
 use Rattle.fs_model.specs.Files.{Body, Regular, Symlink, Directory, File, Files, file_at}
 use Rattle.fs_model.specs.Trees.{IsBody, IsFileTree}
 use Rattle.nfs_spec.specs.ProcedureChecks.{◌>>=◌, NumberedDir, ok_or, listing_or, dir_of, may_read, check}
-use Rattle.nfs_spec.specs.Readdir.{PageEntry, Page, dir_entries, page_of, last_cookie, pages, entries_above, RisesAbove}
+use Rattle.nfs_spec.specs.Readdir.{PageEntry, Page, dir_entries, page_of}
+use Rattle.nfs_spec_readdir.specs.Pages.{last_cookie, pages, entries_above, RisesAbove}
 use Rattle.nfs_spec.specs.NfsCalls.{number_for}
-use Rattle.nfs_spec.specs.ReaddirCalls.{Lists, page_or_none, readdir_page, readdir_gives}
-use Rattle.nfs_spec.proofs.Pages.{all_above, each_once, eof_is, last-append, listed_rises}
+use Rattle.nfs_spec_readdir.specs.ReaddirCalls.{Lists, page_or_none, readdir_page, readdir_gives}
+use Rattle.nfs_spec_readdir.proofs.Pages.{all_above, each_once, eof_is, last-append, listed_rises}
 
 ok_is : {A : Type 0} {a b : A} → ◌≡◌ {A = Result A Stat} (Ok a) (Ok b) → a ≡ b
 ok_is h = cc

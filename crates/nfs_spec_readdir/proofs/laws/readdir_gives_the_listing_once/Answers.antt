@@ -1,5 +1,5 @@
-use Rattle.nfs_spec.proofs.ReaddirCalls.{gives_front, gives_whole}
-use Rattle.nfs_spec.proofs.laws.readdir_gives_the_listing_once.Goals as goal
+use Rattle.nfs_spec_readdir.proofs.ReaddirCalls.{gives_front, gives_whole}
+use Rattle.nfs_spec_readdir.proofs.laws.readdir_gives_the_listing_once.Goals as goal
 
 pub returns-clause-front : goal.returns-clause-front
 returns-clause-front c fs who now dir es tree lists counts = gives_front fs who now dir es tree lists counts

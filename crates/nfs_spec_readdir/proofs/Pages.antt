@@ -1,11 +1,13 @@
 -- READDIR's pages give each entry once, in order.
+-- Serves: pages_give_each_entry_once, readdir_gives_the_listing_once (nfs_spec_readdir).
 use Rattle.std.proofs.Common.{◌≡◌, ℕ, ◌+◌, ◌-◌, ◌<◌, ◌≤◌, Bool, true, false, cond, List, [], ◌∷◌, ◌++◌, length, map, min, leb, ltb, refl, sym, ap, ◌∙◌, arith, append_assoc, length-append}
 use Rattle.std.specs.Prelude.{◌↔◌}
 use Rattle.std.proofs.lemmas.Bool.{ltb-true, ltb-false, lt-ltb, le-ltb, leb-true, leb-false, eqb-true, eq-eqb, cond-true, cond-false}
 use Rattle.std.proofs.lemmas.List.Sums.{sum_by-cons}
 use Rattle.fs_model.specs.Listing.{Listing, IsRising}
 use Rattle.fs_model.specs.Files.{Files}
-use Rattle.nfs_spec.specs.Readdir.{PageEntry, cost, longest_front, page_of, last_cookie, pages, entries_above, RisesAbove, IsLongestFront, dir_entries}
+use Rattle.nfs_spec.specs.Readdir.{PageEntry, cost, longest_front, page_of, dir_entries}
+use Rattle.nfs_spec_readdir.specs.Pages.{last_cookie, pages, entries_above, RisesAbove, IsLongestFront}
 
 list_head : {A : Type 0} {x y : A} {xs ys : List A} → x ∷ xs ≡ y ∷ ys → x ≡ y
 list_head h = cc
@@ -16,6 +18,7 @@ list_tail h = cc
 no_cons : {A : Type 0} {x : A} {xs : List A} → [] ≡ x ∷ xs → ⊥
 no_cons h = cc
 
+-- a page is the longest front that fits
 pub longest : (count : ℕ) (es : List PageEntry) → IsLongestFront count es (longest_front count es)
 longest count [] = record { rest = []; splits = refl; fits = omega arith; longest = λ e more h. absurd (no_cons h) }
 longest count (e ∷ es) = by (leb (cost e) count) refl (longest (count - cost e) es)
@@ -79,6 +82,7 @@ one_page low es up c count =
     let l = longest (min count 8192) (entries_above c es) in
     l.splits ∙ ap (λ r. (page_of c count es).entries ++ r) (sym (behind low es up c (page_of c count es).entries l.rest l.splits))
 
+-- pages give each entry once, in order
 pub each_once : (low : ℕ) (es : List PageEntry) → RisesAbove low es → (counts : List ℕ) (c : ℕ)
     → entries_above c es ≡ pages counts c es ++ entries_above (last_cookie c (pages counts c es)) es
 each_once low es up [] c = refl
@@ -109,5 +113,6 @@ rises : (low : ℕ) (es : List (List ℕ × (ℕ × ℕ))) (high c : ℕ) → c 
 rises low [] high c lt up = tt
 rises low (e ∷ es) high c lt up = (omega (arith, up.0), rises (e.1.1 + 1) es high e.1.1 (omega arith) up.1)
 
+-- the cookies of a listing rise from 1
 pub listed_rises : (w : Files) (dir : ℕ) (l : Listing) → IsRising 3 l.entries l.next → RisesAbove 0 (dir_entries w dir l)
 listed_rises w dir l up = (omega arith, (omega arith, rises 3 l.entries l.next 2 (omega arith) up))
