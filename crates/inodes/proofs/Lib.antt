@@ -1,2 +1,3 @@
+mod Contents
 mod Listings
 mod Rising

@@ -1,3 +1,5 @@
 pub mod Entries
 pub mod Inodes
+pub mod Contents
+pub mod Given
 pub mod InodeLookUp

@@ -116,7 +116,8 @@ impl Directory {
         Ok(())
     }
 
-    /// Takes a name out, if it is there; the others keep their order and their cookies, and the next cookie stays.
+    /// Takes a name out, if it is there; the others keep their order and their cookies, and the next cookie
+    /// stays.
     #[tactic(auto, using(crate::proofs::Rising::rising_without))]
     pub fn remove(&mut self, name: &[u8])
         ensures new { self.new ≡ without_entry self.old name.now }

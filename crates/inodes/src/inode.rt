@@ -1,7 +1,10 @@
 //! A file as it is stored.
 
+use crate::content;
 use crate::directory::Directory;
+use crate::given::Given;
 use nfs_types::{Fattr, FileType, Stat, Time, Who};
+use std::alloc::AllocError;
 
 /// The greatest size of a regular file in bytes.
 pub const MAX_FILE_SIZE: u32 = 1_048_576;
@@ -34,7 +37,10 @@ impl Body {
     ghost use Rattle.std.specs.Prelude.{◌≡◌, ◌≤◌};
     ghost use Rattle.fs_model.specs.Trees.{IsBody};
     ghost use Rattle.nfs_spec.specs.FileAttributes.{type_of, type_bits, size_of};
-    ghost use Rattle.inodes.specs.Inodes.{body_in};
+    ghost use Rattle.std.specs.Prelude.{◌<◌, ◌^◌, Some, OnOk, OnErr, length};
+    ghost use Rattle.nfs_spec.specs.Changes.{body_with_length};
+    ghost use Rattle.inodes.specs.Inodes.{body_in, parent_in};
+    ghost use Rattle.inodes.specs.Contents.{body_with_bytes_at};
 
     /// What the file is.
     pub fn file_type(&self) -> FileType
@@ -70,6 +76,45 @@ impl Body {
             Body::Directory { .. } => BLOCK_SIZE,
         }
     }
+
+    /// Cuts a regular file's bytes, or fills them up with zeros; other bodies stay. Where memory is refused
+    /// nothing changes.
+    pub fn resize(&mut self, size: u32) -> Result<(), AllocError>
+        ensures ok { OnOk result (body_in self.new ≡ body_with_length (Some size) (body_in self.old)) }
+        ensures parent { parent_in self.new ≡ parent_in self.old }
+        ensures err { OnErr result (body_in self.new ≡ body_in self.old) }
+    {
+        match self {
+            Body::Regular(bytes) => content::resize(bytes, size as usize),
+            Body::Link(_) | Body::Directory { .. } => Ok(()),
+        }
+    }
+
+    /// The same with a size that may be given.
+    fn resize_to(&mut self, size: Option<u32>) -> Result<(), AllocError>
+        ensures ok { OnOk result (body_in self.new ≡ body_with_length size (body_in self.old)) }
+        ensures parent { parent_in self.new ≡ parent_in self.old }
+        ensures err { OnErr result (body_in self.new ≡ body_in self.old) }
+    {
+        match size {
+            Some(size) => self.resize(size),
+            None => Ok(()),
+        }
+    }
+
+    /// Writes bytes into a regular file at an offset, with zeros between its end and an offset past it; other
+    /// bodies stay. Where memory is refused nothing changes.
+    pub fn write(&mut self, offset: u32, new: &[u8]) -> Result<(), AllocError>
+        requires { length new.now < 2 ^ 32 }
+        ensures ok { OnOk result (body_in self.new ≡ body_with_bytes_at offset new.now (body_in self.old)) }
+        ensures parent { parent_in self.new ≡ parent_in self.old }
+        ensures err { OnErr result (body_in self.new ≡ body_in self.old) }
+    {
+        match self {
+            Body::Regular(bytes) => content::write_at(bytes, offset as usize, new),
+            Body::Link(_) | Body::Directory { .. } => Ok(()),
+        }
+    }
 }
 
 /// A file with its attributes.
@@ -91,10 +136,13 @@ impl Inode {
     ghost use Rattle.std.specs.Prelude.{◌≡◌};
     ghost use Rattle.nfs_items.specs.CallerOf.{caller_of};
     ghost use Rattle.fs_model.specs.Trees.{IsBody};
-    ghost use Rattle.std.specs.Prelude.{◌≤◌};
+    ghost use Rattle.std.specs.Prelude.{◌≤◌, ◌<◌, ◌^◌, OnOk, OnErr, length};
+    ghost use Rattle.nfs_spec.specs.Changes.{with_mtime, apply_fields};
     ghost use Rattle.std.specs.Result.{result_map_both};
     ghost use Rattle.nfs_spec.specs.ProcedureChecks.{class_of, permits, may_search, owns, may_read, may_write, bytes_of, target_of};
-    ghost use Rattle.inodes.specs.Inodes.{body_in, file_in, fattr_of};
+    ghost use Rattle.inodes.specs.Inodes.{body_in, parent_in, file_in, fattr_of};
+    ghost use Rattle.inodes.specs.Contents.{body_with_bytes_at};
+    ghost use Rattle.inodes.specs.Given.{given_in};
     ghost use Rattle.inodes.specs.InodeLookUp.{look_up_in};
 
     /// The attributes (RFC 1094, section 2.3.5) under the server's number and a file's.
@@ -191,6 +239,47 @@ impl Inode {
             Body::Link(target) => Ok(target.as_slice()),
             Body::Regular(_) | Body::Directory { .. } => Err(Stat::NxIo),
         }
+    }
+
+    /// Writes bytes into a regular file at an offset (RFC 1094, section 2.2.9), with zeros between its end
+    /// and an offset past it; mtime and ctime become now. Where memory is refused nothing changes.
+    pub fn write(&mut self, now: Time, offset: u32, new: &[u8]) -> Result<(), AllocError>
+        requires { length new.now < 2 ^ 32 }
+        ensures file { OnOk result (file_in self.new ≡ with_mtime now (record (file_in self.old) {
+          body = body_with_bytes_at offset new.now (body_in self.old.body);
+        })) }
+        ensures nlink { self.new.nlink ≡ self.old.nlink }
+        ensures parent { parent_in self.new.body ≡ parent_in self.old.body }
+        ensures err { OnErr result (file_in self.new ≡ file_in self.old) }
+    {
+        self.body.write(offset, new)?;
+        self.mtime = now;
+        self.ctime = now;
+        Ok(())
+    }
+
+    /// Sets the attributes that are given (RFC 1094, section 2.2.3): ctime becomes now if there are any, and
+    /// mtime if a size is given, before a given mtime. Where memory is refused nothing changes.
+    pub fn set(&mut self, now: Time, given: &Given) -> Result<(), AllocError>
+        ensures file { OnOk result (file_in self.new
+            ≡ apply_fields now (given_in given.now) (file_in self.old)) }
+        ensures nlink { self.new.nlink ≡ self.old.nlink }
+        ensures parent { parent_in self.new.body ≡ parent_in self.old.body }
+        ensures err { OnErr result (file_in self.new ≡ file_in self.old) }
+    {
+        self.body.resize_to(given.size)?;
+        self.mode = given.mode.unwrap_or(self.mode);
+        self.uid = given.uid.unwrap_or(self.uid);
+        self.gid = given.gid.unwrap_or(self.gid);
+        self.atime = given.atime.unwrap_or(self.atime);
+        let mtime = if given.size.is_some() {
+            now
+        } else {
+            self.mtime
+        };
+        self.mtime = given.mtime.unwrap_or(mtime);
+        self.ctime = if given.is_any() { now } else { self.ctime };
+        Ok(())
     }
 
     /// The number that a name stands for in a directory under the given number, `.` and `..` too. NotDir

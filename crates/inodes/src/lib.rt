@@ -2,10 +2,13 @@
 //! has, and the directory above.
 #![tactic(auto)]
 
+mod content;
 mod directory;
+mod given;
 mod inode;
 mod names;
 
 pub use directory::{Directory, Entry, FIRST_COOKIE};
+pub use given::Given;
 pub use inode::{BLOCK_SIZE, Body, Inode, MAX_FILE_SIZE};
 pub use names::is_name;
