@@ -4,4 +4,9 @@ use Rattle.nfs_items.specs.declared.who.Who.{Who}
 use Rattle.nfs_items.specs.Caller.{Caller}
 
 abbrev pub caller_of : Who → Caller
-caller_of w = record { uid = w.uid; gid = w.gid; gids = w.gids; machine_name = option_map (λ name. name.now) w.machine_name }
+caller_of w = record {
+  uid = w.uid;
+  gid = w.gid;
+  gids = w.gids;
+  machine_name = option_map (λ name. name.now) w.machine_name;
+}

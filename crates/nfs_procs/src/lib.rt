@@ -56,8 +56,8 @@ fn lookup(tree: &Tree, who: &Who, args: DirOpArgs) -> Result<DirOpOk, Stat>
     })
 }
 
-/// Appends what a caller is answered by a procedure that reads alone. Where memory is refused, the bytes are as they
-/// were.
+/// Appends what a caller is answered by a procedure that reads alone. Where memory is refused, the bytes are as
+/// they were.
 fn answer_into(
     tree: &Tree,
     who: &Who,
@@ -79,8 +79,8 @@ fn answer_into(
     }
 }
 
-/// Does what a caller's call at a time asks for, and appends the answer. A refusal is a stat within the answer, and
-/// leaves the files as they were. Where memory is refused, the files and the bytes are as they were.
+/// Does what a caller's call at a time asks for, and appends the answer. A refusal is a stat within the answer,
+/// and leaves the files as they were. Where memory is refused, the files and the bytes are as they were.
 pub fn nfs_call(
     tree: &mut Tree,
     who: &Who,
@@ -91,7 +91,8 @@ pub fn nfs_call(
     requires { IsTrue (is_served (procedure_in (call_of args.now))) }
     ensures text { Appends (answer_text (call_does tree.old (caller_of who.now) now (call_of args.now)).0)
         out.old.items result out.new.items }
-    ensures files { OnOk result (tree.new ≡ (call_does tree.old (caller_of who.now) now (call_of args.now)).1) }
+    ensures files { OnOk result (tree.new
+        ≡ (call_does tree.old (caller_of who.now) now (call_of args.now)).1) }
     ensures err { OnErr result (tree.new ≡ tree.old) }
 {
     answer_into(tree, who, now, args, out)

@@ -1,5 +1,5 @@
--- The calls of NFS version 2 (RFC 1094, section 2.2) and their answers, without where they lie in memory. Arguments that
--- mean nothing (READ's totalcount, WRITE's beginoffset and totalcount) are left out.
+-- The calls of NFS version 2 (RFC 1094, section 2.2) and their answers, without where they lie in memory.
+-- Arguments that mean nothing (READ's totalcount, WRITE's beginoffset and totalcount) are left out.
 use Rattle.std.specs.Prelude.{ℕ, Bool, List, Result}
 use Rattle.nfs_items.specs.declared.attributes.Fattr.{Fattr}
 use Rattle.nfs_items.specs.declared.sattr.Sattr.{Sattr}

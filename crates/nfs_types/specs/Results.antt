@@ -64,9 +64,13 @@ outcome_text text (Err e) = spelling word (stat_number e)
 abbrev pub answer_bytes : NfsResult → List ℕ
 answer_bytes code.Nothing = []
 answer_bytes (code.Attributes r) = outcome_text (λ a. spelling fattr (fattr_value a)) r
-answer_bytes (code.DirOp r) = outcome_text (λ x. spelling fhandle x.file.0 ++ spelling fattr (fattr_value x.attributes)) r
+answer_bytes (code.DirOp r) =
+    outcome_text (λ x. spelling fhandle x.file.0 ++ spelling fattr (fattr_value x.attributes)) r
 answer_bytes (code.Target r) = outcome_text (λ t. spelling path t.now) r
-answer_bytes (code.Bytes r) = outcome_text (λ x. spelling fattr (fattr_value x.attributes) ++ spelling nfsdata x.data.now) r
+answer_bytes (code.Bytes r) =
+    outcome_text (λ x. spelling fattr (fattr_value x.attributes) ++ spelling nfsdata x.data.now) r
 answer_bytes (code.Status r) = outcome_text (λ x. []) r
-answer_bytes (code.Entries r) = outcome_text (λ p. spelling (linked entry) (map entry_value (map entry_of p.entries.items)) ++ spelling flag p.eof) r
+answer_bytes (code.Entries r) =
+    outcome_text (λ p.
+    spelling (linked entry) (map entry_value (map entry_of p.entries.items)) ++ spelling flag p.eof) r
 answer_bytes (code.Free r) = outcome_text (λ f. spelling fs_stats (fs_stats_value f)) r

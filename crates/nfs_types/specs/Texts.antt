@@ -12,7 +12,8 @@ use Rattle.nfs_types.specs.declared.arguments.NfsProcedure.{NfsProcedure}
 use Rattle.nfs_types.specs.declared.arguments.NfsProcedure.TheVariants as procedures
 use Rattle.nfs_types.specs.Calls as calls
 use Rattle.nfs_types.specs.Calls.{Call, Answer, PageEntry, Page}
-use Rattle.nfs_types.specs.Items.{nfsdata, path, diropargs, sattrargs, readargs, writeargs, createargs, renameargs, linkargs, symlinkargs, readdirargs, attrstat, diropres, readlinkres, readres, status, entry, readdirres, fs_stats, statfsres}
+use Rattle.nfs_types.specs.Items.{diropargs, sattrargs, readargs, writeargs, createargs, renameargs, linkargs, symlinkargs, readdirargs}
+use Rattle.nfs_types.specs.Items.{nfsdata, path, attrstat, diropres, readlinkres, readres, status, entry, readdirres, fs_stats, statfsres}
 
 -- ---- arguments
 
@@ -25,21 +26,35 @@ pub record Procedure : Type 0 where
 abbrev pub procedure_of : NfsProcedure → Procedure
 procedure_of procedures.Null = record { arguments = empty; says = λ v. calls.Null; results = empty }
 procedure_of procedures.Getattr = record { arguments = fhandle; says = calls.Getattr; results = attrstat }
-procedure_of procedures.Setattr = record { arguments = sattrargs; says = λ v. calls.Setattr v.0 (sattr_of v.1); results = attrstat }
+procedure_of procedures.Setattr =
+    record { arguments = sattrargs; says = λ v. calls.Setattr v.0 (sattr_of v.1); results = attrstat }
 procedure_of procedures.Root = record { arguments = empty; says = λ v. calls.Root; results = empty }
-procedure_of procedures.Lookup = record { arguments = diropargs; says = λ v. calls.Lookup v.0 v.1; results = diropres }
-procedure_of procedures.Readlink = record { arguments = fhandle; says = calls.Readlink; results = readlinkres }
-procedure_of procedures.Read = record { arguments = readargs; says = λ v. calls.Read v.0 v.1.0 v.1.1.0; results = readres }
-procedure_of procedures.Writecache = record { arguments = empty; says = λ v. calls.Writecache; results = empty }
-procedure_of procedures.Write = record { arguments = writeargs; says = λ v. calls.Write v.0 v.1.1.0 v.1.1.1.1; results = attrstat }
-procedure_of procedures.Create = record { arguments = createargs; says = λ v. calls.Create v.0.0 v.0.1 (sattr_of v.1); results = diropres }
-procedure_of procedures.Remove = record { arguments = diropargs; says = λ v. calls.Remove v.0 v.1; results = status }
-procedure_of procedures.Rename = record { arguments = renameargs; says = λ v. calls.Rename v.0.0 v.0.1 v.1.0 v.1.1; results = status }
-procedure_of procedures.Link = record { arguments = linkargs; says = λ v. calls.Link v.0 v.1.0 v.1.1; results = status }
-procedure_of procedures.Symlink = record { arguments = symlinkargs; says = λ v. calls.Symlink v.0.0 v.0.1 v.1.0 (sattr_of v.1.1); results = status }
-procedure_of procedures.Mkdir = record { arguments = createargs; says = λ v. calls.Mkdir v.0.0 v.0.1 (sattr_of v.1); results = diropres }
-procedure_of procedures.Rmdir = record { arguments = diropargs; says = λ v. calls.Rmdir v.0 v.1; results = status }
-procedure_of procedures.Readdir = record { arguments = readdirargs; says = λ v. calls.Readdir v.0 (big_number 4 v.1.0) v.1.1; results = readdirres }
+procedure_of procedures.Lookup =
+    record { arguments = diropargs; says = λ v. calls.Lookup v.0 v.1; results = diropres }
+procedure_of procedures.Readlink =
+    record { arguments = fhandle; says = calls.Readlink; results = readlinkres }
+procedure_of procedures.Read =
+    record { arguments = readargs; says = λ v. calls.Read v.0 v.1.0 v.1.1.0; results = readres }
+procedure_of procedures.Writecache =
+    record { arguments = empty; says = λ v. calls.Writecache; results = empty }
+procedure_of procedures.Write =
+    record { arguments = writeargs; says = λ v. calls.Write v.0 v.1.1.0 v.1.1.1.1; results = attrstat }
+procedure_of procedures.Create =
+    record { arguments = createargs; says = λ v. calls.Create v.0.0 v.0.1 (sattr_of v.1); results = diropres }
+procedure_of procedures.Remove =
+    record { arguments = diropargs; says = λ v. calls.Remove v.0 v.1; results = status }
+procedure_of procedures.Rename =
+    record { arguments = renameargs; says = λ v. calls.Rename v.0.0 v.0.1 v.1.0 v.1.1; results = status }
+procedure_of procedures.Link =
+    record { arguments = linkargs; says = λ v. calls.Link v.0 v.1.0 v.1.1; results = status }
+procedure_of procedures.Symlink =
+    record { arguments = symlinkargs; says = λ v. calls.Symlink v.0.0 v.0.1 v.1.0 (sattr_of v.1.1); results = status }
+procedure_of procedures.Mkdir =
+    record { arguments = createargs; says = λ v. calls.Mkdir v.0.0 v.0.1 (sattr_of v.1); results = diropres }
+procedure_of procedures.Rmdir =
+    record { arguments = diropargs; says = λ v. calls.Rmdir v.0 v.1; results = status }
+procedure_of procedures.Readdir =
+    record { arguments = readdirargs; says = λ v. calls.Readdir v.0 (big_number 4 v.1.0) v.1.1; results = readdirres }
 procedure_of procedures.Statfs = record { arguments = fhandle; says = calls.Statfs; results = statfsres }
 
 -- the procedures by their numbers, from 0 to 17
@@ -94,7 +109,8 @@ answer_value (calls.DirOp r) = outcome_value (pair fhandle fattr) (λ x. (x.0, f
 answer_value (calls.Target r) = outcome_value path (λ target. target) r
 answer_value (calls.Bytes r) = outcome_value (pair fattr nfsdata) (λ x. (fattr_value x.0, x.1)) r
 answer_value (calls.Status r) = outcome_value empty (λ x. x) r
-answer_value (calls.Entries r) = outcome_value (pair (linked entry) flag) (λ p. (map entry_value p.entries, p.eof)) r
+answer_value (calls.Entries r) =
+    outcome_value (pair (linked entry) flag) (λ p. (map entry_value p.entries, p.eof)) r
 answer_value (calls.Free r) = outcome_value fs_stats fs_stats_value r
 
 -- the one spelling of an answer

@@ -10,9 +10,9 @@ ghost use Rattle.nfs_types.specs.Texts.{procedure_of, procedure_at, procedure_in
 
 use crate::limits::{MAXDATA, MAXNAMLEN, MAXPATHLEN};
 
-/// A procedure's arguments are read exactly where their spelling stands at the front, whatever stands behind it; the
-/// fault is that of reading their item; the numbers of procedures are 0 to 17; and bytes say one call at most, which is
-/// of that procedure.
+/// A procedure's arguments are read exactly where their spelling stands at the front, whatever stands behind it;
+/// the fault is that of reading their item; the numbers of procedures are 0 to 17; and bytes say one call at most,
+/// which is of that procedure.
 pub fn arguments_are_read_as_spelled()
     ensures exact { (procedure : NfsProcedure) (bytes rest : List ℕ) (call : Call) → IsBytes bytes →
         ((call_at procedure bytes ≡ Ok (call, rest)) ↔ SaysCall procedure bytes call rest) }
@@ -28,17 +28,20 @@ pub fn arguments_are_read_as_spelled()
 /// An answer's text can be read back, and says the answer, exactly where the answer's value fits.
 pub fn answers_are_spelled()
     ensures { (a : Answer) (rest : List ℕ) → IsBytes (answer_text a ++ rest) →
-        ((read_at (answer_item a) (answer_text a ++ rest) ≡ Ok (answer_value a, rest)) ↔ Fits (answer_item a) (answer_value a)) }
+        ((read_at (answer_item a) (answer_text a ++ rest) ≡ Ok (answer_value a, rest))
+        ↔ Fits (answer_item a) (answer_value a)) }
 {}
 
 /// An answer of a procedure is of the procedure's results.
 pub fn answers_are_of_their_procedure()
-    ensures { (procedure : NfsProcedure) (a : Answer) → IsAnswerTo procedure a → answer_item a ≡ (procedure_of procedure).results }
+    ensures { (procedure : NfsProcedure) (a : Answer) → IsAnswerTo procedure a →
+        answer_item a ≡ (procedure_of procedure).results }
 {}
 
 /// No answer of a procedure begins another, so each has one meaning.
 pub fn answers_have_one_meaning()
-    ensures { (procedure : NfsProcedure) (a b : Answer) (x y : List ℕ) → IsAnswerTo procedure a → IsAnswerTo procedure b →
+    ensures { (procedure : NfsProcedure) (a b : Answer) (x y : List ℕ) →
+        IsAnswerTo procedure a → IsAnswerTo procedure b →
         IsSpelled a → IsSpelled b → answer_text a ++ x ≡ answer_text b ++ y → (a ≡ b) × (x ≡ y) }
 {}
 

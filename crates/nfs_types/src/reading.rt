@@ -17,7 +17,8 @@ use xdr::{Reader, XdrFault};
 /// section 2.2). The fault is the first from left to right.
 pub fn read_args(procedure: NfsProcedure, bytes: &[u8]) -> Result<NfsArgs<'_>, XdrFault>
     ensures found { IfOk result (λ a. (rest : List ℕ) × SaysCall procedure bytes.now (call_of a) rest) }
-    ensures only { (call : Call) (rest : List ℕ) → SaysCall procedure bytes.now call rest → IsOkAnd result (λ a. call_of a ≡ call) }
+    ensures only { (call : Call) (rest : List ℕ) → SaysCall procedure bytes.now call rest →
+        IsOkAnd result (λ a. call_of a ≡ call) }
     ensures exact { ReadsCall procedure bytes.now result }
     ensures own { IfOk result (λ a. procedure_in (call_of a) ≡ procedure) }
 {

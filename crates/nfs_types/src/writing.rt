@@ -59,14 +59,16 @@ fn add_stat(stat: Stat, out: &mut Vec<u8>) -> Result<(), AllocError>
 }
 
 fn add_attributes(attributes: &Fattr, out: &mut Vec<u8>) -> Result<(), AllocError>
-    ensures { Adds (spelling word 0 ++ spelling fattr (fattr_value attributes.now)) out.old.items result out.new.items }
+    ensures { Adds (spelling word 0 ++ spelling fattr (fattr_value attributes.now))
+        out.old.items result out.new.items }
 {
     out.put_u32(OK)?;
     attributes.write(out)
 }
 
 fn add_dir_op(found: &DirOpOk, out: &mut Vec<u8>) -> Result<(), AllocError>
-    ensures { Adds (spelling word 0 ++ (spelling fhandle found.now.file.0 ++ spelling fattr (fattr_value found.now.attributes)))
+    ensures { Adds (spelling word 0
+        ++ (spelling fhandle found.now.file.0 ++ spelling fattr (fattr_value found.now.attributes)))
         out.old.items result out.new.items }
 {
     out.put_u32(OK)?;
@@ -84,7 +86,8 @@ fn add_target(target: &[u8], out: &mut Vec<u8>) -> Result<(), AllocError>
 
 fn add_read(read: &ReadOk, out: &mut Vec<u8>) -> Result<(), AllocError>
     requires { length read.now.data.now < 2 ^ 32 }
-    ensures { Adds (spelling word 0 ++ (spelling fattr (fattr_value read.now.attributes) ++ spelling nfsdata read.now.data.now))
+    ensures { Adds (spelling word 0
+        ++ (spelling fattr (fattr_value read.now.attributes) ++ spelling nfsdata read.now.data.now))
         out.old.items result out.new.items }
 {
     out.put_u32(OK)?;
@@ -94,7 +97,8 @@ fn add_read(read: &ReadOk, out: &mut Vec<u8>) -> Result<(), AllocError>
 
 fn add_entry(e: &PageEntry, out: &mut Vec<u8>) -> Result<(), AllocError>
     requires { length e.now.name.now < 2 ^ 32 }
-    ensures { Adds (spelling word 1 ++ spelling entry (entry_value (entry_of e.now))) out.old.items result out.new.items }
+    ensures { Adds (spelling word 1 ++ spelling entry (entry_value (entry_of e.now)))
+        out.old.items result out.new.items }
 {
     out.put_u32(1)?;
     out.put_u32(e.fileid)?;
@@ -116,7 +120,8 @@ fn add_entries(entries: &[PageEntry], out: &mut Vec<u8>) -> Result<(), AllocErro
 /// Each entry behind TRUE, and then FALSE.
 fn add_list(entries: &[PageEntry], out: &mut Vec<u8>) -> Result<(), AllocError>
     requires { All (λ e. length e.name.now < 2 ^ 32) entries.now }
-    ensures { Adds (spelling (linked entry) (map entry_value (map entry_of entries.now))) out.old.items result out.new.items }
+    ensures { Adds (spelling (linked entry) (map entry_value (map entry_of entries.now)))
+        out.old.items result out.new.items }
 {
     add_entries(entries, out)?;
     out.put_u32(0)
@@ -124,7 +129,8 @@ fn add_list(entries: &[PageEntry], out: &mut Vec<u8>) -> Result<(), AllocError>
 
 fn add_page(page: &Page, out: &mut Vec<u8>) -> Result<(), AllocError>
     requires { All (λ e. length e.name.now < 2 ^ 32) page.now.entries.items }
-    ensures { Adds (spelling word 0 ++ (spelling (linked entry) (map entry_value (map entry_of page.now.entries.items)) ++ spelling flag page.now.eof))
+    ensures { Adds (spelling word 0
+        ++ (spelling (linked entry) (map entry_value (map entry_of page.now.entries.items)) ++ spelling flag page.now.eof))
         out.old.items result out.new.items }
 {
     out.put_u32(OK)?;
@@ -133,7 +139,8 @@ fn add_page(page: &Page, out: &mut Vec<u8>) -> Result<(), AllocError>
 }
 
 fn add_fs_stats(f: &FsStats, out: &mut Vec<u8>) -> Result<(), AllocError>
-    ensures { Adds (spelling word 0 ++ spelling fs_stats (fs_stats_value f.now)) out.old.items result out.new.items }
+    ensures { Adds (spelling word 0 ++ spelling fs_stats (fs_stats_value f.now))
+        out.old.items result out.new.items }
 {
     out.put_u32s(&[
         OK,
