@@ -7,7 +7,7 @@ cd "$(dirname "$0")/.."
 
 work=$(mktemp -d)
 trap 'rm -rf "$work"' EXIT
-below=(xdr records rpc nfs_types fs_model fs_changes nfs_spec inodes file_tree nfs_procs service console)
+below=(xdr records rpc nfs_items nfs_types fs_model fs_changes nfs_spec inodes file_tree nfs_procs service console)
 for crate in "${below[@]}"; do
     mkdir -p "$work/crates/$crate"
     cp -r "crates/$crate/src" "crates/$crate/specs" "crates/$crate/proofs" "$work/crates/$crate/"
