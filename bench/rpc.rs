@@ -4,31 +4,16 @@
 //!     rpc answer          answers the records of standard input
 //!     rpc stream COUNT    writes so many records, GETATTR of the root and LOOKUP of hello by turns
 
+mod records;
+
+use records::{Fault, LAST, MAX_RECORD, next};
 use std::collections::{BTreeMap, HashMap};
 use std::fs::File;
-use std::io::{self, BufReader, BufWriter, Read, Write};
+use std::io::{self, BufReader, BufWriter, Write};
 use std::os::fd::AsFd;
 use std::process::ExitCode;
 
-const MAX_RECORD: usize = 12288;
-const MAX_FRAGMENTS: u32 = 16384;
-const LAST: u32 = 0x8000_0000;
 const NODE: u32 = 1;
-
-enum Fault {
-    RecordTooLong,
-    EndInRecord,
-    Device,
-}
-
-impl From<io::Error> for Fault {
-    fn from(error: io::Error) -> Fault {
-        match error.kind() {
-            io::ErrorKind::UnexpectedEof => Fault::EndInRecord,
-            _ => Fault::Device,
-        }
-    }
-}
 
 /// Why a call gets no results.
 enum Refusal {
@@ -243,29 +228,6 @@ fn reply(tree: &Tree, record: &[u8], out: &mut Vec<u8>) -> Option<()> {
         }
     }
     Some(())
-}
-
-/// Reads a record, and says whether there was one.
-fn next(input: &mut impl Read, record: &mut Vec<u8>) -> Result<bool, Fault> {
-    record.clear();
-    for count in 0.. {
-        let mut mark = [0; 4];
-        if count == 0 && input.read(&mut mark[..1])? == 0 {
-            return Ok(false);
-        }
-        input.read_exact(&mut mark[usize::from(count == 0)..])?;
-        let mark = u32::from_be_bytes(mark);
-        let (start, len) = (record.len(), (mark & !LAST) as usize);
-        if count == MAX_FRAGMENTS || len > MAX_RECORD - start {
-            return Err(Fault::RecordTooLong);
-        }
-        record.resize(start + len, 0);
-        input.read_exact(&mut record[start..])?;
-        if mark & LAST != 0 {
-            return Ok(true);
-        }
-    }
-    unreachable!()
 }
 
 fn answer() -> Result<(), Fault> {

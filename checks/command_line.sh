@@ -80,7 +80,7 @@ check_streams() {
         cmp -s said line || fail "$name: it said" said
         count=$((count + 1))
     done < "$cases/streams.txt"
-    [ "$count" -eq 123 ] || fail "$count streams were tried"
+    [ "$count" -eq 126 ] || fail "$count streams were tried"
 }
 
 # The record of NULL, cut anywhere, and its header, cut anywhere and a record again.

@@ -5,7 +5,7 @@ set -euo pipefail
 cd "$(dirname "$0")/.."
 . checks/scratch_crate.sh
 
-scratch_crate log_memory checks/log_refused_memory/main.rt.txt secure_log authenticator merkle_keys xdr
+scratch_crate log_memory checks/log_refused_memory/main.rt.txt secure_log authenticator merkle_keys xdr_texts xdr
 refuse_each 90
 for call in Roster::read Roster::write Roster::try_clone Authenticator::write check Entry::read Entry::write \
     Log::reserve Log::append OpenSegment::write check_segment; do

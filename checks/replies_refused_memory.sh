@@ -4,15 +4,18 @@
 # request of the whole process is refused in each run, and the program is told how many to make before it begins.
 set -euo pipefail
 cd "$(dirname "$0")/.."
+. checks/scratch_crate.sh
 
 work=$(mktemp -d)
 trap 'rm -rf "$work"' EXIT
-below=(xdr records rpc nfs_items nfs_types fs_model fs_changes nfs_spec inodes file_tree nfs_procs service console)
-for crate in "${below[@]}"; do
-    mkdir -p "$work/crates/$crate"
-    cp -r "crates/$crate/src" "crates/$crate/specs" "crates/$crate/proofs" "$work/crates/$crate/"
-    grep "^$crate:" crates.txt >> "$work/crates.txt"
-done
+mkdir "$work/crates"
+crates_below console service rpc nfs_types > "$work/crates.txt"
+while IFS=: read -r crate _; do
+    mkdir "$work/crates/$crate"
+    for part in src specs proofs; do
+        if [ -d "crates/$crate/$part" ]; then cp -r "crates/$crate/$part" "$work/crates/$crate/"; fi
+    done
+done < "$work/crates.txt"
 echo 'replies_memory: console service rpc nfs_types' >> "$work/crates.txt"
 mkdir -p "$work/crates/replies_memory/src" "$work/crates/replies_memory/specs"
 cp checks/replies_refused_memory/main.rt.txt "$work/crates/replies_memory/src/main.rt"

@@ -2,7 +2,7 @@
 use Rattle.std.specs.Prelude.{ℕ, suc, Bool, true, ◌&&◌, ◌||◌, ◌==◌, nat_lt, IsTrue, List, [], ◌∷◌, map, Option, Some, None, if◌then◌else◌, length}
 use Rattle.std.specs.List.{AllByRecursion}
 use Rattle.xdr.specs.Item.{Item, Value, Fits, word_where, fixed, pair, array}
-use Rattle.xdr.specs.Text.{Text}
+use Rattle.xdr_texts.specs.Text.{Text}
 use Rattle.authenticator.specs.declared.member.Kind.{Kind}
 use Rattle.authenticator.specs.declared.member.Kind.TheVariants.{Server, Client}
 use Rattle.authenticator.specs.declared.member.Member.{Member}

@@ -2,7 +2,7 @@
 use Rattle.std.specs.Prelude.{ℕ, true, List, ◌++◌, IsSomeAnd}
 use Rattle.sha2.specs.Sha256.{sha256}
 use Rattle.xdr.specs.Item.{Item, Value, word, fixed, pair, number_spelling}
-use Rattle.xdr.specs.Text.{Text}
+use Rattle.xdr_texts.specs.Text.{Text}
 use Rattle.merkle_keys.specs.Signing.{Signed, signature_item, signature_value}
 use Rattle.authenticator.specs.Numbers.{number_item}
 use Rattle.authenticator.specs.Roster.{member_of}

@@ -1,3 +1,6 @@
-mod InodesSeen
+mod FilesSeen
 mod LookUpPaths
-mod OpeningInodes
+mod PageNames
+mod CreatedFiles
+mod Renamed
+mod Removed

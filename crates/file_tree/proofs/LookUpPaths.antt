@@ -1,5 +1,5 @@
--- Look-ups, as steps along paths: a name found in a directory is one step on from each path to it, and `..` is
--- one step back.
+-- Look-ups, as steps along paths: a name found in a directory is one step on from each path to it, and `..`
+-- is one step back.
 -- Serves: `Tree::lookup`.
 use Rattle.std.proofs.Common.{◌≡◌, ℕ, Bool, true, false, List, Option, Some, None, Result, Ok, Err, option_map, option_and_then, if◌then◌else◌, refl, sym, ap, subst, ◌∙◌}
 use Rattle.nfs_items.specs.Caller.{Caller}
@@ -35,27 +35,41 @@ module _ (w : Files) (who : Caller) (dir : ℕ) (name : List ℕ) where
   found (Some n) = record { found = λ k h. cc; absent = λ h. cc }
 
   module _ (named : is_name name ≡ true) where
-    listed : (f : File) (b : Body) → IsAt (option_map (λ e. e.0) (entry_at (listing_in b) name)) (listing_or stats.NotDir b >>= (λ l. if may_search who f then ok_or stats.NoEnt (number_named w dir l name) else Err stats.Acces))
+    listed : (f : File) (b : Body)
+        → IsAt (option_map (λ e. e.0) (entry_at (listing_in b) name))
+        (listing_or stats.NotDir b
+        >>= (λ l. if may_search who f then ok_or stats.NoEnt
+        (number_named w dir l name) else Err stats.Acces))
     listed f (Regular bytes) = no _ stats.NotDir (λ h. cc)
     listed f (Symlink target) = no _ stats.NotDir (λ h. cc)
-    listed f (Directory l) = elim (may_search who f) as (λ b. IsAt (option_map (λ e. e.0) (entry_at l name)) (if b then ok_or stats.NoEnt (number_named w dir l name) else Err stats.Acces)) [
-      | true ↦ subst (λ o. IsAt (option_map (λ e. e.0) (entry_at l name)) (ok_or stats.NoEnt o))
-          (sym (plain_name w dir l name named))
-          (found (option_map (λ e. e.0) (entry_at l name)))
-      | false ↦ no _ stats.Acces (λ h. cc)
-    ]
+    listed f (Directory l) =
+        elim (may_search who f) as
+        (λ b. IsAt (option_map (λ e. e.0) (entry_at l name))
+        (if b then ok_or stats.NoEnt (number_named w dir l name) else Err stats.Acces)) [
+          | true ↦ subst (λ o. IsAt (option_map (λ e. e.0) (entry_at l name)) (ok_or stats.NoEnt o))
+              (sym (plain_name w dir l name named))
+              (found (option_map (λ e. e.0) (entry_at l name)))
+          | false ↦ no _ stats.Acces (λ h. cc)
+        ]
 
     -- a look-up of a plain name tells what is there
     pub at_name : IsAt (option_map (λ e. e.0) (places w dir name)) (number_at_name w who dir name)
-    at_name = elim (file_at w dir) as (λ o. IsAt (option_map (λ e. e.0) (option_and_then (λ f. entry_at (listing_in f.body) name) o))
-        (ok_or stats.Stale o >>= (λ f. listing_or stats.NotDir f.body >>= (λ l. if may_search who f then ok_or stats.NoEnt (number_named w dir l name) else Err stats.Acces)))) [
+    at_name =
+        elim (file_at w dir) as (λ o. IsAt
+        (option_map (λ e. e.0) (option_and_then (λ f. entry_at (listing_in f.body) name) o))
+        (ok_or stats.Stale o >>=
+        (λ f. listing_or stats.NotDir f.body
+        >>= (λ l. if may_search who f then ok_or stats.NoEnt
+        (number_named w dir l name) else Err stats.Acces)))) [
           | None ↦ no _ stats.Stale (λ h. cc)
           | Some f ↦ listed f f.body
         ]
 
     -- what is there is where each path to the directory leads on
-    pub leads_on : (o : Option ℕ) → option_map (λ e. e.0) (places w dir name) ≡ o → LeadsOn (places w) dir name o
-    leads_on o is path cookie at = ap (option_map (λ e. e.0)) (step_last (places w) path name dir cookie at) ∙ is
+    pub leads_on : (o : Option ℕ) → option_map (λ e. e.0) (places w dir name) ≡ o
+        → LeadsOn (places w) dir name o
+    leads_on o is path cookie at =
+        ap (option_map (λ e. e.0)) (step_last (places w) path name dir cookie at) ∙ is
 
 -- `..` of a directory
 module _ (w : Files) (who : Caller) (dir k : ℕ) where
@@ -63,13 +77,20 @@ module _ (w : Files) (who : Caller) (dir k : ℕ) where
   searched true h = cc
   searched false h = cc
 
-  in_body : (f : File) (b : Body) → (listing_or stats.NotDir b >>= (λ l. if may_search who f then ok_or stats.NoEnt (number_named w dir l dot_dot) else Err stats.Acces)) ≡ Ok k
+  in_body : (f : File) (b : Body)
+      → (listing_or stats.NotDir b
+      >>= (λ l. if may_search who f then ok_or stats.NoEnt
+      (number_named w dir l dot_dot) else Err stats.Acces)) ≡ Ok k
       → (is_directory b ≡ true) × (parent_of w dir ≡ k)
   in_body f (Regular bytes) h = cc
   in_body f (Symlink target) h = cc
   in_body f (Directory l) h = (refl, searched (may_search who f) h)
 
-  in_file : (o : Option File) → (ok_or stats.Stale o >>= (λ f. listing_or stats.NotDir f.body >>= (λ l. if may_search who f then ok_or stats.NoEnt (number_named w dir l dot_dot) else Err stats.Acces))) ≡ Ok k
+  in_file : (o : Option File)
+      → (ok_or stats.Stale o >>=
+      (λ f. listing_or stats.NotDir f.body
+      >>= (λ l. if may_search who f then ok_or stats.NoEnt
+      (number_named w dir l dot_dot) else Err stats.Acces))) ≡ Ok k
       → (option_map (λ f. is_directory f.body) o ≡ Some true) × (parent_of w dir ≡ k)
   in_file None h = cc
   in_file (Some f) h = let b = in_body f f.body h in (ap (λ t. Some t) b.0, b.1)

@@ -5,36 +5,31 @@ ghost use Rattle.nfs_items.specs.CallerOf.{caller_of};
 ghost use Rattle.fs_model.specs.Files.{places};
 ghost use Rattle.fs_model.specs.Names.{is_name, dot_dot};
 ghost use Rattle.fs_model.specs.Trees.{IsFileTree};
+ghost use Rattle.fs_changes.specs.Limits.{has_room};
 ghost use Rattle.nfs_spec.specs.Effects.{attributes_at, number_at_name};
 ghost use Rattle.nfs_spec.specs.Opening.{opening_files};
+ghost use Rattle.nfs_spec_sizes.specs.Bounds.{AreWords};
 ghost use Rattle.file_tree.specs.LookUps.{LeadsOn, LeadsBack};
 
-use crate::opening::{hello_inode, root_inode};
-use inodes::Inode;
-use nfs_types::{Fattr, Stat, Who};
+use file_checks::InodeTable;
+use nfs_items::{Fattr, Stat, Who};
 use std::alloc::{AllocError, Global};
-use std::collections::BTreeMap;
 use std::marker::Model;
 
 /// The files of a server under their numbers, of which the root's is 1. A number is never used again.
 #[derive(Drop)]
 pub struct Tree {
-    fsid: u32,
-    next: u32,
-    inodes: BTreeMap<u32, Inode>,
+    pub(crate) table: InodeTable,
 }
 
 impl Model for Tree {
     ghost use Rattle.fs_model.specs.Files.{Files, files_code};
-    ghost use Rattle.inodes.specs.Inodes.{files_of, AreTree};
 
     ghost Value = { Files };
 
     ghost coded = { files_code };
 
-    ghost view = { λ t. files_of t.fsid t.next t.inodes.entries };
-
-    ghost invariant = { λ t. AreTree t.fsid t.next t.inodes.entries };
+    ghost view = { λ t. t.table };
 }
 
 impl Tree {
@@ -43,13 +38,8 @@ impl Tree {
     pub fn opening(alloc: Global, fsid: u32) -> Result<Tree, AllocError>
         ensures { IfOk result (λ tree. tree ≡ opening_files fsid) }
     {
-        let mut inodes = BTreeMap::new(alloc);
-        inodes.insert(1, root_inode(alloc)?)?;
-        inodes.insert(2, hello_inode(alloc)?)?;
         Ok(Tree {
-            fsid,
-            next: 3,
-            inodes,
+            table: InodeTable::opening(alloc, fsid)?,
         })
     }
 
@@ -57,24 +47,27 @@ impl Tree {
     pub fn fsid(&self) -> u32
         ensures { result ≡ self.now.fsid }
     {
-        self.fsid
+        self.table.fsid()
     }
 
-    /// The files are a tree, as each call keeps them: does nothing, and tells a caller's proof.
+    /// The files are a tree within its limits, as each call keeps them: does nothing, and tells a caller's
+    /// proof.
     pub fn files_are_a_tree(&self)
-        ensures { IsFileTree self.now }
+        ensures tree { IsFileTree self.now }
+        ensures room { IsTrue (has_room self.now) }
+        ensures words { AreWords self.now }
     {
-        let _fsid = self.fsid;
+        self.table.files_are_a_tree();
     }
 
     /// The attributes of a file (RFC 1094, section 2.3.5). Stale where no file has the number.
     pub fn attributes(&self, number: u32) -> Result<Fattr, Stat>
         ensures { result ≡ attributes_at self.now number }
     {
-        let Some(inode) = self.inodes.get(&number) else {
+        let Some(inode) = self.table.get(number) else {
             return Err(Stat::Stale);
         };
-        Ok(inode.attributes(self.fsid, number))
+        Ok(inode.attributes(self.table.fsid(), number))
     }
 
     /// The number that a directory has at a name (RFC 1094, section 2.2.5): `.` is itself, and `..` the
@@ -92,7 +85,8 @@ impl Tree {
         // A path to the directory, one name shorter, leads to the one above.
         ensures above { name.now ≡ dot_dot → IfOk result (λ number. LeadsBack (places self.now) dir number) }
     {
-        match self.inodes.get(&dir) {
+        self.table.files_are_a_tree();
+        match self.table.get(dir) {
             Some(inode) => inode.number_at(who, dir, name),
             None => Err(Stat::Stale),
         }

@@ -1,10 +1,4 @@
 pub mod Finite
 pub mod Listings
 pub mod Shapes
-pub mod Building
-pub mod PathChanges
-pub mod Adding
-pub mod Taking
-pub mod Moving
-pub mod SameShape
 pub mod Room

@@ -1,6 +1,6 @@
 -- What a directory lists after a name more and a name less.
 -- Serves: trees_stay_trees (nfs_spec_laws); Shapes here.
-use Rattle.std.proofs.Common.{◌≡◌, ◌≢◌, ℕ, ◌+◌, Bool, true, false, cond, List, [], ◌∷◌, ◌++◌, sum_by, Option, Some, None, nat_eq, eqb, refl, sym, ap, ◌∙◌, arith}
+use Rattle.std.proofs.Common.{◌≡◌, ◌≢◌, ℕ, ◌+◌, Bool, true, false, cond, List, [], ◌∷◌, ◌++◌, sum_by, Option, Some, None, nat_eq, eqb, eq-eqb, ne_eqb, refl, sym, ap, ◌∙◌, arith}
 use Rattle.std.specs.Option.{option_map_or}
 use Rattle.std.specs.List.{IsDistinct, AllByRecursion}
 use Rattle.std.specs.Map.{lookup, remove_entry, keys_of}
@@ -123,6 +123,14 @@ module _ (l : Listing) (x : List ℕ) (distinct : HasDistinctNames l.entries) wh
 -- 1 where one number is the other
 abbrev pub one : ℕ → ℕ → ℕ
 one n k = cond (eqb k n) 1 0
+
+-- a number is itself once
+pub one_same : (n k : ℕ) → n ≡ k → one n k ≡ 1
+one_same n k e = ap (λ b. cond b 1 0) (eq-eqb k n (sym e))
+
+-- another number counts nothing
+pub one_other : (n k : ℕ) → n ≢ k → one n k ≡ 0
+one_other n k ne = ap (λ b. cond b 1 0) (ne_eqb k n (λ e. ne (sym e)))
 
 -- 1 where a place leads to a number
 abbrev pub leads : ℕ → Option (ℕ × ℕ) → ℕ

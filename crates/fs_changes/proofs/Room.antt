@@ -78,10 +78,15 @@ module _ {X : Type 0} (p : X → Bool) where
 
 -- no limit is passed, by its parts
 pub record IsWithin (w : Files) : Type 0 where
+  -- at most 8,192 files
   pub files : file_count w ≤ 8192
+  -- at most 16,384 entries of all directories
   pub entries : entry_count w ≤ 16384
+  -- at most 32,768 blocks of all files
   pub blocks : block_count w ≤ 32768
+  -- the next number fits in 32 bits
   pub next : w.next ≤ 4294967295
+  -- and so does each directory's next cookie
   pub cookies : AllCookies w
 
 low_cookie : File → Bool
@@ -120,10 +125,15 @@ room w h =
 
 -- files take no more than others
 pub record IsNoMore (w w' : Files) : Type 0 where
+  -- no more files
   pub files : file_count w' ≤ file_count w
+  -- no more entries of all directories
   pub entries : entry_count w' ≤ entry_count w
+  -- no more blocks of all files
   pub blocks : block_count w' ≤ block_count w
+  -- no higher next number
   pub next : w'.next ≤ w.next
+  -- each directory's next cookie fits in 32 bits where each did
   pub cookies : AllCookies w → AllCookies w'
 
 -- no more and then no more is no more
@@ -138,8 +148,11 @@ still_room w w' a h =
 
 -- a file that takes no more than another
 pub record IsSmaller (f g : File) : Type 0 where
+  -- no more entries
   pub entries : length (listing_in g.body).entries ≤ length (listing_in f.body).entries
+  -- no more blocks
   pub blocks : blocks_in g.body ≤ blocks_in f.body
+  -- no higher next cookie
   pub next : (listing_in g.body).next ≤ (listing_in f.body).next
 
 -- a change to a smaller file takes no more

@@ -31,9 +31,13 @@ is_some-kind w n = by (file_at w n)
 
 -- places, kinds, counts of names and the next number are as they were
 pub record IsSameShape (w w' : Files) : Type 0 where
+  -- each name of each directory leads to what it led to
   pub places : (n : ℕ) (y : List ℕ) → places w' n y ≡ places w n y
+  -- each number keeps its kind: a directory, another file, or not there
   pub kinds : (n : ℕ) → kind w' n ≡ kind w n
+  -- each number has as many names as before
   pub names : (n : ℕ) → names_of w' n ≡ names_of w n
+  -- the next number stays
   pub next : w'.next ≡ w.next
 
 -- one shape and then one shape is one shape
@@ -143,16 +147,24 @@ module _ (w : Files) (d : ℕ) (f : File) (there : file_at w d ≡ Some f) (is :
 
 -- what a name more does
 pub record IsNamed (w w' : Files) (d : ℕ) (x : List ℕ) (k cookie : ℕ) : Type 0 where
+  -- the name leads to the number with this cookie, and each other name to what it led to
   pub change : ChangesPlace (places w) (places w') d x (Some (k, cookie))
+  -- all numbers keep their kinds
   pub kinds : (n : ℕ) → kind w' n ≡ kind w n
+  -- the number has one name more, and what the name led to before one less
   pub names : (n : ℕ) → names_of w' n + leads n (places w d x) ≡ names_of w n + one n k
+  -- the next number stays
   pub next : w'.next ≡ w.next
 
 -- what a name less does
 pub record IsUnnamed (w w' : Files) (d : ℕ) (x : List ℕ) : Type 0 where
+  -- the name leads to nothing, and each other name to what it led to
   pub change : ChangesPlace (places w) (places w') d x None
+  -- all numbers keep their kinds
   pub kinds : (n : ℕ) → kind w' n ≡ kind w n
+  -- what the name led to before has one name less
   pub names : (n : ℕ) → names_of w' n + leads n (places w d x) ≡ names_of w n
+  -- the next number stays
   pub next : w'.next ≡ w.next
 
 module _ (w : Files) (d : ℕ) (x : List ℕ) (f : File) (there : file_at w d ≡ Some f) (is : is_directory f.body ≡ true) (distinct : HasDistinctNames (listing_in f.body).entries) where
@@ -210,10 +222,15 @@ module _ (w : Files) (d : ℕ) (x : List ℕ) (f : File) (there : file_at w d �
 
 -- one file more, with no name yet
 pub record IsOneMore (w w' : Files) (k : ℕ) (directory : Bool) : Type 0 where
+  -- each name of each directory leads to what it led to
   pub places : (n : ℕ) (y : List ℕ) → places w' n y ≡ places w n y
+  -- all other numbers keep their kinds
   pub kinds : (n : ℕ) → n ≢ k → kind w' n ≡ kind w n
+  -- the new number is there, a directory or not as said
   pub new : kind w' k ≡ Some directory
+  -- each number has as many names as before
   pub names : (n : ℕ) → names_of w' n ≡ names_of w n
+  -- the next number is the one behind it
   pub next : w'.next ≡ k + 1
 
 -- what a new file leaves
@@ -235,10 +252,15 @@ new_shape w f none empty = record {
 
 -- one file less, which lists nothing
 pub record IsOneLess (w w' : Files) (k : ℕ) : Type 0 where
+  -- each name of each directory leads to what it led to
   pub places : (n : ℕ) (y : List ℕ) → places w' n y ≡ places w n y
+  -- all other numbers keep their kinds
   pub kinds : (n : ℕ) → n ≢ k → kind w' n ≡ kind w n
+  -- the number isn't there
   pub gone : kind w' k ≡ None
+  -- each number has as many names as before
   pub names : (n : ℕ) → names_of w' n ≡ names_of w n
+  -- the next number stays
   pub next : w'.next ≡ w.next
 
 -- what a file less leaves

@@ -1,2 +1,2 @@
-//! Changes of a tree of files: what they do to its paths, and that it stays a tree.
+//! Changes of files, and what they leave of places, kinds, counts of names and how much files take.
 #![tactic(auto)]

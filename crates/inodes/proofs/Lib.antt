@@ -1,3 +1,1 @@
 mod Contents
-mod Listings
-mod Rising

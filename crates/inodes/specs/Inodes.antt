@@ -6,7 +6,6 @@ use Rattle.std.specs.Map.{lookup}
 use Rattle.std.specs.FinMap as finite
 use Rattle.nfs_items.specs.declared.attributes.Fattr.{Fattr}
 use Rattle.fs_model.specs.Files.{Body, Regular, Symlink, Directory, File, Files, parent_of}
-use Rattle.fs_model.specs.Trees.{IsFileTree}
 use Rattle.nfs_spec.specs.FileAttributes.{type_of, type_bits, size_of, nlink_of}
 use Rattle.inodes.specs.declared.inode.Body as stored
 use Rattle.inodes.specs.declared.inode.Body.TheVariants as code
@@ -54,17 +53,6 @@ abbrev pub KeepsParent : stored.Body → ℕ → Type 0
 KeepsParent (code.Regular bytes) above = Unit {0}
 KeepsParent (code.Link target) above = Unit {0}
 KeepsParent (code.Directory parent listing) above = parent ≡ above
-
--- what an inode keeps beside its file is what counting over the files gives
-pub record IsCounted (w : Files) (n : ℕ) (inode : Inode) : Type 0 where
-  pub nlink : inode.nlink ≡ nlink_of w n (body_in inode.body)
-  pub parent : KeepsParent inode.body (parent_of w n)
-
--- the inodes are a tree of files
-pub record AreTree (fsid next : ℕ) (inodes : List (ℕ × Inode)) : Type 0 where
-  pub tree : IsFileTree (files_of fsid next inodes)
-  pub counted : (n : ℕ) (inode : Inode) → inode_at inodes n ≡ Some inode →
-      IsCounted (files_of fsid next inodes) n inode
 
 -- an inode's attributes (RFC 1094, section 2.3.5), with the nlink that it keeps
 abbrev pub fattr_of : ℕ → ℕ → Inode → Fattr

@@ -1,4 +1,3 @@
-pub mod Entries
 pub mod Inodes
 pub mod Contents
 pub mod Given

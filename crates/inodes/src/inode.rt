@@ -1,8 +1,8 @@
 //! A file as it is stored.
 
 use crate::content;
-use crate::directory::Directory;
 use crate::given::Given;
+use directories::Directory;
 use nfs_types::{Fattr, FileType, Stat, Time, Who};
 use std::alloc::AllocError;
 
@@ -35,8 +35,11 @@ pub enum Body {
 
 impl Body {
     ghost use Rattle.std.specs.Prelude.{◌≡◌, ◌≤◌};
+    ghost use Rattle.fs_model.specs.Files.{is_directory};
     ghost use Rattle.fs_model.specs.Trees.{IsBody};
+    ghost use Rattle.fs_changes.specs.Limits.{blocks_in};
     ghost use Rattle.nfs_spec.specs.FileAttributes.{type_of, type_bits, size_of};
+    ghost use Rattle.nfs_spec.specs.Procedures.{is_regular};
     ghost use Rattle.std.specs.Prelude.{◌<◌, ◌^◌, Some, OnOk, OnErr, length};
     ghost use Rattle.nfs_spec.specs.Changes.{body_with_length};
     ghost use Rattle.inodes.specs.Inodes.{body_in, parent_in};
@@ -61,6 +64,31 @@ impl Body {
             Body::Regular(_) => 0o100000,
             Body::Link(_) => 0o120000,
             Body::Directory { .. } => 0o040000,
+        }
+    }
+
+    /// Whether it is a regular file.
+    pub fn is_regular(&self) -> bool
+        ensures { result ≡ is_regular (body_in self.now) }
+    {
+        matches!(self, Body::Regular(_))
+    }
+
+    /// Whether it is a directory.
+    pub fn is_directory(&self) -> bool
+        ensures { result ≡ is_directory (body_in self.now) }
+    {
+        matches!(self, Body::Directory { .. })
+    }
+
+    /// The blocks of `BLOCK_SIZE` bytes that a regular file takes; 0 for the other kinds.
+    pub fn blocks(&self) -> u32
+        requires { IsBody (body_in self.now) }
+        ensures { result ≡ blocks_in (body_in self.now) }
+    {
+        match self {
+            Body::Regular(bytes) => (bytes.len() as u32 + BLOCK_SIZE - 1) / BLOCK_SIZE,
+            Body::Link(_) | Body::Directory { .. } => 0,
         }
     }
 

@@ -2,13 +2,15 @@
 //! has, and the directory above.
 #![tactic(auto)]
 
+mod checks;
 mod content;
-mod directory;
+mod edits;
 mod given;
 mod inode;
-mod names;
+mod new;
+#[cfg(test)]
+mod tests;
 
-pub use directory::{Directory, Entry, FIRST_COOKIE};
+pub use directories::{Directory, Entry, FIRST_COOKIE, is_name};
 pub use given::Given;
 pub use inode::{BLOCK_SIZE, Body, Inode, MAX_FILE_SIZE};
-pub use names::is_name;

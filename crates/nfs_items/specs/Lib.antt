@@ -1,7 +1,7 @@
 pub use Rattle.xdr.specs.Item
 pub use Rattle.xdr.specs.Reading
 pub use Rattle.xdr.specs.Writing
-pub use Rattle.xdr.specs.Text
+pub use Rattle.xdr_texts.specs.Text
 pub mod Timeval
 pub mod Handle
 pub mod Terms

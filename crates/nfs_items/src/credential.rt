@@ -23,9 +23,10 @@ struct Parameters<'a> {
     gids: Groups,
 }
 
-/// The caller that the body of an AUTH_SYS credential says (RFC 5531, appendix A), or none where the body isn't just
-/// the spelling of a stamp, a machine's name of at most 255 bytes, a uid, a gid and at most 16 further groups.
-#[tactic(auto, unfolding(xdr::specs::Text::text_at))]
+/// The caller that the body of an AUTH_SYS credential says (RFC 5531, appendix A), or none where the body
+/// isn't just the spelling of a stamp, a machine's name of at most 255 bytes, a uid, a gid and at most 16
+/// further groups.
+#[tactic(auto, unfolding(xdr_texts::specs::Text::text_at))]
 pub fn read_credential(body: &[u8]) -> Option<Who<'_>>
     ensures { option_map caller_of result ≡ caller_in body.now }
 {

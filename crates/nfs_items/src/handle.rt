@@ -12,7 +12,8 @@ pub struct FileHandle(pub [u8; 32]);
 
 impl FileHandle {
     ghost use Rattle.xdr.specs.Reading.{Reads};
-    ghost use Rattle.xdr.specs.Writing.{Writes};
+    ghost use Rattle.std.specs.Prelude.{◌-◌, vec_len, vec_capacity};
+    ghost use Rattle.xdr.specs.Writing.{Writes, Takes};
     ghost use Rattle.nfs_items.specs.Handle.{fhandle, handle_of, number_in};
 
     /// The file handle of a file number on the node fsid.
@@ -39,7 +40,8 @@ impl FileHandle {
         }
     }
 
-    /// Reads a file handle from the front, 32 bytes of any kind. After an `Err` (`Short`) the reader is as it was.
+    /// Reads a file handle from the front, 32 bytes of any kind. After an `Err` (`Short`) the reader is as it
+    /// was.
     pub fn read(reader: &mut Reader<'_>) -> Result<FileHandle, XdrFault>
         ensures { Reads fhandle (λ h. h.0) reader.old result reader.new }
     {
@@ -48,7 +50,9 @@ impl FileHandle {
 
     /// Appends the file handle. Where memory is refused, the bytes stay as they were.
     pub fn write(&self, out: &mut Vec<u8>) -> Result<(), AllocError>
-        ensures { Writes fhandle self.now.0 out.old.items result out.new.items }
+        ensures writes { Writes fhandle self.now.0 out.old.items result out.new.items }
+        ensures room { Takes 32 (vec_capacity out.old - vec_len out.old)
+            result (vec_capacity out.new - vec_len out.new) }
     {
         out.put_fixed(&self.0)
     }

@@ -25,8 +25,8 @@ impl Model for RawTime {
     ghost inverse = { λ v. record { seconds = v.seconds; microseconds = v.microseconds } };
 }
 
-/// The attributes that a call brings (RFC 1094, section 2.3.6, sattr): any words, of which some mean that nothing is
-/// given.
+/// The attributes that a call brings (RFC 1094, section 2.3.6, sattr): any words, of which some mean that
+/// nothing is given.
 #[derive(Clone, Copy, Debug, PartialEq, Eq)]
 pub struct Sattr {
     pub mode: u32,
@@ -41,8 +41,8 @@ pub struct Sattr {
 impl Sattr {
     ghost use Rattle.nfs_items.specs.Sattr.{sattr, sattr_value};
 
-    /// Reads the attributes from the front, six items one after the other. After an `Err` (`Short` where bytes are
-    /// lacking) the reader is as it was.
+    /// Reads the attributes from the front, six items one after the other. After an `Err` (`Short` where
+    /// bytes are lacking) the reader is as it was.
     pub fn read(reader: &mut Reader<'_>) -> Result<Sattr, XdrFault>
         ensures { Reads sattr sattr_value reader.old result reader.new }
     {

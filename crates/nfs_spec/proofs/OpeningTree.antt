@@ -39,7 +39,8 @@ module _ (fsid : ℕ) where
   only_these : (n : ℕ) → IsSome (file_at (opening_files fsid) n) → (n ≡ 1) ⊎ (n ≡ 2)
   only_these n h = ⊎_elim (λ a. inl a.0) (λ b. ⊎_elim (λ a. inr a.0) (λ none. absurd (none_there _ none h)) b) (file_of_number n)
 
-  one_directory : (n : ℕ) → IsDirectory (opening_files fsid) n → n ≡ 1
+  -- only the root of the opening files is a directory
+  pub one_directory : (n : ℕ) → IsDirectory (opening_files fsid) n → n ≡ 1
   one_directory n h = ⊎_elim
       (λ a. a.0)
       (λ b. ⊎_elim

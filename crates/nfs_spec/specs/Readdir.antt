@@ -12,12 +12,17 @@ use Rattle.fs_model.specs.Files.{Files, parent_of}
 abbrev pub page_entry : DirEntry → PageEntry
 page_entry e = record { fileid = entry_number e; name = entry_name e; cookie = entry_cookie e }
 
--- `.` and `..`, then the entries in order of insertion
-abbrev pub dir_entries : Files → FileNumber → Listing → List PageEntry
-dir_entries fs dir l =
-    record { fileid = dir; name = dot; cookie = 1 }
-    ∷ record { fileid = parent_of fs dir; name = dot_dot; cookie = 2 }
+-- `.` and `..`, then the entries in order of insertion, by the directory's own number, the one above and what
+-- it lists
+abbrev pub entries_listed : FileNumber → FileNumber → Listing → List PageEntry
+entries_listed own above l =
+    record { fileid = own; name = dot; cookie = 1 }
+    ∷ record { fileid = above; name = dot_dot; cookie = 2 }
     ∷ map page_entry l.entries
+
+-- of files: the directory above the root is the root
+abbrev pub dir_entries : Files → FileNumber → Listing → List PageEntry
+dir_entries fs dir l = entries_listed dir (parent_of fs dir) l
 
 -- the bytes that an entry takes of the count: 16 and the padded name
 abbrev pub cost : PageEntry → ℕ

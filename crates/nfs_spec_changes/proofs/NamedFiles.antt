@@ -15,9 +15,8 @@ use Rattle.fs_model.proofs.Walks.{none_some, some_same}
 use Rattle.fs_model.proofs.OnePath.{root_has_no_name}
 use Rattle.fs_changes.specs.Edits.{with_changed_file, with_new_file, with_name, without_name, map_listing}
 use Rattle.fs_changes.proofs.Finite.{new_here, new_other, changed_here, changed_other, gone_here, gone_other}
-use Rattle.fs_changes.proofs.Listings.{leads}
+use Rattle.fs_changes.proofs.Listings.{leads, one_same}
 use Rattle.fs_changes.proofs.Shapes.{unnamed_shape}
-use Rattle.fs_changes.proofs.Adding.{one_same}
 use Rattle.nfs_spec.specs.Sattr.{GivenFields}
 use Rattle.nfs_spec.specs.Changes.{apply_fields, touch, with_mtime, touch_ctime, with_ctime, unlink, after_unlink}
 use Rattle.nfs_spec.specs.Procedures.{with_bytes_written, add_file}

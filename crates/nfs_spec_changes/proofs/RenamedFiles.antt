@@ -14,7 +14,7 @@ use Rattle.fs_model.proofs.OnePath.{one_path}
 use Rattle.fs_changes.specs.Edits.{with_name, without_name, map_listing}
 use Rattle.fs_changes.specs.Limits.{file_count}
 use Rattle.fs_changes.proofs.Finite.{changed_here, changed_other, gone_other}
-use Rattle.fs_changes.proofs.PathChanges.{no_return}
+use Rattle.fs_trees.proofs.PathChanges.{no_return}
 use Rattle.nfs_spec.specs.Changes.{touch, with_mtime, touch_ctime, with_ctime, unlink, after_unlink}
 use Rattle.nfs_spec.specs.Procedures.{climbs_to, is_above, unlink_target}
 use Rattle.nfs_spec_trees.proofs.FilesFit.{dir_file}

@@ -52,7 +52,8 @@ pub fn one_file_under_two_names()
     }) }
     ensures last { remove (files_from 4 with_g) superuser epoch 1 g ≡ Ok (tt, files_from 4 with_neither) }
     ensures stale { getattr (files_from 4 with_neither) (handle_of 1 3) ≡ Err stats.Stale }
-    ensures again { create (files_from 4 with_neither) superuser epoch 1 f (given_fields epoch (size_alone ignored))
+    ensures again { create (files_from 4 with_neither) superuser epoch 1 f
+        (given_fields epoch (size_alone ignored))
         ≡ Ok (4, files_from 5 with_f_again) }
 {}
 
@@ -61,7 +62,8 @@ pub fn a_link_and_a_directory_after()
     ensures symlink { symlink (files_from 5 with_f_again) superuser epoch 1 s (codes "t")
         ≡ Ok (5, files_from 6 with_s) }
     ensures target { read_link (files_from 6 with_s) 5 ≡ Ok (codes "t") }
-    ensures make_dir { make_dir (files_from 6 with_s) superuser epoch 1 e (given_fields epoch (size_alone ignored))
+    ensures make_dir { make_dir (files_from 6 with_s) superuser epoch 1 e
+        (given_fields epoch (size_alone ignored))
         ≡ Ok (6, files_from 7 with_e) }
     ensures remove_dir { remove_dir (files_from 7 with_e) superuser epoch 1 e
         ≡ Ok (tt, files_from 7 without_e) }

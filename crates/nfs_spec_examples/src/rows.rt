@@ -59,7 +59,8 @@ pub fn changes_on_small_files()
           free = 32768;
           available = 32768;
         }) }
-    ensures make_dir { make_dir (opening_files 1) superuser epoch 1 a (given_fields epoch (size_alone ignored))
+    ensures make_dir { make_dir (opening_files 1) superuser epoch 1 a
+        (given_fields epoch (size_alone ignored))
         ≡ Ok (3, files_from 4 with_directory) }
     ensures rename { rename (files_from 4 with_directory) superuser epoch 1 a 1 d
         ≡ Ok (tt, files_from 4 with_renamed) }
@@ -124,7 +125,8 @@ pub fn names_below_a_renamed_directory()
     ensures make_dir { make_dir (files_from 4 with_directory) superuser epoch 3 b
         (given_fields epoch (size_alone ignored))
         ≡ Ok (4, files_from 5 with_inner) }
-    ensures create { create (files_from 5 with_inner) superuser epoch 4 c (given_fields epoch (size_alone ignored))
+    ensures create { create (files_from 5 with_inner) superuser epoch 4 c
+        (given_fields epoch (size_alone ignored))
         ≡ Ok (5, files_from 6 with_nested) }
     ensures rename { rename (files_from 6 with_nested) superuser epoch 1 a 1 d
         ≡ Ok (tt, files_from 6 with_nested_renamed) }

@@ -13,8 +13,8 @@ use Rattle.fs_model.proofs.OnePath.{root_has_no_name}
 use Rattle.fs_changes.specs.Edits.{without_name}
 use Rattle.fs_changes.proofs.Finite.{changed_here, changed_other, gone_here}
 use Rattle.fs_changes.proofs.Shapes.{kind}
-use Rattle.fs_changes.proofs.Adding.{one_same}
-use Rattle.fs_changes.proofs.Taking.{IsTaken, stays_taken}
+use Rattle.fs_changes.proofs.Listings.{one_same}
+use Rattle.fs_trees.proofs.Taking.{IsTaken, stays_taken}
 use Rattle.nfs_spec.specs.Changes.{touch, with_mtime, with_ctime, unlink, after_unlink}
 use Rattle.nfs_spec.specs.Procedures.{remove, remove_dir}
 use Rattle.nfs_spec_trees.proofs.FilesFit.{is_dir}

@@ -6,8 +6,8 @@ use Rattle.nfs_items.specs.Caller.{Caller}
 use Rattle.fs_model.specs.Files.{File, Files, listing_in, listing, places}
 use Rattle.fs_model.specs.Trees.{IsTime, IsFile, IsFileTree}
 use Rattle.fs_model.proofs.Walks.{one_number}
-use Rattle.fs_changes.proofs.Adding.{adds_path}
-use Rattle.fs_changes.proofs.Taking.{takes_path}
+use Rattle.fs_trees.proofs.Adding.{adds_path}
+use Rattle.fs_trees.proofs.Taking.{takes_path}
 use Rattle.nfs_spec.specs.Sattr.{GivenFields}
 use Rattle.nfs_spec_steps.specs.Granted.{MakeOk, CreateOk, LinkOk, UnnameOk, IsSameFile, RenameOk, new_regular}
 use Rattle.nfs_spec_trees.proofs.Making.{make_added, link_added}

@@ -10,7 +10,7 @@ use Rattle.fs_model.specs.Trees.{IsTime, IsFile, IsFileTree}
 use Rattle.fs_model.proofs.Walks.{some_same}
 use Rattle.fs_changes.specs.Edits.{with_changed_file}
 use Rattle.fs_changes.specs.Limits.{has_room}
-use Rattle.fs_changes.proofs.SameShape.{stays_shaped}
+use Rattle.fs_trees.proofs.SameShape.{stays_shaped}
 use Rattle.fs_changes.proofs.Room.{same_smaller, changed_no_more, still_room}
 use Rattle.fs_changes.proofs.Shapes.{IsSameShape, same_shape, changed_files}
 use Rattle.nfs_spec.specs.Sattr.{GivenFields}

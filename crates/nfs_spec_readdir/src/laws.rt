@@ -30,8 +30,8 @@ pub fn pages_give_each_entry_once()
 {}
 
 /// Calls of READDIR of a directory that the caller may read, each from the last cookie of the one before,
-/// give the front of the listing, each entry once and in order, and what is left is above the last cookie; with
-/// a call that answers eof they have given the whole.
+/// give the front of the listing, each entry once and in order, and what is left is above the last cookie;
+/// with a call that answers eof they have given the whole.
 pub fn readdir_gives_the_listing_once()
     ensures front { (fs : Files) (who : Caller) (now : Timeval) (dir : FileHandle) (es : List PageEntry) →
         IsFileTree fs → Lists fs who dir es → (counts : List ℕ) →

@@ -1,3 +1,5 @@
 pub mod Values
 pub mod OfCalls
 pub mod Words
+pub mod Lengths
+pub mod ReadCalls

@@ -1,5 +1,5 @@
 -- Owners, groups and seconds that are words are words after each call.
--- Serves: `laws::answers_have_a_spelling` (its clause `words`).
+-- Serves: `laws::answers_have_a_spelling` (its clause `words`); the laws of nfs_spec_counts.
 use Rattle.std.proofs.Common.{◌≡◌, ⊎_elim, ℕ, ◌<◌, ◌^◌, Bool, true, false, cond, List, [], length, replicate, Option, Some, None, option_map, is_some, refl, sym, subst, ◌∙◌}
 use Rattle.std.specs.Prelude.{◌==◌, unwrap_or, nat_lt, if◌then◌else◌}
 use Rattle.std.proofs.lemmas.Bool.{cases_eq}
@@ -123,30 +123,36 @@ module _ (now : Timeval) (who : Caller) (says : SaysWords who now) where
   marked_words : (f : File) → HasWords f → HasWords (with_ctime now f)
   marked_words f own = record { uid = own.uid; gid = own.gid; atime = own.atime; mtime = own.mtime; ctime = says.seconds }
 
-  touch_on : (w : Files) (d : ℕ) → AllWords w → AllWords (touch now w d)
+  -- times that are words
+  pub touch_on : (w : Files) (d : ℕ) → AllWords w → AllWords (touch now w d)
   touch_on w d = changed w d (with_mtime now) touched_words
 
-  mark_on : (w : Files) (d : ℕ) → AllWords w → AllWords (touch_ctime now w d)
+  -- ctime alone
+  pub mark_on : (w : Files) (d : ℕ) → AllWords w → AllWords (touch_ctime now w d)
   mark_on w d = changed w d (with_ctime now) marked_words
 
-  name_on : (w : Files) (d : ℕ) (x : List ℕ) (k : ℕ) → AllWords w → AllWords (with_name w d x k)
+  -- a name more
+  pub name_on : (w : Files) (d : ℕ) (x : List ℕ) (k : ℕ) → AllWords w → AllWords (with_name w d x k)
   name_on w d x k = changed w d _ (listed _)
 
   name_off : (w : Files) (d : ℕ) (x : List ℕ) → AllWords w → AllWords (without_name w d x)
   name_off w d x = changed w d _ (listed _)
 
-  unname : (w : Files) (d : ℕ) (x : List ℕ) (k : ℕ) → AllWords w → AllWords (unlink now w d x k)
+  -- a name that goes, and what goes with it
+  pub unname : (w : Files) (d : ℕ) (x : List ℕ) (k : ℕ) → AllWords w → AllWords (unlink now w d x k)
   unname w d x k all = by (without_name w d x) (names_of (without_name w d x) k == 0) (name_off w d x all)
     where
       by : (v : Files) (b : Bool) → AllWords v → AllWords (after_unlink b now v k)
       by v true = gone v k
       by v false = mark_on v k
 
-  make_on : (w : Files) (d : ℕ) (x : List ℕ) (f : File) → HasWords f → AllWords w
+  -- a new file with words
+  pub make_on : (w : Files) (d : ℕ) (x : List ℕ) (f : File) → HasWords f → AllWords w
       → AllWords (add_file now w d x f)
   make_on w d x f own all = touch_on (with_name (with_new_file w f) d x w.next) d (name_on (with_new_file w f) d x w.next (new w f own all))
 
-  moved_words : (w : Files) → AllWords w
+  -- an entry that moves
+  pub moved_words : (w : Files) → AllWords w
       → (n from : ℕ) (from_name : List ℕ) (to : ℕ) (to_name : List ℕ) (target : Option ℕ)
       → AllWords (move_entry now w n from from_name to to_name target)
   moved_words w all n from from_name to to_name target =

@@ -38,3 +38,7 @@ HasWordsIn (Setattr file s) = AsksWords s
 HasWordsIn (Create dir name s) = AsksWords s
 HasWordsIn (Mkdir dir name s) = AsksWords s
 HasWordsIn _ = Unit {0}
+
+-- the bytes of the longest answer, that of a READ: a stat, attributes, a length and 8,192 bytes of data
+abbrev pub longest_answer : ℕ
+longest_answer = 8268

@@ -10,9 +10,9 @@ use Rattle.fs_model.proofs.Walks.{none_some, some_same, same_place}
 use Rattle.fs_changes.specs.Edits.{with_changed_file, with_new_file, without_file, map_listing, map_body_listing, with_name, without_name}
 use Rattle.fs_changes.proofs.Finite.{new_other, changed_here, changed_other, gone_other}
 use Rattle.fs_changes.proofs.Shapes.{kind, IsSameShape, is_some-kind}
-use Rattle.fs_changes.proofs.Adding.{IsAdded}
-use Rattle.fs_changes.proofs.Taking.{IsTaken}
-use Rattle.fs_changes.proofs.Moving.{IsRenamed}
+use Rattle.fs_trees.proofs.Adding.{IsAdded}
+use Rattle.fs_trees.proofs.Taking.{IsTaken}
+use Rattle.fs_trees.proofs.Moving.{IsRenamed}
 use Rattle.nfs_spec.specs.Changes.{touch, touch_ctime, with_mtime, with_ctime, unlink, after_unlink}
 use Rattle.nfs_spec_trees.specs.Anew.{GivesAnew}
 

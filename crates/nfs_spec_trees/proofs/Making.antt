@@ -10,7 +10,7 @@ use Rattle.fs_changes.specs.Edits.{with_new_file, with_name}
 use Rattle.fs_changes.proofs.Finite.{new_other, changed_other}
 use Rattle.fs_changes.proofs.Listings.{leads}
 use Rattle.fs_changes.proofs.Shapes.{kind, AllFiles, IsSameShape, IsNamed, IsOneMore, new_shape, named_shape, new_files, is_some-kind}
-use Rattle.fs_changes.proofs.Adding.{IsAdded, stays_added}
+use Rattle.fs_trees.proofs.Adding.{IsAdded, stays_added}
 use Rattle.nfs_spec.specs.Changes.{touch, touch_ctime, with_ctime}
 use Rattle.nfs_spec.specs.Procedures.{add_file}
 use Rattle.nfs_spec_steps.specs.Granted.{MayEdit, MakeOk, LinkOk}

@@ -14,10 +14,9 @@ use Rattle.fs_model.proofs.Walks.{none_some}
 use Rattle.fs_model.proofs.OnePath.{root_has_no_name}
 use Rattle.fs_changes.specs.Edits.{without_file, without_name}
 use Rattle.fs_changes.proofs.Finite.{changed_other}
-use Rattle.fs_changes.proofs.Listings.{one, leads}
+use Rattle.fs_changes.proofs.Listings.{one, leads, one_same}
 use Rattle.fs_changes.proofs.Shapes.{kind, AllFiles, IsSameShape, IsUnnamed, IsOneLess, unnamed_shape, gone_shape, gone_files}
-use Rattle.fs_changes.proofs.Adding.{one_same}
-use Rattle.fs_changes.proofs.Taking.{IsTaken, stays_taken}
+use Rattle.fs_trees.proofs.Taking.{IsTaken, stays_taken}
 use Rattle.fs_changes.proofs.Room.{no_more_then, still_room}
 use Rattle.nfs_spec.specs.Changes.{touch, touch_ctime, unlink, after_unlink}
 use Rattle.nfs_spec_steps.specs.Granted.{UnnameOk}

@@ -15,8 +15,8 @@ use Rattle.fs_changes.specs.Edits.{with_changed_file, map_listing, map_body_list
 use Rattle.fs_changes.proofs.Finite.{changed_here, changed_other, gone_other}
 use Rattle.fs_changes.proofs.Listings.{leads}
 use Rattle.fs_changes.proofs.Shapes.{kind, is_some-kind, AllFiles, IsSameShape, IsNamed, IsUnnamed, same_then, named_shape, unnamed_shape}
-use Rattle.fs_changes.proofs.Taking.{stays_taken}
-use Rattle.fs_changes.proofs.Moving.{IsRenamed, IsMoved, renames_path, stays_moved}
+use Rattle.fs_trees.proofs.Taking.{stays_taken}
+use Rattle.fs_trees.proofs.Moving.{IsRenamed, IsMoved, renames_path, stays_moved}
 use Rattle.nfs_spec.specs.Changes.{touch, touch_ctime, with_ctime, after_unlink}
 use Rattle.nfs_spec.specs.Procedures.{is_above, unlink_target}
 use Rattle.nfs_spec_steps.specs.Granted.{MayReplace, MoveOk, RenameOk}

@@ -5,7 +5,7 @@ use Rattle.std.specs.Prelude.{◌↔◌, Result, IfOk, IsOkAnd}
 use Rattle.std.proofs.lemmas.Option.{slice_get_past, slice_get-get_or}
 use Rattle.std.proofs.lemmas.Bool.{cases_lt}
 use Rattle.xdr.specs.declared.fault.XdrFault.{XdrFault}
-use Rattle.xdr.specs.Item.{Item, Value, IsBytes, spelling}
+use Rattle.xdr.specs.Item.{Value, IsBytes, spelling}
 use Rattle.xdr.specs.Reading.{Read, ◌>>=◌, read_at}
 use Rattle.xdr.proofs.Front.{bind_ok, done, ok_is}
 use Rattle.xdr.proofs.Exact.{takes, again}

@@ -1,3 +1,2 @@
-pub mod AnswersRead
-pub mod AnswersSaid
 pub mod ArgumentsRead
+pub mod Bounded

@@ -9,3 +9,4 @@ pub mod Items
 pub mod Texts
 pub mod Arguments
 pub mod Results
+pub mod Bounds

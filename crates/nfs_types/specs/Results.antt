@@ -51,6 +51,14 @@ HasLengths (code.Bytes (Ok x)) = length x.data.now < 2 ^ 32
 HasLengths (code.Entries (Ok p)) = All (λ e. length e.name.now < 2 ^ 32) p.entries.items
 HasLengths _ = Unit {0}
 
+-- an answer of a call that changes files: nothing, attributes, a file handle with attributes, or a stat alone
+abbrev pub IsShort : NfsResult → Type 0
+IsShort code.Nothing = Unit {0}
+IsShort (code.Attributes r) = Unit {0}
+IsShort (code.DirOp r) = Unit {0}
+IsShort (code.Status r) = Unit {0}
+IsShort _ = ⊥
+
 -- the number of a stat other than OK
 abbrev pub stat_number : Stat → ℕ
 stat_number e = (stat_value empty e).0

@@ -1,5 +1,5 @@
 -- What bytes say of a call, and the bytes of its answer (RFC 1094, section 2.2).
-use Rattle.std.specs.Prelude.{◌≡◌, ℕ, ◌<◌, ◌^◌, List, [], ◌∷◌, ◌++◌, Option, option_map, Result, Ok, Err, map}
+use Rattle.std.specs.Prelude.{◌≡◌, ℕ, ◌<◌, ◌^◌, List, [], ◌∷◌, ◌++◌, Option, Ok, map}
 use Rattle.std.specs.List.{slice_get, AllByRecursion}
 use Rattle.byteorder.specs.Endian.{big_number, big_bytes}
 use Rattle.xdr.specs.Item.{Item, empty, pair, linked, flag, Value, Fits, spelling}
@@ -48,21 +48,31 @@ procedure_of procedures.Rename =
 procedure_of procedures.Link =
     record { arguments = linkargs; says = λ v. calls.Link v.0 v.1.0 v.1.1; results = status }
 procedure_of procedures.Symlink =
-    record { arguments = symlinkargs; says = λ v. calls.Symlink v.0.0 v.0.1 v.1.0 (sattr_of v.1.1); results = status }
+    record {
+      arguments = symlinkargs;
+      says = λ v. calls.Symlink v.0.0 v.0.1 v.1.0 (sattr_of v.1.1);
+      results = status;
+    }
 procedure_of procedures.Mkdir =
     record { arguments = createargs; says = λ v. calls.Mkdir v.0.0 v.0.1 (sattr_of v.1); results = diropres }
 procedure_of procedures.Rmdir =
     record { arguments = diropargs; says = λ v. calls.Rmdir v.0 v.1; results = status }
 procedure_of procedures.Readdir =
-    record { arguments = readdirargs; says = λ v. calls.Readdir v.0 (big_number 4 v.1.0) v.1.1; results = readdirres }
+    record {
+      arguments = readdirargs;
+      says = λ v. calls.Readdir v.0 (big_number 4 v.1.0) v.1.1;
+      results = readdirres;
+    }
 procedure_of procedures.Statfs = record { arguments = fhandle; says = calls.Statfs; results = statfsres }
 
 -- the procedures by their numbers, from 0 to 17
 abbrev pub numbered : List NfsProcedure
 numbered =
-    procedures.Null ∷ procedures.Getattr ∷ procedures.Setattr ∷ procedures.Root ∷ procedures.Lookup ∷ procedures.Readlink
-    ∷ procedures.Read ∷ procedures.Writecache ∷ procedures.Write ∷ procedures.Create ∷ procedures.Remove ∷ procedures.Rename
-    ∷ procedures.Link ∷ procedures.Symlink ∷ procedures.Mkdir ∷ procedures.Rmdir ∷ procedures.Readdir ∷ procedures.Statfs ∷ []
+    procedures.Null ∷ procedures.Getattr ∷ procedures.Setattr ∷ procedures.Root
+    ∷ procedures.Lookup ∷ procedures.Readlink ∷ procedures.Read ∷ procedures.Writecache
+    ∷ procedures.Write ∷ procedures.Create ∷ procedures.Remove ∷ procedures.Rename
+    ∷ procedures.Link ∷ procedures.Symlink ∷ procedures.Mkdir ∷ procedures.Rmdir
+    ∷ procedures.Readdir ∷ procedures.Statfs ∷ []
 
 -- the procedure of a number
 abbrev pub procedure_at : ℕ → Option NfsProcedure
@@ -76,12 +86,13 @@ said a say bytes = read_at a bytes >>= λ x. Ok (say x.0, x.1)
 abbrev pub call_at : NfsProcedure → List ℕ → Read Call
 call_at procedure bytes = said (procedure_of procedure).arguments (procedure_of procedure).says bytes
 
--- The spelling of arguments that say a call stands at the front, and the rest behind it. Words that mean nothing may
--- be any.
+-- The spelling of arguments that say a call stands at the front, and the rest behind it. Words that mean
+-- nothing may be any.
 abbrev pub SaysCall : NfsProcedure → List ℕ → Call → List ℕ → Type 0
 SaysCall procedure bytes call rest =
     (v : Value (procedure_of procedure).arguments) × Fits (procedure_of procedure).arguments v
-    × (call ≡ (procedure_of procedure).says v) × (bytes ≡ spelling (procedure_of procedure).arguments v ++ rest)
+    × (call ≡ (procedure_of procedure).says v)
+    × (bytes ≡ spelling (procedure_of procedure).arguments v ++ rest)
 
 -- ---- results
 

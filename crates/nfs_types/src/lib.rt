@@ -7,13 +7,11 @@ mod limits;
 mod reading;
 mod results;
 pub mod worked;
-mod writing;
 
 pub use arguments::{DirOpArgs, NfsArgs, NfsProcedure};
-pub use limits::{MAXDATA, MAXNAMLEN, MAXPATHLEN};
+pub use limits::{MAXDATA, MAXNAMLEN, MAXPATHLEN, SHORT_ANSWER};
 pub use nfs_items::{
     Fattr, FileHandle, FileType, Groups, RawTime, Sattr, Stat, Time, Who, read_credential,
 };
 pub use reading::read_args;
 pub use results::{DirOpOk, FsStats, NfsResult, Page, PageEntry, ReadOk};
-pub use writing::write_result;

@@ -5,6 +5,7 @@ ghost use Rattle.xdr.specs.Reading.{Gives};
 ghost use Rattle.nfs_types.specs.Items.{diropargs};
 ghost use Rattle.nfs_types.specs.Calls.{Call};
 ghost use Rattle.nfs_types.specs.Texts.{procedure_in, SaysCall};
+ghost use Rattle.nfs_types.specs.Bounds.{HasBounds};
 ghost use Rattle.nfs_types.specs.Arguments.{diropargs_value, call_of, GivesCall, ReadsCall};
 ghost use Rattle.nfs_types.specs.declared.arguments.NfsProcedure.TheVariants as procedures;
 
@@ -21,6 +22,7 @@ pub fn read_args(procedure: NfsProcedure, bytes: &[u8]) -> Result<NfsArgs<'_>, X
         IsOkAnd result (λ a. call_of a ≡ call) }
     ensures exact { ReadsCall procedure bytes.now result }
     ensures own { IfOk result (λ a. procedure_in (call_of a) ≡ procedure) }
+    ensures bounds { IfOk result (λ a. HasBounds (call_of a)) }
 {
     read_arguments(procedure, &mut Reader::new(bytes))
 }

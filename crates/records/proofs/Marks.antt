@@ -1,5 +1,5 @@
 -- A mark, as the number that it spells.
--- Serves: mark_of; read_record by way of Fragments; one_reading, some_reading and one_list_of_records.
+-- Serves: mark_of; read_record by way of Fragments; the laws of records_laws.
 use Rattle.std.proofs.Common.{◌≡◌, ℕ, ◌+◌, ◌<◌, List, length, get_or, sym, ap, ◌∙◌, refl, Bool, cond}
 use Rattle.byteorder.specs.Endian.{big_bytes, big_number}
 use Rattle.xdr.proofs.Front.{back4}

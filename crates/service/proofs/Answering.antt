@@ -8,11 +8,11 @@ use Rattle.rpc.specs.Call.{Message, message_at}
 use Rattle.rpc.proofs.Messages.{read_is_said, said_is_read, says_one_call}
 use Rattle.nfs_items.specs.Timeval.{Timeval}
 use Rattle.service.specs.World.{World, at_time}
-use Rattle.service.specs.Replies.{Answers, silence, reply, after_reply, reply_to, reply_of_call, files_after_call, reply_owed, world_after}
+use Rattle.service.specs.Replies.{Answers, silence, reply, reply_to, reply_of_call, world_after_call, reply_owed, world_after}
 
 -- what the functions give is an answer
 by_reading : (w : World) (time : Timeval) (bytes : List ℕ) (read : Read Message) → IsBytes bytes → message_at bytes ≡ read
-    → Answers w time bytes (after_reply w time (files_after_call w (at_time w time).clock read)) (reply_of_call w (at_time w time).clock read)
+    → Answers w time bytes (world_after_call (at_time w time) read) (reply_of_call (at_time w time) read)
 by_reading w time bytes (Ok x) bound e = reply x.0 x.1 (read_is_said bytes x bound e) refl refl
 by_reading w time bytes (Err f) bound e = silence (λ m rest said. let never : message_at bytes ≡ Ok (m, rest) = said_is_read bytes m rest said in absurd cc) refl refl
 
@@ -28,6 +28,6 @@ one_answer w time bytes v u r s (silence none e f) (reply m rest said e' f') = a
 one_answer w time bytes v u r s (reply m rest said e f) (silence none e' f') = absurd (none m rest said)
 one_answer w time bytes v u r s (reply m rest said e f) (reply n rest' said' e' f') =
     let one = says_one_call bytes m n rest rest' said said' in
-    let same : reply_to w.files (at_time w time).clock m rest ≡ reply_to w.files (at_time w time).clock n rest' =
-    ap (λ (k : Message). reply_to w.files (at_time w time).clock k rest) one.0 ∙ ap (reply_to w.files (at_time w time).clock n) one.1 in
-    (e ∙ ap (λ x. after_reply w time x.1) same ∙ sym e', f ∙ ap (λ x. Some x.0) same ∙ sym f')
+    let same : reply_to (at_time w time) m rest ≡ reply_to (at_time w time) n rest' =
+    ap (λ (k : Message). reply_to (at_time w time) k rest) one.0 ∙ ap (reply_to (at_time w time) n) one.1 in
+    (e ∙ ap (λ x. x.1) same ∙ sym e', f ∙ ap (λ x. Some x.0) same ∙ sym f')

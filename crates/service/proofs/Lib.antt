@@ -1,4 +1,5 @@
 pub mod Answering
+pub mod MountLengths
+pub mod Named
 pub mod Replied
-pub mod ServedCalls
 pub mod Sizes

@@ -1,18 +1,39 @@
 -- What the program's values say of a call that was checked.
-use Rattle.std.specs.Prelude.{Result, Ok, Err}
+use Rattle.std.specs.Prelude.{◌≤◌, length, Result, Ok, Err, IfSome}
 use Rattle.rpc.specs.declared.reply.ReplyBody.{ReplyBody}
 use Rattle.nfs_items.specs.Caller.{Caller}
 use Rattle.nfs_items.specs.CallerOf.{caller_of}
-use Rattle.nfs_types.specs.Arguments.{call_of}
 use Rattle.nfs_items.specs.declared.who.Who.{Who}
-use Rattle.nfs_types.specs.declared.arguments.NfsArgs.{NfsArgs}
-use Rattle.nfs_types.specs.Calls.{Call}
-use Rattle.service.specs.Replies.{OrRefusal}
+use Rattle.nfs_types.specs.Arguments as nfs
+use Rattle.nfs_types.specs.Bounds as nfs_bounds
+use Rattle.mount_types.specs.Arguments as mount
+use Rattle.mount_types.specs.Bounds as mount_bounds
+use Rattle.service.specs.declared.checks.ServedArgs.{ServedArgs}
+use Rattle.service.specs.declared.checks.ServedArgs.TheVariants as code
+use Rattle.service.specs.Replies.{OrRefusal, ServedCall, Nfs, Mount}
 
 abbrev pub view_of_caller : Result Who ReplyBody → OrRefusal Caller
 view_of_caller (Ok who) = Ok (caller_of who)
 view_of_caller (Err body) = Err body
 
-abbrev pub view_of_call : Result (Who × NfsArgs) ReplyBody → OrRefusal (Caller × Call)
-view_of_call (Ok (who, args)) = Ok (caller_of who, call_of args)
+-- the name of a caller's machine, where it gave one, has at most 255 bytes
+abbrev pub HasShortName : Who → Type 0
+HasShortName who = IfSome who.machine_name (λ name. length name.now ≤ 255)
+
+-- the call that the program's value says
+abbrev pub served_of : ServedArgs → ServedCall
+served_of (code.Nfs args) = Nfs (nfs.call_of args)
+served_of (code.Mount args) = Mount (mount.call_of args)
+
+abbrev pub view_of_served : Result ServedArgs ReplyBody → OrRefusal ServedCall
+view_of_served (Ok args) = Ok (served_of args)
+view_of_served (Err body) = Err body
+
+abbrev pub view_of_call : Result (Who × ServedArgs) ReplyBody → OrRefusal (Caller × ServedCall)
+view_of_call (Ok (who, args)) = Ok (caller_of who, served_of args)
 view_of_call (Err body) = Err body
+
+-- the arguments are within the bounds of what is read from bytes
+abbrev pub IsBounded : ServedArgs → Type 0
+IsBounded (code.Nfs args) = nfs_bounds.HasBounds (nfs.call_of args)
+IsBounded (code.Mount args) = mount_bounds.HasBounds (mount.call_of args)

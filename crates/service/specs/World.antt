@@ -11,6 +11,10 @@ pub record World : Type 0 where
   pub clock : Timeval
   pub mounts : List (List ℕ × List ℕ)
 
+-- the world of these files, this clock and these mounts
+abbrev pub world_of : Files → Timeval → List (List ℕ × List ℕ) → World
+world_of files clock mounts = record { files = files; clock = clock; mounts = mounts }
+
 abbrev pub world_code : Coded World
 world_code =
     code_by (Files × (Timeval × List (List ℕ × List ℕ)))

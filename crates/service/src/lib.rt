@@ -1,6 +1,7 @@
 //! One record to one reply.
 #![tactic(auto)]
 
+mod checks;
 pub mod laws;
 mod service;
 

@@ -1,61 +1,46 @@
-//! A server: its files, its clock, and what it replies.
+//! A server: its files, its mounts, its clock, and what it replies.
 
-ghost use Rattle.std.specs.Prelude.{◌≡◌, ◌≤◌, ◌++◌, List, ℕ, length, None, IfOk, IfSome, OnOk, OnErr, IsOk, IsTrue};
+ghost use Rattle.std.specs.Prelude.{◌≡◌, ◌≤◌, ◌++◌, List, ℕ, length, None, IfOk, IfSome, OnOk, OnErr, IsOk};
 ghost use Rattle.std.specs.Option.{option_map};
 ghost use Rattle.records.specs.declared.record.TheConstants.{MAX_RECORD};
 ghost use Rattle.rpc.specs.Call.{Message};
-ghost use Rattle.rpc.specs.CallValues.{IsCallOf, header_of};
+ghost use Rattle.rpc.specs.CallValues.{IsCallOf};
 ghost use Rattle.nfs_items.specs.CallerOf.{caller_of};
-ghost use Rattle.nfs_types.specs.Texts.{procedure_in, answer_text};
-ghost use Rattle.nfs_types.specs.Arguments.{call_of};
-ghost use Rattle.nfs_spec.specs.NfsCalls.{call_does};
-ghost use Rattle.nfs_procs.specs.Served.{is_served};
-ghost use Rattle.service.specs.World.{opening_world};
-ghost use Rattle.service.specs.Replies.{caller_at, program_served, call_or_refusal, bare_reply, call_reply, reply_to, reply_owed, world_after};
-ghost use Rattle.service.specs.Views.{view_of_caller, view_of_call};
+ghost use Rattle.service.specs.World.{opening_world, world_of};
+ghost use Rattle.service.specs.Replies.{bare_reply, call_results, call_reply, reply_to, reply_owed, world_after};
+ghost use Rattle.service.specs.Views.{served_of, view_of_call, HasShortName, IsBounded};
 
-use file_tree::Tree;
-use nfs_items::{Time, Who, read_credential};
-use nfs_procs::{is_served, nfs_call};
-use nfs_types::{NfsArgs, NfsProcedure, read_args};
-use rpc::{AuthStat, Call, CallBody, Header, OpaqueAuth, Reply, ReplyBody, read_call, write_reply};
+use crate::checks::{ServedArgs, check_call};
+use mount::{MountTable, mount_call};
+use nfs_items::{Time, Who};
+use nfs_procs::{Tree, nfs_call};
+use rpc::{Call, CallBody, Reply, ReplyBody, read_call, write_reply};
 use std::alloc::{AllocError, Global};
 use std::marker::Model;
-
-/// The program number of NFS (RFC 1094, appendix A).
-const NFS_PROGRAM: u32 = 100003;
-
-/// The version of NFS that is served.
-const NFS_VERSION: u32 = 2;
 
 /// The version of RPC (RFC 5531, section 9).
 const RPC_VERSION: u32 = 2;
 
-/// AUTH_NONE (RFC 5531, section 8.2).
-const AUTH_NONE: u32 = 0;
-
-/// AUTH_SYS (RFC 5531, section 8.2).
-const AUTH_SYS: u32 = 1;
-
-/// The room that a reply begins with, in bytes: as much as the replies to NULL, GETATTR and LOOKUP take.
+/// The room that a reply begins with, in bytes: as much as one with attributes takes, and so as every reply to a call that
+/// changes files or mounts. A longer one grows.
 const REPLY_ROOM: usize = 128;
 
-/// A server's files, and its last clock reading.
+/// A server's files and mounts, and its last clock reading.
 #[derive(Drop)]
 pub struct Service {
     tree: Tree,
     clock: Time,
+    mounts: MountTable,
 }
 
 impl Model for Service {
-    ghost use Rattle.std.specs.Prelude.{[]};
     ghost use Rattle.service.specs.World.{World, world_code};
 
     ghost Value = { World };
 
     ghost coded = { world_code };
 
-    ghost view = { λ s. record { files = s.tree; clock = s.clock; mounts = [] } };
+    ghost view = { λ s. record { files = s.tree; clock = s.clock; mounts = s.mounts } };
 }
 
 impl Service {
@@ -66,7 +51,40 @@ impl Service {
         Ok(Service {
             tree: Tree::opening(alloc, node)?,
             clock: Time::epoch(),
+            mounts: MountTable::new(alloc),
         })
+    }
+
+    /// The server of a tree, a clock's last reading and mounts.
+    pub fn from_parts(tree: Tree, clock: Time, mounts: MountTable) -> Service
+        ensures { result ≡ world_of tree clock mounts }
+    {
+        Service {
+            tree,
+            clock,
+            mounts,
+        }
+    }
+
+    /// The server's files.
+    pub fn tree(&self) -> &Tree
+        ensures { result.now ≡ self.now.files }
+    {
+        &self.tree
+    }
+
+    /// The last clock reading.
+    pub fn clock(&self) -> Time
+        ensures { result ≡ self.now.clock }
+    {
+        self.clock
+    }
+
+    /// What is mounted.
+    pub fn mounts(&self) -> &MountTable
+        ensures { result.now ≡ self.now.mounts }
+    {
+        &self.mounts
     }
 
     /// The reply that is owed to a record at a time, if one is (RFC 5531, section 9); it has at most
@@ -88,66 +106,16 @@ impl Service {
         // Where no reply is owed, no memory is taken.
         ensures silence { reply_owed self.old time bytes.now ≡ None → IsOk result }
     {
+        self.tree.files_are_a_tree();
+        self.mounts.are_mounts();
         let now = time.later(self.clock);
         let reply = match read_call(bytes) {
-            Ok(call) => Some(reply_to(alloc, &mut self.tree, now, call)?),
+            Ok(call) => Some(reply_to(alloc, &mut self.tree, &mut self.mounts, now, call)?),
             Err(_) => None,
         };
         self.clock = now;
         Ok(reply)
     }
-}
-
-/// The caller that a credential stands for: AUTH_NONE, whatever its body; AUTH_SYS by its body, which is a bad
-/// credential where it says no caller; every other flavor is rejected.
-fn caller<'a>(credential: &OpaqueAuth<'a>) -> Result<Who<'a>, ReplyBody>
-    ensures { view_of_caller result ≡ caller_at credential.now.flavor credential.now.body.now }
-{
-    match credential.flavor {
-        AUTH_NONE => Ok(Who::nobody()),
-        AUTH_SYS => {
-            read_credential(credential.body).ok_or(ReplyBody::AuthError(AuthStat::BadCredential))
-        }
-        _ => Err(ReplyBody::AuthError(AuthStat::RejectedCredential)),
-    }
-}
-
-/// Whether a program and its version are served.
-fn check_program(program: u32, version: u32) -> Result<(), ReplyBody>
-    ensures { result ≡ program_served program version }
-{
-    if program != NFS_PROGRAM {
-        return Err(ReplyBody::ProgramUnavailable);
-    }
-    if version != NFS_VERSION {
-        return Err(ReplyBody::ProgramMismatch {
-            low: NFS_VERSION,
-            high: NFS_VERSION,
-        });
-    }
-    Ok(())
-}
-
-/// The caller, and the procedure with its arguments, or the reply by the first check that fails.
-fn check_call<'a>(
-    header: &Header<'a>,
-    arguments: &'a [u8],
-) -> Result<(Who<'a>, NfsArgs<'a>), ReplyBody>
-    ensures call { view_of_call result ≡ call_or_refusal (header_of header.now) arguments.now }
-    ensures served { IfOk result (λ x. IsTrue (is_served (procedure_in (call_of x.1)))) }
-{
-    let who = caller(&header.credential)?;
-    check_program(header.program, header.version)?;
-    let Some(procedure) = NfsProcedure::from_number(header.procedure) else {
-        return Err(ReplyBody::ProcedureUnavailable);
-    };
-    if !is_served(procedure) {
-        return Err(ReplyBody::ProcedureUnavailable);
-    }
-    let Ok(args) = read_args(procedure, arguments) else {
-        return Err(ReplyBody::GarbageArguments);
-    };
-    Ok((who, args))
 }
 
 /// Appends a reply with nothing behind it.
@@ -157,36 +125,70 @@ fn add_bare_reply(out: &mut Vec<u8>, xid: u32, body: ReplyBody) -> Result<(), Al
     write_reply(&Reply { xid, body }, out)
 }
 
-/// The reply to a procedure's call.
-fn answer_call(
+/// Does a call of a program that is served, and appends its results.
+fn add_results(
+    alloc: Global,
     out: &mut Vec<u8>,
     tree: &mut Tree,
+    mounts: &mut MountTable,
+    now: Time,
+    who: &Who,
+    args: &ServedArgs,
+) -> Result<(), AllocError>
+    requires bounds { IsBounded args.now }
+    requires name { HasShortName who.now }
+    ensures text { OnOk result (out.new.items ≡ out.old.items
+        ++ (call_results (world_of tree.old now mounts.old) (caller_of who.now) (served_of args.now)).0) }
+    ensures world { OnOk result (world_of tree.new now mounts.new
+        ≡ (call_results (world_of tree.old now mounts.old) (caller_of who.now) (served_of args.now)).1) }
+    ensures err { OnErr result (world_of tree.new now mounts.new ≡ world_of tree.old now mounts.old) }
+{
+    match args {
+        ServedArgs::Nfs(args) => nfs_call(tree, alloc, who, now, args, out),
+        ServedArgs::Mount(args) => mount_call(mounts, tree, alloc, who, args, out),
+    }
+}
+
+/// The reply to a call of RPC's version 2.
+fn answer_call(
+    alloc: Global,
+    out: &mut Vec<u8>,
+    tree: &mut Tree,
+    mounts: &mut MountTable,
     now: Time,
     xid: u32,
-    checked: Result<(Who, NfsArgs), ReplyBody>,
+    checked: Result<(Who, ServedArgs), ReplyBody>,
 ) -> Result<(), AllocError>
-    requires { IfOk checked (λ x. IsTrue (is_served (procedure_in (call_of x.1)))) }
-    ensures text { OnOk result (out.new.items
-        ≡ out.old.items ++ (call_reply tree.old now xid (view_of_call checked.entry)).0) }
-    ensures files { OnOk result (tree.new ≡ (call_reply tree.old now xid (view_of_call checked.entry)).1) }
-    ensures err { OnErr result (tree.new ≡ tree.old) }
+    requires bounds { IfOk checked (λ x. IsBounded x.1) }
+    requires name { IfOk checked (λ x. HasShortName x.0) }
+    ensures text { OnOk result (out.new.items ≡ out.old.items
+        ++ (call_reply (world_of tree.old now mounts.old) xid (view_of_call checked.entry)).0) }
+    ensures world { OnOk result (world_of tree.new now mounts.new
+        ≡ (call_reply (world_of tree.old now mounts.old) xid (view_of_call checked.entry)).1) }
+    ensures err { OnErr result (world_of tree.new now mounts.new ≡ world_of tree.old now mounts.old) }
 {
     match checked {
         Ok((who, args)) => {
             add_bare_reply(out, xid, ReplyBody::Success)?;
-            nfs_call(tree, &who, now, &args, out)
+            add_results(alloc, out, tree, mounts, now, &who, &args)
         }
         Err(body) => add_bare_reply(out, xid, body),
     }
 }
 
 /// The reply to a call.
-fn reply_to(alloc: Global, tree: &mut Tree, now: Time, call: Call) -> Result<Vec<u8>, AllocError>
+fn reply_to(
+    alloc: Global,
+    tree: &mut Tree,
+    mounts: &mut MountTable,
+    now: Time,
+    call: Call,
+) -> Result<Vec<u8>, AllocError>
     ensures text { IfOk result (λ v. (m : Message) (rest : List ℕ) → IsCallOf call.entry m rest →
-        v.items ≡ (reply_to tree.old now m rest).0) }
-    ensures files { OnOk result ((m : Message) (rest : List ℕ) → IsCallOf call.entry m rest →
-        tree.new ≡ (reply_to tree.old now m rest).1) }
-    ensures err { OnErr result (tree.new ≡ tree.old) }
+        v.items ≡ (reply_to (world_of tree.old now mounts.old) m rest).0) }
+    ensures world { OnOk result ((m : Message) (rest : List ℕ) → IsCallOf call.entry m rest →
+        world_of tree.new now mounts.new ≡ (reply_to (world_of tree.old now mounts.old) m rest).1) }
+    ensures err { OnErr result (world_of tree.new now mounts.new ≡ world_of tree.old now mounts.old) }
 {
     let mut out = Vec::with_capacity(alloc, REPLY_ROOM)?;
     match call.body {
@@ -200,7 +202,7 @@ fn reply_to(alloc: Global, tree: &mut Tree, now: Time, call: Call) -> Result<Vec
         )?,
         CallBody::Version2(header, arguments) => {
             let checked = check_call(&header, arguments);
-            answer_call(&mut out, tree, now, call.xid, checked)?;
+            answer_call(alloc, &mut out, tree, mounts, now, call.xid, checked)?;
         }
     }
     Ok(out)

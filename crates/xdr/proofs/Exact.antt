@@ -1,7 +1,7 @@
 -- Reading and spelling are the same, for each type of item: `takes` is the one direction and `again` the other,
 -- both by induction on the type, with a pair of lemmas for each way to make a type of others.
--- Serves: reads_what_is_spelled, no_spelling_begins_another, reads_each_text; the laws of rpc, nfs_types,
--- nfs_types, nfs_items and log_entries, and one_list_of_records in records.
+-- Serves: reads_what_is_spelled, no_spelling_begins_another; in crates above reads_each_text (xdr_texts),
+-- one_list_of_records (records_laws), the laws of rpc, nfs_types, nfs_items and log_entries.
 use Rattle.std.proofs.Common.{◌≡◌, ℕ, zero, suc, ◌^◌, ◌<◌, ◌≤◌, Bool, true, false, cond, ltb, List, [], ◌∷◌, ◌++◌, length, Ok, Err, refl, sym, ap, subst, ◌∙◌, append_assoc, arith}
 use Rattle.std.specs.Prelude.{IsTrue, ◌↔◌, Option, Some, None, IfSome}
 use Rattle.std.specs.List.{flat_map, AllByRecursion}

@@ -1,7 +1,8 @@
 -- Numbers, bools and opaque data at the front of bytes: what reading takes is the spelling (`_takes`), and
 -- a spelling is read again (`_again`).
--- Serves: reads_what_is_spelled and no_spelling_begins_another by way of Exact; mark_of and some_reading in
--- records; the proofs on calls, arguments and entries in rpc, nfs_types, log_entries and secure_log.
+-- Serves: reads_what_is_spelled and no_spelling_begins_another by way of Exact; mark_of in records,
+-- some_reading in records_laws; the proofs on calls, arguments and entries in rpc, nfs_types, log_entries and
+-- secure_log.
 use Rattle.std.proofs.Common.{◌≡◌, ℕ, zero, suc, ◌+◌, ◌-◌, ◌%◌, ◌^◌, ◌<◌, ◌≤◌, Bool, true, false, cond, ◌&&◌, ltb, eqb, List, [], ◌∷◌, ◌++◌, length, take, drop, replicate, Ok, Err, refl, sym, ap, subst, ◌∙◌, append_assoc, arith, inl, inr}
 use Rattle.std.specs.List.{list_all}
 use Rattle.std.proofs.lemmas.Bool.{cases_lt, eqb-true, ltb-false, le-ltb}

@@ -1,3 +1,3 @@
 pub mod Front
 pub mod Exact
-pub mod WholeTexts
+pub mod Room

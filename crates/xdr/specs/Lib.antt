@@ -2,7 +2,5 @@ pub mod Item
 pub mod Fault
 pub mod Reading
 pub mod Writing
-pub mod Text
 pub mod ReadError
 pub mod ArraysAndUnions
-pub mod TextError

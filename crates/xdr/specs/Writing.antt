@@ -1,5 +1,5 @@
 -- Writing at the end of bytes.
-use Rattle.std.specs.Prelude.{◌≡◌, ℕ, List, ◌++◌, Result, Ok, Err}
+use Rattle.std.specs.Prelude.{◌≡◌, ◌<◌, ◌≤◌, ◌+◌, ℕ, List, ◌++◌, Result, Ok, Err}
 use Rattle.xdr.specs.Item.{Item, Value, spelling}
 
 -- A call appended text; where it was refused memory, the bytes are as they were.
@@ -19,3 +19,9 @@ Begins old new = (more : List ℕ) × (new ≡ old ++ more)
 abbrev pub Adds : {E : Type 0} → List ℕ → List ℕ → Result (Unit {0}) E → List ℕ → Type 0
 Adds text old (Ok x) new = new ≡ old ++ text
 Adds text old (Err e) new = Begins old new
+
+-- A call that appends so many bytes takes no more of the spare ones, and is refused only where they are too
+-- few.
+abbrev pub Takes : {E : Type 0} → ℕ → ℕ → Result (Unit {0}) E → ℕ → Type 0
+Takes taken old (Ok x) new = old ≤ new + taken
+Takes taken old (Err e) new = old < taken

@@ -7,11 +7,9 @@ mod list;
 mod reader;
 #[cfg(test)]
 mod tests;
-mod text;
 mod writer;
 
 pub use fault::XdrFault;
 pub use list::{FromXdr, ReadError, read_array};
 pub use reader::{Reader, put_back_on_err};
-pub use text::{FromText, TextError, read_text};
 pub use writer::{Writer, all_or_nothing};

@@ -1,30 +1,7 @@
 //! What no clause says: with memory at hand, the calls that take it succeed.
 
-ghost use Rattle.std.specs.Prelude.{◌<◌, length, nat_lt};
-ghost use Rattle.xdr.specs.Item.{array, word};
-ghost use Rattle.xdr.specs.Text.{Text};
-
-use crate::{FromText, ReadError, Reader, Writer, read_array, read_text};
-use std::alloc::Global;
+use crate::{Reader, Writer, read_array};
 use std::test::Fail;
-
-/// At least one number.
-#[derive(Debug, Drop)]
-struct Numbers(Vec<u32>);
-
-impl<'a> FromText<'a> for Numbers {
-    ghost text = { record { item = array 100 word; test = λ ns. nat_lt 0 (length ns) } };
-
-    ghost value = { λ n. n.0.items };
-
-    fn read_front(alloc: Global, reader: &mut Reader<'a>) -> Result<Numbers, ReadError> {
-        Ok(Numbers(read_array(alloc, reader, 100)?))
-    }
-
-    fn has_text(&self) -> bool {
-        0 < self.0.len()
-    }
-}
 
 #[test]
 fn writes_each_item(rt: HostRuntime) -> Result<(), Fail> {
@@ -50,18 +27,10 @@ fn writes_and_reads_long_items(rt: HostRuntime) -> Result<(), Fail> {
     let mut out = Vec::new(rt.alloc());
     out.put_u32(100)?;
     out.put_u32s(&[7; 100])?;
-    let numbers: Numbers = read_text(rt.alloc(), &out)?;
-    assert_eq!(rt; numbers.0.as_slice(), [7; 100].as_slice());
+    let numbers: Vec<u32> = read_array(rt.alloc(), &mut Reader::new(&out), 100)?;
+    assert_eq!(rt; numbers.as_slice(), [7; 100].as_slice());
     out.put_opaque(&[8; 12288])?;
     out.put_fixed(&[9; 12285])?;
     assert_eq!(rt; out.len(), 404 + 12292 + 12288);
-    Ok(())
-}
-
-#[test]
-fn reads_a_text_of_numbers(rt: HostRuntime) -> Result<(), Fail> {
-    let bytes = [0, 0, 0, 2, 0, 0, 0, 7, 0, 0, 0, 9];
-    let numbers: Numbers = read_text(rt.alloc(), &bytes)?;
-    assert_eq!(rt; numbers.0.as_slice(), [7, 9].as_slice());
     Ok(())
 }

@@ -1,6 +1,6 @@
 use Rattle.std.proofs.Common.{◌∙◌, ap, Err}
 use Rattle.std.proofs.lemmas.Result.{err_from_is_err_and}
-use Rattle.console.proofs.LoopProgress.{nothing_yet, unanswered, pushes, stops_between, stops_at_once, leaves_off_reading, leaves_off_answering}
+use Rattle.console.proofs.LoopProgress.{nothing_yet, ends, unanswered, pushes, stops_between, stops_at_once, leaves_off_reading, leaves_off_answering}
 use Rattle.console.proofs.stream.run_rpc.Goals as goal
 
 pub returns-in_default-clause-fault : goal.returns-in_default-clause-fault
@@ -8,6 +8,11 @@ returns-in_default-clause-fault g c = nothing_yet _ _
 
 pub returns-in_default-clause-taken : goal.returns-in_default-clause-taken
 returns-in_default-clause-taken g c = stops_at_once _ _
+
+pub returns-in_err-record-clause-fault : goal.returns-in_err-record-clause-fault
+returns-in_err-record-clause-fault g c =
+    let p = err_from_is_err_and c.from_residual.result c.from_residual.ensures.1 in
+    rw (p.1, p.2) (ends _ _ _ _ _ _ _ _ _ c.loop-k.invariant.progress (c.in_err-record.ensures.fault c.loop-k.invariant.fresh))
 
 pub returns-in_err-record-clause-taken : goal.returns-in_err-record-clause-taken
 returns-in_err-record-clause-taken g c =

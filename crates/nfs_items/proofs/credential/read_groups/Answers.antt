@@ -17,6 +17,7 @@ loop-preserved c = record {
   text = rw c.push.ensures (goes_on _ _ _ _ _ _ _ _ c.loop-test.true c.in_ok-group.ensures c.loop.invariant.text);
 }
 
+-- behind the last group, what was read is the whole array
 pub returns : goal.returns
 returns c =
     let few : c.in_ok-count.count ≤ 16 = omega arith in

@@ -1,6 +1,7 @@
 use Rattle.std.proofs.Common.{arith}
 use Rattle.nfs_types.specs.Arguments.{GivesCall}
 use Rattle.nfs_types.proofs.ArgumentsRead.{given_is_said, given_is_own, said_is_given}
+use Rattle.nfs_types.proofs.Bounded.{given_is_bounded}
 use Rattle.nfs_types.proofs.reading.read_args.Goals as goal
 
 pub returns-clause-found : goal.returns-clause-found
@@ -17,3 +18,8 @@ pub returns-clause-own : goal.returns-clause-own
 returns-clause-own c =
     let given : GivesCall c.args.procedure c.args.bytes.now c.read_arguments.result c.read_arguments.new.reader = rw (← c.new.ensures) c.read_arguments.ensures in
     given_is_own _ c.args.bytes.now c.read_arguments.result c.read_arguments.new.reader given
+
+pub returns-clause-bounds : goal.returns-clause-bounds
+returns-clause-bounds c =
+    let given : GivesCall c.args.procedure c.args.bytes.now c.read_arguments.result c.read_arguments.new.reader = rw (← c.new.ensures) c.read_arguments.ensures in
+    given_is_bounded _ c.args.bytes.now c.read_arguments.result c.read_arguments.new.reader (λ i. omega (arith, c.type_inv.bytes i)) given

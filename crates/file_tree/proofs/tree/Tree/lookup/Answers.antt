@@ -1,23 +1,25 @@
 use Rattle.std.proofs.Common.{ℕ, Result, Ok, Err, IfOk, refl, sym, ap, subst, ◌≡◌, ◌∙◌}
-use Rattle.std.specs.Option.{option_copied}
 use Rattle.nfs_items.specs.CallerOf.{caller_of}
 use Rattle.nfs_items.specs.declared.stat.Stat.{Stat}
 use Rattle.fs_model.specs.Trees.{IsFileTree}
 use Rattle.nfs_spec.specs.Effects.{number_at_name}
-use Rattle.file_tree.proofs.InodesSeen.{number_none, number_some}
+use Rattle.file_tree.proofs.FilesSeen.{seen, unseen, number_none, number_some}
 use Rattle.file_tree.proofs.LookUpPaths.{at_name, leads_on, leads_back}
 use Rattle.file_tree.proofs.tree.Tree.lookup.Goals as goal
 
 pub returns-in-Some-clause-result : goal.returns-in-Some-clause-result
 returns-in-Some-clause-result c =
     c.number_at.ensures
-    ∙ sym (number_some c.self.inside.fsid c.self.inside.next c.self.inside.inodes.entries c.self.invariant c.args.dir c.in-Some.inode.now
-    (sym c.get.ensures.value ∙ ap option_copied c.in-Some.is) (caller_of c.args.who.now) c.args.name.now)
+    ∙ sym (number_some c.self.inside.table c.args.dir
+    (caller_of c.args.who.now) c.args.name.now c.in-Some.inode.now
+    (seen c.self.inside.table c.args.dir c.get.result c.get.ensures.file c.in-Some.inode c.in-Some.is)
+    c.in-Some.ensures.parent)
     ∙ ap (λ w. number_at_name w (caller_of c.args.who.now) c.args.dir c.args.name.now) c.self.view_is
 
 pub returns-in-None-clause-result : goal.returns-in-None-clause-result
 returns-in-None-clause-result c =
-    sym (number_none c.self.inside.fsid c.self.inside.next c.self.inside.inodes.entries (caller_of c.args.who.now) c.args.dir c.args.name.now (sym c.get.ensures.value ∙ ap option_copied c.in-None.is))
+    sym (number_none c.self.inside.table c.args.dir (caller_of c.args.who.now) c.args.name.now
+    (unseen c.self.inside.table c.args.dir c.get.result c.get.ensures.file c.in-None.is))
     ∙ ap (λ w. number_at_name w (caller_of c.args.who.now) c.args.dir c.args.name.now) c.self.view_is
 
 if_ok : (r : Result ℕ Stat) (P : ℕ → Type 0) → ((k : ℕ) → r ≡ Ok k → P k) → IfOk r P
@@ -27,14 +29,18 @@ if_ok (Err e) P h = tt
 pub returns-in-Some-clause-found : goal.returns-in-Some-clause-found
 returns-in-Some-clause-found c = if_ok c.number_at.result _ (λ k is named.
     leads_on c.args.self.now (caller_of c.args.who.now) c.args.dir c.args.name.now named _
-    ((at_name c.args.self.now (caller_of c.args.who.now) c.args.dir c.args.name.now named).found k (sym (returns-in-Some-clause-result c) ∙ is)))
+    ((at_name c.args.self.now (caller_of c.args.who.now) c.args.dir c.args.name.now named).found k
+    (sym (returns-in-Some-clause-result c) ∙ is)))
 
 pub returns-in-Some-clause-absent : goal.returns-in-Some-clause-absent
 returns-in-Some-clause-absent c = λ is named.
     leads_on c.args.self.now (caller_of c.args.who.now) c.args.dir c.args.name.now named _
-    ((at_name c.args.self.now (caller_of c.args.who.now) c.args.dir c.args.name.now named).absent (sym (returns-in-Some-clause-result c) ∙ is))
+    ((at_name c.args.self.now (caller_of c.args.who.now) c.args.dir c.args.name.now named).absent
+    (sym (returns-in-Some-clause-result c) ∙ is))
 
 pub returns-in-Some-clause-above : goal.returns-in-Some-clause-above
 returns-in-Some-clause-above c = λ is. if_ok c.number_at.result _ (λ k ok.
-    leads_back c.args.self.now (caller_of c.args.who.now) c.args.dir k (subst IsFileTree c.self.view_is c.self.invariant.tree)
-    (ap (λ name. number_at_name c.args.self.now (caller_of c.args.who.now) c.args.dir name) (sym is) ∙ sym (returns-in-Some-clause-result c) ∙ ok))
+    leads_back c.args.self.now (caller_of c.args.who.now) c.args.dir k
+    (subst IsFileTree c.self.view_is c.files_are_a_tree.ensures.tree)
+    (ap (λ name. number_at_name c.args.self.now (caller_of c.args.who.now) c.args.dir name) (sym is)
+    ∙ sym (returns-in-Some-clause-result c) ∙ ok))

@@ -1,7 +1,5 @@
-use Rattle.std.proofs.Common.{◌≡◌, ap}
-use Rattle.nfs_items.specs.Timeval.{Timeval}
-use Rattle.service.specs.World.{World, at_time}
-use Rattle.service.specs.Replies.{after_reply}
+use Rattle.std.proofs.Common.{ap}
+use Rattle.service.specs.World.{world_of}
 use Rattle.service.proofs.Sizes.{fits_a_record, mapped_fits}
 use Rattle.service.proofs.Replied.{call_replied, fault_replied}
 use Rattle.service.proofs.service.Service.answer.Goals as goal
@@ -11,8 +9,10 @@ pub returns-clause-reply : goal.returns-clause-reply
 returns-clause-reply c = elim c.match-read_call.branch [
   | in-Ok+in_ok-reply_to-in-Ok w ↦
       rw (w.reply-is, ← c.self.view_is) ((call_replied _ c.args.time c.args.bytes.now c.read_call.result c.read_call.ensures.exact w.in-Ok.call
-      w.in_ok-reply_to-in-Ok.field-0.items w.reply_to.new.tree w.in-Ok.is c.later-now.result c.later-now.ensures
-      w.in_ok-reply_to-in-Ok.ensures.text w.in_ok-reply_to-in-Ok.ensures.files).0)
+      w.in_ok-reply_to-in-Ok.field-0.items (world_of w.reply_to.new.tree c.later-now.result w.reply_to.new.mounts) w.in-Ok.is
+      (world_of c.self.inside.tree c.later-now.result c.self.inside.mounts)
+      (ap (λ t. world_of c.self.inside.tree t c.self.inside.mounts) c.later-now.ensures)
+      w.in_ok-reply_to-in-Ok.ensures.text w.in_ok-reply_to-in-Ok.ensures.world).0)
   | in-Err w ↦
       rw (w.reply-is, ← c.self.view_is) ((fault_replied _ c.args.time c.args.bytes.now c.read_call.result c.read_call.ensures.exact w.in-Err.field-0 w.in-Err.is).0)
 ]
@@ -20,12 +20,15 @@ returns-clause-reply c = elim c.match-read_call.branch [
 pub returns-clause-world : goal.returns-clause-world
 returns-clause-world c = elim c.match-read_call.branch [
   | in-Ok+in_ok-reply_to-in-Ok w ↦
-      rw (w.self-inside-is, ← c.self.view_is, c.later-now.ensures) ((call_replied _ c.args.time c.args.bytes.now c.read_call.result c.read_call.ensures.exact w.in-Ok.call
-      w.in_ok-reply_to-in-Ok.field-0.items w.reply_to.new.tree w.in-Ok.is c.later-now.result c.later-now.ensures
-      w.in_ok-reply_to-in-Ok.ensures.text w.in_ok-reply_to-in-Ok.ensures.files).1)
+      rw (w.self-inside-is, ← c.self.view_is) ((call_replied _ c.args.time c.args.bytes.now c.read_call.result c.read_call.ensures.exact w.in-Ok.call
+      w.in_ok-reply_to-in-Ok.field-0.items (world_of w.reply_to.new.tree c.later-now.result w.reply_to.new.mounts) w.in-Ok.is
+      (world_of c.self.inside.tree c.later-now.result c.self.inside.mounts)
+      (ap (λ t. world_of c.self.inside.tree t c.self.inside.mounts) c.later-now.ensures)
+      w.in_ok-reply_to-in-Ok.ensures.text w.in_ok-reply_to-in-Ok.ensures.world).1)
   | in-Err w ↦
       rw (w.self-inside-is, ← c.self.view_is, c.later-now.ensures) ((fault_replied _ c.args.time c.args.bytes.now c.read_call.result c.read_call.ensures.exact w.in-Err.field-0 w.in-Err.is).1)
 ]
 
 pub returns-clause-size : goal.returns-clause-size
-returns-clause-size c = mapped_fits _ _ _ (returns-clause-reply c) (fits_a_record c.args.self.now c.args.time c.args.bytes.now)
+returns-clause-size c = mapped_fits _ _ _ (returns-clause-reply c)
+    (fits_a_record c.args.self.now (rw (← c.self.view_is) c.files_are_a_tree.ensures.tree) (rw (← c.self.view_is) c.are_mounts.ensures) c.args.time c.args.bytes.now)

@@ -1,0 +1,4 @@
+mod Cuts
+mod Fronts
+mod Listings
+mod Rising

@@ -1,0 +1,6 @@
+mod Steps
+mod Contents
+mod Places
+mod Names
+pub mod Granted
+pub mod GrantedNames

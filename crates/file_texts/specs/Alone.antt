@@ -1,0 +1,21 @@
+-- What a file must keep by itself, whatever other files there are.
+use Rattle.std.specs.Prelude.{◌<◌, IsTrue}
+use Rattle.std.specs.List.{All}
+use Rattle.fs_model.specs.Listing.{DirEntry, entry_name}
+use Rattle.fs_model.specs.Names.{is_name}
+use Rattle.fs_model.specs.Files.{Body, File, listing_in}
+use Rattle.fs_model.specs.Trees.{IsBody, IsTime}
+
+-- a body is within its limit; a directory's cookies rise from 3 to below the next, and its names differ and keep
+-- the name rule
+pub record IsBodyAlone (b : Body) : Type 0 where
+  pub body : IsBody b
+  pub names : All (λ (e : DirEntry). IsTrue (is_name (entry_name e))) (listing_in b).entries
+
+-- so does a file's, whose mode is below 4096 and whose times are times
+pub record IsFileAlone (f : File) : Type 0 where
+  pub mode : f.mode < 4_096
+  pub atime : IsTime f.atime
+  pub mtime : IsTime f.mtime
+  pub ctime : IsTime f.ctime
+  pub body : IsBodyAlone f.body

@@ -1,0 +1,33 @@
+-- The file that a value says. Each value gives one: a number that stands for no kind gives a regular file.
+use Rattle.std.specs.Prelude.{ℕ, zero, suc, []}
+use Rattle.xdr.specs.Item.{Value}
+use Rattle.nfs_items.specs.Timeval.{Timeval, timeval}
+use Rattle.fs_model.specs.Files.{Body, Regular, Symlink, Directory, File}
+use Rattle.file_texts.specs.FileItems.{file_item, body_item, attributes_item}
+
+unfoldable pub time_from : Value timeval → Timeval
+time_from v = record { seconds = v.0; microseconds = v.1 }
+
+unfoldable pub body_from : (kind : ℕ) → Value (body_item kind) → Body
+body_from zero v = Regular []
+body_from (suc zero) v = Regular v
+body_from (suc (suc zero)) v = Directory (record { next = v.0; entries = v.1 })
+body_from (suc (suc (suc zero))) v = Regular []
+body_from (suc (suc (suc (suc zero)))) v = Regular []
+body_from (suc (suc (suc (suc (suc zero))))) v = Symlink v
+body_from (suc (suc (suc (suc (suc (suc n)))))) v = Regular []
+
+unfoldable pub file_from : Value attributes_item → Body → File
+file_from a body = record {
+  mode = a.0;
+  uid = a.1.0;
+  gid = a.1.1.0;
+  atime = time_from a.1.1.1.0;
+  mtime = time_from a.1.1.1.1.0;
+  ctime = time_from a.1.1.1.1.1;
+  body = body;
+}
+
+-- a file with its number
+unfoldable pub numbered_from : Value file_item → ℕ × File
+numbered_from v = (v.0, file_from v.1.1.0 (body_from v.1.0 v.1.1.1))

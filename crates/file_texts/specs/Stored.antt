@@ -1,0 +1,8 @@
+-- What a stored entry says.
+use Rattle.std.specs.Prelude.{ℕ}
+use Rattle.std.specs.declared.vec.Vec.{Vec}
+use Rattle.fs_model.specs.Listing.{DirEntry}
+use Rattle.directories.specs.declared.directory.Entry.{Entry}
+
+abbrev pub entry_in : {A : Type 0} → Vec ℕ A × Entry → DirEntry
+entry_in e = (e.0.items, (e.1.number, e.1.cookie))

@@ -1,0 +1,22 @@
+//! The digest of a file's text.
+
+ghost use Rattle.std.specs.Prelude.{◌≡◌, IfOk};
+ghost use Rattle.inodes.specs.Inodes.{body_in, file_in};
+ghost use Rattle.file_texts.specs.Bounds.{IsWritable};
+ghost use Rattle.file_texts.specs.FileItems.{file_digest};
+
+use crate::write::add_file;
+use inodes::Inode;
+use sha2::{Digest, Sha256};
+use std::alloc::AllocError;
+
+/// The digest of the text of a file with its number. The text is made in `buffer`, in place of what it holds.
+#[tactic(auto, unfolding(crate::specs::FileItems::file_digest))]
+pub fn file_digest(number: u32, inode: &Inode, buffer: &mut Vec<u8>) -> Result<[u8; 32], AllocError>
+    requires { IsWritable (body_in inode.now.body) }
+    ensures { IfOk result (λ digest. digest ≡ file_digest (number, file_in inode.now)) }
+{
+    buffer.clear();
+    add_file(number, inode, buffer)?;
+    Ok(Sha256::digest(buffer.as_slice()))
+}

@@ -1,0 +1,72 @@
+-- A file that CREATE makes under a free name: the table takes it, and that is what the call does.
+-- Serves: `create_new`.
+use Rattle.std.proofs.Common.{◌≡◌, ℕ, ◌≤◌, List, length, replicate, None, Ok, refl, ap, subst, ◌∙◌, arith}
+use Rattle.std.specs.Prelude.{IsTrue, unwrap_or}
+use Rattle.nfs_items.specs.Timeval.{Timeval}
+use Rattle.nfs_items.specs.Caller.{Caller}
+use Rattle.fs_model.specs.Files.{Body, Regular, File, Files}
+use Rattle.fs_model.specs.Trees.{IsTime, IsFile, IsFileTree}
+use Rattle.fs_changes.specs.Limits.{has_room}
+use Rattle.nfs_spec.specs.Changes.{new_file}
+use Rattle.nfs_spec.specs.Procedures.{create, add_file}
+use Rattle.nfs_spec.specs.Sattr.{GivenFields}
+use Rattle.nfs_spec_steps.specs.Granted.{CreateNewOk, new_regular}
+use Rattle.nfs_spec_steps.proofs.Making.{create_ok}
+use Rattle.nfs_spec_laws.specs.Laws.{AreValidFields, NamesIn}
+use Rattle.nfs_spec_laws.proofs.FilesFit.{regular_fits}
+use Rattle.nfs_spec_sizes.specs.Bounds.{HasWords}
+use Rattle.nfs_spec_counts.specs.CountChanges.{MayMake}
+use Rattle.file_checks.specs.Creates.{DecidesCreate}
+use Rattle.file_checks.proofs.GrantedNames.{may_make, make_does, make_names}
+
+-- a new file of zeros, as many as the size that is given, or none
+pub new_regular_is : (who : Caller) (now : Timeval) (a : GivenFields) (file : File) (body : Body) (size : ℕ)
+    → file ≡ new_file who now a 420 body → body ≡ Regular (replicate size 0) → size ≡ unwrap_or a.size 0
+    → file ≡ new_regular who now a
+new_regular_is who now a file body size is filled sized =
+    is ∙ ap (new_file who now a 420) (filled ∙ ap (λ (n : ℕ). Regular (replicate n 0)) sized)
+
+-- the name was copied, and the file is the new one; the caller is granted it
+module _ (w : Files) (tree : IsFileTree w) (room : IsTrue (has_room w)) (who : Caller) (now : Timeval)
+    (time : IsTime now) (dir : ℕ) (name copy : List ℕ) (bound : length name ≤ 255) (copied : copy ≡ name)
+    (a : GivenFields) (valid : AreValidFields a) (file : File) (is : file ≡ new_regular who now a)
+    (words : HasWords file) (granted : DecidesCreate w who now dir name a (Ok None)) where
+  -- the number that the file gets, and the files after it
+  abbrev number : ℕ
+  number = granted.1.0.0
+
+  abbrev after : Files
+  after = granted.1.0.1
+
+  -- what the grant says
+  new : CreateNewOk w who now dir name a number after
+  new = (create_ok w who now dir name a number after granted.1.1).fresh granted.0
+
+  new_fits : IsFile (new_regular who now a)
+  new_fits = regular_fits who now time a valid new.fits
+
+  new_words : HasWords (new_regular who now a)
+  new_words = subst HasWords is words
+
+  -- the table takes the edit
+  pub may_create : MayMake w dir copy file
+  may_create =
+      rw (copied, is) (may_make w tree room who now dir name bound (new_regular who now a) refl (omega arith)
+      new_fits new_words number after new.make)
+
+  module _ (n : ℕ) (v : Files) (next : n ≡ w.next) (does : v ≡ add_file now w dir copy file) where
+    -- the edit is that of the new file
+    edited : v ≡ add_file now w dir name (new_regular who now a)
+    edited = rw (copied, is) at does
+
+    -- it is what CREATE does
+    pub create_does : create w who now dir name a ≡ Ok (n, v)
+    create_does =
+        make_does w tree room who now dir name bound (new_regular who now a) refl (omega arith) new_fits
+        new_words number after new.make (create w who now dir name a) granted.1.1 n v next edited
+
+    -- and adds one path
+    pub create_names : NamesIn w v dir name n
+    create_names =
+        make_names w tree room who now dir name bound (new_regular who now a) refl (omega arith) new_fits
+        new_words number after new.make time n v next edited

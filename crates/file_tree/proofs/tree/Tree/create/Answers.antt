@@ -1,0 +1,65 @@
+use Rattle.std.proofs.Common.{Some, None, Ok, refl, sym, ap, subst, ◌∙◌}
+use Rattle.nfs_items.specs.CallerOf.{caller_of}
+use Rattle.fs_model.proofs.Walks.{none_some}
+use Rattle.nfs_spec.specs.ProcedureChecks.{◌>>=◌}
+use Rattle.nfs_spec.specs.Procedures.{set_attributes, create}
+use Rattle.inodes.specs.Given.{given_in}
+use Rattle.file_checks.specs.Creates.{DecidesCreate}
+use Rattle.file_tree.specs.Performs.{Does}
+use Rattle.file_tree.proofs.tree.Tree.create.Goals as goal
+
+pub create_new-requires-clause-granted : goal.create_new-requires-clause-granted
+create_new-requires-clause-granted c =
+    let a = given_in c.of-given.result in
+    let found : DecidesCreate c.self.inside.table
+    (caller_of c.args.who.now) c.args.now c.args.dir c.args.name.now a (Ok c.in-Ok-None.field-0) =
+    c.in-Ok-None.ensures c.args.now a refl in
+    subst (λ w. DecidesCreate w (caller_of c.args.who.now) c.args.now c.args.dir c.args.name.now a
+    (Ok None)) c.self.view_is (rw c.in-Ok-None.field-0-is at found)
+
+pub returns-in-Ok-clause-effect : goal.returns-in-Ok-clause-effect
+returns-in-Ok-clause-effect c =
+    let a = given_in c.of-given.result in
+    let found : DecidesCreate c.self.inside.table
+    (caller_of c.args.who.now) c.args.now c.args.dir c.args.name.now a (Ok c.in-Ok-Some.field-0) =
+    c.in-Ok-Some.ensures c.args.now a refl in
+    let over =
+    subst (λ w. DecidesCreate w (caller_of c.args.who.now) c.args.now c.args.dir c.args.name.now a
+    (Ok (Some c.in-Ok-Some.number))) c.self.view_is (rw c.in-Ok-Some.field-0-is at found) in
+    let set =
+    subst (λ r. Does (set_attributes c.args.self.now
+    (caller_of c.args.who.now) c.args.now c.in-Ok-Some.number a) c.args.self.now r c.set.new.self) c.in-Ok.is
+    c.in_ok-set-in-Ok-Some.ensures in
+    ap (λ a. create c.args.self.now (caller_of c.args.who.now) c.args.now c.args.dir c.args.name.now a)
+    (sym c.of-given.ensures)
+    ∙ over.1 ∙ ap (λ r. r >>= λ after. Ok (c.in-Ok-Some.number, after.1)) set
+
+pub returns-in-Ok-clause-paths : goal.returns-in-Ok-clause-paths
+returns-in-Ok-clause-paths c =
+    let a = given_in c.of-given.result in
+    let found : DecidesCreate c.self.inside.table
+    (caller_of c.args.who.now) c.args.now c.args.dir c.args.name.now a (Ok c.in-Ok-Some.field-0) =
+    c.in-Ok-Some.ensures c.args.now a refl in
+    let over =
+    subst (λ w. DecidesCreate w (caller_of c.args.who.now) c.args.now c.args.dir c.args.name.now a
+    (Ok (Some c.in-Ok-Some.number))) c.self.view_is (rw c.in-Ok-Some.field-0-is at found) in
+    λ none. absurd (none_some (sym none ∙ over.0.1))
+
+pub returns-in-Err-2-clause-effect : goal.returns-in-Err-2-clause-effect
+returns-in-Err-2-clause-effect c =
+    let a = given_in c.of-given.result in
+    let found : DecidesCreate c.self.inside.table
+    (caller_of c.args.who.now) c.args.now c.args.dir c.args.name.now a (Ok c.in-Ok-Some.field-0) =
+    c.in-Ok-Some.ensures c.args.now a refl in
+    let over =
+    subst (λ w. DecidesCreate w (caller_of c.args.who.now) c.args.now c.args.dir c.args.name.now a
+    (Ok (Some c.in-Ok-Some.number))) c.self.view_is (rw c.in-Ok-Some.field-0-is at found) in
+    let set =
+    subst (λ r. Does (set_attributes c.args.self.now
+    (caller_of c.args.who.now) c.args.now c.in-Ok-Some.number a) c.args.self.now r c.set.new.self)
+    c.in-Err-2.is c.in_ok-set-in-Ok-Some.ensures in (
+      ap (λ a. create c.args.self.now (caller_of c.args.who.now) c.args.now c.args.dir c.args.name.now a)
+          (sym c.of-given.ensures)
+          ∙ over.1 ∙ ap (λ r. r >>= λ after. Ok (c.in-Ok-Some.number, after.1)) set.0,
+      set.1,
+    )

@@ -1,0 +1,38 @@
+use Rattle.std.proofs.Common.{◌≡◌, subst, rules}
+use Rattle.nfs_items.specs.CallerOf.{caller_of}
+use Rattle.nfs_spec_laws.specs.Laws.{NamesIn}
+use Rattle.fs_model.specs.Trees.{IsTime}
+use Rattle.file_checks.proofs.GrantedNames.{may_link, link_does, link_names}
+use Rattle.file_tree.proofs.tree.Tree.link.Goals as goal
+
+pub link-requires : goal.link-requires
+link-requires c =
+    let copied : c.in_ok-to_vec.field-0.items ≡ c.args.name.now =
+    c.in_ok-to_vec.ensures.items_if_clones_equal (λ x y e. e) in
+    let granted = c.in_default.ensures c.args.now in
+    rw copied (may_link c.self.inside.table c.files_are_a_tree.ensures.tree c.files_are_a_tree.ensures.room
+    (caller_of c.args.who.now) c.args.now c.args.dir
+    c.args.name.now c.requires c.args.number granted.0 granted.1)
+
+pub returns-clause-effect : goal.returns-clause-effect
+returns-clause-effect c =
+    let copied : c.in_ok-to_vec.field-0.items ≡ c.args.name.now =
+    c.in_ok-to_vec.ensures.items_if_clones_equal (λ x y e. e) in
+    let granted = c.in_default.ensures c.args.now in
+    rw (← c.self.view_is)
+    (link_does c.self.inside.table c.files_are_a_tree.ensures.tree c.files_are_a_tree.ensures.room
+    (caller_of c.args.who.now) c.args.now c.args.dir
+    c.args.name.now c.requires c.args.number granted.0 granted.1 c.link.new.self
+    (rw copied at c.in_ok-link.ensures.ok))
+
+pub returns-clause-paths : goal.returns-clause-paths
+returns-clause-paths c =
+    let copied : c.in_ok-to_vec.field-0.items ≡ c.args.name.now =
+    c.in_ok-to_vec.ensures.items_if_clones_equal (λ x y e. e) in
+    let granted = c.in_default.ensures c.args.now in
+    let time : IsTime c.args.now = search rules in
+    subst (λ w. NamesIn w c.link.new.self c.args.dir c.args.name.now c.args.number) c.self.view_is
+    (link_names c.self.inside.table c.files_are_a_tree.ensures.tree c.files_are_a_tree.ensures.room
+    (caller_of c.args.who.now) c.args.now c.args.dir
+    c.args.name.now c.requires c.args.number granted.0 granted.1 time c.link.new.self
+    (rw copied at c.in_ok-link.ensures.ok))

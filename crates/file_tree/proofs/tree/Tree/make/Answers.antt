@@ -1,0 +1,67 @@
+use Rattle.std.proofs.Common.{◌≡◌, sym, subst, rules}
+use Rattle.nfs_items.specs.CallerOf.{caller_of}
+use Rattle.fs_model.specs.Trees.{IsTime}
+use Rattle.nfs_spec.specs.Procedures.{make, add_file}
+use Rattle.nfs_spec_steps.proofs.Making.{make_ok}
+use Rattle.nfs_spec_laws.specs.Laws.{NamesIn}
+use Rattle.nfs_spec_sizes.specs.Bounds.{HasWords}
+use Rattle.inodes.specs.Inodes.{file_in}
+use Rattle.file_checks.proofs.GrantedNames.{may_make, make_does, make_names}
+use Rattle.file_tree.proofs.tree.Tree.make.Goals as goal
+
+pub make-requires : goal.make-requires
+make-requires c =
+    let f = file_in c.args.inode in
+    let words : HasWords f = search rules in
+    let copied : c.in_ok-to_vec.field-0.items ≡ c.args.name.now =
+    c.in_ok-to_vec.ensures.items_if_clones_equal (λ x y e. e) in
+    let granted =
+    c.in_default.ensures c.args.now f c.requires.empty c.requires.cookie (sym c.blocks-2.ensures) in
+    rw copied (may_make c.self.inside.table c.files_are_a_tree.ensures.tree c.files_are_a_tree.ensures.room
+    (caller_of c.args.who.now) c.args.now c.args.dir
+    c.args.name.now c.requires.name f c.requires.empty c.requires.cookie
+    c.requires.file words granted.0.0 granted.0.1
+    (make_ok c.self.inside.table
+    (caller_of c.args.who.now) c.args.now c.args.dir c.args.name.now f granted.0.0 granted.0.1 granted.1))
+
+pub returns-clause-effect : goal.returns-clause-effect
+returns-clause-effect c =
+    let f = file_in c.args.inode in
+    let words : HasWords f = search rules in
+    let copied : c.in_ok-to_vec.field-0.items ≡ c.args.name.now =
+    c.in_ok-to_vec.ensures.items_if_clones_equal (λ x y e. e) in
+    let granted =
+    c.in_default.ensures c.args.now f c.requires.empty c.requires.cookie (sym c.blocks-2.ensures) in
+    let does : c.make.new.self
+    ≡ add_file c.args.now c.self.inside.table c.args.dir c.in_ok-to_vec.field-0.items f =
+    c.in_ok-make.ensures.ok in
+    rw (← c.self.view_is)
+    (make_does c.self.inside.table c.files_are_a_tree.ensures.tree c.files_are_a_tree.ensures.room
+    (caller_of c.args.who.now) c.args.now c.args.dir
+    c.args.name.now c.requires.name f c.requires.empty c.requires.cookie
+    c.requires.file words granted.0.0 granted.0.1
+    (make_ok c.self.inside.table
+    (caller_of c.args.who.now) c.args.now c.args.dir c.args.name.now f granted.0.0 granted.0.1 granted.1)
+    (make c.self.inside.table (caller_of c.args.who.now) c.args.now c.args.dir c.args.name.now f) granted.1
+    c.in_ok-make.field-0 c.make.new.self c.in_ok-make.ensures.number (rw copied at does))
+
+pub returns-clause-paths : goal.returns-clause-paths
+returns-clause-paths c =
+    let f = file_in c.args.inode in
+    let words : HasWords f = search rules in
+    let time : IsTime c.args.now = search rules in
+    let copied : c.in_ok-to_vec.field-0.items ≡ c.args.name.now =
+    c.in_ok-to_vec.ensures.items_if_clones_equal (λ x y e. e) in
+    let granted =
+    c.in_default.ensures c.args.now f c.requires.empty c.requires.cookie (sym c.blocks-2.ensures) in
+    let does : c.make.new.self
+    ≡ add_file c.args.now c.self.inside.table c.args.dir c.in_ok-to_vec.field-0.items f =
+    c.in_ok-make.ensures.ok in
+    subst (λ w. NamesIn w c.make.new.self c.args.dir c.args.name.now c.in_ok-make.field-0) c.self.view_is
+    (make_names c.self.inside.table c.files_are_a_tree.ensures.tree c.files_are_a_tree.ensures.room
+    (caller_of c.args.who.now) c.args.now c.args.dir
+    c.args.name.now c.requires.name f c.requires.empty c.requires.cookie
+    c.requires.file words granted.0.0 granted.0.1
+    (make_ok c.self.inside.table
+    (caller_of c.args.who.now) c.args.now c.args.dir c.args.name.now f granted.0.0 granted.0.1 granted.1)
+    time c.in_ok-make.field-0 c.make.new.self c.in_ok-make.ensures.number (rw copied at does))

@@ -1,0 +1,31 @@
+use Rattle.std.proofs.Common.{◌≡◌, Ok, Err, refl, sym, ap, subst, ◌∙◌, arith, rules}
+use Rattle.nfs_items.specs.CallerOf.{caller_of}
+use Rattle.fs_model.specs.Trees.{IsFileTree}
+use Rattle.nfs_spec.specs.Procedures.{remove_dir}
+use Rattle.file_tree.specs.Performs.{Does}
+use Rattle.file_tree.proofs.Removed.{dir_removed}
+use Rattle.file_tree.proofs.tree.Tree.remove_dir.Goals as goal
+
+pub returns-clause-effect : goal.returns-clause-effect
+returns-clause-effect c =
+    ap (λ w. remove_dir w (caller_of c.args.who.now) c.args.now c.args.dir c.args.name.now)
+    (sym c.self.view_is)
+    ∙ sym (c.in_ok-number.ensures.effect c.args.now)
+    ∙ ap (λ w. Ok (tt, w)) (sym c.unlink.ensures)
+
+pub returns-clause-paths : goal.returns-clause-paths
+returns-clause-paths c =
+    dir_removed c.args.now (omega arith) c.args.self.now
+    (subst IsFileTree c.self.view_is c.files_are_a_tree.ensures.tree) (caller_of c.args.who.now)
+    c.args.dir c.args.name.now c.unlink.new.self (returns-clause-effect c)
+
+pub returns-in_err-number-clause-effect : goal.returns-in_err-number-clause-effect
+returns-in_err-number-clause-effect c =
+    let refused : c.from_residual.result ≡ Err c.in_err-number.field-0.0 = search rules in
+    subst (λ r. Does (remove_dir c.args.self.now
+    (caller_of c.args.who.now) c.args.now c.args.dir c.args.name.now) c.args.self.now r c.args.self.now)
+    (sym refused) (
+      ap (λ w. remove_dir w (caller_of c.args.who.now) c.args.now c.args.dir c.args.name.now)
+          (sym c.self.view_is) ∙ sym (c.in_err-number.ensures.effect c.args.now),
+      refl,
+    )

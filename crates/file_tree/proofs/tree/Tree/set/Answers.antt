@@ -1,0 +1,16 @@
+use Rattle.nfs_items.specs.CallerOf.{caller_of}
+use Rattle.inodes.specs.Given.{given_in}
+use Rattle.file_checks.proofs.Granted.{may_set, set_does}
+use Rattle.file_tree.proofs.tree.Tree.set.Goals as goal
+
+pub set-requires-clause-sized : goal.set-requires-clause-sized
+set-requires-clause-sized c =
+    let granted = c.in_default.ensures c.args.now in
+    may_set c.self.inside.table (caller_of c.args.who.now) c.args.now c.args.number
+    (given_in c.args.given.now) granted.0 granted.1
+
+pub returns : goal.returns
+returns c =
+    let granted = c.in_default.ensures c.args.now in
+    rw (← c.self.view_is) (set_does c.self.inside.table (caller_of c.args.who.now) c.args.now c.args.number
+    (given_in c.args.given.now) granted.0 granted.1 c.set.new.self c.in_ok-set.ensures.ok)

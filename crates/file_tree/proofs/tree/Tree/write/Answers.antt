@@ -1,0 +1,25 @@
+use Rattle.std.proofs.Common.{sym}
+use Rattle.nfs_items.specs.CallerOf.{caller_of}
+use Rattle.file_checks.proofs.Granted.{may_write_at, write_does, write_does_nothing}
+use Rattle.file_tree.proofs.tree.Tree.write.Goals as goal
+
+pub returns-then-is_empty : goal.returns-then-is_empty
+returns-then-is_empty c =
+    let granted = c.in_default.ensures c.args.now in
+    rw (← c.self.view_is) (write_does_nothing c.self.inside.table
+    (caller_of c.args.who.now) c.args.now c.args.number c.args.offset c.args.bytes.now granted.0 granted.1
+    (sym c.if-is_empty.ensures))
+
+pub write-requires : goal.write-requires
+write-requires c =
+    let granted = c.in_default.ensures c.args.now in
+    may_write_at c.self.inside.table
+    (caller_of c.args.who.now) c.args.now c.args.number c.args.offset c.args.bytes.now granted.0 granted.1
+    (sym c.if-is_empty.ensures)
+
+pub returns : goal.returns
+returns c =
+    let granted = c.in_default.ensures c.args.now in
+    rw (← c.self.view_is) (write_does c.self.inside.table
+    (caller_of c.args.who.now) c.args.now c.args.number c.args.offset c.args.bytes.now granted.0 granted.1
+    (sym c.if-is_empty.ensures) c.write.new.self c.in_ok-write.ensures.ok)

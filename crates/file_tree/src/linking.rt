@@ -1,0 +1,40 @@
+//! Calls that give a file one more name, or take one away.
+
+ghost use Rattle.std.specs.Prelude.{◌≡◌, ◌≤◌, length};
+ghost use Rattle.nfs_items.specs.CallerOf.{caller_of};
+ghost use Rattle.fs_model.specs.Maxima.{max_name};
+ghost use Rattle.nfs_spec.specs.Procedures.{link};
+ghost use Rattle.nfs_spec_laws.specs.Laws.{NamesIn};
+ghost use Rattle.file_tree.specs.Performs.{Performs, IfDone};
+
+use crate::tree::Tree;
+use file_checks::check_link;
+use nfs_items::{Stat, Time, Who};
+use std::alloc::{AllocError, Global};
+
+impl Tree {
+    /// Gives a file or symbolic link one more name (RFC 1094, section 2.2.13). Of the file Stale and IsDir;
+    /// then Stale, NotDir, Acces, Exist and NoSpc, in this order. A refusal, and want of memory, leave the
+    /// files as they were.
+    pub fn link(
+        &mut self,
+        alloc: Global,
+        who: &Who,
+        now: Time,
+        number: u32,
+        dir: u32,
+        name: &[u8],
+    ) -> Result<Result<(), Stat>, AllocError>
+        requires { length name.now ≤ max_name }
+        ensures effect { Performs (link self.old (caller_of who.now) now number dir name.now)
+            self.old result self.new }
+        ensures paths { IfDone result (λ done. NamesIn self.old self.new dir name.now number) }
+    {
+        self.table.files_are_a_tree();
+        if let Err(stat) = check_link(&self.table, who, number, dir, name) {
+            return Ok(Err(stat));
+        }
+        self.table.link(now, number, dir, name.to_vec(alloc)?)?;
+        Ok(Ok(()))
+    }
+}

@@ -1,0 +1,175 @@
+//! Calls that make files.
+
+ghost use Rattle.std.specs.Prelude.{◌≡◌, ◌≤◌, ◌+◌, [], Ok, None, length};
+ghost use Rattle.nfs_items.specs.CallerOf.{caller_of};
+ghost use Rattle.fs_model.specs.Files.{listing_in, places};
+ghost use Rattle.fs_model.specs.Maxima.{max_name, max_number, max_target};
+ghost use Rattle.fs_model.specs.Trees.{IsFile};
+ghost use Rattle.nfs_spec.specs.Sattr.{given_fields};
+ghost use Rattle.nfs_spec.specs.Procedures.{create, make, make_dir, symlink};
+ghost use Rattle.nfs_spec_laws.specs.Laws.{AreValidFields, NamesIn};
+ghost use Rattle.inodes.specs.Given.{given_in};
+ghost use Rattle.inodes.specs.Inodes.{body_in, file_in};
+ghost use Rattle.file_checks.specs.Creates.{DecidesCreate};
+ghost use Rattle.file_tree.specs.Performs.{Performs, IfDone};
+
+use crate::tree::Tree;
+use file_checks::{check_make, find_to_create};
+use inodes::{Body, Directory, Given, Inode};
+use nfs_items::{Sattr, Stat, Time, Who};
+use std::alloc::{AllocError, Global};
+
+/// Attributes of which none is given.
+const NOTHING_GIVEN: Given = Given {
+    mode: None,
+    uid: None,
+    gid: None,
+    size: None,
+    atime: None,
+    mtime: None,
+};
+
+impl Tree {
+    /// Makes a regular file, or sets the attributes of the one that has the name (RFC 1094, section 2.2.10);
+    /// gives its number. Stale, NotDir, Acces; where the name is taken Exist unless by a regular file, else
+    /// as `set_attributes`; where it is free Acces, FBig and NoSpc. A refusal, and want of memory, leave the
+    /// files as they were.
+    pub fn create(
+        &mut self,
+        alloc: Global,
+        who: &Who,
+        now: Time,
+        dir: u32,
+        name: &[u8],
+        attributes: &Sattr,
+    ) -> Result<Result<u32, Stat>, AllocError>
+        requires { length name.now ≤ max_name }
+        ensures effect { Performs
+            (create self.old (caller_of who.now) now dir name.now (given_fields now attributes.now))
+            self.old result self.new }
+
+        // Where the name was free, there is one path more for each of the directory.
+        ensures paths { places self.old dir name.now ≡ None →
+            IfDone result (λ number. NamesIn self.old self.new dir name.now number) }
+    {
+        let given = Given::of(attributes, now);
+        match find_to_create(&self.table, who, dir, name, given.size) {
+            Ok(None) => self.create_new(alloc, who, now, dir, name, &given),
+            Ok(Some(number)) => match self.set(who, now, number, &given)? {
+                Ok(()) => Ok(Ok(number)),
+                Err(stat) => Ok(Err(stat)),
+            },
+            Err(stat) => Ok(Err(stat)),
+        }
+    }
+
+    /// Makes a regular file, where that is granted and the name is free.
+    fn create_new(
+        &mut self,
+        alloc: Global,
+        who: &Who,
+        now: Time,
+        dir: u32,
+        name: &[u8],
+        given: &Given,
+    ) -> Result<Result<u32, Stat>, AllocError>
+        requires name { length name.now ≤ max_name }
+        requires valid { AreValidFields (given_in given.now) }
+        requires granted { DecidesCreate self.old (caller_of who.now) now dir name.now (given_in given.now)
+            (Ok None) }
+        ensures effect { Performs
+            (create self.old (caller_of who.now) now dir name.now (given_in given.now))
+            self.old result self.new }
+        ensures paths { IfDone result (λ number. NamesIn self.old self.new dir name.now number) }
+    {
+        self.table.files_are_a_tree();
+        let body = Body::zeros(alloc, given.size.unwrap_or(0))?;
+        let inode = Inode::new(who, now, given, 0o644, body);
+        Ok(Ok(self.table.make(now, dir, name.to_vec(alloc)?, inode)?))
+    }
+
+    /// Makes a directory (RFC 1094, section 2.2.15), and gives its number. Stale, NotDir, Acces, Exist and
+    /// NoSpc, in this order. A refusal, and want of memory, leave the files as they were.
+    pub fn make_dir(
+        &mut self,
+        alloc: Global,
+        who: &Who,
+        now: Time,
+        dir: u32,
+        name: &[u8],
+        attributes: &Sattr,
+    ) -> Result<Result<u32, Stat>, AllocError>
+        requires { length name.now ≤ max_name }
+        ensures effect { Performs
+            (make_dir self.old (caller_of who.now) now dir name.now (given_fields now attributes.now))
+            self.old result self.new }
+        ensures paths { IfDone result (λ number. NamesIn self.old self.new dir name.now number) }
+    {
+        let given = Given::of(attributes, now);
+        let body = Body::Directory {
+            parent: dir,
+            listing: Directory::new(alloc),
+        };
+        self.make(
+            alloc,
+            who,
+            now,
+            dir,
+            name,
+            Inode::new(who, now, &given, 0o755, body),
+        )
+    }
+
+    /// Makes a symbolic link (RFC 1094, section 2.2.14), and gives its number. Stale, NotDir, Acces, Exist
+    /// and NoSpc, in this order. A refusal, and want of memory, leave the files as they were.
+    pub fn symlink(
+        &mut self,
+        alloc: Global,
+        who: &Who,
+        now: Time,
+        dir: u32,
+        name: &[u8],
+        target: &[u8],
+    ) -> Result<Result<u32, Stat>, AllocError>
+        requires name { length name.now ≤ max_name }
+        requires target { length target.now ≤ max_target }
+        ensures effect { Performs (symlink self.old (caller_of who.now) now dir name.now target.now)
+            self.old result self.new }
+        ensures paths { IfDone result (λ number. NamesIn self.old self.new dir name.now number) }
+    {
+        let body = Body::Link(target.to_vec(alloc)?);
+        self.make(
+            alloc,
+            who,
+            now,
+            dir,
+            name,
+            Inode::new(who, now, &NOTHING_GIVEN, 0o777, body),
+        )
+    }
+
+    /// Makes a file that lists nothing, with a free name, and gives its number.
+    fn make(
+        &mut self,
+        alloc: Global,
+        who: &Who,
+        now: Time,
+        dir: u32,
+        name: &[u8],
+        inode: Inode,
+    ) -> Result<Result<u32, Stat>, AllocError>
+        requires name { length name.now ≤ max_name }
+        requires file { IsFile (file_in inode) }
+        requires empty { (listing_in (body_in inode.body)).entries ≡ [] }
+        requires cookie { (listing_in (body_in inode.body)).next ≤ max_number + 1 }
+        ensures effect { Performs (make self.old (caller_of who.now) now dir name.now (file_in inode))
+            self.old result self.new }
+        ensures paths { IfDone result (λ number. NamesIn self.old self.new dir name.now number) }
+    {
+        self.table.files_are_a_tree();
+        if let Err(stat) = check_make(&self.table, who, dir, name, inode.body.blocks()) {
+            return Ok(Err(stat));
+        }
+        Ok(Ok(self.table.make(now, dir, name.to_vec(alloc)?, inode)?))
+    }
+}

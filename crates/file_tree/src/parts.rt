@@ -1,0 +1,53 @@
+//! A tree from its files, and its files in order.
+
+ghost use Rattle.std.specs.Prelude.{◌≡◌, IfOk, IsTrue};
+ghost use Rattle.std.specs.FinMap as finite;
+ghost use Rattle.fs_model.specs.Trees.{IsFileTree};
+ghost use Rattle.fs_changes.specs.Limits.{has_room};
+ghost use Rattle.nfs_spec_sizes.specs.Bounds.{AreWords};
+ghost use Rattle.fs_rules.specs.Rules.{AreRising, numbers_of};
+ghost use Rattle.inodes.specs.Inodes.{files_of};
+ghost use Rattle.tree_rules.specs.Listed.{files_in};
+
+use crate::tree::Tree;
+use file_checks::InodeTable;
+use inodes::Inode;
+use std::alloc::{AllocError, Global};
+use std::collections::btree_map::Iter;
+
+impl Tree {
+    /// The tree of files that come from outside, for the server of a number, with the number that the next new
+    /// file gets. They are a tree within all limits (`tree_rules::is_tree` and `total_usage` tell), by rising
+    /// number. What the inodes keep beside their files, `nlink` and the parent of a directory, is counted afresh
+    /// and not looked at.
+    pub fn of_inodes(
+        alloc: Global,
+        fsid: u32,
+        next: u32,
+        inodes: Vec<(u32, Inode)>,
+    ) -> Result<Tree, AllocError>
+        requires rising { AreRising (numbers_of inodes.items) }
+        requires tree { IsFileTree (files_of fsid next inodes.items) }
+        requires room { IsTrue (has_room (files_of fsid next inodes.items)) }
+        requires words { AreWords (files_of fsid next inodes.items) }
+        ensures { IfOk result (λ tree. tree ≡ files_of fsid next inodes.items) }
+    {
+        Ok(Tree {
+            table: InodeTable::of_inodes(alloc, fsid, next, inodes)?,
+        })
+    }
+
+    /// The number that the next new file gets.
+    pub fn next(&self) -> u32
+        ensures { result ≡ self.now.next }
+    {
+        self.table.next()
+    }
+
+    /// The files, lent as inodes with their numbers, which rise.
+    pub fn inodes(&self) -> Iter<'_, u32, Inode>
+        ensures { files_in result ≡ finite.entries self.now.files }
+    {
+        self.table.inodes()
+    }
+}

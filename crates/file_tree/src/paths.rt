@@ -1,0 +1,21 @@
+//! Walks along paths, which look at no permission.
+
+ghost use Rattle.std.specs.Prelude.{◌≡◌, option_map};
+ghost use Rattle.fs_model.specs.Listing.{place_number};
+ghost use Rattle.fs_model.specs.Files.{places};
+
+use crate::tree::Tree;
+use inodes::Body;
+
+impl Tree {
+    /// The number that a directory lists under a name, whoever asks; none where the directory's number is no directory's,
+    /// or it lists no such name. It lists neither `.` nor `..`.
+    pub fn child(&self, dir: u32, name: &[u8]) -> Option<u32>
+        ensures { result ≡ option_map place_number (places self.now dir name.now) }
+    {
+        match &self.table.get(dir)?.body {
+            Body::Directory { listing, .. } => listing.find(name).map(|entry| entry.number),
+            Body::Regular(_) | Body::Link(_) => None,
+        }
+    }
+}

@@ -1,0 +1,42 @@
+//! Calls that take names out.
+
+ghost use Rattle.std.specs.Prelude.{◌≡◌, OnOk};
+ghost use Rattle.nfs_items.specs.CallerOf.{caller_of};
+ghost use Rattle.nfs_spec.specs.Procedures.{remove, remove_dir};
+ghost use Rattle.nfs_spec_laws.specs.Laws.{UnnamesIn};
+ghost use Rattle.file_tree.specs.Performs.{Does};
+
+use crate::tree::Tree;
+use name_checks::{check_remove, check_remove_dir};
+use nfs_items::{Stat, Time, Who};
+
+impl Tree {
+    /// Takes a name of a file or symbolic link out (RFC 1094, section 2.2.11), and with its last name the
+    /// file. Stale, NotDir, Acces, NoEnt and IsDir, in this order. A refusal leaves the files as they were.
+    pub fn remove(&mut self, who: &Who, now: Time, dir: u32, name: &[u8]) -> Result<(), Stat>
+        ensures effect { Does (remove self.old (caller_of who.now) now dir name.now)
+            self.old result self.new }
+
+        // One path less for each of the directory.
+        ensures paths { OnOk result (UnnamesIn self.old self.new dir name.now) }
+    {
+        self.table.files_are_a_tree();
+        let number = check_remove(&self.table, who, dir, name)?;
+        self.table.unlink(now, dir, name, number);
+        Ok(())
+    }
+
+    /// Takes a directory out, which must be empty (RFC 1094, section 2.2.16). Stale, NotDir, Acces and NoEnt;
+    /// then NotDir of what isn't a directory, and NotEmpty, in this order. A refusal leaves the files as they
+    /// were.
+    pub fn remove_dir(&mut self, who: &Who, now: Time, dir: u32, name: &[u8]) -> Result<(), Stat>
+        ensures effect { Does (remove_dir self.old (caller_of who.now) now dir name.now)
+            self.old result self.new }
+        ensures paths { OnOk result (UnnamesIn self.old self.new dir name.now) }
+    {
+        self.table.files_are_a_tree();
+        let number = check_remove_dir(&self.table, who, dir, name)?;
+        self.table.unlink(now, dir, name, number);
+        Ok(())
+    }
+}

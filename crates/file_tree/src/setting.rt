@@ -1,0 +1,77 @@
+//! Calls that change what a file holds: its attributes and its bytes.
+
+ghost use Rattle.std.specs.Prelude.{◌≡◌};
+ghost use Rattle.nfs_items.specs.CallerOf.{caller_of};
+ghost use Rattle.nfs_spec.specs.Sattr.{given_fields};
+ghost use Rattle.nfs_spec.specs.Procedures.{set_attributes, write};
+ghost use Rattle.nfs_spec_laws.specs.Laws.{AreValidFields};
+ghost use Rattle.inodes.specs.Given.{given_in};
+ghost use Rattle.file_tree.specs.Performs.{Performs};
+
+use crate::tree::Tree;
+use file_checks::{check_set, check_write};
+use inodes::Given;
+use nfs_items::{Sattr, Stat, Time, Who};
+use std::alloc::AllocError;
+
+impl Tree {
+    /// Sets the attributes of a file that are given (RFC 1094, section 2.2.3). Stale, then Perm, then IsDir,
+    /// NxIo, Acces, FBig and NoSpc where a size is given. A refusal, and want of memory, leave the files as
+    /// they were.
+    pub fn set_attributes(
+        &mut self,
+        who: &Who,
+        now: Time,
+        number: u32,
+        attributes: &Sattr,
+    ) -> Result<Result<(), Stat>, AllocError>
+        ensures { Performs
+            (set_attributes self.old (caller_of who.now) now number (given_fields now attributes.now))
+            self.old result self.new }
+    {
+        self.set(who, now, number, &Given::of(attributes, now))
+    }
+
+    /// The same for what attributes give.
+    pub(crate) fn set(
+        &mut self,
+        who: &Who,
+        now: Time,
+        number: u32,
+        given: &Given,
+    ) -> Result<Result<(), Stat>, AllocError>
+        requires { AreValidFields (given_in given.now) }
+        ensures { Performs (set_attributes self.old (caller_of who.now) now number (given_in given.now))
+            self.old result self.new }
+    {
+        if let Err(stat) = check_set(&self.table, who, number, given) {
+            return Ok(Err(stat));
+        }
+        self.table.set(now, number, given)?;
+        Ok(Ok(()))
+    }
+
+    /// Writes bytes into a regular file at an offset (RFC 1094, section 2.2.9), with zeros between its end
+    /// and an offset past it; no bytes change nothing. Stale, IsDir, NxIo, Acces, FBig and NoSpc, in this
+    /// order. A refusal, and want of memory, leave the files as they were.
+    pub fn write(
+        &mut self,
+        who: &Who,
+        now: Time,
+        number: u32,
+        offset: u32,
+        bytes: &[u8],
+    ) -> Result<Result<(), Stat>, AllocError>
+        ensures { Performs (write self.old (caller_of who.now) now number offset bytes.now)
+            self.old result self.new }
+    {
+        if let Err(stat) = check_write(&self.table, who, number, offset, bytes) {
+            return Ok(Err(stat));
+        }
+        if bytes.is_empty() {
+            return Ok(Ok(()));
+        }
+        self.table.write(now, number, offset, bytes)?;
+        Ok(Ok(()))
+    }
+}

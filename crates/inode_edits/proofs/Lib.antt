@@ -1,0 +1,5 @@
+pub mod FilesSeen
+pub mod EditedInodes
+pub mod NamedInodes
+pub mod Listed
+mod Dropped

@@ -1,0 +1,8 @@
+//! What is kept beside the files of a tree, counted from the files.
+#![tactic(auto)]
+
+mod links;
+mod maps;
+
+pub use inodes::Inode;
+pub use maps::linked_inodes;

@@ -1,0 +1,8 @@
+mod InodesSeen
+mod Tables
+mod KeptContents
+mod KeptNames
+mod KeptRemoval
+mod MovedEntry
+mod OpeningInodes
+pub mod GivenInodes

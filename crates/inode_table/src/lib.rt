@@ -1,0 +1,8 @@
+//! The inode table of a server: its files under their numbers, and beside them the counts that its limits
+//! ask for.
+#![tactic(auto)]
+
+mod opening;
+mod table;
+
+pub use table::InodeTable;

@@ -1,0 +1,5 @@
+pub mod Listed
+pub mod Slashes
+pub mod Walked
+pub mod Steps
+pub mod Sizes

@@ -1,0 +1,15 @@
+-- Callers of the worked calls.
+use Rattle.std.specs.Prelude.{[], Some, codes}
+use Rattle.nfs_items.specs.Caller.{Caller}
+use Rattle.mount_types.specs.Calls.{HostName}
+
+-- two machines
+abbrev pub m : HostName
+m = codes "m"
+
+abbrev pub n : HostName
+n = codes "n"
+
+-- the superuser of a machine
+abbrev pub by : HostName → Caller
+by host = record { uid = 0; gid = 0; gids = []; machine_name = Some host }

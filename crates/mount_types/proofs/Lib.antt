@@ -1,0 +1,4 @@
+pub mod ArgumentsRead
+pub mod Bounded
+pub mod AnswersSaid
+pub mod AnswersRead

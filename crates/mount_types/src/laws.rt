@@ -1,0 +1,57 @@
+//! What holds of arguments and answers in bytes.
+
+ghost use Rattle.std.specs.Prelude.{◌≡◌, ◌↔◌, ◌<◌, ◌++◌, ℕ, List, None, Ok, Err};
+ghost use Rattle.xdr.specs.declared.fault.XdrFault.{XdrFault};
+ghost use Rattle.xdr.specs.Item.{IsBytes, Fits};
+ghost use Rattle.xdr.specs.Reading.{read_at};
+ghost use Rattle.mount_types.specs.declared.arguments.MountProcedure.{MountProcedure};
+ghost use Rattle.mount_types.specs.Calls.{MountCall, MountAnswer};
+ghost use Rattle.mount_types.specs.Bounds.{HasBounds};
+ghost use Rattle.mount_types.specs.Texts.{procedure_of, procedure_at, procedure_in, call_at, SaysCall, answer_item, answer_value, answer_text, IsAnswerTo};
+
+use crate::limits::{MNTNAMLEN, MNTPATHLEN};
+
+/// A procedure's arguments are read exactly where their spelling stands at the front, whatever stands behind it;
+/// the fault is that of reading their item; the numbers of procedures are 0 to 5; and bytes say one call at most,
+/// which is of that procedure.
+pub fn arguments_are_read_as_spelled()
+    ensures exact { (procedure : MountProcedure) (bytes rest : List ℕ) (call : MountCall) → IsBytes bytes →
+        ((call_at procedure bytes ≡ Ok (call, rest)) ↔ SaysCall procedure bytes call rest) }
+    ensures faults { (procedure : MountProcedure) (bytes : List ℕ) (fault : XdrFault) →
+        ((call_at procedure bytes ≡ Err fault) ↔ (read_at (procedure_of procedure).arguments bytes ≡ Err fault)) }
+    ensures none { (n : ℕ) → ((procedure_at n ≡ None) ↔ (5 < n)) }
+    ensures one_call { (procedure : MountProcedure) (bytes x y : List ℕ) (a b : MountCall) →
+        SaysCall procedure bytes a x → SaysCall procedure bytes b y → (a ≡ b) × (x ≡ y) }
+    ensures own { (procedure : MountProcedure) (bytes rest : List ℕ) (call : MountCall) →
+        SaysCall procedure bytes call rest → procedure_in call ≡ procedure }
+{}
+
+/// A call that is read from bytes has a path of at most 1,024 bytes (RFC 1094, appendix A.3).
+pub fn calls_are_bounded()
+    ensures { (procedure : MountProcedure) (bytes rest : List ℕ) (call : MountCall) → IsBytes bytes →
+        call_at procedure bytes ≡ Ok (call, rest) → HasBounds call }
+{}
+
+/// An answer's text can be read back, and says the answer, exactly where the answer's value fits.
+pub fn answers_are_spelled()
+    ensures { (a : MountAnswer) (rest : List ℕ) → IsBytes (answer_text a ++ rest) →
+        ((read_at (answer_item a) (answer_text a ++ rest) ≡ Ok (answer_value a, rest))
+        ↔ Fits (answer_item a) (answer_value a)) }
+{}
+
+/// An answer of a procedure is of the procedure's results, and no answer of a procedure begins another, so each has one
+/// meaning.
+pub fn answers_have_one_meaning()
+    ensures item { (procedure : MountProcedure) (a : MountAnswer) → IsAnswerTo procedure a →
+        answer_item a ≡ (procedure_of procedure).results }
+    ensures meaning { (procedure : MountProcedure) (a b : MountAnswer) (x y : List ℕ) →
+        IsAnswerTo procedure a → IsAnswerTo procedure b →
+        Fits (answer_item a) (answer_value a) → Fits (answer_item b) (answer_value b) →
+        answer_text a ++ x ≡ answer_text b ++ y → (a ≡ b) × (x ≡ y) }
+{}
+
+/// The limits that the definitions cite (RFC 1094, appendix A.3), in bytes.
+pub fn limits_are_as_documented()
+    ensures path { MNTPATHLEN ≡ 1024 }
+    ensures name { MNTNAMLEN ≡ 255 }
+{}

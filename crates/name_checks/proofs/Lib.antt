@@ -1,0 +1,4 @@
+mod Chains
+mod Unnamed
+mod Climbs
+mod Moved

@@ -1,0 +1,41 @@
+//! File handles, and the attributes behind them.
+
+ghost use Rattle.std.specs.Prelude.{◌≡◌};
+ghost use Rattle.nfs_types.specs.Results.{outcome_of, dir_op_of};
+ghost use Rattle.nfs_spec.specs.NfsCalls.{number_for};
+ghost use Rattle.nfs_procs.specs.Changed.{attributes_then, file_then};
+
+use file_tree::Tree;
+use nfs_items::{Fattr, FileHandle, Stat};
+use nfs_types::DirOpOk;
+
+/// The file number that a handle names here; another handle names 0, which no file has.
+pub(crate) fn number_for(tree: &Tree, file: FileHandle) -> u32
+    ensures { result ≡ number_for tree.now file.0 }
+{
+    file.number_in(tree.fsid()).unwrap_or(0)
+}
+
+/// The attributes of a file after a call that changed it.
+pub(crate) fn attributes_after(
+    tree: &Tree,
+    number: u32,
+    done: Result<(), Stat>,
+) -> Result<Fattr, Stat>
+    ensures { result ≡ attributes_then tree.now number done }
+{
+    done?;
+    tree.attributes(number)
+}
+
+/// The handle and the attributes of a file that a call made or found.
+pub(crate) fn file_after(tree: &Tree, made: Result<u32, Stat>) -> Result<DirOpOk, Stat>
+    ensures { outcome_of dir_op_of result ≡ file_then tree.now made }
+{
+    let number = made?;
+    let attributes = tree.attributes(number)?;
+    Ok(DirOpOk {
+        file: FileHandle::new(tree.fsid(), number),
+        attributes,
+    })
+}

@@ -1,0 +1,2 @@
+pub mod AnswersRead
+pub mod AnswersSaid

@@ -1,0 +1,2 @@
+mod ListingCounts
+pub mod LinkCounts

@@ -1,0 +1,4 @@
+pub mod OneRecord
+pub mod OneList
+pub mod OneReading
+pub mod SomeReading

@@ -1,0 +1,153 @@
+//! The checks of a call, in their order.
+
+ghost use Rattle.std.specs.Prelude.{◌≡◌, IfOk};
+ghost use Rattle.rpc.specs.CallValues.{header_of};
+ghost use Rattle.nfs_items.specs.Credentials.{caller_in};
+ghost use Rattle.service.specs.Replies.{caller_or_refusal, caller_at, version_served, wants_machine, machine_or_refusal, nfs_call_or_refusal, mount_call_or_refusal, program_call_or_refusal, call_or_refusal};
+ghost use Rattle.service.specs.Views.{view_of_caller, view_of_served, view_of_call, HasShortName, IsBounded};
+
+use mount_types::{MountArgs, MountProcedure, read_mount_args};
+use nfs_items::{Who, read_credential};
+use nfs_types::{NfsArgs, NfsProcedure, read_args};
+use rpc::{AuthStat, Header, OpaqueAuth, ReplyBody};
+
+/// The program number of NFS (RFC 1094, appendix A).
+pub const NFS_PROGRAM: u32 = 100003;
+
+/// The version of NFS that is served.
+pub const NFS_VERSION: u32 = 2;
+
+/// The program number of MOUNT (RFC 1094, appendix A.4).
+pub const MOUNT_PROGRAM: u32 = 100005;
+
+/// The version of MOUNT that is served.
+pub const MOUNT_VERSION: u32 = 1;
+
+/// AUTH_NONE (RFC 5531, section 8.2).
+pub const AUTH_NONE: u32 = 0;
+
+/// AUTH_SYS (RFC 5531, section 8.2).
+pub const AUTH_SYS: u32 = 1;
+
+/// A call of a program that is served, with its arguments.
+#[derive(Drop)]
+pub enum ServedArgs<'a> {
+    Nfs(NfsArgs<'a>),
+    Mount(MountArgs<'a>),
+}
+
+/// The caller that the body of an AUTH_SYS credential says; a body that says none is a bad credential.
+fn sys_caller(body: &[u8]) -> Result<Who<'_>, ReplyBody>
+    ensures caller { view_of_caller result ≡ caller_or_refusal (caller_in body.now) }
+    ensures name { IfOk result HasShortName }
+{
+    let Some(who) = read_credential(body) else {
+        return Err(ReplyBody::AuthError(AuthStat::BadCredential));
+    };
+    Ok(who)
+}
+
+/// The caller that a credential stands for: AUTH_NONE, whatever its body; AUTH_SYS by its body; every other flavor is
+/// rejected.
+fn caller<'a>(credential: &OpaqueAuth<'a>) -> Result<Who<'a>, ReplyBody>
+    ensures caller { view_of_caller result ≡ caller_at credential.now.flavor credential.now.body.now }
+    ensures name { IfOk result HasShortName }
+{
+    match credential.flavor {
+        AUTH_NONE => Ok(Who::nobody()),
+        AUTH_SYS => sys_caller(credential.body),
+        _ => Err(ReplyBody::AuthError(AuthStat::RejectedCredential)),
+    }
+}
+
+/// Whether a program's version is the one that is served.
+fn check_version(version: u32, served: u32) -> Result<(), ReplyBody>
+    ensures { result ≡ version_served served version }
+{
+    if version != served {
+        return Err(ReplyBody::ProgramMismatch {
+            low: served,
+            high: served,
+        });
+    }
+    Ok(())
+}
+
+/// Whether a procedure of MOUNT is about the mounts of the caller's machine.
+fn wants_machine(procedure: MountProcedure) -> bool
+    ensures { result ≡ wants_machine procedure }
+{
+    match procedure {
+        MountProcedure::Mnt | MountProcedure::Umnt | MountProcedure::Umntall => true,
+        MountProcedure::Null | MountProcedure::Dump | MountProcedure::Export => false,
+    }
+}
+
+/// Whether a credential says as much as a procedure of MOUNT asks for: AUTH_SYS alone names a machine.
+fn check_machine(procedure: MountProcedure, flavor: u32) -> Result<(), ReplyBody>
+    ensures { result ≡ machine_or_refusal procedure flavor }
+{
+    if wants_machine(procedure) && flavor != AUTH_SYS {
+        return Err(ReplyBody::AuthError(AuthStat::TooWeak));
+    }
+    Ok(())
+}
+
+/// A call of NFS, or the reply by the first check that fails.
+fn check_nfs<'a>(header: &Header<'a>, arguments: &'a [u8]) -> Result<ServedArgs<'a>, ReplyBody>
+    ensures call { view_of_served result ≡ nfs_call_or_refusal (header_of header.now) arguments.now }
+    ensures bounds { IfOk result IsBounded }
+{
+    check_version(header.version, NFS_VERSION)?;
+    let Some(procedure) = NfsProcedure::from_number(header.procedure) else {
+        return Err(ReplyBody::ProcedureUnavailable);
+    };
+    let Ok(args) = read_args(procedure, arguments) else {
+        return Err(ReplyBody::GarbageArguments);
+    };
+    Ok(ServedArgs::Nfs(args))
+}
+
+/// A call of MOUNT, or the reply by the first check that fails.
+fn check_mount<'a>(header: &Header<'a>, arguments: &'a [u8]) -> Result<ServedArgs<'a>, ReplyBody>
+    ensures call { view_of_served result ≡ mount_call_or_refusal (header_of header.now) arguments.now }
+    ensures bounds { IfOk result IsBounded }
+{
+    check_version(header.version, MOUNT_VERSION)?;
+    let Some(procedure) = MountProcedure::from_number(header.procedure) else {
+        return Err(ReplyBody::ProcedureUnavailable);
+    };
+    check_machine(procedure, header.credential.flavor)?;
+    let Ok(args) = read_mount_args(procedure, arguments) else {
+        return Err(ReplyBody::GarbageArguments);
+    };
+    Ok(ServedArgs::Mount(args))
+}
+
+/// A call of a program that is served, or the reply by the first check that fails.
+fn check_program<'a>(header: &Header<'a>, arguments: &'a [u8]) -> Result<ServedArgs<'a>, ReplyBody>
+    ensures call { view_of_served result ≡ program_call_or_refusal (header_of header.now) arguments.now }
+    ensures bounds { IfOk result IsBounded }
+{
+    match header.program {
+        NFS_PROGRAM => check_nfs(header, arguments),
+        MOUNT_PROGRAM => check_mount(header, arguments),
+        _ => Err(ReplyBody::ProgramUnavailable),
+    }
+}
+
+/// The caller, and the procedure with its arguments, or the reply by the first check that fails.
+pub fn check_call<'a>(
+    header: &Header<'a>,
+    arguments: &'a [u8],
+) -> Result<(Who<'a>, ServedArgs<'a>), ReplyBody>
+    ensures call { view_of_call result ≡ call_or_refusal (header_of header.now) arguments.now }
+    ensures bounds { IfOk result (λ x. IsBounded x.1) }
+    ensures name { IfOk result (λ x. HasShortName x.0) }
+{
+    let who = caller(&header.credential)?;
+    match check_program(header, arguments) {
+        Ok(args) => Ok((who, args)),
+        Err(body) => Err(body),
+    }
+}

@@ -1,0 +1,5 @@
+pub mod Back
+pub mod Forth
+pub mod Fitting
+pub mod Ruled
+pub mod Texts

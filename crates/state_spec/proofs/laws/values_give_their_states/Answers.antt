@@ -1,0 +1,5 @@
+use Rattle.state_spec.proofs.Back.{back}
+use Rattle.state_spec.proofs.laws.values_give_their_states.Goals as goal
+
+pub returns : goal.returns
+returns c = λ s h. back s h

@@ -1,0 +1,15 @@
+use Rattle.std.proofs.Common.{◌≤◌, length, ap, subst, sym}
+use Rattle.std.specs.List.Sorted.{IsStrictlySortedBy}
+use Rattle.state_spec.specs.State.{received_cmp}
+use Rattle.state_spec.specs.StateValues.{set_from}
+use Rattle.states.specs.declared.received.TheConstants.{MAX_RECEIVED}
+use Rattle.states.proofs.received.Received.of_rising.Goals as goal
+
+pub invariant_of-result : goal.invariant_of-result
+invariant_of-result c = record {
+  few = subst (λ ks. length ks ≤ MAX_RECEIVED) (sym c.in_ok-set_of.ensures) c.requires;
+  rising = subst (IsStrictlySortedBy received_cmp) (sym c.in_ok-set_of.ensures) c.if-not-rise.ensures;
+}
+
+pub returns : goal.returns
+returns c = (ap (set_from received_cmp) c.in_ok-set_of.ensures, c.if-not-rise.ensures)

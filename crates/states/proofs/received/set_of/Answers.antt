@@ -1,0 +1,11 @@
+use Rattle.std.proofs.Common.{ap, ◌∙◌}
+use Rattle.std.specs.BTreeSet.{insert_key}
+use Rattle.state_spec.specs.State.{received_cmp}
+use Rattle.states.proofs.Orders.{received_total}
+use Rattle.states.proofs.Kept.{next_put}
+use Rattle.states.proofs.received.set_of.Goals as goal
+
+pub loop-message-preserved : goal.loop-message-preserved
+loop-message-preserved c =
+    c.in_ok-insert.ensures.keys ∙ ap (λ ks. insert_key received_cmp ks c.message-item.result) c.loop-message.invariant
+    ∙ next_put received_total c.args.messages.now c.loop-message.message-index c.message-item.result c.loop-message-test.true c.message-item.is c.requires

@@ -1,0 +1,35 @@
+-- How many names each number has, and which directory has one.
+use Rattle.std.specs.Prelude.{◌≡◌, ◌<◌, ◌+◌, ℕ, List, length, slice_index, sum_by}
+use Rattle.nfs_items.specs.Terms.{FileNumber}
+use Rattle.fs_model.specs.Listing.{DirEntry}
+use Rattle.fs_model.specs.Files.{File, names_in, one_if}
+use Rattle.fs_rules.specs.Rules.{AreKnown, AreNamesCounted}
+
+-- a number is one of these
+abbrev pub IsAmong : List FileNumber → FileNumber → Type 0
+IsAmong numbers number = (k : ℕ) × (k < length numbers) × (slice_index numbers k ≡ number)
+
+-- the entries of a listing that name a number
+abbrev pub names_listed : FileNumber → List DirEntry → ℕ
+names_listed n entries = sum_by (one_if n) entries
+
+-- the names of a number in all
+abbrev pub names_among : FileNumber → List (FileNumber × File) → ℕ
+names_among n es = sum_by (λ (e : FileNumber × File). names_in n e.1) es
+
+-- The names that entries give are added to the counts, and each number that they name has their place above it.
+pub record AddsNames (place : ℕ) (numbers : List FileNumber) (entries : List DirEntry)
+    (names above names' above' : List ℕ) : Type 0 where
+  pub counted : (k : ℕ) → k < length numbers
+      → slice_index names' k ≡ slice_index names k + names_listed (slice_index numbers k) entries
+  pub kept : (k : ℕ) → k < length numbers → names_listed (slice_index numbers k) entries ≡ 0
+      → slice_index above' k ≡ slice_index above k
+  pub placed : (k : ℕ) → k < length numbers → 0 < names_listed (slice_index numbers k) entries
+      → slice_index above' k ≡ place
+
+-- what counting over all files gives
+pub record IsCount (es : List (FileNumber × File)) (names above : List ℕ) : Type 0 where
+  pub long_names : length names ≡ length es
+  pub long_above : length above ≡ length es
+  pub known : AreKnown es
+  pub counted : AreNamesCounted es names above

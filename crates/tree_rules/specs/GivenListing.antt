@@ -1,0 +1,21 @@
+-- Entries of a directory that come from outside.
+use Rattle.std.specs.Prelude.{List, map, IsTrue}
+use Rattle.std.specs.List.{All}
+use Rattle.nfs_items.specs.Terms.{Cookie}
+use Rattle.fs_model.specs.Listing.{DirEntry, IsRising, HasDistinctNames, entry_name}
+use Rattle.fs_model.specs.Names.{is_name}
+use Rattle.tree_rules.specs.declared.entries.GivenEntry.{GivenEntry}
+
+-- what an entry says
+abbrev pub said_entry : GivenEntry → DirEntry
+said_entry e = (e.name.now, (e.number, e.cookie))
+
+-- what entries say
+abbrev pub said_entries : List GivenEntry → List DirEntry
+said_entries es = map said_entry es
+
+-- entries are a directory's: their cookies rise from 3 to below the next, and their names are names and differ
+pub record IsListing (next : Cookie) (entries : List DirEntry) : Type 0 where
+  pub rising : IsRising 3 entries next
+  pub distinct : HasDistinctNames entries
+  pub names : All (λ (e : DirEntry). IsTrue (is_name (entry_name e))) entries

@@ -1,0 +1,14 @@
+//! Whether files that come from outside are a tree within the limits of a server.
+#![tactic(auto)]
+
+mod climb;
+mod entries;
+mod limits;
+mod names;
+mod rules;
+
+pub use entries::{GivenEntry, directory_of};
+pub use inodes::{Body, Directory, Inode};
+pub use limits::{Usage, total_usage};
+pub use names::{Counts, count_names, numbers_in, place_of};
+pub use rules::is_tree;

@@ -1,0 +1,9 @@
+//! Whole texts of items: a value that is spelled by all of the bytes, and passes a test.
+#![tactic(auto)]
+
+pub mod laws;
+#[cfg(test)]
+mod tests;
+mod text;
+
+pub use text::{FromText, TextError, read_text};
