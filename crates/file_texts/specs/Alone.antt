@@ -6,8 +6,8 @@ use Rattle.fs_model.specs.Names.{is_name}
 use Rattle.fs_model.specs.Files.{Body, File, listing_in}
 use Rattle.fs_model.specs.Trees.{IsBody, IsTime}
 
--- a body is within its limit; a directory's cookies rise from 3 to below the next, and its names differ and keep
--- the name rule
+-- a body is within its limit; a directory's cookies rise from 3 to below the next, and its names differ and
+-- keep the name rule
 pub record IsBodyAlone (b : Body) : Type 0 where
   pub body : IsBody b
   pub names : All (λ (e : DirEntry). IsTrue (is_name (entry_name e))) (listing_in b).entries
