@@ -2,10 +2,9 @@
 
 use crate::texts::{NULL, NULL_REPLY, Stream};
 use crate::words::bytes;
-use console::run_rpc;
+use console::{Service, run_rpc};
 use nfs_types::Time;
 use rpc::{Counting, MAX_RECORD, RecordFault, RecordReader};
-use service::Service;
 use std::test::Fail;
 
 /// Each record is answered, and what stands behind them decides how the stream ends.

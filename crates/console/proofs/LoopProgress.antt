@@ -15,7 +15,7 @@ use Rattle.records.specs.declared.fault.RecordFault.{RecordFault}
 use Rattle.records.specs.declared.fault.RecordFault.TheVariants as faults
 use Rattle.records.specs.Reading.{FailsUnless, StopsAt, TakesToLimit, TakesAll, TakesPart, IsPartOfRecord, fault_after}
 use Rattle.nfs_items.specs.Timeval.{Timeval}
-use Rattle.service.specs.World.{World, opening_world}
+use Rattle.worlds.specs.World.{World, opening_world}
 use Rattle.service.specs.Replies.{reply_owed, world_after}
 use Rattle.service.specs.Owed.{record_of, replies_owed, world_after_all}
 use Rattle.console.specs.RunRpc.{time_of, with_times, text_owed, Serves, ServesUpTo, ServesPart, EndsWith, StopsBetweenRecords, StopsInReply, StopsAfterRecords, LeavesOff}

@@ -8,7 +8,7 @@ use Rattle.records.specs.Reading.{TakesToLimit, TakesAll, TakesPart, IsPartOfRec
 use Rattle.records.specs.declared.fault.RecordFault.{RecordFault}
 use Rattle.records.specs.declared.fault.RecordFault.TheVariants as faults
 use Rattle.nfs_items.specs.Timeval.{Timeval}
-use Rattle.service.specs.World.{opening_world}
+use Rattle.worlds.specs.World.{opening_world}
 use Rattle.service.specs.Owed.{replies_owed}
 
 -- the time of the k-th record: k seconds, at most the greatest number of 32 bits

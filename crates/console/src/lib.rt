@@ -5,4 +5,5 @@ mod command_line;
 mod stream;
 
 pub use command_line::{Request, parse};
+pub use service::Service;
 pub use stream::run_rpc;

@@ -15,7 +15,7 @@ use Rattle.nfs_spec.specs.Changes.{apply_fields, body_with_length}
 use Rattle.nfs_spec.specs.Procedures.{set_attributes, write, with_bytes_written}
 use Rattle.nfs_spec_steps.specs.Granted.{SetOk, WriteOk}
 use Rattle.nfs_spec_steps.proofs.Setting.{set_ok, write_ok}
-use Rattle.inode_table.specs.Edits.{MaySet, MayWriteAt}
+use Rattle.inodes.specs.Edits.{MaySet, MayWriteAt}
 
 -- room after another body of a file, told by its blocks before and after
 blocks_left : (w : Files) (n : ℕ) (change : File → File) (f : File) → file_at w n ≡ Some f

@@ -9,8 +9,8 @@ ghost use Rattle.inodes.specs.Inodes.{file_in};
 ghost use Rattle.file_checks.specs.Creates.{regular_number, check_new, DecidesCreate};
 
 use crate::room::check_file;
-use inode_table::InodeTable;
 use inodes::{BLOCK_SIZE, Directory, Inode, MAX_FILE_SIZE, is_name};
+use name_checks::InodeTable;
 use nfs_items::{Stat, Who};
 
 /// A number, where it is a regular file's: else Stale, or Exist.

@@ -8,7 +8,7 @@ mod room;
 mod setting;
 
 pub use creating::find_to_create;
-pub use inode_table::InodeTable;
 pub use limits::{MAX_BLOCKS, MAX_ENTRIES, MAX_FILES, MAX_NUMBER};
+pub use name_checks::{InodeTable, Move, check_remove, check_remove_dir, check_rename};
 pub use naming::{check_link, check_make};
 pub use setting::{check_set, check_write};

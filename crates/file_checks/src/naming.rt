@@ -12,8 +12,8 @@ ghost use Rattle.file_checks.specs.Decides.{Decides};
 ghost use Rattle.file_checks.specs.FreePlaces.{free_place};
 
 use crate::room::{check_entry, check_file};
-use inode_table::InodeTable;
 use inodes::Directory;
+use name_checks::InodeTable;
 use nfs_items::{Stat, Who};
 
 /// What a directory lists, where a caller may put a name into it that is free: Stale, NotDir, Acces and

@@ -8,8 +8,8 @@ ghost use Rattle.nfs_spec_laws.specs.Room.{HasRoomToMake, HasRoomToLink};
 ghost use Rattle.file_checks.specs.Decides.{IsCheckOf};
 
 use crate::limits::{MAX_BLOCKS, MAX_ENTRIES, MAX_FILES, MAX_NUMBER};
-use inode_table::InodeTable;
 use inodes::Directory;
+use name_checks::InodeTable;
 use nfs_items::Stat;
 
 /// Room for other bytes of a file, told by the blocks that it takes before and after.

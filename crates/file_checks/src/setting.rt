@@ -8,8 +8,8 @@ ghost use Rattle.inodes.specs.Given.{given_in};
 ghost use Rattle.file_checks.specs.Decides.{Decides};
 
 use crate::room::check_blocks;
-use inode_table::InodeTable;
 use inodes::{BLOCK_SIZE, Given, MAX_FILE_SIZE};
+use name_checks::InodeTable;
 use nfs_items::{Stat, Who};
 
 /// SETATTR (RFC 1094, section 2.2.3): Stale, then Perm, then IsDir, NxIo, Acces, FBig and NoSpc where a size

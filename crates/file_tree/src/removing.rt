@@ -7,7 +7,7 @@ ghost use Rattle.nfs_spec_laws.specs.Laws.{UnnamesIn};
 ghost use Rattle.file_tree.specs.Performs.{Does};
 
 use crate::tree::Tree;
-use name_checks::{check_remove, check_remove_dir};
+use file_checks::{check_remove, check_remove_dir};
 use nfs_items::{Stat, Time, Who};
 
 impl Tree {

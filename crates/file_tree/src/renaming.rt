@@ -9,7 +9,7 @@ ghost use Rattle.nfs_spec_laws.specs.Laws.{RenamesIn};
 ghost use Rattle.file_tree.specs.Performs.{Performs, IfDone};
 
 use crate::tree::Tree;
-use name_checks::{Move, check_rename};
+use file_checks::{Move, check_rename};
 use nfs_items::{Stat, Time, Who};
 use std::alloc::{AllocError, Global};
 

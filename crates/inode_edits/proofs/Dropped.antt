@@ -7,9 +7,10 @@ use Rattle.fs_model.proofs.Walks.{none_some, some_same}
 use Rattle.nfs_spec.specs.Changes.{after_unlink}
 use Rattle.nfs_spec_counts.specs.CountChanges.{is_last_name, blocks_freed}
 use Rattle.inodes.specs.declared.inode.Inode.{Inode}
-use Rattle.inode_edits.specs.Slots.{links_at, stored_at, MayUnname, DropsName}
+use Rattle.inode_edits.specs.Slots.{MayUnname, DropsName}
+use Rattle.inodes.specs.Inodes.{links_at, stored_at}
 use Rattle.inode_edits.specs.Moves.{DropsTarget, LosesLink, LosesName}
-use Rattle.inode_edits.proofs.FilesSeen.{file_seen}
+use Rattle.inodes.proofs.FilesSeen.{file_seen}
 
 -- files stay where a directory has a link less
 pub same_stored : (es es' : List (ℕ × Inode)) (dir : ℕ) (b : Bool) → LosesLink dir b es es' → (n : ℕ)

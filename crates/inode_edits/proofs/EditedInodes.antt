@@ -16,9 +16,9 @@ use Rattle.nfs_spec.specs.Changes.{after_unlink}
 use Rattle.nfs_spec_counts.specs.CountChanges.{is_last_name, blocks_freed}
 use Rattle.fs_changes.proofs.Finite.{cmp_same, cmp_other, new_here, new_other, nothing_changes, changed_here, changed_other, gone_here, gone_other}
 use Rattle.inodes.specs.declared.inode.Inode.{Inode}
-use Rattle.inodes.specs.Inodes.{body_in, file_in, inode_at, files_of, parent_in}
-use Rattle.inode_edits.specs.Slots.{links_at, above_at, stored_at, AreAlike, ChangesFile, ChangesLinks, AddsInode, RemovesInode, SetsParent, MayUnname, TakesEntry, DropsName, Unnames}
-use Rattle.inode_edits.proofs.FilesSeen.{file_seen}
+use Rattle.inodes.specs.Inodes.{body_in, file_in, inode_at, files_of, parent_in, links_at, above_at, stored_at}
+use Rattle.inode_edits.specs.Slots.{AreAlike, ChangesFile, ChangesLinks, AddsInode, RemovesInode, SetsParent, MayUnname, TakesEntry, DropsName, Unnames}
+use Rattle.inodes.proofs.FilesSeen.{file_seen}
 
 -- files are the same where each number has the same
 pub same_files : (v w : Files) → v.fsid ≡ w.fsid → v.next ≡ w.next → ((n : ℕ) → file_at v n ≡ file_at w n)

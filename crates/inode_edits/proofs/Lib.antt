@@ -1,4 +1,3 @@
-pub mod FilesSeen
 pub mod EditedInodes
 pub mod NamedInodes
 pub mod Listed

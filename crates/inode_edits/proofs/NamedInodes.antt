@@ -10,9 +10,9 @@ use Rattle.fs_changes.specs.Edits.{with_name}
 use Rattle.fs_changes.proofs.Finite.{new_other, gone_here, gone_other}
 use Rattle.nfs_spec.specs.Changes.{touch, with_mtime}
 use Rattle.inodes.specs.declared.inode.Inode.{Inode}
-use Rattle.inodes.specs.Inodes.{body_in, file_in, files_of, inode_at, parent_in}
-use Rattle.inode_edits.specs.Slots.{links_at, above_at, stored_at, AreAlike, ChangesFile, AddsInode, RemovesInode, AddsEntry, AddsNamed}
-use Rattle.inode_edits.proofs.FilesSeen.{file_seen}
+use Rattle.inodes.specs.Inodes.{body_in, file_in, files_of, inode_at, parent_in, links_at, above_at, stored_at}
+use Rattle.inode_edits.specs.Slots.{AreAlike, ChangesFile, AddsInode, RemovesInode, AddsEntry, AddsNamed}
+use Rattle.inodes.proofs.FilesSeen.{file_seen}
 use Rattle.inode_edits.proofs.EditedInodes.{same_files, some_mapped}
 
 -- a number with a file has an inode

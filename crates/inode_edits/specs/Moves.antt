@@ -6,8 +6,7 @@ use Rattle.fs_model.specs.Files.{File}
 use Rattle.nfs_spec.specs.Changes.{after_unlink}
 use Rattle.nfs_spec_counts.specs.CountChanges.{is_last_name, blocks_freed, CountsUnlinked}
 use Rattle.inodes.specs.declared.inode.Inode.{Inode}
-use Rattle.inodes.specs.Inodes.{files_of}
-use Rattle.inode_edits.specs.Slots.{stored_at, links_at, above_at}
+use Rattle.inodes.specs.Inodes.{files_of, stored_at, links_at, above_at}
 
 -- a directory that lost a subdirectory has one link less
 pub record LosesLink (dir : FileNumber) (of_directory : Bool) (old new : List (ℕ × Inode)) : Type 0 where

@@ -10,19 +10,7 @@ use Rattle.nfs_spec.specs.Changes.{after_unlink}
 use Rattle.nfs_spec.specs.Procedures.{add_file}
 use Rattle.nfs_spec_counts.specs.CountChanges.{is_last_name, blocks_freed, CountsUnlinked}
 use Rattle.inodes.specs.declared.inode.Inode.{Inode}
-use Rattle.inodes.specs.Inodes.{body_in, file_in, files_of, inode_at, parent_in}
-
--- the file of a number
-abbrev pub stored_at : List (ℕ × Inode) → FileNumber → Option File
-stored_at inodes n = option_map file_in (inode_at inodes n)
-
--- the nlink that is kept with a number
-abbrev pub links_at : List (ℕ × Inode) → FileNumber → ℕ
-links_at inodes n = option_map_or (λ inode. inode.nlink) (inode_at inodes n) 0
-
--- the number of the directory above that is kept with a directory's
-abbrev pub above_at : List (ℕ × Inode) → FileNumber → FileNumber
-above_at inodes n = option_map_or (λ inode. parent_in inode.body) (inode_at inodes n) 1
+use Rattle.inodes.specs.Inodes.{body_in, file_in, files_of, inode_at, parent_in, stored_at, links_at, above_at}
 
 -- nothing that is seen or kept changes
 pub record AreAlike (old new : List (ℕ × Inode)) : Type 0 where

@@ -3,7 +3,8 @@
 ghost use Rattle.std.specs.Prelude.{◌≡◌, ◌≢◌, ◌<◌, ◌-◌, ◌^◌, ℕ, None, Some, true};
 ghost use Rattle.nfs_items.specs.Terms.{FileNumber};
 ghost use Rattle.fs_model.specs.Files.{File};
-ghost use Rattle.inode_edits.specs.Slots.{links_at, stored_at, MayUnname};
+ghost use Rattle.inode_edits.specs.Slots.{MayUnname};
+ghost use Rattle.inodes.specs.Inodes.{links_at, stored_at};
 ghost use Rattle.inode_edits.specs.Moves.{DropsTarget, GainsLink, LosesLink, LosesName};
 
 use crate::slots;

@@ -12,8 +12,8 @@ ghost use Rattle.nfs_spec_sizes.specs.Bounds.{HasWords};
 ghost use Rattle.inodes.specs.Contents.{body_with_bytes_at};
 ghost use Rattle.inodes.specs.Given.{given_in};
 ghost use Rattle.inodes.specs.declared.inode.Inode as stored;
-ghost use Rattle.inodes.specs.Inodes.{body_in, file_in, inode_at, parent_in};
-ghost use Rattle.inode_edits.specs.Slots.{links_at, stored_at, AddsEntry, AddsInode, AddsNamed, AreAlike, ChangesFile, ChangesLinks, DropsName, MayUnname, RemovesInode, SetsParent, TakesEntry, Unnames};
+ghost use Rattle.inodes.specs.Inodes.{body_in, file_in, inode_at, parent_in, links_at, stored_at};
+ghost use Rattle.inode_edits.specs.Slots.{AddsEntry, AddsInode, AddsNamed, AreAlike, ChangesFile, ChangesLinks, DropsName, MayUnname, RemovesInode, SetsParent, TakesEntry, Unnames};
 
 use inodes::{Given, Inode};
 use nfs_items::Time;

@@ -6,12 +6,11 @@ use Rattle.fs_model.specs.Files.{File, file_at, is_directory, IsDirectory, paren
 use Rattle.fs_model.proofs.Walks.{none_some, some_same}
 use Rattle.nfs_spec.specs.FileAttributes.{nlink_of}
 use Rattle.nfs_spec_counts.specs.Counted.{AreCounted}
-use Rattle.inodes.specs.Inodes.{KeepsParent, body_in, file_in, files_of, inode_at, parent_in}
+use Rattle.inodes.specs.Inodes.{KeepsParent, body_in, file_in, files_of, inode_at, parent_in, above_at, links_at}
 use Rattle.inodes.specs.declared.inode.Body as stored
 use Rattle.inodes.specs.declared.inode.Body.TheVariants as code
 use Rattle.inodes.specs.declared.inode.Inode.{Inode}
-use Rattle.inode_edits.specs.Slots.{above_at, links_at}
-use Rattle.inode_edits.proofs.FilesSeen.{file_seen}
+use Rattle.inodes.proofs.FilesSeen.{file_seen}
 use Rattle.tree_rules.proofs.Seen.{tf}
 use Rattle.inode_links.specs.Linked.{AreLinked}
 

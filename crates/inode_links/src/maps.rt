@@ -5,9 +5,8 @@ ghost use Rattle.nfs_items.specs.Terms.{FileNumber};
 ghost use Rattle.fs_model.specs.Maxima.{max_entries};
 ghost use Rattle.nfs_spec_counts.specs.Counted.{AreCounted};
 ghost use Rattle.fs_rules.specs.Rules.{AreRising, numbers_of};
-ghost use Rattle.inodes.specs.Inodes.{files_of};
+ghost use Rattle.inodes.specs.Inodes.{files_of, above_at, links_at};
 ghost use Rattle.inodes.specs.declared.inode.Inode as stored;
-ghost use Rattle.inode_edits.specs.Slots.{above_at, links_at};
 ghost use Rattle.tree_rules.specs.Listed.{AreTree, entries_among, files_in};
 
 use crate::links::set_links;

@@ -18,7 +18,7 @@ use Rattle.inodes.specs.Inodes.{body_in, file_in, inode_at, files_of, fattr_of, 
 use Rattle.inodes.specs.declared.inode.Body as stored
 use Rattle.inodes.specs.declared.inode.Body.TheVariants as code
 use Rattle.inodes.specs.declared.inode.Inode.{Inode}
-use Rattle.inode_edits.proofs.FilesSeen.{file_seen}
+use Rattle.inodes.proofs.FilesSeen.{file_seen}
 use Rattle.inode_table.specs.declared.table.InodeTable.TheInside.{Inside}
 use Rattle.inode_table.proofs.Tables.{files_in, IsWhole}
 

@@ -17,11 +17,11 @@ use Rattle.nfs_spec_laws.proofs.FilesFit.{set_lists, set_keeps, set_fits, rewrit
 use Rattle.nfs_spec_sizes.specs.Bounds.{HasWords}
 use Rattle.inodes.specs.declared.inode.Inode.{Inode}
 use Rattle.inodes.specs.Contents.{body_with_bytes_at}
-use Rattle.inodes.specs.Inodes.{files_of}
-use Rattle.inode_edits.specs.Slots.{stored_at, ChangesFile}
+use Rattle.inodes.specs.Inodes.{files_of, stored_at}
+use Rattle.inode_edits.specs.Slots.{ChangesFile}
 use Rattle.inode_edits.proofs.EditedInodes.{own_stored, changed_alike}
 use Rattle.inode_table.specs.declared.table.InodeTable.TheInside.{Inside}
-use Rattle.inode_table.specs.Edits.{IsSizable, MaySet, MayWriteAt}
+use Rattle.inodes.specs.Edits.{IsSizable, MaySet, MayWriteAt}
 use Rattle.inode_table.specs.Kept.{AreKept}
 use Rattle.inode_table.proofs.Tables.{files_in, IsWhole, stored, kept_blocks, change_kept}
 

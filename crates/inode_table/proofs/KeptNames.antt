@@ -17,10 +17,10 @@ use Rattle.nfs_spec_counts.proofs.Facts.{links_bounded, entries_bounded}
 use Rattle.nfs_spec_counts.proofs.Making.{kept_by_make}
 use Rattle.nfs_spec_counts.proofs.Linking.{kept_by_link}
 use Rattle.inodes.specs.declared.inode.Inode.{Inode}
-use Rattle.inodes.specs.Inodes.{body_in, file_in, files_of, inode_at, parent_in}
-use Rattle.inode_edits.specs.Slots.{stored_at, links_at, above_at, ChangesFile, ChangesLinks, AddsNamed}
+use Rattle.inodes.specs.Inodes.{body_in, file_in, files_of, inode_at, parent_in, stored_at, links_at, above_at}
+use Rattle.inode_edits.specs.Slots.{ChangesFile, ChangesLinks, AddsNamed}
 use Rattle.inode_edits.proofs.EditedInodes.{other_stored}
-use Rattle.inode_edits.proofs.FilesSeen.{file_seen}
+use Rattle.inodes.proofs.FilesSeen.{file_seen}
 use Rattle.inode_edits.proofs.Listed.{swap}
 use Rattle.inode_edits.proofs.NamedInodes.{has_inode, listed_room}
 use Rattle.inode_table.specs.declared.table.InodeTable.TheInside.{Inside}

@@ -14,8 +14,8 @@ use Rattle.nfs_spec_counts.proofs.Facts.{links_positive}
 use Rattle.nfs_spec_counts.proofs.Unnaming.{unlinks}
 use Rattle.nfs_spec_counts.proofs.Unlinking.{last_name_told, kept_by_unlink}
 use Rattle.inodes.specs.declared.inode.Inode.{Inode}
-use Rattle.inodes.specs.Inodes.{files_of}
-use Rattle.inode_edits.specs.Slots.{stored_at, links_at, above_at, ChangesFile, MayUnname, Unnames}
+use Rattle.inodes.specs.Inodes.{files_of, stored_at, links_at, above_at}
+use Rattle.inode_edits.specs.Slots.{ChangesFile, MayUnname, Unnames}
 use Rattle.inode_table.specs.declared.table.InodeTable.TheInside.{Inside}
 use Rattle.inode_table.specs.Kept.{AreKept}
 use Rattle.inode_table.proofs.Tables.{files_in, IsWhole, stored, kept_blocks}

@@ -22,11 +22,11 @@ use Rattle.nfs_spec_counts.proofs.Facts.{entries_bounded, links_positive, links_
 use Rattle.nfs_spec_counts.proofs.Unlinking.{last_name_told}
 use Rattle.nfs_spec_moves.proofs.Moving.{kept_by_move}
 use Rattle.inodes.specs.declared.inode.Inode.{Inode}
-use Rattle.inodes.specs.Inodes.{body_in, file_in, files_of, inode_at}
+use Rattle.inodes.specs.Inodes.{body_in, file_in, files_of, inode_at, stored_at, links_at, above_at}
 use Rattle.inode_edits.specs.Moves.{DropsTarget, GainsLink, LosesName}
-use Rattle.inode_edits.specs.Slots.{stored_at, links_at, above_at, ChangesFile, MayUnname, SetsParent, TakesEntry}
+use Rattle.inode_edits.specs.Slots.{ChangesFile, MayUnname, SetsParent, TakesEntry}
 use Rattle.inode_edits.proofs.EditedInodes.{other_stored}
-use Rattle.inode_edits.proofs.FilesSeen.{file_seen}
+use Rattle.inodes.proofs.FilesSeen.{file_seen}
 use Rattle.inode_edits.proofs.Listed.{relisted_kind, unlink_swap, unlinked_other, name_swap, name_again}
 use Rattle.inode_table.specs.declared.table.InodeTable.TheInside.{Inside}
 use Rattle.inode_table.specs.Kept.{AreKept}

@@ -10,7 +10,7 @@ use Rattle.fs_model.specs.Files.{Body, File, is_directory, listing_in, parent_of
 use Rattle.fs_changes.specs.Limits.{entry_count, block_count, blocks_in, has_room}
 use Rattle.nfs_spec_sizes.specs.Bounds.{HasWords, AreWords}
 use Rattle.nfs_spec_counts.specs.Counted.{AreCounted}
-use Rattle.inode_edits.specs.Slots.{links_at, above_at}
+use Rattle.inodes.specs.Inodes.{links_at, above_at, file_in, files_of, parent_in, KeepsParent}
 use Rattle.inode_table.specs.Kept.{AreKept}
 use Rattle.fs_model.specs.Trees.{IsFileTree}
 use Rattle.fs_model.proofs.Walks.{some_same, none_some}
@@ -19,7 +19,6 @@ use Rattle.nfs_spec.specs.FileAttributes.{nlink_of}
 use Rattle.nfs_spec.specs.Opening.{first_file, opening_root, opening_hello, opening_files}
 use Rattle.nfs_spec.proofs.OpeningFiles.{hello_there, opening_names, opening_entries, opening_room}
 use Rattle.nfs_spec.proofs.OpeningTree.{one_directory, opening_is_tree}
-use Rattle.inodes.specs.Inodes.{file_in, files_of, parent_in, KeepsParent}
 use Rattle.inodes.specs.declared.inode.Body as stored
 use Rattle.inodes.specs.declared.inode.Body.TheVariants as code
 use Rattle.inodes.specs.declared.inode.Inode.{Inode}

@@ -9,9 +9,9 @@ use Rattle.nfs_spec_counts.specs.Counted.{IsKept}
 use Rattle.nfs_spec_counts.specs.CountChanges.{MayChange}
 use Rattle.nfs_spec_counts.proofs.Contents.{kept_alike, kept_by_change}
 use Rattle.inodes.specs.declared.inode.Inode.{Inode}
-use Rattle.inodes.specs.Inodes.{files_of}
-use Rattle.inode_edits.specs.Slots.{stored_at, links_at, above_at, AreAlike, ChangesFile}
-use Rattle.inode_edits.proofs.FilesSeen.{file_seen}
+use Rattle.inodes.specs.Inodes.{files_of, stored_at, links_at, above_at}
+use Rattle.inode_edits.specs.Slots.{AreAlike, ChangesFile}
+use Rattle.inodes.proofs.FilesSeen.{file_seen}
 use Rattle.inode_table.specs.declared.table.InodeTable.TheInside.{Inside}
 use Rattle.inode_table.specs.Kept.{AreKept}
 

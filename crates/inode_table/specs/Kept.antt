@@ -2,8 +2,7 @@
 use Rattle.std.specs.Prelude.{ℕ, List}
 use Rattle.nfs_spec_counts.specs.Counted.{IsKept}
 use Rattle.inodes.specs.declared.inode.Inode.{Inode}
-use Rattle.inodes.specs.Inodes.{files_of}
-use Rattle.inode_edits.specs.Slots.{links_at, above_at}
+use Rattle.inodes.specs.Inodes.{files_of, links_at, above_at}
 
 -- by the server's number, the next number, the entries and blocks in all, and the inodes
 abbrev pub AreKept : ℕ → ℕ → ℕ → ℕ → List (ℕ × Inode) → Type 0

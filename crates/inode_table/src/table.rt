@@ -21,7 +21,7 @@ ghost use Rattle.fs_rules.specs.Rules.{AreRising, numbers_of};
 ghost use Rattle.inodes.specs.Inodes.{body_in, file_in, files_of, fattr_of, KeepsParent};
 ghost use Rattle.tree_rules.specs.Listed.{files_in};
 ghost use Rattle.nfs_spec_counts.specs.CountChanges.{MayMake, MayLink, MayUnlink, MayMove};
-ghost use Rattle.inode_table.specs.Edits.{MaySet, MayWriteAt};
+ghost use Rattle.inodes.specs.Edits.{MaySet, MayWriteAt};
 
 use crate::opening::{hello_inode, root_inode};
 use inode_edits::{renaming, slots};

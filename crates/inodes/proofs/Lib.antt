@@ -1,1 +1,2 @@
 mod Contents
+pub mod FilesSeen

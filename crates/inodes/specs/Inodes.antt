@@ -1,10 +1,12 @@
 -- Nodes, and the files that they are.
-use Rattle.std.specs.Prelude.{◌≡◌, ℕ, ◌+◌, ◌-◌, ◌/◌, List, map, Option, Some}
+use Rattle.std.specs.Prelude.{◌≡◌, ℕ, ◌+◌, ◌-◌, ◌/◌, List, map, Option, Some, option_map}
 use Rattle.std.specs.Ordering.{nat_cmp}
 use Rattle.std.specs.BTreeMap.{is_at}
 use Rattle.std.specs.Map.{lookup}
 use Rattle.std.specs.FinMap as finite
+use Rattle.std.specs.Option.{option_map_or}
 use Rattle.nfs_items.specs.declared.attributes.Fattr.{Fattr}
+use Rattle.nfs_items.specs.Terms.{FileNumber}
 use Rattle.fs_model.specs.Files.{Body, Regular, Symlink, Directory, File, Files, parent_of}
 use Rattle.nfs_spec.specs.FileAttributes.{type_of, type_bits, size_of, nlink_of}
 use Rattle.inodes.specs.declared.inode.Body as stored
@@ -47,6 +49,18 @@ abbrev pub parent_in : stored.Body → ℕ
 parent_in (code.Regular bytes) = 1
 parent_in (code.Link target) = 1
 parent_in (code.Directory parent listing) = parent
+
+-- the file of a number
+abbrev pub stored_at : List (ℕ × Inode) → FileNumber → Option File
+stored_at inodes n = option_map file_in (inode_at inodes n)
+
+-- the nlink that is kept with a number
+abbrev pub links_at : List (ℕ × Inode) → FileNumber → ℕ
+links_at inodes n = option_map_or (λ inode. inode.nlink) (inode_at inodes n) 0
+
+-- the number of the directory above that is kept with a directory's
+abbrev pub above_at : List (ℕ × Inode) → FileNumber → FileNumber
+above_at inodes n = option_map_or (λ inode. parent_in inode.body) (inode_at inodes n) 1
 
 -- a directory keeps the number of the one above
 abbrev pub KeepsParent : stored.Body → ℕ → Type 0

@@ -1,4 +1,5 @@
 pub mod Inodes
 pub mod Contents
+pub mod Edits
 pub mod Given
 pub mod InodeLookUp

@@ -9,7 +9,7 @@ use Rattle.std.proofs.lemmas.List.{length-append, map_push}
 use Rattle.std.proofs.lemmas.List.Elements.{All-from_recursion}
 use Rattle.std.proofs.lemmas.Map.Keys.{IsDistinct-push}
 use Rattle.mount_types.specs.Calls.{HostName, Mount}
-use Rattle.mount.specs.Mounts.{Mounts, max_mounts, root_of, same_mount, is_listed, without_mount, without_host, IsMount, AreMounts}
+use Rattle.mount_types.specs.Mounts.{Mounts, max_mounts, root_of, same_mount, is_listed, without_mount, without_host, IsMount, AreMounts}
 
 and_true : (b : Bool) → (b && true) ≡ b
 and_true true = refl

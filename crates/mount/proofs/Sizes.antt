@@ -13,7 +13,7 @@ use Rattle.mount_types.specs.Calls as calls
 use Rattle.mount_types.specs.Calls.{Mount, MountCall, MountAnswer}
 use Rattle.mount_types.specs.Items.{mount, mountlist}
 use Rattle.mount_types.specs.Texts.{procedure_in, answer_item, answer_value, answer_text, IsAnswerTo}
-use Rattle.mount.specs.Mounts.{Mounts, root_path, IsMount, AreMounts}
+use Rattle.mount_types.specs.Mounts.{Mounts, root_path, IsMount, AreMounts}
 use Rattle.mount.specs.Paths.{names_on}
 use Rattle.mount.specs.MountCalls.{host_of, mount_does}
 use Rattle.mount.proofs.Steps.{mount_answers}

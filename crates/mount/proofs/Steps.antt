@@ -14,7 +14,7 @@ use Rattle.fs_model.specs.Files.{Files, places}
 use Rattle.fs_model.specs.Paths.{path_at}
 use Rattle.mount_types.specs.Calls as calls
 use Rattle.mount_types.specs.Calls.{HostName, DirPath, Mount, MountCall, MountAnswer}
-use Rattle.mount.specs.Mounts.{Mounts, max_mounts, root_of, same_mount, is_listed, without_mount, without_host, AreMounts}
+use Rattle.mount_types.specs.Mounts.{Mounts, max_mounts, root_of, same_mount, is_listed, without_mount, without_host, AreMounts}
 use Rattle.mount.specs.Paths.{names_on}
 use Rattle.mount.specs.Walks.{is_root}
 use Rattle.mount.specs.MountCalls.{host_of, root_handle, mount_at, unmount_at, mount_does}

@@ -1,7 +1,6 @@
 pub use Rattle.nfs_items.specs.CallerOf
 pub use Rattle.fs_model.specs.Files
 pub use Rattle.mount_types.specs.Calls
-pub mod Mounts
 pub mod Paths
 pub mod MountCalls
 pub mod Walks

@@ -8,7 +8,7 @@ use Rattle.nfs_items.specs.declared.stat.Stat.TheVariants.{NoEnt, Acces, NoSpc}
 use Rattle.fs_model.specs.Files.{Files, places}
 use Rattle.fs_model.specs.Paths.{path_at}
 use Rattle.mount_types.specs.Calls.{HostName, MountCall, Null, Mnt, Dump, Umnt, Umntall, Export, MountAnswer, Nothing, Mounted, Mounts as Listed, Exports}
-use Rattle.mount.specs.Mounts.{Mounts, root_path, max_mounts, root_of, is_listed, without_mount, without_host}
+use Rattle.mount_types.specs.Mounts.{Mounts, root_path, max_mounts, root_of, is_listed, without_mount, without_host}
 use Rattle.mount.specs.Paths.{names_on}
 
 -- the name of the caller's machine; AUTH_NONE gives none

@@ -3,7 +3,7 @@ use Rattle.std.specs.Prelude.{◌≡◌, Result, Ok, Err}
 use Rattle.mount_types.specs.Calls.{MountAnswer}
 use Rattle.mount_types.specs.Results.{answer_of, IsShort}
 use Rattle.mount_types.specs.declared.results.MountResult.{MountResult}
-use Rattle.mount.specs.Mounts.{Mounts}
+use Rattle.mount_types.specs.Mounts.{Mounts}
 
 -- this is the answer, and these are the mounts after it; or memory was refused, and the mounts are as they were
 abbrev pub Performs : {E : Type 0} → MountAnswer × Mounts → Mounts → Result MountResult E → Mounts → Type 0

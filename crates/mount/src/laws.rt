@@ -8,7 +8,7 @@ ghost use Rattle.fs_model.specs.Files.{Files};
 ghost use Rattle.mount_types.specs.declared.limits.TheConstants.{MNTNAMLEN};
 ghost use Rattle.mount_types.specs.Calls.{HostName, DirPath, MountCall, Mnt, Umnt, Umntall, Mounted};
 ghost use Rattle.mount_types.specs.Texts.{procedure_in, answer_item, answer_value, answer_text, IsAnswerTo};
-ghost use Rattle.mount.specs.Mounts.{Mounts, root_of, is_listed, AreMounts};
+ghost use Rattle.mount_types.specs.Mounts.{Mounts, root_of, is_listed, AreMounts};
 ghost use Rattle.mount.specs.Paths.{names_on};
 ghost use Rattle.mount.specs.Walks.{is_root};
 ghost use Rattle.mount.specs.MountCalls.{host_of, mount_does};

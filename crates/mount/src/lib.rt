@@ -9,7 +9,7 @@ ghost use Rattle.mount_types.specs.Texts.{answer_text};
 ghost use Rattle.mount_types.specs.Arguments.{call_of};
 ghost use Rattle.mount_types.specs.declared.limits.TheConstants.{MNTNAMLEN};
 ghost use Rattle.mount_types.specs.Calls.{Mounts as Listed, Exports};
-ghost use Rattle.mount.specs.Mounts.{root_path};
+ghost use Rattle.mount_types.specs.Mounts.{root_path};
 ghost use Rattle.mount.specs.Paths.{names_on};
 ghost use Rattle.mount.specs.MountCalls.{mount_at, mount_does};
 
@@ -20,9 +20,9 @@ mod table;
 pub mod worked;
 
 use changing::{mount, unmount};
-use file_tree::Tree;
 use mount_types::{MNT_ANSWER, MountArgs, MountResult, write_mount_result};
 use nfs_items::Who;
+pub use nfs_procs::{Tree, nfs_call};
 use paths::root_path;
 use std::alloc::{AllocError, Global};
 pub use table::MountTable;

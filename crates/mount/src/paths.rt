@@ -4,11 +4,11 @@ ghost use Rattle.std.specs.Prelude.{◌≡◌, ◌==◌, is_some};
 ghost use Rattle.std.specs.List.{list_all};
 ghost use Rattle.fs_model.specs.Files.{places};
 ghost use Rattle.fs_model.specs.Paths.{path_at};
-ghost use Rattle.mount.specs.Mounts.{root_path};
+ghost use Rattle.mount_types.specs.Mounts.{root_path};
 ghost use Rattle.mount.specs.Paths.{slash, names_between, names_on};
 ghost use Rattle.mount.specs.Walks.{is_root, is_there, number_after};
 
-use file_tree::Tree;
+use nfs_procs::Tree;
 
 /// The byte between names.
 const SLASH: u8 = b'/';

@@ -12,7 +12,7 @@ pub struct MountTable {
 
 impl Model for MountTable {
     ghost use Rattle.std.specs.Prelude.{map};
-    ghost use Rattle.mount.specs.Mounts.{Mounts, root_of, AreMounts};
+    ghost use Rattle.mount_types.specs.Mounts.{Mounts, root_of, AreMounts};
 
     ghost Value = { Mounts };
 
@@ -24,7 +24,7 @@ impl Model for MountTable {
 impl MountTable {
     ghost use Rattle.std.specs.Prelude.{◌≡◌, ◌≤◌, [], ◌∷◌, ◌++◌, ◌&&◌, not, map, length, nat_le, nat_lt, IfOk, OnOk, OnErr, if◌then◌else◌};
     ghost use Rattle.mount_types.specs.declared.limits.TheConstants.{MNTNAMLEN};
-    ghost use Rattle.mount.specs.Mounts.{max_mounts, root_of, is_listed, without_mount, without_host, AreMounts, may_list};
+    ghost use Rattle.mount_types.specs.Mounts.{max_mounts, root_of, is_listed, without_mount, without_host, AreMounts, may_list};
 
     /// Nothing is mounted.
     pub fn new(alloc: Global) -> MountTable

@@ -6,7 +6,7 @@ ghost use Rattle.nfs_items.specs.Handle.{handle_of};
 ghost use Rattle.nfs_items.specs.declared.stat.Stat.TheVariants as stats;
 ghost use Rattle.nfs_spec.specs.Opening.{opening_files};
 ghost use Rattle.mount_types.specs.Calls.{HostName, Mnt, Umnt, Umntall, Nothing, Mounted};
-ghost use Rattle.mount.specs.Mounts.{Mounts, root_of, is_listed};
+ghost use Rattle.mount_types.specs.Mounts.{Mounts, root_of, is_listed};
 ghost use Rattle.mount.specs.Paths.{names_on};
 ghost use Rattle.mount.specs.MountCalls.{mount_does};
 ghost use Rattle.mount.specs.Machines.{m, n, by};

@@ -6,3 +6,4 @@ pub mod Texts
 pub mod Arguments
 pub mod Results
 pub mod Bounds
+pub mod Mounts

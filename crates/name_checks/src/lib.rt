@@ -6,5 +6,6 @@ mod found;
 mod removing;
 mod renaming;
 
+pub use inode_table::InodeTable;
 pub use removing::{check_remove, check_remove_dir};
 pub use renaming::{Move, check_rename};

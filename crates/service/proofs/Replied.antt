@@ -8,7 +8,7 @@ use Rattle.rpc.specs.CallValues.{IsCallOf, GivesCall}
 use Rattle.rpc.specs.declared.call.Call.{Call}
 use Rattle.rpc.specs.declared.call.CallFault.{CallFault}
 use Rattle.nfs_items.specs.Timeval.{Timeval}
-use Rattle.service.specs.World.{World, at_time}
+use Rattle.worlds.specs.World.{World, at_time}
 use Rattle.service.specs.Replies.{reply_to, reply_of_call, world_after_call, reply_owed, world_after}
 
 -- the reply and the world after a call that was read, in the world at its time

@@ -13,9 +13,9 @@ use Rattle.nfs_items.specs.Timeval.{Timeval}
 use Rattle.nfs_items.specs.Caller.{Caller}
 use Rattle.fs_model.specs.Trees.{IsFileTree}
 use Rattle.nfs_spec_sizes.proofs.Lengths.{answer_length}
-use Rattle.mount.specs.Mounts.{AreMounts}
-use Rattle.service.specs.World.{World, at_time}
-use Rattle.service.proofs.MountLengths.{mount_answer_length}
+use Rattle.mount_types.specs.Mounts.{AreMounts}
+use Rattle.worlds.specs.World.{World, at_time}
+use Rattle.mount.proofs.Sizes.{answer_is_short}
 use Rattle.service.specs.Replies.{OrRefusal, ServedCall, Nfs, Mount, call_or_refusal, call_results, call_reply, reply_to, reply_of_call, reply_owed}
 
 body_length : (xid : ℕ) (body : ReplyBody) → length (reply_text (record { xid = xid; body = body })) ≤ 36
@@ -30,7 +30,7 @@ body_length xid (bodies.AuthError stat) = simp (length-append, length-number_spe
 
 results_length : (w : World) → IsFileTree w.files → AreMounts w.mounts → (who : Caller) (call : ServedCall) → length (call_results w who call).0 ≤ 12252
 results_length w tree mounts who (Nfs call) = omega (arith, answer_length w.files who w.clock tree call)
-results_length w tree mounts who (Mount call) = omega (arith, mount_answer_length w.files w.mounts mounts who call)
+results_length w tree mounts who (Mount call) = omega (arith, answer_is_short w.files w.mounts who call mounts)
 
 call_reply_length : (w : World) → IsFileTree w.files → AreMounts w.mounts → (xid : ℕ) (c : OrRefusal (Caller × ServedCall)) → length (call_reply w xid c).0 ≤ MAX_RECORD
 call_reply_length w tree mounts xid (Err body) = omega (arith, body_length xid body)

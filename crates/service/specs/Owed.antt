@@ -2,7 +2,7 @@
 use Rattle.std.specs.Prelude.{ℕ, true, List, [], ◌∷◌, ◌++◌, Option, Some, None}
 use Rattle.records.specs.Record.{fragment}
 use Rattle.nfs_items.specs.Timeval.{Timeval}
-use Rattle.service.specs.World.{World}
+use Rattle.worlds.specs.World.{World}
 use Rattle.service.specs.Replies.{reply_owed, world_after}
 
 -- the record of a reply: one fragment, the last; nothing where none is owed

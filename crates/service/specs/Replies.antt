@@ -20,7 +20,7 @@ use Rattle.mount_types.specs.declared.arguments.MountProcedure.TheVariants as mo
 use Rattle.mount.specs.MountCalls.{mount_does}
 use Rattle.service.specs.declared.checks.TheConstants.{AUTH_NONE, AUTH_SYS, NFS_PROGRAM, NFS_VERSION, MOUNT_PROGRAM, MOUNT_VERSION}
 use Rattle.service.specs.declared.service.TheConstants.{RPC_VERSION}
-use Rattle.service.specs.World.{World, at_time}
+use Rattle.worlds.specs.World.{World, at_time}
 
 -- ---- the checks of a call, in their order: the first that fails gives the reply's body
 

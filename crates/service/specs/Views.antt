@@ -7,6 +7,7 @@ use Rattle.nfs_items.specs.declared.who.Who.{Who}
 use Rattle.nfs_types.specs.Arguments as nfs
 use Rattle.nfs_types.specs.Bounds as nfs_bounds
 use Rattle.mount_types.specs.Arguments as mount
+use Rattle.mount_types.specs.declared.limits.TheConstants.{MNTNAMLEN}
 use Rattle.mount_types.specs.Bounds as mount_bounds
 use Rattle.service.specs.declared.checks.ServedArgs.{ServedArgs}
 use Rattle.service.specs.declared.checks.ServedArgs.TheVariants as code
@@ -16,9 +17,9 @@ abbrev pub view_of_caller : Result Who ReplyBody → OrRefusal Caller
 view_of_caller (Ok who) = Ok (caller_of who)
 view_of_caller (Err body) = Err body
 
--- the name of a caller's machine, where it gave one, has at most 255 bytes
+-- the name of a caller's machine, where it gave one, has at most MNTNAMLEN bytes (RFC 1094, section A.3)
 abbrev pub HasShortName : Who → Type 0
-HasShortName who = IfSome who.machine_name (λ name. length name.now ≤ 255)
+HasShortName who = IfSome who.machine_name (λ name. length name.now ≤ MNTNAMLEN)
 
 -- the call that the program's value says
 abbrev pub served_of : ServedArgs → ServedCall

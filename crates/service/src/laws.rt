@@ -5,7 +5,7 @@ ghost use Rattle.service.specs.declared.checks.TheConstants.{AUTH_NONE, AUTH_SYS
 ghost use Rattle.service.specs.declared.service.TheConstants.{RPC_VERSION};
 ghost use Rattle.xdr.specs.Item.{IsBytes};
 ghost use Rattle.nfs_items.specs.Timeval.{Timeval};
-ghost use Rattle.service.specs.World.{World};
+ghost use Rattle.worlds.specs.World.{World};
 ghost use Rattle.service.specs.Replies.{Answers, reply_owed, world_after};
 
 /// A record at a time has one answer: the reply owed, or none, and the world after it.

@@ -6,14 +6,13 @@ ghost use Rattle.records.specs.declared.record.TheConstants.{MAX_RECORD};
 ghost use Rattle.rpc.specs.Call.{Message};
 ghost use Rattle.rpc.specs.CallValues.{IsCallOf};
 ghost use Rattle.nfs_items.specs.CallerOf.{caller_of};
-ghost use Rattle.service.specs.World.{opening_world, world_of};
+ghost use Rattle.worlds.specs.World.{opening_world, world_of};
 ghost use Rattle.service.specs.Replies.{bare_reply, call_results, call_reply, reply_to, reply_owed, world_after};
 ghost use Rattle.service.specs.Views.{served_of, view_of_call, HasShortName, IsBounded};
 
 use crate::checks::{ServedArgs, check_call};
-use mount::{MountTable, mount_call};
+use mount::{MountTable, Tree, mount_call, nfs_call};
 use nfs_items::{Time, Who};
-use nfs_procs::{Tree, nfs_call};
 use rpc::{Call, CallBody, Reply, ReplyBody, read_call, write_reply};
 use std::alloc::{AllocError, Global};
 use std::marker::Model;
@@ -34,7 +33,7 @@ pub struct Service {
 }
 
 impl Model for Service {
-    ghost use Rattle.service.specs.World.{World, world_code};
+    ghost use Rattle.worlds.specs.World.{World, world_code};
 
     ghost Value = { World };
 

@@ -15,8 +15,9 @@ use Rattle.fs_changes.specs.Limits.{file_count}
 use Rattle.fs_model.proofs.Walks.{none_some, some_same}
 use Rattle.fs_changes.proofs.Room.{AllCookies}
 use Rattle.fs_model.proofs.Counts.{file_in, place_in}
-use Rattle.service.specs.World.{World}
-use Rattle.service.specs.IsWorld.{max_mounts, max_host_name}
+use Rattle.worlds.specs.World.{World}
+use Rattle.mount_types.specs.declared.limits.TheConstants.{MNTNAMLEN}
+use Rattle.mount_types.specs.Mounts.{max_mounts}
 use Rattle.nfs_spec_sizes.specs.Bounds.{HasWords}
 use Rattle.file_texts.specs.FileItems.{entry_item, file_item, file_value, is_file_kind, kind_item, kind_value, attributes_item, attributes_value}
 use Rattle.state_spec.specs.State.{Stage}
@@ -70,7 +71,7 @@ low_cookie (Regular bytes) h = omega arith
 low_cookie (Symlink target) h = omega arith
 low_cookie (Directory l) h = omega (arith, h.0)
 
-short_host : (ms : List (List ℕ × List ℕ)) → AllByRecursion (Fits mount_item) ms → AllByRecursion (λ (m : List ℕ × List ℕ). length m.0 ≤ max_host_name) ms
+short_host : (ms : List (List ℕ × List ℕ)) → AllByRecursion (Fits mount_item) ms → AllByRecursion (λ (m : List ℕ × List ℕ). length m.0 ≤ MNTNAMLEN) ms
 short_host [] all = tt
 short_host (m ∷ ms) all = (all.0.0.1, short_host ms all.1)
 
@@ -112,7 +113,7 @@ module _ (w : World) (stage : Stage) (fits : Fits (rest_item file_item 1) (world
   pub few_mounts : length w.mounts ≤ max_mounts
   few_mounts = fits.1.1.0.1
 
-  pub short_hosts : AllByRecursion (λ (m : List ℕ × List ℕ). length m.0 ≤ max_host_name) w.mounts
+  pub short_hosts : AllByRecursion (λ (m : List ℕ × List ℕ). length m.0 ≤ MNTNAMLEN) w.mounts
   short_hosts = short_host w.mounts fits.1.1.0.2
 
   -- names are within their bound

@@ -15,8 +15,9 @@ use Rattle.fs_changes.specs.Limits.{has_room}
 use Rattle.fs_trees.proofs.Building.{built}
 use Rattle.fs_changes.proofs.Room.{within, room}
 use Rattle.fs_changes.proofs.Shapes.{is_some-kind}
-use Rattle.service.specs.World.{World}
-use Rattle.service.specs.IsWorld.{IsWorld}
+use Rattle.worlds.specs.World.{World}
+use Rattle.worlds.specs.IsWorld.{IsWorld}
+use Rattle.worlds.proofs.Mounted.{are_mounts, are_of_the_root, are_different}
 use Rattle.file_texts.specs.FileItems.{file_item, file_value}
 use Rattle.file_texts.specs.FileValues.{time_from}
 use Rattle.state_spec.specs.State.{Stage, Machine, Server, Client, State, IsMachine, IsState}
@@ -115,10 +116,8 @@ module _ (w : World) (stage : Stage) (fits : Fits (rest_item file_item 1) (world
     words = record { fsid = subst (λ n. n < 2 ^ 32) (sym same) word; files = words_at w stage fits };
     clock = rules.clock;
     seconds = seconds;
-    count = few_mounts w stage fits;
-    hosts = short_hosts w stage fits;
-    directories = rules.directories;
-    mounts = rules.mounts;
+    mounts =
+        are_mounts w.mounts (few_mounts w stage fits) (short_hosts w stage fits) rules.directories rules.mounts;
   }
 
 -- ---- to the rules
@@ -151,8 +150,8 @@ module _ (node : ℕ) (w : World) (h : IsWorld node w) where
         entries = limits.entries;
         blocks = limits.blocks;
         clock = h.clock;
-        directories = h.directories;
-        mounts = h.mounts;
+        directories = are_of_the_root w.mounts h.mounts;
+        mounts = are_different w.mounts h.mounts;
       }
 
 -- ---- of values

@@ -15,8 +15,8 @@ use Rattle.fs_model.specs.Paths.{path_at}
 use Rattle.fs_model.specs.Files.{File, Files, file_at, listing, places, names_of, IsDirectory}
 use Rattle.fs_model.specs.Trees.{IsTime}
 use Rattle.fs_changes.specs.Limits.{entry_count, block_count}
-use Rattle.service.specs.World.{World}
-use Rattle.service.specs.IsWorld.{root_path}
+use Rattle.worlds.specs.World.{World}
+use Rattle.mount_types.specs.Mounts.{root_path}
 use Rattle.file_texts.specs.FileItems.{file_item}
 use Rattle.state_spec.specs.State.{received_cmp, Machine, Server, Client}
 use Rattle.state_spec.specs.StateItems.{received_item, sent_item, rest_item}

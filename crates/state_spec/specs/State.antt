@@ -8,8 +8,8 @@ use Rattle.std.specs.FinSet.{FinSet}
 use Rattle.nfs_items.specs.Timeval.{Timeval}
 use Rattle.fs_model.specs.Trees.{IsTime}
 use Rattle.nfs_spec.specs.Opening.{epoch}
-use Rattle.service.specs.World.{World, opening_world}
-use Rattle.service.specs.IsWorld.{IsWorld}
+use Rattle.worlds.specs.World.{World, opening_world}
+use Rattle.worlds.specs.IsWorld.{IsWorld}
 
 -- a message that was received: its sender, its number in the sender's log, and the hash there
 pub record ReceivedMessage : Type 0 where

@@ -5,8 +5,9 @@ use Rattle.xdr.specs.Item.{Item, Value, word, hyper, fixed, opaque, empty, pair,
 use Rattle.nfs_items.specs.Timeval.{timeval, timeval_value}
 use Rattle.fs_model.specs.Maxima.{max_files}
 use Rattle.fs_model.specs.Files.{File}
-use Rattle.service.specs.World.{World}
-use Rattle.service.specs.IsWorld.{max_mounts, max_host_name, max_directory}
+use Rattle.worlds.specs.World.{World}
+use Rattle.mount_types.specs.declared.limits.TheConstants.{MNTNAMLEN, MNTPATHLEN}
+use Rattle.mount_types.specs.Mounts.{max_mounts}
 use Rattle.state_spec.specs.Limits.{max_received, max_sends, max_body}
 use Rattle.state_spec.specs.State.{ReceivedMessage, SentMessage, Stage, Idle, Heard, Owes, Machine, Server, Client, State}
 
@@ -29,7 +30,7 @@ stage_item = choice is_stage stage_body
 
 -- a mount: host name and directory
 abbrev pub mount_item : Item
-mount_item = pair (opaque max_host_name) (opaque max_directory)
+mount_item = pair (opaque MNTNAMLEN) (opaque MNTPATHLEN)
 
 -- a server is 1, a client 2
 abbrev pub is_node_kind : ℕ → Bool

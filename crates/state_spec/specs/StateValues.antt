@@ -8,7 +8,7 @@ use Rattle.std.specs.FinSet.{FinSet}
 use Rattle.xdr.specs.Item.{Value}
 use Rattle.nfs_items.specs.Timeval.{Timeval, timeval}
 use Rattle.fs_model.specs.Files.{Body, Regular, Symlink, Directory, File}
-use Rattle.service.specs.World.{World}
+use Rattle.worlds.specs.World.{World}
 use Rattle.file_texts.specs.FileItems.{file_item}
 use Rattle.file_texts.specs.FileValues.{time_from, numbered_from}
 use Rattle.state_spec.specs.State.{ReceivedMessage, received_cmp, SentMessage, Stage, Idle, Heard, Owes, Machine, Server, Client, State}

@@ -1,7 +1,7 @@
 use Rattle.std.proofs.Common.{◌+◌, cond, sym, ap, ◌∙◌}
 use Rattle.fs_model.specs.Listing.{with_entry}
 use Rattle.fs_changes.specs.Edits.{map_listing}
-use Rattle.inode_edits.specs.Slots.{links_at}
+use Rattle.inodes.specs.Inodes.{links_at}
 use Rattle.inode_edits.proofs.EditedInodes.{still_there}
 use Rattle.inode_edits.proofs.slots.add_entry.Goals as goal
 

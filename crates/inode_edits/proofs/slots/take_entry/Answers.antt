@@ -1,5 +1,5 @@
 use Rattle.std.proofs.Common.{◌+◌, cond, ap, ◌∙◌}
-use Rattle.inode_edits.specs.Slots.{links_at}
+use Rattle.inodes.specs.Inodes.{links_at}
 use Rattle.inode_edits.proofs.slots.take_entry.Goals as goal
 
 pub returns-then-of_directory : goal.returns-then-of_directory

@@ -1,9 +1,8 @@
 use Rattle.std.proofs.Common.{◌≡◌, ◌++◌, ℕ, List, Result, Ok, Err, IfOk, length, take, drop, sym, ap, subst, ◌∙◌, arith}
 use Rattle.std.proofs.lemmas.List.{take_at}
 use Rattle.nfs_spec_counts.specs.Counted.{AreCounted}
-use Rattle.inodes.specs.Inodes.{files_of}
+use Rattle.inodes.specs.Inodes.{files_of, above_at, links_at}
 use Rattle.inodes.specs.declared.inode.Inode.{Inode}
-use Rattle.inode_edits.specs.Slots.{above_at, links_at}
 use Rattle.fs_rules.specs.Rules.{AreRising, files_listed, numbers_of}
 use Rattle.tree_rules.specs.Listed.{files_in}
 use Rattle.tree_rules.proofs.Seen.{length_files, same_numbers}

@@ -9,7 +9,7 @@ use Rattle.fs_model.specs.Paths.{walk}
 use Rattle.nfs_spec.specs.Opening.{opening_root, opening_hello, opening_files}
 use Rattle.nfs_spec.proofs.OpeningFiles.{root_there, hello_there}
 use Rattle.mount_types.specs.Calls.{MountAnswer, Mounted}
-use Rattle.mount.specs.Mounts.{Mounts, max_mounts}
+use Rattle.mount_types.specs.Mounts.{Mounts, max_mounts}
 use Rattle.mount.specs.MountCalls.{mount_at}
 use Rattle.mount.specs.Machines.{m}
 use Rattle.mount.proofs.worked.mounts_come_out.Goals as goal

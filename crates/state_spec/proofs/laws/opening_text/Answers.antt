@@ -8,7 +8,8 @@ use Rattle.fs_model.specs.Files.{File}
 use Rattle.nfs_spec.specs.Opening.{opening_root, opening_hello}
 use Rattle.nfs_spec.proofs.OpeningFiles.{opening_room, opening_entries}
 use Rattle.nfs_spec.proofs.OpeningTree.{opening_is_tree}
-use Rattle.service.specs.World.{opening_world}
+use Rattle.worlds.specs.World.{opening_world}
+use Rattle.worlds.proofs.Mounted.{are_mounts}
 use Rattle.file_texts.specs.FileItems.{file_item, file_value, file_digest}
 use Rattle.state_spec.specs.State.{Idle, ReceivedMessage, SentMessage, received_cmp, opening_server}
 use Rattle.state_spec.specs.StateItems.{state_item, received_value, sent_value, state_value}
@@ -45,12 +46,9 @@ returns-clause-is_state c = record {
   tree = opening_is_tree 1;
   room = opening_room 1;
   clock = omega arith;
-  directories = tt;
   words = record { fsid = omega arith; files = words_at (opening_world 1) Idle said_fits.1.1.2.1.1.1 };
   seconds = omega arith;
-  count = omega arith;
-  hosts = tt;
-  mounts = λ i j d lt h. absurd (omega (arith, h));
+  mounts = are_mounts [] (omega arith) tt tt (λ i j d lt h. absurd (omega (arith, h)));
 }
 
 pub returns-clause-text : goal.returns-clause-text

@@ -4,7 +4,7 @@ use Rattle.std.specs.Option.{option_copied}
 use Rattle.fs_model.specs.Files.{file_at}
 use Rattle.inodes.specs.Inodes.{file_in}
 use Rattle.inodes.specs.declared.inode.Inode.{Inode}
-use Rattle.inode_edits.proofs.FilesSeen.{file_seen}
+use Rattle.inodes.proofs.FilesSeen.{file_seen}
 use Rattle.inode_table.proofs.InodesSeen.{is_body, attributes_kept, parent_kept}
 use Rattle.inode_table.proofs.table.InodeTable.get.Goals as goal
 

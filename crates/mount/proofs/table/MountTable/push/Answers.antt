@@ -1,6 +1,6 @@
 use Rattle.std.proofs.Common.{◌≡◌, sym, subst}
 use Rattle.std.proofs.lemmas.Bool.{leb-false}
-use Rattle.mount.specs.Mounts.{AreMounts}
+use Rattle.mount_types.specs.Mounts.{AreMounts}
 use Rattle.mount.proofs.Listed.{mounts_pushed, pushed-shown}
 use Rattle.mount.proofs.table.MountTable.push.Goals as goal
 

@@ -1,5 +1,5 @@
 use Rattle.std.proofs.Common.{ap}
-use Rattle.service.specs.World.{world_of}
+use Rattle.worlds.specs.World.{world_of}
 use Rattle.service.proofs.Sizes.{fits_a_record, mapped_fits}
 use Rattle.service.proofs.Replied.{call_replied, fault_replied}
 use Rattle.service.proofs.service.Service.answer.Goals as goal
