@@ -8,8 +8,8 @@ use Rattle.fs_model.specs.Files.{Body, File, listing_in}
 use Rattle.fs_model.specs.Trees.{IsBody, IsTime}
 use Rattle.fs_rules.specs.Rules.{AreRising, numbers_of}
 
--- a body is within its limit; a directory's cookies rise from 3 to below the next, and its names differ and keep
--- the name rule
+-- a body is within its limit; a directory's cookies rise from 3 to below the next, and its names differ and
+-- keep the name rule
 pub record IsBodyAlone (b : Body) : Type 0 where
   pub body : IsBody b
   pub names : All (λ (e : DirEntry). IsTrue (is_name (entry_name e))) (listing_in b).entries
