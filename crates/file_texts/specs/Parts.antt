@@ -1,4 +1,6 @@
 -- What the parts of a file's text say.
+use Rattle.std.specs.Prelude.{List, map}
+use Rattle.nfs_items.specs.Terms.{FileNumber}
 use Rattle.xdr.specs.Item.{Value, choice}
 use Rattle.nfs_items.specs.Timeval.{Timeval, timeval}
 use Rattle.fs_model.specs.Files.{Body, File}
@@ -53,3 +55,7 @@ file_of f = record {
   ctime = time_of f.attributes.ctime;
   body = body_of f.body;
 }
+
+-- the files that the parts of several give, with their numbers
+abbrev pub files_given : List FilePart → List (FileNumber × File)
+files_given parts = map (λ (p : FilePart). (p.number, file_of p)) parts

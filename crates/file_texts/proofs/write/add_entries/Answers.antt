@@ -1,4 +1,4 @@
-use Rattle.std.proofs.Common.{◌≡◌, ◌++◌, List, length, map, sym, subst, ap, ◌∙◌}
+use Rattle.std.proofs.Common.{◌++◌, List, length, sym, subst, ap, ◌∙◌}
 use Rattle.std.proofs.lemmas.List.{length-map}
 use Rattle.xdr.specs.Item.{array, spelling, number_spelling}
 use Rattle.xdr.specs.Writing.{Adds}
