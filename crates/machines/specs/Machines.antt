@@ -27,7 +27,8 @@ IsOf node (spec.Client clock) = Unit {0}
 -- what is said of a machine can be spelled
 abbrev pub MachineFits : spec.Machine → Type 0
 MachineFits (spec.Server w stage) =
-    Fits timeval (timeval_value w.clock) × Fits (rest_item file_item 1) (world_value file_item file_value w stage)
+    Fits timeval (timeval_value w.clock)
+    × Fits (rest_item file_item 1) (world_value file_item file_value w stage)
 MachineFits (spec.Client clock) = Fits timeval (timeval_value clock)
 
 -- the state of a server, whose number is that of its files

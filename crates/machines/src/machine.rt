@@ -28,10 +28,11 @@ impl Machine {
         }
     }
 
-    /// It is one that its node can have, and within the bounds of a text, as its types keep it: does nothing, and
-    /// tells a caller's proof.
+    /// It is one that its node can have, and within the bounds of a text, as its types keep it: does nothing,
+    /// and tells a caller's proof.
     pub(crate) fn is_valid(&self)
-        ensures machine { (node : ℕ) → IsOf node (machine_in self.now) → IsMachine node (machine_in self.now) }
+        ensures machine { (node : ℕ) → IsOf node (machine_in self.now) →
+            IsMachine node (machine_in self.now) }
         ensures text { MachineFits (machine_in self.now) }
     {
         match self {

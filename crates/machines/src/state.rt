@@ -17,8 +17,8 @@ use states::{Received, Sends};
 use std::alloc::{AllocError, Global};
 use std::marker::Model;
 
-/// The state of a node: the messages that it received, those that it sent and that have no acknowledgement yet,
-/// and its machine. A server's files have its number.
+/// The state of a node: the messages that it received, those that it sent and that have no acknowledgement
+/// yet, and its machine. A server's files have its number.
 #[derive(Drop)]
 pub struct State {
     node: u32,
@@ -132,8 +132,8 @@ impl State {
         self.machine.clock()
     }
 
-    /// It is one that a node can be in, and what is said of it can be spelled, as its types keep it: does nothing,
-    /// and tells a caller's proof.
+    /// It is one that a node can be in, and what is said of it can be spelled, as its types keep it: does
+    /// nothing, and tells a caller's proof.
     pub fn is_a_state(&self)
         ensures state { IsState self.now }
         ensures fits { Fits (state_item file_item) (said self.now) }

@@ -27,8 +27,8 @@ impl State {
         self.received.insert(message)
     }
 
-    /// Puts a message that was sent under its number, in place of the one that has the number. Where memory is
-    /// refused nothing changes.
+    /// Puts a message that was sent under its number, in place of the one that has the number. Where memory
+    /// is refused nothing changes.
     pub fn add_send(&mut self, seq: u64, message: SentMessage) -> Result<(), AllocError>
         requires { len self.old.sends < MAX_SENDS }
         ensures ok { OnOk result (self.new ≡ having_sent self.old seq message) }
@@ -54,9 +54,9 @@ impl State {
         }
     }
 
-    /// The clock is read. A server answers the message that it heard at this time, and then owes the reply, if one
-    /// is owed; one that heard none stays as it is. A client's clock shows this time. Where memory is refused
-    /// nothing changes.
+    /// The clock is read. A server answers the message that it heard at this time, and then owes the reply, if
+    /// one is owed; one that heard none stays as it is. A client's clock shows this time. Where memory is
+    /// refused nothing changes.
     pub fn read_clock(&mut self, alloc: Global, time: Time) -> Result<(), AllocError>
         ensures ok { OnOk result (self.new ≡ having_read self.old time) }
         ensures err { OnErr result (self.new ≡ self.old) }

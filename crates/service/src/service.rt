@@ -8,7 +8,8 @@ ghost use Rattle.rpc.specs.CallValues.{IsCallOf};
 ghost use Rattle.nfs_items.specs.CallerOf.{caller_of};
 ghost use Rattle.worlds.specs.IsWorld.{IsWorld};
 ghost use Rattle.worlds.specs.World.{opening_world, world_of};
-ghost use Rattle.service.specs.Replies.{bare_reply, call_results, call_reply, reply_to, reply_owed, world_after};
+ghost use Rattle.service.specs.Replies.{bare_reply, call_results, call_reply, reply_to, reply_owed};
+ghost use Rattle.service.specs.Replies.{world_after};
 ghost use Rattle.service.specs.Views.{served_of, view_of_call, HasShortName, IsBounded};
 
 use crate::checks::{ServedArgs, check_call};
@@ -21,8 +22,8 @@ use std::marker::Model;
 /// The version of RPC (RFC 5531, section 9).
 const RPC_VERSION: u32 = 2;
 
-/// The room that a reply begins with, in bytes: as much as one with attributes takes, and so as every reply to a call that
-/// changes files or mounts. A longer one grows.
+/// The room that a reply begins with, in bytes: as much as one with attributes takes, and so as every reply
+/// to a call that changes files or mounts. A longer one grows.
 const REPLY_ROOM: usize = 128;
 
 /// A server's files and mounts, and its last clock reading.
@@ -87,7 +88,8 @@ impl Service {
         &self.mounts
     }
 
-    /// Its world is one that a server can have, as each call keeps it: does nothing, and tells a caller's proof.
+    /// Its world is one that a server can have, as each call keeps it: does nothing, and tells a caller's
+    /// proof.
     pub fn is_a_world(&self)
         ensures { IsWorld self.now.files.fsid self.now }
     {

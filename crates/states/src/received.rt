@@ -102,7 +102,8 @@ impl Received {
         }))
     }
 
-    /// They are within the bounds of a text, as their types keep them: does nothing, and tells a caller's proof.
+    /// They are within the bounds of a text, as their types keep them: does nothing, and tells a caller's
+    /// proof.
     pub fn are_bounded(&self)
         ensures { Fits (array max_received received_item) (map received_value (keys self.now)) }
     {
