@@ -15,7 +15,8 @@ use Rattle.file_texts.specs.declared.parts.BodyPart.{BodyPart}
 use Rattle.file_texts.specs.declared.parts.BodyPart.TheVariants.{Regular, Symlink, Directory}
 use Rattle.file_texts.specs.declared.parts.FilePart.{FilePart}
 use Rattle.state_spec.specs.Limits.{max_received, max_sends}
-use Rattle.state_spec.specs.StateItems.{received_value, mount_item, stage_item, rest_item, is_node_kind, machine_item, state_item}
+use Rattle.state_spec.specs.StateItems.{received_value, mount_item, stage_item, rest_item, is_node_kind}
+use Rattle.state_spec.specs.StateItems.{machine_item, state_item}
 use Rattle.state_parts.specs.declared.parts.StagePart.{StagePart}
 use Rattle.state_parts.specs.declared.parts.StagePart.TheVariants.{Idle, Heard, Owes}
 use Rattle.state_parts.specs.declared.parts.MountPart.{MountPart}

@@ -25,14 +25,20 @@ IsShortStage (Owes to body) = length body.now ≤ max_body
 -- what a server has is within its bounds: at most 40 mounts, names of machines of at most 255 bytes, paths of
 -- at most 1,024, at most 8,192 files, and each of them one that a text can hold
 pub record IsBoundedWorld (w : WorldPart) : Type 0 where
+  -- the body that the stage holds
   pub stage : IsShortStage w.stage
+  -- the count of mounts
   pub mounts : length w.mounts.items ≤ max_mounts
+  -- the names of their machines
   pub hosts : All (λ (m : MountPart). length m.host.now ≤ MNTNAMLEN) w.mounts.items
+  -- the paths of their directories
   pub directories : All (λ (m : MountPart). length m.directory.now ≤ MNTPATHLEN) w.mounts.items
+  -- the count of files
   pub files : length w.files.items ≤ max_files
+  -- what each file holds
   pub bodies : All (λ (f : FilePart). IsWritable (body_of f.body)) w.files.items
 
--- so is what each kind of node has
+-- what a node of either kind has is within its bounds
 abbrev pub IsBoundedMachine : MachinePart → Type 0
 IsBoundedMachine (Server w) = IsBoundedWorld w
 IsBoundedMachine Client = Unit {0}
@@ -40,6 +46,9 @@ IsBoundedMachine Client = Unit {0}
 -- Parts are within their bounds: at most 131,072 received messages and as many sent ones, and what the node's
 -- kind has.
 pub record AreBounded (p : StatePart) : Type 0 where
+  -- the count of received messages
   pub received : length p.received.items ≤ max_received
+  -- the count of sent messages
   pub sends : length p.sends.items ≤ max_sends
+  -- what the node's kind has
   pub machine : IsBoundedMachine p.machine

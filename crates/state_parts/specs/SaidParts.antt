@@ -5,7 +5,8 @@ use Rattle.file_texts.specs.FileItems.{file_item}
 use Rattle.file_texts.specs.Parts.{time_said, file_said}
 use Rattle.file_texts.specs.declared.parts.TimePart.{TimePart}
 use Rattle.state_spec.specs.State.{ReceivedMessage}
-use Rattle.state_spec.specs.StateItems.{sent_item, mount_item, stage_item, is_node_kind, rest_item, machine_item, received_value, sent_value}
+use Rattle.state_spec.specs.StateItems.{sent_item, mount_item, stage_item, is_node_kind, rest_item}
+use Rattle.state_spec.specs.StateItems.{machine_item, received_value, sent_value}
 use Rattle.state_spec.specs.StateText.{Said}
 use Rattle.states.specs.declared.texts.NumberedSend.{NumberedSend}
 use Rattle.state_parts.specs.declared.parts.StagePart.{StagePart}
@@ -20,6 +21,7 @@ use Rattle.state_parts.specs.declared.parts.StatePart.{StatePart}
 abbrev pub sent_said : NumberedSend → Value sent_item
 sent_said s = sent_value (s.seq, s.message)
 
+-- a mount: host name and directory
 abbrev pub mount_said : MountPart → Value mount_item
 mount_said m = (m.host.now, m.directory.now)
 
@@ -27,6 +29,7 @@ mount_said m = (m.host.now, m.directory.now)
 abbrev pub mounts_given : List MountPart → List (List ℕ × List ℕ)
 mounts_given parts = map mount_said parts
 
+-- a stage: its number, the other node and the body
 abbrev pub stage_said : StagePart → Value stage_item
 stage_said Idle = (0, tt)
 stage_said (Heard from body) = (1, (from, body.now))

@@ -1,6 +1,7 @@
 //! The mounts of a server from the parts of its text.
 
-ghost use Rattle.std.specs.Prelude.{◌≡◌, ◌<◌, ◌≤◌, [], ◌∷◌, ◌++◌, OnOk, OnErr, IfOk, MatchOption, length, if◌then◌else◌};
+ghost use Rattle.std.specs.Prelude.{◌≡◌, ◌<◌, ◌≤◌, [], ◌∷◌, ◌++◌, length, if◌then◌else◌};
+ghost use Rattle.std.specs.Prelude.{OnOk, OnErr, IfOk, MatchOption};
 ghost use Rattle.std.specs.List.{All};
 ghost use Rattle.std.specs.Str.{bytes_eq};
 ghost use Rattle.mount_types.specs.declared.limits.TheConstants.{MNTNAMLEN};
@@ -38,7 +39,8 @@ pub fn mounts_of(alloc: Global, parts: &[MountPart]) -> Result<Option<MountTable
 
 /// Takes a mount behind others, and tells whether it did: not where it is of another directory than the root,
 /// or is one of them. Where memory is refused nothing changes.
-#[tactic(auto, using(crate::proofs::MountsTaken::no_other, crate::proofs::MountsTaken::listed_alike, crate::proofs::MountsTaken::put_alike))]
+#[tactic(auto, using(crate::proofs::MountsTaken::no_other, crate::proofs::MountsTaken::listed_alike))]
+#[tactic(auto, using(crate::proofs::MountsTaken::put_alike))]
 fn take(mounts: &mut MountTable, alloc: Global, part: &MountPart) -> Result<bool, AllocError>
     requires few { length mounts.old < max_mounts }
     requires short { length part.now.host.now ≤ MNTNAMLEN }
