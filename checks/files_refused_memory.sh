@@ -1,5 +1,5 @@
 #!/usr/bin/env bash
-# Want of memory at each request inside the calls that take memory leaves the server as it was, files and clock: the
+# Want of memory at each request inside the calls that take memory leaves the server as it was, files, mounts and clock: the
 # program beside this script runs with each request refused in turn, and compares two servers that got the same calls, of
 # which one was refused.
 set -euo pipefail
@@ -8,7 +8,7 @@ cd "$(dirname "$0")/.."
 
 scratch_crate files_memory checks/files_refused_memory/main.rt.txt service nfs_types
 refuse_each 300
-for call in SETATTR WRITE CREATE MKDIR SYMLINK LINK RENAME READDIR; do
+for call in MNT SETATTR WRITE CREATE MKDIR SYMLINK LINK RENAME READDIR; do
     count=$(grep -c "^refused 1 in $call, " "$work/lines" || true)
     # One is for the reply, the others are for what the call does.
     if [ "$count" -lt 2 ]; then
