@@ -27,10 +27,6 @@ same_is m n same =
     let directories = (bytes_eq-Decides m.1 n.1).0 parts.1 in
     λ i. (hosts i, directories i)
 
--- a mount of another directory isn't taken
-pub no_other : (mounts : Mounts) (m : Mount) → bytes_eq m.1 root_path ≡ false → may_take mounts m ≡ false
-no_other mounts m other = rw other refl
-
 -- a mount of the root is a machine's
 root_alike : (m : Mount) → bytes_eq m.1 root_path ≡ true → root_of m.0 ≡ m
 root_alike m root =

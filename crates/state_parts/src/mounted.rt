@@ -39,8 +39,7 @@ pub fn mounts_of(alloc: Global, parts: &[MountPart]) -> Result<Option<MountTable
 
 /// Takes a mount behind others, and tells whether it did: not where it is of another directory than the root,
 /// or is one of them. Where memory is refused nothing changes.
-#[tactic(auto, using(crate::proofs::MountsTaken::no_other, crate::proofs::MountsTaken::listed_alike))]
-#[tactic(auto, using(crate::proofs::MountsTaken::put_alike))]
+#[tactic(auto, using(crate::proofs::MountsTaken::listed_alike, crate::proofs::MountsTaken::put_alike))]
 fn take(mounts: &mut MountTable, alloc: Global, part: &MountPart) -> Result<bool, AllocError>
     requires few { length mounts.old < max_mounts }
     requires short { length part.now.host.now ≤ MNTNAMLEN }
