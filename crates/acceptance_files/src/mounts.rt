@@ -1,4 +1,5 @@
-//! What is mounted, by whom (RFC 1094, appendix A). In each row a path is its length, and its bytes with zeros behind.
+//! What is mounted, by whom (RFC 1094, appendix A). In each row a path is its length,
+//! and its bytes with zeros behind.
 
 use crate::server::{NOBODY, Program, SUPERUSER, Server};
 use crate::words::of_words;
@@ -62,7 +63,8 @@ DUMP: 2 -> 1 0*4 0
 1,024 slashes: 1 400 2f2f2f2f*256 -> 1 0*4 0 1 1 0*6
 ";
 
-/// The root alone may be mounted; another path that is in the tree is refused (EACCES), and one that isn't (ENOENT).
+/// The root alone may be mounted; another path that is in the tree is refused (EACCES),
+/// and one that isn't (ENOENT).
 #[test]
 fn only_the_root_is_exported(rt: HostRuntime) -> Result<(), Fail> {
     let mut server = Server::opening(rt.alloc())?;
@@ -74,8 +76,8 @@ fn machine(alloc: Global, name: u32) -> Result<Vec<u8>, AllocError> {
     of_words(alloc, &[1, 0x18, 0, 1, name << 24, 0, 0, 0])
 }
 
-/// 40 machines may have the root mounted; another one is refused (ENOSPC) until one of them unmounts it. The last word of
-/// a reply to MNT that is refused is its status.
+/// 40 machines may have the root mounted; another one is refused (ENOSPC) until one of them unmounts it. The
+/// last word of a reply to MNT that is refused is its status.
 #[test]
 fn a_server_has_40_mounts(rt: HostRuntime) -> Result<(), Fail> {
     let mut server = Server::opening(rt.alloc())?;

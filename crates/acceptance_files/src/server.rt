@@ -54,8 +54,8 @@ impl Server {
         })
     }
 
-    /// The reply to a call of a program, behind its xid. The call is given from the procedure's number on, without the
-    /// credential.
+    /// The reply to a call of a program, behind its xid. The call is given from the procedure's number on,
+    /// without the credential.
     pub fn reply_of(
         &mut self,
         rt: &impl Abort,

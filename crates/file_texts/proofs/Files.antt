@@ -1,11 +1,13 @@
 -- A file and what is said of it tell one another.
 -- Serves: the laws of state_spec.
-use Rattle.std.proofs.Common.{◌≡◌, ◌⊎◌, inl, inr, ⊎_elim, ℕ, zero, suc, ◌≤◌, Bool, true, false, refl, arith, eqb}
+use Rattle.std.proofs.Common.{◌≡◌, ◌⊎◌, inl, inr, ⊎_elim, ℕ, zero, suc, ◌≤◌, Bool, true, false, refl, arith}
+use Rattle.std.proofs.Common.{eqb}
 use Rattle.std.specs.Prelude.{◌||◌, IsTrue}
 use Rattle.std.proofs.lemmas.Bool.{eqb-true}
 use Rattle.xdr.specs.Item.{Value, Fits}
 use Rattle.fs_model.specs.Files.{Body, Regular, Symlink, Directory, File}
-use Rattle.file_texts.specs.FileItems.{file_item, file_value, is_file_kind, kind_item, kind_value, attributes_value}
+use Rattle.file_texts.specs.FileItems.{file_item, file_value, is_file_kind, kind_item, kind_value}
+use Rattle.file_texts.specs.FileItems.{attributes_value}
 use Rattle.file_texts.specs.FileValues.{time_from, body_from, file_from, numbered_from}
 
 body_back : (f : File) (b : Body) → body_from (kind_value f b).0 (kind_value f b).1.1 ≡ b
@@ -33,11 +35,13 @@ either false b h = inr h
 other_kind : (n : ℕ) → 6 ≤ n → IsTrue (is_file_kind n) → ⊥
 other_kind n le h = ⊎_elim
     (λ one. omega (arith, eqb-true n 1 one))
-    (λ rest. ⊎_elim (λ two. omega (arith, eqb-true n 2 two)) (λ five. omega (arith, eqb-true n 5 five)) (either (eqb n 2) (eqb n 5) rest))
+    (λ rest. ⊎_elim (λ two. omega (arith, eqb-true n 2 two)) (λ five. omega (arith, eqb-true n 5 five))
+    (either (eqb n 2) (eqb n 5) rest))
     (either (eqb n 1) (eqb n 2 || eqb n 5) h)
 
 -- a file says what it was made of
-kind_forth : (number kind : ℕ) (b : Value (kind_item kind)) → IsTrue (is_file_kind kind) → file_value (numbered_from (number, (kind, b))) ≡ (number, (kind, b))
+kind_forth : (number kind : ℕ) (b : Value (kind_item kind)) → IsTrue (is_file_kind kind)
+    → file_value (numbered_from (number, (kind, b))) ≡ (number, (kind, b))
 unfolding numbered_from file_from body_from time_from
 kind_forth number zero b h = absurd (cc)
 kind_forth number (suc zero) b h = refl
@@ -45,7 +49,9 @@ kind_forth number (suc (suc zero)) b h = refl
 kind_forth number (suc (suc (suc zero))) b h = absurd (cc)
 kind_forth number (suc (suc (suc (suc zero)))) b h = absurd (cc)
 kind_forth number (suc (suc (suc (suc (suc zero))))) b h = refl
-kind_forth number (suc (suc (suc (suc (suc (suc n)))))) b h = absurd (other_kind (suc (suc (suc (suc (suc (suc n)))))) (omega arith) h)
+kind_forth number (suc (suc (suc (suc (suc (suc n)))))) b h =
+    absurd (other_kind (suc (suc (suc (suc (suc (suc n)))))) (omega arith) h)
 
+-- a value that has a spelling is what the file that it gives says
 pub file_forth : (v : Value file_item) → Fits file_item v → file_value (numbered_from v) ≡ v
 file_forth v h = kind_forth v.0 v.1.0 v.1.1 h.1.1

@@ -1,13 +1,15 @@
 -- What a file must keep by itself, whatever other files there are.
-use Rattle.std.specs.Prelude.{◌<◌, IsTrue}
+use Rattle.std.specs.Prelude.{◌<◌, ◌≤◌, List, IsTrue}
 use Rattle.std.specs.List.{All}
+use Rattle.nfs_items.specs.Terms.{FileNumber}
 use Rattle.fs_model.specs.Listing.{DirEntry, entry_name}
 use Rattle.fs_model.specs.Names.{is_name}
 use Rattle.fs_model.specs.Files.{Body, File, listing_in}
 use Rattle.fs_model.specs.Trees.{IsBody, IsTime}
+use Rattle.fs_rules.specs.Rules.{AreRising, numbers_of}
 
--- a body is within its limit; a directory's cookies rise from 3 to below the next, and its names differ and keep
--- the name rule
+-- a body is within its limit; a directory's cookies rise from 3 to below the next, and its names differ and
+-- keep the name rule
 pub record IsBodyAlone (b : Body) : Type 0 where
   pub body : IsBody b
   pub names : All (λ (e : DirEntry). IsTrue (is_name (entry_name e))) (listing_in b).entries
@@ -19,3 +21,9 @@ pub record IsFileAlone (f : File) : Type 0 where
   pub mtime : IsTime f.mtime
   pub ctime : IsTime f.ctime
   pub body : IsBodyAlone f.body
+
+-- the numbers of files rise, from 1 to below the next, and each file keeps its rules
+pub record AreAlone (next : FileNumber) (es : List (FileNumber × File)) : Type 0 where
+  pub rising : AreRising (numbers_of es)
+  pub numbers : All (λ e. (1 ≤ e.0) × (e.0 < next)) es
+  pub files : All (λ e. IsFileAlone e.1) es

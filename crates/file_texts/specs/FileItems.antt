@@ -34,13 +34,16 @@ kind_item kind = pair attributes_item (body_item kind)
 abbrev pub file_item : Item
 file_item = pair word (choice is_file_kind kind_item)
 
+-- what is said of an entry
 abbrev pub entry_value : DirEntry → Value entry_item
 entry_value e = e
 
+-- what is said of a file's attributes
 abbrev pub attributes_value : File → Value attributes_item
 attributes_value f =
     (f.mode, (f.uid, (f.gid, (timeval_value f.atime, (timeval_value f.mtime, timeval_value f.ctime)))))
 
+-- what is said of a file's kind, its attributes and a body
 abbrev pub kind_value : File → Body → Value (choice is_file_kind kind_item)
 kind_value f (Regular bytes) = (1, (attributes_value f, bytes))
 kind_value f (Symlink target) = (5, (attributes_value f, target))

@@ -5,9 +5,11 @@ use Rattle.nfs_items.specs.Timeval.{Timeval, timeval}
 use Rattle.fs_model.specs.Files.{Body, Regular, Symlink, Directory, File}
 use Rattle.file_texts.specs.FileItems.{file_item, body_item, attributes_item}
 
+-- the time that a value says
 unfoldable pub time_from : Value timeval → Timeval
 time_from v = record { seconds = v.0; microseconds = v.1 }
 
+-- the body that a value of a kind says
 unfoldable pub body_from : (kind : ℕ) → Value (body_item kind) → Body
 body_from zero v = Regular []
 body_from (suc zero) v = Regular v
@@ -17,6 +19,7 @@ body_from (suc (suc (suc (suc zero)))) v = Regular []
 body_from (suc (suc (suc (suc (suc zero))))) v = Symlink v
 body_from (suc (suc (suc (suc (suc (suc n)))))) v = Regular []
 
+-- the file of the attributes that a value says, and of a body
 unfoldable pub file_from : Value attributes_item → Body → File
 file_from a body = record {
   mode = a.0;

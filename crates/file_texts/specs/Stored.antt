@@ -4,5 +4,6 @@ use Rattle.std.specs.declared.vec.Vec.{Vec}
 use Rattle.fs_model.specs.Listing.{DirEntry}
 use Rattle.directories.specs.declared.directory.Entry.{Entry}
 
+-- the entry of a directory that a stored name, number and cookie are
 abbrev pub entry_in : {A : Type 0} → Vec ℕ A × Entry → DirEntry
 entry_in e = (e.0.items, (e.1.number, e.1.cookie))

@@ -16,8 +16,8 @@ use tree_rules::directory_of;
 /// The first number that is no mode: a mode has twelve bits.
 const MODES: u32 = 0o10000;
 
-/// The inode of a file's parts, with no links and no directory above yet. None exactly where they break a rule
-/// that a file keeps by itself.
+/// The inode of a file's parts, with no links and no directory above yet. None exactly where they break a
+/// rule that a file keeps by itself.
 pub fn inode_of(alloc: Global, part: &FilePart) -> Result<Option<Inode>, AllocError>
     requires { IsWritable (body_of part.now.body) }
     ensures { IfOk result (λ inode. MatchOption inode (IsFileAlone (file_of part.now) → ⊥)

@@ -1,6 +1,7 @@
 -- What the definitions say of a file by its number, told by the inode that the table has for it.
 -- Serves: `Tree::attributes`, `Tree::lookup`.
-use Rattle.std.proofs.Common.{Bor, ◌≡◌, ℕ, List, Some, None, Ok, Err, option_map, if◌then◌else◌, refl, sym, ap, ◌∙◌}
+use Rattle.std.proofs.Common.{Bor, ◌≡◌, ℕ, List, Some, None, Ok, Err, option_map, if◌then◌else◌, refl, sym}
+use Rattle.std.proofs.Common.{ap, ◌∙◌}
 use Rattle.std.specs.Prelude.{Option}
 use Rattle.nfs_items.specs.Caller.{Caller}
 use Rattle.nfs_items.specs.declared.stat.Stat.TheVariants as stats

@@ -1,6 +1,7 @@
 -- The names of a page are those of a tree, so none is longer than a name may be.
 -- Serves: `Tree::list`.
-use Rattle.std.proofs.Common.{◌≡◌, ℕ, zero, suc, ◌≤◌, List, [], ◌∷◌, map, length, All, Ok, Err, IfOk, Result, arith, sym, ap, subst}
+use Rattle.std.proofs.Common.{◌≡◌, ℕ, zero, suc, ◌≤◌, List, [], ◌∷◌, map, length, All, Ok, Err, IfOk, Result}
+use Rattle.std.proofs.Common.{arith, sym, ap, subst}
 use Rattle.std.specs.Prelude.{IsTrue}
 use Rattle.std.specs.List.{AllByRecursion}
 use Rattle.nfs_items.specs.Caller.{Caller}

@@ -16,10 +16,10 @@ use std::alloc::{AllocError, Global};
 use std::collections::btree_map::Iter;
 
 impl Tree {
-    /// The tree of files that come from outside, for the server of a number, with the number that the next new
-    /// file gets. They are a tree within all limits (`tree_rules::is_tree` and `total_usage` tell), by rising
-    /// number. What the inodes keep beside their files, `nlink` and the parent of a directory, is counted afresh
-    /// and not looked at.
+    /// The tree of files that come from outside, for the server of a number, with the number that the next
+    /// new file gets. They are a tree within all limits (`tree_rules::is_tree` and `total_usage` tell), by
+    /// rising number. What the inodes keep beside their files, `nlink` and the parent of a directory, is
+    /// counted afresh and not looked at.
     pub fn of_inodes(
         alloc: Global,
         fsid: u32,

@@ -8,8 +8,8 @@ use crate::tree::Tree;
 use inodes::Body;
 
 impl Tree {
-    /// The number that a directory lists under a name, whoever asks; none where the directory's number is no directory's,
-    /// or it lists no such name. It lists neither `.` nor `..`.
+    /// The number that a directory lists under a name, whoever asks; none where the directory's number is no
+    /// directory's, or it lists no such name. It lists neither `.` nor `..`.
     pub fn child(&self, dir: u32, name: &[u8]) -> Option<u32>
         ensures { result ≡ option_map place_number (places self.now dir name.now) }
     {

@@ -4,7 +4,8 @@ ghost use Rattle.std.specs.Prelude.{◌≡◌, ◌<◌, ◌↔◌, ℕ, List, le
 ghost use Rattle.nfs_items.specs.Terms.{FileNumber};
 ghost use Rattle.fs_model.specs.Files.{File, IsDirectory, names_of, parent_of};
 ghost use Rattle.fs_model.specs.Trees.{IsFileTree};
-ghost use Rattle.fs_rules.specs.Rules.{AreFiles, AreKnown, AreNamesCounted, AreRising, FollowsRules, IsAt, files_listed, numbers_of};
+ghost use Rattle.fs_rules.specs.Rules.{AreFiles, AreKnown, AreNamesCounted, AreRising, FollowsRules, IsAt};
+ghost use Rattle.fs_rules.specs.Rules.{files_listed, numbers_of};
 
 /// Files that are well each by itself are a tree exactly where they follow the rules; each name stands for a
 /// file then.

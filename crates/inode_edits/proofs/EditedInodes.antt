@@ -1,6 +1,7 @@
 -- What the inodes say after the one of a number changed, came or went.
 -- Serves: all edits of src/slots.rt.
-use Rattle.std.proofs.Common.{◌≡◌, ◌≢◌, ⊎_elim, ℕ, ◌+◌, Bool, cond, List, Option, Some, None, option_map, IsSome, is_some, refl, sym, ap, ◌∙◌}
+use Rattle.std.proofs.Common.{◌≡◌, ◌≢◌, ⊎_elim, ℕ, ◌+◌, Bool, cond, List, Option, Some, None, option_map}
+use Rattle.std.proofs.Common.{IsSome, is_some, refl, sym, ap, ◌∙◌}
 use Rattle.std.specs.Option.{option_map_or}
 use Rattle.std.specs.Ordering.{nat_cmp, eq_by_cmp}
 use Rattle.std.specs.BTreeMap.{BTreeMap}
@@ -14,10 +15,13 @@ use Rattle.fs_model.proofs.Walks.{none_some, some_same}
 use Rattle.fs_changes.specs.Edits.{with_changed_file, with_new_file, without_file, map_listing}
 use Rattle.nfs_spec.specs.Changes.{after_unlink}
 use Rattle.nfs_spec_counts.specs.CountChanges.{is_last_name, blocks_freed}
-use Rattle.fs_changes.proofs.Finite.{cmp_same, cmp_other, new_here, new_other, nothing_changes, changed_here, changed_other, gone_here, gone_other}
+use Rattle.fs_changes.proofs.Finite.{cmp_same, cmp_other, new_here, new_other, nothing_changes, changed_here}
+use Rattle.fs_changes.proofs.Finite.{changed_other, gone_here, gone_other}
 use Rattle.inodes.specs.declared.inode.Inode.{Inode}
-use Rattle.inodes.specs.Inodes.{body_in, file_in, inode_at, files_of, parent_in, links_at, above_at, stored_at}
-use Rattle.inode_edits.specs.Slots.{AreAlike, ChangesFile, ChangesLinks, AddsInode, RemovesInode, SetsParent, MayUnname, TakesEntry, DropsName, Unnames}
+use Rattle.inodes.specs.Inodes.{body_in, file_in, inode_at, files_of, parent_in, links_at, above_at}
+use Rattle.inodes.specs.Inodes.{stored_at}
+use Rattle.inode_edits.specs.Slots.{AreAlike, ChangesFile, ChangesLinks, AddsInode, RemovesInode, SetsParent}
+use Rattle.inode_edits.specs.Slots.{MayUnname, TakesEntry, DropsName, Unnames}
 use Rattle.inodes.proofs.FilesSeen.{file_seen}
 
 -- files are the same where each number has the same

@@ -1,13 +1,16 @@
 -- Changes of files that commute: of different numbers, and of different names of one directory.
 -- Serves: an entry that moves in `InodeTable`, by MovedFiles.
-use Rattle.std.proofs.Common.{◌≡◌, ◌≢◌, ⊎_elim, ℕ, ◌+◌, Bool, true, false, cond, List, [], ◌∷◌, ◌++◌, Option, Some, None, option_map, nat_eq, refl, sym, ap, ◌∙◌}
+use Rattle.std.proofs.Common.{◌≡◌, ◌≢◌, ⊎_elim, ℕ, ◌+◌, Bool, true, false, cond, List, [], ◌∷◌, ◌++◌, Option}
+use Rattle.std.proofs.Common.{Some, None, option_map, nat_eq, refl, sym, ap, ◌∙◌}
 use Rattle.std.specs.Map.{remove_entry}
 use Rattle.std.specs.Cmp.Lexicographic.{pointwise, same_text}
 use Rattle.std.proofs.lemmas.Bool.{cases_eq}
 use Rattle.nfs_items.specs.Timeval.{Timeval}
 use Rattle.fs_model.specs.Listing.{Listing, with_entry, without_entry, HasDistinctNames}
-use Rattle.fs_model.specs.Files.{Body, Regular, Symlink, Directory, File, Files, file_at, listing_in, is_directory}
-use Rattle.fs_changes.specs.Edits.{with_changed_file, without_file, with_name, without_name, map_body_listing, map_listing}
+use Rattle.fs_model.specs.Files.{Body, Regular, Symlink, Directory, File, Files, file_at, listing_in}
+use Rattle.fs_model.specs.Files.{is_directory}
+use Rattle.fs_changes.specs.Edits.{with_changed_file, without_file, with_name, without_name, map_body_listing}
+use Rattle.fs_changes.specs.Edits.{map_listing}
 use Rattle.fs_changes.proofs.Finite.{changed_here, changed_other, gone_here, gone_other}
 use Rattle.fs_changes.proofs.Listings.{name_other}
 use Rattle.nfs_spec.specs.Changes.{after_unlink, with_ctime}

@@ -1,6 +1,7 @@
 -- A new inode, and a name of it.
 -- Serves: `add_named`; what a table asks of a directory before it puts a name.
-use Rattle.std.proofs.Common.{◌≡◌, ◌≢◌, ⊎_elim, ℕ, ◌+◌, ◌<◌, Bool, cond, List, Option, Some, None, option_map, IsSome, is_some, refl, sym, ap, subst, ◌∙◌}
+use Rattle.std.proofs.Common.{◌≡◌, ◌≢◌, ⊎_elim, ℕ, ◌+◌, ◌<◌, Bool, cond, List, Option, Some, None, option_map}
+use Rattle.std.proofs.Common.{IsSome, is_some, refl, sym, ap, subst, ◌∙◌}
 use Rattle.std.specs.Option.{option_map_or}
 use Rattle.std.proofs.lemmas.Bool.{cases_eq}
 use Rattle.nfs_items.specs.Timeval.{Timeval}
@@ -10,7 +11,8 @@ use Rattle.fs_changes.specs.Edits.{with_name}
 use Rattle.fs_changes.proofs.Finite.{new_other, gone_here, gone_other}
 use Rattle.nfs_spec.specs.Changes.{touch, with_mtime}
 use Rattle.inodes.specs.declared.inode.Inode.{Inode}
-use Rattle.inodes.specs.Inodes.{body_in, file_in, files_of, inode_at, parent_in, links_at, above_at, stored_at}
+use Rattle.inodes.specs.Inodes.{body_in, file_in, files_of, inode_at, parent_in, links_at, above_at}
+use Rattle.inodes.specs.Inodes.{stored_at}
 use Rattle.inode_edits.specs.Slots.{AreAlike, ChangesFile, AddsInode, RemovesInode, AddsEntry, AddsNamed}
 use Rattle.inodes.proofs.FilesSeen.{file_seen}
 use Rattle.inode_edits.proofs.EditedInodes.{same_files, some_mapped}

@@ -1,5 +1,6 @@
 -- What an edit of inodes does to their files, and to what is kept beside them.
-use Rattle.std.specs.Prelude.{◌≡◌, ◌≢◌, ◌<◌, ℕ, ◌+◌, Bool, true, false, List, Option, Some, option_map, if◌then◌else◌}
+use Rattle.std.specs.Prelude.{◌≡◌, ◌≢◌, ◌<◌, ℕ, ◌+◌, Bool, true, false, List, Option, Some, option_map}
+use Rattle.std.specs.Prelude.{if◌then◌else◌}
 use Rattle.std.specs.Option.{option_map_or}
 use Rattle.nfs_items.specs.Timeval.{Timeval}
 use Rattle.nfs_items.specs.Terms.{FileNumber, Name}
@@ -10,7 +11,8 @@ use Rattle.nfs_spec.specs.Changes.{after_unlink}
 use Rattle.nfs_spec.specs.Procedures.{add_file}
 use Rattle.nfs_spec_counts.specs.CountChanges.{is_last_name, blocks_freed, CountsUnlinked}
 use Rattle.inodes.specs.declared.inode.Inode.{Inode}
-use Rattle.inodes.specs.Inodes.{body_in, file_in, files_of, inode_at, parent_in, stored_at, links_at, above_at}
+use Rattle.inodes.specs.Inodes.{body_in, file_in, files_of, inode_at, parent_in, stored_at, links_at}
+use Rattle.inodes.specs.Inodes.{above_at}
 
 -- nothing that is seen or kept changes
 pub record AreAlike (old new : List (ℕ × Inode)) : Type 0 where

@@ -1,6 +1,7 @@
 //! Edits of the inode of a number; where it has none, nothing changes.
 
-ghost use Rattle.std.specs.Prelude.{◌≡◌, ◌<◌, ◌+◌, ◌-◌, ◌^◌, ℕ, IsSome, OnOk, OnErr, Some, None, length, true, if◌then◌else◌};
+ghost use Rattle.std.specs.Prelude.{◌≡◌, ◌<◌, ◌+◌, ◌-◌, ◌^◌, ℕ, IsSome, OnOk, OnErr, Some, None, length};
+ghost use Rattle.std.specs.Prelude.{true, if◌then◌else◌};
 ghost use Rattle.fs_model.specs.Files.{File, is_directory, listing_in};
 ghost use Rattle.fs_model.specs.Listing.{with_entry, without_entry};
 ghost use Rattle.fs_model.specs.Trees.{IsBody};
@@ -13,7 +14,9 @@ ghost use Rattle.inodes.specs.Contents.{body_with_bytes_at};
 ghost use Rattle.inodes.specs.Given.{given_in};
 ghost use Rattle.inodes.specs.declared.inode.Inode as stored;
 ghost use Rattle.inodes.specs.Inodes.{body_in, file_in, inode_at, parent_in, links_at, stored_at};
-ghost use Rattle.inode_edits.specs.Slots.{AddsEntry, AddsInode, AddsNamed, AreAlike, ChangesFile, ChangesLinks, DropsName, MayUnname, RemovesInode, SetsParent, TakesEntry, Unnames};
+ghost use Rattle.inode_edits.specs.Slots.{AddsEntry, AddsInode, AddsNamed, AreAlike, ChangesFile};
+ghost use Rattle.inode_edits.specs.Slots.{ChangesLinks, DropsName, MayUnname, RemovesInode, SetsParent};
+ghost use Rattle.inode_edits.specs.Slots.{TakesEntry, Unnames};
 
 use inodes::{Given, Inode};
 use nfs_items::Time;

@@ -1,6 +1,7 @@
 -- Lists in parts, and a vector after its slice was changed.
 -- Serves: `by_number`, `linked_inodes`.
-use Rattle.std.proofs.Common.{◌≡◌, ℕ, ◌<◌, List, [], ◌∷◌, ◌++◌, length, Some, suc, refl, sym, ap, subst, ◌∙◌, arith, append_assoc}
+use Rattle.std.proofs.Common.{◌≡◌, ℕ, ◌<◌, List, [], ◌∷◌, ◌++◌, length, Some, suc, refl, sym, ap, subst, ◌∙◌}
+use Rattle.std.proofs.Common.{arith, append_assoc}
 use Rattle.std.specs.Prelude.{slice_get}
 use Rattle.fs_rules.specs.Rules.{AreRising, numbers_of}
 use Rattle.fs_rules.proofs.Listed.{rises}
@@ -9,11 +10,13 @@ get_at : {X : Type 0} (p : List X) (x : X) (ys : List X) → slice_get (p ++ x �
 get_at [] x ys = refl
 get_at (y ∷ p) x ys = get_at p x ys
 
-get_behind : {X : Type 0} (p : List X) (x y : X) (ys : List X) → slice_get ys 0 ≡ Some y → slice_get (p ++ x ∷ ys) (suc (length p)) ≡ Some y
+get_behind : {X : Type 0} (p : List X) (x y : X) (ys : List X) → slice_get ys 0 ≡ Some y
+    → slice_get (p ++ x ∷ ys) (suc (length p)) ≡ Some y
 get_behind [] x y ys h = h
 get_behind (z ∷ p) x y ys h = get_behind p x y ys h
 
-module _ {X : Type 0} (all p left : List (ℕ × X)) (e : ℕ × X) (rest : List (ℕ × X)) (last : left ≡ p ++ e ∷ []) (whole : left ++ rest ≡ all) where
+module _ {X : Type 0} (all p left : List (ℕ × X)) (e : ℕ × X) (rest : List (ℕ × X))
+    (last : left ≡ p ++ e ∷ []) (whole : left ++ rest ≡ all) where
   -- the last that is left goes before the rest
   pub moved : p ++ (e ∷ rest) ≡ all
   moved = sym (append_assoc p (e ∷ []) rest) ∙ ap (λ l. l ++ rest) (sym last) ∙ whole
@@ -21,4 +24,5 @@ module _ {X : Type 0} (all p left : List (ℕ × X)) (e : ℕ × X) (rest : List
   -- and its number is below theirs
   pub below_rest : AreRising (numbers_of all) → (f : ℕ × X) → slice_get rest 0 ≡ Some f → e.0 < f.0
   below_rest up f first =
-      rises (p ++ (e ∷ rest)) (subst (λ l. AreRising (numbers_of l)) (sym moved) up) (length p) (suc (length p)) e f (omega arith) (get_at p e rest) (get_behind p e f rest first)
+      rises (p ++ (e ∷ rest)) (subst (λ l. AreRising (numbers_of l)) (sym moved) up) (length p)
+      (suc (length p)) e f (omega arith) (get_at p e rest) (get_behind p e f rest first)

@@ -112,8 +112,8 @@ fn link_all(numbers: &[u32], counts: &Counts, inodes: &mut [(u32, Inode)])
 }
 
 /// Keeps beside each file of a tree what counting over all files gives: its `nlink`, and of a directory the
-/// number of the one above. What the inodes kept before is not looked at. The numbers rise, and there are at most
-/// 16,384 entries in all. Where memory is refused nothing changes.
+/// number of the one above. What the inodes kept before is not looked at. The numbers rise, and there are at
+/// most 16,384 entries in all. Where memory is refused nothing changes.
 pub fn set_links(alloc: Global, inodes: &mut [(u32, Inode)]) -> Result<(), AllocError>
     requires rising { AreRising (numbers_of inodes.old) }
     requires few { entries_among (files_in inodes.old) ≤ max_entries }

@@ -1,6 +1,7 @@
 -- Attributes that are set, and bytes that are written, are kept.
 -- Serves: `InodeTable::set`, `InodeTable::write`.
-use Rattle.std.proofs.Common.{◌≡◌, ℕ, ◌+◌, ◌-◌, ◌≤◌, List, Option, Some, None, option_map, sym, ap, subst, ◌∙◌, refl, arith}
+use Rattle.std.proofs.Common.{◌≡◌, ℕ, ◌+◌, ◌-◌, ◌≤◌, List, Option, Some, None, option_map, sym, ap, subst}
+use Rattle.std.proofs.Common.{◌∙◌, refl, arith}
 use Rattle.nfs_items.specs.Timeval.{Timeval}
 use Rattle.fs_model.specs.Files.{File, Files, listing_in, is_directory}
 use Rattle.fs_model.specs.Trees.{IsBody, IsFile, IsTime}

@@ -1,6 +1,7 @@
 -- A name more, of a new inode or of one that is there, is kept.
 -- Serves: `InodeTable::make`, `InodeTable::link`.
-use Rattle.std.proofs.Common.{◌≡◌, ◌≢◌, ℕ, ◌+◌, ◌<◌, ◌≤◌, ◌^◌, Bool, true, false, cond, List, [], Option, Some, None, option_map, IsSome, refl, sym, ap, subst, ◌∙◌, arith}
+use Rattle.std.proofs.Common.{◌≡◌, ◌≢◌, ℕ, ◌+◌, ◌<◌, ◌≤◌, ◌^◌, Bool, true, false, cond, List, [], Option}
+use Rattle.std.proofs.Common.{Some, None, option_map, IsSome, refl, sym, ap, subst, ◌∙◌, arith}
 use Rattle.std.specs.Option.{option_map_or}
 use Rattle.nfs_items.specs.Timeval.{Timeval}
 use Rattle.fs_model.specs.Listing.{Listing, with_entry}
@@ -17,7 +18,8 @@ use Rattle.nfs_spec_counts.proofs.Facts.{links_bounded, entries_bounded}
 use Rattle.nfs_spec_counts.proofs.Making.{kept_by_make}
 use Rattle.nfs_spec_counts.proofs.Linking.{kept_by_link}
 use Rattle.inodes.specs.declared.inode.Inode.{Inode}
-use Rattle.inodes.specs.Inodes.{body_in, file_in, files_of, inode_at, parent_in, stored_at, links_at, above_at}
+use Rattle.inodes.specs.Inodes.{body_in, file_in, files_of, inode_at, parent_in, stored_at, links_at}
+use Rattle.inodes.specs.Inodes.{above_at}
 use Rattle.inode_edits.specs.Slots.{ChangesFile, ChangesLinks, AddsNamed}
 use Rattle.inode_edits.proofs.EditedInodes.{other_stored}
 use Rattle.inodes.proofs.FilesSeen.{file_seen}

@@ -1,6 +1,7 @@
 -- A name that goes, and the file with its last, are kept.
 -- Serves: `InodeTable::unlink`; what an entry that moves replaces, in MovedEntry.
-use Rattle.std.proofs.Common.{◌≡◌, ℕ, ◌+◌, ◌-◌, ◌<◌, ◌≤◌, ◌^◌, Bool, true, false, cond, List, Some, sym, ap, subst, ◌∙◌, arith}
+use Rattle.std.proofs.Common.{◌≡◌, ℕ, ◌+◌, ◌-◌, ◌<◌, ◌≤◌, ◌^◌, Bool, true, false, cond, List, Some, sym, ap}
+use Rattle.std.proofs.Common.{subst, ◌∙◌, arith}
 use Rattle.nfs_items.specs.Timeval.{Timeval}
 use Rattle.fs_model.specs.Files.{File, Files, is_directory}
 use Rattle.fs_model.specs.Trees.{IsTime}

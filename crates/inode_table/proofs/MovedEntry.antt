@@ -1,6 +1,8 @@
 -- An entry that moves is kept, by what each step of the move does.
 -- Serves: `InodeTable::rename`.
-use Rattle.std.proofs.Common.{◌≡◌, ◌≢◌, ⊎_elim, ℕ, ◌+◌, ◌-◌, ◌<◌, ◌≤◌, ◌^◌, Bool, true, false, cond, List, [], Option, Some, None, option_map, option_and_then, nat_eq, refl, sym, ap, subst, ◌∙◌, arith}
+use Rattle.std.proofs.Common.{◌≡◌, ◌≢◌, ⊎_elim, ℕ, ◌+◌, ◌-◌, ◌<◌, ◌≤◌, ◌^◌, Bool, true, false, cond, List, []}
+use Rattle.std.proofs.Common.{Option, Some, None, option_map, option_and_then, nat_eq, refl, sym, ap, subst}
+use Rattle.std.proofs.Common.{◌∙◌, arith}
 use Rattle.std.specs.Option.{option_map_or}
 use Rattle.std.specs.Map.{lookup}
 use Rattle.std.specs.Cmp.Lexicographic.{pointwise}
@@ -17,7 +19,8 @@ use Rattle.nfs_spec.specs.Changes.{touch, touch_ctime, unlink, after_unlink, wit
 use Rattle.nfs_spec.specs.Procedures.{unlink_target, move_entry}
 use Rattle.nfs_spec_trees.proofs.FilesFit.{dir_file, distinct_names}
 use Rattle.nfs_spec_counts.specs.Counted.{IsKept}
-use Rattle.nfs_spec_counts.specs.CountChanges.{MayUnlink, MayMove, CountsCleared, CountsMoved, is_last_name, blocks_freed}
+use Rattle.nfs_spec_counts.specs.CountChanges.{MayUnlink, MayMove, CountsCleared, CountsMoved, is_last_name}
+use Rattle.nfs_spec_counts.specs.CountChanges.{blocks_freed}
 use Rattle.nfs_spec_counts.proofs.Facts.{entries_bounded, links_positive, links_bounded, links_of_parent}
 use Rattle.nfs_spec_counts.proofs.Unlinking.{last_name_told}
 use Rattle.nfs_spec_moves.proofs.Moving.{kept_by_move}

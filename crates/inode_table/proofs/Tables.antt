@@ -1,6 +1,7 @@
 -- A table as its proofs see it, and edits that leave the names of files alone.
 -- Serves: all edits of `InodeTable`.
-use Rattle.std.proofs.Common.{◌≡◌, ℕ, ◌+◌, ◌-◌, ◌≤◌, List, Some, Result, Ok, Err, OnErr, refl, sym, subst, ◌∙◌, arith}
+use Rattle.std.proofs.Common.{◌≡◌, ℕ, ◌+◌, ◌-◌, ◌≤◌, List, Some, Result, Ok, Err, OnErr, refl, sym, subst}
+use Rattle.std.proofs.Common.{◌∙◌, arith}
 use Rattle.fs_model.specs.Files.{File, Files, file_at}
 use Rattle.fs_model.specs.Trees.{IsBody}
 use Rattle.fs_changes.specs.Limits.{blocks_in, block_count}

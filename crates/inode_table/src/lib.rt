@@ -6,3 +6,4 @@ mod opening;
 mod table;
 
 pub use table::InodeTable;
+pub use tree_rules::{MAX_BLOCKS, MAX_ENTRIES, MAX_FILES};

@@ -1,9 +1,11 @@
 //! The table.
 
-ghost use Rattle.std.specs.Prelude.{◌≡◌, ◌≢◌, ◌≤◌, ◌<◌, ◌+◌, ◌^◌, ℕ, List, [], IfOk, IfSome, OnOk, OnErr, IsTrue, IsSome, Some, None, length, option_map, true, false};
+ghost use Rattle.std.specs.Prelude.{◌≡◌, ◌≢◌, ◌≤◌, ◌<◌, ◌+◌, ◌^◌, ℕ, List, [], IfOk, IfSome, OnOk, OnErr};
+ghost use Rattle.std.specs.Prelude.{IsTrue, IsSome, Some, None, length, option_map, true, false};
 ghost use Rattle.std.specs.FinMap as finite;
 ghost use Rattle.nfs_items.specs.Terms.{FileNumber, Cookie};
-ghost use Rattle.fs_model.specs.Files.{Regular, File, Files, file_at, places, parent_of, listing, listing_in, is_directory, IsDirectory};
+ghost use Rattle.fs_model.specs.Files.{Regular, File, Files, file_at, places, parent_of, listing, listing_in};
+ghost use Rattle.fs_model.specs.Files.{is_directory, IsDirectory};
 ghost use Rattle.fs_model.specs.Maxima.{max_name};
 ghost use Rattle.fs_model.specs.Names.{is_name};
 ghost use Rattle.fs_model.specs.Trees.{IsBody, IsFile, IsFileTree, IsTime};
@@ -88,9 +90,9 @@ impl InodeTable {
         })
     }
 
-    /// Files that come from outside, for the server of a number, with the number that the next new file gets: a
-    /// tree within all limits, by rising number. What the inodes keep beside their files is counted afresh, and
-    /// not looked at.
+    /// Files that come from outside, for the server of a number, with the number that the next new file gets:
+    /// a tree within all limits, by rising number. What the inodes keep beside their files is counted afresh,
+    /// and not looked at.
     pub fn of_inodes(
         alloc: Global,
         fsid: u32,

@@ -1,7 +1,9 @@
 -- The bytes of a regular file after a write: filled up with zeros to its end first, and then written over.
 -- Serves: `content::write_at`.
-use Rattle.std.proofs.Common.{◌≡◌, ℕ, ◌+◌, ◌-◌, ◌≤◌, ◌<◌, ◌⊎◌, inl, inr, List, ◌++◌, length, take, drop, replicate, sym, ap, ◌∙◌, arith}
-use Rattle.std.proofs.lemmas.List.{append-nil, take_all, drop_all, take-append-le, take-replicate, length-append, length-replicate, take_at}
+use Rattle.std.proofs.Common.{◌≡◌, ℕ, ◌+◌, ◌-◌, ◌≤◌, ◌<◌, ◌⊎◌, inl, inr, List, ◌++◌, length, take, drop}
+use Rattle.std.proofs.Common.{replicate, sym, ap, ◌∙◌, arith}
+use Rattle.std.proofs.lemmas.List.{append-nil, take_all, drop_all, take-append-le, take-replicate}
+use Rattle.std.proofs.lemmas.List.{length-append, length-replicate, take_at}
 use Rattle.std.proofs.lemmas.Bool.{cases_lt}
 use Rattle.std.proofs.Math.Seq.{take-append-add}
 use Rattle.nfs_spec.specs.Changes.{with_length, with_bytes_at}
@@ -22,7 +24,8 @@ front offset m old le = by (cases_lt offset (length old))
         let at : offset ≡ length old + (offset - length old) = omega (arith, ge) in
         ap (λ (n : ℕ). take n (old ++ replicate (m - length old) 0)) at
         ∙ take-append-add old (replicate (m - length old) 0) (offset - length old)
-        ∙ ap (λ (l : List ℕ). old ++ l) (take-replicate (offset - length old) (m - length old) 0 (omega (arith, le)))
+        ∙ ap (λ (l : List ℕ). old ++ l) (take-replicate (offset - length old) (m - length old) 0
+        (omega (arith, le)))
         ∙ ap (λ (l : List ℕ). l ++ replicate (offset - length old) 0) (sym (take_all offset old ge))
 
 -- what lies behind the end is what lay there: nothing, where zeros were put
@@ -36,7 +39,13 @@ back e m old is = by (cases_lt e (length old))
         ap (λ (k : ℕ). drop e (old ++ replicate k 0)) none ∙ ap (drop e) (append-nil old)
     by (inr ge) =
         let z : List ℕ = replicate (m - length old) 0 in
-        drop_all e (old ++ z) (omega (arith, is, ge, length-append old z, length-replicate {A = ℕ} (m - length old) 0))
+        drop_all e (old ++ z) (omega (
+          arith,
+          is,
+          ge,
+          length-append old z,
+          length-replicate {A = ℕ} (m - length old) 0,
+        ))
         ∙ sym (drop_all e old ge)
 
 -- filled up to the end of what is written, and written over there
@@ -52,8 +61,10 @@ written_over offset m new old is d filled =
     ∙ ap (λ (l : List ℕ). with_length offset old ++ (new ++ l)) (back e m old is)
 
 -- the same of what a vector holds when its slice comes back
-pub written_back : (offset m : ℕ) (new old d n items : List ℕ) (len : ℕ) → m ≡ length old + (offset + length new - length old)
-    → d ≡ take m old ++ replicate (m - length old) 0 → n ≡ take offset d ++ (new ++ drop (offset + length new) d) → length n ≡ len
+pub written_back : (offset m : ℕ) (new old d n items : List ℕ) (len : ℕ)
+    → m ≡ length old + (offset + length new - length old)
+    → d ≡ take m old ++ replicate (m - length old) 0
+    → n ≡ take offset d ++ (new ++ drop (offset + length new) d) → length n ≡ len
     → take len (n ++ drop (length n) items) ≡ with_bytes_at offset new old
 written_back offset m new old d n items len is filled over long =
     take_at n (drop (length n) items) len long ∙ over ∙ written_over offset m new old is d filled

@@ -2,6 +2,7 @@
 use Rattle.nfs_spec.specs.Sattr.{GivenFields}
 use Rattle.inodes.specs.declared.given.Given.{Given}
 
+-- the fields that a value of the program gives
 abbrev pub given_in : Given → GivenFields
 given_in g = record {
   mode = g.mode;

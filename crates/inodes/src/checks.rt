@@ -31,8 +31,8 @@ impl Inode {
     }
 
     /// Perm where a caller may not set what is given (RFC 1094, section 2.2.3): mode and times are set by the
-    /// owner and user 0; the user by user 0, and by the owner to itself; the group by user 0, and by the owner
-    /// to the same or one of its own.
+    /// owner and user 0; the user by user 0, and by the owner to itself; the group by user 0, and by the
+    /// owner to the same or one of its own.
     pub fn check_owner(&self, who: &Who, given: &Given) -> Result<(), Stat>
         ensures { result ≡ check_owner (caller_of who.now) (file_in self.now) (given_in given.now) }
     {

@@ -167,7 +167,8 @@ impl Inode {
     ghost use Rattle.std.specs.Prelude.{◌≤◌, ◌<◌, ◌^◌, OnOk, OnErr, length};
     ghost use Rattle.nfs_spec.specs.Changes.{with_mtime, apply_fields};
     ghost use Rattle.std.specs.Result.{result_map_both};
-    ghost use Rattle.nfs_spec.specs.ProcedureChecks.{class_of, permits, may_search, owns, may_read, may_write, bytes_of, target_of};
+    ghost use Rattle.nfs_spec.specs.ProcedureChecks.{class_of, permits, may_search, owns, may_read};
+    ghost use Rattle.nfs_spec.specs.ProcedureChecks.{may_write, bytes_of, target_of};
     ghost use Rattle.inodes.specs.Inodes.{body_in, parent_in, file_in, fattr_of};
     ghost use Rattle.inodes.specs.Contents.{body_with_bytes_at};
     ghost use Rattle.inodes.specs.Given.{given_in};

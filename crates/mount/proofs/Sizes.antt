@@ -1,6 +1,7 @@
 -- The answers to calls have a spelling, and these are their bytes.
 -- Serves: `laws::answers_fit_a_reply`.
-use Rattle.std.proofs.Common.{◌≡◌, ℕ, ◌+◌, ◌-◌, ◌*◌, ◌/◌, ◌%◌, ◌≤◌, List, [], ◌∷◌, ◌++◌, length, refl, ap, arith}
+use Rattle.std.proofs.Common.{◌≡◌, ℕ, ◌+◌, ◌-◌, ◌*◌, ◌/◌, ◌%◌, ◌≤◌, List, [], ◌∷◌, ◌++◌, length, refl, ap}
+use Rattle.std.proofs.Common.{arith}
 use Rattle.std.specs.List.{AllByRecursion, flat_map}
 use Rattle.std.proofs.lemmas.List.{length-append, length-replicate}
 use Rattle.xdr.specs.Item.{Fits, spelling, number_spelling, padding, word, opaque}
@@ -25,13 +26,16 @@ handle_length fsid n = refl
 -- ---- the mounts
 
 mount_fits : (m : Mount) → IsMount m → Fits mount m
-mount_fits m is = let root : length m.1 ≡ 1 = ap length is.1 in ((omega (arith, is.0), is.0), (omega (arith, root), omega (arith, root)))
+mount_fits m is =
+    let root : length m.1 ≡ 1 = ap length is.1 in
+    ((omega (arith, is.0), is.0), (omega (arith, root), omega (arith, root)))
 
 mounts_fit : (mounts : Mounts) → AllByRecursion IsMount mounts → AllByRecursion (Fits mount) mounts
 mounts_fit [] all = tt
 mounts_fit (m ∷ mounts) all = (mount_fits m all.0, mounts_fit mounts all.1)
 
-opaque_length : (max : ℕ) (bytes : List ℕ) → length (spelling (opaque max) bytes) ≡ 4 + 4 * ((length bytes + 3) / 4)
+opaque_length : (max : ℕ) (bytes : List ℕ)
+    → length (spelling (opaque max) bytes) ≡ 4 + 4 * ((length bytes + 3) / 4)
 opaque_length max bytes =
     omega (
       arith,
@@ -55,12 +59,14 @@ mount_length m is =
       is.0,
     )
 
-mounts_length : (mounts : Mounts) → AllByRecursion IsMount mounts → length (flat_map (λ m. spelling word 1 ++ spelling mount m) mounts) ≤ 272 * length mounts
+mounts_length : (mounts : Mounts) → AllByRecursion IsMount mounts
+    → length (flat_map (λ m. spelling word 1 ++ spelling mount m) mounts) ≤ 272 * length mounts
 mounts_length [] all = omega arith
 mounts_length (m ∷ mounts) all =
     omega (
       arith,
-      length-append (spelling word 1 ++ spelling mount m) (flat_map (λ m. spelling word 1 ++ spelling mount m) mounts),
+      length-append (spelling word 1 ++ spelling mount m)
+          (flat_map (λ m. spelling word 1 ++ spelling mount m) mounts),
       mount_length m all.0,
       mounts_length mounts all.1,
     )
@@ -82,27 +88,37 @@ exports_length = refl
 
 -- ---- the answers
 
-pub answer_is_own : (fs : Files) (mounts : Mounts) (who : Caller) (call : MountCall) → IsAnswerTo (procedure_in call) (mount_does fs mounts who call).0
+-- an answer is one of its call's procedure
+pub answer_is_own : (fs : Files) (mounts : Mounts) (who : Caller) (call : MountCall)
+    → IsAnswerTo (procedure_in call) (mount_does fs mounts who call).0
 answer_is_own fs mounts who calls.Null = tt
-answer_is_own fs mounts who (calls.Mnt path) = mount_answers fs mounts (host_of who) (IsAnswerTo procedures.Mnt) tt tt tt tt (names_on path)
+answer_is_own fs mounts who (calls.Mnt path) =
+    mount_answers fs mounts (host_of who) (IsAnswerTo procedures.Mnt) tt tt tt tt (names_on path)
 answer_is_own fs mounts who calls.Dump = tt
 answer_is_own fs mounts who (calls.Umnt path) = tt
 answer_is_own fs mounts who calls.Umntall = tt
 answer_is_own fs mounts who calls.Export = tt
 
+-- an answer has a spelling
 pub answer_fits : (fs : Files) (mounts : Mounts) (who : Caller) (call : MountCall) → AreMounts mounts
     → Fits (answer_item (mount_does fs mounts who call).0) (answer_value (mount_does fs mounts who call).0)
 answer_fits fs mounts who calls.Null are = tt
 answer_fits fs mounts who (calls.Mnt path) are =
-    mount_answers fs mounts (host_of who) (λ a. Fits (answer_item a) (answer_value a)) (omega arith, refl, handle_length fs.fsid 1) (omega arith, refl, tt) (omega arith, refl, tt) (omega arith, refl, tt) (names_on path)
+    mount_answers fs mounts (host_of who) (λ a. Fits (answer_item a) (answer_value a))
+    (omega arith, refl, handle_length fs.fsid 1) (omega arith, refl, tt) (omega arith, refl, tt)
+    (omega arith, refl, tt) (names_on path)
 answer_fits fs mounts who calls.Dump are = mounts_fit mounts are.each
 answer_fits fs mounts who (calls.Umnt path) are = tt
 answer_fits fs mounts who calls.Umntall are = tt
 answer_fits fs mounts who calls.Export are = (((omega arith, omega arith), tt), tt)
 
-pub answer_is_short : (fs : Files) (mounts : Mounts) (who : Caller) (call : MountCall) → AreMounts mounts → length (answer_text (mount_does fs mounts who call).0) ≤ 10884
+-- the spelling takes at most 10,884 bytes
+pub answer_is_short : (fs : Files) (mounts : Mounts) (who : Caller) (call : MountCall) → AreMounts mounts
+    → length (answer_text (mount_does fs mounts who call).0) ≤ 10884
 answer_is_short fs mounts who calls.Null are = omega arith
-answer_is_short fs mounts who (calls.Mnt path) are = mount_answers fs mounts (host_of who) (λ a. length (answer_text a) ≤ 10884) root (status 2) (status 13) (status 28) (names_on path)
+answer_is_short fs mounts who (calls.Mnt path) are =
+    mount_answers fs mounts (host_of who) (λ a. length (answer_text a) ≤ 10884) root (status 2) (status 13)
+    (status 28) (names_on path)
   where
     root : length (number_spelling 4 0 ++ (handle_of fs.fsid 1 ++ padding 32)) ≤ 10884
     root =

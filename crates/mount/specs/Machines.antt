@@ -3,10 +3,11 @@ use Rattle.std.specs.Prelude.{[], Some, codes}
 use Rattle.nfs_items.specs.Caller.{Caller}
 use Rattle.mount_types.specs.Calls.{HostName}
 
--- two machines
+-- a machine
 abbrev pub m : HostName
 m = codes "m"
 
+-- another machine
 abbrev pub n : HostName
 n = codes "n"
 

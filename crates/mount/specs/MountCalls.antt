@@ -1,14 +1,17 @@
--- What each call does to the mounts of a server (RFC 1094, appendix A.5): its answer, and the mounts after it. The files
--- stay, and permissions aren't looked at.
-use Rattle.std.specs.Prelude.{List, [], ◌∷◌, ◌++◌, length, nat_lt, Option, Some, None, Ok, Err, is_some, unwrap_or, if◌then◌else◌}
+-- What each call does to the mounts of a server (RFC 1094, appendix A.5): its answer, and the mounts after
+-- it. The files stay, and permissions aren't looked at.
+use Rattle.std.specs.Prelude.{List, [], ◌∷◌, ◌++◌, length, nat_lt, Option, Some, None, Ok, Err, is_some}
+use Rattle.std.specs.Prelude.{unwrap_or, if◌then◌else◌}
 use Rattle.nfs_items.specs.Handle.{handle_of}
 use Rattle.nfs_items.specs.Caller.{Caller}
 use Rattle.nfs_items.specs.Terms.{Name}
 use Rattle.nfs_items.specs.declared.stat.Stat.TheVariants.{NoEnt, Acces, NoSpc}
 use Rattle.fs_model.specs.Files.{Files, places}
 use Rattle.fs_model.specs.Paths.{path_at}
-use Rattle.mount_types.specs.Calls.{HostName, MountCall, Null, Mnt, Dump, Umnt, Umntall, Export, MountAnswer, Nothing, Mounted, Mounts as Listed, Exports}
-use Rattle.mount_types.specs.Mounts.{Mounts, root_path, max_mounts, root_of, is_listed, without_mount, without_host}
+use Rattle.mount_types.specs.Calls.{HostName, MountCall, Null, Mnt, Dump, Umnt, Umntall, Export, MountAnswer}
+use Rattle.mount_types.specs.Calls.{Nothing, Mounted, Mounts as Listed, Exports}
+use Rattle.mount_types.specs.Mounts.{Mounts, root_path, max_mounts, root_of, is_listed, without_mount}
+use Rattle.mount_types.specs.Mounts.{without_host}
 use Rattle.mount.specs.Paths.{names_on}
 
 -- the name of the caller's machine; AUTH_NONE gives none
@@ -19,15 +22,16 @@ host_of who = unwrap_or who.machine_name []
 abbrev pub root_handle : Files → MountAnswer
 root_handle fs = Mounted (Ok (handle_of fs.fsid 1))
 
--- A machine mounts the root. Where it has it mounted already the mounts stay; a mount beyond the most is ENOSPC.
+-- A machine mounts the root. Where it has it mounted already the mounts stay;
+-- a mount beyond the most is ENOSPC.
 abbrev pub mount_root : Files → Mounts → HostName → MountAnswer × Mounts
 mount_root fs mounts host =
     if is_listed mounts (root_of host) then (root_handle fs, mounts)
     else (if nat_lt (length mounts) max_mounts then (root_handle fs, mounts ++ root_of host ∷ [])
     else (Mounted (Err NoSpc), mounts))
 
--- A machine mounts what names lead to: the root, where there is none. What else is in the tree is EACCES, and what isn't
--- is ENOENT.
+-- A machine mounts what names lead to: the root, where there is none. What else is in the tree is EACCES, and
+-- what isn't is ENOENT.
 abbrev pub mount_at : Files → Mounts → HostName → Option (List Name) → MountAnswer × Mounts
 mount_at fs mounts host None = (Mounted (Err NoEnt), mounts)
 mount_at fs mounts host (Some []) = mount_root fs mounts host

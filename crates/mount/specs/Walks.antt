@@ -1,5 +1,7 @@
--- What the functions along the way say of a path: whether it names the root, and whether it leads to something.
-use Rattle.std.specs.Prelude.{Bool, true, false, nat_lt, List, [], ◌∷◌, length, Option, Some, None, is_some, option_map, if◌then◌else◌}
+-- What the functions along the way say of a path: whether it names the root,
+-- and whether it leads to something.
+use Rattle.std.specs.Prelude.{Bool, true, false, nat_lt, List, [], ◌∷◌, length, Option, Some, None, is_some}
+use Rattle.std.specs.Prelude.{option_map, if◌then◌else◌}
 use Rattle.nfs_items.specs.Terms.{Name, FileNumber}
 use Rattle.fs_model.specs.Listing.{place_number}
 use Rattle.fs_model.specs.Paths.{Places, path_at}
@@ -15,6 +17,7 @@ abbrev pub is_there : Places → Option (List Name) → Bool
 is_there at None = false
 is_there at (Some names) = is_some (path_at at names)
 
--- the number of what stands between slashes, in the directory of a number; nothing between two is the directory itself
+-- the number of what stands between slashes, in the directory of a number;
+-- nothing between two is the directory itself
 abbrev pub number_after : Places → FileNumber → Name → Option FileNumber
 number_after at dir name = if nat_lt 0 (length name) then option_map place_number (at dir name) else Some dir

@@ -32,7 +32,8 @@ fn mount_root(
     Ok(MountResult::Mounted(mounted))
 }
 
-/// A machine mounts a path: the root, else Acces where the path leads to something and NoEnt where it doesn't.
+/// A machine mounts a path: the root, else Acces where the path leads to something
+/// and NoEnt where it doesn't.
 pub fn mount(
     mounts: &mut MountTable,
     tree: &Tree,

@@ -13,26 +13,27 @@ ghost use Rattle.mount.specs.Paths.{names_on};
 ghost use Rattle.mount.specs.Walks.{is_root};
 ghost use Rattle.mount.specs.MountCalls.{host_of, mount_does};
 
-/// What is mounted stays at most 40 mounts, each of the root and no two of one machine, where the caller's machine has a
-/// name of at most 255 bytes.
+/// What is mounted stays at most 40 mounts, each of the root and no two of one machine, where the caller's
+/// machine has a name of at most 255 bytes.
 pub fn mounts_stay_mounts()
     ensures { (fs : Files) (mounts : Mounts) (who : Caller) (call : MountCall) →
         AreMounts mounts → length (host_of who) ≤ MNTNAMLEN → AreMounts (mount_does fs mounts who call).1 }
 {}
 
-/// An answer is one of its procedure, has a spelling, and takes at most 10,884 bytes: those of 40 mounts by machines with
-/// the longest names.
+/// An answer is one of its procedure, has a spelling, and takes at most 10,884 bytes: those of 40 mounts by
+/// machines with the longest names.
 pub fn answers_fit_a_reply()
     ensures own { (fs : Files) (mounts : Mounts) (who : Caller) (call : MountCall) →
         IsAnswerTo (procedure_in call) (mount_does fs mounts who call).0 }
     ensures spelled { (fs : Files) (mounts : Mounts) (who : Caller) (call : MountCall) → AreMounts mounts →
-        Fits (answer_item (mount_does fs mounts who call).0) (answer_value (mount_does fs mounts who call).0) }
+        Fits (answer_item (mount_does fs mounts who call).0)
+        (answer_value (mount_does fs mounts who call).0) }
     ensures short { (fs : Files) (mounts : Mounts) (who : Caller) (call : MountCall) → AreMounts mounts →
         length (answer_text (mount_does fs mounts who call).0) ≤ 10884 }
 {}
 
-/// A call changes the mounts of the caller's machine alone. A machine that got a file handle has the root mounted; one
-/// that unmounted the root, or all, hasn't.
+/// A call changes the mounts of the caller's machine alone. A machine that got a file handle has the root
+/// mounted; one that unmounted the root, or all, hasn't.
 pub fn mounts_are_the_callers()
     ensures others { (fs : Files) (mounts : Mounts) (who : Caller) (call : MountCall) (host : HostName) →
         host ≢ host_of who →

@@ -66,8 +66,8 @@ fn export(out: &mut Vec<u8>) -> Result<(), AllocError>
     write_mount_result(&MountResult::Exported(root_path()), out)
 }
 
-/// Does what a caller's call asks for, and appends the answer. A refusal is a status within the answer, and leaves the
-/// mounts as they were. Where memory is refused, the mounts and the bytes are as they were.
+/// Does what a caller's call asks for, and appends the answer. A refusal is a status within the answer, and
+/// leaves the mounts as they were. Where memory is refused, the mounts and the bytes are as they were.
 pub fn mount_call(
     mounts: &mut MountTable,
     tree: &Tree,

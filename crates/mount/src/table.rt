@@ -3,8 +3,8 @@
 use std::alloc::{AllocError, Global};
 use std::marker::Model;
 
-/// The machines that have the root mounted, in order of mounting: at most 40, each with a name of its own of at most 255
-/// bytes.
+/// The machines that have the root mounted, in order of mounting: at most 40, each with a name of its own of
+/// at most 255 bytes.
 #[derive(Drop)]
 pub struct MountTable {
     hosts: Vec<Vec<u8>>,
@@ -22,9 +22,11 @@ impl Model for MountTable {
 }
 
 impl MountTable {
-    ghost use Rattle.std.specs.Prelude.{◌≡◌, ◌≤◌, [], ◌∷◌, ◌++◌, ◌&&◌, not, map, length, nat_le, nat_lt, IfOk, OnOk, OnErr, if◌then◌else◌};
+    ghost use Rattle.std.specs.Prelude.{◌≡◌, ◌≤◌, [], ◌∷◌, ◌++◌, ◌&&◌, not, map, length, nat_le, nat_lt};
+    ghost use Rattle.std.specs.Prelude.{IfOk, OnOk, OnErr, if◌then◌else◌};
     ghost use Rattle.mount_types.specs.declared.limits.TheConstants.{MNTNAMLEN};
-    ghost use Rattle.mount_types.specs.Mounts.{max_mounts, root_of, is_listed, without_mount, without_host, AreMounts, may_list};
+    ghost use Rattle.mount_types.specs.Mounts.{max_mounts, root_of, is_listed, without_mount, without_host};
+    ghost use Rattle.mount_types.specs.Mounts.{AreMounts, may_list};
 
     /// Nothing is mounted.
     pub fn new(alloc: Global) -> MountTable
@@ -35,7 +37,8 @@ impl MountTable {
         }
     }
 
-    /// The mounts are within their limits, and differ, as each call keeps them: does nothing, and tells a caller's proof.
+    /// The mounts are within their limits, and differ, as each call keeps them: does nothing,
+    /// and tells a caller's proof.
     pub fn are_mounts(&self)
         ensures { AreMounts self.now }
     {
@@ -63,8 +66,8 @@ impl MountTable {
         self.hosts.len() >= MAX_MOUNTS
     }
 
-    /// Lists a machine last, and tells whether it did: not where it is listed, or 40 are. Where memory is refused nothing
-    /// changes.
+    /// Lists a machine last, and tells whether it did: not where it is listed, or 40 are. Where memory is
+    /// refused nothing changes.
     pub fn push(&mut self, alloc: Global, host: &[u8]) -> Result<bool, AllocError>
         requires { length host.now ≤ MNTNAMLEN }
         ensures pushed { IfOk result (λ pushed. pushed ≡ may_list self.old (root_of host.now)) }

@@ -11,8 +11,8 @@ ghost use Rattle.mount.specs.Paths.{names_on};
 ghost use Rattle.mount.specs.MountCalls.{mount_does};
 ghost use Rattle.mount.specs.Machines.{m, n, by};
 
-/// The names on paths: one or more slashes alone are the root, repeated and trailing slashes are dropped, and a path that
-/// doesn't begin with a slash has none.
+/// The names on paths: one or more slashes alone are the root, repeated and trailing slashes are dropped, and
+/// a path that doesn't begin with a slash has none.
 pub fn paths_have_names()
     ensures root { names_on (codes "/") ≡ Some [] }
     ensures slashes { names_on (codes "//") ≡ Some [] }
@@ -21,8 +21,9 @@ pub fn paths_have_names()
     ensures empty { names_on [] ≡ None }
 {}
 
-/// MNT of the root, first, once more, and where 40 others have it mounted; of a file that is there, with a slash behind it
-/// too; of one that isn't, of `.`, of a path through a file, and of one that doesn't begin with a slash.
+/// MNT of the root, first, once more, and where 40 others have it mounted; of a file that is there, with a
+/// slash behind it too; of one that isn't, of `.`, of a path through a file, and of one that doesn't begin
+/// with a slash.
 pub fn mounts_come_out()
     ensures first { mount_does (opening_files 1) [] (by m) (Mnt (codes "//"))
         ≡ (Mounted (Ok (handle_of 1 1)), root_of m ∷ []) }

@@ -1,6 +1,7 @@
 -- The spelling of an answer is its bytes, told by what the answer is.
 -- Serves: `write_mount_result`, `add_mounts`, `add_list`.
-use Rattle.std.proofs.Common.{◌≡◌, ℕ, List, [], ◌∷◌, ◌++◌, take, map, Ok, Err, refl, sym, ap, ◌∙◌, append_assoc}
+use Rattle.std.proofs.Common.{◌≡◌, ℕ, List, [], ◌∷◌, ◌++◌, take, map, Ok, Err, refl, sym, ap, ◌∙◌}
+use Rattle.std.proofs.Common.{append_assoc}
 use Rattle.std.specs.Prelude.{Result, IsErr}
 use Rattle.std.specs.List.{flat_map}
 use Rattle.std.proofs.lemmas.List.{append-nil}
@@ -46,7 +47,8 @@ answers_say (code.Exported directory) = refl
 module _ {A : Type 0} (host : A → List ℕ) (directory : List ℕ) where
   -- each mount behind TRUE, and then FALSE, is the list of mounts
   pub mounts_say : (hosts : List A)
-      → flat_map (λ h. spelling word 1 ++ spelling mount (host h, directory)) hosts ++ spelling word 0 ≡ spelling mountlist (map (λ h. (host h, directory)) hosts)
+      → flat_map (λ h. spelling word 1 ++ spelling mount (host h, directory)) hosts ++ spelling word 0
+      ≡ spelling mountlist (map (λ h. (host h, directory)) hosts)
   mounts_say [] = refl
   mounts_say (h ∷ hosts) =
       append_assoc (spelling word 1 ++ spelling mount (host h, directory)) _ _
@@ -56,15 +58,20 @@ module _ {A : Type 0} (host : A → List ℕ) (directory : List ℕ) where
   -- mounts that stand behind what was there, and FALSE written behind them, add the list
   pub list_ends : {E : Type 0} (hosts : List A) (old middle new : List ℕ) (r : Result (Unit {0}) E)
       → middle ≡ old ++ flat_map (λ h. spelling word 1 ++ spelling mount (host h, directory)) hosts
-      → Appends (spelling word 0) middle r new → Adds (spelling mountlist (map (λ h. (host h, directory)) hosts)) old r new
+      → Appends (spelling word 0) middle r new
+      → Adds (spelling mountlist (map (λ h. (host h, directory)) hosts)) old r new
   list_ends hosts old middle new (Ok x) mounts end =
-      end ∙ ap (λ (t : List ℕ). t ++ spelling word 0) mounts ∙ append_assoc old _ _ ∙ ap (λ (t : List ℕ). old ++ t) (mounts_say hosts)
-  list_ends hosts old middle new (Err e) mounts end = (flat_map (λ h. spelling word 1 ++ spelling mount (host h, directory)) hosts, end ∙ mounts)
+      end ∙ ap (λ (t : List ℕ). t ++ spelling word 0) mounts ∙ append_assoc old _ _
+      ∙ ap (λ (t : List ℕ). old ++ t) (mounts_say hosts)
+  list_ends hosts old middle new (Err e) mounts end =
+      (flat_map (λ h. spelling word 1 ++ spelling mount (host h, directory)) hosts, end ∙ mounts)
 
   -- where memory is refused behind some mounts, a part stands
-  pub mounts_break : {E : Type 0} (hosts : List A) (n : ℕ) (old middle new : List ℕ) (r : Result (Unit {0}) E) → IsErr r
+  pub mounts_break : {E : Type 0} (hosts : List A) (n : ℕ) (old middle new : List ℕ) (r : Result (Unit {0}) E)
+      → IsErr r
       → middle ≡ old ++ flat_map (λ h. spelling word 1 ++ spelling mount (host h, directory)) (take n hosts)
-      → Begins middle new → Adds (flat_map (λ h. spelling word 1 ++ spelling mount (host h, directory)) hosts) old r new
+      → Begins middle new → Adds (flat_map (λ h. spelling word 1 ++ spelling mount (host h, directory)) hosts)
+      old r new
   mounts_break hosts n old middle new (Ok x) h mounts more = absurd cc
   mounts_break hosts n old middle new (Err e) h mounts more = (
     flat_map (λ h. spelling word 1 ++ spelling mount (host h, directory)) (take n hosts) ++ more.0,

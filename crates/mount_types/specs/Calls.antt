@@ -15,7 +15,8 @@ DirPath = List ℕ
 abbrev pub Mount : Type 0
 Mount = HostName × DirPath
 
--- a directory, and the groups of machines that may mount it; no group stands for every machine (A.5.6, exportlist)
+-- a directory, and the groups of machines that may mount it;
+-- no group stands for every machine (A.5.6, exportlist)
 abbrev pub Exported : Type 0
 Exported = DirPath × List HostName
 

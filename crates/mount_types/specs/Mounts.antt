@@ -1,5 +1,5 @@
--- What is mounted, in order of mounting: machines, and the directories that they have mounted (RFC 1094, appendix A.5.3,
--- mountlist).
+-- What is mounted, in order of mounting: machines, and the directories that they have mounted (RFC 1094,
+-- appendix A.5.3, mountlist).
 use Rattle.std.specs.Prelude.{◌≡◌, ℕ, ◌≤◌, Bool, ◌&&◌, not, nat_lt, List, length, codes}
 use Rattle.std.specs.List.{AllByRecursion, IsDistinct, filter, list_any}
 use Rattle.std.specs.Str.{bytes_eq}
@@ -26,6 +26,7 @@ root_of host = (host, root_path)
 abbrev pub same_mount : Mount → Mount → Bool
 same_mount a b = bytes_eq a.0 b.0 && bytes_eq a.1 b.1
 
+-- whether a mount is among those listed
 abbrev pub is_listed : Mounts → Mount → Bool
 is_listed mounts m = list_any (same_mount m) mounts
 

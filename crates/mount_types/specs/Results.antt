@@ -45,5 +45,6 @@ abbrev pub answer_bytes : MountResult → List ℕ
 answer_bytes code.Nothing = []
 answer_bytes (code.Mounted (Ok handle)) = spelling word 0 ++ spelling fhandle handle.0
 answer_bytes (code.Mounted (Err e)) = spelling word (error_number e)
-answer_bytes (code.Mounts hosts directory) = spelling mountlist (map (λ h. (h.items, directory.now)) hosts.now)
+answer_bytes (code.Mounts hosts directory) =
+    spelling mountlist (map (λ h. (h.items, directory.now)) hosts.now)
 answer_bytes (code.Exported directory) = spelling exportlist ((directory.now, []) ∷ [])

@@ -19,6 +19,7 @@ pub record Procedure : Type 0 where
   pub says : Value arguments → MountCall
   pub results : Item
 
+-- what a procedure takes and gives (RFC 1094, appendix A.5)
 abbrev pub procedure_of : MountProcedure → Procedure
 procedure_of procedures.Null = record { arguments = empty; says = λ v. calls.Null; results = empty }
 procedure_of procedures.Mnt = record { arguments = dirpath; says = calls.Mnt; results = fhstatus }
@@ -30,7 +31,8 @@ procedure_of procedures.Export = record { arguments = empty; says = λ v. calls.
 -- the procedures by their numbers, from 0 to 5
 abbrev pub numbered : List MountProcedure
 numbered =
-    procedures.Null ∷ procedures.Mnt ∷ procedures.Dump ∷ procedures.Umnt ∷ procedures.Umntall ∷ procedures.Export
+    procedures.Null ∷ procedures.Mnt ∷ procedures.Dump ∷ procedures.Umnt ∷ procedures.Umntall
+    ∷ procedures.Export
     ∷ []
 
 -- the procedure of a number
@@ -49,7 +51,8 @@ call_at procedure bytes = said (procedure_of procedure).arguments (procedure_of 
 abbrev pub SaysCall : MountProcedure → List ℕ → MountCall → List ℕ → Type 0
 SaysCall procedure bytes call rest =
     (v : Value (procedure_of procedure).arguments) × Fits (procedure_of procedure).arguments v
-    × (call ≡ (procedure_of procedure).says v) × (bytes ≡ spelling (procedure_of procedure).arguments v ++ rest)
+    × (call ≡ (procedure_of procedure).says v)
+    × (bytes ≡ spelling (procedure_of procedure).arguments v ++ rest)
 
 -- ---- results
 
@@ -60,6 +63,7 @@ answer_item (calls.Mounted r) = fhstatus
 answer_item (calls.Mounts mounts) = mountlist
 answer_item (calls.Exports exports) = exportlist
 
+-- what is said of an answer
 abbrev pub answer_value : (a : MountAnswer) → Value (answer_item a)
 answer_value calls.Nothing = tt
 answer_value (calls.Mounted r) = outcome_value fhandle (λ handle. handle) r

@@ -7,18 +7,20 @@ ghost use Rattle.xdr.specs.Reading.{read_at};
 ghost use Rattle.mount_types.specs.declared.arguments.MountProcedure.{MountProcedure};
 ghost use Rattle.mount_types.specs.Calls.{MountCall, MountAnswer};
 ghost use Rattle.mount_types.specs.Bounds.{HasBounds};
-ghost use Rattle.mount_types.specs.Texts.{procedure_of, procedure_at, procedure_in, call_at, SaysCall, answer_item, answer_value, answer_text, IsAnswerTo};
+ghost use Rattle.mount_types.specs.Texts.{procedure_of, procedure_at, procedure_in, call_at, SaysCall};
+ghost use Rattle.mount_types.specs.Texts.{answer_item, answer_value, answer_text, IsAnswerTo};
 
 use crate::limits::{MNTNAMLEN, MNTPATHLEN};
 
-/// A procedure's arguments are read exactly where their spelling stands at the front, whatever stands behind it;
-/// the fault is that of reading their item; the numbers of procedures are 0 to 5; and bytes say one call at most,
-/// which is of that procedure.
+/// A procedure's arguments are read exactly where their spelling stands at the front, whatever stands behind
+/// it; the fault is that of reading their item; the numbers of procedures are 0 to 5; and bytes say one call
+/// at most, which is of that procedure.
 pub fn arguments_are_read_as_spelled()
     ensures exact { (procedure : MountProcedure) (bytes rest : List ℕ) (call : MountCall) → IsBytes bytes →
         ((call_at procedure bytes ≡ Ok (call, rest)) ↔ SaysCall procedure bytes call rest) }
     ensures faults { (procedure : MountProcedure) (bytes : List ℕ) (fault : XdrFault) →
-        ((call_at procedure bytes ≡ Err fault) ↔ (read_at (procedure_of procedure).arguments bytes ≡ Err fault)) }
+        ((call_at procedure bytes ≡ Err fault)
+        ↔ (read_at (procedure_of procedure).arguments bytes ≡ Err fault)) }
     ensures none { (n : ℕ) → ((procedure_at n ≡ None) ↔ (5 < n)) }
     ensures one_call { (procedure : MountProcedure) (bytes x y : List ℕ) (a b : MountCall) →
         SaysCall procedure bytes a x → SaysCall procedure bytes b y → (a ≡ b) × (x ≡ y) }
@@ -39,8 +41,8 @@ pub fn answers_are_spelled()
         ↔ Fits (answer_item a) (answer_value a)) }
 {}
 
-/// An answer of a procedure is of the procedure's results, and no answer of a procedure begins another, so each has one
-/// meaning.
+/// An answer of a procedure is of the procedure's results, and no answer of a procedure begins another, so
+/// each has one meaning.
 pub fn answers_have_one_meaning()
     ensures item { (procedure : MountProcedure) (a : MountAnswer) → IsAnswerTo procedure a →
         answer_item a ≡ (procedure_of procedure).results }

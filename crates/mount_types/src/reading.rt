@@ -11,8 +11,8 @@ use crate::arguments::{MountArgs, MountProcedure};
 use crate::limits::MNTPATHLEN;
 use xdr::{Reader, XdrFault};
 
-/// Reads a procedure's arguments from the front of bytes, and ignores what follows them (RFC 1094, appendix A.5). The
-/// fault is the first from left to right.
+/// Reads a procedure's arguments from the front of bytes, and ignores what follows them (RFC 1094, appendix
+/// A.5). The fault is the first from left to right.
 pub fn read_mount_args(procedure: MountProcedure, bytes: &[u8]) -> Result<MountArgs<'_>, XdrFault>
     ensures found { IfOk result (λ a. (rest : List ℕ) × SaysCall procedure bytes.now (call_of a) rest) }
     ensures only { (call : MountCall) (rest : List ℕ) → SaysCall procedure bytes.now call rest →

@@ -10,12 +10,13 @@ ghost use Rattle.mount_types.specs.Texts.{call_at, answer_text};
 
 /// MNT's path `/`, and the same with padding that isn't zero.
 pub fn paths_are_read()
-    ensures root { call_at procedures.Mnt (0 ∷ 0 ∷ 0 ∷ 1 ∷ 0x2f ∷ 0 ∷ 0 ∷ 0 ∷ []) ≡ Ok (calls.Mnt (codes "/"), []) }
+    ensures root { call_at procedures.Mnt (0 ∷ 0 ∷ 0 ∷ 1 ∷ 0x2f ∷ 0 ∷ 0 ∷ 0 ∷ [])
+        ≡ Ok (calls.Mnt (codes "/"), []) }
     ensures padding { call_at procedures.Mnt (0 ∷ 0 ∷ 0 ∷ 1 ∷ 0x2f ∷ 0 ∷ 1 ∷ 0 ∷ []) ≡ Err faults.Padding }
 {}
 
-/// The root's file handle on node 1; refusals; what DUMP gives where the machine `m` has `/` mounted, and where nothing
-/// is; and the one export.
+/// The root's file handle on node 1; refusals; what DUMP gives where the machine `m` has `/` mounted, and
+/// where nothing is; and the one export.
 pub fn answers_come_out()
     ensures mounted { answer_text (calls.Mounted (Ok (handle_of 1 1)))
         ≡ 0 ∷ 0 ∷ 0 ∷ 0 ∷ 0 ∷ 0 ∷ 0 ∷ 1 ∷ 0 ∷ 0 ∷ 0 ∷ 1 ∷ 0 ∷ 0 ∷ 0 ∷ 0 ∷ 0 ∷ 0 ∷ 0 ∷ 0
@@ -24,7 +25,8 @@ pub fn answers_come_out()
     ensures refused { answer_text (calls.Mounted (Err stats.Acces)) ≡ 0 ∷ 0 ∷ 0 ∷ 13 ∷ [] }
     ensures full { answer_text (calls.Mounted (Err stats.NoSpc)) ≡ 0 ∷ 0 ∷ 0 ∷ 28 ∷ [] }
     ensures dump { answer_text (calls.Mounts ((codes "m", codes "/") ∷ []))
-        ≡ 0 ∷ 0 ∷ 0 ∷ 1 ∷ 0 ∷ 0 ∷ 0 ∷ 1 ∷ 0x6d ∷ 0 ∷ 0 ∷ 0 ∷ 0 ∷ 0 ∷ 0 ∷ 1 ∷ 0x2f ∷ 0 ∷ 0 ∷ 0 ∷ 0 ∷ 0 ∷ 0 ∷ 0 ∷ [] }
+        ≡ 0 ∷ 0 ∷ 0 ∷ 1 ∷ 0 ∷ 0 ∷ 0 ∷ 1 ∷ 0x6d ∷ 0 ∷ 0 ∷ 0 ∷ 0 ∷ 0 ∷ 0 ∷ 1
+        ∷ 0x2f ∷ 0 ∷ 0 ∷ 0 ∷ 0 ∷ 0 ∷ 0 ∷ 0 ∷ [] }
     ensures none { answer_text (calls.Mounts []) ≡ 0 ∷ 0 ∷ 0 ∷ 0 ∷ [] }
     ensures export { answer_text (calls.Exports ((codes "/", []) ∷ []))
         ≡ 0 ∷ 0 ∷ 0 ∷ 1 ∷ 0 ∷ 0 ∷ 0 ∷ 1 ∷ 0x2f ∷ 0 ∷ 0 ∷ 0 ∷ 0 ∷ 0 ∷ 0 ∷ 0 ∷ 0 ∷ 0 ∷ 0 ∷ 0 ∷ [] }

@@ -1,6 +1,7 @@
 //! Writes the results of procedures.
 
-ghost use Rattle.std.specs.Prelude.{◌≡◌, ◌<◌, ◌≤◌, ◌-◌, ◌^◌, ◌++◌, ◌∷◌, [], All, IsOk, length, map, vec_len, vec_capacity};
+ghost use Rattle.std.specs.Prelude.{◌≡◌, ◌<◌, ◌≤◌, ◌-◌, ◌^◌, ◌++◌, ◌∷◌, [], All, IsOk, length, map, vec_len};
+ghost use Rattle.std.specs.Prelude.{vec_capacity};
 ghost use Rattle.std.specs.List.{flat_map};
 ghost use Rattle.xdr.specs.Item.{word, spelling};
 ghost use Rattle.xdr.specs.Writing.{Adds, Appends, Takes};
@@ -23,8 +24,9 @@ const END: u32 = 0;
 
 const MORE: u32 = 1;
 
-/// Appends what a procedure answers (RFC 1094, appendix A.5). Where memory is refused, the bytes stay as they were; none
-/// is for an answer of a call that changes what is mounted where `out` has room for `MNT_ANSWER` bytes more.
+/// Appends what a procedure answers (RFC 1094, appendix A.5). Where memory is refused, the bytes stay as they
+/// were; none is for an answer of a call that changes what is mounted where `out` has room for `MNT_ANSWER`
+/// bytes more.
 #[tactic(auto, using(crate::proofs::AnswersSaid::answers_say))]
 pub fn write_mount_result(answer: &MountResult, out: &mut Vec<u8>) -> Result<(), AllocError>
     requires { HasLengths answer.now }

@@ -6,6 +6,6 @@ mod found;
 mod removing;
 mod renaming;
 
-pub use inode_table::InodeTable;
+pub use inode_table::{InodeTable, MAX_BLOCKS, MAX_ENTRIES, MAX_FILES};
 pub use removing::{check_remove, check_remove_dir};
 pub use renaming::{Move, check_rename};

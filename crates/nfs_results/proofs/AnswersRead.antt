@@ -1,6 +1,7 @@
 -- An answer's spelling, read back, is the answer: so no answer of a procedure begins another.
 -- Serves: the law `answers_have_one_meaning`.
-use Rattle.std.proofs.Common.{◌≡◌, ℕ, zero, suc, ◌<◌, ◌^◌, cond, eqb, List, [], ◌∷◌, ◌++◌, map, Result, Ok, Err, refl, sym, ap, ◌∙◌, append-nil, arith}
+use Rattle.std.proofs.Common.{◌≡◌, ℕ, zero, suc, ◌<◌, ◌^◌, cond, eqb, List, [], ◌∷◌, ◌++◌, map, Result, Ok}
+use Rattle.std.proofs.Common.{Err, refl, sym, ap, ◌∙◌, append-nil, arith}
 use Rattle.std.specs.List.{AllByRecursion}
 use Rattle.byteorder.specs.Endian.{big_number, big_bytes}
 use Rattle.byteorder.specs.Numbers.{big_number-reads_back}
@@ -22,7 +23,8 @@ use Rattle.nfs_types.specs.declared.results.FsStats.{FsStats}
 use Rattle.nfs_types.specs.Items.{path, nfsdata, entry, fs_stats}
 use Rattle.nfs_types.specs.Calls as calls
 use Rattle.nfs_types.specs.Calls.{Answer, PageEntry, Page}
-use Rattle.nfs_types.specs.Texts.{entry_value, fs_stats_value, answer_item, answer_text, procedure_of, IsSpelled, IsAnswerTo}
+use Rattle.nfs_types.specs.Texts.{entry_value, fs_stats_value, answer_item, answer_text, procedure_of}
+use Rattle.nfs_types.specs.Texts.{IsSpelled, IsAnswerTo}
 
 -- ---- attributes and stats
 
@@ -40,7 +42,25 @@ abbrev time_at : Value timeval → Timeval
 time_at v = record { seconds = v.0; microseconds = v.1 }
 
 abbrev fattr_at : Value fattr → Fattr
-fattr_at (t, (mode, (nlink, (uid, (gid, (size, (blocksize, (rdev, (blocks, (fsid, (fileid, (atime, (mtime, ctime))))))))))))) = record {
+fattr_at (
+  t,
+  (
+    mode,
+    (
+      nlink,
+      (
+        uid,
+        (
+          gid,
+          (
+            size,
+            (blocksize, (rdev, (blocks, (fsid, (fileid, (atime, (mtime, ctime))))))),
+          ),
+        ),
+      ),
+    ),
+  ),
+) = record {
   file_type = file_type_at t.0;
   mode = mode;
   nlink = nlink;

@@ -5,7 +5,8 @@ ghost use Rattle.xdr.specs.Item.{IsBytes, Fits};
 ghost use Rattle.xdr.specs.Reading.{read_at};
 ghost use Rattle.nfs_types.specs.declared.arguments.NfsProcedure.{NfsProcedure};
 ghost use Rattle.nfs_types.specs.Calls.{Answer};
-ghost use Rattle.nfs_types.specs.Texts.{procedure_of, answer_item, answer_value, answer_text, IsSpelled, IsAnswerTo};
+ghost use Rattle.nfs_types.specs.Texts.{procedure_of, answer_item, answer_value, answer_text, IsSpelled};
+ghost use Rattle.nfs_types.specs.Texts.{IsAnswerTo};
 
 /// An answer's text can be read back, and says the answer, exactly where the answer's value fits.
 pub fn answers_are_spelled()

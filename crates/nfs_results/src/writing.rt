@@ -1,6 +1,7 @@
 //! Writes the results of procedures.
 
-ghost use Rattle.std.specs.Prelude.{◌≡◌, ◌<◌, ◌≤◌, ◌-◌, ◌^◌, ◌++◌, All, IsOk, length, map, vec_len, vec_capacity};
+ghost use Rattle.std.specs.Prelude.{◌≡◌, ◌<◌, ◌≤◌, ◌-◌, ◌^◌, ◌++◌, All, IsOk, length, map, vec_len};
+ghost use Rattle.std.specs.Prelude.{vec_capacity};
 ghost use Rattle.std.specs.List.{flat_map};
 ghost use Rattle.xdr.specs.Item.{word, flag, linked, spelling};
 ghost use Rattle.xdr.specs.Writing.{Adds, Appends, Takes};
@@ -8,7 +9,8 @@ ghost use Rattle.nfs_items.specs.Handle.{fhandle};
 ghost use Rattle.nfs_items.specs.Attributes.{fattr, fattr_value};
 ghost use Rattle.nfs_types.specs.Items.{path, nfsdata, entry, fs_stats};
 ghost use Rattle.nfs_types.specs.Texts.{entry_value, fs_stats_value, answer_text};
-ghost use Rattle.nfs_types.specs.Results.{answer_of, entry_of, HasLengths, IsShort, stat_number, answer_bytes};
+ghost use Rattle.nfs_types.specs.Results.{answer_of, entry_of, HasLengths, IsShort, stat_number};
+ghost use Rattle.nfs_types.specs.Results.{answer_bytes};
 
 use nfs_items::{Fattr, Stat};
 use nfs_types::{DirOpOk, FsStats, NfsResult, Page, PageEntry, ReadOk, SHORT_ANSWER};

@@ -1,7 +1,8 @@
 //! What holds of the reply that is owed.
 
 ghost use Rattle.std.specs.Prelude.{◌≡◌, ◌<◌, ◌≤◌, ◌^◌, List, ℕ, Option, IfSome, length};
-ghost use Rattle.service.specs.declared.checks.TheConstants.{AUTH_NONE, AUTH_SYS, NFS_PROGRAM, NFS_VERSION, MOUNT_PROGRAM, MOUNT_VERSION};
+ghost use Rattle.service.specs.declared.checks.TheConstants.{AUTH_NONE, AUTH_SYS, NFS_PROGRAM, NFS_VERSION};
+ghost use Rattle.service.specs.declared.checks.TheConstants.{MOUNT_PROGRAM, MOUNT_VERSION};
 ghost use Rattle.service.specs.declared.service.TheConstants.{RPC_VERSION};
 ghost use Rattle.xdr.specs.Item.{IsBytes};
 ghost use Rattle.nfs_items.specs.Timeval.{Timeval};
@@ -29,8 +30,8 @@ pub fn reply_owed_is_the_answer()
         Answers w time bytes (world_after w time bytes) (reply_owed w time bytes) }
 {}
 
-/// A server's world stays one, whatever bytes come at whatever time, and the reply that it owes to them has at most
-/// `MAX_RECORD` bytes.
+/// A server's world stays one, whatever bytes come at whatever time, and the reply that it owes to them has
+/// at most `MAX_RECORD` bytes.
 pub fn worlds_stay_worlds()
     ensures stays { (node : ℕ) (w : World) (time : Timeval) (bytes : List ℕ) → IsWorld node w →
         IsTime time → time.seconds < 2 ^ 32 → IsBytes bytes → IsWorld node (world_after w time bytes) }
@@ -46,8 +47,9 @@ pub fn worlds_stay_worlds()
     mounts_stay_mounts();
 }
 
-/// The numbers that the definitions cite are the standards': AUTH_NONE and AUTH_SYS (RFC 5531, section 8.2), version 2 of
-/// RPC, program 100003 of version 2 (NFS), and program 100005 of version 1 (MOUNT; RFC 1094, appendix A).
+/// The numbers that the definitions cite are the standards': AUTH_NONE and AUTH_SYS (RFC 5531, section 8.2),
+/// version 2 of RPC, program 100003 of version 2 (NFS), and program 100005 of version 1 (MOUNT;
+/// RFC 1094, appendix A).
 pub fn numbers_are_the_standards()
     ensures none { AUTH_NONE ≡ 0 }
     ensures sys { AUTH_SYS ≡ 1 }

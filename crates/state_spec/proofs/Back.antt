@@ -9,36 +9,55 @@ use Rattle.fs_model.specs.Files.{Body, Regular, Symlink, Directory, File}
 use Rattle.file_texts.specs.FileItems.{file_item, file_value}
 use Rattle.file_texts.specs.FileValues.{time_from, numbered_from}
 use Rattle.file_texts.proofs.Files.{file_back}
-use Rattle.state_spec.specs.State.{received_cmp, SentMessage, Stage, Idle, Heard, Owes, Machine, Server, Client, State, IsMachine, IsState}
+use Rattle.state_spec.specs.State.{received_cmp, SentMessage, Stage, Idle, Heard, Owes, Machine, Server}
+use Rattle.state_spec.specs.State.{Client, State, IsMachine, IsState}
 use Rattle.state_spec.specs.StateItems.{received_value, sent_value, stage_value, machine_value}
 use Rattle.state_spec.specs.StateText.{said}
-use Rattle.state_spec.specs.StateValues.{map_from, set_from, received_from, sent_from, stage_of, stage_from, world_from, machine_from, state_from}
+use Rattle.state_spec.specs.StateValues.{map_from, set_from, received_from, sent_from, stage_of, stage_from}
+use Rattle.state_spec.specs.StateValues.{world_from, machine_from, state_from}
 
 -- what a function takes back in each item it takes back in all
-pub map_back : {A B : Type 0} (f : A → B) (g : B → A) → ((a : A) → g (f a) ≡ a) → (xs : List A) → map g (map f xs) ≡ xs
+pub map_back : {A B : Type 0} (f : A → B) (g : B → A) → ((a : A) → g (f a) ≡ a) → (xs : List A)
+    → map g (map f xs) ≡ xs
 map_back f g back [] = refl
 map_back f g back (x ∷ xs) = λ i. back x i ∷ map_back f g back xs i
 
 -- ---- maps and sets
 
-pub entries_back : {K X : Type 0} (R : K → K → Ordering) (m : finite.FinMap R X) → map_from R (finite.entries m) ≡ m
+-- a map is the one that its entries give
+pub entries_back : {K X : Type 0} (R : K → K → Ordering) (m : finite.FinMap R X)
+    → map_from R (finite.entries m) ≡ m
 unfolding map_from
-entries_back R m = finite.same_entries_map (finite.from_sorted (finite.entries m)) m (finite.entries-from_sorted R (finite.entries m) (finite.entries_sorted m))
+entries_back R m =
+    finite.same_entries_map (finite.from_sorted (finite.entries m)) m
+    (finite.entries-from_sorted R (finite.entries m) (finite.entries_sorted m))
 
+-- a set is the one that its keys give
 pub keys_back : {K : Type 0} (R : K → K → Ordering) (m : FinSet R) → set_from R (finite.keys m) ≡ m
 unfolding set_from
-keys_back {K} R m = ap (map_from R) (map_back {A = K × Unit {0}} (λ e. e.0) (λ k. (k, tt)) (λ e. refl) (finite.entries m)) ∙ entries_back R m
+keys_back {K} R m =
+    ap (map_from R) (map_back {A = K × Unit {0}} (λ e. e.0) (λ k. (k, tt)) (λ e. refl) (finite.entries m))
+    ∙ entries_back R m
 
-received_back : (r : FinSet received_cmp) → set_from received_cmp (map received_from (map received_value (finite.keys r))) ≡ r
+received_back : (r : FinSet received_cmp)
+    → set_from received_cmp (map received_from (map received_value (finite.keys r))) ≡ r
 unfolding received_from
-received_back r = ap (set_from received_cmp) (map_back received_value received_from (λ _. refl) (finite.keys r)) ∙ keys_back received_cmp r
+received_back r =
+    ap (set_from received_cmp) (map_back received_value received_from (λ _. refl) (finite.keys r))
+    ∙ keys_back received_cmp r
 
-sends_back : (m : finite.FinMap nat_cmp SentMessage) → map_from nat_cmp (map sent_from (map sent_value (finite.entries m))) ≡ m
+sends_back : (m : finite.FinMap nat_cmp SentMessage)
+    → map_from nat_cmp (map sent_from (map sent_value (finite.entries m))) ≡ m
 unfolding sent_from
-sends_back m = ap (map_from nat_cmp) (map_back sent_value sent_from (λ _. refl) (finite.entries m)) ∙ entries_back nat_cmp m
+sends_back m =
+    ap (map_from nat_cmp) (map_back sent_value sent_from (λ _. refl) (finite.entries m))
+    ∙ entries_back nat_cmp m
 
-files_back : (m : finite.FinMap nat_cmp File) → map_from nat_cmp (map numbered_from (map file_value (finite.entries m))) ≡ m
-files_back m = ap (map_from nat_cmp) (map_back file_value numbered_from file_back (finite.entries m)) ∙ entries_back nat_cmp m
+files_back : (m : finite.FinMap nat_cmp File)
+    → map_from nat_cmp (map numbered_from (map file_value (finite.entries m))) ≡ m
+files_back m =
+    ap (map_from nat_cmp) (map_back file_value numbered_from file_back (finite.entries m))
+    ∙ entries_back nat_cmp m
 
 -- ---- states
 
@@ -48,15 +67,32 @@ stage_back Idle = refl
 stage_back (Heard from body) = refl
 stage_back (Owes to body) = refl
 
-by_machine : (s : State) (m : Machine) → IsMachine s.node m → state_from (1, (s.node, machine_value file_item file_value s m)) ≡ record { node = s.node; received = s.received; sends = s.sends; machine = m }
+by_machine : (s : State) (m : Machine) → IsMachine s.node m
+    → state_from (1, (s.node, machine_value file_item file_value s m))
+    ≡ record { node = s.node; received = s.received; sends = s.sends; machine = m }
 unfolding state_from machine_from world_from time_from
 by_machine s (Server w stage) h = λ i. record {
   node = s.node;
   received = received_back s.received i;
   sends = sends_back s.sends i;
-  machine = Server (record { files = record { fsid = sym h.fsid i; next = w.files.next; files = files_back w.files.files i }; clock = w.clock; mounts = w.mounts }) (stage_back stage i);
+  machine =
+      Server (record {
+        files = record {
+          fsid = sym h.fsid i;
+          next = w.files.next;
+          files = files_back w.files.files i;
+        };
+        clock = w.clock;
+        mounts = w.mounts;
+      }) (stage_back stage i);
 }
-by_machine s (Client clock) h = λ i. record { node = s.node; received = received_back s.received i; sends = sends_back s.sends i; machine = Client clock }
+by_machine s (Client clock) h =
+    λ i. record {
+      node = s.node;
+      received = received_back s.received i;
+      sends = sends_back s.sends i;
+      machine = Client clock;
+    }
 
 -- a state comes back from what is said of it
 pub back : (s : State) → IsState s → state_from (said s) ≡ s

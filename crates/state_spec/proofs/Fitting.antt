@@ -1,6 +1,7 @@
 -- What it says of a server's world that it fits in a text.
 -- Serves: rules_tell_states; state_text (checkpoint).
-use Rattle.std.proofs.Common.{◌≡◌, ℕ, ◌<◌, ◌≤◌, ◌^◌, Bool, true, false, cond, List, [], ◌∷◌, map, length, Some, refl, sym, subst, arith}
+use Rattle.std.proofs.Common.{◌≡◌, ℕ, ◌<◌, ◌≤◌, ◌^◌, Bool, true, false, cond, List, [], ◌∷◌, map, length}
+use Rattle.std.proofs.Common.{Some, refl, sym, subst, arith}
 use Rattle.std.specs.Prelude.{nat_eq}
 use Rattle.std.specs.List.{AllByRecursion}
 use Rattle.std.specs.Map.{lookup}
@@ -19,27 +20,32 @@ use Rattle.worlds.specs.World.{World}
 use Rattle.mount_types.specs.declared.limits.TheConstants.{MNTNAMLEN}
 use Rattle.mount_types.specs.Mounts.{max_mounts}
 use Rattle.nfs_spec_sizes.specs.Bounds.{HasWords}
-use Rattle.file_texts.specs.FileItems.{entry_item, file_item, file_value, is_file_kind, kind_item, kind_value, attributes_item, attributes_value}
+use Rattle.file_texts.specs.FileItems.{entry_item, file_item, file_value, is_file_kind, kind_item, kind_value}
+use Rattle.file_texts.specs.FileItems.{attributes_item, attributes_value}
 use Rattle.state_spec.specs.State.{Stage}
 use Rattle.state_spec.specs.StateItems.{mount_item, rest_item, world_value}
 
 -- ---- lists
 
 -- what is found in a list has what each item has
-found_fits : (n : ℕ) (f : File) (es : List (ℕ × File)) → AllByRecursion (Fits file_item) (map file_value es) → lookup (eq_by_cmp nat_cmp n) es ≡ Some f → (m : ℕ) × Fits file_item (file_value (m, f))
+found_fits : (n : ℕ) (f : File) (es : List (ℕ × File)) → AllByRecursion (Fits file_item) (map file_value es)
+    → lookup (eq_by_cmp nat_cmp n) es ≡ Some f → (m : ℕ) × Fits file_item (file_value (m, f))
 found_fits n f [] all h = absurd (none_some h)
 found_fits n f (e ∷ es) all h =
-    elim (eq_by_cmp nat_cmp n e.0) as (λ b. cond b (Some e.1) (lookup (eq_by_cmp nat_cmp n) es) ≡ Some f → (m : ℕ) × Fits file_item (file_value (m, f))) [
+    elim (eq_by_cmp nat_cmp n e.0) as (λ b. cond b (Some e.1) (lookup (eq_by_cmp nat_cmp n) es) ≡ Some f
+    → (m : ℕ) × Fits file_item (file_value (m, f))) [
       | true ↦ λ is. (e.0, subst (λ f. Fits file_item (file_value (e.0, f))) (some_same is) all.0)
       | false ↦ λ is. found_fits n f es all.1 is
     ] h
 
 -- a name that is found in a list whose names fit
-found_name : (name : List ℕ) (p : ℕ × ℕ) (es : List DirEntry) → AllByRecursion (Fits entry_item) es → lookup (pointwise nat_eq name) es ≡ Some p → length name ≤ max_name
+found_name : (name : List ℕ) (p : ℕ × ℕ) (es : List DirEntry) → AllByRecursion (Fits entry_item) es
+    → lookup (pointwise nat_eq name) es ≡ Some p → length name ≤ max_name
 found_name name p [] all h = absurd (none_some h)
 found_name name p (e ∷ es) all h = by (λ is. found_name name p es all.1 is) (pointwise nat_eq name e.0) refl h
   where
-    by : (lookup (pointwise nat_eq name) es ≡ Some p → length name ≤ max_name) → (b : Bool) → pointwise nat_eq name e.0 ≡ b
+    by : (lookup (pointwise nat_eq name) es ≡ Some p → length name ≤ max_name) → (b : Bool)
+        → pointwise nat_eq name e.0 ≡ b
         → cond b (Some e.1) (lookup (pointwise nat_eq name) es) ≡ Some p → length name ≤ max_name
     by next true same is = subst (λ x. length x ≤ max_name) (sym (same_text name e.0 (sym same))) all.0.0.1
     by next false same is = next is
@@ -61,7 +67,8 @@ body_fits f (Regular bytes) h = h.2.1.1
 body_fits f (Symlink target) h = h.2.1.1
 body_fits f (Directory l) h = (h.2.1.0, h.2.1.1.2)
 
-attributes_fit : (f : File) (b : Body) → Fits (choice is_file_kind kind_item) (kind_value f b) → Fits attributes_item (attributes_value f)
+attributes_fit : (f : File) (b : Body) → Fits (choice is_file_kind kind_item) (kind_value f b)
+    → Fits attributes_item (attributes_value f)
 attributes_fit f (Regular bytes) h = h.2.0
 attributes_fit f (Symlink target) h = h.2.0
 attributes_fit f (Directory l) h = h.2.0
@@ -71,18 +78,21 @@ low_cookie (Regular bytes) h = omega arith
 low_cookie (Symlink target) h = omega arith
 low_cookie (Directory l) h = omega (arith, h.0)
 
-short_host : (ms : List (List ℕ × List ℕ)) → AllByRecursion (Fits mount_item) ms → AllByRecursion (λ (m : List ℕ × List ℕ). length m.0 ≤ MNTNAMLEN) ms
+short_host : (ms : List (List ℕ × List ℕ)) → AllByRecursion (Fits mount_item) ms
+    → AllByRecursion (λ (m : List ℕ × List ℕ). length m.0 ≤ MNTNAMLEN) ms
 short_host [] all = tt
 short_host (m ∷ ms) all = (all.0.0.1, short_host ms all.1)
 
-short_name : (b : Body) (name : List ℕ) (p : ℕ × ℕ) → BodyFits b → entry_at (listing_in b) name ≡ Some p → length name ≤ max_name
+short_name : (b : Body) (name : List ℕ) (p : ℕ × ℕ) → BodyFits b → entry_at (listing_in b) name ≡ Some p
+    → length name ≤ max_name
 short_name (Regular bytes) name p h found = absurd (none_some found)
 short_name (Symlink target) name p h found = absurd (none_some found)
 short_name (Directory l) name p h found = found_name name p l.entries h.1 found
 
 -- ---- a world
 
-module _ (w : World) (stage : Stage) (fits : Fits (rest_item file_item 1) (world_value file_item file_value w stage)) where
+module _ (w : World) (stage : Stage) (fits : Fits (rest_item file_item 1)
+    (world_value file_item file_value w stage)) where
   file_fits : (n : ℕ) (f : File) → file_at w.files n ≡ Some f → (m : ℕ) × Fits file_item (file_value (m, f))
   file_fits n f there = found_fits n f (finite.entries w.files.files) fits.1.1.1.2 (file_in w.files n f there)
 
@@ -91,33 +101,42 @@ module _ (w : World) (stage : Stage) (fits : Fits (rest_item file_item 1) (world
   body_at n f there = body_fits f f.body (file_fits n f there).1.1
 
   -- attributes are words
-  pub attributes_at : (n : ℕ) (f : File) → file_at w.files n ≡ Some f → Fits attributes_item (attributes_value f)
+  pub attributes_at : (n : ℕ) (f : File) → file_at w.files n ≡ Some f
+      → Fits attributes_item (attributes_value f)
   attributes_at n f there = attributes_fit f f.body (file_fits n f there).1.1
 
+  -- the numbers of each file are words
   pub words_at : (n : ℕ) (f : File) → file_at w.files n ≡ Some f → HasWords f
   words_at n f there =
       let a = attributes_at n f there in
       record { uid = a.1.0; gid = a.1.1.0; atime = a.1.1.1.0.0; mtime = a.1.1.1.1.0.0; ctime = a.1.1.1.1.1.0 }
 
+  -- there are no more files than a server may have
   pub few_files : file_count w.files ≤ max_files
-  few_files = let same = finite.len-entries w.files.files in omega (arith, same, same_length file_value (finite.entries w.files.files), fits.1.1.1.1)
+  few_files =
+      let same = finite.len-entries w.files.files in
+      omega (arith, same, same_length file_value (finite.entries w.files.files), fits.1.1.1.1)
 
   -- next cookies are numbers that may be next
   pub cookies_at : AllCookies w.files
   unfolding AllCookies
   cookies_at n f there = low_cookie f.body (body_at n f there)
 
+  -- the next file's number is a word
   pub next_word : w.files.next < 2 ^ 32
   next_word = fits.1.0
 
+  -- there are no more mounts than a server may have
   pub few_mounts : length w.mounts ≤ max_mounts
   few_mounts = fits.1.1.0.1
 
+  -- each of them is by a machine whose name is within its limit
   pub short_hosts : AllByRecursion (λ (m : List ℕ × List ℕ). length m.0 ≤ MNTNAMLEN) w.mounts
   short_hosts = short_host w.mounts fits.1.1.0.2
 
   -- names are within their bound
-  pub short_names : (n : ℕ) (name : List ℕ) (p : ℕ × ℕ) → places w.files n name ≡ Some p → length name ≤ max_name
+  pub short_names : (n : ℕ) (name : List ℕ) (p : ℕ × ℕ) → places w.files n name ≡ Some p
+      → length name ≤ max_name
   short_names n name p found =
       let f = place_in w.files n name p found in
       short_name f.0.body name p (body_at n f.0 f.1) f.2

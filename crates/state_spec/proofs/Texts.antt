@@ -17,13 +17,16 @@ use Rattle.state_spec.proofs.Forth.{forth}
 use Rattle.state_spec.proofs.Ruled.{rules_of_state, state_of_rules}
 
 -- the text of a state reads as what the state says
-pub read_again : (s : State) (bytes : List ℕ) → IsStateText s bytes → text_at spelled_text bytes ≡ Some (said s)
+pub read_again : (s : State) (bytes : List ℕ) → IsStateText s bytes
+    → text_at spelled_text bytes ≡ Some (said s)
 unfolding text_at
 read_again s bytes t =
-    ap (λ b. whole spelled_text.test (read_at spelled_text.item b)) (t.spelled ∙ sym (append-nil (spelling (state_item file_item) (said s))))
+    ap (λ b. whole spelled_text.test (read_at spelled_text.item b))
+    (t.spelled ∙ sym (append-nil (spelling (state_item file_item) (said s))))
     ∙ ap (whole spelled_text.test) (again (state_item file_item) (said s) [] t.fits)
 
-module _ (v : Said) (bytes : List ℕ) (bound : IsBytes bytes) (read : text_at spelled_text bytes ≡ Some v) where
+module _ (v : Said) (bytes : List ℕ) (bound : IsBytes bytes)
+    (read : text_at spelled_text bytes ≡ Some v) where
   -- what was read fits
   pub fits_read : Fits (state_item file_item) v
   fits_read = ((is_text spelled_text v bytes bound).0 read).0

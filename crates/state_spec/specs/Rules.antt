@@ -126,10 +126,14 @@ files_said (suc (suc n)) v = []
 
 -- the three lists of a state rise strictly
 pub record ListsRise (v : Said) : Type 0 where
+  -- those of the messages that were received
   pub received : ReceivedRise v.1.1.1.1.0
+  -- those of the messages that were sent
   pub sends : SendsRise v.1.1.1.1.1.0
+  -- those of the files
   pub files : FilesRise (files_said v.1.1.0 v.1.1.1.1.1.1)
 
+-- the rules of a tree, all of them
 pub record KeepsTreeRules (fs : Files) : Type 0 where
   pub root : RootIsADirectory fs
   pub unnamed : NoEntryNamesTheRoot fs
@@ -142,6 +146,7 @@ pub record KeepsTreeRules (fs : Files) : Type 0 where
   pub cookies : CookiesRise fs
   pub numbers : NumbersAreBelowTheNext fs
 
+-- the rules of a server's world: those of its tree, limits and mounts
 pub record KeepsServerRules (w : World) : Type 0 where
   pub tree : KeepsTreeRules w.files
   pub modes : ModesHaveTwelveBits w.files
@@ -159,5 +164,7 @@ KeepsMachineRules (Client clock) = ClockShowsATime clock
 
 -- What is said keeps the rules: those of orders by itself, the others by the state that it gives.
 pub record KeepsRules (v : Said) : Type 0 where
+  -- the lists rise
   pub lists : ListsRise v
+  -- the state that is given keeps the rules of its kind
   pub machine : KeepsMachineRules (state_from v).machine

@@ -13,8 +13,11 @@ use Rattle.worlds.specs.IsWorld.{IsWorld}
 
 -- a message that was received: its sender, its number in the sender's log, and the hash there
 pub record ReceivedMessage : Type 0 where
+  -- the sender's number
   pub from : ℕ
+  -- the message's number in the sender's log
   pub seq : ℕ
+  -- the hash of the chain there, 32 bytes
   pub hash : List ℕ
 
 -- by sender, number and hash
@@ -26,8 +29,11 @@ received_cmp a b =
 -- a message that was sent and has no acknowledgement yet: its receiver, the hash before it in the log, and
 -- the digest of its body
 pub record SentMessage : Type 0 where
+  -- the receiver's number
   pub to : ℕ
+  -- the hash of the chain before the message in the sender's own log, 32 bytes
   pub prev : List ℕ
+  -- the digest of the message's body, 32 bytes
   pub body_hash : List ℕ
 
 -- whether a message is among those received

@@ -9,11 +9,14 @@ use Rattle.worlds.specs.World.{World}
 use Rattle.mount_types.specs.declared.limits.TheConstants.{MNTNAMLEN, MNTPATHLEN}
 use Rattle.mount_types.specs.Mounts.{max_mounts}
 use Rattle.state_spec.specs.Limits.{max_received, max_sends, max_body}
-use Rattle.state_spec.specs.State.{ReceivedMessage, SentMessage, Stage, Idle, Heard, Owes, Machine, Server, Client, State}
+use Rattle.state_spec.specs.State.{ReceivedMessage, SentMessage, Stage, Idle, Heard, Owes, Machine, Server}
+use Rattle.state_spec.specs.State.{Client, State}
 
+-- a message that was received: sender, number and hash
 abbrev pub received_item : Item
 received_item = pair word (pair hyper (fixed 32))
 
+-- a message that was sent: number, receiver, the hash before it, and its body's digest
 abbrev pub sent_item : Item
 sent_item = pair hyper (pair word (pair (fixed 32) (fixed 32)))
 
@@ -25,6 +28,7 @@ is_stage n = nat_lt n 3
 abbrev pub stage_body : ℕ → Item
 stage_body stage = if stage == 0 then empty else pair word (opaque max_body)
 
+-- a stage: its number, and what stands behind that
 abbrev pub stage_item : Item
 stage_item = choice is_stage stage_body
 
@@ -53,6 +57,7 @@ abbrev pub state_item : Item → Item
 state_item file =
     pair (word_where (λ version. version == 1)) (pair word (choice is_node_kind (machine_item file)))
 
+-- what is said of a message that was received
 abbrev pub received_value : ReceivedMessage → Value received_item
 received_value r = (r.from, (r.seq, r.hash))
 
@@ -60,6 +65,7 @@ received_value r = (r.from, (r.seq, r.hash))
 abbrev pub sent_value : ℕ × SentMessage → Value sent_item
 sent_value e = (e.0, (e.1.to, (e.1.prev, e.1.body_hash)))
 
+-- what is said of a stage
 abbrev pub stage_value : Stage → Value stage_item
 stage_value Idle = (0, tt)
 stage_value (Heard from body) = (1, (from, body))
@@ -67,10 +73,12 @@ stage_value (Owes to body) = (2, (to, body))
 
 -- what is said of a state, and by `value` of each file
 module _ (file : Item) (value : ℕ × File → Value file) where
+  -- of a world and a stage, but for the clock
   abbrev pub world_value : World → Stage → Value (rest_item file 1)
   world_value w stage =
       (stage_value stage, (w.files.next, (w.mounts, map value (finite.entries w.files.files))))
 
+  -- of a state and its machine, but for the node
   abbrev pub machine_value : State → Machine → Value (choice is_node_kind (machine_item file))
   machine_value s (Server w stage) = (
     1,
@@ -93,5 +101,6 @@ module _ (file : Item) (value : ℕ × File → Value file) where
     ),
   )
 
+  -- of a state as a whole
   abbrev pub state_value : State → Value (state_item file)
   state_value s = (1, (s.node, machine_value s s.machine))

@@ -18,8 +18,11 @@ said s = state_value file_item file_value s
 
 -- The bytes are the text of a state, and nothing more.
 pub record IsStateText (s : State) (bytes : List ℕ) : Type 0 where
+  -- the state is one that a node can be in
   pub state : IsState s
+  -- what it says has a spelling
   pub fits : Fits (state_item file_item) (said s)
+  -- the bytes are that spelling
   pub spelled : bytes ≡ spelling (state_item file_item) (said s)
 
 -- what is spelled as a state is, whether or not there is a state that says it

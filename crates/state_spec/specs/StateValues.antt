@@ -11,8 +11,10 @@ use Rattle.fs_model.specs.Files.{Body, Regular, Symlink, Directory, File}
 use Rattle.worlds.specs.World.{World}
 use Rattle.file_texts.specs.FileItems.{file_item}
 use Rattle.file_texts.specs.FileValues.{time_from, numbered_from}
-use Rattle.state_spec.specs.State.{ReceivedMessage, received_cmp, SentMessage, Stage, Idle, Heard, Owes, Machine, Server, Client, State}
-use Rattle.state_spec.specs.StateItems.{received_item, sent_item, stage_item, stage_body, rest_item, state_item}
+use Rattle.state_spec.specs.State.{ReceivedMessage, received_cmp, SentMessage, Stage, Idle, Heard, Owes}
+use Rattle.state_spec.specs.State.{Machine, Server, Client, State}
+use Rattle.state_spec.specs.StateItems.{received_item, sent_item, stage_item, stage_body, rest_item}
+use Rattle.state_spec.specs.StateItems.{state_item}
 
 -- the map of entries whose keys strictly rise
 unfoldable pub map_from : {K X : Type 0} (R : K → K → Ordering) → List (K × X) → finite.FinMap R X
@@ -22,6 +24,7 @@ map_from R es = finite.from_sorted es
 unfoldable pub set_from : {K : Type 0} (R : K → K → Ordering) → List K → FinSet R
 set_from R ks = map_from R (map (λ k. (k, tt)) ks)
 
+-- the message that a value says was received
 unfoldable pub received_from : Value received_item → ReceivedMessage
 received_from v = record { from = v.0; seq = v.1.0; hash = v.1.1 }
 
@@ -29,15 +32,18 @@ received_from v = record { from = v.0; seq = v.1.0; hash = v.1.1 }
 unfoldable pub sent_from : Value sent_item → ℕ × SentMessage
 sent_from v = (v.0, record { to = v.1.0; prev = v.1.1.0; body_hash = v.1.1.1 })
 
+-- the stage of a number, with what stands behind that
 unfoldable pub stage_of : (n : ℕ) → Value (stage_body n) → Stage
 stage_of zero v = Idle
 stage_of (suc zero) v = Heard v.0 v.1
 stage_of (suc (suc zero)) v = Owes v.0 v.1
 stage_of (suc (suc (suc n))) v = Idle
 
+-- the stage that a value says
 unfoldable pub stage_from : Value stage_item → Stage
 stage_from v = stage_of v.0 v.1
 
+-- the world of a node with this clock, by what stands behind a server's messages
 unfoldable pub world_from : ℕ → Timeval → Value (rest_item file_item 1) → World
 world_from node clock v = record {
   files = record { fsid = node; next = v.1.0; files = map_from nat_cmp (map numbered_from v.1.1.1) };
@@ -45,6 +51,7 @@ world_from node clock v = record {
   mounts = v.1.1.0;
 }
 
+-- the machine of a node with this clock, by its kind and what stands behind its messages
 unfoldable pub machine_from : ℕ → Timeval → (kind : ℕ) → Value (rest_item file_item kind) → Machine
 machine_from node clock zero v = Client clock
 machine_from node clock (suc zero) v = Server (world_from node clock v) (stage_from v.0)

@@ -6,7 +6,8 @@ ghost use Rattle.xdr_texts.specs.Text.{text_at};
 ghost use Rattle.file_texts.specs.FileItems.{file_item};
 ghost use Rattle.state_spec.specs.State.{State, IsState, opening_server};
 ghost use Rattle.state_spec.specs.StateItems.{state_item};
-ghost use Rattle.state_spec.specs.StateText.{Said, said, spelled_text, IsStateText, IsGarbage, IsNotAState, digest_text};
+ghost use Rattle.state_spec.specs.StateText.{Said, said, spelled_text, IsStateText, IsGarbage, IsNotAState};
+ghost use Rattle.state_spec.specs.StateText.{digest_text};
 ghost use Rattle.state_spec.specs.StateValues.{state_from};
 ghost use Rattle.state_spec.specs.Rules.{ListsRise, KeepsRules};
 

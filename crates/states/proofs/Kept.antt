@@ -1,6 +1,8 @@
 -- Sets and maps whose keys rise, and their values.
 -- Serves: Received, Sends.
-use Rattle.std.proofs.Common.{◌≡◌, ⊎_elim, true≢false, ℕ, ◌+◌, ◌-◌, ◌<◌, ◌≤◌, Bool, true, false, cond, List, [], ◌∷◌, ◌++◌, map, length, get_or, take, drop, None, refl, sym, ap, subst, ◌∙◌, arith, Ordering, Less, Equal, Greater}
+use Rattle.std.proofs.Common.{◌≡◌, ⊎_elim, true≢false, ℕ, ◌+◌, ◌-◌, ◌<◌, ◌≤◌, Bool, true, false, cond, List}
+use Rattle.std.proofs.Common.{[], ◌∷◌, ◌++◌, map, length, get_or, take, drop, None, refl, sym, ap, subst, ◌∙◌}
+use Rattle.std.proofs.Common.{arith, Ordering, Less, Equal, Greater}
 use Rattle.std.specs.Map.{lookup, keys_of}
 use Rattle.std.specs.List.{list_any, AllByRecursion}
 use Rattle.std.specs.List.Sorted.{IsStrictlySortedBy}
@@ -19,10 +21,13 @@ use Rattle.state_spec.proofs.Back.{map_back}
 use Rattle.state_spec.proofs.Forth.{entries_of_map, keys_of_set}
 
 -- a key put in its place, in a map and in a list
-put_is : {K X : Type 0} (R : K → K → Ordering) (k : K) (v : X) (es : List (K × X)) → insert_entry R es k v ≡ put R k v es
+put_is : {K X : Type 0} (R : K → K → Ordering) (k : K) (v : X) (es : List (K × X))
+    → insert_entry R es k v ≡ put R k v es
 put_is R k v [] = refl
 put_is {K} {X} R k v (e ∷ es) =
-    elim (R k e.0) as (λ (o : Ordering). ◌≡◌ {A = List (K × X)} (match_ordering o ((k, v) ∷ e ∷ es) ((e.0, v) ∷ es) (e ∷ insert_entry R es k v)) (by_order o ((k, v) ∷ e ∷ es) ((e.0, v) ∷ es) (e ∷ put R k v es))) [
+    elim (R k e.0) as (λ (o : Ordering). ◌≡◌ {A = List (K × X)}
+    (match_ordering o ((k, v) ∷ e ∷ es) ((e.0, v) ∷ es) (e ∷ insert_entry R es k v))
+    (by_order o ((k, v) ∷ e ∷ es) ((e.0, v) ∷ es) (e ∷ put R k v es))) [
       | Less ↦ refl
       | Equal ↦ refl
       | Greater ↦ λ i. e ∷ put_is R k v es i
@@ -32,10 +37,14 @@ put_is {K} {X} R k v (e ∷ es) =
 abbrev marked : {K : Type 0} → List K → List (K × Unit {0})
 marked ks = map (λ k. (k, tt)) ks
 
-key_put_is : {K : Type 0} (R : K → K → Ordering) (k : K) (ks : List K) → ◌≡◌ {A = List (K × Unit {0})} (marked (insert_key R ks k)) (put R k tt (marked ks))
+key_put_is : {K : Type 0} (R : K → K → Ordering) (k : K) (ks : List K)
+    → ◌≡◌ {A = List (K × Unit {0})} (marked (insert_key R ks k)) (put R k tt (marked ks))
 key_put_is R k [] = refl
 key_put_is {K} R k (x ∷ xs) =
-    elim (R k x) as (λ (o : Ordering). ◌≡◌ {A = List (K × Unit {0})} (marked (match_ordering o (k ∷ x ∷ xs) (x ∷ xs) (x ∷ insert_key R xs k))) (by_order o ((k, tt) ∷ (x, tt) ∷ marked xs) ((x, tt) ∷ marked xs) ((x, tt) ∷ put R k tt (marked xs)))) [
+    elim (R k x) as (λ (o : Ordering). ◌≡◌ {A = List (K × Unit {0})}
+    (marked (match_ordering o (k ∷ x ∷ xs) (x ∷ xs) (x ∷ insert_key R xs k)))
+    (by_order o ((k, tt) ∷ (x, tt) ∷ marked xs) ((x, tt) ∷ marked xs)
+    ((x, tt) ∷ put R k tt (marked xs)))) [
       | Less ↦ refl
       | Equal ↦ refl
       | Greater ↦ λ i. (x, tt) ∷ key_put_is R k xs i
@@ -66,7 +75,8 @@ none_rises R = tt
 
 module _ {K X : Type 0} (R : K → K → Ordering) where
   -- how many keys a map of entries has
-  pub len_of_map : (es : List (K × X)) → IsStrictlySortedBy R (keys_of es) → finite.len (map_from R es) ≡ length es
+  pub len_of_map : (es : List (K × X)) → IsStrictlySortedBy R (keys_of es)
+      → finite.len (map_from R es) ≡ length es
   len_of_map es h = finite.len-entries (map_from R es) ∙ ap length (entries_of_map R es h)
 
   -- the map of no entries
@@ -74,7 +84,8 @@ module _ {K X : Type 0} (R : K → K → Ordering) where
   map_of_none = finite.empty_of_len (map_from {X = X} R []) (len_of_map [] (none_rises R))
 
   -- one entry more
-  pub map_with : IsTotalOrder R → (es new : List (K × X)) (k : K) (v : X) → IsStrictlySortedBy R (keys_of es) → IsStrictlySortedBy R (keys_of new) → new ≡ insert_entry R es k v
+  pub map_with : IsTotalOrder R → (es new : List (K × X)) (k : K) (v : X) → IsStrictlySortedBy R (keys_of es)
+      → IsStrictlySortedBy R (keys_of new) → new ≡ insert_entry R es k v
       → map_from R new ≡ finite.insert (map_from R es) k v
   map_with total es new k v h after is =
       finite.same_entries_map (map_from R new) (finite.insert (map_from R es) k v)
@@ -85,7 +96,8 @@ module _ {K : Type 0} (R : K → K → Ordering) where
   entries_of_set : (ks : List K) → IsStrictlySortedBy R ks → finite.entries (set_from R ks) ≡ marked ks
   unfolding set_from
   entries_of_set ks h =
-      let same : map (λ (e : K × Unit {0}). e.0) (marked ks) ≡ ks = map_back {A = K} (λ k. (k, tt)) (λ (e : K × Unit {0}). e.0) (λ _. refl) ks in
+      let same : map (λ (e : K × Unit {0}). e.0) (marked ks) ≡ ks =
+      map_back {A = K} (λ k. (k, tt)) (λ (e : K × Unit {0}). e.0) (λ _. refl) ks in
       entries_of_map R (marked ks) (subst (IsStrictlySortedBy R) (sym same) h)
 
   -- how many keys a set has
@@ -97,11 +109,14 @@ module _ {K : Type 0} (R : K → K → Ordering) where
   set_of_none = finite.empty_of_len (set_from R []) (len_of_set [] (none_rises R))
 
   -- whether a set has a key
-  pub has_key : (ks : List K) (q : K) → IsStrictlySortedBy R ks → finite.contains_key (set_from R ks) q ≡ list_any (eq_by_cmp R q) ks
-  has_key ks q h = finite.contains_key-keys (set_from R ks) q ∙ ap (list_any (eq_by_cmp R q)) (keys_of_set R ks h)
+  pub has_key : (ks : List K) (q : K) → IsStrictlySortedBy R ks
+      → finite.contains_key (set_from R ks) q ≡ list_any (eq_by_cmp R q) ks
+  has_key ks q h =
+      finite.contains_key-keys (set_from R ks) q ∙ ap (list_any (eq_by_cmp R q)) (keys_of_set R ks h)
 
   -- one key more
-  pub set_with : IsTotalOrder R → (ks new : List K) (k : K) → IsStrictlySortedBy R ks → IsStrictlySortedBy R new → new ≡ insert_key R ks k
+  pub set_with : IsTotalOrder R → (ks new : List K) (k : K) → IsStrictlySortedBy R ks
+      → IsStrictlySortedBy R new → new ≡ insert_key R ks k
       → set_from R new ≡ finite.insert (set_from R ks) k tt
   set_with total ks new k h after is =
       finite.same_entries_map (set_from R new) (finite.insert (set_from R ks) k tt)
@@ -110,14 +125,21 @@ module _ {K : Type 0} (R : K → K → Ordering) where
 
 module _ {X : Type 0} where
   -- what a map has at a number
-  pub get_of_map : (es : List (ℕ × X)) (q : ℕ) → IsStrictlySortedBy nat_cmp (keys_of es) → finite.get (map_from nat_cmp es) q ≡ lookup (eq_by_cmp nat_cmp q) es
-  get_of_map es q h = finite.get-entries (map_from nat_cmp es) q ∙ ap (finite.find nat_cmp q) (entries_of_map nat_cmp es h) ∙ find_lookup q es
+  pub get_of_map : (es : List (ℕ × X)) (q : ℕ) → IsStrictlySortedBy nat_cmp (keys_of es)
+      → finite.get (map_from nat_cmp es) q ≡ lookup (eq_by_cmp nat_cmp q) es
+  get_of_map es q h =
+      finite.get-entries (map_from nat_cmp es) q ∙ ap (finite.find nat_cmp q) (entries_of_map nat_cmp es h)
+      ∙ find_lookup q es
 
   -- one entry less
-  pub map_without : (es new : List (ℕ × X)) (k : ℕ) → IsStrictlySortedBy nat_cmp (keys_of es) → IsStrictlySortedBy nat_cmp (keys_of new)
-      → ((q : ℕ) → lookup (eq_by_cmp nat_cmp q) new ≡ cond (eq_by_cmp nat_cmp k q) None (lookup (eq_by_cmp nat_cmp q) es)) → map_from nat_cmp new ≡ finite.remove (map_from nat_cmp es) k
+  pub map_without : (es new : List (ℕ × X)) (k : ℕ) → IsStrictlySortedBy nat_cmp (keys_of es)
+      → IsStrictlySortedBy nat_cmp (keys_of new)
+      → ((q : ℕ) → lookup (eq_by_cmp nat_cmp q) new
+      ≡ cond (eq_by_cmp nat_cmp k q) None (lookup (eq_by_cmp nat_cmp q) es))
+      → map_from nat_cmp new ≡ finite.remove (map_from nat_cmp es) k
   map_without es new k h after is =
-      finite.same_map nat_cmp_total finite.nat_cmp-IsAntisymmetric (map_from nat_cmp new) (finite.remove (map_from nat_cmp es) k) (λ q.
+      finite.same_map nat_cmp_total finite.nat_cmp-IsAntisymmetric (map_from nat_cmp new)
+      (finite.remove (map_from nat_cmp es) k) (λ q.
       get_of_map new q after ∙ is q
       ∙ (λ i. cond ((eq_by_cmp_equiv nat_cmp_total).symm k q i) None (sym (get_of_map es q h) i))
       ∙ sym (finite.get-remove nat_cmp_total (map_from nat_cmp es) k q))
@@ -126,7 +148,8 @@ module _ {X : Type 0} where
 
 module _ {K : Type 0} {R : K → K → Ordering} (total : IsTotalOrder R) where
   -- a key above all others comes last
-  insert_last : (ks : List K) (k : K) → AllByRecursion (λ x. R x k ≡ Less) ks → insert_key R ks k ≡ ks ++ k ∷ []
+  insert_last : (ks : List K) (k : K) → AllByRecursion (λ x. R x k ≡ Less) ks
+      → insert_key R ks k ≡ ks ++ k ∷ []
   insert_last [] k above = refl
   insert_last (x ∷ ks) k above =
       let greater : R k x ≡ Greater = total.antisymm k x ∙ ap ordering_reverse above.0 in
@@ -136,7 +159,8 @@ module _ {K : Type 0} {R : K → K → Ordering} (total : IsTotalOrder R) where
   last_of_all P [] k h = h.0
   last_of_all P (x ∷ ks) k h = last_of_all P ks k h.1
 
-  below_last : (ks : List K) (k : K) → IsStrictlySortedBy R (ks ++ k ∷ []) → AllByRecursion (λ x. R x k ≡ Less) ks
+  below_last : (ks : List K) (k : K) → IsStrictlySortedBy R (ks ++ k ∷ [])
+      → AllByRecursion (λ x. R x k ≡ Less) ks
   unfolding IsStrictlySortedBy
   below_last [] k h = tt
   below_last (x ∷ ks) k h = (last_of_all (λ y. R x y ≡ Less) ks k h.0, below_last ks k h.1)
@@ -151,32 +175,47 @@ module _ {K : Type 0} {R : K → K → Ordering} (total : IsTotalOrder R) where
   front_rises (x ∷ xs) ys h = (all_front (λ y. R x y ≡ Less) xs ys h.0, front_rises xs ys h.1)
 
   -- the next of keys that rise is put behind those before it
-  pub next_put : (ks : List K) (at : ℕ) (k : K) → at < length ks → k ≡ get_or ks at k → IsStrictlySortedBy R ks → insert_key R (take at ks) k ≡ take (at + 1) ks
+  pub next_put : (ks : List K) (at : ℕ) (k : K) → at < length ks → k ≡ get_or ks at k
+      → IsStrictlySortedBy R ks → insert_key R (take at ks) k ≡ take (at + 1) ks
   next_put ks at k lt is rising =
-      let more : take (at + 1) ks ≡ take at ks ++ k ∷ [] = take_more ks at k lt ∙ ap (λ x. take at ks ++ x ∷ []) (sym is) in
-      let front = front_rises (take (at + 1) ks) (drop (at + 1) ks) (subst (IsStrictlySortedBy R) (sym (take-append-drop (at + 1) ks)) rising) in
-      insert_last (take at ks) k (below_last (take at ks) k (subst (IsStrictlySortedBy R) more front)) ∙ sym more
+      let more : take (at + 1) ks ≡ take at ks ++ k ∷ [] =
+      take_more ks at k lt ∙ ap (λ x. take at ks ++ x ∷ []) (sym is) in
+      let front =
+      front_rises (take (at + 1) ks) (drop (at + 1) ks)
+      (subst (IsStrictlySortedBy R) (sym (take-append-drop (at + 1) ks)) rising) in
+      insert_last (take at ks) k (below_last (take at ks) k (subst (IsStrictlySortedBy R) more front))
+      ∙ sym more
 
   -- an entry whose key is above all others comes last
-  insert_entry_last : {X : Type 0} (es : List (K × X)) (k : K) (v : X) → AllByRecursion (λ x. R x k ≡ Less) (keys_of es) → insert_entry R es k v ≡ es ++ (k, v) ∷ []
+  insert_entry_last : {X : Type 0} (es : List (K × X)) (k : K) (v : X)
+      → AllByRecursion (λ x. R x k ≡ Less) (keys_of es) → insert_entry R es k v ≡ es ++ (k, v) ∷ []
   insert_entry_last [] k v above = refl
   insert_entry_last (e ∷ es) k v above =
       let greater : R k e.0 ≡ Greater = total.antisymm k e.0 ∙ ap ordering_reverse above.0 in
       rw greater (ap (λ t. e ∷ t) (insert_entry_last es k v above.1))
 
   -- the next of entries whose keys rise is put behind those before it
-  pub next_entry_put : {X : Type 0} (es : List (K × X)) (at : ℕ) (k : K) (v : X) → at < length es → ◌≡◌ {A = K × X} (k, v) (get_or es at (k, v)) → IsStrictlySortedBy R (keys_of es)
+  pub next_entry_put : {X : Type 0} (es : List (K × X)) (at : ℕ) (k : K) (v : X) → at < length es
+      → ◌≡◌ {A = K × X} (k, v) (get_or es at (k, v)) → IsStrictlySortedBy R (keys_of es)
       → insert_entry R (take at es) k v ≡ take (at + 1) es
   next_entry_put {X} es at k v lt is rising =
-      let more : take (at + 1) es ≡ take at es ++ (k, v) ∷ [] = take_more es at (k, v) lt ∙ ap (λ (x : K × X). take at es ++ x ∷ []) (sym is) in
+      let more : take (at + 1) es ≡ take at es ++ (k, v) ∷ [] =
+      take_more es at (k, v) lt ∙ ap (λ (x : K × X). take at es ++ x ∷ []) (sym is) in
       let parts : keys_of es ≡ keys_of (take (at + 1) es) ++ keys_of (drop (at + 1) es) =
-      ap keys_of (sym (take-append-drop (at + 1) es)) ∙ map-append (λ (e : K × X). e.0) (take (at + 1) es) (drop (at + 1) es) in
-      let front = front_rises (keys_of (take (at + 1) es)) (keys_of (drop (at + 1) es)) (subst (IsStrictlySortedBy R) parts rising) in
-      let keys : keys_of (take (at + 1) es) ≡ keys_of (take at es) ++ k ∷ [] = ap keys_of more ∙ map-append (λ (e : K × X). e.0) (take at es) ((k, v) ∷ []) in
-      insert_entry_last (take at es) k v (below_last (keys_of (take at es)) k (subst (IsStrictlySortedBy R) keys front)) ∙ sym more
+      ap keys_of (sym (take-append-drop (at + 1) es))
+      ∙ map-append (λ (e : K × X). e.0) (take (at + 1) es) (drop (at + 1) es) in
+      let front =
+      front_rises (keys_of (take (at + 1) es)) (keys_of (drop (at + 1) es))
+      (subst (IsStrictlySortedBy R) parts rising) in
+      let keys : keys_of (take (at + 1) es) ≡ keys_of (take at es) ++ k ∷ [] =
+      ap keys_of more ∙ map-append (λ (e : K × X). e.0) (take at es) ((k, v) ∷ []) in
+      insert_entry_last (take at es) k v (below_last (keys_of (take at es)) k
+      (subst (IsStrictlySortedBy R) keys front)) ∙ sym more
 
   -- keys of which each is below the next rise
-  pub rising_by_steps : (ks : List K) (d : K) → ((at : ℕ) → at + 1 < length ks → R (get_or ks at d) (get_or ks (at + 1) d) ≡ Less) → IsStrictlySortedBy R ks
+  pub rising_by_steps : (ks : List K) (d : K)
+      → ((at : ℕ) → at + 1 < length ks → R (get_or ks at d) (get_or ks (at + 1) d) ≡ Less)
+      → IsStrictlySortedBy R ks
   rising_by_steps ks d steps = sorted_from_all_adjacent total ks d steps
 
 is_less : (o : Ordering) → is_lt o ≡ true → o ≡ Less
@@ -186,20 +225,25 @@ is_less Greater h = absurd (cc)
 
 module _ {K : Type 0} (R : K → K → Ordering) where
   -- each key up to the next is below the one after it
-  pub one_step_more : (ks : List K) (at : ℕ) (a b : K) → 1 ≤ at → at < length ks → a ≡ get_or ks (at - 1) a → b ≡ get_or ks at b → is_lt (R a b) ≡ true
-      → ((k : ℕ) (d : K) → k + 1 < at → R (get_or ks k d) (get_or ks (k + 1) d) ≡ Less) → (k : ℕ) (d : K) → k + 1 < at + 1 → R (get_or ks k d) (get_or ks (k + 1) d) ≡ Less
+  pub one_step_more : (ks : List K) (at : ℕ) (a b : K) → 1 ≤ at → at < length ks → a ≡ get_or ks (at - 1) a
+      → b ≡ get_or ks at b → is_lt (R a b) ≡ true
+      → ((k : ℕ) (d : K) → k + 1 < at → R (get_or ks k d) (get_or ks (k + 1) d) ≡ Less) → (k : ℕ) (d : K)
+      → k + 1 < at + 1 → R (get_or ks k d) (get_or ks (k + 1) d) ≡ Less
   one_step_more ks at a b one lt is_a is_b below so_far k d lt' = ⊎_elim
       (λ before. so_far k d before)
       (λ reached.
       let first : at - 1 ≡ k = omega arith in
       let second : at ≡ k + 1 = omega arith in
-      let one_is : a ≡ get_or ks k d = is_a ∙ ap (λ m. get_or ks m a) first ∙ get_or_default ks k a d (omega arith) in
-      let two_is : b ≡ get_or ks (k + 1) d = is_b ∙ ap (λ m. get_or ks m b) second ∙ get_or_default ks (k + 1) b d (omega arith) in
+      let one_is : a ≡ get_or ks k d =
+      is_a ∙ ap (λ m. get_or ks m a) first ∙ get_or_default ks k a d (omega arith) in
+      let two_is : b ≡ get_or ks (k + 1) d =
+      is_b ∙ ap (λ m. get_or ks m b) second ∙ get_or_default ks (k + 1) b d (omega arith) in
       (λ i. R (sym one_is i) (sym two_is i)) ∙ is_less (R a b) below)
       (cases_lt (k + 1) at)
 
   -- a key that isn't below the one after it
-  pub no_step : (ks : List K) (at : ℕ) (a b : K) → 1 ≤ at → at < length ks → a ≡ get_or ks (at - 1) a → b ≡ get_or ks at b → is_lt (R a b) ≡ false → IsStrictlySortedBy R ks → ⊥
+  pub no_step : (ks : List K) (at : ℕ) (a b : K) → 1 ≤ at → at < length ks → a ≡ get_or ks (at - 1) a
+      → b ≡ get_or ks at b → is_lt (R a b) ≡ false → IsStrictlySortedBy R ks → ⊥
   no_step ks at a b one lt is_a is_b above rising =
       let less = Less-from_sorted R ks (at - 1) at a rising (omega arith) lt in
       let b_is : b ≡ get_or ks at a = is_b ∙ get_or_default ks at b a lt in

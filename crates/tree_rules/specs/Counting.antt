@@ -17,19 +17,27 @@ names_listed n entries = sum_by (one_if n) entries
 abbrev pub names_among : FileNumber → List (FileNumber × File) → ℕ
 names_among n es = sum_by (λ (e : FileNumber × File). names_in n e.1) es
 
--- The names that entries give are added to the counts, and each number that they name has their place above it.
+-- The names that entries give are added to the counts,
+-- and each number that they name has their place above it.
 pub record AddsNames (place : ℕ) (numbers : List FileNumber) (entries : List DirEntry)
     (names above names' above' : List ℕ) : Type 0 where
+  -- each count rises by the entries that name its number
   pub counted : (k : ℕ) → k < length numbers
       → slice_index names' k ≡ slice_index names k + names_listed (slice_index numbers k) entries
+  -- what was above a number that none of them names stays
   pub kept : (k : ℕ) → k < length numbers → names_listed (slice_index numbers k) entries ≡ 0
       → slice_index above' k ≡ slice_index above k
+  -- the place of these entries is above each number that one of them names
   pub placed : (k : ℕ) → k < length numbers → 0 < names_listed (slice_index numbers k) entries
       → slice_index above' k ≡ place
 
 -- what counting over all files gives
 pub record IsCount (es : List (FileNumber × File)) (names above : List ℕ) : Type 0 where
+  -- each place has a count
   pub long_names : length names ≡ length es
+  -- and a place above it
   pub long_above : length above ≡ length es
+  -- each entry names a number that is there
   pub known : AreKnown es
+  -- the counts are those of all files
   pub counted : AreNamesCounted es names above

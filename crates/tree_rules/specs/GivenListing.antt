@@ -14,8 +14,12 @@ said_entry e = (e.name.now, (e.number, e.cookie))
 abbrev pub said_entries : List GivenEntry → List DirEntry
 said_entries es = map said_entry es
 
--- entries are a directory's: their cookies rise from 3 to below the next, and their names are names and differ
+-- entries are a directory's: their cookies rise from 3 to below the next,
+-- and their names are names and differ
 pub record IsListing (next : Cookie) (entries : List DirEntry) : Type 0 where
+  -- the cookies rise
   pub rising : IsRising 3 entries next
+  -- the names differ
   pub distinct : HasDistinctNames entries
+  -- each is a name
   pub names : All (λ (e : DirEntry). IsTrue (is_name (entry_name e))) entries

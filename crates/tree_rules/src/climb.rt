@@ -21,8 +21,8 @@ fn are_first(up: &[usize]) -> bool
     up.iter().all(|place| *place == 0)
 }
 
-/// Whether each place leads up to the first, of places that each lead to one above. The steps that are looked at
-/// double until they are more than there are places.
+/// Whether each place leads up to the first, of places that each lead to one above. The steps that are looked
+/// at double until they are more than there are places.
 pub fn leads_up(alloc: Global, above: &[usize]) -> Result<bool, AllocError>
     requires { AreWays above.now }
     ensures { IfOk result (TellsWays above.now) }

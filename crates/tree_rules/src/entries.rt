@@ -16,9 +16,9 @@ pub struct GivenEntry<'a> {
     pub cookie: u32,
 }
 
-/// The directory of these entries, whose next cookie is given. None where they are those of no directory: their
-/// cookies do not rise from 3 to below the next, one of the names is empty, `.` or `..` or has a byte that is
-/// zero or a slash, or a name comes twice.
+/// The directory of these entries, whose next cookie is given. None where they are those of no directory:
+/// their cookies do not rise from 3 to below the next, one of the names is empty, `.` or `..` or has a byte
+/// that is zero or a slash, or a name comes twice.
 pub fn directory_of(
     alloc: Global,
     next: u32,

@@ -9,6 +9,6 @@ mod rules;
 
 pub use entries::{GivenEntry, directory_of};
 pub use inodes::{Body, Directory, Inode};
-pub use limits::{Usage, total_usage};
+pub use limits::{MAX_BLOCKS, MAX_ENTRIES, MAX_FILES, Usage, total_usage};
 pub use names::{Counts, count_names, numbers_in, place_of};
 pub use rules::is_tree;

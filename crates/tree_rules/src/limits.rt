@@ -1,6 +1,7 @@
 //! What files take in all, and how much they may.
 
-ghost use Rattle.std.specs.Prelude.{◌≡◌, ◌≤◌, ◌<◌, ◌+◌, ◌^◌, ◌⊎◌, ℕ, IfSome, IsTrue, MatchOption, false, length};
+ghost use Rattle.std.specs.Prelude.{◌≡◌, ◌≤◌, ◌<◌, ◌+◌, ◌^◌, ◌⊎◌, ℕ, IfSome, IsTrue, MatchOption, false};
+ghost use Rattle.std.specs.Prelude.{length};
 ghost use Rattle.std.specs.List.{All};
 ghost use Rattle.fs_model.specs.Maxima.{max_blocks, max_entries};
 ghost use Rattle.fs_model.specs.Files.{listing_in};
@@ -13,13 +14,13 @@ ghost use Rattle.tree_rules.specs.Listed.{entries_among, files_in};
 use inodes::{Body, Inode};
 
 /// The greatest number of files, directories and links of a server.
-const MAX_FILES: usize = 8_192;
+pub const MAX_FILES: usize = 8_192;
 
 /// The greatest number of directory entries of a server.
-const MAX_ENTRIES: u32 = 16_384;
+pub const MAX_ENTRIES: u32 = 16_384;
 
 /// The greatest number of blocks of 512 bytes that the regular files of a server take.
-const MAX_BLOCKS: u32 = 32_768;
+pub const MAX_BLOCKS: u32 = 32_768;
 
 /// What files take in all.
 #[derive(Clone, Copy)]
@@ -71,9 +72,9 @@ fn with_file(usage: Usage, body: &Body) -> Option<Usage>
     })
 }
 
-/// What files take in all. None where they pass a limit of a server: there are more than 8,192, or they have more
-/// than 16,384 entries or 32,768 blocks of 512 bytes. Their numbers rise, and each holds no more than it may by
-/// itself.
+/// What files take in all. None where they pass a limit of a server: there are more than 8,192, or they have
+/// more than 16,384 entries or 32,768 blocks of 512 bytes. Their numbers rise, and each holds no more than it
+/// may by itself.
 pub fn total_usage(inodes: &[(u32, Inode)]) -> Option<Usage>
     requires rising { AreRising (numbers_of inodes.now) }
     requires bodies { All (λ e. IsBody (file_in e.1).body) inodes.now }

@@ -1,6 +1,7 @@
 //! Names, counted over all entries.
 
-ghost use Rattle.std.specs.Prelude.{◌≡◌, ◌≢◌, ◌<◌, ◌≤◌, ◌+◌, ◌↔◌, ℕ, true, length, slice_index, MatchOption, MatchBool, IfOk, map, replicate};
+ghost use Rattle.std.specs.Prelude.{◌≡◌, ◌≢◌, ◌<◌, ◌≤◌, ◌+◌, ◌↔◌, ℕ, true, length, slice_index, MatchOption};
+ghost use Rattle.std.specs.Prelude.{MatchBool, IfOk, map, replicate};
 ghost use Rattle.std.specs.List.{All};
 ghost use Rattle.fs_model.specs.Maxima.{max_entries};
 ghost use Rattle.fs_model.specs.Listing.{entry_number};

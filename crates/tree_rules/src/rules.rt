@@ -1,6 +1,7 @@
 //! The rules of a tree.
 
-ghost use Rattle.std.specs.Prelude.{◌≡◌, ◌≤◌, ◌==◌, ◌↔◌, ℕ, length, IsTrue, IfOk, MatchBool, nat_lt, if◌then◌else◌};
+ghost use Rattle.std.specs.Prelude.{◌≡◌, ◌≤◌, ◌==◌, ◌↔◌, ℕ, length, IsTrue, IfOk, MatchBool, nat_lt};
+ghost use Rattle.std.specs.Prelude.{if◌then◌else◌};
 ghost use Rattle.fs_model.specs.Maxima.{max_entries};
 ghost use Rattle.fs_model.specs.Files.{is_directory};
 ghost use Rattle.fs_model.specs.Trees.{IsFileTree};
@@ -13,8 +14,8 @@ use crate::names::{count_names, numbers_in};
 use inodes::{Body, Inode};
 use std::alloc::{AllocError, Global};
 
-/// Whether a place may have so many names: the root, which is a directory, none; another directory one; a file or
-/// link at least one.
+/// Whether a place may have so many names: the root, which is a directory, none; another directory one; a
+/// file or link at least one.
 fn may_have(place: usize, body: &Body, names: usize) -> bool
     ensures { result ≡ may_have place (is_directory (body_in body.now)) names }
 {
@@ -38,10 +39,10 @@ fn have_names(inodes: &[(u32, Inode)], names: &[usize]) -> bool
     true
 }
 
-/// Whether files, each of which is one by itself, are a tree: the first is the root, a directory with no name;
-/// every other directory has one name, and every other file at least one; each name stands for one of them; and
-/// each is below the root. The numbers rise, and there are at most 16,384 entries in all. What the inodes keep
-/// beside their files (`nlink`, `parent`) is not looked at.
+/// Whether files, each of which is one by itself, are a tree: the first is the root, a directory with no
+/// name; every other directory has one name, and every other file at least one; each name stands for one of
+/// them; and each is below the root. The numbers rise, and there are at most 16,384 entries in all. What the
+/// inodes keep beside their files (`nlink`, `parent`) is not looked at.
 pub fn is_tree(alloc: Global, inodes: &[(u32, Inode)]) -> Result<bool, AllocError>
     requires rising { AreRising (numbers_of inodes.now) }
     requires few { entries_among (files_in inodes.now) ≤ max_entries }

@@ -10,12 +10,23 @@ use Rattle.file_texts.proofs.read.read_entries.Goals as goal
 
 pub returns-in_err-read_entry : goal.returns-in_err-read_entry
 returns-in_err-read_entry c =
-    let p = err_from_is_err_and c.from_residual-in_err-read_entry.result c.from_residual-in_err-read_entry.ensures.1 in
-    rw (p.1, p.2, array_at entry_item MAX_ENTRIES c.in_ok-count.count _ _ c.in_ok-count.ensures c.if-count-gt-MAX_ENTRIES.false) (fails_unless _ _ _ _ _ _ _ c.loop-test.true c.in_err-read_entry.ensures c.loop.invariant)
+    let p =
+    err_from_is_err_and c.from_residual-in_err-read_entry.result
+    c.from_residual-in_err-read_entry.ensures.1 in
+    rw (
+      p.1,
+      p.2,
+      array_at entry_item MAX_ENTRIES c.in_ok-count.count _ _ c.in_ok-count.ensures
+          c.if-count-gt-MAX_ENTRIES.false,
+    ) (fails_unless _ _ _ _ _ _ _ c.loop-test.true
+    c.in_err-read_entry.ensures c.loop.invariant)
 
 pub loop-preserved : goal.loop-preserved
 loop-preserved c =
-    let e : said_entries c.push.new.self.items ≡ said_entries c.loop.entries.items ++ said_entry c.in_ok-read_entry.field-0 ∷ [] = rw c.in_ok-push.ensures.items (map_push said_entry c.loop.entries.items c.in_ok-read_entry.field-0) in
+    let e : said_entries c.push.new.self.items
+    ≡ said_entries c.loop.entries.items ++ said_entry c.in_ok-read_entry.field-0 ∷ [] =
+    rw c.in_ok-push.ensures.items (map_push said_entry c.loop.entries.items
+    c.in_ok-read_entry.field-0) in
     rw e (goes_on _ _ _ _ _ _ _ _ c.loop-test.true c.in_ok-read_entry.ensures c.loop.invariant)
 
 pub loop-init : goal.loop-init
@@ -23,5 +34,7 @@ loop-init c = rw c.new-entries.ensures.items (begins (read_at entry_item) c.in_o
 
 pub returns : goal.returns
 returns c =
-    let whole = array_at entry_item MAX_ENTRIES c.in_ok-count.count c.args.reader.now c.u32.new.self c.in_ok-count.ensures c.if-count-gt-MAX_ENTRIES.false in
+    let whole =
+    array_at entry_item MAX_ENTRIES c.in_ok-count.count c.args.reader.now c.u32.new.self
+    c.in_ok-count.ensures c.if-count-gt-MAX_ENTRIES.false in
     rw whole (ends _ _ _ _ _ _ c.loop-test.false c.loop.invariant)

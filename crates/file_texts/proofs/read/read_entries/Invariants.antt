@@ -5,4 +5,5 @@ use Rattle.file_texts.specs.FileItems.{entry_item}
 use Rattle.file_texts.proofs.read.read_entries.Given as goal
 
 abbrev pub invariant-loop : goal.invariant-loop
-invariant-loop l = Continues (read_at entry_item) (said_entries l.entries.items) l.count l.counter l.reader l.initial.reader
+invariant-loop l =
+    Continues (read_at entry_item) (said_entries l.entries.items) l.count l.counter l.reader l.initial.reader

@@ -1,6 +1,3 @@
-use Rattle.std.proofs.Common.{◌≤◌, List, length, subst, sym}
-use Rattle.std.specs.List.{AllByRecursion}
-use Rattle.fs_model.specs.Maxima.{max_name}
 use Rattle.file_texts.proofs.write.add_each.Goals as goal
 
 pub add_entry-requires : goal.add_entry-requires

@@ -4,7 +4,9 @@ use Rattle.fs_rules.proofs.Ways.{directory_above}
 use Rattle.fs_rules.proofs.laws.counts_are_of_the_tree.Goals as goal
 
 pub returns-clause-names : goal.returns-clause-names
-returns-clause-names c = λ fsid next es each names above counts k n f at. counts.counted k n f at ∙ sym (names_listed fsid next es each.rising n)
+returns-clause-names c =
+    λ fsid next es each names above counts k n f at. counts.counted k n f at
+    ∙ sym (names_listed fsid next es each.rising n)
 
 pub returns-clause-parent : goal.returns-clause-parent
 returns-clause-parent c = directory_above

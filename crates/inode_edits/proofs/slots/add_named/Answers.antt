@@ -1,5 +1,6 @@
 use Rattle.std.proofs.Common.{◌∙◌}
-use Rattle.inode_edits.proofs.NamedInodes.{has_inode, listed_room, added_other, apart_from, taken_back, adds_named}
+use Rattle.inode_edits.proofs.NamedInodes.{has_inode, listed_room, added_other, apart_from, taken_back}
+use Rattle.inode_edits.proofs.NamedInodes.{adds_named}
 use Rattle.inode_edits.proofs.slots.add_named.Goals as goal
 
 pub add_entry-requires-clause-there : goal.add_entry-requires-clause-there

@@ -6,6 +6,7 @@ use Rattle.inode_links.proofs.links.count_subdirectories.Given as goal
 
 abbrev pub invariant-loop-at : goal.invariant-loop-at
 invariant-loop-at l = record {
-  counted : (fsid next : ℕ) → l.count ≡ count_by (λ e. is_directory_at (files_of fsid next l.inodes) e.1.0) (take l.at l.listing.entries);
+  counted : (fsid next : ℕ) → l.count ≡ count_by (λ e. is_directory_at (files_of fsid next l.inodes) e.1.0)
+      (take l.at l.listing.entries);
   few : l.count ≤ l.at;
 }

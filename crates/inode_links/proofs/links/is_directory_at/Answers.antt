@@ -15,11 +15,15 @@ returns-in-Some c = λ fsid next.
     let inodes = c.args.inodes.now in
     let es = files_in inodes in
     let numbers = c.requires.numbers ∙ same_numbers inodes in
-    let inside : k < length inodes = omega (arith, c.in-Some.ensures.0, ap length c.requires.numbers, length_numbers inodes) in
+    let inside : k < length inodes =
+    omega (arith, c.in-Some.ensures.0, ap length c.requires.numbers, length_numbers inodes) in
     let e : ℕ × Inode = get_or inodes k c.index-inodes-place.result in
     let at = at_inode inodes k c.index-inodes-place.result inside in
-    c.is_directory.ensures ∙ sym (directory_at_place fsid next es (subst AreRising numbers c.requires.rising) k e.0 (file_in e.1) at)
-    ∙ ap (is_directory_at (files_of fsid next inodes)) (sym (number_at es k (e.0, file_in e.1) at) ∙ ap (λ (l : List ℕ). get_or l k 0) (sym numbers) ∙ c.in-Some.ensures.1)
+    c.is_directory.ensures ∙ sym (directory_at_place fsid next es
+    (subst AreRising numbers c.requires.rising) k e.0 (file_in e.1) at)
+    ∙ ap (is_directory_at (files_of fsid next inodes))
+    (sym (number_at es k (e.0, file_in e.1) at) ∙ ap (λ (l : List ℕ). get_or l k 0) (sym numbers)
+    ∙ c.in-Some.ensures.1)
 
 pub returns-in-None : goal.returns-in-None
 returns-in-None c = λ fsid next.
@@ -27,4 +31,5 @@ returns-in-None c = λ fsid next.
     let es = files_in inodes in
     let numbers = c.requires.numbers ∙ same_numbers inodes in
     sym (no_directory fsid next es (subst AreRising numbers c.requires.rising) c.args.number
-    (λ k h is. c.in-None.ensures k (omega (arith, h, ap length numbers, length_numbers es)) (ap (λ (l : List ℕ). get_or l k 0) numbers ∙ is)))
+    (λ k h is. c.in-None.ensures k (omega (arith, h, ap length numbers, length_numbers es))
+    (ap (λ (l : List ℕ). get_or l k 0) numbers ∙ is)))

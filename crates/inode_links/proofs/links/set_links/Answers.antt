@@ -15,4 +15,7 @@ pub unwrap-counts-requires : goal.unwrap-counts-requires
 unwrap-counts-requires c =
     let es = files_in c.args.inodes.now in
     some_of _ _ c.in_ok-count_names.field-0 c.in_ok-count_names.ensures
-    (tree_known c.requires.tree.0 c.requires.tree.1 es (tree_files c.requires.tree.0 c.requires.tree.1 es (subst AreRising (same_numbers c.args.inodes.now) c.requires.rising) c.requires.tree.2) c.requires.tree.2)
+    (tree_known c.requires.tree.0 c.requires.tree.1 es
+    (tree_files c.requires.tree.0 c.requires.tree.1 es
+    (subst AreRising (same_numbers c.args.inodes.now) c.requires.rising) c.requires.tree.2)
+    c.requires.tree.2)

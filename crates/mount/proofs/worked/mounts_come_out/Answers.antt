@@ -1,4 +1,5 @@
-use Rattle.std.proofs.Common.{◌≡◌, ℕ, false, List, [], ◌∷◌, length, Option, Some, Err, option_and_then, refl, ap, ◌∙◌, arith}
+use Rattle.std.proofs.Common.{◌≡◌, ℕ, false, List, [], ◌∷◌, length, Option, Some, Err, option_and_then, refl}
+use Rattle.std.proofs.Common.{ap, ◌∙◌, arith}
 use Rattle.std.specs.Prelude.{nat_lt, codes, if◌then◌else◌}
 use Rattle.std.specs.Option.{is_some}
 use Rattle.std.proofs.lemmas.Bool.{le-ltb}
@@ -19,16 +20,23 @@ refused : Option Place → MountAnswer × Mounts
 refused found = (Mounted (Err (if is_some found then Acces else NoEnt)), [])
 
 -- a name in the root is looked up among its entries
-one_name : (name : List ℕ) → mount_at (opening_files 1) [] m (Some (name ∷ [])) ≡ refused (option_and_then (λ next. Some next) (entry_at (listing_in opening_root.body) name))
+one_name : (name : List ℕ) → mount_at (opening_files 1) [] m (Some (name ∷ []))
+    ≡ refused (option_and_then (λ next. Some next) (entry_at (listing_in opening_root.body) name))
 unfolding refused
-one_name name = ap (λ (o : Option File). refused (option_and_then (λ next. Some next) (option_and_then (λ f. entry_at (listing_in f.body) name) o))) (root_there 1)
+one_name name =
+    ap (λ (o : Option File). refused (option_and_then (λ next. Some next)
+    (option_and_then (λ f. entry_at (listing_in f.body) name) o))) (root_there 1)
 
 -- there is nothing below a file
-through_hello : (name : List ℕ) → mount_at (opening_files 1) [] m (Some (codes "hello" ∷ name ∷ [])) ≡ refused (option_and_then (λ next. Some next) (entry_at (listing_in opening_hello.body) name))
+through_hello : (name : List ℕ) → mount_at (opening_files 1) [] m (Some (codes "hello" ∷ name ∷ []))
+    ≡ refused (option_and_then (λ next. Some next) (entry_at (listing_in opening_hello.body) name))
 unfolding refused
 through_hello name =
-    ap (λ (o : Option File). refused (option_and_then (λ next. walk (places (opening_files 1)) next (name ∷ [])) (option_and_then (λ f. entry_at (listing_in f.body) (codes "hello")) o))) (root_there 1)
-    ∙ ap (λ (o : Option File). refused (option_and_then (λ next. Some next) (option_and_then (λ f. entry_at (listing_in f.body) name) o))) (hello_there 1)
+    ap (λ (o : Option File). refused
+    (option_and_then (λ next. walk (places (opening_files 1)) next (name ∷ []))
+    (option_and_then (λ f. entry_at (listing_in f.body) (codes "hello")) o))) (root_there 1)
+    ∙ ap (λ (o : Option File). refused (option_and_then (λ next. Some next)
+    (option_and_then (λ f. entry_at (listing_in f.body) name) o))) (hello_there 1)
 
 pub returns-clause-first : goal.returns-clause-first
 returns-clause-first c = refl
@@ -43,7 +51,9 @@ pub returns-clause-relative : goal.returns-clause-relative
 returns-clause-relative c = refl
 
 pub returns-clause-full : goal.returns-clause-full
-returns-clause-full c mounts many new = let full : nat_lt (length mounts) max_mounts ≡ false = le-ltb _ _ (omega (arith, many)) in rw (new, full) refl
+returns-clause-full c mounts many new =
+    let full : nat_lt (length mounts) max_mounts ≡ false = le-ltb _ _ (omega (arith, many)) in
+    rw (new, full) refl
 
 pub returns-clause-there : goal.returns-clause-there
 unfolding refused

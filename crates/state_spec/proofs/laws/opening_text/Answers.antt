@@ -1,4 +1,5 @@
-use Rattle.std.proofs.Common.{◌≡◌, ℕ, List, [], ◌∷◌, map, length, rules, length-append, refl, sym, ap, subst, ◌∙◌, arith}
+use Rattle.std.proofs.Common.{◌≡◌, ℕ, List, [], ◌∷◌, map, length, rules, length-append, refl, sym, ap, subst}
+use Rattle.std.proofs.Common.{◌∙◌, arith}
 use Rattle.std.specs.Ordering.{nat_cmp}
 use Rattle.std.specs.declared.cmp.Ordering.{Ordering}
 use Rattle.std.specs.FinMap as finite
@@ -22,18 +23,39 @@ none [] h = refl
 none (x ∷ xs) h = absurd (omega arith)
 
 nothing : {K X : Type 0} (R : K → K → Ordering) → finite.entries (finite.empty {X = X} {R = R}) ≡ []
-nothing {K} {X} R = none (finite.entries (finite.empty {X = X} {R = R})) (sym (finite.len-entries (finite.empty {X = X} {R = R})) ∙ finite.len-empty R X)
+nothing {K} {X} R =
+    none (finite.entries (finite.empty {X = X} {R = R}))
+    (sym (finite.len-entries (finite.empty {X = X} {R = R})) ∙ finite.len-empty R X)
 
 module _ (file : Item) (value : ℕ × File → Value file) where
   -- what a state of these parts says
   parts : List ReceivedMessage → List (ℕ × SentMessage) → List (ℕ × File) → Value (state_item file)
-  parts rs ss fs = (1, (1, (1, ((0, 0), (map received_value rs, (map sent_value ss, ((0, tt), (3, ([], map value fs)))))))))
+  parts rs ss fs = (
+    1,
+    (
+      1,
+      (
+        1,
+        (
+          (0, 0),
+          (
+            map received_value rs,
+            (map sent_value ss, ((0, tt), (3, ([], map value fs)))),
+          ),
+        ),
+      ),
+    ),
+  )
 
-  opened : state_value file value (opening_server 1) ≡ parts [] [] ((1, opening_root) ∷ (2, opening_hello) ∷ [])
+  opened : state_value file value (opening_server 1)
+      ≡ parts [] [] ((1, opening_root) ∷ (2, opening_hello) ∷ [])
   unfolding parts
-  opened = λ i. parts (map (λ e. e.0) (nothing {X = Unit {0}} received_cmp i)) (nothing {X = SentMessage} nat_cmp i) (opening_entries 1 i)
+  opened =
+      λ i. parts (map (λ e. e.0) (nothing {X = Unit {0}} received_cmp i))
+      (nothing {X = SentMessage} nat_cmp i) (opening_entries 1 i)
 
-opening_fits : Fits (state_item file_item) (parts file_item file_value [] [] ((1, opening_root) ∷ (2, opening_hello) ∷ []))
+opening_fits : Fits (state_item file_item)
+    (parts file_item file_value [] [] ((1, opening_root) ∷ (2, opening_hello) ∷ []))
 unfolding parts
 opening_fits = search rules
 
@@ -60,7 +82,9 @@ returns-clause-text c = record {
 }
 
 -- 44 bytes, and two digests
-digested : (d e : List ℕ) → length d ≡ 32 → length e ≡ 32 → length (spelling (state_item (fixed 32)) (1, (1, (1, ((0, 0), ([], ([], ((0, tt), (3, ([], d ∷ e ∷ [])))))))))) ≡ 108
+digested : (d e : List ℕ) → length d ≡ 32 → length e ≡ 32
+    → length (spelling (state_item (fixed 32))
+    (1, (1, (1, ((0, 0), ([], ([], ((0, tt), (3, ([], d ∷ e ∷ [])))))))))) ≡ 108
 unfolding number_spelling
 digested d e h k = simp length-append (omega arith)
 
@@ -68,4 +92,5 @@ pub returns-clause-digest : goal.returns-clause-digest
 unfolding parts file_digest
 returns-clause-digest c =
     ap (λ v. length (spelling (state_item (fixed 32)) v)) (opened (fixed 32) file_digest)
-    ∙ digested (file_digest (1, opening_root)) (file_digest (2, opening_hello)) (length-sha256 _) (length-sha256 _)
+    ∙ digested (file_digest (1, opening_root)) (file_digest (2, opening_hello)) (length-sha256 _)
+    (length-sha256 _)

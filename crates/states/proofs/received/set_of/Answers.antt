@@ -7,5 +7,7 @@ use Rattle.states.proofs.received.set_of.Goals as goal
 
 pub loop-message-preserved : goal.loop-message-preserved
 loop-message-preserved c =
-    c.in_ok-insert.ensures.keys ∙ ap (λ ks. insert_key received_cmp ks c.message-item.result) c.loop-message.invariant
-    ∙ next_put received_total c.args.messages.now c.loop-message.message-index c.message-item.result c.loop-message-test.true c.message-item.is c.requires
+    c.in_ok-insert.ensures.keys ∙ ap (λ ks. insert_key received_cmp ks c.message-item.result)
+    c.loop-message.invariant
+    ∙ next_put received_total c.args.messages.now c.loop-message.message-index c.message-item.result
+    c.loop-message-test.true c.message-item.is c.requires

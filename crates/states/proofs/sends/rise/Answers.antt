@@ -13,7 +13,8 @@ use Rattle.states.proofs.sends.rise.Goals as goal
 pub returns : goal.returns
 returns c =
     let count = length-numbers c.args.messages.now in
-    rising_by_steps nat_cmp_total (keys_of (numbered c.args.messages.now)) 0 (λ k lt. c.loop-at.invariant k 0 (omega (arith, lt, count)))
+    rising_by_steps nat_cmp_total (keys_of (numbered c.args.messages.now)) 0
+    (λ k lt. c.loop-at.invariant k 0 (omega (arith, lt, count)))
 
 pub loop-at-preserved : goal.loop-at-preserved
 loop-at-preserved c =
@@ -23,9 +24,12 @@ loop-at-preserved c =
     let q = ap (λ (m : NumberedSend). m.seq) c.index-messages-at-in-loop-at.is in
     let lt : before.seq < next.seq = omega (arith, p, q, c.if-next-before.false) in
     let count = length-numbers c.args.messages.now in
-    let within : c.loop-at.at < length (keys_of (numbered c.args.messages.now)) = omega (arith, count, c.loop-at-test.true) in
-    one_step_more nat_cmp (keys_of (numbered c.args.messages.now)) c.loop-at.at before.seq next.seq c.loop-at.auto.at within
-    (seq_at c.args.messages.now (c.loop-at.at - 1) before c.index-messages-at.is) (seq_at c.args.messages.now c.loop-at.at next c.index-messages-at-in-loop-at.is)
+    let within : c.loop-at.at < length (keys_of (numbered c.args.messages.now)) =
+    omega (arith, count, c.loop-at-test.true) in
+    one_step_more nat_cmp (keys_of (numbered c.args.messages.now)) c.loop-at.at before.seq next.seq
+    c.loop-at.auto.at within
+    (seq_at c.args.messages.now (c.loop-at.at - 1) before c.index-messages-at.is)
+    (seq_at c.args.messages.now c.loop-at.at next c.index-messages-at-in-loop-at.is)
     (sym (ap is_lt (nat_cmp_is before.seq next.seq Less lt))) c.loop-at.invariant
 
 pub loop-at-init : goal.loop-at-init
@@ -39,8 +43,11 @@ returns-then-next-before c = λ rising.
     let p = ap (λ (m : NumberedSend). m.seq) c.index-messages-at.is in
     let q = ap (λ (m : NumberedSend). m.seq) c.index-messages-at-in-loop-at.is in
     let count = length-numbers c.args.messages.now in
-    let within : c.loop-at.at < length (keys_of (numbered c.args.messages.now)) = omega (arith, count, c.loop-at-test.true) in
-    let less = below_from_sorted keys (c.loop-at.at - 1) c.loop-at.at before.seq rising (omega (arith, c.loop-at.auto.at)) within in
+    let within : c.loop-at.at < length (keys_of (numbered c.args.messages.now)) =
+    omega (arith, count, c.loop-at-test.true) in
+    let less =
+    below_from_sorted keys (c.loop-at.at - 1) c.loop-at.at before.seq rising
+    (omega (arith, c.loop-at.auto.at)) within in
     let same = get_or_default keys c.loop-at.at before.seq next.seq within in
     let one = seq_at c.args.messages.now (c.loop-at.at - 1) before c.index-messages-at.is in
     let two = seq_at c.args.messages.now c.loop-at.at next c.index-messages-at-in-loop-at.is in

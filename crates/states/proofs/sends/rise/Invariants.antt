@@ -5,4 +5,6 @@ use Rattle.states.specs.Numbered.{numbered}
 use Rattle.states.proofs.sends.rise.Given as goal
 
 abbrev pub invariant-loop-at : goal.invariant-loop-at
-invariant-loop-at l = (k d : ℕ) → k + 1 < l.at → nat_cmp (get_or (keys_of (numbered l.messages)) k d) (get_or (keys_of (numbered l.messages)) (k + 1) d) ≡ Less
+invariant-loop-at l =
+    (k d : ℕ) → k + 1 < l.at → nat_cmp (get_or (keys_of (numbered l.messages)) k d)
+    (get_or (keys_of (numbered l.messages)) (k + 1) d) ≡ Less

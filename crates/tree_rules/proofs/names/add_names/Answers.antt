@@ -28,16 +28,28 @@ pub loop-at-preserved : goal.loop-at-preserved
 loop-at-preserved c =
     let inside : c.loop-at.at < length c.args.listing.now.entries = omega arith in
     record {
-      adds = adds_more c.args.place c.args.numbers.now c.args.listing.now.entries c.args.names.now c.args.above.now c.loop-at.names c.loop-at.above c.loop-at.at c.in-Some.named
-          c.requires.rising (omega arith) (omega arith) inside c.in-Some.ensures.0 (c.number_in.ensures ([], (0, 0)) ∙ sym c.in-Some.ensures.1) c.loop-at.invariant.adds;
-      known = All-more (λ (e : List ℕ × (ℕ × ℕ)). IsAmong c.args.numbers.now e.1.0) c.args.listing.now.entries c.loop-at.at ([], (0, 0)) inside c.loop-at.invariant.known
-          (c.in-Some.named, c.in-Some.ensures.0, c.in-Some.ensures.1 ∙ sym (c.number_in.ensures ([], (0, 0))));
+      adds =
+          adds_more c.args.place c.args.numbers.now c.args.listing.now.entries c.args.names.now
+          c.args.above.now c.loop-at.names c.loop-at.above c.loop-at.at c.in-Some.named
+          c.requires.rising (omega arith) (omega arith) inside c.in-Some.ensures.0
+          (c.number_in.ensures ([], (0, 0)) ∙ sym c.in-Some.ensures.1) c.loop-at.invariant.adds;
+      known =
+          All-more (λ (e : List ℕ × (ℕ × ℕ)). IsAmong c.args.numbers.now e.1.0) c.args.listing.now.entries
+          c.loop-at.at ([], (0, 0)) inside c.loop-at.invariant.known (
+            c.in-Some.named,
+            c.in-Some.ensures.0,
+            c.in-Some.ensures.1
+                ∙ sym (c.number_in.ensures ([], (0, 0))),
+          );
     }
 
 pub returns-clause-known : goal.returns-clause-known
 returns-clause-known c =
-    subst (All (λ (e : List ℕ × (ℕ × ℕ)). IsAmong c.args.numbers.now e.1.0)) (take_all c.loop-at.at c.args.listing.now.entries (omega arith)) c.loop-at.invariant.known
+    subst (All (λ (e : List ℕ × (ℕ × ℕ)). IsAmong c.args.numbers.now e.1.0))
+    (take_all c.loop-at.at c.args.listing.now.entries (omega arith)) c.loop-at.invariant.known
 
 pub returns-clause-adds : goal.returns-clause-adds
 returns-clause-adds c = λ _.
-    subst (λ entries. AddsNames c.args.place c.args.numbers.now entries c.args.names.now c.args.above.now c.loop-at.names c.loop-at.above) (take_all c.loop-at.at c.args.listing.now.entries (omega arith)) c.loop-at.invariant.adds
+    subst (λ entries. AddsNames c.args.place c.args.numbers.now entries c.args.names.now c.args.above.now
+    c.loop-at.names c.loop-at.above) (take_all c.loop-at.at c.args.listing.now.entries (omega arith))
+    c.loop-at.invariant.adds

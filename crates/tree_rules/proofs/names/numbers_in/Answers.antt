@@ -6,4 +6,5 @@ use Rattle.tree_rules.proofs.names.numbers_in.Goals as goal
 pub returns : goal.returns
 returns c =
     items_from_collect _ c.collect.ensures.ran
-    (YieldsList-from_map _ (λ (e : ℕ × Inode). e.0) (YieldsList-from_slice c.args.inodes.now cc) c.map.ensures.closure (λ x r q k. search rules))
+    (YieldsList-from_map _ (λ (e : ℕ × Inode). e.0)
+    (YieldsList-from_slice c.args.inodes.now cc) c.map.ensures.closure (λ x r q k. search rules))

@@ -17,7 +17,8 @@ make-requires c =
     let time : IsTime c.args.now = search rules in
     may_create c.self.inside.table c.files_are_a_tree.ensures.tree c.files_are_a_tree.ensures.room who
     c.args.now time c.args.dir c.args.name.now c.in_ok-to_vec.field-0.items c.requires.name
-    (c.in_ok-to_vec.ensures.items_if_clones_equal (λ x y e. e)) a c.requires.valid (file_in c.new-inode.result)
+    (c.in_ok-to_vec.ensures.items_if_clones_equal (λ x y e. e)) a c.requires.valid
+    (file_in c.new-inode.result)
     (new_regular_is who c.args.now a _ _ _ c.new-inode.ensures.file c.in_ok-body.ensures c.unwrap_or.ensures)
     words
     (subst (λ w. DecidesCreate w who c.args.now c.args.dir c.args.name.now a (Ok None)) (sym c.self.view_is)
@@ -48,7 +49,8 @@ returns-clause-paths c =
     subst (λ w. NamesIn w c.make.new.self c.args.dir c.args.name.now c.in_ok-make.field-0) c.self.view_is
     (create_names c.self.inside.table c.files_are_a_tree.ensures.tree c.files_are_a_tree.ensures.room who
     c.args.now time c.args.dir c.args.name.now c.in_ok-to_vec.field-0.items c.requires.name
-    (c.in_ok-to_vec.ensures.items_if_clones_equal (λ x y e. e)) a c.requires.valid (file_in c.new-inode.result)
+    (c.in_ok-to_vec.ensures.items_if_clones_equal (λ x y e. e)) a c.requires.valid
+    (file_in c.new-inode.result)
     (new_regular_is who c.args.now a _ _ _ c.new-inode.ensures.file c.in_ok-body.ensures c.unwrap_or.ensures)
     words
     (subst (λ w. DecidesCreate w who c.args.now c.args.dir c.args.name.now a (Ok None)) (sym c.self.view_is)

@@ -8,4 +8,5 @@ use Rattle.inode_table.proofs.table.InodeTable.inodes.Goals as goal
 pub returns : goal.returns
 returns c =
     let t = c.self.inside in
-    ap files_in c.iter.ensures.rest ∙ in_order t.fsid t.next t.inodes.entries c.iter.ensures.ordered ∙ ap (λ (w : Files). finite.entries w.files) c.self.view_is
+    ap files_in c.iter.ensures.rest ∙ in_order t.fsid t.next t.inodes.entries c.iter.ensures.ordered
+    ∙ ap (λ (w : Files). finite.entries w.files) c.self.view_is

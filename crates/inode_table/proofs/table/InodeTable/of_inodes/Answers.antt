@@ -11,7 +11,8 @@ use Rattle.inode_table.proofs.table.InodeTable.of_inodes.Goals as goal
 
 pub total_usage-requires-clause-bodies : goal.total_usage-requires-clause-bodies
 total_usage-requires-clause-bodies c =
-    subst (All (λ (e : ℕ × Inode). IsBody (file_in e.1).body)) (sym c.deref.ensures.value) (bodies c.args.fsid c.args.next c.args.inodes.items c.requires.rising c.requires.tree)
+    subst (All (λ (e : ℕ × Inode). IsBody (file_in e.1).body)) (sym c.deref.ensures.value)
+    (bodies c.args.fsid c.args.next c.args.inodes.items c.requires.rising c.requires.tree)
 
 pub invariant_of-result : goal.invariant_of-result
 invariant_of-result c =
@@ -23,8 +24,12 @@ invariant_of-result c =
       room = subst (λ w. IsTrue (has_room w)) (sym files) c.requires.room;
       words = subst AreWords (sym files) c.requires.words;
       counted = c.in_ok-linked_inodes.ensures.counted c.args.fsid c.args.next;
-      entries = usage.1 ∙ ap (λ l. entry_count (files_of c.args.fsid c.args.next l)) c.deref.ensures.value ∙ ap entry_count (sym files);
-      blocks = usage.2 ∙ ap (λ l. block_count (files_of c.args.fsid c.args.next l)) c.deref.ensures.value ∙ ap block_count (sym files);
+      entries =
+          usage.1 ∙ ap (λ l. entry_count (files_of c.args.fsid c.args.next l)) c.deref.ensures.value
+          ∙ ap entry_count (sym files);
+      blocks =
+          usage.2 ∙ ap (λ l. block_count (files_of c.args.fsid c.args.next l)) c.deref.ensures.value
+          ∙ ap block_count (sym files);
     }
 
 pub returns : goal.returns

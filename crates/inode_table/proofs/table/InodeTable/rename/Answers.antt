@@ -1,5 +1,6 @@
 use Rattle.std.proofs.Common.{◌∙◌}
-use Rattle.inode_table.proofs.MovedEntry.{put_room, may_drop, freed_among, may_take, gone_among, to_linked, to_may_gain, moved_files, moved_kept}
+use Rattle.inode_table.proofs.MovedEntry.{put_room, may_drop, freed_among, may_take, gone_among, to_linked}
+use Rattle.inode_table.proofs.MovedEntry.{to_may_gain, moved_files, moved_kept}
 use Rattle.inode_table.proofs.Tables.{on_any_error, alike_kept}
 use Rattle.inode_table.proofs.table.InodeTable.rename.Goals as goal
 

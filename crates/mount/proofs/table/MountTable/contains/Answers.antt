@@ -8,6 +8,7 @@ use Rattle.mount.proofs.table.MountTable.contains.Goals as goal
 
 pub returns : goal.returns
 returns c =
-    any_from_yields_List (λ h. bytes_eq c.args.host.now h.items) _ _ _ c.any.ensures.ran (YieldsList-from_slice c.self.inside.hosts.items cc) (λ x b q k. search (rules, tests))
+    any_from_yields_List (λ h. bytes_eq c.args.host.now h.items) _ _ _ c.any.ensures.ran
+    (YieldsList-from_slice c.self.inside.hosts.items cc) (λ x b q k. search (rules, tests))
     ∙ is_listed-shown (λ h. h.items) c.args.host.now c.self.inside.hosts.items
     ∙ ap (λ (mounts : Mounts). is_listed mounts (root_of c.args.host.now)) c.self.view_is

@@ -6,4 +6,5 @@ use Rattle.states.proofs.sends.Sends.len.Goals as goal
 
 pub returns-clause-count : goal.returns-clause-count
 returns-clause-count c =
-    c.len.ensures.len ∙ sym (len_of_map nat_cmp c.self.inside.messages.entries c.self.invariant.rising) ∙ ap len c.self.view_is
+    c.len.ensures.len ∙ sym (len_of_map nat_cmp c.self.inside.messages.entries c.self.invariant.rising)
+    ∙ ap len c.self.view_is

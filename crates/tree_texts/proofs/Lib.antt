@@ -1,0 +1,2 @@
+mod GivenTrees
+mod WrittenFiles
