@@ -1,5 +1,6 @@
 -- The reply owed to a record at a time, and the world after it (RFC 5531, section 9; RFC 1094, section 2.2).
-use Rattle.std.specs.Prelude.{◌≡◌, ℕ, ◌==◌, Bool, true, false, List, ◌++◌, Option, Some, None, Result, Ok, Err, if◌then◌else◌}
+use Rattle.std.specs.Prelude.{◌≡◌, ℕ, ◌==◌, Bool, true, false, List, ◌++◌, Option, Some, None, Result, Ok}
+use Rattle.std.specs.Prelude.{Err, if◌then◌else◌}
 use Rattle.xdr.specs.Reading.{Read}
 use Rattle.rpc.specs.Call.{CallHeader, Message, OtherVersion, Version2, message_at, Says}
 use Rattle.rpc.specs.Reply.{reply_text}
@@ -11,14 +12,14 @@ use Rattle.nfs_items.specs.Caller.{Caller, nobody}
 use Rattle.nfs_items.specs.Credentials.{caller_in}
 use Rattle.nfs_types.specs.Calls.{Call}
 use Rattle.nfs_types.specs.Texts.{procedure_at, call_at, answer_text}
-use Rattle.nfs_types.specs.declared.arguments.NfsProcedure.{NfsProcedure}
 use Rattle.nfs_spec.specs.NfsCalls.{call_does}
 use Rattle.mount_types.specs.Calls.{MountCall}
 use Rattle.mount_types.specs.Texts as mount_texts
 use Rattle.mount_types.specs.declared.arguments.MountProcedure.{MountProcedure}
 use Rattle.mount_types.specs.declared.arguments.MountProcedure.TheVariants as mount_procedures
 use Rattle.mount.specs.MountCalls.{mount_does}
-use Rattle.service.specs.declared.checks.TheConstants.{AUTH_NONE, AUTH_SYS, NFS_PROGRAM, NFS_VERSION, MOUNT_PROGRAM, MOUNT_VERSION}
+use Rattle.service.specs.declared.checks.TheConstants.{AUTH_NONE, AUTH_SYS, NFS_PROGRAM, NFS_VERSION}
+use Rattle.service.specs.declared.checks.TheConstants.{MOUNT_PROGRAM, MOUNT_VERSION}
 use Rattle.service.specs.declared.service.TheConstants.{RPC_VERSION}
 use Rattle.worlds.specs.World.{World, at_time}
 
@@ -28,6 +29,7 @@ use Rattle.worlds.specs.World.{World, at_time}
 abbrev pub OrRefusal : Type 0 → Type 0
 OrRefusal A = Result A ReplyBody
 
+-- a step, and the next one where it wasn't refused
 infixl 10 ◌>>=◌
 abbrev pub ◌>>=◌ : {A B : Type 0} → OrRefusal A → (A → OrRefusal B) → OrRefusal B
 (Ok x) >>= f = f x
@@ -52,7 +54,8 @@ pub data ServedCall : Type 0 where
 
 -- PROG_MISMATCH where a program's version isn't the one that is served
 abbrev pub version_served : ℕ → ℕ → OrRefusal (Unit {0})
-version_served served version = if version == served then Ok tt else Err (bodies.ProgramMismatch served served)
+version_served served version =
+    if version == served then Ok tt else Err (bodies.ProgramMismatch served served)
 
 -- PROC_UNAVAIL where a number has no procedure
 abbrev pub procedure_or_refusal : {P : Type 0} → Option P → OrRefusal P
@@ -64,7 +67,8 @@ abbrev pub arguments_or_refusal : {C : Type 0} → Read C → OrRefusal C
 arguments_or_refusal (Ok x) = Ok x.0
 arguments_or_refusal (Err e) = Err bodies.GarbageArguments
 
--- the procedures of MOUNT that add or take out what is mounted by the caller's machine, which AUTH_SYS alone names
+-- the procedures of MOUNT that add or take out what is mounted by the caller's machine,
+-- which AUTH_SYS alone names
 abbrev pub wants_machine : MountProcedure → Bool
 wants_machine mount_procedures.Null = false
 wants_machine mount_procedures.Mnt = true
@@ -117,12 +121,14 @@ call_or_refusal h arguments = do
 abbrev pub bare_reply : ℕ → ReplyBody → List ℕ
 bare_reply xid body = reply_text (record { xid = xid; body = body })
 
--- what a call does: the text of its results, and the world after it. NFS changes the files alone, MOUNT the mounts.
+-- what a call does: the text of its results, and the world after it. NFS changes the files alone,
+-- MOUNT the mounts.
 abbrev pub call_results : World → Caller → ServedCall → List ℕ × World
 call_results w who (Nfs call) =
     let done = call_does w.files who w.clock call in (answer_text done.0, record w { files = done.1 })
 call_results w who (Mount call) =
-    let done = mount_does w.files w.mounts who call in (mount_texts.answer_text done.0, record w { mounts = done.1 })
+    let done = mount_does w.files w.mounts who call in
+    (mount_texts.answer_text done.0, record w { mounts = done.1 })
 
 -- the reply to a call, and the world after it: a refusal, or the results of what was done
 abbrev pub call_reply : World → ℕ → OrRefusal (Caller × ServedCall) → List ℕ × World
@@ -130,10 +136,11 @@ call_reply w xid (Err body) = (bare_reply xid body, w)
 call_reply w xid (Ok (who, call)) =
     let done = call_results w who call in (bare_reply xid bodies.Success ++ done.0, done.1)
 
--- RPC versions other than 2 are refused; a call of version 2 is checked, and done if no check fails. The world is the one
--- whose clock the call uses.
+-- RPC versions other than 2 are refused; a call of version 2 is checked, and done if no check fails. The
+-- world is the one whose clock the call uses.
 abbrev pub reply_to : World → Message → List ℕ → List ℕ × World
-reply_to w (OtherVersion xid version) arguments = (bare_reply xid (bodies.RpcMismatch RPC_VERSION RPC_VERSION), w)
+reply_to w (OtherVersion xid version) arguments =
+    (bare_reply xid (bodies.RpcMismatch RPC_VERSION RPC_VERSION), w)
 reply_to w (Version2 xid h) arguments = call_reply w xid (call_or_refusal h arguments)
 
 -- The reply r that is owed to a record at a time, if one is, and the world w' after it. What says no call
@@ -153,6 +160,7 @@ abbrev pub reply_of_call : World → Read Message → Option (List ℕ)
 reply_of_call w (Err e) = None
 reply_of_call w (Ok x) = Some (reply_to w x.0 x.1).0
 
+-- the world after a call that was read; the same where none was
 abbrev pub world_after_call : World → Read Message → World
 world_after_call w (Err e) = w
 world_after_call w (Ok x) = (reply_to w x.0 x.1).1

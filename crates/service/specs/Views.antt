@@ -13,6 +13,7 @@ use Rattle.service.specs.declared.checks.ServedArgs.{ServedArgs}
 use Rattle.service.specs.declared.checks.ServedArgs.TheVariants as code
 use Rattle.service.specs.Replies.{OrRefusal, ServedCall, Nfs, Mount}
 
+-- the caller that the program's value says, or the refusal
 abbrev pub view_of_caller : Result Who ReplyBody → OrRefusal Caller
 view_of_caller (Ok who) = Ok (caller_of who)
 view_of_caller (Err body) = Err body
@@ -26,10 +27,12 @@ abbrev pub served_of : ServedArgs → ServedCall
 served_of (code.Nfs args) = Nfs (nfs.call_of args)
 served_of (code.Mount args) = Mount (mount.call_of args)
 
+-- the call that the program's value says, or the refusal
 abbrev pub view_of_served : Result ServedArgs ReplyBody → OrRefusal ServedCall
 view_of_served (Ok args) = Ok (served_of args)
 view_of_served (Err body) = Err body
 
+-- both together
 abbrev pub view_of_call : Result (Who × ServedArgs) ReplyBody → OrRefusal (Caller × ServedCall)
 view_of_call (Ok (who, args)) = Ok (caller_of who, served_of args)
 view_of_call (Err body) = Err body

@@ -3,7 +3,9 @@
 ghost use Rattle.std.specs.Prelude.{◌≡◌, IfOk};
 ghost use Rattle.rpc.specs.CallValues.{header_of};
 ghost use Rattle.nfs_items.specs.Credentials.{caller_in};
-ghost use Rattle.service.specs.Replies.{caller_or_refusal, caller_at, version_served, wants_machine, machine_or_refusal, nfs_call_or_refusal, mount_call_or_refusal, program_call_or_refusal, call_or_refusal};
+ghost use Rattle.service.specs.Replies.{caller_or_refusal, caller_at, version_served, wants_machine};
+ghost use Rattle.service.specs.Replies.{machine_or_refusal, nfs_call_or_refusal, mount_call_or_refusal};
+ghost use Rattle.service.specs.Replies.{program_call_or_refusal, call_or_refusal};
 ghost use Rattle.service.specs.Views.{view_of_caller, view_of_served, view_of_call, HasShortName, IsBounded};
 
 use mount_types::{MountArgs, MountProcedure, read_mount_args};
@@ -47,8 +49,8 @@ fn sys_caller(body: &[u8]) -> Result<Who<'_>, ReplyBody>
     Ok(who)
 }
 
-/// The caller that a credential stands for: AUTH_NONE, whatever its body; AUTH_SYS by its body; every other flavor is
-/// rejected.
+/// The caller that a credential stands for: AUTH_NONE, whatever its body; AUTH_SYS by its body; every other
+/// flavor is rejected.
 fn caller<'a>(credential: &OpaqueAuth<'a>) -> Result<Who<'a>, ReplyBody>
     ensures caller { view_of_caller result ≡ caller_at credential.now.flavor credential.now.body.now }
     ensures name { IfOk result HasShortName }

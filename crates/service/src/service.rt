@@ -7,7 +7,8 @@ ghost use Rattle.rpc.specs.Call.{Message};
 ghost use Rattle.rpc.specs.CallValues.{IsCallOf};
 ghost use Rattle.nfs_items.specs.CallerOf.{caller_of};
 ghost use Rattle.worlds.specs.World.{opening_world, world_of};
-ghost use Rattle.service.specs.Replies.{bare_reply, call_results, call_reply, reply_to, reply_owed, world_after};
+ghost use Rattle.service.specs.Replies.{bare_reply, call_results, call_reply, reply_to, reply_owed};
+ghost use Rattle.service.specs.Replies.{world_after};
 ghost use Rattle.service.specs.Views.{served_of, view_of_call, HasShortName, IsBounded};
 
 use crate::checks::{ServedArgs, check_call};
@@ -20,8 +21,8 @@ use std::marker::Model;
 /// The version of RPC (RFC 5531, section 9).
 const RPC_VERSION: u32 = 2;
 
-/// The room that a reply begins with, in bytes: as much as one with attributes takes, and so as every reply to a call that
-/// changes files or mounts. A longer one grows.
+/// The room that a reply begins with, in bytes: as much as one with attributes takes, and so as every reply
+/// to a call that changes files or mounts. A longer one grows.
 const REPLY_ROOM: usize = 128;
 
 /// A server's files and mounts, and its last clock reading.
