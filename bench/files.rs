@@ -6,13 +6,13 @@
 //!     files stream DIRECTORIES FILES ROUNDS    writes records that make so many directories, of so many files each, or
 //!                                     so many files in the root, and then so many rounds of 32 mixed calls
 
+mod items;
 mod records;
 
-use records::{Fault, LAST, MAX_RECORD, next};
+use items::{Items, put};
+use records::{answer, mark};
 use std::collections::{BTreeMap, HashMap};
-use std::fs::File;
-use std::io::{self, BufReader, BufWriter, Write};
-use std::os::fd::AsFd;
+use std::io::{self, BufWriter, Write};
 use std::process::ExitCode;
 
 const NODE: u32 = 1;
@@ -55,27 +55,7 @@ fn check(holds: bool, stat: Stat) -> Result<(), Stat> {
 
 type Time = (u32, u32);
 
-/// Reads items of four bytes from the front.
-struct Items<'a>(&'a [u8]);
-
 impl<'a> Items<'a> {
-    fn word(&mut self) -> Option<u32> {
-        let (word, rest) = self.0.split_first_chunk::<4>()?;
-        self.0 = rest;
-        Some(u32::from_be_bytes(*word))
-    }
-
-    fn opaque(&mut self, most: usize) -> Option<&'a [u8]> {
-        let len = self.word()? as usize;
-        if len > most {
-            return None;
-        }
-        let (padded, rest) = self.0.split_at_checked(len.next_multiple_of(4))?;
-        let (bytes, padding) = padded.split_at(len);
-        self.0 = rest;
-        padding.iter().all(|byte| *byte == 0).then_some(bytes)
-    }
-
     /// The number of a file here; 0, which no file has, for a handle that names none.
     fn handle(&mut self) -> Option<u32> {
         let (handle, rest) = self.0.split_first_chunk::<32>()?;
@@ -566,12 +546,6 @@ impl Tree {
     }
 }
 
-fn put(out: &mut Vec<u8>, words: &[u32]) {
-    for word in words {
-        out.extend_from_slice(&word.to_be_bytes());
-    }
-}
-
 fn put_opaque(out: &mut Vec<u8>, bytes: &[u8]) {
     put(out, &[bytes.len() as u32]);
     out.extend_from_slice(bytes);
@@ -820,26 +794,6 @@ fn reply(tree: &mut Tree, now: Time, record: &[u8], out: &mut Vec<u8>) -> Option
     Some(())
 }
 
-fn answer() -> Result<(), Fault> {
-    let mut tree = Tree::opening();
-    let mut input = BufReader::new(io::stdin().lock());
-    let mut output = File::from(io::stdout().as_fd().try_clone_to_owned()?);
-    let mut record = Vec::with_capacity(MAX_RECORD);
-    let mut out = Vec::with_capacity(MAX_RECORD);
-    let mut count = 0u32;
-    while next(&mut input, &mut record)? {
-        count = count.saturating_add(1);
-        out.clear();
-        put(&mut out, &[0]);
-        if reply(&mut tree, (count, 0), &record, &mut out).is_some() {
-            let mark = LAST | (out.len() - 4) as u32;
-            out[..4].copy_from_slice(&mark.to_be_bytes());
-            output.write_all(&out)?;
-        }
-    }
-    Ok(())
-}
-
 /// Writes calls by user 0, and counts the numbers that their files get.
 struct Calls<W> {
     output: W,
@@ -860,8 +814,7 @@ impl<W: Write> Calls<W> {
     }
 
     fn end(&mut self) -> io::Result<()> {
-        let mark = LAST | (self.record.len() - 4) as u32;
-        self.record[..4].copy_from_slice(&mark.to_be_bytes());
+        mark(&mut self.record);
         self.output.write_all(&self.record)
     }
 
@@ -1017,11 +970,14 @@ fn stream(directories: u32, files: u32, rounds: usize) -> io::Result<()> {
 fn main() -> ExitCode {
     let words: Vec<String> = std::env::args().collect();
     match words.iter().map(String::as_str).collect::<Vec<_>>()[..] {
-        [_, "answer"] => match answer() {
-            Ok(()) => ExitCode::SUCCESS,
-            Err(Fault::RecordTooLong | Fault::EndInRecord) => ExitCode::from(1),
-            Err(Fault::Device) => ExitCode::from(4),
-        },
+        [_, "answer"] => {
+            let mut tree = Tree::opening();
+            let mut count = 0u32;
+            answer(|record, out| {
+                count = count.saturating_add(1);
+                reply(&mut tree, (count, 0), record, out)
+            })
+        }
         [_, "stream", directories, files, rounds] => match (directories.parse(), files.parse(), rounds.parse()) {
             (Ok(directories), Ok(files), Ok(rounds)) => match stream(directories, files, rounds) {
                 Ok(()) => ExitCode::SUCCESS,

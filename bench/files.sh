@@ -9,48 +9,26 @@
 # Needs rt, rustc and GNU time.
 set -euo pipefail
 cd "$(dirname "$0")/.."
+. bench/measure.sh
 
 rounds=${1:-3000}
 turns=5
-nfsacc=$PWD/crates/nfsacc/out/nfsacc
-folder=$(mktemp -d)
-trap 'rm -rf "$folder"' EXIT
 
-(cd crates/nfsacc && rt run -- rpc </dev/null >"$folder/build.log" 2>&1) || {
-    cat "$folder/build.log"
-    exit 1
-}
-rustc -O --edition 2024 -o "$folder/plain" bench/files.rs
+build bench/files.rs
 
-# Runs a command on a file of records, and prints its processor seconds and its peak memory in KiB.
-measure() {
-    local input=$1 output=$2
-    shift 2
-    /usr/bin/time -f '%U %S %M' -o "$folder/time" "$@" <"$input" >"$output"
-    awk '{ print $1 + $2, $3 }' "$folder/time"
-}
-
-# The least processor seconds of all turns, and the most memory.
-summed() {
-    awk 'NR == 1 || $1 < least { least = $1 } $2 > most { most = $2 } END { print least, most }' "$1"
-}
-
-# tree NAME DIRECTORIES FILES measures the calls behind those that make the tree, the two programs by turns, so that both
-# meet what else the machine does.
+# tree NAME DIRECTORIES FILES measures the calls behind those that make the tree, by processor time.
 tree() {
     local name=$1 turn program run
     "$folder/plain" stream "$2" "$3" 0 >"$folder/make"
     "$folder/plain" stream "$2" "$3" "$rounds" >"$folder/whole"
     for ((turn = 0; turn < turns; turn++)); do
         for run in make whole; do
-            measure "$folder/$run" "$folder/nfsacc.out" "$nfsacc" rpc >>"$folder/$name.nfsacc.$run"
-            measure "$folder/$run" "$folder/plain.out" "$folder/plain" answer >>"$folder/$name.plain.$run"
-            cmp "$folder/nfsacc.out" "$folder/plain.out"
+            compare "$folder/$run" "$folder/$name.$run"
         done
     done
     for program in nfsacc plain; do
-        read -r made _ < <(summed "$folder/$name.$program.make")
-        read -r all most < <(summed "$folder/$name.$program.whole")
+        read -r _ made _ < <(summed "$folder/$name.make.$program")
+        read -r _ all most < <(summed "$folder/$name.whole.$program")
         awk -v all="$all" -v made="$made" -v most="$most" 'BEGIN { print all - made, most, made }' >"$folder/$name.$program"
     done
     read -r nfsacc_seconds nfsacc_kib nfsacc_made <"$folder/$name.nfsacc"

@@ -4,13 +4,13 @@
 //!     rpc answer          answers the records of standard input
 //!     rpc stream COUNT    writes so many records, GETATTR of the root and LOOKUP of hello by turns
 
+mod items;
 mod records;
 
-use records::{Fault, LAST, MAX_RECORD, next};
+use items::{Items, put};
+use records::{LAST, answer};
 use std::collections::{BTreeMap, HashMap};
-use std::fs::File;
-use std::io::{self, BufReader, BufWriter, Write};
-use std::os::fd::AsFd;
+use std::io::{self, BufWriter, Write};
 use std::process::ExitCode;
 
 const NODE: u32 = 1;
@@ -29,35 +29,6 @@ enum Stat {
     Acces = 13,
     NotDir = 20,
     Stale = 70,
-}
-
-/// Reads items of four bytes from the front.
-struct Items<'a>(&'a [u8]);
-
-impl<'a> Items<'a> {
-    fn word(&mut self) -> Option<u32> {
-        let (word, rest) = self.0.split_first_chunk::<4>()?;
-        self.0 = rest;
-        Some(u32::from_be_bytes(*word))
-    }
-
-    fn fixed<const N: usize>(&mut self) -> Option<&'a [u8; N]> {
-        let (bytes, rest) = self.0.split_first_chunk::<N>()?;
-        self.0 = rest;
-        Some(bytes)
-    }
-
-    fn opaque(&mut self, most: usize) -> Option<&'a [u8]> {
-        let len = self.word()? as usize;
-        if len > most {
-            return None;
-        }
-        let whole = len.next_multiple_of(4);
-        let (padded, rest) = self.0.split_at_checked(whole)?;
-        let (bytes, padding) = padded.split_at(len);
-        self.0 = rest;
-        padding.iter().all(|byte| *byte == 0).then_some(bytes)
-    }
 }
 
 struct Header {
@@ -155,12 +126,6 @@ impl Tree {
     }
 }
 
-fn put(out: &mut Vec<u8>, words: &[u32]) {
-    for word in words {
-        out.extend_from_slice(&word.to_be_bytes());
-    }
-}
-
 fn check(header: &Header) -> Result<(), Refusal> {
     match header {
         Header { flavor, .. } if *flavor != 0 => Err(Refusal::AuthError(2)),
@@ -230,24 +195,6 @@ fn reply(tree: &Tree, record: &[u8], out: &mut Vec<u8>) -> Option<()> {
     Some(())
 }
 
-fn answer() -> Result<(), Fault> {
-    let tree = Tree::opening();
-    let mut input = BufReader::new(io::stdin().lock());
-    let mut output = File::from(io::stdout().as_fd().try_clone_to_owned()?);
-    let mut record = Vec::with_capacity(MAX_RECORD);
-    let mut out = Vec::with_capacity(MAX_RECORD);
-    while next(&mut input, &mut record)? {
-        out.clear();
-        put(&mut out, &[0]);
-        if reply(&tree, &record, &mut out).is_some() {
-            let mark = LAST | (out.len() - 4) as u32;
-            out[..4].copy_from_slice(&mark.to_be_bytes());
-            output.write_all(&out)?;
-        }
-    }
-    Ok(())
-}
-
 fn stream(count: u32) -> io::Result<()> {
     let mut output = BufWriter::new(io::stdout().lock());
     let mut record = Vec::new();
@@ -267,11 +214,10 @@ fn stream(count: u32) -> io::Result<()> {
 fn main() -> ExitCode {
     let words: Vec<String> = std::env::args().collect();
     match words.iter().map(String::as_str).collect::<Vec<_>>()[..] {
-        [_, "answer"] => match answer() {
-            Ok(()) => ExitCode::SUCCESS,
-            Err(Fault::RecordTooLong | Fault::EndInRecord) => ExitCode::from(1),
-            Err(Fault::Device) => ExitCode::from(4),
-        },
+        [_, "answer"] => {
+            let tree = Tree::opening();
+            answer(|record, out| reply(&tree, record, out))
+        }
         [_, "stream", count] => match count.parse().map(stream) {
             Ok(Ok(())) => ExitCode::SUCCESS,
             _ => ExitCode::FAILURE,

@@ -7,45 +7,23 @@
 # Needs rt, rustc and GNU time.
 set -euo pipefail
 cd "$(dirname "$0")/.."
+. bench/measure.sh
 
 records=${1:-1000000}
 few=10000
 rounds=10
-nfsacc=crates/nfsacc/out/nfsacc
-folder=$(mktemp -d)
-trap 'rm -rf "$folder"' EXIT
 
-(cd crates/nfsacc && rt run -- rpc </dev/null >"$folder/build.log" 2>&1) || {
-    cat "$folder/build.log"
-    exit 1
-}
-rustc -O --edition 2024 -o "$folder/plain" bench/rpc.rs
+build bench/rpc.rs
 "$folder/plain" stream "$records" >"$folder/records"
 "$folder/plain" stream "$few" >"$folder/few"
 
-# Runs a command on a file of records, and prints its seconds, its processor seconds and its peak memory in KiB.
-measure() {
-    local input=$1 output=$2
-    shift 2
-    /usr/bin/time -f '%e %U %S %M' -o "$folder/time" "$@" <"$input" >"$output"
-    awk '{ print $1, $2 + $3, $4 }' "$folder/time"
-}
-
-# The two programs by turns, so that both meet what else the machine does.
 for ((round = 0; round < rounds; round++)); do
-    measure "$folder/records" "$folder/nfsacc.out" "$nfsacc" rpc >>"$folder/nfsacc.times"
-    measure "$folder/records" "$folder/plain.out" "$folder/plain" answer >>"$folder/plain.times"
-    cmp "$folder/nfsacc.out" "$folder/plain.out"
+    compare "$folder/records" "$folder/times"
 done
 measure "$folder/few" "$folder/few.out" "$nfsacc" rpc >"$folder/few.times"
 
-# Of each the least seconds and processor seconds of all rounds, and the most memory.
-summed() {
-    awk 'NR == 1 || $1 < least { least = $1 } NR == 1 || $2 < busy { busy = $2 } $3 > most { most = $3 }
-        END { print least, busy, most }' "$1"
-}
-read -r nfsacc_seconds nfsacc_busy nfsacc_kib < <(summed "$folder/nfsacc.times")
-read -r plain_seconds plain_busy plain_kib < <(summed "$folder/plain.times")
+read -r nfsacc_seconds nfsacc_busy nfsacc_kib < <(summed "$folder/times.nfsacc")
+read -r plain_seconds plain_busy plain_kib < <(summed "$folder/times.plain")
 read -r _ _ few_kib < <(summed "$folder/few.times")
 
 awk -v records="$records" -v nfsacc="$nfsacc_seconds" -v plain="$plain_seconds" \

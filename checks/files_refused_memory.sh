@@ -8,13 +8,5 @@ cd "$(dirname "$0")/.."
 
 scratch_crate files_memory checks/files_refused_memory/main.rt.txt service nfs_types
 refuse_each 300
-for call in MNT SETATTR WRITE CREATE MKDIR SYMLINK LINK RENAME READDIR; do
-    count=$(grep -c "^refused 1 in $call, " "$work/lines" || true)
-    # One is for the reply, the others are for what the call does.
-    if [ "$count" -lt 2 ]; then
-        echo "$count requests of $call were refused:" >&2
-        cat "$work/lines" >&2
-        exit 1
-    fi
-    echo "$call: each of $count refused requests leaves all as it was"
-done
+# One is for the reply, the others are for what the call does.
+each_refused 2 MNT SETATTR WRITE CREATE MKDIR SYMLINK LINK RENAME READDIR

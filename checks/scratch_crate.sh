@@ -51,3 +51,19 @@ refuse_each() {
     fi
     grep -v '^refused 0' "$work/all_lines" > "$work/lines"
 }
+
+# each_refused LEAST CALL..
+# Sees in $work/lines that of each call at least LEAST requests were refused, and says how many.
+each_refused() {
+    local least=$1 call count
+    shift
+    for call in "$@"; do
+        count=$(grep -c "^refused 1 in $call, " "$work/lines" || true)
+        if [ "$count" -lt "$least" ]; then
+            echo "$count requests of $call were refused, and not $least:" >&2
+            cat "$work/lines" >&2
+            exit 1
+        fi
+        echo "$call: each of $count refused requests leaves all as it was"
+    done
+}

@@ -24,6 +24,9 @@ pub record IsFileAlone (f : File) : Type 0 where
 
 -- the numbers of files rise, from 1 to below the next, and each file keeps its rules
 pub record AreAlone (next : FileNumber) (es : List (FileNumber × File)) : Type 0 where
+  -- each number is above those before it
   pub rising : AreRising (numbers_of es)
+  -- each is one that was given
   pub numbers : All (λ e. (1 ≤ e.0) × (e.0 < next)) es
+  -- each file keeps its rules
   pub files : All (λ e. IsFileAlone e.1) es

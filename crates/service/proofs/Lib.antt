@@ -2,3 +2,4 @@ pub mod Answering
 pub mod Named
 pub mod Replied
 pub mod Sizes
+pub mod Staying

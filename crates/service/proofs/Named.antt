@@ -1,11 +1,11 @@
 -- The name of a machine that AUTH_SYS gives has at most 255 bytes.
 -- Serves: `checks::sys_caller`.
-use Rattle.std.proofs.Common.{◌≡◌, ℕ, ◌≤◌, List, length, Option, Some, None, ap, sym, ◌∙◌, rules}
+use Rattle.std.proofs.Common.{◌≡◌, ℕ, ◌≤◌, List, length, Option, Some, None, ap}
 use Rattle.std.specs.Prelude.{IfSome, option_map}
 use Rattle.xdr.specs.Item.{IsBytes}
 use Rattle.nfs_items.specs.Caller.{Caller}
 use Rattle.nfs_items.specs.CallerOf.{caller_of}
-use Rattle.nfs_items.specs.Credentials.{caller_in, caller_from}
+use Rattle.nfs_items.specs.Credentials.{caller_in}
 use Rattle.nfs_items.specs.declared.who.Who.{Who}
 use Rattle.nfs_items.proofs.Credentials.{said}
 use Rattle.service.specs.Views.{HasShortName}

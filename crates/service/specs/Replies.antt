@@ -12,7 +12,6 @@ use Rattle.nfs_items.specs.Caller.{Caller, nobody}
 use Rattle.nfs_items.specs.Credentials.{caller_in}
 use Rattle.nfs_types.specs.Calls.{Call}
 use Rattle.nfs_types.specs.Texts.{procedure_at, call_at, answer_text}
-use Rattle.nfs_types.specs.declared.arguments.NfsProcedure.{NfsProcedure}
 use Rattle.nfs_spec.specs.NfsCalls.{call_does}
 use Rattle.mount_types.specs.Calls.{MountCall}
 use Rattle.mount_types.specs.Texts as mount_texts

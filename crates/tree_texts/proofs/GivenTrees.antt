@@ -1,6 +1,7 @@
 -- Files that are well each by itself, and what it takes that they are a server's tree.
 -- Serves: `tree_of`.
-use Rattle.std.proofs.Common.{◌≡◌, ℕ, ◌<◌, ◌≤◌, ◌^◌, Bool, false, List, length, get_or, Result, Ok, Err, IfOk, sym, subst, ◌∙◌}
+use Rattle.std.proofs.Common.{◌≡◌, ℕ, ◌<◌, ◌≤◌, ◌^◌, Bool, false, List, length, get_or, Result, Ok, Err, IfOk}
+use Rattle.std.proofs.Common.{sym, subst, ◌∙◌}
 use Rattle.std.specs.Prelude.{IsTrue, ◌↔◌}
 use Rattle.std.specs.List.{All}
 use Rattle.std.proofs.lemmas.List.Elements.{All-nil, All-map, All-from_recursion}
@@ -25,6 +26,7 @@ use Rattle.tree_texts.specs.ServedTrees.{IsServedTree}
 
 -- ---- a file by itself
 
+-- the names of a file that keeps its rules and that a text holds are names within their limit
 are_names : (b : Body) → IsWritable b → IsBodyAlone b → AreNames (listing_in b).entries
 are_names (Regular bytes) w h = All-nil (λ (e : DirEntry). IsTrue (is_name (entry_name e))
     × (length (entry_name e) ≤ max_name))
@@ -33,9 +35,11 @@ are_names (Symlink target) w h = All-nil (λ (e : DirEntry). IsTrue (is_name (en
 are_names (Directory l) w h = λ i d lt.
     (h.names i d lt, All-from_recursion (λ (e : DirEntry). length e.0 ≤ max_name) l.entries w.1 i d lt)
 
+-- a file that keeps its rules is one
 is_file : (f : File) → IsFileAlone f → IsFile f
 is_file f h = record { mode = h.mode; atime = h.atime; mtime = h.mtime; ctime = h.ctime; body = h.body.body }
 
+-- a file whose names are names keeps its rules
 is_alone : (f : File) → IsFile f → AreNames (listing_in f.body).entries → IsFileAlone f
 is_alone f h names = record {
   mode = h.mode;
@@ -47,6 +51,7 @@ is_alone f h names = record {
 
 -- ---- files of parts
 
+-- the files of parts that a text can hold are such files
 given_writable : (parts : List FilePart) → All (λ (p : FilePart). IsWritable (body_of p.body)) parts
     → All (λ (e : ℕ × File). IsWritable e.1.body) (files_given parts)
 given_writable parts h = All-map (λ (e : ℕ × File). IsWritable e.1.body)

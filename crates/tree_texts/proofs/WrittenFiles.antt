@@ -1,6 +1,7 @@
 -- The files of a tree can be written, one after the other behind their count.
 -- Serves: `add_tree`, `add_tree_digests`.
-use Rattle.std.proofs.Common.{◌≡◌, ℕ, ◌≤◌, false, T, List, [], ◌∷◌, ◌++◌, map, length, get_or, Result, Some, is_some, refl, sym, ap, subst, ◌∙◌, arith}
+use Rattle.std.proofs.Common.{◌≡◌, ℕ, ◌≤◌, false, T, List, [], ◌∷◌, ◌++◌, map, length, get_or, Result, Some}
+use Rattle.std.proofs.Common.{is_some, refl, sym, ap, subst, ◌∙◌, arith}
 use Rattle.std.specs.Prelude.{IsTrue, OnOk, slice_get}
 use Rattle.std.specs.List.{All, AllByRecursion, IsDistinct}
 use Rattle.std.specs.Map.{keys_of}
@@ -32,11 +33,13 @@ use Rattle.file_texts.proofs.Arrays.{EachFits, texts, adds_counted, fits_counted
 
 -- ---- the files of a map, place by place
 
+-- what is less is not equal
 not_equal : (r : Ordering) → T (is_lt r) → is_eq r ≡ false
 not_equal Less h = refl
 not_equal Equal h = absurd h
 not_equal Greater h = refl
 
+-- a key below all others is none of them
 apart : {X : Type 0} (x : ℕ) (es : List (ℕ × X)) → T (below_all nat_cmp x es)
     → AllByRecursion (λ y. eq_by_cmp nat_cmp x y ≡ false) (keys_of es)
 apart x [] h = tt
@@ -44,6 +47,7 @@ apart x (e ∷ es) h =
     let b = both_of (is_lt (nat_cmp x e.0)) (below_all nat_cmp x es) h in
     (not_equal (nat_cmp x e.0) b.0, apart x es b.1)
 
+-- the keys of a map differ
 distinct : {X : Type 0} (es : List (ℕ × X)) → T (is_sorted nat_cmp es)
     → IsDistinct (eq_by_cmp nat_cmp) (keys_of es)
 unfolding IsDistinct
@@ -64,6 +68,7 @@ there w k e at =
 -- ---- what a text can hold
 
 module _ (w : Files) (tree : IsFileTree w) (room : IsTrue (has_room w)) where
+  -- a directory has no more entries than all together may have
   few_entries : (n : ℕ) (f : File) → file_at w n ≡ Some f → length (listing_in f.body).entries ≤ max_entries
   few_entries n f is =
       let count : File → ℕ = λ g. length (listing_in g.body).entries in
@@ -71,6 +76,7 @@ module _ (w : Files) (tree : IsFileTree w) (room : IsTrue (has_room w)) where
       let all = sum_by_second count (finite.entries w.files) in
       omega (arith, one, all, (within w room).entries)
 
+  -- its names are within their limit
   short_names : (n : ℕ) (f : File) → file_at w n ≡ Some f
       → All (λ (e : DirEntry). length e.0 ≤ max_name) (listing_in f.body).entries
   short_names n f is = λ i d h.
@@ -78,6 +84,7 @@ module _ (w : Files) (tree : IsFileTree w) (room : IsTrue (has_room w)) where
       (tree.names n x.0 (ap is_some (place_at w n f is (distinct_in f.body (tree.files n f is).body) i d
       h))).1
 
+  -- what is known of a file bounds its body
   bounded : (b : Body) → IsBody b → length (listing_in b).entries ≤ max_entries
       → All (λ (e : DirEntry). length e.0 ≤ max_name) (listing_in b).entries → IsWritable b
   bounded (Regular bytes) h few short = h
@@ -88,6 +95,7 @@ module _ (w : Files) (tree : IsFileTree w) (room : IsTrue (has_room w)) where
         l.entries short,
   )
 
+  -- so a text can hold each file
   writable_file : (n : ℕ) (f : File) → file_at w n ≡ Some f → IsWritable f.body
   writable_file n f is = bounded f.body (tree.files n f is).body (few_entries n f is) (short_names n f is)
 
@@ -100,6 +108,7 @@ module _ (w : Files) (tree : IsFileTree w) (room : IsTrue (has_room w)) where
       let at = sym (ap (λ es. slice_get es k) same) ∙ at_inode inodes k d h in
       writable_file e.0 (stored.file_in e.1) (there w k (e.0, stored.file_in e.1) at))
 
+  -- the files are within their limit
   pub few_files : length (finite.entries w.files) ≤ max_files
   few_files = let same = finite.len-entries w.files in omega (arith, same, (within w room).files)
 
@@ -115,13 +124,16 @@ module _ (a : Item) (said : ℕ × File → Value a) (inodes : List (ℕ × Inod
   abbrev value : ℕ × Inode → Value a
   value e = said (e.0, stored.file_in e.1)
 
+  -- what inodes say is what their files say
   each_said : (xs : List (ℕ × Inode)) → map value xs ≡ map said (files_in xs)
   each_said [] = refl
   each_said (x ∷ xs) = ap (λ vs. value x ∷ vs) (each_said xs)
 
+  -- and so what the files of the tree say
   all_said : map value inodes ≡ map said es
   all_said = each_said inodes ∙ ap (map said) same
 
+  -- what is said of all files has a spelling
   pub files_fit : {E : Type 0} (r : Result (Unit {0}) E) → length es ≤ max_files
       → OnOk r (EachFits a value inodes) → OnOk r (Fits (array max_files a) (map said es))
   files_fit r few each =
@@ -129,6 +141,7 @@ module _ (a : Item) (said : ℕ × File → Value a) (inodes : List (ℕ × Inod
       (fits_counted a value max_files inodes r (omega arith) (omega (arith, few, as_many inodes es same))
       each)
 
+  -- their texts behind their count are the spelling
   pub files_added : {E : Type 0} (old first new : List ℕ) (r : Result (Unit {0}) E)
       → first ≡ old ++ number_spelling 4 (length inodes) → Adds (texts a value inodes) first r new
       → Adds (spelling (array max_files a) (map said es)) old r new
