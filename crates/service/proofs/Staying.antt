@@ -1,12 +1,14 @@
 -- A server's world stays one, whatever bytes come at whatever time.
 -- Serves: `laws::worlds_stay_worlds`.
-use Rattle.std.proofs.Common.{◌≡◌, ℕ, ◌<◌, ◌≤◌, ◌^◌, ◌==◌, Bool, true, false, List, ◌++◌, length, Option, Some, None, Ok, Err, refl, sym, subst, ◌∙◌, arith}
+use Rattle.std.proofs.Common.{◌≡◌, ℕ, ◌<◌, ◌≤◌, ◌^◌, ◌==◌, Bool, true, false, List, ◌++◌, length, Option}
+use Rattle.std.proofs.Common.{Some, None, Ok, Err, refl, sym, subst, ◌∙◌, arith}
 use Rattle.std.specs.Prelude.{IsTrue, IfOk, if◌then◌else◌}
 use Rattle.std.proofs.Math.Seq.{drop-append_seam, take-append_seam}
 use Rattle.xdr.specs.Item.{IsBytes, number_spelling, spelling, padding, opaque}
 use Rattle.xdr.specs.Reading.{Read}
 use Rattle.xdr.proofs.Front.{IsBytes-drop, IsBytes-take}
-use Rattle.rpc.specs.Call.{CallHeader, Message, OtherVersion, Version2, message_at, Says, call_start, call_header, header_value, message_text, opaque_auth}
+use Rattle.rpc.specs.Call.{CallHeader, Message, OtherVersion, Version2, message_at, Says, call_start}
+use Rattle.rpc.specs.Call.{call_header, header_value, message_text, opaque_auth}
 use Rattle.rpc.proofs.Messages.{read_is_said}
 use Rattle.nfs_items.specs.Timeval.{Timeval, is_before}
 use Rattle.nfs_items.specs.Caller.{Caller, nobody}
@@ -29,8 +31,13 @@ use Rattle.mount_types.specs.Mounts.{Mounts, AreMounts}
 use Rattle.mount.specs.MountCalls.{host_of, mount_does}
 use Rattle.worlds.specs.World.{World, at_time}
 use Rattle.worlds.specs.IsWorld.{IsWorld}
-use Rattle.service.specs.declared.checks.TheConstants.{AUTH_NONE, AUTH_SYS, NFS_PROGRAM, NFS_VERSION, MOUNT_PROGRAM, MOUNT_VERSION}
-use Rattle.service.specs.Replies.{OrRefusal, ◌>>=◌, caller_or_refusal, caller_at, ServedCall, Nfs, Mount, version_served, procedure_or_refusal, arguments_or_refusal, machine_or_refusal, nfs_call_or_refusal, mount_call_or_refusal, program_call_or_refusal, call_or_refusal, call_reply, reply_to, world_after_call, world_after}
+use Rattle.service.specs.declared.checks.TheConstants.{AUTH_NONE, AUTH_SYS, NFS_PROGRAM, NFS_VERSION}
+use Rattle.service.specs.declared.checks.TheConstants.{MOUNT_PROGRAM, MOUNT_VERSION}
+use Rattle.service.specs.Replies.{OrRefusal, ◌>>=◌, caller_or_refusal, caller_at, ServedCall, Nfs, Mount}
+use Rattle.service.specs.Replies.{version_served, procedure_or_refusal, arguments_or_refusal}
+use Rattle.service.specs.Replies.{machine_or_refusal, nfs_call_or_refusal, mount_call_or_refusal}
+use Rattle.service.specs.Replies.{program_call_or_refusal, call_or_refusal, call_reply, reply_to}
+use Rattle.service.specs.Replies.{world_after_call, world_after}
 
 -- ---- parts of bytes
 
@@ -50,7 +57,8 @@ body_bytes h all =
     let behind =
     front_bytes credential verifier
     (back_bytes (number_spelling 4 h.procedure) (credential ++ verifier)
-    (back_bytes (number_spelling 4 h.version) procedure (back_bytes (number_spelling 4 h.program) version all))) in
+    (back_bytes (number_spelling 4 h.version) procedure
+    (back_bytes (number_spelling 4 h.program) version all))) in
     let length_and_body =
     back_bytes (number_spelling 4 h.credential.flavor) (spelling (opaque 400) h.credential.body) behind in
     let padded = h.credential.body ++ padding (length h.credential.body) in
@@ -109,11 +117,13 @@ known_caller flavor body bound =
 module _
     (trees : (fs : Files) (who : Caller) (now : Timeval) (call : Call)
     → IsFileTree fs → IsTime now → IsBounded call → IsFileTree (call_does fs who now call).1)
-    (room : (fs : Files) (who : Caller) (now : Timeval) (call : Call) → IsFileTree fs → IsTime now → IsBounded call
+    (room : (fs : Files) (who : Caller) (now : Timeval) (call : Call) → IsFileTree fs → IsTime now
+    → IsBounded call
     → IsTrue (has_room fs) → IsTrue (has_room (call_does fs who now call).1))
     (words : (fs : Files) (who : Caller) (now : Timeval) (call : Call)
     → AreWords fs → SaysWords who now → HasWordsIn call → AreWords (call_does fs who now call).1)
-    (number : (fs : Files) (who : Caller) (now : Timeval) (call : Call) → (call_does fs who now call).1.fsid ≡ fs.fsid)
+    (number : (fs : Files) (who : Caller) (now : Timeval) (call : Call) → (call_does fs who now call).1.fsid
+    ≡ fs.fsid)
     (bounded : (call : Call) → HasBounds call → IsBounded call × HasWordsIn call)
     (read : (procedure : NfsProcedure) (bytes rest : List ℕ) (call : Call) → IsBytes bytes
     → call_at procedure bytes ≡ Ok (call, rest) → HasBounds call)
@@ -124,18 +134,22 @@ module _
         → IfOk (nfs_call_or_refusal h arguments) IsWithin
     nfs_within h arguments bound =
         bind_if (λ _. Unit {0}) IsWithin (version_served NFS_VERSION h.version) _ (passes _) (λ _ _.
-        bind_if (λ _. Unit {0}) IsWithin (procedure_or_refusal (procedure_at h.procedure)) _ (passes _) (λ p _.
-        bind_if HasBounds IsWithin (arguments_or_refusal (call_at p arguments)) _ (by p (call_at p arguments) refl)
+        bind_if (λ _. Unit {0}) IsWithin (procedure_or_refusal (procedure_at h.procedure)) _ (passes _)
+        (λ p _.
+        bind_if HasBounds IsWithin (arguments_or_refusal (call_at p arguments)) _
+        (by p (call_at p arguments) refl)
         (λ call b. b)))
       where
-        by : (p : NfsProcedure) (r : Read Call) → call_at p arguments ≡ r → IfOk (arguments_or_refusal r) HasBounds
+        by : (p : NfsProcedure) (r : Read Call) → call_at p arguments ≡ r
+            → IfOk (arguments_or_refusal r) HasBounds
         by p (Ok x) is = read p arguments x.1 x.0 bound is
         by p (Err e) is = tt
 
     mount_within : (h : CallHeader) (arguments : List ℕ) → IfOk (mount_call_or_refusal h arguments) IsWithin
     mount_within h arguments =
         bind_if (λ _. Unit {0}) IsWithin (version_served MOUNT_VERSION h.version) _ (passes _) (λ _ _.
-        bind_if (λ _. Unit {0}) IsWithin (procedure_or_refusal (mount_texts.procedure_at h.procedure)) _ (passes _) (λ p _.
+        bind_if (λ _. Unit {0}) IsWithin (procedure_or_refusal (mount_texts.procedure_at h.procedure)) _
+        (passes _) (λ p _.
         bind_if (λ _. Unit {0}) IsWithin (machine_or_refusal p h.credential.flavor) _ (passes _) (λ _ _.
         bind_if (λ _. Unit {0}) IsWithin (arguments_or_refusal (mount_texts.call_at p arguments)) _ (passes _)
         (λ call _. tt))))
@@ -163,7 +177,8 @@ module _
             tree = trees w.files who w.clock call h.tree h.clock b.0;
             room = room w.files who w.clock call h.tree h.clock b.0 h.room;
             words =
-                words w.files who w.clock call h.words (record { uid = k.0.uid; gid = k.0.gid; seconds = h.seconds }) b.1;
+                words w.files who w.clock call h.words
+                (record { uid = k.0.uid; gid = k.0.gid; seconds = h.seconds }) b.1;
             clock = h.clock;
             seconds = h.seconds;
             mounts = h.mounts;
@@ -178,12 +193,14 @@ module _
         mounts = mounted w.files w.mounts who call h.mounts k.0.host;
       }
 
-      message_stays : (w : World) → IsWorld node w → (bytes : List ℕ) → IsBytes bytes → (m : Message) (rest : List ℕ)
+      message_stays : (w : World) → IsWorld node w → (bytes : List ℕ) → IsBytes bytes
+          → (m : Message) (rest : List ℕ)
           → Says bytes m rest → IsWorld node (reply_to w m rest).1
       message_stays w h bytes bound (OtherVersion xid version) rest says = h
       message_stays w h bytes bound (Version2 xid c) rest says =
           let all = subst IsBytes says.bytes_are bound in
-          let header = back_bytes (spelling call_start (xid, (0, 2))) (spelling call_header (header_value c)) (front_bytes (message_text (Version2 xid c)) rest all) in
+          let header = back_bytes (spelling call_start (xid, (0, 2))) (spelling call_header (header_value c))
+          (front_bytes (message_text (Version2 xid c)) rest all) in
           let arguments = back_bytes (message_text (Version2 xid c)) rest all in
           reply_stays w h xid (call_or_refusal c rest) (call_within c rest (body_bytes c header) arguments)
 
@@ -195,17 +212,21 @@ module _
         room = h.room;
         words = h.words;
         clock = if_either IsTime (is_before time w.clock) w.clock time h.clock is;
-        seconds = if_either (λ (t : Timeval). t.seconds < 2 ^ 32) (is_before time w.clock) w.clock time h.seconds low;
+        seconds =
+            if_either (λ (t : Timeval). t.seconds < 2 ^ 32)
+            (is_before time w.clock) w.clock time h.seconds low;
         mounts = h.mounts;
       }
 
       -- whatever bytes come
-      pub stays : (w : World) (time : Timeval) (bytes : List ℕ) → IsWorld node w → IsTime time → time.seconds < 2 ^ 32
+      pub stays : (w : World) (time : Timeval) (bytes : List ℕ) → IsWorld node w → IsTime time
+          → time.seconds < 2 ^ 32
           → IsBytes bytes → IsWorld node (world_after w time bytes)
       unfolding world_after
       stays w time bytes h is low bound = by (message_at bytes) refl
         where
           by : (r : Read Message) → message_at bytes ≡ r → IsWorld node (world_after_call (at_time w time) r)
           by (Ok x) found =
-              message_stays (at_time w time) (at_time_stays w time h is low) bytes bound x.0 x.1 (read_is_said bytes x bound found)
+              message_stays (at_time w time) (at_time_stays w time h is low) bytes bound x.0 x.1
+              (read_is_said bytes x bound found)
           by (Err e) found = at_time_stays w time h is low

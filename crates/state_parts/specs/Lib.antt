@@ -1,0 +1,3 @@
+pub mod SaidParts
+pub mod Bounds
+pub mod Taking
