@@ -10,7 +10,8 @@ use inodes::Inode;
 use sha2::{Digest, Sha256};
 use std::alloc::AllocError;
 
-/// The digest of the text of a file with its number. The text is made in `buffer`, in place of what it holds.
+/// The digest of the text of a file with its number. `buffer` is room for the text: what it holds before and
+/// after means nothing.
 #[tactic(auto, unfolding(crate::specs::FileItems::file_digest))]
 pub fn file_digest(number: u32, inode: &Inode, buffer: &mut Vec<u8>) -> Result<[u8; 32], AllocError>
     requires { IsWritable (body_in inode.now.body) }

@@ -16,8 +16,8 @@ use tree_rules::directory_of;
 /// The first number that is no mode: a mode has twelve bits.
 const MODES: u32 = 0o10000;
 
-/// The inode of a file's parts, with no links and no directory above yet. None exactly where they break a
-/// rule that a file keeps by itself.
+/// The inode of a file's parts. None exactly where they break a rule that a file keeps by itself. What it
+/// keeps beside the file, its links and the directory above, says nothing yet.
 pub fn inode_of(alloc: Global, part: &FilePart) -> Result<Option<Inode>, AllocError>
     requires { IsWritable (body_of part.now.body) }
     ensures { IfOk result (λ inode. MatchOption inode (IsFileAlone (file_of part.now) → ⊥)
@@ -59,7 +59,8 @@ fn time_of(part: &TimePart) -> Option<Time>
     Time::new(part.seconds, part.microseconds)
 }
 
-/// The body of a part, with no directory above yet. None exactly where a directory's entries break a rule.
+/// The body of a part, whose directory above says nothing yet. None exactly where a directory's entries break a
+/// rule.
 fn body_of(alloc: Global, part: &BodyPart) -> Result<Option<Body>, AllocError>
     requires { IsWritable (body_of part.now) }
     ensures { IfOk result (λ body. MatchOption body (IsBodyAlone (body_of part.now) → ⊥)
