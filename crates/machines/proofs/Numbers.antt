@@ -13,11 +13,13 @@ use Rattle.state_spec.specs.State.{Idle, Heard, Owes, Machine, Server, Client}
 use Rattle.machines.specs.Machines.{IsOf}
 use Rattle.machines.specs.Steps.{after_reading}
 
-after_results : (w : World) (who : Caller) (call : ServedCall) → (call_results w who call).1.files.fsid ≡ w.files.fsid
+after_results : (w : World) (who : Caller) (call : ServedCall) → (call_results w who call).1.files.fsid
+    ≡ w.files.fsid
 after_results w who (Nfs call) = (heads w.files who w.clock call).node
 after_results w who (Mount call) = refl
 
-after_reply : (w : World) (xid : ℕ) (o : OrRefusal (Caller × ServedCall)) → (call_reply w xid o).1.files.fsid ≡ w.files.fsid
+after_reply : (w : World) (xid : ℕ) (o : OrRefusal (Caller × ServedCall))
+    → (call_reply w xid o).1.files.fsid ≡ w.files.fsid
 after_reply w xid (Err body) = refl
 after_reply w xid (Ok x) = after_results w x.0 x.1
 
@@ -30,7 +32,8 @@ after_call w (Err e) = refl
 after_call w (Ok x) = after_message w x.0 x.1
 
 -- the world after a record is of the same server
-pub after_record : (w : World) (time : Timeval) (bytes : List ℕ) → (world_after w time bytes).files.fsid ≡ w.files.fsid
+pub after_record : (w : World) (time : Timeval) (bytes : List ℕ) → (world_after w time bytes).files.fsid
+    ≡ w.files.fsid
 unfolding world_after
 after_record w time bytes = after_call (at_time w time) (message_at bytes)
 

@@ -54,8 +54,8 @@ impl State {
         }
     }
 
-    /// The clock is read. A server answers the message that it heard at this time, and then owes the reply, if
-    /// one is owed; one that heard none stays as it is. A client's clock shows this time. Where memory is
+    /// The clock is read. A server answers the message that it heard at this time, and then owes the reply,
+    /// if one is owed; one that heard none stays as it is. A client's clock shows this time. Where memory is
     /// refused nothing changes.
     pub fn read_clock(&mut self, alloc: Global, time: Time) -> Result<(), AllocError>
         ensures ok { OnOk result (self.new ≡ having_read self.old time) }

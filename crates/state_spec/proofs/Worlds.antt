@@ -34,7 +34,8 @@ use Rattle.state_spec.specs.StateItems.{mount_item, stage_item, stage_value, res
 
 module _ {X : Type 0} (P : ℕ → X → Type 0) where
   -- what holds of all that is found in entries whose numbers rise holds of each of them
-  pub all_found : (es : List (ℕ × X)) → T (is_sorted nat_cmp es) → ((n : ℕ) (v : X) → find nat_cmp n es ≡ Some v → P n v)
+  pub all_found : (es : List (ℕ × X)) → T (is_sorted nat_cmp es)
+      → ((n : ℕ) (v : X) → find nat_cmp n es ≡ Some v → P n v)
       → AllByRecursion (λ (e : ℕ × X). P e.0 e.1) es
   all_found [] sorted holds = tt
   all_found (e ∷ es) sorted holds =
@@ -46,7 +47,8 @@ module _ {X : Type 0} (P : ℕ → X → Type 0) where
       behind : (n : ℕ) (v : X) → T (below_all nat_cmp e.0 es) → find nat_cmp n es ≡ Some v → (b : Bool)
           → eq_by_cmp nat_cmp n e.0 ≡ b → find nat_cmp n (e ∷ es) ≡ Some v
       behind n v below at true is =
-          absurd (none_some (sym (ap (λ m. find nat_cmp m es) (same_number n e.0 is) ∙ none_above e.0 es below) ∙ at))
+          absurd (none_some (sym (ap (λ m. find nat_cmp m es) (same_number n e.0 is)
+          ∙ none_above e.0 es below) ∙ at))
       behind n v below at false is = cond-false _ _ _ is ∙ at
 
 -- what holds of what each item gives holds of all that is given
@@ -74,7 +76,8 @@ module _ (P : List ℕ → ℕ × ℕ → Type 0) where
           → cond (pointwise nat_eq name e.0) (Some e.1) (lookup (pointwise nat_eq name) es) ≡ Some v
       behind name v at true same =
           absurd (none_some (sym (not_before nat_list_eq_equiv e.0 name same es distinct.0) ∙ at))
-      behind name v at false other = ap (λ b. cond b (Some e.1) (lookup (pointwise nat_eq name) es)) other ∙ at
+      behind name v at false other = ap (λ b. cond b (Some e.1) (lookup (pointwise nat_eq name) es)) other
+          ∙ at
 
 at_most : (low : ℕ) (es : List DirEntry) (high : ℕ) → IsRising low es high → low ≤ high
 at_most low [] high h = h
@@ -82,7 +85,8 @@ at_most low (e ∷ es) high h = omega (arith, h.0, at_most (e.1.1 + 1) es high h
 
 -- entries whose names are short and whose numbers are words fit, where their cookies rise to a word
 each_fits : (low : ℕ) (es : List DirEntry) (high : ℕ) → high ≤ 4294967295 → IsRising low es high
-    → AllByRecursion (λ (e : DirEntry). (e.1.0 < 2 ^ 32) × (length e.0 ≤ max_name)) es → AllByRecursion (Fits entry_item) es
+    → AllByRecursion (λ (e : DirEntry). (e.1.0 < 2 ^ 32) × (length e.0 ≤ max_name)) es
+    → AllByRecursion (Fits entry_item) es
 each_fits low [] high le h all = tt
 each_fits low (e ∷ es) high le h all = (
   ((omega (arith, all.0.1), all.0.1), (all.0.0, omega (arith, le, at_most (e.1.1 + 1) es high h.1))),
@@ -121,14 +125,23 @@ module _ (w : Files) (tree : IsFileTree w) (room : IsWithin w) (words : AreWords
       let next = ap (λ (l : Listing). l.next) same in
       let count = ap (λ (l : Listing). length l.entries) same in
       let few : length l.entries ≤ max_entries =
-      omega (arith, total_without (λ g. length (listing_in g.body).entries) w n f there, count, room.entries) in (
+      omega (
+        arith,
+        total_without (λ g. length (listing_in g.body).entries) w n f
+            there,
+        count,
+        room.entries,
+      ) in (
         omega (arith, few),
         few,
         each_fits 3 l.entries l.next (omega (arith, next, room.cookies n f there)) body.0
             (all_named (λ name v. (v.0 < 2 ^ 32) × (length name ≤ max_name)) l.entries body.1 (λ name v at.
             let place : places w n name ≡ Some v =
-            ap (option_and_then (λ f. entry_at (listing_in f.body) name)) there ∙ ap (λ l. entry_at l name) same ∙ at in
-            (number_fits v.0 (tree.tree.named n name v.0 v.1 place), (tree.names n name (ap is_some place)).1))),
+            ap (option_and_then (λ f. entry_at (listing_in f.body) name)) there
+            ∙ ap (λ l. entry_at l name) same ∙ at in (
+              number_fits v.0 (tree.tree.named n name v.0 v.1 place),
+              (tree.names n name (ap is_some place)).1,
+            ))),
       )
 
   kind_fits : (n : ℕ) (f : File) (b : Body) → file_at w n ≡ Some f → f.body ≡ b
@@ -144,7 +157,14 @@ module _ (w : Files) (tree : IsFileTree w) (room : IsWithin w) (words : AreWords
       let next = ap (λ b. (listing_in b).next) own in (
         omega arith,
         refl,
-        (attributes_fit n f there, (omega (arith, next, room.cookies n f there), entries_fit n f l there own)),
+        (
+          attributes_fit n f there,
+          (
+            omega (arith, next, room.cookies n f there),
+            entries_fit n f l there
+                own,
+          ),
+        ),
       )
 
   -- files that are a tree within all limits fit in a text
@@ -155,7 +175,8 @@ module _ (w : Files) (tree : IsFileTree w) (room : IsWithin w) (words : AreWords
       omega (arith, length-map es file_value, finite.len-entries w.files, room.files) in (
         omega (arith, few),
         few,
-        all_mapped file_value (Fits file_item) es (all_found (λ n f. Fits file_item (file_value (n, f))) es (finite.entries_sorted w.files) (λ n f at.
+        all_mapped file_value (Fits file_item) es (all_found (λ n f. Fits file_item (file_value (n, f))) es
+            (finite.entries_sorted w.files) (λ n f at.
             let there = finite.get-entries w.files n ∙ at in
             (number_fits n (ap is_some there), kind_fits n f f.body there refl))),
       )

@@ -1,0 +1,5 @@
+pub mod Chosen
+pub mod Fronted
+pub mod MountedHosts
+pub mod OneText
+pub mod PartStates

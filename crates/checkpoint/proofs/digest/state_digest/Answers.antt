@@ -1,0 +1,14 @@
+use Rattle.std.proofs.Common.{ap, ◌∙◌}
+use Rattle.sha2.specs.Sha256.{sha256}
+use Rattle.xdr.specs.Item.{fixed}
+use Rattle.file_texts.specs.FileItems.{file_digest}
+use Rattle.state_spec.specs.StateText.{state_digest}
+use Rattle.checkpoint.proofs.Fronted.{made}
+use Rattle.checkpoint.proofs.digest.state_digest.Goals as goal
+
+pub returns : goal.returns
+unfolding state_digest
+returns c =
+    c.digest.ensures
+    ∙ ap sha256 (c.as_slice.ensures.value ∙ made (fixed 32) file_digest c.args.state.now _ _ _ _
+    c.new-out.ensures.items c.in_ok-add_front.ensures c.machine.ensures c.in_ok-add_digests.ensures)

@@ -1,0 +1,11 @@
+use Rattle.file_texts.specs.FileItems.{file_item, file_value}
+use Rattle.checkpoint.proofs.Fronted.{made}
+use Rattle.checkpoint.proofs.text.state_text.Goals as goal
+
+pub returns : goal.returns
+returns c = record {
+  state = c.is_a_state.ensures.state;
+  fits = c.is_a_state.ensures.fits;
+  spelled = made file_item file_value c.args.state.now _ _ _ _ c.new-out.ensures.items
+      c.in_ok-add_front.ensures c.machine.ensures c.in_ok-add_files.ensures;
+}
