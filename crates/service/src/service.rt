@@ -6,6 +6,7 @@ ghost use Rattle.records.specs.declared.record.TheConstants.{MAX_RECORD};
 ghost use Rattle.rpc.specs.Call.{Message};
 ghost use Rattle.rpc.specs.CallValues.{IsCallOf};
 ghost use Rattle.nfs_items.specs.CallerOf.{caller_of};
+ghost use Rattle.worlds.specs.IsWorld.{IsWorld};
 ghost use Rattle.worlds.specs.World.{opening_world, world_of};
 ghost use Rattle.service.specs.Replies.{bare_reply, call_results, call_reply, reply_to, reply_owed};
 ghost use Rattle.service.specs.Replies.{world_after};
@@ -85,6 +86,17 @@ impl Service {
         ensures { result.now ≡ self.now.mounts }
     {
         &self.mounts
+    }
+
+    /// Its world is one that a server can have, as each call keeps it: does nothing, and tells a caller's
+    /// proof.
+    pub fn is_a_world(&self)
+        ensures { IsWorld self.now.files.fsid self.now }
+    {
+        self.tree.files_are_a_tree();
+        self.mounts.are_mounts();
+        let _seconds = self.clock.seconds();
+        let _microseconds = self.clock.microseconds();
     }
 
     /// The reply that is owed to a record at a time, if one is (RFC 5531, section 9); it has at most

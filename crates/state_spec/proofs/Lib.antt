@@ -3,3 +3,4 @@ pub mod Forth
 pub mod Fitting
 pub mod Ruled
 pub mod Texts
+pub mod Worlds

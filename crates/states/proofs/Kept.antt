@@ -3,7 +3,7 @@
 use Rattle.std.proofs.Common.{◌≡◌, ⊎_elim, true≢false, ℕ, ◌+◌, ◌-◌, ◌<◌, ◌≤◌, Bool, true, false, cond, List}
 use Rattle.std.proofs.Common.{[], ◌∷◌, ◌++◌, map, length, get_or, take, drop, None, refl, sym, ap, subst, ◌∙◌}
 use Rattle.std.proofs.Common.{arith, Ordering, Less, Equal, Greater}
-use Rattle.std.specs.Map.{lookup, keys_of}
+use Rattle.std.specs.Map.{lookup, keys_of, remove_entry}
 use Rattle.std.specs.List.{list_any, AllByRecursion}
 use Rattle.std.specs.List.Sorted.{IsStrictlySortedBy}
 use Rattle.std.specs.Ordering.{nat_cmp, eq_by_cmp, match_ordering, is_lt, ordering_reverse}
@@ -217,6 +217,39 @@ module _ {K : Type 0} {R : K → K → Ordering} (total : IsTotalOrder R) where
       → ((at : ℕ) → at + 1 < length ks → R (get_or ks at d) (get_or ks (at + 1) d) ≡ Less)
       → IsStrictlySortedBy R ks
   rising_by_steps ks d steps = sorted_from_all_adjacent total ks d steps
+
+-- ---- what holds of each key or entry
+
+module _ {K : Type 0} (R : K → K → Ordering) (P : K → Type 0) where
+  -- what holds of each key and of one more holds of all of them
+  pub all_with : (ks : List K) (k : K) → AllByRecursion P ks → P k → AllByRecursion P (insert_key R ks k)
+  all_with [] k all one = (one, tt)
+  all_with (x ∷ xs) k all one =
+      elim (R k x) as (λ (o : Ordering). AllByRecursion P (match_ordering o (k ∷ x ∷ xs) (x ∷ xs) (x ∷ insert_key R xs k))) [
+        | Less ↦ (one, all)
+        | Equal ↦ all
+        | Greater ↦ (all.0, all_with xs k all.1 one)
+      ]
+
+module _ {K X : Type 0} (P : K × X → Type 0) where
+  -- what holds of each entry and of one more, and goes over to its value under another key, holds of all of them
+  pub all_with_entry : (R : K → K → Ordering) (es : List (K × X)) (k : K) (v : X) → AllByRecursion P es → P (k, v)
+      → ((e : K × X) → P e → P (e.0, v)) → AllByRecursion P (insert_entry R es k v)
+  all_with_entry R [] k v all one other = (one, tt)
+  all_with_entry R (e ∷ es) k v all one other =
+      elim (R k e.0) as (λ (o : Ordering). AllByRecursion P (match_ordering o ((k, v) ∷ e ∷ es) ((e.0, v) ∷ es) (e ∷ insert_entry R es k v))) [
+        | Less ↦ (one, all)
+        | Equal ↦ (other e all.0, all.1)
+        | Greater ↦ (all.0, all_with_entry R es k v all.1 one other)
+      ]
+
+  -- what holds of each entry holds of those that are left
+  pub all_without : (test : K → Bool) (es : List (K × X)) → AllByRecursion P es → AllByRecursion P (remove_entry test es)
+  all_without test [] all = tt
+  all_without test (e ∷ es) all = elim (test e.0) as (λ b. AllByRecursion P (cond b es (e ∷ remove_entry test es))) [
+    | true ↦ all.1
+    | false ↦ (all.0, all_without test es all.1)
+  ]
 
 is_less : (o : Ordering) → is_lt o ≡ true → o ≡ Less
 is_less Less h = refl

@@ -1,6 +1,7 @@
 //! Messages, as a state knows them.
 
-ghost use Rattle.std.specs.Prelude.{◌≡◌};
+ghost use Rattle.std.specs.Prelude.{◌≡◌, ◌<◌, ◌^◌, length};
+ghost use Rattle.states.specs.Bounds.{ReceivedFits};
 
 use std::marker::Model;
 
@@ -52,6 +53,14 @@ impl ReceivedMessage {
         ensures { result.now ≡ self.now.hash }
     {
         &self.hash
+    }
+
+    /// Its parts are within their bounds: does nothing, and tells a caller's proof.
+    pub(crate) fn is_bounded(&self)
+        ensures { ReceivedFits self.now }
+    {
+        let _from = self.from;
+        let _seq = self.seq;
     }
 }
 
@@ -107,5 +116,14 @@ impl SentMessage {
         ensures { result.now ≡ self.now.body_hash }
     {
         &self.body_hash
+    }
+
+    /// Its parts are within their bounds: does nothing, and tells a caller's proof.
+    pub(crate) fn is_bounded(&self)
+        ensures to { self.now.to < 2 ^ 32 }
+        ensures prev { length self.now.prev ≡ 32 }
+        ensures body_hash { length self.now.body_hash ≡ 32 }
+    {
+        let _to = self.to;
     }
 }

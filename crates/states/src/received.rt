@@ -10,6 +10,8 @@ ghost use Rattle.xdr.specs.Writing.{Adds};
 ghost use Rattle.state_spec.specs.State.{received_cmp, is_received, with_received};
 ghost use Rattle.state_spec.specs.StateItems.{received_item, received_value};
 ghost use Rattle.state_spec.specs.StateValues.{set_from};
+ghost use Rattle.state_spec.specs.Limits.{max_received};
+ghost use Rattle.states.specs.Bounds.{ReceivedFits};
 
 use crate::message::ReceivedMessage;
 use crate::texts::add_received;
@@ -33,7 +35,8 @@ impl Model for Received {
     ghost use Rattle.state_spec.specs.State.{received_cmp};
     ghost use Rattle.state_spec.specs.Codes.{received_code};
     ghost use Rattle.state_spec.specs.StateValues.{set_from};
-    ghost use Rattle.states.specs.Kept.{AreFewAndRise};
+    ghost use Rattle.states.specs.Bounds.{ReceivedFits};
+    ghost use Rattle.states.specs.Kept.{AreKept};
     ghost use Rattle.states.specs.declared.received.TheConstants.{MAX_RECEIVED};
 
     ghost Value = { FinSet received_cmp };
@@ -42,7 +45,8 @@ impl Model for Received {
 
     ghost view = { λ s. set_from received_cmp s.messages.keys };
 
-    ghost invariant = { λ s. AreFewAndRise received_cmp MAX_RECEIVED s.messages.keys };
+    ghost invariant = { λ s.
+        AreKept received_cmp ReceivedFits MAX_RECEIVED s.messages.keys s.messages.keys };
 }
 
 impl Received {
@@ -76,6 +80,7 @@ impl Received {
         ensures ok { OnOk result (self.new ≡ with_received self.old message) }
         ensures err { OnErr result (self.new ≡ self.old) }
     {
+        message.is_bounded();
         self.messages.insert(message)?;
         Ok(())
     }
@@ -95,6 +100,14 @@ impl Received {
         Ok(Some(Received {
             messages: set_of(alloc, messages)?,
         }))
+    }
+
+    /// They are within the bounds of a text, as their types keep them: does nothing, and tells a caller's
+    /// proof.
+    pub fn are_bounded(&self)
+        ensures { Fits (array max_received received_item) (map received_value (keys self.now)) }
+    {
+        let _messages = &self.messages;
     }
 
     /// Appends them behind their count; where memory is refused a part may stand.
@@ -136,10 +149,12 @@ fn set_of(
     messages: &[ReceivedMessage],
 ) -> Result<BTreeSet<ReceivedMessage>, AllocError>
     requires { IsStrictlySortedBy received_cmp messages.now }
-    ensures { IfOk result (λ set. set.keys ≡ messages.now) }
+    ensures keys { IfOk result (λ set. set.keys ≡ messages.now) }
+    ensures bounded { IfOk result (λ set. AllByRecursion ReceivedFits set.keys) }
 {
     let mut set = BTreeSet::new(alloc);
     for message in messages {
+        message.is_bounded();
         set.insert(*message)?;
     }
     Ok(set)

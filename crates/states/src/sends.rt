@@ -10,6 +10,8 @@ ghost use Rattle.xdr.specs.Item.{Fits, array, spelling};
 ghost use Rattle.xdr.specs.Writing.{Adds};
 ghost use Rattle.state_spec.specs.StateItems.{sent_item, sent_value};
 ghost use Rattle.state_spec.specs.StateValues.{map_from};
+ghost use Rattle.state_spec.specs.Limits.{max_sends};
+ghost use Rattle.states.specs.Bounds.{SentFits};
 ghost use Rattle.states.specs.Numbered.{numbered};
 
 use crate::message::SentMessage;
@@ -37,7 +39,8 @@ impl Model for Sends {
     ghost use Rattle.state_spec.specs.State.{SentMessage};
     ghost use Rattle.state_spec.specs.Codes.{sent_code};
     ghost use Rattle.state_spec.specs.StateValues.{map_from};
-    ghost use Rattle.states.specs.Kept.{AreFewAndRise};
+    ghost use Rattle.states.specs.Bounds.{SentFits};
+    ghost use Rattle.states.specs.Kept.{AreKept};
     ghost use Rattle.states.specs.declared.sends.TheConstants.{MAX_SENDS};
 
     ghost Value = { finite.FinMap nat_cmp SentMessage };
@@ -46,7 +49,8 @@ impl Model for Sends {
 
     ghost view = { λ s. map_from nat_cmp s.messages.entries };
 
-    ghost invariant = { λ s. AreFewAndRise nat_cmp MAX_SENDS (keys_of s.messages.entries) };
+    ghost invariant = { λ s.
+        AreKept nat_cmp SentFits MAX_SENDS (keys_of s.messages.entries) s.messages.entries };
 }
 
 impl Sends {
@@ -81,6 +85,7 @@ impl Sends {
         ensures ok { OnOk result (self.new ≡ insert self.old seq message) }
         ensures err { OnErr result (self.new ≡ self.old) }
     {
+        message.is_bounded();
         self.messages.insert(seq, message)?;
         Ok(())
     }
@@ -106,6 +111,14 @@ impl Sends {
         Ok(Some(Sends {
             messages: map_of(alloc, messages)?,
         }))
+    }
+
+    /// They are within the bounds of a text, as their types keep them: does nothing, and tells a caller's
+    /// proof.
+    pub fn are_bounded(&self)
+        ensures { Fits (array max_sends sent_item) (map sent_value (entries self.now)) }
+    {
+        let _messages = &self.messages;
     }
 
     /// Appends them behind their count; where memory is refused a part may stand.
@@ -141,10 +154,12 @@ fn map_of(
     messages: &[NumberedSend],
 ) -> Result<BTreeMap<u64, SentMessage>, AllocError>
     requires { IsStrictlySortedBy nat_cmp (keys_of (numbered messages.now)) }
-    ensures { IfOk result (λ map. map.entries ≡ numbered messages.now) }
+    ensures entries { IfOk result (λ map. map.entries ≡ numbered messages.now) }
+    ensures bounded { IfOk result (λ map. AllByRecursion SentFits map.entries) }
 {
     let mut map = BTreeMap::new(alloc);
     for sent in messages {
+        sent.is_bounded();
         map.insert(sent.seq, sent.message)?;
     }
     Ok(map)

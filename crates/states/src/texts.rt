@@ -6,6 +6,7 @@ ghost use Rattle.xdr.specs.Reading.{GivesUnless};
 ghost use Rattle.xdr.specs.ReadError.{xdr_fault};
 ghost use Rattle.xdr.specs.Writing.{Adds};
 ghost use Rattle.state_spec.specs.StateItems.{received_item, received_value, sent_item, sent_value};
+ghost use Rattle.states.specs.Bounds.{SentFits};
 
 use crate::message::{ReceivedMessage, SentMessage};
 use std::alloc::{AllocError, Global};
@@ -16,6 +17,16 @@ use xdr::{FromXdr, ReadError, Reader, Writer, put_back_on_err};
 pub struct NumberedSend {
     pub seq: u64,
     pub message: SentMessage,
+}
+
+impl NumberedSend {
+    /// Its parts are within their bounds: does nothing, and tells a caller's proof.
+    pub(crate) fn is_bounded(&self)
+        ensures { SentFits (self.now.seq, self.now.message) }
+    {
+        let _seq = self.seq;
+        self.message.is_bounded();
+    }
 }
 
 impl<'a> FromXdr<'a> for ReceivedMessage {

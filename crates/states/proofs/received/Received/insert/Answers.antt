@@ -1,9 +1,11 @@
-use Rattle.std.proofs.Common.{◌<◌, length, sym, ap, ◌∙◌, arith}
+use Rattle.std.proofs.Common.{◌<◌, length, sym, ap, subst, ◌∙◌, arith}
 use Rattle.std.specs.FinMap.{len}
+use Rattle.std.specs.List.{AllByRecursion}
 use Rattle.state_spec.specs.State.{received_cmp, with_received}
+use Rattle.states.specs.Bounds.{ReceivedFits}
 use Rattle.states.specs.declared.received.TheConstants.{MAX_RECEIVED}
 use Rattle.states.proofs.Orders.{received_total}
-use Rattle.states.proofs.Kept.{len_of_set, one_within, set_with}
+use Rattle.states.proofs.Kept.{len_of_set, one_within, set_with, all_with}
 use Rattle.states.proofs.received.Received.insert.Goals as goal
 
 pub invariant_of-self-2 : goal.invariant_of-self-2
@@ -17,6 +19,7 @@ invariant_of-self-2 c =
           one_within c.in_ok-insert.field-0 (length c.self.inside.messages.keys) _ MAX_RECEIVED
           c.in_ok-insert.ensures.len below;
       rising = c.in_ok-insert.ensures.ordered;
+      bounded = subst (AllByRecursion ReceivedFits) (sym c.in_ok-insert.ensures.keys) (all_with received_cmp ReceivedFits c.self.inside.messages.keys c.args.message c.self.invariant.bounded c.is_bounded.ensures);
     }
 
 pub returns-clause-ok : goal.returns-clause-ok

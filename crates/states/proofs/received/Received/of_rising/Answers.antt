@@ -7,9 +7,10 @@ use Rattle.states.proofs.received.Received.of_rising.Goals as goal
 
 pub invariant_of-result : goal.invariant_of-result
 invariant_of-result c = record {
-  few = subst (λ ks. length ks ≤ MAX_RECEIVED) (sym c.in_ok-set_of.ensures) c.requires;
-  rising = subst (IsStrictlySortedBy received_cmp) (sym c.in_ok-set_of.ensures) c.if-not-rise.ensures;
+  few = subst (λ ks. length ks ≤ MAX_RECEIVED) (sym c.in_ok-set_of.ensures.keys) c.requires;
+  rising = subst (IsStrictlySortedBy received_cmp) (sym c.in_ok-set_of.ensures.keys) c.if-not-rise.ensures;
+  bounded = c.in_ok-set_of.ensures.bounded;
 }
 
 pub returns : goal.returns
-returns c = (ap (set_from received_cmp) c.in_ok-set_of.ensures, c.if-not-rise.ensures)
+returns c = (ap (set_from received_cmp) c.in_ok-set_of.ensures.keys, c.if-not-rise.ensures)

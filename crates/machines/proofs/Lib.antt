@@ -1,0 +1,2 @@
+pub mod StatesFit
+pub mod Numbers
