@@ -5,8 +5,13 @@ mod digest;
 mod front;
 mod mounts;
 mod read;
+#[cfg(test)]
+mod tests;
 mod text;
+#[cfg(test)]
+mod words;
 
 pub use digest::state_digest;
+pub use machines::{Machine, MessageBody, Stage, State};
 pub use read::{StateError, read_state};
 pub use text::state_text;

@@ -26,7 +26,7 @@ use thiserror::Error;
 use tree_texts::tree_of;
 
 /// Why bytes could not be read as the text of a state.
-#[derive(Debug, Drop, Error)]
+#[derive(Clone, Copy, Debug, PartialEq, Eq, Error)]
 pub enum StateError {
     #[error("out of memory")]
     NoMemory,
@@ -38,6 +38,22 @@ pub enum StateError {
     /// broken.
     #[error("the bytes break a limit, an order or a rule of the tree")]
     NotAState,
+}
+
+impl StateError {
+    ghost use Rattle.std.specs.Prelude.{◌≡◌};
+    ghost use Rattle.checkpoint.specs.ErrorNumbers.{error_number};
+
+    /// The number that programs print: 1 Garbage, 2 NotAState. Want of memory has none.
+    pub fn number(self) -> Option<u32>
+        ensures { result ≡ error_number self }
+    {
+        match self {
+            StateError::Garbage => Some(1),
+            StateError::NotAState => Some(2),
+            StateError::NoMemory => None,
+        }
+    }
 }
 
 impl From<AllocError> for StateError {
