@@ -10,6 +10,10 @@ use Rattle.state_spec.specs.State.{ReceivedMessage, with_received, SentMessage, 
 abbrev pub having_received : State → ReceivedMessage → State
 having_received s message = record s { received = with_received s.received message }
 
+-- none such among those received
+abbrev pub having_forgotten : State → ReceivedMessage → State
+having_forgotten s message = record s { received = finite.remove s.received message }
+
 -- a message more among those sent, under its number
 abbrev pub having_sent : State → ℕ → SentMessage → State
 having_sent s seq message = record s { sends = finite.insert s.sends seq message }
@@ -44,3 +48,36 @@ after_reading (Client clock) time = Client time
 
 abbrev pub having_read : State → Timeval → State
 having_read s time = record s { machine = after_reading s.machine time }
+
+-- ---- what a server does with a message at once
+
+-- nothing is owed: neither a clock reading nor a reply
+abbrev pub IsIdle : Machine → Type 0
+IsIdle (Server w Idle) = Unit {0}
+IsIdle (Server w (Heard from body)) = ⊥
+IsIdle (Server w (Owes to body)) = ⊥
+IsIdle (Client clock) = ⊥
+
+-- the reply that a server owes to a message's body at a time
+abbrev pub reply_by : Machine → Timeval → List ℕ → Option (List ℕ)
+reply_by (Server w stage) time body = reply_owed w time body
+reply_by (Client clock) time body = None
+
+-- the machine after it
+abbrev pub having_answered : Machine → Timeval → List ℕ → Machine
+having_answered (Server w stage) time body = Server (world_after w time body) stage
+having_answered (Client clock) time body = Client clock
+
+-- a state after a message was taken in and answered at a time
+abbrev pub having_served : State → ReceivedMessage → Timeval → List ℕ → State
+having_served s message time body =
+    record (having_received s message) { machine = having_answered s.machine time body }
+
+-- A state has room under a number for a message to come: another stands there for now.
+abbrev pub HasPlace : State → ℕ → State → Type 0
+HasPlace s seq t = (m : SentMessage) × (t ≡ having_sent s seq m)
+
+-- Room where a reply is owed, and none where none is.
+abbrev pub HasPlaceFor : Option (List ℕ) → State → ℕ → State → Type 0
+HasPlaceFor None s seq t = t ≡ s
+HasPlaceFor (Some reply) s seq t = HasPlace s seq t

@@ -3,6 +3,7 @@
 
 mod body;
 mod machine;
+mod serve;
 mod stage;
 mod state;
 mod steps;

@@ -1,8 +1,8 @@
 -- Sets and maps whose keys rise, and their values.
 -- Serves: Received, Sends.
 use Rattle.std.proofs.Common.{◌≡◌, ⊎_elim, true≢false, ℕ, ◌+◌, ◌-◌, ◌<◌, ◌≤◌, Bool, true, false, cond, List}
-use Rattle.std.proofs.Common.{[], ◌∷◌, ◌++◌, map, length, get_or, take, drop, None, refl, sym, ap, subst, ◌∙◌}
-use Rattle.std.proofs.Common.{arith, Ordering, Less, Equal, Greater}
+use Rattle.std.proofs.Common.{[], ◌∷◌, ◌++◌, map, length, get_or, take, drop, Option, None, Some, is_some, refl, sym, ap, subst, ◌∙◌}
+use Rattle.std.proofs.Common.{arith, Ordering, Less, Equal, Greater, Result, Ok, Err, OnErr}
 use Rattle.std.specs.Map.{lookup, keys_of, remove_entry}
 use Rattle.std.specs.List.{list_any, AllByRecursion}
 use Rattle.std.specs.List.Sorted.{IsStrictlySortedBy}
@@ -10,6 +10,7 @@ use Rattle.std.specs.Ordering.{nat_cmp, eq_by_cmp, match_ordering, is_lt, orderi
 use Rattle.std.specs.Cmp.{IsTotalOrder, nat_cmp_total, eq_by_cmp_equiv}
 use Rattle.std.specs.BTreeMap.{insert_entry}
 use Rattle.std.specs.BTreeSet.{insert_key}
+use Rattle.std.specs.Set.{remove_key}
 use Rattle.std.specs.FinMap as finite
 use Rattle.std.specs.FinMap.Entries.{put, by_order}
 use Rattle.std.proofs.lemmas.Map.Keys.{sorted_from_all_adjacent, Less-from_sorted}
@@ -69,6 +70,11 @@ pub less_within : (b : Bool) (old new max : ℕ) → new + cond b 1 0 ≡ old �
 less_within true old new max e le = omega arith
 less_within false old new max e le = omega arith
 
+-- what holds anyway holds where a call failed
+pub on_err : {A E : Type 0} (r : Result A E) (P : Type 0) → P → OnErr r P
+on_err (Ok x) P h = tt
+on_err (Err e) P h = h
+
 none_rises : {K : Type 0} (R : K → K → Ordering) → IsStrictlySortedBy R []
 unfolding IsStrictlySortedBy
 none_rises R = tt
@@ -122,6 +128,29 @@ module _ {K : Type 0} (R : K → K → Ordering) where
       finite.same_entries_map (set_from R new) (finite.insert (set_from R ks) k tt)
       (entries_of_set new after ∙ ap marked is ∙ key_put_is R k ks
       ∙ sym (finite.entries-insert total (set_from R ks) k tt ∙ ap (put R k tt) (entries_of_set ks h)))
+
+none_or : {X : Type 0} (b : Bool) (x : Option X) → cond b false (is_some x) ≡ is_some (cond b None x)
+none_or true x = refl
+none_or false x = refl
+
+same_mark : (x y : Option (Unit {0})) → is_some x ≡ is_some y → x ≡ y
+same_mark None None e = refl
+same_mark None (Some y) e = absurd (true≢false (sym e))
+same_mark (Some x) None e = absurd (true≢false e)
+same_mark (Some x) (Some y) e = refl
+
+module _ {K : Type 0} (R : K → K → Ordering) where
+  -- one key less
+  pub set_without : IsTotalOrder R → finite.IsAntisymmetric R → (ks new : List K) (k : K)
+      → IsStrictlySortedBy R ks → IsStrictlySortedBy R new
+      → ((q : K) → list_any (eq_by_cmp R q) new ≡ cond (eq_by_cmp R k q) false (list_any (eq_by_cmp R q) ks))
+      → set_from R new ≡ finite.remove (set_from R ks) k
+  set_without total same ks new k h after is =
+      finite.same_map total same (set_from R new) (finite.remove (set_from R ks) k) (λ q. same_mark _ _
+      (has_key R new q after ∙ is q
+      ∙ (λ i. cond ((eq_by_cmp_equiv total).symm k q i) false (sym (has_key R ks q h) i))
+      ∙ none_or (eq_by_cmp R q k) (finite.get (set_from R ks) q)
+      ∙ ap is_some (sym (finite.get-remove total (set_from R ks) k q))))
 
 module _ {X : Type 0} where
   -- what a map has at a number
@@ -250,6 +279,16 @@ module _ {K X : Type 0} (P : K × X → Type 0) where
     | true ↦ all.1
     | false ↦ (all.0, all_without test es all.1)
   ]
+
+-- what holds of each key holds of those that are left
+pub all_without_key : {K : Type 0} (P : K → Type 0) (test : K → Bool) (ks : List K) → AllByRecursion P ks
+    → AllByRecursion P (remove_key test ks)
+all_without_key P test [] all = tt
+all_without_key P test (k ∷ ks) all =
+    elim (test k) as (λ b. AllByRecursion P (cond b ks (k ∷ remove_key test ks))) [
+      | true ↦ all.1
+      | false ↦ (all.0, all_without_key P test ks all.1)
+    ]
 
 is_less : (o : Ordering) → is_lt o ≡ true → o ≡ Less
 is_less Less h = refl

@@ -1,3 +1,4 @@
 pub mod Orders
 pub mod Kept
 pub mod NumberedMessages
+pub mod Again

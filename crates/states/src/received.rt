@@ -1,7 +1,7 @@
 //! The messages that a node received.
 
 ghost use Rattle.std.specs.Prelude.{◌≡◌, ◌<◌, ◌≤◌, OnOk, OnErr, IfOk, MatchOption, MatchBool, length, map};
-ghost use Rattle.std.specs.FinMap.{empty, keys, len};
+ghost use Rattle.std.specs.FinMap.{empty, keys, len, remove};
 ghost use Rattle.std.specs.List.{flat_map, AllByRecursion};
 ghost use Rattle.std.specs.List.Sorted.{IsStrictlySortedBy};
 ghost use Rattle.std.specs.Ordering.{is_lt};
@@ -83,6 +83,13 @@ impl Received {
         message.is_bounded();
         self.messages.insert(message)?;
         Ok(())
+    }
+
+    /// Takes a message out, if it is there.
+    pub fn remove(&mut self, message: &ReceivedMessage)
+        ensures { self.new ≡ remove self.old message.now }
+    {
+        self.messages.remove(message);
     }
 
     /// The messages of a list whose messages rise strictly. None where they don't.

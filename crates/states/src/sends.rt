@@ -1,6 +1,6 @@
 //! The messages that a node sent and that have no acknowledgement yet.
 
-ghost use Rattle.std.specs.Prelude.{◌≡◌, ◌<◌, ◌≤◌, OnOk, OnErr, IfOk, MatchOption, MatchBool, length, map};
+ghost use Rattle.std.specs.Prelude.{◌≡◌, ◌<◌, ◌≤◌, OnOk, OnErr, IfOk, MatchOption, MatchBool, None, length, map};
 ghost use Rattle.std.specs.FinMap.{get, insert, remove, empty, entries, len};
 ghost use Rattle.std.specs.List.{flat_map, AllByRecursion};
 ghost use Rattle.std.specs.List.Sorted.{IsStrictlySortedBy};
@@ -78,12 +78,13 @@ impl Sends {
         self.messages.get(&seq).copied()
     }
 
-    /// Puts a message under a number, in place of the one that it has. Where memory is refused nothing
-    /// changes.
+    /// Puts a message under a number, in place of the one that it has. Where memory is refused, which it
+    /// isn't for a number that has one, nothing changes.
     pub fn insert(&mut self, seq: u64, message: SentMessage) -> Result<(), AllocError>
         requires { len self.old < MAX_SENDS }
         ensures ok { OnOk result (self.new ≡ insert self.old seq message) }
         ensures err { OnErr result (self.new ≡ self.old) }
+        ensures absent { OnErr result (get self.old seq ≡ None) }
     {
         message.is_bounded();
         self.messages.insert(seq, message)?;

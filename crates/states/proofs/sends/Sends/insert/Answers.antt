@@ -1,5 +1,5 @@
 use Rattle.std.proofs.Common.{◌<◌, length, is_some, sym, ap, subst, ◌∙◌, arith}
-use Rattle.std.specs.FinMap.{len, insert}
+use Rattle.std.specs.FinMap.{get, len, insert}
 use Rattle.std.specs.List.{AllByRecursion}
 use Rattle.std.specs.Ordering.{nat_cmp}
 use Rattle.std.specs.Cmp.{nat_cmp_total}
@@ -7,7 +7,7 @@ use Rattle.std.proofs.lemmas.Map.Entries.{length-keys_of}
 use Rattle.xdr.specs.Item.{Fits, word, fixed, pair}
 use Rattle.states.specs.Bounds.{SentFits}
 use Rattle.states.specs.declared.sends.TheConstants.{MAX_SENDS}
-use Rattle.states.proofs.Kept.{len_of_map, one_or_none_within, map_with, all_with_entry}
+use Rattle.states.proofs.Kept.{len_of_map, one_or_none_within, map_with, all_with_entry, get_of_map, on_err}
 use Rattle.states.proofs.sends.Sends.insert.Goals as goal
 
 pub invariant_of-self-2 : goal.invariant_of-self-2
@@ -27,3 +27,10 @@ pub returns-clause-ok : goal.returns-clause-ok
 returns-clause-ok c =
     map_with nat_cmp nat_cmp_total c.self.inside.messages.entries c.insert.new.self.entries c.args.seq c.args.message c.self.invariant.rising c.in_ok-insert.ensures.ordered c.in_ok-insert.ensures.entries
     ∙ ap (λ m. insert m c.args.seq c.args.message) c.self.view_is
+
+pub returns-in_err-insert-clause-absent : goal.returns-in_err-insert-clause-absent
+returns-in_err-insert-clause-absent c =
+    on_err c.from_residual.result _
+    (ap (λ m. get m c.args.seq) (sym c.self.view_is)
+    ∙ get_of_map c.self.inside.messages.entries c.args.seq c.self.invariant.rising
+    ∙ c.in_err-insert.ensures.absent)
