@@ -1,2 +1,3 @@
 pub mod StatesFit
 pub mod Numbers
+pub mod Served

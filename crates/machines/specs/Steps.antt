@@ -1,5 +1,5 @@
 -- What each step does to a state.
-use Rattle.std.specs.Prelude.{ℕ, List, Option, Some, None}
+use Rattle.std.specs.Prelude.{◌≡◌, ℕ, List, Option, Some, None}
 use Rattle.std.specs.FinMap as finite
 use Rattle.nfs_items.specs.Timeval.{Timeval}
 use Rattle.worlds.specs.World.{World}
