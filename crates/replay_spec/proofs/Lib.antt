@@ -1,0 +1,5 @@
+pub mod Signed
+pub mod Stepping
+pub mod Runs
+pub mod Places
+pub mod Serving
