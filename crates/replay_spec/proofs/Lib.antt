@@ -3,3 +3,8 @@ pub mod Stepping
 pub mod Runs
 pub mod Places
 pub mod Serving
+pub mod Orders
+pub mod Logs
+pub mod Received
+pub mod Sends
+pub mod Counts

@@ -11,7 +11,6 @@ use Rattle.log_entries.specs.declared.entry.Entry.{Entry}
 use Rattle.log_entries.specs.declared.entry.Entry.TheVariants.{Send, Recv, Clock, Check}
 use Rattle.secure_log.specs.Log.{log_hash}
 use Rattle.machines.specs.Timeval.{Timeval, is_before}
-use Rattle.machines.specs.Trees.{IsTime}
 use Rattle.machines.specs.World.{World}
 use Rattle.machines.specs.Replies.{reply_owed, world_after}
 use Rattle.machines.specs.State.{ReceivedMessage, is_received, with_received, SentMessage, Idle, Heard, Owes}
@@ -112,7 +111,7 @@ pub record MayHear (ms : List Member) (s : State) (w : World) (from seq : ℕ) (
   pub other : from ≢ s.node
   pub signed : IsSignedIn ms (sender_shown s.node from seq prev body signature)
   pub fresh : is_received s.received (received_message s.node from seq prev body) ≡ false
-  pub valid : IsTime time
+  pub valid : time.microseconds < 1_000_000
   pub late : is_before time w.clock ≡ false
 
 -- the entries that it logs then: RECV, CLOCK, and the SEND of a reply if one is owed

@@ -1,6 +1,6 @@
 -- The reference machine of a node: which entry may stand behind a state, and the state after it (PeerReview,
 -- SOSP 2007, reference implementations of the nodes' state machines).
-use Rattle.std.specs.Prelude.{◌≡◌, ◌≢◌, ℕ, false, List, Some}
+use Rattle.std.specs.Prelude.{◌≡◌, ◌≢◌, ◌<◌, ℕ, false, List, Some}
 use Rattle.std.specs.FinMap as finite
 use Rattle.sha2.specs.Sha256.{sha256}
 use Rattle.merkle_keys.specs.Signing.{SignatureParts}
@@ -10,7 +10,6 @@ use Rattle.log_entries.specs.Messages.{message_hash}
 use Rattle.log_entries.specs.declared.entry.Entry.{Entry}
 use Rattle.log_entries.specs.declared.entry.Entry.TheVariants.{Send, Recv, Ack, Clock, Check}
 use Rattle.machines.specs.Timeval.{Timeval, is_before}
-use Rattle.machines.specs.Trees.{IsTime}
 use Rattle.machines.specs.State.{ReceivedMessage, is_received, SentMessage, Idle, Heard, Owes}
 use Rattle.machines.specs.State.{Machine, Server, Client, State, clock_in}
 use Rattle.machines.specs.StateText.{state_digest}
@@ -84,8 +83,8 @@ pub record MayAcknowledge (ms : List Member) (s : State) (to seq : ℕ) (mine : 
 -- A CLOCK that shows a time may stand there.
 pub record MayShowTime (machine : Machine) (time : Timeval) : Type 0 where
   pub turn : MayReadClock machine
-  -- its microseconds are below 1,000,000
-  pub valid : IsTime time
+  -- its microseconds are at most 999,999
+  pub valid : time.microseconds < 1_000_000
   -- it isn't before the last reading
   pub late : is_before time (clock_in machine) ≡ false
 
