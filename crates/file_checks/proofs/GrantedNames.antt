@@ -17,8 +17,8 @@ use Rattle.nfs_spec_laws.specs.Laws.{NamesIn}
 use Rattle.nfs_spec_laws.specs.Room.{HasRoomToMake, HasRoomToLink}
 use Rattle.nfs_spec_laws.proofs.Paths.{make_adds, link_adds}
 use Rattle.nfs_spec_laws.proofs.RoomBefore.{to_make, to_link}
-use Rattle.nfs_spec_sizes.specs.Bounds.{HasWords}
-use Rattle.nfs_spec_counts.specs.CountChanges.{MayMake, MayLink}
+use Rattle.name_checks.specs.Bounds.{HasWords}
+use Rattle.name_checks.specs.CountChanges.{MayMake, MayLink}
 
 module _ (w : Files) (tree : IsFileTree w) (before : has_room w ≡ true) (who : Caller) (now : Timeval)
     (dir : ℕ)

@@ -1,3 +1,4 @@
+pub use Rattle.name_checks.proofs.Values
 mod Steps
 mod Contents
 mod Places

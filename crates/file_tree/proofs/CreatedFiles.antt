@@ -14,8 +14,8 @@ use Rattle.nfs_spec_steps.specs.Granted.{CreateNewOk, new_regular}
 use Rattle.nfs_spec_steps.proofs.Making.{create_ok}
 use Rattle.nfs_spec_laws.specs.Laws.{AreValidFields, NamesIn}
 use Rattle.nfs_spec_laws.proofs.FilesFit.{regular_fits}
-use Rattle.nfs_spec_sizes.specs.Bounds.{HasWords}
-use Rattle.nfs_spec_counts.specs.CountChanges.{MayMake}
+use Rattle.file_checks.specs.Bounds.{HasWords}
+use Rattle.file_checks.specs.CountChanges.{MayMake}
 use Rattle.file_checks.specs.Creates.{DecidesCreate}
 use Rattle.file_checks.proofs.GrantedNames.{may_make, make_does, make_names}
 

@@ -17,8 +17,8 @@ use Rattle.fs_changes.proofs.Room.{within}
 use Rattle.nfs_spec.specs.Procedures.{read_dir}
 use Rattle.nfs_spec_steps.specs.Read.{ReadDirOk}
 use Rattle.nfs_spec_steps.proofs.Reading.{read_dir_ok}
-use Rattle.nfs_spec_sizes.specs.Bounds.{AreWords}
-use Rattle.nfs_spec_sizes.proofs.Values.{EntryFits, page_fits}
+use Rattle.file_checks.specs.Bounds.{AreWords}
+use Rattle.file_checks.proofs.Values.{EntryFits, page_fits}
 
 -- what is so by recursion is so of each
 all_of : {A : Type 0} (P : A → Type 0) (xs : List A) → AllByRecursion P xs → All P xs

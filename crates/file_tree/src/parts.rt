@@ -4,10 +4,10 @@ ghost use Rattle.std.specs.Prelude.{◌≡◌, IfOk, IsTrue};
 ghost use Rattle.std.specs.FinMap as finite;
 ghost use Rattle.fs_model.specs.Trees.{IsFileTree};
 ghost use Rattle.fs_changes.specs.Limits.{has_room};
-ghost use Rattle.nfs_spec_sizes.specs.Bounds.{AreWords};
+ghost use Rattle.file_checks.specs.Bounds.{AreWords};
 ghost use Rattle.fs_rules.specs.Rules.{AreRising, numbers_of};
 ghost use Rattle.inodes.specs.Inodes.{files_of};
-ghost use Rattle.tree_rules.specs.Listed.{files_in};
+ghost use Rattle.file_checks.specs.Listed.{files_in};
 
 use crate::tree::Tree;
 use file_checks::InodeTable;

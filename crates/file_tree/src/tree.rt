@@ -8,7 +8,7 @@ ghost use Rattle.fs_model.specs.Trees.{IsFileTree};
 ghost use Rattle.fs_changes.specs.Limits.{has_room};
 ghost use Rattle.nfs_spec.specs.Effects.{attributes_at, number_at_name};
 ghost use Rattle.nfs_spec.specs.Opening.{opening_files};
-ghost use Rattle.nfs_spec_sizes.specs.Bounds.{AreWords};
+ghost use Rattle.file_checks.specs.Bounds.{AreWords};
 ghost use Rattle.file_tree.specs.LookUps.{LeadsOn, LeadsBack};
 
 use file_checks::InodeTable;

@@ -1,3 +1,9 @@
+pub use Rattle.fs_model.proofs.Walks
+pub use Rattle.fs_model.proofs.Parents
+pub use Rattle.fs_model.proofs.Counts
+pub use Rattle.fs_model.proofs.OnePath
+pub use Rattle.fs_model.proofs.Reached
+pub use Rattle.fs_model.proofs.Cookies
 pub mod Finite
 pub mod Listings
 pub mod Shapes

@@ -2,7 +2,7 @@
 use Rattle.std.specs.Prelude.{◌+◌}
 use Rattle.std.specs.Option.{option_map_or}
 use Rattle.std.specs.FinMap as finite
-use Rattle.nfs_items.specs.Terms.{Name, FileNumber}
+use Rattle.fs_model.specs.Terms.{Name, FileNumber}
 use Rattle.fs_model.specs.Listing.{Listing, with_entry, without_entry}
 use Rattle.fs_model.specs.Files.{Body, Regular, Symlink, Directory, File, Files, file_at}
 

@@ -1,4 +1,5 @@
 pub use Rattle.nfs_items.specs.Timeval
+pub use Rattle.nfs_items.specs.Terms
 pub mod Maxima
 pub mod Names
 pub mod Listing

@@ -3,12 +3,12 @@
 use Rattle.std.proofs.Common.{◌≡◌, ◌≢◌, ⊎_elim, ℕ, ◌+◌, ◌<◌, ◌≤◌, true, List, [], ◌∷◌, ◌++◌, Some, None, IsSome, is_some, sym, ap, subst, ◌∙◌, arith}
 use Rattle.std.specs.Prelude.{IsTrue, length}
 use Rattle.std.proofs.lemmas.Bool.{cases_eq}
-use Rattle.fs_model.specs.Names.{is_name}
-use Rattle.fs_model.specs.Paths.{path_at, AddsPath, ChangesPlace}
-use Rattle.fs_model.specs.Files.{Files, IsDirectory, places, names_of}
-use Rattle.fs_model.specs.Trees.{IsFileTree}
-use Rattle.fs_model.proofs.Walks.{none_some, one_number, same_place}
-use Rattle.fs_model.proofs.OnePath.{one_path}
+use Rattle.fs_changes.specs.Names.{is_name}
+use Rattle.fs_changes.specs.Paths.{path_at, AddsPath, ChangesPlace}
+use Rattle.fs_changes.specs.Files.{Files, IsDirectory, places, names_of}
+use Rattle.fs_changes.specs.Trees.{IsFileTree}
+use Rattle.fs_changes.proofs.Walks.{none_some, one_number, same_place}
+use Rattle.fs_changes.proofs.OnePath.{one_path}
 use Rattle.fs_changes.proofs.Listings.{one, one_same, one_other}
 use Rattle.fs_changes.proofs.Shapes.{kind, AllFiles}
 use Rattle.fs_trees.proofs.Building.{IsWellNamed, built, facts}

@@ -8,13 +8,13 @@ use Rattle.std.specs.Ordering.{nat_cmp, eq_by_cmp}
 use Rattle.std.specs.FinMap as finite
 use Rattle.std.proofs.lemmas.Bool.{cond-false, ltb-true, ltb-false}
 use Rattle.std.proofs.lemmas.List.Sums.{sum_by-cons}
-use Rattle.fs_model.specs.Listing.{entry_at}
-use Rattle.fs_model.specs.Names.{is_name}
-use Rattle.fs_model.specs.Paths.{path_at}
-use Rattle.fs_model.specs.Files.{Body, Regular, Symlink, Directory, Files, file_at, listing_in, is_directory, places, names_in, names_of, parent_of}
-use Rattle.fs_model.specs.Trees.{IsFileTree}
-use Rattle.fs_model.proofs.Walks.{none_some, some_same}
-use Rattle.fs_model.proofs.Counts.{same_number, count_of_one, place_in, file_in, own_name, has_name, all_names}
+use Rattle.fs_changes.specs.Listing.{entry_at}
+use Rattle.fs_changes.specs.Names.{is_name}
+use Rattle.fs_changes.specs.Paths.{path_at}
+use Rattle.fs_changes.specs.Files.{Body, Regular, Symlink, Directory, Files, file_at, listing_in, is_directory, places, names_in, names_of, parent_of}
+use Rattle.fs_changes.specs.Trees.{IsFileTree}
+use Rattle.fs_changes.proofs.Walks.{none_some, some_same}
+use Rattle.fs_changes.proofs.Counts.{same_number, count_of_one, place_in, file_in, own_name, has_name, all_names}
 use Rattle.fs_changes.proofs.Shapes.{kind, AllFiles, is_some-kind}
 
 -- the one that counts is the first that counts

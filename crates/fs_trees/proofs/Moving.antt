@@ -2,12 +2,12 @@
 -- Serves: renaming_moves_paths, trees_stay_trees (nfs_spec_laws).
 use Rattle.std.proofs.Common.{◌≡◌, ◌≢◌, ⊎_elim, ℕ, ◌≤◌, true, false, List, [], ◌∷◌, ◌++◌, Option, Some, None, IsSome, is_some, option_map, option_and_then, sym, ap, subst, ◌∙◌, append-nil, arith}
 use Rattle.std.specs.Prelude.{IsTrue, length}
-use Rattle.fs_model.specs.Names.{is_name}
-use Rattle.fs_model.specs.Paths.{walk, path_at, Renames}
-use Rattle.fs_model.specs.Files.{Files, IsDirectory, places, names_of}
-use Rattle.fs_model.specs.Trees.{IsFileTree}
-use Rattle.fs_model.proofs.Walks.{none_some, one_number, same_place, step}
-use Rattle.fs_model.proofs.OnePath.{one_path}
+use Rattle.fs_changes.specs.Names.{is_name}
+use Rattle.fs_changes.specs.Paths.{walk, path_at, Renames}
+use Rattle.fs_changes.specs.Files.{Files, IsDirectory, places, names_of}
+use Rattle.fs_changes.specs.Trees.{IsFileTree}
+use Rattle.fs_changes.proofs.Walks.{none_some, one_number, same_place, step}
+use Rattle.fs_changes.proofs.OnePath.{one_path}
 use Rattle.fs_changes.proofs.Shapes.{kind, AllFiles}
 use Rattle.fs_trees.proofs.Building.{built, facts}
 use Rattle.fs_trees.proofs.PathChanges.{begins, renames}

@@ -1,8 +1,8 @@
 -- What the changes of a tree do to its paths.
 -- Serves: making_adds_a_path, removing_takes_a_path, renaming_moves_paths (nfs_spec_laws).
 use Rattle.std.proofs.Common.{◌≡◌, ◌≢◌, ◌⊎◌, inl, inr, ⊎_elim, ℕ, List, [], ◌∷◌, ◌++◌, length, Option, Some, None, is_some, option_and_then, option_map, refl, sym, ap, subst, ◌∙◌, append_assoc, append-nil, length-append, arith}
-use Rattle.fs_model.specs.Paths.{Places, walk, path_at, HasOnePathEach, AddsPath, TakesPath, Renames, ChangesPlace}
-use Rattle.fs_model.proofs.Walks.{walk_same, same_name, same_place, step, step_last}
+use Rattle.fs_changes.specs.Paths.{Places, walk, path_at, HasOnePathEach, AddsPath, TakesPath, Renames, ChangesPlace}
+use Rattle.fs_changes.proofs.Walks.{walk_same, same_name, same_place, step, step_last}
 
 -- a path does not go on to itself
 pub no_return : (p q r : List (List ℕ)) (x : List ℕ) → p ≢ (p ++ x ∷ q) ++ r

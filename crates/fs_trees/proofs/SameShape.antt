@@ -1,9 +1,9 @@
 -- Files of one shape are a tree where the others are.
 -- Serves: trees_stay_trees (nfs_spec_laws): SETATTR and WRITE.
 use Rattle.std.proofs.Common.{◌≡◌, is_some, sym, ap, ◌∙◌, arith}
-use Rattle.fs_model.specs.Paths.{path_at}
-use Rattle.fs_model.specs.Files.{Files, places}
-use Rattle.fs_model.specs.Trees.{IsFileTree}
+use Rattle.fs_changes.specs.Paths.{path_at}
+use Rattle.fs_changes.specs.Files.{Files, places}
+use Rattle.fs_changes.specs.Trees.{IsFileTree}
 use Rattle.fs_changes.proofs.Shapes.{AllFiles, IsSameShape}
 use Rattle.fs_trees.proofs.Building.{built, facts}
 

@@ -2,12 +2,12 @@
 -- Serves: removing_takes_a_path, trees_stay_trees (nfs_spec_laws).
 use Rattle.std.proofs.Common.{◌≡◌, ◌≢◌, ◌⊎◌, ⊎_elim, ℕ, ◌+◌, ◌<◌, ◌≤◌, Bool, true, false, List, [], ◌∷◌, ◌++◌, Option, Some, None, IsSome, is_some, sym, ap, ◌∙◌, arith}
 use Rattle.std.proofs.lemmas.Bool.{cases_eq}
-use Rattle.fs_model.specs.Paths.{path_at, TakesPath, ChangesPlace}
-use Rattle.fs_model.specs.Files.{Files, IsDirectory, places, names_of}
-use Rattle.fs_model.specs.Trees.{IsFileTree}
-use Rattle.fs_model.proofs.Walks.{none_some, one_number, same_place, step_last}
-use Rattle.fs_model.proofs.Counts.{has_name}
-use Rattle.fs_model.proofs.OnePath.{one_path, root_has_no_name}
+use Rattle.fs_changes.specs.Paths.{path_at, TakesPath, ChangesPlace}
+use Rattle.fs_changes.specs.Files.{Files, IsDirectory, places, names_of}
+use Rattle.fs_changes.specs.Trees.{IsFileTree}
+use Rattle.fs_changes.proofs.Walks.{none_some, one_number, same_place, step_last}
+use Rattle.fs_changes.proofs.Counts.{has_name}
+use Rattle.fs_changes.proofs.OnePath.{one_path, root_has_no_name}
 use Rattle.fs_changes.proofs.Listings.{one, one_other}
 use Rattle.fs_changes.proofs.Shapes.{kind, AllFiles}
 use Rattle.fs_trees.proofs.Building.{built, facts}

@@ -14,7 +14,7 @@ use Rattle.fs_changes.specs.Edits.{map_listing}
 use Rattle.fs_changes.proofs.Finite.{changed_here, changed_other, gone_here, gone_other}
 use Rattle.fs_changes.proofs.Listings.{name_other}
 use Rattle.nfs_spec.specs.Changes.{after_unlink, with_ctime}
-use Rattle.nfs_spec_changes.proofs.DirectoryEntries.{with_without}
+use Rattle.nfs_spec_counts.proofs.DirectoryEntries.{with_without}
 use Rattle.inode_edits.proofs.EditedInodes.{same_files}
 
 -- ---- listings

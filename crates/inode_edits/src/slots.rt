@@ -9,7 +9,7 @@ ghost use Rattle.fs_changes.specs.Edits.{map_listing};
 ghost use Rattle.fs_changes.specs.Limits.{blocks_in};
 ghost use Rattle.nfs_spec.specs.Changes.{apply_fields, with_ctime, with_mtime};
 ghost use Rattle.nfs_spec_counts.specs.CountChanges.{is_last_name};
-ghost use Rattle.nfs_spec_sizes.specs.Bounds.{HasWords};
+ghost use Rattle.nfs_spec_counts.specs.Bounds.{HasWords};
 ghost use Rattle.inodes.specs.Contents.{body_with_bytes_at};
 ghost use Rattle.inodes.specs.Given.{given_in};
 ghost use Rattle.inodes.specs.declared.inode.Inode as stored;

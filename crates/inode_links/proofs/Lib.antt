@@ -1,3 +1,4 @@
+pub use Rattle.tree_rules.proofs.Seen
 pub mod Linking
 pub mod Counting
 pub mod Whole

@@ -1,1 +1,2 @@
+pub use Rattle.tree_rules.specs.Listed
 pub mod Linked

@@ -6,3 +6,4 @@ mod maps;
 
 pub use inodes::Inode;
 pub use maps::linked_inodes;
+pub use tree_rules::{MAX_BLOCKS, MAX_ENTRIES, MAX_FILES, total_usage};

@@ -15,7 +15,7 @@ use Rattle.nfs_spec.specs.Procedures.{with_bytes_written}
 use Rattle.nfs_spec_laws.specs.Laws.{AreValidFields}
 use Rattle.nfs_spec_laws.proofs.Bytes.{length-resized}
 use Rattle.nfs_spec_laws.proofs.FilesFit.{set_lists, set_keeps, set_fits, rewritten_fits}
-use Rattle.nfs_spec_sizes.specs.Bounds.{HasWords}
+use Rattle.nfs_spec_moves.specs.Bounds.{HasWords}
 use Rattle.inodes.specs.declared.inode.Inode.{Inode}
 use Rattle.inodes.specs.Contents.{body_with_bytes_at}
 use Rattle.inodes.specs.Inodes.{files_of, stored_at}

@@ -12,11 +12,11 @@ use Rattle.fs_changes.specs.Limits.{blocks_in}
 use Rattle.nfs_spec.specs.Changes.{touch, touch_ctime, with_mtime, with_ctime}
 use Rattle.nfs_spec.specs.Procedures.{add_file}
 use Rattle.nfs_spec_trees.proofs.FilesFit.{dir_file, next_free}
-use Rattle.nfs_spec_counts.specs.Counted.{IsKept}
-use Rattle.nfs_spec_counts.specs.CountChanges.{MayMake, MayLink}
-use Rattle.nfs_spec_counts.proofs.Facts.{links_bounded, entries_bounded}
-use Rattle.nfs_spec_counts.proofs.Making.{kept_by_make}
-use Rattle.nfs_spec_counts.proofs.Linking.{kept_by_link}
+use Rattle.nfs_spec_moves.specs.Counted.{IsKept}
+use Rattle.nfs_spec_moves.specs.CountChanges.{MayMake, MayLink}
+use Rattle.nfs_spec_moves.proofs.Facts.{links_bounded, entries_bounded}
+use Rattle.nfs_spec_moves.proofs.Making.{kept_by_make}
+use Rattle.nfs_spec_moves.proofs.Linking.{kept_by_link}
 use Rattle.inodes.specs.declared.inode.Inode.{Inode}
 use Rattle.inodes.specs.Inodes.{body_in, file_in, files_of, inode_at, parent_in, stored_at, links_at}
 use Rattle.inodes.specs.Inodes.{above_at}

@@ -9,11 +9,11 @@ use Rattle.fs_changes.specs.Edits.{without_name}
 use Rattle.fs_changes.specs.Limits.{blocks_in}
 use Rattle.nfs_spec.specs.Changes.{touch, unlink, after_unlink, with_mtime}
 use Rattle.nfs_spec_trees.proofs.FilesFit.{dir_file}
-use Rattle.nfs_spec_counts.specs.Counted.{IsKept}
-use Rattle.nfs_spec_counts.specs.CountChanges.{MayUnlink, is_last_name}
-use Rattle.nfs_spec_counts.proofs.Facts.{links_positive}
-use Rattle.nfs_spec_counts.proofs.Unnaming.{unlinks}
-use Rattle.nfs_spec_counts.proofs.Unlinking.{last_name_told, kept_by_unlink}
+use Rattle.nfs_spec_moves.specs.Counted.{IsKept}
+use Rattle.nfs_spec_moves.specs.CountChanges.{MayUnlink, is_last_name}
+use Rattle.nfs_spec_moves.proofs.Facts.{links_positive}
+use Rattle.nfs_spec_moves.proofs.Unnaming.{unlinks}
+use Rattle.nfs_spec_moves.proofs.Unlinking.{last_name_told, kept_by_unlink}
 use Rattle.inodes.specs.declared.inode.Inode.{Inode}
 use Rattle.inodes.specs.Inodes.{files_of, stored_at, links_at, above_at}
 use Rattle.inode_edits.specs.Slots.{ChangesFile, MayUnname, Unnames}

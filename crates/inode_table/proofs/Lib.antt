@@ -1,3 +1,4 @@
+pub use Rattle.nfs_spec_moves.proofs.Values
 mod InodesSeen
 mod Tables
 mod KeptContents

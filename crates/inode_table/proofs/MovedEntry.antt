@@ -18,11 +18,11 @@ use Rattle.fs_changes.proofs.Shapes.{kind, changed_kinds}
 use Rattle.nfs_spec.specs.Changes.{touch, touch_ctime, unlink, after_unlink, with_ctime, with_mtime}
 use Rattle.nfs_spec.specs.Procedures.{unlink_target, move_entry}
 use Rattle.nfs_spec_trees.proofs.FilesFit.{dir_file, distinct_names}
-use Rattle.nfs_spec_counts.specs.Counted.{IsKept}
-use Rattle.nfs_spec_counts.specs.CountChanges.{MayUnlink, MayMove, CountsCleared, CountsMoved, is_last_name}
-use Rattle.nfs_spec_counts.specs.CountChanges.{blocks_freed}
-use Rattle.nfs_spec_counts.proofs.Facts.{entries_bounded, links_positive, links_bounded, links_of_parent}
-use Rattle.nfs_spec_counts.proofs.Unlinking.{last_name_told}
+use Rattle.nfs_spec_moves.specs.Counted.{IsKept}
+use Rattle.nfs_spec_moves.specs.CountChanges.{MayUnlink, MayMove, CountsCleared, CountsMoved, is_last_name}
+use Rattle.nfs_spec_moves.specs.CountChanges.{blocks_freed}
+use Rattle.nfs_spec_moves.proofs.Facts.{entries_bounded, links_positive, links_bounded, links_of_parent}
+use Rattle.nfs_spec_moves.proofs.Unlinking.{last_name_told}
 use Rattle.nfs_spec_moves.proofs.Moving.{kept_by_move}
 use Rattle.inodes.specs.declared.inode.Inode.{Inode}
 use Rattle.inodes.specs.Inodes.{body_in, file_in, files_of, inode_at, stored_at, links_at, above_at}

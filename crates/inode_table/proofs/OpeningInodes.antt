@@ -9,8 +9,8 @@ use Rattle.std.specs.Cmp.{nat_cmp_total}
 use Rattle.std.specs.Prelude.{IsTrue, ◌<◌, ◌^◌, map, sum_by, length}
 use Rattle.fs_model.specs.Files.{Body, File, is_directory, listing_in, parent_of}
 use Rattle.fs_changes.specs.Limits.{entry_count, block_count, blocks_in, has_room}
-use Rattle.nfs_spec_sizes.specs.Bounds.{HasWords, AreWords}
-use Rattle.nfs_spec_counts.specs.Counted.{AreCounted}
+use Rattle.nfs_spec_moves.specs.Bounds.{HasWords, AreWords}
+use Rattle.nfs_spec_moves.specs.Counted.{AreCounted}
 use Rattle.inodes.specs.Inodes.{links_at, above_at, file_in, files_of, parent_in, KeepsParent}
 use Rattle.inode_table.specs.Kept.{AreKept}
 use Rattle.fs_model.specs.Trees.{IsFileTree}

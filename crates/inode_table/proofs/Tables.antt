@@ -6,9 +6,9 @@ use Rattle.fs_model.specs.Files.{File, Files, file_at}
 use Rattle.fs_model.specs.Trees.{IsBody}
 use Rattle.fs_changes.specs.Limits.{blocks_in, block_count}
 use Rattle.fs_changes.proofs.Finite.{total_without}
-use Rattle.nfs_spec_counts.specs.Counted.{IsKept}
-use Rattle.nfs_spec_counts.specs.CountChanges.{MayChange}
-use Rattle.nfs_spec_counts.proofs.Contents.{kept_alike, kept_by_change}
+use Rattle.nfs_spec_moves.specs.Counted.{IsKept}
+use Rattle.nfs_spec_moves.specs.CountChanges.{MayChange}
+use Rattle.nfs_spec_moves.proofs.Contents.{kept_alike, kept_by_change}
 use Rattle.inodes.specs.declared.inode.Inode.{Inode}
 use Rattle.inodes.specs.Inodes.{files_of, stored_at, links_at, above_at}
 use Rattle.inode_edits.specs.Slots.{AreAlike, ChangesFile}

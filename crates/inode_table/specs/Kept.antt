@@ -1,6 +1,6 @@
 -- What a table keeps: a tree within its limits, and beside it what counting over the files gives.
 use Rattle.std.specs.Prelude.{ℕ, List}
-use Rattle.nfs_spec_counts.specs.Counted.{IsKept}
+use Rattle.nfs_spec_moves.specs.Counted.{IsKept}
 use Rattle.inodes.specs.declared.inode.Inode.{Inode}
 use Rattle.inodes.specs.Inodes.{files_of, links_at, above_at}
 

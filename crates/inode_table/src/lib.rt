@@ -5,5 +5,5 @@
 mod opening;
 mod table;
 
+pub use inode_links::{MAX_BLOCKS, MAX_ENTRIES, MAX_FILES};
 pub use table::InodeTable;
-pub use tree_rules::{MAX_BLOCKS, MAX_ENTRIES, MAX_FILES};

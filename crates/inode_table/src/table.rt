@@ -17,24 +17,23 @@ ghost use Rattle.nfs_spec.specs.Opening.{opening_files};
 ghost use Rattle.nfs_spec.specs.Procedures.{add_file, move_entry, with_bytes_written};
 ghost use Rattle.nfs_spec_laws.specs.Laws.{AreValidFields};
 ghost use Rattle.nfs_spec_laws.specs.Room.{HasRoomToMake, HasRoomToLink};
-ghost use Rattle.nfs_spec_sizes.specs.Bounds.{AreWords};
+ghost use Rattle.nfs_spec_moves.specs.Bounds.{AreWords};
 ghost use Rattle.inodes.specs.Given.{given_in};
 ghost use Rattle.fs_rules.specs.Rules.{AreRising, numbers_of};
 ghost use Rattle.inodes.specs.Inodes.{body_in, file_in, files_of, fattr_of, KeepsParent};
-ghost use Rattle.tree_rules.specs.Listed.{files_in};
-ghost use Rattle.nfs_spec_counts.specs.CountChanges.{MayMake, MayLink, MayUnlink, MayMove};
+ghost use Rattle.inode_links.specs.Listed.{files_in};
+ghost use Rattle.nfs_spec_moves.specs.CountChanges.{MayMake, MayLink, MayUnlink, MayMove};
 ghost use Rattle.inodes.specs.Edits.{MaySet, MayWriteAt};
 
 use crate::opening::{hello_inode, root_inode};
 use inode_edits::{renaming, slots};
-use inode_links::linked_inodes;
+use inode_links::{linked_inodes, total_usage};
 use inodes::{Given, Inode};
 use nfs_items::Time;
 use std::alloc::{AllocError, Global};
 use std::collections::BTreeMap;
 use std::collections::btree_map::Iter;
 use std::marker::Model;
-use tree_rules::total_usage;
 
 /// The files of a server under their numbers, of which the root's is 1. A number is never used again.
 #[derive(Drop)]

@@ -6,7 +6,7 @@ use Rattle.std.proofs.lemmas.List.{append-nil, take_all, drop_all, take-append-l
 use Rattle.std.proofs.lemmas.List.{length-append, length-replicate, take_at}
 use Rattle.std.proofs.lemmas.Bool.{cases_lt}
 use Rattle.std.proofs.Math.Seq.{take-append-add}
-use Rattle.nfs_spec.specs.Changes.{with_length, with_bytes_at}
+use Rattle.directories.specs.Changes.{with_length, with_bytes_at}
 
 -- the front of filled bytes is the bytes at that length
 front : (offset m : ℕ) (old : List ℕ) → offset ≤ m

@@ -8,7 +8,7 @@ use Rattle.std.specs.Option.{option_map_or}
 use Rattle.nfs_items.specs.declared.attributes.Fattr.{Fattr}
 use Rattle.nfs_items.specs.Terms.{FileNumber}
 use Rattle.fs_model.specs.Files.{Body, Regular, Symlink, Directory, File, Files, parent_of}
-use Rattle.nfs_spec.specs.FileAttributes.{type_of, type_bits, size_of, nlink_of}
+use Rattle.directories.specs.FileAttributes.{type_of, type_bits, size_of, nlink_of}
 use Rattle.inodes.specs.declared.inode.Body as stored
 use Rattle.inodes.specs.declared.inode.Body.TheVariants as code
 use Rattle.inodes.specs.declared.inode.Inode.{Inode}

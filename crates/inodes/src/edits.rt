@@ -9,7 +9,7 @@ impl Inode {
     ghost use Rattle.fs_model.specs.Files.{is_directory, listing_in};
     ghost use Rattle.fs_model.specs.Listing.{with_entry, without_entry};
     ghost use Rattle.fs_changes.specs.Edits.{map_listing};
-    ghost use Rattle.nfs_spec.specs.Changes.{with_ctime, with_mtime};
+    ghost use Rattle.directories.specs.Changes.{with_ctime, with_mtime};
     ghost use Rattle.inodes.specs.Inodes.{body_in, file_in, parent_in};
 
     /// mtime and ctime become now.

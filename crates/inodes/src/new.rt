@@ -23,7 +23,7 @@ impl Body {
 impl Inode {
     ghost use Rattle.std.specs.Prelude.{◌≡◌};
     ghost use Rattle.nfs_items.specs.CallerOf.{caller_of};
-    ghost use Rattle.nfs_spec.specs.Changes.{new_file};
+    ghost use Rattle.directories.specs.Changes.{new_file};
     ghost use Rattle.inodes.specs.Given.{given_in};
     ghost use Rattle.inodes.specs.Inodes.{body_in, file_in};
 

@@ -1,3 +1,4 @@
+pub use Rattle.inode_table.proofs.Values
 mod Chains
 mod Unnamed
 mod Climbs

@@ -16,7 +16,7 @@ use Rattle.fs_model.specs.Files.{File, Files, file_at, is_directory, IsDirectory
 use Rattle.fs_model.proofs.Walks.{some_same}
 use Rattle.nfs_spec.specs.ProcedureChecks.{◌>>=◌, file_of, dir_of, check, check_cookie, check_edit, number_at}
 use Rattle.nfs_spec.specs.Procedures.{is_above, check_target, move_entry, rename}
-use Rattle.nfs_spec_counts.specs.CountChanges.{MayMove}
+use Rattle.inode_table.specs.CountChanges.{MayMove}
 use Rattle.nfs_spec_steps.proofs.Steps.{bind_ok, check_ok, file_ok, dir_ok, edit_ok, number_ok, place_found}
 use Rattle.nfs_spec_steps.proofs.Steps.{listing_found, ok_same}
 use Rattle.nfs_spec_steps.proofs.Renaming.{target_ok}

@@ -11,7 +11,7 @@ use Rattle.fs_model.specs.Listing.{Listing}
 use Rattle.fs_model.specs.Files.{File, Files, file_at, is_directory, listing_in}
 use Rattle.nfs_spec.specs.ProcedureChecks.{◌>>=◌, check, dir_of, file_of, check_edit, listing_or, number_at}
 use Rattle.nfs_spec.specs.Procedures.{remove, remove_dir}
-use Rattle.nfs_spec_counts.specs.CountChanges.{MayUnlink}
+use Rattle.inode_table.specs.CountChanges.{MayUnlink}
 use Rattle.nfs_spec_steps.proofs.Steps.{bind_ok, check_ok, dir_ok, directory_ok, number_ok, no_length}
 use Rattle.nfs_spec_steps.proofs.Steps.{place_found}
 use Rattle.name_checks.specs.Names.{check_empty, number_to_edit, unnamed}

@@ -7,7 +7,7 @@ ghost use Rattle.nfs_items.specs.Timeval.{Timeval};
 ghost use Rattle.nfs_items.specs.CallerOf.{caller_of};
 ghost use Rattle.fs_model.specs.Files.{File};
 ghost use Rattle.nfs_spec.specs.Procedures.{remove, remove_dir};
-ghost use Rattle.nfs_spec_counts.specs.CountChanges.{MayUnlink};
+ghost use Rattle.inode_table.specs.CountChanges.{MayUnlink};
 ghost use Rattle.inodes.specs.Inodes.{file_in};
 ghost use Rattle.name_checks.specs.Names.{check_empty, unnamed};
 

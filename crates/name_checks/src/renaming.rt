@@ -8,7 +8,7 @@ ghost use Rattle.nfs_items.specs.CallerOf.{caller_of};
 ghost use Rattle.fs_model.specs.Maxima.{max_name};
 ghost use Rattle.fs_model.specs.Files.{File, IsDirectory};
 ghost use Rattle.nfs_spec.specs.Procedures.{check_target, rename};
-ghost use Rattle.nfs_spec_counts.specs.CountChanges.{MayMove};
+ghost use Rattle.inode_table.specs.CountChanges.{MayMove};
 ghost use Rattle.inodes.specs.Inodes.{file_in};
 ghost use Rattle.name_checks.specs.Moves.{names_to_edit, ends_found, move_of, move_checked, moved};
 

@@ -1,6 +1,6 @@
 -- Attributes and stats as items (RFC 1094, section 2.3).
 use Rattle.std.specs.Prelude.{ℕ, Bool, ◌==◌, ◌||◌, nat_le, Result, Ok, Err, if◌then◌else◌}
-use Rattle.xdr.specs.Item.{Item, word, empty, pair, choice, Value}
+use Rattle.xdr_texts.specs.Item.{Item, word, empty, pair, choice, Value}
 use Rattle.nfs_items.specs.Timeval.{timeval, timeval_value}
 use Rattle.nfs_items.specs.declared.attributes.FileType.{FileType}
 use Rattle.nfs_items.specs.declared.attributes.FileType.TheVariants.{Regular, Directory, Link}

@@ -1,7 +1,8 @@
-pub use Rattle.xdr.specs.Item
-pub use Rattle.xdr.specs.Reading
-pub use Rattle.xdr.specs.Writing
+pub use Rattle.xdr_texts.specs.Item
+pub use Rattle.xdr_texts.specs.Reading
+pub use Rattle.xdr_texts.specs.Writing
 pub use Rattle.xdr_texts.specs.Text
+pub use Rattle.xdr_texts.specs.XdrFault
 pub mod Timeval
 pub mod Handle
 pub mod Terms

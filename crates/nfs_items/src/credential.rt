@@ -1,14 +1,14 @@
 //! The body of an AUTH_SYS credential.
 
 ghost use Rattle.std.specs.Prelude.{◌≡◌, option_map};
-ghost use Rattle.xdr.specs.Item.{array, word};
-ghost use Rattle.xdr.specs.Reading.{Gives};
+ghost use Rattle.xdr_texts.specs.Item.{array, word};
+ghost use Rattle.xdr_texts.specs.Reading.{Gives};
 ghost use Rattle.nfs_items.specs.Credentials.{authsys_parms, caller_in};
 ghost use Rattle.nfs_items.specs.CredentialRead.{parameters_value};
 ghost use Rattle.nfs_items.specs.CallerOf.{caller_of};
 
 use crate::who::{Groups, MAX_GROUPS, Who};
-use xdr::{Reader, XdrFault};
+use xdr_texts::{Reader, XdrFault};
 
 /// The greatest length of a machine's name in bytes (RFC 5531, appendix A).
 const MAX_MACHINE_NAME: u32 = 255;

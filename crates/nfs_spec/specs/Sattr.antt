@@ -1,7 +1,7 @@
 -- What a caller asks of attributes (RFC 1094, section 2.3.6, sattr).
 use Rattle.std.specs.Prelude.{ℕ, ◌%◌, ◌==◌, ◌||◌, nat_lt, Bool, Option, Some, None, is_some, if◌then◌else◌}
-use Rattle.nfs_items.specs.Timeval.{Timeval}
-use Rattle.nfs_items.specs.declared.sattr.Sattr.{Sattr}
+use Rattle.nfs_types.specs.Timeval.{Timeval}
+use Rattle.nfs_types.specs.SettableAttributes.{Sattr}
 
 -- the word of all ones
 abbrev pub all_ones : ℕ

@@ -1,3 +1,9 @@
+pub use Rattle.nfs_spec_laws.proofs.EveryCall
+pub use Rattle.nfs_spec_laws.proofs.FilesFit
+pub use Rattle.nfs_spec_laws.proofs.RoomBefore
+pub use Rattle.nfs_spec_laws.proofs.EditedFilesFit
+pub use Rattle.nfs_spec_laws.proofs.Removing
+pub use Rattle.nfs_spec_laws.proofs.GivenAnew
 pub mod OtherFiles
 pub mod DirectoryEntries
 pub mod NamedFiles

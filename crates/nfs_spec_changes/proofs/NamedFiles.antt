@@ -20,7 +20,7 @@ use Rattle.fs_changes.proofs.Shapes.{unnamed_shape}
 use Rattle.nfs_spec.specs.Sattr.{GivenFields}
 use Rattle.nfs_spec.specs.Changes.{apply_fields, touch, with_mtime, touch_ctime, with_ctime, unlink, after_unlink}
 use Rattle.nfs_spec.specs.Procedures.{with_bytes_written, add_file}
-use Rattle.nfs_spec_trees.proofs.FilesFit.{dir_file, is_dir, next_free, distinct_names}
+use Rattle.nfs_spec_laws.proofs.EditedFilesFit.{dir_file, is_dir, next_free, distinct_names}
 use Rattle.nfs_spec_changes.specs.Changed.{Becomes, LosesName, IsSetTo, IsRewritten, Makes, Links, Unnames}
 use Rattle.nfs_spec_steps.specs.Granted.{SetOk, WriteOk, MakeOk, LinkOk, UnnameOk}
 use Rattle.nfs_spec_changes.proofs.DirectoryEntries.{listing_of, begins_at, at_same, at_other, at_relisted, at_touched, becomes_touched, becomes_marked}

@@ -17,7 +17,7 @@ use Rattle.fs_changes.proofs.Finite.{changed_here, changed_other, gone_other}
 use Rattle.fs_trees.proofs.PathChanges.{no_return}
 use Rattle.nfs_spec.specs.Changes.{touch, with_mtime, touch_ctime, with_ctime, unlink, after_unlink}
 use Rattle.nfs_spec.specs.Procedures.{climbs_to, is_above, unlink_target}
-use Rattle.nfs_spec_trees.proofs.FilesFit.{dir_file}
+use Rattle.nfs_spec_laws.proofs.EditedFilesFit.{dir_file}
 use Rattle.nfs_spec_changes.specs.Changed.{Becomes, ChangesCtime, IsTouched, LosesName, Moves}
 use Rattle.nfs_spec_steps.specs.Granted.{RenameOk, MoveOk}
 use Rattle.nfs_spec_changes.proofs.OtherFiles.{unnamed_other, moved_apart, before_mark}

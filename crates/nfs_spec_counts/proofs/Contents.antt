@@ -14,7 +14,7 @@ use Rattle.fs_trees.proofs.SameShape.{stays_shaped}
 use Rattle.fs_changes.proofs.Room.{within}
 use Rattle.nfs_spec.specs.Changes.{touch, with_mtime, touch_ctime, with_ctime}
 use Rattle.nfs_spec_trees.proofs.FilesFit.{touched_fits, marked_fits}
-use Rattle.nfs_spec_laws.proofs.RoomBefore.{to_write}
+use Rattle.nfs_spec_sizes.proofs.RoomBefore.{to_write}
 use Rattle.nfs_spec_sizes.specs.Bounds.{HasWords}
 use Rattle.nfs_spec_counts.specs.Counted.{IsKept}
 use Rattle.nfs_spec_counts.specs.CountChanges.{MayChange}

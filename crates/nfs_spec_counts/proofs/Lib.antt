@@ -1,3 +1,6 @@
+pub use Rattle.nfs_spec_sizes.proofs.Words
+pub use Rattle.nfs_spec_sizes.proofs.Values
+pub use Rattle.nfs_spec_sizes.proofs.DirectoryEntries
 pub mod Kept
 pub mod Unnaming
 pub mod Contents

@@ -19,8 +19,8 @@ use Rattle.nfs_spec_steps.proofs.Steps.{listing_there}
 use Rattle.nfs_spec_trees.specs.Anew.{Follows}
 use Rattle.nfs_spec_trees.proofs.FilesFit.{distinct_names, mark_shape, touch_shape}
 use Rattle.nfs_spec_trees.proofs.Making.{link_added, link_follows}
-use Rattle.nfs_spec_laws.specs.Room.{HasRoomToLink}
-use Rattle.nfs_spec_laws.proofs.RoomBefore.{to_link}
+use Rattle.nfs_spec_sizes.specs.Room.{HasRoomToLink}
+use Rattle.nfs_spec_sizes.proofs.RoomBefore.{to_link}
 use Rattle.nfs_spec_sizes.proofs.Words.{touch_on, name_on, mark_on}
 use Rattle.nfs_spec_counts.specs.Counted.{IsKept}
 use Rattle.nfs_spec_counts.specs.CountChanges.{MayLink}

@@ -20,8 +20,8 @@ use Rattle.nfs_spec_steps.proofs.Steps.{listing_there}
 use Rattle.nfs_spec_trees.specs.Anew.{Follows}
 use Rattle.nfs_spec_trees.proofs.FilesFit.{next_free, next_unnamed, distinct_names, touch_shape}
 use Rattle.nfs_spec_trees.proofs.Making.{make_added, make_follows}
-use Rattle.nfs_spec_laws.specs.Room.{HasRoomToMake}
-use Rattle.nfs_spec_laws.proofs.RoomBefore.{to_make}
+use Rattle.nfs_spec_sizes.specs.Room.{HasRoomToMake}
+use Rattle.nfs_spec_sizes.proofs.RoomBefore.{to_make}
 use Rattle.nfs_spec_sizes.proofs.Words.{make_on}
 use Rattle.nfs_spec_counts.specs.Counted.{IsKept}
 use Rattle.nfs_spec_counts.specs.CountChanges.{MayMake, CountsMade}

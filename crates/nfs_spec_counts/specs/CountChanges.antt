@@ -8,7 +8,7 @@ use Rattle.fs_model.specs.Trees.{IsFile}
 use Rattle.fs_changes.specs.Limits.{blocks_in}
 use Rattle.nfs_spec.specs.Procedures.{is_above}
 use Rattle.nfs_spec_steps.specs.Granted.{MayReplace}
-use Rattle.nfs_spec_laws.specs.Room.{HasRoomToMake, HasRoomToLink}
+use Rattle.nfs_spec_sizes.specs.Room.{HasRoomToMake, HasRoomToLink}
 use Rattle.nfs_spec_sizes.specs.Bounds.{HasWords}
 
 -- ---- contents

@@ -13,7 +13,7 @@ use Rattle.nfs_spec.specs.Sattr.{given_fields}
 use Rattle.nfs_spec.specs.Changes.{with_bytes_at, body_with_length}
 use Rattle.nfs_types.specs.Calls.{Call}
 use Rattle.nfs_spec.specs.NfsCalls.{number_for, call_does}
-use Rattle.nfs_spec_trees.proofs.FilesFit.{next_free}
+use Rattle.nfs_spec_changes.proofs.EditedFilesFit.{next_free}
 use Rattle.nfs_spec_frames.specs.Named.{IsNoneOf, files_set_by, files_written_by, KeepsKind, KeepsAttributes, KeepsBytes, KeepsAt}
 use Rattle.nfs_spec_frames.proofs.UnnamedFiles.{at_name}
 use Rattle.nfs_spec_frames.proofs.BeforeAndAfter.{Step, steps}

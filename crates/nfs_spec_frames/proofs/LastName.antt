@@ -17,8 +17,8 @@ use Rattle.fs_changes.proofs.Listings.{one_same}
 use Rattle.fs_trees.proofs.Taking.{IsTaken, stays_taken}
 use Rattle.nfs_spec.specs.Changes.{touch, with_mtime, with_ctime, unlink, after_unlink}
 use Rattle.nfs_spec.specs.Procedures.{remove, remove_dir}
-use Rattle.nfs_spec_trees.proofs.FilesFit.{is_dir}
-use Rattle.nfs_spec_trees.proofs.Removing.{touched_taken}
+use Rattle.nfs_spec_changes.proofs.EditedFilesFit.{is_dir}
+use Rattle.nfs_spec_changes.proofs.Removing.{touched_taken}
 use Rattle.nfs_spec_steps.specs.Granted.{UnnameOk}
 use Rattle.nfs_spec_steps.proofs.Removing.{remove_ok, remove_dir_ok}
 use Rattle.nfs_spec_frames.specs.Gone.{IsGone, HasOneNameLess}

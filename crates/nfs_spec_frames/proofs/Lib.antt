@@ -1,3 +1,7 @@
+pub use Rattle.nfs_spec_changes.proofs.FilesFit
+pub use Rattle.nfs_spec_changes.proofs.EveryCall
+pub use Rattle.nfs_spec_changes.proofs.RoomBefore
+pub use Rattle.nfs_spec_changes.proofs.DirectoryEntries
 pub mod UnnamedFiles
 pub mod BeforeAndAfter
 pub mod KeptParts

@@ -11,10 +11,10 @@ use Rattle.fs_model.proofs.Walks.{none_some}
 use Rattle.fs_changes.specs.Limits.{has_room}
 use Rattle.nfs_types.specs.Calls.{Call}
 use Rattle.nfs_spec.specs.NfsCalls.{call_does}
-use Rattle.nfs_spec_trees.specs.Anew.{GivesAnew}
-use Rattle.nfs_spec_trees.proofs.GivenAnew.{nothing_given}
-use Rattle.nfs_spec_trees.proofs.FilesFit.{dir_file, is_dir}
-use Rattle.nfs_spec_laws.proofs.EveryCall.{stays}
+use Rattle.nfs_spec_changes.specs.Anew.{GivesAnew}
+use Rattle.nfs_spec_changes.proofs.GivenAnew.{nothing_given}
+use Rattle.nfs_spec_changes.proofs.EditedFilesFit.{dir_file, is_dir}
+use Rattle.nfs_spec_changes.proofs.EveryCall.{stays}
 use Rattle.nfs_spec_frames.specs.Named.{KeepsKind}
 use Rattle.nfs_spec_frames.specs.Runs.{Request, files_after, AreBounded}
 use Rattle.nfs_spec_frames.proofs.KeptParts.{kinds}

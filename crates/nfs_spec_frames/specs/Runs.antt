@@ -6,7 +6,7 @@ use Rattle.fs_model.specs.Files.{Files}
 use Rattle.fs_model.specs.Trees.{IsTime}
 use Rattle.nfs_types.specs.Calls.{Call}
 use Rattle.nfs_spec.specs.NfsCalls.{call_does}
-use Rattle.nfs_spec_laws.specs.Laws.{IsBounded}
+use Rattle.nfs_spec_changes.specs.Laws.{IsBounded}
 
 -- a call, with its caller and the time of it
 pub record Request : Type 0 where

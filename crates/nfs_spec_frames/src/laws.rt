@@ -11,7 +11,7 @@ ghost use Rattle.nfs_spec.specs.Procedures.{remove, remove_dir};
 ghost use Rattle.nfs_types.specs.Calls.{Call};
 ghost use Rattle.nfs_spec.specs.NfsCalls.{call_does};
 ghost use Rattle.nfs_spec.specs.Opening.{opening_files};
-ghost use Rattle.nfs_spec_trees.specs.Anew.{GivesAnew};
+ghost use Rattle.nfs_spec_changes.specs.Anew.{GivesAnew};
 ghost use Rattle.nfs_spec_steps.specs.Answers.{refusal_in};
 ghost use Rattle.nfs_spec_frames.specs.Named.{IsNoneOf, files_named_by, files_made, files_set_by, files_written_by, KeepsKind, KeepsAttributes, KeepsBytes, KeepsAt};
 ghost use Rattle.nfs_spec_frames.specs.Done.{Did};

@@ -12,9 +12,9 @@ use Rattle.fs_model.proofs.Walks.{none_some}
 use Rattle.nfs_spec.specs.Sattr.{given_fields}
 use Rattle.nfs_types.specs.Calls.{Call}
 use Rattle.nfs_spec.specs.NfsCalls.{number_for, call_does}
-use Rattle.nfs_spec_steps.specs.Answers.{refusal_in}
-use Rattle.nfs_spec_steps.specs.Granted.{RenameOk, new_directory, new_link}
-use Rattle.nfs_spec_steps.proofs.EachCall.{each_call}
+use Rattle.nfs_spec_trees.specs.Answers.{refusal_in}
+use Rattle.nfs_spec_trees.specs.Granted.{RenameOk, new_directory, new_link}
+use Rattle.nfs_spec_trees.proofs.EachCall.{each_call}
 use Rattle.nfs_spec_trees.specs.Anew.{Follows}
 use Rattle.nfs_spec_trees.proofs.Making.{make_follows, link_follows}
 use Rattle.nfs_spec_trees.proofs.Removing.{remove_follows}

@@ -15,7 +15,7 @@ use Rattle.nfs_items.specs.declared.sattr.Sattr.{Sattr}
 use Rattle.nfs_spec.specs.Sattr.{GivenFields, given_mode, given_time, given_fields, gives_any, no_fields}
 use Rattle.nfs_spec.specs.Changes.{body_with_length, apply_fields, new_file}
 use Rattle.nfs_spec.specs.Procedures.{with_bytes_written}
-use Rattle.nfs_spec_steps.specs.Granted.{ResizeOk, new_regular, new_directory, new_link}
+use Rattle.nfs_spec_trees.specs.Granted.{ResizeOk, new_regular, new_directory, new_link}
 use Rattle.nfs_spec_laws.specs.Laws.{AreValidFields}
 use Rattle.nfs_spec_laws.proofs.Bytes.{length-resized, length-written}
 

@@ -1,3 +1,6 @@
+pub use Rattle.nfs_spec_trees.proofs.FilesFit as EditedFilesFit
+pub use Rattle.nfs_spec_trees.proofs.Removing
+pub use Rattle.nfs_spec_trees.proofs.GivenAnew
 pub mod Bytes
 pub mod FilesFit
 pub mod Setting

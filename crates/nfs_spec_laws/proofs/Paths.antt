@@ -9,7 +9,7 @@ use Rattle.fs_model.proofs.Walks.{one_number}
 use Rattle.fs_trees.proofs.Adding.{adds_path}
 use Rattle.fs_trees.proofs.Taking.{takes_path}
 use Rattle.nfs_spec.specs.Sattr.{GivenFields}
-use Rattle.nfs_spec_steps.specs.Granted.{MakeOk, CreateOk, LinkOk, UnnameOk, IsSameFile, RenameOk, new_regular}
+use Rattle.nfs_spec_trees.specs.Granted.{MakeOk, CreateOk, LinkOk, UnnameOk, IsSameFile, RenameOk, new_regular}
 use Rattle.nfs_spec_trees.proofs.Making.{make_added, link_added}
 use Rattle.nfs_spec_trees.proofs.Removing.{remove_taken}
 use Rattle.nfs_spec_trees.proofs.Renaming.{renames_paths}

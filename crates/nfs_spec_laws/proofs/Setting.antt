@@ -16,7 +16,7 @@ use Rattle.fs_changes.proofs.Shapes.{IsSameShape, same_shape, changed_files}
 use Rattle.nfs_spec.specs.Sattr.{GivenFields}
 use Rattle.nfs_spec.specs.Changes.{body_with_length, apply_fields}
 use Rattle.nfs_spec.specs.Procedures.{with_bytes_written}
-use Rattle.nfs_spec_steps.specs.Granted.{SetOk, WriteOk, CreateOk, new_regular}
+use Rattle.nfs_spec_trees.specs.Granted.{SetOk, WriteOk, CreateOk, new_regular}
 use Rattle.nfs_spec_trees.specs.Anew.{Follows}
 use Rattle.nfs_spec_trees.proofs.GivenAnew.{nothing_given, same_given, cookie_changed}
 use Rattle.nfs_spec_trees.proofs.Making.{make_follows}

@@ -19,8 +19,8 @@ ghost use Rattle.nfs_spec.specs.Procedures.{add_file, create, make_dir, symlink,
 ghost use Rattle.nfs_types.specs.Calls.{Call};
 ghost use Rattle.nfs_spec.specs.NfsCalls.{call_does};
 ghost use Rattle.nfs_spec_trees.specs.Anew.{GivesAnew};
-ghost use Rattle.nfs_spec_steps.specs.Answers.{refusal_in, only_reads};
-ghost use Rattle.nfs_spec_steps.specs.Granted.{IsSameFile};
+ghost use Rattle.nfs_spec_trees.specs.Answers.{refusal_in, only_reads};
+ghost use Rattle.nfs_spec_trees.specs.Granted.{IsSameFile};
 ghost use Rattle.nfs_spec_laws.specs.Room.{HasRoomToMake, HasRoomToLink};
 ghost use Rattle.nfs_spec_laws.specs.Laws.{AreValidFields, IsBounded, NamesIn, UnnamesIn, RenamesIn};
 

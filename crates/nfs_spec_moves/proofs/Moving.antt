@@ -15,7 +15,7 @@ use Rattle.nfs_spec_steps.specs.Granted.{MoveOk, RenameOk}
 use Rattle.nfs_spec_trees.specs.Anew.{Follows}
 use Rattle.nfs_spec_trees.proofs.FilesFit.{dir_file, distinct_names, unnamed_files, touch_shape, mark_shape}
 use Rattle.nfs_spec_trees.proofs.Renaming.{renames_follows}
-use Rattle.nfs_spec_sizes.proofs.Words.{moved_words}
+use Rattle.nfs_spec_counts.proofs.Words.{moved_words}
 use Rattle.nfs_spec_links.specs.Links.{link_count}
 use Rattle.nfs_spec_links.proofs.LinkCounts.{CountsAlike, touched_alike, marked_alike, HasEntryMore, more_links, named_more, unnamed_less}
 use Rattle.nfs_spec_counts.specs.Counted.{IsKept}

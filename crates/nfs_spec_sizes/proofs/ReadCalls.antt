@@ -4,7 +4,7 @@ use Rattle.nfs_items.specs.declared.sattr.Sattr.{Sattr}
 use Rattle.nfs_types.specs.Calls as calls
 use Rattle.nfs_types.specs.Calls.{Call}
 use Rattle.nfs_types.specs.Bounds.{HasSattrWords, HasBounds}
-use Rattle.nfs_spec_laws.specs.Laws.{IsBounded}
+use Rattle.nfs_spec_frames.specs.Laws.{IsBounded}
 use Rattle.nfs_spec_sizes.specs.Bounds.{AsksWords, HasWordsIn}
 
 asks_words : (s : Sattr) → HasSattrWords s → AsksWords s

@@ -18,7 +18,7 @@ use Rattle.nfs_types.specs.Calls.{Call}
 use Rattle.nfs_spec.specs.NfsCalls.{number_for, call_does}
 use Rattle.nfs_spec_steps.specs.Granted.{SetOk, WriteOk, MakeOk, CreateOk, UnnameOk, RenameOk, new_regular, new_directory, new_link}
 use Rattle.nfs_spec_steps.proofs.EachCall.{each_call}
-use Rattle.nfs_spec_laws.proofs.FilesFit.{unwrapped}
+use Rattle.nfs_spec_frames.proofs.FilesFit.{unwrapped}
 use Rattle.nfs_spec_sizes.specs.Bounds.{HasWords, AsksWords, SaysWords, HasWordsIn}
 
 abbrev pub AllWords : Files → Type 0

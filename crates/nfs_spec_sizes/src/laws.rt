@@ -9,7 +9,7 @@ ghost use Rattle.fs_changes.specs.Limits.{has_room};
 ghost use Rattle.nfs_types.specs.Calls.{Call};
 ghost use Rattle.nfs_types.specs.Bounds.{HasBounds};
 ghost use Rattle.nfs_spec.specs.NfsCalls.{call_does};
-ghost use Rattle.nfs_spec_laws.specs.Laws.{IsBounded};
+ghost use Rattle.nfs_spec_frames.specs.Laws.{IsBounded};
 ghost use Rattle.nfs_types.specs.Texts.{IsSpelled, answer_text};
 ghost use Rattle.nfs_types.specs.declared.limits.TheConstants.{SHORT_ANSWER};
 ghost use Rattle.nfs_spec_steps.specs.Answers.{only_reads};

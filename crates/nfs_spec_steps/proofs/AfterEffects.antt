@@ -3,11 +3,11 @@
 use Rattle.std.proofs.Common.{◌≡◌, ⊎_elim, ℕ, Bool, true, false, cond, List, length, Option, Some, None, is_some, option_map, refl, sym, ap, subst, ◌∙◌}
 use Rattle.std.specs.Prelude.{IsSome, ◌==◌}
 use Rattle.std.proofs.lemmas.Bool.{cases_eq}
-use Rattle.nfs_items.specs.Timeval.{Timeval}
-use Rattle.nfs_items.specs.Caller.{Caller}
-use Rattle.fs_model.specs.Files.{File, Files, file_at, places}
-use Rattle.fs_changes.specs.Edits.{with_changed_file, with_new_file, with_name}
-use Rattle.fs_changes.proofs.Finite.{changed_here, changed_other, new_here}
+use Rattle.nfs_spec.specs.Timeval.{Timeval}
+use Rattle.nfs_spec.specs.Caller.{Caller}
+use Rattle.nfs_spec.specs.Files.{File, Files, file_at, places}
+use Rattle.nfs_spec.specs.Edits.{with_changed_file, with_new_file, with_name}
+use Rattle.nfs_spec.proofs.Finite.{changed_here, changed_other, new_here}
 use Rattle.nfs_spec.specs.Sattr.{GivenFields}
 use Rattle.nfs_spec.specs.Changes.{apply_fields}
 use Rattle.nfs_spec.specs.Procedures.{with_bytes_written, add_file}

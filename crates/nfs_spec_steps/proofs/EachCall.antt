@@ -3,19 +3,19 @@
 -- Serves: trees_stay_trees, nothing_is_given_again, no_limit_is_passed and refusals_leave_files in nfs_spec_laws;
 -- the laws of nfs_spec_frames; answers_have_a_spelling in nfs_spec_sizes.
 use Rattle.std.proofs.Common.{◌≡◌, ℕ, true, List, Some, Result, Ok, Err, refl, sym, ap, subst, ◌∙◌}
-use Rattle.nfs_items.specs.Timeval.{Timeval}
-use Rattle.nfs_items.specs.Caller.{Caller}
-use Rattle.nfs_items.specs.Handle.{handle_of}
-use Rattle.nfs_items.specs.declared.attributes.Fattr.{Fattr}
-use Rattle.nfs_items.specs.declared.stat.Stat.{Stat}
-use Rattle.fs_model.specs.Files.{Files}
-use Rattle.nfs_items.specs.declared.sattr.Sattr.{Sattr}
+use Rattle.nfs_spec.specs.Timeval.{Timeval}
+use Rattle.nfs_spec.specs.Caller.{Caller}
+use Rattle.nfs_spec.specs.Handle.{handle_of}
+use Rattle.nfs_spec.specs.Fattr.{Fattr}
+use Rattle.nfs_spec.specs.Stat.{Stat}
+use Rattle.nfs_spec.specs.Files.{Files}
+use Rattle.nfs_spec.specs.SettableAttributes.{Sattr}
 use Rattle.nfs_spec.specs.Sattr.{given_fields}
 use Rattle.nfs_spec.specs.Changes.{Effect}
 use Rattle.nfs_spec.specs.Effects.{attributes_at}
 use Rattle.nfs_spec.specs.Procedures as tree
-use Rattle.nfs_types.specs.Calls as calls
-use Rattle.nfs_types.specs.Calls.{Call, Answer}
+use Rattle.nfs_spec.specs.Calls as calls
+use Rattle.nfs_spec.specs.Calls.{Call, Answer}
 use Rattle.nfs_spec.specs.NfsCalls.{answer_and_files, with_attributes, with_handle, without_number, number_for, call_does}
 use Rattle.nfs_spec_steps.specs.Answers.{refusal_in, only_reads}
 use Rattle.nfs_spec_steps.specs.Granted.{SetOk, WriteOk, CreateOk, MakeDirOk, SymlinkOk, LinkOk, RemoveOk, RemoveDirOk, RenameOk}

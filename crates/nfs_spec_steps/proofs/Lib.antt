@@ -1,3 +1,13 @@
+pub use Rattle.nfs_spec.proofs.Finite
+pub use Rattle.nfs_spec.proofs.Room
+pub use Rattle.nfs_spec.proofs.Listings
+pub use Rattle.nfs_spec.proofs.Shapes
+pub use Rattle.nfs_spec.proofs.Walks
+pub use Rattle.nfs_spec.proofs.Counts
+pub use Rattle.nfs_spec.proofs.OnePath
+pub use Rattle.nfs_spec.proofs.Parents
+pub use Rattle.nfs_spec.proofs.Reached
+pub use Rattle.nfs_spec.proofs.Cookies
 pub mod Steps
 pub mod Setting
 pub mod Making

@@ -4,15 +4,15 @@ use Rattle.std.proofs.Common.{◌≡◌, ℕ, true, List, Option, None, Result, 
 use Rattle.std.specs.Prelude.{unwrap_or}
 use Rattle.std.specs.Option.{option_map_or}
 use Rattle.std.proofs.lemmas.Bool.{not-true}
-use Rattle.nfs_items.specs.Timeval.{Timeval}
-use Rattle.nfs_items.specs.Caller.{Caller}
-use Rattle.nfs_items.specs.declared.stat.Stat.{Stat}
-use Rattle.nfs_items.specs.declared.stat.Stat.TheVariants as stats
-use Rattle.fs_model.specs.Listing.{entry_at}
-use Rattle.fs_model.specs.Names.{is_name}
-use Rattle.fs_model.specs.Files.{Body, Regular, Symlink, Directory, File, Files, is_directory, places}
-use Rattle.fs_changes.specs.Edits.{with_name}
-use Rattle.fs_changes.specs.Limits.{has_room}
+use Rattle.nfs_spec.specs.Timeval.{Timeval}
+use Rattle.nfs_spec.specs.Caller.{Caller}
+use Rattle.nfs_spec.specs.Stat.{Stat}
+use Rattle.nfs_spec.specs.Stat.TheVariants as stats
+use Rattle.nfs_spec.specs.Listing.{entry_at}
+use Rattle.nfs_spec.specs.Names.{is_name}
+use Rattle.nfs_spec.specs.Files.{Body, Regular, Symlink, Directory, File, Files, is_directory, places}
+use Rattle.nfs_spec.specs.Edits.{with_name}
+use Rattle.nfs_spec.specs.Limits.{has_room}
 use Rattle.nfs_spec.specs.ProcedureChecks.{NumberedDir, file_of, dir_of, check, check_size, check_room, check_edit, check_free, may_search, may_write}
 use Rattle.nfs_spec.specs.Sattr.{GivenFields}
 use Rattle.nfs_spec.specs.Changes.{touch, touch_ctime}

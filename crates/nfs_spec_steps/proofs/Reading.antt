@@ -2,15 +2,15 @@
 -- Serves: granted_reads_pass_their_checks.
 use Rattle.std.proofs.Common.{◌≡◌, ℕ, true, List, Ok, sym, ap, ◌∙◌}
 use Rattle.std.specs.Prelude.{◌||◌}
-use Rattle.nfs_items.specs.Caller.{Caller}
-use Rattle.nfs_items.specs.Handle.{number_in}
-use Rattle.nfs_items.specs.declared.attributes.Fattr.{Fattr}
-use Rattle.nfs_items.specs.declared.stat.Stat.TheVariants as stats
-use Rattle.fs_model.specs.Listing.{Listing}
-use Rattle.fs_model.specs.Files.{Body, Regular, Symlink, Directory, Files, is_directory, listing_in}
+use Rattle.nfs_spec.specs.Caller.{Caller}
+use Rattle.nfs_spec.specs.Handle.{number_in}
+use Rattle.nfs_spec.specs.Fattr.{Fattr}
+use Rattle.nfs_spec.specs.Stat.TheVariants as stats
+use Rattle.nfs_spec.specs.Listing.{Listing}
+use Rattle.nfs_spec.specs.Files.{Body, Regular, Symlink, Directory, Files, is_directory, listing_in}
 use Rattle.nfs_spec.specs.ProcedureChecks.{file_of, number_of, dir_of, bytes_of, check, permits, may_read}
 use Rattle.nfs_spec.specs.Effects.{attributes_at, number_at_name, getattr, lookup}
-use Rattle.nfs_types.specs.Calls.{Page}
+use Rattle.nfs_spec.specs.Calls.{Page}
 use Rattle.nfs_spec.specs.Procedures.{read_link, read, read_dir}
 use Rattle.nfs_spec_steps.specs.Read.{AttributesOk, GetattrOk, LookupOk, ReadLinkOk, ReadOk, ReadDirOk}
 use Rattle.nfs_spec_steps.proofs.Steps.{bind_ok, check_ok, found_ok, file_ok, ok_same, bytes_ok, target_ok, dir_ok}

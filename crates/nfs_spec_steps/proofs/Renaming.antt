@@ -4,12 +4,12 @@ use Rattle.std.proofs.Common.{◌≡◌, ◌≢◌, ◌⊎◌, inl, inr, ℕ, Bo
 use Rattle.std.specs.Prelude.{◌==◌, ◌&&◌, ◌||◌, nat_le, if◌then◌else◌}
 use Rattle.std.specs.Option.{option_map_or}
 use Rattle.std.proofs.lemmas.Bool.{not-true, eqb-true, leb-true}
-use Rattle.nfs_items.specs.Timeval.{Timeval}
-use Rattle.nfs_items.specs.Caller.{Caller}
-use Rattle.nfs_items.specs.declared.stat.Stat.{Stat}
-use Rattle.nfs_items.specs.declared.stat.Stat.TheVariants as stats
-use Rattle.fs_model.specs.Listing.{Listing, entry_at}
-use Rattle.fs_model.specs.Files.{File, Files, is_directory, listing_in, places}
+use Rattle.nfs_spec.specs.Timeval.{Timeval}
+use Rattle.nfs_spec.specs.Caller.{Caller}
+use Rattle.nfs_spec.specs.Stat.{Stat}
+use Rattle.nfs_spec.specs.Stat.TheVariants as stats
+use Rattle.nfs_spec.specs.Listing.{Listing, entry_at}
+use Rattle.nfs_spec.specs.Files.{File, Files, is_directory, listing_in, places}
 use Rattle.nfs_spec.specs.ProcedureChecks.{◌>>=◌, NumberedDir, file_of, dir_of, check, check_cookie, check_edit, number_at}
 use Rattle.nfs_spec.specs.Procedures.{is_above, check_target, move_entry, rename}
 use Rattle.nfs_spec_steps.specs.Granted.{IsFound, IsSameFile, MayReplace, MoveOk, RenameOk}

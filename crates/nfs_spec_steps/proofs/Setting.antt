@@ -3,13 +3,13 @@
 use Rattle.std.proofs.Common.{◌≡◌, ◌≢◌, ℕ, ◌+◌, ◌≤◌, Bool, true, false, List, [], length, Option, Some, Result, Ok, refl, sym, ap, subst, ◌∙◌}
 use Rattle.std.specs.Prelude.{◌==◌, is_some, if◌then◌else◌}
 use Rattle.std.proofs.lemmas.Bool.{eqb-true}
-use Rattle.nfs_items.specs.Timeval.{Timeval}
-use Rattle.nfs_items.specs.Caller.{Caller}
-use Rattle.nfs_items.specs.declared.stat.Stat.{Stat}
-use Rattle.nfs_items.specs.declared.stat.Stat.TheVariants as stats
-use Rattle.fs_model.specs.Files.{File, Files}
-use Rattle.fs_changes.specs.Edits.{with_changed_file}
-use Rattle.fs_changes.specs.Limits.{has_room}
+use Rattle.nfs_spec.specs.Timeval.{Timeval}
+use Rattle.nfs_spec.specs.Caller.{Caller}
+use Rattle.nfs_spec.specs.Stat.{Stat}
+use Rattle.nfs_spec.specs.Stat.TheVariants as stats
+use Rattle.nfs_spec.specs.Files.{File, Files}
+use Rattle.nfs_spec.specs.Edits.{with_changed_file}
+use Rattle.nfs_spec.specs.Limits.{has_room}
 use Rattle.nfs_spec.specs.ProcedureChecks.{◌>>=◌, file_of, bytes_of, check, check_size, check_room, may_write}
 use Rattle.nfs_spec.specs.Sattr.{GivenFields}
 use Rattle.nfs_spec.specs.Changes.{check_owner, check_resize, apply_fields}

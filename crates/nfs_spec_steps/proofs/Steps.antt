@@ -4,13 +4,13 @@ use Rattle.std.proofs.Common.{◌≡◌, ℕ, ◌≤◌, Bool, true, false, List
 use Rattle.std.specs.Prelude.{◌&&◌, nat_le, is_none}
 use Rattle.std.specs.Option.{option_map_or}
 use Rattle.std.proofs.lemmas.Bool.{leb-true, and_parts}
-use Rattle.nfs_items.specs.Caller.{Caller}
-use Rattle.nfs_items.specs.declared.stat.Stat.{Stat}
-use Rattle.nfs_items.specs.declared.stat.Stat.TheVariants as stats
-use Rattle.fs_model.specs.Listing.{Listing, entry_at}
-use Rattle.fs_model.specs.Names.{is_name}
-use Rattle.fs_model.specs.Files.{Body, Regular, Symlink, Directory, File, Files, file_at, listing_in, listing, is_directory, places}
-use Rattle.fs_model.proofs.Walks.{none_some, some_same}
+use Rattle.nfs_spec.specs.Caller.{Caller}
+use Rattle.nfs_spec.specs.Stat.{Stat}
+use Rattle.nfs_spec.specs.Stat.TheVariants as stats
+use Rattle.nfs_spec.specs.Listing.{Listing, entry_at}
+use Rattle.nfs_spec.specs.Names.{is_name}
+use Rattle.nfs_spec.specs.Files.{Body, Regular, Symlink, Directory, File, Files, file_at, listing_in, listing, is_directory, places}
+use Rattle.nfs_spec.proofs.Walks.{none_some, some_same}
 use Rattle.nfs_spec.specs.ProcedureChecks.{◌>>=◌, ok_or, listing_or, check, check_size, check_edit, check_free, NumberedDir, file_of, dir_of, number_at, bytes_of, target_of, may_search, may_write}
 use Rattle.nfs_spec_steps.specs.Granted.{IsFound, MayEdit}
 

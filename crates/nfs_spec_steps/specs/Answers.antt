@@ -1,8 +1,8 @@
 -- What an answer says of its call.
 use Rattle.std.specs.Prelude.{Bool, true, false, Option, None}
-use Rattle.nfs_items.specs.declared.stat.Stat.{Stat}
+use Rattle.nfs_spec.specs.Stat.{Stat}
 use Rattle.nfs_spec.specs.LawTerms.{stat_in}
-use Rattle.nfs_types.specs.Calls.{Call, Null, Getattr, Root, Lookup, Readlink, Read, Writecache, Readdir, Statfs, Answer, Nothing, Attributes, DirOp, Target, Bytes, Status, Entries, Free}
+use Rattle.nfs_spec.specs.Calls.{Call, Null, Getattr, Root, Lookup, Readlink, Read, Writecache, Readdir, Statfs, Answer, Nothing, Attributes, DirOp, Target, Bytes, Status, Entries, Free}
 
 -- the stat of a call that was refused
 abbrev pub refusal_in : Answer → Option Stat

@@ -1,14 +1,14 @@
 -- What follows from the Ok of a procedure that changes files: each check that it passed, and its effect. Each
 -- record speaks of the files before and after, the caller, the clock reading and the procedure's arguments.
 use Rattle.std.specs.Prelude.{◌≡◌, ◌≢◌, ◌⊎◌, ℕ, ◌+◌, ◌==◌, ◌&&◌, ◌≤◌, Bool, true, false, IsTrue, List, [], length, replicate, Some, None, option_map, Ok, unwrap_or, if◌then◌else◌}
-use Rattle.nfs_items.specs.Timeval.{Timeval}
-use Rattle.nfs_items.specs.Caller.{Caller}
-use Rattle.nfs_items.specs.Terms.{FileNumber, Cookie, Name}
-use Rattle.fs_model.specs.Maxima.{max_file_size, max_number}
-use Rattle.fs_model.specs.Names.{is_name}
-use Rattle.fs_model.specs.Files.{Regular, Symlink, Directory, File, Files, file_at, is_directory, listing_in, listing, places}
-use Rattle.fs_changes.specs.Edits.{with_changed_file, with_name}
-use Rattle.fs_changes.specs.Limits.{has_room}
+use Rattle.nfs_spec.specs.Timeval.{Timeval}
+use Rattle.nfs_spec.specs.Caller.{Caller}
+use Rattle.nfs_spec.specs.Terms.{FileNumber, Cookie, Name}
+use Rattle.nfs_spec.specs.Maxima.{max_file_size, max_number}
+use Rattle.nfs_spec.specs.Names.{is_name}
+use Rattle.nfs_spec.specs.Files.{Regular, Symlink, Directory, File, Files, file_at, is_directory, listing_in, listing, places}
+use Rattle.nfs_spec.specs.Edits.{with_changed_file, with_name}
+use Rattle.nfs_spec.specs.Limits.{has_room}
 use Rattle.nfs_spec.specs.ProcedureChecks.{NumberedDir, may_search, may_write}
 use Rattle.nfs_spec.specs.Sattr.{GivenFields, no_fields}
 use Rattle.nfs_spec.specs.Changes.{check_owner, apply_fields, new_file, touch, touch_ctime, unlink}

@@ -1,3 +1,11 @@
+pub use Rattle.nfs_spec.specs.Procedures
+pub use Rattle.nfs_spec.specs.Changes
+pub use Rattle.nfs_spec.specs.Limits
+pub use Rattle.nfs_spec.specs.Edits
+pub use Rattle.nfs_spec.specs.Paths
+pub use Rattle.nfs_spec.specs.Files
+pub use Rattle.nfs_spec.specs.Trees
+pub use Rattle.nfs_spec.specs.Listing
 pub mod Answers
 pub mod Granted
 pub mod Read

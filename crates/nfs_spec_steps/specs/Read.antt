@@ -1,16 +1,16 @@
 -- What follows from the Ok of a procedure that only reads.
 use Rattle.std.specs.Prelude.{◌≡◌, ℕ, ◌||◌, IsTrue, List, take, drop, min, Some, Ok}
-use Rattle.nfs_items.specs.Caller.{Caller}
-use Rattle.nfs_items.specs.Handle.{FileHandle, number_in, handle_of}
-use Rattle.nfs_items.specs.declared.attributes.Fattr.{Fattr}
-use Rattle.nfs_items.specs.Terms.{Name, FileNumber, Cookie}
-use Rattle.fs_model.specs.Maxima.{max_data}
-use Rattle.fs_model.specs.Listing.{Listing}
-use Rattle.fs_model.specs.Files.{Regular, Symlink, Directory, File, Files, file_at}
+use Rattle.nfs_spec.specs.Caller.{Caller}
+use Rattle.nfs_spec.specs.Handle.{FileHandle, number_in, handle_of}
+use Rattle.nfs_spec.specs.Fattr.{Fattr}
+use Rattle.nfs_spec.specs.Terms.{Name, FileNumber, Cookie}
+use Rattle.nfs_spec.specs.Maxima.{max_data}
+use Rattle.nfs_spec.specs.Listing.{Listing}
+use Rattle.nfs_spec.specs.Files.{Regular, Symlink, Directory, File, Files, file_at}
 use Rattle.nfs_spec.specs.FileAttributes.{attributes_of}
 use Rattle.nfs_spec.specs.ProcedureChecks.{permits, may_read}
 use Rattle.nfs_spec.specs.Effects.{number_at_name}
-use Rattle.nfs_types.specs.Calls.{Page}
+use Rattle.nfs_spec.specs.Calls.{Page}
 use Rattle.nfs_spec.specs.Readdir.{dir_entries, page_of}
 
 -- attributes are those of a file that is there

@@ -1,15 +1,15 @@
 //! What follows from each procedure's Ok.
 
 ghost use Rattle.std.specs.Prelude.{◌≡◌, ℕ, List, Ok};
-ghost use Rattle.nfs_items.specs.Timeval.{Timeval};
-ghost use Rattle.nfs_items.specs.Caller.{Caller};
-ghost use Rattle.nfs_items.specs.declared.attributes.Fattr.{Fattr};
-ghost use Rattle.nfs_items.specs.Handle.{FileHandle};
-ghost use Rattle.nfs_items.specs.Terms.{FileNumber, Cookie, Name};
-ghost use Rattle.fs_model.specs.Files.{Files};
+ghost use Rattle.nfs_spec.specs.Timeval.{Timeval};
+ghost use Rattle.nfs_spec.specs.Caller.{Caller};
+ghost use Rattle.nfs_spec.specs.Fattr.{Fattr};
+ghost use Rattle.nfs_spec.specs.Handle.{FileHandle};
+ghost use Rattle.nfs_spec.specs.Terms.{FileNumber, Cookie, Name};
+ghost use Rattle.nfs_spec.specs.Files.{Files};
 ghost use Rattle.nfs_spec.specs.Sattr.{GivenFields};
 ghost use Rattle.nfs_spec.specs.Effects.{attributes_at, getattr, lookup};
-ghost use Rattle.nfs_types.specs.Calls.{Page};
+ghost use Rattle.nfs_spec.specs.Calls.{Page};
 ghost use Rattle.nfs_spec.specs.Procedures.{set_attributes, read_link, read, write, create, make_dir, symlink, link, remove, remove_dir, rename, read_dir};
 ghost use Rattle.nfs_spec_steps.specs.Granted.{SetOk, WriteOk, CreateOk, MakeDirOk, SymlinkOk, LinkOk, RemoveOk, RemoveDirOk, RenameOk};
 ghost use Rattle.nfs_spec_steps.specs.Read.{AttributesOk, GetattrOk, LookupOk, ReadLinkOk, ReadOk, ReadDirOk};

@@ -9,16 +9,16 @@ use Rattle.std.specs.Option.{option_map_or}
 use Rattle.std.specs.Ordering.{nat_cmp, eq_by_cmp}
 use Rattle.std.specs.Cmp.{nat_cmp_total, eq_by_cmp_equiv}
 use Rattle.std.specs.FinMap as finite
-use Rattle.fs_model.specs.Paths.{Places, walk, path_at, IsAbove}
-use Rattle.fs_model.specs.Files.{Files, file_at, IsDirectory, places, parent_of}
-use Rattle.fs_model.specs.Trees.{IsFileTree}
-use Rattle.fs_model.proofs.Walks.{none_some, one_number, walk_on, last_name, last_step}
-use Rattle.fs_model.proofs.Counts.{find_lookup}
-use Rattle.fs_model.proofs.OnePath.{one_path}
-use Rattle.fs_model.proofs.Parents.{root_parent}
-use Rattle.fs_changes.specs.Limits.{file_count}
-use Rattle.fs_changes.proofs.Finite.{cmp_other}
-use Rattle.nfs_spec.specs.Procedures.{climbs_to, is_above}
+use Rattle.nfs_spec_steps.specs.Paths.{Places, walk, path_at, IsAbove}
+use Rattle.nfs_spec_steps.specs.Files.{Files, file_at, IsDirectory, places, parent_of}
+use Rattle.nfs_spec_steps.specs.Trees.{IsFileTree}
+use Rattle.nfs_spec_steps.proofs.Walks.{none_some, one_number, walk_on, last_name, last_step}
+use Rattle.nfs_spec_steps.proofs.Counts.{find_lookup}
+use Rattle.nfs_spec_steps.proofs.OnePath.{one_path}
+use Rattle.nfs_spec_steps.proofs.Parents.{root_parent}
+use Rattle.nfs_spec_steps.specs.Limits.{file_count}
+use Rattle.nfs_spec_steps.proofs.Finite.{cmp_other}
+use Rattle.nfs_spec_steps.specs.Procedures.{climbs_to, is_above}
 
 -- the numbers along a walk
 trail : Places → ℕ × ℕ → List (List ℕ) → List ℕ

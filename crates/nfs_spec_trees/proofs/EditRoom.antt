@@ -6,14 +6,14 @@ use Rattle.std.specs.Cmp.Lexicographic.{pointwise}
 use Rattle.std.proofs.lemmas.Bool.{cases_eq}
 use Rattle.std.proofs.lemmas.List.{length-append}
 use Rattle.nfs_items.specs.Timeval.{Timeval}
-use Rattle.fs_model.specs.Listing.{entry_at, with_entry}
-use Rattle.fs_model.specs.Files.{Body, Regular, Symlink, Directory, File, Files, file_at, listing_in, is_directory, places, names_of}
-use Rattle.fs_model.proofs.Walks.{none_some, some_same}
-use Rattle.fs_changes.specs.Edits.{map_listing, map_body_listing, with_name, without_name}
-use Rattle.fs_changes.specs.Limits.{blocks_in, entry_count, file_count, block_count, has_room}
-use Rattle.fs_changes.proofs.Finite.{changed_next, changed_here, changed_other, total_changed}
-use Rattle.fs_changes.proofs.Room.{count_changed, AllCookies, within, room, IsNoMore, no_more_then, changed_no_more, gone_no_more, unnamed_no_more, same_smaller}
-use Rattle.nfs_spec.specs.Changes.{touch, with_mtime, touch_ctime, with_ctime, unlink, after_unlink}
+use Rattle.nfs_spec_steps.specs.Listing.{entry_at, with_entry}
+use Rattle.nfs_spec_steps.specs.Files.{Body, Regular, Symlink, Directory, File, Files, file_at, listing_in, is_directory, places, names_of}
+use Rattle.nfs_spec_steps.proofs.Walks.{none_some, some_same}
+use Rattle.nfs_spec_steps.specs.Edits.{map_listing, map_body_listing, with_name, without_name}
+use Rattle.nfs_spec_steps.specs.Limits.{blocks_in, entry_count, file_count, block_count, has_room}
+use Rattle.nfs_spec_steps.proofs.Finite.{changed_next, changed_here, changed_other, total_changed}
+use Rattle.nfs_spec_steps.proofs.Room.{count_changed, AllCookies, within, room, IsNoMore, no_more_then, changed_no_more, gone_no_more, unnamed_no_more, same_smaller}
+use Rattle.nfs_spec_steps.specs.Changes.{touch, with_mtime, touch_ctime, with_ctime, unlink, after_unlink}
 
 -- ---- times, and a name less
 

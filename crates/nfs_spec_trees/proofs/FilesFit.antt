@@ -2,17 +2,17 @@
 -- Serves: trees_stay_trees in nfs_spec_laws; room_is_told_before; the laws of nfs_spec_changes and nfs_spec_frames.
 use Rattle.std.proofs.Common.{◌≡◌, ⊎_elim, ℕ, Bool, true, false, List, Option, Some, None, IsSome, is_some, option_map, refl, sym, ap, ◌∙◌, arith}
 use Rattle.nfs_items.specs.Timeval.{Timeval}
-use Rattle.fs_model.specs.Listing.{Listing, with_entry, without_entry, HasDistinctNames}
-use Rattle.fs_model.specs.Files.{Body, Regular, Symlink, Directory, File, Files, file_at, listing_in, is_directory, names_of}
-use Rattle.fs_model.specs.Trees.{IsBody, IsTime, IsFile, IsFileTree}
-use Rattle.fs_model.proofs.Walks.{none_some}
-use Rattle.fs_model.proofs.Reached.{distinct_in, place_of}
+use Rattle.nfs_spec_steps.specs.Listing.{Listing, with_entry, without_entry, HasDistinctNames}
+use Rattle.nfs_spec_steps.specs.Files.{Body, Regular, Symlink, Directory, File, Files, file_at, listing_in, is_directory, names_of}
+use Rattle.nfs_spec_steps.specs.Trees.{IsBody, IsTime, IsFile, IsFileTree}
+use Rattle.nfs_spec_steps.proofs.Walks.{none_some}
+use Rattle.nfs_spec_steps.proofs.Reached.{distinct_in, place_of}
 use Rattle.std.proofs.lemmas.Bool.{cases_lt}
-use Rattle.fs_changes.specs.Edits.{with_changed_file, map_listing, map_body_listing}
-use Rattle.fs_model.proofs.Cookies.{rising_pushed, rising_removed}
-use Rattle.fs_changes.proofs.Listings.{with_entry_distinct, without_entry_distinct}
-use Rattle.fs_changes.proofs.Shapes.{kind, AllFiles, IsSameShape, same_shape, changed_files}
-use Rattle.nfs_spec.specs.Changes.{with_mtime, with_ctime, touch, touch_ctime}
+use Rattle.nfs_spec_steps.specs.Edits.{with_changed_file, map_listing, map_body_listing}
+use Rattle.nfs_spec_steps.proofs.Cookies.{rising_pushed, rising_removed}
+use Rattle.nfs_spec_steps.proofs.Listings.{with_entry_distinct, without_entry_distinct}
+use Rattle.nfs_spec_steps.proofs.Shapes.{kind, AllFiles, IsSameShape, same_shape, changed_files}
+use Rattle.nfs_spec_steps.specs.Changes.{with_mtime, with_ctime, touch, touch_ctime}
 
 -- a directory is a file that lists
 pub dir_file : (w : Files) (n : ℕ) → kind w n ≡ Some true

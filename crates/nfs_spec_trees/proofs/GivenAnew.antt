@@ -4,16 +4,16 @@ use Rattle.std.proofs.Common.{◌≡◌, ◌≢◌, ◌⊎◌, inl, inr, ⊎_eli
 use Rattle.std.specs.Option.{option_map_or}
 use Rattle.std.proofs.lemmas.Bool.{cases_eq}
 use Rattle.nfs_items.specs.Timeval.{Timeval}
-use Rattle.fs_model.specs.Listing.{with_entry, without_entry}
-use Rattle.fs_model.specs.Files.{Body, Regular, Symlink, Directory, File, Files, file_at, listing_in, listing, IsDirectory, places, names_of}
-use Rattle.fs_model.proofs.Walks.{none_some, some_same, same_place}
-use Rattle.fs_changes.specs.Edits.{with_changed_file, with_new_file, without_file, map_listing, map_body_listing, with_name, without_name}
-use Rattle.fs_changes.proofs.Finite.{new_other, changed_here, changed_other, gone_other}
-use Rattle.fs_changes.proofs.Shapes.{kind, IsSameShape, is_some-kind}
+use Rattle.nfs_spec_steps.specs.Listing.{with_entry, without_entry}
+use Rattle.nfs_spec_steps.specs.Files.{Body, Regular, Symlink, Directory, File, Files, file_at, listing_in, listing, IsDirectory, places, names_of}
+use Rattle.nfs_spec_steps.proofs.Walks.{none_some, some_same, same_place}
+use Rattle.nfs_spec_steps.specs.Edits.{with_changed_file, with_new_file, without_file, map_listing, map_body_listing, with_name, without_name}
+use Rattle.nfs_spec_steps.proofs.Finite.{new_other, changed_here, changed_other, gone_other}
+use Rattle.nfs_spec_steps.proofs.Shapes.{kind, IsSameShape, is_some-kind}
 use Rattle.fs_trees.proofs.Adding.{IsAdded}
 use Rattle.fs_trees.proofs.Taking.{IsTaken}
 use Rattle.fs_trees.proofs.Moving.{IsRenamed}
-use Rattle.nfs_spec.specs.Changes.{touch, touch_ctime, with_mtime, with_ctime, unlink, after_unlink}
+use Rattle.nfs_spec_steps.specs.Changes.{touch, touch_ctime, with_mtime, with_ctime, unlink, after_unlink}
 use Rattle.nfs_spec_trees.specs.Anew.{GivesAnew}
 
 -- ---- the next cookie

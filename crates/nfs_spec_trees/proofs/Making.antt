@@ -3,16 +3,16 @@
 use Rattle.std.proofs.Common.{◌≡◌, ◌≢◌, inl, inr, ℕ, ◌≤◌, Bool, true, false, List, [], length, Option, Some, None, IsSome, is_some, option_map, refl, sym, ap, subst, ◌∙◌, arith}
 use Rattle.nfs_items.specs.Timeval.{Timeval}
 use Rattle.nfs_items.specs.Caller.{Caller}
-use Rattle.fs_model.specs.Listing.{Listing}
-use Rattle.fs_model.specs.Files.{File, Files, file_at, listing_in, listing, is_directory, IsDirectory, places}
-use Rattle.fs_model.specs.Trees.{IsTime, IsFile, IsFileTree}
-use Rattle.fs_changes.specs.Edits.{with_new_file, with_name}
-use Rattle.fs_changes.proofs.Finite.{new_other, changed_other}
-use Rattle.fs_changes.proofs.Listings.{leads}
-use Rattle.fs_changes.proofs.Shapes.{kind, AllFiles, IsSameShape, IsNamed, IsOneMore, new_shape, named_shape, new_files, is_some-kind}
+use Rattle.nfs_spec_steps.specs.Listing.{Listing}
+use Rattle.nfs_spec_steps.specs.Files.{File, Files, file_at, listing_in, listing, is_directory, IsDirectory, places}
+use Rattle.nfs_spec_steps.specs.Trees.{IsTime, IsFile, IsFileTree}
+use Rattle.nfs_spec_steps.specs.Edits.{with_new_file, with_name}
+use Rattle.nfs_spec_steps.proofs.Finite.{new_other, changed_other}
+use Rattle.nfs_spec_steps.proofs.Listings.{leads}
+use Rattle.nfs_spec_steps.proofs.Shapes.{kind, AllFiles, IsSameShape, IsNamed, IsOneMore, new_shape, named_shape, new_files, is_some-kind}
 use Rattle.fs_trees.proofs.Adding.{IsAdded, stays_added}
-use Rattle.nfs_spec.specs.Changes.{touch, touch_ctime, with_ctime}
-use Rattle.nfs_spec.specs.Procedures.{add_file}
+use Rattle.nfs_spec_steps.specs.Changes.{touch, touch_ctime, with_ctime}
+use Rattle.nfs_spec_steps.specs.Procedures.{add_file}
 use Rattle.nfs_spec_steps.specs.Granted.{MayEdit, MakeOk, LinkOk}
 use Rattle.nfs_spec_steps.proofs.Steps.{listing_there}
 use Rattle.nfs_spec_trees.specs.Anew.{GivesAnew, Follows}

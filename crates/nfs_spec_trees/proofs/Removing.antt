@@ -7,18 +7,18 @@ use Rattle.std.specs.Cmp.Lexicographic.{pointwise}
 use Rattle.std.proofs.lemmas.Bool.{cases_eq, eqb-true, eqb-false}
 use Rattle.nfs_items.specs.Timeval.{Timeval}
 use Rattle.nfs_items.specs.Caller.{Caller}
-use Rattle.fs_model.specs.Listing.{entry_at}
-use Rattle.fs_model.specs.Files.{File, Files, file_at, listing_in, is_directory, places, names_of}
-use Rattle.fs_model.specs.Trees.{IsTime, IsFileTree}
-use Rattle.fs_model.proofs.Walks.{none_some}
-use Rattle.fs_model.proofs.OnePath.{root_has_no_name}
-use Rattle.fs_changes.specs.Edits.{without_file, without_name}
-use Rattle.fs_changes.proofs.Finite.{changed_other}
-use Rattle.fs_changes.proofs.Listings.{one, leads, one_same}
-use Rattle.fs_changes.proofs.Shapes.{kind, AllFiles, IsSameShape, IsUnnamed, IsOneLess, unnamed_shape, gone_shape, gone_files}
+use Rattle.nfs_spec_steps.specs.Listing.{entry_at}
+use Rattle.nfs_spec_steps.specs.Files.{File, Files, file_at, listing_in, is_directory, places, names_of}
+use Rattle.nfs_spec_steps.specs.Trees.{IsTime, IsFileTree}
+use Rattle.nfs_spec_steps.proofs.Walks.{none_some}
+use Rattle.nfs_spec_steps.proofs.OnePath.{root_has_no_name}
+use Rattle.nfs_spec_steps.specs.Edits.{without_file, without_name}
+use Rattle.nfs_spec_steps.proofs.Finite.{changed_other}
+use Rattle.nfs_spec_steps.proofs.Listings.{one, leads, one_same}
+use Rattle.nfs_spec_steps.proofs.Shapes.{kind, AllFiles, IsSameShape, IsUnnamed, IsOneLess, unnamed_shape, gone_shape, gone_files}
 use Rattle.fs_trees.proofs.Taking.{IsTaken, stays_taken}
-use Rattle.fs_changes.proofs.Room.{no_more_then, still_room}
-use Rattle.nfs_spec.specs.Changes.{touch, touch_ctime, unlink, after_unlink}
+use Rattle.nfs_spec_steps.proofs.Room.{no_more_then, still_room}
+use Rattle.nfs_spec_steps.specs.Changes.{touch, touch_ctime, unlink, after_unlink}
 use Rattle.nfs_spec_steps.specs.Granted.{UnnameOk}
 use Rattle.nfs_spec_trees.specs.Anew.{Follows}
 use Rattle.nfs_spec_trees.proofs.EditRoom.{touch_no_more, unlink_no_more}

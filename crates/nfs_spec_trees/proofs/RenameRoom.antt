@@ -4,15 +4,15 @@ use Rattle.std.proofs.Common.{◌≡◌, ℕ, ◌+◌, ◌≤◌, Bool, true, fa
 use Rattle.std.specs.Map.{lookup, remove_entry}
 use Rattle.std.specs.Cmp.Lexicographic.{pointwise}
 use Rattle.nfs_items.specs.Timeval.{Timeval}
-use Rattle.fs_model.specs.Listing.{entry_at, without_entry}
-use Rattle.fs_model.specs.Files.{Body, Regular, Symlink, Directory, File, Files, file_at, listing_in, is_directory, places}
-use Rattle.fs_model.proofs.Walks.{none_some}
-use Rattle.fs_changes.specs.Edits.{map_listing, map_body_listing, with_name, without_name}
-use Rattle.fs_changes.specs.Limits.{entry_count, has_room}
-use Rattle.fs_changes.proofs.Finite.{total_changed}
-use Rattle.fs_changes.proofs.Room.{within, IsNoMore, no_more_then, still_room, unnamed_no_more}
-use Rattle.nfs_spec.specs.Changes.{touch, touch_ctime}
-use Rattle.nfs_spec.specs.Procedures.{unlink_target, move_entry}
+use Rattle.nfs_spec_steps.specs.Listing.{entry_at, without_entry}
+use Rattle.nfs_spec_steps.specs.Files.{Body, Regular, Symlink, Directory, File, Files, file_at, listing_in, is_directory, places}
+use Rattle.nfs_spec_steps.proofs.Walks.{none_some}
+use Rattle.nfs_spec_steps.specs.Edits.{map_listing, map_body_listing, with_name, without_name}
+use Rattle.nfs_spec_steps.specs.Limits.{entry_count, has_room}
+use Rattle.nfs_spec_steps.proofs.Finite.{total_changed}
+use Rattle.nfs_spec_steps.proofs.Room.{within, IsNoMore, no_more_then, still_room, unnamed_no_more}
+use Rattle.nfs_spec_steps.specs.Changes.{touch, touch_ctime}
+use Rattle.nfs_spec_steps.specs.Procedures.{unlink_target, move_entry}
 use Rattle.nfs_spec_trees.proofs.EditRoom.{touch_no_more, mark_no_more, unlink_no_more, free_in, named_has}
 
 length-one_less : {X : Type 0} (t : List ℕ → Bool) (v : X) (es : List (List ℕ × X)) → lookup t es ≡ Some v

@@ -6,19 +6,19 @@ use Rattle.std.specs.Cmp.Lexicographic.{pointwise}
 use Rattle.std.proofs.lemmas.Bool.{cases_eq, and_cases}
 use Rattle.nfs_items.specs.Timeval.{Timeval}
 use Rattle.nfs_items.specs.Caller.{Caller}
-use Rattle.fs_model.specs.Listing.{Listing, entry_at, without_entry}
-use Rattle.fs_model.specs.Paths.{Places, walk, path_at, Renames}
-use Rattle.fs_model.specs.Files.{Body, Regular, Symlink, Directory, File, Files, file_at, listing_in, listing, is_directory, places, names_of}
-use Rattle.fs_model.specs.Trees.{IsTime, IsFileTree}
-use Rattle.fs_model.proofs.Walks.{none_some, some_same, same_place}
-use Rattle.fs_changes.specs.Edits.{with_changed_file, map_listing, map_body_listing, with_name, without_name}
-use Rattle.fs_changes.proofs.Finite.{changed_here, changed_other, gone_other}
-use Rattle.fs_changes.proofs.Listings.{leads}
-use Rattle.fs_changes.proofs.Shapes.{kind, is_some-kind, AllFiles, IsSameShape, IsNamed, IsUnnamed, same_then, named_shape, unnamed_shape}
+use Rattle.nfs_spec_steps.specs.Listing.{Listing, entry_at, without_entry}
+use Rattle.nfs_spec_steps.specs.Paths.{Places, walk, path_at, Renames}
+use Rattle.nfs_spec_steps.specs.Files.{Body, Regular, Symlink, Directory, File, Files, file_at, listing_in, listing, is_directory, places, names_of}
+use Rattle.nfs_spec_steps.specs.Trees.{IsTime, IsFileTree}
+use Rattle.nfs_spec_steps.proofs.Walks.{none_some, some_same, same_place}
+use Rattle.nfs_spec_steps.specs.Edits.{with_changed_file, map_listing, map_body_listing, with_name, without_name}
+use Rattle.nfs_spec_steps.proofs.Finite.{changed_here, changed_other, gone_other}
+use Rattle.nfs_spec_steps.proofs.Listings.{leads}
+use Rattle.nfs_spec_steps.proofs.Shapes.{kind, is_some-kind, AllFiles, IsSameShape, IsNamed, IsUnnamed, same_then, named_shape, unnamed_shape}
 use Rattle.fs_trees.proofs.Taking.{stays_taken}
 use Rattle.fs_trees.proofs.Moving.{IsRenamed, IsMoved, renames_path, stays_moved}
-use Rattle.nfs_spec.specs.Changes.{touch, touch_ctime, with_ctime, after_unlink}
-use Rattle.nfs_spec.specs.Procedures.{is_above, unlink_target}
+use Rattle.nfs_spec_steps.specs.Changes.{touch, touch_ctime, with_ctime, after_unlink}
+use Rattle.nfs_spec_steps.specs.Procedures.{is_above, unlink_target}
 use Rattle.nfs_spec_steps.specs.Granted.{MayReplace, MoveOk, RenameOk}
 use Rattle.nfs_spec_steps.proofs.Steps.{listing_there}
 use Rattle.nfs_spec_trees.proofs.FilesFit.{dir_file, is_dir, touch_shape, mark_shape, touch_files, mark_files, named_files, unnamed_files, distinct_names}

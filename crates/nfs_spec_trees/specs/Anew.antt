@@ -1,9 +1,9 @@
 -- Numbers and cookies are never used again.
 use Rattle.std.specs.Prelude.{◌≡◌, ◌⊎◌, ◌≤◌, Some, IsSome, IsTrue}
 use Rattle.nfs_items.specs.Terms.{FileNumber, Cookie, Name}
-use Rattle.fs_model.specs.Files.{Files, file_at, listing, IsDirectory, places}
-use Rattle.fs_changes.specs.Limits.{has_room}
-use Rattle.fs_model.specs.Trees.{IsFileTree}
+use Rattle.nfs_spec_steps.specs.Files.{Files, file_at, listing, IsDirectory, places}
+use Rattle.nfs_spec_steps.specs.Limits.{has_room}
+use Rattle.nfs_spec_steps.specs.Trees.{IsFileTree}
 
 -- what is there was there, or has a number that was not given before; an entry of a directory was in it, or
 -- has a cookie that was not given in it before

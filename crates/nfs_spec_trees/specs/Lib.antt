@@ -1,1 +1,4 @@
+pub use Rattle.nfs_spec_steps.specs.Answers
+pub use Rattle.nfs_spec_steps.specs.Granted
+pub use Rattle.nfs_spec_steps.specs.Read
 pub mod Anew

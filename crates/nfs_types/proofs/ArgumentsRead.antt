@@ -4,11 +4,11 @@ use Rattle.std.proofs.Common.{◌≡◌, ℕ, ◌<◌, List, ◌++◌, Some, Non
 use Rattle.std.specs.Prelude.{◌↔◌, Result, IfOk, IsOkAnd}
 use Rattle.std.proofs.lemmas.Option.{slice_get_past, slice_get-get_or}
 use Rattle.std.proofs.lemmas.Bool.{cases_lt}
-use Rattle.xdr.specs.declared.fault.XdrFault.{XdrFault}
-use Rattle.xdr.specs.Item.{Value, IsBytes, spelling}
-use Rattle.xdr.specs.Reading.{Read, ◌>>=◌, read_at}
-use Rattle.xdr.proofs.Front.{bind_ok, done, ok_is}
-use Rattle.xdr.proofs.Exact.{takes, again}
+use Rattle.nfs_items.specs.XdrFault.{XdrFault}
+use Rattle.nfs_items.specs.Item.{Value, IsBytes, spelling}
+use Rattle.nfs_items.specs.Reading.{Read, ◌>>=◌, read_at}
+use Rattle.nfs_items.proofs.Front.{bind_ok, done, ok_is}
+use Rattle.nfs_items.proofs.Exact.{takes, again}
 use Rattle.nfs_types.specs.Calls.{Call}
 use Rattle.nfs_types.specs.Texts.{Procedure, procedure_of, said, call_at, SaysCall, procedure_in, procedure_at, numbered}
 use Rattle.nfs_types.specs.Arguments.{call_of, GivesCall}

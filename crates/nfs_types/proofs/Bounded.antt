@@ -4,9 +4,9 @@ use Rattle.std.proofs.Common.{◌≡◌, ℕ, List, ◌++◌, length, Ok, Err, r
 use Rattle.std.specs.Prelude.{Result, IfOk}
 use Rattle.std.proofs.lemmas.List.{take_at, drop_at}
 use Rattle.byteorder.specs.Numbers.{big_from-lt}
-use Rattle.xdr.specs.declared.fault.XdrFault.{XdrFault}
-use Rattle.xdr.specs.Item.{Value, Fits, IsBytes, spelling, padding}
-use Rattle.xdr.proofs.Front.{IsBytes-take, IsBytes-drop}
+use Rattle.nfs_items.specs.XdrFault.{XdrFault}
+use Rattle.nfs_items.specs.Item.{Value, Fits, IsBytes, spelling, padding}
+use Rattle.nfs_items.proofs.Front.{IsBytes-take, IsBytes-drop}
 use Rattle.nfs_items.specs.Sattr.{sattr, sattr_of}
 use Rattle.nfs_types.specs.Calls.{Call}
 use Rattle.nfs_types.specs.Texts.{procedure_of, call_at, SaysCall}

@@ -1,7 +1,7 @@
 -- What the program's arguments say.
 use Rattle.std.specs.Prelude.{◌≡◌, List, ℕ, Result, Ok, Err}
-use Rattle.xdr.specs.declared.fault.XdrFault.{XdrFault}
-use Rattle.xdr.specs.Item.{Value}
+use Rattle.nfs_items.specs.XdrFault.{XdrFault}
+use Rattle.nfs_items.specs.Item.{Value}
 use Rattle.nfs_types.specs.declared.arguments.NfsProcedure.{NfsProcedure}
 use Rattle.nfs_types.specs.declared.arguments.DirOpArgs.{DirOpArgs}
 use Rattle.nfs_types.specs.declared.arguments.NfsArgs.{NfsArgs}

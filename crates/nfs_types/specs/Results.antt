@@ -1,6 +1,6 @@
 -- What the program's results say.
 use Rattle.std.specs.Prelude.{ℕ, ◌<◌, ◌^◌, All, List, [], ◌++◌, length, map, Result, Ok, Err}
-use Rattle.xdr.specs.Item.{word, flag, empty, linked, spelling}
+use Rattle.nfs_items.specs.Item.{word, flag, empty, linked, spelling}
 use Rattle.nfs_items.specs.Handle.{FileHandle, fhandle}
 use Rattle.nfs_items.specs.Attributes.{fattr, fattr_value, stat_value}
 use Rattle.nfs_items.specs.declared.attributes.Fattr.{Fattr}

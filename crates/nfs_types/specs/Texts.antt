@@ -2,8 +2,8 @@
 use Rattle.std.specs.Prelude.{◌≡◌, ℕ, ◌<◌, ◌^◌, List, [], ◌∷◌, ◌++◌, Option, Ok, map}
 use Rattle.std.specs.List.{slice_get, AllByRecursion}
 use Rattle.byteorder.specs.Endian.{big_number, big_bytes}
-use Rattle.xdr.specs.Item.{Item, empty, pair, linked, flag, Value, Fits, spelling}
-use Rattle.xdr.specs.Reading.{Read, ◌>>=◌, read_at}
+use Rattle.nfs_items.specs.Item.{Item, empty, pair, linked, flag, Value, Fits, spelling}
+use Rattle.nfs_items.specs.Reading.{Read, ◌>>=◌, read_at}
 use Rattle.nfs_items.specs.Handle.{fhandle}
 use Rattle.nfs_items.specs.Attributes.{fattr, fattr_value, outcome_value}
 use Rattle.nfs_items.specs.Sattr.{sattr_of}

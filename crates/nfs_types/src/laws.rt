@@ -1,9 +1,9 @@
 //! What holds of arguments in bytes.
 
 ghost use Rattle.std.specs.Prelude.{◌≡◌, ◌↔◌, ◌<◌, ℕ, List, None, Ok, Err};
-ghost use Rattle.xdr.specs.declared.fault.XdrFault.{XdrFault};
-ghost use Rattle.xdr.specs.Item.{IsBytes};
-ghost use Rattle.xdr.specs.Reading.{read_at};
+ghost use Rattle.nfs_items.specs.XdrFault.{XdrFault};
+ghost use Rattle.nfs_items.specs.Item.{IsBytes};
+ghost use Rattle.nfs_items.specs.Reading.{read_at};
 ghost use Rattle.nfs_types.specs.declared.arguments.NfsProcedure.{NfsProcedure};
 ghost use Rattle.nfs_types.specs.Calls.{Call};
 ghost use Rattle.nfs_types.specs.Bounds.{HasBounds};

@@ -1,9 +1,9 @@
 //! Arguments in bytes.
 
 ghost use Rattle.std.specs.Prelude.{◌≡◌, ◌<◌, ◌^◌, ◌++◌, ℕ, List, length, [], ◌∷◌, Ok, Err};
-ghost use Rattle.xdr.specs.declared.fault.XdrFault.TheVariants as faults;
-ghost use Rattle.xdr.specs.Item.{number_spelling};
-ghost use Rattle.xdr.specs.Reading.{read_at};
+ghost use Rattle.nfs_items.specs.XdrFault.TheVariants as faults;
+ghost use Rattle.nfs_items.specs.Item.{number_spelling};
+ghost use Rattle.nfs_items.specs.Reading.{read_at};
 ghost use Rattle.nfs_types.specs.declared.arguments.NfsProcedure.TheVariants as procedures;
 ghost use Rattle.nfs_types.specs.Items.{filename};
 ghost use Rattle.nfs_types.specs.Texts.{call_at};

@@ -12,7 +12,7 @@ use Rattle.rpc.specs.declared.reply.ReplyBody.TheVariants as bodies
 use Rattle.nfs_items.specs.Timeval.{Timeval}
 use Rattle.nfs_items.specs.Caller.{Caller}
 use Rattle.fs_model.specs.Trees.{IsFileTree}
-use Rattle.nfs_spec_sizes.proofs.Lengths.{answer_length}
+use Rattle.worlds.proofs.Lengths.{answer_length}
 use Rattle.mount_types.specs.Mounts.{AreMounts}
 use Rattle.worlds.specs.World.{World, at_time}
 use Rattle.mount.proofs.Sizes.{answer_is_short}

@@ -23,7 +23,7 @@ use Rattle.fs_model.specs.Trees.{IsTime, IsFileTree}
 use Rattle.fs_changes.specs.Limits.{has_room}
 use Rattle.nfs_spec.specs.NfsCalls.{call_does}
 use Rattle.nfs_spec_laws.specs.Laws.{IsBounded}
-use Rattle.nfs_spec_sizes.specs.Bounds.{AreWords, SaysWords, HasWordsIn}
+use Rattle.worlds.specs.Bounds.{AreWords, SaysWords, HasWordsIn}
 use Rattle.mount_types.specs.declared.limits.TheConstants.{MNTNAMLEN}
 use Rattle.mount_types.specs.Calls.{MountCall}
 use Rattle.mount_types.specs.Texts as mount_texts

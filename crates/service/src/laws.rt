@@ -15,8 +15,8 @@ ghost use Rattle.service.specs.Replies.{Answers, reply_owed, world_after};
 use mount::laws::mounts_stay_mounts;
 use nfs_spec_frames::laws::calls_keep_the_files_they_do_not_name;
 use nfs_spec_laws::laws::{no_limit_is_passed, trees_stay_trees};
-use nfs_spec_sizes::laws::{answers_have_a_spelling, read_calls_are_bounded};
 use nfs_types::laws::calls_are_bounded;
+use worlds::{answers_have_a_spelling, read_calls_are_bounded};
 
 /// A record at a time has one answer: the reply owed, or none, and the world after it.
 pub fn one_answer()

@@ -19,7 +19,7 @@ use Rattle.fs_model.proofs.Counts.{file_in, place_in}
 use Rattle.worlds.specs.World.{World}
 use Rattle.mount_types.specs.declared.limits.TheConstants.{MNTNAMLEN}
 use Rattle.mount_types.specs.Mounts.{max_mounts}
-use Rattle.nfs_spec_sizes.specs.Bounds.{HasWords}
+use Rattle.worlds.specs.Bounds.{HasWords}
 use Rattle.file_texts.specs.FileItems.{entry_item, file_item, file_value, is_file_kind, kind_item, kind_value}
 use Rattle.file_texts.specs.FileItems.{attributes_item, attributes_value}
 use Rattle.state_spec.specs.State.{Stage}

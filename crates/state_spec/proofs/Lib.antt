@@ -1,3 +1,4 @@
+pub use Rattle.file_texts.proofs.Arrays
 pub mod Back
 pub mod Forth
 pub mod Fitting

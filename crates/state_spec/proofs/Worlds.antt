@@ -23,7 +23,7 @@ use Rattle.fs_model.proofs.Walks.{none_some}
 use Rattle.fs_changes.proofs.Finite.{cmp_same, none_above, total_without}
 use Rattle.fs_changes.proofs.Listings.{name_self}
 use Rattle.fs_changes.proofs.Room.{AllCookies, IsWithin, within}
-use Rattle.nfs_spec_sizes.specs.Bounds.{AreWords}
+use Rattle.worlds.specs.Bounds.{AreWords}
 use Rattle.worlds.specs.World.{World}
 use Rattle.worlds.specs.IsWorld.{IsWorld}
 use Rattle.file_texts.specs.FileItems.{entry_item, attributes_item, attributes_value, is_file_kind, kind_item, kind_value, file_item, file_value}

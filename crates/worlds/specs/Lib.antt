@@ -1,2 +1,3 @@
+pub use Rattle.nfs_spec_sizes.specs.Bounds
 pub mod World
 pub mod IsWorld

@@ -7,3 +7,4 @@ mod tests;
 mod text;
 
 pub use text::{FromText, TextError, read_text};
+pub use xdr::{Reader, Writer, XdrFault, put_back_on_err};

@@ -1,7 +1,7 @@
 use Rattle.std.proofs.Common.{option_map, sym, ap, subst, ◌∙◌}
 use Rattle.std.specs.Option.{option_copied}
 use Rattle.fs_model.proofs.Walks.{some_same}
-use Rattle.nfs_spec_sizes.specs.Bounds.{HasWords}
+use Rattle.nfs_spec_counts.specs.Bounds.{HasWords}
 use Rattle.inodes.specs.Inodes.{file_in}
 use Rattle.inode_edits.proofs.slots.has_words.Goals as goal
 

@@ -6,8 +6,8 @@ use Rattle.fs_model.specs.Files.{Body, Regular, Symlink, Directory, File, Files,
 use Rattle.fs_model.proofs.Walks.{some_same}
 use Rattle.fs_model.proofs.Counts.{has_two}
 use Rattle.nfs_spec.specs.FileAttributes.{nlink_of, subdirectories}
-use Rattle.nfs_spec_steps.specs.Read.{AttributesOk}
-use Rattle.nfs_spec_steps.proofs.Reading.{attributes_ok}
+use Rattle.nfs_spec_trees.specs.Read.{AttributesOk}
+use Rattle.nfs_spec_trees.proofs.Reading.{attributes_ok}
 use Rattle.nfs_spec_laws.proofs.laws.links_are_counted.Goals as goal
 
 nlink : (w : Files) (n : ℕ) (a : Fattr) (o : AttributesOk w n a) → a.nlink ≡ nlink_of w n o.file.body

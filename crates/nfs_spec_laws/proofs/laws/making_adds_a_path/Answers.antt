@@ -1,6 +1,6 @@
 use Rattle.std.proofs.Common.{refl}
-use Rattle.nfs_spec_steps.specs.Granted.{new_directory, new_link}
-use Rattle.nfs_spec_steps.proofs.Making.{create_ok, make_dir_ok, symlink_ok, link_ok}
+use Rattle.nfs_spec_trees.specs.Granted.{new_directory, new_link}
+use Rattle.nfs_spec_trees.proofs.MakingCalls.{create_ok, make_dir_ok, symlink_ok, link_ok}
 use Rattle.nfs_spec_laws.proofs.FilesFit.{directory_fits, link_fits}
 use Rattle.nfs_spec_laws.proofs.Paths.{make_adds, create_adds, link_adds}
 use Rattle.nfs_spec_laws.proofs.laws.making_adds_a_path.Goals as goal

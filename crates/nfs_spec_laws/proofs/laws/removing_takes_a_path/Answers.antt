@@ -1,5 +1,5 @@
 use Rattle.std.proofs.Common.{true, false}
-use Rattle.nfs_spec_steps.proofs.Removing.{remove_ok, remove_dir_ok}
+use Rattle.nfs_spec_trees.proofs.RemovingCalls.{remove_ok, remove_dir_ok}
 use Rattle.nfs_spec_laws.proofs.Paths.{remove_takes}
 use Rattle.nfs_spec_laws.proofs.laws.removing_takes_a_path.Goals as goal
 

@@ -1,4 +1,4 @@
-use Rattle.nfs_spec_steps.proofs.Renaming.{rename_ok}
+use Rattle.nfs_spec_trees.proofs.RenamingCalls.{rename_ok}
 use Rattle.nfs_spec_laws.proofs.Paths.{rename_moves}
 use Rattle.nfs_spec_laws.proofs.laws.renaming_moves_paths.Goals as goal
 

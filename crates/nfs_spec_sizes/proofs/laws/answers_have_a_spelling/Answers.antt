@@ -5,7 +5,7 @@ use Rattle.fs_model.specs.Files.{Files}
 use Rattle.fs_changes.proofs.Room.{within}
 use Rattle.nfs_types.specs.Calls.{Call}
 use Rattle.nfs_spec.specs.NfsCalls.{call_does}
-use Rattle.nfs_spec_laws.proofs.EveryCall.{stays}
+use Rattle.nfs_spec_frames.proofs.EveryCall.{stays}
 use Rattle.nfs_spec_frames.proofs.UnnamedFiles.{heads}
 use Rattle.nfs_spec_sizes.specs.Bounds.{AreWords, SaysWords, HasWordsIn}
 use Rattle.nfs_spec_sizes.proofs.OfCalls as answers

@@ -1,5 +1,5 @@
 use Rattle.nfs_spec_trees.proofs.Above.{above_found, led_down}
-use Rattle.fs_changes.specs.Limits.{file_count}
+use Rattle.nfs_spec_steps.specs.Limits.{file_count}
 use Rattle.nfs_spec_trees.proofs.laws.above_is_by_paths.Goals as goal
 
 -- by the way up, and by the path down

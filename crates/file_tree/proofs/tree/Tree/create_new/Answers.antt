@@ -2,7 +2,7 @@ use Rattle.std.proofs.Common.{None, Ok, sym, subst, rules}
 use Rattle.nfs_items.specs.CallerOf.{caller_of}
 use Rattle.fs_model.specs.Trees.{IsTime}
 use Rattle.nfs_spec_laws.specs.Laws.{NamesIn}
-use Rattle.nfs_spec_sizes.specs.Bounds.{HasWords}
+use Rattle.file_checks.specs.Bounds.{HasWords}
 use Rattle.inodes.specs.Given.{given_in}
 use Rattle.inodes.specs.Inodes.{file_in}
 use Rattle.file_checks.specs.Creates.{DecidesCreate}

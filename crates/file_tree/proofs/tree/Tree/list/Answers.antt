@@ -3,7 +3,7 @@ use Rattle.std.specs.Prelude.{IsTrue}
 use Rattle.nfs_items.specs.CallerOf.{caller_of}
 use Rattle.fs_model.specs.Trees.{IsFileTree}
 use Rattle.fs_changes.specs.Limits.{has_room}
-use Rattle.nfs_spec_sizes.specs.Bounds.{AreWords}
+use Rattle.file_checks.specs.Bounds.{AreWords}
 use Rattle.file_tree.proofs.PageNames.{names_fit_if}
 use Rattle.file_tree.proofs.tree.Tree.list.Goals as goal
 

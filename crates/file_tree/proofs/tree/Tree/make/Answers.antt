@@ -4,7 +4,7 @@ use Rattle.fs_model.specs.Trees.{IsTime}
 use Rattle.nfs_spec.specs.Procedures.{make, add_file}
 use Rattle.nfs_spec_steps.proofs.Making.{make_ok}
 use Rattle.nfs_spec_laws.specs.Laws.{NamesIn}
-use Rattle.nfs_spec_sizes.specs.Bounds.{HasWords}
+use Rattle.file_checks.specs.Bounds.{HasWords}
 use Rattle.inodes.specs.Inodes.{file_in}
 use Rattle.file_checks.proofs.GrantedNames.{may_make, make_does, make_names}
 use Rattle.file_tree.proofs.tree.Tree.make.Goals as goal

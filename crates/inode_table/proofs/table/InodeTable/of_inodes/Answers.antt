@@ -3,7 +3,7 @@ use Rattle.std.specs.Prelude.{IsTrue}
 use Rattle.std.specs.List.{All}
 use Rattle.fs_model.specs.Trees.{IsBody, IsFileTree}
 use Rattle.fs_changes.specs.Limits.{block_count, entry_count, has_room}
-use Rattle.nfs_spec_sizes.specs.Bounds.{AreWords}
+use Rattle.nfs_spec_moves.specs.Bounds.{AreWords}
 use Rattle.inodes.specs.Inodes.{file_in, files_of}
 use Rattle.inodes.specs.declared.inode.Inode.{Inode}
 use Rattle.inode_table.proofs.GivenInodes.{bodies}

@@ -7,7 +7,7 @@ use Rattle.state_spec.specs.State.{ReceivedMessage, received_cmp}
 use Rattle.state_spec.specs.StateItems.{received_item, received_value}
 use Rattle.state_spec.proofs.Forth.{keys_of_set}
 use Rattle.states.specs.declared.received.TheConstants.{MAX_RECEIVED}
-use Rattle.file_texts.proofs.Arrays.{adds_counted, fits_counted}
+use Rattle.state_spec.proofs.Arrays.{adds_counted, fits_counted}
 use Rattle.states.proofs.received.Received.add_to.Goals as goal
 
 pub returns-clause-fits : goal.returns-clause-fits

@@ -9,7 +9,7 @@ use Rattle.state_spec.specs.State.{SentMessage}
 use Rattle.state_spec.specs.StateItems.{sent_item, sent_value}
 use Rattle.state_spec.proofs.Forth.{entries_of_map}
 use Rattle.states.specs.declared.sends.TheConstants.{MAX_SENDS}
-use Rattle.file_texts.proofs.Arrays.{adds_counted, fits_counted}
+use Rattle.state_spec.proofs.Arrays.{adds_counted, fits_counted}
 use Rattle.states.proofs.sends.Sends.add_to.Goals as goal
 
 pub returns-clause-fits : goal.returns-clause-fits
