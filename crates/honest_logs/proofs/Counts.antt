@@ -95,7 +95,8 @@ counted ms node machine s es h =
     record {
       received = subst (λ (x : State). finite.len x.received ≤ recv_count es) last
           (omega (arith, all.received, received));
-      sends = subst (λ (x : State). finite.len x.sends ≤ send_count es) last (omega (arith, all.sends, sends));
+      sends = subst (λ (x : State). finite.len x.sends ≤ send_count es) last
+          (omega (arith, all.sends, sends));
     }
 
 -- ---- numbers
@@ -106,7 +107,8 @@ below_insert : (sends : finite.FinMap nat_cmp SentMessage) (n : ℕ) (m : SentMe
 below_insert sends n m below k h =
     by (eq_by_cmp nat_cmp k n) refl (sym (ap is_some (finite.get-insert nat_cmp_total sends n m k)) ∙ h)
   where
-    by : (b : Bool) → eq_by_cmp nat_cmp k n ≡ b → is_some (cond b (Some m) (finite.get sends k)) ≡ true → k < n + 1
+    by : (b : Bool) → eq_by_cmp nat_cmp k n ≡ b → is_some (cond b (Some m) (finite.get sends k)) ≡ true
+        → k < n + 1
     by true e there = let same = eqb-true k n (sym (unsigned_tied k n) ∙ e) in omega (arith, same)
     by false e there = let low = below k there in omega (arith, low)
 
@@ -133,8 +135,8 @@ below_by s number before (Clock seconds microseconds) below = below_same s numbe
 below_by s number before (Check digest) below = below_same s number below
 
 -- messages that were sent keep to numbers below that of the next entry
-pub lie_below : (ms : List Member) (s : State) (first : ℕ) (before : List ℕ) (es : List Entry) (ts : List State)
-    → SendsLieBelow s first → Honest ms s (placed first before es) ts
+pub lie_below : (ms : List Member) (s : State) (first : ℕ) (before : List ℕ) (es : List Entry)
+    (ts : List State) → SendsLieBelow s first → Honest ms s (placed first before es) ts
     → SendsLieBelow (last_state s ts) (first + length es)
 lie_below ms s first before [] [] below h =
     subst (SendsLieBelow s) (omega arith) below

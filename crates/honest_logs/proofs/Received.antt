@@ -72,7 +72,8 @@ asked : (received : FinSet received_cmp) (new m : ReceivedMessage)
     ≡ is_some (cond (eq_by_cmp received_cmp m new) (Some tt) (finite.get received m))
 asked received new m = ap is_some (finite.get-insert received_total received new tt m)
 
-with_new : (received : FinSet received_cmp) (m : ReceivedMessage) → is_received (with_received received m) m ≡ true
+with_new : (received : FinSet received_cmp) (m : ReceivedMessage)
+    → is_received (with_received received m) m ≡ true
 with_new received m =
     asked received m m
     ∙ ap (λ b. is_some (cond b (Some tt) (finite.get received m))) (equal_ties m m refl)
@@ -125,8 +126,8 @@ takes_less node es e k m h = by (entry_less es e k h.entry h.there)
     by (inl old) = inl (record { entry = h.entry; there = old; brings = h.brings })
     by (inr new) = inr (new.0, ap (message_in node) new.1 ∙ h.brings)
 
--- What a log from a state shows of what was received: the messages of before and those of its RECVs, each once
--- and none of before.
+-- What a log from a state shows of what was received: the messages of before and those of its RECVs, each
+-- once and none of before.
 pub record IsLogged (o : State) (es : List Entry) (s : State) : Type 0 where
   pub of_node : s.node ≡ o.node
   pub from : (m : ReceivedMessage) → is_received s.received m ≡ true

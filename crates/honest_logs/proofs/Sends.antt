@@ -41,7 +41,8 @@ get_new sends n m k h =
 get_other : (sends : Sends) (n : ℕ) (m : SentMessage) (k : ℕ) → k ≢ n
     → finite.get (finite.insert sends n m) k ≡ finite.get sends k
 get_other sends n m k h =
-    finite.get-insert nat_cmp_total sends n m k ∙ ap (λ b. cond b (Some m) (finite.get sends k)) (no_tie k n h)
+    finite.get-insert nat_cmp_total sends n m k
+    ∙ ap (λ b. cond b (Some m) (finite.get sends k)) (no_tie k n h)
 
 get_removed : (sends : Sends) (n k : ℕ) → k ≡ n → finite.get (finite.remove sends n) k ≡ None
 get_removed sends n k h =
@@ -125,7 +126,8 @@ IsNoAckOf e k =
     (to : ℕ) (mine : List ℕ) (number : ℕ) (prev : List ℕ) (signature : SignatureParts)
     → e ≢ Ack to k mine number prev signature
 
-no_ack_more : (es : List Entry) (e : Entry) (k : ℕ) → HasNoAck es k → IsNoAckOf e k → HasNoAck (es ++ e ∷ []) k
+no_ack_more : (es : List Entry) (e : Entry) (k : ℕ) → HasNoAck es k → IsNoAckOf e k
+    → HasNoAck (es ++ e ∷ []) k
 no_ack_more es e k h not place to mine number prev signature there =
     by (entry_less es e place (Ack to k mine number prev signature) there)
   where
@@ -153,7 +155,8 @@ nothing_there k e h = let within = entry_within [] k e h in omega (arith, within
 
 are_logged_start : (o : State) → o.sends ≡ finite.empty → AreLogged [] o
 are_logged_start o none = record {
-  from = λ k m h. absurd (none_some (sym (finite.get-empty nat_cmp k) ∙ sym (ap (λ x. finite.get x k) none) ∙ h));
+  from = λ k m h.
+      absurd (none_some (sym (finite.get-empty nat_cmp k) ∙ sym (ap (λ x. finite.get x k) none) ∙ h));
   all = λ k m h n. absurd (nothing_there k (Send m.to h.body) h.there);
   acked = λ place to k mine number prev signature h.
       absurd (nothing_there place (Ack to k mine number prev signature) h);
@@ -317,7 +320,8 @@ module _ (es : List Entry) (to seq : ℕ) (mine : List ℕ) (number : ℕ) (prev
           ⊎ ((place ≡ length es + 1) × (ack ≡ Ack whom k own theirs before sign)) → k ≤ length acks
       by (inl old) = omega (arith, longer_length es ack, i.acked place whom k own theirs before sign old)
       by (inr new) =
-          let same : seq ≡ k = ack_same to whom seq k mine own number theirs prev before signature sign new.1 in
+          let same : seq ≡ k =
+          ack_same to whom seq k mine own number theirs prev before signature sign new.1 in
           let within = sent_within es seq message (i.from seq message sent).0 in
           omega (arith, longer_length es ack, within.1, same)
 
@@ -328,7 +332,8 @@ module _ (es : List Entry) (to seq : ℕ) (mine : List ℕ) (number : ℕ) (prev
 
 are_logged_by : (es : List Entry) (e : Entry) (ms : List Member) (s t : State) → AreLogged es s
     → MayStand ms s e → t ≡ after_entry s (length es + 1) (log_hash es) e → AreLogged (es ++ e ∷ []) t
-are_logged_by es (Send to body) ms s t i h after = new_logged es to body s t i (ap (λ (x : State). x.sends) after)
+are_logged_by es (Send to body) ms s t i h after =
+    new_logged es to body s t i (ap (λ (x : State). x.sends) after)
 are_logged_by es (Recv from seq prev body signature) ms s t i h after =
     same_sends es (Recv from seq prev body signature) s t i (ap (λ (x : State). x.sends) after)
     (λ to sent e. absurd (cc)) (λ k to mine number before sign e. absurd (cc))

@@ -24,7 +24,9 @@ module _ (ms : List Member) (s : State) (w : World) (from seq : ℕ) (prev body 
   recv = place first before (Recv from seq prev body signature)
 
   abbrev clock : Placed
-  clock = place (first + 1) (hash_after before (link_of first recv.entry)) (Clock time.seconds time.microseconds)
+  clock =
+      place (first + 1) (hash_after before (link_of first recv.entry))
+      (Clock time.seconds time.microseconds)
 
   -- the state with this machine, once the message is taken in
   abbrev taken : Machine → State
@@ -68,7 +70,8 @@ module _ (ms : List Member) (s : State) (w : World) (from seq : ℕ) (prev body 
       (hash_before_reply first before from seq prev body signature time) from o
 
   sends : (reply : List ℕ) → Takes ms (answered_by (Some reply))
-      (place (first + 1 + 1) (hash_before_reply first before from seq prev body signature time) (Send from reply))
+      (place (first + 1 + 1) (hash_before_reply first before from seq prev body signature time)
+      (Send from reply))
       (served (Some reply))
   sends reply = record { stands = (refl, refl); after = refl }
 

@@ -1,4 +1,4 @@
--- What holds of honest logs. Each is the contract of a function in src/laws.rt.
+-- What holds of honest logs: each law is the contract of a function in src/laws.rt.
 use Rattle.std.specs.Prelude.{◌≡◌, ◌↔◌, ◌+◌, ◌<◌, ◌≤◌, ℕ, true, false, IsTrue, List, ◌++◌, length, Some}
 use Rattle.std.specs.FinMap as finite
 use Rattle.merkle_keys.specs.Signing.{SignatureParts}

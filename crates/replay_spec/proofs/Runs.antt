@@ -42,7 +42,10 @@ first_step : (ms : List Member) (s : State) (p : Placed) (ps : List Placed)
 first_step ms s p ps = by (step ms s p)
   where
     by : (r : Result State ReplayFault) → ◌≡◌ {A = Verdict}
-        (elim r [ Ok t ↦ behind (shown_by s p.entry) (verdict_of ms t ps) | Err fault ↦ Fault fault p.number ])
+        (elim r [
+          | Ok t ↦ behind (shown_by s p.entry) (verdict_of ms t ps)
+          | Err fault ↦ Fault fault p.number
+        ])
         (verdict_behind ms s p ps r)
     by (Ok t) = refl
     by (Err fault) = refl

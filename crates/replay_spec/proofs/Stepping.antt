@@ -64,7 +64,8 @@ free_of : (e : Entry) (m : Machine) → IsOther e → is_bad_form m e ≡ false 
     → OwesNothing m
 free_of e (Server w Idle) other h k = tt
 free_of e (Server w (Heard from body)) other h k =
-    both_ways (is_clock e) other.clock (not-false (is_clock e) (neither (not (is_clock e)) (shows_no_time e) h).0)
+    both_ways (is_clock e) other.clock
+    (not-false (is_clock e) (neither (not (is_clock e)) (shows_no_time e) h).0)
 free_of e (Server w (Owes to body)) other h k =
     both_ways (is_send_of to body e) (other.reply to body) (not-false (is_send_of to body e) k)
 free_of e (Client clock) other h k = tt
@@ -88,7 +89,8 @@ send_of : (m : Machine) (to : ℕ) (body : List ℕ) → is_bad_form m (Send to 
 send_of (Server w Idle) to body h k = absurd (cc)
 send_of (Server w (Heard from heard)) to body h k = absurd (cc)
 send_of (Server w (Owes whom reply)) to body h k =
-    let both = and_parts (to == whom) (is_same body reply) (not-false ((to == whom) && is_same body reply) k) in
+    let yes = not-false ((to == whom) && is_same body reply) k in
+    let both = and_parts (to == whom) (is_same body reply) yes in
     (eqb-true to whom both.0, same_list body reply both.1)
 send_of (Client clock) to body h k = tt
 
@@ -239,7 +241,8 @@ stands_of ms s (Ack to seq mine number prev signature) h =
       message = fits.message;
       sent = fits.sent;
       receiver = fits.receiver;
-      signed = signed_in_of ms (receiver_shown s.node seq fits.message mine number prev signature) fits.signed;
+      signed =
+          signed_in_of ms (receiver_shown s.node seq fits.message mine number prev signature) fits.signed;
     }
 stands_of ms s (Clock seconds microseconds) h =
     let both = neither (is_out_of_turn s.machine (Clock seconds microseconds)) (nat_lt 999_999 microseconds)

@@ -3,6 +3,7 @@ use Rattle.std.specs.Prelude.{ℕ, List, [], ◌∷◌}
 use Rattle.log_entries.specs.Chain.{zeros}
 use Rattle.log_entries.specs.declared.entry.Entry.{Entry}
 use Rattle.machines.specs.State.{Stage, opening_server, opening_client}
+use Rattle.machines.specs.StateText.{state_digest}
 use Rattle.machines.specs.Steps.{at_stage}
 use Rattle.replay_spec.specs.Placed.{place, placed}
 use Rattle.replay_spec.specs.Replay.{Verdict, verdict_of}
@@ -14,6 +15,10 @@ server_verdict entries = verdict_of [] (opening_server 1) (placed 1 zeros entrie
 -- the verdict on the first entries of a client
 abbrev pub client_verdict : List Entry → Verdict
 client_verdict entries = verdict_of [] (opening_client 2) (placed 1 zeros entries)
+
+-- the digest of the state that the client begins with
+abbrev pub client_digest : List ℕ
+client_digest = state_digest (opening_client 2)
 
 -- the verdict on an entry of a server at a stage
 abbrev pub verdict_at : Stage → (number : ℕ) → Entry → Verdict

@@ -1,4 +1,4 @@
--- What holds of replays. Each is the contract of a function in src/laws.rt.
+-- What holds of replays: each law is the contract of a function in src/laws.rt.
 use Rattle.std.specs.Prelude.{◌≡◌, ◌↔◌, ◌+◌, ℕ, IsTrue, List, [], ◌∷◌, ◌++◌, length, map, Ok, Err}
 use Rattle.merkle_keys.specs.Signing.{SignatureParts, Signed}
 use Rattle.authenticator.specs.Signed.{IsSignedIn}
@@ -74,7 +74,8 @@ PartsAreHonest =
 
 -- ---- places
 
--- Entries in two parts stand at the places of the first, and at those of the second behind its number and hash.
+-- Entries in two parts stand at the places of the first, and at those of the second behind its number and
+-- hash.
 abbrev pub PlacesAreJoined : Type 0
 PlacesAreJoined =
     (first : ℕ) (before : List ℕ) (es fs : List Entry)

@@ -4,10 +4,10 @@ ghost use Rattle.std.specs.Prelude.{◌≡◌, ◌≢◌, ℕ, List, [], ◌∷�
 ghost use Rattle.merkle_keys.specs.Signing.{SignatureParts};
 ghost use Rattle.log_entries.specs.declared.entry.Entry.TheVariants.{Send, Recv, Ack, Clock, Check};
 ghost use Rattle.machines.specs.State.{Heard, Owes, opening_client};
-ghost use Rattle.machines.specs.StateText.{state_digest};
-ghost use Rattle.replay_spec.specs.Stepping.{BadForm, BadReceive, WrongReply, ClockBack, BadAck, WrongCheckpoint};
+ghost use Rattle.replay_spec.specs.Stepping.{BadForm, BadReceive, WrongReply, ClockBack, BadAck};
+ghost use Rattle.replay_spec.specs.Stepping.{WrongCheckpoint};
 ghost use Rattle.replay_spec.specs.Replay.{Sound, Fault};
-ghost use Rattle.replay_spec.specs.Examples.{server_verdict, client_verdict, verdict_at};
+ghost use Rattle.replay_spec.specs.Examples.{server_verdict, client_verdict, client_digest, verdict_at};
 ghost use Rattle.replay_spec.specs.Laws.{StepsAsItTakes, OneRun, SoundExactlyIf, FaultExactlyIf};
 ghost use Rattle.replay_spec.specs.Laws.{PartsAreHonest, PlacesAreJoined, PlacesHavePairs};
 ghost use Rattle.replay_spec.specs.Laws.{OpeningsHaveNoMessages, NoEntries, OneEntryMore, EntriesMore};
@@ -55,7 +55,8 @@ pub fn openings_have_no_messages()
     ensures { OpeningsHaveNoMessages }
 {}
 
-/// A log without entries is honest, and an honest log stays so by entries that may stand behind its last state.
+/// A log without entries is honest, and an honest log stays so by entries that may stand behind its last
+/// state.
 pub fn logs_grow()
     ensures none { NoEntries }
     ensures one { OneEntryMore }
@@ -68,8 +69,8 @@ pub fn one_last_state()
     ensures node { NodeStays }
 {}
 
-/// A server's faults, as they are worked out: of its first entry, and of an entry where it heard a message, with
-/// number 2, or owes a reply, with number 3.
+/// A server's faults, as they are worked out: of its first entry, and of an entry where it heard a message,
+/// with number 2, or owes a reply, with number 3.
 pub fn servers_have_faults()
     ensures send { server_verdict (Send 2 [] ∷ []) ≡ Fault WrongReply 1 }
     ensures clock { server_verdict (Clock 1 0 ∷ []) ≡ Fault BadForm 1 }
@@ -91,7 +92,7 @@ pub fn clients_have_faults()
     ensures microseconds { client_verdict (Clock 0 1_000_000 ∷ []) ≡ Fault BadForm 1 }
     ensures stranger { (seq : ℕ) (prev body : List ℕ) (signature : SignatureParts) →
         client_verdict (Clock 0 5 ∷ Recv 1 seq prev body signature ∷ []) ≡ Fault BadReceive 2 }
-    ensures checkpoint { (digest : List ℕ) → digest ≢ state_digest (opening_client 2) →
+    ensures checkpoint { (digest : List ℕ) → digest ≢ client_digest →
         client_verdict (Check digest ∷ []) ≡ Fault WrongCheckpoint 1 }
-    ensures right_checkpoint { client_verdict (Check (state_digest (opening_client 2)) ∷ []) ≡ Sound (opening_client 2) [] }
+    ensures right_checkpoint { client_verdict (Check client_digest ∷ []) ≡ Sound (opening_client 2) [] }
 {}

@@ -1,4 +1,5 @@
-use Rattle.std.proofs.Common.{◌≡◌, ◌≢◌, ℕ, Bool, true, false, cond, not, List, [], Some, None, Ok, Err, refl, ap}
+use Rattle.std.proofs.Common.{◌≡◌, ◌≢◌, ℕ, Bool, true, false, cond, not, List, [], Some, None, Ok, Err}
+use Rattle.std.proofs.Common.{refl, ap}
 use Rattle.machines.specs.State.{opening_client}
 use Rattle.machines.specs.StateText.{state_digest}
 use Rattle.replay_spec.specs.Signing.{is_same}

@@ -11,9 +11,11 @@ use Rattle.replay_spec.proofs.laws.servers_have_faults.Goals as goal
 -- the verdict on a first ACK, by the message that was sent under its number
 abbrev by_message : (seq number : ℕ) (mine prev : List ℕ) → SignatureParts → Option SentMessage → Verdict
 by_message seq number mine prev signature o =
-    elim (unless_fault (having_acknowledged (opening_server 1) seq)
-    (cond (not (fits_message [] 1 2 seq mine number prev signature o)) (Some BadAck) None)) as (λ _. Verdict) [
-      | Ok t ↦ behind (shown_by (opening_server 1) (Ack 2 seq mine number prev signature)) (verdict_of [] t [])
+    let fits = fits_message [] 1 2 seq mine number prev signature o in
+    let state = having_acknowledged (opening_server 1) seq in
+    elim (unless_fault state (cond (not fits) (Some BadAck) None)) as (λ _. Verdict) [
+      | Ok t ↦
+          behind (shown_by (opening_server 1) (Ack 2 seq mine number prev signature)) (verdict_of [] t [])
       | Err fault ↦ Fault fault 1
     ]
 
