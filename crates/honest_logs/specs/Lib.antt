@@ -4,6 +4,7 @@ pub use Rattle.replay_spec.specs.Replies
 pub use Rattle.replay_spec.specs.State
 pub use Rattle.replay_spec.specs.StateText
 pub use Rattle.replay_spec.specs.StateSteps
+pub use Rattle.replay_spec.specs.Signing
 pub use Rattle.replay_spec.specs.Shown
 pub use Rattle.replay_spec.specs.Placed
 pub use Rattle.replay_spec.specs.Steps

@@ -2,3 +2,5 @@
 #![tactic(auto)]
 
 pub mod laws;
+
+pub use replay_spec::laws as replay_laws;

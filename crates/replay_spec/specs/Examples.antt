@@ -2,10 +2,12 @@
 use Rattle.std.specs.Prelude.{ℕ, List, [], ◌∷◌}
 use Rattle.log_entries.specs.Chain.{zeros}
 use Rattle.log_entries.specs.declared.entry.Entry.{Entry}
-use Rattle.machines.specs.State.{Stage, opening_server, opening_client}
+use Rattle.log_entries.specs.declared.entry.Entry.TheVariants.{Send}
+use Rattle.machines.specs.State.{Stage, Owes, State, opening_server, opening_client}
 use Rattle.machines.specs.StateText.{state_digest}
 use Rattle.machines.specs.Steps.{at_stage}
 use Rattle.replay_spec.specs.Placed.{place, placed}
+use Rattle.replay_spec.specs.Steps.{after_entry}
 use Rattle.replay_spec.specs.Replay.{Verdict, verdict_of}
 
 -- the verdict on the first entries of a server
@@ -23,3 +25,8 @@ client_digest = state_digest (opening_client 2)
 -- the verdict on an entry of a server at a stage
 abbrev pub verdict_at : Stage → (number : ℕ) → Entry → Verdict
 verdict_at stage number e = verdict_of [] (at_stage (opening_server 1) stage) (place number zeros e ∷ [])
+
+-- the state after the reply that a server owes, with this number
+abbrev pub owed_sent : (to : ℕ) (body : List ℕ) (number : ℕ) → State
+owed_sent to body number =
+    after_entry (at_stage (opening_server 1) (Owes to body)) number zeros (Send to body)

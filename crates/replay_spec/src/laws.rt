@@ -7,7 +7,7 @@ ghost use Rattle.machines.specs.State.{Heard, Owes, opening_client};
 ghost use Rattle.replay_spec.specs.Stepping.{BadForm, BadReceive, WrongReply, ClockBack, BadAck};
 ghost use Rattle.replay_spec.specs.Stepping.{WrongCheckpoint};
 ghost use Rattle.replay_spec.specs.Replay.{Sound, Fault};
-ghost use Rattle.replay_spec.specs.Examples.{server_verdict, client_verdict, client_digest, verdict_at};
+ghost use Rattle.replay_spec.specs.Examples.{server_verdict, client_verdict, client_digest, verdict_at, owed_sent};
 ghost use Rattle.replay_spec.specs.Laws.{StepsAsItTakes, OneRun, SoundExactlyIf, FaultExactlyIf};
 ghost use Rattle.replay_spec.specs.Laws.{PartsAreHonest, PlacesAreJoined, PlacesHavePairs};
 ghost use Rattle.replay_spec.specs.Laws.{OpeningsHaveNoMessages, NoEntries, OneEntryMore, EntriesMore};
@@ -84,12 +84,20 @@ pub fn servers_have_faults()
         verdict_at (Owes 2 (7 ∷ [])) 3 (Check digest) ≡ Fault WrongReply 3 }
     ensures other_reply { verdict_at (Owes 2 (7 ∷ [])) 3 (Send 2 (8 ∷ [])) ≡ Fault WrongReply 3 }
     ensures other_receiver { verdict_at (Owes 2 (7 ∷ [])) 3 (Send 3 (7 ∷ [])) ≡ Fault WrongReply 3 }
+    ensures reply { verdict_at (Owes 2 (7 ∷ [])) 3 (Send 2 (7 ∷ [])) ≡ Sound (owed_sent 2 (7 ∷ []) 3) [] }
+    ensures recv_before_clock { (seq : ℕ) (prev body : List ℕ) (signature : SignatureParts) →
+        verdict_at (Heard 2 []) 2 (Recv 3 seq prev body signature) ≡ Fault BadForm 2 }
+    ensures recv_before_reply { (seq : ℕ) (prev body : List ℕ) (signature : SignatureParts) →
+        verdict_at (Owes 2 (7 ∷ [])) 3 (Recv 3 seq prev body signature) ≡ Fault WrongReply 3 }
+    ensures ack_before_reply { (seq number : ℕ) (mine prev : List ℕ) (signature : SignatureParts) →
+        verdict_at (Owes 2 (7 ∷ [])) 3 (Ack 2 seq mine number prev signature) ≡ Fault WrongReply 3 }
 {}
 
 /// A client's faults, as they are worked out. It may send and read its clock at any time.
 pub fn clients_have_faults()
     ensures back { client_verdict (Clock 1 0 ∷ Clock 0 999_999 ∷ []) ≡ Fault ClockBack 2 }
     ensures microseconds { client_verdict (Clock 0 1_000_000 ∷ []) ≡ Fault BadForm 1 }
+    ensures form_before_time { client_verdict (Clock 1 0 ∷ Clock 0 1_000_000 ∷ []) ≡ Fault BadForm 2 }
     ensures stranger { (seq : ℕ) (prev body : List ℕ) (signature : SignatureParts) →
         client_verdict (Clock 0 5 ∷ Recv 1 seq prev body signature ∷ []) ≡ Fault BadReceive 2 }
     ensures checkpoint { (digest : List ℕ) → digest ≢ client_digest →

@@ -44,3 +44,7 @@ pub returns-clause-right_checkpoint : goal.returns-clause-right_checkpoint
 unfolding step
 returns-clause-right_checkpoint c =
     ap by_digest (list_same (state_digest (opening_client 2)) (state_digest (opening_client 2)) refl)
+
+pub returns-clause-form_before_time : goal.returns-clause-form_before_time
+unfolding step
+returns-clause-form_before_time c = refl

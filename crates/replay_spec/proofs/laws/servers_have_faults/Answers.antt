@@ -55,3 +55,19 @@ returns-clause-other_reply c = refl
 pub returns-clause-other_receiver : goal.returns-clause-other_receiver
 unfolding step
 returns-clause-other_receiver c = refl
+
+pub returns-clause-reply : goal.returns-clause-reply
+unfolding step
+returns-clause-reply c = refl
+
+pub returns-clause-recv_before_clock : goal.returns-clause-recv_before_clock
+unfolding step
+returns-clause-recv_before_clock c = λ seq prev body signature. refl
+
+pub returns-clause-recv_before_reply : goal.returns-clause-recv_before_reply
+unfolding step
+returns-clause-recv_before_reply c = λ seq prev body signature. refl
+
+pub returns-clause-ack_before_reply : goal.returns-clause-ack_before_reply
+unfolding step
+returns-clause-ack_before_reply c = λ seq number mine prev signature. refl
