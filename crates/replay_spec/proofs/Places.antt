@@ -25,4 +25,5 @@ pub places_paired : (number : ℕ) (before : List ℕ) (es : List Entry)
     ≡ (number, before) ∷ map pair_at (placed (number + 1) before es)
 places_paired number before [] = refl
 places_paired number before (e ∷ es) =
-    ap (λ ps. (number, before) ∷ ps) (places_paired (number + 1) (hash_after before (link_of (number + 1) e)) es)
+    ap (λ ps. (number, before) ∷ ps)
+    (places_paired (number + 1) (hash_after before (link_of (number + 1) e)) es)

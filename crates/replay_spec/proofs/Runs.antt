@@ -1,6 +1,6 @@
 -- Runs of the machine: they are one at most, sound ones are honest, and a fault is the first.
 -- Serves: one_run, sound_exactly_if, fault_exactly_if, parts_are_honest.
-use Rattle.std.proofs.Common.{◌≡◌, ℕ, List, [], ◌∷◌, ◌++◌, Option, Some, None, Result, Ok, Err}
+use Rattle.std.proofs.Common.{◌≡◌, ℕ, List, [], ◌∷◌, ◌++◌, Option, Result, Ok, Err}
 use Rattle.std.proofs.Common.{refl, sym, ap, ap₂, subst, ◌∙◌}
 use Rattle.authenticator.specs.declared.member.Member.{Member}
 use Rattle.authenticator.specs.declared.authenticator.Authenticator.{Authenticator}
@@ -42,7 +42,10 @@ first_step : (ms : List Member) (s : State) (p : Placed) (ps : List Placed)
 first_step ms s p ps = by (step ms s p)
   where
     by : (r : Result State ReplayFault) → ◌≡◌ {A = Verdict}
-        (elim r [ Ok t ↦ behind (shown_by s p.entry) (verdict_of ms t ps) | Err fault ↦ Fault fault p.number ])
+        (elim r [
+          | Ok t ↦ behind (shown_by s p.entry) (verdict_of ms t ps)
+          | Err fault ↦ Fault fault p.number
+        ])
         (verdict_behind ms s p ps r)
     by (Ok t) = refl
     by (Err fault) = refl

@@ -17,7 +17,8 @@ place number before e = record { number = number; before = before; entry = e }
 -- entries that are numbered from `first` on, behind a hash
 abbrev pub placed : (first : ℕ) (before : List ℕ) → List Entry → List Placed
 placed first before [] = []
-placed first before (e ∷ es) = place first before e ∷ placed (first + 1) (hash_after before (link_of first e)) es
+placed first before (e ∷ es) =
+    place first before e ∷ placed (first + 1) (hash_after before (link_of first e)) es
 
 -- the entries of a segment
 abbrev pub placed_in : SegmentParts → List Placed

@@ -1,5 +1,5 @@
 -- Honest entries, and what a replay finds.
-use Rattle.std.specs.Prelude.{ℕ, List, [], ◌∷◌, ◌++◌, Option, Some, None, Ok, Err}
+use Rattle.std.specs.Prelude.{ℕ, List, [], ◌∷◌, Option, Some, None, Ok, Err}
 use Rattle.authenticator.specs.declared.member.Member.{Member}
 use Rattle.authenticator.specs.declared.authenticator.Authenticator.{Authenticator}
 use Rattle.machines.specs.State.{State}
@@ -31,8 +31,8 @@ found s [] ts = []
 found s (p ∷ ps) [] = []
 found s (p ∷ ps) (t ∷ ts) = with_shown (shown_by s p.entry) (found t ps ts)
 
--- What a replay answers: the state after all entries and what they show; or the first fault, and the number of
--- the entry that has it.
+-- What a replay answers: the state after all entries and what they show; or the first fault, and the number
+-- of the entry that has it.
 pub data Verdict : Type 0 where
   Sound : State → List Authenticator → Verdict
   Fault : ReplayFault → (number : ℕ) → Verdict

@@ -16,11 +16,12 @@ sender_shown node from seq prev body signature = record {
   signature = signature;
 }
 
--- What an ACK in the log of `node` shows of the log of its message's receiver: the hash at the receiver's RECV,
--- made from its number there, the hash before it, and the message: its sender and number, the hash before it in
--- the sender's log, the digest of its body, and `mine`, the digest of the sender's signature there.
-abbrev pub receiver_shown :
-    (node seq : ℕ) → SentMessage → (mine : List ℕ) (number : ℕ) (prev : List ℕ) → SignatureParts → Authenticator
+-- What an ACK in the log of `node` shows of the log of its message's receiver: the hash at the receiver's
+-- RECV, made from its number there, the hash before it, and the message: its sender and number, the hash
+-- before it in the sender's log, the digest of its body, and `mine`, the digest of the sender's signature
+-- there.
+abbrev pub receiver_shown : (node seq : ℕ) → SentMessage → (mine : List ℕ) (number : ℕ) (prev : List ℕ)
+    → SignatureParts → Authenticator
 receiver_shown node seq message mine number prev signature = record {
   node = message.to;
   number = number;

@@ -19,8 +19,8 @@ is_same a b = pointwise nat_eq a b
 abbrev pub shown_leaf : (digest : List ℕ) → SignatureParts → List ℕ
 shown_leaf digest signature = leaf_hash (shown_hash digest signature.shown signature.other)
 
--- Whether a signature of a digest is one under a root of a height: its leaf and its path are of a tree of that
--- height, and the path leads from the leaf that it shows to the root.
+-- Whether a signature of a digest is one under a root of a height: its leaf and its path are of a tree of
+-- that height, and the path leads from the leaf that it shows to the root.
 unfoldable pub is_signed : (root : List ℕ) (height : ℕ) (digest : List ℕ) → SignatureParts → Bool
 is_signed root height digest signature =
     nat_le height MAX_HEIGHT && (nat_lt signature.leaf (2 ^ height) && ((length signature.path == height)

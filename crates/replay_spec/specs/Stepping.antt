@@ -116,7 +116,8 @@ abbrev pub is_clock_back : Machine → Entry → Bool
 is_clock_back machine (Send to body) = false
 is_clock_back machine (Recv from seq prev body signature) = false
 is_clock_back machine (Ack to seq mine number prev signature) = false
-is_clock_back machine (Clock seconds microseconds) = is_before (time_of seconds microseconds) (clock_in machine)
+is_clock_back machine (Clock seconds microseconds) =
+    is_before (time_of seconds microseconds) (clock_in machine)
 is_clock_back machine (Check digest) = false
 
 -- ---- BadAck

@@ -34,8 +34,8 @@ time_of seconds microseconds = record { seconds = seconds; microseconds = micros
 
 -- ---- which entry may stand there
 
--- Nothing is owed: a server neither heard a message whose clock reading is to come, nor owes a reply. A client
--- owes nothing.
+-- Nothing is owed: a server neither heard a message whose clock reading is to come, nor owes a reply. A
+-- client owes nothing.
 abbrev pub OwesNothing : Machine → Type 0
 OwesNothing (Server w Idle) = Unit {0}
 OwesNothing (Server w (Heard from body)) = ⊥

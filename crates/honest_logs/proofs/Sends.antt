@@ -1,7 +1,7 @@
 -- The messages that were sent in the last state of an honest log are those of its SENDs that have no ACK.
 -- Serves: messages_are_logged.
-use Rattle.std.proofs.Common.{◌≡◌, ◌≢◌, ◌⊎◌, inl, inr, ℕ, suc, ◌+◌, ◌-◌, ◌≤◌, Bool, true, false, cond, List, []}
-use Rattle.std.proofs.Common.{◌∷◌, ◌++◌, length, take, Option, Some, None, nat_cmp, eqb-true, eq-eqb, ne_eqb}
+use Rattle.std.proofs.Common.{◌≡◌, ◌≢◌, ◌⊎◌, inl, inr, ℕ, ◌+◌, ◌-◌, ◌≤◌, true, false, cond, List, []}
+use Rattle.std.proofs.Common.{◌∷◌, ◌++◌, length, take, Option, Some, None, nat_cmp, eq-eqb, ne_eqb}
 use Rattle.std.proofs.Common.{length-append, refl, sym, ap, subst, ◌∙◌, arith}
 use Rattle.std.specs.FinMap as finite
 use Rattle.std.specs.Ordering.{eq_by_cmp}
@@ -14,11 +14,13 @@ use Rattle.authenticator.specs.declared.member.Member.{Member}
 use Rattle.log_entries.specs.declared.entry.Entry.{Entry}
 use Rattle.log_entries.specs.declared.entry.Entry.TheVariants.{Send, Recv, Ack, Clock, Check}
 use Rattle.secure_log.specs.Log.{log_hash}
-use Rattle.machines.specs.State.{SentMessage, Machine, State, opened_with}
+use Rattle.replay_spec.specs.State.{SentMessage, Machine, State, opened_with}
 use Rattle.replay_spec.specs.Placed.{place}
-use Rattle.replay_spec.specs.Steps.{sent_message, after_entry, MayStand, Takes}
-use Rattle.replay_spec.specs.HonestLogs.{IsHonestLog, entry_at, IsSentAt, HasNoAck}
-use Rattle.replay_spec.proofs.Logs.{carried, entry_more, entry_last, entry_less, entry_within}
+use Rattle.replay_spec.specs.Steps.{sent_message, after_entry, MayStand}
+use Rattle.replay_spec.specs.HonestLogs.{IsHonestLog}
+use Rattle.honest_logs.specs.LoggedMessages.{entry_at, IsSentAt, HasNoAck}
+use Rattle.replay_spec.proofs.Logs.{carried}
+use Rattle.honest_logs.proofs.Entries.{entry_more, entry_last, entry_less, entry_within}
 
 -- ---- maps by numbers
 
@@ -39,7 +41,8 @@ get_new sends n m k h =
 get_other : (sends : Sends) (n : ℕ) (m : SentMessage) (k : ℕ) → k ≢ n
     → finite.get (finite.insert sends n m) k ≡ finite.get sends k
 get_other sends n m k h =
-    finite.get-insert nat_cmp_total sends n m k ∙ ap (λ b. cond b (Some m) (finite.get sends k)) (no_tie k n h)
+    finite.get-insert nat_cmp_total sends n m k
+    ∙ ap (λ b. cond b (Some m) (finite.get sends k)) (no_tie k n h)
 
 get_removed : (sends : Sends) (n k : ℕ) → k ≡ n → finite.get (finite.remove sends n) k ≡ None
 get_removed sends n k h =
@@ -123,7 +126,8 @@ IsNoAckOf e k =
     (to : ℕ) (mine : List ℕ) (number : ℕ) (prev : List ℕ) (signature : SignatureParts)
     → e ≢ Ack to k mine number prev signature
 
-no_ack_more : (es : List Entry) (e : Entry) (k : ℕ) → HasNoAck es k → IsNoAckOf e k → HasNoAck (es ++ e ∷ []) k
+no_ack_more : (es : List Entry) (e : Entry) (k : ℕ) → HasNoAck es k → IsNoAckOf e k
+    → HasNoAck (es ++ e ∷ []) k
 no_ack_more es e k h not place to mine number prev signature there =
     by (entry_less es e place (Ack to k mine number prev signature) there)
   where
@@ -151,7 +155,8 @@ nothing_there k e h = let within = entry_within [] k e h in omega (arith, within
 
 are_logged_start : (o : State) → o.sends ≡ finite.empty → AreLogged [] o
 are_logged_start o none = record {
-  from = λ k m h. absurd (none_some (sym (finite.get-empty nat_cmp k) ∙ sym (ap (λ x. finite.get x k) none) ∙ h));
+  from = λ k m h.
+      absurd (none_some (sym (finite.get-empty nat_cmp k) ∙ sym (ap (λ x. finite.get x k) none) ∙ h));
   all = λ k m h n. absurd (nothing_there k (Send m.to h.body) h.there);
   acked = λ place to k mine number prev signature h.
       absurd (nothing_there place (Ack to k mine number prev signature) h);
@@ -217,16 +222,14 @@ module _ (es : List Entry) (to : ℕ) (body : List ℕ) (s t : State) (i : AreLo
       by : (k ≡ length es + 1) ⊎ (k ≢ length es + 1) → IsSentAt more k m × HasNoAck more k
       by (inl last) =
           let same : sent ≡ m =
-              some_same (sym (get_new s.sends (length es + 1) sent k last)
-              ∙ sym (ap (λ x. finite.get x k) after) ∙ h) in
-          (
+          some_same (sym (get_new s.sends (length es + 1) sent k last)
+          ∙ sym (ap (λ x. finite.get x k) after) ∙ h) in (
             subst (IsSentAt more k) same (sent_last es to body k last),
             no_ack_more es (Send to body) k (none_yet k last) (send_no_ack to body k),
           )
       by (inr other) =
           let old = i.from k m (sym (get_other s.sends (length es + 1) sent k other)
-              ∙ sym (ap (λ x. finite.get x k) after) ∙ h) in
-          (
+          ∙ sym (ap (λ x. finite.get x k) after) ∙ h) in (
             sent_more es (Send to body) k m old.0,
             no_ack_more es (Send to body) k old.1 (send_no_ack to body k),
           )
@@ -244,10 +247,10 @@ module _ (es : List Entry) (to : ℕ) (body : List ℕ) (s t : State) (i : AreLo
       by (inr new) =
           let e = send_same to m.to body new.body new.is in
           let same : sent ≡ m =
-              ap (λ x. record { to = x; prev = log_hash es; body_hash = sha256 body }) e.0
-              ∙ ap (λ x. record { to = m.to; prev = x; body_hash = sha256 body }) (sym new.before)
-              ∙ ap (λ x. record { to = m.to; prev = m.prev; body_hash = x })
-              (ap sha256 e.1 ∙ sym new.digest) in
+          ap (λ x. record { to = x; prev = log_hash es; body_hash = sha256 body }) e.0
+          ∙ ap (λ x. record { to = m.to; prev = x; body_hash = sha256 body }) (sym new.before)
+          ∙ ap (λ x. record { to = m.to; prev = m.prev; body_hash = x })
+          (ap sha256 e.1 ∙ sym new.digest) in
           get_new s.sends (length es + 1) sent k new.number ∙ ap (λ x. Some x) same
 
   new_logged : AreLogged more t
@@ -291,7 +294,7 @@ module _ (es : List Entry) (to seq : ℕ) (mine : List ℕ) (number : ℕ) (prev
           absurd (none_some (sym (get_removed s.sends seq k same) ∙ sym (ap (λ x. finite.get x k) after) ∙ h))
       by (inr other) =
           let old = i.from k m (sym (get_kept s.sends seq k other)
-              ∙ sym (ap (λ x. finite.get x k) after) ∙ h) in
+          ∙ sym (ap (λ x. finite.get x k) after) ∙ h) in
           (sent_more es ack k m old.0, no_ack_more es ack k old.1 (ack_of_one k other))
 
   ack_all : (k : ℕ) (m : SentMessage) → IsSentAt acks k m → HasNoAck acks k → finite.get t.sends k ≡ Some m
@@ -317,7 +320,8 @@ module _ (es : List Entry) (to seq : ℕ) (mine : List ℕ) (number : ℕ) (prev
           ⊎ ((place ≡ length es + 1) × (ack ≡ Ack whom k own theirs before sign)) → k ≤ length acks
       by (inl old) = omega (arith, longer_length es ack, i.acked place whom k own theirs before sign old)
       by (inr new) =
-          let same : seq ≡ k = ack_same to whom seq k mine own number theirs prev before signature sign new.1 in
+          let same : seq ≡ k =
+          ack_same to whom seq k mine own number theirs prev before signature sign new.1 in
           let within = sent_within es seq message (i.from seq message sent).0 in
           omega (arith, longer_length es ack, within.1, same)
 
@@ -328,7 +332,8 @@ module _ (es : List Entry) (to seq : ℕ) (mine : List ℕ) (number : ℕ) (prev
 
 are_logged_by : (es : List Entry) (e : Entry) (ms : List Member) (s t : State) → AreLogged es s
     → MayStand ms s e → t ≡ after_entry s (length es + 1) (log_hash es) e → AreLogged (es ++ e ∷ []) t
-are_logged_by es (Send to body) ms s t i h after = new_logged es to body s t i (ap (λ (x : State). x.sends) after)
+are_logged_by es (Send to body) ms s t i h after =
+    new_logged es to body s t i (ap (λ (x : State). x.sends) after)
 are_logged_by es (Recv from seq prev body signature) ms s t i h after =
     same_sends es (Recv from seq prev body signature) s t i (ap (λ (x : State). x.sends) after)
     (λ to sent e. absurd (cc)) (λ k to mine number before sign e. absurd (cc))

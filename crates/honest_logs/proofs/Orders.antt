@@ -7,7 +7,7 @@ use Rattle.std.specs.Cmp.Lexicographic.{slice_cmp, nat_list_cmp_total}
 use Rattle.std.specs.FinSet.{IsAntisymmetric, nat_cmp-IsAntisymmetric, slice_cmp-IsAntisymmetric}
 use Rattle.std.proofs.lemmas.Cmp.{on_total, then_total}
 use Rattle.std.proofs.lemmas.Map.Lookups.{exact_pairs}
-use Rattle.machines.specs.State.{ReceivedMessage, received_cmp}
+use Rattle.replay_spec.specs.State.{ReceivedMessage, received_cmp}
 
 -- it is a total order
 pub received_total : IsTotalOrder received_cmp
@@ -30,4 +30,5 @@ pub ties_equal : (a b : ReceivedMessage) → eq_by_cmp received_cmp a b ≡ true
 ties_equal a b h = received_exact a b ((Equal-is (received_cmp a b)).0 h)
 
 pub equal_ties : (a b : ReceivedMessage) → a ≡ b → eq_by_cmp received_cmp a b ≡ true
-equal_ties a b e = (Equal-is (received_cmp a b)).1 (ap (received_cmp a) (sym e) ∙ tied_itself received_total a)
+equal_ties a b e =
+    (Equal-is (received_cmp a b)).1 (ap (received_cmp a) (sym e) ∙ tied_itself received_total a)
