@@ -3,3 +3,4 @@ pub mod Signed
 pub mod Steps
 pub mod Meanings
 pub mod Messages
+pub mod Receipts
