@@ -57,9 +57,9 @@ module _ {owed : List (List ℕ) → List ℕ} {Leaves : List (List ℕ) → Lis
   with_record {more = more} {r = r} reads = (AreRecords-push p.text p.records more r p.are_records reads.is_record, Consumes-trans _ _ _ _ _ p.taken reads.taken)
 
   -- one record more was read, and its reply written
-  pub pushes : (Leaves' : List (List ℕ) → List (List ℕ) → Type 0) {mid' written' : Option (List ℕ)} {more r reply : List ℕ} → ReadsRecord mid mid' more r
+  pub pushes : (Leaves' : List (List ℕ) → List (List ℕ) → Type 0) {mid' : Option (List ℕ)} (written' : Option (List ℕ)) {more r : List ℕ} (reply : List ℕ) → ReadsRecord mid mid' more r
       → owed (p.records ++ r ∷ []) ≡ owed p.records ++ reply → Appends written written' reply → Leaves' (p.records ++ r ∷ []) [] → Progress owed Leaves' (k + 1) before mid' written_before written'
-  pushes Leaves' {more = more} {r = r} reads e wrote leaves = record {
+  pushes Leaves' written' {more = more} {r = r} reply reads e wrote leaves = record {
     records = p.records ++ r ∷ [];
     text = p.text ++ more;
     are_records = (with_record reads).0;
@@ -96,9 +96,9 @@ module _ {owed : List (List ℕ) → List ℕ} {Leaves : List (List ℕ) → Lis
   }
 
   -- a record was read and its reply not wholly written
-  pub stops_in_reply : (Leaves' : List (List ℕ) → List (List ℕ) → Type 0) {mid' written' : Option (List ℕ)} {more r reply : List ℕ} → ReadsRecord mid mid' more r
+  pub stops_in_reply : (Leaves' : List (List ℕ) → List (List ℕ) → Type 0) {mid' : Option (List ℕ)} (written' : Option (List ℕ)) {more r : List ℕ} (reply : List ℕ) → ReadsRecord mid mid' more r
       → owed (p.records ++ r ∷ []) ≡ owed p.records ++ reply → WritesFront written written' reply → Leaves' (p.records ++ r ∷ []) [] → StopsInReply owed Leaves' before mid' written_before written'
-  stops_in_reply Leaves' {more = more} {r = r} reads e wrote leaves = record {
+  stops_in_reply Leaves' written' {more = more} {r = r} reply reads e wrote leaves = record {
     answered = p.records;
     last = r;
     text = p.text ++ more;
@@ -134,9 +134,9 @@ module _ {owed : List (List ℕ) → List ℕ} {Leaves : List (List ℕ) → Lis
   })
 
   -- and a beginning of one reply more
-  pub is_part_in_reply : {mid' written' : Option (List ℕ)} {more r reply : List ℕ} → ReadsRecord mid mid' more r → owed (p.records ++ r ∷ []) ≡ owed p.records ++ reply
+  pub is_part_in_reply : {mid' : Option (List ℕ)} (written' : Option (List ℕ)) {more r : List ℕ} (reply : List ℕ) → ReadsRecord mid mid' more r → owed (p.records ++ r ∷ []) ≡ owed p.records ++ reply
       → WritesFront written written' reply → IfSome before (λ input. ServesPart owed input written_before written')
-  is_part_in_reply {mid' = mid'} {written' = written'} {more = more} {r = r} reads e wrote =
+  is_part_in_reply {mid' = mid'} written' {more = more} {r = r} reply reads e wrote =
       known before mid' (p.text ++ more) (λ input. ServesPart owed input written_before written') (with_record p reads).1 (λ input rest left is_input. record {
         records = p.records ++ r ∷ [];
         text = p.text ++ more;
