@@ -13,10 +13,10 @@ use Rattle.records.specs.declared.record.TheConstants.{MAX_RECORD}
 use Rattle.records.specs.declared.fault.RecordFault.{RecordFault}
 use Rattle.records.specs.declared.fault.RecordFault.TheVariants as reader_faults
 use Rattle.records.specs.Reading.{FailsUnless, StopsAt, TakesToLimit, TakesAll, TakesPart, IsPartOfRecord, fault_after}
-use Rattle.nfs_items.specs.Timeval.{Timeval}
-use Rattle.worlds.specs.World.{World}
-use Rattle.service.specs.Replies.{reply_owed, world_after}
-use Rattle.service.specs.Owed.{record_of, replies_owed, world_after_all}
+use Rattle.links.specs.Timeval.{Timeval}
+use Rattle.links.specs.World.{World}
+use Rattle.links.specs.Replies.{reply_owed, world_after}
+use Rattle.links.specs.Owed.{record_of, replies_owed, world_after_all}
 use Rattle.links.specs.Readings.{Readings, IsBehind}
 use Rattle.links.specs.declared.fault.LinkFault.{LinkFault}
 use Rattle.links.specs.declared.fault.LinkFault.TheVariants as links

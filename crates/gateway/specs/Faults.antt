@@ -1,5 +1,5 @@
 -- The faults of a gateway, by number, and where they come from.
-use Rattle.std.specs.Prelude.{◌≡◌, ℕ, ⊤}
+use Rattle.std.specs.Prelude.{ℕ, ⊤, Result, Ok, Err}
 use Rattle.records.specs.declared.fault.RecordFault.{RecordFault}
 use Rattle.records.specs.declared.fault.RecordFault.TheVariants as records
 use Rattle.links.specs.declared.fault.LinkFault.{LinkFault}
@@ -28,3 +28,17 @@ abbrev pub of_link : LinkFault → StreamFault
 of_link links.KeysUsedUp = faults.KeysUsedUp
 of_link links.NoMemory = faults.NoMemory
 of_link links.Failed = faults.Failed
+
+-- a fault of the stream itself, and not of the link or of memory
+abbrev pub IsOfStream : StreamFault → Type 0
+IsOfStream faults.RecordTooLong = ⊤
+IsOfStream faults.Device = ⊤
+IsOfStream faults.EndInRecord = ⊤
+IsOfStream faults.KeysUsedUp = ⊥
+IsOfStream faults.NoMemory = ⊥
+IsOfStream faults.Failed = ⊥
+
+-- an answer, or a fault that is such
+abbrev pub IsOkOr : {A E : Type 0} → Result A E → (E → Type 0) → Type 0
+IsOkOr (Ok x) Is = ⊤
+IsOkOr (Err e) Is = Is e

@@ -4,9 +4,9 @@ use Rattle.records.specs.Count.{Rises}
 use Rattle.records.specs.Reading.{TakesToLimit, TakesPart, IsPartOfRecord}
 use Rattle.records.specs.declared.fault.RecordFault.{RecordFault}
 use Rattle.records.specs.declared.fault.RecordFault.TheVariants as reader_faults
-use Rattle.nfs_items.specs.Timeval.{Timeval}
-use Rattle.worlds.specs.World.{World}
-use Rattle.service.specs.Owed.{replies_owed, world_after_all}
+use Rattle.links.specs.Timeval.{Timeval}
+use Rattle.links.specs.World.{World}
+use Rattle.links.specs.Owed.{replies_owed, world_after_all}
 use Rattle.links.specs.Readings.{Readings, IsBehind}
 use Rattle.gateway.specs.Streams.{StopsAfterRecords, StopsBeforeReply, StopsInReply, TakesNothing, TakesUnfinished}
 use Rattle.gateway.specs.declared.fault.StreamFault.{StreamFault}

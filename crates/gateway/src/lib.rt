@@ -3,6 +3,8 @@
 
 mod fault;
 mod serve;
+#[cfg(test)]
+mod tests;
 
 pub use fault::StreamFault;
 pub use links::{Clock, FixedClock, Link, LinkFault, ScriptedClock, Service, Time};

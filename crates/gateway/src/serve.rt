@@ -6,13 +6,13 @@ ghost use Rattle.std.specs.Io.KnownBytes.{Appends, IsAtEnd};
 ghost use Rattle.records.specs.Count.{Rises, CountsErr};
 ghost use Rattle.records.specs.Writing.{WritesPart, WritesFront};
 ghost use Rattle.records.specs.declared.record.TheConstants.{MAX_RECORD};
-ghost use Rattle.service.specs.Replies.{reply_owed, world_after};
-ghost use Rattle.service.specs.Owed.{record_of};
+ghost use Rattle.links.specs.Replies.{reply_owed, world_after};
+ghost use Rattle.links.specs.Owed.{record_of};
 ghost use Rattle.links.specs.declared.fault.LinkFault.{LinkFault};
 ghost use Rattle.links.specs.declared.fault.LinkFault.TheVariants as links;
 ghost use Rattle.gateway.specs.declared.fault.StreamFault.TheVariants.{Device, KeysUsedUp, Failed};
 ghost use Rattle.gateway.specs.Streams.{Serves, ServesPart};
-ghost use Rattle.gateway.specs.Faults.{of_records, of_link};
+ghost use Rattle.gateway.specs.Faults.{of_records, of_link, IsOfStream, IsOkOr};
 ghost use Rattle.gateway.specs.Serving.{IfTold, text_owed, LinkStandsAfter, LeavesOff, StandsAfter};
 
 use crate::fault::StreamFault;
@@ -64,7 +64,7 @@ fn answer<L: Link, W: Write>(
     ensures moves { OnOk result (IfSome (L.world link.old) (λ w.
         L.world link.new ≡ Some (world_after w time bytes.now))) }
     ensures kept { OnOk result (writer.new.count ≡ writer.old.count) }
-    ensures faults { OnOk result ((f : LinkFault) → L.may_fault link.new f → L.may_fault link.old f) }
+    ensures calm { IsOkOr result IsOfStream → (f : LinkFault) → L.may_fault link.new f → L.may_fault link.old f }
     ensures device { IsErrOf result Device → Rises writer.old.count writer.new.count
         × IfSome (L.world link.old) (λ w.
         WritesFront (W.contents writer.old.inner) (W.contents writer.new.inner)
@@ -103,6 +103,7 @@ fn serve_records<L: Link, C: Clock, R: Read + Drop, W: Write>(
         (W.contents writer.old.inner) (W.contents writer.new.inner))) }
     ensures stands { IfErr result (λ e. StandsAfter e reader.new.fault
         reader.old.reader.count reader.new.reader.count writer.old.count writer.new.count) }
+    ensures calm { IsOkOr result IsOfStream → (f : LinkFault) → L.may_fault link.new f → L.may_fault link.old f }
     ensures keys { IsErrOf result KeysUsedUp →
         L.may_fault link.old links.KeysUsedUp × L.faulted link.new links.KeysUsedUp }
     ensures failed { IsErrOf result Failed →
@@ -184,6 +185,10 @@ impl Gateway {
         ensures stands { IfErr result (λ e. self.old ≡ false → reader.old.fault ≡ None →
             StandsAfter e reader.new.fault
             reader.old.reader.count reader.new.reader.count writer.old.count writer.new.count) }
+
+        // Of the link's faults, only those of an exchange.
+        ensures calm { IsOkOr result IsOfStream →
+            (f : LinkFault) → L.may_fault link.new f → L.may_fault link.old f }
         ensures keys { IsErrOf result KeysUsedUp →
             L.may_fault link.old links.KeysUsedUp × L.faulted link.new links.KeysUsedUp }
         ensures failed { IsErrOf result Failed → self.old ≡ false →

@@ -23,7 +23,7 @@ loop-k-preserved g c =
       fresh = rw c.loop-k.invariant.fresh at c.in_ok-record.ensures.failed;
       reads_same = c.in_ok-record.ensures.kept ∙ c.loop-k.invariant.reads_same;
       writes_same = c.in_ok-answer.ensures.kept ∙ c.loop-k.invariant.writes_same;
-      may_still = λ e h. c.loop-k.invariant.may_still e (c.in_ok-answer.ensures.faults e h);
+      may_still = λ e h. c.loop-k.invariant.may_still e (c.in_ok-answer.ensures.calm tt e h);
     }
 
 pub returns-in_err-answer-clause-part : goal.returns-in_err-answer-clause-part
