@@ -165,9 +165,9 @@ pub serves_one : (world world₁ world' : Option World) (readings readings₁ re
     → IsServed world world' readings readings' (k + 1) before mid' written_before written'
 serves_one world world₁ world' readings readings₁ readings' k before mid mid' written_before written written' more r time served reads reading rest moves wrote =
     if_told world readings served (λ w f p.
-      pushes p (LinkStandsAfter w f world' readings') written' (record_of (reply_owed (world_at w f p.records) time r)) reads
-      (owes p.leaves time r reading) (at_world p.leaves (λ v. Appends written written' (record_of (reply_owed v time r))) wrote)
-      (stands_answered p.leaves world' readings' time r reading rest moves))
+    pushes p (LinkStandsAfter w f world' readings') written' (record_of (reply_owed (world_at w f p.records) time r)) reads
+    (owes p.leaves time r reading) (at_world p.leaves (λ v. Appends written written' (record_of (reply_owed v time r))) wrote)
+    (stands_answered p.leaves world' readings' time r reading rest moves))
 
 -- ---- the end of the input
 

@@ -121,7 +121,7 @@ fn serve_records<L: Link, C: Clock, R: Read + Drop, W: Write>(
 /// Serves one stream: the replies to its records, brought over a link. After a fault it serves no more.
 ///
 /// A clause sees whether it has failed.
-#[derive(Debug)]
+#[derive(Debug, Drop)]
 pub struct Gateway {
     failed: bool,
 }

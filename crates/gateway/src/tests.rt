@@ -1,7 +1,9 @@
 //! Three calls over a server as the link, by readers and writers that give and take a byte a call, and what is
 //! left after a fault.
 
-use crate::{Clock, Gateway, Link, LinkFault, ScriptedClock, Served, Service, StreamFault, Time};
+use crate::{
+    Clock, FixedClock, Gateway, Link, LinkFault, ScriptedClock, Served, Service, StreamFault, Time,
+};
 use records::{Counting, RecordReader};
 use std::alloc::{AllocError, Global};
 use std::collections::VecDeque;
@@ -139,7 +141,9 @@ fn a_failed_write_ends_all(rt: HostRuntime) -> Result<(), Fail> {
     let owed = bytes(rt.alloc(), &REPLIES)?;
     for written in 0..owed.len() {
         let mut link = Service::opening(rt.alloc(), 1)?;
-        let mut clock = seconds(rt.alloc())?;
+        let mut clock = FixedClock {
+            time: Time::epoch(),
+        };
         let mut reader = RecordReader::new(Counting::new(input.as_slice()));
         let slow = SlowWriter {
             taken: Vec::new(rt.alloc()),
@@ -148,12 +152,30 @@ fn a_failed_write_ends_all(rt: HostRuntime) -> Result<(), Fail> {
         };
         let mut writer = Counting::new(slow);
         let mut gateway = Gateway::new();
-        let done = gateway.serve_stream(rt.alloc(), &mut link, &mut clock, &mut reader, &mut writer);
-        assert!(rt; done == Err(StreamFault::Device) && writer.count() == 1, "{written}");
-        assert!(rt; writer.get_ref().taken.as_slice() == &owed[..written], "{written}");
+        let done = gateway.serve_stream(
+            rt.alloc(),
+            &mut link,
+            &mut clock,
+            &mut reader,
+            &mut writer,
+        );
+        assert!(rt;
+            done == Err(StreamFault::Device) && writer.count() == 1,
+            "{written}"
+        );
+        assert!(rt;
+            writer.get_ref().taken.as_slice() == &owed[..written],
+            "{written}"
+        );
 
         let left = reader.get_ref().get_ref().len();
-        let again = gateway.serve_stream(rt.alloc(), &mut link, &mut clock, &mut reader, &mut writer);
+        let again = gateway.serve_stream(
+            rt.alloc(),
+            &mut link,
+            &mut clock,
+            &mut reader,
+            &mut writer,
+        );
         assert!(rt; again == Err(StreamFault::Failed) && writer.get_ref().calls == written + 1);
         assert!(rt; reader.get_ref().get_ref().len() == left, "{written}");
     }
@@ -179,10 +201,24 @@ fn a_fault_of_the_link_ends_all(rt: HostRuntime) -> Result<(), Fail> {
         let mut reader = RecordReader::new(Counting::new(input.as_slice()));
         let mut writer = Counting::new(Vec::new(rt.alloc()));
         let mut gateway = Gateway::new();
-        let done = gateway.serve_stream(rt.alloc(), &mut link, &mut clock, &mut reader, &mut writer);
+        let done = gateway.serve_stream(
+            rt.alloc(),
+            &mut link,
+            &mut clock,
+            &mut reader,
+            &mut writer,
+        );
         assert!(rt; done == Err(answer) && fault.number() == answer.number());
-        assert!(rt; writer.get_ref().as_slice() == &owed[..28] && reader.get_ref().get_ref().len() == 88);
-        let again = gateway.serve_stream(rt.alloc(), &mut link, &mut clock, &mut reader, &mut writer);
+        assert!(rt;
+            writer.get_ref().as_slice() == &owed[..28] && reader.get_ref().get_ref().len() == 88
+        );
+        let again = gateway.serve_stream(
+            rt.alloc(),
+            &mut link,
+            &mut clock,
+            &mut reader,
+            &mut writer,
+        );
         assert!(rt; again == Err(StreamFault::Failed) && clock.now().seconds() == 3);
     }
     Ok(())

@@ -32,7 +32,7 @@ returns-in_err-answer-clause-part g c =
     let found = rw c.in-Some.is at c.in_ok-record.ensures.found in
     let device = rw c.deref.ensures.value at c.in_err-answer.ensures.device in
     let fails = fails_by c.in_err-answer.field-0.0 (g.L.Link.world c.loop-k.link) (g.L.Link.world c.answer.new.link) c.now.result c.in-Some.record.items
-        (g.W.Write.contents c.loop-k.writer.inner) (g.W.Write.contents c.answer.new.writer.inner) (ap (λ w. g.W.Write.contents w.inner)) c.in_err-answer.ensures.link (λ d. device (ap Err d)) in
+    (g.W.Write.contents c.loop-k.writer.inner) (g.W.Write.contents c.answer.new.writer.inner) (ap (λ w. g.W.Write.contents w.inner)) c.in_err-answer.ensures.link (λ d. device (ap Err d)) in
     rw (p.1) (part_answering _ _ _ _ _ _ _ _ _ _ _ _ _ _ _ _ c.loop-k.invariant.is_served (record { is_record = found.1; taken = found.2 }) c.now.ensures.reading c.now.ensures.rest _ fails)
 
 pub returns-in_err-answer-clause-taken : goal.returns-in_err-answer-clause-taken
@@ -42,5 +42,5 @@ returns-in_err-answer-clause-taken g c =
     let failed = rw c.loop-k.invariant.fresh at c.in_ok-record.ensures.failed in
     let device = rw c.deref.ensures.value at c.in_err-answer.ensures.device in
     let fails = fails_by c.in_err-answer.field-0.0 (g.L.Link.world c.loop-k.link) (g.L.Link.world c.answer.new.link) c.now.result c.in-Some.record.items
-        (g.W.Write.contents c.loop-k.writer.inner) (g.W.Write.contents c.answer.new.writer.inner) (ap (λ w. g.W.Write.contents w.inner)) c.in_err-answer.ensures.link (λ d. device (ap Err d)) in
+    (g.W.Write.contents c.loop-k.writer.inner) (g.W.Write.contents c.answer.new.writer.inner) (ap (λ w. g.W.Write.contents w.inner)) c.in_err-answer.ensures.link (λ d. device (ap Err d)) in
     rw (p.1, p.2) (leaves_off_answering _ _ _ _ _ _ _ _ _ _ _ _ _ _ _ _ c.loop-k.invariant.is_served (record { is_record = found.1; taken = found.2 }) c.now.ensures.reading c.now.ensures.rest _ _ failed fails)
