@@ -1,5 +1,5 @@
-//! Three calls over a server as the link, by readers and writers that give and take a byte a call, and what is
-//! left after a fault.
+//! Three calls over a server as the link, by readers and writers that give and take a byte a call, and what
+//! is left after a fault.
 
 use crate::{
     Clock, FixedClock, Gateway, Link, LinkFault, ScriptedClock, Served, Service, StreamFault, Time,
