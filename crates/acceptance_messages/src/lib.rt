@@ -4,8 +4,6 @@
 #[cfg(test)]
 mod acks;
 #[cfg(test)]
-mod envelopes;
-#[cfg(test)]
 mod lookups;
 #[cfg(test)]
 mod nodes;
