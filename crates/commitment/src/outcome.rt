@@ -17,18 +17,18 @@ impl Received {
     ghost use Rattle.commitment.specs.Outcomes.{is_new, receipt_number};
 
     /// The number of the RECV.
-    pub fn number(self) -> Number
-        ensures { result ≡ receipt_number self }
+    pub fn number(&self) -> Number
+        ensures { result ≡ receipt_number self.now }
     {
         match self {
-            Received::New(number) => number,
-            Received::Repeat(number) => number,
+            Received::New(number) => *number,
+            Received::Repeat(number) => *number,
         }
     }
 
     /// Whether it was logged just now.
-    pub fn is_new(self) -> bool
-        ensures { result ≡ is_new self }
+    pub fn is_new(&self) -> bool
+        ensures { result ≡ is_new self.now }
     {
         match self {
             Received::New(_) => true,
