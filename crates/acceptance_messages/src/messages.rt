@@ -2,7 +2,7 @@
 
 use crate::nodes::{Nodes, body, new_client, new_nodes, sent};
 use authenticator::Refusal as Unchecked;
-use commitment::{Number, Received, Receiver, Refusal, check_envelope};
+use commitment::{Number, Receiver, Refusal, check_envelope};
 use sha2::{Digest, Sha256};
 use std::alloc::Global;
 use std::test::Fail;
@@ -22,19 +22,18 @@ fn an_envelope_is_another_programs(rt: HostRuntime) -> Result<(), Fail> {
     Ok(())
 }
 
-/// The number of a new message's RECV.
-fn new_number(alloc: Global, server: &mut Receiver, text: &[u8]) -> Option<Number> {
+/// The number of a message's RECV, if it is new or not as is said.
+fn number_of(alloc: Global, server: &mut Receiver, text: &[u8], new: bool) -> Option<Number> {
     match server.receive(alloc, text) {
-        Ok(Received::New(number)) => Some(number),
-        _ => None,
-    }
-}
-
-/// The number of the earlier RECV of a message.
-fn earlier_number(alloc: Global, server: &mut Receiver, text: &[u8]) -> Option<Number> {
-    match server.receive(alloc, text) {
-        Ok(Received::Repeat(number)) => Some(number),
-        _ => None,
+        Ok(received) => {
+            let number = received.number();
+            if received.is_new() == new {
+                Some(number)
+            } else {
+                None
+            }
+        }
+        Err(_) => None,
     }
 }
 
@@ -48,19 +47,19 @@ fn a_message_is_received_once(rt: HostRuntime) -> Result<(), Fail> {
     let first = sent(rt.alloc(), &mut client, 1, 7)?;
     let second = sent(rt.alloc(), &mut client, 1, 7)?;
     assert_eq!(rt;
-        new_number(rt.alloc(), &mut server, &first),
+        number_of(rt.alloc(), &mut server, &first, true),
         Some(Number::new(1))
     );
     assert_eq!(rt;
-        earlier_number(rt.alloc(), &mut server, &first),
+        number_of(rt.alloc(), &mut server, &first, false),
         Some(Number::new(1))
     );
     assert_eq!(rt;
-        new_number(rt.alloc(), &mut server, &second),
+        number_of(rt.alloc(), &mut server, &second, true),
         Some(Number::new(2))
     );
     assert_eq!(rt;
-        earlier_number(rt.alloc(), &mut server, &first),
+        number_of(rt.alloc(), &mut server, &first, false),
         Some(Number::new(1))
     );
     assert_eq!(rt; server.sender().log().entries().len(), 2);
@@ -101,11 +100,11 @@ fn two_messages_of_one_number_are_two(rt: HostRuntime) -> Result<(), Fail> {
     let first = sent(rt.alloc(), &mut client, 1, 7)?;
     let other = sent(rt.alloc(), &mut other_client, 1, 8)?;
     assert_eq!(rt;
-        new_number(rt.alloc(), &mut server, &first),
+        number_of(rt.alloc(), &mut server, &first, true),
         Some(Number::new(1))
     );
     assert_eq!(rt;
-        new_number(rt.alloc(), &mut server, &other),
+        number_of(rt.alloc(), &mut server, &other, true),
         Some(Number::new(2))
     );
     Ok(())
