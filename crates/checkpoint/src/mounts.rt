@@ -8,7 +8,7 @@ ghost use Rattle.mount_types.specs.declared.limits.TheConstants.{MNTNAMLEN};
 ghost use Rattle.mount_types.specs.Mounts.{max_mounts, root_of};
 ghost use Rattle.state_spec.specs.StateItems.{mount_item};
 
-use mount::MountTable;
+use state_parts::MountTable;
 use std::alloc::AllocError;
 use xdr::Writer;
 

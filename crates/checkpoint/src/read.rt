@@ -14,9 +14,8 @@ ghost use Rattle.machines.specs.Stages.{stage_in};
 ghost use Rattle.checkpoint.specs.PartWorlds.{IsServed, stage_given, world_given};
 ghost use Rattle.checkpoint.specs.declared.read.StateError.TheVariants.{Garbage, NoMemory, NotAState};
 
-use machines::{MessageBody, Stage, State};
+use machines::{MessageBody, Service, Stage, State};
 use nfs_items::Time;
-use service::Service;
 use state_parts::{
     MachinePart, PartsError, StagePart, StatePart, WorldPart, mounts_of, read_parts,
 };

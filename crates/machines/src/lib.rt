@@ -10,5 +10,6 @@ mod steps;
 
 pub use body::{MAX_BODY, MessageBody};
 pub use machine::Machine;
+pub use service::Service;
 pub use stage::Stage;
 pub use state::State;

@@ -7,6 +7,7 @@ mod read;
 mod whole;
 mod world;
 
+pub use mount::MountTable;
 pub use mounted::mounts_of;
 pub use parts::{MachinePart, MountPart, StagePart, StatePart, WorldPart};
 pub use whole::{PartsError, read_parts};

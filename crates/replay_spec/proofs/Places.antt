@@ -1,0 +1,28 @@
+-- Entries in two parts, and the pairs of places.
+-- Serves: places_are_joined.
+use Rattle.std.proofs.Common.{◌≡◌, ℕ, ◌+◌, List, [], ◌∷◌, ◌++◌, map, length, refl, ap, ◌∙◌, arith}
+use Rattle.log_entries.specs.declared.entry.Entry.{Entry}
+use Rattle.log_entries.specs.Chain.{hash_after, link_of, last_hash, links_from, pairs}
+use Rattle.replay_spec.specs.Placed.{place, placed}
+use Rattle.replay_spec.specs.Laws.{pair_at}
+
+-- the places of entries in two parts
+pub places_joined : (first : ℕ) (before : List ℕ) (es fs : List Entry)
+    → placed first before (es ++ fs)
+    ≡ placed first before es ++ placed (first + length es) (last_hash before (links_from first es)) fs
+places_joined first before [] fs =
+    let same : first ≡ first + 0 = omega arith in ap (λ n. placed n before fs) same
+places_joined first before (e ∷ es) fs =
+    let same : (first + 1) + length es ≡ first + length (e ∷ es) = omega arith in
+    let after = hash_after before (link_of first e) in
+    let end = last_hash before (links_from first (e ∷ es)) in
+    ap (λ ps. place first before e ∷ ps)
+    (places_joined (first + 1) after es fs ∙ ap (λ n. placed (first + 1) after es ++ placed n end fs) same)
+
+-- the pairs of places, behind the first
+pub places_paired : (number : ℕ) (before : List ℕ) (es : List Entry)
+    → pairs number before (links_from (number + 1) es)
+    ≡ (number, before) ∷ map pair_at (placed (number + 1) before es)
+places_paired number before [] = refl
+places_paired number before (e ∷ es) =
+    ap (λ ps. (number, before) ∷ ps) (places_paired (number + 1) (hash_after before (link_of (number + 1) e)) es)

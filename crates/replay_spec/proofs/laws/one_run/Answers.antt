@@ -1,0 +1,5 @@
+use Rattle.replay_spec.proofs.Runs as runs
+use Rattle.replay_spec.proofs.laws.one_run.Goals as goal
+
+pub returns : goal.returns
+returns c = runs.one_run

@@ -1,0 +1,9 @@
+pub mod Signing
+pub mod Shown
+pub mod Placed
+pub mod Steps
+pub mod Stepping
+pub mod Replay
+pub mod Opening
+pub mod HonestLogs
+pub mod Laws

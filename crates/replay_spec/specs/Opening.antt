@@ -1,0 +1,15 @@
+-- The states that members begin with.
+use Rattle.std.specs.Prelude.{ℕ}
+use Rattle.authenticator.specs.declared.member.Kind.{Kind}
+use Rattle.authenticator.specs.declared.member.Kind.TheVariants as kinds
+use Rattle.authenticator.specs.declared.member.Member.{Member}
+use Rattle.machines.specs.State.{State, opening_server, opening_client}
+
+-- by what the node does
+abbrev pub opening_by : Kind → ℕ → State
+opening_by kinds.Server node = opening_server node
+opening_by kinds.Client node = opening_client node
+
+-- the state that a member of a roster begins with
+abbrev pub opening_of : Member → State
+opening_of m = opening_by m.kind m.node
