@@ -5,6 +5,7 @@ ghost use Rattle.xdr.specs.Item.{Fits, spelling, number_spelling};
 ghost use Rattle.xdr.specs.Reading.{GivesUnless};
 ghost use Rattle.xdr.specs.ReadError.{xdr_fault};
 ghost use Rattle.xdr.specs.Writing.{Writes, Adds};
+ghost use Rattle.merkle_keys.specs.Signing.{Signed};
 ghost use Rattle.authenticator.specs.Signed.{IsSignedBy, signed_digest, authenticator_item, authenticator_value, authenticator_text};
 
 use crate::member::Member;
@@ -61,17 +62,29 @@ fn hyper_text(hyper: u64) -> [u8; 8]
 pub fn is_signed_by(member: &Member, authenticator: &Authenticator) -> bool
     ensures { IsTrue result ↔ IsSignedBy member.now authenticator.now }
 {
-    let digest = signed_digest(
+    is_signed(
+        member,
         authenticator.node,
         authenticator.number,
         &authenticator.hash,
-    );
-    verify(
-        &member.root,
-        member.height,
-        &digest,
         &authenticator.signature,
     )
+}
+
+/// Whether a member signed that the log of this node has this hash at this number, as `is_signed_by` of an
+/// authenticator of these. Takes no memory.
+pub fn is_signed(
+    member: &Member,
+    node: u32,
+    number: Number,
+    hash: &[u8; 32],
+    signature: &Signature,
+) -> bool
+    ensures { IsTrue result ↔
+        Signed member.now.root member.now.height (signed_digest node number hash.now) signature.now }
+{
+    let digest = signed_digest(node, number, hash);
+    verify(&member.root, member.height, &digest, signature)
 }
 
 impl<'a> FromXdr<'a> for Authenticator {

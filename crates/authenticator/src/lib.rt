@@ -8,7 +8,7 @@ mod number;
 mod refusal;
 mod roster;
 
-pub use authenticator::{Authenticator, is_signed_by, signed_digest};
+pub use authenticator::{Authenticator, is_signed, is_signed_by, signed_digest};
 pub use checked::{Checked, Signs, check};
 pub use member::{Kind, MAX_NODE, Member};
 pub use number::Number;

@@ -1,10 +1,11 @@
 //! Signatures, and who made them.
 
-ghost use Rattle.std.specs.Prelude.{◌≡◌, ◌↔◌, IsTrue, length};
+ghost use Rattle.std.specs.Prelude.{◌≡◌, ◌↔◌, IfOk, IsTrue, length};
 ghost use Rattle.merkle_keys.specs.Signing.{Signed};
 
 use crate::tree::{leaf_count, path_end};
 use lamport::shown_key;
+use std::alloc::{AllocError, Global};
 use std::marker::Model;
 
 /// A signature of a digest: for each of the digest's bits a secret of a leaf, for each other bit value its
@@ -45,6 +46,21 @@ impl Signature {
         ensures { result ≡ self.now.leaf }
     {
         self.leaf
+    }
+
+    /// A copy. Takes memory three times, as `Signer::sign`.
+    pub fn try_clone(&self, alloc: Global) -> Result<Signature, AllocError>
+        ensures { IfOk result (λ s. s ≡ self.now) }
+    {
+        let shown = Vec::from_slice(alloc, &self.shown)?;
+        let other = Vec::from_slice(alloc, &self.other)?;
+        let path = Vec::from_slice(alloc, &self.path)?;
+        Ok(Signature {
+            leaf: self.leaf,
+            shown,
+            other,
+            path,
+        })
     }
 }
 

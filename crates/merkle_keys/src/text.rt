@@ -1,7 +1,9 @@
 //! Signatures as texts (RFC 4506).
 
-ghost use Rattle.std.specs.Prelude.{◌≡◌, ◌≤◌, length, IfOk};
+ghost use Rattle.std.specs.Prelude.{◌≡◌, ◌≤◌, ◌++◌, ℕ, List, length, IfOk};
 ghost use Rattle.std.specs.List.{flat_map};
+ghost use Rattle.sha2.specs.Sha256.{sha256};
+ghost use Rattle.sha2.specs.Hashers.{Holds256};
 ghost use Rattle.xdr.specs.Item.{Fits, Value, fixed, array, spelling};
 ghost use Rattle.xdr.specs.Reading.{GivesUnless, ReadsUnless};
 ghost use Rattle.xdr.specs.ReadError.{xdr_fault};
@@ -10,6 +12,7 @@ ghost use Rattle.merkle_keys.specs.Signing.{signature_item, signature_value};
 
 use crate::signature::{MAX_HEIGHT, Signature};
 use lamport::TEXT_SIZE;
+use sha2::{Digest, Sha256};
 use std::alloc::{AllocError, Global};
 use xdr::{FromXdr, ReadError, Reader, Writer, XdrFault, all_or_nothing, put_back_on_err};
 
@@ -71,6 +74,39 @@ impl Signature {
         let start = out.len();
         let written = add_fields(self.leaf, &self.shown, &self.other, &self.path, out);
         all_or_nothing(out, start, written)
+    }
+
+    /// The digest of the text, which isn't written for that. Takes no memory.
+    #[tactic(auto, unfolding(xdr::specs::Item::number_spelling))]
+    pub fn text_digest(&self) -> [u8; 32]
+        ensures { result ≡ sha256 (spelling signature_item (signature_value self.now)) }
+    {
+        let mut text = Sha256::new_with_prefix(self.leaf.to_be_bytes());
+        text.update(&self.shown);
+        text.update(&self.other);
+        hash_path(&self.path, &mut text);
+        text.finalize()
+    }
+}
+
+/// Adds the text of a path to what is hashed.
+#[tactic(auto, unfolding(xdr::specs::Item::number_spelling))]
+fn hash_path(path: &[[u8; 32]], text: &mut Sha256)
+    requires { length path.now ≤ MAX_HEIGHT }
+    ensures { (front : List ℕ) → Holds256 text.old front →
+        Holds256 text.new (front ++ spelling (array MAX_HEIGHT (fixed 32)) path.now) }
+{
+    text.update((path.len() as u32).to_be_bytes());
+    hash_each(path, text);
+}
+
+/// Adds hashes to what is hashed.
+fn hash_each(path: &[[u8; 32]], text: &mut Sha256)
+    ensures { (front : List ℕ) → Holds256 text.old front →
+        Holds256 text.new (front ++ flat_map (spelling (fixed 32)) path.now) }
+{
+    for hash in path {
+        text.update(hash);
     }
 }
 

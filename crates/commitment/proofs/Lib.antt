@@ -1,0 +1,4 @@
+pub mod Searches
+pub mod Signed
+pub mod Meanings
+pub mod Messages

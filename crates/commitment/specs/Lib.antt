@@ -1,0 +1,12 @@
+pub use Rattle.secure_log.specs.Log
+pub use Rattle.envelopes.specs.Envelope
+pub use Rattle.envelopes.specs.Acknowledgement
+pub use Rattle.envelopes.specs.Checking
+pub mod Signings
+pub mod Sender
+pub mod LookUps
+pub mod Received
+pub mod Receiver
+pub mod Kept
+pub mod RefusalNumbers
+pub mod Places

@@ -1,0 +1,12 @@
+-- The numbers of the refusals of messages.
+use Rattle.std.specs.Prelude.{ℕ, Option, Some, None}
+use Rattle.commitment.specs.declared.refusal.Refusal.{Refusal}
+use Rattle.commitment.specs.declared.refusal.Refusal.TheVariants.{Garbage, NotForMe, BadSignature, KeysUsedUp, NoMemory}
+
+-- the number of a refusal; want of memory has none
+abbrev pub refusal_number : Refusal → Option ℕ
+refusal_number Garbage = Some 1
+refusal_number NotForMe = Some 2
+refusal_number BadSignature = Some 3
+refusal_number KeysUsedUp = Some 4
+refusal_number NoMemory = None

@@ -1,0 +1,78 @@
+//! Envelopes.
+
+ghost use Rattle.std.specs.Prelude.{◌≡◌};
+ghost use Rattle.envelopes.specs.Envelope.{envelope_in, envelope_message, envelope_shows};
+
+use crate::message::Message;
+use authenticator::{Number, Signs};
+use log_entries::{Body, SignatureText, message_hash};
+
+/// A message from one node to another, with its sender's signature of the SEND that it logged for it. Nothing
+/// is checked of it: `check_envelope` makes a `Checked` value of one that a member signed.
+#[derive(Drop)]
+pub struct Envelope {
+    /// The sender.
+    pub from: u32,
+    /// The receiver.
+    pub to: u32,
+    /// The message's number in the sender's log.
+    pub seq: Number,
+    /// The hash before it there.
+    pub prev: [u8; 32],
+    /// The message.
+    pub body: Body,
+    /// The sender's signature of its log's hash at this number.
+    pub signature: SignatureText,
+}
+
+/// A view of an envelope, whose body and signature stand elsewhere, as in its sender's log.
+#[derive(Clone, Copy)]
+pub struct EnvelopeRef<'a> {
+    /// The sender.
+    pub from: u32,
+    /// The receiver.
+    pub to: u32,
+    /// The message's number in the sender's log.
+    pub seq: Number,
+    /// The hash before it there.
+    pub prev: [u8; 32],
+    /// The message.
+    pub body: &'a Body,
+    /// The sender's signature of its log's hash at this number.
+    pub signature: &'a SignatureText,
+}
+
+impl Envelope {
+    /// A view of it.
+    pub fn view(&self) -> EnvelopeRef<'_>
+        ensures { envelope_in result ≡ self.now }
+    {
+        EnvelopeRef {
+            from: self.from,
+            to: self.to,
+            seq: self.seq,
+            prev: self.prev,
+            body: &self.body,
+            signature: &self.signature,
+        }
+    }
+
+    /// The message in it. Takes no memory.
+    pub fn message(&self) -> Message
+        ensures { result ≡ envelope_message self.now }
+    {
+        Message {
+            from: self.from,
+            seq: self.seq.get(),
+            hash: message_hash(self.to, self.seq, &self.prev, &self.body.digest()),
+        }
+    }
+}
+
+impl Signs for Envelope {
+    ghost shows = { envelope_shows };
+
+    fn signer(&self) -> u32 {
+        self.from
+    }
+}
