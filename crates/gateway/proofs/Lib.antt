@@ -1,0 +1,2 @@
+mod StreamProgress
+mod GatewayTurns

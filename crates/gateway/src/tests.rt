@@ -1,0 +1,225 @@
+//! Three calls over a server as the link, by readers and writers that give and take a byte a call, and what is
+//! left after a fault.
+
+use crate::{
+    Clock, FixedClock, Gateway, Link, LinkFault, ScriptedClock, Served, Service, StreamFault, Time,
+};
+use records::{Counting, RecordReader};
+use std::alloc::{AllocError, Global};
+use std::collections::VecDeque;
+use std::io;
+use std::io::{ErrorKind, Read, Write};
+use std::test::Fail;
+
+/// NULL, GETATTR of the root and LOOKUP of `hello` in it, each as a record.
+const CALLS: [u32; 52] = [
+    0x80000028, 1, 0, 2, 100003, 2, 0, 0, 0, 0, 0, // NULL
+    0x80000048, 2, 0, 2, 100003, 2, 1, 0, 0, 0, 0, 1, 1, 0, 0, 0, 0, 0, 0, // GETATTR
+    0x80000054, 3, 0, 2, 100003, 2, 4, 0, 0, 0, 0, 1, 1, 0, 0, 0, 0, 0, 0, 5, 0x68656c6c,
+    0x6f000000, // LOOKUP
+];
+
+/// The replies to them.
+const REPLIES: [u32; 65] = [
+    0x80000018, 1, 1, 0, 0, 0, 0, // NULL
+    0x80000060, 2, 1, 0, 0, 0, 0, 0, 2, 0o40777, 2, 0, 0, 512, 512, 0, 1, 1, 1, 0, 0, 0, 0, 0, 0,
+    0x80000080, 3, 1, 0, 0, 0, 0, 0, 1, 2, 0, 0, 0, 0, 0, 0, 1, 0o100644, 1, 0, 0, 6, 512, 0, 1, 1,
+    2, 0, 0, 0, 0, 0, 0,
+];
+
+/// The bytes of words of four bytes each, the highest first.
+fn bytes(alloc: Global, words: &[u32]) -> Result<Vec<u8>, AllocError> {
+    let mut out = Vec::new(alloc);
+    for word in words {
+        out.extend_from_slice(&word.to_be_bytes())?;
+    }
+    Ok(out)
+}
+
+/// Gives one byte a call.
+#[derive(Drop)]
+struct SlowReader<'a> {
+    bytes: &'a [u8],
+    calls: u64,
+}
+
+impl Read for SlowReader<'_> {
+    fn read(&mut self, buf: &mut [u8]) -> io::Result<usize> {
+        self.calls = self.calls.saturating_add(1);
+        let Some((byte, rest)) = self.bytes.split_first() else {
+            return Ok(0);
+        };
+        let Some(first) = buf.first_mut() else {
+            return Ok(0);
+        };
+        *first = *byte;
+        self.bytes = rest;
+        Ok(1)
+    }
+}
+
+/// Takes one byte a call, and fails at one call.
+#[derive(Drop)]
+struct SlowWriter {
+    taken: Vec<u8>,
+    calls: usize,
+    fails_at: usize,
+}
+
+impl Write for SlowWriter {
+    fn write(&mut self, buf: &[u8]) -> io::Result<usize> {
+        self.calls = self.calls.saturating_add(1);
+        if self.calls == self.fails_at {
+            return Err(io::Error::from(ErrorKind::Other));
+        }
+        let piece = &buf[..buf.len().min(1)];
+        self.taken.extend_from_slice(piece)?;
+        Ok(piece.len())
+    }
+
+    fn flush(&mut self) -> io::Result<()> {
+        Err(io::Error::from(ErrorKind::Other))
+    }
+}
+
+/// A server that answers so many records, and then a fault.
+#[derive(Drop)]
+struct ShortLink {
+    service: Service,
+    left: u32,
+    fault: LinkFault,
+}
+
+impl Link for ShortLink {
+    fn exchange(
+        &mut self,
+        alloc: Global,
+        time: Time,
+        bytes: &[u8],
+    ) -> Result<Option<Vec<u8>>, LinkFault> {
+        if self.left == 0 {
+            return Err(self.fault);
+        }
+        self.left -= 1;
+        self.service.exchange(alloc, time, bytes)
+    }
+}
+
+/// A clock that reads seconds 1, 2, 3 and 4.
+fn seconds(alloc: Global) -> Result<ScriptedClock, Fail> {
+    let mut later = VecDeque::new(alloc);
+    for second in 2..5 {
+        later.push_back(Time::new(second, 0).ok_or("no time")?)?;
+    }
+    let next = Time::new(1, 0).ok_or("no time")?;
+    Ok(ScriptedClock { next, later })
+}
+
+#[test]
+fn calls_are_answered_by_the_byte(rt: HostRuntime) -> Result<(), Fail> {
+    let input = bytes(rt.alloc(), &CALLS)?;
+    let owed = bytes(rt.alloc(), &REPLIES)?;
+    let mut link = Service::opening(rt.alloc(), 1)?;
+    let mut clock = seconds(rt.alloc())?;
+    let slow = SlowReader {
+        bytes: &input,
+        calls: 0,
+    };
+    let mut reader = RecordReader::new(Counting::new(slow));
+    let mut writer = Counting::new(Vec::new(rt.alloc()));
+    let mut gateway = Gateway::new();
+    let done = gateway.serve_stream(rt.alloc(), &mut link, &mut clock, &mut reader, &mut writer);
+    assert!(rt; done == Ok(Served { records: 3 }));
+    assert!(rt; writer.get_ref().as_slice() == owed.as_slice());
+    assert!(rt; clock.now().seconds() == 4 && link.clock().seconds() == 3);
+    Ok(())
+}
+
+#[test]
+fn a_failed_write_ends_all(rt: HostRuntime) -> Result<(), Fail> {
+    let input = bytes(rt.alloc(), &CALLS)?;
+    let owed = bytes(rt.alloc(), &REPLIES)?;
+    for written in 0..owed.len() {
+        let mut link = Service::opening(rt.alloc(), 1)?;
+        let mut clock = FixedClock {
+            time: Time::epoch(),
+        };
+        let mut reader = RecordReader::new(Counting::new(input.as_slice()));
+        let slow = SlowWriter {
+            taken: Vec::new(rt.alloc()),
+            calls: 0,
+            fails_at: written + 1,
+        };
+        let mut writer = Counting::new(slow);
+        let mut gateway = Gateway::new();
+        let done = gateway.serve_stream(
+            rt.alloc(),
+            &mut link,
+            &mut clock,
+            &mut reader,
+            &mut writer,
+        );
+        assert!(rt;
+            done == Err(StreamFault::Device) && writer.count() == 1,
+            "{written}"
+        );
+        assert!(rt;
+            writer.get_ref().taken.as_slice() == &owed[..written],
+            "{written}"
+        );
+
+        let left = reader.get_ref().get_ref().len();
+        let again = gateway.serve_stream(
+            rt.alloc(),
+            &mut link,
+            &mut clock,
+            &mut reader,
+            &mut writer,
+        );
+        assert!(rt; again == Err(StreamFault::Failed) && writer.get_ref().calls == written + 1);
+        assert!(rt; reader.get_ref().get_ref().len() == left, "{written}");
+    }
+    Ok(())
+}
+
+#[test]
+fn a_fault_of_the_link_ends_all(rt: HostRuntime) -> Result<(), Fail> {
+    let input = bytes(rt.alloc(), &CALLS)?;
+    let owed = bytes(rt.alloc(), &REPLIES)?;
+    let faults = [
+        (LinkFault::KeysUsedUp, StreamFault::KeysUsedUp),
+        (LinkFault::NoMemory, StreamFault::NoMemory),
+        (LinkFault::Failed, StreamFault::Failed),
+    ];
+    for (fault, answer) in faults {
+        let mut link = ShortLink {
+            service: Service::opening(rt.alloc(), 1)?,
+            left: 1,
+            fault,
+        };
+        let mut clock = seconds(rt.alloc())?;
+        let mut reader = RecordReader::new(Counting::new(input.as_slice()));
+        let mut writer = Counting::new(Vec::new(rt.alloc()));
+        let mut gateway = Gateway::new();
+        let done = gateway.serve_stream(
+            rt.alloc(),
+            &mut link,
+            &mut clock,
+            &mut reader,
+            &mut writer,
+        );
+        assert!(rt; done == Err(answer) && fault.number() == answer.number());
+        assert!(rt;
+            writer.get_ref().as_slice() == &owed[..28] && reader.get_ref().get_ref().len() == 88
+        );
+        let again = gateway.serve_stream(
+            rt.alloc(),
+            &mut link,
+            &mut clock,
+            &mut reader,
+            &mut writer,
+        );
+        assert!(rt; again == Err(StreamFault::Failed) && clock.now().seconds() == 3);
+    }
+    Ok(())
+}
