@@ -2,9 +2,4 @@ pub mod Signed
 pub mod Stepping
 pub mod Runs
 pub mod Places
-pub mod Serving
-pub mod Orders
 pub mod Logs
-pub mod Received
-pub mod Sends
-pub mod Counts

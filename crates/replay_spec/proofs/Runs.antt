@@ -1,6 +1,6 @@
 -- Runs of the machine: they are one at most, sound ones are honest, and a fault is the first.
 -- Serves: one_run, sound_exactly_if, fault_exactly_if, parts_are_honest.
-use Rattle.std.proofs.Common.{◌≡◌, ℕ, List, [], ◌∷◌, ◌++◌, Option, Some, None, Result, Ok, Err}
+use Rattle.std.proofs.Common.{◌≡◌, ℕ, List, [], ◌∷◌, ◌++◌, Option, Result, Ok, Err}
 use Rattle.std.proofs.Common.{refl, sym, ap, ap₂, subst, ◌∙◌}
 use Rattle.authenticator.specs.declared.member.Member.{Member}
 use Rattle.authenticator.specs.declared.authenticator.Authenticator.{Authenticator}

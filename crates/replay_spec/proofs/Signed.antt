@@ -1,7 +1,7 @@
 -- The tests on signatures are what it means that something is signed.
 -- Serves: tests_as_it_is_signed, steps_as_it_takes.
-use Rattle.std.proofs.Common.{◌≡◌, ℕ, Bool, true, false, ◌==◌, nat_le, nat_lt, nat_eq, List, length}
-use Rattle.std.proofs.Common.{Option, Some, None, IsSomeAnd, IsTrue, sym, ap, ◌∙◌}
+use Rattle.std.proofs.Common.{◌≡◌, ℕ, Bool, true, ◌==◌, nat_le, nat_lt, nat_eq, List, length}
+use Rattle.std.proofs.Common.{Option, Some, None, IsSomeAnd, sym, ap, ◌∙◌}
 use Rattle.std.proofs.Common.{eqb-true, eq-eqb, ltb-true, lt-ltb, leb-true, le-leb}
 use Rattle.std.specs.Prelude.{◌&&◌, ◌^◌}
 use Rattle.std.specs.Cmp.Lexicographic.{pointwise, same_text, nat_list_eq_equiv}

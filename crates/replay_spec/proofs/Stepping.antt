@@ -1,7 +1,7 @@
 -- An entry has no fault exactly where it may stand, so the function of a step is its relation.
 -- Serves: steps_as_it_takes.
-use Rattle.std.proofs.Common.{◌≡◌, ◌≢◌, ℕ, ◌<◌, Bool, true, false, cond, not, ◌&&◌, ◌||◌, ◌==◌, nat_lt, List}
-use Rattle.std.proofs.Common.{Option, Some, None, Ok, Err, Result, refl, sym, ap, ◌∙◌, arith}
+use Rattle.std.proofs.Common.{◌≡◌, ◌≢◌, ℕ, Bool, true, false, cond, not, ◌&&◌, ◌||◌, ◌==◌, nat_lt, List}
+use Rattle.std.proofs.Common.{Option, Some, None, Ok, refl, sym, ap, ◌∙◌, arith}
 use Rattle.std.proofs.Common.{eqb-true, eq-eqb, ne_eqb, ltb-false, le-ltb}
 use Rattle.std.proofs.lemmas.Bool.{and_parts, and_from, not-false, both_ways}
 use Rattle.std.specs.FinMap as finite
@@ -9,15 +9,13 @@ use Rattle.merkle_keys.specs.Signing.{SignatureParts}
 use Rattle.authenticator.specs.declared.member.Member.{Member}
 use Rattle.log_entries.specs.declared.entry.Entry.{Entry}
 use Rattle.log_entries.specs.declared.entry.Entry.TheVariants.{Send, Recv, Ack, Clock, Check}
-use Rattle.machines.specs.Timeval.{Timeval, is_before}
-use Rattle.machines.specs.State.{is_received, SentMessage, Idle, Heard, Owes, Machine, Server, Client, State}
-use Rattle.machines.specs.State.{clock_in}
+use Rattle.machines.specs.State.{SentMessage, Idle, Heard, Owes, Machine, Server, Client, State}
 use Rattle.machines.specs.StateText.{state_digest}
 use Rattle.replay_spec.specs.Signing.{is_same, is_signed_in}
 use Rattle.replay_spec.specs.Shown.{sender_shown, receiver_shown}
 use Rattle.replay_spec.specs.Placed.{Placed}
-use Rattle.replay_spec.specs.Steps.{received_message, time_of, OwesNothing, MaySend, MayReadClock, MayReceive}
-use Rattle.replay_spec.specs.Steps.{MayAcknowledge, MayShowTime, MayCheck, MayStand, after_entry, Takes}
+use Rattle.replay_spec.specs.Steps.{OwesNothing, MaySend, MayReadClock}
+use Rattle.replay_spec.specs.Steps.{MayStand, after_entry, Takes}
 use Rattle.replay_spec.specs.Stepping.{ReplayFault, BadForm, WrongReply, BadReceive, Repeated, ClockBack}
 use Rattle.replay_spec.specs.Stepping.{BadAck, WrongCheckpoint, is_clock, is_send, is_out_of_turn}
 use Rattle.replay_spec.specs.Stepping.{shows_no_time, is_bad_form, is_send_of, is_wrong_reply, fits_message}
@@ -149,7 +147,7 @@ module _ (ms : List Member) (node to seq : ℕ) (mine : List ℕ) (number : ℕ)
   fits_of None h = absurd (cc)
   fits_of (Some m) h =
       let both = and_parts (m.to == to)
-          (is_signed_in ms (receiver_shown node seq m mine number prev signature)) h in
+      (is_signed_in ms (receiver_shown node seq m mine number prev signature)) h in
       record { message = m; sent = refl; receiver = eqb-true m.to to both.0; signed = both.1 }
 
   of_fits : (o : Option SentMessage) → Fits ms node to seq mine number prev signature o
@@ -245,7 +243,7 @@ stands_of ms s (Ack to seq mine number prev signature) h =
     }
 stands_of ms s (Clock seconds microseconds) h =
     let both = neither (is_out_of_turn s.machine (Clock seconds microseconds)) (nat_lt 999_999 microseconds)
-        h.form in
+    h.form in
     record {
       turn = turn_of s.machine seconds microseconds both.0;
       valid = omega (arith, ltb-false 999_999 microseconds both.1);
@@ -288,12 +286,12 @@ none_where ms s (Ack to seq mine number prev signature) h =
     let o = finite.get s.sends seq in
     let a = receiver_shown s.node seq h.message mine number prev signature in
     let fits = of_fits ms s.node to seq mine number prev signature o
-        (record {
-          message = h.message;
-          sent = h.sent;
-          receiver = h.receiver;
-          signed = of_signed_in ms a h.signed;
-        }) in
+    (record {
+      message = h.message;
+      sent = h.sent;
+      receiver = h.receiver;
+      signed = of_signed_in ms a h.signed;
+    }) in
     record {
       form = good_form e s.machine other h.free;
       reply = no_reply e s.machine other h.free;

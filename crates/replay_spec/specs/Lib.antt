@@ -1,3 +1,9 @@
+pub use Rattle.machines.specs.Timeval
+pub use Rattle.machines.specs.World
+pub use Rattle.machines.specs.Replies
+pub use Rattle.machines.specs.State
+pub use Rattle.machines.specs.StateText
+pub mod StateSteps
 pub mod Signing
 pub mod Shown
 pub mod Placed
@@ -7,3 +13,4 @@ pub mod Replay
 pub mod Opening
 pub mod HonestLogs
 pub mod Laws
+pub mod Examples

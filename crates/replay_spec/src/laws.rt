@@ -1,12 +1,17 @@
-//! What holds of replays and of honest logs.
+//! What holds of replays, and of how honest logs grow.
 
+ghost use Rattle.std.specs.Prelude.{◌≡◌, ◌≢◌, ℕ, List, [], ◌∷◌};
+ghost use Rattle.merkle_keys.specs.Signing.{SignatureParts};
+ghost use Rattle.log_entries.specs.declared.entry.Entry.TheVariants.{Send, Recv, Ack, Clock, Check};
+ghost use Rattle.machines.specs.State.{Heard, Owes, opening_client};
+ghost use Rattle.machines.specs.StateText.{state_digest};
+ghost use Rattle.replay_spec.specs.Stepping.{BadForm, BadReceive, WrongReply, ClockBack, BadAck, WrongCheckpoint};
+ghost use Rattle.replay_spec.specs.Replay.{Sound, Fault};
+ghost use Rattle.replay_spec.specs.Examples.{server_verdict, client_verdict, verdict_at};
 ghost use Rattle.replay_spec.specs.Laws.{StepsAsItTakes, OneRun, SoundExactlyIf, FaultExactlyIf};
-ghost use Rattle.replay_spec.specs.Laws.{PartsAreHonest, PlacesAreJoined, PlacesHavePairs, HonestServersReplay};
+ghost use Rattle.replay_spec.specs.Laws.{PartsAreHonest, PlacesAreJoined, PlacesHavePairs};
 ghost use Rattle.replay_spec.specs.Laws.{OpeningsHaveNoMessages, NoEntries, OneEntryMore, EntriesMore};
-ghost use Rattle.replay_spec.specs.Laws.{OneLastState, NodeStays, NoMessageTwice, NoneOfBefore};
-ghost use Rattle.replay_spec.specs.Laws.{ReceivedAreLogged, SendsAreLogged, MessagesAreCounted};
-ghost use Rattle.replay_spec.specs.Laws.{MessagesAreCountedOn, NumbersLieBelow, TestsAsItIsSigned};
-ghost use Rattle.replay_spec.specs.Laws.{TestsAsItIsSignedIn};
+ghost use Rattle.replay_spec.specs.Laws.{OneLastState, NodeStays, TestsAsItIsSigned, TestsAsItIsSignedIn};
 
 /// The tests on signatures, which compute, are what it means that something is signed.
 pub fn tests_as_it_is_signed()
@@ -45,11 +50,6 @@ pub fn places_are_joined()
     ensures pairs { PlacesHavePairs }
 {}
 
-/// A server that logs what it may hear, the time, and the reply that is owed, is honest; with the state after.
-pub fn honest_servers_replay()
-    ensures { HonestServersReplay }
-{}
-
 /// A member of a roster begins without messages.
 pub fn openings_have_no_messages()
     ensures { OpeningsHaveNoMessages }
@@ -68,24 +68,30 @@ pub fn one_last_state()
     ensures node { NodeStays }
 {}
 
-/// No message is received at two places of an honest log, nor one that was received before it, by sender,
-/// number and hash.
-pub fn no_message_twice()
-    ensures places { NoMessageTwice }
-    ensures before { NoneOfBefore }
+/// A server's faults, as they are worked out: of its first entry, and of an entry where it heard a message, with
+/// number 2, or owes a reply, with number 3.
+pub fn servers_have_faults()
+    ensures send { server_verdict (Send 2 [] ∷ []) ≡ Fault WrongReply 1 }
+    ensures clock { server_verdict (Clock 1 0 ∷ []) ≡ Fault BadForm 1 }
+    ensures stranger { (seq : ℕ) (prev body : List ℕ) (signature : SignatureParts) →
+        server_verdict (Recv 2 seq prev body signature ∷ []) ≡ Fault BadReceive 1 }
+    ensures ack { (seq number : ℕ) (mine prev : List ℕ) (signature : SignatureParts) →
+        server_verdict (Ack 2 seq mine number prev signature ∷ []) ≡ Fault BadAck 1 }
+    ensures send_before_clock { verdict_at (Heard 2 []) 2 (Send 2 []) ≡ Fault BadForm 2 }
+    ensures second_clock { verdict_at (Owes 2 (7 ∷ [])) 3 (Clock 1 0) ≡ Fault BadForm 3 }
+    ensures check_before_reply { (digest : List ℕ) →
+        verdict_at (Owes 2 (7 ∷ [])) 3 (Check digest) ≡ Fault WrongReply 3 }
+    ensures other_reply { verdict_at (Owes 2 (7 ∷ [])) 3 (Send 2 (8 ∷ [])) ≡ Fault WrongReply 3 }
+    ensures other_receiver { verdict_at (Owes 2 (7 ∷ [])) 3 (Send 3 (7 ∷ [])) ≡ Fault WrongReply 3 }
 {}
 
-/// The messages received in the last state of an honest log are those of its RECVs; those sent are those of its
-/// SENDs that have no ACK. They are at most as many as its RECVs, and its SENDs.
-pub fn messages_are_logged()
-    ensures received { ReceivedAreLogged }
-    ensures sends { SendsAreLogged }
-    ensures count { MessagesAreCounted }
-{}
-
-/// Behind any state honest entries bring at most as many messages as they have RECVs, and SENDs, with numbers
-/// below that of the next entry.
-pub fn messages_are_bounded()
-    ensures count { MessagesAreCountedOn }
-    ensures numbers { NumbersLieBelow }
+/// A client's faults, as they are worked out. It may send and read its clock at any time.
+pub fn clients_have_faults()
+    ensures back { client_verdict (Clock 1 0 ∷ Clock 0 999_999 ∷ []) ≡ Fault ClockBack 2 }
+    ensures microseconds { client_verdict (Clock 0 1_000_000 ∷ []) ≡ Fault BadForm 1 }
+    ensures stranger { (seq : ℕ) (prev body : List ℕ) (signature : SignatureParts) →
+        client_verdict (Clock 0 5 ∷ Recv 1 seq prev body signature ∷ []) ≡ Fault BadReceive 2 }
+    ensures checkpoint { (digest : List ℕ) → digest ≢ state_digest (opening_client 2) →
+        client_verdict (Check digest ∷ []) ≡ Fault WrongCheckpoint 1 }
+    ensures right_checkpoint { client_verdict (Check (state_digest (opening_client 2)) ∷ []) ≡ Sound (opening_client 2) [] }
 {}

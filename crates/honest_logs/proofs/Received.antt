@@ -1,6 +1,6 @@
 -- The messages that were received in the last state of an honest log are those of its RECVs, each once.
 -- Serves: no_message_twice, messages_are_logged.
-use Rattle.std.proofs.Common.{◌≡◌, ◌⊎◌, inl, inr, ℕ, ◌+◌, ◌≤◌, Bool, true, false, cond, List, [], ◌∷◌, ◌++◌}
+use Rattle.std.proofs.Common.{◌≡◌, ◌⊎◌, inl, inr, ℕ, ◌+◌, Bool, true, false, cond, List, [], ◌∷◌, ◌++◌}
 use Rattle.std.proofs.Common.{length, Option, Some, None, is_some, refl, sym, ap, subst, ◌∙◌, arith}
 use Rattle.std.specs.FinMap as finite
 use Rattle.std.specs.FinSet.{FinSet}
@@ -12,13 +12,15 @@ use Rattle.log_entries.specs.Messages.{message_hash}
 use Rattle.log_entries.specs.declared.entry.Entry.{Entry}
 use Rattle.log_entries.specs.declared.entry.Entry.TheVariants.{Send, Recv, Ack, Clock, Check}
 use Rattle.secure_log.specs.Log.{log_hash}
-use Rattle.machines.specs.State.{ReceivedMessage, received_cmp, is_received, with_received, Machine, State}
-use Rattle.machines.specs.State.{opened_with}
+use Rattle.replay_spec.specs.State.{ReceivedMessage, received_cmp, is_received, with_received, Machine, State}
+use Rattle.replay_spec.specs.State.{opened_with}
 use Rattle.replay_spec.specs.Placed.{place}
 use Rattle.replay_spec.specs.Steps.{received_message, after_entry, Takes, MayStand}
-use Rattle.replay_spec.specs.HonestLogs.{IsHonestLog, entry_at, IsReceivedAt}
-use Rattle.replay_spec.proofs.Orders.{received_total, ties_equal, equal_ties}
-use Rattle.replay_spec.proofs.Logs.{carried, node_step, entry_more, entry_last, entry_less, entry_within}
+use Rattle.replay_spec.specs.HonestLogs.{IsHonestLog}
+use Rattle.honest_logs.specs.LoggedMessages.{entry_at, IsReceivedAt}
+use Rattle.honest_logs.proofs.Orders.{received_total, ties_equal, equal_ties}
+use Rattle.replay_spec.proofs.Logs.{carried, node_step}
+use Rattle.honest_logs.proofs.Entries.{entry_more, entry_last, entry_less, entry_within}
 
 -- ---- one entry
 

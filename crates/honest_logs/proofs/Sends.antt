@@ -1,7 +1,7 @@
 -- The messages that were sent in the last state of an honest log are those of its SENDs that have no ACK.
 -- Serves: messages_are_logged.
-use Rattle.std.proofs.Common.{◌≡◌, ◌≢◌, ◌⊎◌, inl, inr, ℕ, suc, ◌+◌, ◌-◌, ◌≤◌, Bool, true, false, cond, List, []}
-use Rattle.std.proofs.Common.{◌∷◌, ◌++◌, length, take, Option, Some, None, nat_cmp, eqb-true, eq-eqb, ne_eqb}
+use Rattle.std.proofs.Common.{◌≡◌, ◌≢◌, ◌⊎◌, inl, inr, ℕ, ◌+◌, ◌-◌, ◌≤◌, true, false, cond, List, []}
+use Rattle.std.proofs.Common.{◌∷◌, ◌++◌, length, take, Option, Some, None, nat_cmp, eq-eqb, ne_eqb}
 use Rattle.std.proofs.Common.{length-append, refl, sym, ap, subst, ◌∙◌, arith}
 use Rattle.std.specs.FinMap as finite
 use Rattle.std.specs.Ordering.{eq_by_cmp}
@@ -14,11 +14,13 @@ use Rattle.authenticator.specs.declared.member.Member.{Member}
 use Rattle.log_entries.specs.declared.entry.Entry.{Entry}
 use Rattle.log_entries.specs.declared.entry.Entry.TheVariants.{Send, Recv, Ack, Clock, Check}
 use Rattle.secure_log.specs.Log.{log_hash}
-use Rattle.machines.specs.State.{SentMessage, Machine, State, opened_with}
+use Rattle.replay_spec.specs.State.{SentMessage, Machine, State, opened_with}
 use Rattle.replay_spec.specs.Placed.{place}
-use Rattle.replay_spec.specs.Steps.{sent_message, after_entry, MayStand, Takes}
-use Rattle.replay_spec.specs.HonestLogs.{IsHonestLog, entry_at, IsSentAt, HasNoAck}
-use Rattle.replay_spec.proofs.Logs.{carried, entry_more, entry_last, entry_less, entry_within}
+use Rattle.replay_spec.specs.Steps.{sent_message, after_entry, MayStand}
+use Rattle.replay_spec.specs.HonestLogs.{IsHonestLog}
+use Rattle.honest_logs.specs.LoggedMessages.{entry_at, IsSentAt, HasNoAck}
+use Rattle.replay_spec.proofs.Logs.{carried}
+use Rattle.honest_logs.proofs.Entries.{entry_more, entry_last, entry_less, entry_within}
 
 -- ---- maps by numbers
 
@@ -217,16 +219,14 @@ module _ (es : List Entry) (to : ℕ) (body : List ℕ) (s t : State) (i : AreLo
       by : (k ≡ length es + 1) ⊎ (k ≢ length es + 1) → IsSentAt more k m × HasNoAck more k
       by (inl last) =
           let same : sent ≡ m =
-              some_same (sym (get_new s.sends (length es + 1) sent k last)
-              ∙ sym (ap (λ x. finite.get x k) after) ∙ h) in
-          (
+          some_same (sym (get_new s.sends (length es + 1) sent k last)
+          ∙ sym (ap (λ x. finite.get x k) after) ∙ h) in (
             subst (IsSentAt more k) same (sent_last es to body k last),
             no_ack_more es (Send to body) k (none_yet k last) (send_no_ack to body k),
           )
       by (inr other) =
           let old = i.from k m (sym (get_other s.sends (length es + 1) sent k other)
-              ∙ sym (ap (λ x. finite.get x k) after) ∙ h) in
-          (
+          ∙ sym (ap (λ x. finite.get x k) after) ∙ h) in (
             sent_more es (Send to body) k m old.0,
             no_ack_more es (Send to body) k old.1 (send_no_ack to body k),
           )
@@ -244,10 +244,10 @@ module _ (es : List Entry) (to : ℕ) (body : List ℕ) (s t : State) (i : AreLo
       by (inr new) =
           let e = send_same to m.to body new.body new.is in
           let same : sent ≡ m =
-              ap (λ x. record { to = x; prev = log_hash es; body_hash = sha256 body }) e.0
-              ∙ ap (λ x. record { to = m.to; prev = x; body_hash = sha256 body }) (sym new.before)
-              ∙ ap (λ x. record { to = m.to; prev = m.prev; body_hash = x })
-              (ap sha256 e.1 ∙ sym new.digest) in
+          ap (λ x. record { to = x; prev = log_hash es; body_hash = sha256 body }) e.0
+          ∙ ap (λ x. record { to = m.to; prev = x; body_hash = sha256 body }) (sym new.before)
+          ∙ ap (λ x. record { to = m.to; prev = m.prev; body_hash = x })
+          (ap sha256 e.1 ∙ sym new.digest) in
           get_new s.sends (length es + 1) sent k new.number ∙ ap (λ x. Some x) same
 
   new_logged : AreLogged more t
@@ -291,7 +291,7 @@ module _ (es : List Entry) (to seq : ℕ) (mine : List ℕ) (number : ℕ) (prev
           absurd (none_some (sym (get_removed s.sends seq k same) ∙ sym (ap (λ x. finite.get x k) after) ∙ h))
       by (inr other) =
           let old = i.from k m (sym (get_kept s.sends seq k other)
-              ∙ sym (ap (λ x. finite.get x k) after) ∙ h) in
+          ∙ sym (ap (λ x. finite.get x k) after) ∙ h) in
           (sent_more es ack k m old.0, no_ack_more es ack k old.1 (ack_of_one k other))
 
   ack_all : (k : ℕ) (m : SentMessage) → IsSentAt acks k m → HasNoAck acks k → finite.get t.sends k ≡ Some m

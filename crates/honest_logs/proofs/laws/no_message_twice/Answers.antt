@@ -1,5 +1,5 @@
-use Rattle.replay_spec.proofs.Received.{logged, at_recv}
-use Rattle.replay_spec.proofs.laws.no_message_twice.Goals as goal
+use Rattle.honest_logs.proofs.Received.{logged, at_recv}
+use Rattle.honest_logs.proofs.laws.no_message_twice.Goals as goal
 
 pub returns-clause-places : goal.returns-clause-places
 returns-clause-places c = λ ms o s es j k m h x y.

@@ -1,27 +1,27 @@
 -- How many messages honest entries bring, and their numbers.
 -- Serves: messages_are_logged, messages_are_bounded.
-use Rattle.std.proofs.Common.{◌≡◌, ◌≢◌, ◌⊎◌, inl, inr, ℕ, ◌+◌, ◌-◌, ◌<◌, ◌≤◌, Bool, true, false, cond, List, []}
-use Rattle.std.proofs.Common.{◌∷◌, length, Option, Some, None, is_some, nat_cmp, IsTrue}
+use Rattle.std.proofs.Common.{◌≡◌, ℕ, ◌+◌, ◌-◌, ◌<◌, ◌≤◌, Bool, true, false, cond, List, []}
+use Rattle.std.proofs.Common.{◌∷◌, length, Some, None, is_some, nat_cmp}
 use Rattle.std.proofs.Common.{refl, sym, ap, subst, ◌∙◌, arith}
 use Rattle.std.specs.FinMap as finite
 use Rattle.std.specs.Ordering.{eq_by_cmp}
 use Rattle.std.specs.Cmp.{nat_cmp_total, unsigned_tied}
 use Rattle.std.proofs.lemmas.List.Sums.{sum_by-cons}
-use Rattle.std.proofs.lemmas.Bool.{cases_eq}
 use Rattle.std.proofs.Common.{eqb-true}
 use Rattle.authenticator.specs.declared.member.Member.{Member}
 use Rattle.log_entries.specs.Chain.{zeros, hash_after, link_of}
 use Rattle.log_entries.specs.declared.entry.Entry.{Entry}
 use Rattle.log_entries.specs.declared.entry.Entry.TheVariants.{Send, Recv, Ack, Clock, Check}
-use Rattle.machines.specs.State.{ReceivedMessage, received_cmp, with_received, SentMessage, Machine, State}
-use Rattle.machines.specs.State.{opened_with}
-use Rattle.replay_spec.specs.Placed.{place, placed}
-use Rattle.replay_spec.specs.Steps.{received_message, sent_message, after_entry, Takes}
+use Rattle.replay_spec.specs.State.{received_cmp, SentMessage, Machine, State}
+use Rattle.replay_spec.specs.State.{opened_with}
+use Rattle.replay_spec.specs.Placed.{placed}
+use Rattle.replay_spec.specs.Steps.{received_message, sent_message, after_entry}
 use Rattle.replay_spec.specs.Stepping.{is_send}
 use Rattle.replay_spec.specs.Replay.{Honest, last_state}
-use Rattle.replay_spec.specs.HonestLogs.{IsHonestLog, is_recv, recv_count, send_count}
-use Rattle.replay_spec.specs.Laws.{IsCounted, IsCountedOn, SendsLieBelow}
-use Rattle.replay_spec.proofs.Orders.{received_total}
+use Rattle.replay_spec.specs.HonestLogs.{IsHonestLog}
+use Rattle.honest_logs.specs.LoggedMessages.{is_recv, recv_count, send_count}
+use Rattle.honest_logs.specs.Laws.{IsCounted, IsCountedOn, SendsLieBelow}
+use Rattle.honest_logs.proofs.Orders.{received_total}
 
 -- ---- counts
 
@@ -74,9 +74,9 @@ counted_on ms s first before (e ∷ es) [] h = absurd h
 counted_on ms s first before (e ∷ es) (t ∷ ts) h =
     let rest = counted_on ms t (first + 1) (hash_after before (link_of first e)) es ts h.1 in
     let received = subst (λ (x : State). finite.len x.received ≤ finite.len s.received + one_if (is_recv e))
-        (sym h.0.after) (received_by s first before e) in
+    (sym h.0.after) (received_by s first before e) in
     let sends = subst (λ (x : State). finite.len x.sends ≤ finite.len s.sends + one_if (is_send e))
-        (sym h.0.after) (sent_by s first before e) in
+    (sym h.0.after) (sent_by s first before e) in
     let recvs = sum_by-cons (λ x. one_if (is_recv x)) e es in
     let sent = sum_by-cons (λ x. one_if (is_send x)) e es in
     record {

@@ -1,5 +1,5 @@
-use Rattle.replay_spec.proofs.Counts.{counted_on, lie_below}
-use Rattle.replay_spec.proofs.laws.messages_are_bounded.Goals as goal
+use Rattle.honest_logs.proofs.Counts.{counted_on, lie_below}
+use Rattle.honest_logs.proofs.laws.messages_are_bounded.Goals as goal
 
 pub returns-clause-count : goal.returns-clause-count
 returns-clause-count c = counted_on

@@ -1,19 +1,20 @@
 -- A server that logs what it heard, the time, and the reply that is owed, is honest.
 -- Serves: honest_servers_replay.
-use Rattle.std.proofs.Common.{◌≡◌, ℕ, ◌+◌, List, [], ◌∷◌, Option, Some, None, false, refl, sym, ap, subst, ◌∙◌}
+use Rattle.std.proofs.Common.{◌≡◌, ℕ, ◌+◌, List, [], ◌∷◌, Option, Some, None, refl, sym, ap, subst}
 use Rattle.merkle_keys.specs.Signing.{SignatureParts}
 use Rattle.authenticator.specs.declared.member.Member.{Member}
 use Rattle.log_entries.specs.Chain.{hash_after, link_of}
 use Rattle.log_entries.specs.declared.entry.Entry.TheVariants.{Send, Recv, Clock}
-use Rattle.machines.specs.Timeval.{Timeval}
-use Rattle.machines.specs.World.{World}
-use Rattle.machines.specs.Replies.{reply_owed, world_after}
-use Rattle.machines.specs.State.{with_received, Idle, Heard, Machine, Server, State}
-use Rattle.machines.specs.Steps.{machine_at, owing}
+use Rattle.replay_spec.specs.Timeval.{Timeval}
+use Rattle.replay_spec.specs.World.{World}
+use Rattle.replay_spec.specs.Replies.{reply_owed, world_after}
+use Rattle.replay_spec.specs.State.{with_received, Idle, Heard, Machine, Server, State}
+use Rattle.replay_spec.specs.StateSteps.{machine_at, owing}
 use Rattle.replay_spec.specs.Placed.{Placed, place, placed}
 use Rattle.replay_spec.specs.Steps.{received_message, OwesNothing, Takes}
 use Rattle.replay_spec.specs.Replay.{Honest, last_state}
-use Rattle.replay_spec.specs.Laws.{MayHear, heard_entries, hash_before_reply, with_reply, state_served}
+use Rattle.honest_logs.specs.HonestServers.{MayHear, heard_entries, hash_before_reply, with_reply}
+use Rattle.honest_logs.specs.HonestServers.{state_served}
 
 module _ (ms : List Member) (s : State) (w : World) (from seq : ℕ) (prev body : List ℕ)
     (signature : SignatureParts) (time : Timeval) (h : MayHear ms s w from seq prev body signature time)

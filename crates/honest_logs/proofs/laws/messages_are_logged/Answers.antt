@@ -1,7 +1,7 @@
-use Rattle.replay_spec.proofs.Received.{received_are_logged}
-use Rattle.replay_spec.proofs.Sends.{sends_are_logged}
-use Rattle.replay_spec.proofs.Counts.{counted}
-use Rattle.replay_spec.proofs.laws.messages_are_logged.Goals as goal
+use Rattle.honest_logs.proofs.Received.{received_are_logged}
+use Rattle.honest_logs.proofs.Sends.{sends_are_logged}
+use Rattle.honest_logs.proofs.Counts.{counted}
+use Rattle.honest_logs.proofs.laws.messages_are_logged.Goals as goal
 
 pub returns-clause-received : goal.returns-clause-received
 returns-clause-received c = received_are_logged

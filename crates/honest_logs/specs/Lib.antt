@@ -1,0 +1,16 @@
+pub use Rattle.replay_spec.specs.Timeval
+pub use Rattle.replay_spec.specs.World
+pub use Rattle.replay_spec.specs.Replies
+pub use Rattle.replay_spec.specs.State
+pub use Rattle.replay_spec.specs.StateText
+pub use Rattle.replay_spec.specs.StateSteps
+pub use Rattle.replay_spec.specs.Shown
+pub use Rattle.replay_spec.specs.Placed
+pub use Rattle.replay_spec.specs.Steps
+pub use Rattle.replay_spec.specs.Stepping
+pub use Rattle.replay_spec.specs.Replay
+pub use Rattle.replay_spec.specs.Opening
+pub use Rattle.replay_spec.specs.HonestLogs
+pub mod LoggedMessages
+pub mod HonestServers
+pub mod Laws

@@ -1,0 +1,4 @@
+//! What holds of honest logs: their messages, and the logs of servers that answer as they owe.
+#![tactic(auto)]
+
+pub mod laws;
