@@ -2,8 +2,8 @@
 -- turn (Turn), and what follows at each of its ends.
 -- Serves: Gateway::serve_stream (gateway).
 use Rattle.std.proofs.Common.{◌≡◌, ◌⊎◌, inl, inr, ℕ, ◌+◌, ◌≤◌, List, [], ◌∷◌, ◌++◌, arith, length, sym, ap, ◌∙◌, refl, length-append, append_assoc, subst}
-use Rattle.std.specs.Prelude.{Option, Some, None, IfSome, IsSomeAnd, Result, Err}
-use Rattle.std.specs.Io.KnownBytes.{Consumes, Appends}
+use Rattle.std.specs.Prelude.{Option, Some, None, IfSome, Err}
+use Rattle.std.specs.Io.KnownBytes.{Appends}
 use Rattle.std.proofs.lemmas.List.{append-nil}
 use Rattle.std.specs.List.{concat}
 use Rattle.records.specs.Count.{Rises}
@@ -12,7 +12,7 @@ use Rattle.records.specs.Writing.{WritesFront}
 use Rattle.records.specs.declared.record.TheConstants.{MAX_RECORD}
 use Rattle.records.specs.declared.fault.RecordFault.{RecordFault}
 use Rattle.records.specs.declared.fault.RecordFault.TheVariants as reader_faults
-use Rattle.records.specs.Reading.{FailsUnless, StopsAt, TakesToLimit, TakesAll, TakesPart, IsPartOfRecord, fault_after}
+use Rattle.records.specs.Reading.{FailsUnless, StopsAt, TakesToLimit, TakesPart, IsPartOfRecord, fault_after}
 use Rattle.links.specs.Timeval.{Timeval}
 use Rattle.links.specs.World.{World}
 use Rattle.links.specs.Replies.{reply_owed, world_after}
@@ -23,7 +23,7 @@ use Rattle.links.specs.declared.fault.LinkFault.TheVariants as links
 use Rattle.gateway.specs.declared.fault.StreamFault.{StreamFault}
 use Rattle.gateway.specs.declared.fault.StreamFault.TheVariants as faults
 use Rattle.gateway.specs.Faults.{of_records, of_link}
-use Rattle.gateway.specs.Streams.{Serves, ServesPart, StopsAfterRecords, StopsBeforeReply, StopsInReply, TakesNothing, TakesUnfinished}
+use Rattle.gateway.specs.Streams.{Serves, ServesPart, StopsBeforeReply, StopsInReply, TakesNothing, TakesUnfinished}
 use Rattle.gateway.specs.Serving.{with_readings, text_owed, LinkStandsAfter, IfTold, LeavesOff, StandsAfter}
 use Rattle.gateway.proofs.StreamProgress.{Progress, ReadsRecord, begins, pushes, stops_after, stops_before_reply, stops_in_reply, is_part, is_part_in_reply, serves}
 

@@ -8,7 +8,8 @@ use Rattle.links.specs.Timeval.{Timeval}
 use Rattle.links.specs.World.{World}
 use Rattle.links.specs.Owed.{replies_owed, world_after_all}
 use Rattle.links.specs.Readings.{Readings, IsBehind}
-use Rattle.gateway.specs.Streams.{StopsAfterRecords, StopsBeforeReply, StopsInReply, TakesNothing, TakesUnfinished}
+use Rattle.gateway.specs.Streams.{StopsAfterRecords, StopsBeforeReply, StopsInReply}
+use Rattle.gateway.specs.Streams.{TakesNothing, TakesUnfinished}
 use Rattle.gateway.specs.declared.fault.StreamFault.{StreamFault}
 use Rattle.gateway.specs.declared.fault.StreamFault.TheVariants as faults
 

@@ -1,6 +1,7 @@
 //! A stream of records in, and the replies out, over a link.
 
-ghost use Rattle.std.specs.Prelude.{◌≡◌, ◌≤◌, ◌⊎◌, ℕ, length, true, false, is_err, IfOk, IfErr, OnOk, OnErr, IsErrOf, IfSome, Some, None, Err};
+ghost use Rattle.std.specs.Prelude.{◌≡◌, ◌≤◌, ◌⊎◌, length, true, false, is_err, IfOk};
+ghost use Rattle.std.specs.Prelude.{IfErr, OnOk, OnErr, IsErrOf, IfSome, Some, None, Err};
 ghost use Rattle.std.specs.Option.{option_map};
 ghost use Rattle.std.specs.Io.KnownBytes.{Appends, IsAtEnd};
 ghost use Rattle.records.specs.Count.{Rises, CountsErr};
@@ -64,7 +65,8 @@ fn answer<L: Link, W: Write>(
     ensures moves { OnOk result (IfSome (L.world link.old) (λ w.
         L.world link.new ≡ Some (world_after w time bytes.now))) }
     ensures kept { OnOk result (writer.new.count ≡ writer.old.count) }
-    ensures calm { IsOkOr result IsOfStream → (f : LinkFault) → L.may_fault link.new f → L.may_fault link.old f }
+    ensures calm { IsOkOr result IsOfStream →
+        (f : LinkFault) → L.may_fault link.new f → L.may_fault link.old f }
     ensures device { IsErrOf result Device → Rises writer.old.count writer.new.count
         × IfSome (L.world link.old) (λ w.
         WritesFront (W.contents writer.old.inner) (W.contents writer.new.inner)
@@ -103,7 +105,8 @@ fn serve_records<L: Link, C: Clock, R: Read + Drop, W: Write>(
         (W.contents writer.old.inner) (W.contents writer.new.inner))) }
     ensures stands { IfErr result (λ e. StandsAfter e reader.new.fault
         reader.old.reader.count reader.new.reader.count writer.old.count writer.new.count) }
-    ensures calm { IsOkOr result IsOfStream → (f : LinkFault) → L.may_fault link.new f → L.may_fault link.old f }
+    ensures calm { IsOkOr result IsOfStream →
+        (f : LinkFault) → L.may_fault link.new f → L.may_fault link.old f }
     ensures keys { IsErrOf result KeysUsedUp →
         L.may_fault link.old links.KeysUsedUp × L.faulted link.new links.KeysUsedUp }
     ensures failed { IsErrOf result Failed →
@@ -149,9 +152,9 @@ impl Gateway {
     /// bytes that pass a limit, or ends within a record: what is owed to the records before was written, and
     /// the reader has taken no byte behind the limit, or all. `Device` (4) comes where a read or a write
     /// failed: all records that were taken are answered, or all but the last, of whose reply a part was
-    /// written. `KeysUsedUp` (6) and `Failed` (8) are the link's: all records that were taken are answered but
-    /// the last. `NoMemory` (7) comes where memory was refused, here or to the link, or after 2^64 - 2 records:
-    /// all records that were taken are answered, or all but the last.
+    /// written. `KeysUsedUp` (6) and `Failed` (8) are the link's: all records that were taken are answered
+    /// but the last. `NoMemory` (7) comes where memory was refused, here or to the link, or after 2^64 - 2
+    /// records: all records that were taken are answered, or all but the last.
     ///
     /// After any of them the gateway answers `Failed` from then on, and touches nothing. A reader that had a
     /// fault before is answered by that fault, with nothing done.
@@ -165,8 +168,8 @@ impl Gateway {
     ) -> Result<Served, StreamFault>
         ensures served { IfOk result (λ done. IfTold (L.world link.old) (C.readings clock.old) (λ w f.
             IfSome (R.remaining reader.old.reader.inner) (λ input.
-            Serves (text_owed w f) (LinkStandsAfter w f (L.world link.new) (C.readings clock.new)) done.records
-            input (W.contents writer.old.inner) (W.contents writer.new.inner)))) }
+            Serves (text_owed w f) (LinkStandsAfter w f (L.world link.new) (C.readings clock.new))
+            done.records input (W.contents writer.old.inner) (W.contents writer.new.inner)))) }
         ensures end { OnOk result (IsAtEnd (R.remaining reader.new.reader.inner)) }
         ensures kept { OnOk result ((reader.new.fault ≡ None)
             × (reader.new.reader.count ≡ reader.old.reader.count) × (writer.new.count ≡ writer.old.count)) }

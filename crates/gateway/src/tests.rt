@@ -1,5 +1,5 @@
-//! Three calls over a server as the link, by readers and writers that give and take a byte a call, and what is
-//! left after a fault.
+//! Three calls over a server as the link, by readers and writers that give and take a byte a call, and what
+//! is left after a fault.
 
 use crate::{
     Clock, FixedClock, Gateway, Link, LinkFault, ScriptedClock, Served, Service, StreamFault, Time,
@@ -185,7 +185,7 @@ fn a_failed_write_ends_all(rt: HostRuntime) -> Result<(), Fail> {
 #[test]
 fn a_fault_of_the_link_ends_all(rt: HostRuntime) -> Result<(), Fail> {
     let input = bytes(rt.alloc(), &CALLS)?;
-    let owed = bytes(rt.alloc(), &REPLIES)?;
+    let owed = bytes(rt.alloc(), &REPLIES[..7])?;
     let faults = [
         (LinkFault::KeysUsedUp, StreamFault::KeysUsedUp),
         (LinkFault::NoMemory, StreamFault::NoMemory),
@@ -210,7 +210,7 @@ fn a_fault_of_the_link_ends_all(rt: HostRuntime) -> Result<(), Fail> {
         );
         assert!(rt; done == Err(answer) && fault.number() == answer.number());
         assert!(rt;
-            writer.get_ref().as_slice() == &owed[..28] && reader.get_ref().get_ref().len() == 88
+            writer.get_ref().as_slice() == owed.as_slice() && reader.get_ref().get_ref().len() == 88
         );
         let again = gateway.serve_stream(
             rt.alloc(),

@@ -1,9 +1,6 @@
-use Rattle.std.proofs.Common.{◌≡◌, ◌∙◌, ◌⊎◌, inl, inr, ap, refl, Err}
+use Rattle.std.proofs.Common.{◌∙◌, ap, refl, Err}
 use Rattle.std.proofs.lemmas.Result.{err_from_is_err_and}
-use Rattle.links.specs.declared.fault.LinkFault.{LinkFault}
-use Rattle.gateway.specs.declared.fault.StreamFault.TheVariants as faults
-use Rattle.gateway.specs.Faults.{of_link}
-use Rattle.gateway.proofs.GatewayTurns.{served_nothing, serves_one, serves_all, part_so_far, leaves_off_at_once, leaves_off_reading, stands_reading, fails_by, part_answering, leaves_off_answering, stands_answering}
+use Rattle.gateway.proofs.GatewayTurns.{served_nothing, serves_one, part_so_far, fails_by, part_answering, leaves_off_answering}
 use Rattle.gateway.proofs.serve.serve_records.Goals as goal
 
 pub loop-k-init : goal.loop-k-init
