@@ -3,3 +3,4 @@ pub mod Shown
 pub mod Fresh
 pub mod Reached
 pub mod Asked
+pub mod Replied

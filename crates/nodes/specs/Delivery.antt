@@ -101,6 +101,8 @@ TakesAwaited n a (Err Failed) n' = ⊥
 pub record IsReplyReady (c s : NodeParts) (number : ℕ) : Type 0 where
   pub envelope : Envelope
   pub reaches : Reaches s kinds.Server number c envelope
+  pub numbered : envelope.seq ≡ number
+  pub within : number ≤ length s.entries
   pub client : IsListed s.roster kinds.Client c
   pub awaited : IsSome (get s.state.sends number)
 

@@ -84,8 +84,9 @@ fn bring_back(
     ensures size { IfOk result (λ v. length v.items ≤ MAX_BODY) }
 {
     let reply = body_of(server.node(), number, alloc)?;
-    if let Err(fault) = deliver_reply(server, number, client, text, alloc) {
-        return Err(fault);
+    match deliver_reply(server, number, client, text, alloc) {
+        Ok(()) => {}
+        Err(fault) => return Err(fault),
     }
     let receipt = last_number(client.node());
     match acknowledge_reply(client, receipt, server, text, alloc) {
