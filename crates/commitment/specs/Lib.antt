@@ -1,4 +1,14 @@
+pub use Rattle.merkle_keys.specs.Tree
+pub use Rattle.merkle_keys.specs.Signing
+pub use Rattle.authenticator.specs.Numbers
+pub use Rattle.authenticator.specs.Roster
+pub use Rattle.authenticator.specs.Signed
+pub use Rattle.log_entries.specs.Entry
+pub use Rattle.log_entries.specs.Chain
+pub use Rattle.log_entries.specs.Messages
 pub use Rattle.secure_log.specs.Log
+pub use Rattle.secure_log.specs.Part
+pub use Rattle.secure_log.specs.Segment
 pub use Rattle.envelopes.specs.Envelope
 pub use Rattle.envelopes.specs.Acknowledgement
 pub use Rattle.envelopes.specs.Checking

@@ -12,9 +12,10 @@ mod refusal;
 mod reserve;
 mod sender;
 
+pub use authenticator::{Authenticator, Checked, Kind, Member, Number, Roster};
 pub use envelopes::{Ack, AckRef, Envelope, EnvelopeRef, Message, check_ack, check_envelope};
 pub use outcome::Received;
 pub use receiver::Receiver;
 pub use refusal::Refusal;
-pub use secure_log::{Body, Entry, Log, SignatureText};
+pub use secure_log::{Body, Entry, Log, OpenSegment, SegmentFault, SignatureText};
 pub use sender::Sender;

@@ -1,5 +1,5 @@
 -- Acknowledgements: that a node logged a message, signed where it did.
-use Rattle.std.specs.Prelude.{ℕ, true, List}
+use Rattle.std.specs.Prelude.{true}
 use Rattle.xdr.specs.Item.{Item, Value, word, fixed, pair}
 use Rattle.xdr_texts.specs.Text.{Text}
 use Rattle.merkle_keys.specs.Signing.{signature_item, signature_value}

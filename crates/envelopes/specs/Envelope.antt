@@ -1,5 +1,5 @@
 -- Envelopes: messages between nodes, each signed where its sender logged it.
-use Rattle.std.specs.Prelude.{ℕ, true, List}
+use Rattle.std.specs.Prelude.{true}
 use Rattle.sha2.specs.Sha256.{sha256}
 use Rattle.xdr.specs.Item.{Item, Value, word, fixed, opaque, pair}
 use Rattle.xdr_texts.specs.Text.{Text}

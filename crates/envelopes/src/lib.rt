@@ -4,6 +4,7 @@
 mod acknowledgement;
 mod checks;
 mod envelope;
+pub mod laws;
 mod message;
 mod text;
 

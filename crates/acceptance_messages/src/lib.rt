@@ -1,0 +1,9 @@
+//! Tests of messages between nodes that cross crates.
+#![tactic(auto)]
+
+#[cfg(test)]
+mod acks;
+#[cfg(test)]
+mod lookups;
+#[cfg(test)]
+mod nodes;
