@@ -41,11 +41,11 @@ abbrev pub ReceivesUpTo : ℕ → List Entry → Type 0
 ReceivesUpTo limit entries = AllByRecursion (λ e. seq_of e ≤ limit) entries
 
 -- A call wrote the text of a value, or was refused memory.
-abbrev pub WritesText : {t : Text} → Value t.item → Result (Unit {0}) LinkFault → List ℕ → Type 0
-WritesText {t} v (Ok x) bytes = IsText t v bytes
-WritesText {t} v (Err KeysUsedUp) bytes = ⊥
-WritesText {t} v (Err NoMemory) bytes = Unit {0}
-WritesText {t} v (Err Failed) bytes = ⊥
+abbrev pub WritesText : (t : Text) → Value t.item → Result (Unit {0}) LinkFault → List ℕ → Type 0
+WritesText t v (Ok x) bytes = IsText t v bytes
+WritesText t v (Err KeysUsedUp) bytes = ⊥
+WritesText t v (Err NoMemory) bytes = Unit {0}
+WritesText t v (Err Failed) bytes = ⊥
 
 -- ---- envelopes
 
@@ -74,9 +74,8 @@ HearsNew s time e (Err NoMemory) s' = s' ≡ s
 HearsNew s time e (Err Failed) s' = ⊥
 
 -- A client receives an envelope that is new to it: KeysUsedUp only where no key is left.
-abbrev pub TakesNew : NodeParts → Envelope → Result ℕ LinkFault → NodeParts → Type 0
-TakesNew c e (Ok number) c' =
-    (¬ LacksKeys 1 c) × (c' ≡ with_receipt c e) × (number ≡ length c.entries + 1)
+abbrev pub TakesNew : NodeParts → Envelope → Result (Unit {0}) LinkFault → NodeParts → Type 0
+TakesNew c e (Ok x) c' = (¬ LacksKeys 1 c) × (c' ≡ with_receipt c e)
 TakesNew c e (Err KeysUsedUp) c' = LacksKeys 1 c × (c' ≡ c)
 TakesNew c e (Err NoMemory) c' = c' ≡ c
 TakesNew c e (Err Failed) c' = ⊥
@@ -102,6 +101,8 @@ TakesAwaited n a (Err Failed) n' = ⊥
 pub record IsReplyReady (c s : NodeParts) (number : ℕ) : Type 0 where
   pub envelope : Envelope
   pub reaches : Reaches s kinds.Server number c envelope
+  pub numbered : envelope.seq ≡ number
+  pub within : number ≤ length s.entries
   pub client : IsListed s.roster kinds.Client c
   pub awaited : IsSome (get s.state.sends number)
 

@@ -9,7 +9,8 @@ use Rattle.envelopes.specs.declared.acknowledgement.Ack.{Ack}
 use Rattle.commitment.specs.LookUps.{ack_at, envelope_at}
 use Rattle.honest_logs.specs.Timeval.{Timeval}
 use Rattle.honest_logs.specs.World.{World}
-use Rattle.honest_logs.specs.State.{Machine, Server, Client}
+use Rattle.honest_logs.specs.Replies.{reply_owed, world_after}
+use Rattle.honest_logs.specs.State.{Idle, Machine, Server, Client}
 use Rattle.links.specs.declared.fault.LinkFault.{LinkFault}
 use Rattle.links.specs.declared.fault.LinkFault.TheVariants.{KeysUsedUp, NoMemory, Failed}
 use Rattle.node_logs.specs.Nodes.{NodeParts, LacksKeys, node_code, sender_of}
@@ -35,11 +36,19 @@ pub record IsJoined (c s : NodeParts) : Type 0 where
 abbrev pub having_called : NodeParts → NodeParts → List ℕ → NodeParts
 having_called c s body = with_send c s.node body
 
+-- The envelope of the call: from the client to the server, of the SEND that the client logged last, with this body.
+pub record IsCall (c s : NodeParts) (body : List ℕ) (e : Envelope) : Type 0 where
+  pub shown : envelope_at (sender_of (having_called c s body)) (length c.entries + 1) ≡ Some e
+  pub sender : e.from ≡ c.node
+  pub receiver : e.to ≡ s.node
+  pub numbered : e.seq ≡ length c.entries + 1
+  pub says : e.body ≡ body
+
 -- The client sent a body, and the server heard it.
 pub record IsHeard (c s : NodeParts) (time : Timeval) (body : List ℕ) (r : Receipt) (s' : NodeParts) : Type 0 where
   pub left : ¬ LacksKeys 1 c
   pub envelope : Envelope
-  pub sent : envelope_at (sender_of (having_called c s body)) (length c.entries + 1) ≡ Some envelope
+  pub call : IsCall c s body envelope
   pub server_left : ¬ LacksKeys 2 s
   pub hears : HearsEnvelope s time envelope r s'
 
@@ -81,7 +90,7 @@ pub record IsReplied (c s : NodeParts) (number : ℕ) (reply : List ℕ) (c' s' 
   pub received : IsReceived c s number envelope c'
   pub body : reply ≡ envelope.body
   pub ack : Ack
-  pub made : ack_at (sender_of c') (length c.entries + 1) ≡ Some ack
+  pub made : ack_at (sender_of c') (length c'.entries) ≡ Some ack
   pub taken : s' ≡ with_ack s ack
 
 -- How far a reply came, where memory was refused.
@@ -117,6 +126,14 @@ StopsCarrying c s time body fault c' s' =
     Asks c s time body (Err fault) c' s'
     ⊎ ((number : ℕ) × ((d : NodeParts) × ((t : NodeParts) ×
     (IsOwed c s time body number d t × StopsAtReply d t number fault c' s'))))
+
+-- What the server did with a body: it answered what is owed to it at that time, and its world is the one after that.
+pub record IsServed (s : NodeParts) (time : Timeval) (body : List ℕ) (reply : Option (List ℕ)) (s' : NodeParts)
+    : Type 0 where
+  pub world : World
+  pub idle : s.state.machine ≡ Server world Idle
+  pub owed : reply ≡ reply_owed world time body
+  pub after : s'.state.machine ≡ Server (world_after world time body) Idle
 
 -- ---- a link of the two
 

@@ -16,7 +16,8 @@ ghost use Rattle.nodes.specs.Delivery.{AckReaches, CopiesBody, HearsNew, Reaches
 use crate::client::ClientNode;
 use crate::server::ServerNode;
 use links::LinkFault;
-use node_logs::{AckTaken, Body, Heard, NodeLog, Number, Receipt, Received, Refusal, Time};
+use authenticator::Number;
+use node_logs::{AckTaken, Body, Heard, NodeLog, Receipt, Received, Refusal, Time};
 use std::alloc::Global;
 
 /// A refusal as a fault of the link. What is made by one node isn't refused by the other but for want of keys or
@@ -58,7 +59,7 @@ pub(crate) fn send(
 /// where a growth was refused.
 fn write_envelope(node: &NodeLog, number: Number, text: &mut Vec<u8>) -> Result<(), LinkFault>
     ensures written { (e : Envelope) → envelope_at (sender_of node.now) number ≡ Some e →
-        WritesText {envelope_text} (envelope_value e) result text.new.items }
+        WritesText envelope_text (envelope_value e) result text.new.items }
     ensures sender { IsSender (sender_of node.now) }
 {
     node.is_honest();
@@ -75,7 +76,7 @@ fn write_envelope(node: &NodeLog, number: Number, text: &mut Vec<u8>) -> Result<
 /// Writes the text of the acknowledgement that the RECV with a number makes, as `write_envelope`.
 fn write_ack(node: &NodeLog, number: Number, text: &mut Vec<u8>) -> Result<(), LinkFault>
     ensures written { (a : Ack) → ack_at (sender_of node.now) number ≡ Some a →
-        WritesText {ack_text} (ack_value a) result text.new.items }
+        WritesText ack_text (ack_value a) result text.new.items }
     ensures sender { IsSender (sender_of node.now) }
 {
     node.is_honest();
@@ -122,8 +123,8 @@ fn hear(
     }
 }
 
-/// The client receives a reply's text that is new to it. Gives the number of its RECV.
-fn take_reply(client: &mut ClientNode, alloc: Global, text: &[u8]) -> Result<Number, LinkFault>
+/// The client receives a reply's text that is new to it.
+fn take_reply(client: &mut ClientNode, alloc: Global, text: &[u8]) -> Result<(), LinkFault>
     ensures takes { (e : Envelope) → Finds (receiver_of client.old) text.now e None →
         TakesNew client.old e result client.new }
     ensures sender { IsSender (sender_of client.new) }
@@ -131,7 +132,7 @@ fn take_reply(client: &mut ClientNode, alloc: Global, text: &[u8]) -> Result<Num
     let taken = client.take_reply(alloc, text);
     client.node().is_honest();
     match taken {
-        Ok(Received::New(number)) => Ok(number),
+        Ok(Received::New(_)) => Ok(()),
         Ok(Received::Repeat(_)) => Err(LinkFault::Failed),
         Err(refusal) => Err(fault_of(refusal)),
     }
@@ -165,14 +166,14 @@ pub(crate) fn deliver_call(
     hear(server, alloc, time, text)
 }
 
-/// Hands the envelope of the server's SEND with a number to the client. Gives the number of the RECV.
+/// Hands the envelope of the server's SEND with a number to the client.
 pub(crate) fn deliver_reply(
     server: &ServerNode,
     number: Number,
     client: &mut ClientNode,
     text: &mut Vec<u8>,
     alloc: Global,
-) -> Result<Number, LinkFault>
+) -> Result<(), LinkFault>
     ensures takes { (e : Envelope) → Reaches server.now kinds.Server number client.old e →
         TakesNew client.old e result client.new }
     ensures sender { OnOk result (IsSender (sender_of client.new)) }
@@ -194,6 +195,13 @@ pub(crate) fn acknowledge_call(
 {
     write_ack(server.node(), number, text)?;
     ack_taken(client.take_ack(alloc, text))
+}
+
+/// The number of a log's last entry.
+pub(crate) fn last_number(node: &NodeLog) -> Number
+    ensures { result ≡ length node.now.entries }
+{
+    Number::new(node.log().entries().len() as u64)
 }
 
 /// Hands the acknowledgement that the client's RECV with a number makes to the server.

@@ -4,7 +4,7 @@ ghost use Rattle.std.specs.Prelude.{◌≡◌, ◌≤◌, ◌↔◌, true, IsTru
 ghost use Rattle.std.specs.Option.{option_map};
 ghost use Rattle.log_entries.specs.declared.entry.TheConstants.{MAX_BODY};
 ghost use Rattle.links.specs.declared.fault.LinkFault.{LinkFault};
-ghost use Rattle.nodes.specs.Exchanges.{IsExchanged, StopsExchange, MayJoin, direct_of, world_in};
+ghost use Rattle.nodes.specs.Exchanges.{IsExchanged, IsServed, StopsExchange, MayJoin, direct_of, world_in};
 
 use crate::client::ClientNode;
 use crate::exchange::carry;
@@ -82,6 +82,8 @@ impl Direct {
         requires size { length bytes.now ≤ MAX_BODY }
         ensures exchanged { IfOk result (λ r.
             IsExchanged self.old time bytes.now (option_map (λ v. v.items) r) self.new) }
+        ensures served { IfOk result (λ r.
+            IsServed self.old.server time bytes.now (option_map (λ v. v.items) r) self.new.server) }
         ensures stops { IfErr result (λ e. StopsExchange self.old time bytes.now e self.new) }
         ensures size { IfOk result (λ r. IfSome r (λ v. length v.items ≤ MAX_BODY)) }
     {

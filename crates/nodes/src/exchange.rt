@@ -6,10 +6,10 @@ ghost use Rattle.log_entries.specs.declared.entry.TheConstants.{MAX_BODY};
 ghost use Rattle.commitment.specs.Sender.{IsSender};
 ghost use Rattle.node_logs.specs.Nodes.{sender_of};
 ghost use Rattle.nodes.specs.Delivery.{IsReplyReady};
-ghost use Rattle.nodes.specs.Exchanges.{Asks, IsCarried, IsJoined, IsReplied, StopsAtReply, StopsCarrying};
+ghost use Rattle.nodes.specs.Exchanges.{Asks, IsCarried, IsJoined, IsReplied, IsServed, StopsAtReply, StopsCarrying};
 
 use crate::client::ClientNode;
-use crate::deliver::{acknowledge_call, acknowledge_reply, body_of, deliver_call, deliver_reply, send};
+use crate::deliver::{acknowledge_call, acknowledge_reply, body_of, deliver_call, deliver_reply, last_number, send};
 use crate::server::ServerNode;
 use links::LinkFault;
 use node_logs::{Number, Receipt, Time};
@@ -29,13 +29,17 @@ pub(crate) fn carry(
     ensures carried { IfOk result (λ r. IsCarried client.old server.old time bytes.now
         (option_map (λ v. v.items) r) client.new server.new) }
     ensures stops { IfErr result (λ e. StopsCarrying client.old server.old time bytes.now e client.new server.new) }
+    ensures served { IfOk result (λ r. IsServed server.old time bytes.now (option_map (λ v. v.items) r) server.new) }
     ensures joined { OnOk result (IsJoined client.new server.new) }
     ensures size { IfOk result (λ r. IfSome r (λ v. length v.items ≤ MAX_BODY)) }
 {
     let receipt = ask(client, server, text, alloc, time, bytes)?;
     match receipt.reply {
-        Some(number) => Ok(Some(bring_back(client, server, number, text, alloc)?)),
         None => Ok(None),
+        Some(number) => match bring_back(client, server, number, text, alloc) {
+            Ok(reply) => Ok(Some(reply)),
+            Err(fault) => Err(fault),
+        },
     }
 }
 
@@ -54,9 +58,14 @@ fn ask(
     ensures sender { OnOk result (IsSender (sender_of server.new)) }
 {
     let number = send(client, server.number(), alloc, bytes)?;
-    let receipt = deliver_call(client, number, server, text, alloc, time)?;
-    acknowledge_call(server, receipt.ack, client, text, alloc)?;
-    Ok(receipt)
+    let receipt = match deliver_call(client, number, server, text, alloc, time) {
+        Ok(receipt) => receipt,
+        Err(fault) => return Err(fault),
+    };
+    match acknowledge_call(server, receipt.ack, client, text, alloc) {
+        Ok(()) => Ok(receipt),
+        Err(fault) => Err(fault),
+    }
 }
 
 /// The client takes the reply that the server sent at a number, and the server takes its acknowledgement. Gives the
@@ -75,7 +84,13 @@ fn bring_back(
     ensures size { IfOk result (λ v. length v.items ≤ MAX_BODY) }
 {
     let reply = body_of(server.node(), number, alloc)?;
-    let receipt = deliver_reply(server, number, client, text, alloc)?;
-    acknowledge_reply(client, receipt, server, text, alloc)?;
-    Ok(reply)
+    match deliver_reply(server, number, client, text, alloc) {
+        Ok(()) => {}
+        Err(fault) => return Err(fault),
+    }
+    let receipt = last_number(client.node());
+    match acknowledge_reply(client, receipt, server, text, alloc) {
+        Ok(()) => Ok(reply),
+        Err(fault) => Err(fault),
+    }
 }
