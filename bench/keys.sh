@@ -6,6 +6,6 @@ set -euo pipefail
 cd "$(dirname "$0")/.."
 . checks/scratch_crate.sh
 
-scratch_crate keys_bench bench/keys/main.rt.txt anyhow merkle_keys sha2
+proved_scratch_crate keys_bench bench/keys/main.rt.txt anyhow merkle_keys sha2
 rt run > "$work/log" 2>&1 || { tail -40 "$work/log" >&2; exit 1; }
 grep ' of the plain loop' "$work/log"

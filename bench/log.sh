@@ -5,6 +5,6 @@ set -euo pipefail
 cd "$(dirname "$0")/.."
 . checks/scratch_crate.sh
 
-scratch_crate log_bench bench/log/main.rt.txt anyhow secure_log sha2
+proved_scratch_crate log_bench bench/log/main.rt.txt anyhow secure_log sha2
 rt run > "$work/log" 2>&1 || { tail -40 "$work/log" >&2; exit 1; }
 /usr/bin/time -f 'peak memory: %M KiB' out/log_bench

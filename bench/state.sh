@@ -5,6 +5,6 @@ set -euo pipefail
 cd "$(dirname "$0")/.."
 . checks/scratch_crate.sh
 
-scratch_crate state_bench bench/state/main.rt.txt anyhow checkpoint sha2
+proved_scratch_crate state_bench bench/state/main.rt.txt anyhow checkpoint sha2
 rt run > "$work/log" 2>&1 || { tail -40 "$work/log" >&2; exit 1; }
 /usr/bin/time -f 'peak memory: %M KiB' out/state_bench

@@ -8,18 +8,40 @@ crates_below() {
         name in wanted { print; for (i = 2; i <= NF; i++) wanted[$i] }'
 }
 
+# copy_parts CRATE PART..
+# Copies these folders of a crate, as far as it has them.
+copy_parts() {
+    local crate=$1 part
+    shift
+    mkdir "$work/crates/$crate"
+    for part in "$@"; do
+        if [ -d "crates/$crate/$part" ]; then cp -r "crates/$crate/$part" "$work/crates/$crate/"; fi
+    done
+}
+
 # scratch_crate NAME MAIN LIBRARY..
 # Makes a scratch repository with a program NAME, whose source is the file MAIN, beside copies of the crates that it
-# stands on, and goes to its folder. The repository, $work, is gone when the script ends.
+# stands on, and goes to its folder. The repository, $work, is gone when the script ends. The program is to be tried
+# without proof: what is proved of the crates isn't copied, which takes much room.
 scratch_crate() {
-    local name=$1 main=$2 crate
-    shift 2
+    scratch_program 'src specs proofs' "$@"
+}
+
+# The same of a program that is to be proved, with what is proved of the crates.
+proved_scratch_crate() {
+    scratch_program 'src specs proofs out' "$@"
+}
+
+# scratch_program PARTS NAME MAIN LIBRARY..
+scratch_program() {
+    local parts=$1 name=$2 main=$3 crate
+    shift 3
     work=$(mktemp -d)
     trap 'rm -rf "$work"' EXIT
     mkdir "$work/crates"
     crates_below "$@" > "$work/crates.txt"
     while IFS=: read -r crate _; do
-        cp -r "crates/$crate" "$work/crates/"
+        copy_parts "$crate" $parts
     done < "$work/crates.txt"
     echo "$name: $*" >> "$work/crates.txt"
     mkdir -p "$work/crates/$name/src" "$work/crates/$name/specs"

@@ -1,0 +1,152 @@
+-- What a node shows is accepted by another that it reaches.
+-- Serves: hear, take_reply, deliver_call, deliver_reply, acknowledge_call, acknowledge_reply.
+use Rattle.std.proofs.Common.{◌≡◌, ℕ, ◌+◌, ◌^◌, Bool, true, false, List, Result, Ok, Err, Option, Some, None, refl, sym, ap, subst, ◌∙◌}
+use Rattle.std.specs.Prelude.{IsSome, IsSomeAnd}
+use Rattle.std.specs.FinMap.{get}
+use Rattle.xdr_texts.specs.Text.{IsText, text_at}
+use Rattle.authenticator.specs.Roster.{member_of}
+use Rattle.authenticator.specs.Signed.{IsSignedBy, IsSignedIn}
+use Rattle.authenticator.specs.declared.authenticator.Authenticator.{Authenticator}
+use Rattle.authenticator.specs.declared.member.Kind.{Kind}
+use Rattle.authenticator.specs.declared.member.Member.{Member}
+use Rattle.envelopes.specs.Envelope.{envelope_shows, envelope_text, envelope_value}
+use Rattle.envelopes.specs.Acknowledgement.{ack_shows, ack_text, ack_value}
+use Rattle.envelopes.specs.Checking.{IsAckText}
+use Rattle.envelopes.specs.declared.envelope.Envelope.{Envelope}
+use Rattle.envelopes.specs.declared.acknowledgement.Ack.{Ack}
+use Rattle.commitment.specs.LookUps.{IsAuthenticatorAt, FitsSend, ack_at, authenticator_at, envelope_at}
+use Rattle.commitment.specs.Receiver.{Finds}
+use Rattle.commitment.specs.Sender.{IsSender}
+use Rattle.commitment.specs.declared.refusal.Refusal.{Refusal}
+use Rattle.commitment.specs.declared.refusal.Refusal.TheVariants.{Garbage, NotForMe, BadSignature, KeysUsedUp, NoMemory}
+use Rattle.commitment.specs.declared.outcome.Received.TheVariants as received
+use Rattle.commitment.proofs.Meanings.{ack_law, authenticator_law, envelope_law}
+use Rattle.honest_logs.specs.Timeval.{Timeval}
+use Rattle.node_logs.specs.Nodes.{NodeParts, IsMemberOf, LacksKeys, receiver_of, sender_of}
+use Rattle.node_logs.specs.Hearing.{Hears, HearsEnvelope}
+use Rattle.node_logs.specs.Sending.{TakesEnvelope, with_receipt}
+use Rattle.node_logs.specs.AckTaking.{IsAckOf, TakesAck, with_ack}
+use Rattle.node_logs.specs.declared.outcome.Heard.TheVariants.{New, Repeat}
+use Rattle.node_logs.specs.declared.outcome.Receipt.{Receipt}
+use Rattle.node_logs.specs.declared.outcome.AckTaken.{AckTaken}
+use Rattle.node_logs.specs.declared.outcome.AckTaken.TheVariants.{Logged, Already}
+use Rattle.links.specs.declared.fault.LinkFault.{LinkFault}
+use Rattle.nodes.specs.Members.{IsListed, IsMemberAs}
+use Rattle.nodes.specs.Delivery.{AckReaches, Reaches, TakesAwaited, ack_taken}
+use Rattle.nodes.proofs.Texts.{one_ack, one_envelope, reads_back}
+
+-- ---- signatures
+
+-- What a node signed at a number is signed in each roster that lists it.
+signed_in : (ms : List Member) (kind : Kind) (n : NodeParts) (number : ℕ) (a : Authenticator)
+    → IsAuthenticatorAt (sender_of n) number a → IsListed ms kind n → IsSignedIn ms a
+signed_in ms kind n number a made listed = by (member_of ms n.node) refl listed
+  where
+    by : (o : Option Member) → member_of ms n.node ≡ o → IsSomeAnd o (IsMemberAs kind n) → IsSignedIn ms a
+    by None e h = absurd h
+    by (Some m) e h =
+        let there : member_of ms a.node ≡ Some m = ap (member_of ms) made.place.node ∙ e in
+        subst (λ o. IsSomeAnd o (λ m. IsSignedBy m a)) (sym there) (made.signed m h.keys.root h.keys.height)
+
+made_envelope : (n : NodeParts) (number : ℕ) (e : Envelope) → IsSender (sender_of n)
+    → envelope_at (sender_of n) number ≡ Some e → IsAuthenticatorAt (sender_of n) number (envelope_shows e)
+made_envelope n number e is h =
+    authenticator_law (sender_of n) number (envelope_shows e) is (envelope_law (sender_of n) number e h)
+
+made_ack : (n : NodeParts) (number : ℕ) (a : Ack) → IsSender (sender_of n)
+    → ack_at (sender_of n) number ≡ Some a → IsAuthenticatorAt (sender_of n) number (ack_shows a)
+made_ack n number a is h = authenticator_law (sender_of n) number (ack_shows a) is (ack_law (sender_of n) number a h)
+
+-- the number of an envelope is that at which it is shown
+pub seq_is : (n : NodeParts) (number : ℕ) (e : Envelope) → IsSender (sender_of n)
+    → envelope_at (sender_of n) number ≡ Some e → e.seq ≡ number
+seq_is n number e is h = (made_envelope n number e is h).place.number
+
+-- ---- envelopes
+
+-- The text of an envelope that reaches a node opens there, and its message is new.
+pub found : (a b : NodeParts) (kind : Kind) (number : ℕ) (e : Envelope) (bytes : List ℕ) → IsSender (sender_of a)
+    → Reaches a kind number b e → IsText envelope_text (envelope_value e) bytes → Finds (receiver_of b) bytes e None
+found a b kind number e bytes is h text =
+    let made = made_envelope a number e is h.envelope in
+    record {
+      opened = (record {
+        text = reads_back envelope_text (envelope_value e) bytes text;
+        receiver = h.receiver;
+        sender = λ same. h.two (sym made.place.node ∙ same);
+      }, signed_in b.roster kind a number (envelope_shows e) made h.listed);
+      found = h.new;
+    }
+
+-- The same, by the text that a call wrote.
+pub call_found : (a n b : NodeParts) (kind : Kind) (number : ℕ) (e : Envelope) (bytes text : List ℕ) → n ≡ a
+    → IsSender (sender_of n) → ((x : Envelope) → envelope_at (sender_of n) number ≡ Some x
+    → IsText envelope_text (envelope_value x) text) → bytes ≡ text → Reaches a kind number b e
+    → Finds (receiver_of b) bytes e None
+call_found a n b kind number e bytes text node is written same h =
+    let shown : envelope_at (sender_of n) number ≡ Some e =
+        ap (λ (x : NodeParts). envelope_at (sender_of x) number) node ∙ h.envelope in
+    found a b kind number e bytes (subst (λ (x : NodeParts). IsSender (sender_of x)) node is) h
+    (subst (IsText envelope_text (envelope_value e)) (sym same) (written e shown))
+
+-- what a server hears by it
+pub heard_it : (n n' : NodeParts) (time : Timeval) (bytes : List ℕ) (e : Envelope) (r : Receipt)
+    → Finds (receiver_of n) bytes e None → Hears n time bytes (Ok (New r)) n'
+    → (LacksKeys 2 n → ⊥) × HearsEnvelope n time e r n'
+heard_it n n' time bytes e r f h =
+    let same : h.0 ≡ e = one_envelope bytes h.0 e h.1.0.opened.0.text f.opened.0.text in
+    (h.1.1, subst (λ x. HearsEnvelope n time x r n') same h.1.2)
+
+-- what a client receives by it
+pub received_it : (n n' : NodeParts) (bytes : List ℕ) (e : Envelope) (number : ℕ)
+    → Finds (receiver_of n) bytes e None → TakesEnvelope n bytes (Ok (received.New number)) n'
+    → (LacksKeys 1 n → ⊥) × (n' ≡ with_receipt n e)
+received_it n n' bytes e number f h =
+    let same : h.0 ≡ e = one_envelope bytes h.0 e h.1.0.opened.0.text f.opened.0.text in
+    (h.1.1, h.1.2 ∙ ap (with_receipt n) same)
+
+-- ---- acknowledgements
+
+-- The text of an acknowledgement that reaches a node is taken there, unless memory is refused.
+pub taken : (a b b' : NodeParts) (kind : Kind) (number : ℕ) (k : Ack) (bytes : List ℕ) (result : Result AckTaken Refusal)
+    → IsSender (sender_of a) → AckReaches a kind number b k → IsText ack_text (ack_value k) bytes
+    → TakesAck b bytes result b' → TakesAwaited b k (ack_taken result) b'
+taken a b b' kind number k bytes result is h text takes = by result takes
+  where
+    read : IsAckText bytes k
+    read = reads_back ack_text (ack_value k) bytes text
+
+    same : (x : Ack) → IsAckText bytes x → x ≡ k
+    same x t = one_ack bytes x k t read
+
+    signed : IsSignedIn b.roster (ack_shows k)
+    signed = signed_in b.roster kind a number (ack_shows k) (made_ack a number k is h.ack) h.listed
+
+    none_some : {X : Type 0} (o : Option X) → o ≡ None → IsSome o → ⊥
+    none_some None e s = absurd (cc)
+    none_some (Some x) e s = absurd (cc)
+
+    by : (r : Result AckTaken Refusal) → TakesAck b bytes r b' → TakesAwaited b k (ack_taken r) b'
+    by (Ok (Logged n)) t = t.1.3 ∙ ap (with_ack b) (same t.0 t.1.0.text)
+    by (Ok Already) t =
+        let none : get b.state.sends k.seq ≡ None =
+            sym (ap (λ (x : Ack). get b.state.sends x.seq) (same t.0 t.1.0.text)) ∙ t.1.2 in
+        absurd (none_some (get b.state.sends k.seq) none h.awaited)
+    by (Err Garbage) t = absurd (let text = read in let none = t.0 in cc)
+    by (Err NotForMe) t = absurd (t.1.1 (subst (λ (x : Ack). FitsSend (sender_of b) x) (sym (same t.0 t.1.0)) h.fits))
+    by (Err BadSignature) t =
+        absurd (t.1.1 (subst (λ (x : Ack). IsSignedIn b.roster (ack_shows x)) (sym (same t.0 t.1.0.text)) signed))
+    by (Err NoMemory) t = t
+    by (Err KeysUsedUp) t = absurd t
+
+-- The same, by the text that a call wrote.
+pub taken_by : (a n b b' : NodeParts) (kind : Kind) (number : ℕ) (k : Ack) (bytes text : List ℕ)
+    (result : Result AckTaken Refusal) (answer : Result (Unit {0}) LinkFault) → n ≡ a → IsSender (sender_of n)
+    → ((x : Ack) → ack_at (sender_of n) number ≡ Some x → IsText ack_text (ack_value x) text) → bytes ≡ text
+    → TakesAck b bytes result b' → answer ≡ ack_taken result → AckReaches a kind number b k → TakesAwaited b k answer b'
+taken_by a n b b' kind number k bytes text result answer node is written same takes answered h =
+    let shown : ack_at (sender_of n) number ≡ Some k =
+        ap (λ (x : NodeParts). ack_at (sender_of x) number) node ∙ h.ack in
+    subst (λ (r : Result (Unit {0}) LinkFault). TakesAwaited b k r b') (sym answered)
+    (taken a b b' kind number k bytes result (subst (λ (x : NodeParts). IsSender (sender_of x)) node is) h
+    (subst (IsText ack_text (ack_value k)) (sym same) (written k shown)) takes)

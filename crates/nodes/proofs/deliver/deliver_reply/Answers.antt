@@ -1,0 +1,8 @@
+use Rattle.nodes.proofs.Reached.{call_found}
+use Rattle.nodes.proofs.deliver.deliver_reply.Goals as goal
+
+pub returns-clause-takes : goal.returns-clause-takes
+returns-clause-takes c e h =
+    c.take_reply.ensures.takes e
+    (call_found c.args.server.now c.node.result.now c.args.client.now _ c.args.number e _ _ c.node.ensures.node
+    c.in_ok-write_envelope.ensures.sender c.in_ok-write_envelope.ensures.written c.deref.ensures.value h)

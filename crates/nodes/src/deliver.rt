@@ -1,0 +1,220 @@
+//! Handing what one node shows to another that awaits it.
+
+ghost use Rattle.std.specs.Prelude.{◌≡◌, ◌≤◌, OnOk, None, Some, length};
+ghost use Rattle.log_entries.specs.declared.entry.TheConstants.{MAX_BODY};
+ghost use Rattle.authenticator.specs.declared.member.Kind.TheVariants as kinds;
+ghost use Rattle.envelopes.specs.Envelope.{envelope_text, envelope_value};
+ghost use Rattle.envelopes.specs.Acknowledgement.{ack_text, ack_value};
+ghost use Rattle.envelopes.specs.declared.envelope.Envelope.{Envelope};
+ghost use Rattle.envelopes.specs.declared.acknowledgement.Ack.{Ack};
+ghost use Rattle.commitment.specs.LookUps.{ack_at, envelope_at};
+ghost use Rattle.commitment.specs.Receiver.{Finds};
+ghost use Rattle.commitment.specs.Sender.{IsSender};
+ghost use Rattle.node_logs.specs.Nodes.{receiver_of, sender_of};
+ghost use Rattle.nodes.specs.Delivery.{AckReaches, CopiesBody, HearsNew, Reaches, SendsBody, TakesAwaited, TakesNew, WritesText, ack_taken, fault_of};
+
+use crate::client::ClientNode;
+use crate::server::ServerNode;
+use links::LinkFault;
+use authenticator::Number;
+use node_logs::{AckTaken, Body, Heard, NodeLog, Receipt, Received, Refusal, Time};
+use std::alloc::Global;
+
+/// A refusal as a fault of the link. What is made by one node isn't refused by the other but for want of keys or
+/// memory.
+fn fault_of(refusal: Refusal) -> LinkFault
+    ensures { result ≡ fault_of refusal }
+{
+    match refusal {
+        Refusal::KeysUsedUp => LinkFault::KeysUsedUp,
+        Refusal::NoMemory => LinkFault::NoMemory,
+        Refusal::Garbage | Refusal::NotForMe | Refusal::BadSignature => LinkFault::Failed,
+    }
+}
+
+/// The client sends a body to a node. Gives the number of its SEND.
+pub(crate) fn send(
+    client: &mut ClientNode,
+    to: u32,
+    alloc: Global,
+    bytes: &[u8],
+) -> Result<Number, LinkFault>
+    requires size { length bytes.now ≤ MAX_BODY }
+    ensures sends { SendsBody client.old to bytes.now result client.new }
+    ensures sender { IsSender (sender_of client.new) }
+{
+    client.node().is_honest();
+    let Ok(copy) = bytes.to_vec(alloc) else {
+        return Err(LinkFault::NoMemory);
+    };
+    let sent = client.call(to, Body::new(copy));
+    client.node().is_honest();
+    match sent {
+        Ok(number) => Ok(number),
+        Err(refusal) => Err(fault_of(refusal)),
+    }
+}
+
+/// Writes the text of the envelope of the SEND with a number, in place of what the bytes were. `NoMemory` comes only
+/// where a growth was refused.
+fn write_envelope(node: &NodeLog, number: Number, text: &mut Vec<u8>) -> Result<(), LinkFault>
+    ensures written { (e : Envelope) → envelope_at (sender_of node.now) number ≡ Some e →
+        WritesText envelope_text (envelope_value e) result text.new.items }
+    ensures sender { IsSender (sender_of node.now) }
+{
+    node.is_honest();
+    text.clear();
+    let Some(envelope) = node.envelope(number.get()) else {
+        return Err(LinkFault::Failed);
+    };
+    match envelope.write(text) {
+        Ok(()) => Ok(()),
+        Err(_) => Err(LinkFault::NoMemory),
+    }
+}
+
+/// Writes the text of the acknowledgement that the RECV with a number makes, as `write_envelope`.
+fn write_ack(node: &NodeLog, number: Number, text: &mut Vec<u8>) -> Result<(), LinkFault>
+    ensures written { (a : Ack) → ack_at (sender_of node.now) number ≡ Some a →
+        WritesText ack_text (ack_value a) result text.new.items }
+    ensures sender { IsSender (sender_of node.now) }
+{
+    node.is_honest();
+    text.clear();
+    let Some(ack) = node.ack(number.get()) else {
+        return Err(LinkFault::Failed);
+    };
+    match ack.write(text) {
+        Ok(()) => Ok(()),
+        Err(_) => Err(LinkFault::NoMemory),
+    }
+}
+
+/// A copy of the body of the SEND with a number. `NoMemory` comes only where a growth was refused.
+pub(crate) fn body_of(node: &NodeLog, number: Number, alloc: Global) -> Result<Vec<u8>, LinkFault>
+    ensures { (e : Envelope) → envelope_at (sender_of node.now) number ≡ Some e → CopiesBody (λ v. v.items) e result }
+{
+    let Some(envelope) = node.envelope(number.get()) else {
+        return Err(LinkFault::Failed);
+    };
+    match envelope.body.bytes().to_vec(alloc) {
+        Ok(copy) => Ok(copy),
+        Err(_) => Err(LinkFault::NoMemory),
+    }
+}
+
+/// The server hears an envelope's text that is new to it.
+fn hear(
+    server: &mut ServerNode,
+    alloc: Global,
+    time: Time,
+    text: &[u8],
+) -> Result<Receipt, LinkFault>
+    ensures hears { (e : Envelope) → Finds (receiver_of server.old) text.now e None →
+        HearsNew server.old time e result server.new }
+    ensures sender { IsSender (sender_of server.new) }
+{
+    let heard = server.receive(alloc, time, text);
+    server.node().is_honest();
+    match heard {
+        Ok(Heard::New(receipt)) => Ok(receipt),
+        Ok(Heard::Repeat(_)) => Err(LinkFault::Failed),
+        Err(refusal) => Err(fault_of(refusal)),
+    }
+}
+
+/// The client receives a reply's text that is new to it.
+fn take_reply(client: &mut ClientNode, alloc: Global, text: &[u8]) -> Result<(), LinkFault>
+    ensures takes { (e : Envelope) → Finds (receiver_of client.old) text.now e None →
+        TakesNew client.old e result client.new }
+    ensures sender { IsSender (sender_of client.new) }
+{
+    let taken = client.take_reply(alloc, text);
+    client.node().is_honest();
+    match taken {
+        Ok(Received::New(_)) => Ok(()),
+        Ok(Received::Repeat(_)) => Err(LinkFault::Failed),
+        Err(refusal) => Err(fault_of(refusal)),
+    }
+}
+
+/// What became of an acknowledgement that is awaited.
+fn ack_taken(taken: Result<AckTaken, Refusal>) -> Result<(), LinkFault>
+    ensures { result ≡ ack_taken taken }
+{
+    match taken {
+        Ok(AckTaken::Logged(_)) => Ok(()),
+        Ok(AckTaken::Already) => Err(LinkFault::Failed),
+        Err(refusal) => Err(fault_of(refusal)),
+    }
+}
+
+/// Hands the envelope of the client's SEND with a number to the server.
+pub(crate) fn deliver_call(
+    client: &ClientNode,
+    number: Number,
+    server: &mut ServerNode,
+    text: &mut Vec<u8>,
+    alloc: Global,
+    time: Time,
+) -> Result<Receipt, LinkFault>
+    ensures hears { (e : Envelope) → Reaches client.now kinds.Client number server.old e →
+        HearsNew server.old time e result server.new }
+    ensures sender { OnOk result (IsSender (sender_of server.new)) }
+{
+    write_envelope(client.node(), number, text)?;
+    hear(server, alloc, time, text)
+}
+
+/// Hands the envelope of the server's SEND with a number to the client.
+pub(crate) fn deliver_reply(
+    server: &ServerNode,
+    number: Number,
+    client: &mut ClientNode,
+    text: &mut Vec<u8>,
+    alloc: Global,
+) -> Result<(), LinkFault>
+    ensures takes { (e : Envelope) → Reaches server.now kinds.Server number client.old e →
+        TakesNew client.old e result client.new }
+    ensures sender { OnOk result (IsSender (sender_of client.new)) }
+{
+    write_envelope(server.node(), number, text)?;
+    take_reply(client, alloc, text)
+}
+
+/// Hands the acknowledgement that the server's RECV with a number makes to the client.
+pub(crate) fn acknowledge_call(
+    server: &ServerNode,
+    number: Number,
+    client: &mut ClientNode,
+    text: &mut Vec<u8>,
+    alloc: Global,
+) -> Result<(), LinkFault>
+    ensures { (a : Ack) → AckReaches server.now kinds.Server number client.old a →
+        TakesAwaited client.old a result client.new }
+{
+    write_ack(server.node(), number, text)?;
+    ack_taken(client.take_ack(alloc, text))
+}
+
+/// The number of a log's last entry.
+pub(crate) fn last_number(node: &NodeLog) -> Number
+    ensures { result ≡ length node.now.entries }
+{
+    Number::new(node.log().entries().len() as u64)
+}
+
+/// Hands the acknowledgement that the client's RECV with a number makes to the server.
+pub(crate) fn acknowledge_reply(
+    client: &ClientNode,
+    number: Number,
+    server: &mut ServerNode,
+    text: &mut Vec<u8>,
+    alloc: Global,
+) -> Result<(), LinkFault>
+    ensures { (a : Ack) → AckReaches client.now kinds.Client number server.old a →
+        TakesAwaited server.old a result server.new }
+{
+    write_ack(client.node(), number, text)?;
+    ack_taken(server.take_ack(alloc, text))
+}

@@ -1,0 +1,126 @@
+//! A client and a server with no one between them, as a link.
+
+ghost use Rattle.std.specs.Prelude.{◌≡◌, ◌≤◌, ◌↔◌, true, IsTrue, IfErr, IfOk, IfSome, IsSome, length};
+ghost use Rattle.std.specs.Option.{option_map};
+ghost use Rattle.log_entries.specs.declared.entry.TheConstants.{MAX_BODY};
+ghost use Rattle.links.specs.declared.fault.LinkFault.{LinkFault};
+ghost use Rattle.nodes.specs.Exchanges.{IsExchanged, IsServed, StopsExchange, MayJoin, direct_of, world_in};
+
+use crate::client::ClientNode;
+use crate::exchange::carry;
+use crate::server::ServerNode;
+use links::{Link, LinkFault};
+use node_logs::Time;
+use std::alloc::Global;
+use std::marker::Model;
+
+/// A client and a server in one process, joined to a link: each exchange is a call of the client, with all that the
+/// two log for it. Behind a fault it has failed.
+#[derive(Drop)]
+pub struct Direct {
+    client: ClientNode,
+    server: ServerNode,
+    text: Vec<u8>,
+    failed: bool,
+}
+
+impl Model for Direct {
+    ghost use Rattle.nodes.specs.Exchanges.{DirectParts, IsDirect, direct_code};
+
+    ghost Value = { DirectParts };
+
+    ghost coded = { direct_code };
+
+    ghost view = { λ d. record { client = d.client; server = d.server; failed = d.failed } };
+
+    ghost invariant = { λ d. IsDirect (record { client = d.client; server = d.server; failed = d.failed }) };
+}
+
+impl Direct {
+    /// Joins a client and a server. None exactly where they can't be joined: one of them has logged something, or
+    /// they have one number, or one of them isn't listed in the other's roster with its kind, root and height.
+    pub fn join(alloc: Global, client: ClientNode, server: ServerNode) -> Option<Direct>
+        ensures joined { IfSome result (λ d. d ≡ direct_of client server) }
+        ensures exact { IsSome result ↔ MayJoin client server }
+    {
+        if !may_join(&client, &server) {
+            return None;
+        }
+        Some(Direct {
+            client,
+            server,
+            text: Vec::new(alloc),
+            failed: false,
+        })
+    }
+
+    /// The client.
+    pub fn client(&self) -> &ClientNode
+        ensures { result.now ≡ self.now.client }
+    {
+        &self.client
+    }
+
+    /// The server.
+    pub fn server(&self) -> &ServerNode
+        ensures { result.now ≡ self.now.server }
+    {
+        &self.server
+    }
+
+    /// Carries a body of at most 12,288 bytes to the server at a time, and gives its reply, if one is owed. Between
+    /// them the client logs SEND, ACK and RECV, and the server RECV, CLOCK, SEND and ACK; without a reply the client
+    /// SEND and ACK, and the server RECV and CLOCK. `KeysUsedUp` comes only where the client has no key left, or the
+    /// server fewer than two, or the client none for the reply; `NoMemory` only where a growth was refused; what was
+    /// done before either stands. `Failed` comes behind a fault, and only there; nothing changes then.
+    pub fn carry(
+        &mut self,
+        alloc: Global,
+        time: Time,
+        bytes: &[u8],
+    ) -> Result<Option<Vec<u8>>, LinkFault>
+        requires size { length bytes.now ≤ MAX_BODY }
+        ensures exchanged { IfOk result (λ r.
+            IsExchanged self.old time bytes.now (option_map (λ v. v.items) r) self.new) }
+        ensures served { IfOk result (λ r.
+            IsServed self.old.server time bytes.now (option_map (λ v. v.items) r) self.new.server) }
+        ensures stops { IfErr result (λ e. StopsExchange self.old time bytes.now e self.new) }
+        ensures size { IfOk result (λ r. IfSome r (λ v. length v.items ≤ MAX_BODY)) }
+    {
+        if self.failed {
+            return Err(LinkFault::Failed);
+        }
+        let result = carry(&mut self.client, &mut self.server, &mut self.text, alloc, time, bytes);
+        self.failed = result.is_err();
+        result
+    }
+}
+
+/// Whether a client and a server can be joined.
+fn may_join(client: &ClientNode, server: &ServerNode) -> bool
+    ensures { IsTrue result ↔ MayJoin client.now server.now }
+{
+    client.node().log().entries().is_empty()
+        && server.node().log().entries().is_empty()
+        && client.number() != server.number()
+        && client.is_listed(server.node().roster())
+        && server.is_listed(client.node().roster())
+}
+
+/// It tells its server's world. From now on it may lack keys or memory; it has failed behind a fault, and only there.
+impl Link for Direct {
+    ghost world = { λ d. world_in d.server.state.machine };
+
+    ghost may_fault = { λ d e. e ≡ LinkFault.Failed → d.failed ≡ true };
+
+    ghost faulted = { λ d _. d.failed ≡ true };
+
+    fn exchange(
+        &mut self,
+        alloc: Global,
+        time: Time,
+        bytes: &[u8],
+    ) -> Result<Option<Vec<u8>>, LinkFault> {
+        self.carry(alloc, time, bytes)
+    }
+}

@@ -1,0 +1,96 @@
+//! An exchange between a client and a server that are joined, step by step.
+
+ghost use Rattle.std.specs.Prelude.{◌≡◌, ◌≤◌, ◌+◌, IfErr, IfOk, IfSome, OnOk, length};
+ghost use Rattle.std.specs.Option.{option_map};
+ghost use Rattle.log_entries.specs.declared.entry.TheConstants.{MAX_BODY};
+ghost use Rattle.commitment.specs.Sender.{IsSender};
+ghost use Rattle.node_logs.specs.Nodes.{sender_of};
+ghost use Rattle.nodes.specs.Delivery.{IsReplyReady};
+ghost use Rattle.nodes.specs.Exchanges.{Asks, IsCarried, IsJoined, IsReplied, IsServed, StopsAtReply, StopsCarrying};
+
+use crate::client::ClientNode;
+use crate::deliver::{acknowledge_call, acknowledge_reply, body_of, deliver_call, deliver_reply, last_number, send};
+use crate::server::ServerNode;
+use links::LinkFault;
+use node_logs::{Number, Receipt, Time};
+use std::alloc::Global;
+
+/// Carries a body to the server at a time, and its reply, if one is owed, back.
+pub(crate) fn carry(
+    client: &mut ClientNode,
+    server: &mut ServerNode,
+    text: &mut Vec<u8>,
+    alloc: Global,
+    time: Time,
+    bytes: &[u8],
+) -> Result<Option<Vec<u8>>, LinkFault>
+    requires size { length bytes.now ≤ MAX_BODY }
+    requires joined { IsJoined client.old server.old }
+    ensures carried { IfOk result (λ r. IsCarried client.old server.old time bytes.now
+        (option_map (λ v. v.items) r) client.new server.new) }
+    ensures stops { IfErr result (λ e. StopsCarrying client.old server.old time bytes.now e client.new server.new) }
+    ensures served { IfOk result (λ r. IsServed server.old time bytes.now (option_map (λ v. v.items) r) server.new) }
+    ensures joined { OnOk result (IsJoined client.new server.new) }
+    ensures size { IfOk result (λ r. IfSome r (λ v. length v.items ≤ MAX_BODY)) }
+{
+    let receipt = ask(client, server, text, alloc, time, bytes)?;
+    match receipt.reply {
+        None => Ok(None),
+        Some(number) => match bring_back(client, server, number, text, alloc) {
+            Ok(reply) => Ok(Some(reply)),
+            Err(fault) => Err(fault),
+        },
+    }
+}
+
+/// The client calls the server, and takes its acknowledgement.
+fn ask(
+    client: &mut ClientNode,
+    server: &mut ServerNode,
+    text: &mut Vec<u8>,
+    alloc: Global,
+    time: Time,
+    bytes: &[u8],
+) -> Result<Receipt, LinkFault>
+    requires size { length bytes.now ≤ MAX_BODY }
+    requires joined { IsJoined client.old server.old }
+    ensures asks { Asks client.old server.old time bytes.now result client.new server.new }
+    ensures sender { OnOk result (IsSender (sender_of server.new)) }
+{
+    let number = send(client, server.number(), alloc, bytes)?;
+    let receipt = match deliver_call(client, number, server, text, alloc, time) {
+        Ok(receipt) => receipt,
+        Err(fault) => return Err(fault),
+    };
+    match acknowledge_call(server, receipt.ack, client, text, alloc) {
+        Ok(()) => Ok(receipt),
+        Err(fault) => Err(fault),
+    }
+}
+
+/// The client takes the reply that the server sent at a number, and the server takes its acknowledgement. Gives the
+/// reply's body.
+fn bring_back(
+    client: &mut ClientNode,
+    server: &mut ServerNode,
+    number: Number,
+    text: &mut Vec<u8>,
+    alloc: Global,
+) -> Result<Vec<u8>, LinkFault>
+    requires ready { IsReplyReady client.old server.old number }
+    ensures replied { IfOk result (λ v.
+        IsReplied client.old server.old number v.items client.new server.new) }
+    ensures stops { IfErr result (λ e. StopsAtReply client.old server.old number e client.new server.new) }
+    ensures size { IfOk result (λ v. length v.items ≤ MAX_BODY) }
+{
+    let reply = body_of(server.node(), number, alloc)?;
+    match deliver_reply(server, number, client, text, alloc) {
+        Ok(()) => {}
+        Err(fault) => return Err(fault),
+    }
+    let receipt = last_number(client.node());
+    match acknowledge_reply(client, receipt, server, text, alloc) {
+        Ok(()) => Ok(reply),
+        Err(fault) => Err(fault),
+    }
+}
