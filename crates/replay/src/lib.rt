@@ -1,0 +1,17 @@
+//! Replays of segments: the reference machine of a node takes one entry after the other, up to the first that
+//! has a fault.
+#![tactic(auto)]
+
+mod copy;
+mod fault;
+mod messages;
+mod shown;
+mod steps;
+mod take;
+mod turns;
+mod verdict;
+
+pub use checkpoint::State;
+pub use fault::ReplayFault;
+pub use steps::{StepError, step};
+pub use verdict::{Verdict, replay};
