@@ -10,6 +10,7 @@ ghost use Rattle.honest_logs.specs.Stepping.{is_bad_ack, is_bad_receive, is_repe
 use crate::turns::is_same;
 use authenticator::{Number, Roster, is_signed};
 use checkpoint::{State, state_digest};
+use honest_logs::replay_laws::tests_as_it_is_signed;
 use log_entries::{Receipt, message_hash, receipt_hash};
 use merkle_keys::Signature;
 use secure_log::{Body, Entry};
@@ -144,6 +145,7 @@ fn is_signed_in(
       signature = signature.now;
     }) }
 {
+    tests_as_it_is_signed();
     match roster.member(node) {
         Some(member) => is_signed(&member, node, number, hash, signature),
         None => false,

@@ -16,6 +16,7 @@ use crate::shown::shown_by;
 use crate::steps::{StepError, step};
 use authenticator::{Authenticator, Number, Roster};
 use checkpoint::State;
+use honest_logs::replay_laws::steps_as_it_takes;
 use log_entries::entry_hash;
 use secure_log::{ClosedSegment, Entry};
 use std::alloc::{AllocError, Global};
@@ -55,18 +56,19 @@ pub fn replay(alloc: Global, state: &State, segment: &ClosedSegment) -> Result<V
 fn replay_entries(
     alloc: Global,
     roster: &Roster,
-    state: State,
+    start: State,
     first: Number,
     opening: &[u8; 32],
     entries: &[Entry],
 ) -> Result<Verdict, AllocError>
     requires numbers { first + length entries.now < 2 ^ 64 }
-    requires few_received { len state.received + length entries.now ≤ MAX_RECEIVED }
-    requires few_sends { len state.sends + length entries.now ≤ MAX_SENDS }
+    requires few_received { len start.received + length entries.now ≤ MAX_RECEIVED }
+    requires few_sends { len start.sends + length entries.now ≤ MAX_SENDS }
     ensures { IfOk result (λ verdict. verdict_in verdict
-        ≡ verdict_of roster.now state (placed first opening.now entries.now)) }
+        ≡ verdict_of roster.now start (placed first opening.now entries.now)) }
 {
-    let mut state = state;
+    steps_as_it_takes();
+    let mut state = start;
     let mut found = Vec::new(alloc);
     let mut number = first.get();
     let mut before = *opening;

@@ -1,0 +1,2 @@
+pub mod FaultySteps
+pub mod Runs
