@@ -1,2 +1,3 @@
 pub mod FaultySteps
 pub mod Runs
+pub mod StayingKinds

@@ -1,6 +1,6 @@
 -- How a replay goes through entries: what it found so far, and the verdict on the rest.
 -- Serves: replay_entries.
-use Rattle.std.proofs.Common.{◌≡◌, ℕ, ◌+◌, ◌<◌, ◌≤◌, List, [], ◌∷◌, ◌++◌, length, drop, Ok, Err, suc, get_or}
+use Rattle.std.proofs.Common.{◌≡◌, ℕ, IfOk, ◌+◌, ◌<◌, ◌≤◌, List, [], ◌∷◌, ◌++◌, length, drop, Ok, Err, suc, get_or}
 use Rattle.std.proofs.Common.{Option, Some, None, Result, refl, sym, ap, ap₂, subst, ◌∙◌, arith}
 use Rattle.std.specs.FinMap as finite
 use Rattle.authenticator.specs.declared.member.Member.{Member}
@@ -10,6 +10,8 @@ use Rattle.log_entries.specs.declared.entry.Entry.{Entry}
 use Rattle.states.specs.declared.received.TheConstants.{MAX_RECEIVED}
 use Rattle.states.specs.declared.sends.TheConstants.{MAX_SENDS}
 use Rattle.honest_logs.specs.State.{State}
+use Rattle.replay.specs.Verdicts.{verdict_in, IsSoundWhereHonest}
+use Rattle.replay.specs.declared.verdict.Verdict as memory
 use Rattle.honest_logs.specs.Placed.{Placed, place, placed}
 use Rattle.honest_logs.specs.Stepping.{ReplayFault, step, shown_by}
 use Rattle.honest_logs.specs.Replay.{with_shown, Verdict, Sound, Fault, behind, verdict_of}
@@ -109,7 +111,7 @@ more_received : StepsTake → (ms : List Member) (s t : State) (number : ℕ) (b
     → step ms s (place number before e) ≡ Ok t → finite.len t.received ≤ finite.len s.received + 1
 more_received law ms s t number before e h =
     let counts =
-        counted_on ms s number before (e ∷ []) (t ∷ []) ((law ms s t (place number before e)).0 h, tt) in
+    counted_on ms s number before (e ∷ []) (t ∷ []) ((law ms s t (place number before e)).0 h, tt) in
     let few = counts.received in
     let one = one_received e in
     omega (arith, few, one)
@@ -118,7 +120,7 @@ more_sent : StepsTake → (ms : List Member) (s t : State) (number : ℕ) (befor
     → step ms s (place number before e) ≡ Ok t → finite.len t.sends ≤ finite.len s.sends + 1
 more_sent law ms s t number before e h =
     let counts =
-        counted_on ms s number before (e ∷ []) (t ∷ []) ((law ms s t (place number before e)).0 h, tt) in
+    counted_on ms s number before (e ∷ []) (t ∷ []) ((law ms s t (place number before e)).0 h, tt) in
     let few = counts.sends in
     let one = one_sent e in
     omega (arith, few, one)
@@ -211,3 +213,13 @@ module _ (ms : List Member) (start : State) (first : ℕ) (opening : List ℕ) (
         run.verdict
         ∙ ap (λ es. behind_all shown (verdict_of ms s (placed number before es))) none
         ∙ all_found shown s
+
+-- ---- the verdict on all
+
+-- a verdict is Sound as the law says
+pub sound_as : {E : Type 0} (ms : List Member) (s : State) (ps : List Placed) (law : IsSoundWhereHonest ms s ps
+    (verdict_of ms s ps)) (v : Verdict) → v ≡ verdict_of ms s ps → (r : Result memory.Verdict E)
+    → IfOk r (λ x. verdict_in x ≡ v) → IfOk r (λ x. IsSoundWhereHonest ms s ps (verdict_in x))
+sound_as ms s ps law v e (Ok x) h =
+    subst (IsSoundWhereHonest ms s ps) (sym (h ∙ e)) law
+sound_as ms s ps law v e (Err x) h = tt

@@ -1,8 +1,7 @@
 //! Whether messages, their acknowledgements and the digests of states are what they claim.
 
 ghost use Rattle.std.specs.Prelude.{◌≡◌, IfOk};
-ghost use Rattle.sha2.specs.Sha256.{sha256};
-ghost use Rattle.log_entries.specs.Messages.{message_hash, receipt_hash};
+ghost use Rattle.log_entries.specs.Messages.{receipt_hash};
 ghost use Rattle.honest_logs.specs.Signing.{is_signed_in};
 ghost use Rattle.honest_logs.specs.Steps.{received_message};
 ghost use Rattle.honest_logs.specs.Stepping.{is_bad_ack, is_bad_receive, is_repeated, is_wrong_checkpoint};

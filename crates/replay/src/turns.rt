@@ -1,7 +1,7 @@
 //! Whether it is an entry's turn.
 
 ghost use Rattle.std.specs.Prelude.{◌≡◌};
-ghost use Rattle.machines.specs.Machines.{machine_in};
+ghost use Rattle.checkpoint.specs.Machines.{machine_in};
 ghost use Rattle.honest_logs.specs.Signing.{is_same};
 ghost use Rattle.honest_logs.specs.State.{clock_in};
 ghost use Rattle.honest_logs.specs.Stepping.{is_bad_form, is_clock, is_clock_back, is_out_of_turn, is_send, is_send_of};

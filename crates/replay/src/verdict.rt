@@ -4,11 +4,11 @@ ghost use Rattle.std.specs.Prelude.{◌≡◌, ◌+◌, ◌≤◌, ◌<◌, ◌^
 ghost use Rattle.std.specs.FinMap.{len};
 ghost use Rattle.states.specs.declared.received.TheConstants.{MAX_RECEIVED};
 ghost use Rattle.states.specs.declared.sends.TheConstants.{MAX_SENDS};
-ghost use Rattle.honest_logs.specs.Placed.{place, placed};
+ghost use Rattle.honest_logs.specs.Placed.{place, placed, placed_in};
 ghost use Rattle.honest_logs.specs.Stepping.{shown_by};
 ghost use Rattle.honest_logs.specs.Replay.{segment_verdict, verdict_of, with_shown};
 ghost use Rattle.replay.specs.Answers.{Steps};
-ghost use Rattle.replay.specs.Verdicts.{verdict_in};
+ghost use Rattle.replay.specs.Verdicts.{IsSoundWhereHonest, verdict_in};
 
 use crate::copy::copy_of;
 use crate::fault::ReplayFault;
@@ -16,7 +16,7 @@ use crate::shown::shown_by;
 use crate::steps::{StepError, step};
 use authenticator::{Authenticator, Number, Roster};
 use checkpoint::State;
-use honest_logs::replay_laws::steps_as_it_takes;
+use honest_logs::replay_laws::{sound_exactly_if, steps_as_it_takes};
 use log_entries::entry_hash;
 use secure_log::{ClosedSegment, Entry};
 use std::alloc::{AllocError, Global};
@@ -36,12 +36,17 @@ pub enum Verdict {
 pub fn replay(alloc: Global, state: &State, segment: &ClosedSegment) -> Result<Verdict, AllocError>
     requires few_received { len state.now.received + length segment.now.segment.entries ≤ MAX_RECEIVED }
     requires few_sends { len state.now.sends + length segment.now.segment.entries ≤ MAX_SENDS }
-    ensures { IfOk result (λ verdict. verdict_in verdict
+    ensures verdict { IfOk result (λ verdict. verdict_in verdict
         ≡ segment_verdict segment.now.roster state.now segment.now.segment) }
+    ensures sound { IfOk result (λ verdict. IsSoundWhereHonest segment.now.roster state.now
+        (placed_in segment.now.segment) (verdict_in verdict)) }
 {
+    sound_exactly_if();
     let copy = copy_of(alloc, state)?;
     let roster = segment.roster();
     let segment = segment.segment();
+    // The last entry's number, which is below the greatest of 64 bits.
+    let _last = segment.closing().number.get();
     replay_entries(
         alloc,
         roster,

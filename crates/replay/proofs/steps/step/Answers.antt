@@ -5,10 +5,12 @@ use Rattle.replay.proofs.FaultySteps.{faulty, faultless}
 use Rattle.replay.proofs.steps.step.Goals as goal
 
 pub returns-in-Some : goal.returns-in-Some
-returns-in-Some c =
-    (faulty c.args.roster.now c.args.state.now c.args.number c.args.before.now c.args.entry.now
-    (fault_in c.in-Some.fault)
-    (sym (ap (option_map fault_in) c.in-Some.is) ∙ c.in_ok-fault.ensures), refl)
+returns-in-Some c = (
+  faulty c.args.roster.now c.args.state.now c.args.number c.args.before.now c.args.entry.now
+      (fault_in c.in-Some.fault)
+      (sym (ap (option_map fault_in) c.in-Some.is) ∙ c.in_ok-fault.ensures),
+  refl,
+)
 
 pub returns : goal.returns
 returns c =

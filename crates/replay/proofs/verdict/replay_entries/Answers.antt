@@ -39,17 +39,17 @@ replay_entry-requires-clause-few_sends c = room_sends
 pub returns-in-Err-Fault : goal.returns-in-Err-Fault
 returns-in-Err-Fault c =
     let whole = faults
-      c.args.roster.now c.args.start c.args.first c.args.opening.now c.args.entries.now
-      c.loop-entry.state c.loop-entry.found.items c.loop-entry.number c.loop-entry.before c.loop-entry.entry-index
-      c.loop-entry.invariant c.entry-item.result
-      (rest_of c.args.entries.now c.loop-entry.entry-index c.entry-item.result c.loop-entry-test.true
-      c.entry-item.is) in
+    c.args.roster.now c.args.start c.args.first c.args.opening.now c.args.entries.now
+    c.loop-entry.state c.loop-entry.found.items c.loop-entry.number c.loop-entry.before c.loop-entry.entry-index
+    c.loop-entry.invariant c.entry-item.result
+    (rest_of c.args.entries.now c.loop-entry.entry-index c.entry-item.result c.loop-entry-test.true
+    c.entry-item.is) in
     let fault = fault_in c.in-Err-Fault.fault in
     let refused = subst (λ (e : StepError). Steps {A = Unit {0}} c.args.roster.now c.loop-entry.state
-      (place c.new-place.result c.loop-entry.before c.entry-item.result) (Err e)
-      c.replay_entry.new.state) c.in-Err-Fault.field-0-is c.in-Err-Fault.ensures.step in
+    (place c.new-place.result c.loop-entry.before c.entry-item.result) (Err e)
+    c.replay_entry.new.state) c.in-Err-Fault.field-0-is c.in-Err-Fault.ensures.step in
     let there = subst (λ n. step c.args.roster.now c.loop-entry.state
-      (place n c.loop-entry.before c.entry-item.result) ≡ Err fault) c.new-place.ensures refused.0 in
+    (place n c.loop-entry.before c.entry-item.result) ≡ Err fault) c.new-place.ensures refused.0 in
     ap (λ f. Fault (fault_in f) c.new-place.result) c.in-Err-Fault.fault-is
     ∙ ap (Fault fault) c.new-place.ensures
     ∙ sym (whole fault there)
@@ -57,22 +57,22 @@ returns-in-Err-Fault c =
 pub loop-entry-preserved : goal.loop-entry-preserved
 loop-entry-preserved c =
     let on = goes_on
-      c.args.roster.now c.args.start c.args.first c.args.opening.now c.args.entries.now
-      c.loop-entry.state c.loop-entry.found.items c.loop-entry.number c.loop-entry.before c.loop-entry.entry-index
-      c.loop-entry.invariant c.entry-item.result
-      (rest_of c.args.entries.now c.loop-entry.entry-index c.entry-item.result c.loop-entry-test.true
-      c.entry-item.is) c.steps_as_it_takes.ensures c.replay_entry.new.state in
+    c.args.roster.now c.args.start c.args.first c.args.opening.now c.args.entries.now
+    c.loop-entry.state c.loop-entry.found.items c.loop-entry.number c.loop-entry.before c.loop-entry.entry-index
+    c.loop-entry.invariant c.entry-item.result
+    (rest_of c.args.entries.now c.loop-entry.entry-index c.entry-item.result c.loop-entry-test.true
+    c.entry-item.is) c.steps_as_it_takes.ensures c.replay_entry.new.state in
     let there = subst (λ n. step c.args.roster.now c.loop-entry.state
-      (place n c.loop-entry.before c.entry-item.result) ≡ Ok c.replay_entry.new.state)
-      c.new-place.ensures c.in-Ok.ensures.step in
+    (place n c.loop-entry.before c.entry-item.result) ≡ Ok c.replay_entry.new.state)
+    c.new-place.ensures c.in-Ok.ensures.step in
     on there c.replay_entry.new.found.items c.in-Ok.ensures.found c.entry_hash-before.result
     c.entry_hash-before.ensures
 
 pub returns : goal.returns
 returns c =
     let whole = ends
-      c.args.roster.now c.args.start c.args.first c.args.opening.now c.args.entries.now
-      c.loop-entry.state c.loop-entry.found.items c.loop-entry.number c.loop-entry.before c.loop-entry.entry-index
-      c.loop-entry.invariant in
+    c.args.roster.now c.args.start c.args.first c.args.opening.now c.args.entries.now
+    c.loop-entry.state c.loop-entry.found.items c.loop-entry.number c.loop-entry.before c.loop-entry.entry-index
+    c.loop-entry.invariant in
     let done = c.loop-entry-test.false in
     sym (whole (drop_all c.loop-entry.entry-index c.args.entries.now (omega (arith, done))))
