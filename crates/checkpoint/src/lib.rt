@@ -14,4 +14,5 @@ mod words;
 pub use digest::state_digest;
 pub use machines::{Machine, MessageBody, Stage, State};
 pub use read::{StateError, read_state};
+pub use state_spec::laws as state_laws;
 pub use text::state_text;

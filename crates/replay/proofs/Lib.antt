@@ -1,0 +1,3 @@
+pub mod FaultySteps
+pub mod Runs
+pub mod StayingKinds

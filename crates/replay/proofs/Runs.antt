@@ -1,0 +1,225 @@
+-- How a replay goes through entries: what it found so far, and the verdict on the rest.
+-- Serves: replay_entries.
+use Rattle.std.proofs.Common.{◌≡◌, ℕ, IfOk, ◌+◌, ◌<◌, ◌≤◌, List, [], ◌∷◌, ◌++◌, length, drop, Ok, Err, suc, get_or}
+use Rattle.std.proofs.Common.{Option, Some, None, Result, refl, sym, ap, ap₂, subst, ◌∙◌, arith}
+use Rattle.std.specs.FinMap as finite
+use Rattle.authenticator.specs.declared.member.Member.{Member}
+use Rattle.authenticator.specs.declared.authenticator.Authenticator.{Authenticator}
+use Rattle.log_entries.specs.Chain.{hash_after, link_of}
+use Rattle.log_entries.specs.declared.entry.Entry.{Entry}
+use Rattle.states.specs.declared.received.TheConstants.{MAX_RECEIVED}
+use Rattle.states.specs.declared.sends.TheConstants.{MAX_SENDS}
+use Rattle.honest_logs.specs.State.{State}
+use Rattle.replay.specs.Verdicts.{verdict_in, IsSoundWhereHonest}
+use Rattle.replay.specs.declared.verdict.Verdict as memory
+use Rattle.honest_logs.specs.Placed.{Placed, place, placed}
+use Rattle.honest_logs.specs.Stepping.{ReplayFault, step, shown_by}
+use Rattle.honest_logs.specs.Replay.{with_shown, Verdict, Sound, Fault, behind, verdict_of}
+use Rattle.honest_logs.specs.Steps.{Takes}
+use Rattle.honest_logs.specs.LoggedMessages.{is_recv, recv_count, send_count}
+use Rattle.honest_logs.proofs.Counts.{counted_on}
+use Rattle.std.proofs.lemmas.List.Sums.{sum_by-cons}
+use Rattle.std.proofs.Math.Seq.{drop-cons}
+use Rattle.std.specs.Prelude.{Bool, true, false, cond, ◌↔◌}
+use Rattle.honest_logs.specs.Stepping.{is_send}
+
+-- the verdict on entries behind those that showed these
+abbrev pub behind_all : List Authenticator → Verdict → Verdict
+behind_all [] v = v
+behind_all (a ∷ found) v = behind (Some a) (behind_all found v)
+
+abbrev one_if : Bool → ℕ
+one_if b = cond b 1 0
+
+at_most : (b : Bool) → one_if b ≤ 1
+at_most true = omega arith
+at_most false = omega arith
+
+-- an entry brings one message at most
+one_received : (e : Entry) → recv_count (e ∷ []) ≤ 1
+one_received e =
+    let low = at_most (is_recv e) in
+    let sum = sum_by-cons (λ x. one_if (is_recv x)) e [] in
+    omega (arith, low, sum)
+
+one_sent : (e : Entry) → send_count (e ∷ []) ≤ 1
+one_sent e =
+    let low = at_most (is_send e) in
+    let sum = sum_by-cons (λ x. one_if (is_send x)) e [] in
+    omega (arith, low, sum)
+
+-- What is known between two entries: the number of the next, room for the messages of those to come, and that
+-- the verdict on all is that on the rest, behind what was found.
+pub record IsRun (ms : List Member) (start : State) (first : ℕ) (opening : List ℕ) (entries : List Entry)
+    (s : State) (shown : List Authenticator) (number : ℕ) (before : List ℕ) (index : ℕ) : Type 0 where
+  pub counted : number ≡ first + index
+  pub received : finite.len s.received + length (drop index entries) ≤ MAX_RECEIVED
+  pub sends : finite.len s.sends + length (drop index entries) ≤ MAX_SENDS
+  pub verdict : verdict_of ms start (placed first opening entries)
+      ≡ behind_all shown (verdict_of ms s (placed number before (drop index entries)))
+
+-- more is found behind the rest
+behind_more : (shown : List Authenticator) (more : Option Authenticator) (v : Verdict)
+    → behind_all (shown ++ with_shown more []) v ≡ behind_all shown (behind more v)
+behind_more [] None (Sound s found) = refl
+behind_more [] None (Fault fault number) = refl
+behind_more [] (Some a) v = refl
+behind_more (b ∷ shown) more v = ap (behind (Some b)) (behind_more shown more v)
+
+-- nothing is found where nothing was
+behind_none : (v : Verdict) → behind None v ≡ v
+behind_none (Sound s found) = refl
+behind_none (Fault fault number) = refl
+
+-- at the end all is found
+pub all_found : (shown : List Authenticator) (s : State) → behind_all shown (Sound s []) ≡ Sound s shown
+all_found [] s = refl
+all_found (a ∷ shown) s = ap (behind (Some a)) (all_found shown s)
+
+-- a fault stays one behind what was found
+pub fault_found : (shown : List Authenticator) (fault : ReplayFault) (number : ℕ)
+    → behind_all shown (Fault fault number) ≡ Fault fault number
+fault_found [] fault number = refl
+fault_found (a ∷ shown) fault number = ap (behind (Some a)) (fault_found shown fault number)
+
+-- ---- one step
+
+-- the verdict by what the first step gives
+abbrev verdict_behind : List Member → State → Placed → List Placed → Result State ReplayFault → Verdict
+verdict_behind ms s p ps (Ok t) = behind (shown_by s p.entry) (verdict_of ms t ps)
+verdict_behind ms s p ps (Err fault) = Fault fault p.number
+
+first_step : (ms : List Member) (s : State) (p : Placed) (ps : List Placed)
+    → verdict_of ms s (p ∷ ps) ≡ verdict_behind ms s p ps (step ms s p)
+first_step ms s p ps = by (step ms s p)
+  where
+    by : (r : Result State ReplayFault) → ◌≡◌ {A = Verdict}
+        (elim r [
+          | Ok t ↦ behind (shown_by s p.entry) (verdict_of ms t ps)
+          | Err fault ↦ Fault fault p.number
+        ])
+        (verdict_behind ms s p ps r)
+    by (Ok t) = refl
+    by (Err fault) = refl
+
+-- a step is told by what it takes
+abbrev StepsTake : Type 0
+StepsTake = (ms : List Member) (s t : State) (p : Placed) → (step ms s p ≡ Ok t) ↔ Takes ms s p t
+
+-- by a step each kind of message is one more at most
+more_received : StepsTake → (ms : List Member) (s t : State) (number : ℕ) (before : List ℕ) (e : Entry)
+    → step ms s (place number before e) ≡ Ok t → finite.len t.received ≤ finite.len s.received + 1
+more_received law ms s t number before e h =
+    let counts =
+    counted_on ms s number before (e ∷ []) (t ∷ []) ((law ms s t (place number before e)).0 h, tt) in
+    let few = counts.received in
+    let one = one_received e in
+    omega (arith, few, one)
+
+more_sent : StepsTake → (ms : List Member) (s t : State) (number : ℕ) (before : List ℕ) (e : Entry)
+    → step ms s (place number before e) ≡ Ok t → finite.len t.sends ≤ finite.len s.sends + 1
+more_sent law ms s t number before e h =
+    let counts =
+    counted_on ms s number before (e ∷ []) (t ∷ []) ((law ms s t (place number before e)).0 h, tt) in
+    let few = counts.sends in
+    let one = one_sent e in
+    omega (arith, few, one)
+
+-- ---- a run from an entry to the next
+
+-- the entries from one on are it and those behind it
+pub rest_of : (entries : List Entry) (index : ℕ) (e : Entry) → index < length entries
+    → e ≡ get_or entries index e → drop index entries ≡ e ∷ drop (index + 1) entries
+rest_of entries index e inside is =
+    let next : suc index ≡ index + 1 = omega arith in
+    drop-cons entries index e inside
+    ∙ ap (λ (x : Entry). x ∷ drop (suc index) entries) (sym is)
+    ∙ ap (λ n. e ∷ drop n entries) next
+
+module _ (ms : List Member) (start : State) (first : ℕ) (opening : List ℕ) (entries : List Entry) where
+  -- before the first entry nothing is found
+  pub begins : (shown : List Authenticator) (number : ℕ) → shown ≡ [] → number ≡ first → finite.len start.received + length entries ≤ MAX_RECEIVED
+      → finite.len start.sends + length entries ≤ MAX_SENDS
+      → IsRun ms start first opening entries start shown number opening 0
+  begins shown number none same received sends = record {
+    counted = omega (arith, same);
+    received = received;
+    sends = sends;
+    verdict = ap₂ (λ n xs. behind_all xs (verdict_of ms start (placed n opening entries))) (sym same) (sym none);
+  }
+
+  module _ (s : State) (shown : List Authenticator) (number : ℕ) (before : List ℕ) (index : ℕ)
+      (run : IsRun ms start first opening entries s shown number before index) where
+    -- the verdict on all
+    abbrev verdict : Verdict
+    verdict = verdict_of ms start (placed first opening entries)
+
+    module _ (e : Entry) (rest : drop index entries ≡ e ∷ drop (index + 1) entries) where
+      -- there is room for what the entry brings
+      pub room_received : finite.len s.received < MAX_RECEIVED
+      room_received =
+          let few = subst (λ (es : List Entry). finite.len s.received + length es ≤ MAX_RECEIVED) rest run.received in
+          omega (arith, few)
+
+      pub room_sends : finite.len s.sends < MAX_SENDS
+      room_sends =
+          let few = subst (λ (es : List Entry). finite.len s.sends + length es ≤ MAX_SENDS) rest run.sends in
+          omega (arith, few)
+
+      -- the verdict on all is that on this entry and the rest
+      here : verdict ≡ behind_all shown (verdict_of ms s (placed number before (e ∷ drop (index + 1) entries)))
+      here = run.verdict ∙ ap (λ es. behind_all shown (verdict_of ms s (placed number before es))) rest
+
+      abbrev at : Placed
+      at = place number before e
+
+      abbrev later : List Placed
+      later = placed (number + 1) (hash_after before (link_of number e)) (drop (index + 1) entries)
+
+      -- its fault is that of the verdict
+      pub faults : (fault : ReplayFault) → step ms s (place number before e) ≡ Err fault
+          → verdict ≡ Fault fault number
+      faults fault h =
+          here
+          ∙ ap (behind_all shown) (first_step ms s at later ∙ ap (verdict_behind ms s at later) h)
+          ∙ fault_found shown fault number
+
+      -- behind it the run goes on
+      pub goes_on : StepsTake → (t : State) → step ms s (place number before e) ≡ Ok t
+          → (found : List Authenticator) → found ≡ shown ++ with_shown (shown_by s e) []
+          → (after : List ℕ) → after ≡ hash_after before (link_of number e)
+          → IsRun ms start first opening entries t found (number + 1) after (index + 1)
+      goes_on law t h found more after hash = record {
+        counted = let counted = run.counted in omega (arith, counted);
+        received =
+            let few = subst (λ (es : List Entry). finite.len s.received + length es ≤ MAX_RECEIVED) rest run.received in
+            let one = more_received law ms s t number before e h in
+            omega (arith, few, one);
+        sends =
+            let few = subst (λ (es : List Entry). finite.len s.sends + length es ≤ MAX_SENDS) rest run.sends in
+            let one = more_sent law ms s t number before e h in
+            omega (arith, few, one);
+        verdict =
+            here
+            ∙ ap (behind_all shown) (first_step ms s at later ∙ ap (verdict_behind ms s at later) h)
+            ∙ sym (behind_more shown (shown_by s e) (verdict_of ms t later))
+            ∙ ap₂ (λ xs b. behind_all xs (verdict_of ms t (placed (number + 1) b (drop (index + 1) entries))))
+            (sym more) (sym hash);
+      }
+
+    -- behind the last entry all is found
+    pub ends : drop index entries ≡ [] → verdict ≡ Sound s shown
+    ends none =
+        run.verdict
+        ∙ ap (λ es. behind_all shown (verdict_of ms s (placed number before es))) none
+        ∙ all_found shown s
+
+-- ---- the verdict on all
+
+-- a verdict is Sound as the law says
+pub sound_as : {E : Type 0} (ms : List Member) (s : State) (ps : List Placed) (law : IsSoundWhereHonest ms s ps
+    (verdict_of ms s ps)) (v : Verdict) → v ≡ verdict_of ms s ps → (r : Result memory.Verdict E)
+    → IfOk r (λ x. verdict_in x ≡ v) → IfOk r (λ x. IsSoundWhereHonest ms s ps (verdict_in x))
+sound_as ms s ps law v e (Ok x) h =
+    subst (IsSoundWhereHonest ms s ps) (sym (h ∙ e)) law
+sound_as ms s ps law v e (Err x) h = tt

@@ -1,0 +1,21 @@
+//! Replays of segments: the reference machine of a node takes one entry after the other, up to the first that
+//! has a fault.
+#![tactic(auto)]
+
+mod copy;
+mod fault;
+mod machine;
+mod messages;
+mod shown;
+mod steps;
+mod take;
+#[cfg(test)]
+mod tests;
+mod turns;
+mod verdict;
+
+pub use checkpoint::State;
+pub use fault::ReplayFault;
+pub use machine::{FreeMachine, Machine, ServerMachine};
+pub use steps::{StepError, step};
+pub use verdict::{Verdict, replay};

@@ -1,0 +1,55 @@
+//! What entries show of other nodes' logs.
+
+ghost use Rattle.std.specs.Prelude.{◌≡◌, IfOk};
+ghost use Rattle.honest_logs.specs.Stepping.{shown_by};
+
+use crate::messages::acknowledged_hash;
+use authenticator::Authenticator;
+use checkpoint::State;
+use log_entries::message_hash;
+use secure_log::Entry;
+use std::alloc::{AllocError, Global};
+
+/// The authenticator that an entry behind a state shows, with a copy of the signature: a RECV its sender's, an
+/// ACK that of the receiver of its message, if that was sent. Other entries show none.
+pub(crate) fn shown_by(
+    alloc: Global,
+    state: &State,
+    entry: &Entry,
+) -> Result<Option<Authenticator>, AllocError>
+    ensures { IfOk result (λ shown. shown ≡ shown_by state.now entry.now) }
+{
+    match entry {
+        Entry::Recv {
+            from,
+            seq,
+            prev,
+            body,
+            signature,
+        } => Ok(Some(Authenticator {
+            node: *from,
+            number: *seq,
+            hash: message_hash(state.node(), *seq, prev, &body.digest()),
+            signature: signature.signature().try_clone(alloc)?,
+        })),
+        Entry::Ack {
+            to: _,
+            seq,
+            mine,
+            number,
+            prev,
+            signature,
+        } => {
+            let Some(message) = state.sends().get(seq.get()) else {
+                return Ok(None);
+            };
+            Ok(Some(Authenticator {
+                node: message.to(),
+                number: *number,
+                hash: acknowledged_hash(state.node(), *seq, &message, mine, *number, prev),
+                signature: signature.signature().try_clone(alloc)?,
+            }))
+        }
+        _ => Ok(None),
+    }
+}

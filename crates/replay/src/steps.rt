@@ -1,0 +1,97 @@
+//! A step of a state.
+
+ghost use Rattle.std.specs.Prelude.{◌≡◌, ◌<◌, IfOk};
+ghost use Rattle.std.specs.Option.{option_map};
+ghost use Rattle.std.specs.FinMap.{len};
+ghost use Rattle.states.specs.declared.received.TheConstants.{MAX_RECEIVED};
+ghost use Rattle.states.specs.declared.sends.TheConstants.{MAX_SENDS};
+ghost use Rattle.honest_logs.specs.Placed.{place};
+ghost use Rattle.honest_logs.specs.Stepping.{fault_of};
+ghost use Rattle.replay.specs.Faults.{fault_in};
+ghost use Rattle.replay.specs.Answers.{Steps};
+ghost use Rattle.replay.specs.declared.steps.StepError.TheVariants.{NoMemory};
+
+use crate::fault::ReplayFault;
+use crate::messages::{is_bad_ack, is_bad_receive, is_repeated, is_wrong_checkpoint};
+use crate::take::take;
+use crate::turns::{is_bad_form, is_clock_back, is_wrong_reply};
+use authenticator::{Number, Roster};
+use checkpoint::State;
+use secure_log::Entry;
+use std::alloc::{AllocError, Global};
+use thiserror::Error;
+
+/// Why a state took no step.
+#[derive(Clone, Copy, Debug, PartialEq, Eq, Error)]
+pub enum StepError {
+    #[error("out of memory")]
+    NoMemory,
+    /// The entry may not stand behind the state.
+    #[error("{0}")]
+    Fault(ReplayFault),
+}
+
+impl From<AllocError> for StepError {
+    ghost from_gives = { λ _ e. e ≡ NoMemory };
+
+    fn from(_e: AllocError) -> StepError {
+        StepError::NoMemory
+    }
+}
+
+/// The state takes an entry of the log of its node, a member of this roster, at a number and behind the hash
+/// `before`. `Fault` comes exactly where the entry may not stand there, with the first fault that it has in the
+/// order BadForm, WrongReply, BadReceive, Repeated, ClockBack, BadAck, WrongCheckpoint; `NoMemory` only where a
+/// growth was refused. After either the state is as it was.
+pub fn step(
+    state: &mut State,
+    alloc: Global,
+    roster: &Roster,
+    number: Number,
+    before: &[u8; 32],
+    entry: &Entry,
+) -> Result<(), StepError>
+    requires few_received { len state.old.received < MAX_RECEIVED }
+    requires few_sends { len state.old.sends < MAX_SENDS }
+    ensures { Steps roster.now state.old (place number before.now entry.now) result state.new }
+{
+    if let Some(fault) = fault_of(alloc, roster, state, entry)? {
+        return Err(StepError::Fault(fault));
+    }
+    take(state, alloc, number, before, entry)?;
+    Ok(())
+}
+
+/// The fault of an entry behind a state, if it has one: each is looked at only where those above don't apply.
+fn fault_of(
+    alloc: Global,
+    roster: &Roster,
+    state: &State,
+    entry: &Entry,
+) -> Result<Option<ReplayFault>, AllocError>
+    ensures { IfOk result (λ fault. option_map fault_in fault ≡ fault_of roster.now state.now entry.now) }
+{
+    let machine = state.machine();
+    if is_bad_form(machine, entry) {
+        return Ok(Some(ReplayFault::BadForm));
+    }
+    if is_wrong_reply(machine, entry) {
+        return Ok(Some(ReplayFault::WrongReply));
+    }
+    if is_bad_receive(roster, state, entry) {
+        return Ok(Some(ReplayFault::BadReceive));
+    }
+    if is_repeated(state, entry) {
+        return Ok(Some(ReplayFault::Repeated));
+    }
+    if is_clock_back(machine, entry) {
+        return Ok(Some(ReplayFault::ClockBack));
+    }
+    if is_bad_ack(roster, state, entry) {
+        return Ok(Some(ReplayFault::BadAck));
+    }
+    if is_wrong_checkpoint(alloc, state, entry)? {
+        return Ok(Some(ReplayFault::WrongCheckpoint));
+    }
+    Ok(None)
+}

@@ -1,0 +1,78 @@
+//! What entries without a fault do to a state.
+
+ghost use Rattle.std.specs.Prelude.{◌≡◌, ◌<◌, false, OnOk, OnErr};
+ghost use Rattle.std.specs.FinMap.{len};
+ghost use Rattle.states.specs.declared.received.TheConstants.{MAX_RECEIVED};
+ghost use Rattle.states.specs.declared.sends.TheConstants.{MAX_SENDS};
+ghost use Rattle.honest_logs.specs.State.{Heard};
+ghost use Rattle.honest_logs.specs.StateSteps.{at_stage, having_received};
+ghost use Rattle.honest_logs.specs.Steps.{after_entry, received_message};
+ghost use Rattle.honest_logs.specs.Stepping.{shows_no_time};
+
+use crate::messages::received_message;
+use authenticator::Number;
+use checkpoint::{MessageBody, Stage, State};
+use nfs_items::Time;
+use secure_log::{Body, Entry};
+use states::SentMessage;
+use std::alloc::{AllocError, Global};
+
+/// The state takes an entry at a number, behind a hash. Where memory is refused nothing changes.
+pub(crate) fn take(
+    state: &mut State,
+    alloc: Global,
+    number: Number,
+    before: &[u8; 32],
+    entry: &Entry,
+) -> Result<(), AllocError>
+    requires few_received { len state.old.received < MAX_RECEIVED }
+    requires few_sends { len state.old.sends < MAX_SENDS }
+    requires time { shows_no_time entry.now ≡ false }
+    ensures ok { OnOk result (state.new ≡ after_entry state.old number before.now entry.now) }
+    ensures err { OnErr result (state.new ≡ state.old) }
+{
+    match entry {
+        Entry::Send { to, body } => {
+            state.add_send(number.get(), SentMessage::new(*to, *before, body.digest()))?;
+            state.set_stage(Stage::Idle);
+            Ok(())
+        }
+        Entry::Recv {
+            from,
+            seq,
+            prev,
+            body,
+            signature: _,
+        } => { receive(state, alloc, *from, *seq, prev, body) }
+        Entry::Ack { seq, .. } => {
+            state.remove_send(seq.get());
+            Ok(())
+        }
+        Entry::Clock {
+            seconds,
+            microseconds,
+        } => { state.read_clock(alloc, Time::new(*seconds, *microseconds).unwrap()) }
+        Entry::Check { .. } => Ok(()),
+    }
+}
+
+/// The state takes a message in; a server keeps a copy of its body, and owes a clock reading.
+fn receive(
+    state: &mut State,
+    alloc: Global,
+    from: u32,
+    seq: Number,
+    prev: &[u8; 32],
+    body: &Body,
+) -> Result<(), AllocError>
+    requires { len state.old.received < MAX_RECEIVED }
+    ensures ok { OnOk result (state.new ≡ at_stage
+        (having_received state.old (received_message state.old.node from seq prev.now body.now))
+        (Heard from body.now)) }
+    ensures err { OnErr result (state.new ≡ state.old) }
+{
+    let heard = MessageBody::new(body.bytes().to_vec(alloc)?);
+    state.add_received(received_message(state.node(), from, seq, prev, body))?;
+    state.set_stage(Stage::Heard { from, body: heard });
+    Ok(())
+}
