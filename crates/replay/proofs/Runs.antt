@@ -1,6 +1,7 @@
 -- How a replay goes through entries: what it found so far, and the verdict on the rest.
--- Serves: replay_entries.
-use Rattle.std.proofs.Common.{◌≡◌, ℕ, IfOk, ◌+◌, ◌<◌, ◌≤◌, List, [], ◌∷◌, ◌++◌, length, drop, Ok, Err, suc, get_or}
+-- Serves: replay_entries, replay.
+use Rattle.std.proofs.Common.{◌≡◌, ℕ, suc, ◌+◌, ◌<◌, ◌≤◌, List, [], ◌∷◌, ◌++◌, length, drop, get_or}
+use Rattle.std.proofs.Common.{Ok, Err, IfOk}
 use Rattle.std.proofs.Common.{Option, Some, None, Result, refl, sym, ap, ap₂, subst, ◌∙◌, arith}
 use Rattle.std.specs.FinMap as finite
 use Rattle.authenticator.specs.declared.member.Member.{Member}
@@ -138,14 +139,16 @@ rest_of entries index e inside is =
 
 module _ (ms : List Member) (start : State) (first : ℕ) (opening : List ℕ) (entries : List Entry) where
   -- before the first entry nothing is found
-  pub begins : (shown : List Authenticator) (number : ℕ) → shown ≡ [] → number ≡ first → finite.len start.received + length entries ≤ MAX_RECEIVED
+  pub begins : (shown : List Authenticator) (number : ℕ) → shown ≡ [] → number ≡ first
+      → finite.len start.received + length entries ≤ MAX_RECEIVED
       → finite.len start.sends + length entries ≤ MAX_SENDS
       → IsRun ms start first opening entries start shown number opening 0
   begins shown number none same received sends = record {
     counted = omega (arith, same);
     received = received;
     sends = sends;
-    verdict = ap₂ (λ n xs. behind_all xs (verdict_of ms start (placed n opening entries))) (sym same) (sym none);
+    verdict =
+        ap₂ (λ n xs. behind_all xs (verdict_of ms start (placed n opening entries))) (sym same) (sym none);
   }
 
   module _ (s : State) (shown : List Authenticator) (number : ℕ) (before : List ℕ) (index : ℕ)
@@ -158,16 +161,19 @@ module _ (ms : List Member) (start : State) (first : ℕ) (opening : List ℕ) (
       -- there is room for what the entry brings
       pub room_received : finite.len s.received < MAX_RECEIVED
       room_received =
-          let few = subst (λ (es : List Entry). finite.len s.received + length es ≤ MAX_RECEIVED) rest run.received in
+          let few = subst (λ (es : List Entry). finite.len s.received + length es ≤ MAX_RECEIVED) rest
+          run.received in
           omega (arith, few)
 
       pub room_sends : finite.len s.sends < MAX_SENDS
       room_sends =
-          let few = subst (λ (es : List Entry). finite.len s.sends + length es ≤ MAX_SENDS) rest run.sends in
+          let few = subst (λ (es : List Entry). finite.len s.sends + length es ≤ MAX_SENDS) rest
+          run.sends in
           omega (arith, few)
 
       -- the verdict on all is that on this entry and the rest
-      here : verdict ≡ behind_all shown (verdict_of ms s (placed number before (e ∷ drop (index + 1) entries)))
+      here : verdict
+          ≡ behind_all shown (verdict_of ms s (placed number before (e ∷ drop (index + 1) entries)))
       here = run.verdict ∙ ap (λ es. behind_all shown (verdict_of ms s (placed number before es))) rest
 
       abbrev at : Placed
@@ -192,11 +198,13 @@ module _ (ms : List Member) (start : State) (first : ℕ) (opening : List ℕ) (
       goes_on law t h found more after hash = record {
         counted = let counted = run.counted in omega (arith, counted);
         received =
-            let few = subst (λ (es : List Entry). finite.len s.received + length es ≤ MAX_RECEIVED) rest run.received in
+            let few = subst (λ (es : List Entry). finite.len s.received + length es ≤ MAX_RECEIVED) rest
+            run.received in
             let one = more_received law ms s t number before e h in
             omega (arith, few, one);
         sends =
-            let few = subst (λ (es : List Entry). finite.len s.sends + length es ≤ MAX_SENDS) rest run.sends in
+            let few = subst (λ (es : List Entry). finite.len s.sends + length es ≤ MAX_SENDS) rest
+            run.sends in
             let one = more_sent law ms s t number before e h in
             omega (arith, few, one);
         verdict =
@@ -217,8 +225,9 @@ module _ (ms : List Member) (start : State) (first : ℕ) (opening : List ℕ) (
 -- ---- the verdict on all
 
 -- a verdict is Sound as the law says
-pub sound_as : {E : Type 0} (ms : List Member) (s : State) (ps : List Placed) (law : IsSoundWhereHonest ms s ps
-    (verdict_of ms s ps)) (v : Verdict) → v ≡ verdict_of ms s ps → (r : Result memory.Verdict E)
+pub sound_as : {E : Type 0} (ms : List Member) (s : State) (ps : List Placed)
+    → IsSoundWhereHonest ms s ps (verdict_of ms s ps) → (v : Verdict) → v ≡ verdict_of ms s ps
+    → (r : Result memory.Verdict E)
     → IfOk r (λ x. verdict_in x ≡ v) → IfOk r (λ x. IsSoundWhereHonest ms s ps (verdict_in x))
 sound_as ms s ps law v e (Ok x) h =
     subst (IsSoundWhereHonest ms s ps) (sym (h ∙ e)) law

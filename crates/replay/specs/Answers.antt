@@ -9,9 +9,10 @@ use Rattle.replay.specs.Faults.{fault_in}
 use Rattle.replay.specs.declared.steps.StepError.{StepError}
 use Rattle.replay.specs.declared.steps.StepError.TheVariants.{NoMemory, Fault}
 
--- A machine answers a step that gives this from this state: it leaves the state after it, or names the fault and
--- leaves the state before. So it does where memory is refused.
-abbrev pub Answers : {A : Type 0} → Result State spec.ReplayFault → State → Result A StepError → State → Type 0
+-- A machine answers a step that gives this from a state: it leaves the state after it, or names the fault
+-- and leaves the state before. That it leaves where memory is refused, too.
+abbrev pub Answers : {A : Type 0} → Result State spec.ReplayFault → State → Result A StepError → State
+    → Type 0
 Answers given s (Ok done) t = given ≡ Ok t
 Answers given s (Err NoMemory) t = t ≡ s
 Answers given s (Err (Fault fault)) t = (given ≡ Err (fault_in fault)) × (t ≡ s)

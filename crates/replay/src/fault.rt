@@ -9,8 +9,8 @@ use thiserror::Error;
 /// What an entry of a log may have wrong behind a state (PeerReview, SOSP 2007, section 5.4).
 #[derive(Clone, Copy, Debug, PartialEq, Eq, Error)]
 pub enum ReplayFault {
-    /// A CLOCK stands where no server reads its clock, something else stands where it has to, or a CLOCK shows
-    /// microseconds above 999,999.
+    /// A CLOCK stands where no server reads its clock, something else stands where it has to, or a CLOCK
+    /// shows microseconds above 999,999.
     #[error("the entry is out of turn, or shows no time")]
     BadForm,
     /// A RECV names its own node or a stranger as sender, or isn't signed by the sender.

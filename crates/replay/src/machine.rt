@@ -19,8 +19,8 @@ use secure_log::Entry;
 use std::alloc::{AllocError, Global};
 use std::marker::Model;
 
-/// A node's reference machine: what it answers to an entry is a function of its state and the entry, and equal
-/// texts mean equal states.
+/// A node's reference machine: what it answers to an entry is a function of its state and the entry, and
+/// equal texts mean equal states.
 pub trait Machine: Drop {
     /// The state that it is in.
     ghost state: { Self → State };
@@ -31,8 +31,8 @@ pub trait Machine: Drop {
     /// Bytes are a state's text.
     ghost HasText: { State → List ℕ → Type 0 };
 
-    /// Takes an entry of the log of its node, a member of this roster, at a number and behind the hash `before`,
-    /// as `step` does.
+    /// Takes an entry of the log of its node, a member of this roster, at a number and behind the hash
+    /// `before`: after a refusal its state is as it was.
     fn step(
         &mut self,
         alloc: Global,

@@ -10,8 +10,8 @@ use log_entries::message_hash;
 use secure_log::Entry;
 use std::alloc::{AllocError, Global};
 
-/// The authenticator that an entry behind a state shows, with a copy of the signature: a RECV its sender's, an
-/// ACK that of the receiver of its message, if that was sent. Other entries show none.
+/// The authenticator that an entry behind a state shows, with a copy of the signature: a RECV its sender's,
+/// an ACK that of the receiver of its message, if that was sent. Other entries show none.
 pub(crate) fn shown_by(
     alloc: Global,
     state: &State,

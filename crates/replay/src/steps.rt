@@ -40,9 +40,9 @@ impl From<AllocError> for StepError {
 }
 
 /// The state takes an entry of the log of its node, a member of this roster, at a number and behind the hash
-/// `before`. `Fault` comes exactly where the entry may not stand there, with the first fault that it has in the
-/// order BadForm, WrongReply, BadReceive, Repeated, ClockBack, BadAck, WrongCheckpoint; `NoMemory` only where a
-/// growth was refused. After either the state is as it was.
+/// `before`. `Fault` comes exactly where the entry may not stand there, with the first fault that it has in
+/// the order BadForm, WrongReply, BadReceive, Repeated, ClockBack, BadAck, WrongCheckpoint; `NoMemory` only
+/// where a growth was refused. After either the state is as it was.
 pub fn step(
     state: &mut State,
     alloc: Global,

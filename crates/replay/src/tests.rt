@@ -32,8 +32,8 @@ fn first_step(alloc: Global, state: &mut State, entry: &Entry) -> Result<Option<
     Ok(step(state, alloc, &roster, Number::new(1), &[0; 32], entry).err())
 }
 
-// The first entry of a server's log: a SEND that nothing asked for, a CLOCK that no message came before, a CHECK
-// of zeros and one of the state.
+// The first entry of a server's log: a SEND that nothing asked for, a CLOCK that no message came before, a
+// CHECK of zeros and one of the state.
 #[test]
 fn a_servers_first_entry(rt: HostRuntime) -> Result<(), Fail> {
     let mut state = State::opening_server(rt.alloc(), 1)?;

@@ -4,8 +4,8 @@ ghost use Rattle.std.specs.Prelude.{◌≡◌};
 ghost use Rattle.checkpoint.specs.Machines.{machine_in};
 ghost use Rattle.honest_logs.specs.Signing.{is_same};
 ghost use Rattle.honest_logs.specs.State.{clock_in};
-ghost use Rattle.honest_logs.specs.Stepping.{is_bad_form, is_clock, is_clock_back, is_out_of_turn, is_send, is_send_of};
-ghost use Rattle.honest_logs.specs.Stepping.{is_wrong_reply, shows_no_time};
+ghost use Rattle.honest_logs.specs.Stepping.{is_bad_form, is_clock, is_clock_back, is_out_of_turn};
+ghost use Rattle.honest_logs.specs.Stepping.{is_send, is_send_of, is_wrong_reply, shows_no_time};
 
 use checkpoint::{Machine, Stage};
 use secure_log::Entry;

@@ -7,7 +7,12 @@ pub returns-in-Some : goal.returns-in-Some
 returns-in-Some c =
     let member = c.in-Some.member in
     signed_same c.args.roster.now
-    (record { node = c.args.node; number = c.args.number; hash = c.args.hash.now; signature = c.args.signature.now })
+    (record {
+      node = c.args.node;
+      number = c.args.number;
+      hash = c.args.hash.now;
+      signature = c.args.signature.now;
+    })
     member c.is_signed.result (sym c.member.ensures ∙ c.in-Some.is) c.is_signed.ensures
     (c.tests_as_it_is_signed.ensures.by_root member.root member.height
     (signed_digest c.args.node c.args.number c.args.hash.now) c.args.signature.now)

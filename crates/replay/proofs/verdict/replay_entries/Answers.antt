@@ -25,23 +25,25 @@ new-place-requires c =
 pub replay_entry-requires-clause-few_received : goal.replay_entry-requires-clause-few_received
 replay_entry-requires-clause-few_received c = room_received
     c.args.roster.now c.args.start c.args.first c.args.opening.now c.args.entries.now
-    c.loop-entry.state c.loop-entry.found.items c.loop-entry.number c.loop-entry.before c.loop-entry.entry-index
-    c.loop-entry.invariant c.entry-item.result
-    (rest_of c.args.entries.now c.loop-entry.entry-index c.entry-item.result c.loop-entry-test.true c.entry-item.is)
+    c.loop-entry.state c.loop-entry.found.items c.loop-entry.number c.loop-entry.before
+    c.loop-entry.entry-index c.loop-entry.invariant c.entry-item.result
+    (rest_of c.args.entries.now c.loop-entry.entry-index c.entry-item.result c.loop-entry-test.true
+    c.entry-item.is)
 
 pub replay_entry-requires-clause-few_sends : goal.replay_entry-requires-clause-few_sends
 replay_entry-requires-clause-few_sends c = room_sends
     c.args.roster.now c.args.start c.args.first c.args.opening.now c.args.entries.now
-    c.loop-entry.state c.loop-entry.found.items c.loop-entry.number c.loop-entry.before c.loop-entry.entry-index
-    c.loop-entry.invariant c.entry-item.result
-    (rest_of c.args.entries.now c.loop-entry.entry-index c.entry-item.result c.loop-entry-test.true c.entry-item.is)
+    c.loop-entry.state c.loop-entry.found.items c.loop-entry.number c.loop-entry.before
+    c.loop-entry.entry-index c.loop-entry.invariant c.entry-item.result
+    (rest_of c.args.entries.now c.loop-entry.entry-index c.entry-item.result c.loop-entry-test.true
+    c.entry-item.is)
 
 pub returns-in-Err-Fault : goal.returns-in-Err-Fault
 returns-in-Err-Fault c =
     let whole = faults
     c.args.roster.now c.args.start c.args.first c.args.opening.now c.args.entries.now
-    c.loop-entry.state c.loop-entry.found.items c.loop-entry.number c.loop-entry.before c.loop-entry.entry-index
-    c.loop-entry.invariant c.entry-item.result
+    c.loop-entry.state c.loop-entry.found.items c.loop-entry.number c.loop-entry.before
+    c.loop-entry.entry-index c.loop-entry.invariant c.entry-item.result
     (rest_of c.args.entries.now c.loop-entry.entry-index c.entry-item.result c.loop-entry-test.true
     c.entry-item.is) in
     let fault = fault_in c.in-Err-Fault.fault in
@@ -58,8 +60,8 @@ pub loop-entry-preserved : goal.loop-entry-preserved
 loop-entry-preserved c =
     let on = goes_on
     c.args.roster.now c.args.start c.args.first c.args.opening.now c.args.entries.now
-    c.loop-entry.state c.loop-entry.found.items c.loop-entry.number c.loop-entry.before c.loop-entry.entry-index
-    c.loop-entry.invariant c.entry-item.result
+    c.loop-entry.state c.loop-entry.found.items c.loop-entry.number c.loop-entry.before
+    c.loop-entry.entry-index c.loop-entry.invariant c.entry-item.result
     (rest_of c.args.entries.now c.loop-entry.entry-index c.entry-item.result c.loop-entry-test.true
     c.entry-item.is) c.steps_as_it_takes.ensures c.replay_entry.new.state in
     let there = subst (λ n. step c.args.roster.now c.loop-entry.state
@@ -72,7 +74,7 @@ pub returns : goal.returns
 returns c =
     let whole = ends
     c.args.roster.now c.args.start c.args.first c.args.opening.now c.args.entries.now
-    c.loop-entry.state c.loop-entry.found.items c.loop-entry.number c.loop-entry.before c.loop-entry.entry-index
-    c.loop-entry.invariant in
+    c.loop-entry.state c.loop-entry.found.items c.loop-entry.number c.loop-entry.before
+    c.loop-entry.entry-index c.loop-entry.invariant in
     let done = c.loop-entry-test.false in
     sym (whole (drop_all c.loop-entry.entry-index c.args.entries.now (omega (arith, done))))

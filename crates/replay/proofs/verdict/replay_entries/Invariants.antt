@@ -3,4 +3,5 @@ use Rattle.replay.proofs.verdict.replay_entries.Given as goal
 
 abbrev pub invariant-loop-entry : goal.invariant-loop-entry
 invariant-loop-entry l =
-    IsRun l.roster l.fn.start l.fn.first l.opening l.entries l.state l.found.items l.number l.before l.entry-index
+    IsRun l.roster l.fn.start l.fn.first l.opening l.entries
+    l.state l.found.items l.number l.before l.entry-index
