@@ -90,7 +90,14 @@ impl Direct {
         if self.failed {
             return Err(LinkFault::Failed);
         }
-        match carry(&mut self.client, &mut self.server, &mut self.text, alloc, time, bytes) {
+        match carry(
+            &mut self.client,
+            &mut self.server,
+            &mut self.text,
+            alloc,
+            time,
+            bytes,
+        ) {
             Ok(reply) => Ok(reply),
             Err(fault) => {
                 self.failed = true;
