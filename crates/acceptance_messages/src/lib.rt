@@ -6,4 +6,6 @@ mod acks;
 #[cfg(test)]
 mod lookups;
 #[cfg(test)]
+mod messages;
+#[cfg(test)]
 mod nodes;

@@ -2,7 +2,9 @@
 
 ghost use Rattle.std.specs.Prelude.{◌≡◌, IfOk, IfErr, MatchOption, MatchResult};
 ghost use Rattle.xdr.specs.Item.{Fits};
+ghost use Rattle.fs_model.specs.Trees.{IsTime};
 ghost use Rattle.file_texts.specs.FileItems.{file_item};
+ghost use Rattle.file_texts.specs.Parts.{time_of};
 ghost use Rattle.state_spec.specs.State as spec;
 ghost use Rattle.state_spec.specs.StateItems.{state_item};
 ghost use Rattle.state_spec.specs.StateText.{IsStateText, IsGarbage, IsNotAState};
@@ -96,7 +98,7 @@ fn state_of(alloc: Global, parts: &StatePart) -> Result<Option<State>, AllocErro
     let Some(sends) = Sends::of_rising(alloc, &parts.sends)? else {
         return Ok(None);
     };
-    let Some(clock) = Time::new(parts.clock.seconds, parts.clock.microseconds) else {
+    let Some(clock) = clock_of(parts) else {
         return Ok(None);
     };
     match &parts.machine {
@@ -115,6 +117,14 @@ fn state_of(alloc: Global, parts: &StatePart) -> Result<Option<State>, AllocErro
             Ok(Some(state))
         }
     }
+}
+
+/// The clock of parts. None exactly where it shows no time.
+fn clock_of(parts: &StatePart) -> Option<Time>
+    ensures { MatchOption result (IsTime (time_of parts.now.clock) → ⊥)
+        (λ t. (t ≡ time_of parts.now.clock) × IsTime (time_of parts.now.clock)) }
+{
+    Time::new(parts.clock.seconds, parts.clock.microseconds)
 }
 
 /// The server of a number, of parts and of a clock's last reading. None exactly where the files are no tree

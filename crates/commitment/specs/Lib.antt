@@ -17,6 +17,7 @@ pub mod Sender
 pub mod LookUps
 pub mod Received
 pub mod Receiver
+pub mod Outcomes
 pub mod Kept
 pub mod RefusalNumbers
 pub mod Places

@@ -11,3 +11,28 @@ pub enum Received {
     /// Its message was received before, and the earlier RECV has this number.
     Repeat(Number),
 }
+
+impl Received {
+    ghost use Rattle.std.specs.Prelude.{◌≡◌};
+    ghost use Rattle.commitment.specs.Outcomes.{is_new, receipt_number};
+
+    /// The number of the RECV.
+    pub fn number(&self) -> Number
+        ensures { result ≡ receipt_number self.now }
+    {
+        match self {
+            Received::New(number) => *number,
+            Received::Repeat(number) => *number,
+        }
+    }
+
+    /// Whether it was logged just now.
+    pub fn is_new(&self) -> bool
+        ensures { result ≡ is_new self.now }
+    {
+        match self {
+            Received::New(_) => true,
+            Received::Repeat(_) => false,
+        }
+    }
+}

@@ -12,7 +12,7 @@ use Rattle.states.specs.Numbered.{numbered}
 use Rattle.state_parts.specs.declared.parts.MachinePart.{MachinePart}
 use Rattle.machines.specs.Machines.{server_state, client_state}
 use Rattle.checkpoint.specs.PartWorlds.{world_given}
-use Rattle.checkpoint.proofs.Chosen.{when_none, when_some, none_there}
+use Rattle.checkpoint.proofs.Chosen.{when_none, when_some}
 use Rattle.checkpoint.proofs.PartStates.{saying, rule_received, rule_sends, rule_clock, rule_served, server_kept, client_kept}
 use Rattle.checkpoint.proofs.read.state_of.Goals as goal
 
@@ -30,10 +30,10 @@ returns-in_default-2 c = λ h.
     (subst (λ ms. IsStrictlySortedBy nat_cmp (keys_of (numbered ms))) (sym c.deref-2.ensures.value)
     (rule_sends p.node p.clock p.received.items p.sends.items p.machine h))
 
-pub returns-in_default-new : goal.returns-in_default-new
-returns-in_default-new c = λ h.
+pub returns-in_default-clock_of : goal.returns-in_default-clock_of
+returns-in_default-clock_of c = λ h.
     let p = c.args.parts.now in
-    none_there c.new.result c.new.ensures.variant c.in_default-new.is
+    when_none _ _ c.clock_of.result c.clock_of.ensures c.in_default-clock_of.is
     (rule_clock p.node p.clock p.received.items p.sends.items p.machine h)
 
 pub returns-in_default-3 : goal.returns-in_default-3
@@ -54,7 +54,9 @@ returns-in_ok-stage-in-Server c =
     let sends = when_some _ _ c.in_ok-sends.field-0 c.in-Some-2.sends c.in_ok-sends.ensures c.in-Some-2.is in
     let served = when_some _ _ c.in_ok-service-in-Server.field-0 c.in-Some-3.service
     c.in_ok-service-in-Server.ensures c.in-Some-3.is in
-    let service = served.0 ∙ ap (λ t. world_given p.node t c.in-Server.world) c.in-Some-new.ensures.value in
+    let shown = when_some _ _ c.clock_of.result c.in-Some-clock_of.clock c.clock_of.ensures
+    c.in-Some-clock_of.is in
+    let service = served.0 ∙ ap (λ t. world_given p.node t c.in-Server.world) shown.0 in
     let messages = received.0 ∙ ap (set_from received_cmp) c.deref.ensures.value in
     let waiting = sends.0 ∙ ap (λ ms. map_from nat_cmp (numbered ms)) c.deref-2.ensures.value in
     subst (λ (m : MachinePart). (c.server-state.result
@@ -78,6 +80,8 @@ returns-in-Client c =
     let sends = when_some _ _ c.in_ok-sends.field-0 c.in-Some-2.sends c.in_ok-sends.ensures c.in-Some-2.is in
     let messages = received.0 ∙ ap (set_from received_cmp) c.deref.ensures.value in
     let waiting = sends.0 ∙ ap (λ ms. map_from nat_cmp (numbered ms)) c.deref-2.ensures.value in
+    let shown = when_some _ _ c.clock_of.result c.in-Some-clock_of.clock c.clock_of.ensures
+    c.in-Some-clock_of.is in
     subst (λ (m : MachinePart). (c.client-state.result
     ≡ state_from (saying p.node p.clock p.received.items p.sends.items m))
     × KeepsRules (saying p.node p.clock p.received.items p.sends.items m)) (sym c.in-Client.is)
@@ -88,5 +92,5 @@ returns-in-Client c =
     (subst (λ (m : MachinePart). Fits (state_item file_item)
     (saying p.node p.clock p.received.items p.sends.items m)) c.in-Client.is c.requires.fits)
     c.is_a_state-in-Client.ensures.state
-    (c.client-state.ensures ∙ (λ i. client_state p.node (c.in-Some-new.ensures.value i) (messages i)
+    (c.client-state.ensures ∙ (λ i. client_state p.node (shown.0 i) (messages i)
     (waiting i))))
