@@ -81,25 +81,30 @@ call_reaches c s body joined is =
     let x = envelope_shown (sender_of (having_called c s body)) c.entries [] s.node body is refl in
     let e = x.0 in
     let h = x.1 in
-    let past : length c.entries < e.seq = omega (arith, h.numbered) in
-    (e, (record {
-      shown = h.there;
-      sender = h.sender;
-      receiver = h.receiver;
-      numbered = h.numbered;
-      says = h.says;
-    }, record {
-      envelope = h.there;
-      receiver = h.receiver;
-      two = joined.two;
-      listed = listed_stays s.roster kinds.Client c (having_called c s body) refl refl refl joined.client;
-      new = not_received s.node 1 (length c.entries) s.entries
-          (record {
-            from = e.from;
-            seq = e.seq;
-            hash = message_hash e.to e.seq e.prev (sha256 e.body);
-          }) joined.heard past;
-    }))
+    let past : length c.entries < e.seq = omega (arith, h.numbered) in (
+      e,
+      (
+        record {
+          shown = h.there;
+          sender = h.sender;
+          receiver = h.receiver;
+          numbered = h.numbered;
+          says = h.says;
+        },
+        record {
+          envelope = h.there;
+          receiver = h.receiver;
+          two = joined.two;
+          listed = listed_stays s.roster kinds.Client c (having_called c s body) refl refl refl joined.client;
+          new = not_received s.node 1 (length c.entries) s.entries
+              (record {
+                from = e.from;
+                seq = e.seq;
+                hash = message_hash e.to e.seq e.prev (sha256 e.body);
+              }) joined.heard past;
+        },
+      ),
+    )
 
 -- ---- what the server logs
 
@@ -136,7 +141,7 @@ call_acknowledged c s t body e time r joined call hears is =
     let o = reply_owed hears.world reading e.body in
     let first = recv_first e reading o in
     let log : t.entries ≡ s.entries ++ Recv e.from e.seq e.prev e.body e.signature ∷ first.0 =
-        ap (λ (x : NodeParts). x.entries) hears.heard ∙ ap (λ (es : List Entry). s.entries ++ es) first.1 in
+    ap (λ (x : NodeParts). x.entries) hears.heard ∙ ap (λ (es : List Entry). s.entries ++ es) first.1 in
     let node : t.node ≡ s.node = ap (λ (x : NodeParts). x.node) hears.heard in
     let x = ack_shown (sender_of t) s.entries first.0 e.from e.seq e.prev e.body e.signature is log in
     let a = x.0 in
@@ -150,17 +155,19 @@ call_acknowledged c s t body e time r joined call hears is =
       prev = h.before;
       body = h.says;
       signature = h.signed;
-    } in
-    (a, record {
-      ack = ap (ack_at (sender_of t)) (ap (λ (x : Receipt). x.ack) hears.receipt) ∙ h.there;
-      fits = subst (λ (o : Option Envelope). IsSomeAnd o (FitsEnvelope a))
-          (sym (ap (envelope_at (sender_of c1)) seq ∙ call.shown)) fits;
-      listed = listed_stays c.roster kinds.Server s t node
-          (ap (λ (x : NodeParts). x.signer.master) hears.heard) (ap (λ (x : NodeParts). x.signer.height) hears.heard)
-          joined.server;
-      awaited = subst (λ (k : ℕ). IsSome (finite.get c1.state.sends k)) (sym seq)
-          (sent_there c.state.sends (length c.entries + 1) _);
-    })
+    } in (
+      a,
+      record {
+        ack = ap (ack_at (sender_of t)) (ap (λ (x : Receipt). x.ack) hears.receipt) ∙ h.there;
+        fits = subst (λ (o : Option Envelope). IsSomeAnd o (FitsEnvelope a))
+            (sym (ap (envelope_at (sender_of c1)) seq ∙ call.shown)) fits;
+        listed = listed_stays c.roster kinds.Server s t node
+            (ap (λ (x : NodeParts). x.signer.master) hears.heard) (ap (λ (x : NodeParts). x.signer.height) hears.heard)
+            joined.server;
+        awaited = subst (λ (k : ℕ). IsSome (finite.get c1.state.sends k)) (sym seq)
+            (sent_there c.state.sends (length c.entries + 1) _);
+      },
+    )
 
 -- ---- what a call gives
 
@@ -220,7 +227,7 @@ pub asks_answered : (c s : NodeParts) (time : Timeval) (body : List ℕ) (c1 s1 
 asks_answered c s time body c1 s1 c2 number r answer joined h done is takes =
     let x = call_acknowledged c s s1 body done.envelope time r joined done.call done.hears is in
     let there : AckReaches s1 kinds.Server r.ack c1 x.0 =
-        subst (λ (n : NodeParts). AckReaches s1 kinds.Server r.ack n x.0) (sym h.is) x.1 in
+    subst (λ (n : NodeParts). AckReaches s1 kinds.Server r.ack n x.0) (sym h.is) x.1 in
     (x.0, (x.1, subst (λ (n : NodeParts). TakesAwaited n x.0 answer c2) h.is (takes x.0 there)))
 
 pub asks_ok : (c s : NodeParts) (time : Timeval) (body : List ℕ) (c1 s1 c2 : NodeParts) (number : ℕ) (r : Receipt)

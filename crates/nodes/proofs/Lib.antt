@@ -4,3 +4,4 @@ pub mod Fresh
 pub mod Reached
 pub mod Asked
 pub mod Replied
+pub mod Stopped

@@ -70,11 +70,14 @@ pub found : (a b : NodeParts) (kind : Kind) (number : ℕ) (e : Envelope) (bytes
 found a b kind number e bytes is h text =
     let made = made_envelope a number e is h.envelope in
     record {
-      opened = (record {
-        text = reads_back envelope_text (envelope_value e) bytes text;
-        receiver = h.receiver;
-        sender = λ same. h.two (sym made.place.node ∙ same);
-      }, signed_in b.roster kind a number (envelope_shows e) made h.listed);
+      opened = (
+        record {
+          text = reads_back envelope_text (envelope_value e) bytes text;
+          receiver = h.receiver;
+          sender = λ same. h.two (sym made.place.node ∙ same);
+        },
+        signed_in b.roster kind a number (envelope_shows e) made h.listed,
+      );
       found = h.new;
     }
 
@@ -85,7 +88,7 @@ pub call_found : (a n b : NodeParts) (kind : Kind) (number : ℕ) (e : Envelope)
     → Finds (receiver_of b) bytes e None
 call_found a n b kind number e bytes text node is written same h =
     let shown : envelope_at (sender_of n) number ≡ Some e =
-        ap (λ (x : NodeParts). envelope_at (sender_of x) number) node ∙ h.envelope in
+    ap (λ (x : NodeParts). envelope_at (sender_of x) number) node ∙ h.envelope in
     found a b kind number e bytes (subst (λ (x : NodeParts). IsSender (sender_of x)) node is) h
     (subst (IsText envelope_text (envelope_value e)) (sym same) (written e shown))
 
@@ -130,7 +133,7 @@ taken a b b' kind number k bytes result is h text takes = by result takes
     by (Ok (Logged n)) t = t.1.3 ∙ ap (with_ack b) (same t.0 t.1.0.text)
     by (Ok Already) t =
         let none : get b.state.sends k.seq ≡ None =
-            sym (ap (λ (x : Ack). get b.state.sends x.seq) (same t.0 t.1.0.text)) ∙ t.1.2 in
+        sym (ap (λ (x : Ack). get b.state.sends x.seq) (same t.0 t.1.0.text)) ∙ t.1.2 in
         absurd (none_some (get b.state.sends k.seq) none h.awaited)
     by (Err Garbage) t = absurd (let text = read in let none = t.0 in cc)
     by (Err NotForMe) t = absurd (t.1.1 (subst (λ (x : Ack). FitsSend (sender_of b) x) (sym (same t.0 t.1.0)) h.fits))
@@ -146,7 +149,7 @@ pub taken_by : (a n b b' : NodeParts) (kind : Kind) (number : ℕ) (k : Ack) (by
     → TakesAck b bytes result b' → answer ≡ ack_taken result → AckReaches a kind number b k → TakesAwaited b k answer b'
 taken_by a n b b' kind number k bytes text result answer node is written same takes answered h =
     let shown : ack_at (sender_of n) number ≡ Some k =
-        ap (λ (x : NodeParts). ack_at (sender_of x) number) node ∙ h.ack in
+    ap (λ (x : NodeParts). ack_at (sender_of x) number) node ∙ h.ack in
     subst (λ (r : Result (Unit {0}) LinkFault). TakesAwaited b k r b') (sym answered)
     (taken a b b' kind number k bytes result (subst (λ (x : NodeParts). IsSender (sender_of x)) node is) h
     (subst (IsText ack_text (ack_value k)) (sym same) (written k shown)) takes)

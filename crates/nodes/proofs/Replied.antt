@@ -43,10 +43,10 @@ pub reply_acknowledged : (c s c1 : NodeParts) (number receipt : ℕ) (h : IsRepl
 reply_acknowledged c s c1 number receipt h same is last =
     let e = h.envelope in
     let log : c1.entries ≡ c.entries ++ Recv e.from e.seq e.prev e.body e.signature ∷ [] =
-        ap (λ (x : NodeParts). x.entries) same in
+    ap (λ (x : NodeParts). x.entries) same in
     let node : c1.node ≡ c.node = ap (λ (x : NodeParts). x.node) same in
     let place : receipt ≡ length c.entries + 1 =
-        last ∙ ap length log ∙ length-append c.entries (Recv e.from e.seq e.prev e.body e.signature ∷ []) in
+    last ∙ ap length log ∙ length-append c.entries (Recv e.from e.seq e.prev e.body e.signature ∷ []) in
     let x = ack_shown (sender_of c1) c.entries [] e.from e.seq e.prev e.body e.signature is log in
     let a = x.0 in
     let k = x.1 in
@@ -58,15 +58,17 @@ reply_acknowledged c s c1 number receipt h same is last =
       prev = k.before;
       body = k.says;
       signature = k.signed;
-    } in
-    (a, record {
-      ack = ap (ack_at (sender_of c1)) place ∙ k.there;
-      fits = subst (λ (o : Option Envelope). IsSomeAnd o (FitsEnvelope a))
-          (sym (ap (envelope_at (sender_of s)) seq ∙ h.reaches.envelope)) fits;
-      listed = listed_stays s.roster kinds.Client c c1 node (ap (λ (x : NodeParts). x.signer.master) same)
-          (ap (λ (x : NodeParts). x.signer.height) same) h.client;
-      awaited = subst (λ (k : ℕ). IsSome (finite.get s.state.sends k)) (sym seq) h.awaited;
-    })
+    } in (
+      a,
+      record {
+        ack = ap (ack_at (sender_of c1)) place ∙ k.there;
+        fits = subst (λ (o : Option Envelope). IsSomeAnd o (FitsEnvelope a))
+            (sym (ap (envelope_at (sender_of s)) seq ∙ h.reaches.envelope)) fits;
+        listed = listed_stays s.roster kinds.Client c c1 node (ap (λ (x : NodeParts). x.signer.master) same)
+            (ap (λ (x : NodeParts). x.signer.height) same) h.client;
+        awaited = subst (λ (k : ℕ). IsSome (finite.get s.state.sends k)) (sym seq) h.awaited;
+      },
+    )
 
 -- the client that has received the reply
 pub is_received : (c s c1 : NodeParts) (number : ℕ) (h : IsReplyReady c s number)
@@ -115,7 +117,7 @@ stops_replying c s c1 t number receipt fault h takes is last acknowledged =
 same_time : (w : World) (time : Timeval) → at_time w (later time w.clock) ≡ at_time w time
 same_time w time =
     let once : later (later time w.clock) w.clock ≡ later time w.clock =
-        ap (λ (b : Bool). cond b w.clock (later time w.clock)) (later_late time w.clock) in
+    ap (λ (b : Bool). cond b w.clock (later time w.clock)) (later_late time w.clock) in
     ap (λ (t : Timeval). record w { clock = t }) once
 
 same_reply : (w : World) (time : Timeval) (body : List ℕ)
@@ -139,7 +141,7 @@ pub served_by : (s t : NodeParts) (time : Timeval) (body : List ℕ) (e : Envelo
 served_by s t time body e r says h =
     let w = h.world in
     let reading : reading_at s time ≡ later time w.clock =
-        ap (λ (m : Machine). later time (clock_in m)) h.idle in
+    ap (λ (m : Machine). later time (clock_in m)) h.idle in
     record {
       world = w;
       idle = h.idle;
@@ -174,8 +176,12 @@ client_long : (c s c1 t : NodeParts) (time : Timeval) (body : List ℕ) (r : Rec
     → length c1.entries ≡ length c.entries + 2
 client_long c s c1 t time body r asked =
     let log = ap (λ (n : NodeParts). length n.entries) asked.taken in
-    omega (arith, log, length-append (c.entries ++ Send s.node body ∷ []) (ack_entry asked.ack ∷ []),
-    length-append c.entries (Send s.node body ∷ []))
+    omega (
+      arith,
+      log,
+      length-append (c.entries ++ Send s.node body ∷ []) (ack_entry asked.ack ∷ []),
+      length-append c.entries (Send s.node body ∷ []),
+    )
 
 server_long : (es : List Entry) (e : Envelope) (time : Timeval) (o : Option (List ℕ))
     → length es ≤ length (es ++ heard_entries e.from e.seq e.prev e.body e.signature time o)
@@ -195,8 +201,8 @@ asked_joined c s c1 t time body r joined asked =
     let long = client_long c s c1 t time body r asked in
     let numbered = asked.heard.call.numbered in
     let longer : length s.entries ≤ length t.entries =
-        subst (λ (n : NodeParts). length s.entries ≤ length n.entries) (sym h.heard)
-        (server_long s.entries e (reading_at s time) o) in
+    subst (λ (n : NodeParts). length s.entries ≤ length n.entries) (sym h.heard)
+    (server_long s.entries e (reading_at s time) o) in
     record {
       two = λ same. joined.two (sym client ∙ same ∙ server);
       client = subst (λ (ms : List Member). IsListed ms kinds.Client c1) (sym (ap (λ (n : NodeParts). n.roster) h.heard))
@@ -234,7 +240,7 @@ reply_ready c s c1 t time body r number reply joined asked is at heard_it =
     let clock = Clock reading.seconds reading.microseconds in
     let front = s.entries ++ recv ∷ clock ∷ [] in
     let log : t.entries ≡ front ++ Send e.from reply ∷ [] =
-        ap (λ (n : NodeParts). n.entries) heard_it ∙ sym (append_assoc s.entries (recv ∷ clock ∷ []) (Send e.from reply ∷ [])) in
+    ap (λ (n : NodeParts). n.entries) heard_it ∙ sym (append_assoc s.entries (recv ∷ clock ∷ []) (Send e.from reply ∷ [])) in
     let node : t.node ≡ s.node = ap (λ (n : NodeParts). n.node) heard_it in
     let client : c1.node ≡ c.node = ap (λ (n : NodeParts). n.node) asked.taken in
     let joined1 = asked_joined c s c1 t time body r joined asked in
@@ -246,31 +252,33 @@ reply_ready c s c1 t time body r number reply joined asked is at heard_it =
     let numbered : f.seq ≡ number = k.numbered ∙ place in
     let past : length s.entries < f.seq = omega (arith, numbered, at) in
     let all : length t.entries ≡ length front + 1 =
-        ap length log ∙ length-append front (Send e.from reply ∷ []) in
-    let sent : length s.entries + 1 + 1 + 1 ≡ number = omega (arith, at) in
-    (record {
-      envelope = f;
-      reaches = record {
-        envelope = ap (envelope_at (sender_of t)) (sym place) ∙ k.there;
-        receiver = k.receiver ∙ asked.heard.call.sender ∙ sym client;
-        two = λ same. joined1.two (sym same);
-        listed = joined1.server;
-        new = not_received c1.node 1 (length s.entries) c1.entries
-            (record {
-              from = f.from;
-              seq = f.seq;
-              hash = message_hash f.to f.seq f.prev (sha256 f.body);
-            })
-            (client_up_to c s c1 t time body r (length s.entries) asked joined.received) past;
-      };
-      numbered = numbered;
-      within = omega (arith, all, place);
-      client = joined1.client;
-      awaited = subst (λ (n : NodeParts). IsSome (finite.get n.state.sends number)) (sym heard_it)
-          (subst (λ (j : ℕ). IsSome (finite.get
-          (heard_by s asked.heard.hears.world e reading (Some reply)).state.sends j)) sent
-          (sent_there s.state.sends (length s.entries + 1 + 1 + 1) _));
-    }, k.says)
+    ap length log ∙ length-append front (Send e.from reply ∷ []) in
+    let sent : length s.entries + 1 + 1 + 1 ≡ number = omega (arith, at) in (
+      record {
+        envelope = f;
+        reaches = record {
+          envelope = ap (envelope_at (sender_of t)) (sym place) ∙ k.there;
+          receiver = k.receiver ∙ asked.heard.call.sender ∙ sym client;
+          two = λ same. joined1.two (sym same);
+          listed = joined1.server;
+          new = not_received c1.node 1 (length s.entries) c1.entries
+              (record {
+                from = f.from;
+                seq = f.seq;
+                hash = message_hash f.to f.seq f.prev (sha256 f.body);
+              })
+              (client_up_to c s c1 t time body r (length s.entries) asked joined.received) past;
+        };
+        numbered = numbered;
+        within = omega (arith, all, place);
+        client = joined1.client;
+        awaited = subst (λ (n : NodeParts). IsSome (finite.get n.state.sends number)) (sym heard_it)
+            (subst (λ (j : ℕ). IsSome (finite.get
+            (heard_by s asked.heard.hears.world e reading (Some reply)).state.sends j)) sent
+            (sent_there s.state.sends (length s.entries + 1 + 1 + 1) _));
+      },
+      k.says,
+    )
 
 pub reply_due : (c s c1 t : NodeParts) (time : Timeval) (body : List ℕ) (r : Receipt) (number : ℕ) → IsJoined c s
     → IsAsked c s time body r c1 t → IsSender (sender_of t) → r.reply ≡ Some number → IsDue c1 s t time body number
@@ -286,17 +294,17 @@ reply_due c s c1 t time body r number joined asked is owed =
         → IsDue c1 s t time body number
     by None x =
         let none : r.reply ≡ None =
-            ap (λ (y : Receipt). y.reply) asked.heard.hears.receipt
-            ∙ ap (λ (o : Option (List ℕ)). (receipt_from (length s.entries + 1) o).reply) x in
+        ap (λ (y : Receipt). y.reply) asked.heard.hears.receipt
+        ∙ ap (λ (o : Option (List ℕ)). (receipt_from (length s.entries + 1) o).reply) x in
         absurd (cc)
     by (Some reply) x =
         let some : r.reply ≡ Some (length s.entries + 1 + 2) =
-            ap (λ (y : Receipt). y.reply) asked.heard.hears.receipt
-            ∙ ap (λ (o : Option (List ℕ)). (receipt_from (length s.entries + 1) o).reply) x in
+        ap (λ (y : Receipt). y.reply) asked.heard.hears.receipt
+        ∙ ap (λ (o : Option (List ℕ)). (receipt_from (length s.entries + 1) o).reply) x in
         let at : number ≡ length s.entries + 1 + 2 = some_same (sym owed ∙ some) in
         let heard_it : t ≡ heard_by s asked.heard.hears.world asked.heard.envelope (reading_at s time) (Some reply) =
-            asked.heard.hears.heard
-            ∙ ap (heard_by s asked.heard.hears.world asked.heard.envelope (reading_at s time)) x in
+        asked.heard.hears.heard
+        ∙ ap (heard_by s asked.heard.hears.world asked.heard.envelope (reading_at s time)) x in
         let y = reply_ready c s c1 t time body r number reply joined asked is at heard_it in
         record {
           ready = y.0;
@@ -319,8 +327,8 @@ none_due c s c1 t time body r asked none =
         (served_by s t time body asked.heard.envelope r asked.heard.call.says asked.heard.hears)
     by (Some reply) x =
         let some : r.reply ≡ Some (length s.entries + 1 + 2) =
-            ap (λ (y : Receipt). y.reply) asked.heard.hears.receipt
-            ∙ ap (λ (o : Option (List ℕ)). (receipt_from (length s.entries + 1) o).reply) x in
+        ap (λ (y : Receipt). y.reply) asked.heard.hears.receipt
+        ∙ ap (λ (o : Option (List ℕ)). (receipt_from (length s.entries + 1) o).reply) x in
         absurd (cc)
 
 -- ---- after a reply
@@ -335,7 +343,7 @@ pub served_replied : (c1 s t c2 t2 : NodeParts) (time : Timeval) (body : List �
     → IsDue c1 s t time body number → IsReplied c1 t number reply c2 t2 → IsServed s time body (Some reply) t2
 served_replied c1 s t c2 t2 time body number reply due k =
     let says : reply ≡ due.ready.envelope.body =
-        k.body ∙ ap (λ (e : Envelope). e.body) (same_envelope c1 t c2 t2 number reply due.ready k) in
+    k.body ∙ ap (λ (e : Envelope). e.body) (same_envelope c1 t c2 t2 number reply due.ready k) in
     record {
       world = due.served.world;
       idle = due.served.idle;
@@ -353,11 +361,11 @@ replied_joined c1 t c2 t2 number reply joined h k =
     let server : t2.node ≡ t.node = ap (λ (n : NodeParts). n.node) k.taken in
     let recv = Recv e.from e.seq e.prev e.body e.signature in
     let long : length c2.entries ≡ length c1.entries + 1 =
-        ap (λ (n : NodeParts). length n.entries) got ∙ length-append c1.entries (recv ∷ []) in
+    ap (λ (n : NodeParts). length n.entries) got ∙ length-append c1.entries (recv ∷ []) in
     let longer : length t2.entries ≡ length t.entries + 1 =
-        ap (λ (n : NodeParts). length n.entries) k.taken ∙ length-append t.entries (ack_entry k.ack ∷ []) in
+    ap (λ (n : NodeParts). length n.entries) k.taken ∙ length-append t.entries (ack_entry k.ack ∷ []) in
     let seq : e.seq ≡ number =
-        ap (λ (x : Envelope). x.seq) (same_envelope c1 t c2 t2 number reply h k) ∙ h.numbered in
+    ap (λ (x : Envelope). x.seq) (same_envelope c1 t c2 t2 number reply h k) ∙ h.numbered in
     let within = h.within in
     record {
       two = λ same. joined.two (sym client ∙ same ∙ server);

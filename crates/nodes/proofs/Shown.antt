@@ -33,8 +33,8 @@ signed_there s before rest e is whole kind = by (signed_at s (length before + 1)
         let found = entry_signed s (length before + 1) g e at in
         let index : length before + 1 - 1 ≡ length before = omega arith in
         let here : get_or s.log.entries (length before + 1 - 1) e ≡ e =
-            ap (λ (es : List Entry). get_or es (length before + 1 - 1) e) whole
-            ∙ ap (λ (k : ℕ). get_or (before ++ e ∷ rest) k e) index ∙ get_or-append_seam before e rest e in
+        ap (λ (es : List Entry). get_or es (length before + 1 - 1) e) whole
+        ∙ ap (λ (k : ℕ). get_or (before ++ e ∷ rest) k e) index ∙ get_or-append_seam before e rest e in
         (g, record { there = there; numbered = at.is_number; of_entry = sym found ∙ here })
 
 -- the envelope of a SEND
@@ -51,22 +51,24 @@ pub envelope_shown : (s : SenderParts) (before rest : List Entry) (to : ℕ) (bo
 envelope_shown s before rest to body is whole =
     let x = signed_there s before rest (Send to body) is whole refl in
     let g = x.0 in
-    let h = x.1 in
-    (record {
-      from = s.log.node;
-      to = to;
-      seq = g.number;
-      prev = g.prev;
-      body = body;
-      signature = g.signature;
-    }, record {
-      there = ap (envelope_of s.log.node) h.there
-          ∙ ap (envelope_from s.log.node g.number g.prev g.signature) h.of_entry;
-      sender = refl;
-      receiver = refl;
-      numbered = h.numbered;
-      says = refl;
-    })
+    let h = x.1 in (
+      record {
+        from = s.log.node;
+        to = to;
+        seq = g.number;
+        prev = g.prev;
+        body = body;
+        signature = g.signature;
+      },
+      record {
+        there = ap (envelope_of s.log.node) h.there
+            ∙ ap (envelope_from s.log.node g.number g.prev g.signature) h.of_entry;
+        sender = refl;
+        receiver = refl;
+        numbered = h.numbered;
+        says = refl;
+      },
+    )
 
 -- the acknowledgement of a RECV
 pub record IsAckAt (s : SenderParts) (number from seq : ℕ) (prev body : List ℕ) (signature : SignatureParts) (a : Ack)
@@ -85,24 +87,26 @@ pub ack_shown : (s : SenderParts) (before rest : List Entry) (from seq : ℕ) (p
 ack_shown s before rest from seq prev body signature is whole =
     let x = signed_there s before rest (Recv from seq prev body signature) is whole refl in
     let g = x.0 in
-    let h = x.1 in
-    (record {
-      by = s.log.node;
-      number = g.number;
-      prev = g.prev;
-      from = from;
-      seq = seq;
-      sender_prev = prev;
-      body_hash = sha256 body;
-      signature_hash = signature_digest signature;
-      signature = g.signature;
-    }, record {
-      there = ap (ack_of s.log.node) h.there
-          ∙ ap (ack_from s.log.node g.number g.prev g.signature) h.of_entry;
-      signer = refl;
-      sender = refl;
-      numbered = refl;
-      before = refl;
-      says = refl;
-      signed = refl;
-    })
+    let h = x.1 in (
+      record {
+        by = s.log.node;
+        number = g.number;
+        prev = g.prev;
+        from = from;
+        seq = seq;
+        sender_prev = prev;
+        body_hash = sha256 body;
+        signature_hash = signature_digest signature;
+        signature = g.signature;
+      },
+      record {
+        there = ap (ack_of s.log.node) h.there
+            ∙ ap (ack_from s.log.node g.number g.prev g.signature) h.of_entry;
+        signer = refl;
+        sender = refl;
+        numbered = refl;
+        before = refl;
+        says = refl;
+        signed = refl;
+      },
+    )

@@ -17,7 +17,7 @@ pub reads_back : (t : Text) (v : Value t.item) (bytes : List ℕ) → IsText t v
 unfolding text_at
 reads_back t v bytes h =
     let e : read_at t.item bytes ≡ Ok (v, []) =
-        ap (read_at t.item) (h.2 ∙ sym (append-nil (spelling t.item v))) ∙ again t.item v [] h.0 in
+    ap (read_at t.item) (h.2 ∙ sym (append-nil (spelling t.item v))) ∙ again t.item v [] h.0 in
     rw (e, h.1) refl
 
 pub some_same : {A : Type 0} {x y : A} → ◌≡◌ {A = Option A} (Some x) (Some y) → x ≡ y

@@ -15,8 +15,8 @@ ghost use Rattle.nodes.specs.Delivery.{AckReaches, CopiesBody, HearsNew, Reaches
 
 use crate::client::ClientNode;
 use crate::server::ServerNode;
-use links::LinkFault;
 use authenticator::Number;
+use links::LinkFault;
 use node_logs::{AckTaken, Body, Heard, NodeLog, Receipt, Received, Refusal, Time};
 use std::alloc::Global;
 

@@ -90,9 +90,20 @@ impl Direct {
         if self.failed {
             return Err(LinkFault::Failed);
         }
-        let result = carry(&mut self.client, &mut self.server, &mut self.text, alloc, time, bytes);
-        self.failed = result.is_err();
-        result
+        match carry(
+            &mut self.client,
+            &mut self.server,
+            &mut self.text,
+            alloc,
+            time,
+            bytes,
+        ) {
+            Ok(reply) => Ok(reply),
+            Err(fault) => {
+                self.failed = true;
+                Err(fault)
+            }
+        }
     }
 }
 

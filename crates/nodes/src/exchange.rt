@@ -9,7 +9,9 @@ ghost use Rattle.nodes.specs.Delivery.{IsReplyReady};
 ghost use Rattle.nodes.specs.Exchanges.{Asks, IsCarried, IsJoined, IsReplied, IsServed, StopsAtReply, StopsCarrying};
 
 use crate::client::ClientNode;
-use crate::deliver::{acknowledge_call, acknowledge_reply, body_of, deliver_call, deliver_reply, last_number, send};
+use crate::deliver::{
+    acknowledge_call, acknowledge_reply, body_of, deliver_call, deliver_reply, last_number, send,
+};
 use crate::server::ServerNode;
 use links::LinkFault;
 use node_logs::{Number, Receipt, Time};

@@ -6,9 +6,13 @@ mod deliver;
 mod direct;
 mod exchange;
 mod server;
+#[cfg(test)]
+mod tests;
 
 pub use client::ClientNode;
 pub use direct::Direct;
 pub use links::{Link, LinkFault};
-pub use node_logs::{AckTaken, Body, Heard, NodeLog, Number, Receipt, Received, Refusal, Roster, Time};
+pub use node_logs::{
+    AckTaken, Body, Heard, NodeLog, Number, Receipt, Received, Refusal, Roster, Time,
+};
 pub use server::ServerNode;

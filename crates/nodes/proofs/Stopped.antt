@@ -1,0 +1,19 @@
+-- An exchange with a fault has failed.
+-- Serves: Direct::carry.
+use Rattle.std.proofs.Common.{◌≡◌, ◌⊎◌, inl, inr, ℕ, Bool, true, false, List, refl}
+use Rattle.honest_logs.specs.Timeval.{Timeval}
+use Rattle.links.specs.declared.fault.LinkFault.{LinkFault}
+use Rattle.links.specs.declared.fault.LinkFault.TheVariants.{KeysUsedUp, NoMemory, Failed}
+use Rattle.node_logs.specs.Nodes.{NodeParts}
+use Rattle.nodes.specs.Exchanges.{DirectParts, StopsCarrying, StopsExchange}
+
+-- the two behind a fault
+abbrev pub failed_of : NodeParts → NodeParts → DirectParts
+failed_of c s = record { client = c; server = s; failed = true }
+
+pub stops : (d : DirectParts) (time : Timeval) (body : List ℕ) (fault : LinkFault) (c s : NodeParts) → d.failed ≡ false
+    → StopsCarrying d.client d.server time body fault c s → StopsExchange d time body fault (failed_of c s)
+stops d time body KeysUsedUp c s none h = record { before = none; after = refl; stops = h }
+stops d time body NoMemory c s none h = record { before = none; after = refl; stops = h }
+stops d time body Failed c s none (inl h) = absurd h
+stops d time body Failed c s none (inr h) = absurd h.1.1.1.1
