@@ -1,7 +1,7 @@
 -- A step is told by the entry's fault, and signatures by what it means that something is signed.
 -- Serves: is_signed_in, step.
 use Rattle.std.proofs.Common.{◌≡◌, ◌↔◌, ℕ, Bool, true, false, IsTrue, List, Option, Some, None, Ok, Err}
-use Rattle.std.proofs.Common.{refl, sym, ap, subst, ◌∙◌}
+use Rattle.std.proofs.Common.{refl, sym, ap, ◌∙◌}
 use Rattle.merkle_keys.specs.Signing.{Signed}
 use Rattle.authenticator.specs.Roster.{member_of}
 use Rattle.authenticator.specs.Signed.{signed_digest}

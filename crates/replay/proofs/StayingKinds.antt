@@ -1,10 +1,10 @@
 -- A node's kind stays through its steps.
 -- Serves: step (ServerMachine, FreeMachine).
-use Rattle.std.proofs.Common.{◌≡◌, ℕ, Bool, List, Option, Some, None, Result, Ok, Err, sym, subst}
+use Rattle.std.proofs.Common.{◌≡◌, ℕ, List, Option, Some, None, Result, Ok, Err, sym, subst}
 use Rattle.authenticator.specs.declared.member.Member.{Member}
 use Rattle.log_entries.specs.declared.entry.Entry.{Entry}
 use Rattle.log_entries.specs.declared.entry.Entry.TheVariants.{Send, Recv, Ack, Clock, Check}
-use Rattle.honest_logs.specs.State.{Idle, Heard, Owes, Stage, Machine, Server, Client, State}
+use Rattle.honest_logs.specs.State.{Idle, Heard, Owes, Machine, Server, Client, State}
 use Rattle.honest_logs.specs.Placed.{place}
 use Rattle.honest_logs.specs.Steps.{after_entry}
 use Rattle.honest_logs.specs.Stepping.{ReplayFault, fault_of, step, unless_fault}
