@@ -6,8 +6,6 @@ mod deliver;
 mod direct;
 mod exchange;
 mod server;
-#[cfg(test)]
-mod tests;
 
 pub use client::ClientNode;
 pub use direct::Direct;
