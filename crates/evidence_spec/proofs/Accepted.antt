@@ -139,7 +139,7 @@ forker ms node at a (Some b) two = shower ms node a two.a_node two.a_closed
 
 pub accepted_proves : (ms : List Member) → SoundWhereHonest ms → (node : ℕ) (ground : Ground)
     → Fits evidence_item (node, ground_value ground) → AcceptsGround ms node ground
-    → Proves ms (record { node = node; ground = ground })
+    → Proves ms (record { node = node; grounds = ground })
 accepted_proves ms sound node (Fork f) fits two =
     let there = forker ms node f.at f.a f.b two in
     let same = member_node ms node there.0 there.1 in

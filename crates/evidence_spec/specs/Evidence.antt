@@ -1,5 +1,6 @@
--- Evidence against a node: that it keeps two logs, or that its log isn't honest; and what is accepted as such.
-use Rattle.std.specs.Prelude.{◌≡◌, ◌≢◌, ℕ, Bool, true, ◌==◌, ◌||◌, if◌then◌else◌, List, map, Option, Some, None, option_map}
+-- Evidence against a node: that it keeps two logs, or that its log isn't honest; and what is accepted.
+use Rattle.std.specs.Prelude.{◌≡◌, ◌≢◌, ℕ, Bool, true, ◌==◌, ◌||◌, if◌then◌else◌, List, map}
+use Rattle.std.specs.Prelude.{Option, Some, None, option_map}
 use Rattle.xdr.specs.Item.{Item, Value, word, fixed, pair, array, choice, optional}
 use Rattle.xdr_texts.specs.Text.{Text}
 use Rattle.authenticator.specs.declared.member.Member.{Member}
@@ -19,8 +20,8 @@ use Rattle.evidence_spec.specs.Showing.{ShowingParts, IsClosedShowing, Shows, sh
 abbrev pub MAX_AUDITED : ℕ
 MAX_AUDITED = 65_536
 
--- A fork: at a number two hashes are shown, by one showing each. With one showing alone, it shows another hash
--- than 32 zero bytes before the first entry.
+-- A fork: at a number two hashes are shown, by one showing each. With one showing alone, it shows another
+-- hash than 32 zero bytes before the first entry.
 pub record ForkParts : Type 0 where
   pub at : ℕ
   pub a : ShowingParts
@@ -34,7 +35,7 @@ pub data Ground : Type 0 where
 
 pub record EvidenceParts : Type 0 where
   pub node : ℕ
-  pub ground : Ground
+  pub grounds : Ground
 
 -- ---- texts (RFC 4506)
 
@@ -67,7 +68,7 @@ ground_value (Fork f) = (1, fork_value f)
 ground_value (Replay s) = (2, audited_value s)
 
 abbrev pub evidence_value : EvidenceParts → Value evidence_item
-evidence_value e = (e.node, ground_value e.ground)
+evidence_value e = (e.node, ground_value e.grounds)
 
 -- its text, behind which nothing may follow
 abbrev pub evidence_text : Text
@@ -118,4 +119,4 @@ AcceptsGround ms node (Replay s) = AcceptsReplay ms node s
 
 -- evidence is accepted under a roster
 abbrev pub Accepts : List Member → EvidenceParts → Type 0
-Accepts ms e = AcceptsGround ms e.node e.ground
+Accepts ms e = AcceptsGround ms e.node e.grounds
