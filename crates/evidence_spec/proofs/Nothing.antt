@@ -14,20 +14,20 @@ use Rattle.honest_logs.specs.Opening.{opening_of}
 use Rattle.honest_logs.specs.HonestLogs.{IsHonestLog}
 use Rattle.evidence_spec.specs.Showing.{authenticator_showing}
 use Rattle.evidence_spec.specs.Evidence.{ForkParts, Fork, EvidenceParts}
-use Rattle.evidence_spec.specs.Proving.{IsLog, log_texts, ground_texts, closings, option_texts, option_closings, IsUnforged, Withstands, Proves}
+use Rattle.evidence_spec.specs.Proving.{IsLog, log_texts, charge_texts, closings, option_texts, option_closings, IsUnforged, Withstands, Proves}
 use Rattle.evidence_spec.proofs.Texts.{fewer, both}
 
 pub own_texts : (ms : List Member) (member : Member) (e : EvidenceParts) (log : List Entry) (s : State)
     → member_of ms e.node ≡ Some member → IsLog log → IsHonestLog ms (opening_of member) log s
-    → AllByRecursion (IsUnforged ms member.node log) (closings e.grounds)
-    → ((t : List ℕ) → IsIn t (ground_texts e.grounds) → IsIn t (log_texts log)) → NoCollision (log_texts log)
+    → AllByRecursion (IsUnforged ms member.node log) (closings e.charge)
+    → ((t : List ℕ) → IsIn t (charge_texts e.charge) → IsIn t (log_texts log)) → NoCollision (log_texts log)
     → ¬ Proves ms e
 own_texts ms member e log s there is honest unforged own unlike = λ p.
     let both_some : Some p.member ≡ Some member = sym p.is_member ∙ there in
     let same : member ≡ p.member = cc in
     let ls = log_texts log in
-    let gs = ground_texts e.grounds in
-    p.none log (subst (λ m. Withstands ms m e.grounds log) same (record {
+    let gs = charge_texts e.charge in
+    p.none log (subst (λ m. Withstands ms m e.charge log) same (record {
       is_log = is;
       state = s;
       honest = honest;
@@ -51,10 +51,10 @@ pub unsigned : (ms : List Member) (member : Member) (node at : ℕ) (a : Authent
     → IsHonestLog ms (opening_of member) [] (opening_of member)
     → member_of ms node ≡ Some member → ¬ IsSignedIn ms a → IfSome b (λ c. ¬ IsSignedIn ms c)
     → let showings : ForkParts = record { at = at; a = authenticator_showing a; b = option_map authenticator_showing b } in
-    ¬ Proves ms (record { node = node; grounds = Fork showings })
+    ¬ Proves ms (record { node = node; charge = Fork showings })
 unsigned ms member node at a b honest there h k =
     let showings : ForkParts = record { at = at; a = authenticator_showing a; b = option_map authenticator_showing b } in
-    own_texts ms member (record { node = node; grounds = Fork showings }) [] (opening_of member) there
+    own_texts ms member (record { node = node; charge = Fork showings }) [] (opening_of member) there
     (record { each = tt; few = omega arith }) honest
     (λ of signed. absurd (h signed), each_unforged ms member.node [] b k)
     (λ t i. absurd (no_texts b t i)) (λ s t i j e. absurd i)

@@ -22,7 +22,7 @@ use Rattle.evidence_spec.specs.Showing.{authenticator_showing, segment_showing}
 use Rattle.evidence_spec.specs.Evidence.{ForkParts, Fork, EvidenceParts}
 use Rattle.evidence_spec.specs.Evidence.{evidence_item, evidence_value, audited_item, audited_value, Accepts}
 use Rattle.evidence_spec.specs.Proving.{IsLog, log_texts, segment_texts, showing_texts, entry_texts}
-use Rattle.evidence_spec.specs.Proving.{ground_texts, closings, IsUnforged, Proves}
+use Rattle.evidence_spec.specs.Proving.{charge_texts, closings, IsUnforged, Proves}
 
 -- A log has one hash at each number.
 abbrev pub OneHashAtANumber : Type 0
@@ -102,8 +102,8 @@ abbrev pub OwnTextsProveNothing : Type 0
 OwnTextsProveNothing =
     (ms : List Member) (member : Member) (e : EvidenceParts) (log : List Entry) (s : State)
     → member_of ms e.node ≡ Some member → IsLog log → IsHonestLog ms (opening_of member) log s
-    → AllByRecursion (IsUnforged ms member.node log) (closings e.grounds)
-    → ((t : List ℕ) → IsIn t (ground_texts e.grounds) → IsIn t (log_texts log)) → NoCollision (log_texts log)
+    → AllByRecursion (IsUnforged ms member.node log) (closings e.charge)
+    → ((t : List ℕ) → IsIn t (charge_texts e.charge) → IsIn t (log_texts log)) → NoCollision (log_texts log)
     → ¬ Proves ms e
 
 -- Authenticators that aren't signed prove nothing, whatever they show: the log without entries stands against
@@ -112,5 +112,6 @@ abbrev pub UnsignedProveNothing : Type 0
 UnsignedProveNothing =
     (ms : List Member) (member : Member) (node at : ℕ) (a : Authenticator) (b : Option Authenticator)
     → member_of ms node ≡ Some member → ¬ IsSignedIn ms a → IfSome b (λ c. ¬ IsSignedIn ms c)
-    → let showings : ForkParts = record { at = at; a = authenticator_showing a; b = option_map authenticator_showing b } in
-    ¬ Proves ms (record { node = node; grounds = Fork showings })
+    → let fork : ForkParts =
+    record { at = at; a = authenticator_showing a; b = option_map authenticator_showing b } in
+    ¬ Proves ms (record { node = node; charge = Fork fork })
