@@ -4,3 +4,5 @@ pub mod Packet
 pub mod Signing
 pub mod Judging
 pub mod Taking
+pub mod Delivered
+pub mod Laws

@@ -1,0 +1,18 @@
+//! Packets.
+
+use authenticator::{Authenticator, Checked};
+use envelopes::{Ack, Envelope};
+use secure_log::ClosedSegment;
+
+/// What a witness is sent, checked under a roster. `read_packet` makes it of bytes.
+#[derive(Drop)]
+pub enum Packet {
+    /// A node's authenticator, to be learned: a step of the node that signs it.
+    Learn(Checked<Authenticator>),
+    /// An envelope that its receiver is to acknowledge: a step of the receiver.
+    SendChallenge(Checked<Envelope>),
+    /// A segment, in answer to an audit: a step of the node that closes it.
+    Answer(ClosedSegment),
+    /// An acknowledgement of an envelope: a step of the node that signs it.
+    AckIn(Checked<Ack>),
+}
