@@ -1,14 +1,14 @@
 -- What bytes are taken for is what that means.
 -- Serves: packets_are_taken_as_meant.
-use Rattle.std.proofs.Common.{◌≡◌, ◌==◌, ℕ, Bool, true, false, cond, List, Result, Ok, Err, Option, Some, None, refl, ap, subst, ◌∙◌, eq-eqb}
+use Rattle.std.proofs.Common.{◌++◌, ◌≡◌, ◌==◌, ℕ, Bool, true, false, cond, List, Result, Ok, Err, Option, Some, None, refl, ap, subst, ◌∙◌, eq-eqb}
 use Rattle.std.specs.Prelude.{◌↔◌, not, is_some, IsSome}
 use Rattle.std.proofs.lemmas.Bool.{and_parts, and_from}
-use Rattle.xdr.specs.Item.{IsBytes}
+use Rattle.xdr.specs.Item.{IsBytes, number_spelling}
 use Rattle.authenticator.specs.Roster.{member_of}
 use Rattle.authenticator.specs.declared.member.Member.{Member}
 use Rattle.authenticator.specs.declared.refusal.Refusal.{Refusal}
 use Rattle.authenticator.specs.declared.refusal.Refusal.TheVariants.{UnknownNode, Garbage, BadSignature, NoMemory}
-use Rattle.packets.specs.Packet.{Delivery, Learn, SendChallenge, Answer, AckIn, Says, delivery_of, delivery_shows}
+use Rattle.packets.specs.Packet.{Delivery, Learn, SendChallenge, Answer, AckIn, Says, IsContent, content_text, packet_number, packet_text, delivery_of, delivery_shows}
 use Rattle.packets.specs.Signing.{is_signed_in}
 use Rattle.packets.specs.Judging.{may_be, is_member, is_of_members, judged_delivery, judged_option, judged}
 use Rattle.packets.specs.Taking.{MayBe, IsOfMembers, Means}
@@ -139,3 +139,16 @@ as_meant ms bytes r bound = ((λ e. subst (Means ms bytes) e (means ms bytes bou
 pub as_spelled : (ms : List Member) (bytes : List ℕ) (d : Delivery) → IsBytes bytes → Says bytes d
     → judged ms bytes ≡ judged_delivery ms d
 as_spelled ms bytes d bound says = of_said ms bytes bound d says
+
+content_is : (d : Delivery) (text : List ℕ) → IsContent d text → text ≡ content_text d
+content_is (Learn a) text is = is.2
+content_is (SendChallenge e) text is = is.2
+content_is (Answer s) text is = is.2
+content_is (AckIn a) text is = is.2
+
+pub written_back : (ms : List Member) (bytes : List ℕ) (d : Delivery) → IsBytes bytes → judged ms bytes ≡ Ok d
+    → bytes ≡ packet_text d
+written_back ms bytes d bound e =
+    let taken_as = subst (Means ms bytes) e (means ms bytes bound) in
+    let says = taken_as.of_members.well.says in
+    says.whole ∙ ap (λ text. number_spelling 4 (packet_number d) ++ text) (content_is d says.content says.is_content)

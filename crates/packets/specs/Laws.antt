@@ -1,5 +1,5 @@
 -- What holds of packets: each law is the contract of a function in src/laws.rt.
-use Rattle.std.specs.Prelude.{◌≡◌, ◌↔◌, ℕ, List, Result, Some}
+use Rattle.std.specs.Prelude.{Ok, ◌≡◌, ◌↔◌, ℕ, List, Result, Some}
 use Rattle.xdr.specs.Item.{IsBytes}
 use Rattle.authenticator.specs.declared.member.Member.{Member}
 use Rattle.authenticator.specs.declared.refusal.Refusal.{Refusal}
@@ -30,3 +30,9 @@ abbrev pub JudgedAsSpelled : Type 0
 JudgedAsSpelled =
     (ms : List Member) (bytes : List ℕ) (d : Delivery)
     → IsBytes bytes → Says bytes d → judged ms bytes ≡ judged_delivery ms d
+
+-- What is taken is written back as it was.
+abbrev pub TakenIsWrittenBack : Type 0
+TakenIsWrittenBack =
+    (ms : List Member) (bytes : List ℕ) (d : Delivery)
+    → IsBytes bytes → judged ms bytes ≡ Ok d → bytes ≡ packet_text d

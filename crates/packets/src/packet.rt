@@ -1,5 +1,9 @@
 //! Packets.
 
+ghost use Rattle.std.specs.Prelude.{◌≡◌};
+ghost use Rattle.packets.specs.Packet.{delivery_node};
+ghost use Rattle.packets.specs.Delivered.{delivery_in};
+
 use authenticator::{Authenticator, Checked};
 use envelopes::{Ack, Envelope};
 use secure_log::ClosedSegment;
@@ -15,4 +19,18 @@ pub enum Packet {
     Answer(ClosedSegment),
     /// An acknowledgement of an envelope: a step of the node that signs it.
     AckIn(Checked<Ack>),
+}
+
+impl Packet {
+    /// The node whose step it is: who signs, but of an envelope its receiver.
+    pub fn node(&self) -> u32
+        ensures { result ≡ delivery_node (delivery_in self.now) }
+    {
+        match self {
+            Packet::Learn(authenticator) => authenticator.value().node,
+            Packet::SendChallenge(envelope) => envelope.value().to,
+            Packet::Answer(segment) => segment.segment().closing().node,
+            Packet::AckIn(ack) => ack.value().by,
+        }
+    }
 }
