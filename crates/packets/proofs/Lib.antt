@@ -1,4 +1,4 @@
-pub mod Signed
+pub use Rattle.authenticator.proofs.Signed
 pub mod Contents
 pub mod Judged
 pub mod Spelled

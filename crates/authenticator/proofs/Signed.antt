@@ -1,5 +1,5 @@
 -- The tests on signatures are what it means that something is signed.
--- Serves: tests_as_it_is_meant, read_packet by its four parts.
+-- Serves: tests_as_it_is_signed.
 use Rattle.std.proofs.Common.{◌≡◌, ℕ, Bool, true, ◌==◌, nat_le, nat_lt, nat_eq, List, length}
 use Rattle.std.proofs.Common.{Option, Some, None, IsSomeAnd, refl, sym, ap, ◌∙◌, false}
 use Rattle.std.proofs.Common.{eqb-true, eq-eqb, ltb-true, lt-ltb, leb-true, le-leb}
@@ -13,7 +13,7 @@ use Rattle.authenticator.specs.Roster.{member_of}
 use Rattle.authenticator.specs.Signed.{IsSignedBy, IsSignedIn, signed_digest}
 use Rattle.authenticator.specs.declared.member.Member.{Member}
 use Rattle.authenticator.specs.declared.authenticator.Authenticator.{Authenticator}
-use Rattle.packets.specs.Signing.{is_same, shown_leaf, is_signed, is_signed_by, is_signed_in}
+use Rattle.authenticator.specs.Signing.{is_same, shown_leaf, is_signed, is_signed_by, is_signed_in}
 
 pub is_false : (b : Bool) → ¬ (b ≡ true) → b ≡ false
 is_false true h = absurd (h refl)

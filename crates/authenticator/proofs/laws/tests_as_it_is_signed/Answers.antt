@@ -1,5 +1,5 @@
-use Rattle.replay_spec.proofs.Signed.{signed_of, of_signed, signed_in_of, of_signed_in}
-use Rattle.replay_spec.proofs.laws.tests_as_it_is_signed.Goals as goal
+use Rattle.authenticator.proofs.Signed.{signed_of, of_signed, signed_in_of, of_signed_in}
+use Rattle.authenticator.proofs.laws.tests_as_it_is_signed.Goals as goal
 
 pub returns-clause-by_root : goal.returns-clause-by_root
 returns-clause-by_root c = λ root height digest signature.
