@@ -1,9 +1,8 @@
 -- What holds of evidence: each law is the contract of a function in src/laws.rt.
-use Rattle.std.specs.Prelude.{◌≡◌, ℕ, ◌+◌, ◌≤◌, List, ◌++◌, length, take, Option, Some}
+use Rattle.std.specs.Prelude.{◌≡◌, ℕ, ◌+◌, ◌≤◌, List, ◌++◌, length}
 use Rattle.sha2.specs.Sha256.{sha256}
 use Rattle.xdr.specs.Item.{Fits}
 use Rattle.authenticator.specs.declared.member.Member.{Member}
-use Rattle.authenticator.specs.Roster.{member_of}
 use Rattle.log_entries.specs.Chain.{NoCollision}
 use Rattle.log_entries.specs.Entry.{entry_item, entry_value, kind_number, content}
 use Rattle.log_entries.specs.declared.entry.Entry.{Entry}

@@ -1,6 +1,6 @@
 -- What evidence proves: that no log of the node is honest, unless its signatures are forged or two texts have
 -- one digest.
-use Rattle.std.specs.Prelude.{◌≡◌, ℕ, ◌+◌, ◌<◌, ◌^◌, List, [], ◌∷◌, ◌++◌, length, flat_map, Option, Some, None}
+use Rattle.std.specs.Prelude.{◌≡◌, ℕ, ◌<◌, ◌^◌, List, [], ◌∷◌, ◌++◌, length, flat_map, Option, Some, None}
 use Rattle.std.specs.List.{AllByRecursion}
 use Rattle.xdr.specs.Item.{Fits, spelling}
 use Rattle.merkle_keys.specs.Signing.{SignatureParts, signature_item, signature_value}
@@ -18,7 +18,7 @@ use Rattle.honest_logs.specs.State.{State}
 use Rattle.honest_logs.specs.Opening.{opening_of}
 use Rattle.honest_logs.specs.HonestLogs.{IsHonestLog}
 use Rattle.evidence_spec.specs.Showing.{ShowingParts, IsAmong, numbered}
-use Rattle.evidence_spec.specs.Evidence.{ForkParts, Ground, Fork, Replay, EvidenceParts}
+use Rattle.evidence_spec.specs.Evidence.{Ground, Fork, Replay, EvidenceParts}
 
 -- Entries are those of a log: each has a text, and their numbers are of 64 bits.
 pub record IsLog (entries : List Entry) : Type 0 where

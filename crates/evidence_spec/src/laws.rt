@@ -3,6 +3,8 @@
 ghost use Rattle.evidence_spec.specs.Laws.{OneHashAtANumber, ShownIsOfTheLog, SegmentIsOfTheLog};
 ghost use Rattle.evidence_spec.specs.Laws.{ContentsGiveEntriesBack, AcceptedEvidenceProves};
 
+use honest_logs::replay_laws::sound_exactly_if;
+
 /// A log has one hash at each number.
 pub fn one_hash_at_a_number()
     ensures { OneHashAtANumber }
@@ -24,4 +26,6 @@ pub fn contents_give_entries_back()
 /// have one digest.
 pub fn accepted_evidence_proves()
     ensures { AcceptedEvidenceProves }
-{}
+{
+    sound_exactly_if();
+}
