@@ -1,5 +1,5 @@
 use Rattle.replay.proofs.Runs.{IsRun}
-use Rattle.replay.proofs.verdict.replay_entries.Given as goal
+use Rattle.replay.proofs.verdict.first_verdict.Given as goal
 
 abbrev pub invariant-loop-entry : goal.invariant-loop-entry
 invariant-loop-entry l =
