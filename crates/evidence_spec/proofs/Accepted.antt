@@ -18,8 +18,8 @@ use Rattle.honest_logs.specs.Placed.{Placed, placed}
 use Rattle.honest_logs.specs.Replay.{Honest, last_state, found, Sound, verdict_of}
 use Rattle.honest_logs.specs.Opening.{opening_of}
 use Rattle.evidence_spec.specs.Showing.{ShowingParts, IsClosedShowing, IsAmong, Shows, showing_item, showing_value}
-use Rattle.evidence_spec.specs.Evidence.{Ground, Fork, Replay, audited_item, audited_value}
-use Rattle.evidence_spec.specs.Evidence.{evidence_item, ground_value, AcceptsFork, AcceptsReplay, AcceptsGround}
+use Rattle.evidence_spec.specs.Evidence.{Charge, Fork, Replay, audited_item, audited_value}
+use Rattle.evidence_spec.specs.Evidence.{evidence_item, charge_value, AcceptsFork, AcceptsReplay, AcceptsCharge}
 use Rattle.evidence_spec.specs.Proving.{IsLog, log_texts, showing_texts, option_texts, IsUnforged, option_closings, Withstands, Proves}
 use Rattle.evidence_spec.specs.Laws.{IsPartOf}
 use Rattle.evidence_spec.proofs.Texts.{Within, fewer, left, right, both}
@@ -137,9 +137,9 @@ forker : (ms : List Member) (node at : ℕ) (a : ShowingParts) (b : Option Showi
 forker ms node at a None two = shower ms node a two.a_node two.closed
 forker ms node at a (Some b) two = shower ms node a two.a_node two.a_closed
 
-pub accepted_proves : (ms : List Member) → SoundWhereHonest ms → (node : ℕ) (ground : Ground)
-    → Fits evidence_item (node, ground_value ground) → AcceptsGround ms node ground
-    → Proves ms (record { node = node; ground = ground })
+pub accepted_proves : (ms : List Member) → SoundWhereHonest ms → (node : ℕ) (charge : Charge)
+    → Fits evidence_item (node, charge_value charge) → AcceptsCharge ms node charge
+    → Proves ms (record { node = node; charge = charge })
 accepted_proves ms sound node (Fork f) fits two =
     let there = forker ms node f.at f.a f.b two in
     let same = member_node ms node there.0 there.1 in
