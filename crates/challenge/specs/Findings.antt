@@ -14,7 +14,7 @@ use Rattle.replay.specs.Faults.{fault_in}
 use Rattle.replay.specs.declared.fault.ReplayFault.{ReplayFault}
 use Rattle.showings.specs.Showings.{Ends}
 use Rattle.evidence_spec.specs.Showing.{ShowingParts, IsClosedShowing, Shows}
-use Rattle.evidence_spec.specs.Evidence.{ForkParts, Charge, Fork, Replay, EvidenceParts}
+use Rattle.evidence_spec.specs.Evidence.{Charge, Fork, Replay, EvidenceParts}
 use Rattle.evidence_spec.specs.Evidence.{ShowsTwo, ShowsNoOpening, AcceptsReplay}
 use Rattle.challenge.specs.declared.finding.Finding.{Finding}
 use Rattle.challenge.specs.declared.finding.Finding.TheVariants as found
@@ -113,13 +113,13 @@ FindsInLog ms node s (found.Fault fault number) = AcceptsFault ms node s fault n
 FindsInLog ms node s (found.NotAccepted reason) = LogLacks ms node s reason
 
 -- what is found in what is shown against a node
-abbrev pub FindsInGround : List Member → (node : ℕ) → Ground → Finding → Type 0
-FindsInGround ms node (Fork f) finding = FindsInFork ms node f.at f.a f.b finding
-FindsInGround ms node (Replay s) finding = FindsInLog ms node s finding
+abbrev pub FindsInCharge : List Member → (node : ℕ) → Charge → Finding → Type 0
+FindsInCharge ms node (Fork f) finding = FindsInFork ms node f.at f.a f.b finding
+FindsInCharge ms node (Replay s) finding = FindsInLog ms node s finding
 
 -- What is found in evidence: with what it is accepted, or what it lacks.
 abbrev pub Finds : List Member → EvidenceParts → Finding → Type 0
-Finds ms e finding = FindsInGround ms e.node e.ground finding
+Finds ms e finding = FindsInCharge ms e.node e.charge finding
 
 -- ---- what is asked first
 

@@ -83,7 +83,7 @@ pub fn write_case(
 
 fn add_case(roster: &Roster, evidence: &Evidence, out: &mut Vec<u8>) -> Result<(), AllocError>
     ensures fits { Fits case_item (roster_value roster.now, evidence_value evidence.now) }
-    ensures { Adds (spelling case_item (roster_value roster.now, evidence_value evidence.now))
+    ensures text { Adds (spelling case_item (roster_value roster.now, evidence_value evidence.now))
         out.old.items result out.new.items }
 {
     roster.write(out)?;

@@ -1,10 +1,10 @@
 //! Evidence.
 
-ghost use Rattle.std.specs.Prelude.{◌≡◌};
-ghost use Rattle.xdr.specs.Item.{Fits, fixed};
+ghost use Rattle.std.specs.Prelude.{◌≡◌, ◌<◌, ◌^◌};
+ghost use Rattle.xdr.specs.Item.{Fits};
 ghost use Rattle.evidence_spec.specs.Evidence.{evidence_item, evidence_value};
 ghost use Rattle.evidence_spec.specs.Evidence as spec;
-ghost use Rattle.challenge.specs.Charges.{fork_in, charge_in};
+ghost use Rattle.challenge.specs.Charges.{charge_in, fork_in};
 
 use crate::audited::AuditedLog;
 use authenticator::Number;
@@ -95,3 +95,8 @@ impl Fork {
         }
     }
 }
+
+/// A node's number is a word: does nothing, and tells a caller's proof.
+fn is_word(n: u32)
+    ensures { n < 2 ^ 32 }
+{}

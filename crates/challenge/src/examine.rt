@@ -8,7 +8,7 @@ ghost use Rattle.challenge.specs.Findings.{Finds, FindsInFork, FindsInLog, HasNo
 ghost use Rattle.challenge.specs.Findings.{IsAudited, IsClosedOf, IsFromStart, is_accepted};
 
 use crate::audited::AuditedLog;
-use crate::evidence::{Evidence, Fork, Ground};
+use crate::evidence::{Charge, Evidence, Fork};
 use crate::finding::{Finding, NotAccepted};
 use authenticator::{Member, Number, Roster, is_signed_by};
 use replay::{Verdict, opening_state, replay_entries};
@@ -37,9 +37,9 @@ fn finding_of(
 ) -> Result<Finding, AllocError>
     ensures { IfOk result (λ finding. Finds roster.now evidence.now finding) }
 {
-    match evidence.ground() {
-        Ground::Fork(fork) => Ok(find_in_fork(roster, evidence.node(), fork)),
-        Ground::Replay(log) => find_in_log(alloc, roster, evidence.node(), log),
+    match evidence.charge() {
+        Charge::Fork(fork) => Ok(find_in_fork(roster, evidence.node(), fork)),
+        Charge::Replay(log) => find_in_log(alloc, roster, evidence.node(), log),
     }
 }
 

@@ -18,7 +18,7 @@ pub use case::{Case, read_case, write_case};
 pub use challenge::Challenge;
 pub use check::check_evidence;
 pub use envelopes::Envelope;
-pub use evidence::{Evidence, Fork, Charge};
+pub use evidence::{Charge, Evidence, Fork};
 pub use examine::examine;
 pub use fault::EvidenceFault;
 pub use finding::{Finding, NotAccepted};

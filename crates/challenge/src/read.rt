@@ -10,11 +10,11 @@ ghost use Rattle.evidence_spec.specs.Evidence.{audited_item, audited_value, evid
 ghost use Rattle.evidence_spec.specs.Evidence.{evidence_text, fork_item, fork_value};
 ghost use Rattle.evidence_spec.specs.Evidence.{charge_item, charge_value, is_charge};
 ghost use Rattle.challenge.specs.FaultNumbers.{is_garbage};
-ghost use Rattle.challenge.specs.Charges.{fork_in, charge_in};
+ghost use Rattle.challenge.specs.Charges.{charge_in, fork_in};
 ghost use Rattle.challenge.specs.declared.fault.EvidenceFault.TheVariants.{NoMemory};
 
 use crate::audited::{AuditedLog, MAX_AUDITED};
-use crate::evidence::{Evidence, Fork, Charge};
+use crate::evidence::{Charge, Evidence, Fork};
 use crate::fault::EvidenceFault;
 use authenticator::{Authenticator, Number};
 use showings::Showing;

@@ -10,11 +10,11 @@ ghost use Rattle.evidence_spec.specs.Showing.{showing_item, showing_value};
 ghost use Rattle.evidence_spec.specs.Evidence.{audited_item, audited_value, evidence_item, evidence_value};
 ghost use Rattle.evidence_spec.specs.Evidence.{evidence_text, fork_item, fork_value};
 ghost use Rattle.evidence_spec.specs.Evidence.{charge_item, charge_value, is_charge};
-ghost use Rattle.challenge.specs.Charges.{fork_in, charge_in};
+ghost use Rattle.challenge.specs.Charges.{charge_in, fork_in};
 ghost use Rattle.challenge.specs.declared.audited.TheConstants.{MAX_AUDITED};
 
 use crate::audited::AuditedLog;
-use crate::evidence::{Evidence, Fork, Charge};
+use crate::evidence::{Charge, Evidence, Fork};
 use secure_log::Entry;
 use showings::Showing;
 use std::alloc::{AllocError, Global};
