@@ -76,8 +76,8 @@ abbrev pub closings : Charge → List Authenticator
 closings (Fork f) = f.a.closing ∷ option_closings f.b
 closings (Replay s) = s.closing ∷ []
 
--- An authenticator isn't forged against a log of a node: if it is of that node, and signed, then its number and
--- hash are a pair of the log.
+-- An authenticator isn't forged against a log of a node: if it is of that node, and signed, then its number
+-- and hash are a pair of the log.
 abbrev pub IsUnforged : List Member → (node : ℕ) → List Entry → Authenticator → Type 0
 IsUnforged ms node log a = a.node ≡ node → IsSignedIn ms a → IsAmong (a.number, a.hash) (log_pairs log)
 
