@@ -17,8 +17,8 @@ use Rattle.log_entries.specs.declared.entry.Entry.{Entry}
 use Rattle.log_entries.specs.declared.entry.Entry.TheVariants as entries
 use Rattle.log_entries.specs.Entry.{kind_number, is_kind, content}
 use Rattle.secure_log.specs.declared.segment.TheConstants.{MAX_ENTRIES}
-use Rattle.evidence_spec.specs.Showing.{ShownLink, ShowingParts, link_item, link_value, showing_item, showing_value}
-use Rattle.showings.specs.Showings.{shown_link, HasText}
+use Rattle.evidence_spec.specs.Showing.{ShownLink, ShowingParts, shown_link, link_item, link_value, showing_item, showing_value}
+use Rattle.showings.specs.Showings.{HasText}
 
 -- what was read has a text
 pub read_fits : (bytes rest : List ℕ) (s : ShowingParts) → IsBytes bytes → read_at showing_item bytes ≡ Ok (showing_value s, rest) → HasText s
