@@ -1,0 +1,98 @@
+-- Where a pair stands among the pairs of a chain whose links are numbered one after the other.
+-- Serves: one_hash_at_a_number, what_is_shown_is_of_the_log.
+use Rattle.std.proofs.Common.{◌≡◌, ℕ, suc, ◌+◌, List, [], ◌∷◌, ◌++◌, length, inl, inr, refl, sym, ap, ap₂, subst, ◌∙◌, arith}
+use Rattle.log_entries.specs.declared.entry.Entry.{Entry}
+use Rattle.log_entries.specs.Chain.{Link, hash_after, last_hash, pairs, links_from}
+use Rattle.evidence_spec.specs.Showing.{ShownLink, numbered, IsAmong}
+
+-- links are numbered one after the other, from `first` on
+abbrev pub AreNumbered : (first : ℕ) → List Link → Type 0
+AreNumbered first [] = Unit {0}
+AreNumbered first (l ∷ links) = (l.number ≡ first) × AreNumbered (first + 1) links
+
+pub entries_numbered : (first : ℕ) (es : List Entry) → AreNumbered first (links_from first es)
+entries_numbered first [] = tt
+entries_numbered first (e ∷ es) = (refl, entries_numbered (first + 1) es)
+
+pub shown_numbered : (first : ℕ) (ls : List ShownLink) → AreNumbered first (numbered first ls)
+shown_numbered first [] = tt
+shown_numbered first (l ∷ ls) = (refl, shown_numbered (first + 1) ls)
+
+pub length-numbered : (first : ℕ) (ls : List ShownLink) → length (numbered first ls) ≡ length ls
+length-numbered first [] = refl
+length-numbered first (l ∷ ls) = ap suc (length-numbered (first + 1) ls)
+
+pub length-links : (first : ℕ) (es : List Entry) → length (links_from first es) ≡ length es
+length-links first [] = refl
+length-links first (e ∷ es) = ap suc (length-links (first + 1) es)
+
+-- ---- a pair's place
+
+-- a number and a hash are those behind the first links of a chain
+pub record IsBehind (before : ℕ) (opening : List ℕ) (links : List Link) (number : ℕ) (hash : List ℕ) : Type 0 where
+  pub front : List Link
+  pub rest : List Link
+  pub whole : links ≡ front ++ rest
+  pub count : number ≡ before + length front
+  pub is : hash ≡ last_hash opening front
+
+at_once : (before : ℕ) (opening : List ℕ) (links : List Link) (number : ℕ) (hash : List ℕ)
+    → ◌≡◌ {A = ℕ × List ℕ} (number, hash) (before, opening) → IsBehind before opening links number hash
+at_once before opening links number hash e = record {
+  front = [];
+  rest = links;
+  whole = refl;
+  count = omega (arith, ap (λ (p : ℕ × List ℕ). p.0) e);
+  is = ap (λ (p : ℕ × List ℕ). p.1) e;
+}
+
+-- each pair of a chain is the one behind some of its first links
+pub behind : (before : ℕ) (opening : List ℕ) (links : List Link) (number : ℕ) (hash : List ℕ)
+    → AreNumbered (before + 1) links → IsAmong (number, hash) (pairs before opening links)
+    → IsBehind before opening links number hash
+behind before opening [] number hash n (inl e) = at_once before opening [] number hash e
+behind before opening [] number hash n (inr i) = absurd i
+behind before opening (l ∷ links) number hash n (inl e) = at_once before opening (l ∷ links) number hash e
+behind before opening (l ∷ links) number hash n (inr i) =
+    let rising : AreNumbered (l.number + 1) links = subst (λ k. AreNumbered (k + 1) links) (sym n.0) n.1 in
+    let rest = behind l.number (hash_after opening l) links number hash rising i in
+    record {
+      front = l ∷ rest.front;
+      rest = rest.rest;
+      whole = ap (λ ls. l ∷ ls) rest.whole;
+      count = omega (arith, rest.count, n.0);
+      is = rest.is;
+    }
+
+-- and the number and hash behind some first links are a pair of the chain
+pub among : (before : ℕ) (opening : List ℕ) (front rest : List Link) (number : ℕ)
+    → AreNumbered (before + 1) (front ++ rest) → number ≡ before + length front
+    → IsAmong (number, last_hash opening front) (pairs before opening (front ++ rest))
+among before opening [] [] number n h = let same : number ≡ before = omega (arith, h) in inl (ap (λ k. (k, opening)) same)
+among before opening [] (l ∷ rest) number n h = let same : number ≡ before = omega (arith, h) in inl (ap (λ k. (k, opening)) same)
+among before opening (l ∷ front) rest number n h =
+    let rising : AreNumbered (l.number + 1) (front ++ rest) =
+    subst (λ k. AreNumbered (k + 1) (front ++ rest)) (sym n.0) n.1 in
+    inr (among l.number (hash_after opening l) front rest number rising (omega (arith, h, n.0)))
+
+-- ---- one hash at a number
+
+-- lists that begin one list, and are of one length, are the same
+pub one_beginning : {A : Type 0} (xs ys us vs : List A) → xs ++ us ≡ ys ++ vs → length xs ≡ length ys → xs ≡ ys
+one_beginning [] [] us vs e n = refl
+one_beginning [] (y ∷ ys) us vs e n = absurd (omega arith)
+one_beginning (x ∷ xs) [] us vs e n = absurd (omega arith)
+one_beginning (x ∷ xs) (y ∷ ys) us vs e n =
+    let heads : x ≡ y = cc in
+    let tails : xs ++ us ≡ ys ++ vs = cc in
+    ap₂ (λ z zs. z ∷ zs) heads (one_beginning xs ys us vs tails (omega arith))
+
+pub one_hash : (before : ℕ) (opening : List ℕ) (links : List Link) (number : ℕ) (one other : List ℕ)
+    → AreNumbered (before + 1) links → IsAmong (number, one) (pairs before opening links)
+    → IsAmong (number, other) (pairs before opening links) → one ≡ other
+one_hash before opening links number one other n i j =
+    let a = behind before opening links number one n i in
+    let b = behind before opening links number other n j in
+    let same : a.front ≡ b.front =
+    one_beginning a.front b.front a.rest b.rest (sym a.whole ∙ b.whole) (omega (arith, a.count, b.count)) in
+    a.is ∙ ap (last_hash opening) same ∙ sym b.is

@@ -1,0 +1,10 @@
+use Rattle.evidence_spec.specs.Proving.{entry_texts}
+use Rattle.evidence_spec.proofs.Texts.{left, right}
+use Rattle.evidence_spec.proofs.Contents.{one_entry}
+use Rattle.evidence_spec.proofs.laws.contents_give_entries_back.Goals as goal
+use Rattle.std.proofs.Common.{◌++◌}
+
+pub returns : goal.returns
+returns c = λ e f fits fits' unlike same.
+    one_entry (entry_texts e ++ entry_texts f) unlike e f fits fits' (left (entry_texts e) (entry_texts f))
+    (right (entry_texts e) (entry_texts f)) same

@@ -1,0 +1,122 @@
+-- Evidence against a node: that it keeps two logs, or that its log isn't honest; and what is accepted.
+use Rattle.std.specs.Prelude.{◌≡◌, ◌≢◌, ℕ, Bool, true, ◌==◌, ◌||◌, if◌then◌else◌, List, map}
+use Rattle.std.specs.Prelude.{Option, Some, None, option_map}
+use Rattle.xdr.specs.Item.{Item, Value, word, fixed, pair, array, choice, optional}
+use Rattle.xdr_texts.specs.Text.{Text}
+use Rattle.authenticator.specs.declared.member.Member.{Member}
+use Rattle.authenticator.specs.Roster.{member_of}
+use Rattle.authenticator.specs.Numbers.{number_item}
+use Rattle.authenticator.specs.Signed.{authenticator_item, authenticator_value}
+use Rattle.log_entries.specs.Chain.{zeros}
+use Rattle.log_entries.specs.Entry.{entry_item, entry_value}
+use Rattle.secure_log.specs.Segment.{SegmentParts, IsClosed}
+use Rattle.honest_logs.specs.Placed.{placed_in}
+use Rattle.honest_logs.specs.Stepping.{ReplayFault}
+use Rattle.honest_logs.specs.Replay.{Fault, verdict_of}
+use Rattle.honest_logs.specs.Opening.{opening_of}
+use Rattle.evidence_spec.specs.Showing.{ShowingParts, IsClosedShowing, Shows, showing_item, showing_value}
+
+-- the entries that a replay of a node's log may take up: those that are audited
+abbrev pub MAX_AUDITED : ℕ
+MAX_AUDITED = 65_536
+
+-- A fork: at a number two hashes are shown, by one showing each. With one showing alone, it shows another
+-- hash than 32 zero bytes before the first entry.
+pub record ForkParts : Type 0 where
+  pub at : ℕ
+  pub a : ShowingParts
+  pub b : Option ShowingParts
+
+-- what is shown against a node
+pub data Charge : Type 0 where
+  Fork : ForkParts → Charge
+  -- a segment from the first entry on, in which a replay finds a fault
+  Replay : SegmentParts → Charge
+
+pub record EvidenceParts : Type 0 where
+  pub node : ℕ
+  pub charge : Charge
+
+-- ---- texts (RFC 4506)
+
+abbrev pub fork_item : Item
+fork_item = pair number_item (pair showing_item (optional showing_item))
+
+abbrev pub fork_value : ForkParts → Value fork_item
+fork_value f = (f.at, (showing_value f.a, option_map showing_value f.b))
+
+-- a segment of at most MAX_AUDITED entries
+abbrev pub audited_item : Item
+audited_item =
+    pair word (pair number_item (pair (fixed 32) (pair (array MAX_AUDITED entry_item) authenticator_item)))
+
+abbrev pub audited_value : SegmentParts → Value audited_item
+audited_value s = (s.node, (s.first, (s.opening, (map entry_value s.entries, authenticator_value s.closing))))
+
+-- the charges' numbers: a fork 1, a replay 2
+abbrev pub is_charge : ℕ → Bool
+is_charge n = (n == 1) || (n == 2)
+
+abbrev pub charge_item : ℕ → Item
+charge_item n = if n == 1 then fork_item else audited_item
+
+abbrev pub evidence_item : Item
+evidence_item = pair word (choice is_charge charge_item)
+
+abbrev pub charge_value : Charge → Value (choice is_charge charge_item)
+charge_value (Fork f) = (1, fork_value f)
+charge_value (Replay s) = (2, audited_value s)
+
+abbrev pub evidence_value : EvidenceParts → Value evidence_item
+evidence_value e = (e.node, charge_value e.charge)
+
+-- its text, behind which nothing may follow
+abbrev pub evidence_text : Text
+evidence_text = record { item = evidence_item; test = λ _. true }
+
+-- ---- what is accepted
+
+-- Two showings of a node are closed and show two hashes at a number.
+pub record ShowsTwo (ms : List Member) (node at : ℕ) (a b : ShowingParts) : Type 0 where
+  pub a_node : a.node ≡ node
+  pub b_node : b.node ≡ node
+  pub a_closed : IsClosedShowing ms a
+  pub b_closed : IsClosedShowing ms b
+  pub one : List ℕ
+  pub other : List ℕ
+  pub one_shown : Shows a at one
+  pub other_shown : Shows b at other
+  pub differ : one ≢ other
+
+-- One showing of a node is closed and shows another hash than 32 zero bytes before the first entry.
+pub record ShowsNoOpening (ms : List Member) (node : ℕ) (a : ShowingParts) : Type 0 where
+  pub a_node : a.node ≡ node
+  pub closed : IsClosedShowing ms a
+  pub hash : List ℕ
+  pub shown : Shows a 0 hash
+  pub differs : hash ≢ zeros
+
+abbrev pub AcceptsFork : List Member → (node at : ℕ) → ShowingParts → Option ShowingParts → Type 0
+AcceptsFork ms node at a (Some b) = ShowsTwo ms node at a b
+AcceptsFork ms node at a None = ShowsNoOpening ms node a
+
+-- A closed segment of a node from the first entry on, in which a replay of the node's kind of machine, from
+-- the state that it begins with, finds a fault.
+pub record AcceptsReplay (ms : List Member) (node : ℕ) (s : SegmentParts) : Type 0 where
+  pub of_node : s.node ≡ node
+  pub first : s.first ≡ 1
+  pub opening : s.opening ≡ zeros
+  pub closed : IsClosed ms s
+  pub member : Member
+  pub is_member : member_of ms node ≡ Some member
+  pub fault : ReplayFault
+  pub number : ℕ
+  pub found : verdict_of ms (opening_of member) (placed_in s) ≡ Fault fault number
+
+abbrev pub AcceptsCharge : List Member → (node : ℕ) → Charge → Type 0
+AcceptsCharge ms node (Fork f) = AcceptsFork ms node f.at f.a f.b
+AcceptsCharge ms node (Replay s) = AcceptsReplay ms node s
+
+-- evidence is accepted under a roster
+abbrev pub Accepts : List Member → EvidenceParts → Type 0
+Accepts ms e = AcceptsCharge ms e.node e.charge

@@ -1,0 +1,117 @@
+-- What holds of evidence: each law is the contract of a function in src/laws.rt.
+use Rattle.std.specs.Prelude.{◌≡◌, ℕ, ◌+◌, ◌<◌, ◌≤◌, List, [], ◌∷◌, ◌++◌, length}
+use Rattle.std.specs.Prelude.{Option, Some, option_map, IfSome}
+use Rattle.std.specs.List.{AllByRecursion}
+use Rattle.sha2.specs.Sha256.{sha256}
+use Rattle.xdr.specs.Item.{Fits}
+use Rattle.authenticator.specs.declared.member.Member.{Member}
+use Rattle.authenticator.specs.declared.authenticator.Authenticator.{Authenticator}
+use Rattle.authenticator.specs.Roster.{member_of}
+use Rattle.authenticator.specs.Signed.{IsSignedIn, authenticator_item, authenticator_value}
+use Rattle.log_entries.specs.Chain.{IsIn, NoCollision}
+use Rattle.log_entries.specs.Entry.{entry_item, entry_value, kind_number, content}
+use Rattle.log_entries.specs.declared.entry.Entry.{Entry}
+use Rattle.secure_log.specs.Log.{log_pairs}
+use Rattle.secure_log.specs.Segment.{SegmentParts, IsClosed, segment_item, segment_value, segment_pairs}
+use Rattle.honest_logs.specs.State.{State}
+use Rattle.honest_logs.specs.Opening.{opening_of}
+use Rattle.honest_logs.specs.HonestLogs.{IsHonestLog}
+use Rattle.evidence_spec.specs.Showing.{ShowingParts, IsClosedShowing, IsAmong, Shows}
+use Rattle.evidence_spec.specs.Showing.{showing_item, showing_value, showing_pairs}
+use Rattle.evidence_spec.specs.Showing.{authenticator_showing, segment_showing}
+use Rattle.evidence_spec.specs.Evidence.{ForkParts, Fork, EvidenceParts}
+use Rattle.evidence_spec.specs.Evidence.{evidence_item, evidence_value, audited_item, audited_value, Accepts}
+use Rattle.evidence_spec.specs.Proving.{IsLog, log_texts, segment_texts, showing_texts, entry_texts}
+use Rattle.evidence_spec.specs.Proving.{charge_texts, closings, IsUnforged, Proves}
+
+-- A log has one hash at each number.
+abbrev pub OneHashAtANumber : Type 0
+OneHashAtANumber =
+    (log : List Entry) (number : ℕ) (one other : List ℕ)
+    → IsAmong (number, one) (log_pairs log) → IsAmong (number, other) (log_pairs log) → one ≡ other
+
+-- Where a showing's closing is a pair of a log, and no two texts have one digest, all that it shows are pairs
+-- of the log.
+abbrev pub ShownIsOfTheLog : Type 0
+ShownIsOfTheLog =
+    (ms : List Member) (log : List Entry) (s : ShowingParts) (number : ℕ) (hash : List ℕ)
+    → IsLog log → Fits showing_item (showing_value s) → IsClosedShowing ms s
+    → IsAmong (s.closing.number, s.closing.hash) (log_pairs log)
+    → NoCollision (log_texts log ++ showing_texts s)
+    → Shows s number hash → IsAmong (number, hash) (log_pairs log)
+
+-- The same of a segment, whose entries are then those of the log at its places.
+pub record IsPartOf (log : List Entry) (s : SegmentParts) : Type 0 where
+  pub before : List Entry
+  pub rest : List Entry
+  pub whole : log ≡ before ++ (s.entries ++ rest)
+  pub place : length before + 1 ≡ s.first
+
+abbrev pub SegmentIsOfTheLog : Type 0
+SegmentIsOfTheLog =
+    (ms : List Member) (log : List Entry) (s : SegmentParts)
+    → IsLog log → Fits audited_item (audited_value s) → 1 ≤ s.first → IsClosed ms s
+    → IsAmong (s.closing.number, s.closing.hash) (log_pairs log)
+    → NoCollision (log_texts log ++ segment_texts s)
+    → IsPartOf log s × ((number : ℕ) (hash : List ℕ)
+    → IsAmong (number, hash) (segment_pairs s) → IsAmong (number, hash) (log_pairs log))
+
+-- Two entries are of one kind, and their contents have one digest.
+pub record SameContent (e f : Entry) : Type 0 where
+  pub kind : kind_number e ≡ kind_number f
+  pub digest : sha256 (content e) ≡ sha256 (content f)
+
+-- Entries whose contents have one digest are the same, where no two of the texts of both have one digest and
+-- they are of one kind.
+abbrev pub ContentsGiveEntriesBack : Type 0
+ContentsGiveEntriesBack =
+    (e f : Entry) → Fits entry_item (entry_value e) → Fits entry_item (entry_value f)
+    → NoCollision (entry_texts e ++ entry_texts f) → SameContent e f → e ≡ f
+
+-- Evidence that has a text and is accepted proves that the node has no honest log.
+abbrev pub AcceptedEvidenceProves : Type 0
+AcceptedEvidenceProves =
+    (ms : List Member) (e : EvidenceParts)
+    → Fits evidence_item (evidence_value e) → Accepts ms e → Proves ms e
+
+-- ---- what is shown of authenticators and segments
+
+-- A showing is closed, has a text, and shows these pairs.
+pub record ShowsPairs (ms : List Member) (s : ShowingParts) (pairs : List (ℕ × List ℕ)) : Type 0 where
+  pub closed : IsClosedShowing ms s
+  pub text : Fits showing_item (showing_value s)
+  pub is : showing_pairs s ≡ pairs
+
+-- A signed authenticator alone shows its own pair.
+abbrev pub AuthenticatorsShowOnePair : Type 0
+AuthenticatorsShowOnePair =
+    (ms : List Member) (a : Authenticator) → Fits authenticator_item (authenticator_value a) → IsSignedIn ms a
+    → ShowsPairs ms (authenticator_showing a) ((a.number, a.hash) ∷ [])
+
+-- A closed segment's links show its pairs.
+abbrev pub SegmentsShowTheirPairs : Type 0
+SegmentsShowTheirPairs =
+    (ms : List Member) (s : SegmentParts) → Fits segment_item (segment_value s) → 0 < s.first → IsClosed ms s
+    → ShowsPairs ms (segment_showing s) (segment_pairs s)
+
+-- ---- what proves nothing
+
+-- Evidence whose texts are all of an honest log's own, and whose signatures are none forged, proves nothing,
+-- where no two of the log's texts have one digest.
+abbrev pub OwnTextsProveNothing : Type 0
+OwnTextsProveNothing =
+    (ms : List Member) (member : Member) (e : EvidenceParts) (log : List Entry) (s : State)
+    → member_of ms e.node ≡ Some member → IsLog log → IsHonestLog ms (opening_of member) log s
+    → AllByRecursion (IsUnforged ms member.node log) (closings e.charge)
+    → ((t : List ℕ) → IsIn t (charge_texts e.charge) → IsIn t (log_texts log)) → NoCollision (log_texts log)
+    → ¬ Proves ms e
+
+-- Authenticators that aren't signed prove nothing, whatever they show: the log without entries stands against
+-- them.
+abbrev pub UnsignedProveNothing : Type 0
+UnsignedProveNothing =
+    (ms : List Member) (member : Member) (node at : ℕ) (a : Authenticator) (b : Option Authenticator)
+    → member_of ms node ≡ Some member → ¬ IsSignedIn ms a → IfSome b (λ c. ¬ IsSignedIn ms c)
+    → let fork : ForkParts =
+    record { at = at; a = authenticator_showing a; b = option_map authenticator_showing b } in
+    ¬ Proves ms (record { node = node; charge = Fork fork })

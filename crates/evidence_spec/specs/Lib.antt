@@ -1,0 +1,4 @@
+pub mod Showing
+pub mod Evidence
+pub mod Proving
+pub mod Laws

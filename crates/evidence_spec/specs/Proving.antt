@@ -1,0 +1,99 @@
+-- What evidence proves: that no log of the node is honest, unless its signatures are forged or two texts have
+-- one digest.
+use Rattle.std.specs.Prelude.{◌≡◌, ℕ, ◌<◌, ◌^◌, List, [], ◌∷◌, ◌++◌, length, flat_map, Option, Some, None}
+use Rattle.std.specs.List.{AllByRecursion}
+use Rattle.xdr.specs.Item.{Fits, spelling}
+use Rattle.merkle_keys.specs.Signing.{SignatureParts, signature_item, signature_value}
+use Rattle.authenticator.specs.declared.member.Member.{Member}
+use Rattle.authenticator.specs.declared.authenticator.Authenticator.{Authenticator}
+use Rattle.authenticator.specs.Roster.{member_of}
+use Rattle.authenticator.specs.Signed.{IsSignedIn}
+use Rattle.log_entries.specs.declared.entry.Entry.{Entry}
+use Rattle.log_entries.specs.declared.entry.Entry.TheVariants.{Send, Recv, Ack, Clock, Check}
+use Rattle.log_entries.specs.Entry.{entry_item, entry_value, content}
+use Rattle.log_entries.specs.Chain.{zeros, links_from, chain_texts, NoCollision}
+use Rattle.secure_log.specs.Log.{log_pairs}
+use Rattle.secure_log.specs.Segment.{SegmentParts}
+use Rattle.honest_logs.specs.State.{State}
+use Rattle.honest_logs.specs.Opening.{opening_of}
+use Rattle.honest_logs.specs.HonestLogs.{IsHonestLog}
+use Rattle.evidence_spec.specs.Showing.{ShowingParts, IsAmong, numbered}
+use Rattle.evidence_spec.specs.Evidence.{Charge, Fork, Replay, EvidenceParts}
+
+-- Entries are those of a log: each has a text, and their numbers are of 64 bits.
+pub record IsLog (entries : List Entry) : Type 0 where
+  pub each : AllByRecursion (λ e. Fits entry_item (entry_value e)) entries
+  pub few : length entries < 2 ^ 64
+
+-- ---- texts that are hashed
+
+abbrev pub signature_text : SignatureParts → List ℕ
+signature_text signature = spelling signature_item (signature_value signature)
+
+-- the texts that an entry's content is made from: the content itself, its body and its signature's text
+abbrev pub entry_texts : Entry → List (List ℕ)
+entry_texts (Send to body) = content (Send to body) ∷ body ∷ []
+entry_texts (Recv from seq prev body signature) =
+    content (Recv from seq prev body signature) ∷ body ∷ signature_text signature ∷ []
+entry_texts (Ack to seq mine number prev signature) =
+    content (Ack to seq mine number prev signature) ∷ signature_text signature ∷ []
+entry_texts (Clock seconds microseconds) = content (Clock seconds microseconds) ∷ []
+entry_texts (Check digest) = content (Check digest) ∷ []
+
+-- the texts that are hashed for entries that are numbered from `first` on, behind a hash: those of the chain,
+-- and those of each entry
+abbrev pub hashed_texts : (first : ℕ) (opening : List ℕ) → List Entry → List (List ℕ)
+hashed_texts first opening entries =
+    chain_texts opening (links_from first entries) ++ flat_map entry_texts entries
+
+-- the texts of a whole log
+abbrev pub log_texts : List Entry → List (List ℕ)
+log_texts entries = hashed_texts 1 zeros entries
+
+abbrev pub segment_texts : SegmentParts → List (List ℕ)
+segment_texts s = hashed_texts s.first s.opening s.entries
+
+-- a showing has texts of its chain alone
+abbrev pub showing_texts : ShowingParts → List (List ℕ)
+showing_texts s = chain_texts s.opening (numbered s.first s.links)
+
+abbrev pub option_texts : Option ShowingParts → List (List ℕ)
+option_texts None = []
+option_texts (Some s) = showing_texts s
+
+abbrev pub charge_texts : Charge → List (List ℕ)
+charge_texts (Fork f) = showing_texts f.a ++ option_texts f.b
+charge_texts (Replay s) = segment_texts s
+
+-- ---- what is signed
+
+abbrev pub option_closings : Option ShowingParts → List Authenticator
+option_closings None = []
+option_closings (Some s) = s.closing ∷ []
+
+-- the closings of the showings, or of the segment
+abbrev pub closings : Charge → List Authenticator
+closings (Fork f) = f.a.closing ∷ option_closings f.b
+closings (Replay s) = s.closing ∷ []
+
+-- An authenticator isn't forged against a log of a node: if it is of that node, and signed, then its number
+-- and hash are a pair of the log.
+abbrev pub IsUnforged : List Member → (node : ℕ) → List Entry → Authenticator → Type 0
+IsUnforged ms node log a = a.node ≡ node → IsSignedIn ms a → IsAmong (a.number, a.hash) (log_pairs log)
+
+-- ---- what is proved
+
+-- A log of a node stands against evidence: it is honest from the state that the node begins with, none of the
+-- evidence's signatures is forged, and no two of their texts have one digest.
+pub record Withstands (ms : List Member) (member : Member) (charge : Charge) (log : List Entry) : Type 0 where
+  pub is_log : IsLog log
+  pub state : State
+  pub honest : IsHonestLog ms (opening_of member) log state
+  pub unforged : AllByRecursion (IsUnforged ms member.node log) (closings charge)
+  pub no_collision : NoCollision (log_texts log ++ charge_texts charge)
+
+-- Evidence proves that a member of the roster has no honest log: none stands against it.
+pub record Proves (ms : List Member) (e : EvidenceParts) : Type 0 where
+  pub member : Member
+  pub is_member : member_of ms e.node ≡ Some member
+  pub none : (log : List Entry) → ¬ Withstands ms member e.charge log

@@ -1,0 +1,4 @@
+//! Evidence against a node, as definitions: what is shown of a log, what is accepted, and what that proves.
+#![tactic(auto)]
+
+pub mod laws;
