@@ -1,5 +1,6 @@
 -- Signatures as tests that compute, so that what a packet is taken for is a function of roster and bytes.
-use Rattle.std.specs.Prelude.{ℕ, Bool, false, ◌&&◌, ◌==◌, ◌^◌, nat_lt, nat_le, nat_eq, List, length, Option, Some, None}
+use Rattle.std.specs.Prelude.{ℕ, Bool, false, ◌&&◌, ◌==◌, ◌^◌, nat_lt, nat_le, nat_eq, List, length, Option}
+use Rattle.std.specs.Prelude.{Some, None}
 use Rattle.std.specs.Cmp.Lexicographic.{pointwise}
 use Rattle.lamport.specs.Lamport.{leaf_hash, shown_hash}
 use Rattle.merkle_keys.specs.Tree.{path_end}
