@@ -17,8 +17,8 @@ fn refusal_changed(alloc: Global, made: &mut Made, place: usize) -> Option<Refus
     refusal
 }
 
-/// The number of the refusal owed to an authenticator's packet that is changed at a place: its number is none,
-/// then its node no member, then it isn't signed.
+/// The number of the refusal owed to an authenticator's packet that is changed at a place: its number is
+/// none, then its node no member, then it isn't signed.
 fn owed(place: usize) -> u32 {
     if place < 4 {
         2

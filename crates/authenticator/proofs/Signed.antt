@@ -15,6 +15,7 @@ use Rattle.authenticator.specs.declared.member.Member.{Member}
 use Rattle.authenticator.specs.declared.authenticator.Authenticator.{Authenticator}
 use Rattle.authenticator.specs.Signing.{is_same, shown_leaf, is_signed, is_signed_by, is_signed_in}
 
+-- what isn't true is false
 pub is_false : (b : Bool) → ¬ (b ≡ true) → b ≡ false
 is_false true h = absurd (h refl)
 is_false false h = refl
@@ -56,6 +57,7 @@ module _ (root : List ℕ) (height : ℕ) (digest : List ℕ) (signature : Signa
       (and_from (length signature.path == height) leads (eq-eqb (length signature.path) height s.levels)
       (list_same (path_end signature.leaf (shown_leaf digest signature) signature.path) root s.leads)))
 
+-- a member's test, by both
 signed_by_of : (o : Option Member) (a : Authenticator) → is_signed_by o a ≡ true
     → IsSomeAnd o (λ m. IsSignedBy m a)
 signed_by_of None a h = absurd (cc)
@@ -66,6 +68,7 @@ of_signed_by : (o : Option Member) (a : Authenticator) → IsSomeAnd o (λ m. Is
 of_signed_by None a h = absurd h
 of_signed_by (Some m) a h = of_signed m.root m.height (signed_digest a.node a.number a.hash) a.signature h
 
+-- the test of the member that an authenticator names, by both
 pub signed_in_of : (ms : List Member) (a : Authenticator) → is_signed_in ms a ≡ true → IsSignedIn ms a
 signed_in_of ms a h = signed_by_of (member_of ms a.node) a h
 

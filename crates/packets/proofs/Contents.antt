@@ -7,6 +7,7 @@ use Rattle.log_entries.specs.Entry.{entry_value}
 use Rattle.secure_log.specs.Segment.{SegmentParts, segment_value}
 use Rattle.packets.specs.Values.{entry_said, segment_said}
 
+-- an entry comes back from what its text says
 entry_back : (e : Entry) → entry_said (entry_value e) ≡ e
 entry_back (Send to body) = refl
 entry_back (Recv from seq prev body signature) = refl
@@ -18,5 +19,6 @@ entries_back : (es : List Entry) → map entry_said (map entry_value es) ≡ es
 entries_back [] = refl
 entries_back (e ∷ es) = ap₂ (λ x xs. x ∷ xs) (entry_back e) (entries_back es)
 
+-- a segment comes back from what its text says
 pub segment_back : (s : SegmentParts) → segment_said (segment_value s) ≡ s
 segment_back s = ap (λ (es : List Entry). record s { entries = es }) (entries_back s.entries)

@@ -29,18 +29,22 @@ use Rattle.packets.proofs.Contents.{segment_back}
 
 -- ---- the four answers
 
+-- what passes all tests is taken
 pub taken : (ms : List Member) (d : Delivery) → may_be d ≡ true → is_of_members ms d ≡ true
     → is_signed_in ms (delivery_shows d) ≡ true → judged_delivery ms d ≡ Ok d
 taken ms d may of signed = rw (may, of, signed) refl
 
+-- what fails the last alone isn't signed
 pub unsigned : (ms : List Member) (d : Delivery) → may_be d ≡ true → is_of_members ms d ≡ true
     → is_signed_in ms (delivery_shows d) ≡ false → judged_delivery ms d ≡ Err refusal.BadSignature
 unsigned ms d may of signed = rw (may, of, signed) refl
 
+-- what fails the second is of a stranger
 pub of_strangers : (ms : List Member) (d : Delivery) → may_be d ≡ true → is_of_members ms d ≡ false
     → judged_delivery ms d ≡ Err refusal.UnknownNode
 of_strangers ms d may of = rw (may, of) refl
 
+-- what fails the first is garbage
 pub cannot_be : (ms : List Member) (d : Delivery) → may_be d ≡ false → judged_delivery ms d ≡ Err refusal.Garbage
 cannot_be ms d may = rw may refl
 
@@ -54,6 +58,7 @@ unknown ms node e = rw e refl
 
 -- ---- an authenticator
 
+-- what its check answers is what is owed to its packet
 pub learned : {C : Type 0} (ms : List Member) (bytes : List ℕ) (value : C → Authenticator) (member : C → Member)
     (r : Result C Refusal) → Checks ms bytes value member r
     → Answers (judged_option ms (content_at 1 bytes)) (λ c. Learn (value c)) r
@@ -73,12 +78,14 @@ learned ms bytes value member (Err refusal.NoMemory) h = tt
 
 -- ---- an envelope
 
+-- it may be exactly where it goes to another
 pub between : (e : Envelope) → ¬ (e.from ≡ e.to) → may_be (SendChallenge e) ≡ true
 between e two = ap not (is_false (e.from == e.to) (λ h. two (eqb-true e.from e.to h)))
 
 to_itself : (e : Envelope) → e.from ≡ e.to → may_be (SendChallenge e) ≡ false
 to_itself e same = ap not (eq-eqb e.from e.to same)
 
+-- it is of members exactly where both are
 of_two : (ms : List Member) (e : Envelope) (m : Member) → member_of ms e.from ≡ Some m → IsSome (member_of ms e.to)
     → is_of_members ms (SendChallenge e) ≡ true
 of_two ms e m sender receiver = rw sender receiver
@@ -92,6 +99,7 @@ of_one ms e (inr receiver) = rw receiver (no_second (is_member ms e.from))
     no_second true = refl
     no_second false = refl
 
+-- what its check answers is what is owed to its packet
 pub challenged : {C : Type 0} (ms : List Member) (bytes : List ℕ) (value : C → Envelope) (member : C → Member)
     (r : Result C Refusal) → ChecksEnvelope ms bytes value member r
     → Answers (judged_option ms (content_at 2 bytes)) (λ c. SendChallenge (value c)) r
@@ -117,6 +125,7 @@ challenged ms bytes value member (Err refusal.NoMemory) h = tt
 
 -- ---- a segment
 
+-- the test whether it ends in its closing is what that means
 pub ends_of : (s : SegmentParts) → Ends s → ends s ≡ true
 ends_of s e =
     let number_hash = (s.closing.number + 1 == s.first + length s.entries) && is_same s.closing.hash (last_hash s.opening (links_from s.first s.entries)) in
@@ -153,6 +162,7 @@ member_of_signed ms a h = by_member (member_of ms a.node) h
     by_member None h = absurd h
     by_member (Some m) h = refl
 
+-- what its check gives is what is owed to its packet
 pub given : (ms : List Member) (bytes : List ℕ) (c : ClosedParts) → ChecksSegment ms bytes (Ok c)
     → judged_option ms (content_at 3 bytes) ≡ Ok (Answer c.segment)
 given ms bytes c h =
@@ -170,6 +180,7 @@ refusal_of fault.BrokenChain = refusal.Garbage
 refusal_of fault.OutOfRange = refusal.Garbage
 refusal_of fault.TooLong = refusal.Garbage
 
+-- what its check refuses is refused to its packet
 pub answered : (ms : List Member) (bytes : List ℕ) (f : SegmentFault) → ChecksSegment ms bytes (Err f)
     → Refuses (judged_option ms (content_at 3 bytes)) (refusal_of f)
 answered ms bytes fault.Garbage h = rw h refl
@@ -192,6 +203,7 @@ answered ms bytes fault.TooLong h = absurd h
 
 -- ---- an acknowledgement
 
+-- what its check answers is what is owed to its packet
 pub acknowledged : {C : Type 0} (ms : List Member) (bytes : List ℕ) (value : C → Ack) (member : C → Member)
     (r : Result C Refusal) → ChecksAck ms bytes value member r
     → Answers (judged_option ms (content_at 4 bytes)) (λ c. AckIn (value c)) r
@@ -217,11 +229,13 @@ pub behind : (ms : List Member) (bytes : List ℕ) (n : ℕ) (rest : List ℕ) �
 unfolding judged delivery_of
 behind ms bytes n rest e = rw e refl
 
+-- bytes without a number are garbage
 pub without_number : (ms : List Member) (bytes : List ℕ) (f : XdrFault) → number_at 4 bytes ≡ Err f
     → judged ms bytes ≡ Err refusal.Garbage
 unfolding judged delivery_of
 without_number ms bytes f e = rw e refl
 
+-- what is owed to what stands behind its number is owed to the packet
 pub answers_behind : {P : Type 0} (ms : List Member) (bytes : List ℕ) (n : ℕ) (rest : List ℕ) (delivery : P → Delivery)
     (r : Result P Refusal) → number_at 4 bytes ≡ Ok (n, rest)
     → Answers (judged_option ms (content_at n rest)) delivery r → Answers (judged ms bytes) delivery r

@@ -37,11 +37,13 @@ all_say_back : (vs : List (Value entry_item)) → AllByRecursion (Fits entry_ite
 all_say_back [] fit = refl
 all_say_back (v ∷ vs) fit = ap₂ (λ x xs. x ∷ xs) (says_back v.0 v.1 fit.0.1) (all_say_back vs fit.1)
 
+-- a segment says its value
 segment_says : (v : Value segment_item) → Fits segment_item v → segment_value (segment_said v) ≡ v
 segment_says v fit = ap (λ (es : List (Value entry_item)). (v.0, (v.1.0, (v.1.1.0, (es, v.1.1.1.1))))) (all_say_back v.1.1.1.0 fit.1.1.1.0.2)
 
 -- ---- what is read is spelled
 
+-- what is made of an option's value
 mapped : {A B : Type 0} (f : A → B) (o : Option A) (b : B) → option_map f o ≡ Some b → (a : A) × ((o ≡ Some a) × (f a ≡ b))
 mapped f None b e = absurd cc
 mapped f (Some a) b e = (a, (refl, cc))
@@ -83,6 +85,7 @@ read_is_of n text d bound e = first (n == 1) refl e
         subst (IsOf n text) m.1.1 (record { number = one; content = (is_text authenticator_text m.0 text bound).0 m.1.0 })
     first false h e = second (n == 2) refl e
 
+-- what is read is said
 read_is_said : (bytes : List ℕ) (d : Delivery) → IsBytes bytes → delivery_of bytes ≡ Some d → Says bytes d
 unfolding delivery_of
 read_is_said bytes d bound e = by_read (number_at 4 bytes) refl e
@@ -113,6 +116,7 @@ small (SendChallenge e) = omega arith
 small (Answer s) = omega arith
 small (AckIn a) = omega arith
 
+-- what is said is read
 said_is_read : (bytes : List ℕ) (d : Delivery) → IsBytes bytes → Says bytes d → delivery_of bytes ≡ Some d
 unfolding delivery_of
 said_is_read bytes d bound says =
@@ -121,9 +125,11 @@ said_is_read bytes d bound says =
     let rest : IsBytes says.content = (takes word bytes (packet_number d, says.content) bound e).0.rest_fits in
     rw e (content_read d says.content rest says.is_content)
 
+-- both at once
 pub exact : (bytes : List ℕ) (d : Delivery) → IsBytes bytes → (delivery_of bytes ≡ Some d) ↔ Says bytes d
 exact bytes d bound = (read_is_said bytes d bound, said_is_read bytes d bound)
 
+-- bytes are one packet at most
 pub one_delivery : (bytes : List ℕ) (c d : Delivery) → IsBytes bytes → Says bytes c → Says bytes d → c ≡ d
 one_delivery bytes c d bound a b =
     let both : Some c ≡ Some d = sym (said_is_read bytes c bound a) ∙ said_is_read bytes d bound b in cc

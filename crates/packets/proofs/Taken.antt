@@ -132,10 +132,12 @@ module _ (ms : List Member) (bytes : List ℕ) (bound : IsBytes bytes) where
       (is_false (is_signed_in ms (delivery_shows d)) (λ t. h.1.1 (signed_in_of ms (delivery_shows d) t)))
   meant (Err NoMemory) h = absurd h
 
+-- what bytes are taken for is what that means, and nothing else means it
 pub as_meant : (ms : List Member) (bytes : List ℕ) (r : Result Delivery Refusal) → IsBytes bytes
     → (judged ms bytes ≡ r) ↔ Means ms bytes r
 as_meant ms bytes r bound = ((λ e. subst (Means ms bytes) e (means ms bytes bound)), meant ms bytes bound r)
 
+-- a packet's text is taken for what it delivers
 pub as_spelled : (ms : List Member) (bytes : List ℕ) (d : Delivery) → IsBytes bytes → Says bytes d
     → judged ms bytes ≡ judged_delivery ms d
 as_spelled ms bytes d bound says = of_said ms bytes bound d says
@@ -146,6 +148,7 @@ content_is (SendChallenge e) text is = is.2
 content_is (Answer s) text is = is.2
 content_is (AckIn a) text is = is.2
 
+-- what is taken is written back
 pub written_back : (ms : List Member) (bytes : List ℕ) (d : Delivery) → IsBytes bytes → judged ms bytes ≡ Ok d
     → bytes ≡ packet_text d
 written_back ms bytes d bound e =

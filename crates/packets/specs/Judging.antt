@@ -1,9 +1,11 @@
 -- What a packet is taken for under a roster.
-use Rattle.std.specs.Prelude.{◌≡◌, ℕ, ◌+◌, Bool, true, not, ◌&&◌, ◌==◌, List, length, Result, Ok, Err, Option, Some, None, if◌then◌else◌, is_some}
+use Rattle.std.specs.Prelude.{◌≡◌, ℕ, ◌+◌, Bool, true, not, ◌&&◌, ◌==◌, List, length, Result, Ok, Err, Option}
+use Rattle.std.specs.Prelude.{Some, None, if◌then◌else◌, is_some}
 use Rattle.authenticator.specs.Roster.{member_of}
 use Rattle.authenticator.specs.declared.member.Member.{Member}
 use Rattle.authenticator.specs.declared.refusal.Refusal.{Refusal}
-use Rattle.authenticator.specs.declared.refusal.Refusal.TheVariants.{UnknownNode, Garbage, BadSignature, NoMemory}
+use Rattle.authenticator.specs.declared.refusal.Refusal.TheVariants.{UnknownNode, Garbage, BadSignature}
+use Rattle.authenticator.specs.declared.refusal.Refusal.TheVariants.{NoMemory}
 use Rattle.log_entries.specs.Chain.{last_hash, links_from}
 use Rattle.secure_log.specs.Segment.{SegmentParts}
 use Rattle.packets.specs.Packet.{Delivery, Learn, SendChallenge, Answer, AckIn, delivery_of, delivery_shows}
@@ -59,6 +61,7 @@ Refuses owed BadSignature = owed ≡ Err BadSignature
 Refuses owed NoMemory = Unit {0}
 
 -- What a call answers is what is owed.
-abbrev pub Answers : {P : Type 0} → (owed : Result Delivery Refusal) → (P → Delivery) → Result P Refusal → Type 0
+abbrev pub Answers : {P : Type 0} → (owed : Result Delivery Refusal) → (P → Delivery) → Result P Refusal
+    → Type 0
 Answers owed delivery (Ok p) = owed ≡ Ok (delivery p)
 Answers owed delivery (Err refusal) = Refuses owed refusal
