@@ -1,6 +1,6 @@
 -- Texts of cases: members that are no roster are in none, and what was read is a text.
 -- Serves: read_case by case_of.
-use Rattle.std.proofs.Common.{◌≡◌, ℕ, Bool, true, false, ◌==◌, List, [], ◌∷◌, length, Result, Ok, Err, Some, None, refl, sym, arith}
+use Rattle.std.proofs.Common.{◌≡◌, ℕ, Bool, true, false, ◌==◌, List, [], ◌∷◌, length, Result, Ok, Err, None, refl, sym, arith}
 use Rattle.std.specs.Prelude.{IfOk}
 use Rattle.std.proofs.lemmas.Bool.{eqb-true}
 use Rattle.xdr.specs.Item.{Value, IsBytes}
@@ -14,7 +14,7 @@ use Rattle.evidence_spec.specs.Evidence.{evidence_item}
 use Rattle.challenge.specs.declared.case.Case.{Case}
 use Rattle.challenge.specs.declared.fault.EvidenceFault.{EvidenceFault}
 use Rattle.challenge.specs.FaultNumbers.{is_garbage}
-use Rattle.challenge.specs.Cases.{case_item, case_text, case_value}
+use Rattle.challenge.specs.Cases.{case_text, case_value}
 
 -- members that are no roster stand in no case's text
 pub no_roster_no_case : (bytes rest : List ℕ) (ms : List Member) (v : Value evidence_item) → IsBytes bytes

@@ -1,9 +1,8 @@
 -- What is found in evidence tells whether it is accepted; and what closed showings show is found.
 -- Serves: examine, find_in_two, find_in_one, replay_finding.
-use Rattle.std.proofs.Common.{◌≡◌, ℕ, true, false, List, Option, Some, None, Result, Ok, Err, refl, sym, ap, ◌∙◌, inl, inr}
-use Rattle.std.specs.Prelude.{◌⊎◌, ◌↔◌, IsTrue, IfOk}
+use Rattle.std.proofs.Common.{◌≡◌, ℕ, List, Option, Some, None, Result, Ok, Err, refl, sym, ap, ◌∙◌, inl, inr}
+use Rattle.std.specs.Prelude.{◌↔◌, IsTrue, IfOk}
 use Rattle.authenticator.specs.declared.member.Member.{Member}
-use Rattle.authenticator.specs.Roster.{member_of}
 use Rattle.log_entries.specs.Chain.{zeros}
 use Rattle.secure_log.specs.Segment.{SegmentParts}
 use Rattle.honest_logs.specs.Placed.{placed_in}
@@ -13,7 +12,6 @@ use Rattle.replay.specs.Verdicts.{verdict_in}
 use Rattle.replay.specs.Faults.{fault_in}
 use Rattle.replay.specs.declared.verdict.Verdict.{Verdict}
 use Rattle.replay.specs.declared.verdict.Verdict.TheVariants as verdicts
-use Rattle.showings.specs.Showings.{Ends}
 use Rattle.evidence_spec.specs.Showing.{ShowingParts, IsClosedShowing, Shows}
 use Rattle.evidence_spec.specs.Evidence.{Charge, Fork, Replay, EvidenceParts, AcceptsFork, AcceptsReplay, AcceptsCharge, Accepts}
 use Rattle.challenge.specs.declared.finding.Finding.{Finding}

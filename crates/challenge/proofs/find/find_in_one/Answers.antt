@@ -1,4 +1,4 @@
-use Rattle.std.proofs.Common.{◌≡◌, true, false, refl, sym, ◌∙◌, inl, inr}
+use Rattle.std.proofs.Common.{◌≡◌, true, false, refl, sym, ◌∙◌, inr}
 use Rattle.log_entries.specs.Chain.{zeros}
 use Rattle.challenge.proofs.Found.{no_hash, same_zeros, accepts_one}
 use Rattle.challenge.proofs.find.find_in_one.Goals as goal
