@@ -1,0 +1,35 @@
+-- Which packets are taken under a roster, and why others aren't, in a reader's words.
+use Rattle.std.specs.Prelude.{◌≢◌, ℕ, List, IsSome}
+use Rattle.authenticator.specs.Roster.{member_of}
+use Rattle.authenticator.specs.Signed.{IsSignedIn}
+use Rattle.authenticator.specs.declared.member.Member.{Member}
+use Rattle.secure_log.specs.Segment.{Ends}
+use Rattle.packets.specs.Packet.{Delivery, Learn, SendChallenge, Answer, AckIn, Says, delivery_shows}
+
+-- It may be delivered at all: an envelope's sender isn't its receiver, and a segment's closing is of its node,
+-- last number and last hash.
+abbrev pub MayBe : Delivery → Type 0
+MayBe (Learn a) = Unit {0}
+MayBe (SendChallenge e) = e.from ≢ e.to
+MayBe (Answer s) = Ends s
+MayBe (AckIn a) = Unit {0}
+
+-- Who signs it is a member, and of an envelope its receiver too.
+abbrev pub IsOfMembers : List Member → Delivery → Type 0
+IsOfMembers ms (Learn a) = IsSome (member_of ms a.node)
+IsOfMembers ms (SendChallenge e) = IsSome (member_of ms e.from) × IsSome (member_of ms e.to)
+IsOfMembers ms (Answer s) = IsSome (member_of ms s.node)
+IsOfMembers ms (AckIn a) = IsSome (member_of ms a.by)
+
+-- The bytes say what may be delivered; then also, it is of members; and then, who is to sign it did.
+pub record SaysWell (bytes : List ℕ) (d : Delivery) : Type 0 where
+  pub says : Says bytes d
+  pub may_be : MayBe d
+
+pub record SaysOfMembers (ms : List Member) (bytes : List ℕ) (d : Delivery) : Type 0 where
+  pub well : SaysWell bytes d
+  pub members : IsOfMembers ms d
+
+pub record IsTaken (ms : List Member) (bytes : List ℕ) (d : Delivery) : Type 0 where
+  pub of_members : SaysOfMembers ms bytes d
+  pub signed : IsSignedIn ms (delivery_shows d)

@@ -1,0 +1,2 @@
+//! Packets: what a witness is sent, read and checked, and written.
+#![tactic(auto)]
