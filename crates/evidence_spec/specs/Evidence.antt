@@ -27,14 +27,14 @@ pub record ForkParts : Type 0 where
   pub b : Option ShowingParts
 
 -- what is shown against a node
-pub data Ground : Type 0 where
-  Fork : ForkParts → Ground
+pub data Charge : Type 0 where
+  Fork : ForkParts → Charge
   -- a segment from the first entry on, in which a replay finds a fault
-  Replay : SegmentParts → Ground
+  Replay : SegmentParts → Charge
 
 pub record EvidenceParts : Type 0 where
   pub node : ℕ
-  pub ground : Ground
+  pub charge : Charge
 
 -- ---- texts (RFC 4506)
 
@@ -52,22 +52,22 @@ audited_item =
 abbrev pub audited_value : SegmentParts → Value audited_item
 audited_value s = (s.node, (s.first, (s.opening, (map entry_value s.entries, authenticator_value s.closing))))
 
--- the grounds' numbers: a fork 1, a replay 2
-abbrev pub is_ground : ℕ → Bool
-is_ground n = (n == 1) || (n == 2)
+-- the charges' numbers: a fork 1, a replay 2
+abbrev pub is_charge : ℕ → Bool
+is_charge n = (n == 1) || (n == 2)
 
-abbrev pub ground_item : ℕ → Item
-ground_item n = if n == 1 then fork_item else audited_item
+abbrev pub charge_item : ℕ → Item
+charge_item n = if n == 1 then fork_item else audited_item
 
 abbrev pub evidence_item : Item
-evidence_item = pair word (choice is_ground ground_item)
+evidence_item = pair word (choice is_charge charge_item)
 
-abbrev pub ground_value : Ground → Value (choice is_ground ground_item)
-ground_value (Fork f) = (1, fork_value f)
-ground_value (Replay s) = (2, audited_value s)
+abbrev pub charge_value : Charge → Value (choice is_charge charge_item)
+charge_value (Fork f) = (1, fork_value f)
+charge_value (Replay s) = (2, audited_value s)
 
 abbrev pub evidence_value : EvidenceParts → Value evidence_item
-evidence_value e = (e.node, ground_value e.ground)
+evidence_value e = (e.node, charge_value e.charge)
 
 -- its text, behind which nothing may follow
 abbrev pub evidence_text : Text
@@ -112,10 +112,10 @@ pub record AcceptsReplay (ms : List Member) (node : ℕ) (s : SegmentParts) : Ty
   pub number : ℕ
   pub found : verdict_of ms (opening_of member) (placed_in s) ≡ Fault fault number
 
-abbrev pub AcceptsGround : List Member → (node : ℕ) → Ground → Type 0
-AcceptsGround ms node (Fork f) = AcceptsFork ms node f.at f.a f.b
-AcceptsGround ms node (Replay s) = AcceptsReplay ms node s
+abbrev pub AcceptsCharge : List Member → (node : ℕ) → Charge → Type 0
+AcceptsCharge ms node (Fork f) = AcceptsFork ms node f.at f.a f.b
+AcceptsCharge ms node (Replay s) = AcceptsReplay ms node s
 
 -- evidence is accepted under a roster
 abbrev pub Accepts : List Member → EvidenceParts → Type 0
-Accepts ms e = AcceptsGround ms e.node e.ground
+Accepts ms e = AcceptsCharge ms e.node e.charge

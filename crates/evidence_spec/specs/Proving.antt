@@ -18,7 +18,7 @@ use Rattle.honest_logs.specs.State.{State}
 use Rattle.honest_logs.specs.Opening.{opening_of}
 use Rattle.honest_logs.specs.HonestLogs.{IsHonestLog}
 use Rattle.evidence_spec.specs.Showing.{ShowingParts, IsAmong, numbered}
-use Rattle.evidence_spec.specs.Evidence.{ForkParts, Ground, Fork, Replay, EvidenceParts}
+use Rattle.evidence_spec.specs.Evidence.{ForkParts, Charge, Fork, Replay, EvidenceParts}
 
 -- Entries are those of a log: each has a text, and their numbers are of 64 bits.
 pub record IsLog (entries : List Entry) : Type 0 where
@@ -61,9 +61,9 @@ abbrev pub option_texts : Option ShowingParts → List (List ℕ)
 option_texts None = []
 option_texts (Some s) = showing_texts s
 
-abbrev pub ground_texts : Ground → List (List ℕ)
-ground_texts (Fork f) = showing_texts f.a ++ option_texts f.b
-ground_texts (Replay s) = segment_texts s
+abbrev pub charge_texts : Charge → List (List ℕ)
+charge_texts (Fork f) = showing_texts f.a ++ option_texts f.b
+charge_texts (Replay s) = segment_texts s
 
 -- ---- what is signed
 
@@ -72,7 +72,7 @@ option_closings None = []
 option_closings (Some s) = s.closing ∷ []
 
 -- the closings of the showings, or of the segment
-abbrev pub closings : Ground → List Authenticator
+abbrev pub closings : Charge → List Authenticator
 closings (Fork f) = f.a.closing ∷ option_closings f.b
 closings (Replay s) = s.closing ∷ []
 
@@ -85,15 +85,15 @@ IsUnforged ms node log a = a.node ≡ node → IsSignedIn ms a → IsAmong (a.nu
 
 -- A log of a node stands against evidence: it is honest from the state that the node begins with, none of the
 -- evidence's signatures is forged, and no two of their texts have one digest.
-pub record Withstands (ms : List Member) (member : Member) (ground : Ground) (log : List Entry) : Type 0 where
+pub record Withstands (ms : List Member) (member : Member) (charge : Charge) (log : List Entry) : Type 0 where
   pub is_log : IsLog log
   pub state : State
   pub honest : IsHonestLog ms (opening_of member) log state
-  pub unforged : AllByRecursion (IsUnforged ms member.node log) (closings ground)
-  pub no_collision : NoCollision (log_texts log ++ ground_texts ground)
+  pub unforged : AllByRecursion (IsUnforged ms member.node log) (closings charge)
+  pub no_collision : NoCollision (log_texts log ++ charge_texts charge)
 
 -- Evidence proves that a member of the roster has no honest log: none stands against it.
 pub record Proves (ms : List Member) (e : EvidenceParts) : Type 0 where
   pub member : Member
   pub is_member : member_of ms e.node ≡ Some member
-  pub none : (log : List Entry) → ¬ Withstands ms member e.ground log
+  pub none : (log : List Entry) → ¬ Withstands ms member e.charge log
