@@ -9,7 +9,7 @@ use Rattle.log_entries.specs.Entry.{kind_number, content}
 use Rattle.log_entries.specs.declared.entry.Entry.{Entry}
 use Rattle.secure_log.specs.Segment.{SegmentParts, ClosedParts, segment_pairs}
 use Rattle.honest_logs.specs.Replay.{Verdict, Sound, Fault}
-use Rattle.evidence_spec.specs.Showing.{ShownLink, ShowingParts}
+use Rattle.evidence_spec.specs.Showing.{ShowingParts, authenticator_showing, segment_showing}
 use Rattle.evidence_spec.specs.Evidence.{Charge, Fork, Replay, EvidenceParts}
 use Rattle.book_spec.specs.Events.{JobParts}
 use Rattle.book_spec.specs.Replies.{Reply}
@@ -17,25 +17,6 @@ use Rattle.book_spec.specs.Steps.{Step, Past}
 use Rattle.book_spec.specs.Pairs.{Pair, pair_of, first_fork}
 use Rattle.book_spec.specs.Done.{noted, accepted, filed}
 use Rattle.book_spec.specs.Standing.{end_of, audited, shown, is_exposed, kept, all_accepted, verdict_on}
-
--- ---- showings
-
--- an authenticator alone
-abbrev pub alone : Authenticator → ShowingParts
-alone a = record { node = a.node; first = a.number + 1; opening = a.hash; links = []; closing = a }
-
-abbrev pub shown_link : Entry → ShownLink
-shown_link e = record { kind = kind_number e; content = sha256 (content e) }
-
--- a segment, by its links alone
-abbrev pub by_links : SegmentParts → ShowingParts
-by_links s = record {
-  node = s.node;
-  first = s.first;
-  opening = s.opening;
-  links = map shown_link s.entries;
-  closing = s.closing;
-}
 
 -- ---- what showed a hash at a number before
 
@@ -45,8 +26,8 @@ segment_holding number segments =
     find (λ s. nat_le s.first number && nat_le number s.closing.number) segments
 
 abbrev pub or_segment : Option Authenticator → Option SegmentParts → Option ShowingParts
-or_segment (Some a) segment = Some (alone a)
-or_segment None segment = option_map by_links segment
+or_segment (Some a) segment = Some (authenticator_showing a)
+or_segment None segment = option_map segment_showing segment
 
 -- the learned authenticator that is kept at the number, else the accepted segment that holds the place
 abbrev pub showing_before : List Authenticator → List SegmentParts → (number : ℕ) → Option ShowingParts
@@ -85,8 +66,8 @@ replay_of ms m past s (Fault fault number) = Some (Replay (audited_with ms m pas
 
 abbrev pub charge_of : List Member → Member → Past
     → Option Authenticator → Option ClosedParts → Option JobParts → Option Charge
-charge_of ms m past (Some a) segment job = new_fork ms m past (alone a) (pair_of a ∷ [])
-charge_of ms m past None (Some c) job = new_fork ms m past (by_links c.segment) (segment_pairs c.segment)
+charge_of ms m past (Some a) segment job = new_fork ms m past (authenticator_showing a) (pair_of a ∷ [])
+charge_of ms m past None (Some c) job = new_fork ms m past (segment_showing c.segment) (segment_pairs c.segment)
 charge_of ms m past None None (Some j) =
     replay_of ms m past j.segment.segment (verdict_on ms (end_of ms m past).state j)
 charge_of ms m past None None None = None

@@ -1,13 +1,13 @@
 -- A chain whose last pair is one of a log is a part of the log's chain, and its pairs are the log's.
 -- Serves: what_is_shown_is_of_the_log.
-use Rattle.std.proofs.Common.{◌≡◌, ℕ, ◌+◌, ◌-◌, ◌<◌, ◌≤◌, List, [], ◌∷◌, ◌++◌, length, replicate, refl, sym, ap, subst, ◌∙◌, arith, append_assoc, length-append}
+use Rattle.std.proofs.Common.{◌≡◌, ℕ, ◌+◌, ◌-◌, ◌<◌, List, [], ◌∷◌, ◌++◌, length, refl, sym, ap, subst, ◌∙◌, arith, append_assoc, length-append}
 use Rattle.std.proofs.lemmas.List.{length-replicate}
 use Rattle.std.specs.List.{AllByRecursion}
 use Rattle.log_entries.specs.Chain.{Link, IsLink, IsChain, IsEndOf, zeros, hash_after, last_hash, pairs, chain_texts, NoCollision}
 use Rattle.log_entries.proofs.Chains.{chain_end}
 use Rattle.evidence_spec.specs.Showing.{IsAmong}
 use Rattle.evidence_spec.proofs.Texts.{Within, fewer, left, right, both, beginning}
-use Rattle.evidence_spec.proofs.Places.{AreNumbered, IsBehind, behind, among}
+use Rattle.evidence_spec.proofs.Places.{AreNumbered, behind, among}
 
 -- links stand in a log's chain from a number on, and the hash before them is this one
 pub record IsPartOfChain (log : List Link) (first : ℕ) (opening : List ℕ) (links : List Link) : Type 0 where

@@ -5,3 +5,5 @@ pub mod Contents
 pub mod Parts
 pub mod Shown
 pub mod Accepted
+pub mod Closed
+pub mod Nothing

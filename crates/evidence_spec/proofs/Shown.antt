@@ -1,6 +1,6 @@
 -- Showings and segments whose closing is a pair of a log show pairs of that log alone.
 -- Serves: what_is_shown_is_of_the_log, accepted_evidence_proves.
-use Rattle.std.proofs.Common.{◌≡◌, ℕ, ◌+◌, ◌-◌, ◌<◌, ◌≤◌, ◌^◌, List, [], ◌∷◌, ◌++◌, length, map, ◌∙◌, sym, ap, arith}
+use Rattle.std.proofs.Common.{◌≡◌, ℕ, ◌+◌, ◌<◌, ◌≤◌, ◌^◌, List, [], ◌∷◌, ◌++◌, length, map, arith}
 use Rattle.std.specs.Prelude.{IsTrue}
 use Rattle.std.proofs.lemmas.Bool.{ltb-true}
 use Rattle.std.specs.List.{AllByRecursion, flat_map}
@@ -23,7 +23,7 @@ use Rattle.evidence_spec.proofs.Chained.{IsPartOfChain, zeros-length, ends_in_lo
 use Rattle.evidence_spec.proofs.Parts.{each_of_values, entries_in_log}
 
 -- a number of a text has a next one in 64 bits
-next_fits : (n : ℕ) → IsTrue (is_number n) → n + 1 < 2 ^ 64
+pub next_fits : (n : ℕ) → IsTrue (is_number n) → n + 1 < 2 ^ 64
 next_fits n h = omega (arith, ltb-true _ _ h)
 
 log_chain : (log : List Entry) → IsLog log → IsChain zeros (links_from 1 log)

@@ -1,5 +1,6 @@
--- Evidence against a node: that it keeps two logs, or that its log isn't honest; and what is accepted as such.
-use Rattle.std.specs.Prelude.{◌≡◌, ◌≢◌, ℕ, Bool, true, ◌==◌, ◌||◌, if◌then◌else◌, List, map, Option, Some, None, option_map}
+-- Evidence against a node: that it keeps two logs, or that its log isn't honest; and what is accepted.
+use Rattle.std.specs.Prelude.{◌≡◌, ◌≢◌, ℕ, Bool, true, ◌==◌, ◌||◌, if◌then◌else◌, List, map}
+use Rattle.std.specs.Prelude.{Option, Some, None, option_map}
 use Rattle.xdr.specs.Item.{Item, Value, word, fixed, pair, array, choice, optional}
 use Rattle.xdr_texts.specs.Text.{Text}
 use Rattle.authenticator.specs.declared.member.Member.{Member}
@@ -19,8 +20,8 @@ use Rattle.evidence_spec.specs.Showing.{ShowingParts, IsClosedShowing, Shows, sh
 abbrev pub MAX_AUDITED : ℕ
 MAX_AUDITED = 65_536
 
--- A fork: at a number two hashes are shown, by one showing each. With one showing alone, it shows another hash
--- than 32 zero bytes before the first entry.
+-- A fork: at a number two hashes are shown, by one showing each. With one showing alone, it shows another
+-- hash than 32 zero bytes before the first entry.
 pub record ForkParts : Type 0 where
   pub at : ℕ
   pub a : ShowingParts

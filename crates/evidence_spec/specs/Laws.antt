@@ -1,18 +1,28 @@
 -- What holds of evidence: each law is the contract of a function in src/laws.rt.
-use Rattle.std.specs.Prelude.{◌≡◌, ℕ, ◌+◌, ◌≤◌, List, ◌++◌, length, take, Option, Some}
+use Rattle.std.specs.Prelude.{◌≡◌, ℕ, ◌+◌, ◌<◌, ◌≤◌, List, [], ◌∷◌, ◌++◌, length}
+use Rattle.std.specs.Prelude.{Option, Some, option_map, IfSome}
+use Rattle.std.specs.List.{AllByRecursion}
 use Rattle.sha2.specs.Sha256.{sha256}
 use Rattle.xdr.specs.Item.{Fits}
 use Rattle.authenticator.specs.declared.member.Member.{Member}
+use Rattle.authenticator.specs.declared.authenticator.Authenticator.{Authenticator}
 use Rattle.authenticator.specs.Roster.{member_of}
-use Rattle.log_entries.specs.Chain.{NoCollision}
+use Rattle.authenticator.specs.Signed.{IsSignedIn, authenticator_item, authenticator_value}
+use Rattle.log_entries.specs.Chain.{IsIn, NoCollision}
 use Rattle.log_entries.specs.Entry.{entry_item, entry_value, kind_number, content}
 use Rattle.log_entries.specs.declared.entry.Entry.{Entry}
 use Rattle.secure_log.specs.Log.{log_pairs}
-use Rattle.secure_log.specs.Segment.{SegmentParts, IsClosed, segment_pairs}
-use Rattle.evidence_spec.specs.Showing.{ShowingParts, IsClosedShowing, IsAmong, Shows, showing_item, showing_value}
-use Rattle.evidence_spec.specs.Evidence.{EvidenceParts, evidence_item, evidence_value, audited_item, audited_value}
-use Rattle.evidence_spec.specs.Evidence.{Accepts}
-use Rattle.evidence_spec.specs.Proving.{IsLog, log_texts, segment_texts, showing_texts, entry_texts, Proves}
+use Rattle.secure_log.specs.Segment.{SegmentParts, IsClosed, segment_item, segment_value, segment_pairs}
+use Rattle.honest_logs.specs.State.{State}
+use Rattle.honest_logs.specs.Opening.{opening_of}
+use Rattle.honest_logs.specs.HonestLogs.{IsHonestLog}
+use Rattle.evidence_spec.specs.Showing.{ShowingParts, IsClosedShowing, IsAmong, Shows}
+use Rattle.evidence_spec.specs.Showing.{showing_item, showing_value, showing_pairs}
+use Rattle.evidence_spec.specs.Showing.{authenticator_showing, segment_showing}
+use Rattle.evidence_spec.specs.Evidence.{ForkParts, Fork, EvidenceParts}
+use Rattle.evidence_spec.specs.Evidence.{evidence_item, evidence_value, audited_item, audited_value, Accepts}
+use Rattle.evidence_spec.specs.Proving.{IsLog, log_texts, segment_texts, showing_texts, entry_texts}
+use Rattle.evidence_spec.specs.Proving.{charge_texts, closings, IsUnforged, Proves}
 
 -- A log has one hash at each number.
 abbrev pub OneHashAtANumber : Type 0
@@ -63,3 +73,45 @@ abbrev pub AcceptedEvidenceProves : Type 0
 AcceptedEvidenceProves =
     (ms : List Member) (e : EvidenceParts)
     → Fits evidence_item (evidence_value e) → Accepts ms e → Proves ms e
+
+-- ---- what is shown of authenticators and segments
+
+-- A showing is closed, has a text, and shows these pairs.
+pub record ShowsPairs (ms : List Member) (s : ShowingParts) (pairs : List (ℕ × List ℕ)) : Type 0 where
+  pub closed : IsClosedShowing ms s
+  pub text : Fits showing_item (showing_value s)
+  pub is : showing_pairs s ≡ pairs
+
+-- A signed authenticator alone shows its own pair.
+abbrev pub AuthenticatorsShowOnePair : Type 0
+AuthenticatorsShowOnePair =
+    (ms : List Member) (a : Authenticator) → Fits authenticator_item (authenticator_value a) → IsSignedIn ms a
+    → ShowsPairs ms (authenticator_showing a) ((a.number, a.hash) ∷ [])
+
+-- A closed segment's links show its pairs.
+abbrev pub SegmentsShowTheirPairs : Type 0
+SegmentsShowTheirPairs =
+    (ms : List Member) (s : SegmentParts) → Fits segment_item (segment_value s) → 0 < s.first → IsClosed ms s
+    → ShowsPairs ms (segment_showing s) (segment_pairs s)
+
+-- ---- what proves nothing
+
+-- Evidence whose texts are all of an honest log's own, and whose signatures are none forged, proves nothing,
+-- where no two of the log's texts have one digest.
+abbrev pub OwnTextsProveNothing : Type 0
+OwnTextsProveNothing =
+    (ms : List Member) (member : Member) (e : EvidenceParts) (log : List Entry) (s : State)
+    → member_of ms e.node ≡ Some member → IsLog log → IsHonestLog ms (opening_of member) log s
+    → AllByRecursion (IsUnforged ms member.node log) (closings e.charge)
+    → ((t : List ℕ) → IsIn t (charge_texts e.charge) → IsIn t (log_texts log)) → NoCollision (log_texts log)
+    → ¬ Proves ms e
+
+-- Authenticators that aren't signed prove nothing, whatever they show: the log without entries stands against
+-- them.
+abbrev pub UnsignedProveNothing : Type 0
+UnsignedProveNothing =
+    (ms : List Member) (member : Member) (node at : ℕ) (a : Authenticator) (b : Option Authenticator)
+    → member_of ms node ≡ Some member → ¬ IsSignedIn ms a → IfSome b (λ c. ¬ IsSignedIn ms c)
+    → let fork : ForkParts =
+    record { at = at; a = authenticator_showing a; b = option_map authenticator_showing b } in
+    ¬ Proves ms (record { node = node; charge = Fork fork })

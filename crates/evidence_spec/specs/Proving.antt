@@ -1,6 +1,6 @@
 -- What evidence proves: that no log of the node is honest, unless its signatures are forged or two texts have
 -- one digest.
-use Rattle.std.specs.Prelude.{◌≡◌, ℕ, ◌+◌, ◌<◌, ◌^◌, List, [], ◌∷◌, ◌++◌, length, flat_map, Option, Some, None}
+use Rattle.std.specs.Prelude.{◌≡◌, ℕ, ◌<◌, ◌^◌, List, [], ◌∷◌, ◌++◌, length, flat_map, Option, Some, None}
 use Rattle.std.specs.List.{AllByRecursion}
 use Rattle.xdr.specs.Item.{Fits, spelling}
 use Rattle.merkle_keys.specs.Signing.{SignatureParts, signature_item, signature_value}
@@ -18,7 +18,7 @@ use Rattle.honest_logs.specs.State.{State}
 use Rattle.honest_logs.specs.Opening.{opening_of}
 use Rattle.honest_logs.specs.HonestLogs.{IsHonestLog}
 use Rattle.evidence_spec.specs.Showing.{ShowingParts, IsAmong, numbered}
-use Rattle.evidence_spec.specs.Evidence.{ForkParts, Charge, Fork, Replay, EvidenceParts}
+use Rattle.evidence_spec.specs.Evidence.{Charge, Fork, Replay, EvidenceParts}
 
 -- Entries are those of a log: each has a text, and their numbers are of 64 bits.
 pub record IsLog (entries : List Entry) : Type 0 where
@@ -76,8 +76,8 @@ abbrev pub closings : Charge → List Authenticator
 closings (Fork f) = f.a.closing ∷ option_closings f.b
 closings (Replay s) = s.closing ∷ []
 
--- An authenticator isn't forged against a log of a node: if it is of that node, and signed, then its number and
--- hash are a pair of the log.
+-- An authenticator isn't forged against a log of a node: if it is of that node, and signed, then its number
+-- and hash are a pair of the log.
 abbrev pub IsUnforged : List Member → (node : ℕ) → List Entry → Authenticator → Type 0
 IsUnforged ms node log a = a.node ≡ node → IsSignedIn ms a → IsAmong (a.number, a.hash) (log_pairs log)
 

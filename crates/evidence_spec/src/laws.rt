@@ -2,6 +2,10 @@
 
 ghost use Rattle.evidence_spec.specs.Laws.{OneHashAtANumber, ShownIsOfTheLog, SegmentIsOfTheLog};
 ghost use Rattle.evidence_spec.specs.Laws.{ContentsGiveEntriesBack, AcceptedEvidenceProves};
+ghost use Rattle.evidence_spec.specs.Laws.{AuthenticatorsShowOnePair, SegmentsShowTheirPairs};
+ghost use Rattle.evidence_spec.specs.Laws.{OwnTextsProveNothing, UnsignedProveNothing};
+
+use honest_logs::replay_laws::{logs_grow, sound_exactly_if};
 
 /// A log has one hash at each number.
 pub fn one_hash_at_a_number()
@@ -20,8 +24,26 @@ pub fn contents_give_entries_back()
     ensures { ContentsGiveEntriesBack }
 {}
 
-/// Evidence that is accepted proves that the node has no honest log, unless a signature is forged or two texts
-/// have one digest.
+/// Evidence that is accepted proves that the node has no honest log, unless a signature is forged or two
+/// texts have one digest.
 pub fn accepted_evidence_proves()
     ensures { AcceptedEvidenceProves }
+{
+    sound_exactly_if();
+}
+
+/// A signed authenticator alone, and the links of a closed segment, are closed showings, of that pair and of
+/// the segment's.
+pub fn what_is_shown_is_closed()
+    ensures authenticator { AuthenticatorsShowOnePair }
+    ensures segment { SegmentsShowTheirPairs }
 {}
+
+/// What an honest log shows of itself proves nothing against its node; nor do authenticators that aren't
+/// signed, whatever they show.
+pub fn what_proves_nothing()
+    ensures own { OwnTextsProveNothing }
+    ensures unsigned { UnsignedProveNothing }
+{
+    logs_grow();
+}
