@@ -1,12 +1,9 @@
 -- The evidence against a node: that of the first step that exposes it.
-use Rattle.std.specs.Prelude.{ℕ, ◌+◌, ◌==◌, ◌&&◌, nat_le, List, [], ◌∷◌, ◌++◌, map, find}
+use Rattle.std.specs.Prelude.{ℕ, ◌==◌, ◌&&◌, nat_le, List, [], ◌∷◌, ◌++◌, find}
 use Rattle.std.specs.Prelude.{Option, Some, None, option_map, option_and_then, if◌then◌else◌}
-use Rattle.sha2.specs.Sha256.{sha256}
 use Rattle.authenticator.specs.declared.authenticator.Authenticator.{Authenticator}
 use Rattle.authenticator.specs.declared.member.Member.{Member}
 use Rattle.log_entries.specs.Chain.{zeros}
-use Rattle.log_entries.specs.Entry.{kind_number, content}
-use Rattle.log_entries.specs.declared.entry.Entry.{Entry}
 use Rattle.secure_log.specs.Segment.{SegmentParts, ClosedParts, segment_pairs}
 use Rattle.honest_logs.specs.Replay.{Verdict, Sound, Fault}
 use Rattle.evidence_spec.specs.Showing.{ShowingParts, authenticator_showing, segment_showing}

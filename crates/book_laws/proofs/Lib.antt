@@ -1,0 +1,3 @@
+pub mod Replied
+pub mod OwnSteps
+pub mod LeftOut
