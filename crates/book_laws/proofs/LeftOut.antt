@@ -1,27 +1,26 @@
 -- What is left out of every node's own steps changes nothing.
 -- Serves: left_out_changes_nothing.
-use Rattle.std.proofs.Common.{◌≡◌, ◌≢◌, ◌↔◌, ℕ, ◌≤◌, Bool, true, false, ◌==◌, ◌&&◌, nat_le, List, [], ◌∷◌, ◌++◌}
+use Rattle.std.proofs.Common.{◌≡◌, ◌≢◌, ℕ, Bool, true, false, ◌==◌, ◌&&◌, nat_le, List, [], ◌∷◌, ◌++◌}
 use Rattle.std.proofs.Common.{Option, Some, None, Result, Ok, Err, refl, sym, ap, subst, ◌∙◌}
-use Rattle.std.proofs.Common.{eqb-true, eq-eqb, leb-true, arith, cond}
+use Rattle.std.proofs.Common.{eqb-true, eq-eqb, leb-true, cond}
 use Rattle.std.proofs.lemmas.Bool.{and_parts}
 use Rattle.authenticator.specs.Roster.{member_of}
 use Rattle.authenticator.specs.declared.member.Member.{Member}
-use Rattle.authenticator.specs.declared.refusal.Refusal as checks
 use Rattle.authenticator.specs.declared.refusal.Refusal.TheVariants as checking
 use Rattle.packets.specs.Packet.{Delivery, delivery_of, delivery_shows}
 use Rattle.packets.specs.Packet as packets
 use Rattle.packets.specs.Signing.{is_signed_in}
-use Rattle.packets.specs.Judging.{may_be, is_of_members, judged_delivery, judged_option, judged}
-use Rattle.book_spec.specs.Refusals.{Refusal, refusal_number, UnknownNode, Garbage, BadSignature, NoMemory}
+use Rattle.packets.specs.Judging.{may_be, is_of_members, judged_option, judged}
+use Rattle.book_spec.specs.Refusals.{Refusal, refusal_number, BadSignature}
 use Rattle.book_spec.specs.Events.{PublicKey, Event}
 use Rattle.book_spec.specs.Events as events
-use Rattle.book_spec.specs.Replies.{Reply, refused, is_want_of_memory}
-use Rattle.book_spec.specs.Steps.{Step, OwnStep, Past}
+use Rattle.book_spec.specs.Replies.{Reply, is_want_of_memory}
+use Rattle.book_spec.specs.Steps.{Step, OwnStep}
 use Rattle.book_spec.specs.Whose.{step_of, is_key_of, same_roster, signed_step, sent_step, closed_step}
 use Rattle.book_spec.specs.Whose.{delivered_step, judged_step, whose}
 use Rattle.book_spec.specs.Owing.{Owes}
 use Rattle.book_spec.specs.Histories.{History, own_one, own, OwesTo, IsOwed, IsWanting, BookParts, StandsFor}
-use Rattle.book_spec.specs.Histories.{StandEach, Stands}
+use Rattle.book_spec.specs.Histories.{StandEach}
 use Rattle.book_spec.specs.Laws.{ChangesNothing, IsLeftOut, IsTaken}
 use Rattle.book_laws.proofs.Replied.{in_table, is_good, owed_good, good_want, good_refused, want_refused}
 use Rattle.book_laws.proofs.OwnSteps.{none_own, other_own, want_own, its_own}

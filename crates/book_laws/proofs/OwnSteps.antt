@@ -1,8 +1,8 @@
 -- A history's own steps are owed by one another, and so are told by their steps alone.
 -- Serves: own_steps_alone.
-use Rattle.std.proofs.Common.{◌≡◌, ◌≢◌, ◌⊎◌, ◌↔◌, inl, inr, ℕ, Bool, true, false, cond, ◌==◌, List, [], ◌∷◌}
+use Rattle.std.proofs.Common.{◌≡◌, ◌⊎◌, inl, inr, ℕ, Bool, true, false, cond, ◌==◌, List, [], ◌∷◌}
 use Rattle.std.proofs.Common.{◌++◌, map, Option, Some, None, Result, Ok, Err, refl, sym, ap, ap₂, subst, ◌∙◌}
-use Rattle.std.proofs.Common.{eqb-true, eq-eqb}
+use Rattle.std.proofs.Common.{eqb-true}
 use Rattle.authenticator.specs.Roster.{member_of}
 use Rattle.authenticator.specs.declared.member.Member.{Member}
 use Rattle.authenticator.specs.declared.refusal.Refusal as checks
@@ -10,7 +10,7 @@ use Rattle.authenticator.proofs.Members.{member_node}
 use Rattle.packets.specs.Packet.{Delivery}
 use Rattle.packets.specs.Packet as packets
 use Rattle.packets.specs.Judging.{judged}
-use Rattle.book_spec.specs.Refusals.{Refusal, NoMemory}
+use Rattle.book_spec.specs.Refusals.{Refusal}
 use Rattle.book_spec.specs.Events.{PublicKey, Event}
 use Rattle.book_spec.specs.Events as events
 use Rattle.book_spec.specs.Replies.{Reply, is_want_of_memory}

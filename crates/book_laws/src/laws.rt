@@ -2,6 +2,7 @@
 
 ghost use Rattle.book_spec.specs.Laws.{OneReply, OwnStepsAreOwed, OwnStepsAlone};
 ghost use Rattle.book_spec.specs.Laws.{LeftOutChangesNothing, WantChangesNothing, OthersAreTaken};
+ghost use Rattle.book_spec.specs.Laws.{ExposedExactlyIf, SuspectedExactlyIf, FaultStays, ExposedStays};
 
 /// A step is owed one reply at most.
 pub fn one_reply()
@@ -22,4 +23,17 @@ pub fn left_out_changes_nothing()
     ensures out { LeftOutChangesNothing }
     ensures want { WantChangesNothing }
     ensures others { OthersAreTaken }
+{}
+
+/// A node is Exposed exactly if a number has two hashes among what was shown, or a File was answered Filed for
+/// a segment that no list of states makes honest; otherwise Suspected exactly if a challenge is open.
+pub fn exposed_exactly_if()
+    ensures exposed { ExposedExactlyIf }
+    ensures suspected { SuspectedExactlyIf }
+{}
+
+/// Who is exposed stays exposed, whatever follows: from such a File on, for one.
+pub fn exposed_stays()
+    ensures fault { FaultStays }
+    ensures any { ExposedStays }
 {}

@@ -99,7 +99,7 @@ abbrev pub shown : List Member → Member → Past → List Pair
 shown ms m [] = first_pair ∷ []
 shown ms m (p ∷ past) =
     pairs_noted (has_fork (shown ms m past) || has_fault ms m past) (noted p.0 p.1)
-    ++ pairs_accepted (accepted p.0 p.1) ++ shown ms m past
+    ++ (pairs_accepted (accepted p.0 p.1) ++ shown ms m past)
 
 -- One number has two hashes among what was shown, or a segment was filed that isn't honest.
 abbrev pub is_exposed : List Member → Member → Past → Bool
