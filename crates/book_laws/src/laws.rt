@@ -17,16 +17,16 @@ pub fn own_steps_alone()
 {}
 
 /// What is left out changes nothing, and its reply is that of event and roster alone; nor does want of memory
-/// change anything. Every other event is a step of its node, and is refused neither as those that are left out
-/// nor for want of memory.
+/// change anything. Every other event is a step of its node, and is refused neither as those that are left
+/// out nor for want of memory.
 pub fn left_out_changes_nothing()
     ensures out { LeftOutChangesNothing }
     ensures want { WantChangesNothing }
     ensures others { OthersAreTaken }
 {}
 
-/// A node is Exposed exactly if a number has two hashes among what was shown, or a File was answered Filed for
-/// a segment that no list of states makes honest; otherwise Suspected exactly if a challenge is open.
+/// A node is Exposed exactly if a number has two hashes among what was shown, or a File was answered Filed
+/// for a segment that no list of states makes honest; otherwise Suspected exactly if a challenge is open.
 pub fn exposed_exactly_if()
     ensures exposed { ExposedExactlyIf }
     ensures suspected { SuspectedExactlyIf }

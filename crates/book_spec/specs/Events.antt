@@ -62,8 +62,8 @@ pub record IsClosedUnder (c : ClosedParts) : Type 0 where
   pub text : HasText c.segment
   pub closed : IsClosed c.roster c.segment
 
--- Where an event holds a checked value, that has a text and is signed under its key. A done value's verdict is
--- the replay of its own state and segment.
+-- Where an event holds a checked value, that has a text and is signed under its key. A done value's verdict
+-- is the replay of its own state and segment.
 abbrev pub IsEvent : Event → Type 0
 IsEvent (Deliver bytes) = IsBytes bytes
 IsEvent (Learn a key) = Fits authenticator_item (authenticator_value a) × IsSignedUnder key a

@@ -33,9 +33,10 @@ showing_before learned segments number =
 
 -- ---- the evidence
 
--- A showing that shows another hash at a number is a fork with what showed one there before; at 0 alone, since
--- every log has zeros there.
-abbrev pub fork_of : List Authenticator → List SegmentParts → (new : ShowingParts) (number : ℕ) → Option Charge
+-- A showing that shows another hash at a number is a fork with what showed one there before; at 0 alone,
+-- since every log has zeros there.
+abbrev pub fork_of : List Authenticator → List SegmentParts → (new : ShowingParts) (number : ℕ)
+    → Option Charge
 fork_of learned segments new number =
     if number == 0 then Some (Fork (record { at = 0; a = new; b = None }))
     else option_map (λ old. Fork (record { at = number; a = old; b = Some new }))
@@ -64,7 +65,8 @@ replay_of ms m past s (Fault fault number) = Some (Replay (audited_with ms m pas
 abbrev pub charge_of : List Member → Member → Past
     → Option Authenticator → Option ClosedParts → Option JobParts → Option Charge
 charge_of ms m past (Some a) segment job = new_fork ms m past (authenticator_showing a) (pair_of a ∷ [])
-charge_of ms m past None (Some c) job = new_fork ms m past (segment_showing c.segment) (segment_pairs c.segment)
+charge_of ms m past None (Some c) job =
+    new_fork ms m past (segment_showing c.segment) (segment_pairs c.segment)
 charge_of ms m past None None (Some j) =
     replay_of ms m past j.segment.segment (verdict_on ms (end_of ms m past).state j)
 charge_of ms m past None None None = None

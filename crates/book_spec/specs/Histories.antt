@@ -59,8 +59,8 @@ pub record IsWanting (event : Event) (reply : Reply) : Type 0 where
   pub may : MayWant event
   pub is : reply ≡ refused event NoMemory
 
--- Each event is one that can be handed in, and each reply is the one that is owed behind the earlier events, or
--- memory was wanting.
+-- Each event is one that can be handed in, and each reply is the one that is owed behind the earlier events,
+-- or memory was wanting.
 abbrev pub IsHistory : List Member → History → Type 0
 IsHistory ms [] = Unit {0}
 IsHistory ms (p ∷ history) =

@@ -212,7 +212,8 @@ pub record AnswersAudit (ms : List Member) (m : Member) (history : History) (c :
   pub its : whose ms (events.Answer c) ≡ Ok (record { member = m; step = Answer c })
   pub reply : (reply : Reply) → IsOwed ms history (events.Answer c) reply ↔ (reply ≡ Accepted)
   pub closes : (first last : ℕ)
-      → ¬ IsAmong (AuditOf first last) (open_challenges (own ms m.node ((events.Answer c, Accepted) ∷ history)))
+      → let after : History = (events.Answer c, Accepted) ∷ history in
+      ¬ IsAmong (AuditOf first last) (open_challenges (own ms m.node after))
 
 -- a part of a log with its closing, under a roster
 abbrev pub answer_of : List Member → OpenSegment → Authenticator → ClosedParts
@@ -234,7 +235,8 @@ pub record ClosesChallenge (ms : List Member) (m : Member) (history : History) (
   pub its : whose ms (events.AckIn a key) ≡ Ok (record { member = m; step = AckIn a })
   pub reply : (reply : Reply) → IsOwed ms history (events.AckIn a key) reply ↔ (reply ≡ Closed)
   pub closes : (e : Envelope) → envelope_message e ≡ acked_message a
-      → ¬ IsAmong (SendOf e) (open_challenges (own ms m.node ((events.AckIn a key, Closed) ∷ history)))
+      → let after : History = (events.AckIn a key, Closed) ∷ history in
+      ¬ IsAmong (SendOf e) (open_challenges (own ms m.node after))
 
 abbrev pub AcksClose : Type 0
 AcksClose =

@@ -1,5 +1,5 @@
--- The reply that a witness owes to a node's next step, by that node's own earlier steps. Refusals are tried in
--- the order in which they stand.
+-- The reply that a witness owes to a node's next step, by that node's own earlier steps. Refusals are tried
+-- in the order in which they stand.
 use Rattle.std.specs.Prelude.{◌≡◌, ℕ, ◌+◌, ◌-◌, Bool, true, false, not, max, ◌&&◌, ◌==◌, nat_lt, nat_le}
 use Rattle.std.specs.Prelude.{List, [], ◌∷◌, length, map, filter, fold, count_by, Option, Some, None}
 use Rattle.std.specs.Prelude.{Decides, if◌then◌else◌}
@@ -71,7 +71,8 @@ ack_reply challenges message = if is_open message challenges then Closed else Re
 
 -- the greatest number among those that an audit behind `end` can reach; 0 if there is none
 abbrev pub last_in_reach : (end : ℕ) → List Authenticator → ℕ
-last_in_reach end learned = fold max 0 (filter (λ n. nat_le n (end + MAX_ASKED)) (map (λ a. a.number) learned))
+last_in_reach end learned =
+    fold max 0 (filter (λ n. nat_le n (end + MAX_ASKED)) (map (λ a. a.number) learned))
 
 -- an audit up to a number
 abbrev pub ask_up_to : (end waiting last : ℕ) → Reply
@@ -145,8 +146,8 @@ IsOut ms m past (File d) = job_out ms m past ≡ Some d.job
 IsOut ms m past (PutBack j) = job_out ms m past ≡ Some j
 IsOut ms m past _ = ⊥
 
--- The reply that is owed. Whether two jobs are the same is no test that computes, since states hold whole trees
--- of files; so the reply is a relation, told by a Bool that decides it. There is one reply at most.
+-- The reply that is owed. Whether two jobs are the same is no test that computes, since states hold whole
+-- trees of files; so the reply is a relation, told by a Bool that decides it. There is one reply at most.
 pub record Owes (ms : List Member) (m : Member) (past : Past) (step : Step) (reply : Reply) : Type 0 where
   pub is_out : Bool
   pub decides : Decides is_out (IsOut ms m past step)

@@ -1,5 +1,5 @@
--- What the laws on honest nodes suppose: that nobody forges a node's signature, and that no two texts have one
--- digest.
+-- What the laws on honest nodes suppose: that nobody forges a node's signature, and that no two texts have
+-- one digest.
 use Rattle.std.specs.Prelude.{ℕ, List, [], ◌∷◌, ◌++◌, flat_map}
 use Rattle.std.specs.List.{AllByRecursion}
 use Rattle.authenticator.specs.declared.authenticator.Authenticator.{Authenticator}

@@ -19,7 +19,8 @@ use Rattle.honest_logs.specs.Opening.{opening_of}
 use Rattle.honest_logs.specs.Signing.{is_same}
 use Rattle.honest_logs.specs.Replay.{Verdict, Sound, Fault, segment_verdict}
 use Rattle.book_spec.specs.Events.{JobParts}
-use Rattle.book_spec.specs.Replies.{Reply, Challenge, AuditOf, SendOf, Indication, Trusted, Suspected, Exposed}
+use Rattle.book_spec.specs.Replies.{Reply, Challenge, AuditOf, SendOf}
+use Rattle.book_spec.specs.Replies.{Indication, Trusted, Suspected, Exposed}
 use Rattle.book_spec.specs.Replies as replies
 use Rattle.book_spec.specs.Steps.{Step, Past}
 use Rattle.book_spec.specs.Steps as steps
