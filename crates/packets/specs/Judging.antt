@@ -1,9 +1,11 @@
 -- What a packet is taken for under a roster.
-use Rattle.std.specs.Prelude.{◌≡◌, ℕ, ◌+◌, Bool, true, not, ◌&&◌, ◌==◌, List, length, Result, Ok, Err, Option, Some, None, if◌then◌else◌, is_some}
+use Rattle.std.specs.Prelude.{◌≡◌, ℕ, ◌+◌, Bool, true, not, ◌&&◌, ◌==◌, List, length, Result, Ok, Err, Option}
+use Rattle.std.specs.Prelude.{Some, None, if◌then◌else◌, is_some}
 use Rattle.authenticator.specs.Roster.{member_of}
 use Rattle.authenticator.specs.declared.member.Member.{Member}
 use Rattle.authenticator.specs.declared.refusal.Refusal.{Refusal}
-use Rattle.authenticator.specs.declared.refusal.Refusal.TheVariants.{UnknownNode, Garbage, BadSignature, NoMemory}
+use Rattle.authenticator.specs.declared.refusal.Refusal.TheVariants.{UnknownNode, Garbage, BadSignature}
+use Rattle.authenticator.specs.declared.refusal.Refusal.TheVariants.{NoMemory}
 use Rattle.log_entries.specs.Chain.{last_hash, links_from}
 use Rattle.secure_log.specs.Segment.{SegmentParts}
 use Rattle.packets.specs.Packet.{Delivery, Learn, SendChallenge, Answer, AckIn, delivery_of, delivery_shows}
@@ -51,10 +53,15 @@ judged_option ms (Some d) = judged_delivery ms d
 unfoldable pub judged : List Member → List ℕ → Result Delivery Refusal
 judged ms bytes = judged_option ms (delivery_of bytes)
 
--- What a call says of bytes is what they are taken for; for want of memory it may say nothing.
-abbrev pub SaysAsJudged : {P : Type 0} → List Member → List ℕ → (P → Delivery) → Result P Refusal → Type 0
-SaysAsJudged ms bytes delivery (Ok p) = judged ms bytes ≡ Ok (delivery p)
-SaysAsJudged ms bytes delivery (Err Garbage) = judged ms bytes ≡ Err Garbage
-SaysAsJudged ms bytes delivery (Err UnknownNode) = judged ms bytes ≡ Err UnknownNode
-SaysAsJudged ms bytes delivery (Err BadSignature) = judged ms bytes ≡ Err BadSignature
-SaysAsJudged ms bytes delivery (Err NoMemory) = Unit {0}
+-- A refusal is what is owed; for want of memory a call may say nothing else.
+abbrev pub Refuses : (owed : Result Delivery Refusal) → Refusal → Type 0
+Refuses owed UnknownNode = owed ≡ Err UnknownNode
+Refuses owed Garbage = owed ≡ Err Garbage
+Refuses owed BadSignature = owed ≡ Err BadSignature
+Refuses owed NoMemory = Unit {0}
+
+-- What a call answers is what is owed.
+abbrev pub Answers : {P : Type 0} → (owed : Result Delivery Refusal) → (P → Delivery) → Result P Refusal
+    → Type 0
+Answers owed delivery (Ok p) = owed ≡ Ok (delivery p)
+Answers owed delivery (Err refusal) = Refuses owed refusal

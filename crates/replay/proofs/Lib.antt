@@ -1,3 +1,4 @@
 pub mod FaultySteps
+pub mod Openings
 pub mod Runs
 pub mod StayingKinds

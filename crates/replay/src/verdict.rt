@@ -57,8 +57,32 @@ pub fn replay(alloc: Global, state: &State, segment: &ClosedSegment) -> Result<V
     )
 }
 
-/// What a replay of entries finds that are numbered from `first` on, behind a hash.
-fn replay_entries(
+/// What a replay of entries behind a state of their node finds, where the first has the number `first` and
+/// stands behind the hash `opening`. A log's first entry has the number 1 and stands behind 32 zero bytes and
+/// its member's `opening_state`. There may be more entries than a segment holds, and no signature of their
+/// own node is asked for. `AllocError` comes only where a growth was refused.
+pub fn replay_entries(
+    alloc: Global,
+    roster: &Roster,
+    start: State,
+    first: Number,
+    opening: &[u8; 32],
+    entries: &[Entry],
+) -> Result<Verdict, AllocError>
+    requires numbers { first + length entries.now < 2 ^ 64 }
+    requires few_received { len start.received + length entries.now ≤ MAX_RECEIVED }
+    requires few_sends { len start.sends + length entries.now ≤ MAX_SENDS }
+    ensures verdict { IfOk result (λ verdict. verdict_in verdict
+        ≡ verdict_of roster.now start (placed first opening.now entries.now)) }
+    ensures sound { IfOk result (λ verdict. IsSoundWhereHonest roster.now start
+        (placed first opening.now entries.now) (verdict_in verdict)) }
+{
+    sound_exactly_if();
+    first_verdict(alloc, roster, start, first, opening, entries)
+}
+
+/// The verdict on entries: each is taken up to the first that has a fault.
+fn first_verdict(
     alloc: Global,
     roster: &Roster,
     start: State,

@@ -33,4 +33,4 @@ returns-clause-sound c =
     let entries = c.entries.ensures.entries in
     let same : v ≡ verdict_of ms s ps = cc in
     sound_as ms s ps (λ t shown. c.sound_exactly_if.ensures ms s t ps shown) v same
-    c.replay_entries.result c.replay_entries.ensures
+    c.replay_entries.result c.replay_entries.ensures.verdict

@@ -1,80 +1,13 @@
-use Rattle.std.proofs.Common.{◌≡◌, Ok, Err, ap, sym, subst, ◌∙◌, arith}
-use Rattle.honest_logs.specs.Placed.{place}
-use Rattle.honest_logs.specs.Stepping.{step}
-use Rattle.honest_logs.specs.Replay.{Fault}
-use Rattle.replay.specs.Faults.{fault_in}
-use Rattle.replay.specs.Answers.{Steps}
-use Rattle.replay.specs.declared.steps.StepError.{StepError}
-use Rattle.std.proofs.lemmas.List.{drop_all}
-use Rattle.replay.proofs.Runs.{begins, rest_of, room_received, room_sends, faults, goes_on, ends}
+use Rattle.std.proofs.Common.{refl}
+use Rattle.honest_logs.specs.Placed.{placed}
+use Rattle.honest_logs.specs.Replay.{verdict_of}
+use Rattle.replay.proofs.Runs.{sound_as}
 use Rattle.replay.proofs.verdict.replay_entries.Goals as goal
 
-pub loop-entry-init : goal.loop-entry-init
-loop-entry-init c = begins
-    c.args.roster.now c.args.start c.args.first c.args.opening.now c.args.entries.now
-    c.new-found.result.items c.get-number.result c.new-found.ensures.items c.get-number.ensures.value
-    c.requires.few_received c.requires.few_sends
-
-pub new-place-requires : goal.new-place-requires
-new-place-requires c =
-    let counted = c.loop-entry.invariant.counted in
-    let below = c.requires.numbers in
-    let inside = c.loop-entry-test.true in
-    omega (arith, counted, below, inside)
-
-pub replay_entry-requires-clause-few_received : goal.replay_entry-requires-clause-few_received
-replay_entry-requires-clause-few_received c = room_received
-    c.args.roster.now c.args.start c.args.first c.args.opening.now c.args.entries.now
-    c.loop-entry.state c.loop-entry.found.items c.loop-entry.number c.loop-entry.before
-    c.loop-entry.entry-index c.loop-entry.invariant c.entry-item.result
-    (rest_of c.args.entries.now c.loop-entry.entry-index c.entry-item.result c.loop-entry-test.true
-    c.entry-item.is)
-
-pub replay_entry-requires-clause-few_sends : goal.replay_entry-requires-clause-few_sends
-replay_entry-requires-clause-few_sends c = room_sends
-    c.args.roster.now c.args.start c.args.first c.args.opening.now c.args.entries.now
-    c.loop-entry.state c.loop-entry.found.items c.loop-entry.number c.loop-entry.before
-    c.loop-entry.entry-index c.loop-entry.invariant c.entry-item.result
-    (rest_of c.args.entries.now c.loop-entry.entry-index c.entry-item.result c.loop-entry-test.true
-    c.entry-item.is)
-
-pub returns-in-Err-Fault : goal.returns-in-Err-Fault
-returns-in-Err-Fault c =
-    let whole = faults
-    c.args.roster.now c.args.start c.args.first c.args.opening.now c.args.entries.now
-    c.loop-entry.state c.loop-entry.found.items c.loop-entry.number c.loop-entry.before
-    c.loop-entry.entry-index c.loop-entry.invariant c.entry-item.result
-    (rest_of c.args.entries.now c.loop-entry.entry-index c.entry-item.result c.loop-entry-test.true
-    c.entry-item.is) in
-    let fault = fault_in c.in-Err-Fault.fault in
-    let refused = subst (λ (e : StepError). Steps {A = Unit {0}} c.args.roster.now c.loop-entry.state
-    (place c.new-place.result c.loop-entry.before c.entry-item.result) (Err e)
-    c.replay_entry.new.state) c.in-Err-Fault.field-0-is c.in-Err-Fault.ensures.step in
-    let there = subst (λ n. step c.args.roster.now c.loop-entry.state
-    (place n c.loop-entry.before c.entry-item.result) ≡ Err fault) c.new-place.ensures refused.0 in
-    ap (λ f. Fault (fault_in f) c.new-place.result) c.in-Err-Fault.fault-is
-    ∙ ap (Fault fault) c.new-place.ensures
-    ∙ sym (whole fault there)
-
-pub loop-entry-preserved : goal.loop-entry-preserved
-loop-entry-preserved c =
-    let on = goes_on
-    c.args.roster.now c.args.start c.args.first c.args.opening.now c.args.entries.now
-    c.loop-entry.state c.loop-entry.found.items c.loop-entry.number c.loop-entry.before
-    c.loop-entry.entry-index c.loop-entry.invariant c.entry-item.result
-    (rest_of c.args.entries.now c.loop-entry.entry-index c.entry-item.result c.loop-entry-test.true
-    c.entry-item.is) c.steps_as_it_takes.ensures c.replay_entry.new.state in
-    let there = subst (λ n. step c.args.roster.now c.loop-entry.state
-    (place n c.loop-entry.before c.entry-item.result) ≡ Ok c.replay_entry.new.state)
-    c.new-place.ensures c.in-Ok.ensures.step in
-    on there c.replay_entry.new.found.items c.in-Ok.ensures.found c.entry_hash-before.result
-    c.entry_hash-before.ensures
-
-pub returns : goal.returns
-returns c =
-    let whole = ends
-    c.args.roster.now c.args.start c.args.first c.args.opening.now c.args.entries.now
-    c.loop-entry.state c.loop-entry.found.items c.loop-entry.number c.loop-entry.before
-    c.loop-entry.entry-index c.loop-entry.invariant in
-    let done = c.loop-entry-test.false in
-    sym (whole (drop_all c.loop-entry.entry-index c.args.entries.now (omega (arith, done))))
+pub returns-clause-sound : goal.returns-clause-sound
+returns-clause-sound c =
+    let ms = c.args.roster.now in
+    let s = c.args.start in
+    let ps = placed c.args.first c.args.opening.now c.args.entries.now in
+    sound_as ms s ps (λ t shown. c.sound_exactly_if.ensures ms s t ps shown) (verdict_of ms s ps) refl
+    c.first_verdict.result c.first_verdict.ensures

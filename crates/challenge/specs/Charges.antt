@@ -1,0 +1,13 @@
+-- What evidence in memory says.
+use Rattle.evidence_spec.specs.Evidence.{ForkParts}
+use Rattle.evidence_spec.specs.Evidence as spec
+use Rattle.challenge.specs.declared.evidence.Fork.{Fork}
+use Rattle.challenge.specs.declared.evidence.Charge.{Charge}
+use Rattle.challenge.specs.declared.evidence.Charge.TheVariants as charges
+
+abbrev pub fork_in : Fork → ForkParts
+fork_in f = record { at = f.at; a = f.a; b = f.b }
+
+abbrev pub charge_in : Charge → spec.Charge
+charge_in (charges.Fork f) = spec.Fork (fork_in f)
+charge_in (charges.Replay log) = spec.Replay log

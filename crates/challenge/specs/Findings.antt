@@ -1,0 +1,143 @@
+-- What is found in evidence.
+use Rattle.std.specs.Prelude.{◌≡◌, ◌⊎◌, ℕ, Bool, true, false, List, Option, Some, None, IsSomeAnd}
+use Rattle.authenticator.specs.declared.member.Member.{Member}
+use Rattle.authenticator.specs.Roster.{member_of}
+use Rattle.authenticator.specs.Signed.{IsSignedIn}
+use Rattle.log_entries.specs.Chain.{zeros}
+use Rattle.secure_log.specs.Segment.{SegmentParts, IsClosed}
+use Rattle.secure_log.specs.Segment as segments
+use Rattle.honest_logs.specs.Replay.{Fault, verdict_of}
+use Rattle.honest_logs.specs.Stepping as spec
+use Rattle.honest_logs.specs.Placed.{placed_in}
+use Rattle.honest_logs.specs.Opening.{opening_of}
+use Rattle.replay.specs.Faults.{fault_in}
+use Rattle.replay.specs.declared.fault.ReplayFault.{ReplayFault}
+use Rattle.replay.specs.declared.verdict.Verdict.{Verdict}
+use Rattle.replay.specs.declared.verdict.Verdict.TheVariants as verdicts
+use Rattle.showings.specs.Showings.{Ends}
+use Rattle.evidence_spec.specs.Showing.{ShowingParts, IsClosedShowing, Shows}
+use Rattle.evidence_spec.specs.Evidence.{Charge, Fork, Replay, EvidenceParts}
+use Rattle.evidence_spec.specs.Evidence.{ShowsTwo, ShowsNoOpening, AcceptsReplay}
+use Rattle.challenge.specs.declared.finding.Finding.{Finding}
+use Rattle.challenge.specs.declared.finding.Finding.TheVariants as found
+use Rattle.challenge.specs.declared.finding.NotAccepted.{NotAccepted}
+use Rattle.challenge.specs.declared.finding.NotAccepted.TheVariants as reasons
+
+-- whether what is found says that evidence is accepted
+abbrev pub is_accepted : Finding → Bool
+is_accepted (found.TwoHashes at one other) = true
+is_accepted (found.Fault fault number) = true
+is_accepted (found.NotAccepted reason) = false
+
+-- ---- what is accepted shows
+
+-- Two showings are accepted with these two hashes at a number.
+pub record AcceptsTwo (ms : List Member) (node at : ℕ) (a b : ShowingParts) (one other : List ℕ) : Type 0 where
+  pub accepted : ShowsTwo ms node at a b
+  pub is_one : accepted.one ≡ one
+  pub is_other : accepted.other ≡ other
+
+-- One showing is accepted with a hash at 0.
+pub record AcceptsOne (ms : List Member) (node : ℕ) (a : ShowingParts) (one : List ℕ) : Type 0 where
+  pub accepted : ShowsNoOpening ms node a
+  pub is_one : accepted.hash ≡ one
+
+-- A fork is accepted with two hashes at a number.
+abbrev pub AcceptsHashes : List Member → (node fork_at : ℕ) → ShowingParts → Option ShowingParts
+    → (at : ℕ) (one other : List ℕ) → Type 0
+AcceptsHashes ms node fork_at a (Some b) at one other =
+    (at ≡ fork_at) × AcceptsTwo ms node fork_at a b one other
+AcceptsHashes ms node fork_at a None at one other =
+    (at ≡ 0) × (other ≡ zeros) × AcceptsOne ms node a one
+
+-- A log is accepted with a fault of the entry with a number.
+pub record AcceptsFault (ms : List Member) (node : ℕ) (s : SegmentParts) (fault : ReplayFault) (number : ℕ)
+    : Type 0 where
+  pub accepted : AcceptsReplay ms node s
+  pub is_fault : accepted.fault ≡ fault_in fault
+  pub is_number : accepted.number ≡ number
+
+-- ---- what isn't accepted lacks
+
+-- A showing lacks what is asked of it, by name.
+abbrev pub ShowingLacks : List Member → (node : ℕ) → ShowingParts → NotAccepted → Type 0
+ShowingLacks ms node s reasons.AnotherNode = ¬ (s.node ≡ node)
+ShowingLacks ms node s reasons.NotClosed = ¬ Ends s
+ShowingLacks ms node s reasons.NotSigned = ¬ IsSignedIn ms s.closing
+ShowingLacks ms node s reasons.NotFromStart = ⊥
+ShowingLacks ms node s reasons.NoTwoHashes = ⊥
+ShowingLacks ms node s reasons.NoFault = ⊥
+
+-- Showings show no two hashes at a number; one alone shows none but 32 zero bytes at 0.
+abbrev pub HasNoTwo : (at : ℕ) → ShowingParts → Option ShowingParts → Type 0
+HasNoTwo at a (Some b) = (one other : List ℕ) → Shows a at one → Shows b at other → one ≡ other
+HasNoTwo at a None = (hash : List ℕ) → Shows a 0 hash → hash ≡ zeros
+
+-- A fork lacks something, by name: in a showing, or two hashes.
+abbrev pub ForkLacks : List Member → (node at : ℕ) → ShowingParts → Option ShowingParts → NotAccepted → Type 0
+ForkLacks ms node at a b reason =
+    ShowingLacks ms node a reason
+    ⊎ (IsSomeAnd b (λ s. ShowingLacks ms node s reason)
+    ⊎ ((reason ≡ reasons.NoTwoHashes) × HasNoTwo at a b))
+
+-- A log is shown from its first entry on.
+pub record IsFromStart (s : SegmentParts) : Type 0 where
+  pub first : s.first ≡ 1
+  pub opening : s.opening ≡ zeros
+
+-- A replay of a log from the state that its member begins with finds no fault.
+abbrev pub HasNoFault : List Member → (node : ℕ) → SegmentParts → Type 0
+HasNoFault ms node s =
+    (member : Member) (fault : spec.ReplayFault) (number : ℕ) → member_of ms node ≡ Some member
+    → ¬ (verdict_of ms (opening_of member) (placed_in s) ≡ Fault fault number)
+
+-- A log lacks something, by name.
+abbrev pub LogLacks : List Member → (node : ℕ) → SegmentParts → NotAccepted → Type 0
+LogLacks ms node s reasons.AnotherNode = ¬ (s.node ≡ node)
+LogLacks ms node s reasons.NotFromStart = ¬ IsFromStart s
+LogLacks ms node s reasons.NotClosed = ¬ segments.Ends s
+LogLacks ms node s reasons.NotSigned = ¬ IsSignedIn ms s.closing
+LogLacks ms node s reasons.NoTwoHashes = ⊥
+LogLacks ms node s reasons.NoFault = HasNoFault ms node s
+
+-- ---- findings
+
+-- what is found in a fork
+abbrev pub FindsInFork : List Member → (node at : ℕ) → ShowingParts → Option ShowingParts → Finding → Type 0
+FindsInFork ms node fork_at a b (found.TwoHashes at one other) = AcceptsHashes ms node fork_at a b at one other
+FindsInFork ms node fork_at a b (found.Fault fault number) = ⊥
+FindsInFork ms node fork_at a b (found.NotAccepted reason) = ForkLacks ms node fork_at a b reason
+
+-- what is found in a log
+abbrev pub FindsInLog : List Member → (node : ℕ) → SegmentParts → Finding → Type 0
+FindsInLog ms node s (found.TwoHashes at one other) = ⊥
+FindsInLog ms node s (found.Fault fault number) = AcceptsFault ms node s fault number
+FindsInLog ms node s (found.NotAccepted reason) = LogLacks ms node s reason
+
+-- what is found in what is shown against a node
+abbrev pub FindsInCharge : List Member → (node : ℕ) → Charge → Finding → Type 0
+FindsInCharge ms node (Fork f) finding = FindsInFork ms node f.at f.a f.b finding
+FindsInCharge ms node (Replay s) finding = FindsInLog ms node s finding
+
+-- What is found in evidence: with what it is accepted, or what it lacks.
+abbrev pub Finds : List Member → EvidenceParts → Finding → Type 0
+Finds ms e finding = FindsInCharge ms e.node e.charge finding
+
+-- what a verdict says of a log
+abbrev pub finding_in : Verdict → Finding
+finding_in (verdicts.Sound state shown) = found.NotAccepted reasons.NoFault
+finding_in (verdicts.Fault fault number) = found.Fault fault number
+
+-- ---- what is asked first
+
+-- A showing is of a node, and closed.
+pub record IsClosedOf (ms : List Member) (node : ℕ) (s : ShowingParts) : Type 0 where
+  pub of_node : s.node ≡ node
+  pub closed : IsClosedShowing ms s
+
+-- A log is of a member, from its first entry on, and closed.
+pub record IsAudited (ms : List Member) (node : ℕ) (s : SegmentParts) (m : Member) : Type 0 where
+  pub of_node : s.node ≡ node
+  pub start : IsFromStart s
+  pub closed : IsClosed ms s
+  pub is_member : member_of ms node ≡ Some m

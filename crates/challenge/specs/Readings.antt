@@ -1,0 +1,9 @@
+-- What a fault of reading says of a text.
+use Rattle.xdr.specs.declared.list.ReadError.{ReadError}
+use Rattle.xdr.specs.declared.list.ReadError.TheVariants as reading
+use Rattle.challenge.specs.declared.fault.EvidenceFault.{EvidenceFault}
+use Rattle.challenge.specs.declared.fault.EvidenceFault.TheVariants.{Garbage, NoMemory}
+
+abbrev pub fault_of : ReadError → EvidenceFault
+fault_of reading.NoMemory = NoMemory
+fault_of (reading.Fault f) = Garbage

@@ -1,0 +1,12 @@
+//! Challenges.
+
+use envelopes::Envelope;
+
+/// What a node is asked to show (PeerReview, SOSP 2007, section 5.3).
+#[derive(Drop)]
+pub enum Challenge {
+    /// The segment of its log from the first to the last of these numbers.
+    Audit { first: u64, last: u64 },
+    /// That it has this message.
+    Send(Envelope),
+}

@@ -1,0 +1,191 @@
+//! What is found in evidence.
+
+ghost use Rattle.std.specs.Prelude.{◌≡◌, ◌↔◌, IfErr, IfNone, IfOk, IfSome, IsTrue, None, Some};
+ghost use Rattle.log_entries.specs.Chain.{zeros};
+ghost use Rattle.evidence_spec.specs.Evidence.{Accepts};
+ghost use Rattle.challenge.specs.Findings.{Finds, FindsInFork, FindsInLog, LogLacks, ShowingLacks};
+ghost use Rattle.challenge.specs.Findings.{IsAudited, IsClosedOf, IsFromStart, finding_in, is_accepted};
+
+use crate::audited::AuditedLog;
+use crate::evidence::{Charge, Evidence, Fork};
+use crate::finding::{Finding, NotAccepted};
+use authenticator::{Member, Number, Roster, is_signed_by};
+use replay::{Verdict, opening_state, replay_entries};
+use showings::{Showing, is_signed_in};
+use std::alloc::{AllocError, Global};
+
+/// What is found in evidence under a roster: with what it is accepted, or the first that it lacks. Closings are
+/// looked at before a log is replayed. `AllocError` comes only where a growth was refused.
+pub fn examine(alloc: Global, roster: &Roster, evidence: &Evidence) -> Result<Finding, AllocError>
+    ensures finds { IfOk result (λ finding. Finds roster.now evidence.now finding) }
+    ensures exact { IfOk result
+        (λ finding. IsTrue (is_accepted finding) ↔ Accepts roster.now evidence.now) }
+{
+    finding_of(alloc, roster, evidence)
+}
+
+/// As `examine`, with the first clause alone.
+fn finding_of(alloc: Global, roster: &Roster, evidence: &Evidence) -> Result<Finding, AllocError>
+    ensures { IfOk result (λ finding. Finds roster.now evidence.now finding) }
+{
+    match evidence.charge() {
+        Charge::Fork(fork) => Ok(find_in_fork(roster, evidence.node(), fork)),
+        Charge::Replay(log) => find_in_log(alloc, roster, evidence.node(), log),
+    }
+}
+
+/// What is found in a fork.
+fn find_in_fork(roster: &Roster, node: u32, fork: &Fork) -> Finding
+    ensures { FindsInFork roster.now node fork.now.at fork.now.a fork.now.b result }
+{
+    if let Some(reason) = find_lack(roster, node, &fork.a) {
+        return Finding::NotAccepted(reason);
+    }
+    match &fork.b {
+        Some(b) => find_in_two(roster, node, fork.at, &fork.a, b),
+        None => find_in_one(roster, node, fork.at, &fork.a),
+    }
+}
+
+/// What is found in two showings, of which the first is closed.
+fn find_in_two(roster: &Roster, node: u32, at: Number, a: &Showing, b: &Showing) -> Finding
+    requires { IsClosedOf roster.now node a.now }
+    ensures { FindsInFork roster.now node at a.now (Some b.now) result }
+{
+    if let Some(reason) = find_lack(roster, node, b) {
+        return Finding::NotAccepted(reason);
+    }
+    let Some(one) = a.hash_at(at.get()) else {
+        return Finding::NotAccepted(NotAccepted::NoTwoHashes);
+    };
+    let Some(other) = b.hash_at(at.get()) else {
+        return Finding::NotAccepted(NotAccepted::NoTwoHashes);
+    };
+    if is_same(&one, &other) {
+        return Finding::NotAccepted(NotAccepted::NoTwoHashes);
+    }
+    Finding::TwoHashes { at, one, other }
+}
+
+/// What is found in one showing alone, which is closed.
+#[tactic(auto, unfolding(log_entries::specs::Chain::zeros))]
+fn find_in_one(roster: &Roster, node: u32, at: Number, a: &Showing) -> Finding
+    requires { IsClosedOf roster.now node a.now }
+    ensures { FindsInFork roster.now node at a.now None result }
+{
+    let Some(one) = a.hash_at(0) else {
+        return Finding::NotAccepted(NotAccepted::NoTwoHashes);
+    };
+    if is_zeros(&one) {
+        return Finding::NotAccepted(NotAccepted::NoTwoHashes);
+    }
+    Finding::TwoHashes {
+        at: Number::new(0),
+        one,
+        other: [0; 32],
+    }
+}
+
+/// What a showing lacks first.
+fn find_lack(roster: &Roster, node: u32, showing: &Showing) -> Option<NotAccepted>
+    ensures none { IfNone result (IsClosedOf roster.now node showing.now) }
+    ensures some { IfSome result (λ reason. ShowingLacks roster.now node showing.now reason) }
+{
+    if showing.node() != node {
+        return Some(NotAccepted::AnotherNode);
+    }
+    if !showing.ends() {
+        return Some(NotAccepted::NotClosed);
+    }
+    if !is_signed_in(roster, showing.closing()) {
+        return Some(NotAccepted::NotSigned);
+    }
+    None
+}
+
+/// Whether two hashes are the same.
+fn is_same(one: &[u8; 32], other: &[u8; 32]) -> bool
+    ensures { IsTrue result ↔ (one.now ≡ other.now) }
+{
+    one.as_slice() == other.as_slice()
+}
+
+/// Whether a hash is 32 zero bytes, as before a log's first entry.
+#[tactic(auto, unfolding(log_entries::specs::Chain::zeros))]
+fn is_zeros(hash: &[u8; 32]) -> bool
+    ensures { IsTrue result ↔ (hash.now ≡ zeros) }
+{
+    is_same(hash, &[0; 32])
+}
+
+/// What is found in a log.
+fn find_in_log(
+    alloc: Global,
+    roster: &Roster,
+    node: u32,
+    log: &AuditedLog,
+) -> Result<Finding, AllocError>
+    ensures { IfOk result (λ finding. FindsInLog roster.now node log.now finding) }
+{
+    match audited_member(roster, node, log) {
+        Ok(member) => replay_finding(alloc, roster, node, &member, log),
+        Err(reason) => Ok(Finding::NotAccepted(reason)),
+    }
+}
+
+/// The member whose log is shown from its first entry on and closed, or what is lacking first.
+fn audited_member(roster: &Roster, node: u32, log: &AuditedLog) -> Result<Member, NotAccepted>
+    ensures ok { IfOk result (λ member. IsAudited roster.now node log.now member) }
+    ensures err { IfErr result (λ reason. LogLacks roster.now node log.now reason) }
+{
+    if log.node() != node {
+        return Err(NotAccepted::AnotherNode);
+    }
+    if !is_from_start(log) {
+        return Err(NotAccepted::NotFromStart);
+    }
+    if !log.ends() {
+        return Err(NotAccepted::NotClosed);
+    }
+    let Some(member) = roster.member(log.closing().node) else {
+        return Err(NotAccepted::NotSigned);
+    };
+    if !is_signed_by(&member, log.closing()) {
+        return Err(NotAccepted::NotSigned);
+    }
+    Ok(member)
+}
+
+/// Whether a log is shown from its first entry on.
+fn is_from_start(log: &AuditedLog) -> bool
+    ensures { IsTrue result ↔ IsFromStart log.now }
+{
+    log.first().get() == 1 && is_zeros(log.opening())
+}
+
+/// What a replay of a member's closed log finds, from the state that the member begins with.
+fn replay_finding(
+    alloc: Global,
+    roster: &Roster,
+    node: u32,
+    member: &Member,
+    log: &AuditedLog,
+) -> Result<Finding, AllocError>
+    requires { IsAudited roster.now node log.now member.now }
+    ensures { IfOk result (λ finding. FindsInLog roster.now node log.now finding) }
+{
+    let start = opening_state(alloc, member)?;
+    let first = log.first();
+    let verdict = replay_entries(alloc, roster, start, first, log.opening(), log.entries())?;
+    Ok(finding_in(verdict))
+}
+
+/// What a verdict says of a log.
+fn finding_in(verdict: Verdict) -> Finding
+    ensures { result ≡ finding_in verdict }
+{
+    match verdict {
+        Verdict::Fault(fault, number) => Finding::Fault(fault, number),
+        Verdict::Sound(..) => Finding::NotAccepted(NotAccepted::NoFault),
+    }
+}

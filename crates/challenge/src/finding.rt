@@ -1,0 +1,56 @@
+//! What is found in evidence.
+
+use authenticator::Number;
+use replay::ReplayFault;
+use thiserror::Error;
+
+/// What evidence shows, if it is accepted; else why it isn't.
+#[derive(Clone, Copy, Debug, PartialEq, Eq)]
+pub enum Finding {
+    /// Two hashes are shown at a number. Where one showing is enough, the number is 0 and the other hash is 32
+    /// zero bytes.
+    TwoHashes {
+        at: Number,
+        one: [u8; 32],
+        other: [u8; 32],
+    },
+    /// What a replay finds that the entry with a number has wrong.
+    Fault(ReplayFault, Number),
+    /// Evidence that isn't accepted.
+    NotAccepted(NotAccepted),
+}
+
+/// Why evidence isn't accepted: the first of these, in a fork of `a` first and then of `b`.
+#[derive(Clone, Copy, Debug, PartialEq, Eq, Error)]
+pub enum NotAccepted {
+    /// A showing or the log is of another node than the evidence.
+    #[error("what is shown is of another node")]
+    AnotherNode,
+    /// The log doesn't begin with the first entry, behind 32 zero bytes.
+    #[error("the log is not shown from its first entry on")]
+    NotFromStart,
+    /// A showing begins at 0, or what is shown doesn't end in its closing's node, number and hash.
+    #[error("what is shown does not end in what closes it")]
+    NotClosed,
+    /// A closing isn't signed by a member of the roster.
+    #[error("what closes it is not signed by the node")]
+    NotSigned,
+    /// No two hashes are shown at the number.
+    #[error("no two hashes are shown at the number")]
+    NoTwoHashes,
+    /// A replay finds no fault.
+    #[error("the log has no fault")]
+    NoFault,
+}
+
+impl Finding {
+    ghost use Rattle.std.specs.Prelude.{◌≡◌};
+    ghost use Rattle.challenge.specs.Findings.{is_accepted};
+
+    /// Whether the evidence is accepted.
+    pub fn is_accepted(&self) -> bool
+        ensures { result ≡ is_accepted self.now }
+    {
+        !matches!(self, Finding::NotAccepted(_))
+    }
+}

@@ -1,0 +1,23 @@
+//! States that nodes begin with.
+
+ghost use Rattle.std.specs.Prelude.{◌≡◌, IfOk};
+ghost use Rattle.std.specs.FinMap.{len};
+ghost use Rattle.honest_logs.specs.Opening.{opening_of};
+
+use authenticator::{Kind, Member};
+use checkpoint::State;
+use std::alloc::{AllocError, Global};
+
+/// The state that a member begins with, before the first entry of its log: a server's has the root directory
+/// alone, a client's the clock at 0, and no message is received or sent. `AllocError` comes only where a
+/// growth was refused.
+pub fn opening_state(alloc: Global, member: &Member) -> Result<State, AllocError>
+    ensures state { IfOk result (λ state. state ≡ opening_of member.now) }
+    ensures none_received { IfOk result (λ state. len state.received ≡ 0) }
+    ensures none_sent { IfOk result (λ state. len state.sends ≡ 0) }
+{
+    match member.kind {
+        Kind::Server => State::opening_server(alloc, member.node),
+        Kind::Client => Ok(State::opening_client(alloc, member.node)),
+    }
+}

@@ -1,0 +1,15 @@
+//! Showings: parts of a log that are shown by their links alone, closed by a signature.
+#![tactic(auto)]
+
+mod chain;
+mod closing;
+mod kind;
+mod link;
+mod read;
+mod showing;
+mod write;
+
+pub use closing::{copy_of, is_signed_in};
+pub use kind::EntryKind;
+pub use link::ShownLink;
+pub use showing::Showing;
