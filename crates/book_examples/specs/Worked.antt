@@ -11,13 +11,12 @@ use Rattle.log_entries.specs.declared.entry.Entry.{Entry}
 use Rattle.log_entries.specs.declared.entry.Entry.TheVariants.{Clock}
 use Rattle.secure_log.specs.Segment.{SegmentParts, ClosedParts}
 use Rattle.envelopes.specs.declared.envelope.Envelope.{Envelope}
-use Rattle.honest_logs.specs.State.{State, opening_client}
-use Rattle.honest_logs.specs.StateSteps.{having_read}
-use Rattle.honest_logs.specs.Steps.{time_of}
-use Rattle.honest_logs.specs.Stepping.{BadForm}
-use Rattle.honest_logs.specs.Replay.{Sound, Fault}
-use Rattle.evidence_spec.specs.Showing.{authenticator_showing}
-use Rattle.evidence_spec.specs.Evidence.{Fork, Replay, EvidenceParts}
+use Rattle.book_spec.specs.State.{State, opening_client}
+use Rattle.book_spec.specs.StateSteps.{having_read}
+use Rattle.book_spec.specs.Stepping.{BadForm}
+use Rattle.book_spec.specs.Replay.{Sound, Fault}
+use Rattle.book_spec.specs.Showing.{authenticator_showing}
+use Rattle.book_spec.specs.Evidence.{Fork, Replay, EvidenceParts}
 use Rattle.book_spec.specs.Events.{PublicKey, JobParts, DoneParts}
 use Rattle.book_spec.specs.Replies.{Noted, Opened, Accepted, Asked, Job, Filed, Returned}
 use Rattle.book_spec.specs.Steps.{Learn, SendChallenge, Answer, Audit, Begin, File, PutBack, Past}
@@ -104,7 +103,7 @@ abbrev pub job : (number : ℕ) → JobParts
 job number = record { node = 5; number = number; state = opening_client 5; segment = closed }
 
 abbrev pub state_read : State
-state_read = having_read (opening_client 5) (time_of 1 0)
+state_read = having_read (opening_client 5) (record { seconds = 1; microseconds = 0 })
 
 abbrev pub done : (number : ℕ) → DoneParts
 done number = record { job = job number; verdict = Sound state_read [] }

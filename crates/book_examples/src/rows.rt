@@ -14,7 +14,7 @@ ghost use Rattle.book_spec.specs.Replies.{Forwarded, Empty, Told, OpenList, Evid
 ghost use Rattle.book_spec.specs.Replies.{Trusted, Suspected, Exposed};
 ghost use Rattle.book_spec.specs.Steps.{Learn, SendChallenge, Answer, AckIn, Audit, Begin, File, PutBack};
 ghost use Rattle.book_spec.specs.Steps.{Forward, Ask, Past};
-ghost use Rattle.honest_logs.specs.State.{opening_client};
+ghost use Rattle.book_spec.specs.State.{opening_client};
 ghost use Rattle.book_spec.specs.Standing.{end_of, outbox};
 ghost use Rattle.book_spec.specs.Owing.{Owes};
 ghost use Rattle.book_examples.specs.Worked.{five, learned, sent, one_hash, other_hash, learned_one};

@@ -1,3 +1,14 @@
+pub use Rattle.honest_logs.specs.State
+pub use Rattle.honest_logs.specs.StateSteps
+pub use Rattle.honest_logs.specs.Signing
+pub use Rattle.honest_logs.specs.Opening
+pub use Rattle.honest_logs.specs.Placed
+pub use Rattle.honest_logs.specs.Stepping
+pub use Rattle.honest_logs.specs.Replay
+pub use Rattle.honest_logs.specs.HonestLogs
+pub use Rattle.evidence_spec.specs.Showing
+pub use Rattle.evidence_spec.specs.Evidence
+pub use Rattle.evidence_spec.specs.Proving
 pub mod Refusals
 pub mod Events
 pub mod Replies
