@@ -7,7 +7,8 @@ use sha2::{Digest, Sha256};
 use std::alloc::Global;
 use std::test::Fail;
 
-/// The digest of the text of the acknowledgement, at number 1, of node 2's first message to node 1, 40 bytes 7.
+/// The digest of the text of the acknowledgement, at number 1, of node 2's first message to node 1, which is
+/// 40 bytes 7.
 const ACK: [u8; 32] = [
     0xd1, 0x70, 0x59, 0xd8, 0x6d, 0xe1, 0x25, 0x02, 0x12, 0x0c, 0x43, 0xa9, 0x50, 0xcf, 0xd5, 0x0e,
     0xb5, 0x8a, 0x04, 0x1e, 0xa0, 0x50, 0x18, 0x54, 0x50, 0x7e, 0x81, 0x00, 0x2e, 0x80, 0x46, 0x8d,
@@ -78,8 +79,8 @@ fn a_cut_acknowledgement_is_garbage(rt: HostRuntime) -> Result<(), Fail> {
     Ok(())
 }
 
-// In turn who acknowledges, the number, the hash before, the sender, its number, the hash before there, the body,
-// the signature and the own signature's leaf; and who acknowledges, to one who is no member.
+// In turn who acknowledges, the number, the hash before, the sender, its number, the hash before there, the
+// body, the signature and the own signature's leaf; and who acknowledges, to one who is no member.
 #[test]
 fn a_changed_acknowledgement_is_refused(rt: HostRuntime) -> Result<(), Fail> {
     let Acknowledged {

@@ -142,8 +142,8 @@ fn an_envelope_elsewhere_is_not_for_me(rt: HostRuntime) -> Result<(), Fail> {
     Ok(())
 }
 
-// In turn a secret that is shown, the sender, who is no member then, the receiver, the sender, who is the server
-// then, the number, the body's length, the body, and nothing.
+// In turn a secret that is shown, the sender, who is no member then, the receiver, the sender, who is the
+// server then, the number, the body's length, the body, and nothing.
 #[test]
 fn a_changed_envelope_is_refused(rt: HostRuntime) -> Result<(), Fail> {
     let Nodes {

@@ -3,6 +3,7 @@
 
 mod authenticator;
 mod checked;
+pub mod laws;
 mod member;
 mod number;
 mod refusal;

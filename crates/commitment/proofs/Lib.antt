@@ -1,6 +1,4 @@
-pub mod Searches
-pub mod Signed
-pub mod Steps
-pub mod Meanings
+pub use Rattle.senders.proofs.Signed
+pub use Rattle.senders.proofs.Meanings
 pub mod Messages
 pub mod Receipts

@@ -1,5 +1,7 @@
--- The numbers of the refusals of messages.
+-- The numbers of the refusals of messages, and those that sending gives.
 use Rattle.std.specs.Prelude.{ℕ, Option, Some, None}
+use Rattle.senders.specs.declared.refusal.SendRefusal.{SendRefusal}
+use Rattle.senders.specs.declared.refusal.SendRefusal.TheVariants.{KeysUsedUp as NoKey, NoMemory as NoRoom}
 use Rattle.commitment.specs.declared.refusal.Refusal.{Refusal}
 use Rattle.commitment.specs.declared.refusal.Refusal.TheVariants.{Garbage, NotForMe, BadSignature, KeysUsedUp, NoMemory}
 
@@ -10,3 +12,8 @@ refusal_number NotForMe = Some 2
 refusal_number BadSignature = Some 3
 refusal_number KeysUsedUp = Some 4
 refusal_number NoMemory = None
+
+-- the refusal of a message that wasn't sent
+abbrev pub refusal_of : SendRefusal → Refusal
+refusal_of NoKey = KeysUsedUp
+refusal_of NoRoom = NoMemory

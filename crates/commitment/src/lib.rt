@@ -4,18 +4,15 @@
 
 mod kept;
 pub mod laws;
-mod lookups;
 mod outcome;
-mod places;
 mod receiver;
 mod refusal;
-mod reserve;
-mod sender;
 
-pub use authenticator::{Authenticator, Checked, Kind, Member, Number, Roster};
-pub use envelopes::{Ack, AckRef, Envelope, EnvelopeRef, Message, check_ack, check_envelope};
+pub use envelopes::{Message, check_ack, check_envelope};
 pub use outcome::Received;
 pub use receiver::Receiver;
 pub use refusal::Refusal;
-pub use secure_log::{Body, Entry, Log, OpenSegment, SegmentFault, SignatureText};
-pub use sender::Sender;
+pub use senders::{
+    Ack, AckRef, Authenticator, Body, Checked, Entry, Envelope, EnvelopeRef, Kind, Log, Member,
+    Number, OpenSegment, Roster, SegmentFault, SendRefusal, Sender, SignatureText,
+};

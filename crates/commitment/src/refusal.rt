@@ -2,7 +2,9 @@
 
 ghost use Rattle.std.specs.Prelude.{◌≡◌};
 ghost use Rattle.commitment.specs.declared.refusal.Refusal.TheVariants.{NoMemory};
+ghost use Rattle.commitment.specs.RefusalNumbers.{refusal_of};
 
+use senders::SendRefusal;
 use std::alloc::AllocError;
 use thiserror::Error;
 
@@ -49,5 +51,16 @@ impl From<AllocError> for Refusal {
 
     fn from(_e: AllocError) -> Refusal {
         Refusal::NoMemory
+    }
+}
+
+impl From<SendRefusal> for Refusal {
+    ghost from_gives = { λ s e. e ≡ refusal_of s };
+
+    fn from(refused: SendRefusal) -> Refusal {
+        match refused {
+            SendRefusal::KeysUsedUp => Refusal::KeysUsedUp,
+            SendRefusal::NoMemory => Refusal::NoMemory,
+        }
     }
 }

@@ -10,8 +10,8 @@ use Rattle.envelopes.specs.declared.acknowledgement.Ack.{Ack}
 use Rattle.envelopes.specs.declared.acknowledgement.AckRef.{AckRef}
 use Rattle.envelopes.specs.declared.message.Message.{Message}
 
--- What an acknowledgement says of the message, in a text (RFC 4506): its sender, its number in the sender's log, the hash before it
--- there, and the digests of its body and of its signature's text.
+-- What an acknowledgement says of the message, in a text (RFC 4506): its sender, its number in the sender's
+-- log, the hash before it there, and the digests of its body and of its signature's text.
 abbrev pub acked_item : Item
 acked_item = pair word (pair number_item (pair (fixed 32) (pair (fixed 32) (pair (fixed 32) signature_item))))
 

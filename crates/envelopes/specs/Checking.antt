@@ -27,8 +27,8 @@ pub record IsBetweenMembers (ms : List Member) (bytes : List ℕ) (e : Envelope)
   pub receiver : IsSome (member_of ms e.to)
 
 -- What a check of an envelope answers: it, with the member that signed it; or Garbage where the bytes are the
--- text of none, or its sender is its receiver; else UnknownNode where its sender or its receiver is no member;
--- else BadSignature where the sender didn't sign it.
+-- text of none, or its sender is its receiver; else UnknownNode where its sender or its receiver is no
+-- member; else BadSignature where the sender didn't sign it.
 abbrev pub ChecksEnvelope : {C : Type 0} (ms : List Member) (bytes : List ℕ)
     (value : C → Envelope) (member : C → Member) → Result C Refusal → Type 0
 ChecksEnvelope ms bytes value member (Ok c) =

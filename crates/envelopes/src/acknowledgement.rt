@@ -8,8 +8,8 @@ use authenticator::{Authenticator, Number, Signs};
 use log_entries::{Receipt, SignatureText, message_hash, receipt_hash};
 use std::alloc::{AllocError, Global};
 
-/// That a node logged a message, with its signature of the RECV. Nothing is checked of it: `check_ack` makes a
-/// `Checked` value of one that a member signed.
+/// That a node logged a message, with its signature of the RECV. Nothing is checked of it: `check_ack` makes
+/// a `Checked` value of one that a member signed.
 #[derive(Drop)]
 pub struct Ack {
     /// Who has the message.

@@ -43,7 +43,8 @@ pub fn check_envelope(
 }
 
 /// Checks an acknowledgement's text: `Garbage` where it is none, else `UnknownNode` where who signs it is no
-/// member, else `BadSignature` where that one didn't sign it. `NoMemory` comes only where a growth was refused.
+/// member, else `BadSignature` where that one didn't sign it. `NoMemory` comes only where a growth was
+/// refused.
 pub fn check_ack(alloc: Global, roster: &Roster, bytes: &[u8]) -> Result<Checked<Ack>, Refusal>
     ensures { ChecksAck roster.now bytes.now (λ c. c.value) (λ c. c.member) result }
 {

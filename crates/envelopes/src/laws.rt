@@ -11,8 +11,8 @@ ghost use Rattle.envelopes.specs.declared.acknowledgement.Ack.{Ack};
 
 use xdr_texts::laws::reads_each_text;
 
-/// Bytes are read as an envelope exactly where they are its spelling and nothing more, and are the text of one
-/// envelope at most.
+/// Bytes are read as an envelope exactly where they are its spelling and nothing more, and are the text of
+/// one envelope at most.
 pub fn an_envelope_has_one_text()
     ensures exact { (e : Envelope) (bytes : List ℕ) → IsBytes bytes →
         (IsTextOf bytes e ↔ IsText envelope_text (envelope_value e) bytes) }
@@ -21,8 +21,8 @@ pub fn an_envelope_has_one_text()
     reads_each_text();
 }
 
-/// Bytes are read as an acknowledgement exactly where they are its spelling and nothing more, and are the text of
-/// one acknowledgement at most.
+/// Bytes are read as an acknowledgement exactly where they are its spelling and nothing more, and are the
+/// text of one acknowledgement at most.
 pub fn an_acknowledgement_has_one_text()
     ensures exact { (a : Ack) (bytes : List ℕ) → IsBytes bytes →
         (IsAckText bytes a ↔ IsText ack_text (ack_value a) bytes) }

@@ -7,3 +7,4 @@ pub mod Shown
 pub mod Accepted
 pub mod Closed
 pub mod Nothing
+pub mod OneReading

@@ -5,13 +5,15 @@ use Rattle.std.specs.List.{AllByRecursion}
 use Rattle.sha2.specs.Sha256.{sha256}
 use Rattle.xdr.specs.Item.{Fits}
 use Rattle.authenticator.specs.declared.member.Member.{Member}
+use Rattle.authenticator.specs.declared.member.Kind.TheVariants.{Client}
 use Rattle.authenticator.specs.declared.authenticator.Authenticator.{Authenticator}
 use Rattle.authenticator.specs.Roster.{member_of}
 use Rattle.authenticator.specs.Signed.{IsSignedIn, authenticator_item, authenticator_value}
-use Rattle.log_entries.specs.Chain.{IsIn, NoCollision}
+use Rattle.log_entries.specs.Chain.{zeros, IsIn, NoCollision}
 use Rattle.log_entries.specs.Entry.{entry_item, entry_value, kind_number, content}
 use Rattle.log_entries.specs.declared.entry.Entry.{Entry}
-use Rattle.secure_log.specs.Log.{log_pairs}
+use Rattle.log_entries.specs.declared.entry.Entry.TheVariants.{Clock}
+use Rattle.secure_log.specs.Log.{log_hash, log_pairs}
 use Rattle.secure_log.specs.Segment.{SegmentParts, IsClosed, segment_item, segment_value, segment_pairs}
 use Rattle.honest_logs.specs.State.{State}
 use Rattle.honest_logs.specs.Opening.{opening_of}
@@ -19,7 +21,7 @@ use Rattle.honest_logs.specs.HonestLogs.{IsHonestLog}
 use Rattle.evidence_spec.specs.Showing.{ShowingParts, IsClosedShowing, IsAmong, Shows}
 use Rattle.evidence_spec.specs.Showing.{showing_item, showing_value, showing_pairs}
 use Rattle.evidence_spec.specs.Showing.{authenticator_showing, segment_showing}
-use Rattle.evidence_spec.specs.Evidence.{ForkParts, Fork, EvidenceParts}
+use Rattle.evidence_spec.specs.Evidence.{ForkParts, Fork, Replay, EvidenceParts}
 use Rattle.evidence_spec.specs.Evidence.{evidence_item, evidence_value, audited_item, audited_value, Accepts}
 use Rattle.evidence_spec.specs.Proving.{IsLog, log_texts, segment_texts, showing_texts, entry_texts}
 use Rattle.evidence_spec.specs.Proving.{charge_texts, closings, IsUnforged, Proves}
@@ -115,3 +117,15 @@ UnsignedProveNothing =
     → let fork : ForkParts =
     record { at = at; a = authenticator_showing a; b = option_map authenticator_showing b } in
     ¬ Proves ms (record { node = node; charge = Fork fork })
+
+-- A segment of one clock reading, which is all of a client's log, proves nothing: that log stands against it.
+abbrev pub one_reading : (node : ℕ) → Authenticator → SegmentParts
+one_reading node closing =
+    record { node = node; first = 1; opening = zeros; entries = Clock 1 0 ∷ []; closing = closing }
+
+abbrev pub OneReadingProvesNothing : Type 0
+OneReadingProvesNothing =
+    (ms : List Member) (member : Member) (node : ℕ) (closing : Authenticator)
+    → member_of ms node ≡ Some member → member.kind ≡ Client
+    → closing.number ≡ 1 → closing.hash ≡ log_hash (Clock 1 0 ∷ [])
+    → ¬ Proves ms (record { node = node; charge = Replay (one_reading node closing) })

@@ -4,6 +4,7 @@ ghost use Rattle.evidence_spec.specs.Laws.{OneHashAtANumber, ShownIsOfTheLog, Se
 ghost use Rattle.evidence_spec.specs.Laws.{ContentsGiveEntriesBack, AcceptedEvidenceProves};
 ghost use Rattle.evidence_spec.specs.Laws.{AuthenticatorsShowOnePair, SegmentsShowTheirPairs};
 ghost use Rattle.evidence_spec.specs.Laws.{OwnTextsProveNothing, UnsignedProveNothing};
+ghost use Rattle.evidence_spec.specs.Laws.{OneReadingProvesNothing};
 
 use honest_logs::replay_laws::{logs_grow, sound_exactly_if};
 
@@ -39,11 +40,12 @@ pub fn what_is_shown_is_closed()
     ensures segment { SegmentsShowTheirPairs }
 {}
 
-/// What an honest log shows of itself proves nothing against its node; nor do authenticators that aren't
-/// signed, whatever they show.
+/// What an honest log shows of itself proves nothing against its node, as one of a single clock reading whose
+/// digests are worked out; nor do authenticators that aren't signed, whatever they show.
 pub fn what_proves_nothing()
     ensures own { OwnTextsProveNothing }
     ensures unsigned { UnsignedProveNothing }
+    ensures reading { OneReadingProvesNothing }
 {
     logs_grow();
 }

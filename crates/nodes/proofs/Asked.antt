@@ -1,11 +1,10 @@
 -- A call reaches the server, and its acknowledgement the client.
 -- Serves: ask.
-use Rattle.std.proofs.Common.{◌≡◌, ◌≢◌, ◌⊎◌, inl, inr, ℕ, ◌+◌, ◌<◌, ◌≤◌, Bool, true, false, cond, List, [], ◌∷◌, ◌++◌, length, Result, Ok, Err, Option, Some, None, refl, sym, ap, subst, ◌∙◌, arith, nat_cmp}
+use Rattle.std.proofs.Common.{◌≡◌, inr, ℕ, ◌+◌, ◌<◌, Bool, true, cond, List, [], ◌∷◌, ◌++◌, length, Result, Ok, Err, Option, Some, None, refl, sym, ap, subst, ◌∙◌, arith, nat_cmp}
 use Rattle.std.specs.Prelude.{IsSome, IsSomeAnd}
 use Rattle.std.specs.FinMap as finite
 use Rattle.std.specs.Ordering.{eq_by_cmp}
 use Rattle.std.specs.Cmp.{nat_cmp_total, eq_by_cmp_equiv}
-use Rattle.merkle_keys.specs.Signing.{SignatureParts}
 use Rattle.merkle_keys.specs.Tree.{root}
 use Rattle.authenticator.specs.Roster.{member_of}
 use Rattle.authenticator.specs.declared.member.Kind.{Kind}
@@ -18,23 +17,22 @@ use Rattle.log_entries.specs.declared.entry.Entry.TheVariants.{Send, Recv, Clock
 use Rattle.secure_log.specs.Log.{log_hash}
 use Rattle.envelopes.specs.declared.envelope.Envelope.{Envelope}
 use Rattle.envelopes.specs.declared.acknowledgement.Ack.{Ack}
-use Rattle.commitment.specs.LookUps.{FitsEnvelope, FitsSend, ack_at, envelope_at}
+use Rattle.commitment.specs.LookUps.{FitsEnvelope, ack_at, envelope_at}
 use Rattle.commitment.specs.Sender.{IsSender}
 use Rattle.honest_logs.specs.Timeval.{Timeval}
 use Rattle.honest_logs.specs.World.{World}
 use Rattle.honest_logs.specs.Replies.{reply_owed, world_after}
-use Rattle.honest_logs.specs.State.{SentMessage, State, with_received, Idle, Machine, Server}
+use Rattle.honest_logs.specs.State.{SentMessage, with_received, Idle, Server}
 use Rattle.honest_logs.specs.Steps.{received_message}
 use Rattle.honest_logs.specs.HonestServers.{heard_entries, hash_before_reply, with_reply}
 use Rattle.links.specs.declared.fault.LinkFault.{LinkFault}
 use Rattle.links.specs.declared.fault.LinkFault.TheVariants.{KeysUsedUp, NoMemory, Failed}
-use Rattle.node_logs.specs.Nodes.{NodeParts, IsMemberOf, LacksKeys, sender_of}
-use Rattle.node_logs.specs.Hearing.{HearsEnvelope, keys_for, reading_at, receipt_from}
+use Rattle.node_logs.specs.Nodes.{NodeParts, LacksKeys, sender_of}
+use Rattle.node_logs.specs.Hearing.{HearsEnvelope, keys_for, reading_at}
 use Rattle.node_logs.specs.Sending.{with_send}
-use Rattle.node_logs.specs.AckTaking.{with_ack}
 use Rattle.node_logs.specs.declared.outcome.Receipt.{Receipt}
 use Rattle.nodes.specs.Members.{IsListed, IsMemberAs}
-use Rattle.nodes.specs.Delivery.{AckReaches, HearsNew, Reaches, ReceivesUpTo, TakesAwaited}
+use Rattle.nodes.specs.Delivery.{AckReaches, HearsNew, Reaches, TakesAwaited}
 use Rattle.nodes.specs.Exchanges.{Asks, IsAsked, IsCall, IsHeard, IsJoined, heard, having_called, sent}
 use Rattle.nodes.proofs.Shown.{ack_shown, envelope_shown}
 use Rattle.nodes.proofs.Fresh.{not_received}
@@ -180,6 +178,7 @@ pub record IsSentBy (c s : NodeParts) (body : List ℕ) (c1 : NodeParts) (number
   pub call : IsCall c s body envelope
   pub reaches : Reaches c1 kinds.Client number s envelope
 
+-- What the client's SEND is, once it is logged: its envelope is the call, and it reaches the server.
 pub sent_by : (c s : NodeParts) (to : ℕ) (body : List ℕ) (c1 : NodeParts) (number : ℕ) → IsJoined c s → to ≡ s.node
     → (¬ LacksKeys 1 c) × (c1 ≡ with_send c to body) × (number ≡ length c.entries + 1) → IsSender (sender_of c1)
     → IsSentBy c s body c1 number
@@ -230,6 +229,7 @@ asks_answered c s time body c1 s1 c2 number r answer joined h done is takes =
     subst (λ (n : NodeParts). AckReaches s1 kinds.Server r.ack n x.0) (sym h.is) x.1 in
     (x.0, (x.1, subst (λ (n : NodeParts). TakesAwaited n x.0 answer c2) h.is (takes x.0 there)))
 
+-- With the acknowledgement taken, the call is asked.
 pub asks_ok : (c s : NodeParts) (time : Timeval) (body : List ℕ) (c1 s1 c2 : NodeParts) (number : ℕ) (r : Receipt)
     → IsJoined c s → IsSentBy c s body c1 number → IsHeard c s time body r s1 → IsSender (sender_of s1)
     → ((a : Ack) → AckReaches s1 kinds.Server r.ack c1 a → TakesAwaited c1 a (Ok tt) c2)
@@ -238,6 +238,7 @@ asks_ok c s time body c1 s1 c2 number r joined h done is takes =
     let x = asks_answered c s time body c1 s1 c2 number r (Ok tt) joined h done is takes in
     record { heard = done; ack = x.0; made = x.1.0.ack; taken = x.1.1 }
 
+-- Where the client was refused memory for the acknowledgement, the call stops there.
 pub asks_refused : (c s : NodeParts) (time : Timeval) (body : List ℕ) (c1 s1 c2 : NodeParts) (number : ℕ) (r : Receipt)
     (fault : LinkFault) → IsJoined c s → IsSentBy c s body c1 number → IsHeard c s time body r s1
     → IsSender (sender_of s1)

@@ -1,6 +1,6 @@
 -- A message whose number no message in a log reaches is new to it.
 -- Serves: ask, bring_back, carry.
-use Rattle.std.proofs.Common.{◌≡◌, ℕ, ◌+◌, ◌<◌, ◌≤◌, Bool, true, false, cond, List, [], ◌∷◌, ◌++◌, Option, Some, None, refl, sym, ap, subst, ◌∙◌, arith, nat_lt, ◌==◌, nat_cmp}
+use Rattle.std.proofs.Common.{◌≡◌, ℕ, ◌+◌, ◌<◌, ◌≤◌, Bool, false, cond, List, [], ◌∷◌, ◌++◌, Some, None, refl, ap, ◌∙◌, arith, nat_lt, ◌==◌, nat_cmp}
 use Rattle.std.proofs.lemmas.Bool.Decides.{nat_tests}
 use Rattle.std.specs.Map.{lookup}
 use Rattle.std.specs.BTreeMap.{is_at}
@@ -29,6 +29,7 @@ unequal Greater s h e = refl
 other : (m x : Message) → x.seq < m.seq → is_at (message_cmp m) x ≡ false
 other m x h = unequal _ _ _ (above m.seq x.seq h)
 
+-- A message with a number past those that were received isn't found among the messages of entries.
 pub not_received : (node k limit : ℕ) (es : List Entry) (m : Message) → ReceivesUpTo limit es → limit < m.seq
     → lookup (is_at (message_cmp m)) (receipts_from node k es) ≡ None
 unfolding receipts_from
@@ -46,10 +47,12 @@ not_received node k limit (Check digest ∷ es) m few h = not_received node (k +
 
 -- ---- logs that grow
 
+-- The numbers that entries received lie within any higher limit too.
 pub up_to_more : (low high : ℕ) (es : List Entry) → low ≤ high → ReceivesUpTo low es → ReceivesUpTo high es
 up_to_more low high [] h few = tt
 up_to_more low high (e ∷ es) h few = (omega (arith, few.0, h), up_to_more low high es h few.1)
 
+-- Entries joined have received no further than both of them.
 pub up_to_both : (limit : ℕ) (es fs : List Entry) → ReceivesUpTo limit es → ReceivesUpTo limit fs
     → ReceivesUpTo limit (es ++ fs)
 up_to_both limit [] fs few more = more

@@ -1,9 +1,9 @@
 -- What a node shows is accepted by another that it reaches.
 -- Serves: hear, take_reply, deliver_call, deliver_reply, acknowledge_call, acknowledge_reply.
-use Rattle.std.proofs.Common.{◌≡◌, ℕ, ◌+◌, ◌^◌, Bool, true, false, List, Result, Ok, Err, Option, Some, None, refl, sym, ap, subst, ◌∙◌}
+use Rattle.std.proofs.Common.{◌≡◌, ℕ, List, Result, Ok, Err, Option, Some, None, refl, sym, ap, subst, ◌∙◌}
 use Rattle.std.specs.Prelude.{IsSome, IsSomeAnd}
 use Rattle.std.specs.FinMap.{get}
-use Rattle.xdr_texts.specs.Text.{IsText, text_at}
+use Rattle.xdr_texts.specs.Text.{IsText}
 use Rattle.authenticator.specs.Roster.{member_of}
 use Rattle.authenticator.specs.Signed.{IsSignedBy, IsSignedIn}
 use Rattle.authenticator.specs.declared.authenticator.Authenticator.{Authenticator}
@@ -14,7 +14,7 @@ use Rattle.envelopes.specs.Acknowledgement.{ack_shows, ack_text, ack_value}
 use Rattle.envelopes.specs.Checking.{IsAckText}
 use Rattle.envelopes.specs.declared.envelope.Envelope.{Envelope}
 use Rattle.envelopes.specs.declared.acknowledgement.Ack.{Ack}
-use Rattle.commitment.specs.LookUps.{IsAuthenticatorAt, FitsSend, ack_at, authenticator_at, envelope_at}
+use Rattle.commitment.specs.LookUps.{IsAuthenticatorAt, FitsSend, ack_at, envelope_at}
 use Rattle.commitment.specs.Receiver.{Finds}
 use Rattle.commitment.specs.Sender.{IsSender}
 use Rattle.commitment.specs.declared.refusal.Refusal.{Refusal}
@@ -22,11 +22,11 @@ use Rattle.commitment.specs.declared.refusal.Refusal.TheVariants.{Garbage, NotFo
 use Rattle.commitment.specs.declared.outcome.Received.TheVariants as received
 use Rattle.commitment.proofs.Meanings.{ack_law, authenticator_law, envelope_law}
 use Rattle.honest_logs.specs.Timeval.{Timeval}
-use Rattle.node_logs.specs.Nodes.{NodeParts, IsMemberOf, LacksKeys, receiver_of, sender_of}
+use Rattle.node_logs.specs.Nodes.{NodeParts, LacksKeys, receiver_of, sender_of}
 use Rattle.node_logs.specs.Hearing.{Hears, HearsEnvelope}
 use Rattle.node_logs.specs.Sending.{TakesEnvelope, with_receipt}
-use Rattle.node_logs.specs.AckTaking.{IsAckOf, TakesAck, with_ack}
-use Rattle.node_logs.specs.declared.outcome.Heard.TheVariants.{New, Repeat}
+use Rattle.node_logs.specs.AckTaking.{TakesAck, with_ack}
+use Rattle.node_logs.specs.declared.outcome.Heard.TheVariants.{New}
 use Rattle.node_logs.specs.declared.outcome.Receipt.{Receipt}
 use Rattle.node_logs.specs.declared.outcome.AckTaken.{AckTaken}
 use Rattle.node_logs.specs.declared.outcome.AckTaken.TheVariants.{Logged, Already}

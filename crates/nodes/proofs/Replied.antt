@@ -1,6 +1,6 @@
 -- A reply reaches the client, and its acknowledgement the server; both stay joined.
 -- Serves: bring_back, carry.
-use Rattle.std.proofs.Common.{◌≡◌, ◌≢◌, ◌⊎◌, inl, inr, ℕ, suc, ◌+◌, ◌<◌, ◌≤◌, Bool, true, false, cond, List, [], ◌∷◌, ◌++◌, length, Result, Ok, Err, Option, Some, None, refl, sym, ap, ap₂, subst, ◌∙◌, arith, append_assoc, length-append}
+use Rattle.std.proofs.Common.{◌≡◌, ℕ, ◌+◌, ◌<◌, ◌≤◌, Bool, cond, List, [], ◌∷◌, ◌++◌, length, Ok, Err, Option, Some, None, refl, sym, ap, subst, ◌∙◌, arith, append_assoc, length-append}
 use Rattle.std.specs.Prelude.{IsSome, IsSomeAnd}
 use Rattle.std.specs.FinMap as finite
 use Rattle.sha2.specs.Sha256.{sha256}
@@ -11,24 +11,24 @@ use Rattle.log_entries.specs.declared.entry.Entry.{Entry}
 use Rattle.log_entries.specs.declared.entry.Entry.TheVariants.{Send, Recv, Clock}
 use Rattle.envelopes.specs.declared.envelope.Envelope.{Envelope}
 use Rattle.envelopes.specs.declared.acknowledgement.Ack.{Ack}
-use Rattle.commitment.specs.LookUps.{FitsEnvelope, FitsSend, ack_at, envelope_at}
+use Rattle.commitment.specs.LookUps.{FitsEnvelope, ack_at, envelope_at}
 use Rattle.commitment.specs.Sender.{IsSender}
-use Rattle.honest_logs.specs.Timeval.{Timeval, is_before, later}
+use Rattle.honest_logs.specs.Timeval.{Timeval, later}
 use Rattle.honest_logs.specs.World.{World, at_time}
 use Rattle.honest_logs.specs.Replies.{reply_owed, world_after}
 use Rattle.honest_logs.specs.State.{State, Idle, Machine, Server, clock_in}
 use Rattle.honest_logs.specs.HonestServers.{heard_entries, with_reply}
 use Rattle.links.specs.declared.fault.LinkFault.{LinkFault}
 use Rattle.links.specs.declared.fault.LinkFault.TheVariants.{KeysUsedUp, NoMemory, Failed}
-use Rattle.node_logs.specs.Nodes.{NodeParts, LacksKeys, sender_of}
+use Rattle.node_logs.specs.Nodes.{NodeParts, sender_of}
 use Rattle.node_logs.specs.Hearing.{HearsEnvelope, reading_at, receipt_from}
 use Rattle.node_logs.specs.Sending.{with_receipt}
-use Rattle.node_logs.specs.AckTaking.{ack_entry, with_ack}
+use Rattle.node_logs.specs.AckTaking.{ack_entry}
 use Rattle.node_logs.specs.declared.outcome.Receipt.{Receipt}
 use Rattle.node_logs.proofs.Served.{later_late}
 use Rattle.nodes.specs.Members.{IsListed}
 use Rattle.nodes.specs.Delivery.{AckReaches, IsReplyReady, Reaches, ReceivesUpTo, TakesAwaited, TakesNew}
-use Rattle.nodes.specs.Exchanges.{IsAsked, IsJoined, IsReceived, IsReplied, IsServed, StopsAtReply, having_called, received}
+use Rattle.nodes.specs.Exchanges.{IsAsked, IsJoined, IsReceived, IsReplied, IsServed, StopsAtReply, received}
 use Rattle.nodes.proofs.Texts.{some_same}
 use Rattle.nodes.proofs.Shown.{ack_shown, envelope_shown}
 use Rattle.nodes.proofs.Fresh.{not_received, up_to_both, up_to_more}
@@ -78,6 +78,7 @@ is_received c s c1 number h takes =
     let x = takes h.envelope h.reaches in
     record { envelope = h.reaches.envelope; left = x.0; received = x.1 }
 
+-- With both the reply and its acknowledgement taken, the reply is brought back.
 pub is_replied : (c s c1 t : NodeParts) (number receipt : ℕ) (reply : List ℕ) (h : IsReplyReady c s number)
     → ((e : Envelope) → Reaches s kinds.Server number c e → TakesNew c e (Ok tt) c1) → IsSender (sender_of c1)
     → receipt ≡ length c1.entries → reply ≡ h.envelope.body
@@ -95,6 +96,7 @@ is_replied c s c1 t number receipt reply h takes is last says acknowledged =
       taken = acknowledged x.0 x.1;
     }
 
+-- Where the server was refused memory for the acknowledgement, the reply stops there.
 pub stops_replying : (c s c1 t : NodeParts) (number receipt : ℕ) (fault : LinkFault) (h : IsReplyReady c s number)
     → ((e : Envelope) → Reaches s kinds.Server number c e → TakesNew c e (Ok tt) c1) → IsSender (sender_of c1)
     → receipt ≡ length c1.entries
@@ -280,6 +282,7 @@ reply_ready c s c1 t time body r number reply joined asked is at heard_it =
       k.says,
     )
 
+-- A reply that the receipt names is ready at its number, and is the one owed.
 pub reply_due : (c s c1 t : NodeParts) (time : Timeval) (body : List ℕ) (r : Receipt) (number : ℕ) → IsJoined c s
     → IsAsked c s time body r c1 t → IsSender (sender_of t) → r.reply ≡ Some number → IsDue c1 s t time body number
 reply_due c s c1 t time body r number joined asked is owed =

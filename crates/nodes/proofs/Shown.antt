@@ -1,6 +1,6 @@
 -- What a node shows of an entry of its log: the envelope of a SEND, and the acknowledgement of a RECV.
 -- Serves: ask, bring_back.
-use Rattle.std.proofs.Common.{◌≡◌, ℕ, suc, ◌+◌, ◌-◌, Bool, true, false, List, [], ◌∷◌, ◌++◌, length, get_or, Option, Some, None, refl, sym, ap, subst, ◌∙◌, arith}
+use Rattle.std.proofs.Common.{◌≡◌, ℕ, ◌+◌, ◌-◌, true, List, ◌∷◌, ◌++◌, length, get_or, Option, Some, None, refl, sym, ap, ◌∙◌, arith}
 use Rattle.std.proofs.Math.Seq.{get_or-append_seam}
 use Rattle.sha2.specs.Sha256.{sha256}
 use Rattle.merkle_keys.specs.Signing.{SignatureParts}
@@ -10,7 +10,7 @@ use Rattle.log_entries.specs.declared.entry.Entry.TheVariants.{Send, Recv}
 use Rattle.envelopes.specs.declared.envelope.Envelope.{Envelope}
 use Rattle.envelopes.specs.declared.acknowledgement.Ack.{Ack}
 use Rattle.commitment.specs.Signings.{Signing, is_signed_entry}
-use Rattle.commitment.specs.Sender.{SenderParts, IsSender, IsSigningAt, signed_at}
+use Rattle.commitment.specs.Sender.{SenderParts, IsSender, signed_at}
 use Rattle.commitment.specs.LookUps.{ack_at, ack_from, ack_of, envelope_at, envelope_from, envelope_of}
 use Rattle.commitment.proofs.Meanings.{entry_signed, signing_is, unsigned_is}
 
@@ -20,6 +20,7 @@ pub record IsSigningOf (s : SenderParts) (number : ℕ) (e : Entry) (g : Signing
   pub numbered : g.number ≡ number
   pub of_entry : g.entry ≡ e
 
+-- A SEND or RECV that stands in a log is signed at its number.
 pub signed_there : (s : SenderParts) (before rest : List Entry) (e : Entry) → IsSender s → s.log.entries ≡ before ++ e ∷ rest
     → is_signed_entry e ≡ true → (g : Signing) × IsSigningOf s (length before + 1) e g
 signed_there s before rest e is whole kind = by (signed_at s (length before + 1)) refl
@@ -45,6 +46,7 @@ pub record IsEnvelopeOf (s : SenderParts) (number to : ℕ) (body : List ℕ) (e
   pub numbered : e.seq ≡ number
   pub says : e.body ≡ body
 
+-- The envelope that is shown of a SEND is to its receiver, with its body.
 pub envelope_shown : (s : SenderParts) (before rest : List Entry) (to : ℕ) (body : List ℕ) → IsSender s
     → s.log.entries ≡ before ++ Send to body ∷ rest
     → (e : Envelope) × IsEnvelopeOf s (length before + 1) to body e
@@ -81,6 +83,7 @@ pub record IsAckAt (s : SenderParts) (number from seq : ℕ) (prev body : List �
   pub says : a.body_hash ≡ sha256 body
   pub signed : a.signature_hash ≡ signature_digest signature
 
+-- The acknowledgement that is shown of a RECV is of the message that it received.
 pub ack_shown : (s : SenderParts) (before rest : List Entry) (from seq : ℕ) (prev body : List ℕ)
     (signature : SignatureParts) → IsSender s → s.log.entries ≡ before ++ Recv from seq prev body signature ∷ rest
     → (a : Ack) × IsAckAt s (length before + 1) from seq prev body signature a

@@ -1,6 +1,6 @@
 -- An exchange with a fault has failed.
 -- Serves: Direct::carry.
-use Rattle.std.proofs.Common.{◌≡◌, ◌⊎◌, inl, inr, ℕ, Bool, true, false, List, refl}
+use Rattle.std.proofs.Common.{◌≡◌, inl, inr, ℕ, true, false, List, refl}
 use Rattle.honest_logs.specs.Timeval.{Timeval}
 use Rattle.links.specs.declared.fault.LinkFault.{LinkFault}
 use Rattle.links.specs.declared.fault.LinkFault.TheVariants.{KeysUsedUp, NoMemory, Failed}
@@ -11,6 +11,7 @@ use Rattle.nodes.specs.Exchanges.{DirectParts, StopsCarrying, StopsExchange}
 abbrev pub failed_of : NodeParts → NodeParts → DirectParts
 failed_of c s = record { client = c; server = s; failed = true }
 
+-- what was carried so far, with a fault, as the exchange tells it
 pub stops : (d : DirectParts) (time : Timeval) (body : List ℕ) (fault : LinkFault) (c s : NodeParts) → d.failed ≡ false
     → StopsCarrying d.client d.server time body fault c s → StopsExchange d time body fault (failed_of c s)
 stops d time body KeysUsedUp c s none h = record { before = none; after = refl; stops = h }

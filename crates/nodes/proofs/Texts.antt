@@ -1,13 +1,13 @@
 -- Bytes are the text of one envelope, or of one acknowledgement, and a text that is written reads back.
 -- Serves: hear, take_reply, deliver_call, deliver_reply, acknowledge_call, acknowledge_reply.
-use Rattle.std.proofs.Common.{◌≡◌, ℕ, Bool, true, List, [], ◌∷◌, ◌++◌, Ok, Err, Result, Option, Some, None, refl, sym, ap, subst, ◌∙◌}
+use Rattle.std.proofs.Common.{◌≡◌, ℕ, List, [], Ok, Option, Some, refl, sym, ap, ◌∙◌}
 use Rattle.std.proofs.lemmas.List.{append-nil}
 use Rattle.xdr.specs.Item.{Value, spelling}
 use Rattle.xdr.specs.Reading.{read_at}
 use Rattle.xdr.proofs.Exact.{again}
 use Rattle.xdr_texts.specs.Text.{Text, IsText, text_at}
-use Rattle.envelopes.specs.Envelope.{envelope_item, envelope_text, envelope_value}
-use Rattle.envelopes.specs.Acknowledgement.{ack_item, ack_text, ack_value}
+use Rattle.envelopes.specs.Envelope.{envelope_item}
+use Rattle.envelopes.specs.Acknowledgement.{ack_item}
 use Rattle.envelopes.specs.Checking.{IsAckText, IsTextOf}
 use Rattle.envelopes.specs.declared.envelope.Envelope.{Envelope}
 use Rattle.envelopes.specs.declared.acknowledgement.Ack.{Ack}
@@ -20,6 +20,7 @@ reads_back t v bytes h =
     ap (read_at t.item) (h.2 ∙ sym (append-nil (spelling t.item v))) ∙ again t.item v [] h.0 in
     rw (e, h.1) refl
 
+-- two values that are there alike are the same
 pub some_same : {A : Type 0} {x y : A} → ◌≡◌ {A = Option A} (Some x) (Some y) → x ≡ y
 some_same h = cc
 
@@ -38,6 +39,7 @@ envelope_back v = record {
   };
 }
 
+-- No bytes are the text of two envelopes.
 pub one_envelope : (bytes : List ℕ) (e f : Envelope) → IsTextOf bytes e → IsTextOf bytes f → e ≡ f
 unfolding envelope_back
 one_envelope bytes e f h k = ap envelope_back (some_same (sym h ∙ k))
@@ -60,6 +62,7 @@ ack_back v = record {
   };
 }
 
+-- No bytes are the text of two acknowledgements.
 pub one_ack : (bytes : List ℕ) (a b : Ack) → IsAckText bytes a → IsAckText bytes b → a ≡ b
 unfolding ack_back
 one_ack bytes a b h k = ap ack_back (some_same (sym h ∙ k))

@@ -82,8 +82,8 @@ TakesNew c e (Err Failed) c' = ⊥
 
 -- ---- acknowledgements
 
--- The acknowledgement that a node shows at a number reaches another: it is of a SEND of that node's log, which
--- awaits it, and lists its signer.
+-- The acknowledgement that a node shows at a number reaches another: it is of a SEND of that node's log,
+-- which awaits it, and lists its signer.
 pub record AckReaches (a : NodeParts) (kind : Kind) (number : ℕ) (b : NodeParts) (k : Ack) : Type 0 where
   pub ack : ack_at (sender_of a) number ≡ Some k
   pub fits : FitsSend (sender_of b) k

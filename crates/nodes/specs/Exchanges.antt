@@ -1,7 +1,9 @@
--- What an exchange owes, between a client and a server that are joined without anyone between them: the client
--- logs SEND; the server RECV, CLOCK and the SEND of its reply, if one is owed; the client takes the server's
--- acknowledgement (ACK), and then the reply (RECV); the server takes the client's acknowledgement (ACK).
-use Rattle.std.specs.Prelude.{◌≡◌, ◌≢◌, ◌⊎◌, ◌+◌, ℕ, Bool, true, false, List, [], length, Option, Some, None, Result, Ok, Err, refl}
+-- What an exchange owes, between a client and a server that are joined without anyone between them: the
+-- client logs SEND; the server RECV, CLOCK and the SEND of its reply, if one is owed; the client takes the
+-- server's acknowledgement (ACK), and then the reply (RECV); the server takes the client's acknowledgement
+-- (ACK).
+use Rattle.std.specs.Prelude.{◌≡◌, ◌≢◌, ◌⊎◌, ◌+◌, ℕ, Bool, true, false, List, [], length, refl}
+use Rattle.std.specs.Prelude.{Option, Some, None, Result, Ok, Err}
 use Rattle.std.specs.Coded.{Coded, code_by, coded×, coded_bool}
 use Rattle.authenticator.specs.declared.member.Kind.TheVariants as kinds
 use Rattle.envelopes.specs.declared.envelope.Envelope.{Envelope}
@@ -36,7 +38,8 @@ pub record IsJoined (c s : NodeParts) : Type 0 where
 abbrev pub having_called : NodeParts → NodeParts → List ℕ → NodeParts
 having_called c s body = with_send c s.node body
 
--- The envelope of the call: from the client to the server, of the SEND that the client logged last, with this body.
+-- The envelope of the call: from the client to the server, of the SEND that the client logged last, with this
+-- body.
 pub record IsCall (c s : NodeParts) (body : List ℕ) (e : Envelope) : Type 0 where
   pub shown : envelope_at (sender_of (having_called c s body)) (length c.entries + 1) ≡ Some e
   pub sender : e.from ≡ c.node
@@ -45,7 +48,8 @@ pub record IsCall (c s : NodeParts) (body : List ℕ) (e : Envelope) : Type 0 wh
   pub says : e.body ≡ body
 
 -- The client sent a body, and the server heard it.
-pub record IsHeard (c s : NodeParts) (time : Timeval) (body : List ℕ) (r : Receipt) (s' : NodeParts) : Type 0 where
+pub record IsHeard (c s : NodeParts) (time : Timeval) (body : List ℕ) (r : Receipt) (s' : NodeParts)
+    : Type 0 where
   pub left : ¬ LacksKeys 1 c
   pub envelope : Envelope
   pub call : IsCall c s body envelope
@@ -53,7 +57,8 @@ pub record IsHeard (c s : NodeParts) (time : Timeval) (body : List ℕ) (r : Rec
   pub hears : HearsEnvelope s time envelope r s'
 
 -- And the client took the server's acknowledgement.
-pub record IsAsked (c s : NodeParts) (time : Timeval) (body : List ℕ) (r : Receipt) (c' s' : NodeParts) : Type 0 where
+pub record IsAsked (c s : NodeParts) (time : Timeval) (body : List ℕ) (r : Receipt) (c' s' : NodeParts)
+    : Type 0 where
   pub heard : IsHeard c s time body r s'
   pub ack : Ack
   pub made : ack_at (sender_of s') r.ack ≡ Some ack
@@ -68,7 +73,8 @@ pub data StopsAsking (c s : NodeParts) (time : Timeval) (body : List ℕ) (c' s'
 
 -- What a call gives and leaves. KeysUsedUp comes only where the client has no key left, and then nothing is
 -- done; or the server fewer than two, and then the client's SEND stands.
-abbrev pub Asks : (c s : NodeParts) → Timeval → List ℕ → Result Receipt LinkFault → (c' s' : NodeParts) → Type 0
+abbrev pub Asks : (c s : NodeParts) → Timeval → List ℕ → Result Receipt LinkFault → (c' s' : NodeParts)
+    → Type 0
 Asks c s time body (Ok r) c' s' = IsAsked c s time body r c' s'
 Asks c s time body (Err KeysUsedUp) c' s' =
     (LacksKeys 1 c × (c' ≡ c) × (s' ≡ s))
@@ -98,8 +104,8 @@ pub data StopsReplying (c s : NodeParts) (number : ℕ) (c' s' : NodeParts) : Ty
   unreceived : c' ≡ c → s' ≡ s → StopsReplying c s number c' s'
   received : (e : Envelope) → IsReceived c s number e c' → s' ≡ s → StopsReplying c s number c' s'
 
--- Why a reply isn't brought back, and what is left then. KeysUsedUp comes only where the client has no key left,
--- and then nothing more is done: the server takes no acknowledgement of it.
+-- Why a reply isn't brought back, and what is left then. KeysUsedUp comes only where the client has no key
+-- left, and then nothing more is done: the server takes no acknowledgement of it.
 abbrev pub StopsAtReply : (c s : NodeParts) (number : ℕ) → LinkFault → (c' s' : NodeParts) → Type 0
 StopsAtReply c s number KeysUsedUp c' s' = LacksKeys 1 c × (c' ≡ c) × (s' ≡ s)
 StopsAtReply c s number NoMemory c' s' = StopsReplying c s number c' s'
@@ -108,7 +114,8 @@ StopsAtReply c s number Failed c' s' = ⊥
 -- ---- both
 
 -- The call was taken, and the server owes its reply at a number.
-pub record IsOwed (c s : NodeParts) (time : Timeval) (body : List ℕ) (number : ℕ) (c' s' : NodeParts) : Type 0 where
+pub record IsOwed (c s : NodeParts) (time : Timeval) (body : List ℕ) (number : ℕ) (c' s' : NodeParts)
+    : Type 0 where
   pub receipt : Receipt
   pub asked : IsAsked c s time body receipt c' s'
   pub owed : receipt.reply ≡ Some number
@@ -127,9 +134,10 @@ StopsCarrying c s time body fault c' s' =
     ⊎ ((number : ℕ) × ((d : NodeParts) × ((t : NodeParts) ×
     (IsOwed c s time body number d t × StopsAtReply d t number fault c' s'))))
 
--- What the server did with a body: it answered what is owed to it at that time, and its world is the one after that.
-pub record IsServed (s : NodeParts) (time : Timeval) (body : List ℕ) (reply : Option (List ℕ)) (s' : NodeParts)
-    : Type 0 where
+-- What the server did with a body: it answered what is owed to it at that time, and its world is the one
+-- after that.
+pub record IsServed (s : NodeParts) (time : Timeval) (body : List ℕ) (reply : Option (List ℕ))
+    (s' : NodeParts) : Type 0 where
   pub world : World
   pub idle : s.state.machine ≡ Server world Idle
   pub owed : reply ≡ reply_owed world time body
@@ -159,8 +167,8 @@ abbrev pub IsDirect : DirectParts → Type 0
 IsDirect d = d.failed ≡ false → IsJoined d.client d.server
 
 -- An exchange without a fault.
-pub record IsExchanged (d : DirectParts) (time : Timeval) (body : List ℕ) (reply : Option (List ℕ)) (d' : DirectParts)
-    : Type 0 where
+pub record IsExchanged (d : DirectParts) (time : Timeval) (body : List ℕ) (reply : Option (List ℕ))
+    (d' : DirectParts) : Type 0 where
   pub before : d.failed ≡ false
   pub after : d'.failed ≡ false
   pub carried : IsCarried d.client d.server time body reply d'.client d'.server
@@ -172,15 +180,25 @@ pub record IsStopped (d : DirectParts) (time : Timeval) (body : List ℕ) (fault
   pub after : d'.failed ≡ true
   pub stops : StopsCarrying d.client d.server time body fault d'.client d'.server
 
--- Why an exchange isn't answered, and what is left: behind a fault each is Failed, and nothing changes; Failed
--- comes there alone.
+-- Why an exchange isn't answered, and what is left: behind a fault each is Failed, and nothing changes;
+-- Failed comes there alone.
 abbrev pub StopsExchange : DirectParts → Timeval → List ℕ → LinkFault → DirectParts → Type 0
 StopsExchange d time body KeysUsedUp d' = IsStopped d time body KeysUsedUp d'
 StopsExchange d time body NoMemory d' = IsStopped d time body NoMemory d'
 StopsExchange d time body Failed d' = (d.failed ≡ true) × (d' ≡ d)
 
--- A client and a server that may be joined: nothing is logged yet, they are two nodes, and each is listed in the
--- other's roster.
+-- Keys lack: the client has none left, or the server fewer than two.
+abbrev pub KeysLack : DirectParts → Type 0
+KeysLack d = LacksKeys 1 d.client ⊎ LacksKeys 2 d.server
+
+-- What holds behind an exchange that answered a fault: it has failed, and KeysUsedUp came where keys lack.
+abbrev pub IsFaulted : DirectParts → LinkFault → Type 0
+IsFaulted d KeysUsedUp = (d.failed ≡ true) × KeysLack d
+IsFaulted d NoMemory = d.failed ≡ true
+IsFaulted d Failed = d.failed ≡ true
+
+-- A client and a server that may be joined: nothing is logged yet, they are two nodes, and each is listed in
+-- the other's roster.
 pub record MayJoin (c s : NodeParts) : Type 0 where
   pub unused : c.entries ≡ []
   pub server_unused : s.entries ≡ []

@@ -1,5 +1,5 @@
 -- Nodes that a roster lists.
-use Rattle.std.specs.Prelude.{◌≡◌, ℕ, List, Some, IsSomeAnd}
+use Rattle.std.specs.Prelude.{◌≡◌, List, IsSomeAnd}
 use Rattle.authenticator.specs.Roster.{member_of}
 use Rattle.authenticator.specs.declared.member.Kind.{Kind}
 use Rattle.authenticator.specs.declared.member.Member.{Member}

@@ -11,7 +11,8 @@ ghost use Rattle.commitment.specs.LookUps.{ack_at, envelope_at};
 ghost use Rattle.commitment.specs.Receiver.{Finds};
 ghost use Rattle.commitment.specs.Sender.{IsSender};
 ghost use Rattle.node_logs.specs.Nodes.{receiver_of, sender_of};
-ghost use Rattle.nodes.specs.Delivery.{AckReaches, CopiesBody, HearsNew, Reaches, SendsBody, TakesAwaited, TakesNew, WritesText, ack_taken, fault_of};
+ghost use Rattle.nodes.specs.Delivery.{AckReaches, CopiesBody, HearsNew, Reaches, SendsBody, TakesAwaited};
+ghost use Rattle.nodes.specs.Delivery.{TakesNew, WritesText, ack_taken, fault_of};
 
 use crate::client::ClientNode;
 use crate::server::ServerNode;
@@ -20,8 +21,8 @@ use links::LinkFault;
 use node_logs::{AckTaken, Body, Heard, NodeLog, Receipt, Received, Refusal, Time};
 use std::alloc::Global;
 
-/// A refusal as a fault of the link. What is made by one node isn't refused by the other but for want of keys or
-/// memory.
+/// A refusal as a fault of the link. What is made by one node isn't refused by the other but for want of keys
+/// or memory.
 fn fault_of(refusal: Refusal) -> LinkFault
     ensures { result ≡ fault_of refusal }
 {
@@ -55,8 +56,8 @@ pub(crate) fn send(
     }
 }
 
-/// Writes the text of the envelope of the SEND with a number, in place of what the bytes were. `NoMemory` comes only
-/// where a growth was refused.
+/// Writes the text of the envelope of the SEND with a number, in place of what the bytes were. `NoMemory`
+/// comes only where a growth was refused.
 fn write_envelope(node: &NodeLog, number: Number, text: &mut Vec<u8>) -> Result<(), LinkFault>
     ensures written { (e : Envelope) → envelope_at (sender_of node.now) number ≡ Some e →
         WritesText envelope_text (envelope_value e) result text.new.items }
@@ -92,7 +93,8 @@ fn write_ack(node: &NodeLog, number: Number, text: &mut Vec<u8>) -> Result<(), L
 
 /// A copy of the body of the SEND with a number. `NoMemory` comes only where a growth was refused.
 pub(crate) fn body_of(node: &NodeLog, number: Number, alloc: Global) -> Result<Vec<u8>, LinkFault>
-    ensures { (e : Envelope) → envelope_at (sender_of node.now) number ≡ Some e → CopiesBody (λ v. v.items) e result }
+    ensures { (e : Envelope) → envelope_at (sender_of node.now) number ≡ Some e →
+        CopiesBody (λ v. v.items) e result }
 {
     let Some(envelope) = node.envelope(number.get()) else {
         return Err(LinkFault::Failed);

@@ -14,8 +14,8 @@ use node_logs::Time;
 use std::alloc::Global;
 use std::marker::Model;
 
-/// A client and a server in one process, joined to a link: each exchange is a call of the client, with all that the
-/// two log for it. Behind a fault it has failed.
+/// A client and a server in one process, joined to a link: each exchange is a call of the client, with all
+/// that the two log for it. Behind a fault it has failed.
 #[derive(Drop)]
 pub struct Direct {
     client: ClientNode,
@@ -37,8 +37,9 @@ impl Model for Direct {
 }
 
 impl Direct {
-    /// Joins a client and a server. None exactly where they can't be joined: one of them has logged something, or
-    /// they have one number, or one of them isn't listed in the other's roster with its kind, root and height.
+    /// Joins a client and a server. None exactly where they can't be joined: one of them has logged
+    /// something, or they have one number, or one of them isn't listed in the other's roster with its kind,
+    /// root and height.
     pub fn join(alloc: Global, client: ClientNode, server: ServerNode) -> Option<Direct>
         ensures joined { IfSome result (λ d. d ≡ direct_of client server) }
         ensures exact { IsSome result ↔ MayJoin client server }
@@ -68,11 +69,12 @@ impl Direct {
         &self.server
     }
 
-    /// Carries a body of at most 12,288 bytes to the server at a time, and gives its reply, if one is owed. Between
-    /// them the client logs SEND, ACK and RECV, and the server RECV, CLOCK, SEND and ACK; without a reply the client
-    /// SEND and ACK, and the server RECV and CLOCK. `KeysUsedUp` comes only where the client has no key left, or the
-    /// server fewer than two, or the client none for the reply; `NoMemory` only where a growth was refused; what was
-    /// done before either stands. `Failed` comes behind a fault, and only there; nothing changes then.
+    /// Carries a body of at most 12,288 bytes to the server at a time, and gives its reply, if one is owed.
+    /// Between them the client logs SEND, ACK and RECV, and the server RECV, CLOCK, SEND and ACK; without a
+    /// reply the client SEND and ACK, and the server RECV and CLOCK. `KeysUsedUp` comes only where the client
+    /// has no key left, or the server fewer than two, or the client none for the reply; `NoMemory` only where
+    /// a growth was refused; what was done before either stands. `Failed` comes behind a fault, and only
+    /// there; nothing changes then.
     pub fn carry(
         &mut self,
         alloc: Global,
@@ -118,13 +120,16 @@ fn may_join(client: &ClientNode, server: &ServerNode) -> bool
         && server.is_listed(client.node().roster())
 }
 
-/// It tells its server's world. From now on it may lack keys or memory; it has failed behind a fault, and only there.
+/// It tells its server's world. From now on it may lack keys or memory; it has failed behind a fault, and
+/// only there. It answers `KeysUsedUp` only where keys lack.
 impl Link for Direct {
+    ghost use Rattle.nodes.specs.Exchanges.{IsFaulted};
+
     ghost world = { λ d. world_in d.server.state.machine };
 
     ghost may_fault = { λ d e. e ≡ LinkFault.Failed → d.failed ≡ true };
 
-    ghost faulted = { λ d _. d.failed ≡ true };
+    ghost faulted = { λ d e. IsFaulted d e };
 
     fn exchange(
         &mut self,

@@ -6,7 +6,8 @@ ghost use Rattle.log_entries.specs.declared.entry.TheConstants.{MAX_BODY};
 ghost use Rattle.commitment.specs.Sender.{IsSender};
 ghost use Rattle.node_logs.specs.Nodes.{sender_of};
 ghost use Rattle.nodes.specs.Delivery.{IsReplyReady};
-ghost use Rattle.nodes.specs.Exchanges.{Asks, IsCarried, IsJoined, IsReplied, IsServed, StopsAtReply, StopsCarrying};
+ghost use Rattle.nodes.specs.Exchanges.{Asks, IsCarried, IsJoined, IsReplied, IsServed};
+ghost use Rattle.nodes.specs.Exchanges.{StopsAtReply, StopsCarrying};
 
 use crate::client::ClientNode;
 use crate::deliver::{
@@ -30,8 +31,10 @@ pub(crate) fn carry(
     requires joined { IsJoined client.old server.old }
     ensures carried { IfOk result (λ r. IsCarried client.old server.old time bytes.now
         (option_map (λ v. v.items) r) client.new server.new) }
-    ensures stops { IfErr result (λ e. StopsCarrying client.old server.old time bytes.now e client.new server.new) }
-    ensures served { IfOk result (λ r. IsServed server.old time bytes.now (option_map (λ v. v.items) r) server.new) }
+    ensures stops { IfErr result (λ e.
+        StopsCarrying client.old server.old time bytes.now e client.new server.new) }
+    ensures served { IfOk result (λ r.
+        IsServed server.old time bytes.now (option_map (λ v. v.items) r) server.new) }
     ensures joined { OnOk result (IsJoined client.new server.new) }
     ensures size { IfOk result (λ r. IfSome r (λ v. length v.items ≤ MAX_BODY)) }
 {
@@ -70,8 +73,8 @@ fn ask(
     }
 }
 
-/// The client takes the reply that the server sent at a number, and the server takes its acknowledgement. Gives the
-/// reply's body.
+/// The client takes the reply that the server sent at a number, and the server takes its acknowledgement.
+/// Gives the reply's body.
 fn bring_back(
     client: &mut ClientNode,
     server: &mut ServerNode,

@@ -3,14 +3,13 @@
 use crate::fault::ReplayFault;
 use crate::machine::{FreeMachine, Machine, ServerMachine};
 use crate::opening::opening_state;
-use crate::steps::{StepError, step};
+use crate::steps::StepError;
 use crate::verdict::{Verdict, replay, replay_entries};
 use authenticator::{Authenticator, Kind, Member, Number, Roster, signed_digest};
-use checkpoint::{State, state_digest};
+use checkpoint::state_digest;
 use log_entries::message_hash;
 use merkle_keys::Signer;
 use secure_log::{Body, ClosedSegment, Entry, Log, SignatureText, check_segment};
-use states::{MAX_RECEIVED, MAX_SENDS};
 use std::alloc::{AllocError, Global};
 use std::test::Fail;
 
@@ -246,40 +245,71 @@ fn closed_segment(alloc: Global) -> Result<ClosedSegment, Fail> {
     Ok(check_segment(alloc, &roster, &text)?)
 }
 
+/// What a replay of a segment of server 1 finds behind the state that the node begins with.
+fn found_in_segment(alloc: Global, segment: &ClosedSegment) -> Result<Found, Fail> {
+    let server = segment.roster().member(1).ok_or("no such member")?;
+    let start = opening_state(alloc, &server)?;
+    let _few = segment.segment().entries();
+    Ok(told(replay(alloc, &start, segment)?))
+}
+
 #[test]
 fn a_call_is_answered(rt: HostRuntime) -> Result<(), Fail> {
     let segment = closed_segment(rt.alloc())?;
-    let state = State::opening_server(rt.alloc(), 1)?;
-    let count = segment.segment().entries().len();
-    if count > MAX_RECEIVED - state.received().len() || count > MAX_SENDS - state.sends().len() {
-        return Err("the state is full".into());
-    }
-    let verdict = replay(rt.alloc(), &state, &segment)?;
-    assert_eq!(rt; told(verdict), Found::Sound(1));
+    assert_eq!(rt; found_in_segment(rt.alloc(), &segment)?, Found::Sound(1));
     Ok(())
 }
 
-// ---- steps
+// ---- machines
 
-/// What a step at number 1 answers, without members.
-fn first_step(alloc: Global, state: &mut State, entry: &Entry) -> Result<Option<StepError>, Fail> {
-    if state.received().len() >= MAX_RECEIVED || state.sends().len() >= MAX_SENDS {
-        return Err("the state is full".into());
-    }
-    let roster = Roster::new(Vec::new(alloc))?;
-    Ok(step(state, alloc, &roster, Number::new(1), &[0; 32], entry).err())
+/// The digest of the state that a node begins with.
+fn opening_digest(alloc: Global, kind: Kind) -> Result<[u8; 32], Fail> {
+    let client = signer(alloc, 2)?;
+    let start = opening_state(alloc, &member(1, kind, &client))?;
+    Ok(state_digest(alloc, &start)?)
 }
 
-// A CHECK of a server's first state, and of zeros.
 #[test]
 fn a_first_checkpoint(rt: HostRuntime) -> Result<(), Fail> {
-    let mut state = State::opening_server(rt.alloc(), 1)?;
-    let check = Entry::Check { digest: [0; 32] };
-    let fault = first_step(rt.alloc(), &mut state, &check)?;
-    assert_eq!(rt; fault, Some(StepError::Fault(ReplayFault::WrongCheckpoint)));
     let check = Entry::Check {
-        digest: state_digest(rt.alloc(), &state)?,
+        digest: opening_digest(rt.alloc(), Kind::Server)?,
     };
-    assert_eq!(rt; first_step(rt.alloc(), &mut state, &check)?, None);
+    assert_eq!(rt; found_with(rt.alloc(), 0, check)?, Found::Sound(0));
+    Ok(())
+}
+
+/// Node 1 with keys of zeros.
+const SERVER: Member = Member {
+    node: 1,
+    kind: Kind::Server,
+    root: [0; 32],
+    height: 1,
+};
+
+/// The first step of a server, which reads its clock: the bytes of its text after it, and what it answers.
+fn server_step(alloc: Global, roster: &Roster) -> Result<(usize, Option<StepError>), AllocError> {
+    let mut machine = ServerMachine::new(opening_state(alloc, &SERVER)?);
+    let answer = machine.step(alloc, roster, Number::new(1), &[0; 32], &clock(1, 0));
+    Ok((machine.text(alloc)?.len(), answer.err()))
+}
+
+/// The same of a client.
+fn client_step(alloc: Global, roster: &Roster) -> Result<(usize, Option<StepError>), AllocError> {
+    let client = Member {
+        kind: Kind::Client,
+        ..SERVER
+    };
+    let mut machine = FreeMachine::new(opening_state(alloc, &client)?);
+    let answer = machine.step(alloc, roster, Number::new(1), &[0; 32], &clock(1, 0));
+    Ok((machine.text(alloc)?.len(), answer.err()))
+}
+
+#[test]
+fn machines(rt: HostRuntime) -> Result<(), Fail> {
+    let roster = Roster::new(Vec::new(rt.alloc()))?;
+    let (_, answer) = server_step(rt.alloc(), &roster)?;
+    assert_eq!(rt; answer, Some(StepError::Fault(ReplayFault::BadForm)));
+    let (_, answer) = client_step(rt.alloc(), &roster)?;
+    assert_eq!(rt; answer, None);
     Ok(())
 }

@@ -1,4 +1,4 @@
-pub mod Signed
+pub use Rattle.authenticator.proofs.Signed
 pub mod Stepping
 pub mod Runs
 pub mod Places

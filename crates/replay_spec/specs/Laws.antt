@@ -1,32 +1,17 @@
 -- What holds of replays: each law is the contract of a function in src/laws.rt.
-use Rattle.std.specs.Prelude.{◌≡◌, ◌↔◌, ◌+◌, ℕ, IsTrue, List, [], ◌∷◌, ◌++◌, length, map, Ok, Err}
-use Rattle.merkle_keys.specs.Signing.{SignatureParts, Signed}
-use Rattle.authenticator.specs.Signed.{IsSignedIn}
+use Rattle.std.specs.Prelude.{◌≡◌, ◌↔◌, ◌+◌, ℕ, List, [], ◌∷◌, ◌++◌, length, map, Ok, Err}
 use Rattle.authenticator.specs.declared.member.Member.{Member}
 use Rattle.authenticator.specs.declared.authenticator.Authenticator.{Authenticator}
 use Rattle.log_entries.specs.Chain.{hash_after, link_of, links_from, last_hash, pairs}
 use Rattle.log_entries.specs.declared.entry.Entry.{Entry}
 use Rattle.secure_log.specs.Log.{log_hash}
 use Rattle.machines.specs.State.{Machine, State, opened_with}
-use Rattle.replay_spec.specs.Signing.{is_signed, is_signed_in}
 use Rattle.replay_spec.specs.Placed.{Placed, place, placed}
 use Rattle.replay_spec.specs.Steps.{Takes}
 use Rattle.replay_spec.specs.Stepping.{ReplayFault, step}
 use Rattle.replay_spec.specs.Replay.{Honest, last_state, found, Sound, Fault, verdict_of}
 use Rattle.replay_spec.specs.Opening.{opening_of}
 use Rattle.replay_spec.specs.HonestLogs.{IsHonestLog}
-
--- ---- signatures
-
--- The tests on signatures are what it means that something is signed.
-abbrev pub TestsAsItIsSigned : Type 0
-TestsAsItIsSigned =
-    (root : List ℕ) (height : ℕ) (digest : List ℕ) (signature : SignatureParts)
-    → IsTrue (is_signed root height digest signature) ↔ Signed root height digest signature
-
-abbrev pub TestsAsItIsSignedIn : Type 0
-TestsAsItIsSignedIn =
-    (ms : List Member) (a : Authenticator) → IsTrue (is_signed_in ms a) ↔ IsSignedIn ms a
 
 -- ---- steps and runs
 

@@ -4,7 +4,7 @@ pub use Rattle.machines.specs.Replies
 pub use Rattle.machines.specs.State
 pub use Rattle.machines.specs.StateText
 pub mod StateSteps
-pub mod Signing
+pub use Rattle.authenticator.specs.Signing
 pub mod Shown
 pub mod Placed
 pub mod Steps

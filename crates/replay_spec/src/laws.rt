@@ -11,13 +11,9 @@ ghost use Rattle.replay_spec.specs.Examples.{server_verdict, client_verdict, cli
 ghost use Rattle.replay_spec.specs.Laws.{StepsAsItTakes, OneRun, SoundExactlyIf, FaultExactlyIf};
 ghost use Rattle.replay_spec.specs.Laws.{PartsAreHonest, PlacesAreJoined, PlacesHavePairs};
 ghost use Rattle.replay_spec.specs.Laws.{OpeningsHaveNoMessages, NoEntries, OneEntryMore, EntriesMore};
-ghost use Rattle.replay_spec.specs.Laws.{OneLastState, NodeStays, TestsAsItIsSigned, TestsAsItIsSignedIn};
+ghost use Rattle.replay_spec.specs.Laws.{OneLastState, NodeStays};
 
-/// The tests on signatures, which compute, are what it means that something is signed.
-pub fn tests_as_it_is_signed()
-    ensures by_root { TestsAsItIsSigned }
-    ensures in_roster { TestsAsItIsSignedIn }
-{}
+pub use authenticator::laws::tests_as_it_is_signed;
 
 /// The step that computes is the one that the rules say: it gives a state exactly where an entry leads to it.
 pub fn steps_as_it_takes()

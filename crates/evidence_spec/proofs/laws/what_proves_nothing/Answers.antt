@@ -1,5 +1,6 @@
 use Rattle.honest_logs.specs.Opening.{opening_of}
 use Rattle.evidence_spec.proofs.Nothing.{own_texts, unsigned}
+use Rattle.evidence_spec.proofs.OneReading.{reading_proves_nothing}
 use Rattle.evidence_spec.proofs.laws.what_proves_nothing.Goals as goal
 
 pub returns-clause-own : goal.returns-clause-own
@@ -8,3 +9,6 @@ returns-clause-own c = own_texts
 pub returns-clause-unsigned : goal.returns-clause-unsigned
 returns-clause-unsigned c = λ ms member node at a b.
     unsigned ms member node at a b (c.logs_grow.ensures.none ms (opening_of member))
+
+pub returns-clause-reading : goal.returns-clause-reading
+returns-clause-reading c = reading_proves_nothing

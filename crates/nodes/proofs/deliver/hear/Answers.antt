@@ -1,4 +1,4 @@
-use Rattle.std.proofs.Common.{◌≡◌, Ok, subst}
+use Rattle.std.proofs.Common.{Ok, subst}
 use Rattle.node_logs.specs.Hearing.{Hears}
 use Rattle.node_logs.specs.declared.outcome.Heard.{Heard}
 use Rattle.nodes.proofs.Reached.{heard_it}

@@ -1,6 +1,4 @@
-use Rattle.std.proofs.Common.{◌≡◌, ◌∙◌}
-use Rattle.nodes.specs.Exchanges.{IsHeard}
-use Rattle.nodes.proofs.Asked.{IsSentBy, asks_err, asks_ok, asks_refused, is_heard, sent_by}
+use Rattle.nodes.proofs.Asked.{asks_err, asks_ok, asks_refused, is_heard, sent_by}
 use Rattle.nodes.proofs.exchange.ask.Goals as goal
 
 pub returns-in-Err-clause-asks : goal.returns-in-Err-clause-asks

@@ -1,4 +1,4 @@
-use Rattle.std.proofs.Common.{◌≡◌, inr}
+use Rattle.std.proofs.Common.{inr}
 use Rattle.nodes.proofs.Replied.{asked_joined, none_due, replied_joined, reply_due, served_replied}
 use Rattle.nodes.proofs.exchange.carry.Goals as goal
 

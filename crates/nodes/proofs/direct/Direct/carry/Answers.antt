@@ -1,4 +1,4 @@
-use Rattle.std.proofs.Common.{◌≡◌, subst, sym}
+use Rattle.std.proofs.Common.{subst}
 use Rattle.nodes.specs.Exchanges.{DirectParts, StopsExchange}
 use Rattle.nodes.proofs.Stopped.{failed_of, stops}
 use Rattle.nodes.proofs.direct.Direct.carry.Goals as goal

@@ -1,0 +1,4 @@
+//! What a node answers is accepted.
+#![tactic(auto)]
+
+pub mod laws;

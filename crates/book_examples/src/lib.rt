@@ -1,0 +1,5 @@
+//! Histories whose replies the definitions of a witness compute.
+#![tactic(auto)]
+
+pub mod refusals;
+pub mod rows;

@@ -1,0 +1,4 @@
+pub mod Replied
+pub mod OwnSteps
+pub mod LeftOut
+pub mod Exposing

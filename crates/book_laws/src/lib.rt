@@ -1,0 +1,4 @@
+//! What holds of what a witness says of a node.
+#![tactic(auto)]
+
+pub mod laws;

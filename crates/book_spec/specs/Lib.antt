@@ -1,0 +1,14 @@
+pub mod Refusals
+pub mod Events
+pub mod Replies
+pub mod Steps
+pub mod Whose
+pub mod Limits
+pub mod Pairs
+pub mod Done
+pub mod Standing
+pub mod Exposing
+pub mod Owing
+pub mod Histories
+pub mod Premises
+pub mod Laws

@@ -1,0 +1,2 @@
+//! What a witness may say of a node, and what it answers, as definitions.
+#![tactic(auto)]

@@ -1,0 +1,64 @@
+-- The log of a client that read its clock once: it is honest, and its two texts have two digests.
+-- Serves: what_proves_nothing.
+use Rattle.std.proofs.Common.{◌≡◌, ℕ, List, [], ◌∷◌, Some, inl, inr, refl, sym, ap, ap₂, subst, ◌∙◌, arith}
+use Rattle.std.specs.Prelude.{slice_index}
+use Rattle.sha2.specs.Sha256.{first_words, schedule, rounds, compress, digest_bytes, sha256}
+use Rattle.sha2.specs.Sha256 as sha
+use Rattle.xdr.specs.Item.{number_spelling}
+use Rattle.authenticator.specs.declared.authenticator.Authenticator.{Authenticator}
+use Rattle.authenticator.specs.declared.member.Member.{Member}
+use Rattle.authenticator.specs.declared.member.Kind.TheVariants.{Client}
+use Rattle.authenticator.specs.Roster.{member_of}
+use Rattle.log_entries.specs.declared.entry.Entry.{Entry}
+use Rattle.log_entries.specs.declared.entry.Entry.TheVariants.{Clock}
+use Rattle.log_entries.specs.Entry.{content}
+use Rattle.log_entries.specs.Chain.{zeros, chain_text, link_of, NoCollision}
+use Rattle.secure_log.specs.Log.{log_hash}
+use Rattle.honest_logs.specs.State.{State, opening_client}
+use Rattle.honest_logs.specs.Steps.{after_entry}
+use Rattle.honest_logs.specs.Opening.{opening_of, opening_by}
+use Rattle.honest_logs.specs.HonestLogs.{IsHonestLog}
+use Rattle.evidence_spec.specs.Evidence.{Replay}
+use Rattle.evidence_spec.specs.Proving.{IsLog, log_texts, Proves}
+use Rattle.evidence_spec.specs.Laws.{one_reading}
+use Rattle.evidence_spec.proofs.Nothing.{own_texts}
+
+abbrev reading : List Entry
+reading = Clock 1 0 ∷ []
+
+-- the state after it
+abbrev read_once : (node : ℕ) → State
+read_once node = after_entry (opening_client node) 1 zeros (Clock 1 0)
+
+reading_honest : (ms : List Member) (node : ℕ) → IsHonestLog ms (opening_client node) reading (read_once node)
+reading_honest ms node = record {
+  states = read_once node ∷ [];
+  honest = (record { stands = record { turn = tt; valid = omega arith; late = refl }; after = refl }, tt);
+  last = refl;
+}
+
+-- its two texts have two digests, as they are worked out
+two_digests : sha256 (chain_text zeros (link_of 1 (Clock 1 0))) ≡ sha256 (content (Clock 1 0)) → ⊥
+unfolding first_words schedule rounds compress sha.hash_after digest_bytes sha256 chain_text zeros content number_spelling
+two_digests e = absurd (omega (arith, ap (λ xs. slice_index xs 0) e))
+
+reading_texts : NoCollision (log_texts reading)
+reading_texts s t (inl a) (inl b) e = a ∙ sym b
+reading_texts s t (inl a) (inr (inl b)) e = absurd (two_digests (ap sha256 (sym a) ∙ e ∙ ap sha256 b))
+reading_texts s t (inl a) (inr (inr j)) e = absurd j
+reading_texts s t (inr (inl a)) (inl b) e = absurd (two_digests (ap sha256 (sym b) ∙ sym e ∙ ap sha256 a))
+reading_texts s t (inr (inl a)) (inr (inl b)) e = a ∙ sym b
+reading_texts s t (inr (inl a)) (inr (inr j)) e = absurd j
+reading_texts s t (inr (inr i)) j e = absurd i
+
+reading_log : IsLog reading
+reading_log = record { each = ((omega arith, refl, (omega arith, omega arith)), tt); few = omega arith }
+
+pub reading_proves_nothing : (ms : List Member) (member : Member) (node : ℕ) (closing : Authenticator)
+    → member_of ms node ≡ Some member → member.kind ≡ Client → closing.number ≡ 1 → closing.hash ≡ log_hash reading
+    → ¬ Proves ms (record { node = node; charge = Replay (one_reading node closing) })
+reading_proves_nothing ms member node closing there kind number hash =
+    let opening : opening_client member.node ≡ opening_of member = sym (ap (λ k. opening_by k member.node) kind) in
+    own_texts ms member (record { node = node; charge = Replay (one_reading node closing) }) reading (read_once member.node)
+    there reading_log (subst (λ o. IsHonestLog ms o reading (read_once member.node)) opening (reading_honest ms member.node))
+    ((λ of signed. inr (inl (ap₂ (λ n h. (n, h)) number hash))), tt) (λ t i. i) reading_texts

@@ -1,0 +1,5 @@
+pub use Rattle.authenticator.proofs.Signed
+pub mod Contents
+pub mod Judged
+pub mod Spelled
+pub mod Taken

@@ -1,0 +1,67 @@
+-- What a packet is taken for under a roster.
+use Rattle.std.specs.Prelude.{◌≡◌, ℕ, ◌+◌, Bool, true, not, ◌&&◌, ◌==◌, List, length, Result, Ok, Err, Option}
+use Rattle.std.specs.Prelude.{Some, None, if◌then◌else◌, is_some}
+use Rattle.authenticator.specs.Roster.{member_of}
+use Rattle.authenticator.specs.declared.member.Member.{Member}
+use Rattle.authenticator.specs.declared.refusal.Refusal.{Refusal}
+use Rattle.authenticator.specs.declared.refusal.Refusal.TheVariants.{UnknownNode, Garbage, BadSignature}
+use Rattle.authenticator.specs.declared.refusal.Refusal.TheVariants.{NoMemory}
+use Rattle.log_entries.specs.Chain.{last_hash, links_from}
+use Rattle.secure_log.specs.Segment.{SegmentParts}
+use Rattle.packets.specs.Packet.{Delivery, Learn, SendChallenge, Answer, AckIn, delivery_of, delivery_shows}
+use Rattle.packets.specs.Signing.{is_same, is_signed_in}
+
+-- whether a segment's closing is of its node, its last number and its last hash
+abbrev pub ends : SegmentParts → Bool
+ends s =
+    (s.closing.node == s.node) && ((s.closing.number + 1 == s.first + length s.entries)
+    && is_same s.closing.hash (last_hash s.opening (links_from s.first s.entries)))
+
+-- whether what is delivered may be at all: an envelope's sender isn't its receiver, and a segment ends in its
+-- closing
+abbrev pub may_be : Delivery → Bool
+may_be (Learn a) = true
+may_be (SendChallenge e) = not (e.from == e.to)
+may_be (Answer s) = ends s
+may_be (AckIn a) = true
+
+abbrev pub is_member : List Member → ℕ → Bool
+is_member ms node = is_some (member_of ms node)
+
+-- whether who signs is a member, and of an envelope the receiver too
+abbrev pub is_of_members : List Member → Delivery → Bool
+is_of_members ms (Learn a) = is_member ms a.node
+is_of_members ms (SendChallenge e) = is_member ms e.from && is_member ms e.to
+is_of_members ms (Answer s) = is_member ms s.closing.node
+is_of_members ms (AckIn a) = is_member ms a.by
+
+-- What is delivered, or why it isn't taken: Garbage where it can't be, else UnknownNode where a node that it
+-- is of is no member, else BadSignature where who is to sign it didn't.
+abbrev pub judged_delivery : List Member → Delivery → Result Delivery Refusal
+judged_delivery ms d =
+    if may_be d then (
+    if is_of_members ms d then (
+    if is_signed_in ms (delivery_shows d) then Ok d else Err BadSignature
+    ) else Err UnknownNode
+    ) else Err Garbage
+
+abbrev pub judged_option : List Member → Option Delivery → Result Delivery Refusal
+judged_option ms None = Err Garbage
+judged_option ms (Some d) = judged_delivery ms d
+
+-- What bytes deliver, or why they aren't taken: Garbage also where they are no packet.
+unfoldable pub judged : List Member → List ℕ → Result Delivery Refusal
+judged ms bytes = judged_option ms (delivery_of bytes)
+
+-- A refusal is the one that is owed; want of memory may come in place of any answer.
+abbrev pub Refuses : (owed : Result Delivery Refusal) → Refusal → Type 0
+Refuses owed UnknownNode = owed ≡ Err UnknownNode
+Refuses owed Garbage = owed ≡ Err Garbage
+Refuses owed BadSignature = owed ≡ Err BadSignature
+Refuses owed NoMemory = Unit {0}
+
+-- What a call answers is what is owed.
+abbrev pub Answers : {P : Type 0} → (owed : Result Delivery Refusal) → (P → Delivery) → Result P Refusal
+    → Type 0
+Answers owed delivery (Ok p) = owed ≡ Ok (delivery p)
+Answers owed delivery (Err refusal) = Refuses owed refusal
