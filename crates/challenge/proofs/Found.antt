@@ -12,8 +12,8 @@ use Rattle.replay.specs.Verdicts.{verdict_in}
 use Rattle.replay.specs.Faults.{fault_in}
 use Rattle.replay.specs.declared.verdict.Verdict.{Verdict}
 use Rattle.replay.specs.declared.verdict.Verdict.TheVariants as verdicts
-use Rattle.evidence_spec.specs.Showing.{ShowingParts, IsClosedShowing, Shows}
-use Rattle.evidence_spec.specs.Evidence.{Charge, Fork, Replay, EvidenceParts, AcceptsFork, AcceptsReplay, AcceptsCharge, Accepts}
+use Rattle.showings.specs.Showing.{ShowingParts, IsClosedShowing, Shows}
+use Rattle.showings.specs.Evidence.{Charge, Fork, Replay, EvidenceParts, AcceptsFork, AcceptsReplay, AcceptsCharge, Accepts}
 use Rattle.challenge.specs.declared.finding.Finding.{Finding}
 use Rattle.challenge.specs.declared.finding.Finding.TheVariants as found
 use Rattle.challenge.specs.declared.finding.NotAccepted.{NotAccepted}

@@ -11,6 +11,7 @@ mod showing;
 mod tests;
 mod write;
 
+pub use evidence_spec::laws as evidence_laws;
 pub use closing::{copy_of, is_signed_in};
 pub use kind::EntryKind;
 pub use link::ShownLink;
