@@ -1,12 +1,10 @@
 -- A batch, as `fill` makes it record by record (Filled: `nothing`, `one_more`).
 -- Serves: `Batch::fill`; serve_at_hand by way of Written.
-use Rattle.std.proofs.Common.{◌≡◌, ℕ, ◌+◌, ◌-◌, ◌<◌, ◌≤◌, List, [], ◌∷◌, ◌++◌, arith, length, take, drop, sym, ap, ◌∙◌, refl, subst, length-append, append_assoc, take_at, drop_at, take-append-drop, length-take-le, length-drop, take_all, Bool, true, false, inl, inr, ◌⊎◌}
-use Rattle.std.specs.Prelude.{Option, Some, None, nat_lt}
-use Rattle.std.specs.List.{flat_map, concat, AllByRecursion}
-use Rattle.std.specs.Io.KnownBytes.{Consumes, Appends}
+use Rattle.std.proofs.Common.{◌≡◌, ℕ, ◌+◌, ◌-◌, ◌≤◌, List, [], ◌∷◌, ◌++◌, arith, length, take, drop, sym, ap, ◌∙◌, refl, length-append, append_assoc, drop_at, length-drop, take_all, true}
+use Rattle.std.specs.List.{AllByRecursion}
 use Rattle.std.proofs.lemmas.List.{append-nil}
 use Rattle.std.proofs.lemmas.List.Concat.{flat_map-cons, flat_map-append}
-use Rattle.records.specs.Record.{fragment, mark, IsRecord, HasRoom}
+use Rattle.records.specs.Record.{fragment, mark, IsRecord}
 use Rattle.records.specs.Ahead.{IsInFront}
 use Rattle.records.specs.Stream.{AreRecords}
 use Rattle.records.specs.declared.record.TheConstants.{MAX_RECORD}

@@ -2,7 +2,6 @@
 -- Serves: `Batch::fill`, serve_at_hand, run_rpc.
 use Rattle.std.proofs.Common.{◌≡◌, ℕ, ◌+◌, List, [], ◌∷◌, ◌++◌, arith, length, sym, ap, ◌∙◌, refl, append_assoc}
 use Rattle.std.proofs.lemmas.List.{append-nil}
-use Rattle.records.specs.Record.{IsRecord}
 use Rattle.records.specs.Stream.{AreRecords}
 use Rattle.nfs_items.specs.Timeval.{Timeval}
 use Rattle.worlds.specs.World.{World}

@@ -3,7 +3,7 @@
 -- not wholly written (unanswered, leaves_off_answering), memory was refused before the first (nothing_yet, stops_at_once).
 -- Serves: run_rpc (console).
 use Rattle.std.proofs.Common.{◌≡◌, ◌⊎◌, inl, inr, ℕ, ◌+◌, List, [], ◌∷◌, ◌++◌, arith, length, sym, ap, ◌∙◌, refl, length-append, append_assoc, subst}
-use Rattle.std.specs.Prelude.{Option, Some, None, IfSome, Result, Err}
+use Rattle.std.specs.Prelude.{Option, Some, None, IfSome, Err}
 use Rattle.std.specs.Io.KnownBytes.{Consumes, Appends}
 use Rattle.std.proofs.KnownBytes.{Consumes-trans, Consumes-nil, Appends-trans, Appends-nil}
 use Rattle.std.proofs.lemmas.List.{append-nil}
@@ -14,10 +14,9 @@ use Rattle.records.proofs.Streams.{AreRecords-push}
 use Rattle.records.specs.declared.fault.RecordFault.{RecordFault}
 use Rattle.records.specs.declared.fault.RecordFault.TheVariants as faults
 use Rattle.records.specs.Reading.{Fails, StopsAt, TakesToLimit, TakesAll, TakesPart, IsPartOfRecord, fault_after}
-use Rattle.nfs_items.specs.Timeval.{Timeval}
 use Rattle.worlds.specs.World.{World, opening_world}
 use Rattle.service.specs.Replies.{reply_owed, world_after}
-use Rattle.service.specs.Owed.{record_of, replies_owed, world_after_all}
+use Rattle.service.specs.Owed.{record_of, world_after_all}
 use Rattle.console.specs.Batches.{owed_from, world_from, Answers, AnswersAndStops, StopsBehind}
 use Rattle.console.proofs.InTurn.{owed_from-push, world_from-push, owed_from-append, world_from-append, AreRecords-append}
 use Rattle.console.specs.RunRpc.{time_of, with_times, text_owed, Serves, ServesUpTo, ServesPart, EndsWith, StopsBetweenRecords, StopsInReply, StopsAfterRecords, LeavesOff}

@@ -162,9 +162,9 @@ part_of_batch {w = w} {k = k} {bytes = bytes} {replies = replies} left left' bef
     let few : m < length reply = omega (arith, s.from, s.to, ap length (owed_from-push w k s.answered s.last), length-append owed reply) in
     let others : List ℕ = owed_from (world_after now (time_of (k + length s.answered)) s.last) ((k + length s.answered) + 1) s.others in
     let cut : bytes ≡ (first ++ text) ++ (whole_text s.others ++ b.more) =
-        b.bytes_are ∙ ap (λ (rs : List (List ℕ)). whole_text rs ++ b.more) s.records_are
-        ∙ ap (λ (t : List ℕ). t ++ b.more) (flat_map-append (fragment true) s.answered (s.last ∷ s.others) ∙ ap (λ (t : List ℕ). first ++ t) (flat_map-cons (fragment true) s.last s.others) ∙ sym (append_assoc first text (whole_text s.others)))
-        ∙ append_assoc (first ++ text) (whole_text s.others) b.more in
+    b.bytes_are ∙ ap (λ (rs : List (List ℕ)). whole_text rs ++ b.more) s.records_are
+    ∙ ap (λ (t : List ℕ). t ++ b.more) (flat_map-append (fragment true) s.answered (s.last ∷ s.others) ∙ ap (λ (t : List ℕ). first ++ t) (flat_map-cons (fragment true) s.last s.others) ∙ sym (append_assoc first text (whole_text s.others)))
+    ∙ append_assoc (first ++ text) (whole_text s.others) b.more in
     let size : length (first ++ text) ≡ taken_by n 0 (ends_from w k 0 0 b.records) = omega (arith, s.taken_is, ap length (whole_text-push s.answered s.last)) in
     let front : take (taken_by n 0 (ends_from w k 0 0 b.records)) bytes ≡ first ++ text = ap (take (taken_by n 0 (ends_from w k 0 0 b.records))) cut ∙ take_at (first ++ text) _ _ size in
     let replies_are : replies ≡ owed ++ (reply ++ others) = b.replies_are ∙ ap (owed_from w k) s.records_are ∙ owed_from-append w k s.answered (s.last ∷ s.others) in

@@ -14,11 +14,12 @@ use std::alloc::{AllocError, Global};
 /// The bytes of a mark.
 const MARK: usize = 4;
 
-/// No record is answered behind replies of more bytes.
-const MOST_BYTES: usize = 57_344;
+/// No record is answered behind replies of more bytes: more than are owed to what a pipe holds at once, if
+/// its calls ask for no data.
+const MOST_BYTES: usize = 122_880;
 
 /// The most records of a batch.
-pub const MOST_RECORDS: usize = 1024;
+pub const MOST_RECORDS: usize = 2048;
 
 /// The time of the k-th record: k seconds, at most the greatest that a time has.
 pub fn time_of_record(k: u64) -> Time

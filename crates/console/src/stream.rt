@@ -85,8 +85,8 @@ fn serve_at_hand<R: Ahead + Drop, W: Write>(
 }
 
 /// Answers each record of a stream as the server of node 1 would, from the files that it begins with. The
-/// k-th record has the time (k, 0), at most (4294967295, 0). A reply is written before the next record is
-/// read.
+/// k-th record has the time (k, 0), at most (4294967295, 0). Replies to records that were read ahead are
+/// held, and written together; all are written before it waits for input, and at the end.
 ///
 /// `Ok` is the count of records. `RecordTooLong` and `EndInRecord` come where the input goes on with bytes
 /// that pass a limit, or end within a record: what is owed to the records before them was written, and the
@@ -130,7 +130,8 @@ pub fn run_rpc<R: Ahead + Drop, W: Write>(
             return Ok(k - 1);
         }
         let time = time_of_record(k);
-        serve(alloc, &mut service, writer, &mut batch.replies, time, &record)?;
+        let replies = &mut batch.replies;
+        serve(alloc, &mut service, writer, replies, time, &record)?;
         k += 1;
         k += serve_at_hand(alloc, &mut service, reader, writer, &mut batch, k)?;
     }

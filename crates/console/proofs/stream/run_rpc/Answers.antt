@@ -77,8 +77,7 @@ loop-k-preserved g c =
     let failed = rw c.loop-k.invariant.0.fresh at c.in_ok-next_into.ensures.failed in
     let wrote = rw (c.time_of_record-time.ensures, c.deref.ensures.value) at c.in_ok-serve.ensures.text in
     let next = rw (c.time_of_record-time.ensures, c.deref.ensures.value) at c.in_ok-serve.ensures.world in
-    let now = pushes c.loop-k.invariant.0.progress (record { is_record = found.1; taken = found.2 }) next wrote in
-    (
+    let now = pushes c.loop-k.invariant.0.progress (record { is_record = found.1; taken = found.2 }) next wrote in (
       record {
         progress = answers now c.in_ok-k.ensures.answers;
         fresh = c.in_ok-k.ensures.reader.0 ∙ failed;

@@ -1,4 +1,4 @@
-use Rattle.std.proofs.Common.{◌≡◌, length, rules, sym}
+use Rattle.std.proofs.Common.{◌≡◌, length, rules}
 use Rattle.console.proofs.Written.{within, whole_batch, part_of_batch, refused_behind}
 use Rattle.console.proofs.stream.serve_at_hand.Goals as goal
 

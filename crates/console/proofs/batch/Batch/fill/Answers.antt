@@ -1,6 +1,5 @@
-use Rattle.std.proofs.Common.{◌≡◌, ◌+◌, ◌++◌, ◌∷◌, [], List, length, refl, rules, sym, subst}
+use Rattle.std.proofs.Common.{◌≡◌, ◌+◌, ◌++◌, ◌∷◌, [], length, refl, rules}
 use Rattle.console.specs.RunRpc.{time_of}
-use Rattle.console.specs.declared.batch.End.{End}
 use Rattle.console.proofs.Filled.{nothing, one_more, behind}
 use Rattle.console.proofs.batch.Batch.fill.Goals as goal
 
@@ -14,5 +13,5 @@ loop-self-preserved c =
     let owed : c.len-owed.result ≡ length c.answer_record.new.replies.items = search rules in
     let pushed : c.push.new.self.items ≡ c.loop-self.self.ends.items ++ record { taken = c.loop-self.taken + (4 + length record_now); owed = c.len-owed.result } ∷ [] = search rules in
     let filled = one_more record_now (c.loop-self.taken + (4 + length record_now)) c.len-owed.result c.loop-self.invariant.0 (rw (behind c.loop-self.taken c.args.bytes.now) at c.in-Some.ensures.found)
-        (rw time at c.in_ok-answer_record.ensures.world) (rw time at c.in_ok-answer_record.ensures.text) refl owed in
+    (rw time at c.in_ok-answer_record.ensures.world) (rw time at c.in_ok-answer_record.ensures.text) refl owed in
     (rw pushed filled, search (rules, pushed), search rules)

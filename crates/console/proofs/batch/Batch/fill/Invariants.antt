@@ -1,4 +1,4 @@
-use Rattle.std.proofs.Common.{◌≡◌, ◌≤◌, ◌<◌, ◌+◌, ◌-◌, ◌^◌, length}
+use Rattle.std.proofs.Common.{◌≤◌, ◌-◌, length}
 use Rattle.std.specs.Prelude.{vec_capacity}
 use Rattle.console.proofs.Filled.{Filled}
 use Rattle.console.specs.declared.batch.TheConstants.{MOST_RECORDS}
