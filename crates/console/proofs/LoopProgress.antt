@@ -17,7 +17,7 @@ use Rattle.records.specs.Reading.{Fails, StopsAt, TakesToLimit, TakesAll, TakesP
 use Rattle.worlds.specs.World.{World, opening_world}
 use Rattle.service.specs.Replies.{reply_owed, world_after}
 use Rattle.service.specs.Owed.{record_of, world_after_all}
-use Rattle.console.specs.Batches.{owed_from, world_from, Answers, AnswersAndStops, StopsBehind}
+use Rattle.console.specs.Batches.{owed_from, world_from, AnswersRecords, AnswersAndStops, StopsBehind}
 use Rattle.console.proofs.InTurn.{owed_from-push, world_from-push, owed_from-append, world_from-append, AreRecords-append}
 use Rattle.console.specs.RunRpc.{time_of, with_times, text_owed, Serves, ServesUpTo, ServesPart, EndsWith, StopsBetweenRecords, StopsInReply, StopsAfterRecords, LeavesOff}
 
@@ -101,7 +101,7 @@ pushes {now = now} {k = k} {more = more} {r = r} p reads e wrote = record {
 
 -- some records more were read, and their replies written
 pub answers : {now next : World} {k count : ℕ} {before mid mid' written_before written written' : Option (List ℕ)}
-    → Progress now k before mid written_before written → Answers now k next count mid mid' written written' → Progress next (k + count) before mid' written_before written'
+    → Progress now k before mid written_before written → AnswersRecords now k next count mid mid' written written' → Progress next (k + count) before mid' written_before written'
 answers {now = now} {k = k} p a =
     let owed : text_owed (p.records ++ a.records) ≡ text_owed p.records ++ owed_from now k a.records = rw (owed_from-append (opening_world 1) 1 p.records a.records, p.count_is, ← p.world_is) refl in
     let next_is : world_at (p.records ++ a.records) ≡ world_from now k a.records = rw (world_from-append (opening_world 1) 1 p.records a.records, p.count_is, ← p.world_is) refl in

@@ -14,7 +14,7 @@ use Rattle.worlds.specs.World.{World}
 use Rattle.service.specs.Replies.{reply_owed, world_after}
 use Rattle.service.specs.Owed.{record_of}
 use Rattle.console.specs.RunRpc.{time_of}
-use Rattle.console.specs.Batches.{owed_from, world_from, whole_text, ends_from, taken_by, IsBatch, Answers, AnswersAndStops}
+use Rattle.console.specs.Batches.{owed_from, world_from, whole_text, ends_from, taken_by, IsBatch, AnswersRecords, AnswersAndStops}
 use Rattle.console.specs.declared.batch.End.{End}
 use Rattle.console.proofs.InTurn.{owed_from-append, owed_from-push}
 use Rattle.console.proofs.Filled.{one_fragment, are_records, whole_text-push, counted}
@@ -119,7 +119,7 @@ split_at w k a h n (r ∷ rs) from to =
 pub whole_batch : {w w' : World} {k : ℕ} {bytes replies : List ℕ} {ends : List End} (left left' before after : Option (List ℕ)) (n : ℕ)
     → IsBatch w k w' bytes replies ends → length replies ≤ n
     → Consumes left left' (take (taken_by n 0 ends) bytes) → Appends before after (take n replies)
-    → Answers w k w' (length ends) left left' before after
+    → AnswersRecords w k w' (length ends) left left' before after
 whole_batch {w = w} {k = k} {bytes = bytes} {replies = replies} left left' before after n b all taken wrote =
     let text : List ℕ = whole_text b.records in
     let owed : length replies ≡ length (owed_from w k b.records) = ap length b.replies_are in
@@ -191,6 +191,6 @@ part_of_batch {w = w} {k = k} {bytes = bytes} {replies = replies} left left' bef
     }
 
 -- memory was refused behind them
-pub refused_behind : {w w' : World} {k count : ℕ} {left left' before after : Option (List ℕ)} → Answers w k w' count left left' before after
+pub refused_behind : {w w' : World} {k count : ℕ} {left left' before after : Option (List ℕ)} → AnswersRecords w k w' count left left' before after
     → AnswersAndStops faults.NoMemory w k left left' before after
 refused_behind {w' = w'} {count = count} {left' = left'} {after = after} a = record { now = w'; count = count; between = left'; written = after; answers = a; stops = (refl, refl) }

@@ -1,5 +1,6 @@
 -- Records that are answered together, from the k-th of a stream on, by a server in a world.
-use Rattle.std.specs.Prelude.{◌≡◌, ◌≤◌, ◌+◌, ℕ, nat_lt, true, List, [], ◌∷◌, ◌++◌, length, Option, if◌then◌else◌}
+use Rattle.std.specs.Prelude.{◌≡◌, ◌≤◌, ◌+◌, ℕ, nat_lt, true, List, [], ◌∷◌, ◌++◌, length, Option}
+use Rattle.std.specs.Prelude.{if◌then◌else◌}
 use Rattle.std.specs.List.{flat_map, AllByRecursion}
 use Rattle.std.specs.Io.KnownBytes.{Appends, Consumes}
 use Rattle.records.specs.Record.{fragment, IsRecord}
@@ -51,7 +52,8 @@ taken_by written before [] = before
 taken_by written before (e ∷ es) = if nat_lt written e.owed then e.taken else taken_by written e.taken es
 
 -- Records were taken, so many, and the replies owed to them were written.
-pub record Answers (w : World) (k : ℕ) (w' : World) (count : ℕ) (left left' before after : Option (List ℕ))
+pub record AnswersRecords (w : World) (k : ℕ) (w' : World) (count : ℕ)
+    (left left' before after : Option (List ℕ))
     : Type 0 where
   pub records : List (List ℕ)
   pub text : List ℕ
@@ -78,5 +80,5 @@ pub record AnswersAndStops (e : RecordFault) (w : World) (k : ℕ) (left left' b
   pub count : ℕ
   pub between : Option (List ℕ)
   pub written : Option (List ℕ)
-  pub answers : Answers w k now count left between before written
+  pub answers : AnswersRecords w k now count left between before written
   pub stops : StopsBehind e now (k + count) between left' written after

@@ -1,6 +1,7 @@
 //! Records in, replies out.
 
-ghost use Rattle.std.specs.Prelude.{◌≡◌, ◌<◌, ◌≤◌, ◌+◌, ◌^◌, ◌⊎◌, IfOk, IfErr, OnOk, IsErrOf, IfSome, None, vec_capacity};
+ghost use Rattle.std.specs.Prelude.{◌≡◌, ◌<◌, ◌≤◌, ◌+◌, ◌^◌, ◌⊎◌, IfOk, IfErr, OnOk, IsErrOf, IfSome, None};
+ghost use Rattle.std.specs.Prelude.{vec_capacity};
 ghost use Rattle.std.specs.Io.KnownBytes.{Appends, IsAtEnd};
 ghost use Rattle.records.specs.Count.{Rises};
 ghost use Rattle.records.specs.Writing.{WritesFront};
@@ -8,7 +9,7 @@ ghost use Rattle.service.specs.Replies.{reply_owed, world_after};
 ghost use Rattle.service.specs.Owed.{record_of};
 ghost use Rattle.records.specs.declared.fault.RecordFault.TheVariants.{Device, NoMemory};
 ghost use Rattle.console.specs.RunRpc.{Serves, EndsWith, LeavesOff, StandsAfter};
-ghost use Rattle.console.specs.Batches.{Answers, AnswersAndStops};
+ghost use Rattle.console.specs.Batches.{AnswersRecords, AnswersAndStops};
 
 use crate::batch::{Batch, MOST_RECORDS, answer_record, time_of_record};
 use nfs_types::Time;
@@ -58,7 +59,7 @@ fn serve_at_hand<R: Ahead + Drop, W: Write>(
     k: u64,
 ) -> Result<u64, RecordFault>
     requires room { MOST_RECORDS ≤ vec_capacity batch.old.ends }
-    ensures answers { IfOk result (λ count. Answers service.old k service.new count
+    ensures answers { IfOk result (λ count. AnswersRecords service.old k service.new count
         (R.remaining reader.old.reader.inner) (R.remaining reader.new.reader.inner)
         (W.contents writer.old.inner) (W.contents writer.new.inner)) }
     ensures count { IfOk result (λ count. k + count < 2 ^ 64) }
