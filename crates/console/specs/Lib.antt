@@ -4,4 +4,5 @@ pub use Rattle.records.specs.Count
 pub use Rattle.worlds.specs.World
 pub use Rattle.service.specs.Owed
 pub mod RunRpc
+pub mod Batches
 pub mod CommandLine

@@ -1,6 +1,7 @@
 //! The commands of `nfsacc`.
 #![tactic(auto)]
 
+mod batch;
 mod command_line;
 mod stream;
 

@@ -20,9 +20,12 @@ const NO_MEMORY: u8 = 3;
 /// A read or a write failed.
 const DEVICE: u8 = 4;
 
+/// The bytes that are read at once: as many as a pipe holds.
+const READ_AHEAD: usize = 65536;
+
 /// Answers the records of standard input on standard output.
 fn rpc<R: Input + Print + Eprint + AllocGlobal>(rt: &R) -> u8 {
-    let Ok(input) = BufReader::new(rt.alloc(), rt.reader()) else {
+    let Ok(input) = BufReader::with_capacity(rt.alloc(), READ_AHEAD, rt.reader()) else {
         return report_no_memory(rt);
     };
     let mut reader = RecordReader::new(Counting::new(input));
