@@ -17,8 +17,12 @@ use Rattle.book_spec.specs.Stepping.{BadForm}
 use Rattle.book_spec.specs.Replay.{Sound, Fault}
 use Rattle.book_spec.specs.Showing.{authenticator_showing}
 use Rattle.book_spec.specs.Evidence.{Fork, Replay, EvidenceParts}
-use Rattle.book_spec.specs.Events.{PublicKey, JobParts, DoneParts}
+use Rattle.book_spec.specs.Refusals.{UnknownNode, Garbage, NothingToAudit}
+use Rattle.book_spec.specs.Events.{PublicKey, JobParts, DoneParts, ItsIndication}
+use Rattle.book_spec.specs.Events as events
 use Rattle.book_spec.specs.Replies.{Noted, Opened, Accepted, Asked, Job, Filed, Returned}
+use Rattle.book_spec.specs.Replies.{Told, Refused, Trusted}
+use Rattle.book_spec.specs.Histories.{History}
 use Rattle.book_spec.specs.Steps.{Learn, SendChallenge, Answer, Audit, Begin, File, PutBack, Past}
 
 -- the client that is watched, its key, and another
@@ -166,3 +170,16 @@ fault_at_one = record { node = 5; charge = Replay no_segment }
 abbrev pub challenged : ℕ → Past
 challenged zero = []
 challenged (suc n) = (SendChallenge (sent (n + 1)), Opened) ∷ challenged n
+
+-- so many authenticators of it were learned, of the numbers from 1 on
+abbrev pub learned_to : ℕ → Past
+learned_to zero = []
+learned_to (suc n) = (Learn (learned (suc n) one_hash), Noted) ∷ learned_to n
+
+-- ---- a history
+
+-- no bytes; an audit of a stranger, and of the client, of which nothing was learned; and what is said of it
+abbrev pub some_events : History
+some_events =
+    (events.Ask 5 ItsIndication, Told Trusted) ∷ (events.Audit 5, Refused NothingToAudit)
+    ∷ (events.Audit 6, Refused UnknownNode) ∷ (events.Deliver [], Refused Garbage) ∷ []

@@ -17,10 +17,12 @@ ghost use Rattle.book_spec.specs.Steps.{Forward, Ask, Past};
 ghost use Rattle.book_spec.specs.State.{opening_client};
 ghost use Rattle.book_spec.specs.Standing.{end_of, outbox};
 ghost use Rattle.book_spec.specs.Owing.{Owes};
+ghost use Rattle.book_spec.specs.Histories.{IsHistory};
 ghost use Rattle.book_examples.specs.Worked.{five, learned, sent, one_hash, other_hash, learned_one};
 ghost use Rattle.book_examples.specs.Worked.{learned_two, fork_at_three, read_hash, closed, known, wanted};
 ghost use Rattle.book_examples.specs.Worked.{given, job, done, out_one, put_back, out_two, filed_two};
 ghost use Rattle.book_examples.specs.Worked.{state_read, no_out, no_done, no_filed, fault_at_one};
+ghost use Rattle.book_examples.specs.Worked.{some_events};
 
 /// An authenticator is learned twice: Noted, Already. Another hash at its number: Noted, and the node is
 /// Exposed, by a fork of the two; from then on every one is Noted.
@@ -96,4 +98,10 @@ pub fn faults_expose()
     ensures evidence { Owes [] five no_filed (Ask ItsEvidence) (EvidenceIs (Some fault_at_one)) }
     ensures end { end_of [] five no_filed ≡ record { number = 0; state = opening_client 5 } }
     ensures nothing { Owes [] five no_filed Audit (Refused NothingToAudit) }
+{}
+
+/// Events of a roster with the replies that are owed to them are a history: what is nobody's step among them.
+#[tactic(auto, unfolding(packets::specs::Judging::judged, packets::specs::Packet::delivery_of, xdr::specs::Reading::number_at))]
+pub fn histories_are_possible()
+    ensures { IsHistory (five ∷ []) (some_events) }
 {}
