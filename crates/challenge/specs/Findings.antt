@@ -12,6 +12,8 @@ use Rattle.honest_logs.specs.Placed.{placed_in}
 use Rattle.honest_logs.specs.Opening.{opening_of}
 use Rattle.replay.specs.Faults.{fault_in}
 use Rattle.replay.specs.declared.fault.ReplayFault.{ReplayFault}
+use Rattle.replay.specs.declared.verdict.Verdict.{Verdict}
+use Rattle.replay.specs.declared.verdict.Verdict.TheVariants as verdicts
 use Rattle.showings.specs.Showings.{Ends}
 use Rattle.evidence_spec.specs.Showing.{ShowingParts, IsClosedShowing, Shows}
 use Rattle.evidence_spec.specs.Evidence.{Charge, Fork, Replay, EvidenceParts}
@@ -120,6 +122,11 @@ FindsInCharge ms node (Replay s) finding = FindsInLog ms node s finding
 -- What is found in evidence: with what it is accepted, or what it lacks.
 abbrev pub Finds : List Member → EvidenceParts → Finding → Type 0
 Finds ms e finding = FindsInCharge ms e.node e.charge finding
+
+-- what a verdict says of a log
+abbrev pub finding_in : Verdict → Finding
+finding_in (verdicts.Sound state shown) = found.NotAccepted reasons.NoFault
+finding_in (verdicts.Fault fault number) = found.Fault fault number
 
 -- ---- what is asked first
 

@@ -1,8 +1,7 @@
 //! Cases: a roster and evidence, as a file has them.
 
-ghost use Rattle.std.specs.Prelude.{◌≡◌, IfOk, OnOk, MatchResult};
-ghost use Rattle.std.specs.Bool.{OnTrue};
-ghost use Rattle.xdr.specs.Item.{Fits, Value, spelling};
+ghost use Rattle.std.specs.Prelude.{IfOk, IsTrue};
+ghost use Rattle.xdr.specs.Item.{Fits, spelling};
 ghost use Rattle.xdr.specs.Writing.{Adds, Writes};
 ghost use Rattle.xdr_texts.specs.Text.{GivesText, IsText};
 ghost use Rattle.evidence_spec.specs.Evidence.{evidence_value};
@@ -66,16 +65,12 @@ fn case_of(alloc: Global, bytes: &[u8]) -> Result<Case, EvidenceFault>
 }
 
 /// Appends the text of a case. Where memory was refused the bytes are as they were.
-pub fn write_case(
-    roster: &Roster,
-    evidence: &Evidence,
-    out: &mut Vec<u8>,
-) -> Result<(), AllocError>
+pub fn write_case(roster: &Roster, evidence: &Evidence, out: &mut Vec<u8>) -> Result<(), AllocError>
     ensures fits { Fits case_item (roster_value roster.now, evidence_value evidence.now) }
+    ensures rising { IsTrue (case_text.test (roster_value roster.now, evidence_value evidence.now)) }
     ensures text { Writes case_item (roster_value roster.now, evidence_value evidence.now)
         out.old.items result out.new.items }
 {
-    evidence.has_text();
     let start = out.len();
     let written = add_case(roster, evidence, out);
     all_or_nothing(out, start, written)
@@ -83,9 +78,11 @@ pub fn write_case(
 
 fn add_case(roster: &Roster, evidence: &Evidence, out: &mut Vec<u8>) -> Result<(), AllocError>
     ensures fits { Fits case_item (roster_value roster.now, evidence_value evidence.now) }
+    ensures rising { IsTrue (case_text.test (roster_value roster.now, evidence_value evidence.now)) }
     ensures text { Adds (spelling case_item (roster_value roster.now, evidence_value evidence.now))
         out.old.items result out.new.items }
 {
+    evidence.has_text();
     roster.write(out)?;
     evidence.write(out)
 }

@@ -6,10 +6,7 @@ use envelopes::Envelope;
 #[derive(Drop)]
 pub enum Challenge {
     /// The segment of its log from the first to the last of these numbers.
-    Audit {
-        first: u64,
-        last: u64,
-    },
+    Audit { first: u64, last: u64 },
     /// That it has this message.
     Send(Envelope),
 }

@@ -5,7 +5,7 @@ ghost use Rattle.evidence_spec.specs.Evidence.{Accepts};
 ghost use Rattle.evidence_spec.specs.Proving.{Proves};
 
 use crate::evidence::Evidence;
-use crate::examine::examine;
+use crate::find::examine;
 use authenticator::Roster;
 use evidence_spec::laws::accepted_evidence_proves;
 use std::alloc::{AllocError, Global};

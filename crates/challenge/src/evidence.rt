@@ -1,7 +1,7 @@
 //! Evidence.
 
 ghost use Rattle.std.specs.Prelude.{◌≡◌, ◌<◌, ◌^◌};
-ghost use Rattle.xdr.specs.Item.{Fits};
+ghost use Rattle.xdr.specs.Item.{Fits, choice};
 ghost use Rattle.evidence_spec.specs.Evidence.{evidence_item, evidence_value};
 ghost use Rattle.evidence_spec.specs.Evidence as spec;
 ghost use Rattle.challenge.specs.Charges.{charge_in, fork_in};
@@ -76,7 +76,16 @@ impl Evidence {
         ensures { Fits evidence_item (evidence_value self.now) }
     {
         is_word(self.node);
-        match &self.charge {
+        self.charge.has_text();
+    }
+}
+
+impl Charge {
+    /// It has a text, as the types of its parts keep it: does nothing, and tells a caller's proof.
+    fn has_text(&self)
+        ensures { Fits (choice spec.is_charge spec.charge_item) (spec.charge_value (charge_in self.now)) }
+    {
+        match self {
             Charge::Fork(fork) => fork.has_text(),
             Charge::Replay(log) => log.has_text(),
         }

@@ -98,10 +98,7 @@ fn read_fork<'a>(alloc: Global, reader: &mut Reader<'a>) -> Result<Fork, ReadErr
 }
 
 #[tactic(auto, unfolding(xdr::specs::Reading::optional_at))]
-fn read_second<'a>(
-    alloc: Global,
-    reader: &mut Reader<'a>,
-) -> Result<Option<Showing>, ReadError>
+fn read_second<'a>(alloc: Global, reader: &mut Reader<'a>) -> Result<Option<Showing>, ReadError>
     ensures { GivesUnless xdr_fault (optional showing_item) (λ b. option_map showing_value b)
         reader.old result reader.new }
 {
@@ -133,13 +130,5 @@ fn read_log<'a>(alloc: Global, reader: &mut Reader<'a>) -> Result<AuditedLog, Re
     let opening = *reader.fixed::<32>()?;
     let entries = read_array(alloc, reader, MAX_AUDITED)?;
     let closing = Authenticator::read(alloc, reader)?;
-    Ok(AuditedLog::of_front(
-        start,
-        reader.rest(),
-        node,
-        first,
-        opening,
-        entries,
-        closing,
-    ))
+    Ok(AuditedLog::of_front(start, reader.rest(), node, first, opening, entries, closing))
 }

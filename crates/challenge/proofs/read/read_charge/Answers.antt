@@ -6,6 +6,20 @@ use Rattle.evidence_spec.specs.Evidence.{audited_value, fork_value, charge_item,
 use Rattle.challenge.specs.Charges.{fork_in}
 use Rattle.challenge.proofs.read.read_charge.Goals as goal
 
+pub returns-in_err-fork-in-1 : goal.returns-in_err-fork-in-1
+returns-in_err-fork-in-1 c =
+    let p = err_from_is_err_and c.from_residual-in_err-fork-in-1.result c.from_residual-in_err-fork-in-1.ensures.1 in
+    rw (p.1, p.2) (choice_err_unless is_charge charge_item c.args.reader.now 1 c.u32.new.self (xdr_fault c.in_err-fork-in-1.field-0.0) (rw c.in-1.is at c.in_ok-u32.ensures) refl c.in_err-fork-in-1.ensures)
+
 pub returns-in_ok-fork-in-1 : goal.returns-in_ok-fork-in-1
 returns-in_ok-fork-in-1 c =
     choice_ok is_charge charge_item c.args.reader.now 1 c.u32.new.self (fork_value (fork_in c.in_ok-fork-in-1.fork)) c.read_fork.new.reader (rw c.in-1.is at c.in_ok-u32.ensures) refl c.in_ok-fork-in-1.ensures
+
+pub returns-in_err-log-in-2 : goal.returns-in_err-log-in-2
+returns-in_err-log-in-2 c =
+    let p = err_from_is_err_and c.from_residual-in_err-log-in-2.result c.from_residual-in_err-log-in-2.ensures.1 in
+    rw (p.1, p.2) (choice_err_unless is_charge charge_item c.args.reader.now 2 c.u32.new.self (xdr_fault c.in_err-log-in-2.field-0.0) (rw c.in-2.is at c.in_ok-u32.ensures) refl c.in_err-log-in-2.ensures.0)
+
+pub returns-in_ok-log-in-2 : goal.returns-in_ok-log-in-2
+returns-in_ok-log-in-2 c =
+    choice_ok is_charge charge_item c.args.reader.now 2 c.u32.new.self (audited_value c.in_ok-log-in-2.log) c.read.new.reader (rw c.in-2.is at c.in_ok-u32.ensures) refl c.in_ok-log-in-2.ensures

@@ -1,11 +1,10 @@
 //! What is found in evidence.
 
-ghost use Rattle.std.specs.Prelude.{◌≡◌, ◌≢◌, ◌↔◌, ◌<◌, IfErr, IfNone, IfOk, IfSome, IsTrue, None, Some};
+ghost use Rattle.std.specs.Prelude.{◌≡◌, ◌↔◌, IfErr, IfNone, IfOk, IfSome, IsTrue, None, Some};
 ghost use Rattle.log_entries.specs.Chain.{zeros};
-ghost use Rattle.evidence_spec.specs.Showing.{Shows};
 ghost use Rattle.evidence_spec.specs.Evidence.{Accepts};
-ghost use Rattle.challenge.specs.Findings.{Finds, FindsInFork, FindsInLog, HasNoTwo, LogLacks, ShowingLacks};
-ghost use Rattle.challenge.specs.Findings.{IsAudited, IsClosedOf, IsFromStart, is_accepted};
+ghost use Rattle.challenge.specs.Findings.{Finds, FindsInFork, FindsInLog, LogLacks, ShowingLacks};
+ghost use Rattle.challenge.specs.Findings.{IsAudited, IsClosedOf, IsFromStart, finding_in, is_accepted};
 
 use crate::audited::AuditedLog;
 use crate::evidence::{Charge, Evidence, Fork};
@@ -17,11 +16,7 @@ use std::alloc::{AllocError, Global};
 
 /// What is found in evidence under a roster: with what it is accepted, or the first that it lacks. Closings are
 /// looked at before a log is replayed. `AllocError` comes only where a growth was refused.
-pub fn examine(
-    alloc: Global,
-    roster: &Roster,
-    evidence: &Evidence,
-) -> Result<Finding, AllocError>
+pub fn examine(alloc: Global, roster: &Roster, evidence: &Evidence) -> Result<Finding, AllocError>
     ensures finds { IfOk result (λ finding. Finds roster.now evidence.now finding) }
     ensures exact { IfOk result
         (λ finding. IsTrue (is_accepted finding) ↔ Accepts roster.now evidence.now) }
@@ -30,11 +25,7 @@ pub fn examine(
 }
 
 /// As `examine`, with the first clause alone.
-fn finding_of(
-    alloc: Global,
-    roster: &Roster,
-    evidence: &Evidence,
-) -> Result<Finding, AllocError>
+fn finding_of(alloc: Global, roster: &Roster, evidence: &Evidence) -> Result<Finding, AllocError>
     ensures { IfOk result (λ finding. Finds roster.now evidence.now finding) }
 {
     match evidence.charge() {
@@ -64,24 +55,34 @@ fn find_in_two(roster: &Roster, node: u32, at: Number, a: &Showing, b: &Showing)
     if let Some(reason) = find_lack(roster, node, b) {
         return Finding::NotAccepted(reason);
     }
-    match two_hashes(a, b, at.get()) {
-        Some((one, other)) => Finding::TwoHashes { at, one, other },
-        None => Finding::NotAccepted(NotAccepted::NoTwoHashes),
+    let Some(one) = a.hash_at(at.get()) else {
+        return Finding::NotAccepted(NotAccepted::NoTwoHashes);
+    };
+    let Some(other) = b.hash_at(at.get()) else {
+        return Finding::NotAccepted(NotAccepted::NoTwoHashes);
+    };
+    if is_same(&one, &other) {
+        return Finding::NotAccepted(NotAccepted::NoTwoHashes);
     }
+    Finding::TwoHashes { at, one, other }
 }
 
 /// What is found in one showing alone, which is closed.
+#[tactic(auto, unfolding(log_entries::specs::Chain::zeros))]
 fn find_in_one(roster: &Roster, node: u32, at: Number, a: &Showing) -> Finding
     requires { IsClosedOf roster.now node a.now }
     ensures { FindsInFork roster.now node at a.now None result }
 {
-    match hash_at_zero(a) {
-        Some(hash) => Finding::TwoHashes {
-            at: Number::new(0),
-            one: hash,
-            other: [0; 32],
-        },
-        None => Finding::NotAccepted(NotAccepted::NoTwoHashes),
+    let Some(one) = a.hash_at(0) else {
+        return Finding::NotAccepted(NotAccepted::NoTwoHashes);
+    };
+    if is_zeros(&one) {
+        return Finding::NotAccepted(NotAccepted::NoTwoHashes);
+    }
+    Finding::TwoHashes {
+        at: Number::new(0),
+        one,
+        other: [0; 32],
     }
 }
 
@@ -100,34 +101,6 @@ fn find_lack(roster: &Roster, node: u32, showing: &Showing) -> Option<NotAccepte
         return Some(NotAccepted::NotSigned);
     }
     None
-}
-
-/// The two hashes that showings show at a number, if they do.
-fn two_hashes(a: &Showing, b: &Showing, at: u64) -> Option<([u8; 32], [u8; 32])>
-    requires a { 0 < a.now.first }
-    requires b { 0 < b.now.first }
-    ensures some { IfSome result (λ p. Shows a.now at p.0 × Shows b.now at p.1 × (p.0 ≢ p.1)) }
-    ensures none { IfNone result (HasNoTwo at a.now (Some b.now)) }
-{
-    let one = a.hash_at(at)?;
-    let other = b.hash_at(at)?;
-    if is_same(&one, &other) {
-        return None;
-    }
-    Some((one, other))
-}
-
-/// The hash that a showing shows at 0, if it shows another there than 32 zero bytes.
-fn hash_at_zero(a: &Showing) -> Option<[u8; 32]>
-    requires { 0 < a.now.first }
-    ensures some { IfSome result (λ hash. Shows a.now 0 hash × (hash ≢ zeros)) }
-    ensures none { IfNone result (HasNoTwo 0 a.now None) }
-{
-    let hash = a.hash_at(0)?;
-    if is_zeros(&hash) {
-        return None;
-    }
-    Some(hash)
 }
 
 /// Whether two hashes are the same.
@@ -203,8 +176,16 @@ fn replay_finding(
 {
     let start = opening_state(alloc, member)?;
     let first = log.first();
-    match replay_entries(alloc, roster, start, first, log.opening(), log.entries())? {
-        Verdict::Fault(fault, number) => Ok(Finding::Fault(fault, number)),
-        Verdict::Sound(..) => Ok(Finding::NotAccepted(NotAccepted::NoFault)),
+    let verdict = replay_entries(alloc, roster, start, first, log.opening(), log.entries())?;
+    Ok(finding_in(verdict))
+}
+
+/// What a verdict says of a log.
+fn finding_in(verdict: Verdict) -> Finding
+    ensures { result ≡ finding_in verdict }
+{
+    match verdict {
+        Verdict::Fault(fault, number) => Finding::Fault(fault, number),
+        Verdict::Sound(..) => Finding::NotAccepted(NotAccepted::NoFault),
     }
 }

@@ -1,0 +1,158 @@
+-- What is found in evidence tells whether it is accepted; and what closed showings show is found.
+-- Serves: examine, find_in_two, find_in_one, replay_finding.
+use Rattle.std.proofs.Common.{◌≡◌, ℕ, List, Option, Some, None, Result, Ok, Err, refl, sym, ap, ◌∙◌, inl, inr}
+use Rattle.std.specs.Prelude.{◌↔◌, IsTrue, IfOk}
+use Rattle.authenticator.specs.declared.member.Member.{Member}
+use Rattle.log_entries.specs.Chain.{zeros}
+use Rattle.secure_log.specs.Segment.{SegmentParts}
+use Rattle.honest_logs.specs.Placed.{placed_in}
+use Rattle.honest_logs.specs.Opening.{opening_of}
+use Rattle.honest_logs.specs.Replay.{verdict_of}
+use Rattle.replay.specs.Verdicts.{verdict_in}
+use Rattle.replay.specs.Faults.{fault_in}
+use Rattle.replay.specs.declared.verdict.Verdict.{Verdict}
+use Rattle.replay.specs.declared.verdict.Verdict.TheVariants as verdicts
+use Rattle.evidence_spec.specs.Showing.{ShowingParts, IsClosedShowing, Shows}
+use Rattle.evidence_spec.specs.Evidence.{Charge, Fork, Replay, EvidenceParts, AcceptsFork, AcceptsReplay, AcceptsCharge, Accepts}
+use Rattle.challenge.specs.declared.finding.Finding.{Finding}
+use Rattle.challenge.specs.declared.finding.Finding.TheVariants as found
+use Rattle.challenge.specs.declared.finding.NotAccepted.{NotAccepted}
+use Rattle.challenge.specs.declared.finding.NotAccepted.TheVariants as reasons
+use Rattle.challenge.specs.Findings.{is_accepted, finding_in, AcceptsTwo, AcceptsOne, ShowingLacks, HasNoTwo, ForkLacks, LogLacks, IsClosedOf, IsAudited, Finds, FindsInFork, FindsInLog, FindsInCharge}
+
+-- ---- what lacks something isn't accepted
+
+showing_lacks : (ms : List Member) (node : ℕ) (s : ShowingParts) (reason : NotAccepted) → s.node ≡ node → IsClosedShowing ms s → ShowingLacks ms node s reason → ⊥
+showing_lacks ms node s reasons.AnotherNode of_node closed lack = lack of_node
+showing_lacks ms node s reasons.NotClosed of_node closed lack = lack (record { first = closed.first; node = closed.node; number = closed.number; hash = closed.hash })
+showing_lacks ms node s reasons.NotSigned of_node closed lack = lack closed.signed
+showing_lacks ms node s reasons.NotFromStart of_node closed lack = lack
+showing_lacks ms node s reasons.NoTwoHashes of_node closed lack = lack
+showing_lacks ms node s reasons.NoFault of_node closed lack = lack
+
+fork_lacks : (ms : List Member) (node at : ℕ) (a : ShowingParts) (b : Option ShowingParts) (reason : NotAccepted) → ForkLacks ms node at a b reason → AcceptsFork ms node at a b → ⊥
+fork_lacks ms node at a (Some b) reason (inl lack) accepted = showing_lacks ms node a reason accepted.a_node accepted.a_closed lack
+fork_lacks ms node at a (Some b) reason (inr (inl lack)) accepted = showing_lacks ms node b reason accepted.b_node accepted.b_closed lack
+fork_lacks ms node at a (Some b) reason (inr (inr lack)) accepted = accepted.differ (lack.1 accepted.one accepted.other accepted.one_shown accepted.other_shown)
+fork_lacks ms node at a None reason (inl lack) accepted = showing_lacks ms node a reason accepted.a_node accepted.closed lack
+fork_lacks ms node at a None reason (inr (inl lack)) accepted = lack
+fork_lacks ms node at a None reason (inr (inr lack)) accepted = accepted.differs (lack.1 accepted.hash accepted.shown)
+
+log_lacks : (ms : List Member) (node : ℕ) (s : SegmentParts) (reason : NotAccepted) → LogLacks ms node s reason → AcceptsReplay ms node s → ⊥
+log_lacks ms node s reasons.AnotherNode lack accepted = lack accepted.of_node
+log_lacks ms node s reasons.NotFromStart lack accepted = lack (record { first = accepted.first; opening = accepted.opening })
+log_lacks ms node s reasons.NotClosed lack accepted = lack accepted.closed.ends
+log_lacks ms node s reasons.NotSigned lack accepted = lack accepted.closed.signed
+log_lacks ms node s reasons.NoTwoHashes lack accepted = lack
+log_lacks ms node s reasons.NoFault lack accepted = lack accepted.member accepted.fault accepted.number accepted.is_member accepted.found
+
+-- ---- what is found tells whether evidence is accepted
+
+fork_exact : (ms : List Member) (node at : ℕ) (a : ShowingParts) (b : Option ShowingParts) (f : Finding) → FindsInFork ms node at a b f → IsTrue (is_accepted f) ↔ AcceptsFork ms node at a b
+fork_exact ms node fork_at a (Some b) (found.TwoHashes at one other) h = ((λ t. h.1.accepted), (λ accepted. refl))
+fork_exact ms node fork_at a None (found.TwoHashes at one other) h = ((λ t. h.2.accepted), (λ accepted. refl))
+fork_exact ms node fork_at a b (found.Fault fault number) h = absurd h
+fork_exact ms node fork_at a b (found.NotAccepted reason) h = ((λ t. absurd cc), (λ accepted. absurd (fork_lacks ms node fork_at a b reason h accepted)))
+
+log_exact : (ms : List Member) (node : ℕ) (s : SegmentParts) (f : Finding) → FindsInLog ms node s f → IsTrue (is_accepted f) ↔ AcceptsReplay ms node s
+log_exact ms node s (found.TwoHashes at one other) h = absurd h
+log_exact ms node s (found.Fault fault number) h = ((λ t. h.accepted), (λ accepted. refl))
+log_exact ms node s (found.NotAccepted reason) h = ((λ t. absurd cc), (λ accepted. absurd (log_lacks ms node s reason h accepted)))
+
+charge_exact : (ms : List Member) (node : ℕ) (c : Charge) (f : Finding) → FindsInCharge ms node c f → IsTrue (is_accepted f) ↔ AcceptsCharge ms node c
+charge_exact ms node (Fork fork) f h = fork_exact ms node fork.at fork.a fork.b f h
+charge_exact ms node (Replay s) f h = log_exact ms node s f h
+
+-- evidence is accepted exactly where what is found says so
+finds_exact : (ms : List Member) (e : EvidenceParts) (f : Finding) → Finds ms e f → IsTrue (is_accepted f) ↔ Accepts ms e
+finds_exact ms e f h = charge_exact ms e.node e.charge f h
+
+pub result_exact : {E : Type 0} (ms : List Member) (e : EvidenceParts) (r : Result Finding E) → IfOk r (λ f. Finds ms e f)
+    → IfOk r (λ f. IsTrue (is_accepted f) ↔ Accepts ms e)
+result_exact ms e (Ok f) h = finds_exact ms e f h
+result_exact ms e (Err error) h = tt
+
+-- ---- hashes at a number
+
+-- what a showing's call answers for a number
+abbrev pub Answers : ShowingParts → (number : ℕ) → Option (List ℕ) → Type 0
+Answers s number answer = (hash : List ℕ) → (answer ≡ Some hash) ↔ Shows s number hash
+
+-- a showing without a hash there shows no two
+pub no_first : (at : ℕ) (a b : ShowingParts) → Answers a at None → HasNoTwo at a (Some b)
+no_first at a b answers one other shown shown_other = let none : None ≡ Some one = (answers one).1 shown in absurd cc
+
+pub no_second : (at : ℕ) (a b : ShowingParts) → Answers b at None → HasNoTwo at a (Some b)
+no_second at a b answers one other shown shown_other = let none : None ≡ Some other = (answers other).1 shown_other in absurd cc
+
+pub no_hash : (at : ℕ) (a : ShowingParts) → Answers a 0 None → HasNoTwo at a None
+no_hash at a answers hash shown = let none : None ≡ Some hash = (answers hash).1 shown in absurd cc
+
+-- nor do two that show the same
+pub same_hashes : (at : ℕ) (a b : ShowingParts) (one other : List ℕ) → Answers a at (Some one) → Answers b at (Some other) → one ≡ other → HasNoTwo at a (Some b)
+same_hashes at a b one other first second same x y shown shown_other =
+    let is_one : Some one ≡ Some x = (first x).1 shown in
+    let is_other : Some other ≡ Some y = (second y).1 shown_other in
+    cc
+
+pub same_zeros : (at : ℕ) (a : ShowingParts) (one : List ℕ) → Answers a 0 (Some one) → one ≡ zeros → HasNoTwo at a None
+same_zeros at a one answers same x shown =
+    let is_one : Some one ≡ Some x = (answers x).1 shown in
+    cc
+
+-- two that differ are accepted
+pub accepts_two : (ms : List Member) (node at : ℕ) (a b : ShowingParts) (one other : List ℕ) → IsClosedOf ms node a → IsClosedOf ms node b
+    → Answers a at (Some one) → Answers b at (Some other) → ¬ (one ≡ other) → AcceptsTwo ms node at a b one other
+accepts_two ms node at a b one other closed closed_other first second differ = record {
+  accepted = record {
+    a_node = closed.of_node;
+    b_node = closed_other.of_node;
+    a_closed = closed.closed;
+    b_closed = closed_other.closed;
+    one = one;
+    other = other;
+    one_shown = (first one).0 refl;
+    other_shown = (second other).0 refl;
+    differ = differ;
+  };
+  is_one = refl;
+  is_other = refl;
+}
+
+pub accepts_one : (ms : List Member) (node : ℕ) (a : ShowingParts) (one : List ℕ) → IsClosedOf ms node a → Answers a 0 (Some one) → ¬ (one ≡ zeros) → AcceptsOne ms node a one
+accepts_one ms node a one closed answers differs = record {
+  accepted = record {
+    a_node = closed.of_node;
+    closed = closed.closed;
+    hash = one;
+    shown = (answers one).0 refl;
+    differs = differs;
+  };
+  is_one = refl;
+}
+
+-- ---- replays
+
+-- what a replay finds in a member's closed log
+pub verdict_finds : (ms : List Member) (node : ℕ) (s : SegmentParts) (m : Member) (v : Verdict) → IsAudited ms node s m
+    → verdict_in v ≡ verdict_of ms (opening_of m) (placed_in s) → FindsInLog ms node s (finding_in v)
+verdict_finds ms node s m (verdicts.Fault fault number) audited is = record {
+  accepted = record {
+    of_node = audited.of_node;
+    first = audited.start.first;
+    opening = audited.start.opening;
+    closed = audited.closed;
+    member = m;
+    is_member = audited.is_member;
+    fault = fault_in fault;
+    number = number;
+    found = sym is;
+  };
+  is_fault = refl;
+  is_number = refl;
+}
+verdict_finds ms node s m (verdicts.Sound state shown) audited is = λ member fault number is_member found.
+    let same : Some m ≡ Some member = sym audited.is_member ∙ is_member in
+    let one : m ≡ member = cc in
+    let both = is ∙ ap (λ x. verdict_of ms (opening_of x) (placed_in s)) one ∙ found in
+    absurd cc

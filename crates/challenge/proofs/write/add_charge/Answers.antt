@@ -1,0 +1,7 @@
+use Rattle.challenge.proofs.write.add_charge.Goals as goal
+
+pub returns-in-Fork : goal.returns-in-Fork
+returns-in-Fork c = rw c.in-Fork.is c.add_fork.ensures
+
+pub returns-in-Replay : goal.returns-in-Replay
+returns-in-Replay c = rw c.in-Replay.is c.add_replay.ensures
