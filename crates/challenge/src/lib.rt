@@ -10,6 +10,8 @@ mod fault;
 mod find;
 mod finding;
 mod read;
+#[cfg(test)]
+mod tests;
 mod write;
 
 pub use audited::{AuditedLog, MAX_AUDITED};

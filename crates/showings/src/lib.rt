@@ -7,6 +7,8 @@ mod kind;
 mod link;
 mod read;
 mod showing;
+#[cfg(test)]
+mod tests;
 mod write;
 
 pub use closing::{copy_of, is_signed_in};
