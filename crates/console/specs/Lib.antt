@@ -5,3 +5,5 @@ pub use Rattle.worlds.specs.World
 pub use Rattle.service.specs.Owed
 pub mod RunRpc
 pub mod CommandLine
+pub mod Checking
+pub mod CheckWords
