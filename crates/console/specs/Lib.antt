@@ -6,3 +6,5 @@ pub use Rattle.service.specs.Owed
 pub mod RunRpc
 pub mod Batches
 pub mod CommandLine
+pub mod Checking
+pub mod CheckWords
