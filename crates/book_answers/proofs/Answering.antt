@@ -19,7 +19,7 @@ use Rattle.envelopes.specs.declared.envelope.Envelope.{Envelope}
 use Rattle.envelopes.specs.declared.acknowledgement.Ack.{Ack}
 use Rattle.envelopes.specs.declared.message.Message.{Message}
 use Rattle.book_spec.specs.Signing.{is_same}
-use Rattle.replay_spec.proofs.Signed.{list_same}
+use Rattle.authenticator.proofs.Signed.{list_same}
 use Rattle.book_spec.specs.Showing.{IsAmong}
 use Rattle.book_spec.specs.Refusals.{NotAsked, BadSignature}
 use Rattle.book_spec.specs.Events.{PublicKey, Event}

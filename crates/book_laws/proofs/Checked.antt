@@ -13,7 +13,7 @@ use Rattle.authenticator.specs.declared.member.Kind.TheVariants.{Server, Client}
 use Rattle.authenticator.specs.declared.member.Member.{Member}
 use Rattle.authenticator.specs.declared.refusal.Refusal as checks
 use Rattle.authenticator.proofs.Members.{member_node}
-use Rattle.replay_spec.proofs.Signed.{same_list}
+use Rattle.authenticator.proofs.Signed.{same_list}
 use Rattle.secure_log.specs.Segment.{SegmentParts, ClosedParts, HasText, IsClosed}
 use Rattle.packets.specs.Packet.{Delivery}
 use Rattle.packets.specs.Packet as packets

@@ -9,8 +9,8 @@ use Rattle.book_spec.specs.State.{State}
 use Rattle.book_spec.specs.Signing.{is_same}
 use Rattle.book_spec.specs.Placed.{placed_in}
 use Rattle.book_spec.specs.Replay.{Honest, Verdict, Sound, Fault, segment_verdict}
-use Rattle.replay_spec.proofs.Signed.{same_list, list_same}
-use Rattle.replay_spec.proofs.Runs.{sound, is_sound}
+use Rattle.authenticator.proofs.Signed.{same_list, list_same}
+use Rattle.book_spec.proofs.Runs.{sound, is_sound}
 use Rattle.secure_log.specs.Segment.{SegmentParts}
 use Rattle.book_spec.specs.Showing.{IsAmong}
 use Rattle.book_spec.specs.Events.{JobParts}

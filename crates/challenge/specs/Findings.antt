@@ -6,10 +6,10 @@ use Rattle.authenticator.specs.Signed.{IsSignedIn}
 use Rattle.log_entries.specs.Chain.{zeros}
 use Rattle.secure_log.specs.Segment.{SegmentParts, IsClosed}
 use Rattle.secure_log.specs.Segment as segments
-use Rattle.honest_logs.specs.Replay.{Fault, verdict_of}
-use Rattle.honest_logs.specs.Stepping as spec
-use Rattle.honest_logs.specs.Placed.{placed_in}
-use Rattle.honest_logs.specs.Opening.{opening_of}
+use Rattle.showings.specs.Replay.{Fault, verdict_of}
+use Rattle.showings.specs.Stepping as spec
+use Rattle.showings.specs.Placed.{placed_in}
+use Rattle.showings.specs.Opening.{opening_of}
 use Rattle.replay.specs.Faults.{fault_in}
 use Rattle.replay.specs.declared.fault.ReplayFault.{ReplayFault}
 use Rattle.replay.specs.declared.verdict.Verdict.{Verdict}

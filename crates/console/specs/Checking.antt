@@ -2,8 +2,8 @@
 use Rattle.std.specs.Prelude.{◌≡◌, ◌⊎◌, ℕ, List, ◌++◌, Option, Some, None, codes, decimal}
 use Rattle.std.specs.Io.KnownBytes.{Appends}
 use Rattle.xdr_texts.specs.Text.{text_at}
-use Rattle.evidence_spec.specs.Evidence.{Accepts}
-use Rattle.evidence_spec.specs.Proving.{Proves}
+use Rattle.challenge.specs.Evidence.{Accepts}
+use Rattle.challenge.specs.Proving.{Proves}
 use Rattle.challenge.specs.Cases.{case_text, case_value}
 use Rattle.challenge.specs.declared.case.Case.{Case}
 use Rattle.console.specs.declared.checking.Judgement.{Judgement}

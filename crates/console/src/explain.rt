@@ -6,10 +6,9 @@ ghost use Rattle.challenge.specs.declared.audited.TheConstants.{MAX_AUDITED};
 use crate::call_words::call_words;
 use challenge::{
     AuditedLog, Charge, Entry, Evidence, EvidenceFault, Finding, Fork, NotAccepted, Number,
-    ReplayFault, Roster, Showing, examine, read_case,
+    ReplayFault, Roster, Showing, Stage, StateMachine, Verdict, examine, opening_state, read_case,
+    replay_entries,
 };
-use machines::{Machine, Stage};
-use replay::{Verdict, opening_state, replay_entries};
 use std::alloc::{AllocError, Global};
 use std::fmt;
 use std::fmt::Display;
@@ -205,7 +204,7 @@ fn owed(alloc: Global, roster: &Roster, node: u32, entries: &[Entry]) -> Result<
         return Ok(String::new(alloc));
     };
     match state.machine() {
-        Machine::Server(_, Stage::Owes { to, body }) => reply(alloc, *to, body.bytes()),
+        StateMachine::Server(_, Stage::Owes { to, body }) => reply(alloc, *to, body.bytes()),
         _ => format!(in alloc; "no reply"),
     }
 }

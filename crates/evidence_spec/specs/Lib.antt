@@ -1,3 +1,4 @@
+pub use Rattle.honest_logs.specs.StateSteps
 pub use Rattle.honest_logs.specs.State
 pub use Rattle.honest_logs.specs.Signing
 pub use Rattle.honest_logs.specs.Placed
