@@ -83,7 +83,7 @@ pub fn the_oldest_is_forwarded()
 
 /// A segment that is filed Sound moves the end to its last number, with the state there, and the node is
 /// Trusted; what was learned up to there is kept no more.
-#[tactic(auto, unfolding(replay_spec::specs::Stepping::step))]
+#[tactic(auto, unfolding(book_spec::specs::Stepping::step))]
 pub fn sound_segments_move_the_end()
     ensures end { end_of [] five filed_two ≡ record { number = 1; state = state_read } }
     ensures trusted { Owes [] five filed_two (Ask ItsIndication) (Told Trusted) }
@@ -91,7 +91,7 @@ pub fn sound_segments_move_the_end()
 {}
 
 /// A segment that isn't honest exposes the node when it is filed, by a replay from the first entry on.
-#[tactic(auto, unfolding(replay_spec::specs::Stepping::step))]
+#[tactic(auto, unfolding(book_spec::specs::Stepping::step))]
 pub fn faults_expose()
     ensures filed { Owes [] five no_out (File no_done) Filed }
     ensures exposed { Owes [] five no_filed (Ask ItsIndication) (Told Exposed) }

@@ -1,5 +1,5 @@
-pub use Rattle.evidence_spec.specs.Proving
-pub use Rattle.evidence_spec.specs.Evidence
+pub use Rattle.showings.specs.Proving
+pub use Rattle.showings.specs.Evidence
 pub mod FaultNumbers
 pub mod Audited
 pub mod Charges

@@ -1,7 +1,7 @@
-pub use Rattle.honest_logs.specs.Stepping
-pub use Rattle.honest_logs.specs.Replay
-pub use Rattle.honest_logs.specs.Placed
-pub use Rattle.honest_logs.specs.Opening
+pub use Rattle.evidence_spec.specs.Stepping
+pub use Rattle.evidence_spec.specs.Replay
+pub use Rattle.evidence_spec.specs.Placed
+pub use Rattle.evidence_spec.specs.Opening
 pub use Rattle.evidence_spec.specs.Showing
 pub use Rattle.evidence_spec.specs.Evidence
 pub use Rattle.evidence_spec.specs.Proving
