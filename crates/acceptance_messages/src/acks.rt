@@ -91,7 +91,12 @@ fn refusal(alloc: Global, roster: &Roster, text: &[u8]) -> Option<Refusal> {
 
 /// The first length at which a text that is cut isn't garbage.
 fn first_not_garbage(alloc: Global, roster: &Roster, text: &[u8]) -> Option<usize> {
-    (0..text.len()).find(|len| refusal(alloc, roster, &text[..*len]) != Some(Refusal::Garbage))
+    for len in 0..text.len() {
+        if refusal(alloc, roster, &text[..len]) != Some(Refusal::Garbage) {
+            return Some(len);
+        }
+    }
+    None
 }
 
 #[test]
@@ -115,8 +120,8 @@ fn refusal_changed(
     refused
 }
 
-// In turn nothing; who acknowledges, the number, the hash before, the sender, its number, the hash before there,
-// the body, the signature and the own signature's leaf; and who acknowledges, to one who is no member.
+// In turn nothing; who acknowledges, the number, the hash before, the sender, its number, the hash before
+// there, the body, the signature and the own signature's leaf; and who acknowledges, to one who is no member.
 #[test]
 fn a_changed_acknowledgement_is_refused(rt: HostRuntime) -> Result<(), Fail> {
     let Acknowledged { roster, mut ack } = first_acknowledged(rt.alloc())?;
@@ -140,8 +145,8 @@ fn a_changed_acknowledgement_is_refused(rt: HostRuntime) -> Result<(), Fail> {
     Ok(())
 }
 
-/// The first of the places before the secrets of the signature, 156 bytes in, at which a text with the lowest bit
-/// of that byte changed gets no number of a refusal.
+/// The first of the places before the secrets of the signature, 156 bytes in, at which a text with the lowest
+/// bit of that byte changed gets no number of a refusal.
 fn first_not_refused(alloc: Global, roster: &Roster, text: &mut [u8]) -> Option<usize> {
     for place in 0..156 {
         match refusal_changed(alloc, roster, text, place, 1) {

@@ -27,7 +27,12 @@ fn refusal(alloc: Global, roster: &Roster, text: &[u8]) -> Option<Refusal> {
 
 /// The first length at which a text that is cut isn't garbage.
 fn first_not_garbage(alloc: Global, roster: &Roster, text: &[u8]) -> Option<usize> {
-    (0..text.len()).find(|len| refusal(alloc, roster, &text[..*len]) != Some(Refusal::Garbage))
+    for len in 0..text.len() {
+        if refusal(alloc, roster, &text[..len]) != Some(Refusal::Garbage) {
+            return Some(len);
+        }
+    }
+    None
 }
 
 #[test]
@@ -51,8 +56,8 @@ fn refusal_changed(
     refused
 }
 
-/// The first of the places before the secrets of the signature, 96 bytes in, at which a text with the lowest bit
-/// of that byte changed gets no number of a refusal.
+/// The first of the places before the secrets of the signature, 96 bytes in, at which a text with the lowest
+/// bit of that byte changed gets no number of a refusal.
 fn first_not_refused(alloc: Global, roster: &Roster, text: &mut [u8]) -> Option<usize> {
     for place in 0..96 {
         match refusal_changed(alloc, roster, text, place) {
