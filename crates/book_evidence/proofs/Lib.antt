@@ -1,3 +1,4 @@
 pub mod Doing
 pub mod Checked
 pub mod Audits
+pub mod Before
