@@ -2,3 +2,4 @@ pub mod Doing
 pub mod Checked
 pub mod Audits
 pub mod Before
+pub mod Charges
