@@ -1,0 +1,5 @@
+pub mod Doing
+pub mod Checked
+pub mod Audits
+pub mod Before
+pub mod Charges
