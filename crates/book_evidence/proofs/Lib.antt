@@ -3,3 +3,4 @@ pub mod Checked
 pub mod Audits
 pub mod Before
 pub mod Charges
+pub mod Replayed
