@@ -3,3 +3,4 @@ pub mod OwnSteps
 pub mod LeftOut
 pub mod Exposing
 pub mod Checked
+pub mod Doing

@@ -1,0 +1,6 @@
+pub mod Doing
+pub mod Checked
+pub mod Audits
+pub mod Before
+pub mod Charges
+pub mod Replayed
