@@ -3,4 +3,3 @@ pub mod Checked
 pub mod Audits
 pub mod Before
 pub mod Charges
-pub mod Replayed
