@@ -119,8 +119,9 @@ positive (suc n) h = omega arith
 
 -- ---- charges
 
--- it is accepted against the node, and has a text
+-- it is accepted against the node, and has a text with it
 pub record IsGoodCharge (ms : List Member) (m : Member) (g : Charge) : Type 0 where
+  pub small : m.node < 2 ^ 32
   pub accepted : AcceptsCharge ms m.node g
   pub text : Fits (choice is_charge charge_item) (charge_value g)
 
@@ -170,7 +171,7 @@ new_segment ms m s good =
           length-links s.first s.entries)) good.text.0.1.1.1.1.1.0;
     }
 
-first_shown : (ms : List Member) (m : Member) (past : Past) → IsAmong first_pair (shown ms m past)
+pub first_shown : (ms : List Member) (m : Member) (past : Past) → IsAmong first_pair (shown ms m past)
 first_shown ms m [] = inl refl
 first_shown ms m (p ∷ past) =
     on_right first_pair (pairs_noted (is_exposed ms m past) (noted p.0 p.1))
@@ -188,6 +189,7 @@ module _ (ms : List Member) (m : Member) (past : Past) (p : Step × Reply) (owed
       let zero_is : f.other ≡ zeros =
       one_shown ms m past e 0 f.other zeros f.other_old (first_shown ms m past) in
       record {
+        small = omega (arith, is.good.shows.text.0, is.good.node);
         accepted = record {
           a_node = is.good.node;
           closed = is.good.shows.closed;
@@ -203,6 +205,7 @@ module _ (ms : List Member) (m : Member) (past : Past) (p : Step × Reply) (owed
       → IsGoodShowing ms m old qs → (f : Forks ps (shown ms m past) n) → IsAmong (n, f.other) qs
       → IsGoodCharge ms m (Fork (record { at = n; a = old; b = Some new }))
   at_number n new old ps qs is before f there = record {
+    small = omega (arith, is.good.shows.text.0, is.good.node);
     accepted = record {
       a_node = before.node;
       b_node = is.good.node;
