@@ -1,8 +1,8 @@
 -- While a node isn't exposed, all audited entries are an honest log up to the end; so a segment in which a
 -- replay finds a fault is one behind them, from the first entry on.
 -- Serves: evidence_where_exposed, evidence_proves.
-use Rattle.std.proofs.Common.{◌≡◌, ◌⊎◌, inl, inr, ℕ, ◌+◌, ◌-◌, ◌^◌, ◌<◌, ◌≤◌, true, false, List, [], ◌∷◌, ◌++◌, map}
-use Rattle.std.proofs.Common.{length, Option, Some, None, refl, sym, ap, ap₂, subst, ◌∙◌, arith, length-append}
+use Rattle.std.proofs.Common.{◌≡◌, inl, inr, ℕ, ◌+◌, ◌-◌, ◌^◌, ◌<◌, false, List, [], ◌∷◌, ◌++◌, map}
+use Rattle.std.proofs.Common.{length, Some, refl, sym, ap, subst, ◌∙◌, arith, length-append}
 use Rattle.std.proofs.Common.{append_assoc, append-nil}
 use Rattle.std.specs.List.{AllByRecursion}
 use Rattle.std.proofs.lemmas.List.{length-map}
@@ -19,8 +19,7 @@ use Rattle.honest_logs.specs.State.{State}
 use Rattle.honest_logs.specs.Opening.{opening_of}
 use Rattle.honest_logs.specs.Placed.{Placed, placed, placed_in}
 use Rattle.honest_logs.specs.Stepping.{ReplayFault, step}
-use Rattle.honest_logs.specs.Replay.{Verdict, Sound, Fault, Honest, last_state, verdict_of}
-use Rattle.replay_spec.specs.Laws.{IsFirstFault}
+use Rattle.honest_logs.specs.Replay.{Sound, Fault, Honest, last_state, verdict_of}
 use Rattle.replay_spec.proofs.Places.{places_joined}
 use Rattle.replay_spec.proofs.Runs.{is_sound, first_fault, is_fault, joined, last_joined}
 use Rattle.evidence_spec.specs.Showing.{IsAmong}
@@ -36,7 +35,7 @@ use Rattle.book_spec.specs.Standing.{End, end_of, end_behind, moved_by, verdict_
 use Rattle.book_spec.specs.Standing.{audited, pairs_noted, pairs_accepted, shown, is_exposed}
 use Rattle.book_spec.specs.Exposing.{audited_with}
 use Rattle.book_evidence.proofs.Checked.{IsGoodSegment}
-use Rattle.book_evidence.proofs.Audits.{IsNext, Stand}
+use Rattle.book_evidence.proofs.Audits.{IsNext}
 use Rattle.book_evidence.proofs.Before.{on_right, one_shown, accepted_shown, first_some}
 use Rattle.book_evidence.proofs.Charges.{IsGoodCharge, first_shown}
 
@@ -248,8 +247,21 @@ replay_charge ms m past j fault number is e a next good v =
             ∙ fault_behind ms (opening_of m) (end_of ms m past).state (placed 1 zeros (audited ms m past)) (placed_in s)
             a.states fault number a.honest a.last v;
       };
-      text = (omega arith, refl, (node, ((omega arith, refl), (zeros-length, (
-        (omega (arith, values, k.count, next.last), omega (arith, values, k.count, next.last), k.each),
-        good.text.0.1.1.1.1
-      )))));
+      text = (
+        omega arith,
+        refl,
+        (
+          node,
+          (
+            (omega arith, refl),
+            (
+              zeros-length,
+              (
+                (omega (arith, values, k.count, next.last), omega (arith, values, k.count, next.last), k.each),
+                good.text.0.1.1.1.1,
+              ),
+            ),
+          ),
+        ),
+      );
     }

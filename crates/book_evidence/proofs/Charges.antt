@@ -1,12 +1,12 @@
 -- A step that exposes a node brings a charge that is accepted, and has a text; another brings none.
 -- Serves: evidence_where_exposed, evidence_proves.
 use Rattle.std.proofs.Common.{◌≡◌, ◌≢◌, ◌⊎◌, inl, inr, ℕ, ◌+◌, ◌-◌, ◌^◌, ◌<◌, ◌≤◌, Bool, true, false, cond, ◌||◌, ◌==◌}
-use Rattle.std.proofs.Common.{nat_lt, List, [], ◌∷◌, ◌++◌, length, Option, Some, None, refl, sym, ap, ap₂, subst, ◌∙◌}
+use Rattle.std.proofs.Common.{List, [], ◌∷◌, ◌++◌, length, Option, Some, None, refl, sym, ap, ap₂, subst, ◌∙◌}
 use Rattle.std.proofs.Common.{arith, eqb-true, length-append, not, zero, suc}
-use Rattle.std.specs.Prelude.{option_map, option_and_then, ◌&&◌}
-use Rattle.std.proofs.lemmas.Bool.{and_parts, or_cases, or_left, or_right, true≢false, ltb-true, lt-ltb}
+use Rattle.std.specs.Prelude.{option_map, option_and_then}
+use Rattle.std.proofs.lemmas.Bool.{and_parts, or_cases, or_right, true≢false, ltb-true, lt-ltb}
 use Rattle.xdr.specs.Item.{Fits, choice}
-use Rattle.authenticator.specs.Numbers.{is_number, number_item}
+use Rattle.authenticator.specs.Numbers.{number_item}
 use Rattle.authenticator.specs.declared.authenticator.Authenticator.{Authenticator}
 use Rattle.authenticator.specs.declared.member.Member.{Member}
 use Rattle.log_entries.specs.Chain.{zeros, links_from}
@@ -34,7 +34,7 @@ use Rattle.book_evidence.proofs.Doing.{Did, Doing, Nothing, Notes, Accepts, Asks
 use Rattle.book_evidence.proofs.Checked.{IsGoodAuthenticator, IsGoodSegment, IsCheckedStep, AreChecked}
 use Rattle.book_evidence.proofs.Audits.{Stand}
 use Rattle.book_evidence.proofs.Before.{split, on_left, on_right, one_shown, IsGoodShowing, good_authenticator}
-use Rattle.book_evidence.proofs.Before.{first_some, good_segment, IsShownBefore, shown_before}
+use Rattle.book_evidence.proofs.Before.{first_some, good_segment, shown_before}
 
 -- ---- forks between new pairs and old
 
@@ -167,8 +167,15 @@ new_segment ms m s good =
       few = λ n x i.
           let h = behind (s.first - 1) s.opening links n x are i in
           lower_fits n s.closing.number
-          (omega (arith, h.count, ap length h.whole, length-append h.front h.rest, some, good.closed.ends.number,
-          length-links s.first s.entries)) good.text.0.1.1.1.1.1.0;
+          (omega (
+            arith,
+            h.count,
+            ap length h.whole,
+            length-append h.front h.rest,
+            some,
+            good.closed.ends.number,
+            length-links s.first s.entries,
+          )) good.text.0.1.1.1.1.1.0;
     }
 
 pub first_shown : (ms : List Member) (m : Member) (past : Past) → IsAmong first_pair (shown ms m past)

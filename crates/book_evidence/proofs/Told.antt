@@ -17,12 +17,12 @@ use Rattle.book_spec.specs.Steps.{Step, Past}
 use Rattle.book_spec.specs.Pairs.{has_fork}
 use Rattle.book_spec.specs.Done.{filed}
 use Rattle.book_spec.specs.Standing.{end_of, verdict_on, is_fault, finds_fault, has_fault, shown, is_exposed}
-use Rattle.book_spec.specs.Standing.{sound_entries, entries_filed, indication, stage_of, Out}
+use Rattle.book_spec.specs.Standing.{entries_filed, indication, stage_of, Out}
 use Rattle.book_spec.specs.Exposing.{new_charge, evidence}
 use Rattle.book_spec.specs.Histories.{AreOwed}
 use Rattle.book_spec.specs.Laws.{IsProof}
 use Rattle.book_laws.proofs.Exposing.{exposed_is, is_exposed_told, exposed_further}
-use Rattle.book_evidence.proofs.Doing.{Did, Doing, Nothing, Notes, Accepts, Asks, Begins, Files, PutsBack, doing}
+use Rattle.book_evidence.proofs.Doing.{Doing, Nothing, Notes, Accepts, Asks, Begins, Files, PutsBack, doing}
 use Rattle.book_evidence.proofs.Checked.{IsGoodSegment, AreChecked}
 use Rattle.book_evidence.proofs.Audits.{IsAt, IsNext, Stand, stands, end_stays}
 use Rattle.book_evidence.proofs.Charges.{IsGoodCharge, Charging, Uncharged, Charged, charging}
@@ -139,7 +139,7 @@ charged ms m past e (With g is exposed good) h =
 
 -- What is accepted and has a text proves.
 pub proof_of : (ms : List Member) (m : Member) (e : EvidenceParts)
-    → ((f : EvidenceParts) → Fits evidence_item (evidence_value f) → evidences.Accepts ms f → Proves ms f) 
+    → ((f : EvidenceParts) → Fits evidence_item (evidence_value f) → evidences.Accepts ms f → Proves ms f)
     → IsCharged ms m e → IsProof ms m e
 proof_of ms m e law c =
     let f : EvidenceParts = record { node = m.node; charge = c.charge } in
