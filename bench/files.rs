@@ -2,7 +2,10 @@
 //! same bytes, and proves nothing. Files, names and cookies are in std's maps, one record buffer is used again for each
 //! record, the input is buffered, and a reply is one write.
 //!
-//!     files answer                    answers the records of standard input
+//!     files answer                    answers the records of standard input, each reply by a write of its own
+//!     files hold                      the same, and holds replies as long as a whole record is at hand
+//!     files alone PROCEDURE COUNT     writes so many calls of one procedure, or of it and of the one that undoes it by
+//!                                     turns, behind those that make a file of 8,192 bytes and a symbolic link
 //!     files stream DIRECTORIES FILES ROUNDS    writes records that make so many directories, of so many files each, or
 //!                                     so many files in the root, and then so many rounds of 32 mixed calls
 
@@ -10,7 +13,7 @@ mod items;
 mod records;
 
 use items::{Items, put};
-use records::{answer, mark};
+use records::{Writes, answer, mark};
 use std::collections::{BTreeMap, HashMap};
 use std::io::{self, BufWriter, Write};
 use std::process::ExitCode;
@@ -860,6 +863,15 @@ impl<W: Write> Calls<W> {
         self.end()
     }
 
+    fn symlink(&mut self, dir: u32, name: &str) -> io::Result<()> {
+        let record = self.begin(13);
+        put(record, &handle_of(dir));
+        put_opaque(record, name.as_bytes());
+        put_opaque(record, b"file");
+        put(record, &NOTHING_GIVEN);
+        self.end()
+    }
+
     fn write(&mut self, file: u32, offset: u32, data: &[u8]) -> io::Result<()> {
         let record = self.begin(8);
         put(record, &handle_of(file));
@@ -956,6 +968,39 @@ fn round<W: Write>(calls: &mut Calls<W>, made: &Made, k: usize, data: &[u8]) -> 
     Ok(())
 }
 
+/// Calls of one procedure, or of it and of the one that undoes it by turns.
+fn alone(procedure: u32, count: usize) -> io::Result<()> {
+    let output = BufWriter::new(io::stdout().lock());
+    let mut calls = Calls { output, xid: 0, next: 3, record: Vec::new() };
+    let data: Vec<u8> = (0..8192u32).map(|i| (i * 31 % 251) as u8).collect();
+    let file = calls.make(9, ROOT, "file", &NOTHING_GIVEN)?;
+    calls.write(file, 0, &data)?;
+    let link = calls.next;
+    calls.symlink(ROOT, "symbolic")?;
+    for k in 0..count {
+        let is_first = k % 2 == 0;
+        match procedure {
+            1 | 17 => calls.words(procedure, &[&handle_of(file)])?,
+            2 => calls.words(2, &[&handle_of(file), &[0o640], &NOTHING_GIVEN[1..]])?,
+            4 => calls.named(4, ROOT, "file", &[])?,
+            5 => calls.words(5, &[&handle_of(link)])?,
+            6 => calls.read(file, 0, 8192)?,
+            8 => calls.write(file, 0, &data)?,
+            9 | 10 if is_first => calls.named(9, ROOT, "made", &NOTHING_GIVEN)?,
+            11 if is_first => calls.rename(ROOT, "file", "renamed")?,
+            11 => calls.rename(ROOT, "renamed", "file")?,
+            12 if is_first => calls.link(file, ROOT, "made")?,
+            13 if is_first => calls.symlink(ROOT, "made")?,
+            9 | 10 | 12 | 13 => calls.named(10, ROOT, "made", &[])?,
+            14 | 15 if is_first => calls.named(14, ROOT, "made", &NOTHING_GIVEN)?,
+            14 | 15 => calls.named(15, ROOT, "made", &[])?,
+            16 => calls.words(16, &[&handle_of(ROOT), &[0, 4096]])?,
+            _ => calls.words(procedure, &[])?,
+        }
+    }
+    calls.output.flush()
+}
+
 fn stream(directories: u32, files: u32, rounds: usize) -> io::Result<()> {
     let output = BufWriter::new(io::stdout().lock());
     let mut calls = Calls { output, xid: 0, next: 3, record: Vec::new() };
@@ -970,14 +1015,22 @@ fn stream(directories: u32, files: u32, rounds: usize) -> io::Result<()> {
 fn main() -> ExitCode {
     let words: Vec<String> = std::env::args().collect();
     match words.iter().map(String::as_str).collect::<Vec<_>>()[..] {
-        [_, "answer"] => {
+        [_, writes @ ("answer" | "hold")] => {
             let mut tree = Tree::opening();
             let mut count = 0u32;
-            answer(|record, out| {
+            let writes = if writes == "hold" { Writes::Held } else { Writes::Each };
+            answer(writes, |record, out| {
                 count = count.saturating_add(1);
                 reply(&mut tree, (count, 0), record, out)
             })
         }
+        [_, "alone", procedure, count] => match (procedure.parse(), count.parse()) {
+            (Ok(procedure), Ok(count)) => match alone(procedure, count) {
+                Ok(()) => ExitCode::SUCCESS,
+                Err(_) => ExitCode::FAILURE,
+            },
+            _ => ExitCode::from(2),
+        },
         [_, "stream", directories, files, rounds] => match (directories.parse(), files.parse(), rounds.parse()) {
             (Ok(directories), Ok(files), Ok(rounds)) => match stream(directories, files, rounds) {
                 Ok(()) => ExitCode::SUCCESS,

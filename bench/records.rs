@@ -56,26 +56,56 @@ pub fn mark(record: &mut [u8]) {
     record[..4].copy_from_slice(&mark.to_be_bytes());
 }
 
+/// When replies are written.
+#[derive(Clone, Copy, PartialEq)]
+pub enum Writes {
+    /// Each by itself.
+    Each,
+    /// Together, as long as a whole record is at hand and they are few.
+    Held,
+}
+
+/// Replies of more bytes aren't held.
+const MOST_HELD: usize = 57344;
+
+/// Whether a whole record of one fragment stands in front.
+fn has_record(bytes: &[u8]) -> bool {
+    match bytes.first_chunk() {
+        Some(mark) => {
+            let mark = u32::from_be_bytes(*mark);
+            mark & LAST != 0 && (mark & !LAST) as usize <= bytes.len() - 4
+        }
+        None => false,
+    }
+}
+
 /// Answers the records of standard input by what appends the reply to one, if it gets one.
-fn answer_records(mut reply: impl FnMut(&[u8], &mut Vec<u8>) -> Option<()>) -> Result<(), Fault> {
-    let mut input = BufReader::new(io::stdin().lock());
+fn answer_records(writes: Writes, mut reply: impl FnMut(&[u8], &mut Vec<u8>) -> Option<()>) -> Result<(), Fault> {
+    let read_ahead = if writes == Writes::Held { 65536 } else { 8192 };
+    let mut input = BufReader::with_capacity(read_ahead, io::stdin().lock());
     let mut output = File::from(io::stdout().as_fd().try_clone_to_owned()?);
     let mut record = Vec::with_capacity(MAX_RECORD);
-    let mut out = Vec::with_capacity(MAX_RECORD);
-    while next(&mut input, &mut record)? {
-        out.clear();
-        put(&mut out, &[0]);
-        if reply(&record, &mut out).is_some() {
-            mark(&mut out);
-            output.write_all(&out)?;
+    let mut held = Vec::with_capacity(MOST_HELD + 4 + MAX_RECORD);
+    loop {
+        if writes == Writes::Each || held.len() > MOST_HELD || !has_record(input.buffer()) {
+            output.write_all(&held)?;
+            held.clear();
+        }
+        if !next(&mut input, &mut record)? {
+            return Ok(());
+        }
+        let start = held.len();
+        put(&mut held, &[0]);
+        match reply(&record, &mut held) {
+            Some(()) => mark(&mut held[start..]),
+            None => held.truncate(start),
         }
     }
-    Ok(())
 }
 
 /// The status of a program that answers the records of standard input.
-pub fn answer(reply: impl FnMut(&[u8], &mut Vec<u8>) -> Option<()>) -> ExitCode {
-    match answer_records(reply) {
+pub fn answer(writes: Writes, reply: impl FnMut(&[u8], &mut Vec<u8>) -> Option<()>) -> ExitCode {
+    match answer_records(writes, reply) {
         Ok(()) => ExitCode::SUCCESS,
         Err(Fault::RecordTooLong | Fault::EndInRecord) => ExitCode::from(1),
         Err(Fault::Device) => ExitCode::from(4),

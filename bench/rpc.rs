@@ -1,14 +1,15 @@
 //! A plain program that `nfsacc rpc` is measured against: it answers the same records with the same bytes, and proves
-//! nothing. One record buffer is used again for each record, the input is buffered, and a reply is one write.
+//! nothing. One record buffer is used again for each record, and the input is buffered.
 //!
-//!     rpc answer          answers the records of standard input
+//!     rpc answer          answers the records of standard input, each reply by a write of its own
+//!     rpc hold            the same, and holds replies as long as a whole record is at hand
 //!     rpc stream COUNT    writes so many records, GETATTR of the root and LOOKUP of hello by turns
 
 mod items;
 mod records;
 
 use items::{Items, put};
-use records::{LAST, answer};
+use records::{LAST, Writes, answer};
 use std::collections::{BTreeMap, HashMap};
 use std::io::{self, BufWriter, Write};
 use std::process::ExitCode;
@@ -171,6 +172,7 @@ fn perform(tree: &Tree, procedure: u32, items: &mut Items, out: &mut Vec<u8>) ->
 /// Appends the reply to a record, if it gets one.
 fn reply(tree: &Tree, record: &[u8], out: &mut Vec<u8>) -> Option<()> {
     let mut items = Items(record);
+    let start = out.len();
     let xid = items.word()?;
     if items.word()? != 0 {
         return None;
@@ -183,7 +185,7 @@ fn reply(tree: &Tree, record: &[u8], out: &mut Vec<u8>) -> Option<()> {
         check(&header).and_then(|()| perform(tree, header.procedure, &mut items, out))
     };
     if let Err(refusal) = refusal {
-        out.truncate(4);
+        out.truncate(start);
         put(out, &[xid]);
         match refusal {
             Refusal::RpcMismatch => put(out, &[1, 1, 0, 2, 2]),
@@ -216,7 +218,11 @@ fn main() -> ExitCode {
     match words.iter().map(String::as_str).collect::<Vec<_>>()[..] {
         [_, "answer"] => {
             let tree = Tree::opening();
-            answer(|record, out| reply(&tree, record, out))
+            answer(Writes::Each, |record, out| reply(&tree, record, out))
+        }
+        [_, "hold"] => {
+            let tree = Tree::opening();
+            answer(Writes::Held, |record, out| reply(&tree, record, out))
         }
         [_, "stream", count] => match count.parse().map(stream) {
             Ok(Ok(())) => ExitCode::SUCCESS,

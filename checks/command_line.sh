@@ -130,6 +130,66 @@ says() {
     grep -qxhE "$pattern" out said || fail "no line '$pattern' of: $*" out said
 }
 
+# A client that waits: each reply comes before the next record is sent, also where two records come at once, whole or cut.
+check_waiting() {
+    local to from turn
+    printf "$(escaped '80000028 1 0 2 186a3 2 0 0*4')" > null
+    printf "$(escaped '80000018 1 1 0*4')" > reply
+    cat null null > two
+    cat reply reply > owed
+    rm -f to from
+    mkfifo to from
+    env --default-signal=PIPE "$program" rpc < to > from 2> said &
+    exec {to}> to {from}< from
+    for ((turn = 0; turn < 3; turn++)); do
+        cat null >&"$to"
+        timeout 20 head -c 28 <&"$from" > out || fail 'no reply to a client that waits' said
+        cmp -s out reply || fail 'to a client that waits it wrote' out
+        cat two >&"$to"
+        timeout 20 head -c 56 <&"$from" > out || fail 'no replies to a client that waits' said
+        cmp -s out owed || fail 'to a client that waits it wrote' out
+        { cat null; head -c 7 null; } >&"$to"
+        timeout 20 head -c 28 <&"$from" > out || fail 'no reply before a record that is cut' said
+        cmp -s out reply || fail 'before a record that is cut it wrote' out
+        tail -c +8 null >&"$to"
+        timeout 20 head -c 28 <&"$from" > out || fail 'no reply to a record that was cut' said
+        cmp -s out reply || fail 'to a record that was cut it wrote' out
+    done
+    exec {to}>&- {from}<&-
+    wait $! || fail 'a client that waits, at its end' said
+}
+
+# A call of NULL with zeros behind it, as long as a record can be, as fragments of this size.
+cut_long() {
+    local body='00000001 00000000 00000002 000186a3 00000002 00000000 00000000 00000000 00000000 00000000'
+    awk -v size="$1" -v hex="${body// /}" 'BEGIN {
+        while (length(hex) < 2 * 12288) hex = hex "00"
+        for (at = 0; at < 12288; at += size) {
+            left = 12288 - at
+            len = left < size ? left : size
+            text = sprintf("%s%06x", len == left ? "80" : "00", len) substr(hex, 2 * at + 1, 2 * len)
+            gsub(/../, "\\x&", text)
+            printf "%s", text
+        }
+    }'
+}
+
+# It has the same reply whole and cut into fragments of any size, by itself and between records that stand whole.
+check_fragments() {
+    local size
+    printf "$(cut_long 12288)" > in
+    [ "$(wc -c < in)" -eq 12292 ] || fail 'a record of 12,288 bytes was cut wrongly' in
+    run 0 rpc
+    [ -s out ] || fail 'a record of 12,288 bytes has no reply'
+    cat reply out reply out reply > owed
+    for size in 1 2 3 4 5 7 16 39 40 41 255 256 4096 8191 8192 12287 12288; do
+        printf "$(cut_long $size)" > long
+        cat null long null long null > in
+        run 0 rpc
+        cmp -s out owed || fail "fragments of $size bytes: it wrote" out
+    done
+}
+
 check_words() {
     : > in
     run 0 rpc --
@@ -207,6 +267,8 @@ for program in "${made[@]}"; do
     check_streams
     check_cuts
     check_many_records
+    check_waiting
+    check_fragments
     check_words
     check_devices
 done

@@ -2,7 +2,7 @@
 
 use crate::texts::Stream;
 use console::run_rpc;
-use rpc::{Counting, RecordFault, RecordReader};
+use rpc::{Ahead, Counting, RecordFault, RecordReader};
 use std::alloc::Global;
 use std::io;
 use std::io::{ErrorKind, Read, Write};
@@ -43,6 +43,18 @@ impl Read for SlowReader<'_> {
         self.bytes = rest;
         Ok(1)
     }
+}
+
+impl Ahead for SlowReader<'_> {
+    ghost use Rattle.std.specs.Prelude.{[]};
+
+    ghost ahead = { λ _. [] };
+
+    fn at_hand(&self) -> &[u8] {
+        &[]
+    }
+
+    fn pass(&mut self, _amount: usize) {}
 }
 
 /// How a call of a writer fails.
@@ -147,6 +159,12 @@ fn a_failed_write_ends_the_stream(rt: HostRuntime) -> Result<(), Fail> {
                 reader.get_ref().count() == 0 && writer.count() == 1,
                 "after {written}"
             );
+            let taken = input.ends[output.count_within(written).min(3)];
+            let left = reader.get_ref().get_ref().len();
+            assert!(rt;
+                input.bytes.len().checked_sub(taken) == Some(left),
+                "after {written}"
+            );
         }
     }
     Ok(())
@@ -157,10 +175,24 @@ fn a_failed_write_ends_the_stream(rt: HostRuntime) -> Result<(), Fail> {
 fn a_reply_is_one_write(rt: HostRuntime) -> Result<(), Fail> {
     let input = Stream::of_calls(rt.alloc())?;
     let output = Stream::of_replies(rt.alloc())?;
-    let mut reader = RecordReader::new(Counting::new(input.bytes.as_slice()));
+    let mut reader = RecordReader::new(Counting::new(SlowReader::new(&input.bytes, 0)));
     let mut writer = Counting::new(SlowWriter::new(rt.alloc(), usize::MAX, 0, Refusal::Error));
     let done = run_rpc(rt.alloc(), &mut reader, &mut writer);
     assert!(rt; done == Ok(4) && writer.get_ref().calls == 4);
+    assert!(rt; writer.get_ref().taken.as_slice() == output.bytes.as_slice());
+    Ok(())
+}
+
+/// What is owed to records at hand goes out together: the first two are read by themselves, since the second
+/// is in two fragments.
+#[test]
+fn replies_to_records_at_hand_are_one_write(rt: HostRuntime) -> Result<(), Fail> {
+    let input = Stream::of_calls(rt.alloc())?;
+    let output = Stream::of_replies(rt.alloc())?;
+    let mut reader = RecordReader::new(Counting::new(input.bytes.as_slice()));
+    let mut writer = Counting::new(SlowWriter::new(rt.alloc(), usize::MAX, 0, Refusal::Error));
+    let done = run_rpc(rt.alloc(), &mut reader, &mut writer);
+    assert!(rt; done == Ok(4) && writer.get_ref().calls == 3);
     assert!(rt; writer.get_ref().taken.as_slice() == output.bytes.as_slice());
     Ok(())
 }

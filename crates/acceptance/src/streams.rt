@@ -5,6 +5,7 @@ use crate::words::bytes;
 use console::{Service, run_rpc};
 use nfs_types::Time;
 use rpc::{Counting, MAX_RECORD, RecordFault, RecordReader};
+use std::io::BufReader;
 use std::test::Fail;
 
 /// Each record is answered, and what stands behind them decides how the stream ends.
@@ -41,6 +42,25 @@ fn many_records_are_answered(rt: HostRuntime) -> Result<(), Fail> {
     let mut writer = Counting::new(Vec::new(rt.alloc()));
     let done = run_rpc(rt.alloc(), &mut reader, &mut writer);
     assert!(rt; done == Ok(20_000) && writer.get_ref().as_slice() == owed.as_slice());
+    Ok(())
+}
+
+/// The replies are the same, however much is read ahead.
+#[test]
+fn records_are_answered_however_they_are_read(rt: HostRuntime) -> Result<(), Fail> {
+    let input = Stream::of_calls(rt.alloc())?;
+    let owed = Stream::of_replies(rt.alloc())?;
+    for read_ahead in 1..input.bytes.len() + 2 {
+        let Ok(buffered) = BufReader::with_capacity(rt.alloc(), read_ahead, input.bytes.as_slice())
+        else {
+            return Err("no memory".into());
+        };
+        let mut reader = RecordReader::new(Counting::new(buffered));
+        let mut writer = Counting::new(Vec::new(rt.alloc()));
+        let done = run_rpc(rt.alloc(), &mut reader, &mut writer);
+        let is_owed = writer.get_ref().as_slice() == owed.bytes.as_slice();
+        assert!(rt; done == Ok(4) && is_owed, "{read_ahead} bytes ahead");
+    }
     Ok(())
 }
 

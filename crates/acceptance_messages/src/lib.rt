@@ -4,6 +4,8 @@
 #[cfg(test)]
 mod acks;
 #[cfg(test)]
+mod hostile;
+#[cfg(test)]
 mod lookups;
 #[cfg(test)]
 mod messages;

@@ -76,3 +76,10 @@ pub fn ack_text(alloc: Global, sender: &Sender, number: u64) -> Result<Vec<u8>, 
     }
     Ok(text)
 }
+
+/// Changes these bits of a text's byte, where it has one there.
+pub fn flip(text: &mut [u8], place: usize, bits: u8) {
+    if let Some(byte) = text.get_mut(place) {
+        *byte ^= bits;
+    }
+}

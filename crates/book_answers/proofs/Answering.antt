@@ -18,9 +18,9 @@ use Rattle.envelopes.specs.Acknowledgement.{acked_message}
 use Rattle.envelopes.specs.declared.envelope.Envelope.{Envelope}
 use Rattle.envelopes.specs.declared.acknowledgement.Ack.{Ack}
 use Rattle.envelopes.specs.declared.message.Message.{Message}
-use Rattle.honest_logs.specs.Signing.{is_same}
-use Rattle.replay_spec.proofs.Signed.{list_same}
-use Rattle.evidence_spec.specs.Showing.{IsAmong}
+use Rattle.book_spec.specs.Signing.{is_same}
+use Rattle.authenticator.proofs.Signed.{list_same}
+use Rattle.book_spec.specs.Showing.{IsAmong}
 use Rattle.book_spec.specs.Refusals.{NotAsked, BadSignature}
 use Rattle.book_spec.specs.Events.{PublicKey, Event}
 use Rattle.book_spec.specs.Events as events

@@ -11,15 +11,18 @@ use Rattle.log_entries.specs.declared.entry.Entry.{Entry}
 use Rattle.log_entries.specs.declared.entry.Entry.TheVariants.{Clock}
 use Rattle.secure_log.specs.Segment.{SegmentParts, ClosedParts}
 use Rattle.envelopes.specs.declared.envelope.Envelope.{Envelope}
-use Rattle.honest_logs.specs.State.{State, opening_client}
-use Rattle.honest_logs.specs.StateSteps.{having_read}
-use Rattle.honest_logs.specs.Steps.{time_of}
-use Rattle.honest_logs.specs.Stepping.{BadForm}
-use Rattle.honest_logs.specs.Replay.{Sound, Fault}
-use Rattle.evidence_spec.specs.Showing.{authenticator_showing}
-use Rattle.evidence_spec.specs.Evidence.{Fork, Replay, EvidenceParts}
-use Rattle.book_spec.specs.Events.{PublicKey, JobParts, DoneParts}
+use Rattle.book_spec.specs.State.{State, opening_client}
+use Rattle.book_spec.specs.StateSteps.{having_read}
+use Rattle.book_spec.specs.Stepping.{BadForm}
+use Rattle.book_spec.specs.Replay.{Sound, Fault}
+use Rattle.book_spec.specs.Showing.{authenticator_showing}
+use Rattle.book_spec.specs.Evidence.{Fork, Replay, EvidenceParts}
+use Rattle.book_spec.specs.Refusals.{UnknownNode, Garbage, NothingToAudit}
+use Rattle.book_spec.specs.Events.{PublicKey, JobParts, DoneParts, ItsIndication}
+use Rattle.book_spec.specs.Events as events
 use Rattle.book_spec.specs.Replies.{Noted, Opened, Accepted, Asked, Job, Filed, Returned}
+use Rattle.book_spec.specs.Replies.{Told, Refused, Trusted}
+use Rattle.book_spec.specs.Histories.{History}
 use Rattle.book_spec.specs.Steps.{Learn, SendChallenge, Answer, Audit, Begin, File, PutBack, Past}
 
 -- the client that is watched, its key, and another
@@ -104,7 +107,7 @@ abbrev pub job : (number : ℕ) → JobParts
 job number = record { node = 5; number = number; state = opening_client 5; segment = closed }
 
 abbrev pub state_read : State
-state_read = having_read (opening_client 5) (time_of 1 0)
+state_read = having_read (opening_client 5) (record { seconds = 1; microseconds = 0 })
 
 abbrev pub done : (number : ℕ) → DoneParts
 done number = record { job = job number; verdict = Sound state_read [] }
@@ -167,3 +170,16 @@ fault_at_one = record { node = 5; charge = Replay no_segment }
 abbrev pub challenged : ℕ → Past
 challenged zero = []
 challenged (suc n) = (SendChallenge (sent (n + 1)), Opened) ∷ challenged n
+
+-- so many authenticators of it were learned, of the numbers from 1 on
+abbrev pub learned_to : ℕ → Past
+learned_to zero = []
+learned_to (suc n) = (Learn (learned (suc n) one_hash), Noted) ∷ learned_to n
+
+-- ---- a history
+
+-- no bytes; an audit of a stranger, and of the client, of which nothing was learned; and what is said of it
+abbrev pub some_events : History
+some_events =
+    (events.Ask 5 ItsIndication, Told Trusted) ∷ (events.Audit 5, Refused NothingToAudit)
+    ∷ (events.Audit 6, Refused UnknownNode) ∷ (events.Deliver [], Refused Garbage) ∷ []

@@ -1,7 +1,8 @@
 //! Each refusal, with a history that reaches it.
 
-ghost use Rattle.std.specs.Prelude.{◌≡◌, false, [], ◌∷◌, Ok, Err};
-ghost use Rattle.book_spec.specs.Refusals.{UnknownNode, Garbage, BadSignature, ChallengesFull, OutboxFull};
+ghost use Rattle.std.specs.Prelude.{◌≡◌, ◌<◌, ℕ, suc, false, [], ◌∷◌, Ok, Err};
+ghost use Rattle.book_spec.specs.Refusals.{UnknownNode, Garbage, BadSignature, LearnedFull, ChallengesFull};
+ghost use Rattle.book_spec.specs.Refusals.{OutboxFull};
 ghost use Rattle.book_spec.specs.Refusals.{TooFar, NothingToAudit, Busy, NotAsked, NoJob, WrongJob, BookFull};
 ghost use Rattle.book_spec.specs.Events as events;
 ghost use Rattle.book_spec.specs.Replies.{Noted, Refused, FileRefused, PutBackRefused, Asked};
@@ -11,6 +12,7 @@ ghost use Rattle.book_spec.specs.Owing.{ask_reply, Owes};
 ghost use Rattle.envelopes.specs.declared.acknowledgement.Ack.{Ack};
 ghost use Rattle.book_examples.specs.Worked.{five, its_key, other_key, learned, sent, one_hash, learned_two};
 ghost use Rattle.book_examples.specs.Worked.{closed, wanted, given, job, done, out_one, out_two, challenged};
+ghost use Rattle.book_examples.specs.Worked.{learned_to};
 
 /// By event and roster alone: a stranger's value, a value that was checked under another key, a segment that
 /// was checked under another roster, no bytes, a job of a stranger.
@@ -51,4 +53,10 @@ pub fn audits_and_jobs()
     ensures no_job { Owes [] five given (File (done 1)) (FileRefused NoJob (done 1)) }
     ensures no_job_back { Owes [] five given (PutBack (job 1)) (PutBackRefused NoJob (job 1)) }
     ensures other_job { Owes [] five out_two (PutBack (job 1)) (PutBackRefused WrongJob (job 1)) }
+{}
+
+/// Of authenticators with rising numbers 256 are noted, one after the other; the next is refused.
+pub fn as_many_as_are_kept()
+    ensures noted { (n : ℕ) → n < 256 → Owes [] five (learned_to n) (Learn (learned (suc n) one_hash)) Noted }
+    ensures full { Owes [] five (learned_to 256) (Learn (learned 257 one_hash)) (Refused LearnedFull) }
 {}

@@ -14,13 +14,15 @@ ghost use Rattle.book_spec.specs.Replies.{Forwarded, Empty, Told, OpenList, Evid
 ghost use Rattle.book_spec.specs.Replies.{Trusted, Suspected, Exposed};
 ghost use Rattle.book_spec.specs.Steps.{Learn, SendChallenge, Answer, AckIn, Audit, Begin, File, PutBack};
 ghost use Rattle.book_spec.specs.Steps.{Forward, Ask, Past};
-ghost use Rattle.honest_logs.specs.State.{opening_client};
+ghost use Rattle.book_spec.specs.State.{opening_client};
 ghost use Rattle.book_spec.specs.Standing.{end_of, outbox};
 ghost use Rattle.book_spec.specs.Owing.{Owes};
+ghost use Rattle.book_spec.specs.Histories.{IsHistory};
 ghost use Rattle.book_examples.specs.Worked.{five, learned, sent, one_hash, other_hash, learned_one};
 ghost use Rattle.book_examples.specs.Worked.{learned_two, fork_at_three, read_hash, closed, known, wanted};
 ghost use Rattle.book_examples.specs.Worked.{given, job, done, out_one, put_back, out_two, filed_two};
 ghost use Rattle.book_examples.specs.Worked.{state_read, no_out, no_done, no_filed, fault_at_one};
+ghost use Rattle.book_examples.specs.Worked.{some_events};
 
 /// An authenticator is learned twice: Noted, Already. Another hash at its number: Noted, and the node is
 /// Exposed, by a fork of the two; from then on every one is Noted.
@@ -81,7 +83,7 @@ pub fn the_oldest_is_forwarded()
 
 /// A segment that is filed Sound moves the end to its last number, with the state there, and the node is
 /// Trusted; what was learned up to there is kept no more.
-#[tactic(auto, unfolding(replay_spec::specs::Stepping::step))]
+#[tactic(auto, unfolding(book_spec::specs::Stepping::step))]
 pub fn sound_segments_move_the_end()
     ensures end { end_of [] five filed_two ≡ record { number = 1; state = state_read } }
     ensures trusted { Owes [] five filed_two (Ask ItsIndication) (Told Trusted) }
@@ -89,11 +91,17 @@ pub fn sound_segments_move_the_end()
 {}
 
 /// A segment that isn't honest exposes the node when it is filed, by a replay from the first entry on.
-#[tactic(auto, unfolding(replay_spec::specs::Stepping::step))]
+#[tactic(auto, unfolding(book_spec::specs::Stepping::step))]
 pub fn faults_expose()
     ensures filed { Owes [] five no_out (File no_done) Filed }
     ensures exposed { Owes [] five no_filed (Ask ItsIndication) (Told Exposed) }
     ensures evidence { Owes [] five no_filed (Ask ItsEvidence) (EvidenceIs (Some fault_at_one)) }
     ensures end { end_of [] five no_filed ≡ record { number = 0; state = opening_client 5 } }
     ensures nothing { Owes [] five no_filed Audit (Refused NothingToAudit) }
+{}
+
+/// Events of a roster with the replies that are owed to them are a history: what is nobody's step among them.
+#[tactic(auto, unfolding(packets::specs::Judging::judged, packets::specs::Packet::delivery_of, xdr::specs::Reading::number_at))]
+pub fn histories_are_possible()
+    ensures { IsHistory (five ∷ []) (some_events) }
 {}

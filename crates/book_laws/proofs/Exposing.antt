@@ -5,14 +5,14 @@ use Rattle.std.proofs.Common.{[], ◌∷◌, ◌++◌, Option, Some, None, refl,
 use Rattle.std.proofs.Common.{append_assoc}
 use Rattle.std.proofs.lemmas.Bool.{and_parts, and_from, or_cases, or_left, or_right, true≢false}
 use Rattle.authenticator.specs.declared.member.Member.{Member}
-use Rattle.honest_logs.specs.State.{State}
-use Rattle.honest_logs.specs.Signing.{is_same}
-use Rattle.honest_logs.specs.Placed.{placed_in}
-use Rattle.honest_logs.specs.Replay.{Honest, Verdict, Sound, Fault, segment_verdict}
-use Rattle.replay_spec.proofs.Signed.{same_list, list_same}
-use Rattle.replay_spec.proofs.Runs.{sound, is_sound}
+use Rattle.book_spec.specs.State.{State}
+use Rattle.book_spec.specs.Signing.{is_same}
+use Rattle.book_spec.specs.Placed.{placed_in}
+use Rattle.book_spec.specs.Replay.{Honest, Verdict, Sound, Fault, segment_verdict}
+use Rattle.authenticator.proofs.Signed.{same_list, list_same}
+use Rattle.book_spec.proofs.Runs.{sound, is_sound}
 use Rattle.secure_log.specs.Segment.{SegmentParts}
-use Rattle.evidence_spec.specs.Showing.{IsAmong}
+use Rattle.book_spec.specs.Showing.{IsAmong}
 use Rattle.book_spec.specs.Events.{JobParts}
 use Rattle.book_spec.specs.Replies.{Reply, Challenge, Suspected, Exposed}
 use Rattle.book_spec.specs.Steps.{Step, Past}

@@ -1,0 +1,1 @@
+pub use Rattle.evidence_spec.proofs.Runs

@@ -9,8 +9,8 @@ use Rattle.envelopes.specs.declared.envelope.Envelope.{Envelope}
 use Rattle.envelopes.specs.declared.acknowledgement.Ack.{Ack}
 use Rattle.envelopes.specs.Envelope.{envelope_item, envelope_value, envelope_shows}
 use Rattle.envelopes.specs.Acknowledgement.{ack_item, ack_value, ack_shows}
-use Rattle.honest_logs.specs.State.{State}
-use Rattle.honest_logs.specs.Replay.{Verdict, segment_verdict}
+use Rattle.evidence_spec.specs.State.{State}
+use Rattle.evidence_spec.specs.Replay.{Verdict, segment_verdict}
 
 -- a node's public key: the root of its tree of keys, and that tree's height
 pub record PublicKey : Type 0 where

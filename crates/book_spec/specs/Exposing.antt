@@ -5,7 +5,7 @@ use Rattle.authenticator.specs.declared.authenticator.Authenticator.{Authenticat
 use Rattle.authenticator.specs.declared.member.Member.{Member}
 use Rattle.log_entries.specs.Chain.{zeros}
 use Rattle.secure_log.specs.Segment.{SegmentParts, ClosedParts, segment_pairs}
-use Rattle.honest_logs.specs.Replay.{Verdict, Sound, Fault}
+use Rattle.evidence_spec.specs.Replay.{Verdict, Sound, Fault}
 use Rattle.evidence_spec.specs.Showing.{ShowingParts, authenticator_showing, segment_showing}
 use Rattle.evidence_spec.specs.Evidence.{Charge, Fork, Replay, EvidenceParts}
 use Rattle.book_spec.specs.Events.{JobParts}

@@ -15,11 +15,11 @@ use Rattle.envelopes.specs.Envelope.{envelope_message}
 use Rattle.envelopes.specs.Acknowledgement.{acked_message}
 use Rattle.envelopes.specs.declared.envelope.Envelope.{Envelope}
 use Rattle.envelopes.specs.declared.acknowledgement.Ack.{Ack}
-use Rattle.honest_logs.specs.State.{State}
-use Rattle.honest_logs.specs.Opening.{opening_of}
-use Rattle.honest_logs.specs.Placed.{placed_in}
-use Rattle.honest_logs.specs.Replay.{Honest}
-use Rattle.honest_logs.specs.HonestLogs.{IsHonestLog}
+use Rattle.evidence_spec.specs.State.{State}
+use Rattle.evidence_spec.specs.Opening.{opening_of}
+use Rattle.evidence_spec.specs.Placed.{placed_in}
+use Rattle.evidence_spec.specs.Replay.{Honest}
+use Rattle.evidence_spec.specs.HonestLogs.{IsHonestLog}
 use Rattle.evidence_spec.specs.Showing.{IsAmong}
 use Rattle.evidence_spec.specs.Evidence.{EvidenceParts, evidence_item, evidence_value, Accepts}
 use Rattle.evidence_spec.specs.Proving.{IsLog, Proves}

@@ -1,3 +1,14 @@
+pub use Rattle.evidence_spec.specs.State
+pub use Rattle.evidence_spec.specs.StateSteps
+pub use Rattle.evidence_spec.specs.Signing
+pub use Rattle.evidence_spec.specs.Opening
+pub use Rattle.evidence_spec.specs.Placed
+pub use Rattle.evidence_spec.specs.Stepping
+pub use Rattle.evidence_spec.specs.Replay
+pub use Rattle.evidence_spec.specs.HonestLogs
+pub use Rattle.evidence_spec.specs.Showing
+pub use Rattle.evidence_spec.specs.Evidence
+pub use Rattle.evidence_spec.specs.Proving
 pub mod Refusals
 pub mod Events
 pub mod Replies

@@ -4,7 +4,7 @@ use Rattle.std.specs.Prelude.{if◌then◌else◌}
 use Rattle.std.specs.List.{list_any}
 use Rattle.log_entries.specs.Chain.{zeros}
 use Rattle.authenticator.specs.declared.authenticator.Authenticator.{Authenticator}
-use Rattle.honest_logs.specs.Signing.{is_same}
+use Rattle.evidence_spec.specs.Signing.{is_same}
 
 abbrev pub Pair : Type 0
 Pair = ℕ × List ℕ

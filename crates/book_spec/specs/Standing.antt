@@ -14,10 +14,10 @@ use Rattle.secure_log.specs.Segment.{SegmentParts, ClosedParts, segment_pairs}
 use Rattle.envelopes.specs.Envelope.{envelope_message}
 use Rattle.envelopes.specs.Acknowledgement.{acked_message}
 use Rattle.envelopes.specs.declared.message.Message.{Message}
-use Rattle.honest_logs.specs.State.{State}
-use Rattle.honest_logs.specs.Opening.{opening_of}
-use Rattle.honest_logs.specs.Signing.{is_same}
-use Rattle.honest_logs.specs.Replay.{Verdict, Sound, Fault, segment_verdict}
+use Rattle.evidence_spec.specs.State.{State}
+use Rattle.evidence_spec.specs.Opening.{opening_of}
+use Rattle.evidence_spec.specs.Signing.{is_same}
+use Rattle.evidence_spec.specs.Replay.{Verdict, Sound, Fault, segment_verdict}
 use Rattle.book_spec.specs.Events.{JobParts}
 use Rattle.book_spec.specs.Replies.{Reply, Challenge, AuditOf, SendOf}
 use Rattle.book_spec.specs.Replies.{Indication, Trusted, Suspected, Exposed}

@@ -3,7 +3,7 @@ use Rattle.std.specs.Prelude.{Bool, true, false, ◌==◌, ◌&&◌, List, [], �
 use Rattle.std.specs.Prelude.{Result, Ok, Err, if◌then◌else◌}
 use Rattle.authenticator.specs.Roster.{member_of, kind_number}
 use Rattle.authenticator.specs.declared.member.Member.{Member}
-use Rattle.honest_logs.specs.Signing.{is_same}
+use Rattle.evidence_spec.specs.Signing.{is_same}
 use Rattle.packets.specs.Packet.{Delivery}
 use Rattle.packets.specs.Packet as packets
 use Rattle.packets.specs.Judging.{judged}

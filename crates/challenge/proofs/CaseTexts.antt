@@ -10,7 +10,7 @@ use Rattle.xdr_texts.specs.Text.{IsText, GivesText, text_at}
 use Rattle.xdr_texts.proofs.WholeTexts.{is_text}
 use Rattle.authenticator.specs.declared.member.Member.{Member}
 use Rattle.authenticator.specs.Roster.{IsRoster, roster_item, roster_value, rises_above}
-use Rattle.evidence_spec.specs.Evidence.{evidence_item}
+use Rattle.showings.specs.Evidence.{evidence_item}
 use Rattle.challenge.specs.declared.case.Case.{Case}
 use Rattle.challenge.specs.declared.fault.EvidenceFault.{EvidenceFault}
 use Rattle.challenge.specs.FaultNumbers.{is_garbage}

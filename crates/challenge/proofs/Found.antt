@@ -5,15 +5,15 @@ use Rattle.std.specs.Prelude.{◌↔◌, IsTrue, IfOk}
 use Rattle.authenticator.specs.declared.member.Member.{Member}
 use Rattle.log_entries.specs.Chain.{zeros}
 use Rattle.secure_log.specs.Segment.{SegmentParts}
-use Rattle.honest_logs.specs.Placed.{placed_in}
-use Rattle.honest_logs.specs.Opening.{opening_of}
-use Rattle.honest_logs.specs.Replay.{verdict_of}
+use Rattle.showings.specs.Placed.{placed_in}
+use Rattle.showings.specs.Opening.{opening_of}
+use Rattle.showings.specs.Replay.{verdict_of}
 use Rattle.replay.specs.Verdicts.{verdict_in}
 use Rattle.replay.specs.Faults.{fault_in}
 use Rattle.replay.specs.declared.verdict.Verdict.{Verdict}
 use Rattle.replay.specs.declared.verdict.Verdict.TheVariants as verdicts
-use Rattle.evidence_spec.specs.Showing.{ShowingParts, IsClosedShowing, Shows}
-use Rattle.evidence_spec.specs.Evidence.{Charge, Fork, Replay, EvidenceParts, AcceptsFork, AcceptsReplay, AcceptsCharge, Accepts}
+use Rattle.showings.specs.Showing.{ShowingParts, IsClosedShowing, Shows}
+use Rattle.showings.specs.Evidence.{Charge, Fork, Replay, EvidenceParts, AcceptsFork, AcceptsReplay, AcceptsCharge, Accepts}
 use Rattle.challenge.specs.declared.finding.Finding.{Finding}
 use Rattle.challenge.specs.declared.finding.Finding.TheVariants as found
 use Rattle.challenge.specs.declared.finding.NotAccepted.{NotAccepted}

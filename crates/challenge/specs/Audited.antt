@@ -5,7 +5,7 @@ use Rattle.xdr.specs.Item.{Fits}
 use Rattle.log_entries.specs.declared.entry.Entry.{Entry}
 use Rattle.log_entries.specs.Entry.{entry_item, entry_value}
 use Rattle.secure_log.specs.Segment.{SegmentParts}
-use Rattle.evidence_spec.specs.Evidence.{audited_item, audited_value}
+use Rattle.showings.specs.Evidence.{audited_item, audited_value}
 
 -- An audited log has a text.
 abbrev pub HasText : SegmentParts → Type 0

@@ -2,7 +2,7 @@
 use Rattle.xdr.specs.Item.{Item, Value, pair}
 use Rattle.xdr_texts.specs.Text.{Text}
 use Rattle.authenticator.specs.Roster.{roster_item, roster_value, rises_above}
-use Rattle.evidence_spec.specs.Evidence.{evidence_item, evidence_value}
+use Rattle.showings.specs.Evidence.{evidence_item, evidence_value}
 use Rattle.challenge.specs.declared.case.Case.{Case}
 
 -- a case in a text (RFC 4506): the roster, and behind it the evidence

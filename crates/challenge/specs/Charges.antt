@@ -1,6 +1,6 @@
 -- What evidence in memory says.
-use Rattle.evidence_spec.specs.Evidence.{ForkParts}
-use Rattle.evidence_spec.specs.Evidence as spec
+use Rattle.showings.specs.Evidence.{ForkParts}
+use Rattle.showings.specs.Evidence as spec
 use Rattle.challenge.specs.declared.evidence.Fork.{Fork}
 use Rattle.challenge.specs.declared.evidence.Charge.{Charge}
 use Rattle.challenge.specs.declared.evidence.Charge.TheVariants as charges

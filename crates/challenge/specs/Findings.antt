@@ -6,18 +6,18 @@ use Rattle.authenticator.specs.Signed.{IsSignedIn}
 use Rattle.log_entries.specs.Chain.{zeros}
 use Rattle.secure_log.specs.Segment.{SegmentParts, IsClosed}
 use Rattle.secure_log.specs.Segment as segments
-use Rattle.honest_logs.specs.Replay.{Fault, verdict_of}
-use Rattle.honest_logs.specs.Stepping as spec
-use Rattle.honest_logs.specs.Placed.{placed_in}
-use Rattle.honest_logs.specs.Opening.{opening_of}
+use Rattle.showings.specs.Replay.{Fault, verdict_of}
+use Rattle.showings.specs.Stepping as spec
+use Rattle.showings.specs.Placed.{placed_in}
+use Rattle.showings.specs.Opening.{opening_of}
 use Rattle.replay.specs.Faults.{fault_in}
 use Rattle.replay.specs.declared.fault.ReplayFault.{ReplayFault}
 use Rattle.replay.specs.declared.verdict.Verdict.{Verdict}
 use Rattle.replay.specs.declared.verdict.Verdict.TheVariants as verdicts
 use Rattle.showings.specs.Showings.{Ends}
-use Rattle.evidence_spec.specs.Showing.{ShowingParts, IsClosedShowing, Shows}
-use Rattle.evidence_spec.specs.Evidence.{Charge, Fork, Replay, EvidenceParts}
-use Rattle.evidence_spec.specs.Evidence.{ShowsTwo, ShowsNoOpening, AcceptsReplay}
+use Rattle.showings.specs.Showing.{ShowingParts, IsClosedShowing, Shows}
+use Rattle.showings.specs.Evidence.{Charge, Fork, Replay, EvidenceParts}
+use Rattle.showings.specs.Evidence.{ShowsTwo, ShowsNoOpening, AcceptsReplay}
 use Rattle.challenge.specs.declared.finding.Finding.{Finding}
 use Rattle.challenge.specs.declared.finding.Finding.TheVariants as found
 use Rattle.challenge.specs.declared.finding.NotAccepted.{NotAccepted}
@@ -32,7 +32,8 @@ is_accepted (found.NotAccepted reason) = false
 -- ---- what is accepted shows
 
 -- Two showings are accepted with these two hashes at a number.
-pub record AcceptsTwo (ms : List Member) (node at : ℕ) (a b : ShowingParts) (one other : List ℕ) : Type 0 where
+pub record AcceptsTwo (ms : List Member) (node at : ℕ) (a b : ShowingParts) (one other : List ℕ)
+    : Type 0 where
   pub accepted : ShowsTwo ms node at a b
   pub is_one : accepted.one ≡ one
   pub is_other : accepted.other ≡ other
@@ -104,7 +105,8 @@ LogLacks ms node s reasons.NoFault = HasNoFault ms node s
 
 -- what is found in a fork
 abbrev pub FindsInFork : List Member → (node at : ℕ) → ShowingParts → Option ShowingParts → Finding → Type 0
-FindsInFork ms node fork_at a b (found.TwoHashes at one other) = AcceptsHashes ms node fork_at a b at one other
+FindsInFork ms node fork_at a b (found.TwoHashes at one other) =
+    AcceptsHashes ms node fork_at a b at one other
 FindsInFork ms node fork_at a b (found.Fault fault number) = ⊥
 FindsInFork ms node fork_at a b (found.NotAccepted reason) = ForkLacks ms node fork_at a b reason
 

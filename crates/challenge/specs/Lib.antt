@@ -1,3 +1,5 @@
+pub use Rattle.showings.specs.Proving
+pub use Rattle.showings.specs.Evidence
 pub mod FaultNumbers
 pub mod Audited
 pub mod Charges

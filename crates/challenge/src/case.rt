@@ -4,7 +4,7 @@ ghost use Rattle.std.specs.Prelude.{IfOk, IsTrue};
 ghost use Rattle.xdr.specs.Item.{Fits, spelling};
 ghost use Rattle.xdr.specs.Writing.{Adds, Writes};
 ghost use Rattle.xdr_texts.specs.Text.{GivesText, IsText};
-ghost use Rattle.evidence_spec.specs.Evidence.{evidence_value};
+ghost use Rattle.showings.specs.Evidence.{evidence_value};
 ghost use Rattle.authenticator.specs.Roster.{roster_value};
 ghost use Rattle.challenge.specs.Cases.{case_item, case_text, case_value};
 ghost use Rattle.challenge.specs.FaultNumbers.{is_garbage};
@@ -38,8 +38,8 @@ impl From<ReadError> for EvidenceFault {
     }
 }
 
-/// The case whose text the bytes are, a roster's text with that of evidence behind it. `Garbage` comes exactly
-/// where they are the text of none, `NoMemory` only where a growth was refused.
+/// The case whose text the bytes are, a roster's text with that of evidence behind it. `Garbage` comes
+/// exactly where they are the text of none, `NoMemory` only where a growth was refused.
 pub fn read_case(alloc: Global, bytes: &[u8]) -> Result<Case, EvidenceFault>
     ensures exact { GivesText is_garbage case_text case_value bytes.now result }
     ensures found { IfOk result (λ c. IsText case_text (case_value c) bytes.now) }

@@ -1,18 +1,18 @@
 //! Whether evidence is accepted.
 
 ghost use Rattle.std.specs.Prelude.{◌↔◌, IfOk, IsTrue};
-ghost use Rattle.evidence_spec.specs.Evidence.{Accepts};
-ghost use Rattle.evidence_spec.specs.Proving.{Proves};
+ghost use Rattle.showings.specs.Evidence.{Accepts};
+ghost use Rattle.showings.specs.Proving.{Proves};
 
 use crate::evidence::Evidence;
 use crate::find::examine;
 use authenticator::Roster;
-use evidence_spec::laws::accepted_evidence_proves;
+use showings::evidence_laws::accepted_evidence_proves;
 use std::alloc::{AllocError, Global};
 
-/// Whether evidence is accepted under a roster. Where it is, it proves that no log of the node is honest unless
-/// one of the signatures that it shows is forged or two of the texts that it and the log hash have one digest.
-/// `AllocError` comes only where a growth was refused.
+/// Whether evidence is accepted under a roster. Where it is, it proves that no log of the node is honest
+/// unless one of the signatures that it shows is forged or two of the texts that it and the log hash have one
+/// digest. `AllocError` comes only where a growth was refused.
 pub fn check_evidence(
     alloc: Global,
     roster: &Roster,

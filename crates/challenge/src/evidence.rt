@@ -2,8 +2,8 @@
 
 ghost use Rattle.std.specs.Prelude.{◌≡◌, ◌<◌, ◌^◌};
 ghost use Rattle.xdr.specs.Item.{Fits, choice};
-ghost use Rattle.evidence_spec.specs.Evidence.{evidence_item, evidence_value};
-ghost use Rattle.evidence_spec.specs.Evidence as spec;
+ghost use Rattle.showings.specs.Evidence.{evidence_item, evidence_value};
+ghost use Rattle.showings.specs.Evidence as spec;
 ghost use Rattle.challenge.specs.Charges.{charge_in, fork_in};
 
 use crate::audited::AuditedLog;
@@ -11,8 +11,8 @@ use authenticator::Number;
 use showings::Showing;
 use std::marker::Model;
 
-/// Two hashes at one number: one showing shows each. With one showing alone, it shows another hash than 32 zero
-/// bytes at 0, whatever `at` is.
+/// Two hashes at one number: one showing shows each. With one showing alone, it shows another hash than 32
+/// zero bytes at 0, whatever `at` is.
 #[derive(Drop)]
 pub struct Fork {
     /// The number.
@@ -40,7 +40,7 @@ pub struct Evidence {
 }
 
 impl Model for Evidence {
-    ghost use Rattle.evidence_spec.specs.Evidence.{EvidenceParts};
+    ghost use Rattle.showings.specs.Evidence.{EvidenceParts};
 
     ghost Value = { EvidenceParts };
 

@@ -2,7 +2,7 @@
 
 ghost use Rattle.std.specs.Prelude.{◌≡◌, ◌↔◌, IfErr, IfNone, IfOk, IfSome, IsTrue, None, Some};
 ghost use Rattle.log_entries.specs.Chain.{zeros};
-ghost use Rattle.evidence_spec.specs.Evidence.{Accepts};
+ghost use Rattle.showings.specs.Evidence.{Accepts};
 ghost use Rattle.challenge.specs.Findings.{Finds, FindsInFork, FindsInLog, LogLacks, ShowingLacks};
 ghost use Rattle.challenge.specs.Findings.{IsAudited, IsClosedOf, IsFromStart, finding_in, is_accepted};
 
@@ -14,8 +14,8 @@ use replay::{Verdict, opening_state, replay_entries};
 use showings::{Showing, is_signed_in};
 use std::alloc::{AllocError, Global};
 
-/// What is found in evidence under a roster: with what it is accepted, or the first that it lacks. Closings are
-/// looked at before a log is replayed. `AllocError` comes only where a growth was refused.
+/// What is found in evidence under a roster: with what it is accepted, or the first that it lacks. Closings
+/// are looked at before a log is replayed. `AllocError` comes only where a growth was refused.
 pub fn examine(alloc: Global, roster: &Roster, evidence: &Evidence) -> Result<Finding, AllocError>
     ensures finds { IfOk result (λ finding. Finds roster.now evidence.now finding) }
     ensures exact { IfOk result

@@ -7,8 +7,8 @@ use thiserror::Error;
 /// What evidence shows, if it is accepted; else why it isn't.
 #[derive(Clone, Copy, Debug, PartialEq, Eq)]
 pub enum Finding {
-    /// Two hashes are shown at a number. Where one showing is enough, the number is 0 and the other hash is 32
-    /// zero bytes.
+    /// Two hashes are shown at a number. Where one showing is enough, the number is 0 and the other hash is
+    /// 32 zero bytes.
     TwoHashes {
         at: Number,
         one: [u8; 32],

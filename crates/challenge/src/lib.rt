@@ -10,6 +10,8 @@ mod fault;
 mod find;
 mod finding;
 mod read;
+#[cfg(test)]
+mod tests;
 mod write;
 
 pub use audited::{AuditedLog, MAX_AUDITED};
@@ -23,6 +25,6 @@ pub use fault::EvidenceFault;
 pub use find::examine;
 pub use finding::{Finding, NotAccepted};
 pub use read::read_evidence;
-pub use replay::ReplayFault;
+pub use replay::{ReplayFault, Stage, StateMachine, Verdict, opening_state, replay_entries};
 pub use secure_log::{Body, ClosedSegment, Entry, Log, SignatureText};
 pub use showings::{EntryKind, Showing, ShownLink};

@@ -1,3 +1,4 @@
+pub use Rattle.machines.specs.Steps
 pub use Rattle.state_spec.specs.Codes
 pub use Rattle.machines.specs.Machines
 pub mod Fronts

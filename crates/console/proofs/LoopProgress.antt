@@ -3,7 +3,7 @@
 -- not wholly written (unanswered, leaves_off_answering), memory was refused before the first (nothing_yet, stops_at_once).
 -- Serves: run_rpc (console).
 use Rattle.std.proofs.Common.{◌≡◌, ◌⊎◌, inl, inr, ℕ, ◌+◌, List, [], ◌∷◌, ◌++◌, arith, length, sym, ap, ◌∙◌, refl, length-append, append_assoc, subst}
-use Rattle.std.specs.Prelude.{Option, Some, None, IfSome, Result, Err}
+use Rattle.std.specs.Prelude.{Option, Some, None, IfSome, Err}
 use Rattle.std.specs.Io.KnownBytes.{Consumes, Appends}
 use Rattle.std.proofs.KnownBytes.{Consumes-trans, Consumes-nil, Appends-trans, Appends-nil}
 use Rattle.std.proofs.lemmas.List.{append-nil}
@@ -13,30 +13,15 @@ use Rattle.records.specs.Writing.{WritesFront}
 use Rattle.records.proofs.Streams.{AreRecords-push}
 use Rattle.records.specs.declared.fault.RecordFault.{RecordFault}
 use Rattle.records.specs.declared.fault.RecordFault.TheVariants as faults
-use Rattle.records.specs.Reading.{FailsUnless, StopsAt, TakesToLimit, TakesAll, TakesPart, IsPartOfRecord, fault_after}
-use Rattle.nfs_items.specs.Timeval.{Timeval}
+use Rattle.records.specs.Reading.{Fails, StopsAt, TakesToLimit, TakesAll, TakesPart, IsPartOfRecord, fault_after}
 use Rattle.worlds.specs.World.{World, opening_world}
 use Rattle.service.specs.Replies.{reply_owed, world_after}
-use Rattle.service.specs.Owed.{record_of, replies_owed, world_after_all}
+use Rattle.service.specs.Owed.{record_of, world_after_all}
+use Rattle.console.specs.Batches.{owed_from, world_from, AnswersRecords, AnswersAndStops, StopsBehind}
+use Rattle.console.proofs.InTurn.{owed_from-push, world_from-push, owed_from-append, world_from-append, AreRecords-append}
 use Rattle.console.specs.RunRpc.{time_of, with_times, text_owed, Serves, ServesUpTo, ServesPart, EndsWith, StopsBetweenRecords, StopsInReply, StopsAfterRecords, LeavesOff}
 
--- ---- one record more: its time, what is owed to it, and the world after it
-
-with_times-push : (k : ℕ) (rs : List (List ℕ)) (r : List ℕ) → with_times k (rs ++ r ∷ []) ≡ with_times k rs ++ (time_of (k + length rs), r) ∷ []
-with_times-push k [] r = let e : k + 0 ≡ k = omega arith in rw e refl
-with_times-push k (s ∷ rs) r =
-    let e : k + length (s ∷ rs) ≡ (k + 1) + length rs = omega arith in rw e (ap (λ (cs : List (Timeval × List ℕ)). (time_of k, s) ∷ cs) (with_times-push (k + 1) rs r))
-
-replies_owed-push : (w : World) (cs : List (Timeval × List ℕ)) (time : Timeval) (r : List ℕ)
-    → replies_owed w (cs ++ (time, r) ∷ []) ≡ replies_owed w cs ++ record_of (reply_owed (world_after_all w cs) time r)
-replies_owed-push w [] time r = append-nil (record_of (reply_owed w time r))
-replies_owed-push w (c ∷ cs) time r =
-    ap (λ (t : List ℕ). record_of (reply_owed w c.0 c.1) ++ t) (replies_owed-push (world_after w c.0 c.1) cs time r)
-    ∙ sym (append_assoc (record_of (reply_owed w c.0 c.1)) (replies_owed (world_after w c.0 c.1) cs) (record_of (reply_owed (world_after_all (world_after w c.0 c.1) cs) time r)))
-
-world_after_all-push : (w : World) (cs : List (Timeval × List ℕ)) (time : Timeval) (r : List ℕ) → world_after_all w (cs ++ (time, r) ∷ []) ≡ world_after (world_after_all w cs) time r
-world_after_all-push w [] time r = refl
-world_after_all-push w (c ∷ cs) time r = world_after_all-push (world_after w c.0 c.1) cs time r
+-- ---- one record more: what is owed to it, and the world after it
 
 -- the world after some records
 abbrev pub world_at : List (List ℕ) → World
@@ -44,11 +29,11 @@ world_at records = world_after_all (opening_world 1) (with_times 1 records)
 
 -- the world after one record more
 pub world_at-push : (rs : List (List ℕ)) (r : List ℕ) → world_at (rs ++ r ∷ []) ≡ world_after (world_at rs) (time_of (1 + length rs)) r
-world_at-push rs r = ap (world_after_all (opening_world 1)) (with_times-push 1 rs r) ∙ world_after_all-push (opening_world 1) (with_times 1 rs) (time_of (1 + length rs)) r
+world_at-push rs r = world_from-push (opening_world 1) 1 rs r
 
 -- what is owed to one record more stands behind what is owed to those before it
 pub text_owed-push : (rs : List (List ℕ)) (r : List ℕ) → text_owed (rs ++ r ∷ []) ≡ text_owed rs ++ record_of (reply_owed (world_at rs) (time_of (1 + length rs)) r)
-text_owed-push rs r = ap (replies_owed (opening_world 1)) (with_times-push 1 rs r) ∙ replies_owed-push (opening_world 1) (with_times 1 rs) (time_of (1 + length rs)) r
+text_owed-push rs r = owed_from-push (opening_world 1) 1 rs r
 
 -- ---- what the loop has done so far
 
@@ -113,6 +98,22 @@ pushes {now = now} {k = k} {more = more} {r = r} p reads e wrote = record {
   world_is = e ∙ ap (λ (w : World). world_after w (time_of k) r) p.world_is ∙ rw (← p.count_is) (sym (world_at-push p.records r));
   replied = rw (owed_with_record p r _ refl) (Appends-trans _ _ _ _ _ p.replied wrote);
 }
+
+-- some records more were read, and their replies written
+pub answers : {now next : World} {k count : ℕ} {before mid mid' written_before written written' : Option (List ℕ)}
+    → Progress now k before mid written_before written → AnswersRecords now k next count mid mid' written written' → Progress next (k + count) before mid' written_before written'
+answers {now = now} {k = k} p a =
+    let owed : text_owed (p.records ++ a.records) ≡ text_owed p.records ++ owed_from now k a.records = rw (owed_from-append (opening_world 1) 1 p.records a.records, p.count_is, ← p.world_is) refl in
+    let next_is : world_at (p.records ++ a.records) ≡ world_from now k a.records = rw (world_from-append (opening_world 1) 1 p.records a.records, p.count_is, ← p.world_is) refl in
+    record {
+      records = p.records ++ a.records;
+      text = p.text ++ a.text;
+      are_records = AreRecords-append p.text a.text p.records a.records p.are_records a.are_records;
+      count_is = omega (arith, length-append p.records a.records, p.count_is, a.count_is);
+      taken = Consumes-trans _ _ _ _ _ p.taken a.taken;
+      world_is = a.world_is ∙ sym next_is;
+      replied = rw owed (Appends-trans _ _ _ _ _ p.replied a.written);
+    }
 
 -- ---- what was written, where the input is known
 
@@ -200,8 +201,8 @@ unanswered {e = e} {before = before} {written_before = written_before} {written'
 
 -- no record could be read
 pub ends : (e : RecordFault) (now : World) (k : ℕ) (before mid written_before written : Option (List ℕ)) (m n : ℕ) → Progress now k before mid written_before written
-    → FailsUnless e PassesLimit IsUnfinished mid m n → IfSome before (λ input. EndsWith e input written_before written)
-ends faults.NoMemory now k before mid written_before written m n p h = stays now k before mid written_before written p
+    → Fails e PassesLimit IsUnfinished mid m n → IfSome before (λ input. EndsWith e input written_before written)
+ends faults.NoMemory now k before mid written_before written m n p h = absurd h
 ends faults.RecordTooLong now k before mid written_before written m n p h = up_to PassesLimit now k before mid written_before written p h.0
 ends faults.Device now k before mid written_before written m n p h = stops now k before mid written_before written p
 ends faults.EndInRecord now k before mid written_before written m n p h = up_to IsUnfinished now k before mid written_before written p h.0
@@ -246,13 +247,13 @@ stops_after : {now : World} {k : ℕ} {before mid mid' written_before written : 
 stops_after {mid = mid} Takes p h = record { answered = p.records; text = p.text; between = mid; are_records = p.are_records; taken = p.taken; then_takes = h; written = p.replied }
 
 -- no record could be read
-pub leaves_off_reading : {now : World} {k : ℕ} {before mid mid' written_before written : Option (List ℕ)} {failed : Option RecordFault} (e : RecordFault)
-    → Progress now k before mid written_before written → failed ≡ fault_after {A = Unit {0}} None (Err e) → ((e ≡ faults.NoMemory) → mid' ≡ mid) → StopsAt e mid mid'
+pub leaves_off_reading : {now : World} {k : ℕ} {before mid written_before written : Option (List ℕ)} {failed : Option RecordFault} (e : RecordFault) (mid' : Option (List ℕ)) (m n : ℕ)
+    → Progress now k before mid written_before written → failed ≡ fault_after {A = Unit {0}} None (Err e) → Fails e PassesLimit IsUnfinished mid m n → StopsAt e mid mid'
     → LeavesOff e failed before mid' written_before written
-leaves_off_reading faults.NoMemory p f same h = rw (same refl) (stops_between p)
-leaves_off_reading faults.RecordTooLong p f same h = stops_after TakesToLimit p h
-leaves_off_reading faults.Device p f same h = rw f (stops_after (TakesPart IsPartOfRecord) p h)
-leaves_off_reading faults.EndInRecord p f same h = stops_after TakesAll p h
+leaves_off_reading faults.NoMemory mid' m n p f never h = absurd never
+leaves_off_reading faults.RecordTooLong mid' m n p f fails h = stops_after TakesToLimit p h
+leaves_off_reading faults.Device mid' m n p f fails h = rw f (stops_after (TakesPart IsPartOfRecord) p h)
+leaves_off_reading faults.EndInRecord mid' m n p f fails h = stops_after TakesAll p h
 
 -- a record was read and its reply not wholly written
 pub leaves_off_answering : {e : RecordFault} {now : World} {k : ℕ} {before mid mid' written_before written written' : Option (List ℕ)} {more r : List ℕ} (failed : Option RecordFault)
@@ -285,3 +286,34 @@ leaves_off_answering {e = e} {now = now} {k = k} {before = before} {mid' = mid'}
       taken = (with_record p reads).1;
       written = p.replied;
     })
+
+-- ---- records at hand were answered, and then it stopped
+
+-- what was written
+pub stops_behind : {e : RecordFault} {now : World} {k : ℕ} {before mid mid' written_before written written' : Option (List ℕ)} → Progress now k before mid written_before written
+    → AnswersAndStops e now k mid mid' written written' → IfSome before (λ input. EndsWith e input written_before written')
+stops_behind {e = e} {k = k} {before = before} {mid' = mid'} {written_before = written_before} {written' = written'} p a = by e a.stops
+  where
+    q : Progress a.now (k + a.count) before a.between written_before a.written
+    q = answers p a.answers
+
+    by : (e : RecordFault) → StopsBehind e a.now (k + a.count) a.between mid' a.written written' → IfSome before (λ input. EndsWith e input written_before written')
+    by faults.NoMemory same = rw same.1 (stays _ _ _ _ _ _ q)
+    by faults.Device (text, last, is, taken, wrote) = falls_short written' q (record { is_record = is; taken = taken }) wrote
+    by faults.RecordTooLong never = absurd never
+    by faults.EndInRecord never = absurd never
+
+-- what was taken
+pub leaves_off_behind : {e : RecordFault} {now : World} {k : ℕ} {before mid mid' written_before written written' : Option (List ℕ)} (failed : Option RecordFault) → failed ≡ None
+    → Progress now k before mid written_before written → AnswersAndStops e now k mid mid' written written' → LeavesOff e failed before mid' written_before written'
+leaves_off_behind {e = e} {k = k} {before = before} {mid' = mid'} {written_before = written_before} {written' = written'} failed fresh p a = by e a.stops
+  where
+    q : Progress a.now (k + a.count) before a.between written_before a.written
+    q = answers p a.answers
+
+    by : (e : RecordFault) → StopsBehind e a.now (k + a.count) a.between mid' a.written written' → LeavesOff e failed before mid' written_before written'
+    by faults.NoMemory same = rw (same.0, same.1) (stops_between q)
+    by faults.Device (text, last, is, taken, wrote) =
+        leaves_off_answering failed q (record { is_record = is; taken = taken }) (record { device = λ d. wrote; memory = λ m. absurd cc; is_either = inl refl }) fresh
+    by faults.RecordTooLong never = absurd never
+    by faults.EndInRecord never = absurd never

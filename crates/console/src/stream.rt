@@ -1,55 +1,32 @@
 //! Records in, replies out.
 
-ghost use Rattle.std.specs.Prelude.{◌≡◌, ◌≤◌, ◌⊎◌, length, IfOk, IfErr, OnOk, IsErrOf, IfSome, None};
-ghost use Rattle.std.specs.Option.{option_map};
+ghost use Rattle.std.specs.Prelude.{◌≡◌, ◌<◌, ◌≤◌, ◌+◌, ◌^◌, ◌⊎◌, IfOk, IfErr, OnOk, IsErrOf, IfSome, None};
+ghost use Rattle.std.specs.Prelude.{vec_capacity};
 ghost use Rattle.std.specs.Io.KnownBytes.{Appends, IsAtEnd};
-ghost use Rattle.records.specs.Count.{Rises, CountsErr};
-ghost use Rattle.records.specs.Writing.{WritesPart, WritesFront};
-ghost use Rattle.records.specs.declared.record.TheConstants.{MAX_RECORD};
+ghost use Rattle.records.specs.Count.{Rises};
+ghost use Rattle.records.specs.Writing.{WritesFront};
 ghost use Rattle.service.specs.Replies.{reply_owed, world_after};
 ghost use Rattle.service.specs.Owed.{record_of};
 ghost use Rattle.records.specs.declared.fault.RecordFault.TheVariants.{Device, NoMemory};
-ghost use Rattle.console.specs.RunRpc.{time_of, Serves, EndsWith, LeavesOff, StandsAfter};
+ghost use Rattle.console.specs.RunRpc.{Serves, EndsWith, LeavesOff, StandsAfter};
+ghost use Rattle.console.specs.Batches.{AnswersRecords, AnswersAndStops};
 
+use crate::batch::{Batch, MOST_RECORDS, answer_record, time_of_record};
 use nfs_types::Time;
-use rpc::{Counting, RecordFault, RecordReader, write_record};
+use rpc::{Ahead, Counting, MAX_RECORD, RecordFault, RecordReader, write_bytes, write_front};
 use service::Service;
 use std::alloc::Global;
-use std::io::{Read, Write};
+use std::io::Write;
 
 /// The node that serves.
 const NODE: u32 = 1;
-
-/// The time of the k-th record: k seconds, at most the greatest that a time has.
-fn time_of_record(k: u64) -> Time
-    ensures { result ≡ time_of k }
-{
-    let seconds = k.min(u64::from(u32::MAX)) as u32;
-    Time::new(seconds, 0).unwrap()
-}
-
-/// Writes the reply to a record, if one is owed.
-fn write_reply<W: Write>(
-    writer: &mut Counting<W>,
-    reply: &Option<Vec<u8>>,
-) -> Result<(), RecordFault>
-    requires { IfSome reply.now (λ v. length v.items ≤ MAX_RECORD) }
-    ensures text { WritesPart (W.contents writer.old.inner) (W.contents writer.new.inner)
-        (record_of (option_map (λ v. v.items) reply.now)) result }
-    ensures count { CountsErr result writer.old.count writer.new.count }
-    ensures fault { IfErr result (λ e. e ≡ RecordFault.Device) }
-{
-    match reply {
-        Some(bytes) => write_record(writer, bytes),
-        None => Ok(()),
-    }
-}
 
 /// Answers a record at a time: the reply, if one is owed, is written. Where memory is refused, nothing is.
 fn serve<W: Write>(
     alloc: Global,
     service: &mut Service,
     writer: &mut Counting<W>,
+    replies: &mut Vec<u8>,
     time: Time,
     bytes: &[u8],
 ) -> Result<(), RecordFault>
@@ -64,15 +41,53 @@ fn serve<W: Write>(
     ensures memory { IsErrOf result NoMemory → writer.new ≡ writer.old }
     ensures fault { IfErr result (λ e. (e ≡ RecordFault.Device) ⊎ (e ≡ RecordFault.NoMemory)) }
 {
-    let Ok(reply) = service.answer(alloc, time, bytes) else {
+    replies.clear();
+    if answer_record(alloc, service, replies, time, bytes).is_err() {
         return Err(RecordFault::NoMemory);
-    };
-    write_reply(writer, &reply)
+    }
+    write_bytes(writer, replies)
+}
+
+/// Answers the records at hand, the first of them the k-th, and writes their replies together. It says how
+/// many there were. Where memory is refused, those before are answered.
+fn serve_at_hand<R: Ahead + Drop, W: Write>(
+    alloc: Global,
+    service: &mut Service,
+    reader: &mut RecordReader<R>,
+    writer: &mut Counting<W>,
+    batch: &mut Batch,
+    k: u64,
+) -> Result<u64, RecordFault>
+    requires room { MOST_RECORDS ≤ vec_capacity batch.old.ends }
+    ensures answers { IfOk result (λ count. AnswersRecords service.old k service.new count
+        (R.remaining reader.old.reader.inner) (R.remaining reader.new.reader.inner)
+        (W.contents writer.old.inner) (W.contents writer.new.inner)) }
+    ensures count { IfOk result (λ count. k + count < 2 ^ 64) }
+    ensures stops { IfErr result (λ e. AnswersAndStops e service.old k
+        (R.remaining reader.old.reader.inner) (R.remaining reader.new.reader.inner)
+        (W.contents writer.old.inner) (W.contents writer.new.inner)) }
+    ensures reader { (reader.new.fault ≡ reader.old.fault)
+        × (reader.new.reader.count ≡ reader.old.reader.count) }
+    ensures kept { OnOk result (writer.new.count ≡ writer.old.count) }
+    ensures device { IsErrOf result Device → Rises writer.old.count writer.new.count }
+    ensures memory { IsErrOf result NoMemory → writer.new.count ≡ writer.old.count }
+    ensures room { MOST_RECORDS ≤ vec_capacity batch.new.ends }
+{
+    let filled = batch.fill(alloc, service, reader.at_hand(), k);
+    let written = write_front(writer, &batch.replies);
+    reader.pass(batch.taken(written));
+    if written < batch.replies.len() {
+        return Err(RecordFault::Device);
+    }
+    if filled.is_err() {
+        return Err(RecordFault::NoMemory);
+    }
+    Ok(batch.ends.len() as u64)
 }
 
 /// Answers each record of a stream as the server of node 1 would, from the files that it begins with. The
-/// k-th record has the time (k, 0), at most (4294967295, 0). A reply is written before the next record is
-/// read.
+/// k-th record has the time (k, 0), at most (4294967295, 0). Replies to records that were read ahead are
+/// held, and written together; all are written before it waits for input, and at the end.
 ///
 /// `Ok` is the count of records. `RecordTooLong` and `EndInRecord` come where the input goes on with bytes
 /// that pass a limit, or end within a record: what is owed to the records before them was written, and the
@@ -80,7 +95,7 @@ fn serve<W: Write>(
 /// records that were taken are answered, or all but the last, of whose reply a part was written. `NoMemory`
 /// comes where memory was refused, or after 2^64 - 2 records: the records that were taken are answered, or
 /// all but the last. Then the reader stands behind whole records, and can be read on.
-pub fn run_rpc<R: Read + Drop, W: Write>(
+pub fn run_rpc<R: Ahead + Drop, W: Write>(
     alloc: Global,
     reader: &mut RecordReader<R>,
     writer: &mut Counting<W>,
@@ -104,11 +119,22 @@ pub fn run_rpc<R: Read + Drop, W: Write>(
     let Ok(mut service) = Service::opening(alloc, NODE) else {
         return Err(RecordFault::NoMemory);
     };
-    for k in 1..u64::MAX {
-        let Some(record) = reader.next(alloc)? else {
+    let Ok(mut record) = Vec::with_capacity(alloc, MAX_RECORD) else {
+        return Err(RecordFault::NoMemory);
+    };
+    let Ok(mut batch) = Batch::new(alloc) else {
+        return Err(RecordFault::NoMemory);
+    };
+    let mut k = 1;
+    while k < u64::MAX {
+        if !reader.next_into(&mut record)? {
             return Ok(k - 1);
-        };
-        serve(alloc, &mut service, writer, time_of_record(k), &record)?;
+        }
+        let time = time_of_record(k);
+        let replies = &mut batch.replies;
+        serve(alloc, &mut service, writer, replies, time, &record)?;
+        k += 1;
+        k += serve_at_hand(alloc, &mut service, reader, writer, &mut batch, k)?;
     }
     Err(RecordFault::NoMemory)
 }

@@ -7,7 +7,7 @@ use Rattle.log_entries.specs.Chain.{Link, IsLink, IsChain, IsEndOf, zeros, hash_
 use Rattle.log_entries.proofs.Chains.{chain_end}
 use Rattle.evidence_spec.specs.Showing.{IsAmong}
 use Rattle.evidence_spec.proofs.Texts.{Within, fewer, left, right, both, beginning}
-use Rattle.evidence_spec.proofs.Places.{AreNumbered, behind, among}
+use Rattle.evidence_spec.proofs.Places.{all_front, AreNumbered, behind, among}
 
 -- links stand in a log's chain from a number on, and the hash before them is this one
 pub record IsPartOfChain (log : List Link) (first : ℕ) (opening : List ℕ) (links : List Link) : Type 0 where
@@ -26,15 +26,11 @@ last_hash-append : (opening : List ℕ) (xs ys : List Link)
 last_hash-append opening [] ys = refl
 last_hash-append opening (x ∷ xs) ys = last_hash-append (hash_after opening x) xs ys
 
-each_before : (xs ys : List Link) → AllByRecursion IsLink (xs ++ ys) → AllByRecursion IsLink xs
-each_before [] ys each = tt
-each_before (x ∷ xs) ys each = (each.0, each_before xs ys each.1)
-
 -- the first links of a chain are a chain
 front_chain : (opening : List ℕ) (links front rest : List Link) → links ≡ front ++ rest → IsChain opening links
     → IsChain opening front
 front_chain opening links front rest whole chain =
-    record { opened = chain.opened; each = each_before front rest (subst (AllByRecursion IsLink) whole chain.each) }
+    record { opened = chain.opened; each = all_front IsLink front rest (subst (AllByRecursion IsLink) whole chain.each) }
 
 module _ (log links : List Link) (first : ℕ) (opening : List ℕ) where
   -- a chain that ends in a pair of a log's is a part of it

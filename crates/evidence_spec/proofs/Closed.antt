@@ -1,11 +1,10 @@
 -- A signed authenticator alone, and the links of a closed segment, are closed showings.
 -- Serves: what_is_shown_is_closed.
 use Rattle.std.proofs.Common.{◌≡◌, ℕ, ◌+◌, ◌-◌, ◌<◌, ◌^◌, List, [], ◌∷◌, length, map, refl, sym, ap, ◌∙◌, arith}
-use Rattle.std.specs.Prelude.{IsTrue}
 use Rattle.std.specs.List.{AllByRecursion}
 use Rattle.std.proofs.lemmas.List.{length-map}
 use Rattle.sha2.proofs.Facts256.{length-sha256}
-use Rattle.xdr.specs.Item.{Fits}
+use Rattle.xdr.specs.Item.{Fits, word_where, array}
 use Rattle.authenticator.specs.declared.authenticator.Authenticator.{Authenticator}
 use Rattle.authenticator.specs.declared.member.Member.{Member}
 use Rattle.authenticator.specs.Signed.{IsSignedIn, authenticator_item, authenticator_value}
@@ -13,6 +12,7 @@ use Rattle.log_entries.specs.declared.entry.Entry.{Entry}
 use Rattle.log_entries.specs.declared.entry.Entry.TheVariants.{Send, Recv, Ack, Clock, Check}
 use Rattle.log_entries.specs.Entry.{is_kind, kind_number, entry_value, content}
 use Rattle.log_entries.specs.Chain.{last_hash, links_from, link_of, pairs}
+use Rattle.secure_log.specs.declared.segment.TheConstants.{MAX_ENTRIES}
 use Rattle.secure_log.specs.Segment.{SegmentParts, IsClosed, segment_item, segment_value, segment_pairs}
 use Rattle.evidence_spec.specs.Showing.{numbered, link_item, link_value, shown_link, authenticator_showing, segment_showing}
 use Rattle.evidence_spec.specs.Laws.{ShowsPairs}
@@ -39,19 +39,12 @@ one_pair ms a fits signed =
 
 -- ---- a segment
 
-kind_is : (e : Entry) → IsTrue (is_kind (kind_number e))
-kind_is (Send to body) = refl
-kind_is (Recv from seq prev body signature) = refl
-kind_is (Ack to seq mine number prev signature) = refl
-kind_is (Clock seconds microseconds) = refl
-kind_is (Check digest) = refl
-
-kind_small : (e : Entry) → kind_number e < 2 ^ 32
-kind_small (Send to body) = omega arith
-kind_small (Recv from seq prev body signature) = omega arith
-kind_small (Ack to seq mine number prev signature) = omega arith
-kind_small (Clock seconds microseconds) = omega arith
-kind_small (Check digest) = omega arith
+kind_fits : (e : Entry) → Fits (word_where is_kind) (kind_number e)
+kind_fits (Send to body) = (omega arith, refl)
+kind_fits (Recv from seq prev body signature) = (omega arith, refl)
+kind_fits (Ack to seq mine number prev signature) = (omega arith, refl)
+kind_fits (Clock seconds microseconds) = (omega arith, refl)
+kind_fits (Check digest) = (omega arith, refl)
 
 -- the links shown are those of the entries
 same_links : (first : ℕ) (es : List Entry) → numbered first (map shown_link es) ≡ links_from first es
@@ -60,7 +53,7 @@ same_links first (e ∷ es) = ap (λ ls. link_of first e ∷ ls) (same_links (fi
 
 links_fit : (es : List Entry) → AllByRecursion (Fits link_item) (map link_value (map shown_link es))
 links_fit [] = tt
-links_fit (e ∷ es) = (((kind_small e, kind_is e), length-sha256 (content e)), links_fit es)
+links_fit (e ∷ es) = ((kind_fits e, length-sha256 (content e)), links_fit es)
 
 pub own_pairs : (ms : List Member) (s : SegmentParts) → Fits segment_item (segment_value s) → 0 < s.first
     → IsClosed ms s → ShowsPairs ms (segment_showing s) (segment_pairs s)
@@ -70,6 +63,8 @@ own_pairs ms s fits some closed =
     let values : length (map link_value links) ≡ length links = length-map links link_value in
     let entries : length (map entry_value s.entries) ≡ length s.entries = length-map s.entries entry_value in
     let few = fits.1.1.1.0 in
+    let fit : Fits (array MAX_ENTRIES link_item) (map link_value links) =
+    (omega (arith, shown, values, entries, few.0), omega (arith, shown, values, entries, few.1), links_fit s.entries) in
     record {
       closed = record {
         first = some;
@@ -78,22 +73,6 @@ own_pairs ms s fits some closed =
         hash = closed.ends.hash ∙ ap (last_hash s.opening) (sym (same_links s.first s.entries));
         signed = closed.signed;
       };
-      text = (
-        fits.0,
-        (
-          fits.1.0.0,
-          (
-            fits.1.1.0,
-            (
-              (
-                omega (arith, shown, values, entries, few.0),
-                omega (arith, shown, values, entries, few.1),
-                links_fit s.entries,
-              ),
-              fits.1.1.1.1,
-            ),
-          ),
-        ),
-      );
+      text = (fits.0, (fits.1.0.0, (fits.1.1.0, (fit, fits.1.1.1.1))));
       is = ap (pairs (s.first - 1) s.opening) (same_links s.first s.entries);
     }

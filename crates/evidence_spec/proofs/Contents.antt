@@ -56,23 +56,8 @@ ack_content_is : (to seq : ℕ) (mine : List ℕ) (number : ℕ) (prev : List �
 unfolding content signature_digest
 ack_content_is to seq mine number prev signature = simp (append-nil, append_assoc)
 
-clock_content_is : (seconds microseconds : ℕ)
-    → content (Clock seconds microseconds) ≡ spelling (pair word word) (seconds, microseconds)
-unfolding content
-clock_content_is seconds microseconds = refl
-
-check_content_is : (digest : List ℕ) → content (Check digest) ≡ digest
-unfolding content
-check_content_is digest = refl
-
--- ---- signatures
-
 signature_of : Value signature_item → SignatureParts
 signature_of v = record { leaf = v.0; shown = v.1.0; other = v.1.1.0; path = v.1.1.1 }
-
-same_signature : (s t : SignatureParts) → signature_value s ≡ signature_value t → s ≡ t
-unfolding signature_of
-same_signature s t e = ap signature_of e
 
 -- ---- one entry
 
@@ -80,8 +65,9 @@ module _ (all : List (List ℕ)) (unlike : NoCollision all) where
   one_signature : (s t : SignatureParts) → Fits signature_item (signature_value s)
       → Fits signature_item (signature_value t) → Within (signature_text s ∷ []) all
       → Within (signature_text t ∷ []) all → sha256 (signature_text s) ≡ sha256 (signature_text t) → s ≡ t
+  unfolding signature_of
   one_signature s t f g i j e =
-      same_signature s t
+      ap signature_of
       (one_value signature_item (signature_value s) (signature_value t) f g
       (unlike (signature_text s) (signature_text t) (i _ (inl refl)) (j _ (inl refl)) e))
 
@@ -109,15 +95,13 @@ module _ (all : List (List ℕ)) (unlike : NoCollision all) where
       (a.0, (a.1.0.0, (a.1.1.0, (length-sha256 body, length-sha256 (signature_text s)))))
       (b.0, (b.1.0.0, (b.1.1.0, (length-sha256 body', length-sha256 (signature_text t)))))
       (sym (recv_content_is from seq prev body s) ∙ e ∙ recv_content_is from' seq' prev' body' t) in
-      let froms : from ≡ from' = ap (λ (v : Value recv_seen). v.0) same in
-      let seqs : seq ≡ seq' = ap (λ (v : Value recv_seen). v.1.0) same in
-      let prevs : prev ≡ prev' = ap (λ (v : Value recv_seen). v.1.1.0) same in
       let bodies : body ≡ body' =
       unlike body body' (i _ (inl refl)) (j _ (inl refl)) (ap (λ (v : Value recv_seen). v.1.1.1.0) same) in
       let signatures : s ≡ t =
       one_signature s t a.1.1.1.1 b.1.1.1.1 (λ x k. i x (inr k)) (λ x k. j x (inr k))
       (ap (λ (v : Value recv_seen). v.1.1.1.1) same) in
-      cc
+      ap (λ (v : Value recv_seen). Recv v.0 v.1.0 v.1.1.0 body s) same
+      ∙ ap₂ (λ x y. Recv from' seq' prev' x y) bodies signatures
 
   one_ack : (to to' seq seq' : ℕ) (mine mine' : List ℕ) (number number' : ℕ) (prev prev' : List ℕ)
       (s t : SignatureParts)
@@ -133,24 +117,20 @@ module _ (all : List (List ℕ)) (unlike : NoCollision all) where
       (a.0, (a.1.0.0, (a.1.1.0, (a.1.1.1.0.0, (a.1.1.1.1.0, length-sha256 (signature_text s))))))
       (b.0, (b.1.0.0, (b.1.1.0, (b.1.1.1.0.0, (b.1.1.1.1.0, length-sha256 (signature_text t))))))
       (sym (ack_content_is to seq mine number prev s) ∙ e ∙ ack_content_is to' seq' mine' number' prev' t) in
-      let tos : to ≡ to' = ap (λ (v : Value ack_seen). v.0) same in
-      let seqs : seq ≡ seq' = ap (λ (v : Value ack_seen). v.1.0) same in
-      let mines : mine ≡ mine' = ap (λ (v : Value ack_seen). v.1.1.0) same in
-      let numbers : number ≡ number' = ap (λ (v : Value ack_seen). v.1.1.1.0) same in
-      let prevs : prev ≡ prev' = ap (λ (v : Value ack_seen). v.1.1.1.1.0) same in
       let signatures : s ≡ t =
       one_signature s t a.1.1.1.1.1 b.1.1.1.1.1 i j (ap (λ (v : Value ack_seen). v.1.1.1.1.1) same) in
-      cc
+      ap (λ (v : Value ack_seen). Ack v.0 v.1.0 v.1.1.0 v.1.1.1.0 v.1.1.1.1.0 s) same
+      ∙ ap (Ack to' seq' mine' number' prev') signatures
 
   one_clock : (a a' b b' : ℕ) → a < 2 ^ 32 → a' < 2 ^ 32 → b < 2 ^ 32 → b' < 2 ^ 32
       → content (Clock a b) ≡ content (Clock a' b') → Clock a b ≡ Clock a' b'
+  unfolding content
   one_clock a a' b b' f f' g g' e =
-      let same = one_value (pair word word) (a, b) (a', b') (f, g) (f', g')
-      (sym (clock_content_is a b) ∙ e ∙ clock_content_is a' b') in
-      ap₂ Clock (ap (λ (v : Value (pair word word)). v.0) same) (ap (λ (v : Value (pair word word)). v.1) same)
+      ap (λ (v : Value (pair word word)). Clock v.0 v.1) (one_value (pair word word) (a, b) (a', b') (f, g) (f', g') e)
 
   one_check : (a b : List ℕ) → content (Check a) ≡ content (Check b) → Check a ≡ Check b
-  one_check a b e = ap Check (sym (check_content_is a) ∙ e ∙ check_content_is b)
+  unfolding content
+  one_check a b e = ap Check e
 
   -- entries of one kind, whose contents have one digest, are the same
   pub one_entry : (e f : Entry) → Fits entry_item (entry_value e) → Fits entry_item (entry_value f)

@@ -1,3 +1,4 @@
+pub use Rattle.honest_logs.proofs.Runs
 pub mod Texts
 pub mod Places
 pub mod Chained

@@ -9,7 +9,7 @@ use Rattle.log_entries.specs.Entry.{entry_item, entry_value}
 use Rattle.log_entries.specs.Chain.{Link, link_of, links_from, IsIn, NoCollision}
 use Rattle.evidence_spec.specs.Proving.{entry_texts}
 use Rattle.evidence_spec.proofs.Texts.{Within, left, right}
-use Rattle.evidence_spec.proofs.Places.{length-links}
+use Rattle.evidence_spec.proofs.Places.{all_front, length-links}
 use Rattle.evidence_spec.proofs.Contents.{one_entry}
 
 -- each of these entries has a text
@@ -19,10 +19,6 @@ EachFits es = AllByRecursion (λ e. Fits entry_item (entry_value e)) es
 pub each_of_values : (es : List Entry) → AllByRecursion (Fits entry_item) (map entry_value es) → EachFits es
 each_of_values [] each = tt
 each_of_values (e ∷ es) each = (each.0, each_of_values es each.1)
-
-each_front : (xs ys : List Entry) → EachFits (xs ++ ys) → EachFits xs
-each_front [] ys each = tt
-each_front (x ∷ xs) ys each = (each.0, each_front xs ys each.1)
 
 each_back : (xs ys : List Entry) → EachFits (xs ++ ys) → EachFits ys
 each_back [] ys each = each
@@ -114,7 +110,7 @@ entries_in_log all unlike log es first before rest fits fits' i j h n =
     subst (λ zs. Within (flat_map entry_texts b.front) (flat_map entry_texts zs)) (sym whole)
     (middle_texts a.front b.front b.back) in
     let same : b.front ≡ es =
-    same_entries all unlike first b.front es (each_front b.front b.back each) fits' (λ t k. i t (texts t k)) j b.one in
+    same_entries all unlike first b.front es (all_front (λ e. Fits entry_item (entry_value e)) b.front b.back each) fits' (λ t k. i t (texts t k)) j b.one in
     record {
       before = a.front;
       rest = b.back;

@@ -1,6 +1,7 @@
 -- Where a pair stands among the pairs of a chain whose links are numbered one after the other.
 -- Serves: one_hash_at_a_number, what_is_shown_is_of_the_log.
 use Rattle.std.proofs.Common.{◌≡◌, ℕ, suc, ◌+◌, List, [], ◌∷◌, ◌++◌, length, inl, inr, refl, sym, ap, ap₂, subst, ◌∙◌, arith}
+use Rattle.std.specs.List.{AllByRecursion}
 use Rattle.log_entries.specs.declared.entry.Entry.{Entry}
 use Rattle.log_entries.specs.Chain.{Link, hash_after, last_hash, pairs, links_from}
 use Rattle.evidence_spec.specs.Showing.{ShownLink, numbered, IsAmong}
@@ -86,6 +87,11 @@ one_beginning (x ∷ xs) (y ∷ ys) us vs e n =
     let heads : x ≡ y = cc in
     let tails : xs ++ us ≡ ys ++ vs = cc in
     ap₂ (λ z zs. z ∷ zs) heads (one_beginning xs ys us vs tails (omega arith))
+
+-- what holds of each of a list holds of each of its first
+pub all_front : {A : Type 0} (P : A → Type 0) (xs ys : List A) → AllByRecursion P (xs ++ ys) → AllByRecursion P xs
+all_front P [] ys each = tt
+all_front P (x ∷ xs) ys each = (each.0, all_front P xs ys each.1)
 
 pub one_hash : (before : ℕ) (opening : List ℕ) (links : List Link) (number : ℕ) (one other : List ℕ)
     → AreNumbered (before + 1) links → IsAmong (number, one) (pairs before opening links)

@@ -135,49 +135,42 @@ fn calls_are_answered_by_the_byte(rt: HostRuntime) -> Result<(), Fail> {
     Ok(())
 }
 
+/// Whether a stream whose writer takes these bytes, one a call, and then fails, ends with no more written,
+/// and stays so with nothing read or written.
+fn ends_after(alloc: Global, input: &[u8], written: &[u8]) -> Result<bool, AllocError> {
+    let mut link = Service::opening(alloc, 1)?;
+    let mut clock = FixedClock {
+        time: Time::epoch(),
+    };
+    let mut reader = RecordReader::new(Counting::new(input));
+    let fails_at = written.len().saturating_add(1);
+    let mut writer = Counting::new(SlowWriter {
+        taken: Vec::new(alloc),
+        calls: 0,
+        fails_at,
+    });
+    let mut gateway = Gateway::new();
+    let done = gateway.serve_stream(alloc, &mut link, &mut clock, &mut reader, &mut writer);
+    let left = reader.get_ref().get_ref().len();
+    let again = gateway.serve_stream(alloc, &mut link, &mut clock, &mut reader, &mut writer);
+    let device = writer.get_ref();
+    Ok(
+        done == Err(StreamFault::Device)
+            && again == Err(StreamFault::Failed)
+            && writer.count() == 1
+            && device.calls == fails_at
+            && device.taken.as_slice() == written
+            && reader.get_ref().get_ref().len() == left,
+    )
+}
+
 #[test]
 fn a_failed_write_ends_all(rt: HostRuntime) -> Result<(), Fail> {
     let input = bytes(rt.alloc(), &CALLS)?;
     let owed = bytes(rt.alloc(), &REPLIES)?;
     for written in 0..owed.len() {
-        let mut link = Service::opening(rt.alloc(), 1)?;
-        let mut clock = FixedClock {
-            time: Time::epoch(),
-        };
-        let mut reader = RecordReader::new(Counting::new(input.as_slice()));
-        let slow = SlowWriter {
-            taken: Vec::new(rt.alloc()),
-            calls: 0,
-            fails_at: written + 1,
-        };
-        let mut writer = Counting::new(slow);
-        let mut gateway = Gateway::new();
-        let done = gateway.serve_stream(
-            rt.alloc(),
-            &mut link,
-            &mut clock,
-            &mut reader,
-            &mut writer,
-        );
-        assert!(rt;
-            done == Err(StreamFault::Device) && writer.count() == 1,
-            "{written}"
-        );
-        assert!(rt;
-            writer.get_ref().taken.as_slice() == &owed[..written],
-            "{written}"
-        );
-
-        let left = reader.get_ref().get_ref().len();
-        let again = gateway.serve_stream(
-            rt.alloc(),
-            &mut link,
-            &mut clock,
-            &mut reader,
-            &mut writer,
-        );
-        assert!(rt; again == Err(StreamFault::Failed) && writer.get_ref().calls == written + 1);
-        assert!(rt; reader.get_ref().get_ref().len() == left, "{written}");
+        let ends = ends_after(rt.alloc(), &input, &owed[..written])?;
+        assert!(rt; ends, "{written}");
     }
     Ok(())
 }

@@ -1,3 +1,6 @@
+pub use Rattle.replay_spec.proofs.Runs
+pub use Rattle.replay_spec.proofs.Places
+pub use Rattle.replay_spec.proofs.Logs
 pub mod Serving
 pub mod Orders
 pub mod Entries

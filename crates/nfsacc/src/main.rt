@@ -2,13 +2,18 @@
 #![tactic(auto)]
 
 use clap::error::ErrorKind;
-use console::{Request, parse, run_rpc};
+use console::{
+    CheckFault, CheckRequest, Judgement, Request, check, check_and_explain, check_request, parse,
+    run_rpc,
+};
 use rpc::{Counting, RecordFault, RecordReader};
 use std::io::BufReader;
 use std::process::ExitCode;
-use std::{env, io};
+use std::rt::Files;
+use std::{env, fs, io};
 
-/// The statuses of the program beside 0, which is done. A fault in the input: the records end with one.
+/// The statuses of the program beside 0, which is done. A fault in the input: the records end with one, or a file
+/// is no evidence.
 const INPUT_FAULT: u8 = 1;
 
 /// The words of the command line ask for nothing that there is.
@@ -20,9 +25,12 @@ const NO_MEMORY: u8 = 3;
 /// A read or a write failed.
 const DEVICE: u8 = 4;
 
+/// The bytes that are read at once: as many as a pipe holds.
+const READ_AHEAD: usize = 65536;
+
 /// Answers the records of standard input on standard output.
 fn rpc<R: Input + Print + Eprint + AllocGlobal>(rt: &R) -> u8 {
-    let Ok(input) = BufReader::new(rt.alloc(), rt.reader()) else {
+    let Ok(input) = BufReader::with_capacity(rt.alloc(), READ_AHEAD, rt.reader()) else {
         return report_no_memory(rt);
     };
     let mut reader = RecordReader::new(Counting::new(input));
@@ -49,6 +57,33 @@ fn report_fault(rt: &impl Eprint, fault: RecordFault) -> u8 {
     }
 }
 
+/// Says on standard output whether a file is evidence, and gives the status for it.
+fn check_file<R: Files + Print + Eprint + AllocGlobal>(rt: &R, request: CheckRequest<'_>) -> u8 {
+    let mut file = match fs::open(rt, request.file) {
+        Ok(file) => file,
+        Err(error) if error.kind() == io::ErrorKind::OutOfMemory => return report_no_memory(rt),
+        Err(error) => {
+            let _ = eprintln!(rt; "nfsacc: {}: {error}", request.file);
+            return DEVICE;
+        }
+    };
+    let mut writer = io::writer(rt);
+    let judgement = if request.explain {
+        check_and_explain(rt.alloc(), &mut file, &mut writer)
+    } else {
+        check(rt.alloc(), &mut file, &mut writer)
+    };
+    match judgement {
+        Ok(Judgement::Exposed(_)) => 0,
+        Ok(Judgement::NoEvidence) => INPUT_FAULT,
+        Err(CheckFault::NoMemory) => report_no_memory(rt),
+        Err(CheckFault::Device) => {
+            let _ = rt.eprintln("nfsacc: a device failed");
+            DEVICE
+        }
+    }
+}
+
 fn report_no_memory(rt: &impl Eprint) -> u8 {
     let _ = rt.eprintln("nfsacc: out of memory");
     NO_MEMORY
@@ -68,6 +103,15 @@ fn run(rt: &HostRuntime) -> u8 {
     let Ok(words) = args.collect::<Vec<String>>(alloc) else {
         return report_no_memory(rt);
     };
+    if words.get(1).is_some_and(|word| word.as_str() == "check") {
+        return match check_request(&words[2..]) {
+            Some(request) => check_file(rt, request),
+            None => {
+                let _ = rt.eprintln("Usage: nfsacc check [--explain] FILE");
+                COMMAND_LINE
+            }
+        };
+    }
     match parse(alloc, words.as_slice()) {
         Ok(Request::Rpc) => rpc(rt),
         Err(error) if error.kind() == ErrorKind::OutOfMemory => report_no_memory(rt),

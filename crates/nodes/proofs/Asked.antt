@@ -19,12 +19,12 @@ use Rattle.envelopes.specs.declared.envelope.Envelope.{Envelope}
 use Rattle.envelopes.specs.declared.acknowledgement.Ack.{Ack}
 use Rattle.commitment.specs.LookUps.{FitsEnvelope, ack_at, envelope_at}
 use Rattle.commitment.specs.Sender.{IsSender}
-use Rattle.honest_logs.specs.Timeval.{Timeval}
-use Rattle.honest_logs.specs.World.{World}
-use Rattle.honest_logs.specs.Replies.{reply_owed, world_after}
-use Rattle.honest_logs.specs.State.{SentMessage, with_received, Idle, Server}
-use Rattle.honest_logs.specs.Steps.{received_message}
-use Rattle.honest_logs.specs.HonestServers.{heard_entries, hash_before_reply, with_reply}
+use Rattle.node_logs.specs.Timeval.{Timeval}
+use Rattle.node_logs.specs.World.{World}
+use Rattle.node_logs.specs.Replies.{reply_owed, world_after}
+use Rattle.node_logs.specs.State.{SentMessage, with_received, Idle, Server}
+use Rattle.node_logs.specs.Steps.{received_message}
+use Rattle.node_logs.specs.HonestServers.{heard_entries, hash_before_reply, with_reply}
 use Rattle.links.specs.declared.fault.LinkFault.{LinkFault}
 use Rattle.links.specs.declared.fault.LinkFault.TheVariants.{KeysUsedUp, NoMemory, Failed}
 use Rattle.node_logs.specs.Nodes.{NodeParts, LacksKeys, sender_of}

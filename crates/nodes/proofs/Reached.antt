@@ -21,7 +21,7 @@ use Rattle.commitment.specs.declared.refusal.Refusal.{Refusal}
 use Rattle.commitment.specs.declared.refusal.Refusal.TheVariants.{Garbage, NotForMe, BadSignature, KeysUsedUp, NoMemory}
 use Rattle.commitment.specs.declared.outcome.Received.TheVariants as received
 use Rattle.commitment.proofs.Meanings.{ack_law, authenticator_law, envelope_law}
-use Rattle.honest_logs.specs.Timeval.{Timeval}
+use Rattle.node_logs.specs.Timeval.{Timeval}
 use Rattle.node_logs.specs.Nodes.{NodeParts, LacksKeys, receiver_of, sender_of}
 use Rattle.node_logs.specs.Hearing.{Hears, HearsEnvelope}
 use Rattle.node_logs.specs.Sending.{TakesEnvelope, with_receipt}

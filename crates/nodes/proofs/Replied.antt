@@ -13,11 +13,11 @@ use Rattle.envelopes.specs.declared.envelope.Envelope.{Envelope}
 use Rattle.envelopes.specs.declared.acknowledgement.Ack.{Ack}
 use Rattle.commitment.specs.LookUps.{FitsEnvelope, ack_at, envelope_at}
 use Rattle.commitment.specs.Sender.{IsSender}
-use Rattle.honest_logs.specs.Timeval.{Timeval, later}
-use Rattle.honest_logs.specs.World.{World, at_time}
-use Rattle.honest_logs.specs.Replies.{reply_owed, world_after}
-use Rattle.honest_logs.specs.State.{State, Idle, Machine, Server, clock_in}
-use Rattle.honest_logs.specs.HonestServers.{heard_entries, with_reply}
+use Rattle.node_logs.specs.Timeval.{Timeval, later}
+use Rattle.node_logs.specs.World.{World, at_time}
+use Rattle.node_logs.specs.Replies.{reply_owed, world_after}
+use Rattle.node_logs.specs.State.{State, Idle, Machine, Server, clock_in}
+use Rattle.node_logs.specs.HonestServers.{heard_entries, with_reply}
 use Rattle.links.specs.declared.fault.LinkFault.{LinkFault}
 use Rattle.links.specs.declared.fault.LinkFault.TheVariants.{KeysUsedUp, NoMemory, Failed}
 use Rattle.node_logs.specs.Nodes.{NodeParts, sender_of}

@@ -1,7 +1,7 @@
 -- An exchange with a fault has failed.
 -- Serves: Direct::carry.
 use Rattle.std.proofs.Common.{◌≡◌, inl, inr, ℕ, true, false, List, refl}
-use Rattle.honest_logs.specs.Timeval.{Timeval}
+use Rattle.node_logs.specs.Timeval.{Timeval}
 use Rattle.links.specs.declared.fault.LinkFault.{LinkFault}
 use Rattle.links.specs.declared.fault.LinkFault.TheVariants.{KeysUsedUp, NoMemory, Failed}
 use Rattle.node_logs.specs.Nodes.{NodeParts}

@@ -13,7 +13,7 @@ use Rattle.envelopes.specs.declared.envelope.Envelope.{Envelope}
 use Rattle.envelopes.specs.declared.acknowledgement.Ack.{Ack}
 use Rattle.commitment.specs.LookUps.{FitsSend, ack_at, envelope_at}
 use Rattle.commitment.specs.Received.{receipt_of}
-use Rattle.honest_logs.specs.Timeval.{Timeval}
+use Rattle.node_logs.specs.Timeval.{Timeval}
 use Rattle.links.specs.declared.fault.LinkFault.{LinkFault}
 use Rattle.links.specs.declared.fault.LinkFault.TheVariants.{KeysUsedUp, NoMemory, Failed}
 use Rattle.node_logs.specs.Nodes.{NodeParts, LacksKeys, log_of, sender_of}

@@ -9,10 +9,10 @@ use Rattle.authenticator.specs.declared.member.Kind.TheVariants as kinds
 use Rattle.envelopes.specs.declared.envelope.Envelope.{Envelope}
 use Rattle.envelopes.specs.declared.acknowledgement.Ack.{Ack}
 use Rattle.commitment.specs.LookUps.{ack_at, envelope_at}
-use Rattle.honest_logs.specs.Timeval.{Timeval}
-use Rattle.honest_logs.specs.World.{World}
-use Rattle.honest_logs.specs.Replies.{reply_owed, world_after}
-use Rattle.honest_logs.specs.State.{Idle, Machine, Server, Client}
+use Rattle.node_logs.specs.Timeval.{Timeval}
+use Rattle.node_logs.specs.World.{World}
+use Rattle.node_logs.specs.Replies.{reply_owed, world_after}
+use Rattle.node_logs.specs.State.{Idle, Machine, Server, Client}
 use Rattle.links.specs.declared.fault.LinkFault.{LinkFault}
 use Rattle.links.specs.declared.fault.LinkFault.TheVariants.{KeysUsedUp, NoMemory, Failed}
 use Rattle.node_logs.specs.Nodes.{NodeParts, LacksKeys, node_code, sender_of}

@@ -53,7 +53,7 @@ judged_option ms (Some d) = judged_delivery ms d
 unfoldable pub judged : List Member → List ℕ → Result Delivery Refusal
 judged ms bytes = judged_option ms (delivery_of bytes)
 
--- A refusal is what is owed; for want of memory a call may say nothing else.
+-- A refusal is the one that is owed; want of memory may come in place of any answer.
 abbrev pub Refuses : (owed : Result Delivery Refusal) → Refusal → Type 0
 Refuses owed UnknownNode = owed ≡ Err UnknownNode
 Refuses owed Garbage = owed ≡ Err Garbage

@@ -3,3 +3,5 @@ pub mod Marks
 pub mod Fragments
 pub mod Streams
 pub mod Parts
+pub mod Passing
+pub mod InFront

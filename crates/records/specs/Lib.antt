@@ -4,3 +4,4 @@ pub mod Stream
 pub mod Reading
 pub mod Writing
 pub mod Fault
+pub mod Ahead

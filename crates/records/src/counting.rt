@@ -1,10 +1,11 @@
 //! Counts what a reader or a writer refused.
 
-ghost use Rattle.std.specs.Prelude.{◌≡◌, length};
+ghost use Rattle.std.specs.Prelude.{◌≡◌, ◌≤◌, length, take};
 ghost use Rattle.std.specs.Io.{ReadsAtMost, WritesAtMost};
-ghost use Rattle.std.specs.Io.KnownBytes.{Keeps, ReadConsumes, WriteAppends};
+ghost use Rattle.std.specs.Io.KnownBytes.{Consumes, Keeps, ReadConsumes, WriteAppends};
 ghost use Rattle.records.specs.Count.{CountsErr, CountsWrite};
 
+use crate::ahead::Ahead;
 use std::io;
 use std::io::{Read, Write};
 use std::marker::Model;
@@ -58,6 +59,18 @@ impl<T> Counting<T> {
         ensures { result ≡ self.inner }
     {
         self.inner
+    }
+}
+
+impl<R: Ahead> Counting<R> {
+    /// Passes over the first bytes that the reader has at hand, so many of them.
+    pub fn pass(&mut self, amount: usize)
+        requires { amount ≤ length (R.ahead self.old.inner) }
+        ensures taken { Consumes (R.remaining self.old.inner) (R.remaining self.new.inner)
+            (take amount (R.ahead self.old.inner)) }
+        ensures count { self.new.count ≡ self.old.count }
+    {
+        self.inner.pass(amount);
     }
 }
 

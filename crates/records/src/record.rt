@@ -2,11 +2,13 @@
 
 ghost use Rattle.std.specs.Prelude.{◌≡◌, ◌<◌, ◌≤◌, ◌+◌, ◌^◌, ◌⊎◌, [], true, false, length, take, IfOk, IfErr, IfSome, OnOk, OnErr, IsErrOf, vec_len, vec_capacity};
 ghost use Rattle.std.specs.Option.{option_map};
+ghost use Rattle.std.specs.Io.{StartsWith};
 ghost use Rattle.std.specs.Io.KnownBytes.{Consumes, IsAtEnd};
 ghost use Rattle.records.specs.Count.{Rises};
 ghost use Rattle.records.specs.Record.{mark, IsUnfinished, PassesLimit};
 ghost use Rattle.records.specs.Reading.{BeginsWithMark, Grows, Fails, FailsUnless, StopsAt, EndsAt, TakesPart, IsCutMark, Never, IsShorter, Takes, TakesRecord, fault_after};
 
+use crate::ahead::Ahead;
 use crate::counting::Counting;
 use crate::fault::RecordFault;
 use byteorder::{BigEndian, ByteOrder};
@@ -26,9 +28,9 @@ pub const LAST: u32 = 0x8000_0000;
 
 /// What stands before a fragment.
 #[derive(Clone, Copy, Debug)]
-struct Mark {
-    is_last: bool,
-    len: u32,
+pub struct Mark {
+    pub is_last: bool,
+    pub len: u32,
 }
 
 /// Fills a buffer, or as much of it as there are bytes. Where a read fails, what was read before it, less
@@ -54,7 +56,7 @@ fn fill<R: Read>(reader: &mut Counting<R>, buf: &mut [u8]) -> io::Result<usize>
 }
 
 /// What the bytes of a mark say.
-fn mark_of(bytes: &[u8]) -> Mark
+pub fn mark_of(bytes: &[u8]) -> Mark
     requires { length bytes.now ≡ 4 }
     ensures text { bytes.now ≡ mark result.is_last result.len }
     ensures len { result.len < LAST }
@@ -140,6 +142,7 @@ fn read_record<R: Read>(reader: &mut Counting<R>, joined: &mut Vec<u8>) -> Resul
         Fails e PassesLimit IsUnfinished (R.remaining reader.old.inner) reader.old.count reader.new.count) }
     ensures taken { IfErr result (λ e.
         StopsAt e (R.remaining reader.old.inner) (R.remaining reader.new.inner)) }
+    ensures keeps_room { MAX_RECORD ≤ vec_capacity joined.new }
 {
     for count in 0..MAX_FRAGMENTS + 1 {
         let Some(mark) = read_mark(reader)? else {
@@ -245,5 +248,52 @@ impl<R: Read + Drop> RecordReader<R> {
                 Err(fault)
             }
         }
+    }
+
+    /// The next record in place of what a vector with room for the longest holds, and whether there was one.
+    /// It takes no memory and never answers `NoMemory`; else as `next`.
+    pub fn next_into(&mut self, record: &mut Vec<u8>) -> Result<bool, RecordFault>
+        requires room { MAX_RECORD ≤ vec_capacity record.old }
+        ensures found { IfOk result (λ some. Takes some record.new.items
+            (R.remaining self.old.reader.inner) (R.remaining self.new.reader.inner)) }
+        ensures kept { OnOk result (self.new.reader.count ≡ self.old.reader.count) }
+        ensures fault { IfErr result (λ e. self.old.fault ≡ None →
+            Fails e PassesLimit IsUnfinished
+            (R.remaining self.old.reader.inner) self.old.reader.count self.new.reader.count) }
+        ensures taken { IfErr result (λ e. self.old.fault ≡ None →
+            StopsAt e (R.remaining self.old.reader.inner) (R.remaining self.new.reader.inner)) }
+        ensures again { IfSome self.old.fault (λ e. (result ≡ Err e) × (self.new ≡ self.old)) }
+        ensures failed { self.new.fault ≡ fault_after self.old.fault result }
+        ensures keeps_room { MAX_RECORD ≤ vec_capacity record.new }
+    {
+        if let Some(fault) = self.fault {
+            return Err(fault);
+        }
+        record.clear();
+        let found = read_record(&mut self.reader, record);
+        if let Err(fault) = found {
+            self.fault = Some(fault);
+        }
+        found
+    }
+}
+
+impl<R: Ahead + Drop> RecordReader<R> {
+    /// What the reader gives next without asking its device.
+    pub fn at_hand(&self) -> &[u8]
+        ensures bytes { result.now ≡ R.ahead self.now.reader.inner }
+        ensures front { IfSome (R.remaining self.now.reader.inner) (λ left. StartsWith left result.now) }
+    {
+        self.reader.get_ref().at_hand()
+    }
+
+    /// Passes over the first bytes at hand, so many of them: whole records, where another is to be read.
+    pub fn pass(&mut self, amount: usize)
+        requires { amount ≤ length (R.ahead self.old.reader.inner) }
+        ensures taken { Consumes (R.remaining self.old.reader.inner) (R.remaining self.new.reader.inner)
+            (take amount (R.ahead self.old.reader.inner)) }
+        ensures kept { (self.new.reader.count ≡ self.old.reader.count) × (self.new.fault ≡ self.old.fault) }
+    {
+        self.reader.pass(amount);
     }
 }

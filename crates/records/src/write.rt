@@ -2,7 +2,8 @@
 
 ghost use Rattle.std.specs.Prelude.{◌≡◌, ◌<◌, ◌≤◌, ◌+◌, ◌++◌, ◌^◌, length, take, true, IfErr};
 ghost use Rattle.std.specs.Int.{w32, to_be_bytes};
-ghost use Rattle.records.specs.Count.{CountsErr};
+ghost use Rattle.std.specs.Io.KnownBytes.{Appends};
+ghost use Rattle.records.specs.Count.{CountsErr, Rises};
 ghost use Rattle.records.specs.Record.{mark, fragment};
 ghost use Rattle.records.specs.Writing.{WritesPart};
 
@@ -20,28 +21,40 @@ const SHORT: usize = 256;
 /// The bytes of the longest record with its mark.
 const LONG: usize = MARK + MAX_RECORD;
 
-/// Writes bytes. An interrupted write counts as a fault, and so does one that takes nothing.
-fn write_bytes<W: Write>(writer: &mut Counting<W>, bytes: &[u8]) -> Result<(), RecordFault>
+/// Writes bytes, and says how many were written. An interrupted write ends it, and so does one that takes
+/// nothing: then fewer than all were written, and the writer's count rose by one.
+pub fn write_front<W: Write>(writer: &mut Counting<W>, bytes: &[u8]) -> usize
+    ensures bound { result ≤ length bytes.now }
+    ensures text { Appends (W.contents writer.old.inner) (W.contents writer.new.inner)
+        (take result bytes.now) }
+    ensures whole { result ≡ length bytes.now → writer.new.count ≡ writer.old.count }
+    ensures cut { result < length bytes.now → Rises writer.old.count writer.new.count }
+{
+    let mut at = 0;
+    while at < bytes.len() {
+        match writer.write(&bytes[at..]) {
+            Ok(0) | Err(_) => return at,
+            Ok(n) => at += n,
+        }
+    }
+    at
+}
+
+/// Writes bytes, or answers `Device`.
+pub fn write_bytes<W: Write>(writer: &mut Counting<W>, bytes: &[u8]) -> Result<(), RecordFault>
     ensures text { WritesPart (W.contents writer.old.inner) (W.contents writer.new.inner) bytes.now result }
     ensures count { CountsErr result writer.old.count writer.new.count }
     ensures fault { IfErr result (λ e. e ≡ RecordFault.Device) }
 {
-    let mut rest = bytes;
-    while !rest.is_empty() {
-        match writer.write(rest) {
-            Ok(0) | Err(_) => return Err(RecordFault::Device),
-            Ok(n) => {
-                let (_, after) = rest.split_at(n);
-                rest = after;
-            }
-        }
+    if write_front(writer, bytes) < bytes.len() {
+        return Err(RecordFault::Device);
     }
     Ok(())
 }
 
 /// The number that the mark of a last fragment spells.
 #[tactic(auto, unfolding(crate::specs::Record::mark))]
-fn last_mark(len: u32) -> u32
+pub fn last_mark(len: u32) -> u32
     requires { len < 2 ^ 31 }
     ensures { to_be_bytes w32 result ≡ mark true len }
 {

@@ -6,7 +6,8 @@ use Rattle.std.specs.List.{concat}
 use Rattle.std.proofs.lemmas.List.Concat.{flat_map-cons}
 use Rattle.records.specs.Record.{mark, fragment, fragments, AreWithin, IsRecord, IsUnfinished, PassesLimit, Front, nothing, a_record, unfinished, too_long, BeginsWith}
 use Rattle.records.proofs.Marks.{length-mark}
-use Rattle.records_laws.proofs.OneRecord.{one_mark, one_split, one_fragment}
+use Rattle.records.proofs.Marks.{one_mark}
+use Rattle.records_laws.proofs.OneRecord.{one_split, one_fragment}
 use Rattle.records.specs.declared.record.TheConstants.{MAX_RECORD, MAX_FRAGMENTS}
 
 -- what a mark says: a limit is passed, the bytes end within the fragment, or the record is whole

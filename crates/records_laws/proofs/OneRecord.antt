@@ -6,18 +6,7 @@ use Rattle.std.proofs.lemmas.List.Concat.{flat_map-cons}
 use Rattle.xdr.specs.Item.{word, number_spelling}
 use Rattle.xdr.proofs.Exact.{one_meaning}
 use Rattle.records.specs.Record.{mark, fragment, fragments, IsRecord}
-
--- the number that a mark spells
-word_of : Bool → ℕ → ℕ
-word_of is_last len = cond is_last (len + 2147483648) len
-
--- a mark at the front tells whether it is the last, its length, and what follows
-pub one_mark : (b c : Bool) (m n : ℕ) (x y : List ℕ) → m < 2147483648 → n < 2147483648 → mark b m ++ x ≡ mark c n ++ y → (b ≡ c) × (m ≡ n) × (x ≡ y)
-unfolding mark number_spelling
-one_mark false false m n x y lt lt' e = let both = one_meaning word m n x y (omega arith) (omega arith) e in (refl, both.0, both.1)
-one_mark true true m n x y lt lt' e = let both = one_meaning word (m + 2147483648) (n + 2147483648) x y (omega arith) (omega arith) e in (refl, omega (arith, both.0), both.1)
-one_mark false true m n x y lt lt' e = let both = one_meaning word m (n + 2147483648) x y (omega arith) (omega arith) e in absurd (omega (arith, both.0))
-one_mark true false m n x y lt lt' e = let both = one_meaning word (m + 2147483648) n x y (omega arith) (omega arith) e in absurd (omega (arith, both.0))
+use Rattle.records.proofs.Marks.{one_mark}
 
 -- equal texts cut after as many bytes have equal parts
 pub one_split : (a b x y : List ℕ) → length a ≡ length b → a ++ x ≡ b ++ y → (a ≡ b) × (x ≡ y)

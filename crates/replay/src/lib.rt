@@ -15,7 +15,7 @@ mod tests;
 mod turns;
 mod verdict;
 
-pub use checkpoint::State;
+pub use checkpoint::{Machine as StateMachine, Stage, State};
 pub use fault::ReplayFault;
 pub use machine::{FreeMachine, Machine, ServerMachine};
 pub use opening::opening_state;

@@ -1,5 +1,5 @@
 -- What a stream of records is owed.
-use Rattle.std.specs.Prelude.{ℕ, true, List, [], ◌∷◌, ◌++◌, Option, Some, None}
+use Rattle.std.specs.Prelude.{◌≡◌, ℕ, Bool, true, false, List, [], ◌∷◌, ◌++◌, Option, Some, None}
 use Rattle.records.specs.Record.{fragment}
 use Rattle.nfs_items.specs.Timeval.{Timeval}
 use Rattle.worlds.specs.World.{World}
@@ -9,6 +9,13 @@ use Rattle.service.specs.Replies.{reply_owed, world_after}
 abbrev pub record_of : Option (List ℕ) → List ℕ
 record_of None = []
 record_of (Some bytes) = fragment true bytes
+
+-- The reply that is owed was put behind what was there, or none is owed and nothing was.
+abbrev pub IsReplied : Bool → Option (List ℕ) → List ℕ → List ℕ → Type 0
+IsReplied true (Some text) old new = new ≡ old ++ text
+IsReplied true None old new = ⊥
+IsReplied false (Some text) old new = ⊥
+IsReplied false None old new = new ≡ old
 
 -- the records of the replies owed to records that come at times, one after the other
 abbrev pub replies_owed : World → List (Timeval × List ℕ) → List ℕ

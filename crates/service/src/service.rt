@@ -1,8 +1,10 @@
 //! A server: its files, its mounts, its clock, and what it replies.
 
 ghost use Rattle.std.specs.Prelude.{◌≡◌, ◌≤◌, ◌++◌, List, ℕ, length, None, IfOk, IfSome, OnOk, OnErr, IsOk};
+ghost use Rattle.std.specs.Io.{StartsWith};
 ghost use Rattle.std.specs.Option.{option_map};
 ghost use Rattle.records.specs.declared.record.TheConstants.{MAX_RECORD};
+ghost use Rattle.xdr.specs.Writing.{Appends};
 ghost use Rattle.rpc.specs.Call.{Message};
 ghost use Rattle.rpc.specs.CallValues.{IsCallOf};
 ghost use Rattle.nfs_items.specs.CallerOf.{caller_of};
@@ -10,6 +12,7 @@ ghost use Rattle.worlds.specs.IsWorld.{IsWorld};
 ghost use Rattle.worlds.specs.World.{opening_world, world_of};
 ghost use Rattle.service.specs.Replies.{bare_reply, call_results, call_reply, reply_to, reply_owed};
 ghost use Rattle.service.specs.Replies.{world_after};
+ghost use Rattle.service.specs.Owed.{IsReplied};
 ghost use Rattle.service.specs.Views.{served_of, view_of_call, HasShortName, IsBounded};
 
 use crate::checks::{ServedArgs, check_call};
@@ -118,21 +121,52 @@ impl Service {
         // Where no reply is owed, no memory is taken.
         ensures silence { reply_owed self.old time bytes.now ≡ None → IsOk result }
     {
+        let mut out = Vec::new(alloc);
+        if self.answer_into(alloc, time, bytes, &mut out)? {
+            Ok(Some(out))
+        } else {
+            Ok(None)
+        }
+    }
+
+    /// Appends the reply that is owed to a record at a time, and says whether one is; else as `answer`. Where
+    /// memory is refused, what was there stays in front. With room for `MAX_RECORD` bytes none is taken for
+    /// the reply.
+    #[tactic(auto, unfolding(crate::specs::Replies::reply_owed, crate::specs::Replies::world_after))]
+    pub fn answer_into(
+        &mut self,
+        alloc: Global,
+        time: Time,
+        bytes: &[u8],
+        out: &mut Vec<u8>,
+    ) -> Result<bool, AllocError>
+        ensures reply { IfOk result (λ is_owed.
+            IsReplied is_owed (reply_owed self.old time bytes.now) out.old.items out.new.items) }
+        ensures world { OnOk result (self.new ≡ world_after self.old time bytes.now) }
+        ensures size { OnOk result (IfSome (reply_owed self.old time bytes.now)
+            (λ text. length text ≤ MAX_RECORD)) }
+        ensures err { OnErr result (self.new ≡ self.old) }
+        ensures front { OnErr result (StartsWith out.new.items out.old.items) }
+        ensures silence { reply_owed self.old time bytes.now ≡ None → IsOk result }
+    {
         self.tree.files_are_a_tree();
         self.mounts.are_mounts();
         let now = time.later(self.clock);
-        let reply = match read_call(bytes) {
-            Ok(call) => Some(reply_to(alloc, &mut self.tree, &mut self.mounts, now, call)?),
-            Err(_) => None,
+        let is_owed = match read_call(bytes) {
+            Ok(call) => {
+                reply_to(alloc, out, &mut self.tree, &mut self.mounts, now, call)?;
+                true
+            }
+            Err(_) => false,
         };
         self.clock = now;
-        Ok(reply)
+        Ok(is_owed)
     }
 }
 
 /// Appends a reply with nothing behind it.
 fn add_bare_reply(out: &mut Vec<u8>, xid: u32, body: ReplyBody) -> Result<(), AllocError>
-    ensures { OnOk result (out.new.items ≡ out.old.items ++ bare_reply xid body) }
+    ensures { Appends (bare_reply xid body) out.old.items result out.new.items }
 {
     write_reply(&Reply { xid, body }, out)
 }
@@ -154,6 +188,7 @@ fn add_results(
     ensures world { OnOk result (world_of tree.new now mounts.new
         ≡ (call_results (world_of tree.old now mounts.old) (caller_of who.now) (served_of args.now)).1) }
     ensures err { OnErr result (world_of tree.new now mounts.new ≡ world_of tree.old now mounts.old) }
+    ensures same { OnErr result (out.new.items ≡ out.old.items) }
 {
     match args {
         ServedArgs::Nfs(args) => nfs_call(tree, alloc, who, now, args, out),
@@ -178,6 +213,7 @@ fn answer_call(
     ensures world { OnOk result (world_of tree.new now mounts.new
         ≡ (call_reply (world_of tree.old now mounts.old) xid (view_of_call checked.entry)).1) }
     ensures err { OnErr result (world_of tree.new now mounts.new ≡ world_of tree.old now mounts.old) }
+    ensures front { OnErr result (StartsWith out.new.items out.old.items) }
 {
     match checked {
         Ok((who, args)) => {
@@ -188,34 +224,35 @@ fn answer_call(
     }
 }
 
-/// The reply to a call.
+/// Appends the reply to a call.
 fn reply_to(
     alloc: Global,
+    out: &mut Vec<u8>,
     tree: &mut Tree,
     mounts: &mut MountTable,
     now: Time,
     call: Call,
-) -> Result<Vec<u8>, AllocError>
-    ensures text { IfOk result (λ v. (m : Message) (rest : List ℕ) → IsCallOf call.entry m rest →
-        v.items ≡ (reply_to (world_of tree.old now mounts.old) m rest).0) }
+) -> Result<(), AllocError>
+    ensures text { OnOk result ((m : Message) (rest : List ℕ) → IsCallOf call.entry m rest →
+        out.new.items ≡ out.old.items ++ (reply_to (world_of tree.old now mounts.old) m rest).0) }
     ensures world { OnOk result ((m : Message) (rest : List ℕ) → IsCallOf call.entry m rest →
         world_of tree.new now mounts.new ≡ (reply_to (world_of tree.old now mounts.old) m rest).1) }
     ensures err { OnErr result (world_of tree.new now mounts.new ≡ world_of tree.old now mounts.old) }
+    ensures front { OnErr result (StartsWith out.new.items out.old.items) }
 {
-    let mut out = Vec::with_capacity(alloc, REPLY_ROOM)?;
+    out.reserve(REPLY_ROOM)?;
     match call.body {
         CallBody::OtherVersion => add_bare_reply(
-            &mut out,
+            out,
             call.xid,
             ReplyBody::RpcMismatch {
                 low: RPC_VERSION,
                 high: RPC_VERSION,
             },
-        )?,
+        ),
         CallBody::Version2(header, arguments) => {
             let checked = check_call(&header, arguments);
-            answer_call(alloc, &mut out, tree, mounts, now, call.xid, checked)?;
+            answer_call(alloc, out, tree, mounts, now, call.xid, checked)
         }
     }
-    Ok(out)
 }

@@ -7,8 +7,11 @@ mod kind;
 mod link;
 mod read;
 mod showing;
+#[cfg(test)]
+mod tests;
 mod write;
 
+pub use evidence_spec::laws as evidence_laws;
 pub use closing::{copy_of, is_signed_in};
 pub use kind::EntryKind;
 pub use link::ShownLink;

@@ -1,0 +1,230 @@
+//! A call, its reply and their acknowledgements, and what comes again.
+
+use crate::parties::{
+    CALL, SERVER, ack_text, called, envelope_text, joined, new_client, new_server,
+};
+use authenticator::Number;
+use commitment::Entry;
+use nodes::{
+    AckTaken, Body, ClientNode, Direct, Heard, Link, LinkFault, NodeLog, Receipt, Received,
+    Refusal, ServerNode, Time,
+};
+use secure_log::{SegmentFault, check_segment};
+use std::alloc::Global;
+
+/// What a server answers its first call: it is acknowledged at 1, and its reply is sent at 3.
+fn receipt() -> Receipt {
+    Receipt {
+        ack: Number::new(1),
+        reply: Some(Number::new(3)),
+    }
+}
+
+/// What a server makes of a text at so many seconds.
+fn hears(alloc: Global, server: &mut ServerNode, seconds: u32, text: &[u8]) -> Option<Heard> {
+    match Time::new(seconds, 0) {
+        Some(time) => match server.receive(alloc, time, text) {
+            Ok(heard) => Some(heard),
+            Err(_) => None,
+        },
+        None => None,
+    }
+}
+
+/// Whether a log is RECV, CLOCK and SEND, so many keys are left, and the clock has so many seconds.
+fn is_after_call(node: &NodeLog, left: u32, seconds: u32) -> bool {
+    node.left() == left
+        && node.state().clock().seconds() == seconds
+        && match node.log().entries() {
+            [Entry::Recv { .. }, Entry::Clock { .. }, Entry::Send { .. }] => true,
+            _ => false,
+        }
+}
+
+/// Whether a node acknowledges its first entry by this text.
+fn acknowledges(alloc: Global, node: &NodeLog, ack: &[u8]) -> bool {
+    match ack_text(alloc, node, 1) {
+        Some(text) => text.as_slice() == ack,
+        None => false,
+    }
+}
+
+/// Whether a call that comes again changes nothing, and has the same acknowledgement.
+fn is_repeated(alloc: Global, server: &mut ServerNode, text: &[u8], ack: &[u8]) -> bool {
+    hears(alloc, server, 2, text) == Some(Heard::Repeat(receipt()))
+        && is_after_call(server.node(), 6, 1)
+        && acknowledges(alloc, server.node(), ack)
+}
+
+/// Whether a call is logged, and logged once, by two of eight keys.
+fn is_heard_once(alloc: Global, server: &mut ServerNode, text: &[u8]) -> bool {
+    let is_new = hears(alloc, server, 1, text) == Some(Heard::New(receipt()))
+        && is_after_call(server.node(), 6, 1);
+    match ack_text(alloc, server.node(), 1) {
+        Some(ack) => is_new && is_repeated(alloc, server, text, &ack),
+        None => false,
+    }
+}
+
+/// Whether the envelope of a call of 40 bytes has 16,580 bytes, and is heard once.
+fn is_called_once(alloc: Global, client: &mut ClientNode, server: &mut ServerNode) -> bool {
+    match called(alloc, client) {
+        Some(text) => text.len() == 16_580 && is_heard_once(alloc, server, &text),
+        None => false,
+    }
+}
+
+/// Whether the client takes the server's acknowledgement once, and the server doesn't take it.
+fn is_acknowledged_once(alloc: Global, client: &mut ClientNode, server: &mut ServerNode) -> bool {
+    match ack_text(alloc, server.node(), 1) {
+        Some(ack) => {
+            client.take_ack(alloc, &ack) == Ok(AckTaken::Logged(Number::new(2)))
+                && client.take_ack(alloc, &ack) == Ok(AckTaken::Already)
+                && client.take_reply(alloc, &ack) == Err(Refusal::Garbage)
+                && server.take_ack(alloc, &ack) == Err(Refusal::NotForMe)
+        }
+        None => false,
+    }
+}
+
+/// Whether the client takes the server's reply once, and doesn't take its own call.
+fn is_replied_once(alloc: Global, client: &mut ClientNode, server: &ServerNode) -> bool {
+    match envelope_text(alloc, server.node(), 3) {
+        Some(reply) => {
+            client.take_reply(alloc, &reply) == Ok(Received::New(Number::new(3)))
+                && client.take_reply(alloc, &reply) == Ok(Received::Repeat(Number::new(3)))
+                && client.take_ack(alloc, &reply) == Err(Refusal::Garbage)
+                && client.node().left() == 6
+        }
+        None => false,
+    }
+}
+
+/// Whether the server takes the client's acknowledgement of its reply.
+fn is_reply_acknowledged(alloc: Global, client: &ClientNode, server: &mut ServerNode) -> bool {
+    match ack_text(alloc, client.node(), 3) {
+        Some(ack) => server.take_ack(alloc, &ack) == Ok(AckTaken::Logged(Number::new(4))),
+        None => false,
+    }
+}
+
+/// The first step of a call and its reply that goes wrong.
+fn wrong_step(alloc: Global, client: &mut ClientNode, server: &mut ServerNode) -> &'static str {
+    if !is_called_once(alloc, client, server) {
+        "the call"
+    } else if !is_acknowledged_once(alloc, client, server) {
+        "its acknowledgement"
+    } else if !is_replied_once(alloc, client, server) {
+        "the reply"
+    } else if !is_reply_acknowledged(alloc, client, server) {
+        "the reply's acknowledgement"
+    } else if !is_challenged(alloc, server) {
+        "the challenge"
+    } else {
+        ""
+    }
+}
+
+/// The same of a new client and a new server.
+fn wrong_step_of_both(alloc: Global) -> &'static str {
+    match new_server(alloc, 3) {
+        Some(mut server) => match new_client(alloc, 3) {
+            Some(mut client) => wrong_step(alloc, &mut client, &mut server),
+            None => "memory",
+        },
+        None => "memory",
+    }
+}
+
+#[test]
+fn each_step_is_logged_once(rt: HostRuntime) {
+    let step = wrong_step_of_both(rt.alloc());
+    assert!(rt; step.is_empty(), "{step}");
+}
+
+/// Whether a text is that of a segment of so many entries whose signature is right.
+fn is_closed(alloc: Global, node: &NodeLog, text: &[u8], count: usize) -> bool {
+    match check_segment(alloc, node.roster(), text) {
+        Ok(closed) => closed.segment().entries().len() == count,
+        Err(_) => false,
+    }
+}
+
+/// Whether a node answers a challenge with so many entries; with none where it refuses as out of its range.
+fn answers(alloc: Global, node: &NodeLog, first: u64, last: u64, count: usize) -> bool {
+    match node.answer_challenge(alloc, first, last) {
+        Ok(text) => is_closed(alloc, node, &text, count),
+        Err(fault) => count == 0 && fault == SegmentFault::OutOfRange,
+    }
+}
+
+/// Whether a server that logged RECV, CLOCK, SEND, ACK and now CHECK answers challenges where something was
+/// signed, and nowhere else.
+fn is_challenged(alloc: Global, server: &mut ServerNode) -> bool {
+    server.checkpoint(alloc).is_ok()
+        && answers(alloc, server.node(), 1, 3, 3)
+        && answers(alloc, server.node(), 3, 3, 1)
+        && answers(alloc, server.node(), 1, 2, 0)
+        && answers(alloc, server.node(), 1, 5, 0)
+        && answers(alloc, server.node(), 0, 3, 0)
+        && answers(alloc, server.node(), 3, 1, 0)
+        && answers(alloc, server.node(), 1, 6, 0)
+}
+
+/// Whether a client calls, or why it doesn't.
+fn refusal(alloc: Global, client: &mut ClientNode) -> Option<Refusal> {
+    match Vec::from_slice(alloc, &CALL) {
+        Ok(body) => client.call(SERVER, Body::new(body)).err(),
+        Err(_) => Some(Refusal::NoMemory),
+    }
+}
+
+/// Whether a client with two keys calls twice.
+fn calls_with_each_key(alloc: Global) -> bool {
+    match new_client(alloc, 1) {
+        Some(mut client) => {
+            refusal(alloc, &mut client) == None
+                && refusal(alloc, &mut client) == None
+                && refusal(alloc, &mut client) == Some(Refusal::KeysUsedUp)
+        }
+        None => false,
+    }
+}
+
+#[test]
+fn a_client_calls_with_each_key(rt: HostRuntime) {
+    assert!(rt; calls_with_each_key(rt.alloc()));
+}
+
+/// The length of the reply to a call, or the fault.
+fn exchanged(alloc: Global, link: &mut Direct) -> Result<usize, LinkFault> {
+    match link.exchange(alloc, Time::epoch(), &CALL) {
+        Ok(Some(reply)) => Ok(reply.len()),
+        Ok(None) => Ok(0),
+        Err(fault) => Err(fault),
+    }
+}
+
+/// Whether four keys of each serve two calls.
+fn is_used_up(alloc: Global, link: &mut Direct) -> bool {
+    exchanged(alloc, link) == Ok(24)
+        && exchanged(alloc, link) == Ok(24)
+        && link.client().node().log().entries().len() == 6
+        && link.server().node().log().entries().len() == 8
+        && link.server().node().left() == 0
+        && exchanged(alloc, link) == Err(LinkFault::KeysUsedUp)
+        && exchanged(alloc, link) == Err(LinkFault::Failed)
+}
+
+/// The same of a new client and a new server.
+fn are_used_up(alloc: Global) -> bool {
+    match joined(alloc, 2) {
+        Some(mut link) => is_used_up(alloc, &mut link),
+        None => false,
+    }
+}
+
+#[test]
+fn calls_are_answered_until_the_keys_are_used_up(rt: HostRuntime) {
+    assert!(rt; are_used_up(rt.alloc()));
+}

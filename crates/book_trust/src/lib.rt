@@ -1,0 +1,4 @@
+//! An honest node is never exposed.
+#![tactic(auto)]
+
+pub mod laws;

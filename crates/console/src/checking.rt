@@ -1,0 +1,135 @@
+//! Whether a file is evidence.
+
+ghost use Rattle.std.specs.Prelude.{◌≡◌, IfOk, IfSome, IsErrOf, string_bytes};
+ghost use Rattle.std.specs.Io.KnownBytes.{Appends};
+ghost use Rattle.console.specs.Checking.{Judges, line_of, IsExplained, WritesExplained};
+ghost use Rattle.console.specs.declared.checking.CheckFault.TheVariants.{NoMemory};
+
+use crate::explain::explanation;
+use challenge::{EvidenceFault, check_evidence, read_case};
+use std::alloc::{AllocError, Global};
+use std::io::{ErrorKind, Read, Write};
+use thiserror::Error;
+
+/// What is said of a file.
+#[derive(Clone, Copy, Debug, PartialEq, Eq)]
+pub enum Judgement {
+    /// It is evidence against this node: no log of it is honest, unless the node's signature is forged or two
+    /// of the texts that were hashed have one digest.
+    Exposed(u32),
+    /// It isn't.
+    NoEvidence,
+}
+
+/// Why nothing is said of a file.
+#[derive(Clone, Copy, Debug, PartialEq, Eq, Error)]
+pub enum CheckFault {
+    /// Memory was refused.
+    #[error("out of memory")]
+    NoMemory,
+    /// A read or a write failed.
+    #[error("a device failed")]
+    Device,
+}
+
+/// What is said of a file's bytes: `Exposed` exactly where they are a roster's text, and behind it that of
+/// evidence that is accepted under it. `AllocError` comes only where a growth was refused.
+pub fn judge(alloc: Global, bytes: &[u8]) -> Result<Judgement, AllocError>
+    ensures { IfOk result (λ judgement. Judges bytes.now judgement) }
+{
+    let case = match read_case(alloc, bytes) {
+        Ok(case) => case,
+        Err(EvidenceFault::Garbage) => return Ok(Judgement::NoEvidence),
+        Err(EvidenceFault::NoMemory) => return Err(AllocError),
+    };
+    if check_evidence(alloc, &case.roster, &case.evidence)? {
+        Ok(Judgement::Exposed(case.evidence.node()))
+    } else {
+        Ok(Judgement::NoEvidence)
+    }
+}
+
+/// The line that says a judgement.
+fn line(alloc: Global, judgement: Judgement) -> Result<String, AllocError>
+    ensures { IfOk result (λ text. string_bytes text ≡ line_of judgement) }
+{
+    match judgement {
+        Judgement::Exposed(node) => format!(in alloc; "exposed {node}\n"),
+        Judgement::NoEvidence => format!(in alloc; "no evidence\n"),
+    }
+}
+
+/// All bytes that a reader gives.
+fn all_bytes<R: Read>(alloc: Global, reader: &mut R) -> Result<Vec<u8>, CheckFault>
+    ensures { IfOk result (λ bytes. IfSome (R.remaining reader.old) (λ input. bytes.items ≡ input)) }
+{
+    let mut bytes = Vec::new(alloc);
+    match reader.read_to_end(&mut bytes) {
+        Ok(_) => Ok(bytes),
+        Err(error) if error.kind() == ErrorKind::OutOfMemory => Err(CheckFault::NoMemory),
+        Err(_) => Err(CheckFault::Device),
+    }
+}
+
+/// Reads a file to its end, judges its bytes and writes the line that says so: `exposed N`, with the node's
+/// number, or `no evidence`. `Device` comes where a read or the write failed. `NoMemory` comes where memory
+/// was refused, and then nothing was written.
+pub fn check<R: Read, W: Write>(
+    alloc: Global,
+    reader: &mut R,
+    writer: &mut W,
+) -> Result<Judgement, CheckFault>
+    ensures judged { IfOk result (λ judgement. IfSome (R.remaining reader.old) (λ input.
+        Judges input judgement)) }
+    ensures written { IfOk result (λ judgement. Appends (W.contents writer.old) (W.contents writer.new)
+        (line_of judgement)) }
+    ensures memory { IsErrOf result NoMemory → writer.new ≡ writer.old }
+{
+    let bytes = all_bytes(alloc, reader)?;
+    let Ok(judgement) = judge(alloc, &bytes) else {
+        return Err(CheckFault::NoMemory);
+    };
+    let Ok(line) = line(alloc, judgement) else {
+        return Err(CheckFault::NoMemory);
+    };
+    match writer.write_all(line.as_bytes()) {
+        Ok(()) => Ok(judgement),
+        Err(_) => Err(CheckFault::Device),
+    }
+}
+
+/// As `check`, and writes behind its line what the file shows, in plain words: who is accused, of what and
+/// where, or why it is no evidence.
+pub fn check_and_explain<R: Read, W: Write>(
+    alloc: Global,
+    reader: &mut R,
+    writer: &mut W,
+) -> Result<Judgement, CheckFault>
+    ensures judged { IfOk result (λ judgement. IfSome (R.remaining reader.old) (λ input.
+        Judges input judgement)) }
+    ensures written { IfOk result (λ judgement. WritesExplained judgement
+        (W.contents writer.old) (W.contents writer.new)) }
+    ensures memory { IsErrOf result NoMemory → writer.new ≡ writer.old }
+{
+    let bytes = all_bytes(alloc, reader)?;
+    let Ok(judgement) = judge(alloc, &bytes) else {
+        return Err(CheckFault::NoMemory);
+    };
+    let Ok(text) = explained(alloc, judgement, &bytes) else {
+        return Err(CheckFault::NoMemory);
+    };
+    match writer.write_all(text.as_bytes()) {
+        Ok(()) => Ok(judgement),
+        Err(_) => Err(CheckFault::Device),
+    }
+}
+
+/// The line that says a judgement, and behind it what the bytes show.
+fn explained(alloc: Global, judgement: Judgement, bytes: &[u8]) -> Result<String, AllocError>
+    ensures { IfOk result (λ text. IsExplained judgement (string_bytes text)) }
+{
+    let more = explanation(alloc, bytes)?;
+    let mut text = line(alloc, judgement)?;
+    text.push_str(&more)?;
+    Ok(text)
+}
