@@ -1,24 +1,18 @@
 -- What stands behind own steps that were checked and owed: where the audit is, and that the accepted segments
 -- hold all numbers up to the end.
 -- Serves: evidence_where_exposed, evidence_proves.
-use Rattle.std.proofs.Common.{◌≡◌, ◌⊎◌, inl, inr, ℕ, suc, ◌+◌, ◌<◌, ◌≤◌, Bool, true, false, nat_lt, List, [], ◌∷◌, ◌++◌}
-use Rattle.std.proofs.Common.{Option, Some, None, refl, sym, ap, subst, ◌∙◌, length, map, arith}
-use Rattle.std.specs.Prelude.{IsTrue, ◌&&◌}
-use Rattle.std.proofs.lemmas.Bool.{and_parts, ltb-true, ltb-false}
-use Rattle.std.proofs.lemmas.List.{length-map}
-use Rattle.xdr.specs.Item.{Fits}
-use Rattle.authenticator.specs.Signed.{IsSignedIn, authenticator_item, authenticator_value}
-use Rattle.authenticator.specs.declared.authenticator.Authenticator.{Authenticator}
+use Rattle.std.proofs.Common.{◌≡◌, ◌⊎◌, inl, inr, ℕ, ◌+◌, ◌≤◌, Bool, true, false, nat_lt, List, [], ◌∷◌, ◌++◌}
+use Rattle.std.proofs.Common.{Option, Some, None, refl, sym, ap, subst, ◌∙◌, arith}
+use Rattle.std.proofs.lemmas.Bool.{ltb-true, ltb-false}
 use Rattle.authenticator.specs.declared.member.Member.{Member}
-use Rattle.log_entries.specs.Entry.{entry_value}
-use Rattle.secure_log.specs.Segment.{SegmentParts, ClosedParts, HasText, IsClosed, segment_value}
+use Rattle.secure_log.specs.Segment.{SegmentParts, ClosedParts}
 use Rattle.honest_logs.specs.Replay.{Verdict, Sound, Fault}
 use Rattle.evidence_spec.specs.Showing.{IsAmong}
 use Rattle.book_spec.specs.Events.{JobParts}
 use Rattle.book_spec.specs.Replies.{Reply}
-use Rattle.book_spec.specs.Steps.{Step, Learn, Answer, Past}
+use Rattle.book_spec.specs.Steps.{Step, Past}
 use Rattle.book_spec.specs.Limits.{MAX_AUDITED}
-use Rattle.book_spec.specs.Done.{noted, accepted, filed}
+use Rattle.book_spec.specs.Done.{accepted, filed}
 use Rattle.book_spec.specs.Standing.{End, end_of, end_behind, moved_by, verdict_on, Stage, NoAudit, Wanted, Given}
 use Rattle.book_spec.specs.Standing.{Out, stage_behind, stage_of, segment_of, all_accepted}
 use Rattle.book_spec.specs.Histories.{AreOwed}

@@ -1,12 +1,11 @@
 -- While a node isn't exposed, each pair that it showed, but that at 0, is one of a learned authenticator that
 -- is kept, or of an accepted segment.
 -- Serves: evidence_where_exposed, evidence_proves.
-use Rattle.std.proofs.Common.{◌≡◌, ◌≢◌, ◌⊎◌, inl, inr, ℕ, suc, ◌+◌, ◌-◌, ◌<◌, ◌≤◌, Bool, true, false, cond, ◌==◌}
+use Rattle.std.proofs.Common.{◌≡◌, ◌⊎◌, inl, inr, ℕ, ◌+◌, ◌-◌, ◌<◌, ◌≤◌, Bool, true, false, cond, ◌==◌}
 use Rattle.std.proofs.Common.{nat_lt, nat_le, List, [], ◌∷◌, ◌++◌, filter, length, Option, Some, None, refl, sym, ap}
 use Rattle.std.proofs.Common.{subst, ◌∙◌, arith, eqb-true, eq-eqb, length-append, map}
 use Rattle.std.specs.Prelude.{find, ◌&&◌}
 use Rattle.std.proofs.lemmas.Bool.{and_parts, and_from, true≢false, ltb-true, ltb-false, leb-true, le-leb}
-use Rattle.xdr.specs.Item.{Fits}
 use Rattle.authenticator.specs.declared.authenticator.Authenticator.{Authenticator}
 use Rattle.authenticator.specs.declared.member.Member.{Member}
 use Rattle.log_entries.specs.Entry.{entry_value}
@@ -14,8 +13,8 @@ use Rattle.log_entries.specs.Chain.{Link, pairs, hash_after, links_from}
 use Rattle.secure_log.specs.Segment.{SegmentParts, ClosedParts, segment_pairs}
 use Rattle.honest_logs.specs.Signing.{is_same}
 use Rattle.replay_spec.proofs.Signed.{same_list, list_same, is_false}
-use Rattle.evidence_spec.specs.Showing.{ShowingParts, IsClosedShowing, IsAmong, Shows, showing_item, showing_value}
-use Rattle.evidence_spec.specs.Showing.{showing_pairs, authenticator_showing, segment_showing}
+use Rattle.evidence_spec.specs.Showing.{ShowingParts, IsAmong}
+use Rattle.evidence_spec.specs.Showing.{authenticator_showing, segment_showing}
 use Rattle.evidence_spec.specs.Laws.{ShowsPairs}
 use Rattle.evidence_spec.proofs.Closed.{one_pair, own_pairs}
 use Rattle.evidence_spec.proofs.Places.{AreNumbered, entries_numbered, length-links, behind}
@@ -29,9 +28,9 @@ use Rattle.book_spec.specs.Exposing.{segment_holding, or_segment, showing_before
 use Rattle.book_spec.specs.Histories.{AreOwed}
 use Rattle.book_spec.specs.Laws.{HasTwoHashes}
 use Rattle.book_laws.proofs.Exposing.{exposed_is, why_exposed, exposed_further}
-use Rattle.book_evidence.proofs.Doing.{Did, Doing, Nothing, Notes, Accepts, Asks, Begins, Files, PutsBack, doing}
+use Rattle.book_evidence.proofs.Doing.{Doing, Nothing, Notes, Accepts, Asks, Begins, Files, PutsBack, doing}
 use Rattle.book_evidence.proofs.Checked.{IsGoodAuthenticator, IsGoodSegment, IsCheckedStep, AreChecked}
-use Rattle.book_evidence.proofs.Audits.{IsHeld, IsBehind, Stand}
+use Rattle.book_evidence.proofs.Audits.{IsHeld, Stand}
 
 -- ---- lists
 
@@ -178,7 +177,7 @@ module _ (ms : List Member) (m : Member) where
   noted_good : (past : Past) (a : Authenticator) → AreOwed ms m past → AreChecked ms m past
       → IsAmong a (noted_before ms m past) → IsGoodAuthenticator ms m a
   noted_good [] a owed checked i = absurd i
-  noted_good (p ∷ past) a owed checked i = 
+  noted_good (p ∷ past) a owed checked i =
       by (is_exposed ms m (p ∷ past)) (noted p.0 p.1) refl i (λ k. noted_good past a owed.1 checked.1 k)
     where
       by : (b : Bool) (o : Option Authenticator) → noted p.0 p.1 ≡ o
@@ -384,8 +383,15 @@ module _ (ms : List Member) (m : Member) (past : Past) (n : ℕ) (x : List ℕ) 
           let h = behind (s.first - 1) s.opening links n x
           (subst (λ k. AreNumbered k links) back (entries_numbered s.first s.entries)) j in
           let high : n ≤ s.closing.number =
-          omega (arith, h.count, ap length h.whole, length-append h.front h.rest, first, k.good.closed.ends.number,
-          length-links s.first s.entries) in
+          omega (
+            arith,
+            h.count,
+            ap length h.whole,
+            length-append h.front h.rest,
+            first,
+            k.good.closed.ends.number,
+            length-links s.first s.entries,
+          ) in
           let low : s.first ≤ n + 1 = omega (arith, h.count, first) in
           at b e low high k.first
         where

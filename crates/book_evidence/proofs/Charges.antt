@@ -1,12 +1,12 @@
 -- A step that exposes a node brings a charge that is accepted, and has a text; another brings none.
 -- Serves: evidence_where_exposed, evidence_proves.
 use Rattle.std.proofs.Common.{◌≡◌, ◌≢◌, ◌⊎◌, inl, inr, ℕ, ◌+◌, ◌-◌, ◌^◌, ◌<◌, ◌≤◌, Bool, true, false, cond, ◌||◌, ◌==◌}
-use Rattle.std.proofs.Common.{nat_lt, List, [], ◌∷◌, ◌++◌, length, Option, Some, None, refl, sym, ap, ap₂, subst, ◌∙◌}
+use Rattle.std.proofs.Common.{List, [], ◌∷◌, ◌++◌, length, Option, Some, None, refl, sym, ap, ap₂, subst, ◌∙◌}
 use Rattle.std.proofs.Common.{arith, eqb-true, length-append, not, zero, suc}
-use Rattle.std.specs.Prelude.{option_map, option_and_then, ◌&&◌}
-use Rattle.std.proofs.lemmas.Bool.{and_parts, or_cases, or_left, or_right, true≢false, ltb-true, lt-ltb}
+use Rattle.std.specs.Prelude.{option_map, option_and_then}
+use Rattle.std.proofs.lemmas.Bool.{and_parts, or_cases, or_right, true≢false, ltb-true, lt-ltb}
 use Rattle.xdr.specs.Item.{Fits, choice}
-use Rattle.authenticator.specs.Numbers.{is_number, number_item}
+use Rattle.authenticator.specs.Numbers.{number_item}
 use Rattle.authenticator.specs.declared.authenticator.Authenticator.{Authenticator}
 use Rattle.authenticator.specs.declared.member.Member.{Member}
 use Rattle.log_entries.specs.Chain.{zeros, links_from}
@@ -34,7 +34,7 @@ use Rattle.book_evidence.proofs.Doing.{Did, Doing, Nothing, Notes, Accepts, Asks
 use Rattle.book_evidence.proofs.Checked.{IsGoodAuthenticator, IsGoodSegment, IsCheckedStep, AreChecked}
 use Rattle.book_evidence.proofs.Audits.{Stand}
 use Rattle.book_evidence.proofs.Before.{split, on_left, on_right, one_shown, IsGoodShowing, good_authenticator}
-use Rattle.book_evidence.proofs.Before.{first_some, good_segment, IsShownBefore, shown_before}
+use Rattle.book_evidence.proofs.Before.{first_some, good_segment, shown_before}
 
 -- ---- forks between new pairs and old
 
@@ -119,8 +119,9 @@ positive (suc n) h = omega arith
 
 -- ---- charges
 
--- it is accepted against the node, and has a text
+-- it is accepted against the node, and has a text with it
 pub record IsGoodCharge (ms : List Member) (m : Member) (g : Charge) : Type 0 where
+  pub small : m.node < 2 ^ 32
   pub accepted : AcceptsCharge ms m.node g
   pub text : Fits (choice is_charge charge_item) (charge_value g)
 
@@ -166,11 +167,18 @@ new_segment ms m s good =
       few = λ n x i.
           let h = behind (s.first - 1) s.opening links n x are i in
           lower_fits n s.closing.number
-          (omega (arith, h.count, ap length h.whole, length-append h.front h.rest, some, good.closed.ends.number,
-          length-links s.first s.entries)) good.text.0.1.1.1.1.1.0;
+          (omega (
+            arith,
+            h.count,
+            ap length h.whole,
+            length-append h.front h.rest,
+            some,
+            good.closed.ends.number,
+            length-links s.first s.entries,
+          )) good.text.0.1.1.1.1.1.0;
     }
 
-first_shown : (ms : List Member) (m : Member) (past : Past) → IsAmong first_pair (shown ms m past)
+pub first_shown : (ms : List Member) (m : Member) (past : Past) → IsAmong first_pair (shown ms m past)
 first_shown ms m [] = inl refl
 first_shown ms m (p ∷ past) =
     on_right first_pair (pairs_noted (is_exposed ms m past) (noted p.0 p.1))
@@ -188,6 +196,7 @@ module _ (ms : List Member) (m : Member) (past : Past) (p : Step × Reply) (owed
       let zero_is : f.other ≡ zeros =
       one_shown ms m past e 0 f.other zeros f.other_old (first_shown ms m past) in
       record {
+        small = omega (arith, is.good.shows.text.0, is.good.node);
         accepted = record {
           a_node = is.good.node;
           closed = is.good.shows.closed;
@@ -203,6 +212,7 @@ module _ (ms : List Member) (m : Member) (past : Past) (p : Step × Reply) (owed
       → IsGoodShowing ms m old qs → (f : Forks ps (shown ms m past) n) → IsAmong (n, f.other) qs
       → IsGoodCharge ms m (Fork (record { at = n; a = old; b = Some new }))
   at_number n new old ps qs is before f there = record {
+    small = omega (arith, is.good.shows.text.0, is.good.node);
     accepted = record {
       a_node = before.node;
       b_node = is.good.node;

@@ -1,7 +1,7 @@
 -- A history's own steps were checked: what a step holds has a text, is signed, and is its node's.
 -- Serves: evidence_where_exposed, evidence_proves.
-use Rattle.std.proofs.Common.{◌≡◌, ◌⊎◌, inl, inr, ℕ, Bool, true, false, cond, ◌&&◌, ◌==◌, List, [], ◌∷◌, ◌++◌}
-use Rattle.std.proofs.Common.{Option, Some, None, IsSomeAnd, Result, Ok, Err, refl, sym, ap, ap₂, subst, ◌∙◌, eqb-true}
+use Rattle.std.proofs.Common.{◌≡◌, ℕ, Bool, true, false, cond, ◌&&◌, ◌==◌, List, [], ◌∷◌, ◌++◌}
+use Rattle.std.proofs.Common.{Option, Some, None, IsSomeAnd, Result, Ok, Err, refl, sym, ap₂, subst, ◌∙◌, eqb-true}
 use Rattle.std.proofs.lemmas.Bool.{and_parts}
 use Rattle.xdr.specs.Item.{Fits, IsBytes}
 use Rattle.merkle_keys.specs.Signing.{Signed}
@@ -29,7 +29,7 @@ use Rattle.book_spec.specs.Steps.{Step, Learn, SendChallenge, Answer, AckIn, Aud
 use Rattle.book_spec.specs.Steps.{Forward, Ask, OwnStep, Past}
 use Rattle.book_spec.specs.Whose.{step_of, is_key_of, same_member, same_roster, signed_step, sent_step}
 use Rattle.book_spec.specs.Whose.{closed_step, delivered_step, judged_step, whose}
-use Rattle.book_spec.specs.Histories.{History, own_step, own_one, own, IsHistory}
+use Rattle.book_spec.specs.Histories.{History, own_one, own, IsHistory}
 use Rattle.book_laws.proofs.OwnSteps as own_steps
 
 -- ---- what is checked
@@ -229,9 +229,11 @@ module _ (ms : List Member) (m : Member) (is : member_of ms m.node ≡ Some m) w
       by : (b : Bool) → is_want_of_memory r ≡ b → AreChecked ms m (own ms m.node ((e, r) ∷ history))
       by true want = with_one (e, r) history [] (own_steps.want_own ms m.node e r want) rest
       by false want =
-          with_one (e, r) history ((o.step, r) ∷ []) (own_steps.its_own ms m.node e r o w same want)
-          (subst (λ x. IsCheckedStep ms x o.step)
-          (own_steps.same_member ms m e o is w (eqb-true o.member.node m.node same)) checked, rest)
+          with_one (e, r) history ((o.step, r) ∷ []) (own_steps.its_own ms m.node e r o w same want) (
+            subst (λ x. IsCheckedStep ms x o.step)
+                (own_steps.same_member ms m e o is w (eqb-true o.member.node m.node same)) checked,
+            rest,
+          )
 
   one_checked : (e : Event) (r : Reply) (history : History) (w : Result OwnStep Refusal) → whose ms e ≡ w
       → IsEvent e → AreChecked ms m (own ms m.node history) → AreChecked ms m (own ms m.node ((e, r) ∷ history))

@@ -1,9 +1,9 @@
 -- What a step did, by the reply that is owed to it.
 -- Serves: evidence_where_exposed, evidence_proves.
-use Rattle.std.proofs.Common.{◌≡◌, ℕ, ◌+◌, ◌-◌, ◌≤◌, Bool, true, false, cond, ◌&&◌, ◌==◌, nat_le, nat_lt, List}
+use Rattle.std.proofs.Common.{◌≡◌, ℕ, ◌+◌, ◌-◌, ◌≤◌, Bool, true, false, cond, ◌&&◌, ◌==◌, nat_lt, List}
 use Rattle.std.proofs.Common.{[], ◌∷◌, Option, Some, None, refl, sym, ap, subst, ◌∙◌, eqb-true, arith}
 use Rattle.std.proofs.lemmas.Bool.{and_parts, ltb-false}
-use Rattle.std.specs.Prelude.{Decides, count_by, length}
+use Rattle.std.specs.Prelude.{Decides, length}
 use Rattle.authenticator.specs.declared.authenticator.Authenticator.{Authenticator}
 use Rattle.authenticator.specs.declared.member.Member.{Member}
 use Rattle.secure_log.specs.Segment.{ClosedParts}
@@ -77,8 +77,11 @@ module _ (ms : List Member) (m : Member) (past : Past) where
   answers c (Out d) is = Nothing (record { notes = refl; accepts = refl; files = refl; stage = refl })
 
   asked : (x y z : Bool) (first last : ℕ) → first ≡ (end_of ms m past).number + 1 → nat_lt MAX_AUDITED last ≡ y
-      → Doing ms m past (Audit, cond x (Refused refusals.TooFar) (cond y (Refused refusals.BookFull)
-      (cond z (Refused refusals.OutboxFull) (Asked first last))))
+      → Doing ms m past (
+        Audit,
+        cond x (Refused refusals.TooFar) (cond y (Refused refusals.BookFull)
+            (cond z (Refused refusals.OutboxFull) (Asked first last))),
+      )
   asked true y z first last is e =
       Nothing (record { notes = refl; accepts = refl; files = refl; stage = refl })
   asked false true z first last is e =
@@ -132,8 +135,11 @@ module _ (ms : List Member) (m : Member) (past : Past) where
   files d false (Some j) h = Nothing (record { notes = refl; accepts = refl; files = refl; stage = refl })
 
   puts_back : (j : JobParts) (b : Bool) (o : Option JobParts) → (b ≡ true → job_out ms m past ≡ Some j)
-      → Doing ms m past (PutBack j, back_reply b o Returned (PutBackRefused refusals.WrongJob j)
-      (PutBackRefused refusals.NoJob j))
+      → Doing ms m past (
+        PutBack j,
+        back_reply b o Returned (PutBackRefused refusals.WrongJob j)
+            (PutBackRefused refusals.NoJob j),
+      )
   puts_back j b None h = Nothing (record { notes = refl; accepts = refl; files = refl; stage = refl })
   puts_back j true (Some k) h =
       PutsBack j.segment (out_is j (stage_of past) refl (h refl))

@@ -3,3 +3,5 @@ pub mod Checked
 pub mod Audits
 pub mod Before
 pub mod Charges
+pub mod Audited
+pub mod Told

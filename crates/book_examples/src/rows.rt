@@ -9,8 +9,10 @@ ghost use Rattle.envelopes.specs.declared.acknowledgement.Ack.{Ack};
 ghost use Rattle.envelopes.specs.declared.envelope.Envelope.{Envelope};
 ghost use Rattle.book_spec.specs.Refusals.{WrongJob, NothingToAudit};
 ghost use Rattle.book_spec.specs.Events.{ItsIndication, ItsChallenges, ItsEvidence};
-ghost use Rattle.book_spec.specs.Replies.{Noted, Already, Opened, Accepted, Closed, Asked, Job, Filed, Returned};
-ghost use Rattle.book_spec.specs.Replies.{Forwarded, Empty, Told, OpenList, EvidenceIs, Refused, FileRefused, SendOf};
+ghost use Rattle.book_spec.specs.Replies.{Noted, Already, Opened, Accepted, Closed, Asked, Job, Filed};
+ghost use Rattle.book_spec.specs.Replies.{Returned};
+ghost use Rattle.book_spec.specs.Replies.{Forwarded, Empty, Told, OpenList, EvidenceIs, Refused};
+ghost use Rattle.book_spec.specs.Replies.{FileRefused, SendOf};
 ghost use Rattle.book_spec.specs.Replies.{Trusted, Suspected, Exposed};
 ghost use Rattle.book_spec.specs.Steps.{Learn, SendChallenge, Answer, AckIn, Audit, Begin, File, PutBack};
 ghost use Rattle.book_spec.specs.Steps.{Forward, Ask, Past};
@@ -83,7 +85,7 @@ pub fn the_oldest_is_forwarded()
 
 /// A segment that is filed Sound moves the end to its last number, with the state there, and the node is
 /// Trusted; what was learned up to there is kept no more.
-#[tactic(auto, unfolding(book_spec::specs::Stepping::step))]
+#[tactic(auto, unfolding(replay_spec::specs::Stepping::step))]
 pub fn sound_segments_move_the_end()
     ensures end { end_of [] five filed_two ≡ record { number = 1; state = state_read } }
     ensures trusted { Owes [] five filed_two (Ask ItsIndication) (Told Trusted) }
@@ -91,7 +93,7 @@ pub fn sound_segments_move_the_end()
 {}
 
 /// A segment that isn't honest exposes the node when it is filed, by a replay from the first entry on.
-#[tactic(auto, unfolding(book_spec::specs::Stepping::step))]
+#[tactic(auto, unfolding(replay_spec::specs::Stepping::step))]
 pub fn faults_expose()
     ensures filed { Owes [] five no_out (File no_done) Filed }
     ensures exposed { Owes [] five no_filed (Ask ItsIndication) (Told Exposed) }
@@ -101,7 +103,11 @@ pub fn faults_expose()
 {}
 
 /// Events of a roster with the replies that are owed to them are a history: what is nobody's step among them.
-#[tactic(auto, unfolding(packets::specs::Judging::judged, packets::specs::Packet::delivery_of, xdr::specs::Reading::number_at))]
+#[tactic(auto, unfolding(
+    packets::specs::Judging::judged,
+    packets::specs::Packet::delivery_of,
+    xdr::specs::Reading::number_at,
+))]
 pub fn histories_are_possible()
     ensures { IsHistory (five ∷ []) (some_events) }
 {}
