@@ -103,11 +103,7 @@ pub fn faults_expose()
 {}
 
 /// Events of a roster with the replies that are owed to them are a history: what is nobody's step among them.
-#[tactic(auto, unfolding(
-    packets::specs::Judging::judged,
-    packets::specs::Packet::delivery_of,
-    xdr::specs::Reading::number_at,
-))]
+#[tactic(auto, unfolding(packets::specs::Judging::judged, packets::specs::Packet::delivery_of, xdr::specs::Reading::number_at,))]
 pub fn histories_are_possible()
     ensures { IsHistory (five ∷ []) (some_events) }
 {}

@@ -1,7 +1,9 @@
 //! What no clause says: with memory at hand evidence is made, written, read and checked.
 
-use crate::{AuditedLog, Case, Charge, Evidence, EvidenceFault, Finding, Fork, NotAccepted};
-use crate::{ReplayFault, Showing, check_evidence, examine, read_case, read_evidence, write_case};
+use crate::{
+    AuditedLog, Case, Charge, Evidence, EvidenceFault, Finding, Fork, NotAccepted, ReplayFault,
+    Showing, check_evidence, examine, read_case, read_evidence, write_case,
+};
 use authenticator::{Authenticator, Kind, Member, Number, Roster, signed_digest};
 use log_entries::entry_hash;
 use merkle_keys::Signer;

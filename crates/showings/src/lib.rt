@@ -11,8 +11,8 @@ mod showing;
 mod tests;
 mod write;
 
-pub use evidence_spec::laws as evidence_laws;
 pub use closing::{copy_of, is_signed_in};
+pub use evidence_spec::laws as evidence_laws;
 pub use kind::EntryKind;
 pub use link::ShownLink;
 pub use showing::Showing;
