@@ -15,11 +15,11 @@ use Rattle.log_entries.specs.Entry.{entry_item, entry_value}
 use Rattle.log_entries.specs.Chain.{Link, zeros, pairs, hash_after, last_hash, links_from}
 use Rattle.log_entries.proofs.Pairs.{last_hash-parts}
 use Rattle.secure_log.specs.Segment.{SegmentParts, ClosedParts, segment_pairs}
-use Rattle.honest_logs.specs.State.{State}
-use Rattle.honest_logs.specs.Opening.{opening_of}
-use Rattle.honest_logs.specs.Placed.{Placed, placed, placed_in}
-use Rattle.honest_logs.specs.Stepping.{ReplayFault, step}
-use Rattle.honest_logs.specs.Replay.{Sound, Fault, Honest, last_state, verdict_of}
+use Rattle.book_spec.specs.State.{State}
+use Rattle.book_spec.specs.Opening.{opening_of}
+use Rattle.book_spec.specs.Placed.{Placed, placed, placed_in}
+use Rattle.book_spec.specs.Stepping.{ReplayFault, step}
+use Rattle.book_spec.specs.Replay.{Sound, Fault, Honest, last_state, verdict_of}
 use Rattle.replay_spec.proofs.Places.{places_joined}
 use Rattle.replay_spec.proofs.Runs.{is_sound, first_fault, is_fault, joined, last_joined}
 use Rattle.evidence_spec.specs.Showing.{IsAmong}
@@ -34,8 +34,7 @@ use Rattle.book_spec.specs.Done.{noted, accepted, filed}
 use Rattle.book_spec.specs.Standing.{End, end_of, end_behind, moved_by, verdict_on, sound_entries, entries_filed}
 use Rattle.book_spec.specs.Standing.{audited, pairs_noted, pairs_accepted, shown, is_exposed}
 use Rattle.book_spec.specs.Exposing.{audited_with}
-use Rattle.book_evidence.proofs.Checked.{IsGoodSegment}
-use Rattle.book_evidence.proofs.Audits.{IsNext}
+use Rattle.book_evidence.proofs.Audits.{IsGoodSegment, IsNext}
 use Rattle.book_evidence.proofs.Before.{on_right, one_shown, accepted_shown, first_some}
 use Rattle.book_evidence.proofs.Charges.{IsGoodCharge, first_shown}
 

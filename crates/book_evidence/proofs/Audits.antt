@@ -5,8 +5,8 @@ use Rattle.std.proofs.Common.{◌≡◌, ◌⊎◌, inl, inr, ℕ, ◌+◌, ◌�
 use Rattle.std.proofs.Common.{Option, Some, None, refl, sym, ap, subst, ◌∙◌, arith}
 use Rattle.std.proofs.lemmas.Bool.{ltb-true, ltb-false}
 use Rattle.authenticator.specs.declared.member.Member.{Member}
-use Rattle.secure_log.specs.Segment.{SegmentParts, ClosedParts}
-use Rattle.honest_logs.specs.Replay.{Verdict, Sound, Fault}
+use Rattle.secure_log.specs.Segment.{SegmentParts, ClosedParts, HasText, IsClosed}
+use Rattle.book_spec.specs.Replay.{Verdict, Sound, Fault}
 use Rattle.evidence_spec.specs.Showing.{IsAmong}
 use Rattle.book_spec.specs.Events.{JobParts}
 use Rattle.book_spec.specs.Replies.{Reply}
@@ -16,10 +16,19 @@ use Rattle.book_spec.specs.Done.{accepted, filed}
 use Rattle.book_spec.specs.Standing.{End, end_of, end_behind, moved_by, verdict_on, Stage, NoAudit, Wanted, Given}
 use Rattle.book_spec.specs.Standing.{Out, stage_behind, stage_of, segment_of, all_accepted}
 use Rattle.book_spec.specs.Histories.{AreOwed}
-use Rattle.book_evidence.proofs.Checked.{IsGoodSegment, IsCheckedStep, AreChecked}
-use Rattle.book_evidence.proofs.Doing.{Did, Doing, Nothing, Notes, Accepts, Asks, Begins, Files, PutsBack, doing}
+use Rattle.book_laws.proofs.Checked.{IsGiven, IsCheckedStep, AreChecked}
+use Rattle.book_laws.proofs.Doing.{Did, Doing, Nothing, Notes, Accepts, Asks, Begins, Files, PutsBack, doing}
 
 -- ---- what holds
+
+-- a segment of the node's log, with a text, closed by it
+pub record IsGoodSegment (ms : List Member) (m : Member) (s : SegmentParts) : Type 0 where
+  pub text : HasText s
+  pub closed : IsClosed ms s
+  pub node : s.closing.node ≡ m.node
+
+pub good_given : (ms : List Member) (m : Member) (c : ClosedParts) → IsGiven ms m c → IsGoodSegment ms m c.segment
+good_given ms m c given = record { text = given.text; closed = given.closed; node = given.node }
 
 -- a number lies in an accepted segment
 pub record IsHeld (past : Past) (number : ℕ) : Type 0 where
@@ -186,7 +195,7 @@ module _ (ms : List Member) (m : Member) (past : Past) (p : Step × Reply) where
   stands_on (Nothing did) checked k = quiet (stage_of past) did.stage did.accepts did.files k.stage k
   stands_on (Notes a is did) checked k = quiet (stage_of past) did.stage did.accepts did.files k.stage k
   stands_on (Accepts c is wanted did) checked k =
-      gives c (subst (IsCheckedStep ms m) is checked) wanted did k
+      gives c (good_given ms m c (subst (IsCheckedStep ms m) is checked)) wanted did k
   stands_on (Asks first last is few did) checked k =
       quiet (Wanted first last) did.stage did.accepts did.files (is, few) k
   stands_on (Begins c is did) checked k =

@@ -11,7 +11,7 @@ use Rattle.authenticator.specs.declared.member.Member.{Member}
 use Rattle.log_entries.specs.Entry.{entry_value}
 use Rattle.log_entries.specs.Chain.{Link, pairs, hash_after, links_from}
 use Rattle.secure_log.specs.Segment.{SegmentParts, ClosedParts, segment_pairs}
-use Rattle.honest_logs.specs.Signing.{is_same}
+use Rattle.book_spec.specs.Signing.{is_same}
 use Rattle.replay_spec.proofs.Signed.{same_list, list_same, is_false}
 use Rattle.evidence_spec.specs.Showing.{ShowingParts, IsAmong}
 use Rattle.evidence_spec.specs.Showing.{authenticator_showing, segment_showing}
@@ -28,9 +28,9 @@ use Rattle.book_spec.specs.Exposing.{segment_holding, or_segment, showing_before
 use Rattle.book_spec.specs.Histories.{AreOwed}
 use Rattle.book_spec.specs.Laws.{HasTwoHashes}
 use Rattle.book_laws.proofs.Exposing.{exposed_is, why_exposed, exposed_further}
-use Rattle.book_evidence.proofs.Doing.{Doing, Nothing, Notes, Accepts, Asks, Begins, Files, PutsBack, doing}
-use Rattle.book_evidence.proofs.Checked.{IsGoodAuthenticator, IsGoodSegment, IsCheckedStep, AreChecked}
-use Rattle.book_evidence.proofs.Audits.{IsHeld, Stand}
+use Rattle.book_laws.proofs.Doing.{Doing, Nothing, Notes, Accepts, Asks, Begins, Files, PutsBack, doing}
+use Rattle.book_laws.proofs.Checked.{IsLearned, IsCheckedStep, AreChecked}
+use Rattle.book_evidence.proofs.Audits.{IsGoodSegment, IsHeld, Stand}
 
 -- ---- lists
 
@@ -175,20 +175,20 @@ module _ (ms : List Member) (m : Member) where
   noted_step past p a (PutsBack c is did) h = let no : None ≡ Some a = sym did.notes ∙ h in absurd (cc)
 
   noted_good : (past : Past) (a : Authenticator) → AreOwed ms m past → AreChecked ms m past
-      → IsAmong a (noted_before ms m past) → IsGoodAuthenticator ms m a
+      → IsAmong a (noted_before ms m past) → IsLearned ms m a
   noted_good [] a owed checked i = absurd i
   noted_good (p ∷ past) a owed checked i =
       by (is_exposed ms m (p ∷ past)) (noted p.0 p.1) refl i (λ k. noted_good past a owed.1 checked.1 k)
     where
       by : (b : Bool) (o : Option Authenticator) → noted p.0 p.1 ≡ o
           → IsAmong a (unless_exposed b o ++ noted_before ms m past)
-          → (IsAmong a (noted_before ms m past) → IsGoodAuthenticator ms m a) → IsGoodAuthenticator ms m a
+          → (IsAmong a (noted_before ms m past) → IsLearned ms m a) → IsLearned ms m a
       by b None h i rest = rest i
       by true (Some c) h i rest = rest i
       by false (Some c) h (inr i) rest = rest i
       by false (Some c) h (inl e) rest =
           let is : p.0 ≡ Learn c = noted_step past p c (doing ms m past p.0 p.1 owed.0) h in
-          subst (IsGoodAuthenticator ms m) (sym e) (subst (IsCheckedStep ms m) is checked.0)
+          subst (IsLearned ms m) (sym e) (subst (IsCheckedStep ms m) is checked.0)
 
   noted_shown : (past : Past) (a : Authenticator) → is_exposed ms m past ≡ false
       → IsAmong a (noted_before ms m past) → IsAmong (pair_of a) (shown ms m past)
@@ -279,7 +279,7 @@ pub record IsGoodShowing (ms : List Member) (m : Member) (s : ShowingParts) (ps 
   pub node : s.node ≡ m.node
   pub shows : ShowsPairs ms s ps
 
-pub good_authenticator : (ms : List Member) (m : Member) (a : Authenticator) → IsGoodAuthenticator ms m a
+pub good_authenticator : (ms : List Member) (m : Member) (a : Authenticator) → IsLearned ms m a
     → IsGoodShowing ms m (authenticator_showing a) (pair_of a ∷ [])
 good_authenticator ms m a good = record { node = good.node; shows = one_pair ms a good.text good.signed }
 

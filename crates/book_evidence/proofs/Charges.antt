@@ -11,9 +11,9 @@ use Rattle.authenticator.specs.declared.authenticator.Authenticator.{Authenticat
 use Rattle.authenticator.specs.declared.member.Member.{Member}
 use Rattle.log_entries.specs.Chain.{zeros, links_from}
 use Rattle.secure_log.specs.Segment.{SegmentParts, ClosedParts, segment_pairs}
-use Rattle.honest_logs.specs.Signing.{is_same}
-use Rattle.honest_logs.specs.Replay.{Verdict, Sound, Fault}
-use Rattle.honest_logs.specs.Stepping.{ReplayFault}
+use Rattle.book_spec.specs.Signing.{is_same}
+use Rattle.book_spec.specs.Replay.{Verdict, Sound, Fault}
+use Rattle.book_spec.specs.Stepping.{ReplayFault}
 use Rattle.replay_spec.proofs.Signed.{is_false, list_same}
 use Rattle.evidence_spec.specs.Showing.{ShowingParts, IsAmong, authenticator_showing, segment_showing}
 use Rattle.evidence_spec.specs.Evidence.{Charge, Fork, Replay, AcceptsCharge, is_charge, charge_item, charge_value}
@@ -30,9 +30,9 @@ use Rattle.book_spec.specs.Exposing.{showing_before, fork_of, new_fork, audited_
 use Rattle.book_spec.specs.Histories.{AreOwed}
 use Rattle.book_spec.specs.Laws.{HasTwoHashes, HasFaultyFile}
 use Rattle.book_laws.proofs.Exposing.{fork_at, of_file, exposed_is, is_exposed_told, exposed_why, why_exposed}
-use Rattle.book_evidence.proofs.Doing.{Did, Doing, Nothing, Notes, Accepts, Asks, Begins, Files, PutsBack}
-use Rattle.book_evidence.proofs.Checked.{IsGoodAuthenticator, IsGoodSegment, IsCheckedStep, AreChecked}
-use Rattle.book_evidence.proofs.Audits.{Stand}
+use Rattle.book_laws.proofs.Doing.{Did, Doing, Nothing, Notes, Accepts, Asks, Begins, Files, PutsBack}
+use Rattle.book_laws.proofs.Checked.{IsLearned, IsCheckedStep, AreChecked}
+use Rattle.book_evidence.proofs.Audits.{IsGoodSegment, good_given, Stand}
 use Rattle.book_evidence.proofs.Before.{split, on_left, on_right, one_shown, IsGoodShowing, good_authenticator}
 use Rattle.book_evidence.proofs.Before.{first_some, good_segment, shown_before}
 
@@ -137,7 +137,7 @@ record IsNew (ms : List Member) (m : Member) (new : ShowingParts) (ps : List Pai
   one : (n : ℕ) (x y : List ℕ) → IsAmong (n, x) ps → IsAmong (n, y) ps → x ≡ y
   few : (n : ℕ) (x : List ℕ) → IsAmong (n, x) ps → Fits number_item n
 
-new_authenticator : (ms : List Member) (m : Member) (a : Authenticator) → IsGoodAuthenticator ms m a
+new_authenticator : (ms : List Member) (m : Member) (a : Authenticator) → IsLearned ms m a
     → IsNew ms m (authenticator_showing a) (pair_of a ∷ [])
 new_authenticator ms m a good = record {
   good = good_authenticator ms m a good;
@@ -363,7 +363,7 @@ module _ (ms : List Member) (m : Member) (past : Past) (p : Step × Reply) (owed
       shows_new (segment_showing d.segment) (segment_pairs d.segment)
       (first_fork (segment_pairs d.segment) (shown ms m past))
       (record {
-        is = new_segment ms m d.segment (subst (IsCheckedStep ms m) is c);
+        is = new_segment ms m d.segment (good_given ms m d (subst (IsCheckedStep ms m) is c));
         shown_is = shown_by None (Some d) did.notes did.accepts;
         fault_is = fault_by None did.files;
         charge_is = charge_by None (Some d) None did.notes did.accepts did.files;

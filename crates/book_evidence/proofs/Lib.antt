@@ -1,5 +1,3 @@
-pub mod Doing
-pub mod Checked
 pub mod Audits
 pub mod Before
 pub mod Charges

@@ -6,7 +6,7 @@ use Rattle.std.specs.Prelude.{IsSome, option_map}
 use Rattle.std.proofs.lemmas.Bool.{or_right, true≢false}
 use Rattle.authenticator.specs.Roster.{member_of}
 use Rattle.authenticator.specs.declared.member.Member.{Member}
-use Rattle.honest_logs.specs.Replay.{Verdict, Sound, Fault}
+use Rattle.book_spec.specs.Replay.{Verdict, Sound, Fault}
 use Rattle.xdr.specs.Item.{Fits}
 use Rattle.evidence_spec.specs.Evidence.{Charge, EvidenceParts, evidence_item, evidence_value}
 use Rattle.evidence_spec.specs.Evidence as evidences
@@ -22,9 +22,9 @@ use Rattle.book_spec.specs.Exposing.{new_charge, evidence}
 use Rattle.book_spec.specs.Histories.{AreOwed}
 use Rattle.book_spec.specs.Laws.{IsProof}
 use Rattle.book_laws.proofs.Exposing.{exposed_is, is_exposed_told, exposed_further}
-use Rattle.book_evidence.proofs.Doing.{Doing, Nothing, Notes, Accepts, Asks, Begins, Files, PutsBack, doing}
-use Rattle.book_evidence.proofs.Checked.{IsGoodSegment, AreChecked}
-use Rattle.book_evidence.proofs.Audits.{IsAt, IsNext, Stand, stands, end_stays}
+use Rattle.book_laws.proofs.Doing.{Doing, Nothing, Notes, Accepts, Asks, Begins, Files, PutsBack, doing}
+use Rattle.book_laws.proofs.Checked.{AreChecked}
+use Rattle.book_evidence.proofs.Audits.{IsGoodSegment, IsAt, IsNext, Stand, stands, end_stays}
 use Rattle.book_evidence.proofs.Charges.{IsGoodCharge, Charging, Uncharged, Charged, charging}
 use Rattle.book_evidence.proofs.Audited.{IsAudited, none_audited, audited_stays, audited_on, replay_charge}
 

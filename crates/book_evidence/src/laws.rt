@@ -9,8 +9,8 @@ pub fn evidence_where_exposed()
     ensures { EvidenceWhereExposed }
 {}
 
-/// Evidence that a witness has against a node is of that node, has a text, and is accepted under the roster; so
-/// it proves that the node has no honest log, unless a signature is forged or two texts have one digest.
+/// Evidence that a witness has against a node is of that node, has a text, and is accepted under the roster;
+/// so it proves that the node has no honest log, unless a signature is forged or two texts have one digest.
 pub fn evidence_proves()
     ensures { EvidenceProves }
 {
