@@ -1,5 +1,5 @@
 #!/usr/bin/env bash
-# Prints the time to make signers of height 10 and 16, signatures and verifications a second, and of each the
+# Prints the time to make signers of height 10, 12 and 16, signatures and verifications a second, and of each the
 # ratio to as many digests of one block by a plain loop. It builds a copy of the crates with the program of
 # bench/keys beside them.
 set -euo pipefail

@@ -6,36 +6,16 @@
 set -euo pipefail
 cd "$(dirname "$0")/.."
 . checks/scratch_crate.sh
+. checks/built_programs.sh
 top=$PWD
 cases=$top/checks/command_line
 
-below=($(crates_below nfsacc | cut -d: -f1))
-made=()
-for program in crates/nfsacc/out/nfsacc crates/nfsacc/out/nfsacc.by-rattle; do
-    if [ -f "$program" ]; then
-        newer=$(find "${below[@]/#/crates/}" -name out -prune -o -newer "$program" \( -name '*.rt' -o -name '*.antt' \) -print)
-        if [ -z "$newer" ]; then made+=("$top/$program"); fi
-    fi
-done
-if [ ${#made[@]} -eq 0 ]; then
-    (cd crates/nfsacc && rt run -- --version)
-    made=("$top/crates/nfsacc/out/nfsacc")
-fi
+built_programs
 
 work=$(mktemp -d)
 trap 'rm -rf "$work"' EXIT
 mkdir "$work/run"
 cd "$work/run"
-
-fail() {
-    echo "$program: $1" >&2
-    shift
-    for file in "$@"; do
-        echo "-- $file:" >&2
-        head -c 600 "$file" >&2
-    done
-    exit 1
-}
 
 # run STATUS WORD.. runs the program on the file `in` and wants this status; it writes to `out` and to `said`.
 run() {
@@ -196,6 +176,11 @@ check_words() {
     [ ! -s out ] && [ ! -s said ] || fail 'rpc --' out said
     says 0 'nfsacc 0\.1\.0' --version
     says 0 'Usage: .*' --help
+    says 0 ' *rpc +Answers .*' --help
+    says 0 ' *check +Says .*' --help
+    says 0 'Usage: nfsacc[^ ]* rpc.*' help rpc
+    says 0 'Usage: nfsacc[^ ]* check.*' help check
+    says 0 'Usage: nfsacc[^ ]* check.*' check --help
     says 2 'Usage: .*'
     says 2 "error: unrecognized subcommand 'serve-all'" serve-all
     says 2 "error: unrecognized subcommand 'RPC'" RPC
@@ -203,6 +188,8 @@ check_words() {
     says 2 "error: unexpected argument 'now' found" rpc now
     says 2 "error: unexpected argument 'rpc' found" rpc rpc
     says 2 "error: unexpected argument '--fast' found" rpc --fast
+    says 2 'error: the following required arguments were not provided:' check
+    says 2 "error: unexpected argument 'b' found" check a b
     says 2 'nfsacc: the command line is no text' $'\xff'
 }
 
@@ -237,11 +224,11 @@ check_devices() {
 # for memory; of all its requests the one of number $most is refused: so in each run another one of the program's own. A
 # few can be refused without harm, as those for the words of an error's text: such a run ends as it would with memory.
 check_memory() (
-    local most=56 words usual request name
+    local most=90 words usual request name
     sed -e 's/^use std::process::ExitCode;$/use std::io::Read;\n&/' \
         -e "/^fn main(rt: HostRuntime) -> ExitCode {\$/r $cases/take_memory.txt" "$top/crates/nfsacc/src/main.rt" > main.rt
     cd "$top"
-    scratch_crate nfsacc_memory "$OLDPWD/main.rt" console rpc records clap
+    scratch_crate nfsacc_memory "$OLDPWD/main.rt" console rpc clap
     mkdir "$work/cases"
     for words in rpc serve-all; do
         for ((request = 1; request <= most; request++)); do

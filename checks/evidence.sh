@@ -7,34 +7,14 @@
 set -euo pipefail
 cd "$(dirname "$0")/.."
 . checks/scratch_crate.sh
+. checks/built_programs.sh
 top=$PWD
 cases=$top/checks/evidence
 
-below=($(crates_below nfsacc | cut -d: -f1))
-made=()
-for program in crates/nfsacc/out/nfsacc crates/nfsacc/out/nfsacc.by-rattle; do
-    if [ -f "$program" ]; then
-        newer=$(find "${below[@]/#/crates/}" -name out -prune -o -newer "$program" \( -name '*.rt' -o -name '*.antt' \) -print)
-        if [ -z "$newer" ]; then made+=("$top/$program"); fi
-    fi
-done
-if [ ${#made[@]} -eq 0 ]; then
-    (cd crates/nfsacc && rt run -- --version)
-    made=("$top/crates/nfsacc/out/nfsacc")
-fi
+built_programs
 
 files=$(mktemp -d)
 trap 'rm -rf "$files" "${work:-}"' EXIT
-
-fail() {
-    echo "$program: $1" >&2
-    shift
-    for file in "$@"; do
-        echo "-- $file:" >&2
-        head -c 600 "$file" >&2
-    done
-    exit 1
-}
 
 # judged STATUS LINE WORD.. wants of `nfsacc check WORD..` this status, and this line first.
 judged() {
@@ -120,6 +100,10 @@ check_others() {
     judged 2 '' "$cases/fork.evidence" "$cases/fork.evidence"
     judged 2 '' --fast "$cases/fork.evidence"
     judged 2 '' --explain
+    judged 2 '' --explain --explain "$cases/fork.evidence"
+    judged 0 'exposed 1' "$cases/fork.evidence" --explain
+    judged 0 'exposed 1' -- "$cases/fork.evidence"
+    judged 4 '' -- --explain
     local got=0
     "$program" check "$cases/fork.evidence" > /dev/full 2> "$files/said" || got=$?
     [ $got -eq 4 ] || fail "status $got on a full device" "$files/said"

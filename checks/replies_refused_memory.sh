@@ -9,14 +9,14 @@ cd "$(dirname "$0")/.."
 work=$(mktemp -d)
 trap 'rm -rf "$work"' EXIT
 mkdir "$work/crates"
-crates_below console service rpc nfs_types > "$work/crates.txt"
+crates_below rpc_streams service rpc nfs_types > "$work/crates.txt"
 while IFS=: read -r crate _; do
     mkdir "$work/crates/$crate"
     for part in src specs proofs; do
         if [ -d "crates/$crate/$part" ]; then cp -r "crates/$crate/$part" "$work/crates/$crate/"; fi
     done
 done < "$work/crates.txt"
-echo 'replies_memory: console service rpc nfs_types' >> "$work/crates.txt"
+echo 'replies_memory: rpc_streams service rpc nfs_types' >> "$work/crates.txt"
 mkdir -p "$work/crates/replies_memory/src" "$work/crates/replies_memory/specs"
 cp checks/replies_refused_memory/main.rt.txt "$work/crates/replies_memory/src/main.rt"
 touch "$work/crates/replies_memory/specs/Lib.antt"

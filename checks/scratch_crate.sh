@@ -50,19 +50,31 @@ scratch_program() {
     cd "$work/crates/$name"
 }
 
-# refuse_each MOST
+# refuse_each MOST [MADE]
 # Builds the program of the scratch repository once and runs it with each of its requests for memory refused in turn, at
 # most MOST: in the run for the n-th it first makes MOST - n others, one for each byte of standard input, and request
 # MOST is refused. Writes to $work/lines what each run prints, which begins with `refused` and ends with `held true`, and
-# leaves out the runs in which no request was left to refuse.
+# leaves out the runs in which no request was left to refuse. With MADE the program first makes what it calls with, by that
+# many requests, then the others, and then the calls, of which alone a request is refused. In one run more the last of the
+# others is, and the program says so, as `request MOST of the input was refused`, so that MADE is seen to be right.
 refuse_each() {
-    local most=$1 request
+    local most=$1 made=${2:-} request first=1 front
+    if [ -n "$made" ]; then first=0; fi
     mkdir "$work/cases"
-    for ((request = 1; request <= most; request++)); do
+    for ((request = first; request <= most; request++)); do
         head -c $((most - request)) /dev/zero > "$work/cases/$(printf %04d "$request")"
     done
-    rt try --steps 1 --fail-alloc "$most" --cases "$work/cases" > "$work/log" 2>&1 || { cat "$work/log" >&2; exit 1; }
+    rt try --steps 1 --fail-alloc $((most + ${made:-0})) --cases "$work/cases" > "$work/log" 2>&1 ||
+        { cat "$work/log" >&2; exit 1; }
     grep '^refused' "$work/log" > "$work/all_lines"
+    if [ -n "$made" ]; then
+        front=$(sed -n 's/^request \([0-9]*\) of the input was refused$/\1/p' "$work/log" | head -1)
+        if [ "${front:-0}" -ne "$most" ]; then
+            echo "what is made first takes ${front:+$((made + most - front)), }not $made requests" >&2
+            exit 1
+        fi
+        sed -i 1d "$work/all_lines"
+    fi
     if [ "$(wc -l < "$work/all_lines")" -ne "$most" ] || grep -qv ', held true$' "$work/all_lines"; then
         cat "$work/log" >&2
         exit 1

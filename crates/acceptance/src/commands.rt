@@ -1,7 +1,11 @@
 //! Command lines, and what they ask for.
 
-use console::{Request, parse};
+use command_line::{CheckRequest, Request, parse};
 use std::test::Fail;
+
+fn check(file: &str, explain: bool) -> Request<'_> {
+    Request::Check(CheckRequest { file, explain })
+}
 
 #[test]
 fn command_lines_are_read(rt: HostRuntime) -> Result<(), Fail> {
@@ -18,6 +22,17 @@ fn command_lines_are_read(rt: HostRuntime) -> Result<(), Fail> {
         ("nfsacc -- rpc", None),
         ("nfsacc help rpc", None),
         ("nfsacc --version", None),
+        ("nfsacc check f", Some(check("f", false))),
+        ("nfsacc check --explain f", Some(check("f", true))),
+        ("nfsacc check f --explain", Some(check("f", true))),
+        ("nfsacc check --explain -- -f", Some(check("-f", true))),
+        ("nfsacc check -", Some(check("-", false))),
+        ("nfsacc check", None),
+        ("nfsacc check --explain", None),
+        ("nfsacc check -f", None),
+        ("nfsacc check f g", None),
+        ("nfsacc check --explain --explain f", None),
+        ("nfsacc check --help", None),
     ];
     for (line, request) in cases {
         let mut words = Vec::new(rt.alloc());

@@ -1,8 +1,8 @@
 //! Readers and writers that fail in the middle of a stream, and how often a writer is called.
 
 use crate::texts::Stream;
-use console::run_rpc;
 use rpc::{Ahead, Counting, RecordFault, RecordReader};
+use rpc_streams::run_rpc;
 use std::alloc::Global;
 use std::io;
 use std::io::{ErrorKind, Read, Write};

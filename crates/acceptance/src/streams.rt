@@ -2,9 +2,9 @@
 
 use crate::texts::{NULL, NULL_REPLY, Stream};
 use crate::words::bytes;
-use console::{Service, run_rpc};
 use nfs_types::Time;
 use rpc::{Counting, MAX_RECORD, RecordFault, RecordReader};
+use rpc_streams::{Service, run_rpc};
 use std::io::BufReader;
 use std::test::Fail;
 

@@ -1,11 +1,11 @@
 //! Acknowledgements.
 
-use crate::nodes::{Nodes, ack_text, flip, new_nodes, sent};
+use crate::hostile::{Kind, is_garbage_cut, is_refused_changed, refusal_changed};
+use crate::nodes::{ack_text, new_client, new_server, sent};
 use authenticator::Refusal;
-use commitment::{Ack, Message, Number, Roster, Sender, check_ack, check_envelope};
+use commitment::{Ack, Message, Number, Receiver, Roster, Sender, check_ack, check_envelope};
 use sha2::{Digest, Sha256};
 use std::alloc::Global;
-use std::test::Fail;
 
 /// The digest of the text of the acknowledgement, at number 1, of node 2's first message to node 1, which is
 /// 40 bytes 7.
@@ -14,117 +14,56 @@ const ACK: [u8; 32] = [
     0xb5, 0x8a, 0x04, 0x1e, 0xa0, 0x50, 0x18, 0x54, 0x50, 0x7e, 0x81, 0x00, 0x2e, 0x80, 0x46, 0x8d,
 ];
 
-/// The members, and the acknowledgement of the client's first message.
-#[derive(Drop)]
-struct Acknowledged {
-    roster: Roster,
-    ack: Vec<u8>,
+/// The acknowledgement of the client's message, received.
+fn acknowledged(alloc: Global, server: &mut Receiver, text: &[u8]) -> Option<Vec<u8>> {
+    match server.receive(alloc, text) {
+        Ok(_) => ack_text(alloc, server.sender(), 1),
+        Err(_) => None,
+    }
 }
 
-/// The client's first message, received.
-fn first_acknowledged(alloc: Global) -> Result<Acknowledged, Fail> {
-    let Nodes {
-        mut client,
-        mut server,
-    } = new_nodes(alloc)?;
-    let text = sent(alloc, &mut client, 1, 7)?;
-    server.receive(alloc, &text)?;
-    let roster = server.roster().try_clone(alloc)?;
-    let ack = ack_text(alloc, server.sender(), 1)?;
-    Ok(Acknowledged { roster, ack })
+/// A message by its envelope's text.
+fn message_of(alloc: Global, roster: &Roster, text: &[u8]) -> Option<Message> {
+    match check_envelope(alloc, roster, text) {
+        Ok(envelope) => Some(envelope.value().message()),
+        Err(_) => None,
+    }
 }
 
-#[test]
-fn an_acknowledgement_is_another_programs(rt: HostRuntime) -> Result<(), Fail> {
-    let Acknowledged { ack, .. } = first_acknowledged(rt.alloc())?;
-    assert_eq!(rt; Sha256::digest(&ack), ACK);
-    Ok(())
-}
-
-/// A client with two messages sent, the first of them, and its acknowledgement.
-#[derive(Drop)]
-struct Matched {
-    client: Sender,
-    message: Message,
-    ack: Ack,
-}
-
-/// Two messages of the client, of which the server has the first.
-fn first_matched(alloc: Global) -> Result<Matched, Fail> {
-    let Acknowledged { roster, ack } = first_acknowledged(alloc)?;
-    let ack: Ack = check_ack(alloc, &roster, &ack)?.into_value();
-    let mut client = new_nodes(alloc)?.client;
-    let text = sent(alloc, &mut client, 1, 7)?;
-    let message = check_envelope(alloc, &roster, &text)?.value().message();
-    sent(alloc, &mut client, 1, 7)?;
-    Ok(Matched {
-        client,
-        message,
-        ack,
-    })
-}
-
-#[test]
-fn an_acknowledgement_is_of_its_message(rt: HostRuntime) -> Result<(), Fail> {
-    let Matched {
-        client,
-        message,
-        mut ack,
-    } = first_matched(rt.alloc())?;
-    assert_eq!(rt; ack.message(), message);
+/// Whether an acknowledgement is of the client's message 1, and not with another number or another digest of
+/// the signature.
+fn matches_first(client: &Sender, mut ack: Ack) -> bool {
     let first = client.matches_ack(&ack);
     ack.seq = Number::new(2);
     let second = client.matches_ack(&ack);
     ack.seq = Number::new(1);
     ack.signature_hash = [0; 32];
-    assert_eq!(rt;
-        [first, second, client.matches_ack(&ack)],
-        [true, false, false]
-    );
-    Ok(())
+    first && !second && !client.matches_ack(&ack)
 }
 
-/// Why a check doesn't take the text of an acknowledgement.
-fn refusal(alloc: Global, roster: &Roster, text: &[u8]) -> Option<Refusal> {
-    check_ack(alloc, roster, text).err()
-}
-
-/// The first length at which a text that is cut isn't garbage.
-fn first_not_garbage(alloc: Global, roster: &Roster, text: &[u8]) -> Option<usize> {
-    for len in 0..text.len() {
-        if refusal(alloc, roster, &text[..len]) != Some(Refusal::Garbage) {
-            return Some(len);
-        }
-    }
-    None
-}
-
-#[test]
-fn a_cut_acknowledgement_is_garbage(rt: HostRuntime) -> Result<(), Fail> {
-    let Acknowledged { roster, ack } = first_acknowledged(rt.alloc())?;
-    assert_eq!(rt; first_not_garbage(rt.alloc(), &roster, &ack), None);
-    Ok(())
-}
-
-/// Why a check doesn't take the text of an acknowledgement with these bits of a byte changed.
-fn refusal_changed(
+/// Whether an acknowledgement is of this message, and of the client's first, beside which it sent another.
+fn is_of_first(
     alloc: Global,
     roster: &Roster,
-    text: &mut [u8],
-    place: usize,
-    bits: u8,
-) -> Option<Refusal> {
-    flip(text, place, bits);
-    let refused = refusal(alloc, roster, text);
-    flip(text, place, bits);
-    refused
+    client: &mut Sender,
+    text: &[u8],
+    ack: &[u8],
+) -> bool {
+    let message = message_of(alloc, roster, text);
+    let again = sent(alloc, client, 1, 7).is_some();
+    match check_ack(alloc, roster, ack) {
+        Ok(ack) => {
+            let ack: Ack = ack.into_value();
+            again && Some(ack.message()) == message && matches_first(client, ack)
+        }
+        Err(_) => false,
+    }
 }
 
-// In turn nothing; who acknowledges, the number, the hash before, the sender, its number, the hash before
-// there, the body, the signature and the own signature's leaf; and who acknowledges, to one who is no member.
-#[test]
-fn a_changed_acknowledgement_is_refused(rt: HostRuntime) -> Result<(), Fail> {
-    let Acknowledged { roster, mut ack } = first_acknowledged(rt.alloc())?;
+/// Whether an acknowledgement's text with fields changed is refused as it should be: in turn nothing; who
+/// acknowledges, the number, the hash before, the sender, its number, the hash before there, the body, the
+/// signature and the own signature's leaf; and who acknowledges, to one who is no member.
+fn is_refused_by_field(alloc: Global, roster: &Roster, ack: &mut [u8]) -> bool {
     let bad = Some(Refusal::BadSignature);
     for (place, bits, refusal) in [
         (0, 0, None),
@@ -139,27 +78,70 @@ fn a_changed_acknowledgement_is_refused(rt: HostRuntime) -> Result<(), Fail> {
         (155, 1, bad),
         (3, 8, Some(Refusal::UnknownNode)),
     ] {
-        let answer = refusal_changed(rt.alloc(), &roster, &mut ack, place, bits);
-        assert_eq!(rt; answer, refusal, "at {place}");
-    }
-    Ok(())
-}
-
-/// The first of the places before the secrets of the signature, 156 bytes in, at which a text with the lowest
-/// bit of that byte changed gets no number of a refusal.
-fn first_not_refused(alloc: Global, roster: &Roster, text: &mut [u8]) -> Option<usize> {
-    for place in 0..156 {
-        match refusal_changed(alloc, roster, text, place, 1) {
-            Some(refusal) if refusal.number().is_some() => {}
-            _ => return Some(place),
+        if refusal_changed(alloc, Kind::Ack, roster, ack, place, bits) != refusal {
+            return false;
         }
     }
-    None
+    true
+}
+
+/// The first that doesn't hold of the acknowledgement of the client's message; empty where all holds.
+fn wrong_of_ack(
+    alloc: Global,
+    roster: &Roster,
+    client: &mut Sender,
+    text: &[u8],
+    ack: &mut [u8],
+) -> &'static str {
+    if Sha256::digest(&*ack) != ACK {
+        "another program's"
+    } else if !is_of_first(alloc, roster, client, text, ack) {
+        "of its message"
+    } else if !is_garbage_cut(alloc, Kind::Ack, roster, ack) {
+        "garbage where it is cut"
+    } else if !is_refused_by_field(alloc, roster, ack) {
+        "refused with a field changed"
+    } else if !is_refused_changed(alloc, Kind::Ack, roster, ack, 156) {
+        "refused with a byte changed"
+    } else {
+        ""
+    }
+}
+
+/// The same of the client's message, received.
+fn wrong_of_message(
+    alloc: Global,
+    client: &mut Sender,
+    server: &mut Receiver,
+    text: &[u8],
+) -> &'static str {
+    match acknowledged(alloc, server, text) {
+        Some(mut ack) => wrong_of_ack(alloc, server.roster(), client, text, &mut ack),
+        None => "memory",
+    }
+}
+
+/// The same of the client's first message.
+fn wrong_of(alloc: Global, client: &mut Sender, server: &mut Receiver) -> &'static str {
+    match sent(alloc, client, 1, 7) {
+        Some(text) => wrong_of_message(alloc, client, server, &text),
+        None => "memory",
+    }
+}
+
+/// The same of a new client and a new server.
+fn wrong_of_both(alloc: Global) -> &'static str {
+    match new_server(alloc) {
+        Some(mut server) => match new_client(alloc) {
+            Some(mut client) => wrong_of(alloc, &mut client, &mut server),
+            None => "memory",
+        },
+        None => "memory",
+    }
 }
 
 #[test]
-fn each_changed_byte_of_an_acknowledgement_is_refused(rt: HostRuntime) -> Result<(), Fail> {
-    let Acknowledged { roster, mut ack } = first_acknowledged(rt.alloc())?;
-    assert_eq!(rt; first_not_refused(rt.alloc(), &roster, &mut ack), None);
-    Ok(())
+fn an_acknowledgement_is_of_its_message_alone(rt: HostRuntime) {
+    let wrong = wrong_of_both(rt.alloc());
+    assert!(rt; wrong.is_empty(), "{wrong}");
 }

@@ -1,54 +1,77 @@
 //! What is looked up by number.
 
-use crate::nodes::{body, new_client};
+use crate::nodes::{new_client, sent};
 use commitment::{Entry, Number, Sender};
 use std::alloc::Global;
-use std::test::Fail;
 
-/// A client with a SEND, a CLOCK and a SEND, with memory reserved for the CLOCK.
-fn two_sends(alloc: Global) -> Result<Sender, Fail> {
-    let mut client = new_client(alloc)?;
-    client.send(1, body(alloc, 1)?)?;
-    client.reserve(1, 0)?;
-    client.append_unsigned(Entry::Clock {
-        seconds: 1,
-        microseconds: 0,
-    });
-    client.send(1, body(alloc, 2)?)?;
-    Ok(client)
-}
-
-/// Whether a client has an authenticator, a signature, an envelope and an acknowledgement at a number.
-fn found(alloc: Global, client: &Sender, number: u64) -> Result<[bool; 4], Fail> {
-    Ok([
-        client.authenticator(alloc, number)?.is_some(),
-        client.signature(number).is_some(),
-        client.envelope(number).is_some(),
-        client.ack(number).is_some(),
-    ])
-}
-
-#[test]
-fn what_was_signed_is_found(rt: HostRuntime) -> Result<(), Fail> {
-    let client = two_sends(rt.alloc())?;
-    for (number, signed) in [(0, false), (1, true), (2, false), (3, true), (4, false)] {
-        let answer = found(rt.alloc(), &client, number)?;
-        assert_eq!(rt; answer, [signed, signed, signed, false], "at {number}");
+/// Logs a CLOCK, with memory reserved for it.
+fn reads_clock(client: &mut Sender) -> bool {
+    let reserved = client.reserve(1, 0).is_ok();
+    if reserved {
+        client.append_unsigned(Entry::Clock {
+            seconds: 1,
+            microseconds: 0,
+        });
     }
-    Ok(())
+    reserved
 }
 
-#[test]
-fn the_last_that_was_signed_is_found(rt: HostRuntime) -> Result<(), Fail> {
-    let client = two_sends(rt.alloc())?;
+/// Logs a SEND, a CLOCK and a SEND.
+fn sends_twice(alloc: Global, client: &mut Sender) -> bool {
+    sent(alloc, client, 1, 1).is_some()
+        && reads_clock(client)
+        && sent(alloc, client, 1, 2).is_some()
+}
+
+/// Whether there is an authenticator at a number, or none, as is said.
+fn is_authenticated(alloc: Global, client: &Sender, number: u64, signed: bool) -> bool {
+    match client.authenticator(alloc, number) {
+        Ok(authenticator) => authenticator.is_some() == signed,
+        Err(_) => false,
+    }
+}
+
+/// Whether an authenticator, a signature and an envelope are found at the numbers of what was signed, and
+/// nothing else.
+fn are_found(alloc: Global, client: &Sender) -> bool {
+    for (number, signed) in [(0, false), (1, true), (2, false), (3, true), (4, false)] {
+        if !is_authenticated(alloc, client, number, signed)
+            || client.signature(number).is_some() != signed
+            || client.envelope(number).is_some() != signed
+            || client.ack(number).is_some()
+        {
+            return false;
+        }
+    }
+    true
+}
+
+/// Whether the last that was signed is found behind each number.
+fn is_last_found(client: &Sender) -> bool {
     for (after, number) in [
         (0, Some(Number::new(3))),
         (2, Some(Number::new(3))),
         (3, None),
         (u64::MAX, None),
     ] {
-        assert_eq!(rt; client.signed_after(after), number, "after {after}");
+        if client.signed_after(after) != number {
+            return false;
+        }
     }
-    assert_eq!(rt; client.left(), 6);
-    Ok(())
+    client.left() == 6
+}
+
+/// Whether both hold of a new client with a SEND, a CLOCK and a SEND.
+fn are_all_found(alloc: Global) -> bool {
+    match new_client(alloc) {
+        Some(mut client) => {
+            sends_twice(alloc, &mut client) && are_found(alloc, &client) && is_last_found(&client)
+        }
+        None => false,
+    }
+}
+
+#[test]
+fn what_was_signed_is_found(rt: HostRuntime) {
+    assert!(rt; are_all_found(rt.alloc()));
 }

@@ -1,8 +1,8 @@
-//! A client and a server, and what they write.
+//! A client and a server, and what they write. Each function is small, and gives none where memory is
+//! refused: the proof of a function takes its time by what it owns at how many exits.
 
 use commitment::{Body, Kind, Member, Receiver, Roster, Sender};
 use std::alloc::Global;
-use std::test::Fail;
 
 /// The master secret of the server's keys: 31 zero bytes and a one.
 const SERVER: [u8; 32] = [
@@ -14,67 +14,91 @@ const CLIENT: [u8; 32] = [
     0, 0, 0, 0, 0, 0, 0, 0, 0, 0, 0, 0, 0, 0, 0, 0, 0, 0, 0, 0, 0, 0, 0, 0, 0, 0, 0, 0, 0, 0, 0, 2,
 ];
 
-/// A client, node 2, with eight keys, and a server, node 1, with two, which receives from it.
-#[derive(Drop)]
-pub struct Nodes {
-    pub client: Sender,
-    pub server: Receiver,
+/// The client, node 2, with eight keys.
+pub fn new_client(alloc: Global) -> Option<Sender> {
+    Sender::new(alloc, 2, CLIENT, 3).ok()
 }
 
-/// The client.
-pub fn new_client(alloc: Global) -> Result<Sender, Fail> {
-    Ok(Sender::new(alloc, 2, CLIENT, 3)?)
+/// The roster of the two with these roots.
+fn roster_of(alloc: Global, server: [u8; 32], client: [u8; 32]) -> Option<Roster> {
+    let server = Member {
+        node: 1,
+        kind: Kind::Server,
+        root: server,
+        height: 1,
+    };
+    let client = Member {
+        node: 2,
+        kind: Kind::Client,
+        root: client,
+        height: 3,
+    };
+    match Vec::from_slice(alloc, &[server, client]) {
+        Ok(members) => Roster::new(members).ok(),
+        Err(_) => None,
+    }
 }
 
-/// Client and server with empty logs.
-pub fn new_nodes(alloc: Global) -> Result<Nodes, Fail> {
-    let client = new_client(alloc)?;
-    let server = Sender::new(alloc, 1, SERVER, 1)?;
-    let members = [
-        Member {
-            node: 1,
-            kind: Kind::Server,
-            root: server.root(),
-            height: 1,
+/// The roster of a server with this root, and the client.
+fn roster_with(alloc: Global, server: [u8; 32]) -> Option<Roster> {
+    match new_client(alloc) {
+        Some(client) => roster_of(alloc, server, client.root()),
+        None => None,
+    }
+}
+
+/// The server, node 1, with two keys, which receives from the client.
+pub fn new_server(alloc: Global) -> Option<Receiver> {
+    match Sender::new(alloc, 1, SERVER, 1) {
+        Ok(sender) => match roster_with(alloc, sender.root()) {
+            Some(roster) => Some(Receiver::new(alloc, sender, roster)),
+            None => None,
         },
-        Member {
-            node: 2,
-            kind: Kind::Client,
-            root: client.root(),
-            height: 3,
-        },
-    ];
-    let roster = Roster::new(Vec::from_slice(alloc, &members)?)?;
-    Ok(Nodes {
-        client,
-        server: Receiver::new(alloc, server, roster),
-    })
+        Err(_) => None,
+    }
 }
 
 /// A body of 40 bytes, all the same.
-pub fn body(alloc: Global, byte: u8) -> Result<Body, Fail> {
-    Ok(Body::new(Vec::from_slice(alloc, &[byte; 40])?))
+pub fn body(alloc: Global, byte: u8) -> Option<Body> {
+    match Vec::from_slice(alloc, &[byte; 40]) {
+        Ok(bytes) => Some(Body::new(bytes)),
+        Err(_) => None,
+    }
 }
 
-/// The text of the envelope of a new message to a node.
-pub fn sent(alloc: Global, sender: &mut Sender, to: u32, byte: u8) -> Result<Vec<u8>, Fail> {
-    let number = sender.send(to, body(alloc, byte)?)?;
+/// The text of the envelope that a sender has at a number.
+fn envelope_text(alloc: Global, sender: &Sender, number: u64) -> Option<Vec<u8>> {
     let mut text = Vec::new(alloc);
-    match sender.envelope(number.get()) {
-        Some(envelope) => envelope.write(&mut text)?,
-        None => return Err("no envelope")?,
+    match sender.envelope(number) {
+        Some(envelope) => match envelope.write(&mut text) {
+            Ok(()) => Some(text),
+            Err(_) => None,
+        },
+        None => None,
     }
-    Ok(text)
+}
+
+/// The text of the envelope of a new message to a node, 40 bytes all the same.
+pub fn sent(alloc: Global, sender: &mut Sender, to: u32, byte: u8) -> Option<Vec<u8>> {
+    match body(alloc, byte) {
+        Some(body) => match sender.send(to, body) {
+            Ok(number) => envelope_text(alloc, sender, number.get()),
+            Err(_) => None,
+        },
+        None => None,
+    }
 }
 
 /// The text of the acknowledgement that a sender has at a number.
-pub fn ack_text(alloc: Global, sender: &Sender, number: u64) -> Result<Vec<u8>, Fail> {
+pub fn ack_text(alloc: Global, sender: &Sender, number: u64) -> Option<Vec<u8>> {
     let mut text = Vec::new(alloc);
     match sender.ack(number) {
-        Some(ack) => ack.write(&mut text)?,
-        None => return Err("no acknowledgement")?,
+        Some(ack) => match ack.write(&mut text) {
+            Ok(()) => Some(text),
+            Err(_) => None,
+        },
+        None => None,
     }
-    Ok(text)
 }
 
 /// Changes these bits of a text's byte, where it has one there.

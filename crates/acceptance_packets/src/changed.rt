@@ -1,20 +1,27 @@
 //! Packets with a bit changed, and envelopes to others.
 
-use crate::made::{Made, challenge_of, learn};
+use crate::made::{Content, Made, packet_of};
 use authenticator::Refusal;
 use packets::read_packet;
 use std::alloc::Global;
-use std::test::Fail;
 
-/// Why a packet isn't taken with the lowest bit of a byte changed.
-fn refusal_changed(alloc: Global, made: &mut Made, place: usize) -> Option<Refusal> {
+/// Whether a packet isn't taken, by the refusal with this number.
+fn is_refused(alloc: Global, made: &Made, number: u32) -> bool {
+    match read_packet(alloc, &made.roster, &made.bytes) {
+        Ok(_) => false,
+        Err(refusal) => refusal.number() == Some(number),
+    }
+}
+
+/// Whether a packet isn't taken with the lowest bit of a byte changed, by the refusal with this number.
+fn is_refused_changed(alloc: Global, made: &mut Made, place: usize, number: u32) -> bool {
     if place >= made.bytes.len() {
-        return None;
+        return false;
     }
     made.bytes[place] ^= 1;
-    let refusal = read_packet(alloc, &made.roster, &made.bytes).err();
+    let refused = is_refused(alloc, made, number);
     made.bytes[place] ^= 1;
-    refusal
+    refused
 }
 
 /// The number of the refusal owed to an authenticator's packet that is changed at a place: its number is
@@ -32,39 +39,39 @@ fn owed(place: usize) -> u32 {
 /// The first place at which a changed packet gets another refusal than is owed.
 fn first_other(alloc: Global, made: &mut Made) -> Option<usize> {
     for place in 0..52 {
-        let number = match refusal_changed(alloc, made, place) {
-            Some(refusal) => refusal.number(),
-            None => None,
-        };
-        if number != Some(owed(place)) {
+        if !is_refused_changed(alloc, made, place, owed(place)) {
             return Some(place);
         }
     }
     None
 }
 
-#[test]
-fn a_changed_authenticator_is_refused(rt: HostRuntime) -> Result<(), Fail> {
-    let mut made = learn(rt.alloc())?;
-    assert_eq!(rt; first_other(rt.alloc(), &mut made), None);
-    Ok(())
-}
-
-/// Why a packet isn't taken.
-fn refusal_of(alloc: Global, made: &Made) -> Option<Refusal> {
-    read_packet(alloc, &made.roster, &made.bytes).err()
+/// Whether that of an authenticator is none.
+fn are_refused(alloc: Global) -> bool {
+    match packet_of(alloc, Content::Learn) {
+        Some(mut made) => first_other(alloc, &mut made) == None,
+        None => false,
+    }
 }
 
 #[test]
-fn a_challenge_of_its_sender_is_garbage(rt: HostRuntime) -> Result<(), Fail> {
-    let made = challenge_of(rt.alloc(), 1)?;
-    assert_eq!(rt; refusal_of(rt.alloc(), &made), Some(Refusal::Garbage));
-    Ok(())
+fn a_changed_authenticator_is_refused(rt: HostRuntime) {
+    assert!(rt; are_refused(rt.alloc()));
 }
 
+/// Whether a challenge of a node isn't taken, by this refusal.
+fn is_challenge_refused(alloc: Global, of: u32, refusal: Refusal) -> bool {
+    match packet_of(alloc, Content::Challenge { of }) {
+        Some(made) => read_packet(alloc, &made.roster, &made.bytes).err() == Some(refusal),
+        None => false,
+    }
+}
+
+// In turn of its sender, and of a stranger.
 #[test]
-fn a_challenge_of_a_stranger_is_of_an_unknown_node(rt: HostRuntime) -> Result<(), Fail> {
-    let made = challenge_of(rt.alloc(), 3)?;
-    assert_eq!(rt; refusal_of(rt.alloc(), &made), Some(Refusal::UnknownNode));
-    Ok(())
+fn a_challenge_of_another_is_refused(rt: HostRuntime) {
+    for (of, refusal) in [(1, Refusal::Garbage), (3, Refusal::UnknownNode)] {
+        let refused = is_challenge_refused(rt.alloc(), of, refusal);
+        assert!(rt; refused, "of {of}");
+    }
 }

@@ -1,66 +1,50 @@
 //! Packets that are cut, or have a byte more.
 
-use crate::made::{Made, acknowledgement, answer, challenge_of, learn};
-use authenticator::Refusal;
+use crate::made::{Content, Made, packet_of};
+use authenticator::{Refusal, Roster};
 use packets::read_packet;
 use std::alloc::Global;
-use std::test::Fail;
 
-/// Why bytes aren't taken.
-fn refusal(alloc: Global, made: &Made, bytes: &[u8]) -> Option<Refusal> {
-    read_packet(alloc, &made.roster, bytes).err()
+/// Whether bytes aren't taken as garbage.
+fn is_garbage(alloc: Global, roster: &Roster, bytes: &[u8]) -> bool {
+    match read_packet(alloc, roster, bytes) {
+        Ok(_) => false,
+        Err(refusal) => refusal == Refusal::Garbage,
+    }
 }
 
-/// The first length at which a packet that is cut there isn't garbage.
-fn first_not_garbage(alloc: Global, made: &Made) -> Option<usize> {
+/// Whether a packet is garbage that is cut at any length.
+fn is_garbage_cut(alloc: Global, made: &Made) -> bool {
     for len in 0..made.bytes.len() {
-        if refusal(alloc, made, &made.bytes[..len]) != Some(Refusal::Garbage) {
-            return Some(len);
+        if !is_garbage(alloc, &made.roster, &made.bytes[..len]) {
+            return false;
         }
     }
-    None
+    true
+}
+
+/// Whether a packet is garbage with a byte more behind it.
+fn is_garbage_with_more(alloc: Global, made: &mut Made) -> bool {
+    made.bytes.push(0).is_ok() && is_garbage(alloc, &made.roster, &made.bytes)
+}
+
+/// Whether both hold of a packet with this content.
+fn is_garbage_changed(alloc: Global, content: Content) -> bool {
+    match packet_of(alloc, content) {
+        Some(mut made) => is_garbage_cut(alloc, &made) && is_garbage_with_more(alloc, &mut made),
+        None => false,
+    }
 }
 
 #[test]
-fn a_cut_authenticator_is_garbage(rt: HostRuntime) -> Result<(), Fail> {
-    let made = learn(rt.alloc())?;
-    assert_eq!(rt; first_not_garbage(rt.alloc(), &made), None);
-    Ok(())
-}
-
-#[test]
-fn a_cut_envelope_is_garbage(rt: HostRuntime) -> Result<(), Fail> {
-    let made = challenge_of(rt.alloc(), 2)?;
-    assert_eq!(rt; first_not_garbage(rt.alloc(), &made), None);
-    Ok(())
-}
-
-#[test]
-fn a_cut_segment_is_garbage(rt: HostRuntime) -> Result<(), Fail> {
-    let made = answer(rt.alloc())?;
-    assert_eq!(rt; first_not_garbage(rt.alloc(), &made), None);
-    Ok(())
-}
-
-#[test]
-fn a_cut_acknowledgement_is_garbage(rt: HostRuntime) -> Result<(), Fail> {
-    let made = acknowledgement(rt.alloc())?;
-    assert_eq!(rt; first_not_garbage(rt.alloc(), &made), None);
-    Ok(())
-}
-
-/// Why a packet isn't taken with a byte more behind it.
-fn refusal_with_more(alloc: Global, mut made: Made) -> Result<Option<Refusal>, Fail> {
-    made.bytes.push(0)?;
-    Ok(refusal(alloc, &made, &made.bytes))
-}
-
-#[test]
-fn a_byte_more_is_garbage(rt: HostRuntime) -> Result<(), Fail> {
-    let garbage = Some(Refusal::Garbage);
-    let made = learn(rt.alloc())?;
-    assert_eq!(rt; refusal_with_more(rt.alloc(), made)?, garbage);
-    let made = acknowledgement(rt.alloc())?;
-    assert_eq!(rt; refusal_with_more(rt.alloc(), made)?, garbage);
-    Ok(())
+fn a_packet_cut_or_with_more_is_garbage(rt: HostRuntime) {
+    for content in [
+        Content::Learn,
+        Content::Challenge { of: 2 },
+        Content::Answer,
+        Content::Acknowledgement,
+    ] {
+        let garbage = is_garbage_changed(rt.alloc(), content);
+        assert!(rt; garbage, "{content:?}");
+    }
 }

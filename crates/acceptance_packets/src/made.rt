@@ -1,4 +1,5 @@
-//! Packets of node 1, made by hand, each signed by its first key.
+//! Packets of node 1, made by hand, each signed by its first key. Each function is small, and gives none
+//! where memory is refused: the proof of a function takes its time by what it owns at how many exits.
 
 use authenticator::{Authenticator, Kind, Member, Number, Roster, signed_digest};
 use envelopes::{Ack, Envelope};
@@ -7,12 +8,25 @@ use merkle_keys::{Signature, Signer};
 use packets::{write_ack, write_answer_text, write_challenge, write_learn};
 use secure_log::{Body, Entry, Log, SignatureText};
 use std::alloc::Global;
-use std::test::Fail;
 
 /// The master secret of the node's keys: 31 zero bytes and a one.
 const MASTER: [u8; 32] = [
     0, 0, 0, 0, 0, 0, 0, 0, 0, 0, 0, 0, 0, 0, 0, 0, 0, 0, 0, 0, 0, 0, 0, 0, 0, 0, 0, 0, 0, 0, 0, 1,
 ];
+
+/// What a packet holds.
+#[derive(Clone, Copy, Debug)]
+pub enum Content {
+    /// An authenticator of number 1 and a hash of zeros, to be learned.
+    Learn,
+    /// A challenge of a node to acknowledge a first message to it, 40 bytes 7.
+    Challenge { of: u32 },
+    /// The segment of a log whose one entry is CLOCK (1, 0), in answer to an audit.
+    Answer,
+    /// An acknowledgement of node 2's first message, its body's digest 32 bytes 7, its signature's 32 bytes
+    /// 8.
+    Acknowledgement,
+}
 
 /// A packet's bytes, and the roster of nodes 1 and 2 under which they are taken.
 #[derive(Drop)]
@@ -21,8 +35,18 @@ pub struct Made {
     pub bytes: Vec<u8>,
 }
 
+/// A packet with this content.
+pub fn packet_of(alloc: Global, content: Content) -> Option<Made> {
+    let Ok(mut signer) = Signer::new(alloc, MASTER, 1) else {
+        return None;
+    };
+    let bytes = bytes_of(alloc, &mut signer, content)?;
+    let roster = roster_of(alloc, signer.root())?;
+    Some(Made { roster, bytes })
+}
+
 /// A roster of nodes 1 and 2 with keys of height 1 under one root.
-fn roster_of(alloc: Global, root: [u8; 32]) -> Result<Roster, Fail> {
+fn roster_of(alloc: Global, root: [u8; 32]) -> Option<Roster> {
     let server = Member {
         node: 1,
         kind: Kind::Server,
@@ -35,119 +59,155 @@ fn roster_of(alloc: Global, root: [u8; 32]) -> Result<Roster, Fail> {
         root,
         height: 1,
     };
-    Ok(Roster::new(Vec::from_slice(alloc, &[server, client])?)?)
+    match Vec::from_slice(alloc, &[server, client]) {
+        Ok(members) => Roster::new(members).ok(),
+        Err(_) => None,
+    }
 }
 
-/// Node 1's keys.
-fn keys(alloc: Global) -> Result<Signer, Fail> {
-    Ok(Signer::new(alloc, MASTER, 1)?)
+fn bytes_of(alloc: Global, signer: &mut Signer, content: Content) -> Option<Vec<u8>> {
+    match content {
+        Content::Learn => learn(alloc, signer),
+        Content::Challenge { of } => challenge(alloc, signer, of),
+        Content::Answer => answer(alloc, signer),
+        Content::Acknowledgement => acknowledgement(alloc, signer),
+    }
 }
 
 /// Node 1's signature that its log has this hash at number 1.
-fn signature_of(signer: &mut Signer, hash: &[u8; 32]) -> Result<Signature, Fail> {
-    Ok(signer.sign(&signed_digest(1, Number::new(1), hash))?)
+fn signature_of(signer: &mut Signer, hash: &[u8; 32]) -> Option<Signature> {
+    signer.sign(&signed_digest(1, Number::new(1), hash)).ok()
 }
 
-/// An authenticator of number 1 and a hash of zeros, to be learned.
-pub fn learn(alloc: Global) -> Result<Made, Fail> {
-    let mut signer = keys(alloc)?;
-    let roster = roster_of(alloc, signer.root())?;
-    let authenticator = Authenticator {
-        node: 1,
-        number: Number::new(1),
-        hash: [0; 32],
-        signature: signature_of(&mut signer, &[0; 32])?,
-    };
+/// Node 1's authenticator of number 1 with this hash.
+fn authenticator_of(signer: &mut Signer, hash: [u8; 32]) -> Option<Authenticator> {
+    match signature_of(signer, &hash) {
+        Some(signature) => Some(Authenticator {
+            node: 1,
+            number: Number::new(1),
+            hash,
+            signature,
+        }),
+        None => None,
+    }
+}
+
+fn learn(alloc: Global, signer: &mut Signer) -> Option<Vec<u8>> {
+    let authenticator = authenticator_of(signer, [0; 32])?;
     let mut bytes = Vec::new(alloc);
-    write_learn(&authenticator, &mut bytes)?;
-    Ok(Made { roster, bytes })
+    match write_learn(&authenticator, &mut bytes) {
+        Ok(()) => Some(bytes),
+        Err(_) => None,
+    }
 }
 
-/// An envelope of a first message to this node, 40 bytes 7.
-fn envelope_to(alloc: Global, signer: &mut Signer, to: u32) -> Result<Envelope, Fail> {
-    let body = Body::new(Vec::from_slice(alloc, &[7; 40])?);
+/// An envelope of a first message to this node.
+fn envelope_to(alloc: Global, signer: &mut Signer, to: u32) -> Option<Envelope> {
+    let Ok(bytes) = Vec::from_slice(alloc, &[7; 40]) else {
+        return None;
+    };
+    let body = Body::new(bytes);
     let seq = Number::new(1);
     let hash = message_hash(to, seq, &[0; 32], &body.digest());
-    let signature = SignatureText::new(signature_of(signer, &hash)?);
-    Ok(Envelope {
-        from: 1,
-        to,
-        seq,
-        prev: [0; 32],
-        body,
-        signature,
-    })
+    match signature_of(signer, &hash) {
+        Some(signature) => Some(Envelope {
+            from: 1,
+            to,
+            seq,
+            prev: [0; 32],
+            body,
+            signature: SignatureText::new(signature),
+        }),
+        None => None,
+    }
 }
 
-/// A challenge of this node to acknowledge that message.
-pub fn challenge_of(alloc: Global, node: u32) -> Result<Made, Fail> {
-    let mut signer = keys(alloc)?;
-    let roster = roster_of(alloc, signer.root())?;
-    let envelope = envelope_to(alloc, &mut signer, node)?;
+fn challenge(alloc: Global, signer: &mut Signer, of: u32) -> Option<Vec<u8>> {
+    let envelope = envelope_to(alloc, signer, of)?;
     let mut bytes = Vec::new(alloc);
-    write_challenge(&envelope.view(), &mut bytes)?;
-    Ok(Made { roster, bytes })
+    match write_challenge(&envelope.view(), &mut bytes) {
+        Ok(()) => Some(bytes),
+        Err(_) => None,
+    }
 }
 
-/// The text of the segment of a log whose one entry is CLOCK (1, 0).
-fn segment_text(alloc: Global, signer: &mut Signer) -> Result<Vec<u8>, Fail> {
+/// A log whose one entry is CLOCK (1, 0).
+fn log_of_one(alloc: Global) -> Option<Log> {
     let mut log = Log::new(alloc, 1);
-    log.append(Entry::Clock {
+    let entry = Entry::Clock {
         seconds: 1,
         microseconds: 0,
-    })?;
-    let hash = log.hash_at(1).ok_or("no entry")?;
-    let closing = Authenticator {
-        node: 1,
-        number: Number::new(1),
-        hash,
-        signature: signature_of(signer, &hash)?,
     };
+    match log.append(entry) {
+        Ok(_) => Some(log),
+        Err(_) => None,
+    }
+}
+
+/// The text of the segment of its first entry, with the authenticator that closes it.
+fn segment_text(alloc: Global, log: &Log, closing: &Authenticator) -> Option<Vec<u8>> {
     let mut text = Vec::new(alloc);
-    log.segment(1, 1)?.write(&closing, &mut text)?;
-    Ok(text)
+    match log.segment(1, 1) {
+        Ok(segment) => match segment.write(closing, &mut text) {
+            Ok(()) => Some(text),
+            Err(_) => None,
+        },
+        Err(_) => None,
+    }
 }
 
-/// That segment, in answer to an audit.
-pub fn answer(alloc: Global) -> Result<Made, Fail> {
-    let mut signer = keys(alloc)?;
-    let roster = roster_of(alloc, signer.root())?;
-    let text = segment_text(alloc, &mut signer)?;
+/// The text of that log's segment.
+fn closed_text(alloc: Global, signer: &mut Signer) -> Option<Vec<u8>> {
+    let log = log_of_one(alloc)?;
+    let closing = authenticator_of(signer, log.hash_at(1)?)?;
+    segment_text(alloc, &log, &closing)
+}
+
+fn answer(alloc: Global, signer: &mut Signer) -> Option<Vec<u8>> {
+    let text = closed_text(alloc, signer)?;
     let mut bytes = Vec::new(alloc);
-    write_answer_text(&text, &mut bytes)?;
-    Ok(Made { roster, bytes })
+    match write_answer_text(&text, &mut bytes) {
+        Ok(()) => Some(bytes),
+        Err(_) => None,
+    }
 }
 
-/// An acknowledgement of node 2's first message, its body's digest 32 bytes 7, its signature's 32 bytes 8.
-fn ack_of(signer: &mut Signer) -> Result<Ack, Fail> {
-    let receipt = Receipt {
+/// What node 1 acknowledges.
+fn receipt() -> Receipt {
+    Receipt {
         from: 2,
         seq: Number::new(1),
         sender_prev: [0; 32],
         body: [7; 32],
         signature: [8; 32],
-    };
-    let hash = receipt_hash(&receipt, Number::new(1), &[0; 32]);
-    let signature = SignatureText::new(signature_of(signer, &hash)?);
-    Ok(Ack {
-        by: 1,
-        number: Number::new(1),
-        prev: [0; 32],
-        from: receipt.from,
-        seq: receipt.seq,
-        sender_prev: receipt.sender_prev,
-        body_hash: receipt.body,
-        signature_hash: receipt.signature,
-        signature,
-    })
+    }
 }
 
-/// That acknowledgement.
-pub fn acknowledgement(alloc: Global) -> Result<Made, Fail> {
-    let mut signer = keys(alloc)?;
-    let roster = roster_of(alloc, signer.root())?;
-    let ack = ack_of(&mut signer)?;
+/// Its acknowledgement.
+fn ack_of(signer: &mut Signer) -> Option<Ack> {
+    let receipt = receipt();
+    let hash = receipt_hash(&receipt, Number::new(1), &[0; 32]);
+    match signature_of(signer, &hash) {
+        Some(signature) => Some(Ack {
+            by: 1,
+            number: Number::new(1),
+            prev: [0; 32],
+            from: receipt.from,
+            seq: receipt.seq,
+            sender_prev: receipt.sender_prev,
+            body_hash: receipt.body,
+            signature_hash: receipt.signature,
+            signature: SignatureText::new(signature),
+        }),
+        None => None,
+    }
+}
+
+fn acknowledgement(alloc: Global, signer: &mut Signer) -> Option<Vec<u8>> {
+    let ack = ack_of(signer)?;
     let mut bytes = Vec::new(alloc);
-    write_ack(&ack.view(), &mut bytes)?;
-    Ok(Made { roster, bytes })
+    match write_ack(&ack.view(), &mut bytes) {
+        Ok(()) => Some(bytes),
+        Err(_) => None,
+    }
 }

@@ -1,10 +1,9 @@
 //! Packets that are taken, against another program's, and written back.
 
-use crate::made::{Made, acknowledgement, answer, challenge_of, learn};
-use packets::read_packet;
+use crate::made::{Content, Made, packet_of};
+use packets::{Packet, read_packet};
 use sha2::{Digest, Sha256};
 use std::alloc::Global;
-use std::test::Fail;
 
 /// The digest of an authenticator's packet, as another program makes it.
 const LEARN: [u8; 32] = [
@@ -30,50 +29,42 @@ const ACK: [u8; 32] = [
     0xd1, 0xd2, 0x1a, 0xef, 0x13, 0xbc, 0x13, 0x70, 0x69, 0x3b, 0xab, 0x09, 0x98, 0x7d, 0x49, 0x14,
 ];
 
-/// The node whose step a packet is that is taken, if it is written back as it was.
-fn step_of(alloc: Global, made: &Made) -> Result<Option<u32>, Fail> {
-    let packet = read_packet(alloc, &made.roster, &made.bytes)?;
+/// Whether a packet's bytes are as another program's: so many, with this digest.
+fn is_made(made: &Made, len: usize, digest: &[u8; 32]) -> bool {
+    made.bytes.len() == len && Sha256::digest(&made.bytes).as_slice() == digest.as_slice()
+}
+
+/// Whether a packet is written as these bytes.
+fn is_written(alloc: Global, packet: &Packet, bytes: &[u8]) -> bool {
     let mut again = Vec::new(alloc);
-    packet.write(&mut again)?;
-    Ok(if again == made.bytes {
-        Some(packet.node())
-    } else {
-        None
-    })
+    packet.write(&mut again).is_ok() && again.as_slice() == bytes
+}
+
+/// Whether a packet is taken, as a step of this node, and written back as it was.
+fn is_taken(alloc: Global, made: &Made, node: u32) -> bool {
+    match read_packet(alloc, &made.roster, &made.bytes) {
+        Ok(packet) => packet.node() == node && is_written(alloc, &packet, &made.bytes),
+        Err(_) => false,
+    }
+}
+
+/// Whether a packet with this content is as another program's, and taken.
+fn is_as_owed(alloc: Global, content: Content, len: usize, digest: &[u8; 32], node: u32) -> bool {
+    match packet_of(alloc, content) {
+        Some(made) => is_made(&made, len, digest) && is_taken(alloc, &made, node),
+        None => false,
+    }
 }
 
 #[test]
-fn an_authenticator_is_learned(rt: HostRuntime) -> Result<(), Fail> {
-    let made = learn(rt.alloc())?;
-    assert_eq!(rt; made.bytes.len(), 16_472);
-    assert_eq!(rt; Sha256::digest(&made.bytes), LEARN);
-    assert_eq!(rt; step_of(rt.alloc(), &made)?, Some(1));
-    Ok(())
-}
-
-#[test]
-fn an_envelope_challenges_its_receiver(rt: HostRuntime) -> Result<(), Fail> {
-    let made = challenge_of(rt.alloc(), 2)?;
-    assert_eq!(rt; made.bytes.len(), 16_520);
-    assert_eq!(rt; Sha256::digest(&made.bytes), CHALLENGE);
-    assert_eq!(rt; step_of(rt.alloc(), &made)?, Some(2));
-    Ok(())
-}
-
-#[test]
-fn a_segment_answers_an_audit(rt: HostRuntime) -> Result<(), Fail> {
-    let made = answer(rt.alloc())?;
-    assert_eq!(rt; made.bytes.len(), 16_532);
-    assert_eq!(rt; Sha256::digest(&made.bytes), ANSWER);
-    assert_eq!(rt; step_of(rt.alloc(), &made)?, Some(1));
-    Ok(())
-}
-
-#[test]
-fn an_acknowledgement_is_taken(rt: HostRuntime) -> Result<(), Fail> {
-    let made = acknowledgement(rt.alloc())?;
-    assert_eq!(rt; made.bytes.len(), 16_580);
-    assert_eq!(rt; Sha256::digest(&made.bytes), ACK);
-    assert_eq!(rt; step_of(rt.alloc(), &made)?, Some(1));
-    Ok(())
+fn packets_are_taken(rt: HostRuntime) {
+    for (content, len, digest, node) in [
+        (Content::Learn, 16_472, LEARN, 1),
+        (Content::Challenge { of: 2 }, 16_520, CHALLENGE, 2),
+        (Content::Answer, 16_532, ANSWER, 1),
+        (Content::Acknowledgement, 16_580, ACK, 1),
+    ] {
+        let owed = is_as_owed(rt.alloc(), content, len, &digest, node);
+        assert!(rt; owed, "{content:?}");
+    }
 }

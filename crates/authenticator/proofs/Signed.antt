@@ -24,6 +24,7 @@ is_false false h = refl
 pub same_list : (x y : List ℕ) → is_same x y ≡ true → x ≡ y
 same_list x y h = same_text x y (sym h)
 
+-- texts that are the same pass the test of being so
 pub list_same : (x y : List ℕ) → x ≡ y → is_same x y ≡ true
 list_same x y e = ap (pointwise nat_eq x) (sym e) ∙ nat_list_eq_equiv.refl x
 
@@ -35,6 +36,7 @@ module _ (root : List ℕ) (height : ℕ) (digest : List ℕ) (signature : Signa
   abbrev levels_lead : Bool
   levels_lead = (length signature.path == height) && leads
 
+  -- what passes the tests is signed
   pub signed_of : is_signed root height digest signature ≡ true → Signed root height digest signature
   unfolding is_signed
   signed_of h =
@@ -48,6 +50,7 @@ module _ (root : List ℕ) (height : ℕ) (digest : List ℕ) (signature : Signa
         leads = same_list (path_end signature.leaf (shown_leaf digest signature) signature.path) root ends.1;
       }
 
+  -- what is signed passes the tests
   pub of_signed : Signed root height digest signature → is_signed root height digest signature ≡ true
   unfolding is_signed
   of_signed s =
@@ -72,6 +75,7 @@ of_signed_by (Some m) a h = of_signed m.root m.height (signed_digest a.node a.nu
 pub signed_in_of : (ms : List Member) (a : Authenticator) → is_signed_in ms a ≡ true → IsSignedIn ms a
 signed_in_of ms a h = signed_by_of (member_of ms a.node) a h
 
+-- an authenticator that is signed under a roster passes the tests
 pub of_signed_in : (ms : List Member) (a : Authenticator) → IsSignedIn ms a → is_signed_in ms a ≡ true
 of_signed_in ms a h = of_signed_by (member_of ms a.node) a h
 
@@ -80,6 +84,7 @@ pub signed_by_member : (ms : List Member) (a : Authenticator) (m : Member) → m
     → IsSignedBy m a → is_signed_in ms a ≡ true
 signed_by_member ms a m e h = ap (λ (o : Option Member). is_signed_by o a) e ∙ of_signed_by (Some m) a h
 
+-- and it fails where that member didn't sign
 pub unsigned_by_member : (ms : List Member) (a : Authenticator) (m : Member) → member_of ms a.node ≡ Some m
     → ¬ IsSignedBy m a → is_signed_in ms a ≡ false
 unsigned_by_member ms a m e h =

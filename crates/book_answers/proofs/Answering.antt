@@ -18,20 +18,20 @@ use Rattle.envelopes.specs.Acknowledgement.{acked_message}
 use Rattle.envelopes.specs.declared.envelope.Envelope.{Envelope}
 use Rattle.envelopes.specs.declared.acknowledgement.Ack.{Ack}
 use Rattle.envelopes.specs.declared.message.Message.{Message}
-use Rattle.book_spec.specs.Signing.{is_same}
+use Rattle.book_laws.specs.Signing.{is_same}
 use Rattle.authenticator.proofs.Signed.{list_same}
-use Rattle.book_spec.specs.Showing.{IsAmong}
-use Rattle.book_spec.specs.Refusals.{NotAsked, BadSignature}
-use Rattle.book_spec.specs.Events.{PublicKey, Event}
-use Rattle.book_spec.specs.Events as events
-use Rattle.book_spec.specs.Replies.{Reply, Accepted, Closed, Refused, Challenge, AuditOf, SendOf}
-use Rattle.book_spec.specs.Steps.{Step, Answer, AckIn}
-use Rattle.book_spec.specs.Whose.{is_key_of, same_member, same_roster, signed_step, closed_step, whose}
-use Rattle.book_spec.specs.Standing.{Stage, Wanted, stage_of, same_message, is_answered, is_send_of}
-use Rattle.book_spec.specs.Standing.{open_challenges}
-use Rattle.book_spec.specs.Owing.{reply_told, answer_reply, is_open, IsOut, Owes}
-use Rattle.book_spec.specs.Histories.{History, own, OwesTo, IsOwed}
-use Rattle.book_spec.specs.Laws.{AnswersAudit, answer_of, ClosesChallenge}
+use Rattle.book_laws.specs.Showing.{IsAmong}
+use Rattle.book_laws.specs.Refusals.{NotAsked, BadSignature}
+use Rattle.book_laws.specs.Events.{PublicKey, Event}
+use Rattle.book_laws.specs.Events as events
+use Rattle.book_laws.specs.Replies.{Reply, Accepted, Closed, Refused, Challenge, AuditOf, SendOf}
+use Rattle.book_laws.specs.Steps.{Step, Answer, AckIn}
+use Rattle.book_laws.specs.Whose.{is_key_of, same_member, same_roster, signed_step, closed_step, whose}
+use Rattle.book_laws.specs.Standing.{Stage, Wanted, stage_of, same_message, is_answered, is_send_of}
+use Rattle.book_laws.specs.Standing.{open_challenges}
+use Rattle.book_laws.specs.Owing.{reply_told, answer_reply, is_open, IsOut, Owes}
+use Rattle.book_laws.specs.Histories.{History, own, OwesTo, IsOwed}
+use Rattle.book_laws.specs.Laws.{AnswersAudit, answer_of, ClosesChallenge}
 use Rattle.book_laws.proofs.Replied.{one_reply}
 use Rattle.book_laws.proofs.OwnSteps.{its_own}
 

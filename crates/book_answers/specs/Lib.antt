@@ -1,0 +1,12 @@
+pub use Rattle.book_laws.specs.Opening
+pub use Rattle.book_laws.specs.Showing
+pub use Rattle.book_laws.specs.Proving
+pub use Rattle.book_laws.specs.Events
+pub use Rattle.book_laws.specs.Replies
+pub use Rattle.book_laws.specs.Steps
+pub use Rattle.book_laws.specs.Whose
+pub use Rattle.book_laws.specs.Done
+pub use Rattle.book_laws.specs.Standing
+pub use Rattle.book_laws.specs.Histories
+pub use Rattle.book_laws.specs.Premises
+pub use Rattle.book_laws.specs.Laws

@@ -1,6 +1,6 @@
 //! Whoever answers a challenge closes it.
 
-ghost use Rattle.book_spec.specs.Laws.{AnswersAreAccepted, AcksClose};
+ghost use Rattle.book_laws.specs.Laws.{AnswersAreAccepted, AcksClose};
 
 /// The part of its log that a node was asked for, closed by its signature there, is the node's step, it is
 /// accepted, and behind it no audit is open.

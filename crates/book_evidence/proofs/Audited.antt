@@ -15,25 +15,25 @@ use Rattle.log_entries.specs.Entry.{entry_item, entry_value}
 use Rattle.log_entries.specs.Chain.{Link, zeros, pairs, hash_after, last_hash, links_from}
 use Rattle.log_entries.proofs.Pairs.{last_hash-parts}
 use Rattle.secure_log.specs.Segment.{SegmentParts, ClosedParts, segment_pairs}
-use Rattle.book_spec.specs.State.{State}
-use Rattle.book_spec.specs.Opening.{opening_of}
-use Rattle.book_spec.specs.Placed.{Placed, placed, placed_in}
-use Rattle.book_spec.specs.Stepping.{ReplayFault, step}
-use Rattle.book_spec.specs.Replay.{Sound, Fault, Honest, last_state, verdict_of}
-use Rattle.replay_spec.proofs.Places.{places_joined}
-use Rattle.replay_spec.proofs.Runs.{is_sound, first_fault, is_fault, joined, last_joined}
-use Rattle.evidence_spec.specs.Showing.{IsAmong}
-use Rattle.evidence_spec.specs.Evidence.{Replay}
-use Rattle.evidence_spec.proofs.Chained.{zeros-length}
-use Rattle.evidence_spec.proofs.Places.{AreNumbered, entries_numbered, length-links}
-use Rattle.book_spec.specs.Events.{JobParts}
-use Rattle.book_spec.specs.Replies.{Reply}
-use Rattle.book_spec.specs.Steps.{Step, Past}
-use Rattle.book_spec.specs.Pairs.{Pair}
-use Rattle.book_spec.specs.Done.{noted, accepted, filed}
-use Rattle.book_spec.specs.Standing.{End, end_of, end_behind, moved_by, verdict_on, sound_entries, entries_filed}
-use Rattle.book_spec.specs.Standing.{audited, pairs_noted, pairs_accepted, shown, is_exposed}
-use Rattle.book_spec.specs.Exposing.{audited_with}
+use Rattle.book_laws.specs.State.{State}
+use Rattle.book_laws.specs.Opening.{opening_of}
+use Rattle.book_laws.specs.Placed.{Placed, placed, placed_in}
+use Rattle.book_laws.specs.Stepping.{ReplayFault, step}
+use Rattle.book_laws.specs.Replay.{Sound, Fault, Honest, last_state, verdict_of}
+use Rattle.book_laws.proofs.PlacedEntries.{places_joined}
+use Rattle.book_laws.proofs.Runs.{is_sound, first_fault, is_fault, joined, last_joined}
+use Rattle.book_laws.specs.Showing.{IsAmong}
+use Rattle.book_laws.specs.Evidence.{Replay}
+use Rattle.book_laws.proofs.Chained.{zeros-length}
+use Rattle.book_laws.proofs.Places.{AreNumbered, entries_numbered, length-links}
+use Rattle.book_laws.specs.Events.{JobParts}
+use Rattle.book_laws.specs.Replies.{Reply}
+use Rattle.book_laws.specs.Steps.{Step, Past}
+use Rattle.book_laws.specs.Pairs.{Pair}
+use Rattle.book_laws.specs.Done.{noted, accepted, filed}
+use Rattle.book_laws.specs.Standing.{End, end_of, end_behind, moved_by, verdict_on, sound_entries, entries_filed}
+use Rattle.book_laws.specs.Standing.{audited, pairs_noted, pairs_accepted, shown, is_exposed}
+use Rattle.book_laws.specs.Exposing.{audited_with}
 use Rattle.book_evidence.proofs.Audits.{IsGoodSegment, IsNext}
 use Rattle.book_evidence.proofs.Before.{on_right, one_shown, accepted_shown, first_some}
 use Rattle.book_evidence.proofs.Charges.{IsGoodCharge, first_shown}
@@ -72,6 +72,7 @@ pub record IsAudited (ms : List Member) (m : Member) (past : Past) : Type 0 wher
   pub honest : Honest ms (opening_of m) (placed 1 zeros (audited ms m past)) states
   pub last : last_state (opening_of m) states ≡ (end_of ms m past).state
 
+-- before any step nothing is audited, and the end is at 0, with the state that the node begins with
 pub none_audited : (ms : List Member) (m : Member) → IsAudited ms m []
 none_audited ms m =
     record { count = refl; there = first_shown ms m []; each = tt; states = []; honest = tt; last = refl }

@@ -6,16 +6,16 @@ use Rattle.std.proofs.Common.{Option, Some, None, refl, sym, ap, subst, ◌∙�
 use Rattle.std.proofs.lemmas.Bool.{ltb-true, ltb-false}
 use Rattle.authenticator.specs.declared.member.Member.{Member}
 use Rattle.secure_log.specs.Segment.{SegmentParts, ClosedParts, HasText, IsClosed}
-use Rattle.book_spec.specs.Replay.{Verdict, Sound, Fault}
-use Rattle.evidence_spec.specs.Showing.{IsAmong}
-use Rattle.book_spec.specs.Events.{JobParts}
-use Rattle.book_spec.specs.Replies.{Reply}
-use Rattle.book_spec.specs.Steps.{Step, Past}
-use Rattle.book_spec.specs.Limits.{MAX_AUDITED}
-use Rattle.book_spec.specs.Done.{accepted, filed}
-use Rattle.book_spec.specs.Standing.{End, end_of, end_behind, moved_by, verdict_on, Stage, NoAudit, Wanted, Given}
-use Rattle.book_spec.specs.Standing.{Out, stage_behind, stage_of, segment_of, all_accepted}
-use Rattle.book_spec.specs.Histories.{AreOwed}
+use Rattle.book_laws.specs.Replay.{Verdict, Sound, Fault}
+use Rattle.book_laws.specs.Showing.{IsAmong}
+use Rattle.book_laws.specs.Events.{JobParts}
+use Rattle.book_laws.specs.Replies.{Reply}
+use Rattle.book_laws.specs.Steps.{Step, Past}
+use Rattle.book_laws.specs.Limits.{MAX_AUDITED}
+use Rattle.book_laws.specs.Done.{accepted, filed}
+use Rattle.book_laws.specs.Standing.{End, end_of, end_behind, moved_by, verdict_on, Stage, NoAudit, Wanted, Given}
+use Rattle.book_laws.specs.Standing.{Out, stage_behind, stage_of, segment_of, all_accepted}
+use Rattle.book_laws.specs.Histories.{AreOwed}
 use Rattle.book_laws.proofs.Checked.{IsGiven, IsCheckedStep, AreChecked}
 use Rattle.book_laws.proofs.Doing.{Did, Doing, Nothing, Notes, Accepts, Asks, Begins, Files, PutsBack, doing}
 
@@ -27,6 +27,7 @@ pub record IsGoodSegment (ms : List Member) (m : Member) (s : SegmentParts) : Ty
   pub closed : IsClosed ms s
   pub node : s.closing.node ≡ m.node
 
+-- a segment that a checked answer gives is one of the node's, closed, with a text
 pub good_given : (ms : List Member) (m : Member) (c : ClosedParts) → IsGiven ms m c → IsGoodSegment ms m c.segment
 good_given ms m c given = record { text = given.text; closed = given.closed; node = given.node }
 
@@ -197,7 +198,7 @@ module _ (ms : List Member) (m : Member) (past : Past) (p : Step × Reply) where
   stands_on (Accepts c is wanted did) checked k =
       gives c (good_given ms m c (subst (IsCheckedStep ms m) is checked)) wanted did k
   stands_on (Asks first last is few did) checked k =
-      quiet (Wanted first last) did.stage did.accepts did.files (is, few) k
+      quiet (Wanted first last) did.stage did.accepts did.files (is, few.0) k
   stands_on (Begins c is did) checked k =
       quiet (Out c) did.stage did.accepts did.files (subst (IsAt ms m past) is k.stage) k
   stands_on (PutsBack c is did) checked k =
@@ -212,6 +213,7 @@ at_first ms m = record {
   held = λ n low high. absurd (omega (arith, low, high));
 }
 
+-- so it stands behind all own steps that were checked and have the replies that are owed
 pub stands : (ms : List Member) (m : Member) (past : Past) → AreOwed ms m past → AreChecked ms m past
     → Stand ms m past
 stands ms m [] owed checked = at_first ms m

@@ -11,22 +11,22 @@ use Rattle.authenticator.specs.declared.member.Member.{Member}
 use Rattle.log_entries.specs.Entry.{entry_value}
 use Rattle.log_entries.specs.Chain.{Link, pairs, hash_after, links_from}
 use Rattle.secure_log.specs.Segment.{SegmentParts, ClosedParts, segment_pairs}
-use Rattle.book_spec.specs.Signing.{is_same}
-use Rattle.replay_spec.proofs.Signed.{same_list, list_same, is_false}
-use Rattle.evidence_spec.specs.Showing.{ShowingParts, IsAmong}
-use Rattle.evidence_spec.specs.Showing.{authenticator_showing, segment_showing}
-use Rattle.evidence_spec.specs.Laws.{ShowsPairs}
-use Rattle.evidence_spec.proofs.Closed.{one_pair, own_pairs}
-use Rattle.evidence_spec.proofs.Places.{AreNumbered, entries_numbered, length-links, behind}
-use Rattle.book_spec.specs.Replies.{Reply}
-use Rattle.book_spec.specs.Steps.{Step, Learn, Past}
-use Rattle.book_spec.specs.Pairs.{Pair, pair_of, first_pair}
-use Rattle.book_spec.specs.Done.{noted, accepted}
-use Rattle.book_spec.specs.Standing.{end_of, pairs_noted, pairs_accepted, shown, is_exposed, unless_exposed}
-use Rattle.book_spec.specs.Standing.{noted_before, kept, segment_of, all_accepted}
-use Rattle.book_spec.specs.Exposing.{segment_holding, or_segment, showing_before}
-use Rattle.book_spec.specs.Histories.{AreOwed}
-use Rattle.book_spec.specs.Laws.{HasTwoHashes}
+use Rattle.book_laws.specs.Signing.{is_same}
+use Rattle.authenticator.proofs.Signed.{same_list, list_same, is_false}
+use Rattle.book_laws.specs.Showing.{ShowingParts, IsAmong}
+use Rattle.book_laws.specs.Showing.{authenticator_showing, segment_showing}
+use Rattle.book_laws.specs.EvidenceLaws.{ShowsPairs}
+use Rattle.book_laws.proofs.Closed.{one_pair, own_pairs}
+use Rattle.book_laws.proofs.Places.{AreNumbered, entries_numbered, length-links, behind}
+use Rattle.book_laws.specs.Replies.{Reply}
+use Rattle.book_laws.specs.Steps.{Step, Learn, Past}
+use Rattle.book_laws.specs.Pairs.{Pair, pair_of, first_pair}
+use Rattle.book_laws.specs.Done.{noted, accepted}
+use Rattle.book_laws.specs.Standing.{end_of, pairs_noted, pairs_accepted, shown, is_exposed, unless_exposed}
+use Rattle.book_laws.specs.Standing.{noted_before, kept, segment_of, all_accepted}
+use Rattle.book_laws.specs.Exposing.{segment_holding, or_segment, showing_before}
+use Rattle.book_laws.specs.Histories.{AreOwed}
+use Rattle.book_laws.specs.Laws.{HasTwoHashes}
 use Rattle.book_laws.proofs.Exposing.{exposed_is, why_exposed, exposed_further}
 use Rattle.book_laws.proofs.Doing.{Doing, Nothing, Notes, Accepts, Asks, Begins, Files, PutsBack, doing}
 use Rattle.book_laws.proofs.Checked.{IsLearned, IsCheckedStep, AreChecked}
@@ -34,16 +34,19 @@ use Rattle.book_evidence.proofs.Audits.{IsGoodSegment, IsHeld, Stand}
 
 -- ---- lists
 
+-- what is in two lists together is in one of them
 pub split : {A : Type 0} (x : A) (xs ys : List A) → IsAmong x (xs ++ ys) → IsAmong x xs ⊎ IsAmong x ys
 split x [] ys i = inr i
 split x (z ∷ xs) ys (inl e) = inl (inl e)
 split x (z ∷ xs) ys (inr i) = elim (split x xs ys i) [ inl a ↦ inl (inr a) | inr b ↦ inr b ]
 
+-- what is in the first of two lists is in both together
 pub on_left : {A : Type 0} (x : A) (xs ys : List A) → IsAmong x xs → IsAmong x (xs ++ ys)
 on_left x [] ys i = absurd i
 on_left x (z ∷ xs) ys (inl e) = inl e
 on_left x (z ∷ xs) ys (inr i) = inr (on_left x xs ys i)
 
+-- what is in the second of two lists is in both together
 pub on_right : {A : Type 0} (x : A) (xs ys : List A) → IsAmong x ys → IsAmong x (xs ++ ys)
 on_right x [] ys i = i
 on_right x (z ∷ xs) ys i = inr (on_right x xs ys i)
@@ -141,6 +144,7 @@ module _ (ms : List Member) (m : Member) where
             differ = λ h. true≢false (sym (list_same x y h) ∙ s);
           } in absurd (true≢false (sym (exposed_is ms m past (why_exposed ms m past (inl two))) ∙ e))
 
+  -- a node that isn't exposed behind a step wasn't exposed before it
   pub was_not : (p : Step × Reply) (past : Past) → is_exposed ms m (p ∷ past) ≡ false
       → is_exposed ms m past ≡ false
   was_not p past e =
@@ -279,6 +283,7 @@ pub record IsGoodShowing (ms : List Member) (m : Member) (s : ShowingParts) (ps 
   pub node : s.node ≡ m.node
   pub shows : ShowsPairs ms s ps
 
+-- a learned authenticator of the node, alone, shows its own pair
 pub good_authenticator : (ms : List Member) (m : Member) (a : Authenticator) → IsLearned ms m a
     → IsGoodShowing ms m (authenticator_showing a) (pair_of a ∷ [])
 good_authenticator ms m a good = record { node = good.node; shows = one_pair ms a good.text good.signed }
@@ -289,6 +294,7 @@ first_some ms m s good =
     let both = and_parts (nat_lt 0 s.first) (nat_lt 0 (length (map entry_value s.entries))) good.text.1 in
     ltb-true 0 s.first both.0
 
+-- a good segment of the node, without its entries, shows all its pairs
 pub good_segment : (ms : List Member) (m : Member) (s : SegmentParts) → IsGoodSegment ms m s
     → IsGoodShowing ms m (segment_showing s) (segment_pairs s)
 good_segment ms m s good = record {

@@ -11,24 +11,24 @@ use Rattle.authenticator.specs.declared.authenticator.Authenticator.{Authenticat
 use Rattle.authenticator.specs.declared.member.Member.{Member}
 use Rattle.log_entries.specs.Chain.{zeros, links_from}
 use Rattle.secure_log.specs.Segment.{SegmentParts, ClosedParts, segment_pairs}
-use Rattle.book_spec.specs.Signing.{is_same}
-use Rattle.book_spec.specs.Replay.{Verdict, Sound, Fault}
-use Rattle.book_spec.specs.Stepping.{ReplayFault}
-use Rattle.replay_spec.proofs.Signed.{is_false, list_same}
-use Rattle.evidence_spec.specs.Showing.{ShowingParts, IsAmong, authenticator_showing, segment_showing}
-use Rattle.evidence_spec.specs.Evidence.{Charge, Fork, Replay, AcceptsCharge, is_charge, charge_item, charge_value}
-use Rattle.evidence_spec.proofs.Places.{AreNumbered, entries_numbered, length-links, behind, one_hash}
-use Rattle.book_spec.specs.Events.{JobParts}
-use Rattle.book_spec.specs.Replies.{Reply}
-use Rattle.book_spec.specs.Steps.{Step, Past}
-use Rattle.book_spec.specs.Pairs.{Pair, pair_of, first_pair, differ, is_fork, has_fork, first_fork}
-use Rattle.book_spec.specs.Done.{noted, accepted, filed}
-use Rattle.book_spec.specs.Standing.{end_of, verdict_on, finds_fault, has_fault, pairs_noted, pairs_accepted, shown}
-use Rattle.book_spec.specs.Standing.{is_exposed, is_fault, kept, all_accepted, Stage, NoAudit, Wanted, Given, Out}
-use Rattle.book_spec.specs.Standing.{stage_of}
-use Rattle.book_spec.specs.Exposing.{showing_before, fork_of, new_fork, audited_with, replay_of, charge_of, new_charge}
-use Rattle.book_spec.specs.Histories.{AreOwed}
-use Rattle.book_spec.specs.Laws.{HasTwoHashes, HasFaultyFile}
+use Rattle.book_laws.specs.Signing.{is_same}
+use Rattle.book_laws.specs.Replay.{Verdict, Sound, Fault}
+use Rattle.book_laws.specs.Stepping.{ReplayFault}
+use Rattle.authenticator.proofs.Signed.{is_false, list_same}
+use Rattle.book_laws.specs.Showing.{ShowingParts, IsAmong, authenticator_showing, segment_showing}
+use Rattle.book_laws.specs.Evidence.{Charge, Fork, Replay, AcceptsCharge, is_charge, charge_item, charge_value}
+use Rattle.book_laws.proofs.Places.{AreNumbered, entries_numbered, length-links, behind, one_hash}
+use Rattle.book_laws.specs.Events.{JobParts}
+use Rattle.book_laws.specs.Replies.{Reply}
+use Rattle.book_laws.specs.Steps.{Step, Past}
+use Rattle.book_laws.specs.Pairs.{Pair, pair_of, first_pair, differ, is_fork, has_fork, first_fork}
+use Rattle.book_laws.specs.Done.{noted, accepted, filed}
+use Rattle.book_laws.specs.Standing.{end_of, verdict_on, finds_fault, has_fault, pairs_noted, pairs_accepted, shown}
+use Rattle.book_laws.specs.Standing.{is_exposed, is_fault, kept, all_accepted, Stage, NoAudit, Wanted, Given, Out}
+use Rattle.book_laws.specs.Standing.{stage_of}
+use Rattle.book_laws.specs.Exposing.{showing_before, fork_of, new_fork, audited_with, replay_of, charge_of, new_charge}
+use Rattle.book_laws.specs.Histories.{AreOwed}
+use Rattle.book_laws.specs.Laws.{HasTwoHashes, HasFaultyFile}
 use Rattle.book_laws.proofs.Exposing.{fork_at, of_file, exposed_is, is_exposed_told, exposed_why, why_exposed}
 use Rattle.book_laws.proofs.Doing.{Did, Doing, Nothing, Notes, Accepts, Asks, Begins, Files, PutsBack}
 use Rattle.book_laws.proofs.Checked.{IsLearned, IsCheckedStep, AreChecked}
@@ -178,6 +178,7 @@ new_segment ms m s good =
           )) good.text.0.1.1.1.1.1.0;
     }
 
+-- the pair before the first entry is always among those that were shown
 pub first_shown : (ms : List Member) (m : Member) (past : Past) → IsAmong first_pair (shown ms m past)
 first_shown ms m [] = inl refl
 first_shown ms m (p ∷ past) =

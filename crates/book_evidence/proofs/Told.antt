@@ -6,21 +6,21 @@ use Rattle.std.specs.Prelude.{IsSome, option_map}
 use Rattle.std.proofs.lemmas.Bool.{or_right, true≢false}
 use Rattle.authenticator.specs.Roster.{member_of}
 use Rattle.authenticator.specs.declared.member.Member.{Member}
-use Rattle.book_spec.specs.Replay.{Verdict, Sound, Fault}
+use Rattle.book_laws.specs.Replay.{Verdict, Sound, Fault}
 use Rattle.xdr.specs.Item.{Fits}
-use Rattle.evidence_spec.specs.Evidence.{Charge, EvidenceParts, evidence_item, evidence_value}
-use Rattle.evidence_spec.specs.Evidence as evidences
-use Rattle.evidence_spec.specs.Proving.{Proves}
-use Rattle.book_spec.specs.Events.{JobParts}
-use Rattle.book_spec.specs.Replies.{Reply, Exposed}
-use Rattle.book_spec.specs.Steps.{Step, Past}
-use Rattle.book_spec.specs.Pairs.{has_fork}
-use Rattle.book_spec.specs.Done.{filed}
-use Rattle.book_spec.specs.Standing.{end_of, verdict_on, is_fault, finds_fault, has_fault, shown, is_exposed}
-use Rattle.book_spec.specs.Standing.{entries_filed, indication, stage_of, Out}
-use Rattle.book_spec.specs.Exposing.{new_charge, evidence}
-use Rattle.book_spec.specs.Histories.{AreOwed}
-use Rattle.book_spec.specs.Laws.{IsProof}
+use Rattle.book_laws.specs.Evidence.{Charge, EvidenceParts, evidence_item, evidence_value}
+use Rattle.book_laws.specs.Evidence as evidences
+use Rattle.book_laws.specs.Proving.{Proves}
+use Rattle.book_laws.specs.Events.{JobParts}
+use Rattle.book_laws.specs.Replies.{Reply, Exposed}
+use Rattle.book_laws.specs.Steps.{Step, Past}
+use Rattle.book_laws.specs.Pairs.{has_fork}
+use Rattle.book_laws.specs.Done.{filed}
+use Rattle.book_laws.specs.Standing.{end_of, verdict_on, is_fault, finds_fault, has_fault, shown, is_exposed}
+use Rattle.book_laws.specs.Standing.{entries_filed, indication, stage_of, Out}
+use Rattle.book_laws.specs.Exposing.{new_charge, evidence}
+use Rattle.book_laws.specs.Histories.{AreOwed}
+use Rattle.book_laws.specs.Laws.{IsProof}
 use Rattle.book_laws.proofs.Exposing.{exposed_is, is_exposed_told, exposed_further}
 use Rattle.book_laws.proofs.Doing.{Doing, Nothing, Notes, Accepts, Asks, Begins, Files, PutsBack, doing}
 use Rattle.book_laws.proofs.Checked.{AreChecked}
@@ -99,6 +99,8 @@ module _ (ms : List Member) (m : Member) (past : Past) (p : Step × Reply) where
       let next = next_filed j stand out in
       replay_charge ms m past j fault number member was a next (good_filed j stand next) v))
 
+-- behind own steps that were checked and owed there is good evidence, or the node isn't exposed and its
+-- audited entries are an honest log
 pub told : (ms : List Member) (m : Member) (past : Past) → member_of ms m.node ≡ Some m → AreOwed ms m past
     → AreChecked ms m past → Told ms m past
 told ms m [] member owed checked = Without refl refl (none_audited ms m)
@@ -117,6 +119,7 @@ of_exposed : (ms : List Member) (m : Member) (past : Past) → Told ms m past �
 of_exposed ms m past (Without none e a) h = absurd (true≢false (sym (exposed_is ms m past h) ∙ e))
 of_exposed ms m past (With g is e good) h = subst IsSome (sym is) refl
 
+-- evidence is there exactly where the indication is Exposed
 pub there_where_exposed : (ms : List Member) (m : Member) (past : Past) → Told ms m past
     → IsSome (evidence ms m past) ↔ (indication ms m past ≡ Exposed)
 there_where_exposed ms m past t = (some_of ms m past t, of_exposed ms m past t)
@@ -130,6 +133,7 @@ pub record IsCharged (ms : List Member) (m : Member) (e : EvidenceParts) : Type 
 some_same : {A : Type 0} {x y : A} → ◌≡◌ {A = Option A} (Some x) (Some y) → x ≡ y
 some_same h = cc
 
+-- the evidence that is told is a charge that is accepted against the node
 pub charged : (ms : List Member) (m : Member) (past : Past) (e : EvidenceParts) → Told ms m past
     → evidence ms m past ≡ Some e → IsCharged ms m e
 charged ms m past e (Without none was a) h =

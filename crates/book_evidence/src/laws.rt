@@ -1,8 +1,8 @@
 //! When there is evidence against a node, and what it proves.
 
-ghost use Rattle.book_spec.specs.Laws.{EvidenceWhereExposed, EvidenceProves};
+ghost use Rattle.book_laws.specs.Laws.{EvidenceWhereExposed, EvidenceProves};
 
-use evidence_spec::laws::accepted_evidence_proves;
+use book_laws::evidence_laws::accepted_evidence_proves;
 
 /// There is evidence against a node exactly where the node is Exposed.
 pub fn evidence_where_exposed()

@@ -1,2 +1,5 @@
+pub mod Bytes
 pub mod Computed
+pub mod Hashes
 pub mod Many
+pub mod Telling

@@ -79,6 +79,7 @@ member_is x y h =
     let height : x.height ≡ y.height = eqb-true x.height y.height c.1 in
     ap₂ (λ n k. make n k x.root x.height) node kind ∙ ap₂ (λ r t. make y.node y.kind r t) root height
 
+-- rosters that the test finds the same are equal
 pub roster_is : (xs ys : List Member) → same_roster xs ys ≡ true → xs ≡ ys
 roster_is [] [] h = refl
 roster_is [] (y ∷ ys) h = absurd (true≢false (sym h))
@@ -224,6 +225,7 @@ module _ (ms : List Member) (o : OwnStep) where
 
   -- ---- all events
 
+  -- where an event that may be handed in is a step of somebody, what it holds was checked
   pub checked_event : (e : Event) → whose ms e ≡ Ok o → IsEvent e → IsCheckedStep ms o.member o.step
   checked_event (events.Deliver bytes) h is = judged_at bytes (judged ms bytes) is refl h
   checked_event (events.Learn a key) h is = learn_at a key (member_of ms a.node) refl h is.0 is.1
@@ -254,6 +256,7 @@ module _ (ms : List Member) (m : Member) (is : member_of ms m.node ≡ Some m) w
           (subst (λ n. IsCheckedStep ms n o.step) member (checked_event ms o e is_w event), rest)
       by false differs = rest
 
+  -- all values among a node's own steps of a history were checked
   pub own_checked : (history : History) → IsHistory ms history → AreChecked ms m (own ms m.node history)
   own_checked [] h = tt
   own_checked (p ∷ history) h =

@@ -1,12 +1,14 @@
 -- What a step did, by the reply that is owed to it.
 -- Serves: laws of the crates above.
-use Rattle.std.proofs.Common.{◌≡◌, ℕ, ◌+◌, ◌-◌, ◌≤◌, Bool, true, false, cond, ◌&&◌, ◌==◌, nat_le, nat_lt, List}
+use Rattle.std.proofs.Common.{◌≡◌, ℕ, ◌+◌, ◌-◌, ◌≤◌, Bool, true, false, cond, ◌&&◌, ◌==◌, nat_lt, List}
 use Rattle.std.proofs.Common.{[], ◌∷◌, Option, Some, None, refl, sym, ap, subst, ◌∙◌, eqb-true, arith}
 use Rattle.std.proofs.lemmas.Bool.{and_parts, ltb-false}
-use Rattle.std.specs.Prelude.{Decides, count_by, length}
+use Rattle.std.specs.Prelude.{◌<◌, Decides, length}
+use Rattle.std.specs.List.{AllByRecursion}
 use Rattle.authenticator.specs.declared.authenticator.Authenticator.{Authenticator}
 use Rattle.authenticator.specs.declared.member.Member.{Member}
 use Rattle.secure_log.specs.Segment.{ClosedParts}
+use Rattle.book_spec.specs.Showing.{IsAmong}
 use Rattle.book_spec.specs.Refusals as refusals
 use Rattle.book_spec.specs.Events.{JobParts, DoneParts}
 use Rattle.book_spec.specs.Replies.{Reply, Noted, Already, Accepted, Asked, Job, Filed, Returned, Refused}
@@ -20,6 +22,7 @@ use Rattle.book_spec.specs.Standing.{end_of, Stage, NoAudit, Wanted, Given, Out,
 use Rattle.book_spec.specs.Standing.{out_at, job_out, is_exposed, shown, kept, outbox}
 use Rattle.book_spec.specs.Owing.{reply_told, answer_reply, audit_reply, ask_reply, last_in_reach, begin_reply}
 use Rattle.book_spec.specs.Owing.{next_job, back_reply, has_no_room, IsOut, Owes}
+use Rattle.book_laws.proofs.Reach.{IsInReach, IsNumberOf, in_reach, kept_behind}
 
 -- what a step noted, accepted and filed, and where the audit stands behind it
 pub record Did (past : Past) (p : Step × Reply) (learned : Option Authenticator) (answer : Option ClosedParts)
@@ -37,7 +40,8 @@ pub data Doing (ms : List Member) (m : Member) (past : Past) (p : Step × Reply)
   Accepts : (c : ClosedParts) → p.0 ≡ Answer c
       → stage_of past ≡ Wanted c.segment.first c.segment.closing.number
       → Did past p None (Some c) None (Given c) → Doing ms m past p
-  Asks : (first last : ℕ) → first ≡ (end_of ms m past).number + 1 → last ≤ MAX_AUDITED
+  Asks : (first last : ℕ) → first ≡ (end_of ms m past).number + 1
+      → (last ≤ MAX_AUDITED) × IsInReach first last × IsNumberOf (kept ms m past) last
       → Did past p None None None (Wanted first last) → Doing ms m past p
   Begins : (c : ClosedParts) → stage_of past ≡ Given c → Did past p None None None (Out c)
       → Doing ms m past p
@@ -76,33 +80,38 @@ module _ (ms : List Member) (m : Member) (past : Past) where
   answers c (Given d) is = Nothing (record { notes = refl; accepts = refl; files = refl; stage = refl })
   answers c (Out d) is = Nothing (record { notes = refl; accepts = refl; files = refl; stage = refl })
 
-  asked : (x y z : Bool) (first last : ℕ) → first ≡ (end_of ms m past).number + 1 → nat_lt MAX_AUDITED last ≡ y
+  asked : (x y z : Bool) (first last : ℕ) → first ≡ (end_of ms m past).number + 1
+      → (x ≡ false → IsInReach first last × IsNumberOf (kept ms m past) last) → nat_lt MAX_AUDITED last ≡ y
       → Doing ms m past (
         Audit,
         cond x (Refused refusals.TooFar) (cond y (Refused refusals.BookFull)
             (cond z (Refused refusals.OutboxFull) (Asked first last))),
       )
-  asked true y z first last is e =
+  asked true y z first last is reach e =
       Nothing (record { notes = refl; accepts = refl; files = refl; stage = refl })
-  asked false true z first last is e =
+  asked false true z first last is reach e =
       Nothing (record { notes = refl; accepts = refl; files = refl; stage = refl })
-  asked false false true first last is e =
+  asked false false true first last is reach e =
       Nothing (record { notes = refl; accepts = refl; files = refl; stage = refl })
-  asked false false false first last is e =
-      Asks first last is (omega (arith, ltb-false MAX_AUDITED last e))
+  asked false false false first last is reach e =
+      Asks first last is (omega (arith, ltb-false MAX_AUDITED last e), (reach refl).0, (reach refl).1)
       (record { notes = refl; accepts = refl; files = refl; stage = refl })
 
   asks : (exposed : Bool) (waiting : ℕ) (learned : List Authenticator)
+      → ((a : Authenticator) → IsAmong a learned → IsAmong a (kept ms m past))
+      → AllByRecursion (λ a. (end_of ms m past).number < a.number) learned
       → Doing ms m past (Audit, ask_reply exposed (end_of ms m past).number waiting learned)
-  asks true waiting learned = Nothing (record { notes = refl; accepts = refl; files = refl; stage = refl })
-  asks false waiting [] = Nothing (record { notes = refl; accepts = refl; files = refl; stage = refl })
-  asks false waiting (a ∷ learned) =
+  asks true waiting learned within all = Nothing (record { notes = refl; accepts = refl; files = refl; stage = refl })
+  asks false waiting [] within all = Nothing (record { notes = refl; accepts = refl; files = refl; stage = refl })
+  asks false waiting (a ∷ learned) within all =
       let end = (end_of ms m past).number in
       let last = last_in_reach end (a ∷ learned) in
-      asked (last == 0) (nat_lt MAX_AUDITED last) (nat_lt MAX_OUTBOX (waiting + (last - end))) (end + 1) last refl refl
+      asked (last == 0) (nat_lt MAX_AUDITED last) (nat_lt MAX_OUTBOX (waiting + (last - end))) (end + 1) last refl
+      (in_reach (kept ms m past) end (a ∷ learned) within all) refl
 
   audits : (s : Stage) → Doing ms m past (Audit, audit_reply ms m past s)
-  audits NoAudit = asks (is_exposed ms m past) (length (outbox ms m past)) (kept ms m past)
+  audits NoAudit = asks (is_exposed ms m past) (length (outbox ms m past)) (kept ms m past) (λ a i. i)
+      (kept_behind ms m past)
   audits (Wanted first last) = Nothing (record { notes = refl; accepts = refl; files = refl; stage = refl })
   audits (Given c) = Nothing (record { notes = refl; accepts = refl; files = refl; stage = refl })
   audits (Out c) = Nothing (record { notes = refl; accepts = refl; files = refl; stage = refl })

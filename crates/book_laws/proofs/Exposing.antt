@@ -88,6 +88,7 @@ two_of (p ∷ pairs) h = by (or_cases (is_fork p pairs) (has_fork pairs) h) (λ 
           differ = g.differ;
         }
 
+-- a pair is a fork where another hash is shown at its number
 pub fork_at : (n : ℕ) (x y : List ℕ) (pairs : List Pair) → x ≢ y → IsAmong (n, y) pairs
     → is_fork (n, x) pairs ≡ true
 fork_at n x y [] h i = absurd i
@@ -117,6 +118,7 @@ pub no_states : (ms : List Member) (s : State) (g : SegmentParts) → is_fault (
 no_states ms s g h states honest =
     true≢false (sym h ∙ ap is_fault (sound ms s (placed_in g) states honest))
 
+-- the verdict on a segment that no list of states makes honest is a fault
 pub fault_of : (ms : List Member) (s : State) (g : SegmentParts)
     → ((states : List State) → ¬ Honest ms s (placed_in g) states) → is_fault (segment_verdict ms s g) ≡ true
 fault_of ms s g h = by (segment_verdict ms s g) refl
@@ -145,6 +147,7 @@ file_of ms m (p ∷ past) h =
     by (inl f) rest = inl (faulty_of ms m past p (filed p.0 p.1) refl f)
     by (inr g) rest = inr (rest g)
 
+-- the test finds the fault of a segment that was filed and isn't honest
 pub of_file : (ms : List Member) (m : Member) (past : Past) → HasFaultyFile ms m past → has_fault ms m past ≡ true
 of_file ms m [] h = absurd h
 of_file ms m (p ∷ past) (inl f) =
@@ -166,10 +169,12 @@ pub exposed_is : (ms : List Member) (m : Member) (past : Past) → indication ms
     → is_exposed ms m past ≡ true
 exposed_is ms m past h = told_exposed (is_exposed ms m past) (open_challenges past) h
 
+-- where the test says that a node is exposed, the indication is Exposed
 pub is_exposed_told : (ms : List Member) (m : Member) (past : Past) → is_exposed ms m past ≡ true
     → indication ms m past ≡ Exposed
 is_exposed_told ms m past h = ap (λ b. cond b Exposed (without_evidence (open_challenges past))) h
 
+-- a node that is Exposed showed two hashes at a number, or a segment was filed that isn't honest
 pub exposed_why : (ms : List Member) (m : Member) (past : Past) → indication ms m past ≡ Exposed
     → HasTwoHashes (shown ms m past) ⊎ HasFaultyFile ms m past
 exposed_why ms m past h = by (or_cases (has_fork (shown ms m past)) (has_fault ms m past) (exposed_is ms m past h))
@@ -179,6 +184,7 @@ exposed_why ms m past h = by (or_cases (has_fork (shown ms m past)) (has_fault m
     by (inl f) = inl (two_of (shown ms m past) f)
     by (inr g) = inr (file_of ms m past g)
 
+-- a node that showed two hashes at a number, or of which a segment was filed that isn't honest, is Exposed
 pub why_exposed : (ms : List Member) (m : Member) (past : Past)
     → HasTwoHashes (shown ms m past) ⊎ HasFaultyFile ms m past → indication ms m past ≡ Exposed
 why_exposed ms m past (inl g) =
@@ -202,6 +208,7 @@ of_suspected true xs h = absurd (h.0 refl)
 of_suspected false [] h = absurd (h.1 refl)
 of_suspected false (x ∷ xs) h = refl
 
+-- a node that isn't Exposed is Suspected exactly where a challenge is open
 pub suspected : (ms : List Member) (m : Member) (past : Past)
     → (indication ms m past ≡ Suspected) ↔ ((indication ms m past ≢ Exposed) × (open_challenges past ≢ []))
 suspected ms m past = (
@@ -229,6 +236,7 @@ exposed_on ms m p past h = by (or_cases (has_fork (shown ms m past)) (has_fault 
         or_right (has_fork (shown ms m (p ∷ past))) (has_fault ms m (p ∷ past))
         (or_right (finds_fault ms (end_of ms m past).state (filed p.0 p.1)) (has_fault ms m past) g)
 
+-- a node that was exposed is so behind further steps
 pub exposed_further : (ms : List Member) (m : Member) (more past : Past) → is_exposed ms m past ≡ true
     → is_exposed ms m (more ++ past) ≡ true
 exposed_further ms m [] past h = h
@@ -242,6 +250,7 @@ own_joined ms node (p ∷ later) earlier =
     ap (λ x. own_one ms node p ++ x) (own_joined ms node later earlier)
     ∙ sym (append_assoc (own_one ms node p) (own ms node later) (own ms node earlier))
 
+-- a node that was Exposed behind a history is so behind every longer one
 pub exposed_stays : (ms : List Member) (m : Member) (later earlier : History)
     → indication ms m (own ms m.node earlier) ≡ Exposed
     → indication ms m (own ms m.node (later ++ earlier)) ≡ Exposed
@@ -251,6 +260,7 @@ exposed_stays ms m later earlier h =
     ∙ exposed_further ms m (own ms m.node later) (own ms m.node earlier)
     (exposed_is ms m (own ms m.node earlier) h))
 
+-- a node of which a segment was filed that isn't honest is Exposed behind every longer history
 pub fault_stays : (ms : List Member) (m : Member) (later earlier : History)
     → HasFaultyFile ms m (own ms m.node earlier)
     → indication ms m (own ms m.node (later ++ earlier)) ≡ Exposed

@@ -49,6 +49,7 @@ no_change ms history e r none =
       books = λ books h. stand_on ms history ((e, r) ∷ history) same ms books h;
     }
 
+-- an event that was answered for want of memory is in nobody's own steps, and books stand as before
 pub want_changes : (ms : List Member) (history : History) (e : Event) (r : Reply) → IsWanting e r
     → ChangesNothing ms history e r
 want_changes ms history e r wanting =
@@ -120,6 +121,7 @@ early ms (events.PutBack j) = early_step (member_of ms j.node) _
 early ms (events.Forward node) = early_step (member_of ms node) _
 early ms (events.Ask node q) = early_step (member_of ms node) _
 
+-- an event that is nobody's step has one refusal behind every history, numbered 1 to 3, and changes nothing
 pub left_out : (ms : List Member) (e : Event) (refusal : Refusal) → whose ms e ≡ Err refusal
     → IsLeftOut ms e refusal
 left_out ms e refusal w =
@@ -141,6 +143,7 @@ not_same a b h = by (a == b) refl
     by true e = absurd (h (sym (eqb-true a b e)))
     by false e = refl
 
+-- every other event is a step of its node alone, and its refusals are numbered 4 to 13
 pub taken : (ms : List Member) (history : History) (e : Event) (r : Reply) (o : OwnStep) → whose ms e ≡ Ok o
     → IsOwed ms history e r → IsTaken ms history e r o
 taken ms history e r o w owed =

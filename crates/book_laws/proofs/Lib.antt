@@ -1,6 +1,15 @@
+pub use Rattle.book_spec.proofs.Runs
+pub use Rattle.book_spec.proofs.PlacedEntries
+pub use Rattle.book_spec.proofs.Texts
+pub use Rattle.book_spec.proofs.Places
+pub use Rattle.book_spec.proofs.Chained
+pub use Rattle.book_spec.proofs.Parts
+pub use Rattle.book_spec.proofs.Shown
+pub use Rattle.book_spec.proofs.Closed
 pub mod Replied
 pub mod OwnSteps
 pub mod LeftOut
 pub mod Exposing
 pub mod Checked
+pub mod Reach
 pub mod Doing

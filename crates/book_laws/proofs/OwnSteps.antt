@@ -74,6 +74,7 @@ of_judged : (ms : List Member) (r : Result Delivery checks.Refusal) (o : OwnStep
 of_judged ms (Ok d) o h = of_delivery ms d o h
 of_judged ms (Err refusal) o h = absurd (cc)
 
+-- the member whose step an event is stands in the roster under its own number
 pub of_member : (ms : List Member) (e : Event) (o : OwnStep) → whose ms e ≡ Ok o
     → member_of ms o.member.node ≡ Some o.member
 of_member ms (events.Deliver bytes) o h = of_judged ms (judged ms bytes) o h
@@ -160,12 +161,14 @@ module _ (ms : List Member) (m : Member) (is : member_of ms m.node ≡ Some m) w
   one_owed e r history (Ok o) is_w (inl owed) rest =
       its_owed e r history o (o.member.node == m.node) is_w refl owed rest
 
+  -- a node's own steps in a history have the replies that are owed by its earlier ones
   pub own_owed : (history : History) → IsHistory ms history → AreOwed ms m (own ms m.node history)
   own_owed [] h = tt
   own_owed (p ∷ history) h = one_owed p.0 p.1 history (whose ms p.0) refl h.1 (own_owed history h.2)
 
 -- ---- replies by steps
 
+-- own steps that are the same, with the replies that are owed, have the same replies
 pub same_replies : (ms : List Member) (m : Member) (one two : Past) → AreOwed ms m one → AreOwed ms m two
     → map (λ p. p.0) one ≡ map (λ p. p.0) two → one ≡ two
 same_replies ms m [] [] g h e = refl
@@ -189,6 +192,7 @@ next_same ms m one two same event step reply w h =
     subst (OwesTo ms two event reply) (sym w)
     (subst (λ x. Owes ms m x step reply) same (subst (OwesTo ms one event reply) w h))
 
+-- behind histories with the same own steps of a node, all that is said of it is the same
 pub says_same : (ms : List Member) (m : Member) (one two : History) → own ms m.node one ≡ own ms m.node two
     → SaysSame ms m one two
 says_same ms m one two same = record {

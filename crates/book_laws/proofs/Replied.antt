@@ -26,6 +26,7 @@ use Rattle.envelopes.specs.Acknowledgement.{acked_message}
 
 -- ---- one reply
 
+-- two replies that are owed to one step are one
 pub one_reply : (ms : List Member) (m : Member) (past : Past) (step : Step) (one other : Reply)
     → Owes ms m past step one → Owes ms m past step other → one ≡ other
 one_reply ms m past step one other g h =
@@ -118,6 +119,7 @@ good_challenge true b = refl
 good_challenge false true = refl
 good_challenge false false = refl
 
+-- a reply that is told to a step is no refusal, or one with a number from 4 to 13
 pub good_reply : (b : Bool) (ms : List Member) (m : Member) (past : Past) (step : Step)
     → is_good (reply_told b ms m past step) ≡ true
 good_reply b ms m past (Learn a) =
@@ -135,6 +137,7 @@ good_reply b ms m past (PutBack j) = good_back b (job_out ms m past) Returned (P
 good_reply b ms m past Forward = good_forward (outbox ms m past)
 good_reply b ms m past (Ask q) = good_question ms m past q
 
+-- the same of every reply that is owed to a step
 pub owed_good : (ms : List Member) (m : Member) (past : Past) (step : Step) (reply : Reply)
     → Owes ms m past step reply → is_good reply ≡ true
 owed_good ms m past step reply g = ap is_good g.told ∙ good_reply g.is_out ms m past step
@@ -177,6 +180,7 @@ good_want (Told i) h = refl
 good_want (OpenList xs) h = refl
 good_want (EvidenceIs e) h = refl
 
+-- the refusal of an event is such a reply exactly where its number is one of these
 pub good_refused : (e : Event) (r : refusals.Refusal) → is_good (refused e r) ≡ in_table r
 good_refused (events.Deliver bytes) r = refl
 good_refused (events.Learn a key) r = refl
@@ -190,6 +194,7 @@ good_refused (events.PutBack j) r = refl
 good_refused (events.Forward node) r = refl
 good_refused (events.Ask node q) r = refl
 
+-- the refusal NoMemory of any event is a reply for want of memory
 pub want_refused : (e : Event) → is_want_of_memory (refused e refusals.NoMemory) ≡ true
 want_refused (events.Deliver bytes) = refl
 want_refused (events.Learn a key) = refl

@@ -9,6 +9,7 @@ pub use Rattle.evidence_spec.specs.HonestLogs
 pub use Rattle.evidence_spec.specs.Showing
 pub use Rattle.evidence_spec.specs.Evidence
 pub use Rattle.evidence_spec.specs.Proving
+pub use Rattle.evidence_spec.specs.Laws as EvidenceLaws
 pub mod Refusals
 pub mod Events
 pub mod Replies

@@ -1,5 +1,7 @@
--- How much a witness keeps of a node.
+-- How much a witness keeps of a node; MAX_AUDITED, the entries audited in all, is that of evidence.
 use Rattle.std.specs.Prelude.{ℕ}
+pub use Rattle.evidence_spec.specs.Evidence.{MAX_AUDITED}
+use Rattle.secure_log.specs.declared.segment.TheConstants.{MAX_ENTRIES}
 
 -- learned authenticators above the end
 abbrev pub MAX_LEARNED : ℕ
@@ -9,13 +11,9 @@ MAX_LEARNED = 256
 abbrev pub MAX_CHALLENGES : ℕ
 MAX_CHALLENGES = 16
 
--- entries that one audit asks for
+-- entries that one audit asks for: as many as a segment has
 abbrev pub MAX_ASKED : ℕ
-MAX_ASKED = 4_096
-
--- entries audited in all
-abbrev pub MAX_AUDITED : ℕ
-MAX_AUDITED = 65_536
+MAX_ASKED = MAX_ENTRIES
 
 -- authenticators in the outbox
 abbrev pub MAX_OUTBOX : ℕ

@@ -1,2 +1,4 @@
 //! What a witness may say of a node, and what it answers, as definitions.
 #![tactic(auto)]
+
+pub use evidence_spec::laws as evidence_laws;

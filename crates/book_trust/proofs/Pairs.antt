@@ -3,13 +3,13 @@
 use Rattle.std.proofs.Common.{◌≡◌, ◌⊎◌, inl, inr, Bool, true, false, not, ◌==◌, ◌&&◌, List, [], ◌∷◌}
 use Rattle.std.proofs.Common.{◌++◌, refl, sym, ap, subst, eqb-true}
 use Rattle.std.proofs.lemmas.Bool.{or_from}
-use Rattle.replay_spec.proofs.Signed.{list_same}
+use Rattle.authenticator.proofs.Signed.{list_same}
 use Rattle.log_entries.specs.declared.entry.Entry.{Entry}
 use Rattle.secure_log.specs.Log.{log_pairs}
-use Rattle.evidence_spec.specs.Laws.{OneHashAtANumber}
-use Rattle.book_spec.specs.Showing.{IsAmong}
-use Rattle.book_spec.specs.Signing.{is_same}
-use Rattle.book_spec.specs.Pairs.{Pair, differ, is_fork, has_fork}
+use Rattle.book_laws.specs.EvidenceLaws.{OneHashAtANumber}
+use Rattle.book_laws.specs.Showing.{IsAmong}
+use Rattle.book_laws.specs.Signing.{is_same}
+use Rattle.book_laws.specs.Pairs.{Pair, differ, is_fork, has_fork}
 
 module _ (log : List Entry) (one : OneHashAtANumber) where
   no_difference : (p q : Pair) → IsAmong p (log_pairs log) → IsAmong q (log_pairs log) → differ p q ≡ false
@@ -30,12 +30,14 @@ module _ (log : List Entry) (one : OneHashAtANumber) where
       or_from (differ p q) (is_fork p qs) (no_difference p q i (all q (inl refl)))
       (no_fork_at p qs i (λ r j. all r (inr j)))
 
+  -- pairs that are all of one log have no fork
   pub no_fork : (ps : List Pair) → ((q : Pair) → IsAmong q ps → IsAmong q (log_pairs log)) → has_fork ps ≡ false
   no_fork [] all = refl
   no_fork (p ∷ ps) all =
       or_from (is_fork p ps) (has_fork ps) (no_fork_at p ps (all p (inl refl)) (λ r j. all r (inr j)))
       (no_fork ps (λ r j. all r (inr j)))
 
+-- what is in two lists together is in one of them
 pub among_parts : {A : Type 0} (x : A) (xs ys : List A) → IsAmong x (xs ++ ys) → IsAmong x xs ⊎ IsAmong x ys
 among_parts x [] ys i = inr i
 among_parts x (z ∷ xs) ys (inl e) = inl (inl e)

@@ -2,9 +2,9 @@
 -- Serves: honest_is_never_exposed.
 use Rattle.std.proofs.Common.{◌≡◌, List, [], ◌∷◌, ◌++◌, length, refl, arith}
 use Rattle.authenticator.specs.declared.member.Member.{Member}
-use Rattle.book_spec.specs.State.{State}
-use Rattle.book_spec.specs.Placed.{Placed}
-use Rattle.book_spec.specs.Replay.{Honest, last_state}
+use Rattle.book_laws.specs.State.{State}
+use Rattle.book_laws.specs.Placed.{Placed}
+use Rattle.book_laws.specs.Replay.{Honest, last_state}
 
 -- the states after the first part, and those after the second
 pub record IsSplit (ms : List Member) (s : State) (ps qs : List Placed) : Type 0 where
@@ -13,6 +13,7 @@ pub record IsSplit (ms : List Member) (s : State) (ps qs : List Placed) : Type 0
   pub more : List State
   pub rest : Honest ms (last_state s first) qs more
 
+-- entries that are honest are so in two parts, the second behind the last state of the first
 pub split : (ms : List Member) (s : State) (ps qs : List Placed) (ts : List State) → Honest ms s (ps ++ qs) ts
     → IsSplit ms s ps qs
 split ms s [] qs ts h = record { first = []; honest = tt; more = ts; rest = h }

@@ -14,28 +14,28 @@ use Rattle.log_entries.specs.declared.entry.Entry.{Entry}
 use Rattle.log_entries.proofs.Pairs.{last_hash-parts}
 use Rattle.secure_log.specs.Log.{log_hash, log_pairs}
 use Rattle.secure_log.specs.Segment.{SegmentParts, ClosedParts, HasText, segment_pairs}
-use Rattle.replay_spec.proofs.Runs.{sound}
-use Rattle.replay_spec.proofs.Places.{places_joined}
-use Rattle.evidence_spec.specs.Laws.{OneHashAtANumber, IsPartOf}
-use Rattle.evidence_spec.proofs.Shown.{segment_in_log, segment_is_part}
-use Rattle.evidence_spec.proofs.Texts.{Within, fewer, left, right, both}
-use Rattle.book_spec.specs.State.{State}
-use Rattle.book_spec.specs.Opening.{opening_of}
-use Rattle.book_spec.specs.Placed.{placed, placed_in}
-use Rattle.book_spec.specs.Replay.{Honest, Sound, last_state, found, segment_verdict}
-use Rattle.book_spec.specs.Showing.{IsAmong}
-use Rattle.book_spec.specs.Evidence.{audited_item, audited_value}
-use Rattle.book_spec.specs.Proving.{IsLog, IsUnforged, log_texts, segment_texts}
-use Rattle.book_spec.specs.Events.{JobParts}
-use Rattle.book_spec.specs.Replies.{Reply}
-use Rattle.book_spec.specs.Steps.{Step, Past}
-use Rattle.book_spec.specs.Pairs.{Pair, pair_of, has_fork}
-use Rattle.book_spec.specs.Done.{noted, accepted}
-use Rattle.book_spec.specs.Standing.{End, end_of, end_behind, moved_by, is_fault, finds_fault, has_fault}
-use Rattle.book_spec.specs.Standing.{pairs_noted, pairs_accepted, shown, is_exposed, Stage, NoAudit, Wanted, Given}
-use Rattle.book_spec.specs.Standing.{Out, stage_of}
-use Rattle.book_spec.specs.Histories.{AreOwed}
-use Rattle.book_spec.specs.Premises.{authenticators_in, texts_in}
+use Rattle.book_laws.proofs.Runs.{sound}
+use Rattle.book_laws.proofs.PlacedEntries.{places_joined}
+use Rattle.book_laws.specs.EvidenceLaws.{OneHashAtANumber, IsPartOf}
+use Rattle.book_laws.proofs.Shown.{segment_in_log, segment_is_part}
+use Rattle.book_laws.proofs.Texts.{Within, fewer, left, right, both}
+use Rattle.book_laws.specs.State.{State}
+use Rattle.book_laws.specs.Opening.{opening_of}
+use Rattle.book_laws.specs.Placed.{placed, placed_in}
+use Rattle.book_laws.specs.Replay.{Honest, Sound, last_state, found, segment_verdict}
+use Rattle.book_laws.specs.Showing.{IsAmong}
+use Rattle.book_laws.specs.Evidence.{audited_item, audited_value}
+use Rattle.book_laws.specs.Proving.{IsLog, IsUnforged, log_texts, segment_texts}
+use Rattle.book_laws.specs.Events.{JobParts}
+use Rattle.book_laws.specs.Replies.{Reply}
+use Rattle.book_laws.specs.Steps.{Step, Past}
+use Rattle.book_laws.specs.Pairs.{Pair, pair_of, has_fork}
+use Rattle.book_laws.specs.Done.{noted, accepted}
+use Rattle.book_laws.specs.Standing.{End, end_of, end_behind, moved_by, is_fault, finds_fault, has_fault}
+use Rattle.book_laws.specs.Standing.{pairs_noted, pairs_accepted, shown, is_exposed, Stage, NoAudit, Wanted, Given}
+use Rattle.book_laws.specs.Standing.{Out, stage_of}
+use Rattle.book_laws.specs.Histories.{AreOwed}
+use Rattle.book_laws.specs.Premises.{authenticators_in, texts_in}
 use Rattle.book_laws.proofs.Checked.{IsLearned, IsGiven, IsCheckedStep, AreChecked}
 use Rattle.book_laws.proofs.Doing.{Did, Doing, Nothing, Notes, Accepts, Asks, Begins, Files, PutsBack, doing}
 use Rattle.book_trust.proofs.Pairs.{no_fork, among_parts}

@@ -1,6 +1,6 @@
 //! What a witness never says of an honest node.
 
-ghost use Rattle.book_spec.specs.Laws.{HonestIsNeverExposed};
+ghost use Rattle.book_laws.specs.Laws.{HonestIsNeverExposed};
 
 /// A node whose log is honest from the state that it begins with is never exposed, where its signatures
 /// aren't forged and no two texts have one digest.

@@ -18,41 +18,65 @@ use Rattle.challenge.specs.declared.finding.Finding.{Finding}
 use Rattle.challenge.specs.declared.finding.Finding.TheVariants as found
 use Rattle.challenge.specs.declared.finding.NotAccepted.{NotAccepted}
 use Rattle.challenge.specs.declared.finding.NotAccepted.TheVariants as reasons
-use Rattle.challenge.specs.Findings.{is_accepted, finding_in, AcceptsTwo, AcceptsOne, ShowingLacks, HasNoTwo, ForkLacks, LogLacks, IsClosedOf, IsAudited, Finds, FindsInFork, FindsInLog, FindsInCharge}
+use Rattle.challenge.specs.Findings.{is_accepted, finding_in, AcceptsHashes, AcceptsTwo, AcceptsOne, ShowingLacks, HasNoTwo, ForkLacks, LogLacks, IsClosedOf, IsAudited, Finds, FindsInFork, FindsInLog, FindsInCharge}
 
 -- ---- what lacks something isn't accepted
 
-showing_lacks : (ms : List Member) (node : ℕ) (s : ShowingParts) (reason : NotAccepted) → s.node ≡ node → IsClosedShowing ms s → ShowingLacks ms node s reason → ⊥
+-- a closed showing of a node lacks nothing
+pub showing_lacks : (ms : List Member) (node : ℕ) (s : ShowingParts) (reason : NotAccepted) → s.node ≡ node
+    → IsClosedShowing ms s → ShowingLacks ms node s reason → ⊥
 showing_lacks ms node s reasons.AnotherNode of_node closed lack = lack of_node
-showing_lacks ms node s reasons.NotClosed of_node closed lack = lack (record { first = closed.first; node = closed.node; number = closed.number; hash = closed.hash })
-showing_lacks ms node s reasons.NotSigned of_node closed lack = lack closed.signed
+showing_lacks ms node s reasons.NotClosed of_node closed lack =
+    lack.1 (record { first = closed.first; node = closed.node; number = closed.number; hash = closed.hash })
+showing_lacks ms node s reasons.NotSigned of_node closed lack = lack.2 closed.signed
 showing_lacks ms node s reasons.NotFromStart of_node closed lack = lack
 showing_lacks ms node s reasons.NoTwoHashes of_node closed lack = lack
 showing_lacks ms node s reasons.NoFault of_node closed lack = lack
 
-fork_lacks : (ms : List Member) (node at : ℕ) (a : ShowingParts) (b : Option ShowingParts) (reason : NotAccepted) → ForkLacks ms node at a b reason → AcceptsFork ms node at a b → ⊥
-fork_lacks ms node at a (Some b) reason (inl lack) accepted = showing_lacks ms node a reason accepted.a_node accepted.a_closed lack
-fork_lacks ms node at a (Some b) reason (inr (inl lack)) accepted = showing_lacks ms node b reason accepted.b_node accepted.b_closed lack
-fork_lacks ms node at a (Some b) reason (inr (inr lack)) accepted = accepted.differ (lack.1 accepted.one accepted.other accepted.one_shown accepted.other_shown)
-fork_lacks ms node at a None reason (inl lack) accepted = showing_lacks ms node a reason accepted.a_node accepted.closed lack
-fork_lacks ms node at a None reason (inr (inl lack)) accepted = lack
-fork_lacks ms node at a None reason (inr (inr lack)) accepted = accepted.differs (lack.1 accepted.hash accepted.shown)
+-- a fork that is accepted lacks nothing
+pub fork_lacks : (ms : List Member) (node at : ℕ) (a : ShowingParts) (b : Option ShowingParts)
+    (reason : NotAccepted) → ForkLacks ms node at a b reason → AcceptsFork ms node at a b → ⊥
+fork_lacks ms node at a (Some b) reason (inl lack) accepted =
+    showing_lacks ms node a reason accepted.a_node accepted.a_closed lack
+fork_lacks ms node at a (Some b) reason (inr (closed, inl lack)) accepted =
+    showing_lacks ms node b reason accepted.b_node accepted.b_closed lack
+fork_lacks ms node at a (Some b) reason (inr (closed, inr lack)) accepted =
+    accepted.differ (lack.2 accepted.one accepted.other accepted.one_shown accepted.other_shown)
+fork_lacks ms node at a None reason (inl lack) accepted =
+    showing_lacks ms node a reason accepted.a_node accepted.closed lack
+fork_lacks ms node at a None reason (inr (closed, lack)) accepted =
+    accepted.differs (lack.1 accepted.hash accepted.shown)
 
-log_lacks : (ms : List Member) (node : ℕ) (s : SegmentParts) (reason : NotAccepted) → LogLacks ms node s reason → AcceptsReplay ms node s → ⊥
+-- a log that is accepted lacks nothing
+pub log_lacks : (ms : List Member) (node : ℕ) (s : SegmentParts) (reason : NotAccepted)
+    → LogLacks ms node s reason → AcceptsReplay ms node s → ⊥
 log_lacks ms node s reasons.AnotherNode lack accepted = lack accepted.of_node
-log_lacks ms node s reasons.NotFromStart lack accepted = lack (record { first = accepted.first; opening = accepted.opening })
-log_lacks ms node s reasons.NotClosed lack accepted = lack accepted.closed.ends
-log_lacks ms node s reasons.NotSigned lack accepted = lack accepted.closed.signed
+log_lacks ms node s reasons.NotFromStart lack accepted =
+    lack.1 (record { first = accepted.first; opening = accepted.opening })
+log_lacks ms node s reasons.NotClosed lack accepted = lack.2 accepted.closed.ends
+log_lacks ms node s reasons.NotSigned lack accepted = lack.3 accepted.closed.signed
 log_lacks ms node s reasons.NoTwoHashes lack accepted = lack
-log_lacks ms node s reasons.NoFault lack accepted = lack accepted.member accepted.fault accepted.number accepted.is_member accepted.found
+log_lacks ms node s reasons.NoFault lack accepted =
+    let same : Some lack.member ≡ Some accepted.member = sym lack.audited.is_member ∙ accepted.is_member in
+    let one : lack.member ≡ accepted.member = cc in
+    lack.none accepted.fault accepted.number
+    (ap (λ m. verdict_of ms (opening_of m) (placed_in s)) one ∙ accepted.found)
 
 -- ---- what is found tells whether evidence is accepted
 
-fork_exact : (ms : List Member) (node at : ℕ) (a : ShowingParts) (b : Option ShowingParts) (f : Finding) → FindsInFork ms node at a b f → IsTrue (is_accepted f) ↔ AcceptsFork ms node at a b
-fork_exact ms node fork_at a (Some b) (found.TwoHashes at one other) h = ((λ t. h.1.accepted), (λ accepted. refl))
-fork_exact ms node fork_at a None (found.TwoHashes at one other) h = ((λ t. h.2.accepted), (λ accepted. refl))
+-- a fork with two hashes is accepted
+pub fork_accepts : (ms : List Member) (node fork_at : ℕ) (a : ShowingParts) (b : Option ShowingParts) (at : ℕ)
+    (one other : List ℕ) → AcceptsHashes ms node fork_at a b at one other → AcceptsFork ms node fork_at a b
+fork_accepts ms node fork_at a (Some b) at one other h = h.1.accepted
+fork_accepts ms node fork_at a None at one other h = h.2.accepted
+
+fork_exact : (ms : List Member) (node at : ℕ) (a : ShowingParts) (b : Option ShowingParts) (f : Finding)
+    → FindsInFork ms node at a b f → IsTrue (is_accepted f) ↔ AcceptsFork ms node at a b
+fork_exact ms node fork_at a b (found.TwoHashes at one other) h =
+    ((λ t. fork_accepts ms node fork_at a b at one other h), (λ accepted. refl))
 fork_exact ms node fork_at a b (found.Fault fault number) h = absurd h
-fork_exact ms node fork_at a b (found.NotAccepted reason) h = ((λ t. absurd cc), (λ accepted. absurd (fork_lacks ms node fork_at a b reason h accepted)))
+fork_exact ms node fork_at a b (found.NotAccepted reason) h =
+    ((λ t. absurd cc), (λ accepted. absurd (fork_lacks ms node fork_at a b reason h accepted)))
 
 log_exact : (ms : List Member) (node : ℕ) (s : SegmentParts) (f : Finding) → FindsInLog ms node s f → IsTrue (is_accepted f) ↔ AcceptsReplay ms node s
 log_exact ms node s (found.TwoHashes at one other) h = absurd h
@@ -151,8 +175,8 @@ verdict_finds ms node s m (verdicts.Fault fault number) audited is = record {
   is_fault = refl;
   is_number = refl;
 }
-verdict_finds ms node s m (verdicts.Sound state shown) audited is = λ member fault number is_member found.
-    let same : Some m ≡ Some member = sym audited.is_member ∙ is_member in
-    let one : m ≡ member = cc in
-    let both = is ∙ ap (λ x. verdict_of ms (opening_of x) (placed_in s)) one ∙ found in
-    absurd cc
+verdict_finds ms node s m (verdicts.Sound state shown) audited is = record {
+  member = m;
+  audited = audited;
+  none = λ fault number found. let both = is ∙ found in absurd cc;
+}

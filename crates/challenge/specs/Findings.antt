@@ -1,5 +1,5 @@
 -- What is found in evidence.
-use Rattle.std.specs.Prelude.{◌≡◌, ◌⊎◌, ℕ, Bool, true, false, List, Option, Some, None, IsSomeAnd}
+use Rattle.std.specs.Prelude.{◌≡◌, ◌⊎◌, ℕ, Bool, true, false, List, Option, Some, None}
 use Rattle.authenticator.specs.declared.member.Member.{Member}
 use Rattle.authenticator.specs.Roster.{member_of}
 use Rattle.authenticator.specs.Signed.{IsSignedIn}
@@ -58,14 +58,22 @@ pub record AcceptsFault (ms : List Member) (node : ℕ) (s : SegmentParts) (faul
   pub is_fault : accepted.fault ≡ fault_in fault
   pub is_number : accepted.number ≡ number
 
--- ---- what isn't accepted lacks
+-- ---- what isn't accepted lacks first
+-- What is asked is asked in one order, and what is lacking first is lacking behind all that is asked before
+-- it: one answer is right, and no other.
 
--- A showing lacks what is asked of it, by name.
+-- A showing is of a node, and closed.
+pub record IsClosedOf (ms : List Member) (node : ℕ) (s : ShowingParts) : Type 0 where
+  pub of_node : s.node ≡ node
+  pub closed : IsClosedShowing ms s
+
+-- A showing lacks something first, by name: it is to be of the node, to end in its closing, and that is to be
+-- signed.
 abbrev pub ShowingLacks : List Member → (node : ℕ) → ShowingParts → NotAccepted → Type 0
 ShowingLacks ms node s reasons.AnotherNode = ¬ (s.node ≡ node)
-ShowingLacks ms node s reasons.NotClosed = ¬ Ends s
-ShowingLacks ms node s reasons.NotSigned = ¬ IsSignedIn ms s.closing
 ShowingLacks ms node s reasons.NotFromStart = ⊥
+ShowingLacks ms node s reasons.NotClosed = (s.node ≡ node) × (¬ Ends s)
+ShowingLacks ms node s reasons.NotSigned = (s.node ≡ node) × Ends s × (¬ IsSignedIn ms s.closing)
 ShowingLacks ms node s reasons.NoTwoHashes = ⊥
 ShowingLacks ms node s reasons.NoFault = ⊥
 
@@ -74,30 +82,47 @@ abbrev pub HasNoTwo : (at : ℕ) → ShowingParts → Option ShowingParts → Ty
 HasNoTwo at a (Some b) = (one other : List ℕ) → Shows a at one → Shows b at other → one ≡ other
 HasNoTwo at a None = (hash : List ℕ) → Shows a 0 hash → hash ≡ zeros
 
--- A fork lacks something, by name: in a showing, or two hashes.
+-- Behind a first showing that is closed a fork lacks something first, by name: in its second showing, if it
+-- has one; behind that two hashes.
+abbrev pub LacksBehindFirst : List Member → (node at : ℕ) → ShowingParts → Option ShowingParts → NotAccepted
+    → Type 0
+LacksBehindFirst ms node at a (Some b) reason =
+    ShowingLacks ms node b reason
+    ⊎ (IsClosedOf ms node b × (reason ≡ reasons.NoTwoHashes) × HasNoTwo at a (Some b))
+LacksBehindFirst ms node at a None reason = (reason ≡ reasons.NoTwoHashes) × HasNoTwo at a None
+
+-- A fork lacks something first, by name.
 abbrev pub ForkLacks : List Member → (node at : ℕ) → ShowingParts → Option ShowingParts → NotAccepted → Type 0
 ForkLacks ms node at a b reason =
-    ShowingLacks ms node a reason
-    ⊎ (IsSomeAnd b (λ s. ShowingLacks ms node s reason)
-    ⊎ ((reason ≡ reasons.NoTwoHashes) × HasNoTwo at a b))
+    ShowingLacks ms node a reason ⊎ (IsClosedOf ms node a × LacksBehindFirst ms node at a b reason)
 
 -- A log is shown from its first entry on.
 pub record IsFromStart (s : SegmentParts) : Type 0 where
   pub first : s.first ≡ 1
   pub opening : s.opening ≡ zeros
 
--- A replay of a log from the state that its member begins with finds no fault.
-abbrev pub HasNoFault : List Member → (node : ℕ) → SegmentParts → Type 0
-HasNoFault ms node s =
-    (member : Member) (fault : spec.ReplayFault) (number : ℕ) → member_of ms node ≡ Some member
-    → ¬ (verdict_of ms (opening_of member) (placed_in s) ≡ Fault fault number)
+-- A log is of a member, from its first entry on, and closed.
+pub record IsAudited (ms : List Member) (node : ℕ) (s : SegmentParts) (m : Member) : Type 0 where
+  pub of_node : s.node ≡ node
+  pub start : IsFromStart s
+  pub closed : IsClosed ms s
+  pub is_member : member_of ms node ≡ Some m
 
--- A log lacks something, by name.
+-- A replay of a member's closed log, from the state that the member begins with, finds no fault.
+pub record HasNoFault (ms : List Member) (node : ℕ) (s : SegmentParts) : Type 0 where
+  pub member : Member
+  pub audited : IsAudited ms node s member
+  pub none : (fault : spec.ReplayFault) (number : ℕ)
+      → ¬ (verdict_of ms (opening_of member) (placed_in s) ≡ Fault fault number)
+
+-- A log lacks something first, by name: it is to be of the node, from its first entry on, to end in its
+-- closing, that is to be signed, and a replay is to find a fault.
 abbrev pub LogLacks : List Member → (node : ℕ) → SegmentParts → NotAccepted → Type 0
 LogLacks ms node s reasons.AnotherNode = ¬ (s.node ≡ node)
-LogLacks ms node s reasons.NotFromStart = ¬ IsFromStart s
-LogLacks ms node s reasons.NotClosed = ¬ segments.Ends s
-LogLacks ms node s reasons.NotSigned = ¬ IsSignedIn ms s.closing
+LogLacks ms node s reasons.NotFromStart = (s.node ≡ node) × (¬ IsFromStart s)
+LogLacks ms node s reasons.NotClosed = (s.node ≡ node) × IsFromStart s × (¬ segments.Ends s)
+LogLacks ms node s reasons.NotSigned =
+    (s.node ≡ node) × IsFromStart s × segments.Ends s × (¬ IsSignedIn ms s.closing)
 LogLacks ms node s reasons.NoTwoHashes = ⊥
 LogLacks ms node s reasons.NoFault = HasNoFault ms node s
 
@@ -121,7 +146,7 @@ abbrev pub FindsInCharge : List Member → (node : ℕ) → Charge → Finding �
 FindsInCharge ms node (Fork f) finding = FindsInFork ms node f.at f.a f.b finding
 FindsInCharge ms node (Replay s) finding = FindsInLog ms node s finding
 
--- What is found in evidence: with what it is accepted, or what it lacks.
+-- What is found in evidence: with what it is accepted, or what it lacks first.
 abbrev pub Finds : List Member → EvidenceParts → Finding → Type 0
 Finds ms e finding = FindsInCharge ms e.node e.charge finding
 
@@ -130,16 +155,8 @@ abbrev pub finding_in : Verdict → Finding
 finding_in (verdicts.Sound state shown) = found.NotAccepted reasons.NoFault
 finding_in (verdicts.Fault fault number) = found.Fault fault number
 
--- ---- what is asked first
-
--- A showing is of a node, and closed.
-pub record IsClosedOf (ms : List Member) (node : ℕ) (s : ShowingParts) : Type 0 where
-  pub of_node : s.node ≡ node
-  pub closed : IsClosedShowing ms s
-
--- A log is of a member, from its first entry on, and closed.
-pub record IsAudited (ms : List Member) (node : ℕ) (s : SegmentParts) (m : Member) : Type 0 where
-  pub of_node : s.node ≡ node
-  pub start : IsFromStart s
-  pub closed : IsClosed ms s
-  pub is_member : member_of ms node ≡ Some m
+-- Evidence has one finding at most.
+abbrev pub OneFinding : Type 0
+OneFinding =
+    (ms : List Member) (e : EvidenceParts) (one other : Finding)
+    → Finds ms e one → Finds ms e other → one ≡ other

@@ -4,7 +4,8 @@ ghost use Rattle.std.specs.Prelude.{◌≡◌, ◌↔◌, IfErr, IfNone, IfOk, I
 ghost use Rattle.log_entries.specs.Chain.{zeros};
 ghost use Rattle.showings.specs.Evidence.{Accepts};
 ghost use Rattle.challenge.specs.Findings.{Finds, FindsInFork, FindsInLog, LogLacks, ShowingLacks};
-ghost use Rattle.challenge.specs.Findings.{IsAudited, IsClosedOf, IsFromStart, finding_in, is_accepted};
+ghost use Rattle.challenge.specs.Findings.{IsAudited, IsClosedOf, IsFromStart, OneFinding};
+ghost use Rattle.challenge.specs.Findings.{finding_in, is_accepted};
 
 use crate::audited::AuditedLog;
 use crate::evidence::{Charge, Evidence, Fork};
@@ -23,6 +24,11 @@ pub fn examine(alloc: Global, roster: &Roster, evidence: &Evidence) -> Result<Fi
 {
     finding_of(alloc, roster, evidence)
 }
+
+/// Evidence has one finding at most: does nothing, and tells a caller's proof.
+pub fn one_finding()
+    ensures { OneFinding }
+{}
 
 /// As `examine`, with the first clause alone.
 fn finding_of(alloc: Global, roster: &Roster, evidence: &Evidence) -> Result<Finding, AllocError>

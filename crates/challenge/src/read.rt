@@ -13,11 +13,11 @@ ghost use Rattle.challenge.specs.FaultNumbers.{is_garbage};
 ghost use Rattle.challenge.specs.Charges.{charge_in, fork_in};
 ghost use Rattle.challenge.specs.declared.fault.EvidenceFault.TheVariants.{NoMemory};
 
-use crate::audited::{AuditedLog, MAX_AUDITED};
+use crate::audited::AuditedLog;
 use crate::evidence::{Charge, Evidence, Fork};
 use crate::fault::EvidenceFault;
 use authenticator::{Authenticator, Number};
-use showings::Showing;
+use showings::{MAX_AUDITED, Showing};
 use std::alloc::Global;
 use xdr::{FromXdr, ReadError, Reader, XdrFault, put_back_on_err, read_array};
 use xdr_texts::{FromText, TextError, read_text};

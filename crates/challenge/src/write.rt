@@ -7,11 +7,10 @@ ghost use Rattle.xdr.specs.Writing.{Adds, Writes};
 ghost use Rattle.xdr_texts.specs.Text.{IsText};
 ghost use Rattle.log_entries.specs.Entry.{entry_item, entry_value};
 ghost use Rattle.showings.specs.Showing.{showing_item, showing_value};
-ghost use Rattle.showings.specs.Evidence.{audited_value, evidence_item, evidence_value};
+ghost use Rattle.showings.specs.Evidence.{MAX_AUDITED, audited_value, evidence_item, evidence_value};
 ghost use Rattle.showings.specs.Evidence.{evidence_text, fork_value};
 ghost use Rattle.showings.specs.Evidence.{charge_item, charge_value, is_charge};
 ghost use Rattle.challenge.specs.Charges.{charge_in, fork_in};
-ghost use Rattle.challenge.specs.declared.audited.TheConstants.{MAX_AUDITED};
 
 use crate::audited::AuditedLog;
 use crate::evidence::{Charge, Evidence, Fork};

@@ -114,6 +114,7 @@ module _ (node : ℕ) (clock : TimePart) (received : List ReceivedMessage) (send
 
   -- ---- the state that they give
 
+  -- of a server: its files, mounts and stage
   pub server_is : (w : WorldPart) → AreRising (numbers_of (files_given w.files.items))
       → state_from (saying (Server w)) ≡ record {
         node = node;
@@ -129,6 +130,7 @@ module _ (node : ℕ) (clock : TimePart) (received : List ReceivedMessage) (send
     machine = spec.Server (world_is node (time_of clock) w up i) (stage_is w.stage i);
   }
 
+  -- of a client: its clock alone
   pub client_is : state_from (saying Client) ≡ record {
     node = node;
     received = set_from received_cmp received;

@@ -1,5 +1,5 @@
-//! Texts of states from outside: each is a state that is written as it was read, Garbage, or NotAState. In each row a
-//! name stands before the words of the text.
+//! Texts of states from outside: each is a state that is written as it was read, Garbage, or NotAState. In
+//! each row a name stands before the words of the text.
 
 use crate::words::{of_text, push_text, push_words};
 use crate::{StateError, read_state, state_digest, state_text};
@@ -265,8 +265,8 @@ fn entries(alloc: Global, count: u32) -> Result<Vec<u8>, Fail> {
     Ok(out)
 }
 
-/// The text of a server with 16,383 entries in the root, all but one of one file, and more in the directory that
-/// the last of them names.
+/// The text of a server with 16,383 entries in the root, all but one of one file, and more in the directory
+/// that the last of them names.
 fn entries_below(alloc: Global, count: u32) -> Result<Vec<u8>, Fail> {
     let mut out = of_text(alloc, "1 1 1 0*5 4 0 3 1 2 1ed 0*8 4002 3fff")?;
     for at in 0..16_382 {

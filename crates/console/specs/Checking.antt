@@ -1,7 +1,9 @@
 -- What a check of a file says.
-use Rattle.std.specs.Prelude.{◌≡◌, ◌⊎◌, ℕ, List, ◌++◌, Option, Some, None, codes, decimal}
+use Rattle.std.specs.Prelude.{◌≡◌, ◌⊎◌, ℕ, List, ◌++◌, Option, Some, None, IfSome, codes}
+use Rattle.std.specs.Prelude.{decimal}
 use Rattle.std.specs.Io.KnownBytes.{Appends}
 use Rattle.xdr_texts.specs.Text.{text_at}
+use Rattle.rpc.specs.Writing.{WritesFront}
 use Rattle.challenge.specs.Evidence.{Accepts}
 use Rattle.challenge.specs.Proving.{Proves}
 use Rattle.challenge.specs.Cases.{case_text, case_value}
@@ -44,3 +46,19 @@ pub record WritesExplained (judgement : Judgement) (before after : Option (List 
   pub text : List ℕ
   pub explained : IsExplained judgement text
   pub written : Appends before after text
+
+-- ---- a write failed: what an input shows was written in part, and not all of it
+
+-- the line
+pub record SaysPart (input before after : Option (List ℕ)) : Type 0 where
+  pub judgement : Judgement
+  pub judged : IfSome input (λ bytes. Judges bytes judgement)
+  pub written : WritesFront before after (line_of judgement)
+
+-- the line, with more behind it
+pub record ExplainsPart (input before after : Option (List ℕ)) : Type 0 where
+  pub judgement : Judgement
+  pub text : List ℕ
+  pub judged : IfSome input (λ bytes. Judges bytes judgement)
+  pub explained : IsExplained judgement text
+  pub written : WritesFront before after text

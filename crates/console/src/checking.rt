@@ -1,12 +1,14 @@
 //! Whether a file is evidence.
 
-ghost use Rattle.std.specs.Prelude.{◌≡◌, IfOk, IfSome, IsErrOf, string_bytes};
+ghost use Rattle.std.specs.Prelude.{◌≡◌, ◌⊎◌, IfOk, IfSome, IsErrOf, OnOk, string_bytes};
 ghost use Rattle.std.specs.Io.KnownBytes.{Appends};
-ghost use Rattle.console.specs.Checking.{Judges, line_of, IsExplained, WritesExplained};
-ghost use Rattle.console.specs.declared.checking.CheckFault.TheVariants.{NoMemory};
+ghost use Rattle.rpc.specs.Count.{Rises};
+ghost use Rattle.console.specs.Checking.{Judges, line_of, IsExplained, WritesExplained, SaysPart, ExplainsPart};
+ghost use Rattle.console.specs.declared.checking.CheckFault.TheVariants.{NoMemory, Device};
 
 use crate::explain::explanation;
 use challenge::{EvidenceFault, check_evidence, read_case};
+use rpc::{Counting, write_bytes};
 use std::alloc::{AllocError, Global};
 use std::io::{ErrorKind, Read, Write};
 use thiserror::Error;
@@ -72,18 +74,23 @@ fn all_bytes<R: Read>(alloc: Global, reader: &mut R) -> Result<Vec<u8>, CheckFau
 }
 
 /// Reads a file to its end, judges its bytes and writes the line that says so: `exposed N`, with the node's
-/// number, or `no evidence`. `Device` comes where a read or the write failed. `NoMemory` comes where memory
-/// was refused, and then nothing was written.
+/// number, or `no evidence`. `Device` comes where a read failed, and then nothing was written, or where a
+/// write failed: then a part of the line was written, and the writer's count rose. `NoMemory` comes where
+/// memory was refused, and then nothing was written.
 pub fn check<R: Read, W: Write>(
     alloc: Global,
     reader: &mut R,
-    writer: &mut W,
+    writer: &mut Counting<W>,
 ) -> Result<Judgement, CheckFault>
     ensures judged { IfOk result (λ judgement. IfSome (R.remaining reader.old) (λ input.
         Judges input judgement)) }
-    ensures written { IfOk result (λ judgement. Appends (W.contents writer.old) (W.contents writer.new)
-        (line_of judgement)) }
+    ensures written { IfOk result (λ judgement. Appends (W.contents writer.old.inner)
+        (W.contents writer.new.inner) (line_of judgement)) }
+    ensures kept { OnOk result (writer.new.count ≡ writer.old.count) }
     ensures memory { IsErrOf result NoMemory → writer.new ≡ writer.old }
+    ensures device { IsErrOf result Device → (writer.new ≡ writer.old)
+        ⊎ (SaysPart (R.remaining reader.old) (W.contents writer.old.inner) (W.contents writer.new.inner)
+        × Rises writer.old.count writer.new.count) }
 {
     let bytes = all_bytes(alloc, reader)?;
     let Ok(judgement) = judge(alloc, &bytes) else {
@@ -92,7 +99,7 @@ pub fn check<R: Read, W: Write>(
     let Ok(line) = line(alloc, judgement) else {
         return Err(CheckFault::NoMemory);
     };
-    match writer.write_all(line.as_bytes()) {
+    match write_bytes(writer, line.as_bytes()) {
         Ok(()) => Ok(judgement),
         Err(_) => Err(CheckFault::Device),
     }
@@ -103,13 +110,17 @@ pub fn check<R: Read, W: Write>(
 pub fn check_and_explain<R: Read, W: Write>(
     alloc: Global,
     reader: &mut R,
-    writer: &mut W,
+    writer: &mut Counting<W>,
 ) -> Result<Judgement, CheckFault>
     ensures judged { IfOk result (λ judgement. IfSome (R.remaining reader.old) (λ input.
         Judges input judgement)) }
     ensures written { IfOk result (λ judgement. WritesExplained judgement
-        (W.contents writer.old) (W.contents writer.new)) }
+        (W.contents writer.old.inner) (W.contents writer.new.inner)) }
+    ensures kept { OnOk result (writer.new.count ≡ writer.old.count) }
     ensures memory { IsErrOf result NoMemory → writer.new ≡ writer.old }
+    ensures device { IsErrOf result Device → (writer.new ≡ writer.old)
+        ⊎ (ExplainsPart (R.remaining reader.old) (W.contents writer.old.inner) (W.contents writer.new.inner)
+        × Rises writer.old.count writer.new.count) }
 {
     let bytes = all_bytes(alloc, reader)?;
     let Ok(judgement) = judge(alloc, &bytes) else {
@@ -118,7 +129,7 @@ pub fn check_and_explain<R: Read, W: Write>(
     let Ok(text) = explained(alloc, judgement, &bytes) else {
         return Err(CheckFault::NoMemory);
     };
-    match writer.write_all(text.as_bytes()) {
+    match write_bytes(writer, text.as_bytes()) {
         Ok(()) => Ok(judgement),
         Err(_) => Err(CheckFault::Device),
     }

@@ -1,7 +1,7 @@
 //! What a checked file shows, in plain words.
 
 ghost use Rattle.std.specs.Prelude.{◌<◌, ◌≤◌, length, IfSome};
-ghost use Rattle.challenge.specs.declared.audited.TheConstants.{MAX_AUDITED};
+ghost use Rattle.challenge.specs.Evidence.{MAX_AUDITED};
 
 use crate::call_words::call_words;
 use challenge::{

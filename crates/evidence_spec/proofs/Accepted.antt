@@ -137,6 +137,7 @@ forker : (ms : List Member) (node at : ℕ) (a : ShowingParts) (b : Option Showi
 forker ms node at a None two = shower ms node a two.a_node two.closed
 forker ms node at a (Some b) two = shower ms node a two.a_node two.a_closed
 
+-- a charge that is accepted, and has a text, proves
 pub accepted_proves : (ms : List Member) → SoundWhereHonest ms → (node : ℕ) (charge : Charge)
     → Fits evidence_item (node, charge_value charge) → AcceptsCharge ms node charge
     → Proves ms (record { node = node; charge = charge })

@@ -20,6 +20,7 @@ use Rattle.evidence_spec.proofs.Shown.{next_fits}
 
 -- ---- an authenticator
 
+-- a signed authenticator, as a showing without links, shows its own pair
 pub one_pair : (ms : List Member) (a : Authenticator) → Fits authenticator_item (authenticator_value a) → IsSignedIn ms a
     → ShowsPairs ms (authenticator_showing a) ((a.number, a.hash) ∷ [])
 one_pair ms a fits signed =
@@ -55,6 +56,7 @@ links_fit : (es : List Entry) → AllByRecursion (Fits link_item) (map link_valu
 links_fit [] = tt
 links_fit (e ∷ es) = ((kind_fits e, length-sha256 (content e)), links_fit es)
 
+-- a closed segment, as a showing without its entries, shows all its pairs
 pub own_pairs : (ms : List Member) (s : SegmentParts) → Fits segment_item (segment_value s) → 0 < s.first
     → IsClosed ms s → ShowsPairs ms (segment_showing s) (segment_pairs s)
 own_pairs ms s fits some closed =

@@ -1,3 +1,4 @@
+pub use Rattle.honest_logs.proofs.Places as PlacedEntries
 pub use Rattle.honest_logs.proofs.Runs
 pub mod Texts
 pub mod Places

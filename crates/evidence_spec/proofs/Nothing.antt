@@ -17,6 +17,7 @@ use Rattle.evidence_spec.specs.Evidence.{ForkParts, Fork, EvidenceParts}
 use Rattle.evidence_spec.specs.Proving.{IsLog, log_texts, charge_texts, closings, option_texts, option_closings, IsUnforged, Withstands, Proves}
 use Rattle.evidence_spec.proofs.Texts.{fewer, both}
 
+-- evidence whose texts are all those of an honest log, with no signature forged against it, proves nothing
 pub own_texts : (ms : List Member) (member : Member) (e : EvidenceParts) (log : List Entry) (s : State)
     → member_of ms e.node ≡ Some member → IsLog log → IsHonestLog ms (opening_of member) log s
     → AllByRecursion (IsUnforged ms member.node log) (closings e.charge)
@@ -47,6 +48,7 @@ each_unforged : (ms : List Member) (node : ℕ) (log : List Entry) (b : Option A
 each_unforged ms node log None h = tt
 each_unforged ms node log (Some a) h = (λ of signed. absurd (h signed), tt)
 
+-- a fork of authenticators that the node didn't sign proves nothing
 pub unsigned : (ms : List Member) (member : Member) (node at : ℕ) (a : Authenticator) (b : Option Authenticator)
     → IsHonestLog ms (opening_of member) [] (opening_of member)
     → member_of ms node ≡ Some member → ¬ IsSignedIn ms a → IfSome b (λ c. ¬ IsSignedIn ms c)

@@ -54,6 +54,7 @@ reading_texts s t (inr (inr i)) j e = absurd i
 reading_log : IsLog reading
 reading_log = record { each = ((omega arith, refl, (omega arith, omega arith)), tt); few = omega arith }
 
+-- a client's segment of one clock reading proves nothing, whatever signature closes it
 pub reading_proves_nothing : (ms : List Member) (member : Member) (node : ℕ) (closing : Authenticator)
     → member_of ms node ≡ Some member → member.kind ≡ Client → closing.number ≡ 1 → closing.hash ≡ log_hash reading
     → ¬ Proves ms (record { node = node; charge = Replay (one_reading node closing) })

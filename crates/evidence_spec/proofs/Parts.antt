@@ -16,6 +16,7 @@ use Rattle.evidence_spec.proofs.Contents.{one_entry}
 abbrev pub EachFits : List Entry → Type 0
 EachFits es = AllByRecursion (λ e. Fits entry_item (entry_value e)) es
 
+-- entries whose values each have a spelling each have a text
 pub each_of_values : (es : List Entry) → AllByRecursion (Fits entry_item) (map entry_value es) → EachFits es
 each_of_values [] each = tt
 each_of_values (e ∷ es) each = (each.0, each_of_values es each.1)

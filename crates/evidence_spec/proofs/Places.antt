@@ -11,10 +11,12 @@ abbrev pub AreNumbered : (first : ℕ) → List Link → Type 0
 AreNumbered first [] = Unit {0}
 AreNumbered first (l ∷ links) = (l.number ≡ first) × AreNumbered (first + 1) links
 
+-- the links of entries are numbered one after the other
 pub entries_numbered : (first : ℕ) (es : List Entry) → AreNumbered first (links_from first es)
 entries_numbered first [] = tt
 entries_numbered first (e ∷ es) = (refl, entries_numbered (first + 1) es)
 
+-- the links of a showing are numbered one after the other
 pub shown_numbered : (first : ℕ) (ls : List ShownLink) → AreNumbered first (numbered first ls)
 shown_numbered first [] = tt
 shown_numbered first (l ∷ ls) = (refl, shown_numbered (first + 1) ls)
@@ -93,6 +95,7 @@ pub all_front : {A : Type 0} (P : A → Type 0) (xs ys : List A) → AllByRecurs
 all_front P [] ys each = tt
 all_front P (x ∷ xs) ys each = (each.0, all_front P xs ys each.1)
 
+-- links that are so numbered have one hash at a number
 pub one_hash : (before : ℕ) (opening : List ℕ) (links : List Link) (number : ℕ) (one other : List ℕ)
     → AreNumbered (before + 1) links → IsAmong (number, one) (pairs before opening links)
     → IsAmong (number, other) (pairs before opening links) → one ≡ other

@@ -38,6 +38,7 @@ each_link first (l ∷ ls) each few =
     (record { number = omega (arith, few); kind = each.0.0.0; content = each.0.1 }, each_link (first + 1) ls each.1 (omega (arith, few)))
 
 module _ (ms : List Member) (log : List Entry) (s : ShowingParts) where
+  -- what a closed showing shows is in the log, where its closing's pair is and no two texts have one digest
   pub showing_in_log : IsLog log → Fits showing_item (showing_value s) → IsClosedShowing ms s
       → IsAmong (s.closing.number, s.closing.hash) (log_pairs log) → NoCollision (log_texts log ++ showing_texts s)
       → (number : ℕ) (hash : List ℕ) → Shows s number hash → IsAmong (number, hash) (log_pairs log)

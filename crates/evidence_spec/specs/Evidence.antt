@@ -14,11 +14,12 @@ use Rattle.honest_logs.specs.Placed.{placed_in}
 use Rattle.honest_logs.specs.Stepping.{ReplayFault}
 use Rattle.honest_logs.specs.Replay.{Fault, verdict_of}
 use Rattle.honest_logs.specs.Opening.{opening_of}
+use Rattle.evidence_spec.specs.declared.limits.TheConstants as limits
 use Rattle.evidence_spec.specs.Showing.{ShowingParts, IsClosedShowing, Shows, showing_item, showing_value}
 
 -- the entries that a replay of a node's log may take up: those that are audited
 abbrev pub MAX_AUDITED : ℕ
-MAX_AUDITED = 65_536
+MAX_AUDITED = limits.MAX_AUDITED
 
 -- A fork: at a number two hashes are shown, by one showing each. With one showing alone, it shows another
 -- hash than 32 zero bytes before the first entry.

@@ -2,5 +2,7 @@
 #![tactic(auto)]
 
 pub mod laws;
+mod limits;
 
 pub use honest_logs::replay_laws;
+pub use limits::MAX_AUDITED;

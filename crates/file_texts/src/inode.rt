@@ -59,8 +59,8 @@ fn time_of(part: &TimePart) -> Option<Time>
     Time::new(part.seconds, part.microseconds)
 }
 
-/// The body of a part, whose directory above says nothing yet. None exactly where a directory's entries break a
-/// rule.
+/// The body of a part, whose directory above says nothing yet. None exactly where a directory's entries break
+/// a rule.
 fn body_of(alloc: Global, part: &BodyPart) -> Result<Option<Body>, AllocError>
     requires { IsWritable (body_of part.now) }
     ensures { IfOk result (λ body. MatchOption body (IsBodyAlone (body_of part.now) → ⊥)

@@ -13,8 +13,8 @@ use inodes::Inode;
 use std::alloc::{AllocError, Global};
 
 /// The inodes of files by rising number. None exactly where the numbers don't rise strictly from 1 to below
-/// `next`, or a file breaks a rule that it keeps by itself. What they keep beside their files, their links and
-/// the directories above, says nothing yet.
+/// `next`, or a file breaks a rule that it keeps by itself. What they keep beside their files, their links
+/// and the directories above, says nothing yet.
 pub fn inodes_of(
     alloc: Global,
     next: u32,

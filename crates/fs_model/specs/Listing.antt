@@ -1,5 +1,5 @@
 -- What a directory lists, in order of insertion.
-use Rattle.std.specs.Prelude.{ℕ, ◌≤◌, ◌+◌, List, [], ◌∷◌, ◌++◌, Option, nat_eq}
+use Rattle.std.specs.Prelude.{◌≤◌, ◌+◌, List, [], ◌∷◌, ◌++◌, Option, nat_eq}
 use Rattle.std.specs.Cmp.Lexicographic.{pointwise}
 use Rattle.std.specs.Map.{lookup, remove_entry, keys_of}
 use Rattle.std.specs.List.{IsDistinct}

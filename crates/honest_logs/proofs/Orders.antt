@@ -29,6 +29,7 @@ received_exact a b h =
 pub ties_equal : (a b : ReceivedMessage) → eq_by_cmp received_cmp a b ≡ true → a ≡ b
 ties_equal a b h = received_exact a b ((Equal-is (received_cmp a b)).0 h)
 
+-- and messages that are equal tie
 pub equal_ties : (a b : ReceivedMessage) → a ≡ b → eq_by_cmp received_cmp a b ≡ true
 equal_ties a b e =
     (Equal-is (received_cmp a b)).1 (ap (received_cmp a) (sym e) ∙ tied_itself received_total a)

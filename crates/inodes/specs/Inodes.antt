@@ -1,5 +1,5 @@
 -- Nodes, and the files that they are.
-use Rattle.std.specs.Prelude.{◌≡◌, ℕ, ◌+◌, ◌-◌, ◌/◌, List, map, Option, Some, option_map}
+use Rattle.std.specs.Prelude.{◌≡◌, ℕ, ◌+◌, ◌-◌, ◌/◌, List, map, Option, option_map}
 use Rattle.std.specs.Ordering.{nat_cmp}
 use Rattle.std.specs.BTreeMap.{is_at}
 use Rattle.std.specs.Map.{lookup}
@@ -7,8 +7,8 @@ use Rattle.std.specs.FinMap as finite
 use Rattle.std.specs.Option.{option_map_or}
 use Rattle.nfs_items.specs.declared.attributes.Fattr.{Fattr}
 use Rattle.nfs_items.specs.Terms.{FileNumber}
-use Rattle.fs_model.specs.Files.{Body, Regular, Symlink, Directory, File, Files, parent_of}
-use Rattle.directories.specs.FileAttributes.{type_of, type_bits, size_of, nlink_of}
+use Rattle.fs_model.specs.Files.{Body, Regular, Symlink, Directory, File, Files}
+use Rattle.directories.specs.FileAttributes.{type_of, type_bits, size_of}
 use Rattle.inodes.specs.declared.inode.Body as stored
 use Rattle.inodes.specs.declared.inode.Body.TheVariants as code
 use Rattle.inodes.specs.declared.inode.Inode.{Inode}

@@ -39,7 +39,8 @@ fn answer_mount(
     requires { length host.now ≤ MNTNAMLEN }
     ensures text { Appends (answer_text (mount_at tree.now mounts.old host.now (names_on path.now)).0)
         out.old.items result out.new.items }
-    ensures mounts { OnOk result (mounts.new ≡ (mount_at tree.now mounts.old host.now (names_on path.now)).1) }
+    ensures mounts { OnOk result (mounts.new
+        ≡ (mount_at tree.now mounts.old host.now (names_on path.now)).1) }
     ensures err { OnErr result (mounts.new ≡ mounts.old) }
 {
     out.reserve(MNT_ANSWER)?;
@@ -78,7 +79,8 @@ pub fn mount_call(
 ) -> Result<(), AllocError>
     requires host { IfSome who.now.machine_name (λ name. length name.now ≤ MNTNAMLEN) }
     requires bounds { HasBounds (call_of args.now) }
-    ensures text { Appends (answer_text (mount_does tree.now mounts.old (caller_of who.now) (call_of args.now)).0)
+    ensures text { Appends
+        (answer_text (mount_does tree.now mounts.old (caller_of who.now) (call_of args.now)).0)
         out.old.items result out.new.items }
     ensures mounts { OnOk result (mounts.new
         ≡ (mount_does tree.now mounts.old (caller_of who.now) (call_of args.now)).1) }

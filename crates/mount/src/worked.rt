@@ -33,13 +33,18 @@ pub fn mounts_come_out()
         ≡ (Mounted (Ok (handle_of 1 1)), root_of m ∷ root_of n ∷ []) }
     ensures full { (mounts : Mounts) → length mounts ≡ 40 → is_listed mounts (root_of m) ≡ false →
         mount_does (opening_files 1) mounts (by m) (Mnt (codes "/")) ≡ (Mounted (Err stats.NoSpc), mounts) }
-    ensures there { mount_does (opening_files 1) [] (by m) (Mnt (codes "/hello")) ≡ (Mounted (Err stats.Acces), []) }
-    ensures behind { mount_does (opening_files 1) [] (by m) (Mnt (codes "/hello/")) ≡ (Mounted (Err stats.Acces), []) }
-    ensures absent { mount_does (opening_files 1) [] (by m) (Mnt (codes "/no")) ≡ (Mounted (Err stats.NoEnt), []) }
-    ensures dot { mount_does (opening_files 1) [] (by m) (Mnt (codes "/.")) ≡ (Mounted (Err stats.NoEnt), []) }
+    ensures there { mount_does (opening_files 1) [] (by m) (Mnt (codes "/hello"))
+        ≡ (Mounted (Err stats.Acces), []) }
+    ensures behind { mount_does (opening_files 1) [] (by m) (Mnt (codes "/hello/"))
+        ≡ (Mounted (Err stats.Acces), []) }
+    ensures absent { mount_does (opening_files 1) [] (by m) (Mnt (codes "/no"))
+        ≡ (Mounted (Err stats.NoEnt), []) }
+    ensures dot { mount_does (opening_files 1) [] (by m) (Mnt (codes "/."))
+        ≡ (Mounted (Err stats.NoEnt), []) }
     ensures through { mount_does (opening_files 1) [] (by m) (Mnt (codes "/hello/x"))
         ≡ (Mounted (Err stats.NoEnt), []) }
-    ensures relative { mount_does (opening_files 1) [] (by m) (Mnt (codes "hello")) ≡ (Mounted (Err stats.NoEnt), []) }
+    ensures relative { mount_does (opening_files 1) [] (by m) (Mnt (codes "hello"))
+        ≡ (Mounted (Err stats.NoEnt), []) }
 {}
 
 /// UMNT of the root and of another path, and UMNTALL, by one of two machines.

@@ -61,7 +61,8 @@ fn add_error(stat: Stat, out: &mut Vec<u8>) -> Result<(), AllocError>
 }
 
 fn add_handle(handle: &FileHandle, out: &mut Vec<u8>) -> Result<(), AllocError>
-    ensures adds { Adds (spelling word 0 ++ spelling fhandle handle.now.0) out.old.items result out.new.items }
+    ensures adds { Adds (spelling word 0 ++ spelling fhandle handle.now.0)
+        out.old.items result out.new.items }
     ensures room { Takes 36 (vec_capacity out.old - vec_len out.old)
         result (vec_capacity out.new - vec_len out.new) }
 {

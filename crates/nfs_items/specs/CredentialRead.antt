@@ -1,5 +1,4 @@
 -- What reading a credential's parameters gives.
-use Rattle.std.specs.Prelude.{ℕ, Some, option_map}
 use Rattle.xdr_texts.specs.Item.{Value}
 use Rattle.nfs_items.specs.Credentials.{authsys_parms}
 use Rattle.nfs_items.specs.declared.credential.Parameters.{Parameters}

@@ -2,7 +2,6 @@
 -- the first check that fails, in the order written, and then the files are as before.
 use Rattle.std.specs.Prelude.{Option, Some, None, Result, Ok, Err, option_map, nat_eq, if◌then◌else◌}
 use Rattle.std.specs.Cmp.Lexicographic.{pointwise}
-use Rattle.nfs_types.specs.Timeval.{Timeval}
 use Rattle.nfs_types.specs.Caller.{Caller}
 use Rattle.nfs_types.specs.Handle.{FileHandle, handle_of}
 use Rattle.nfs_types.specs.Fattr.{Fattr}

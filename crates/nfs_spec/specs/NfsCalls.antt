@@ -1,12 +1,12 @@
 -- What each call does to a server's files (RFC 1094, section 2.2): its answer, and the files after it.
 -- Arguments that mean nothing (READ's totalcount, WRITE's beginoffset and totalcount) are left out.
-use Rattle.std.specs.Prelude.{ℕ, List, Result, Ok, Err, unwrap_or}
+use Rattle.std.specs.Prelude.{Result, Ok, Err, unwrap_or}
 use Rattle.nfs_types.specs.Timeval.{Timeval}
 use Rattle.nfs_types.specs.Caller.{Caller}
 use Rattle.nfs_types.specs.Handle.{FileHandle, handle_of, number_in}
 use Rattle.nfs_types.specs.Fattr.{Fattr}
 use Rattle.nfs_types.specs.Stat.{Stat}
-use Rattle.nfs_types.specs.Terms.{Name, FileNumber, Cookie}
+use Rattle.nfs_types.specs.Terms.{FileNumber}
 use Rattle.nfs_types.specs.Calls.{Call, Null, Getattr, Setattr, Root, Lookup, Readlink, Read, Writecache, Write, Create, Remove, Rename, Link, Symlink, Mkdir, Rmdir, Readdir, Statfs, Answer, Nothing, Attributes, DirOp, Target, Bytes, Status, Entries, Free}
 use Rattle.fs_changes.specs.Files.{Files}
 use Rattle.nfs_spec.specs.ProcedureChecks.{◌>>=◌}

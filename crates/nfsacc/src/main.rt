@@ -3,8 +3,7 @@
 
 use clap::error::ErrorKind;
 use console::{
-    CheckFault, CheckRequest, Judgement, Request, check, check_and_explain, check_request, parse,
-    run_rpc,
+    CheckFault, CheckRequest, Judgement, Request, check, check_and_explain, parse, run_rpc,
 };
 use rpc::{Counting, RecordFault, RecordReader};
 use std::io::BufReader;
@@ -12,8 +11,8 @@ use std::process::ExitCode;
 use std::rt::Files;
 use std::{env, fs, io};
 
-/// The statuses of the program beside 0, which is done. A fault in the input: the records end with one, or a file
-/// is no evidence.
+/// The statuses of the program beside 0, which is done. A fault in the input: the records end with one, or a
+/// file is no evidence.
 const INPUT_FAULT: u8 = 1;
 
 /// The words of the command line ask for nothing that there is.
@@ -67,7 +66,7 @@ fn check_file<R: Files + Print + Eprint + AllocGlobal>(rt: &R, request: CheckReq
             return DEVICE;
         }
     };
-    let mut writer = io::writer(rt);
+    let mut writer = Counting::new(io::writer(rt));
     let judgement = if request.explain {
         check_and_explain(rt.alloc(), &mut file, &mut writer)
     } else {
@@ -103,17 +102,9 @@ fn run(rt: &HostRuntime) -> u8 {
     let Ok(words) = args.collect::<Vec<String>>(alloc) else {
         return report_no_memory(rt);
     };
-    if words.get(1).is_some_and(|word| word.as_str() == "check") {
-        return match check_request(&words[2..]) {
-            Some(request) => check_file(rt, request),
-            None => {
-                let _ = rt.eprintln("Usage: nfsacc check [--explain] FILE");
-                COMMAND_LINE
-            }
-        };
-    }
     match parse(alloc, words.as_slice()) {
         Ok(Request::Rpc) => rpc(rt),
+        Ok(Request::Check(request)) => check_file(rt, request),
         Err(error) if error.kind() == ErrorKind::OutOfMemory => report_no_memory(rt),
         Err(error) => {
             let status = error.exit_code();

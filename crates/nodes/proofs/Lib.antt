@@ -1,7 +1,4 @@
-pub mod Texts
-pub mod Shown
-pub mod Fresh
-pub mod Reached
+pub mod Delivered
 pub mod Asked
 pub mod Replied
 pub mod Stopped

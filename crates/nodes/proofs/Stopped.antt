@@ -1,11 +1,12 @@
 -- An exchange with a fault has failed.
 -- Serves: Direct::carry.
 use Rattle.std.proofs.Common.{◌≡◌, inl, inr, ℕ, true, false, List, refl}
-use Rattle.node_logs.specs.Timeval.{Timeval}
+use Rattle.exchanges.specs.Timeval.{Timeval}
 use Rattle.links.specs.declared.fault.LinkFault.{LinkFault}
 use Rattle.links.specs.declared.fault.LinkFault.TheVariants.{KeysUsedUp, NoMemory, Failed}
-use Rattle.node_logs.specs.Nodes.{NodeParts}
-use Rattle.nodes.specs.Exchanges.{DirectParts, StopsCarrying, StopsExchange}
+use Rattle.exchanges.specs.Nodes.{NodeParts}
+use Rattle.nodes.specs.Faults.{StopsCarrying}
+use Rattle.nodes.specs.Directs.{DirectParts, StopsExchange}
 
 -- the two behind a fault
 abbrev pub failed_of : NodeParts → NodeParts → DirectParts

@@ -10,15 +10,17 @@ ghost use Rattle.envelopes.specs.declared.acknowledgement.Ack.{Ack};
 ghost use Rattle.commitment.specs.LookUps.{ack_at, envelope_at};
 ghost use Rattle.commitment.specs.Receiver.{Finds};
 ghost use Rattle.commitment.specs.Sender.{IsSender};
-ghost use Rattle.node_logs.specs.Nodes.{receiver_of, sender_of};
-ghost use Rattle.nodes.specs.Delivery.{AckReaches, CopiesBody, HearsNew, Reaches, SendsBody, TakesAwaited};
-ghost use Rattle.nodes.specs.Delivery.{TakesNew, WritesText, ack_taken, fault_of};
+ghost use Rattle.exchanges.specs.Nodes.{receiver_of, sender_of};
+ghost use Rattle.links.specs.declared.fault.LinkFault.TheVariants.{Failed};
+ghost use Rattle.exchanges.specs.Reaching.{AckReaches, Reaches, ack_told};
+ghost use Rattle.nodes.specs.Delivery.{CopiesBody, HearsNew, SendsBody, TakesAwaited};
+ghost use Rattle.nodes.specs.Delivery.{TakesNew, WritesText, fault_of};
 
 use crate::client::ClientNode;
 use crate::server::ServerNode;
 use authenticator::Number;
+use exchanges::{AckTaken, Body, Heard, NodeLog, Receipt, Received, Refusal, Time};
 use links::LinkFault;
-use node_logs::{AckTaken, Body, Heard, NodeLog, Receipt, Received, Refusal, Time};
 use std::alloc::Global;
 
 /// A refusal as a fault of the link. What is made by one node isn't refused by the other but for want of keys
@@ -142,7 +144,7 @@ fn take_reply(client: &mut ClientNode, alloc: Global, text: &[u8]) -> Result<(),
 
 /// What became of an acknowledgement that is awaited.
 fn ack_taken(taken: Result<AckTaken, Refusal>) -> Result<(), LinkFault>
-    ensures { result ≡ ack_taken taken }
+    ensures { result ≡ ack_told fault_of Failed taken }
 {
     match taken {
         Ok(AckTaken::Logged(_)) => Ok(()),

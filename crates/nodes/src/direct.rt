@@ -4,13 +4,14 @@ ghost use Rattle.std.specs.Prelude.{◌≡◌, ◌≤◌, ◌↔◌, true, IsTru
 ghost use Rattle.std.specs.Option.{option_map};
 ghost use Rattle.log_entries.specs.declared.entry.TheConstants.{MAX_BODY};
 ghost use Rattle.links.specs.declared.fault.LinkFault.{LinkFault};
-ghost use Rattle.nodes.specs.Exchanges.{IsExchanged, IsServed, StopsExchange, MayJoin, direct_of, world_in};
+ghost use Rattle.exchanges.specs.Exchanges.{IsServed, MayJoin};
+ghost use Rattle.nodes.specs.Directs.{IsExchanged, StopsExchange, direct_of, world_in};
 
 use crate::client::ClientNode;
 use crate::exchange::carry;
 use crate::server::ServerNode;
+use exchanges::Time;
 use links::{Link, LinkFault};
-use node_logs::Time;
 use std::alloc::Global;
 use std::marker::Model;
 
@@ -25,7 +26,7 @@ pub struct Direct {
 }
 
 impl Model for Direct {
-    ghost use Rattle.nodes.specs.Exchanges.{DirectParts, IsDirect, direct_code};
+    ghost use Rattle.nodes.specs.Directs.{DirectParts, IsDirect, direct_code};
 
     ghost Value = { DirectParts };
 
@@ -123,7 +124,7 @@ fn may_join(client: &ClientNode, server: &ServerNode) -> bool
 /// It tells its server's world. From now on it may lack keys or memory; it has failed behind a fault, and
 /// only there. It answers `KeysUsedUp` only where keys lack.
 impl Link for Direct {
-    ghost use Rattle.nodes.specs.Exchanges.{IsFaulted};
+    ghost use Rattle.nodes.specs.Directs.{IsFaulted};
 
     ghost world = { λ d. world_in d.server.state.machine };
 

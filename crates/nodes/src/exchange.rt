@@ -4,18 +4,18 @@ ghost use Rattle.std.specs.Prelude.{◌≡◌, ◌≤◌, ◌+◌, IfErr, IfOk, 
 ghost use Rattle.std.specs.Option.{option_map};
 ghost use Rattle.log_entries.specs.declared.entry.TheConstants.{MAX_BODY};
 ghost use Rattle.commitment.specs.Sender.{IsSender};
-ghost use Rattle.node_logs.specs.Nodes.{sender_of};
-ghost use Rattle.nodes.specs.Delivery.{IsReplyReady};
-ghost use Rattle.nodes.specs.Exchanges.{Asks, IsCarried, IsJoined, IsReplied, IsServed};
-ghost use Rattle.nodes.specs.Exchanges.{StopsAtReply, StopsCarrying};
+ghost use Rattle.exchanges.specs.Nodes.{sender_of};
+ghost use Rattle.exchanges.specs.Reaching.{IsReplyReady};
+ghost use Rattle.exchanges.specs.Exchanges.{IsCarried, IsJoined, IsReplied, IsServed};
+ghost use Rattle.nodes.specs.Faults.{Asks, StopsAtReply, StopsCarrying};
 
 use crate::client::ClientNode;
 use crate::deliver::{
     acknowledge_call, acknowledge_reply, body_of, deliver_call, deliver_reply, last_number, send,
 };
 use crate::server::ServerNode;
+use exchanges::{Number, Receipt, Time};
 use links::LinkFault;
-use node_logs::{Number, Receipt, Time};
 use std::alloc::Global;
 
 /// Carries a body to the server at a time, and its reply, if one is owed, back.

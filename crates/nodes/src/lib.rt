@@ -9,8 +9,8 @@ mod server;
 
 pub use client::ClientNode;
 pub use direct::Direct;
-pub use links::{Link, LinkFault};
-pub use node_logs::{
+pub use exchanges::{
     AckTaken, Body, Heard, NodeLog, Number, Receipt, Received, Refusal, Roster, Time,
 };
+pub use links::{Link, LinkFault};
 pub use server::ServerNode;

@@ -134,6 +134,7 @@ ends_of s e =
     (eq-eqb (s.closing.number + 1) (s.first + length s.entries) e.number)
     (list_same s.closing.hash (last_hash s.opening (links_from s.first s.entries)) e.hash))
 
+-- a segment that passes the tests of its end ends as its closing says
 pub of_ends : (s : SegmentParts) → ends s ≡ true → Ends s
 of_ends s h =
     let number_hash = (s.closing.number + 1 == s.first + length s.entries) && is_same s.closing.hash (last_hash s.opening (links_from s.first s.entries)) in

@@ -13,8 +13,8 @@ pub fn packets_are_read_as_spelled()
 
 /// What bytes are taken for under a roster is what that means: a packet is taken exactly where the bytes say
 /// it, it may be, its nodes are members, and who is to sign it did; each refusal comes exactly where it is
-/// the first of Garbage, UnknownNode and BadSignature that holds. What a packet's text is taken for depends on
-/// what it delivers alone, and what is taken is written back as it was.
+/// the first of Garbage, UnknownNode and BadSignature that holds. What a packet's text is taken for depends
+/// on what it delivers alone, and what is taken is written back as it was.
 pub fn packets_are_taken_as_meant()
     ensures meant { JudgedAsMeant }
     ensures spelled { JudgedAsSpelled }

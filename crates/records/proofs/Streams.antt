@@ -1,5 +1,5 @@
 -- Records one after the other.
--- Serves: run_rpc in console, whose loop takes one record more in each turn.
+-- Serves: run_rpc in rpc_streams, whose loop takes one record more in each turn.
 use Rattle.std.proofs.Common.{ℕ, List, [], ◌∷◌, ◌++◌, refl, sym, append_assoc}
 use Rattle.std.proofs.lemmas.List.{append-nil}
 use Rattle.records.specs.Record.{IsRecord}

@@ -8,9 +8,9 @@ use authenticator::{Kind, Member};
 use checkpoint::State;
 use std::alloc::{AllocError, Global};
 
-/// The state that a member begins with, before the first entry of its log: a server's has the root directory
-/// alone, a client's the clock at 0, and no message is received or sent. `AllocError` comes only where a
-/// growth was refused.
+/// The state that a member begins with, before the first entry of its log: a server's files are the directory
+/// `/` and in it the regular file `hello`, with nothing mounted and no reply owed; its clock and a client's
+/// are at 0, and no message is received or sent. `AllocError` comes only where a growth was refused.
 pub fn opening_state(alloc: Global, member: &Member) -> Result<State, AllocError>
     ensures state { IfOk result (λ state. state ≡ opening_of member.now) }
     ensures none_received { IfOk result (λ state. len state.received ≡ 0) }

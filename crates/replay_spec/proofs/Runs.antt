@@ -19,6 +19,7 @@ ok_same h = cc
 one_step : (ms : List Member) (s t u : State) (p : Placed) → Takes ms s p t → Takes ms s p u → t ≡ u
 one_step ms s t u p h k = ok_same (sym (step_takes ms s t p h) ∙ step_takes ms s u p k)
 
+-- entries have at most one list of states
 pub one_run : (ms : List Member) (s : State) (ps : List Placed) (ts us : List State)
     → Honest ms s ps ts → Honest ms s ps us → ts ≡ us
 one_run ms s [] [] [] h k = refl
@@ -169,6 +170,7 @@ is_fault ms s ps fault number f =
 
 -- ---- parts
 
+-- entries that are honest behind honest ones make honest ones
 pub joined : (ms : List Member) (s : State) (ps qs : List Placed) (ts us : List State)
     → Honest ms s ps ts → Honest ms (last_state s ts) qs us → Honest ms s (ps ++ qs) (ts ++ us)
 joined ms s [] qs [] us h k = k
@@ -176,6 +178,7 @@ joined ms s [] qs (t ∷ ts) us h k = absurd h
 joined ms s (p ∷ ps) qs [] us h k = absurd h
 joined ms s (p ∷ ps) qs (t ∷ ts) us h k = (h.0, joined ms t ps qs ts us h.1 k)
 
+-- and the second part of honest entries is honest behind the first
 pub second : (ms : List Member) (s : State) (ps qs : List Placed) (ts us : List State)
     → Honest ms s ps ts → Honest ms s (ps ++ qs) (ts ++ us) → Honest ms (last_state s ts) qs us
 second ms s [] qs [] us h k = k
@@ -183,6 +186,7 @@ second ms s [] qs (t ∷ ts) us h k = absurd h
 second ms s (p ∷ ps) qs [] us h k = absurd h
 second ms s (p ∷ ps) qs (t ∷ ts) us h k = second ms t ps qs ts us h.1 k.1
 
+-- the last state of two parts is that of the second behind the first
 pub last_joined : (s : State) (ts us : List State) → last_state s (ts ++ us) ≡ last_state (last_state s ts) us
 last_joined s [] us = refl
 last_joined s (t ∷ ts) us = last_joined t ts us

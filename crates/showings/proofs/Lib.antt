@@ -1,2 +1,3 @@
+pub use Rattle.evidence_spec.proofs.Places
 pub mod Texts
 pub mod Hashes

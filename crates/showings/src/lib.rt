@@ -12,7 +12,7 @@ mod tests;
 mod write;
 
 pub use closing::{copy_of, is_signed_in};
-pub use evidence_spec::laws as evidence_laws;
+pub use evidence_spec::{MAX_AUDITED, laws as evidence_laws};
 pub use kind::EntryKind;
 pub use link::ShownLink;
 pub use showing::Showing;

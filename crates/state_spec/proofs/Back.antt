@@ -1,11 +1,11 @@
 -- The state that a value gives is the one that says it: states that say the same are the same.
 -- Serves: values_give_their_states, a_text_has_one_state; read_state (checkpoint).
-use Rattle.std.proofs.Common.{◌≡◌, ℕ, List, [], ◌∷◌, map, refl, sym, ap, ◌∙◌}
+use Rattle.std.proofs.Common.{◌≡◌, List, [], ◌∷◌, map, refl, sym, ap, ◌∙◌}
 use Rattle.std.specs.Ordering.{nat_cmp}
 use Rattle.std.specs.declared.cmp.Ordering.{Ordering}
 use Rattle.std.specs.FinMap as finite
 use Rattle.std.specs.FinSet.{FinSet}
-use Rattle.fs_model.specs.Files.{Body, Regular, Symlink, Directory, File}
+use Rattle.fs_model.specs.Files.{File}
 use Rattle.file_texts.specs.FileItems.{file_item, file_value}
 use Rattle.file_texts.specs.FileValues.{time_from, numbered_from}
 use Rattle.file_texts.proofs.Files.{file_back}

@@ -1,8 +1,8 @@
 -- The state that a value gives says the value, where its three lists rise.
 -- Serves: states_say_what_rises, rules_tell_states; read_state (checkpoint).
-use Rattle.std.proofs.Common.{◌≡◌, ◌⊎◌, inl, inr, ⊎_elim, ℕ, zero, suc, ◌≤◌, Bool, true, false, T, List, []}
+use Rattle.std.proofs.Common.{◌≡◌, ⊎_elim, ℕ, zero, suc, ◌≤◌, Bool, true, false, T, List, []}
 use Rattle.std.proofs.Common.{◌∷◌, map, refl, sym, ap, subst, ◌∙◌, arith, eqb}
-use Rattle.std.specs.Prelude.{◌||◌, ◌&&◌, IsTrue}
+use Rattle.std.specs.Prelude.{◌&&◌, IsTrue}
 use Rattle.std.specs.List.{AllByRecursion}
 use Rattle.std.specs.List.Sorted.{IsStrictlySortedBy}
 use Rattle.std.specs.Ordering.{nat_cmp, is_lt}
@@ -15,8 +15,8 @@ use Rattle.std.proofs.lemmas.Bool.{eqb-true, ltb-true}
 use Rattle.xdr.specs.Item.{Value, Fits}
 use Rattle.fs_model.specs.Files.{File}
 use Rattle.fs_model.proofs.Reached.{both_of}
-use Rattle.file_texts.specs.FileItems.{file_item, file_value, is_file_kind, kind_item}
-use Rattle.file_texts.specs.FileValues.{time_from, body_from, file_from, numbered_from}
+use Rattle.file_texts.specs.FileItems.{file_item, file_value}
+use Rattle.file_texts.specs.FileValues.{time_from, numbered_from}
 use Rattle.file_texts.proofs.Files.{either, file_forth}
 use Rattle.state_spec.specs.State.{received_cmp, SentMessage, Machine, Server, Client, State}
 use Rattle.state_spec.specs.StateItems.{received_item, received_value, sent_item, sent_value, is_stage}

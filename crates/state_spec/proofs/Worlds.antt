@@ -10,7 +10,6 @@ use Rattle.std.specs.FinMap.Entries.{find, below_all, is_sorted}
 use Rattle.std.proofs.lemmas.Bool.{cond-true, cond-false}
 use Rattle.std.proofs.lemmas.List.{length-map}
 use Rattle.xdr.specs.Item.{Fits, array, choice}
-use Rattle.mount_types.specs.declared.limits.TheConstants.{MNTPATHLEN}
 use Rattle.mount_types.specs.Calls.{Mount}
 use Rattle.mount_types.specs.Mounts.{IsMount}
 use Rattle.fs_model.specs.Maxima.{max_files, max_entries, max_name}

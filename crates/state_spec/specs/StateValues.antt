@@ -1,13 +1,12 @@
 -- The state that a value says. Each value gives one, also where no state says the value: numbers that stand
 -- for no kind give the first, and a list whose keys don't rise gives the empty map.
-use Rattle.std.specs.Prelude.{ℕ, zero, suc, List, [], map}
+use Rattle.std.specs.Prelude.{ℕ, zero, suc, List, map}
 use Rattle.std.specs.Ordering.{nat_cmp}
 use Rattle.std.specs.declared.cmp.Ordering.{Ordering}
 use Rattle.std.specs.FinMap as finite
 use Rattle.std.specs.FinSet.{FinSet}
 use Rattle.xdr.specs.Item.{Value}
-use Rattle.nfs_items.specs.Timeval.{Timeval, timeval}
-use Rattle.fs_model.specs.Files.{Body, Regular, Symlink, Directory, File}
+use Rattle.nfs_items.specs.Timeval.{Timeval}
 use Rattle.worlds.specs.World.{World}
 use Rattle.file_texts.specs.FileItems.{file_item}
 use Rattle.file_texts.specs.FileValues.{time_from, numbered_from}

@@ -1,4 +1,4 @@
-use Rattle.book_spec.specs.Histories.{own}
+use Rattle.book_laws.specs.Histories.{own}
 use Rattle.book_laws.proofs.OwnSteps.{own_owed}
 use Rattle.book_laws.proofs.Checked.{own_checked}
 use Rattle.book_evidence.proofs.Told.{told, charged, proof_of}

@@ -1,11 +1,11 @@
 use Rattle.std.proofs.Common.{flat_map, ◌++◌, sym, ◌∙◌}
 use Rattle.std.proofs.lemmas.Bool.{true≢false}
-use Rattle.evidence_spec.proofs.Places.{one_hash, entries_numbered}
-use Rattle.evidence_spec.proofs.Texts.{left, right}
+use Rattle.book_laws.proofs.Places.{one_hash, entries_numbered}
+use Rattle.book_laws.proofs.Texts.{left, right}
 use Rattle.log_entries.specs.Chain.{zeros, links_from}
-use Rattle.book_spec.specs.Proving.{log_texts}
-use Rattle.book_spec.specs.Histories.{own}
-use Rattle.book_spec.specs.Premises.{texts_in}
+use Rattle.book_laws.specs.Proving.{log_texts}
+use Rattle.book_laws.specs.Histories.{own}
+use Rattle.book_laws.specs.Premises.{texts_in}
 use Rattle.book_laws.proofs.OwnSteps.{own_owed}
 use Rattle.book_laws.proofs.Checked.{own_checked}
 use Rattle.book_laws.proofs.Exposing.{exposed_is}

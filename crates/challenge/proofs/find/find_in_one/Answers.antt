@@ -4,11 +4,15 @@ use Rattle.challenge.proofs.Found.{no_hash, same_zeros, accepts_one}
 use Rattle.challenge.proofs.find.find_in_one.Goals as goal
 
 pub returns-in_default : goal.returns-in_default
-returns-in_default c = inr (inr (refl, no_hash c.args.at c.args.a.now (c.in_default.ensures.exact c.requires.closed.first)))
+returns-in_default c =
+    inr (c.requires, (refl, no_hash c.args.at c.args.a.now (c.in_default.ensures.exact c.requires.closed.first)))
 
 pub returns-then-is_zeros : goal.returns-then-is_zeros
 returns-then-is_zeros c =
-    inr (inr (refl, same_zeros c.args.at c.args.a.now c.in-Some.one (c.in-Some.ensures.exact c.requires.closed.first) (c.is_zeros.ensures.0 c.if-is_zeros.true)))
+    inr (
+      c.requires,
+      (refl, same_zeros c.args.at c.args.a.now c.in-Some.one (c.in-Some.ensures.exact c.requires.closed.first) (c.is_zeros.ensures.0 c.if-is_zeros.true)),
+    )
 
 pub returns : goal.returns
 unfolding zeros

@@ -1,8 +1,7 @@
-use Rattle.std.proofs.Common.{◌≤◌, length-append, refl, arith, ◌∙◌}
+use Rattle.std.proofs.Common.{◌≤◌, length-append, arith, ◌∙◌}
 use Rattle.std.proofs.lemmas.Result.{err_from_is_err_and}
 use Rattle.xdr_texts.specs.Item.{word}
-use Rattle.xdr_texts.specs.Reading.{read_at}
-use Rattle.xdr_texts.specs.ArraysAndUnions.{begins, goes_on, fails, ends, array_at}
+use Rattle.xdr_texts.specs.ArraysAndUnions.{goes_on, fails, ends, array_at}
 use Rattle.nfs_items.proofs.credential.read_groups.Goals as goal
 
 pub returns-in_err-group : goal.returns-in_err-group

@@ -1,8 +1,12 @@
-use Rattle.nodes.proofs.Reached.{taken_by}
+use Rattle.links.specs.declared.fault.LinkFault.TheVariants.{Failed}
+use Rattle.exchanges.proofs.Reached.{taken_by}
+use Rattle.nodes.specs.Delivery.{fault_of}
+use Rattle.nodes.proofs.Delivered.{awaited}
 use Rattle.nodes.proofs.deliver.acknowledge_call.Goals as goal
 
 pub returns : goal.returns
 returns c a h =
-    taken_by c.args.server.now c.node.result.now c.args.client.now c.take_ack.new.self _ c.args.number a _ _ c.take_ack.result
-    c.ack_taken.result c.node.ensures.node c.in_ok-write_ack.ensures.sender c.in_ok-write_ack.ensures.written
-    c.deref.ensures.value c.take_ack.ensures c.ack_taken.ensures h
+    awaited c.args.client.now c.take_ack.new.self a c.ack_taken.result
+    (taken_by fault_of Failed c.args.server.now c.node.result.now c.args.client.now c.take_ack.new.self _ c.args.number a _ _
+    c.take_ack.result c.ack_taken.result c.node.ensures.node c.in_ok-write_ack.ensures.sender
+    c.in_ok-write_ack.ensures.written c.deref.ensures.value c.take_ack.ensures c.ack_taken.ensures h)

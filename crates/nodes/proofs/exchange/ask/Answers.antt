@@ -1,4 +1,5 @@
-use Rattle.nodes.proofs.Asked.{asks_err, asks_ok, asks_refused, is_heard, sent_by}
+use Rattle.exchanges.proofs.Called.{sent_by}
+use Rattle.nodes.proofs.Asked.{asks_err, asks_ok, asks_refused, is_heard}
 use Rattle.nodes.proofs.exchange.ask.Goals as goal
 
 pub returns-in-Err-clause-asks : goal.returns-in-Err-clause-asks

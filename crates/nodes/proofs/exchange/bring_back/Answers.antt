@@ -1,5 +1,5 @@
 use Rattle.std.proofs.Common.{ap, length, ◌∙◌}
-use Rattle.node_logs.specs.Nodes.{NodeParts, sender_of}
+use Rattle.exchanges.specs.Nodes.{NodeParts, sender_of}
 use Rattle.commitment.specs.LookUps.{envelope_at}
 use Rattle.nodes.proofs.Replied.{is_replied, stops_replying}
 use Rattle.nodes.proofs.exchange.bring_back.Goals as goal

@@ -1,5 +1,5 @@
 use Rattle.std.proofs.Common.{subst}
-use Rattle.nodes.specs.Exchanges.{DirectParts, StopsExchange}
+use Rattle.nodes.specs.Directs.{DirectParts, StopsExchange}
 use Rattle.nodes.proofs.Stopped.{failed_of, stops}
 use Rattle.nodes.proofs.direct.Direct.carry.Goals as goal
 

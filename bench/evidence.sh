@@ -1,0 +1,16 @@
+#!/usr/bin/env bash
+# Makes evidence of 65,536 entries, of which the last alone has a fault, and prints how long it takes to read and check it,
+# and the peak memory: of a client's readings of its clock, of its messages, and of a server's calls, whose file has 363 MB.
+# Needs rt and GNU time, and two gigabytes of memory to make the files.
+set -euo pipefail
+cd "$(dirname "$0")/.."
+. checks/scratch_crate.sh
+
+proved_scratch_crate evidence_bench bench/evidence/main.rt.txt anyhow challenge secure_log log_entries authenticator \
+    merkle_keys
+rt run -- clocks "$work/clocks" > "$work/log" 2>&1 || { tail -40 "$work/log" >&2; exit 1; }
+for name in clocks messages calls; do
+    out/evidence_bench $name "$work/file"
+    echo "$name:"
+    /usr/bin/time -f 'peak memory: %M KiB' out/evidence_bench check "$work/file"
+done

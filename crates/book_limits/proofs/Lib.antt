@@ -1,0 +1,4 @@
+pub mod Audits
+pub mod Digests
+pub mod Forwarding
+pub mod Rounds

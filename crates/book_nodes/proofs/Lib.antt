@@ -1,0 +1,11 @@
+pub mod Acknowledged
+pub mod Pairs
+pub mod Hashed
+pub mod Listed
+pub mod Own
+pub mod Packets
+pub mod Answered
+pub mod Closing
+pub mod Received
+pub mod Asked
+pub mod OwnAsked

@@ -1,0 +1,242 @@
+-- Evidence has one finding at most: it lacks one thing first, or it is accepted with one fault or one pair of
+-- hashes.
+-- Serves: one_finding.
+use Rattle.std.proofs.Common.{◌≡◌, ℕ, ◌+◌, ◌-◌, List, Option, Some, None, refl, sym, ap, ◌∙◌, inl, inr, arith}
+use Rattle.std.specs.Prelude.{◌⊎◌}
+use Rattle.authenticator.specs.declared.member.Member.{Member}
+use Rattle.authenticator.specs.Signed.{IsSignedIn}
+use Rattle.secure_log.specs.Segment.{SegmentParts}
+use Rattle.secure_log.specs.Segment as segments
+use Rattle.replay.specs.Faults.{fault_in}
+use Rattle.replay.specs.declared.fault.ReplayFault.{ReplayFault}
+use Rattle.replay.specs.declared.fault.ReplayFault.TheVariants as faults
+use Rattle.showings.specs.Stepping as spec
+use Rattle.showings.specs.Replay.{verdict_of}
+use Rattle.showings.specs.Placed.{placed_in}
+use Rattle.showings.specs.Opening.{opening_of}
+use Rattle.showings.specs.Showings.{Ends}
+use Rattle.showings.specs.Showing.{ShowingParts, IsClosedShowing, Shows, numbered}
+use Rattle.showings.specs.Evidence.{Charge, Fork, Replay}
+use Rattle.showings.proofs.Places.{AreNumbered, shown_numbered, one_hash}
+use Rattle.challenge.specs.declared.finding.Finding.{Finding}
+use Rattle.challenge.specs.declared.finding.Finding.TheVariants as found
+use Rattle.challenge.specs.declared.finding.NotAccepted.{NotAccepted}
+use Rattle.challenge.specs.declared.finding.NotAccepted.TheVariants as reasons
+use Rattle.challenge.specs.Findings.{ShowingLacks, LacksBehindFirst, ForkLacks, IsFromStart, LogLacks}
+use Rattle.challenge.specs.Findings.{AcceptsHashes, AcceptsFault, FindsInFork, FindsInLog, FindsInCharge, OneFinding}
+use Rattle.challenge.proofs.Found.{showing_lacks, fork_lacks, log_lacks, fork_accepts}
+
+-- ---- what is lacking first
+
+-- What is asked first is lacking, or it is there and something behind it is lacking.
+abbrev First : (asked : Type 0) → (name : NotAccepted) → (behind : NotAccepted → Type 0) → NotAccepted
+    → Type 0
+First asked name behind reason = ((reason ≡ name) × (¬ asked)) ⊎ (asked × behind reason)
+
+-- No two things are lacking.
+abbrev IsOne : (NotAccepted → Type 0) → Type 0
+IsOne lacks = (one other : NotAccepted) → lacks one → lacks other → one ≡ other
+
+first_is_one : (asked : Type 0) (name : NotAccepted) (behind : NotAccepted → Type 0) → IsOne behind
+    → IsOne (First asked name behind)
+first_is_one asked name behind is_one one other (inl x) (inl y) = x.0 ∙ sym y.0
+first_is_one asked name behind is_one one other (inl x) (inr y) = absurd (x.1 y.0)
+first_is_one asked name behind is_one one other (inr x) (inl y) = absurd (y.1 x.0)
+first_is_one asked name behind is_one one other (inr x) (inr y) = is_one one other x.1 y.1
+
+abbrev Only : NotAccepted → NotAccepted → Type 0
+Only name reason = reason ≡ name
+
+only_is_one : (name : NotAccepted) → IsOne (Only name)
+only_is_one name one other x y = x ∙ sym y
+
+-- ---- in a showing
+
+module _ (ms : List Member) (node : ℕ) (s : ShowingParts) where
+  abbrev Signed : NotAccepted → Type 0
+  Signed = First (IsSignedIn ms s.closing) reasons.NotSigned (λ reason. ⊥)
+
+  abbrev Ended : NotAccepted → Type 0
+  Ended = First (Ends s) reasons.NotClosed Signed
+
+  abbrev OfNode : NotAccepted → Type 0
+  OfNode = First (s.node ≡ node) reasons.AnotherNode Ended
+
+  in_order : (reason : NotAccepted) → ShowingLacks ms node s reason → OfNode reason
+  in_order reasons.AnotherNode lack = inl (refl, lack)
+  in_order reasons.NotClosed lack = inr (lack.0, inl (refl, lack.1))
+  in_order reasons.NotSigned lack = inr (lack.0, inr (lack.1, inl (refl, lack.2)))
+  in_order reasons.NotFromStart lack = absurd lack
+  in_order reasons.NoTwoHashes lack = absurd lack
+  in_order reasons.NoFault lack = absurd lack
+
+  order_is_one : IsOne OfNode
+  order_is_one =
+      first_is_one (s.node ≡ node) reasons.AnotherNode Ended (first_is_one (Ends s) reasons.NotClosed Signed
+      (first_is_one (IsSignedIn ms s.closing) reasons.NotSigned (λ reason. ⊥) (λ one other x y. absurd x)))
+
+  showing_lacks_one : IsOne (ShowingLacks ms node s)
+  showing_lacks_one one other x y = order_is_one one other (in_order one x) (in_order other y)
+
+-- ---- in a fork
+
+module _ (ms : List Member) (node at : ℕ) (a : ShowingParts) where
+  behind_lacks_one : (b : Option ShowingParts) → IsOne (LacksBehindFirst ms node at a b)
+  behind_lacks_one (Some b) one other (inl x) (inl y) = showing_lacks_one ms node b one other x y
+  behind_lacks_one (Some b) one other (inl x) (inr y) =
+      absurd (showing_lacks ms node b one y.0.of_node y.0.closed x)
+  behind_lacks_one (Some b) one other (inr x) (inl y) =
+      absurd (showing_lacks ms node b other x.0.of_node x.0.closed y)
+  behind_lacks_one (Some b) one other (inr x) (inr y) = x.1 ∙ sym y.1
+  behind_lacks_one None one other x y = x.0 ∙ sym y.0
+
+  fork_lacks_one : (b : Option ShowingParts) → IsOne (ForkLacks ms node at a b)
+  fork_lacks_one b one other (inl x) (inl y) = showing_lacks_one ms node a one other x y
+  fork_lacks_one b one other (inl x) (inr y) = absurd (showing_lacks ms node a one y.0.of_node y.0.closed x)
+  fork_lacks_one b one other (inr x) (inl y) = absurd (showing_lacks ms node a other x.0.of_node x.0.closed y)
+  fork_lacks_one b one other (inr x) (inr y) = behind_lacks_one b one other x.1 y.1
+
+-- ---- in a log
+
+module _ (ms : List Member) (node : ℕ) (s : SegmentParts) where
+  abbrev SignedLog : NotAccepted → Type 0
+  SignedLog = First (IsSignedIn ms s.closing) reasons.NotSigned (Only reasons.NoFault)
+
+  abbrev EndedLog : NotAccepted → Type 0
+  EndedLog = First (segments.Ends s) reasons.NotClosed SignedLog
+
+  abbrev StartedLog : NotAccepted → Type 0
+  StartedLog = First (IsFromStart s) reasons.NotFromStart EndedLog
+
+  abbrev LogOfNode : NotAccepted → Type 0
+  LogOfNode = First (s.node ≡ node) reasons.AnotherNode StartedLog
+
+  log_in_order : (reason : NotAccepted) → LogLacks ms node s reason → LogOfNode reason
+  log_in_order reasons.AnotherNode lack = inl (refl, lack)
+  log_in_order reasons.NotFromStart lack = inr (lack.0, inl (refl, lack.1))
+  log_in_order reasons.NotClosed lack = inr (lack.0, inr (lack.1, inl (refl, lack.2)))
+  log_in_order reasons.NotSigned lack = inr (lack.0, inr (lack.1, inr (lack.2, inl (refl, lack.3))))
+  log_in_order reasons.NoTwoHashes lack = absurd lack
+  log_in_order reasons.NoFault lack =
+      let closed = lack.audited.closed in
+      inr (lack.audited.of_node, inr (lack.audited.start, inr (closed.ends, inr (closed.signed, refl))))
+
+  log_order_is_one : IsOne LogOfNode
+  log_order_is_one =
+      first_is_one (s.node ≡ node) reasons.AnotherNode StartedLog
+      (first_is_one (IsFromStart s) reasons.NotFromStart EndedLog
+      (first_is_one (segments.Ends s) reasons.NotClosed SignedLog
+      (first_is_one (IsSignedIn ms s.closing) reasons.NotSigned (Only reasons.NoFault)
+      (only_is_one reasons.NoFault))))
+
+  log_lacks_one : IsOne (LogLacks ms node s)
+  log_lacks_one one other x y = log_order_is_one one other (log_in_order one x) (log_in_order other y)
+
+-- ---- what is accepted
+
+-- a closed showing shows one hash at a number
+one_shown : (ms : List Member) (s : ShowingParts) (number : ℕ) (one other : List ℕ) → IsClosedShowing ms s
+    → Shows s number one → Shows s number other → one ≡ other
+one_shown ms s number one other closed i j =
+    let first : s.first - 1 + 1 ≡ s.first = omega (arith, closed.first) in
+    let rising : AreNumbered (s.first - 1 + 1) (numbered s.first s.links) =
+    rw first (shown_numbered s.first s.links) in
+    one_hash (s.first - 1) s.opening (numbered s.first s.links) number one other rising i j
+
+same_hashes : (ms : List Member) (node fork_at : ℕ) (a : ShowingParts) (b : Option ShowingParts) (at at' : ℕ)
+    (one one' other other' : List ℕ) → AcceptsHashes ms node fork_at a b at one other
+    → AcceptsHashes ms node fork_at a b at' one' other'
+    → found.TwoHashes at one other ≡ found.TwoHashes at' one' other'
+same_hashes ms node fork_at a (Some b) at at' one one' other other' x y =
+    let p = x.1.accepted in
+    let q = y.1.accepted in
+    let places : at ≡ at' = x.0 ∙ sym y.0 in
+    let ones : one ≡ one' =
+    sym x.1.is_one ∙ one_shown ms a fork_at p.one q.one p.a_closed p.one_shown q.one_shown ∙ y.1.is_one in
+    let others : other ≡ other' =
+    sym x.1.is_other
+    ∙ one_shown ms b fork_at p.other q.other p.b_closed p.other_shown q.other_shown ∙ y.1.is_other in
+    cc
+same_hashes ms node fork_at a None at at' one one' other other' x y =
+    let p = x.2.accepted in
+    let q = y.2.accepted in
+    let places : at ≡ at' = x.0 ∙ sym y.0 in
+    let ones : one ≡ one' =
+    sym x.2.is_one ∙ one_shown ms a 0 p.hash q.hash p.closed p.shown q.shown ∙ y.2.is_one in
+    let others : other ≡ other' = x.1 ∙ sym y.1 in
+    cc
+
+fault_back : spec.ReplayFault → ReplayFault
+fault_back spec.BadForm = faults.BadForm
+fault_back spec.BadReceive = faults.BadReceive
+fault_back spec.Repeated = faults.Repeated
+fault_back spec.WrongReply = faults.WrongReply
+fault_back spec.ClockBack = faults.ClockBack
+fault_back spec.WrongCheckpoint = faults.WrongCheckpoint
+fault_back spec.BadAck = faults.BadAck
+
+back_again : (f : ReplayFault) → fault_back (fault_in f) ≡ f
+unfolding fault_back
+back_again faults.BadForm = refl
+back_again faults.BadReceive = refl
+back_again faults.Repeated = refl
+back_again faults.WrongReply = refl
+back_again faults.ClockBack = refl
+back_again faults.WrongCheckpoint = refl
+back_again faults.BadAck = refl
+
+same_faults : (ms : List Member) (node : ℕ) (s : SegmentParts) (fault fault' : ReplayFault)
+    (number number' : ℕ) → AcceptsFault ms node s fault number → AcceptsFault ms node s fault' number'
+    → found.Fault fault number ≡ found.Fault fault' number'
+same_faults ms node s fault fault' number number' x y =
+    let p = x.accepted in
+    let q = y.accepted in
+    let members : Some p.member ≡ Some q.member = sym p.is_member ∙ q.is_member in
+    let member : p.member ≡ q.member = cc in
+    let verdicts = sym p.found ∙ ap (λ m. verdict_of ms (opening_of m) (placed_in s)) member ∙ q.found in
+    let faults : p.fault ≡ q.fault = cc in
+    let numbers : p.number ≡ q.number = cc in
+    let again : fault ≡ fault' =
+    sym (back_again fault) ∙ ap fault_back (sym x.is_fault ∙ faults ∙ y.is_fault) ∙ back_again fault' in
+    let places : number ≡ number' = sym x.is_number ∙ numbers ∙ y.is_number in
+    cc
+
+-- ---- findings
+
+one_in_fork : (ms : List Member) (node fork_at : ℕ) (a : ShowingParts) (b : Option ShowingParts)
+    (one other : Finding) → FindsInFork ms node fork_at a b one → FindsInFork ms node fork_at a b other
+    → one ≡ other
+one_in_fork ms node fork_at a b (found.TwoHashes at h k) (found.TwoHashes at' h' k') x y =
+    same_hashes ms node fork_at a b at at' h h' k k' x y
+one_in_fork ms node fork_at a b (found.TwoHashes at h k) (found.Fault fault number) x y = absurd y
+one_in_fork ms node fork_at a b (found.TwoHashes at h k) (found.NotAccepted reason) x y =
+    absurd (fork_lacks ms node fork_at a b reason y (fork_accepts ms node fork_at a b at h k x))
+one_in_fork ms node fork_at a b (found.Fault fault number) other x y = absurd x
+one_in_fork ms node fork_at a b (found.NotAccepted reason) (found.TwoHashes at h k) x y =
+    absurd (fork_lacks ms node fork_at a b reason x (fork_accepts ms node fork_at a b at h k y))
+one_in_fork ms node fork_at a b (found.NotAccepted reason) (found.Fault fault number) x y = absurd y
+one_in_fork ms node fork_at a b (found.NotAccepted reason) (found.NotAccepted reason') x y =
+    ap found.NotAccepted (fork_lacks_one ms node fork_at a b reason reason' x y)
+
+one_in_log : (ms : List Member) (node : ℕ) (s : SegmentParts) (one other : Finding) → FindsInLog ms node s one
+    → FindsInLog ms node s other → one ≡ other
+one_in_log ms node s (found.TwoHashes at h k) other x y = absurd x
+one_in_log ms node s (found.Fault fault number) (found.TwoHashes at h k) x y = absurd y
+one_in_log ms node s (found.Fault fault number) (found.Fault fault' number') x y =
+    same_faults ms node s fault fault' number number' x y
+one_in_log ms node s (found.Fault fault number) (found.NotAccepted reason) x y =
+    absurd (log_lacks ms node s reason y x.accepted)
+one_in_log ms node s (found.NotAccepted reason) (found.TwoHashes at h k) x y = absurd y
+one_in_log ms node s (found.NotAccepted reason) (found.Fault fault number) x y =
+    absurd (log_lacks ms node s reason x y.accepted)
+one_in_log ms node s (found.NotAccepted reason) (found.NotAccepted reason') x y =
+    ap found.NotAccepted (log_lacks_one ms node s reason reason' x y)
+
+one_in_charge : (ms : List Member) (node : ℕ) (c : Charge) (one other : Finding) → FindsInCharge ms node c one
+    → FindsInCharge ms node c other → one ≡ other
+one_in_charge ms node (Fork f) one other x y = one_in_fork ms node f.at f.a f.b one other x y
+one_in_charge ms node (Replay s) one other x y = one_in_log ms node s one other x y
+
+-- evidence has one finding at most
+pub one_is_found : OneFinding
+one_is_found ms e one other x y = one_in_charge ms e.node e.charge one other x y

@@ -1,0 +1,5 @@
+use Rattle.challenge.proofs.OneFinding.{one_is_found}
+use Rattle.challenge.proofs.find.one_finding.Goals as goal
+
+pub returns : goal.returns
+returns c = one_is_found

@@ -1,0 +1,2 @@
+pub mod CheckWords
+pub mod CommandLines

@@ -1,0 +1,6 @@
+//! The command line of `nfsacc`.
+#![tactic(auto)]
+
+mod request;
+
+pub use request::{CheckRequest, Request, parse};

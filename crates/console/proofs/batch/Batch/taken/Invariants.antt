@@ -1,7 +1,0 @@
-use Rattle.std.proofs.Common.{◌≡◌, drop}
-use Rattle.console.specs.Batches.{taken_by}
-use Rattle.console.proofs.batch.Batch.taken.Given as goal
-
-abbrev pub invariant-loop-end : goal.invariant-loop-end
-invariant-loop-end l =
-    taken_by l.written 0 l.self.ends.items ≡ taken_by l.written l.taken (drop l.end-index l.self.ends.items)

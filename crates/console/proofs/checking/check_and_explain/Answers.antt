@@ -1,0 +1,14 @@
+use Rattle.std.proofs.Common.{inr, string_bytes, rules}
+use Rattle.console.proofs.checking.check_and_explain.Goals as goal
+
+pub returns-clause-device : goal.returns-clause-device
+returns-clause-device g c e = inr (
+  record {
+    judgement = c.in-Ok.judgement;
+    text = string_bytes c.in-Ok-explained.text;
+    judged = search rules;
+    explained = c.in-Ok-explained.ensures;
+    written = search rules;
+  },
+  search rules,
+)

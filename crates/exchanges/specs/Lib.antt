@@ -1,0 +1,12 @@
+pub use Rattle.node_logs.specs.Timeval
+pub use Rattle.node_logs.specs.World
+pub use Rattle.node_logs.specs.State
+pub use Rattle.node_logs.specs.Nodes
+pub use Rattle.node_logs.specs.Hearing
+pub use Rattle.node_logs.specs.Sending
+pub use Rattle.node_logs.specs.AckTaking
+pub use Rattle.node_logs.specs.Checkpoints
+pub mod Members
+pub mod Reaching
+pub mod Exchanges
+pub mod Laws

@@ -1,0 +1,52 @@
+-- How far an exchange between a client and a server that are joined comes before a fault, and what is left.
+use Rattle.std.specs.Prelude.{◌≡◌, ◌⊎◌, ℕ, List, Result, Ok, Err}
+use Rattle.envelopes.specs.declared.envelope.Envelope.{Envelope}
+use Rattle.links.specs.declared.fault.LinkFault.{LinkFault}
+use Rattle.links.specs.declared.fault.LinkFault.TheVariants.{KeysUsedUp, NoMemory, Failed}
+use Rattle.exchanges.specs.Timeval.{Timeval}
+use Rattle.exchanges.specs.Nodes.{NodeParts, LacksKeys}
+use Rattle.exchanges.specs.Reaching.{ServerReceipt}
+use Rattle.exchanges.specs.Exchanges.{IsAsked, IsHeard, IsOwed, IsReceived, having_called}
+
+-- ---- the call
+
+-- How far a call came, where memory was refused.
+pub data StopsAsking (c s : NodeParts) (time : Timeval) (body : List ℕ) (c' s' : NodeParts) : Type 0 where
+  unsent : c' ≡ c → s' ≡ s → StopsAsking c s time body c' s'
+  sent : (¬ LacksKeys 1 c) → c' ≡ having_called c s body → s' ≡ s → StopsAsking c s time body c' s'
+  heard : (r : ServerReceipt) → IsHeard c s time body r s' → c' ≡ having_called c s body
+      → StopsAsking c s time body c' s'
+
+-- What a call gives and leaves. KeysUsedUp comes only where the client has no key left, and then nothing is
+-- done; or the server fewer than two, and then the client's SEND stands.
+abbrev pub Asks : (c s : NodeParts) → Timeval → List ℕ → Result ServerReceipt LinkFault → (c' s' : NodeParts)
+    → Type 0
+Asks c s time body (Ok r) c' s' = IsAsked c s time body r c' s'
+Asks c s time body (Err KeysUsedUp) c' s' =
+    (LacksKeys 1 c × (c' ≡ c) × (s' ≡ s))
+    ⊎ ((¬ LacksKeys 1 c) × LacksKeys 2 s × (c' ≡ having_called c s body) × (s' ≡ s))
+Asks c s time body (Err NoMemory) c' s' = StopsAsking c s time body c' s'
+Asks c s time body (Err Failed) c' s' = ⊥
+
+-- ---- the reply
+
+-- How far a reply came, where memory was refused.
+pub data StopsReplying (c s : NodeParts) (number : ℕ) (c' s' : NodeParts) : Type 0 where
+  unreceived : c' ≡ c → s' ≡ s → StopsReplying c s number c' s'
+  received : (e : Envelope) → IsReceived c s number e c' → s' ≡ s → StopsReplying c s number c' s'
+
+-- Why a reply isn't brought back, and what is left then. KeysUsedUp comes only where the client has no key
+-- left, and then nothing more is done: the server takes no acknowledgement of it.
+abbrev pub StopsAtReply : (c s : NodeParts) (number : ℕ) → LinkFault → (c' s' : NodeParts) → Type 0
+StopsAtReply c s number KeysUsedUp c' s' = LacksKeys 1 c × (c' ≡ c) × (s' ≡ s)
+StopsAtReply c s number NoMemory c' s' = StopsReplying c s number c' s'
+StopsAtReply c s number Failed c' s' = ⊥
+
+-- ---- both
+
+-- It had a fault with the call, or with the reply that the call owes.
+abbrev pub StopsCarrying : (c s : NodeParts) → Timeval → List ℕ → LinkFault → (c' s' : NodeParts) → Type 0
+StopsCarrying c s time body fault c' s' =
+    Asks c s time body (Err fault) c' s'
+    ⊎ ((number : ℕ) × ((d : NodeParts) × ((t : NodeParts) ×
+    (IsOwed c s time body number d t × StopsAtReply d t number fault c' s'))))

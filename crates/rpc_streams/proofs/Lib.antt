@@ -1,0 +1,4 @@
+pub mod InTurn
+pub mod Filled
+pub mod Written
+pub mod LoopProgress

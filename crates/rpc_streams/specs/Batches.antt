@@ -1,0 +1,84 @@
+-- Records that are answered together, from the k-th of a stream on, by a server in a world.
+use Rattle.std.specs.Prelude.{◌≡◌, ◌≤◌, ◌+◌, ℕ, nat_lt, true, List, [], ◌∷◌, ◌++◌, length, Option}
+use Rattle.std.specs.Prelude.{if◌then◌else◌}
+use Rattle.std.specs.List.{flat_map, AllByRecursion}
+use Rattle.std.specs.Io.KnownBytes.{Appends, Consumes}
+use Rattle.records.specs.Record.{fragment, IsRecord}
+use Rattle.records.specs.Stream.{AreRecords}
+use Rattle.records.specs.Writing.{WritesFront}
+use Rattle.records.specs.declared.fault.RecordFault.{RecordFault}
+use Rattle.records.specs.declared.fault.RecordFault.TheVariants as faults
+use Rattle.records.specs.declared.record.TheConstants.{MAX_RECORD}
+use Rattle.worlds.specs.World.{World}
+use Rattle.service.specs.Replies.{reply_owed, world_after}
+use Rattle.service.specs.Owed.{record_of, replies_owed, world_after_all}
+use Rattle.rpc_streams.specs.RunRpc.{time_of, with_times}
+use Rattle.rpc_streams.specs.declared.batch.End.{End}
+
+-- the records of the replies owed to them, and the world after them
+abbrev pub owed_from : World → ℕ → List (List ℕ) → List ℕ
+owed_from w k records = replies_owed w (with_times k records)
+
+abbrev pub world_from : World → ℕ → List (List ℕ) → World
+world_from w k records = world_after_all w (with_times k records)
+
+-- the text of records of one fragment each
+abbrev pub whole_text : List (List ℕ) → List ℕ
+whole_text records = flat_map (fragment true) records
+
+-- where each of them ends, and its reply, behind so many bytes of records and of replies
+abbrev pub ends_from : World → ℕ → (taken owed : ℕ) → List (List ℕ) → List End
+ends_from w k taken owed [] = []
+ends_from w k taken owed (r ∷ rs) =
+    let taken' = taken + length (fragment true r) in
+    let owed' = owed + length (record_of (reply_owed w (time_of k) r)) in
+    record { taken = taken'; owed = owed' } ∷ ends_from (world_after w (time_of k) r) (k + 1) taken' owed' rs
+
+-- The bytes begin with records of one fragment each; these are their replies, and the ends of both.
+pub record IsBatch (w : World) (k : ℕ) (w' : World) (bytes replies : List ℕ) (ends : List End)
+    : Type 0 where
+  pub records : List (List ℕ)
+  pub more : List ℕ
+  pub fit : AllByRecursion (λ r. length r ≤ MAX_RECORD) records
+  pub bytes_are : bytes ≡ whole_text records ++ more
+  pub world_is : w' ≡ world_from w k records
+  pub replies_are : replies ≡ owed_from w k records
+  pub ends_are : ends ≡ ends_from w k 0 0 records
+
+-- the end of the first record whose reply isn't whole within so many bytes of replies; where each is, the end
+-- of the last, and where there is none, what stands before
+abbrev pub taken_by : (written before : ℕ) → List End → ℕ
+taken_by written before [] = before
+taken_by written before (e ∷ es) = if nat_lt written e.owed then e.taken else taken_by written e.taken es
+
+-- Records were taken, so many, and the replies owed to them were written.
+pub record AnswersRecords (w : World) (k : ℕ) (w' : World) (count : ℕ)
+    (left left' before after : Option (List ℕ))
+    : Type 0 where
+  pub records : List (List ℕ)
+  pub text : List ℕ
+  pub are_records : AreRecords text records
+  pub count_is : length records ≡ count
+  pub taken : Consumes left left' text
+  pub world_is : w' ≡ world_from w k records
+  pub written : Appends before after (owed_from w k records)
+
+-- What was taken and written behind records that were answered, where no more are. Memory was refused:
+-- nothing. A write failed: one record more was taken, and a beginning of its reply written, but not all.
+abbrev pub StopsBehind : RecordFault → World → ℕ → (left left' before after : Option (List ℕ)) → Type 0
+StopsBehind faults.NoMemory w k left left' before after = (left' ≡ left) × (after ≡ before)
+StopsBehind faults.Device w k left left' before after =
+    (text : List ℕ) × (last : List ℕ) × IsRecord text last × Consumes left left' text
+    × WritesFront before after (record_of (reply_owed w (time_of k) last))
+StopsBehind faults.RecordTooLong w k left left' before after = ⊥
+StopsBehind faults.EndInRecord w k left left' before after = ⊥
+
+-- Records were taken and their replies written, and then it stopped.
+pub record AnswersAndStops (e : RecordFault) (w : World) (k : ℕ) (left left' before after : Option (List ℕ))
+    : Type 0 where
+  pub now : World
+  pub count : ℕ
+  pub between : Option (List ℕ)
+  pub written : Option (List ℕ)
+  pub answers : AnswersRecords w k now count left between before written
+  pub stops : StopsBehind e now (k + count) between left' written after

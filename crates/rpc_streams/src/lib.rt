@@ -1,0 +1,9 @@
+//! Streams of RPC records in, the records of their replies out.
+#![tactic(auto)]
+
+mod batch;
+mod stream;
+
+pub use records::{Ahead, Counting, RecordFault, RecordReader};
+pub use service::Service;
+pub use stream::run_rpc;

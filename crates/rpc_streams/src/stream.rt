@@ -1,0 +1,140 @@
+//! Records in, replies out.
+
+ghost use Rattle.std.specs.Prelude.{◌≡◌, ◌<◌, ◌≤◌, ◌+◌, ◌^◌, ◌⊎◌, IfOk, IfErr, OnOk, IsErrOf, IfSome, None};
+ghost use Rattle.std.specs.Prelude.{vec_capacity};
+ghost use Rattle.std.specs.Io.KnownBytes.{Appends, IsAtEnd};
+ghost use Rattle.records.specs.Count.{Rises};
+ghost use Rattle.records.specs.Writing.{WritesFront};
+ghost use Rattle.service.specs.Replies.{reply_owed, world_after};
+ghost use Rattle.service.specs.Owed.{record_of};
+ghost use Rattle.records.specs.declared.fault.RecordFault.TheVariants.{Device, NoMemory};
+ghost use Rattle.rpc_streams.specs.RunRpc.{Serves, EndsWith, LeavesOff, StandsAfter};
+ghost use Rattle.rpc_streams.specs.Batches.{AnswersRecords, AnswersAndStops};
+
+use crate::batch::{Batch, MOST_RECORDS, answer_record, time_of_record};
+use nfs_items::Time;
+use records::{Ahead, Counting, MAX_RECORD, RecordFault, RecordReader, write_bytes, write_front};
+use service::Service;
+use std::alloc::Global;
+use std::io::Write;
+
+/// The node that serves.
+const NODE: u32 = 1;
+
+/// Answers a record at a time: the reply, if one is owed, is written. Where memory is refused, nothing is.
+fn serve<W: Write>(
+    alloc: Global,
+    service: &mut Service,
+    writer: &mut Counting<W>,
+    replies: &mut Vec<u8>,
+    time: Time,
+    bytes: &[u8],
+) -> Result<(), RecordFault>
+    ensures text { OnOk result (Appends (W.contents writer.old.inner) (W.contents writer.new.inner)
+        (record_of (reply_owed service.old time bytes.now))) }
+    ensures world { OnOk result (service.new ≡ world_after service.old time bytes.now) }
+    ensures kept { OnOk result (writer.new.count ≡ writer.old.count) }
+    ensures device { IsErrOf result Device →
+        WritesFront (W.contents writer.old.inner) (W.contents writer.new.inner)
+        (record_of (reply_owed service.old time bytes.now))
+        × Rises writer.old.count writer.new.count }
+    ensures memory { IsErrOf result NoMemory → writer.new ≡ writer.old }
+    ensures fault { IfErr result (λ e. (e ≡ RecordFault.Device) ⊎ (e ≡ RecordFault.NoMemory)) }
+{
+    replies.clear();
+    if answer_record(alloc, service, replies, time, bytes).is_err() {
+        return Err(RecordFault::NoMemory);
+    }
+    write_bytes(writer, replies)
+}
+
+/// Answers the records at hand, the first of them the k-th, and writes their replies together. It says how
+/// many there were. Where memory is refused, those before are answered.
+fn serve_at_hand<R: Ahead + Drop, W: Write>(
+    alloc: Global,
+    service: &mut Service,
+    reader: &mut RecordReader<R>,
+    writer: &mut Counting<W>,
+    batch: &mut Batch,
+    k: u64,
+) -> Result<u64, RecordFault>
+    requires room { MOST_RECORDS ≤ vec_capacity batch.old.ends }
+    ensures answers { IfOk result (λ count. AnswersRecords service.old k service.new count
+        (R.remaining reader.old.reader.inner) (R.remaining reader.new.reader.inner)
+        (W.contents writer.old.inner) (W.contents writer.new.inner)) }
+    ensures count { IfOk result (λ count. k + count < 2 ^ 64) }
+    ensures stops { IfErr result (λ e. AnswersAndStops e service.old k
+        (R.remaining reader.old.reader.inner) (R.remaining reader.new.reader.inner)
+        (W.contents writer.old.inner) (W.contents writer.new.inner)) }
+    ensures reader { (reader.new.fault ≡ reader.old.fault)
+        × (reader.new.reader.count ≡ reader.old.reader.count) }
+    ensures kept { OnOk result (writer.new.count ≡ writer.old.count) }
+    ensures device { IsErrOf result Device → Rises writer.old.count writer.new.count }
+    ensures memory { IsErrOf result NoMemory → writer.new.count ≡ writer.old.count }
+    ensures room { MOST_RECORDS ≤ vec_capacity batch.new.ends }
+{
+    let filled = batch.fill(alloc, service, reader.at_hand(), k);
+    let written = write_front(writer, &batch.replies);
+    reader.pass(batch.taken(written));
+    if written < batch.replies.len() {
+        return Err(RecordFault::Device);
+    }
+    if filled.is_err() {
+        return Err(RecordFault::NoMemory);
+    }
+    Ok(batch.ends.len() as u64)
+}
+
+/// Answers each record of a stream as the server of node 1 would, from the files that it begins with. The
+/// k-th record has the time (k, 0), at most (4294967295, 0). Replies to records that were read ahead are
+/// held, and written together; all are written before it waits for input, and at the end.
+///
+/// `Ok` is the count of records. `RecordTooLong` and `EndInRecord` come where the input goes on with bytes
+/// that pass a limit, or end within a record: what is owed to the records before them was written, and the
+/// reader has taken no byte behind the limit, or all. `Device` comes where a read or a write failed: all
+/// records that were taken are answered, or all but the last, of whose reply a part was written. `NoMemory`
+/// comes where memory was refused, or after 2^64 - 2 records: the records that were taken are answered, or
+/// all but the last. Then the reader stands behind whole records, and can be read on.
+pub fn run_rpc<R: Ahead + Drop, W: Write>(
+    alloc: Global,
+    reader: &mut RecordReader<R>,
+    writer: &mut Counting<W>,
+) -> Result<u64, RecordFault>
+    requires fresh { reader.old.fault ≡ None }
+    ensures served { IfOk result (λ count. IfSome (R.remaining reader.old.reader.inner) (λ input.
+        Serves count input (W.contents writer.old.inner) (W.contents writer.new.inner))) }
+    ensures fault { IfErr result (λ e. IfSome (R.remaining reader.old.reader.inner) (λ input.
+        EndsWith e input (W.contents writer.old.inner) (W.contents writer.new.inner))) }
+    ensures taken { IfErr result (λ e. LeavesOff e reader.new.fault
+        (R.remaining reader.old.reader.inner) (R.remaining reader.new.reader.inner)
+        (W.contents writer.old.inner) (W.contents writer.new.inner)) }
+    ensures end { OnOk result (IsAtEnd (R.remaining reader.new.reader.inner)) }
+    ensures kept { OnOk result ((reader.new.fault ≡ None)
+        × (reader.new.reader.count ≡ reader.old.reader.count) × (writer.new.count ≡ writer.old.count)) }
+    ensures stands { IfErr result (λ e. StandsAfter e reader.new.fault
+        reader.old.reader.count reader.new.reader.count writer.old.count writer.new.count) }
+    ensures device { IsErrOf result Device →
+        Rises reader.old.reader.count reader.new.reader.count ⊎ Rises writer.old.count writer.new.count }
+{
+    let Ok(mut service) = Service::opening(alloc, NODE) else {
+        return Err(RecordFault::NoMemory);
+    };
+    let Ok(mut record) = Vec::with_capacity(alloc, MAX_RECORD) else {
+        return Err(RecordFault::NoMemory);
+    };
+    let Ok(mut batch) = Batch::new(alloc) else {
+        return Err(RecordFault::NoMemory);
+    };
+    let mut k = 1;
+    while k < u64::MAX {
+        if !reader.next_into(&mut record)? {
+            return Ok(k - 1);
+        }
+        let time = time_of_record(k);
+        let replies = &mut batch.replies;
+        serve(alloc, &mut service, writer, replies, time, &record)?;
+        k += 1;
+        k += serve_at_hand(alloc, &mut service, reader, writer, &mut batch, k)?;
+    }
+    Err(RecordFault::NoMemory)
+}

@@ -1,0 +1,5 @@
+//! Histories of values that are really signed.
+#![tactic(auto)]
+
+pub mod audits;
+pub mod messages;
