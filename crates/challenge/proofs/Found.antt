@@ -8,10 +8,10 @@ use Rattle.secure_log.specs.Segment.{SegmentParts}
 use Rattle.showings.specs.Placed.{placed_in}
 use Rattle.showings.specs.Opening.{opening_of}
 use Rattle.showings.specs.Replay.{verdict_of}
-use Rattle.replay.specs.Verdicts.{verdict_in}
+use Rattle.replay.specs.Verdicts.{IsOutcome}
 use Rattle.replay.specs.Faults.{fault_in}
-use Rattle.replay.specs.declared.verdict.Verdict.{Verdict}
-use Rattle.replay.specs.declared.verdict.Verdict.TheVariants as verdicts
+use Rattle.replay.specs.declared.outcome.Outcome.{Outcome}
+use Rattle.replay.specs.declared.outcome.Outcome.TheVariants as outcomes
 use Rattle.showings.specs.Showing.{ShowingParts, IsClosedShowing, Shows}
 use Rattle.showings.specs.Evidence.{Charge, Fork, Replay, EvidenceParts, AcceptsFork, AcceptsReplay, AcceptsCharge, Accepts}
 use Rattle.challenge.specs.declared.finding.Finding.{Finding}
@@ -158,9 +158,9 @@ accepts_one ms node a one closed answers differs = record {
 -- ---- replays
 
 -- what a replay finds in a member's closed log
-pub verdict_finds : (ms : List Member) (node : ℕ) (s : SegmentParts) (m : Member) (v : Verdict) → IsAudited ms node s m
-    → verdict_in v ≡ verdict_of ms (opening_of m) (placed_in s) → FindsInLog ms node s (finding_in v)
-verdict_finds ms node s m (verdicts.Fault fault number) audited is = record {
+pub outcome_finds : (ms : List Member) (node : ℕ) (s : SegmentParts) (m : Member) (o : Outcome) → IsAudited ms node s m
+    → IsOutcome o (verdict_of ms (opening_of m) (placed_in s)) → FindsInLog ms node s (finding_in o)
+outcome_finds ms node s m (outcomes.Fault fault number) audited is = record {
   accepted = record {
     of_node = audited.of_node;
     first = audited.start.first;
@@ -170,13 +170,13 @@ verdict_finds ms node s m (verdicts.Fault fault number) audited is = record {
     is_member = audited.is_member;
     fault = fault_in fault;
     number = number;
-    found = sym is;
+    found = is;
   };
   is_fault = refl;
   is_number = refl;
 }
-verdict_finds ms node s m (verdicts.Sound state shown) audited is = record {
+outcome_finds ms node s m (outcomes.Sound state) audited is = record {
   member = m;
   audited = audited;
-  none = λ fault number found. let both = is ∙ found in absurd cc;
+  none = λ fault number found. let both = sym is.1 ∙ found in absurd cc;
 }

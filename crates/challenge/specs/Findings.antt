@@ -12,8 +12,8 @@ use Rattle.showings.specs.Placed.{placed_in}
 use Rattle.showings.specs.Opening.{opening_of}
 use Rattle.replay.specs.Faults.{fault_in}
 use Rattle.replay.specs.declared.fault.ReplayFault.{ReplayFault}
-use Rattle.replay.specs.declared.verdict.Verdict.{Verdict}
-use Rattle.replay.specs.declared.verdict.Verdict.TheVariants as verdicts
+use Rattle.replay.specs.declared.outcome.Outcome.{Outcome}
+use Rattle.replay.specs.declared.outcome.Outcome.TheVariants as outcomes
 use Rattle.showings.specs.Showings.{Ends}
 use Rattle.showings.specs.Showing.{ShowingParts, IsClosedShowing, Shows}
 use Rattle.showings.specs.Evidence.{Charge, Fork, Replay, EvidenceParts}
@@ -150,10 +150,10 @@ FindsInCharge ms node (Replay s) finding = FindsInLog ms node s finding
 abbrev pub Finds : List Member → EvidenceParts → Finding → Type 0
 Finds ms e finding = FindsInCharge ms e.node e.charge finding
 
--- what a verdict says of a log
-abbrev pub finding_in : Verdict → Finding
-finding_in (verdicts.Sound state shown) = found.NotAccepted reasons.NoFault
-finding_in (verdicts.Fault fault number) = found.Fault fault number
+-- what the end of a replay says of a log
+abbrev pub finding_in : Outcome → Finding
+finding_in (outcomes.Sound state) = found.NotAccepted reasons.NoFault
+finding_in (outcomes.Fault fault number) = found.Fault fault number
 
 -- Evidence has one finding at most.
 abbrev pub OneFinding : Type 0

@@ -11,7 +11,7 @@ use crate::audited::AuditedLog;
 use crate::evidence::{Charge, Evidence, Fork};
 use crate::finding::{Finding, NotAccepted};
 use authenticator::{Member, Number, Roster, is_signed_by};
-use replay::{Verdict, opening_state, replay_entries};
+use replay::{Outcome, opening_state, replay_outcome};
 use showings::{Showing, is_signed_in};
 use std::alloc::{AllocError, Global};
 
@@ -182,16 +182,16 @@ fn replay_finding(
 {
     let start = opening_state(alloc, member)?;
     let first = log.first();
-    let verdict = replay_entries(alloc, roster, start, first, log.opening(), log.entries())?;
-    Ok(finding_in(verdict))
+    let outcome = replay_outcome(alloc, roster, start, first, log.opening(), log.entries())?;
+    Ok(finding_in(outcome))
 }
 
-/// What a verdict says of a log.
-fn finding_in(verdict: Verdict) -> Finding
-    ensures { result ≡ finding_in verdict }
+/// What the end of a replay says of a log.
+fn finding_in(outcome: Outcome) -> Finding
+    ensures { result ≡ finding_in outcome }
 {
-    match verdict {
-        Verdict::Fault(fault, number) => Finding::Fault(fault, number),
-        Verdict::Sound(..) => Finding::NotAccepted(NotAccepted::NoFault),
+    match outcome {
+        Outcome::Fault(fault, number) => Finding::Fault(fault, number),
+        Outcome::Sound(_) => Finding::NotAccepted(NotAccepted::NoFault),
     }
 }

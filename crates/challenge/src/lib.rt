@@ -25,6 +25,6 @@ pub use fault::EvidenceFault;
 pub use find::{examine, one_finding};
 pub use finding::{Finding, NotAccepted};
 pub use read::read_evidence;
-pub use replay::{ReplayFault, Stage, StateMachine, Verdict, opening_state, replay_entries};
+pub use replay::{Outcome, ReplayFault, Stage, StateMachine, opening_state, replay_outcome};
 pub use secure_log::{Body, ClosedSegment, Entry, Log, SignatureText};
 pub use showings::{EntryKind, MAX_AUDITED, Showing, ShownLink};

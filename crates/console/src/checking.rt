@@ -10,8 +10,11 @@ use crate::explain::explanation;
 use challenge::{EvidenceFault, check_evidence, read_case};
 use rpc::{Counting, write_bytes};
 use std::alloc::{AllocError, Global};
-use std::io::{ErrorKind, Read, Write};
+use std::io::{Read, Write};
 use thiserror::Error;
+
+/// The bytes that are read at once.
+const PIECE: usize = 8192;
 
 /// What is said of a file.
 #[derive(Clone, Copy, Debug, PartialEq, Eq)]
@@ -32,6 +35,14 @@ pub enum CheckFault {
     /// A read or a write failed.
     #[error("a device failed")]
     Device,
+}
+
+impl From<AllocError> for CheckFault {
+    ghost from_gives = { λ _ e. e ≡ NoMemory };
+
+    fn from(_e: AllocError) -> CheckFault {
+        CheckFault::NoMemory
+    }
 }
 
 /// What is said of a file's bytes: `Exposed` exactly where they are a roster's text, and behind it that of
@@ -61,44 +72,52 @@ fn line(alloc: Global, judgement: Judgement) -> Result<String, AllocError>
     }
 }
 
-/// All bytes that a reader gives.
-fn all_bytes<R: Read>(alloc: Global, reader: &mut R) -> Result<Vec<u8>, CheckFault>
-    ensures { IfOk result (λ bytes. IfSome (R.remaining reader.old) (λ input. bytes.items ≡ input)) }
+/// All bytes that a reader gives, up to its end or to the first read that fails.
+fn all_bytes<R: Read>(alloc: Global, reader: &mut Counting<R>) -> Result<Vec<u8>, CheckFault>
+    ensures bytes { IfOk result (λ bytes.
+        IfSome (R.remaining reader.old.inner) (λ input. bytes.items ≡ input)) }
+    ensures kept { OnOk result (reader.new.count ≡ reader.old.count) }
+    ensures memory { IsErrOf result NoMemory → reader.new.count ≡ reader.old.count }
+    ensures device { IsErrOf result Device → Rises reader.old.count reader.new.count }
 {
     let mut bytes = Vec::new(alloc);
-    match reader.read_to_end(&mut bytes) {
-        Ok(_) => Ok(bytes),
-        Err(error) if error.kind() == ErrorKind::OutOfMemory => Err(CheckFault::NoMemory),
-        Err(_) => Err(CheckFault::Device),
+    let mut piece = [0; PIECE];
+    for _ in 0..u64::MAX {
+        match reader.read(&mut piece) {
+            Ok(0) => return Ok(bytes),
+            Ok(len) => bytes.extend_from_slice(&piece[..len])?,
+            Err(_) => return Err(CheckFault::Device),
+        }
     }
+    // So many bytes no memory holds.
+    Err(CheckFault::NoMemory)
 }
 
 /// Reads a file to its end, judges its bytes and writes the line that says so: `exposed N`, with the node's
-/// number, or `no evidence`. `Device` comes where a read failed, and then nothing was written, or where a
-/// write failed: then a part of the line was written, and the writer's count rose. `NoMemory` comes where
-/// memory was refused, and then nothing was written.
+/// number, or `no evidence`. `Device` comes where a read failed, and then the reader's count rose and nothing was
+/// written, or where a write failed: then a part of the line was written, and the writer's count rose. `NoMemory`
+/// comes where memory was refused, and then nothing was written.
 pub fn check<R: Read, W: Write>(
     alloc: Global,
-    reader: &mut R,
+    reader: &mut Counting<R>,
     writer: &mut Counting<W>,
 ) -> Result<Judgement, CheckFault>
-    ensures judged { IfOk result (λ judgement. IfSome (R.remaining reader.old) (λ input.
+    ensures judged { IfOk result (λ judgement. IfSome (R.remaining reader.old.inner) (λ input.
         Judges input judgement)) }
     ensures written { IfOk result (λ judgement. Appends (W.contents writer.old.inner)
         (W.contents writer.new.inner) (line_of judgement)) }
-    ensures kept { OnOk result (writer.new.count ≡ writer.old.count) }
-    ensures memory { IsErrOf result NoMemory → writer.new ≡ writer.old }
-    ensures device { IsErrOf result Device → (writer.new ≡ writer.old)
-        ⊎ (SaysPart (R.remaining reader.old) (W.contents writer.old.inner) (W.contents writer.new.inner)
-        × Rises writer.old.count writer.new.count) }
+    ensures kept { OnOk result ((reader.new.count ≡ reader.old.count) × (writer.new.count ≡ writer.old.count)) }
+    ensures memory { IsErrOf result NoMemory
+        → (reader.new.count ≡ reader.old.count) × (writer.new ≡ writer.old) }
+    ensures device { IsErrOf result Device
+        → ((writer.new ≡ writer.old) × Rises reader.old.count reader.new.count)
+        ⊎ (SaysPart (R.remaining reader.old.inner) (W.contents writer.old.inner)
+        (W.contents writer.new.inner) × Rises writer.old.count writer.new.count
+        × (reader.new.count ≡ reader.old.count)) }
 {
     let bytes = all_bytes(alloc, reader)?;
-    let Ok(judgement) = judge(alloc, &bytes) else {
-        return Err(CheckFault::NoMemory);
-    };
-    let Ok(line) = line(alloc, judgement) else {
-        return Err(CheckFault::NoMemory);
-    };
+    let judgement = judge(alloc, &bytes)?;
+    let line = line(alloc, judgement)?;
     match write_bytes(writer, line.as_bytes()) {
         Ok(()) => Ok(judgement),
         Err(_) => Err(CheckFault::Device),
@@ -109,26 +128,25 @@ pub fn check<R: Read, W: Write>(
 /// where, or why it is no evidence.
 pub fn check_and_explain<R: Read, W: Write>(
     alloc: Global,
-    reader: &mut R,
+    reader: &mut Counting<R>,
     writer: &mut Counting<W>,
 ) -> Result<Judgement, CheckFault>
-    ensures judged { IfOk result (λ judgement. IfSome (R.remaining reader.old) (λ input.
+    ensures judged { IfOk result (λ judgement. IfSome (R.remaining reader.old.inner) (λ input.
         Judges input judgement)) }
     ensures written { IfOk result (λ judgement. WritesExplained judgement
         (W.contents writer.old.inner) (W.contents writer.new.inner)) }
-    ensures kept { OnOk result (writer.new.count ≡ writer.old.count) }
-    ensures memory { IsErrOf result NoMemory → writer.new ≡ writer.old }
-    ensures device { IsErrOf result Device → (writer.new ≡ writer.old)
-        ⊎ (ExplainsPart (R.remaining reader.old) (W.contents writer.old.inner) (W.contents writer.new.inner)
-        × Rises writer.old.count writer.new.count) }
+    ensures kept { OnOk result ((reader.new.count ≡ reader.old.count) × (writer.new.count ≡ writer.old.count)) }
+    ensures memory { IsErrOf result NoMemory
+        → (reader.new.count ≡ reader.old.count) × (writer.new ≡ writer.old) }
+    ensures device { IsErrOf result Device
+        → ((writer.new ≡ writer.old) × Rises reader.old.count reader.new.count)
+        ⊎ (ExplainsPart (R.remaining reader.old.inner) (W.contents writer.old.inner)
+        (W.contents writer.new.inner) × Rises writer.old.count writer.new.count
+        × (reader.new.count ≡ reader.old.count)) }
 {
     let bytes = all_bytes(alloc, reader)?;
-    let Ok(judgement) = judge(alloc, &bytes) else {
-        return Err(CheckFault::NoMemory);
-    };
-    let Ok(text) = explained(alloc, judgement, &bytes) else {
-        return Err(CheckFault::NoMemory);
-    };
+    let judgement = judge(alloc, &bytes)?;
+    let text = explained(alloc, judgement, &bytes)?;
     match write_bytes(writer, text.as_bytes()) {
         Ok(()) => Ok(judgement),
         Err(_) => Err(CheckFault::Device),

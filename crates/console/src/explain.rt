@@ -6,8 +6,8 @@ ghost use Rattle.challenge.specs.Evidence.{MAX_AUDITED};
 use crate::call_words::call_words;
 use challenge::{
     AuditedLog, Charge, Entry, Evidence, EvidenceFault, Finding, Fork, NotAccepted, Number,
-    ReplayFault, Roster, Showing, Stage, StateMachine, Verdict, examine, opening_state, read_case,
-    replay_entries,
+    Outcome, ReplayFault, Roster, Showing, Stage, StateMachine, examine, opening_state, read_case,
+    replay_outcome,
 };
 use std::alloc::{AllocError, Global};
 use std::fmt;
@@ -199,8 +199,8 @@ fn owed(alloc: Global, roster: &Roster, node: u32, entries: &[Entry]) -> Result<
         return Ok(String::new(alloc));
     };
     let start = opening_state(alloc, &member)?;
-    let verdict = replay_entries(alloc, roster, start, Number::new(1), &[0; 32], entries)?;
-    let Verdict::Sound(state, _) = verdict else {
+    let outcome = replay_outcome(alloc, roster, start, Number::new(1), &[0; 32], entries)?;
+    let Outcome::Sound(state) = outcome else {
         return Ok(String::new(alloc));
     };
     match state.machine() {

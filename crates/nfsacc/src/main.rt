@@ -59,7 +59,7 @@ fn report_fault(rt: &impl Eprint, fault: RecordFault) -> u8 {
 /// Says on standard output whether a file is evidence, and gives the status for it.
 fn check_file<R: Files + Print + Eprint + AllocGlobal>(rt: &R, request: CheckRequest<'_>) -> u8 {
     let mut file = match fs::open(rt, request.file) {
-        Ok(file) => file,
+        Ok(file) => Counting::new(file),
         Err(error) if error.kind() == io::ErrorKind::OutOfMemory => return report_no_memory(rt),
         Err(error) => {
             let _ = eprintln!(rt; "nfsacc: {}: {error}", request.file);

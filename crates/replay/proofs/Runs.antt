@@ -1,5 +1,5 @@
 -- How a replay goes through entries: what it found so far, and the verdict on the rest.
--- Serves: replay_entries, replay.
+-- Serves: replay_entries, replay, replay_outcome.
 use Rattle.std.proofs.Common.{◌≡◌, ℕ, suc, ◌+◌, ◌<◌, ◌≤◌, List, [], ◌∷◌, ◌++◌, length, drop, get_or}
 use Rattle.std.proofs.Common.{Ok, Err, IfOk}
 use Rattle.std.proofs.Common.{Option, Some, None, Result, refl, sym, ap, ap₂, subst, ◌∙◌, arith}

@@ -9,6 +9,8 @@ use Rattle.honest_logs.specs.Replay as spec
 use Rattle.replay.specs.Faults.{fault_in}
 use Rattle.replay.specs.declared.verdict.Verdict.{Verdict}
 use Rattle.replay.specs.declared.verdict.Verdict.TheVariants.{Sound, Fault}
+use Rattle.replay.specs.declared.outcome.Outcome.{Outcome}
+use Rattle.replay.specs.declared.outcome.Outcome.TheVariants as outcomes
 
 -- the verdict on a segment
 abbrev pub verdict_in : Verdict → spec.Verdict
@@ -24,3 +26,8 @@ AreHonest ms s ps t shown =
 abbrev pub IsSoundWhereHonest : List Member → State → List Placed → spec.Verdict → Type 0
 IsSoundWhereHonest ms s ps verdict =
     (t : State) (shown : List Authenticator) → (verdict ≡ spec.Sound t shown) ↔ AreHonest ms s ps t shown
+
+-- What a replay ends in is that of a verdict: a state, whatever the entries show, or a fault and its place.
+abbrev pub IsOutcome : Outcome → spec.Verdict → Type 0
+IsOutcome (outcomes.Sound t) verdict = (shown : List Authenticator) × (verdict ≡ spec.Sound t shown)
+IsOutcome (outcomes.Fault fault number) verdict = verdict ≡ spec.Fault (fault_in fault) number

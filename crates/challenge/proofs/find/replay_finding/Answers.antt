@@ -1,7 +1,7 @@
-use Rattle.challenge.proofs.Found.{verdict_finds}
+use Rattle.challenge.proofs.Found.{outcome_finds}
 use Rattle.challenge.proofs.find.replay_finding.Goals as goal
 
 pub returns : goal.returns
 returns c =
-    let is = rw (c.in_ok-start.ensures.state, c.first-first.ensures, c.opening.ensures, c.entries.ensures.entries) at c.in_ok-verdict.ensures.verdict in
-    rw c.finding_in.ensures (verdict_finds c.args.roster.now c.args.node c.args.log.now c.args.member.now c.in_ok-verdict.verdict c.requires is)
+    let is = rw (c.in_ok-start.ensures.state, c.first-first.ensures, c.opening.ensures, c.entries.ensures.entries) at c.in_ok-outcome.ensures in
+    rw c.finding_in.ensures (outcome_finds c.args.roster.now c.args.node c.args.log.now c.args.member.now c.in_ok-outcome.outcome c.requires is)

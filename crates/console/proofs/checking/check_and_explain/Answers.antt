@@ -4,11 +4,12 @@ use Rattle.console.proofs.checking.check_and_explain.Goals as goal
 pub returns-clause-device : goal.returns-clause-device
 returns-clause-device g c e = inr (
   record {
-    judgement = c.in-Ok.judgement;
-    text = string_bytes c.in-Ok-explained.text;
+    judgement = c.in_ok-judgement.judgement;
+    text = string_bytes c.in_ok-text.text;
     judged = search rules;
-    explained = c.in-Ok-explained.ensures;
+    explained = c.in_ok-text.ensures;
     written = search rules;
   },
+  search rules,
   search rules,
 )

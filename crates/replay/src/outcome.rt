@@ -1,0 +1,60 @@
+//! Where a replay of entries ends, without what they show of other nodes.
+
+ghost use Rattle.std.specs.Prelude.{◌+◌, ◌≤◌, ◌<◌, ◌^◌, IfOk, length};
+ghost use Rattle.std.specs.FinMap.{len};
+ghost use Rattle.states.specs.declared.received.TheConstants.{MAX_RECEIVED};
+ghost use Rattle.states.specs.declared.sends.TheConstants.{MAX_SENDS};
+ghost use Rattle.honest_logs.specs.Placed.{placed};
+ghost use Rattle.honest_logs.specs.Replay.{verdict_of};
+ghost use Rattle.replay.specs.Verdicts.{IsOutcome};
+
+use crate::fault::ReplayFault;
+use crate::steps::{StepError, step};
+use authenticator::{Number, Roster};
+use checkpoint::State;
+use honest_logs::replay_laws::steps_as_it_takes;
+use log_entries::entry_hash;
+use secure_log::Entry;
+use std::alloc::{AllocError, Global};
+
+/// Where a replay of entries ends.
+#[derive(Drop)]
+pub enum Outcome {
+    /// Each entry may stand behind those before it: the state after the last.
+    Sound(State),
+    /// What the first entry that may not stand where it does has wrong, and its number.
+    Fault(ReplayFault, Number),
+}
+
+/// Where a replay of entries behind a state of their node ends: as `replay_entries`, but what the entries show
+/// of other nodes isn't kept, so that no signature is copied. `AllocError` comes only where a growth was refused.
+pub fn replay_outcome(
+    alloc: Global,
+    roster: &Roster,
+    start: State,
+    first: Number,
+    opening: &[u8; 32],
+    entries: &[Entry],
+) -> Result<Outcome, AllocError>
+    requires numbers { first + length entries.now < 2 ^ 64 }
+    requires few_received { len start.received + length entries.now ≤ MAX_RECEIVED }
+    requires few_sends { len start.sends + length entries.now ≤ MAX_SENDS }
+    ensures { IfOk result (λ outcome. IsOutcome outcome
+        (verdict_of roster.now start (placed first opening.now entries.now))) }
+{
+    steps_as_it_takes();
+    let mut state = start;
+    let mut number = first.get();
+    let mut before = *opening;
+    for entry in entries {
+        let place = Number::new(number);
+        match step(&mut state, alloc, roster, place, &before, entry) {
+            Ok(()) => {}
+            Err(StepError::NoMemory) => return Err(AllocError),
+            Err(StepError::Fault(fault)) => return Ok(Outcome::Fault(fault, place)),
+        }
+        before = entry_hash(&before, number, entry);
+        number += 1;
+    }
+    Ok(Outcome::Sound(state))
+}
