@@ -7,9 +7,9 @@ set -euo pipefail
 cd "$(dirname "$0")/.."
 . checks/scratch_crate.sh
 
-readonly MOST=115
+readonly MOST=128
 file=$PWD/checks/evidence/wrong_checkpoint.evidence
-scratch_crate evidence_memory checks/evidence_refused_memory/main.rt.txt challenge
+scratch_crate evidence_memory checks/evidence_refused_memory/main.rt.txt case_files challenge
 mkdir "$work/cases"
 for ((request = 1; request <= MOST; request++)); do
     { cat "$file"; head -c $((MOST - request)) /dev/zero; } > "$work/cases/$(printf %04d "$request")"
@@ -21,4 +21,4 @@ if [ "$(grep -c ', held true$' "$work/lines")" -ne $MOST ] || ! tail -1 "$work/l
     cat "$work/log" >&2
     exit 1
 fi
-each_refused 9 read_case write_case evidence_text read_evidence of_authenticator from_start check_evidence
+each_refused 9 read_case take_case write_case evidence_text read_evidence of_authenticator from_start check_evidence

@@ -24,7 +24,7 @@ pub use evidence::{Charge, Evidence, Fork};
 pub use fault::EvidenceFault;
 pub use find::{examine, one_finding};
 pub use finding::{Finding, NotAccepted};
-pub use read::read_evidence;
+pub use read::{read_evidence, read_fork};
 pub use replay::{Outcome, ReplayFault, Stage, StateMachine, opening_state, replay_outcome};
 pub use secure_log::{Body, ClosedSegment, Entry, Log, SignatureText};
 pub use showings::{EntryKind, MAX_AUDITED, Showing, ShownLink};

@@ -88,7 +88,8 @@ fn read_charge<'a>(alloc: Global, reader: &mut Reader<'a>) -> Result<Charge, Rea
     }
 }
 
-fn read_fork<'a>(alloc: Global, reader: &mut Reader<'a>) -> Result<Fork, ReadError>
+/// A fork from the front of bytes. After an `Err` the reader may stand within it.
+pub fn read_fork<'a>(alloc: Global, reader: &mut Reader<'a>) -> Result<Fork, ReadError>
     ensures { GivesUnless xdr_fault fork_item (λ f. fork_value (fork_in f)) reader.old result reader.new }
 {
     let at = Number::read(alloc, reader)?;

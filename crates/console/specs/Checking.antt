@@ -4,10 +4,10 @@ use Rattle.std.specs.Prelude.{decimal}
 use Rattle.std.specs.Io.KnownBytes.{Appends}
 use Rattle.xdr_texts.specs.Text.{text_at}
 use Rattle.rpc.specs.Writing.{WritesFront}
-use Rattle.challenge.specs.Evidence.{Accepts}
-use Rattle.challenge.specs.Proving.{Proves}
-use Rattle.challenge.specs.Cases.{case_text, case_value}
-use Rattle.challenge.specs.declared.case.Case.{Case}
+use Rattle.case_files.specs.Evidence.{Accepts}
+use Rattle.case_files.specs.Proving.{Proves}
+use Rattle.case_files.specs.Cases.{case_text, case_value}
+use Rattle.case_files.specs.Case.{Case}
 use Rattle.console.specs.declared.checking.Judgement.{Judgement}
 use Rattle.console.specs.declared.checking.Judgement.TheVariants.{Exposed, NoEvidence}
 
@@ -25,6 +25,12 @@ pub record ExposesNone (bytes : List ℕ) : Type 0 where
   pub case : Case
   pub text : text_at case_text bytes ≡ Some (case_value case)
   pub refused : ¬ Accepts case.roster case.evidence
+
+-- what is said of a case
+abbrev pub JudgesCase : Case → Judgement → Type 0
+JudgesCase c (Exposed node) =
+    (c.evidence.node ≡ node) × Accepts c.roster c.evidence × Proves c.roster c.evidence
+JudgesCase c NoEvidence = ¬ Accepts c.roster c.evidence
 
 -- what is said of bytes
 abbrev pub Judges : List ℕ → Judgement → Type 0

@@ -3,11 +3,12 @@
 ghost use Rattle.std.specs.Prelude.{◌≡◌, ◌⊎◌, IfOk, IfSome, IsErrOf, OnOk, string_bytes};
 ghost use Rattle.std.specs.Io.KnownBytes.{Appends};
 ghost use Rattle.rpc.specs.Count.{Rises};
-ghost use Rattle.console.specs.Checking.{Judges, line_of, IsExplained, WritesExplained, SaysPart, ExplainsPart};
+ghost use Rattle.console.specs.Checking.{Judges, JudgesCase};
+ghost use Rattle.console.specs.Checking.{line_of, IsExplained, WritesExplained, SaysPart, ExplainsPart};
 ghost use Rattle.console.specs.declared.checking.CheckFault.TheVariants.{NoMemory, Device};
 
-use crate::explain::explanation;
-use challenge::{EvidenceFault, check_evidence, read_case};
+use crate::explain::{NO_CASE, explanation};
+use case_files::{Case, EvidenceFault, check_evidence, take_case};
 use rpc::{Counting, write_bytes};
 use std::alloc::{AllocError, Global};
 use std::io::{Read, Write};
@@ -45,16 +46,24 @@ impl From<AllocError> for CheckFault {
     }
 }
 
-/// What is said of a file's bytes: `Exposed` exactly where they are a roster's text, and behind it that of
-/// evidence that is accepted under it. `AllocError` comes only where a growth was refused.
-pub fn judge(alloc: Global, bytes: &[u8]) -> Result<Judgement, AllocError>
-    ensures { IfOk result (λ judgement. Judges bytes.now judgement) }
+/// What is said of a file's bytes, which are given back to memory while they are read: `Exposed` exactly
+/// where they are a roster's text, and behind it that of evidence that is accepted under it. `AllocError`
+/// comes only where a growth was refused.
+#[tactic(auto, using(crate::proofs::Judging::of_case))]
+pub fn judge(alloc: Global, bytes: Vec<u8>) -> Result<Judgement, AllocError>
+    ensures { IfOk result (λ judgement. Judges bytes.items judgement) }
 {
-    let case = match read_case(alloc, bytes) {
-        Ok(case) => case,
-        Err(EvidenceFault::Garbage) => return Ok(Judgement::NoEvidence),
-        Err(EvidenceFault::NoMemory) => return Err(AllocError),
-    };
+    match take_case(alloc, bytes) {
+        Ok(case) => judge_case(alloc, &case),
+        Err(EvidenceFault::Garbage) => Ok(Judgement::NoEvidence),
+        Err(EvidenceFault::NoMemory) => Err(AllocError),
+    }
+}
+
+/// What is said of a case.
+fn judge_case(alloc: Global, case: &Case) -> Result<Judgement, AllocError>
+    ensures { IfOk result (λ judgement. JudgesCase case.now judgement) }
+{
     if check_evidence(alloc, &case.roster, &case.evidence)? {
         Ok(Judgement::Exposed(case.evidence.node()))
     } else {
@@ -94,9 +103,9 @@ fn all_bytes<R: Read>(alloc: Global, reader: &mut Counting<R>) -> Result<Vec<u8>
 }
 
 /// Reads a file to its end, judges its bytes and writes the line that says so: `exposed N`, with the node's
-/// number, or `no evidence`. `Device` comes where a read failed, and then the reader's count rose and nothing was
-/// written, or where a write failed: then a part of the line was written, and the writer's count rose. `NoMemory`
-/// comes where memory was refused, and then nothing was written.
+/// number, or `no evidence`. `Device` comes where a read failed, and then the reader's count rose and nothing
+/// was written, or where a write failed: then a part of the line was written, and the writer's count rose.
+/// `NoMemory` comes where memory was refused, and then nothing was written.
 pub fn check<R: Read, W: Write>(
     alloc: Global,
     reader: &mut Counting<R>,
@@ -106,7 +115,8 @@ pub fn check<R: Read, W: Write>(
         Judges input judgement)) }
     ensures written { IfOk result (λ judgement. Appends (W.contents writer.old.inner)
         (W.contents writer.new.inner) (line_of judgement)) }
-    ensures kept { OnOk result ((reader.new.count ≡ reader.old.count) × (writer.new.count ≡ writer.old.count)) }
+    ensures kept { OnOk result
+        ((reader.new.count ≡ reader.old.count) × (writer.new.count ≡ writer.old.count)) }
     ensures memory { IsErrOf result NoMemory
         → (reader.new.count ≡ reader.old.count) × (writer.new ≡ writer.old) }
     ensures device { IsErrOf result Device
@@ -116,7 +126,7 @@ pub fn check<R: Read, W: Write>(
         × (reader.new.count ≡ reader.old.count)) }
 {
     let bytes = all_bytes(alloc, reader)?;
-    let judgement = judge(alloc, &bytes)?;
+    let judgement = judge(alloc, bytes)?;
     let line = line(alloc, judgement)?;
     match write_bytes(writer, line.as_bytes()) {
         Ok(()) => Ok(judgement),
@@ -135,7 +145,8 @@ pub fn check_and_explain<R: Read, W: Write>(
         Judges input judgement)) }
     ensures written { IfOk result (λ judgement. WritesExplained judgement
         (W.contents writer.old.inner) (W.contents writer.new.inner)) }
-    ensures kept { OnOk result ((reader.new.count ≡ reader.old.count) × (writer.new.count ≡ writer.old.count)) }
+    ensures kept { OnOk result
+        ((reader.new.count ≡ reader.old.count) × (writer.new.count ≡ writer.old.count)) }
     ensures memory { IsErrOf result NoMemory
         → (reader.new.count ≡ reader.old.count) × (writer.new ≡ writer.old) }
     ensures device { IsErrOf result Device
@@ -145,20 +156,37 @@ pub fn check_and_explain<R: Read, W: Write>(
         × (reader.new.count ≡ reader.old.count)) }
 {
     let bytes = all_bytes(alloc, reader)?;
-    let judgement = judge(alloc, &bytes)?;
-    let text = explained(alloc, judgement, &bytes)?;
+    let (judgement, text) = explained(alloc, bytes)?;
     match write_bytes(writer, text.as_bytes()) {
         Ok(()) => Ok(judgement),
         Err(_) => Err(CheckFault::Device),
     }
 }
 
-/// The line that says a judgement, and behind it what the bytes show.
-fn explained(alloc: Global, judgement: Judgement, bytes: &[u8]) -> Result<String, AllocError>
+/// What is said of a file's bytes, and the line that says it, with what they show behind it.
+#[tactic(auto, using(crate::proofs::Judging::of_case))]
+fn explained(alloc: Global, bytes: Vec<u8>) -> Result<(Judgement, String), AllocError>
+    ensures { IfOk result (λ x. Judges bytes.items x.0 × IsExplained x.0 (string_bytes x.1)) }
+{
+    match take_case(alloc, bytes) {
+        Ok(case) => {
+            let judgement = judge_case(alloc, &case)?;
+            let more = explanation(alloc, &case)?;
+            Ok((judgement, line_with(alloc, judgement, &more)?))
+        }
+        Err(EvidenceFault::Garbage) => {
+            let judgement = Judgement::NoEvidence;
+            Ok((judgement, line_with(alloc, judgement, NO_CASE)?))
+        }
+        Err(EvidenceFault::NoMemory) => Err(AllocError),
+    }
+}
+
+/// The line that says a judgement, with more behind it.
+fn line_with(alloc: Global, judgement: Judgement, more: &str) -> Result<String, AllocError>
     ensures { IfOk result (λ text. IsExplained judgement (string_bytes text)) }
 {
-    let more = explanation(alloc, bytes)?;
     let mut text = line(alloc, judgement)?;
-    text.push_str(&more)?;
+    text.push_str(more)?;
     Ok(text)
 }

@@ -1,31 +1,25 @@
 //! What a checked file shows, in plain words.
 
 ghost use Rattle.std.specs.Prelude.{◌<◌, ◌≤◌, length, IfSome};
-ghost use Rattle.challenge.specs.Evidence.{MAX_AUDITED};
+ghost use Rattle.case_files.specs.Evidence.{MAX_AUDITED};
 
 use crate::call_words::call_words;
-use challenge::{
-    AuditedLog, Charge, Entry, Evidence, EvidenceFault, Finding, Fork, NotAccepted, Number,
-    Outcome, ReplayFault, Roster, Showing, Stage, StateMachine, examine, opening_state, read_case,
-    replay_outcome,
+use case_files::{
+    AuditedLog, Case, Charge, Entry, Evidence, Finding, Fork, NotAccepted, Number, Outcome,
+    ReplayFault, Roster, Showing, Stage, StateMachine, examine, opening_state, replay_outcome,
 };
 use std::alloc::{AllocError, Global};
 use std::fmt;
 use std::fmt::Display;
 
-/// The lines that say what the bytes of a file show: who is accused, of what and where, or why they are no
-/// evidence. `AllocError` comes only where a growth was refused.
-pub(crate) fn explanation(alloc: Global, bytes: &[u8]) -> Result<String, AllocError> {
-    match read_case(alloc, bytes) {
-        Ok(case) => {
-            let finding = examine(alloc, &case.roster, &case.evidence)?;
-            found(alloc, &case.roster, &case.evidence, finding)
-        }
-        Err(EvidenceFault::Garbage) => {
-            format!(in alloc; "the file is not a roster with evidence behind it\n")
-        }
-        Err(EvidenceFault::NoMemory) => Err(AllocError),
-    }
+/// What is said of a file that holds no case.
+pub(crate) const NO_CASE: &str = "the file is not a roster with evidence behind it\n";
+
+/// The lines that say what a case shows: who is accused, of what and where, or why it is no evidence.
+/// `AllocError` comes only where a growth was refused.
+pub(crate) fn explanation(alloc: Global, case: &Case) -> Result<String, AllocError> {
+    let finding = examine(alloc, &case.roster, &case.evidence)?;
+    found(alloc, &case.roster, &case.evidence, finding)
 }
 
 /// What was found in evidence.

@@ -26,8 +26,9 @@ pub enum Outcome {
     Fault(ReplayFault, Number),
 }
 
-/// Where a replay of entries behind a state of their node ends: as `replay_entries`, but what the entries show
-/// of other nodes isn't kept, so that no signature is copied. `AllocError` comes only where a growth was refused.
+/// Where a replay of entries behind a state of their node ends: as `replay_entries`, but what the entries
+/// show of other nodes isn't kept, so that no signature is copied. `AllocError` comes only where a growth was
+/// refused.
 pub fn replay_outcome(
     alloc: Global,
     roster: &Roster,

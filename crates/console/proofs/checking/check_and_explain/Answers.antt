@@ -5,9 +5,9 @@ pub returns-clause-device : goal.returns-clause-device
 returns-clause-device g c e = inr (
   record {
     judgement = c.in_ok-judgement.judgement;
-    text = string_bytes c.in_ok-text.text;
+    text = string_bytes c.in_ok-judgement.text;
     judged = search rules;
-    explained = c.in_ok-text.ensures;
+    explained = c.in_ok-judgement.ensures.1;
     written = search rules;
   },
   search rules,
