@@ -1,6 +1,6 @@
 #!/usr/bin/env bash
 # Makes evidence of 65,536 entries, of which the last alone has a fault, and prints how long it takes to read and check it,
-# and the peak memory: of a client's readings of its clock, of its messages, and of a server's calls, whose file has 363 MB.
+# and the peak memory: of a client's readings of its clock, of its messages, and of a server's calls, whose file has 372 MB.
 # Needs rt and GNU time, and two gigabytes of memory to make the files.
 set -euo pipefail
 cd "$(dirname "$0")/.."
