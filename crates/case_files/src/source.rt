@@ -4,11 +4,11 @@ ghost use Rattle.std.specs.Prelude.{◌≡◌, ◌≤◌, ◌-◌, length, drop}
 
 use std::marker::Model;
 
-/// As many taken bytes are given back at once.
+/// Fewer taken bytes aren't given back.
 const GIVEN_BACK: usize = 1 << 24;
 
-/// Bytes that are taken from the front, item by item. Those that were taken are given back to memory,
-/// `GIVEN_BACK` at once.
+/// Bytes that are taken from the front, item by item. Those that were taken are given back to memory where
+/// they are a quarter of what is left, so that what is left is moved a few times in all.
 #[derive(Drop)]
 pub(crate) struct Source {
     bytes: Vec<u8>,
@@ -46,7 +46,7 @@ impl Source {
         ensures { self.new ≡ drop (length self.old - left) self.old }
     {
         self.at = self.bytes.len() - left;
-        if self.at >= GIVEN_BACK {
+        if self.at >= GIVEN_BACK && self.at >= left / 4 {
             self.bytes.copy_within(self.at.., 0);
             self.bytes.truncate(left);
             self.bytes.shrink_to_fit();
