@@ -12,6 +12,6 @@ cd "$(dirname "$0")/.."
 
 thousands=${1:-20}
 
-proved_scratch_crate calls_bench bench/calls/main.rt.txt anyhow gateway nodes commitment sha2
+proved_scratch_crate calls_bench bench/calls/main.rt.txt anyhow nodes gateway nfs_items rpc commitment authenticator sha2
 rt run > "$work/log" 2>&1 || { tail -40 "$work/log" >&2; exit 1; }
 /usr/bin/time -f 'peak memory: %M KiB' out/calls_bench "$thousands"

@@ -6,8 +6,7 @@ set -euo pipefail
 cd "$(dirname "$0")/.."
 . checks/scratch_crate.sh
 
-proved_scratch_crate evidence_bench bench/evidence/main.rt.txt anyhow case_files challenge secure_log log_entries authenticator \
-    merkle_keys
+proved_scratch_crate evidence_bench bench/evidence/main.rt.txt anyhow challenge secure_log authenticator merkle_keys
 rt run -- clocks "$work/clocks" > "$work/log" 2>&1 || { tail -40 "$work/log" >&2; exit 1; }
 for name in clocks messages calls; do
     out/evidence_bench $name "$work/file"

@@ -16,7 +16,7 @@ turns=5
 
 build bench/files.rs
 
-# tree NAME DIRECTORIES FILES measures the calls behind those that make the tree, by processor time.
+# tree NAME DIRECTORIES FILES measures the calls after those that make the tree, by processor time.
 tree() {
     local name=$1 turn program run
     "$folder/plain" stream "$2" "$3" 0 >"$folder/make"

@@ -5,7 +5,6 @@ set -euo pipefail
 cd "$(dirname "$0")/.."
 . checks/scratch_crate.sh
 
-proved_scratch_crate replay_bench bench/replay/main.rt.txt anyhow replay checkpoint nfs_items secure_log log_entries \
-    authenticator merkle_keys
+proved_scratch_crate replay_bench bench/replay/main.rt.txt anyhow replay checkpoint state_machine nfs_items secure_log authenticator merkle_keys
 rt run > "$work/log" 2>&1 || { tail -40 "$work/log" >&2; exit 1; }
 /usr/bin/time -f 'peak memory: %M KiB' out/replay_bench

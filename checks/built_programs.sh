@@ -1,4 +1,4 @@
-# To be sourced at the top of the repository, behind checks/scratch_crate.sh: the program nfsacc as it is built.
+# To be sourced at the top of the repository, after checks/scratch_crate.sh: the program nfsacc as it is built.
 
 # built_programs
 # Names in `made` the programs that the gate left in crates/nfsacc/out, one for each compiler. Where none is there, or a

@@ -139,7 +139,7 @@ check_waiting() {
     wait $! || fail 'a client that waits, at its end' said
 }
 
-# A call of NULL with zeros behind it, as long as a record can be, as fragments of this size.
+# A call of NULL with zeros after it, as long as a record can be, as fragments of this size.
 cut_long() {
     local body='00000001 00000000 00000002 000186a3 00000002 00000000 00000000 00000000 00000000 00000000'
     awk -v size="$1" -v hex="${body// /}" 'BEGIN {
@@ -228,7 +228,7 @@ check_memory() (
     sed -e 's/^use std::process::ExitCode;$/use std::io::Read;\n&/' \
         -e "/^fn main(rt: HostRuntime) -> ExitCode {\$/r $cases/take_memory.txt" "$top/crates/nfsacc/src/main.rt" > main.rt
     cd "$top"
-    scratch_crate nfsacc_memory "$OLDPWD/main.rt" console rpc clap
+    scratch_crate nfsacc_memory "$OLDPWD/main.rt" console rpc_streams rpc clap
     mkdir "$work/cases"
     for words in rpc serve-all; do
         for ((request = 1; request <= most; request++)); do

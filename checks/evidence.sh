@@ -119,7 +119,7 @@ done
 
 # The files are made again.
 mkdir "$files/made"
-scratch_crate evidence_files "$cases/main.rt.txt" anyhow challenge log_entries secure_log authenticator merkle_keys
+scratch_crate evidence_files "$cases/main.rt.txt" anyhow challenge evidence_showings secure_log authenticator merkle_keys
 trap 'rm -rf "$files" "$work"' EXIT
 rt try -- "$files/made" > "$work/log" 2>&1 || { cat "$work/log" >&2; exit 1; }
 for name in "$files"/made/*; do

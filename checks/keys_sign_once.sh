@@ -1,7 +1,7 @@
 #!/usr/bin/env bash
 # A one-time key signs once. Programs that sign twice with one key, copy it, clone it or let it go, or that copy or clone
 # the keys of a master secret, must not compile: they are added to a copy of the crate, and each must be refused at its
-# line marked `refused:`, by the words behind the mark. A program that signs once must compile, so that nothing else
+# line marked `refused:`, by the words after the mark. A program that signs once must compile, so that nothing else
 # refuses the others.
 set -euo pipefail
 cd "$(dirname "$0")/.."
@@ -16,9 +16,9 @@ copy=$work/crates/lamport
 front=crates/lamport/src/lib.rt
 log=$work/log
 
-# Compiles the copy with the programs of standard input added.
+# Compiles the copy with the programs of standard input added, and a test, without which there is nothing to compile.
 compiles() {
-    cat "$front" - > "$copy/src/lib.rt"
+    { cat "$front" -; printf '\n#[test]\nfn compiles(_rt: HostRuntime) {}\n'; } > "$copy/src/lib.rt"
     (cd "$copy" && rt try --test) > "$log" 2>&1
 }
 

@@ -4,11 +4,12 @@ use crate::parties::{
     CALL, SERVER, ack_text, called, envelope_text, joined, new_client, new_server,
 };
 use authenticator::Number;
-use commitment::Entry;
-use nodes::{
-    AckTaken, Body, ClientNode, Direct, Heard, Link, LinkFault, NodeLog, Receipt, Received,
-    Refusal, ServerNode, Time,
-};
+use commitment::{Received, Refusal};
+use nfs_items::Time;
+use nodes::gateway_code::links::{Link, LinkFault};
+use nodes::node_logs_code::{AckTaken, Heard, NodeLog, Receipt};
+use nodes::{ClientNode, Direct, ServerNode};
+use secure_log::log_entries::{Body, Entry};
 use secure_log::{SegmentFault, check_segment};
 use std::alloc::Global;
 
@@ -227,4 +228,49 @@ fn are_used_up(alloc: Global) -> bool {
 #[test]
 fn calls_are_answered_until_the_keys_are_used_up(rt: HostRuntime) {
     assert!(rt; are_used_up(rt.alloc()));
+}
+
+/// Whether a client that has called and a server come back from a join as they were.
+fn come_back(alloc: Global, client: ClientNode, server: ServerNode) -> bool {
+    match Direct::join(alloc, client, server) {
+        Ok(_) => false,
+        Err((client, server)) => client.node().left() == 1 && server.node().left() == 2,
+    }
+}
+
+/// The same of a new client and a new server.
+fn both_come_back(alloc: Global) -> bool {
+    match new_server(alloc, 1) {
+        Some(server) => match new_client(alloc, 1) {
+            Some(mut client) => {
+                refusal(alloc, &mut client) == None && come_back(alloc, client, server)
+            }
+            None => false,
+        },
+        None => false,
+    }
+}
+
+#[test]
+fn nodes_that_are_not_joined_come_back(rt: HostRuntime) {
+    assert!(rt; both_come_back(rt.alloc()));
+}
+
+/// Whether both have two keys left when they are taken apart.
+fn is_taken_apart(link: Direct) -> bool {
+    let (client, server) = link.into_nodes();
+    client.node().left() == 2 && server.node().left() == 2
+}
+
+/// The same of a new client and a new server, with four keys each, after a call.
+fn are_taken_apart(alloc: Global) -> bool {
+    match joined(alloc, 2) {
+        Some(mut link) => exchanged(alloc, &mut link) == Ok(24) && is_taken_apart(link),
+        None => false,
+    }
+}
+
+#[test]
+fn joined_nodes_are_taken_apart_after_a_call(rt: HostRuntime) {
+    assert!(rt; are_taken_apart(rt.alloc()));
 }

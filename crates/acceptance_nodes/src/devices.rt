@@ -2,78 +2,29 @@
 //! each call in turn.
 
 use crate::parties::joined;
-use crate::words::of_text;
-use gateway::{Counting, FixedClock, Gateway, RecordReader, StreamFault, Time};
+use nfs_items::Time;
 use nodes::Direct;
+use nodes::gateway_code::links::FixedClock;
+use nodes::gateway_code::{Gateway, StreamFault};
+use rpc::records::{Counting, RecordReader};
 use std::alloc::Global;
-use std::io;
-use std::io::{ErrorKind, Read, Write};
 use std::test::Fail;
+use test_helpers::{Refusal, SlowReader, SlowWriter, of_text};
 
 /// NULL as a record of 44 bytes, and its reply, of 28.
 const CALL: &str = "80000028 1 0 2 186a3 2 0*5";
 
 const REPLY: &str = "80000018 1 1 0*4";
 
-/// Gives one byte a call, and fails at one call.
-#[derive(Drop)]
-struct SlowReader<'a> {
-    bytes: &'a [u8],
-    calls: u32,
-    fails_at: u32,
-}
-
-impl Read for SlowReader<'_> {
-    fn read(&mut self, buf: &mut [u8]) -> io::Result<usize> {
-        self.calls = self.calls.saturating_add(1);
-        if self.calls == self.fails_at {
-            return Err(io::Error::from(ErrorKind::Other));
-        }
-        let Some((byte, rest)) = self.bytes.split_first() else {
-            return Ok(0);
-        };
-        let Some(first) = buf.first_mut() else {
-            return Ok(0);
-        };
-        *first = *byte;
-        self.bytes = rest;
-        Ok(1)
-    }
-}
-
-/// Takes one byte a call, and fails at one call.
-#[derive(Drop)]
-struct SlowWriter {
-    taken: Vec<u8>,
-    calls: u32,
-    fails_at: u32,
-}
-
-impl Write for SlowWriter {
-    fn write(&mut self, buf: &[u8]) -> io::Result<usize> {
-        self.calls = self.calls.saturating_add(1);
-        if self.calls == self.fails_at {
-            return Err(io::Error::from(ErrorKind::Other));
-        }
-        let piece = &buf[..buf.len().min(1)];
-        self.taken.extend_from_slice(piece)?;
-        Ok(piece.len())
-    }
-
-    fn flush(&mut self) -> io::Result<()> {
-        Err(io::Error::from(ErrorKind::Other))
-    }
-}
-
 /// Which read or which write of a stream fails, from 1 on; none where it is 0.
 #[derive(Clone, Copy)]
 struct Failing {
-    read: u32,
-    write: u32,
+    read: u64,
+    write: u64,
 }
 
 /// Whether a writer took these bytes in so many calls.
-fn took(writer: &SlowWriter, bytes: &[u8], calls: u32) -> bool {
+fn took(writer: &SlowWriter, bytes: &[u8], calls: u64) -> bool {
     writer.taken.as_slice() == bytes && writer.calls == calls
 }
 
@@ -102,22 +53,14 @@ fn ends(
     written: &[u8],
     calls: Failing,
 ) -> bool {
-    let mut reader = RecordReader::new(Counting::new(SlowReader {
-        bytes: call,
-        calls: 0,
-        fails_at: at.read,
-    }));
-    let mut writer = Counting::new(SlowWriter {
-        taken: Vec::new(alloc),
-        calls: 0,
-        fails_at: at.write,
-    });
+    let mut reader = RecordReader::new(Counting::new(SlowReader::new(call, at.read)));
+    let mut writer = Counting::new(SlowWriter::new(alloc, 1, at.write, Refusal::Error));
     is_ended(alloc, link, &mut reader, &mut writer)
         && reader.get_ref().get_ref().calls == calls.read
         && took(writer.get_ref(), written, calls.write)
 }
 
-/// Whether each read of a call in turn ends it: before its record is whole with nothing written, and behind
+/// Whether each read of a call in turn ends it: before its record is whole with nothing written, and after
 /// it with all of the reply.
 fn reads_end(alloc: Global, link: &mut Direct, call: &[u8], reply: &[u8]) -> bool {
     for read in 1..45 {
@@ -137,7 +80,7 @@ fn reads_end(alloc: Global, link: &mut Direct, call: &[u8], reply: &[u8]) -> boo
 /// Whether each write of the reply in turn ends it, with what was written before.
 fn writes_end(alloc: Global, link: &mut Direct, call: &[u8], reply: &[u8]) -> bool {
     for written in 0..reply.len().min(28) {
-        let write = written as u32 + 1;
+        let write = written as u64 + 1;
         let at = Failing { read: 0, write };
         let calls = Failing { read: 44, write };
         if !ends(alloc, link, call, at, &reply[..written], calls) {

@@ -1,4 +1,4 @@
-//! Tests of a client and a server, joined or not, and of a gateway over them.
+//! Tests of a client and a server, joined or not, of a gateway over them, and of replays of their logs.
 #![tactic(auto)]
 
 #[cfg(test)]
@@ -8,6 +8,8 @@ mod devices;
 #[cfg(test)]
 mod parties;
 #[cfg(test)]
+mod replays;
+#[cfg(test)]
 mod rows;
 #[cfg(test)]
-mod words;
+mod streams;

@@ -3,9 +3,13 @@
 
 ghost use Rattle.std.specs.Prelude.{◌≤◌};
 
-use commitment::{Kind, Member, Sender};
-use nodes::{Body, ClientNode, Direct, NodeLog, Roster, ServerNode};
+use authenticator::Roster;
+use commitment::senders::Sender;
+use nodes::node_logs_code::NodeLog;
+use nodes::{ClientNode, Direct, ServerNode};
+use secure_log::log_entries::Body;
 use std::alloc::Global;
+use test_helpers::{client, roster_of, server};
 
 /// The numbers of the two.
 pub const SERVER: u32 = 1;
@@ -33,34 +37,14 @@ fn root(alloc: Global, node: u32, master: [u8; 32], height: u32) -> Option<[u8; 
     }
 }
 
-/// The roster of a server and a client with these roots.
-fn roster_of(alloc: Global, server: [u8; 32], client: [u8; 32], height: u32) -> Option<Roster> {
-    let server = Member {
-        node: SERVER,
-        kind: Kind::Server,
-        root: server,
-        height,
-    };
-    let client = Member {
-        node: CLIENT,
-        kind: Kind::Client,
-        root: client,
-        height,
-    };
-    match Vec::from_slice(alloc, &[server, client]) {
-        Ok(members) => Roster::new(members).ok(),
-        Err(_) => None,
-    }
-}
-
 /// The roster of the two.
 fn roster(alloc: Global, height: u32) -> Option<Roster>
     requires some { 1 ≤ height }
     requires low { height ≤ 16 }
 {
-    let server = root(alloc, SERVER, SERVER_MASTER, height)?;
-    let client = root(alloc, CLIENT, CLIENT_MASTER, height)?;
-    roster_of(alloc, server, client, height)
+    let one = root(alloc, SERVER, SERVER_MASTER, height)?;
+    let two = root(alloc, CLIENT, CLIENT_MASTER, height)?;
+    roster_of(alloc, &[server(one, height), client(two, height)])
 }
 
 /// The server, with 2 to the height keys and nothing logged.
@@ -92,7 +76,7 @@ pub fn joined(alloc: Global, height: u32) -> Option<Direct>
 {
     match new_server(alloc, height) {
         Some(server) => match new_client(alloc, height) {
-            Some(client) => Direct::join(alloc, client, server),
+            Some(client) => Direct::join(alloc, client, server).ok(),
             None => None,
         },
         None => None,

@@ -1,12 +1,15 @@
 //! Streams of calls through a gateway, and their replies byte for byte (RFC 5531, RFC 1094). In each row the
-//! record of a call is followed behind `->` by that of its reply, both as texts of words.
+//! record of a call is followed after `->` by that of its reply, both as texts of words.
 
 use crate::parties::joined;
-use crate::words::push_text;
-use gateway::{Counting, FixedClock, Gateway, RecordReader, Time};
+use nfs_items::Time;
 use nodes::Direct;
+use nodes::gateway_code::Gateway;
+use nodes::gateway_code::links::FixedClock;
+use rpc::records::{Counting, RecordReader};
 use std::alloc::Global;
 use std::test::Fail;
+use test_helpers::push_text;
 
 /// NULL, once in two fragments; GETATTR of the root; LOOKUP of `hello` in it, and with other padding; then
 /// what is mounted.

@@ -23,7 +23,7 @@ fn is_garbage_cut(alloc: Global, made: &Made) -> bool {
     true
 }
 
-/// Whether a packet is garbage with a byte more behind it.
+/// Whether a packet is garbage with a byte more after it.
 fn is_garbage_with_more(alloc: Global, made: &mut Made) -> bool {
     made.bytes.push(0).is_ok() && is_garbage(alloc, &made.roster, &made.bytes)
 }

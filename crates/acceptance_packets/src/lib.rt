@@ -1,4 +1,4 @@
-//! Tests of packets that cross crates.
+//! Tests of packets, of what is shown of logs, and of evidence.
 #![tactic(auto)]
 
 #[cfg(test)]
@@ -6,6 +6,12 @@ mod changed;
 #[cfg(test)]
 mod cut;
 #[cfg(test)]
+mod evidence;
+#[cfg(test)]
+mod lone;
+#[cfg(test)]
 mod made;
+#[cfg(test)]
+mod shown;
 #[cfg(test)]
 mod taken;

@@ -1,18 +1,14 @@
 //! Packets of node 1, made by hand, each signed by its first key. Each function is small, and gives none
 //! where memory is refused: the proof of a function takes its time by what it owns at how many exits.
 
-use authenticator::{Authenticator, Kind, Member, Number, Roster, signed_digest};
+use authenticator::{Authenticator, Number, Roster, signed_digest};
 use envelopes::{Ack, Envelope};
-use log_entries::{Receipt, message_hash, receipt_hash};
 use merkle_keys::{Signature, Signer};
 use packets::{write_ack, write_answer_text, write_challenge, write_learn};
-use secure_log::{Body, Entry, Log, SignatureText};
+use secure_log::Log;
+use secure_log::log_entries::{Body, Entry, Receipt, SignatureText, message_hash, receipt_hash};
 use std::alloc::Global;
-
-/// The master secret of the node's keys: 31 zero bytes and a one.
-const MASTER: [u8; 32] = [
-    0, 0, 0, 0, 0, 0, 0, 0, 0, 0, 0, 0, 0, 0, 0, 0, 0, 0, 0, 0, 0, 0, 0, 0, 0, 0, 0, 0, 0, 0, 0, 1,
-];
+use test_helpers::{MASTER, client, roster_of, server, signed};
 
 /// What a packet holds.
 #[derive(Clone, Copy, Debug)]
@@ -41,28 +37,9 @@ pub fn packet_of(alloc: Global, content: Content) -> Option<Made> {
         return None;
     };
     let bytes = bytes_of(alloc, &mut signer, content)?;
-    let roster = roster_of(alloc, signer.root())?;
+    let root = signer.root();
+    let roster = roster_of(alloc, &[server(root, 1), client(root, 1)])?;
     Some(Made { roster, bytes })
-}
-
-/// A roster of nodes 1 and 2 with keys of height 1 under one root.
-fn roster_of(alloc: Global, root: [u8; 32]) -> Option<Roster> {
-    let server = Member {
-        node: 1,
-        kind: Kind::Server,
-        root,
-        height: 1,
-    };
-    let client = Member {
-        node: 2,
-        kind: Kind::Client,
-        root,
-        height: 1,
-    };
-    match Vec::from_slice(alloc, &[server, client]) {
-        Ok(members) => Roster::new(members).ok(),
-        Err(_) => None,
-    }
 }
 
 fn bytes_of(alloc: Global, signer: &mut Signer, content: Content) -> Option<Vec<u8>> {
@@ -79,21 +56,8 @@ fn signature_of(signer: &mut Signer, hash: &[u8; 32]) -> Option<Signature> {
     signer.sign(&signed_digest(1, Number::new(1), hash)).ok()
 }
 
-/// Node 1's authenticator of number 1 with this hash.
-fn authenticator_of(signer: &mut Signer, hash: [u8; 32]) -> Option<Authenticator> {
-    match signature_of(signer, &hash) {
-        Some(signature) => Some(Authenticator {
-            node: 1,
-            number: Number::new(1),
-            hash,
-            signature,
-        }),
-        None => None,
-    }
-}
-
 fn learn(alloc: Global, signer: &mut Signer) -> Option<Vec<u8>> {
-    let authenticator = authenticator_of(signer, [0; 32])?;
+    let authenticator = signed(signer, 1, Number::new(1), [0; 32])?;
     let mut bytes = Vec::new(alloc);
     match write_learn(&authenticator, &mut bytes) {
         Ok(()) => Some(bytes),
@@ -159,7 +123,7 @@ fn segment_text(alloc: Global, log: &Log, closing: &Authenticator) -> Option<Vec
 /// The text of that log's segment.
 fn closed_text(alloc: Global, signer: &mut Signer) -> Option<Vec<u8>> {
     let log = log_of_one(alloc)?;
-    let closing = authenticator_of(signer, log.hash_at(1)?)?;
+    let closing = signed(signer, 1, Number::new(1), log.hash_at(1)?)?;
     segment_text(alloc, &log, &closing)
 }
 

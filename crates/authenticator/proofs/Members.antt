@@ -22,7 +22,7 @@ members_text : (ms : List Member) → texts ms ≡ flat_map (spelling member_ite
 members_text [] = refl
 members_text (m ∷ ms) = ap (λ x. spelling member_item (member_value m) ++ x) (members_text ms)
 
--- their texts behind their count
+-- their texts after their count
 pub counted : {E : Type 0} (ms : List Member) (old first new : List ℕ) (r : Result (Unit {0}) E)
     → first ≡ old ++ number_spelling 4 (length ms)
     → Adds (texts ms) first r new → Adds (spelling roster_item (roster_value ms)) old r new

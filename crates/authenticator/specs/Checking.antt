@@ -1,6 +1,6 @@
 -- What it means to check an authenticator's text.
 use Rattle.std.specs.Prelude.{◌≡◌, List, ℕ, Result, Ok, Err, Some, None}
-use Rattle.xdr_texts.specs.Text.{text_at}
+use Rattle.xdr.specs.Texts.Text.{text_at}
 use Rattle.authenticator.specs.Roster.{member_of}
 use Rattle.authenticator.specs.Signed.{IsSignedBy, authenticator_text, authenticator_value}
 use Rattle.authenticator.specs.declared.member.Member.{Member}

@@ -1,3 +1,4 @@
+pub use Rattle.merkle_keys.specs as merkle_keys
 pub mod Numbers
 pub mod Roster
 pub mod Signed

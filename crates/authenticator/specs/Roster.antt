@@ -2,7 +2,7 @@
 use Rattle.std.specs.Prelude.{ℕ, suc, Bool, true, ◌&&◌, ◌||◌, ◌==◌, nat_lt, IsTrue, List, [], ◌∷◌, map, Option, Some, None, if◌then◌else◌, length}
 use Rattle.std.specs.List.{AllByRecursion}
 use Rattle.xdr.specs.Item.{Item, Value, Fits, word_where, fixed, pair, array}
-use Rattle.xdr_texts.specs.Text.{Text}
+use Rattle.xdr.specs.Texts.Text.{Text}
 use Rattle.authenticator.specs.declared.member.Kind.{Kind}
 use Rattle.authenticator.specs.declared.member.Kind.TheVariants.{Server, Client}
 use Rattle.authenticator.specs.declared.member.Member.{Member}
@@ -62,7 +62,7 @@ IsRoster ms = Fits roster_item (roster_value ms) × IsTrue (rises_above 0 (roste
 abbrev pub EachFits : List Member → Type 0
 EachFits ms = AllByRecursion (λ v. Fits member_item v) (roster_value ms)
 
--- What is wrong with a member behind one with the number `low`, if something is.
+-- What is wrong with a member after one with the number `low`, if something is.
 abbrev pub member_fault : ℕ → Member → Option RosterFault
 member_fault low m =
     if is_node m.node then (

@@ -2,7 +2,7 @@
 use Rattle.std.specs.Prelude.{ℕ, true, List, ◌++◌, IsSomeAnd}
 use Rattle.sha2.specs.Sha256.{sha256}
 use Rattle.xdr.specs.Item.{Item, Value, word, fixed, pair, number_spelling}
-use Rattle.xdr_texts.specs.Text.{Text}
+use Rattle.xdr.specs.Texts.Text.{Text}
 use Rattle.merkle_keys.specs.Signing.{Signed, signature_item, signature_value}
 use Rattle.authenticator.specs.Numbers.{number_item}
 use Rattle.authenticator.specs.Roster.{member_of}
@@ -30,6 +30,6 @@ authenticator_item = pair word (pair number_item (pair (fixed 32) signature_item
 abbrev pub authenticator_value : Authenticator → Value authenticator_item
 authenticator_value a = (a.node, (a.number, (a.hash, signature_value a.signature)))
 
--- its text, behind which nothing may follow
+-- its text, after which nothing may follow
 abbrev pub authenticator_text : Text
 authenticator_text = record { item = authenticator_item; test = λ _. true }

@@ -2,7 +2,7 @@
 use Rattle.std.specs.Prelude.{ℕ, Bool, false, ◌&&◌, ◌==◌, ◌^◌, nat_lt, nat_le, nat_eq, List, length, Option}
 use Rattle.std.specs.Prelude.{Some, None}
 use Rattle.std.specs.Cmp.Lexicographic.{pointwise}
-use Rattle.lamport.specs.Lamport.{leaf_hash, shown_hash}
+use Rattle.merkle_keys.specs.lamport.Lamport.{leaf_hash, shown_hash}
 use Rattle.merkle_keys.specs.Tree.{path_end}
 use Rattle.merkle_keys.specs.Signing.{SignatureParts}
 use Rattle.merkle_keys.specs.declared.signature.TheConstants.{MAX_HEIGHT}

@@ -13,8 +13,8 @@ use crate::number::Number;
 use merkle_keys::{Signature, verify};
 use sha2::{Digest, Sha256};
 use std::alloc::{AllocError, Global};
+use xdr::texts::FromText;
 use xdr::{FromXdr, ReadError, Reader, Writer, put_back_on_err};
-use xdr_texts::FromText;
 
 /// A node's word, by its signature, that its log has this hash at this number. Nothing is checked of it:
 /// `check` makes a `Checked` value of one that is a member's and signed.

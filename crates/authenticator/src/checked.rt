@@ -11,7 +11,7 @@ use crate::member::Member;
 use crate::refusal::Refusal;
 use crate::roster::Roster;
 use std::alloc::Global;
-use xdr_texts::{TextError, read_text};
+use xdr::texts::{TextError, read_text};
 
 /// A value that shows what a node signed: an authenticator, or what one is made of.
 pub trait Signs: Drop {

@@ -25,7 +25,8 @@ impl Refusal {
     ghost use Rattle.std.specs.Prelude.{◌≡◌};
     ghost use Rattle.authenticator.specs.RefusalNumbers.{refusal_number};
 
-    /// The number that programs print: 1 UnknownNode, 2 Garbage, 3 BadSignature. Want of memory has none.
+    /// The number that programs print: 1 UnknownNode, 2 Garbage, 3 BadSignature. Being out of memory has
+    /// none.
     pub fn number(self) -> Option<u32>
         ensures { result ≡ refusal_number self }
     {

@@ -3,9 +3,9 @@
 ghost use Rattle.std.specs.Prelude.{◌≡◌, IfOk, MatchResult, ◌↔◌, IsTrue, IsOk, IfNone, Some, None, map, List};
 ghost use Rattle.std.specs.List.{flat_map};
 ghost use Rattle.xdr.specs.Item.{Value, Fits, spelling};
-ghost use Rattle.xdr_texts.specs.Text.{IsText, GivesText};
-ghost use Rattle.xdr_texts.specs.TextError.{is_no_text};
-ghost use Rattle.xdr_texts.specs.declared.text.TextError.TheVariants.{NoMemory};
+ghost use Rattle.xdr.specs.Texts.Text.{IsText, GivesText};
+ghost use Rattle.xdr.specs.Texts.TextError.{is_no_text};
+ghost use Rattle.xdr.specs.declared.texts.text.TextError.TheVariants.{NoMemory};
 ghost use Rattle.xdr.specs.Writing.{Writes, Adds};
 ghost use Rattle.authenticator.specs.Roster.{member_item, member_value, roster_item, roster_text, roster_value, rises_above, IsRoster, EachFits, member_fault, first_fault, roster_fault, member_of};
 
@@ -14,8 +14,8 @@ use crate::refusal::RosterFault;
 use merkle_keys::MAX_HEIGHT;
 use std::alloc::{AllocError, Global};
 use std::marker::Model;
+use xdr::texts::{FromText, TextError, read_text};
 use xdr::{ReadError, Reader, Writer, all_or_nothing, read_array};
-use xdr_texts::{FromText, TextError, read_text};
 
 /// The members of a service: at most `MAX_MEMBERS`, by rising numbers from 1 to `MAX_NODE`, with heights
 /// from 1 to `merkle_keys::MAX_HEIGHT`.
@@ -74,7 +74,7 @@ fn are_rising(members: &[Member]) -> bool
     true
 }
 
-/// What is wrong with a member behind one with the number `low`.
+/// What is wrong with a member after one with the number `low`.
 fn member_fault(low: u32, member: &Member) -> Option<RosterFault>
     ensures fault { result ≡ member_fault low member.now }
     ensures fits { IfNone result (Fits member_item (member_value member.now)) }

@@ -6,11 +6,11 @@ use Rattle.std.proofs.lemmas.Bool.{eqb-true}
 use Rattle.xdr.specs.Item.{Value, IsBytes}
 use Rattle.xdr.specs.Reading.{read_at}
 use Rattle.xdr.proofs.Exact.{takes}
-use Rattle.xdr_texts.specs.Text.{IsText, GivesText, text_at}
-use Rattle.xdr_texts.proofs.WholeTexts.{is_text}
+use Rattle.xdr.specs.Texts.Text.{IsText, GivesText, text_at}
+use Rattle.xdr.proofs.OfTexts.WholeTexts.{is_text}
 use Rattle.authenticator.specs.declared.member.Member.{Member}
 use Rattle.authenticator.specs.Roster.{IsRoster, roster_item, roster_value, rises_above}
-use Rattle.showings.specs.Evidence.{evidence_item}
+use Rattle.evidence_showings.specs.evidence_spec.Evidence.{evidence_item}
 use Rattle.challenge.specs.declared.case.Case.{Case}
 use Rattle.challenge.specs.declared.fault.EvidenceFault.{EvidenceFault}
 use Rattle.challenge.specs.FaultNumbers.{is_garbage}

@@ -3,17 +3,17 @@
 use Rattle.std.proofs.Common.{◌≡◌, ℕ, List, Option, Some, None, Result, Ok, Err, refl, sym, ap, ◌∙◌, inl, inr}
 use Rattle.std.specs.Prelude.{◌↔◌, IsTrue, IfOk}
 use Rattle.authenticator.specs.declared.member.Member.{Member}
-use Rattle.log_entries.specs.Chain.{zeros}
+use Rattle.secure_log.specs.LogEntries.Chain.{zeros}
 use Rattle.secure_log.specs.Segment.{SegmentParts}
-use Rattle.showings.specs.Placed.{placed_in}
-use Rattle.showings.specs.Opening.{opening_of}
-use Rattle.showings.specs.Replay.{verdict_of}
+use Rattle.replay.specs.replay_spec.Placed.{placed_in}
+use Rattle.replay.specs.replay_spec.Opening.{opening_of}
+use Rattle.replay.specs.replay_spec.Replay.{verdict_of}
 use Rattle.replay.specs.Verdicts.{IsOutcome}
 use Rattle.replay.specs.Faults.{fault_in}
 use Rattle.replay.specs.declared.outcome.Outcome.{Outcome}
 use Rattle.replay.specs.declared.outcome.Outcome.TheVariants as outcomes
-use Rattle.showings.specs.Showing.{ShowingParts, IsClosedShowing, Shows}
-use Rattle.showings.specs.Evidence.{Charge, Fork, Replay, EvidenceParts, AcceptsFork, AcceptsReplay, AcceptsCharge, Accepts}
+use Rattle.evidence_showings.specs.evidence_spec.Showing.{ShowingParts, IsClosedShowing, Shows}
+use Rattle.evidence_showings.specs.evidence_spec.Evidence.{Charge, Fork, Replay, EvidenceParts, AcceptsFork, AcceptsReplay, AcceptsCharge, Accepts}
 use Rattle.challenge.specs.declared.finding.Finding.{Finding}
 use Rattle.challenge.specs.declared.finding.Finding.TheVariants as found
 use Rattle.challenge.specs.declared.finding.NotAccepted.{NotAccepted}
@@ -91,6 +91,7 @@ charge_exact ms node (Replay s) f h = log_exact ms node s f h
 finds_exact : (ms : List Member) (e : EvidenceParts) (f : Finding) → Finds ms e f → IsTrue (is_accepted f) ↔ Accepts ms e
 finds_exact ms e f h = charge_exact ms e.node e.charge f h
 
+-- where a call gives a finding, that tells whether the evidence is accepted
 pub result_exact : {E : Type 0} (ms : List Member) (e : EvidenceParts) (r : Result Finding E) → IfOk r (λ f. Finds ms e f)
     → IfOk r (λ f. IsTrue (is_accepted f) ↔ Accepts ms e)
 result_exact ms e (Ok f) h = finds_exact ms e f h
@@ -106,9 +107,11 @@ Answers s number answer = (hash : List ℕ) → (answer ≡ Some hash) ↔ Shows
 pub no_first : (at : ℕ) (a b : ShowingParts) → Answers a at None → HasNoTwo at a (Some b)
 no_first at a b answers one other shown shown_other = let none : None ≡ Some one = (answers one).1 shown in absurd cc
 
+-- nor do two showings of which the second has no hash there
 pub no_second : (at : ℕ) (a b : ShowingParts) → Answers b at None → HasNoTwo at a (Some b)
 no_second at a b answers one other shown shown_other = let none : None ≡ Some other = (answers other).1 shown_other in absurd cc
 
+-- a showing alone without a hash at 0 shows none but zeros there
 pub no_hash : (at : ℕ) (a : ShowingParts) → Answers a 0 None → HasNoTwo at a None
 no_hash at a answers hash shown = let none : None ≡ Some hash = (answers hash).1 shown in absurd cc
 
@@ -119,6 +122,7 @@ same_hashes at a b one other first second same x y shown shown_other =
     let is_other : Some other ≡ Some y = (second y).1 shown_other in
     cc
 
+-- nor does one that shows 32 zero bytes at 0
 pub same_zeros : (at : ℕ) (a : ShowingParts) (one : List ℕ) → Answers a 0 (Some one) → one ≡ zeros → HasNoTwo at a None
 same_zeros at a one answers same x shown =
     let is_one : Some one ≡ Some x = (answers x).1 shown in
@@ -143,6 +147,7 @@ accepts_two ms node at a b one other closed closed_other first second differ = r
   is_other = refl;
 }
 
+-- a closed showing of another hash at 0 is accepted
 pub accepts_one : (ms : List Member) (node : ℕ) (a : ShowingParts) (one : List ℕ) → IsClosedOf ms node a → Answers a 0 (Some one) → ¬ (one ≡ zeros) → AcceptsOne ms node a one
 accepts_one ms node a one closed answers differs = record {
   accepted = record {

@@ -1,3 +1,4 @@
+pub mod OfCaseFiles
 pub mod Entries
 pub mod Found
 pub mod CaseTexts

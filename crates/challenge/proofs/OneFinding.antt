@@ -10,25 +10,25 @@ use Rattle.secure_log.specs.Segment as segments
 use Rattle.replay.specs.Faults.{fault_in}
 use Rattle.replay.specs.declared.fault.ReplayFault.{ReplayFault}
 use Rattle.replay.specs.declared.fault.ReplayFault.TheVariants as faults
-use Rattle.showings.specs.Stepping as spec
-use Rattle.showings.specs.Replay.{verdict_of}
-use Rattle.showings.specs.Placed.{placed_in}
-use Rattle.showings.specs.Opening.{opening_of}
-use Rattle.showings.specs.Showings.{Ends}
-use Rattle.showings.specs.Showing.{ShowingParts, IsClosedShowing, Shows, numbered}
-use Rattle.showings.specs.Evidence.{Charge, Fork, Replay}
-use Rattle.showings.proofs.Places.{AreNumbered, shown_numbered, one_hash}
+use Rattle.replay.specs.replay_spec.Stepping as spec
+use Rattle.replay.specs.replay_spec.Replay.{verdict_of}
+use Rattle.replay.specs.replay_spec.Placed.{placed_in}
+use Rattle.replay.specs.replay_spec.Opening.{opening_of}
+use Rattle.evidence_showings.specs.Showings.{Ends}
+use Rattle.evidence_showings.specs.evidence_spec.Showing.{ShowingParts, IsClosedShowing, Shows, numbered}
+use Rattle.evidence_showings.specs.evidence_spec.Evidence.{Charge, Fork, Replay}
+use Rattle.evidence_showings.proofs.evidence_spec.Places.{AreNumbered, shown_numbered, one_hash}
 use Rattle.challenge.specs.declared.finding.Finding.{Finding}
 use Rattle.challenge.specs.declared.finding.Finding.TheVariants as found
 use Rattle.challenge.specs.declared.finding.NotAccepted.{NotAccepted}
 use Rattle.challenge.specs.declared.finding.NotAccepted.TheVariants as reasons
-use Rattle.challenge.specs.Findings.{ShowingLacks, LacksBehindFirst, ForkLacks, IsFromStart, LogLacks}
+use Rattle.challenge.specs.Findings.{ShowingLacks, LacksAfterFirst, ForkLacks, IsFromStart, LogLacks}
 use Rattle.challenge.specs.Findings.{AcceptsHashes, AcceptsFault, FindsInFork, FindsInLog, FindsInCharge, OneFinding}
 use Rattle.challenge.proofs.Found.{showing_lacks, fork_lacks, log_lacks, fork_accepts}
 
 -- ---- what is lacking first
 
--- What is asked first is lacking, or it is there and something behind it is lacking.
+-- What is asked first is lacking, or it is there and something after it is lacking.
 abbrev First : (asked : Type 0) → (name : NotAccepted) → (behind : NotAccepted → Type 0) → NotAccepted
     → Type 0
 First asked name behind reason = ((reason ≡ name) × (¬ asked)) ⊎ (asked × behind reason)
@@ -81,20 +81,20 @@ module _ (ms : List Member) (node : ℕ) (s : ShowingParts) where
 -- ---- in a fork
 
 module _ (ms : List Member) (node at : ℕ) (a : ShowingParts) where
-  behind_lacks_one : (b : Option ShowingParts) → IsOne (LacksBehindFirst ms node at a b)
-  behind_lacks_one (Some b) one other (inl x) (inl y) = showing_lacks_one ms node b one other x y
-  behind_lacks_one (Some b) one other (inl x) (inr y) =
+  after_lacks_one : (b : Option ShowingParts) → IsOne (LacksAfterFirst ms node at a b)
+  after_lacks_one (Some b) one other (inl x) (inl y) = showing_lacks_one ms node b one other x y
+  after_lacks_one (Some b) one other (inl x) (inr y) =
       absurd (showing_lacks ms node b one y.0.of_node y.0.closed x)
-  behind_lacks_one (Some b) one other (inr x) (inl y) =
+  after_lacks_one (Some b) one other (inr x) (inl y) =
       absurd (showing_lacks ms node b other x.0.of_node x.0.closed y)
-  behind_lacks_one (Some b) one other (inr x) (inr y) = x.1 ∙ sym y.1
-  behind_lacks_one None one other x y = x.0 ∙ sym y.0
+  after_lacks_one (Some b) one other (inr x) (inr y) = x.1 ∙ sym y.1
+  after_lacks_one None one other x y = x.0 ∙ sym y.0
 
   fork_lacks_one : (b : Option ShowingParts) → IsOne (ForkLacks ms node at a b)
   fork_lacks_one b one other (inl x) (inl y) = showing_lacks_one ms node a one other x y
   fork_lacks_one b one other (inl x) (inr y) = absurd (showing_lacks ms node a one y.0.of_node y.0.closed x)
   fork_lacks_one b one other (inr x) (inl y) = absurd (showing_lacks ms node a other x.0.of_node x.0.closed y)
-  fork_lacks_one b one other (inr x) (inr y) = behind_lacks_one b one other x.1 y.1
+  fork_lacks_one b one other (inr x) (inr y) = after_lacks_one b one other x.1 y.1
 
 -- ---- in a log
 

@@ -2,10 +2,10 @@
 use Rattle.std.specs.Prelude.{List, map}
 use Rattle.std.specs.List.{AllByRecursion}
 use Rattle.xdr.specs.Item.{Fits}
-use Rattle.log_entries.specs.declared.entry.Entry.{Entry}
-use Rattle.log_entries.specs.Entry.{entry_item, entry_value}
+use Rattle.secure_log.specs.declared.log_entries.entry.Entry.{Entry}
+use Rattle.secure_log.specs.LogEntries.Entry.{entry_item, entry_value}
 use Rattle.secure_log.specs.Segment.{SegmentParts}
-use Rattle.showings.specs.Evidence.{audited_item, audited_value}
+use Rattle.evidence_showings.specs.evidence_spec.Evidence.{audited_item, audited_value}
 
 -- An audited log has a text.
 abbrev pub HasText : SegmentParts → Type 0

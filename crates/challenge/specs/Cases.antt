@@ -1,14 +1,15 @@
 -- A case: a roster and evidence against one of its members, as a file has them.
 use Rattle.xdr.specs.Item.{Item, Value, pair}
-use Rattle.xdr_texts.specs.Text.{Text}
+use Rattle.xdr.specs.Texts.Text.{Text}
 use Rattle.authenticator.specs.Roster.{roster_item, roster_value, rises_above}
-use Rattle.showings.specs.Evidence.{evidence_item, evidence_value}
+use Rattle.evidence_showings.specs.evidence_spec.Evidence.{evidence_item, evidence_value}
 use Rattle.challenge.specs.declared.case.Case.{Case}
 
--- a case in a text (RFC 4506): the roster, and behind it the evidence
+-- a case in a text (RFC 4506): the roster, and after it the evidence
 abbrev pub case_item : Item
 case_item = pair roster_item evidence_item
 
+-- a case, as its text's value
 abbrev pub case_value : Case → Value case_item
 case_value c = (roster_value c.roster, evidence_value c.evidence)
 

@@ -3,7 +3,7 @@ use Rattle.std.specs.Prelude.{ℕ, Bool, true, false, Option, Some, None}
 use Rattle.challenge.specs.declared.fault.EvidenceFault.{EvidenceFault}
 use Rattle.challenge.specs.declared.fault.EvidenceFault.TheVariants.{Garbage, NoMemory}
 
--- the number of a fault; want of memory has none
+-- the number of a fault; being out of memory has none
 abbrev pub fault_number : EvidenceFault → Option ℕ
 fault_number Garbage = Some 1
 fault_number NoMemory = None

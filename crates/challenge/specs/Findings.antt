@@ -3,21 +3,21 @@ use Rattle.std.specs.Prelude.{◌≡◌, ◌⊎◌, ℕ, Bool, true, false, List
 use Rattle.authenticator.specs.declared.member.Member.{Member}
 use Rattle.authenticator.specs.Roster.{member_of}
 use Rattle.authenticator.specs.Signed.{IsSignedIn}
-use Rattle.log_entries.specs.Chain.{zeros}
+use Rattle.secure_log.specs.LogEntries.Chain.{zeros}
 use Rattle.secure_log.specs.Segment.{SegmentParts, IsClosed}
 use Rattle.secure_log.specs.Segment as segments
-use Rattle.showings.specs.Replay.{Fault, verdict_of}
-use Rattle.showings.specs.Stepping as spec
-use Rattle.showings.specs.Placed.{placed_in}
-use Rattle.showings.specs.Opening.{opening_of}
+use Rattle.replay.specs.replay_spec.Replay.{Fault, verdict_of}
+use Rattle.replay.specs.replay_spec.Stepping as spec
+use Rattle.replay.specs.replay_spec.Placed.{placed_in}
+use Rattle.replay.specs.replay_spec.Opening.{opening_of}
 use Rattle.replay.specs.Faults.{fault_in}
 use Rattle.replay.specs.declared.fault.ReplayFault.{ReplayFault}
 use Rattle.replay.specs.declared.outcome.Outcome.{Outcome}
 use Rattle.replay.specs.declared.outcome.Outcome.TheVariants as outcomes
-use Rattle.showings.specs.Showings.{Ends}
-use Rattle.showings.specs.Showing.{ShowingParts, IsClosedShowing, Shows}
-use Rattle.showings.specs.Evidence.{Charge, Fork, Replay, EvidenceParts}
-use Rattle.showings.specs.Evidence.{ShowsTwo, ShowsNoOpening, AcceptsReplay}
+use Rattle.evidence_showings.specs.Showings.{Ends}
+use Rattle.evidence_showings.specs.evidence_spec.Showing.{ShowingParts, IsClosedShowing, Shows}
+use Rattle.evidence_showings.specs.evidence_spec.Evidence.{Charge, Fork, Replay, EvidenceParts}
+use Rattle.evidence_showings.specs.evidence_spec.Evidence.{ShowsTwo, ShowsNoOpening, AcceptsReplay}
 use Rattle.challenge.specs.declared.finding.Finding.{Finding}
 use Rattle.challenge.specs.declared.finding.Finding.TheVariants as found
 use Rattle.challenge.specs.declared.finding.NotAccepted.{NotAccepted}
@@ -59,7 +59,7 @@ pub record AcceptsFault (ms : List Member) (node : ℕ) (s : SegmentParts) (faul
   pub is_number : accepted.number ≡ number
 
 -- ---- what isn't accepted lacks first
--- What is asked is asked in one order, and what is lacking first is lacking behind all that is asked before
+-- What is asked is asked in one order, and what is lacking first is lacking after all that is asked before
 -- it: one answer is right, and no other.
 
 -- A showing is of a node, and closed.
@@ -82,19 +82,19 @@ abbrev pub HasNoTwo : (at : ℕ) → ShowingParts → Option ShowingParts → Ty
 HasNoTwo at a (Some b) = (one other : List ℕ) → Shows a at one → Shows b at other → one ≡ other
 HasNoTwo at a None = (hash : List ℕ) → Shows a 0 hash → hash ≡ zeros
 
--- Behind a first showing that is closed a fork lacks something first, by name: in its second showing, if it
--- has one; behind that two hashes.
-abbrev pub LacksBehindFirst : List Member → (node at : ℕ) → ShowingParts → Option ShowingParts → NotAccepted
+-- After a first showing that is closed a fork lacks something first, by name: in its second showing, if it
+-- has one; after that two hashes.
+abbrev pub LacksAfterFirst : List Member → (node at : ℕ) → ShowingParts → Option ShowingParts → NotAccepted
     → Type 0
-LacksBehindFirst ms node at a (Some b) reason =
+LacksAfterFirst ms node at a (Some b) reason =
     ShowingLacks ms node b reason
     ⊎ (IsClosedOf ms node b × (reason ≡ reasons.NoTwoHashes) × HasNoTwo at a (Some b))
-LacksBehindFirst ms node at a None reason = (reason ≡ reasons.NoTwoHashes) × HasNoTwo at a None
+LacksAfterFirst ms node at a None reason = (reason ≡ reasons.NoTwoHashes) × HasNoTwo at a None
 
 -- A fork lacks something first, by name.
 abbrev pub ForkLacks : List Member → (node at : ℕ) → ShowingParts → Option ShowingParts → NotAccepted → Type 0
 ForkLacks ms node at a b reason =
-    ShowingLacks ms node a reason ⊎ (IsClosedOf ms node a × LacksBehindFirst ms node at a b reason)
+    ShowingLacks ms node a reason ⊎ (IsClosedOf ms node a × LacksAfterFirst ms node at a b reason)
 
 -- A log is shown from its first entry on.
 pub record IsFromStart (s : SegmentParts) : Type 0 where

@@ -1,5 +1,5 @@
-pub use Rattle.showings.specs.Proving
-pub use Rattle.showings.specs.Evidence
+pub use Rattle.evidence_showings.specs.evidence_spec as evidence_spec
+pub mod CaseFiles
 pub mod FaultNumbers
 pub mod Audited
 pub mod Charges

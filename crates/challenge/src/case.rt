@@ -3,8 +3,8 @@
 ghost use Rattle.std.specs.Prelude.{IfOk, IsTrue};
 ghost use Rattle.xdr.specs.Item.{Fits, spelling};
 ghost use Rattle.xdr.specs.Writing.{Adds, Writes};
-ghost use Rattle.xdr_texts.specs.Text.{GivesText, IsText};
-ghost use Rattle.showings.specs.Evidence.{evidence_value};
+ghost use Rattle.xdr.specs.Texts.Text.{GivesText, IsText};
+ghost use Rattle.evidence_showings.specs.evidence_spec.Evidence.{evidence_value};
 ghost use Rattle.authenticator.specs.Roster.{roster_value};
 ghost use Rattle.challenge.specs.Cases.{case_item, case_text, case_value};
 ghost use Rattle.challenge.specs.FaultNumbers.{is_garbage};
@@ -38,7 +38,7 @@ impl From<ReadError> for EvidenceFault {
     }
 }
 
-/// The case whose text the bytes are, a roster's text with that of evidence behind it. `Garbage` comes
+/// The case whose text the bytes are, a roster's text with that of evidence after it. `Garbage` comes
 /// exactly where they are the text of none, `NoMemory` only where a growth was refused.
 pub fn read_case(alloc: Global, bytes: &[u8]) -> Result<Case, EvidenceFault>
     ensures exact { GivesText is_garbage case_text case_value bytes.now result }
@@ -48,7 +48,7 @@ pub fn read_case(alloc: Global, bytes: &[u8]) -> Result<Case, EvidenceFault>
 }
 
 /// As `read_case`, with the exact clause alone.
-#[tactic(auto, unfolding(xdr_texts::specs::Text::text_at))]
+#[tactic(auto, unfolding(xdr::specs::Texts::Text::text_at))]
 fn case_of(alloc: Global, bytes: &[u8]) -> Result<Case, EvidenceFault>
     ensures { GivesText is_garbage case_text case_value bytes.now result }
 {

@@ -1,13 +1,13 @@
 //! Whether evidence is accepted.
 
 ghost use Rattle.std.specs.Prelude.{◌↔◌, IfOk, IsTrue};
-ghost use Rattle.showings.specs.Evidence.{Accepts};
-ghost use Rattle.showings.specs.Proving.{Proves};
+ghost use Rattle.evidence_showings.specs.evidence_spec.Evidence.{Accepts};
+ghost use Rattle.evidence_showings.specs.evidence_spec.Proving.{Proves};
 
 use crate::evidence::Evidence;
 use crate::find::examine;
 use authenticator::Roster;
-use showings::evidence_laws::accepted_evidence_proves;
+use evidence_showings::evidence_spec_code::laws::accepted_evidence_proves;
 use std::alloc::{AllocError, Global};
 
 /// Whether evidence is accepted under a roster. Where it is, it proves that no log of the node is honest

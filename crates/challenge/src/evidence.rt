@@ -2,13 +2,13 @@
 
 ghost use Rattle.std.specs.Prelude.{◌≡◌, ◌<◌, ◌^◌};
 ghost use Rattle.xdr.specs.Item.{Fits, choice};
-ghost use Rattle.showings.specs.Evidence.{evidence_item, evidence_value};
-ghost use Rattle.showings.specs.Evidence as spec;
+ghost use Rattle.evidence_showings.specs.evidence_spec.Evidence.{evidence_item, evidence_value};
+ghost use Rattle.evidence_showings.specs.evidence_spec.Evidence as spec;
 ghost use Rattle.challenge.specs.Charges.{charge_in, fork_in};
 
 use crate::audited::AuditedLog;
 use authenticator::Number;
-use showings::Showing;
+use evidence_showings::Showing;
 use std::marker::Model;
 
 /// Two hashes at one number: one showing shows each. With one showing alone, it shows another hash than 32
@@ -40,7 +40,7 @@ pub struct Evidence {
 }
 
 impl Model for Evidence {
-    ghost use Rattle.showings.specs.Evidence.{EvidenceParts};
+    ghost use Rattle.evidence_showings.specs.evidence_spec.Evidence.{EvidenceParts};
 
     ghost Value = { EvidenceParts };
 

@@ -17,7 +17,7 @@ impl EvidenceFault {
     ghost use Rattle.std.specs.Prelude.{◌≡◌};
     ghost use Rattle.challenge.specs.FaultNumbers.{fault_number};
 
-    /// The number that programs print: 1 Garbage. Want of memory has none.
+    /// The number that programs print: 1 Garbage. Being out of memory has none.
     pub fn number(self) -> Option<u32>
         ensures { result ≡ fault_number self }
     {

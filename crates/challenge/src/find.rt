@@ -1,8 +1,8 @@
 //! What is found in evidence.
 
 ghost use Rattle.std.specs.Prelude.{◌≡◌, ◌↔◌, IfErr, IfNone, IfOk, IfSome, IsTrue, None, Some};
-ghost use Rattle.log_entries.specs.Chain.{zeros};
-ghost use Rattle.showings.specs.Evidence.{Accepts};
+ghost use Rattle.secure_log.specs.LogEntries.Chain.{zeros};
+ghost use Rattle.evidence_showings.specs.evidence_spec.Evidence.{Accepts};
 ghost use Rattle.challenge.specs.Findings.{Finds, FindsInFork, FindsInLog, LogLacks, ShowingLacks};
 ghost use Rattle.challenge.specs.Findings.{IsAudited, IsClosedOf, IsFromStart, OneFinding};
 ghost use Rattle.challenge.specs.Findings.{finding_in, is_accepted};
@@ -11,8 +11,8 @@ use crate::audited::AuditedLog;
 use crate::evidence::{Charge, Evidence, Fork};
 use crate::finding::{Finding, NotAccepted};
 use authenticator::{Member, Number, Roster, is_signed_by};
+use evidence_showings::{Showing, is_signed_in};
 use replay::{Outcome, opening_state, replay_outcome};
-use showings::{Showing, is_signed_in};
 use std::alloc::{AllocError, Global};
 
 /// What is found in evidence under a roster: with what it is accepted, or the first that it lacks. Closings
@@ -74,7 +74,7 @@ fn find_in_two(roster: &Roster, node: u32, at: Number, a: &Showing, b: &Showing)
 }
 
 /// What is found in one showing alone, which is closed.
-#[tactic(auto, unfolding(log_entries::specs::Chain::zeros))]
+#[tactic(auto, unfolding(secure_log::specs::LogEntries::Chain::zeros))]
 fn find_in_one(roster: &Roster, node: u32, at: Number, a: &Showing) -> Finding
     requires { IsClosedOf roster.now node a.now }
     ensures { FindsInFork roster.now node at a.now None result }
@@ -117,7 +117,7 @@ fn is_same(one: &[u8; 32], other: &[u8; 32]) -> bool
 }
 
 /// Whether a hash is 32 zero bytes, as before a log's first entry.
-#[tactic(auto, unfolding(log_entries::specs::Chain::zeros))]
+#[tactic(auto, unfolding(secure_log::specs::LogEntries::Chain::zeros))]
 fn is_zeros(hash: &[u8; 32]) -> bool
     ensures { IsTrue result ↔ (hash.now ≡ zeros) }
 {

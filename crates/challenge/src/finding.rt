@@ -26,7 +26,7 @@ pub enum NotAccepted {
     /// A showing or the log is of another node than the evidence.
     #[error("what is shown is of another node")]
     AnotherNode,
-    /// The log doesn't begin with the first entry, behind 32 zero bytes.
+    /// The log doesn't begin with the first entry, after 32 zero bytes.
     #[error("the log is not shown from its first entry on")]
     NotFromStart,
     /// A showing begins at 0, or what is shown doesn't end in its closing's node, number and hash.

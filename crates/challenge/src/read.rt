@@ -4,11 +4,11 @@ ghost use Rattle.std.specs.Prelude.{◌≡◌, IfOk, MatchResult, option_map};
 ghost use Rattle.xdr.specs.Item.{Value, choice, optional};
 ghost use Rattle.xdr.specs.Reading.{GivesUnless};
 ghost use Rattle.xdr.specs.ReadError.{xdr_fault};
-ghost use Rattle.xdr_texts.specs.Text.{GivesText, IsText};
-ghost use Rattle.showings.specs.Showing.{showing_item, showing_value};
-ghost use Rattle.showings.specs.Evidence.{audited_item, audited_value, evidence_item, evidence_value};
-ghost use Rattle.showings.specs.Evidence.{evidence_text, fork_item, fork_value};
-ghost use Rattle.showings.specs.Evidence.{charge_item, charge_value, is_charge};
+ghost use Rattle.xdr.specs.Texts.Text.{GivesText, IsText};
+ghost use Rattle.evidence_showings.specs.evidence_spec.Showing.{showing_item, showing_value};
+ghost use Rattle.evidence_showings.specs.evidence_spec.Evidence.{audited_item, audited_value, evidence_item, evidence_value};
+ghost use Rattle.evidence_showings.specs.evidence_spec.Evidence.{evidence_text, fork_item, fork_value};
+ghost use Rattle.evidence_showings.specs.evidence_spec.Evidence.{charge_item, charge_value, is_charge};
 ghost use Rattle.challenge.specs.FaultNumbers.{is_garbage};
 ghost use Rattle.challenge.specs.Charges.{charge_in, fork_in};
 ghost use Rattle.challenge.specs.declared.fault.EvidenceFault.TheVariants.{NoMemory};
@@ -17,10 +17,11 @@ use crate::audited::AuditedLog;
 use crate::evidence::{Charge, Evidence, Fork};
 use crate::fault::EvidenceFault;
 use authenticator::{Authenticator, Number};
-use showings::{MAX_AUDITED, Showing};
+use evidence_showings::Showing;
+use evidence_showings::evidence_spec_code::MAX_AUDITED;
 use std::alloc::Global;
+use xdr::texts::{FromText, TextError, read_text};
 use xdr::{FromXdr, ReadError, Reader, XdrFault, put_back_on_err, read_array};
-use xdr_texts::{FromText, TextError, read_text};
 
 /// The evidence whose text the bytes are. `Garbage` comes exactly where they are the text of none, `NoMemory`
 /// only where a growth was refused. Nothing is reserved by a count alone.

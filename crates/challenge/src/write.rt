@@ -4,18 +4,18 @@ ghost use Rattle.std.specs.Prelude.{◌≤◌, IfOk, length, map, option_map};
 ghost use Rattle.std.specs.List.{flat_map};
 ghost use Rattle.xdr.specs.Item.{array, choice, optional, spelling};
 ghost use Rattle.xdr.specs.Writing.{Adds, Writes};
-ghost use Rattle.xdr_texts.specs.Text.{IsText};
-ghost use Rattle.log_entries.specs.Entry.{entry_item, entry_value};
-ghost use Rattle.showings.specs.Showing.{showing_item, showing_value};
-ghost use Rattle.showings.specs.Evidence.{MAX_AUDITED, audited_value, evidence_item, evidence_value};
-ghost use Rattle.showings.specs.Evidence.{evidence_text, fork_value};
-ghost use Rattle.showings.specs.Evidence.{charge_item, charge_value, is_charge};
+ghost use Rattle.xdr.specs.Texts.Text.{IsText};
+ghost use Rattle.secure_log.specs.LogEntries.Entry.{entry_item, entry_value};
+ghost use Rattle.evidence_showings.specs.evidence_spec.Showing.{showing_item, showing_value};
+ghost use Rattle.evidence_showings.specs.evidence_spec.Evidence.{MAX_AUDITED, audited_value, evidence_item, evidence_value};
+ghost use Rattle.evidence_showings.specs.evidence_spec.Evidence.{evidence_text, fork_value};
+ghost use Rattle.evidence_showings.specs.evidence_spec.Evidence.{charge_item, charge_value, is_charge};
 ghost use Rattle.challenge.specs.Charges.{charge_in, fork_in};
 
 use crate::audited::AuditedLog;
 use crate::evidence::{Charge, Evidence, Fork};
-use secure_log::Entry;
-use showings::Showing;
+use evidence_showings::Showing;
+use secure_log::log_entries::Entry;
 use std::alloc::{AllocError, Global};
 use xdr::{Writer, all_or_nothing};
 

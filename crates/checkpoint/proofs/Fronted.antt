@@ -14,7 +14,7 @@ use Rattle.state_spec.specs.State.{Machine, Server, Client, clock_in, State}
 use Rattle.state_spec.specs.StateItems.{received_item, received_value, sent_item, sent_value, stage_item, stage_value, mount_item, state_item, state_value, machine_value}
 use Rattle.checkpoint.specs.Fronts.{kind_of, rest_front, front_text, files_text}
 
--- seven texts in a row, and one behind them
+-- seven texts in a row, and one after them
 seven : (a b c d e f g h : List ℕ) → (a ++ (b ++ (c ++ (d ++ (e ++ (f ++ g)))))) ++ h
     ≡ a ++ (b ++ (c ++ (d ++ (e ++ (f ++ (g ++ h))))))
 seven a b c d e f g h =
@@ -27,7 +27,7 @@ seven a b c d e f g h =
 three : (a b c d : List ℕ) → (a ++ (b ++ c)) ++ d ≡ a ++ (b ++ (c ++ d))
 three a b c d = append_assoc a (b ++ c) d ∙ ap (λ t. a ++ t) (append_assoc b c d)
 
--- all up to what stands behind the messages, and a text there
+-- all up to what stands after the messages, and a text there
 abbrev before : State → ℕ → Timeval → List ℕ → List ℕ
 before s kind clock t =
     number_spelling 4 1
@@ -45,12 +45,12 @@ behind s kind clock t u =
     (spelling (array max_received received_item) (map received_value (finite.keys s.received)))
     (spelling (array max_sends sent_item) (map sent_value (finite.entries s.sends))) t u
 
--- a text that was added behind another
-pub added_behind : {E : Type 0} (first rest old mid new : List ℕ) (r : Result (Unit {0}) E) → mid
+-- a text that was added after another
+pub added_after : {E : Type 0} (first rest old mid new : List ℕ) (r : Result (Unit {0}) E) → mid
     ≡ old ++ first
     → Adds rest mid r new → Adds (first ++ rest) old r new
-added_behind first rest old mid new (Ok x) e h = h ∙ ap (λ t. t ++ rest) e ∙ append_assoc old first rest
-added_behind first rest old mid new (Err x) e h =
+added_after first rest old mid new (Ok x) e h = h ∙ ap (λ t. t ++ rest) e ∙ append_assoc old first rest
+added_after first rest old mid new (Err x) e h =
     (first ++ h.0, h.1 ∙ ap (λ t. t ++ h.0) e ∙ append_assoc old first h.0)
 
 -- what was added, under another name

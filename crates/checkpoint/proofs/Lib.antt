@@ -1,3 +1,5 @@
+mod OfTrees
+pub mod OfParts
 pub mod Chosen
 pub mod Fronted
 pub mod MountedHosts

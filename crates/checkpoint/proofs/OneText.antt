@@ -1,7 +1,7 @@
 -- A text is that of one state.
 -- Serves: read_state.
 use Rattle.std.proofs.Common.{◌≡◌, ℕ, List, Some, sym, ◌∙◌}
-use Rattle.xdr_texts.specs.Text.{text_at}
+use Rattle.xdr.specs.Texts.Text.{text_at}
 use Rattle.fs_model.proofs.Walks.{none_some, some_same}
 use Rattle.state_spec.specs.State.{State}
 use Rattle.state_spec.specs.StateText.{Said, spelled_text, IsStateText, IsGarbage}

@@ -11,20 +11,20 @@ use Rattle.xdr.specs.Item.{Value, Fits}
 use Rattle.nfs_items.specs.Timeval.{Timeval}
 use Rattle.fs_model.specs.Files.{File}
 use Rattle.fs_model.specs.Trees.{IsTime, IsFileTree}
-use Rattle.fs_changes.specs.Limits.{has_room}
-use Rattle.fs_rules.specs.Rules.{AreRising, numbers_of}
-use Rattle.fs_rules.proofs.Listed.{in_order, entries_listed}
-use Rattle.worlds.specs.World.{World}
-use Rattle.worlds.specs.IsWorld.{IsWorld}
-use Rattle.worlds.proofs.Mounted.{are_of_the_root, are_different}
-use Rattle.file_texts.specs.FileItems.{file_item}
-use Rattle.file_texts.specs.FileValues.{time_from, body_from, file_from, numbered_from}
-use Rattle.file_texts.specs.Parts.{kind_said, file_said, time_of, file_of, files_given}
-use Rattle.file_texts.specs.declared.parts.TimePart.{TimePart}
-use Rattle.file_texts.specs.declared.parts.AttributesPart.{AttributesPart}
-use Rattle.file_texts.specs.declared.parts.BodyPart.{BodyPart}
-use Rattle.file_texts.specs.declared.parts.BodyPart.TheVariants.{Regular, Symlink, Directory}
-use Rattle.file_texts.specs.declared.parts.FilePart.{FilePart}
+use Rattle.fs_model.specs.Changes.Limits.{has_room}
+use Rattle.file_tree.specs.tree_rules.FileRules.Rules.{AreRising, numbers_of}
+use Rattle.file_tree.proofs.tree_rules.OfFileRules.Listed.{in_order, entries_listed}
+use Rattle.state_machine.specs.worlds.World.{World}
+use Rattle.state_machine.specs.worlds.IsWorld.{IsWorld}
+use Rattle.state_machine.proofs.worlds.Mounted.{are_of_the_root, are_different}
+use Rattle.state_machine.specs.file_texts.FileItems.{file_item}
+use Rattle.state_machine.specs.file_texts.FileValues.{time_from, body_from, file_from, numbered_from}
+use Rattle.state_machine.specs.file_texts.Parts.{kind_said, file_said, time_of, file_of, files_given}
+use Rattle.state_machine.specs.file_texts.declared.parts.TimePart.{TimePart}
+use Rattle.state_machine.specs.file_texts.declared.parts.AttributesPart.{AttributesPart}
+use Rattle.state_machine.specs.file_texts.declared.parts.BodyPart.{BodyPart}
+use Rattle.state_machine.specs.file_texts.declared.parts.BodyPart.TheVariants.{Regular, Symlink, Directory}
+use Rattle.state_machine.specs.file_texts.declared.parts.FilePart.{FilePart}
 use Rattle.state_spec.specs.State.{ReceivedMessage, received_cmp, State, IsState}
 use Rattle.state_spec.specs.State as spec
 use Rattle.state_spec.specs.StateItems.{sent_item, received_value, state_item}
@@ -34,14 +34,14 @@ use Rattle.state_spec.specs.Rules.{ListsRise, KeepsRules}
 use Rattle.state_spec.proofs.Back.{map_back}
 use Rattle.state_spec.proofs.Forth.{entries_of_map, forth}
 use Rattle.state_spec.proofs.Ruled.{rules_of_state, state_of_rules}
-use Rattle.states.specs.Numbered.{numbered}
-use Rattle.states.specs.declared.texts.NumberedSend.{NumberedSend}
-use Rattle.state_parts.specs.SaidParts.{sent_said, mounts_given, stage_said, world_said, machine_said}
-use Rattle.state_parts.specs.declared.parts.StagePart.{StagePart}
-use Rattle.state_parts.specs.declared.parts.StagePart.TheVariants as stages
-use Rattle.state_parts.specs.declared.parts.WorldPart.{WorldPart}
-use Rattle.state_parts.specs.declared.parts.MachinePart.{MachinePart}
-use Rattle.state_parts.specs.declared.parts.MachinePart.TheVariants.{Server, Client}
+use Rattle.state_machine.specs.States.Numbered.{numbered}
+use Rattle.state_machine.specs.declared.states.texts.NumberedSend.{NumberedSend}
+use Rattle.checkpoint.specs.Parts.SaidParts.{sent_said, mounts_given, stage_said, world_said, machine_said}
+use Rattle.checkpoint.specs.declared.parts.parts.StagePart.{StagePart}
+use Rattle.checkpoint.specs.declared.parts.parts.StagePart.TheVariants as stages
+use Rattle.checkpoint.specs.declared.parts.parts.WorldPart.{WorldPart}
+use Rattle.checkpoint.specs.declared.parts.parts.MachinePart.{MachinePart}
+use Rattle.checkpoint.specs.declared.parts.parts.MachinePart.TheVariants.{Server, Client}
 use Rattle.checkpoint.specs.PartWorlds.{stage_given, world_given, IsServed}
 
 -- ---- lists

@@ -3,7 +3,7 @@ use Rattle.std.specs.Prelude.{ℕ, Option, Some, None}
 use Rattle.checkpoint.specs.declared.read.StateError.{StateError}
 use Rattle.checkpoint.specs.declared.read.StateError.TheVariants.{Garbage, NotAState, NoMemory}
 
--- want of memory has none
+-- being out of memory has none
 abbrev pub error_number : StateError → Option ℕ
 error_number Garbage = Some 1
 error_number NotAState = Some 2

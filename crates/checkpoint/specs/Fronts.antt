@@ -15,7 +15,7 @@ abbrev pub kind_of : Machine → ℕ
 kind_of (Server w stage) = 1
 kind_of (Client clock) = 2
 
--- what stands behind the messages, up to the files: a server's stage, next number and mounts; a client's
+-- what stands after the messages, up to the files: a server's stage, next number and mounts; a client's
 -- stage
 abbrev pub rest_front : Machine → List ℕ
 rest_front (Server w stage) =
@@ -34,7 +34,7 @@ front_text s =
     ++ (spelling (array max_sends sent_item) (map sent_value (finite.entries s.sends))
     ++ rest_front s.machine)))))
 
--- a server's files behind their count, where `value` is said of each
+-- a server's files after their count, where `value` is said of each
 abbrev pub files_text : (file : Item) → (ℕ × File → Value file) → Machine → List ℕ
 files_text file value (Server w stage) =
     spelling (array max_files file) (map value (finite.entries w.files.files))

@@ -1,6 +1,8 @@
-pub use Rattle.machines.specs.Steps
-pub use Rattle.state_spec.specs.Codes
-pub use Rattle.machines.specs.Machines
+pub use Rattle.state_machine.specs.service as service
+pub use Rattle.state_machine.specs as state_machine
+pub use Rattle.state_spec.specs as state_spec
+pub mod Trees
+pub mod Parts
 pub mod Fronts
 pub mod PartWorlds
 pub mod ErrorNumbers

@@ -1,17 +1,17 @@
 -- What the parts of a server's text give.
 use Rattle.std.specs.Prelude.{ℕ}
 use Rattle.nfs_items.specs.Timeval.{Timeval}
-use Rattle.fs_rules.specs.Rules.{files_listed}
-use Rattle.worlds.specs.World.{World, world_of}
-use Rattle.file_texts.specs.Parts.{files_given}
-use Rattle.tree_texts.specs.ServedTrees.{IsServedTree}
+use Rattle.file_tree.specs.tree_rules.FileRules.Rules.{files_listed}
+use Rattle.state_machine.specs.worlds.World.{World, world_of}
+use Rattle.state_machine.specs.file_texts.Parts.{files_given}
+use Rattle.checkpoint.specs.Trees.ServedTrees.{IsServedTree}
 use Rattle.state_spec.specs.State.{Stage}
 use Rattle.state_spec.specs.State as spec
 use Rattle.state_spec.specs.Rules.{MountsAreOfTheRoot, MountsDiffer}
-use Rattle.state_parts.specs.SaidParts.{mounts_given}
-use Rattle.state_parts.specs.declared.parts.StagePart.{StagePart}
-use Rattle.state_parts.specs.declared.parts.StagePart.TheVariants.{Idle, Heard, Owes}
-use Rattle.state_parts.specs.declared.parts.WorldPart.{WorldPart}
+use Rattle.checkpoint.specs.Parts.SaidParts.{mounts_given}
+use Rattle.checkpoint.specs.declared.parts.parts.StagePart.{StagePart}
+use Rattle.checkpoint.specs.declared.parts.parts.StagePart.TheVariants.{Idle, Heard, Owes}
+use Rattle.checkpoint.specs.declared.parts.parts.WorldPart.{WorldPart}
 
 -- the stage of a part
 abbrev pub stage_given : StagePart → Stage

@@ -3,16 +3,16 @@
 ghost use Rattle.std.specs.Prelude.{◌≡◌, IfOk};
 ghost use Rattle.xdr.specs.Item.{fixed};
 ghost use Rattle.xdr.specs.Writing.{Adds};
-ghost use Rattle.file_texts.specs.FileItems.{file_digest};
+ghost use Rattle.state_machine.specs.file_texts.FileItems.{file_digest};
 ghost use Rattle.state_spec.specs.StateText.{state_digest};
-ghost use Rattle.machines.specs.Machines.{machine_in};
+ghost use Rattle.state_machine.specs.Machines.{machine_in};
 ghost use Rattle.checkpoint.specs.Fronts.{files_text};
 
 use crate::front::add_front;
-use machines::{Machine, State};
+use crate::trees::add_tree_digests;
 use sha2::{Digest, Sha256};
+use state_machine::{Machine, State};
 use std::alloc::{AllocError, Global};
-use tree_texts::add_tree_digests;
 
 /// The digest of a state: that of its text with each file's digest in the place of the file's text.
 #[tactic(auto, unfolding(state_spec::specs::StateText::state_digest))]
@@ -25,7 +25,7 @@ pub fn state_digest(alloc: Global, state: &State) -> Result<[u8; 32], AllocError
     Ok(Sha256::digest(out.as_slice()))
 }
 
-/// The digests of a server's files behind their count; a client has none. Where memory is refused a part may
+/// The digests of a server's files after their count; a client has none. Where memory is refused a part may
 /// stand.
 fn add_digests(alloc: Global, machine: &Machine, out: &mut Vec<u8>) -> Result<(), AllocError>
     ensures { Adds (files_text (fixed 32) file_digest (machine_in machine.now))

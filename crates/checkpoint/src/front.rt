@@ -6,13 +6,13 @@ ghost use Rattle.xdr.specs.Writing.{Adds};
 ghost use Rattle.nfs_items.specs.Timeval.{timeval, timeval_value};
 ghost use Rattle.state_spec.specs.Limits.{max_body};
 ghost use Rattle.state_spec.specs.StateItems.{stage_item, stage_value};
-ghost use Rattle.machines.specs.Stages.{stage_in};
-ghost use Rattle.machines.specs.Machines.{machine_in};
+ghost use Rattle.state_machine.specs.Stages.{stage_in};
+ghost use Rattle.state_machine.specs.Machines.{machine_in};
 ghost use Rattle.checkpoint.specs.Fronts.{kind_of, rest_front, front_text};
 
 use crate::mounts::add_mounts;
-use machines::{Machine, MessageBody, Stage, State};
 use nfs_items::Time;
+use state_machine::{Machine, MessageBody, Stage, State};
 use std::alloc::AllocError;
 use xdr::Writer;
 
@@ -49,7 +49,7 @@ fn add_time(time: Time, out: &mut Vec<u8>) -> Result<(), AllocError>
     out.put_u32(time.microseconds())
 }
 
-/// What stands behind the messages, up to the files. The stage of a client is 0.
+/// What stands after the messages, up to the files. The stage of a client is 0.
 fn add_rest(machine: &Machine, out: &mut Vec<u8>) -> Result<(), AllocError>
     ensures { Adds (rest_front (machine_in machine.now)) out.old.items result out.new.items }
 {

@@ -4,15 +4,13 @@
 mod digest;
 mod front;
 mod mounts;
+pub mod parts;
 mod read;
-#[cfg(test)]
-mod tests;
 mod text;
-#[cfg(test)]
-mod words;
+pub mod trees;
 
 pub use digest::state_digest;
-pub use machines::{Machine, MessageBody, Stage, State};
 pub use read::{StateError, read_state};
-pub use state_spec::laws as state_laws;
+pub use state_machine as state_machine_code;
+pub use state_spec as state_spec_code;
 pub use text::state_text;

@@ -8,14 +8,14 @@ ghost use Rattle.mount_types.specs.declared.limits.TheConstants.{MNTNAMLEN};
 ghost use Rattle.mount_types.specs.Mounts.{max_mounts, root_of};
 ghost use Rattle.state_spec.specs.StateItems.{mount_item};
 
-use state_parts::MountTable;
+use state_machine::mount_code::MountTable;
 use std::alloc::AllocError;
 use xdr::Writer;
 
 /// The one directory that can be mounted.
 const ROOT: &[u8] = b"/";
 
-/// Appends mounts behind their count, in order of mounting; where memory is refused a part may stand.
+/// Appends mounts after their count, in order of mounting; where memory is refused a part may stand.
 pub fn add_mounts(mounts: &MountTable, out: &mut Vec<u8>) -> Result<(), AllocError>
     ensures { Adds (spelling (array max_mounts mount_item) mounts.now) out.old.items result out.new.items }
 {

@@ -3,28 +3,29 @@
 ghost use Rattle.std.specs.Prelude.{◌≡◌, IfOk, IfErr, MatchOption, MatchResult};
 ghost use Rattle.xdr.specs.Item.{Fits};
 ghost use Rattle.fs_model.specs.Trees.{IsTime};
-ghost use Rattle.file_texts.specs.FileItems.{file_item};
-ghost use Rattle.file_texts.specs.Parts.{time_of};
+ghost use Rattle.state_machine.specs.file_texts.FileItems.{file_item};
+ghost use Rattle.state_machine.specs.file_texts.Parts.{time_of};
 ghost use Rattle.state_spec.specs.State as spec;
 ghost use Rattle.state_spec.specs.StateItems.{state_item};
 ghost use Rattle.state_spec.specs.StateText.{IsStateText, IsGarbage, IsNotAState};
 ghost use Rattle.state_spec.specs.StateValues.{state_from};
 ghost use Rattle.state_spec.specs.Rules.{KeepsRules};
-ghost use Rattle.state_parts.specs.SaidParts.{state_said};
-ghost use Rattle.state_parts.specs.Bounds.{AreBounded, IsBoundedWorld, IsShortStage};
-ghost use Rattle.machines.specs.Stages.{stage_in};
+ghost use Rattle.checkpoint.specs.Parts.SaidParts.{state_said};
+ghost use Rattle.checkpoint.specs.Parts.Bounds.{AreBounded, IsBoundedWorld, IsShortStage};
+ghost use Rattle.state_machine.specs.Stages.{stage_in};
 ghost use Rattle.checkpoint.specs.PartWorlds.{IsServed, stage_given, world_given};
 ghost use Rattle.checkpoint.specs.declared.read.StateError.TheVariants.{Garbage, NoMemory, NotAState};
 
-use machines::{MessageBody, Service, Stage, State};
-use nfs_items::Time;
-use state_parts::{
+use crate::parts::{
     MachinePart, PartsError, StagePart, StatePart, WorldPart, mounts_of, read_parts,
 };
-use states::{Received, Sends};
+use crate::trees::tree_of;
+use nfs_items::Time;
+use state_machine::service_code::Service;
+use state_machine::states::{Received, Sends};
+use state_machine::{MessageBody, Stage, State};
 use std::alloc::{AllocError, Global};
 use thiserror::Error;
-use tree_texts::tree_of;
 
 /// Why bytes could not be read as the text of a state.
 #[derive(Clone, Copy, Debug, PartialEq, Eq, Error)]
@@ -32,7 +33,7 @@ pub enum StateError {
     #[error("out of memory")]
     NoMemory,
     /// They aren't spelled as a state is: another version, an unknown kind, stage or file type, a count or
-    /// length above its bound, or something behind the text.
+    /// length above its bound, or something after the text.
     #[error("the bytes are not spelled as a state is")]
     Garbage,
     /// They are spelled so, and no state says what they say: a limit, an order or a rule of the tree is
@@ -45,7 +46,7 @@ impl StateError {
     ghost use Rattle.std.specs.Prelude.{◌≡◌};
     ghost use Rattle.checkpoint.specs.ErrorNumbers.{error_number};
 
-    /// The number that programs print: 1 Garbage, 2 NotAState. Want of memory has none.
+    /// The number that programs print: 1 Garbage, 2 NotAState. Being out of memory has none.
     pub fn number(self) -> Option<u32>
         ensures { result ≡ error_number self }
     {

@@ -2,15 +2,15 @@
 
 ghost use Rattle.std.specs.Prelude.{◌≡◌, IfOk};
 ghost use Rattle.xdr.specs.Writing.{Adds};
-ghost use Rattle.file_texts.specs.FileItems.{file_item, file_value};
+ghost use Rattle.state_machine.specs.file_texts.FileItems.{file_item, file_value};
 ghost use Rattle.state_spec.specs.StateText.{IsStateText};
-ghost use Rattle.machines.specs.Machines.{machine_in};
+ghost use Rattle.state_machine.specs.Machines.{machine_in};
 ghost use Rattle.checkpoint.specs.Fronts.{files_text};
 
 use crate::front::add_front;
-use machines::{Machine, State};
+use crate::trees::add_tree;
+use state_machine::{Machine, State};
 use std::alloc::{AllocError, Global};
-use tree_texts::add_tree;
 
 /// The text of a state (RFC 4506), as docs/FORMATS.md has it.
 pub fn state_text(alloc: Global, state: &State) -> Result<Vec<u8>, AllocError>
@@ -23,7 +23,7 @@ pub fn state_text(alloc: Global, state: &State) -> Result<Vec<u8>, AllocError>
     Ok(out)
 }
 
-/// A server's files behind their count; a client has none. Where memory is refused a part may stand.
+/// A server's files after their count; a client has none. Where memory is refused a part may stand.
 fn add_files(machine: &Machine, out: &mut Vec<u8>) -> Result<(), AllocError>
     ensures { Adds (files_text file_item file_value (machine_in machine.now))
         out.old.items result out.new.items }

@@ -1,4 +1,4 @@
-pub use Rattle.senders.proofs.Signed
-pub use Rattle.senders.proofs.Meanings
+pub mod OfSignings
+pub mod OfSenders
 pub mod Messages
 pub mod Receipts

@@ -7,12 +7,9 @@ pub mod laws;
 mod outcome;
 mod receiver;
 mod refusal;
+pub mod senders;
+pub mod signings;
 
-pub use envelopes::{Message, check_ack, check_envelope};
 pub use outcome::Received;
 pub use receiver::Receiver;
 pub use refusal::Refusal;
-pub use senders::{
-    Ack, AckRef, Authenticator, Body, Checked, Entry, Envelope, EnvelopeRef, Kind, Log, Member,
-    Number, OpenSegment, Roster, SegmentFault, SendRefusal, Sender, SignatureText,
-};

@@ -1,6 +1,6 @@
 //! What became of an envelope.
 
-use senders::Number;
+use authenticator::Number;
 
 /// What became of an envelope that wasn't refused. `Receiver::sender` gives the acknowledgement that is due
 /// by the number.

@@ -4,7 +4,7 @@ ghost use Rattle.std.specs.Prelude.{◌≡◌};
 ghost use Rattle.commitment.specs.declared.refusal.Refusal.TheVariants.{NoMemory};
 ghost use Rattle.commitment.specs.RefusalNumbers.{refusal_of};
 
-use senders::SendRefusal;
+use crate::senders::SendRefusal;
 use std::alloc::AllocError;
 use thiserror::Error;
 
@@ -32,7 +32,7 @@ impl Refusal {
     ghost use Rattle.std.specs.Prelude.{◌≡◌};
     ghost use Rattle.commitment.specs.RefusalNumbers.{refusal_number};
 
-    /// The number that programs print, from 1 to 4 in the order above. Want of memory has none.
+    /// The number that programs print, from 1 to 4 in the order above. Being out of memory has none.
     pub fn number(self) -> Option<u32>
         ensures { result ≡ refusal_number self }
     {

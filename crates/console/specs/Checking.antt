@@ -2,16 +2,16 @@
 use Rattle.std.specs.Prelude.{◌≡◌, ◌⊎◌, ℕ, List, ◌++◌, Option, Some, None, IfSome, codes}
 use Rattle.std.specs.Prelude.{decimal}
 use Rattle.std.specs.Io.KnownBytes.{Appends}
-use Rattle.xdr_texts.specs.Text.{text_at}
-use Rattle.rpc.specs.Writing.{WritesFront}
-use Rattle.case_files.specs.Evidence.{Accepts}
-use Rattle.case_files.specs.Proving.{Proves}
-use Rattle.case_files.specs.Cases.{case_text, case_value}
-use Rattle.case_files.specs.Case.{Case}
+use Rattle.xdr.specs.Texts.Text.{text_at}
+use Rattle.rpc.specs.Records.Writing.{WritesFront}
+use Rattle.challenge.specs.evidence_spec.Evidence.{Accepts}
+use Rattle.challenge.specs.evidence_spec.Proving.{Proves}
+use Rattle.challenge.specs.Cases.{case_text, case_value}
+use Rattle.challenge.specs.declared.case.Case.{Case}
 use Rattle.console.specs.declared.checking.Judgement.{Judgement}
 use Rattle.console.specs.declared.checking.Judgement.TheVariants.{Exposed, NoEvidence}
 
--- The bytes are a roster's text with that of evidence against this node behind it, which is accepted under
+-- The bytes are a roster's text with that of evidence against this node after it, which is accepted under
 -- that roster, and so proves that no log of the node is honest.
 pub record Exposes (bytes : List ℕ) (node : ℕ) : Type 0 where
   pub case : Case
@@ -42,7 +42,7 @@ abbrev pub line_of : Judgement → List ℕ
 line_of (Exposed node) = codes "exposed " ++ (decimal node ++ codes "\n")
 line_of NoEvidence = codes "no evidence\n"
 
--- the line, with more behind it
+-- the line, with more after it
 pub record IsExplained (judgement : Judgement) (text : List ℕ) : Type 0 where
   pub more : List ℕ
   pub whole : text ≡ line_of judgement ++ more
@@ -61,7 +61,7 @@ pub record SaysPart (input before after : Option (List ℕ)) : Type 0 where
   pub judged : IfSome input (λ bytes. Judges bytes judgement)
   pub written : WritesFront before after (line_of judgement)
 
--- the line, with more behind it
+-- the line, with more after it
 pub record ExplainsPart (input before after : Option (List ℕ)) : Type 0 where
   pub judgement : Judgement
   pub text : List ℕ

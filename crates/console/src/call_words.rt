@@ -1,6 +1,7 @@
 //! Calls in plain words.
 
-use nfs_types::{DirOpArgs, FileHandle, NfsArgs, NfsProcedure, read_args};
+use nfs_items::FileHandle;
+use nfs_types::{DirOpArgs, NfsArgs, NfsProcedure, read_args};
 use rpc::{CallBody, Header, read_call};
 use std::alloc::{AllocError, Global};
 use std::fmt;

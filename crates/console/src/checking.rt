@@ -2,14 +2,15 @@
 
 ghost use Rattle.std.specs.Prelude.{◌≡◌, ◌⊎◌, IfOk, IfSome, IsErrOf, OnOk, string_bytes};
 ghost use Rattle.std.specs.Io.KnownBytes.{Appends};
-ghost use Rattle.rpc.specs.Count.{Rises};
+ghost use Rattle.rpc.specs.Records.Count.{Rises};
 ghost use Rattle.console.specs.Checking.{Judges, JudgesCase};
 ghost use Rattle.console.specs.Checking.{line_of, IsExplained, WritesExplained, SaysPart, ExplainsPart};
 ghost use Rattle.console.specs.declared.checking.CheckFault.TheVariants.{NoMemory, Device};
 
 use crate::explain::{NO_CASE, explanation};
-use case_files::{Case, EvidenceFault, check_evidence, take_case};
-use rpc::{Counting, write_bytes};
+use challenge::case_files::take_case;
+use challenge::{Case, EvidenceFault, check_evidence};
+use rpc::records::{Counting, write_bytes};
 use std::alloc::{AllocError, Global};
 use std::io::{Read, Write};
 use thiserror::Error;
@@ -47,7 +48,7 @@ impl From<AllocError> for CheckFault {
 }
 
 /// What is said of a file's bytes, which are given back to memory while they are read: `Exposed` exactly
-/// where they are a roster's text, and behind it that of evidence that is accepted under it. `AllocError`
+/// where they are a roster's text, and after it that of evidence that is accepted under it. `AllocError`
 /// comes only where a growth was refused.
 #[tactic(auto, using(crate::proofs::Judging::of_case))]
 pub fn judge(alloc: Global, bytes: Vec<u8>) -> Result<Judgement, AllocError>
@@ -134,7 +135,7 @@ pub fn check<R: Read, W: Write>(
     }
 }
 
-/// As `check`, and writes behind its line what the file shows, in plain words: who is accused, of what and
+/// As `check`, and writes after its line what the file shows, in plain words: who is accused, of what and
 /// where, or why it is no evidence.
 pub fn check_and_explain<R: Read, W: Write>(
     alloc: Global,
@@ -163,7 +164,7 @@ pub fn check_and_explain<R: Read, W: Write>(
     }
 }
 
-/// What is said of a file's bytes, and the line that says it, with what they show behind it.
+/// What is said of a file's bytes, and the line that says it, with what they show after it.
 #[tactic(auto, using(crate::proofs::Judging::of_case))]
 fn explained(alloc: Global, bytes: Vec<u8>) -> Result<(Judgement, String), AllocError>
     ensures { IfOk result (λ x. Judges bytes.items x.0 × IsExplained x.0 (string_bytes x.1)) }
@@ -182,7 +183,7 @@ fn explained(alloc: Global, bytes: Vec<u8>) -> Result<(Judgement, String), Alloc
     }
 }
 
-/// The line that says a judgement, with more behind it.
+/// The line that says a judgement, with more after it.
 fn line_with(alloc: Global, judgement: Judgement, more: &str) -> Result<String, AllocError>
     ensures { IfOk result (λ text. IsExplained judgement (string_bytes text)) }
 {

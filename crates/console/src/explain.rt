@@ -1,13 +1,15 @@
 //! What a checked file shows, in plain words.
 
 ghost use Rattle.std.specs.Prelude.{◌<◌, ◌≤◌, length, IfSome};
-ghost use Rattle.case_files.specs.Evidence.{MAX_AUDITED};
+ghost use Rattle.challenge.specs.evidence_spec.Evidence.{MAX_AUDITED};
 
 use crate::call_words::call_words;
-use case_files::{
-    AuditedLog, Case, Charge, Entry, Evidence, Finding, Fork, NotAccepted, Number, Outcome,
-    ReplayFault, Roster, Showing, Stage, StateMachine, examine, opening_state, replay_outcome,
-};
+use authenticator::{Number, Roster};
+use challenge::evidence_showings_code::Showing;
+use challenge::replay_code::{Outcome, ReplayFault, opening_state, replay_outcome};
+use challenge::{AuditedLog, Case, Charge, Evidence, Finding, Fork, NotAccepted, examine};
+use secure_log::log_entries::Entry;
+use state_machine::{Machine as StateMachine, Stage};
 use std::alloc::{AllocError, Global};
 use std::fmt;
 use std::fmt::Display;
@@ -185,7 +187,7 @@ fn reply(alloc: Global, to: u32, bytes: &[u8]) -> Result<String, AllocError> {
     format!(in alloc; "{bytes} to node {to}")
 }
 
-/// The reply that is owed behind entries from the first on.
+/// The reply that is owed after entries from the first on.
 fn owed(alloc: Global, roster: &Roster, node: u32, entries: &[Entry]) -> Result<String, AllocError>
     requires { length entries.now ≤ MAX_AUDITED }
 {

@@ -3,8 +3,7 @@
 
 mod call_words;
 mod checking;
+pub mod command_line;
 mod explain;
 
 pub use checking::{CheckFault, Judgement, check, check_and_explain, judge};
-pub use command_line::{CheckRequest, Request, parse};
-pub use rpc_streams::{Service, run_rpc};

@@ -1,11 +1,11 @@
 -- Acknowledgements: that a node logged a message, signed where it did.
 use Rattle.std.specs.Prelude.{true}
 use Rattle.xdr.specs.Item.{Item, Value, word, fixed, pair}
-use Rattle.xdr_texts.specs.Text.{Text}
-use Rattle.merkle_keys.specs.Signing.{signature_item, signature_value}
-use Rattle.authenticator.specs.Numbers.{number_item}
-use Rattle.authenticator.specs.declared.authenticator.Authenticator.{Authenticator}
-use Rattle.log_entries.specs.Messages.{message_hash, receipt_hash}
+use Rattle.xdr.specs.Texts.Text.{Text}
+use Rattle.secure_log.specs.merkle_keys.Signing.{signature_item, signature_value}
+use Rattle.secure_log.specs.authenticator.Numbers.{number_item}
+use Rattle.secure_log.specs.authenticator.declared.authenticator.Authenticator.{Authenticator}
+use Rattle.secure_log.specs.LogEntries.Messages.{message_hash, receipt_hash}
 use Rattle.envelopes.specs.declared.acknowledgement.Ack.{Ack}
 use Rattle.envelopes.specs.declared.acknowledgement.AckRef.{AckRef}
 use Rattle.envelopes.specs.declared.message.Message.{Message}
@@ -29,7 +29,7 @@ acked_value a =
 abbrev pub ack_value : Ack → Value ack_item
 ack_value a = (a.by, (a.number, (a.prev, acked_value a)))
 
--- its text, behind which nothing may follow
+-- its text, after which nothing may follow
 abbrev pub ack_text : Text
 ack_text = record { item = ack_item; test = λ _. true }
 

@@ -1,11 +1,11 @@
 -- What it means to check the texts of envelopes and acknowledgements.
 use Rattle.std.specs.Prelude.{◌≡◌, ◌⊎◌, ℕ, List, Result, Ok, Err, Some, None, IsSome}
-use Rattle.xdr_texts.specs.Text.{text_at}
-use Rattle.authenticator.specs.Roster.{member_of}
-use Rattle.authenticator.specs.Signed.{IsSignedBy}
-use Rattle.authenticator.specs.declared.member.Member.{Member}
-use Rattle.authenticator.specs.declared.refusal.Refusal.{Refusal}
-use Rattle.authenticator.specs.declared.refusal.Refusal.TheVariants.{UnknownNode, Garbage, BadSignature, NoMemory}
+use Rattle.xdr.specs.Texts.Text.{text_at}
+use Rattle.secure_log.specs.authenticator.Roster.{member_of}
+use Rattle.secure_log.specs.authenticator.Signed.{IsSignedBy}
+use Rattle.secure_log.specs.authenticator.declared.member.Member.{Member}
+use Rattle.secure_log.specs.authenticator.declared.refusal.Refusal.{Refusal}
+use Rattle.secure_log.specs.authenticator.declared.refusal.Refusal.TheVariants.{UnknownNode, Garbage, BadSignature, NoMemory}
 use Rattle.envelopes.specs.declared.envelope.Envelope.{Envelope}
 use Rattle.envelopes.specs.declared.acknowledgement.Ack.{Ack}
 use Rattle.envelopes.specs.Envelope.{envelope_text, envelope_value, envelope_shows}

@@ -2,12 +2,12 @@
 use Rattle.std.specs.Prelude.{true}
 use Rattle.sha2.specs.Sha256.{sha256}
 use Rattle.xdr.specs.Item.{Item, Value, word, fixed, opaque, pair}
-use Rattle.xdr_texts.specs.Text.{Text}
-use Rattle.merkle_keys.specs.Signing.{signature_item, signature_value}
-use Rattle.authenticator.specs.Numbers.{number_item}
-use Rattle.authenticator.specs.declared.authenticator.Authenticator.{Authenticator}
-use Rattle.log_entries.specs.declared.entry.TheConstants.{MAX_BODY}
-use Rattle.log_entries.specs.Messages.{message_hash}
+use Rattle.xdr.specs.Texts.Text.{Text}
+use Rattle.secure_log.specs.merkle_keys.Signing.{signature_item, signature_value}
+use Rattle.secure_log.specs.authenticator.Numbers.{number_item}
+use Rattle.secure_log.specs.authenticator.declared.authenticator.Authenticator.{Authenticator}
+use Rattle.secure_log.specs.declared.log_entries.entry.TheConstants.{MAX_BODY}
+use Rattle.secure_log.specs.LogEntries.Messages.{message_hash}
 use Rattle.envelopes.specs.declared.envelope.Envelope.{Envelope}
 use Rattle.envelopes.specs.declared.envelope.EnvelopeRef.{EnvelopeRef}
 use Rattle.envelopes.specs.declared.message.Message.{Message}
@@ -22,7 +22,7 @@ envelope_item =
 abbrev pub envelope_value : Envelope → Value envelope_item
 envelope_value e = (e.from, (e.to, (e.seq, (e.prev, (e.body, signature_value e.signature)))))
 
--- its text, behind which nothing may follow
+-- its text, after which nothing may follow
 abbrev pub envelope_text : Text
 envelope_text = record { item = envelope_item; test = λ _. true }
 

@@ -1,16 +1,16 @@
 //! Checks of envelopes and acknowledgements that come from elsewhere.
 
 ghost use Rattle.std.specs.Prelude.{◌↔◌, IsTrue};
-ghost use Rattle.authenticator.specs.Signed.{IsSignedBy};
+ghost use Rattle.secure_log.specs.authenticator.Signed.{IsSignedBy};
 ghost use Rattle.envelopes.specs.Envelope.{envelope_shows};
 ghost use Rattle.envelopes.specs.Acknowledgement.{ack_shows};
 ghost use Rattle.envelopes.specs.Checking.{ChecksEnvelope, ChecksAck};
 
 use crate::acknowledgement::Ack;
 use crate::envelope::Envelope;
-use authenticator::{Checked, Member, Refusal, Roster, is_signed};
+use secure_log::authenticator_code::{Checked, Member, Refusal, Roster, is_signed};
 use std::alloc::Global;
-use xdr_texts::{TextError, read_text};
+use xdr::texts::{TextError, read_text};
 
 /// Checks an envelope's text: `Garbage` where it is none, or the sender is the receiver, else `UnknownNode`
 /// where the sender or the receiver is no member, else `BadSignature` where the sender didn't sign it.

@@ -4,8 +4,8 @@ ghost use Rattle.std.specs.Prelude.{◌≡◌};
 ghost use Rattle.envelopes.specs.Envelope.{envelope_in, envelope_message, envelope_shows};
 
 use crate::message::Message;
-use authenticator::{Number, Signs};
-use log_entries::{Body, SignatureText, message_hash};
+use secure_log::authenticator_code::{Number, Signs};
+use secure_log::log_entries::{Body, SignatureText, message_hash};
 
 /// A message from one node to another, with its sender's signature of the SEND that it logged for it. Nothing
 /// is checked of it: `check_envelope` makes a `Checked` value of one that a member signed.

@@ -2,14 +2,14 @@
 
 ghost use Rattle.std.specs.Prelude.{◌≡◌, ◌↔◌, List, ℕ};
 ghost use Rattle.xdr.specs.Item.{IsBytes};
-ghost use Rattle.xdr_texts.specs.Text.{IsText};
+ghost use Rattle.xdr.specs.Texts.Text.{IsText};
 ghost use Rattle.envelopes.specs.Envelope.{envelope_text, envelope_value};
 ghost use Rattle.envelopes.specs.Acknowledgement.{ack_text, ack_value};
 ghost use Rattle.envelopes.specs.Checking.{IsAckText, IsTextOf};
 ghost use Rattle.envelopes.specs.declared.envelope.Envelope.{Envelope};
 ghost use Rattle.envelopes.specs.declared.acknowledgement.Ack.{Ack};
 
-use xdr_texts::laws::reads_each_text;
+use xdr::texts::laws::reads_each_text;
 
 /// Bytes are read as an envelope exactly where they are its spelling and nothing more, and are the text of
 /// one envelope at most.

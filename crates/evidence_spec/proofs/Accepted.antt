@@ -9,14 +9,14 @@ use Rattle.authenticator.specs.declared.member.Member.{Member}
 use Rattle.authenticator.specs.Roster.{member_of}
 use Rattle.authenticator.specs.Signed.{IsSignedBy, IsSignedIn}
 use Rattle.authenticator.proofs.Members.{member_node}
-use Rattle.log_entries.specs.declared.entry.Entry.{Entry}
-use Rattle.log_entries.specs.Chain.{zeros, hash_after, link_of, links_from, NoCollision}
+use Rattle.secure_log.specs.declared.log_entries.entry.Entry.{Entry}
+use Rattle.secure_log.specs.LogEntries.Chain.{zeros, hash_after, link_of, links_from, NoCollision}
 use Rattle.secure_log.specs.Log.{log_pairs}
 use Rattle.secure_log.specs.Segment.{SegmentParts}
-use Rattle.honest_logs.specs.State.{State}
-use Rattle.honest_logs.specs.Placed.{Placed, placed}
-use Rattle.honest_logs.specs.Replay.{Honest, last_state, found, Sound, verdict_of}
-use Rattle.honest_logs.specs.Opening.{opening_of}
+use Rattle.replay_spec.specs.state_spec.State.{State}
+use Rattle.replay_spec.specs.Placed.{Placed, placed}
+use Rattle.replay_spec.specs.Replay.{Honest, last_state, found, Sound, verdict_of}
+use Rattle.replay_spec.specs.Opening.{opening_of}
 use Rattle.evidence_spec.specs.Showing.{ShowingParts, IsClosedShowing, IsAmong, Shows, showing_item, showing_value}
 use Rattle.evidence_spec.specs.Evidence.{Charge, Fork, Replay, audited_item, audited_value}
 use Rattle.evidence_spec.specs.Evidence.{evidence_item, charge_value, AcceptsFork, AcceptsReplay, AcceptsCharge}

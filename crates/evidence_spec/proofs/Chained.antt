@@ -3,18 +3,23 @@
 use Rattle.std.proofs.Common.{◌≡◌, ℕ, ◌+◌, ◌-◌, ◌<◌, List, [], ◌∷◌, ◌++◌, length, refl, sym, ap, subst, ◌∙◌, arith, append_assoc, length-append}
 use Rattle.std.proofs.lemmas.List.{length-replicate}
 use Rattle.std.specs.List.{AllByRecursion}
-use Rattle.log_entries.specs.Chain.{Link, IsLink, IsChain, IsEndOf, zeros, hash_after, last_hash, pairs, chain_texts, NoCollision}
-use Rattle.log_entries.proofs.Chains.{chain_end}
+use Rattle.secure_log.specs.LogEntries.Chain.{Link, IsLink, IsChain, IsEndOf, zeros, hash_after, last_hash, pairs, chain_texts, NoCollision}
+use Rattle.secure_log.proofs.OfLogEntries.Chains.{chain_end}
 use Rattle.evidence_spec.specs.Showing.{IsAmong}
 use Rattle.evidence_spec.proofs.Texts.{Within, fewer, left, right, both, beginning}
 use Rattle.evidence_spec.proofs.Places.{all_front, AreNumbered, behind, among}
 
 -- links stand in a log's chain from a number on, and the hash before them is this one
 pub record IsPartOfChain (log : List Link) (first : ℕ) (opening : List ℕ) (links : List Link) : Type 0 where
+  -- the links before them
   pub before : List Link
+  -- the links after them
   pub rest : List Link
+  -- these are all links of the log
   pub whole : log ≡ before ++ (links ++ rest)
+  -- the first of them has the number `first`
   pub place : length before + 1 ≡ first
+  -- the hash after the links before them is `opening`
   pub hash : last_hash zeros before ≡ opening
 
 pub zeros-length : length zeros ≡ 32

@@ -8,10 +8,10 @@ use Rattle.xdr.specs.Item.{Fits, word_where, array}
 use Rattle.authenticator.specs.declared.authenticator.Authenticator.{Authenticator}
 use Rattle.authenticator.specs.declared.member.Member.{Member}
 use Rattle.authenticator.specs.Signed.{IsSignedIn, authenticator_item, authenticator_value}
-use Rattle.log_entries.specs.declared.entry.Entry.{Entry}
-use Rattle.log_entries.specs.declared.entry.Entry.TheVariants.{Send, Recv, Ack, Clock, Check}
-use Rattle.log_entries.specs.Entry.{is_kind, kind_number, entry_value, content}
-use Rattle.log_entries.specs.Chain.{last_hash, links_from, link_of, pairs}
+use Rattle.secure_log.specs.declared.log_entries.entry.Entry.{Entry}
+use Rattle.secure_log.specs.declared.log_entries.entry.Entry.TheVariants.{Send, Recv, Ack, Clock, Check}
+use Rattle.secure_log.specs.LogEntries.Entry.{is_kind, kind_number, entry_value, content}
+use Rattle.secure_log.specs.LogEntries.Chain.{last_hash, links_from, link_of, pairs}
 use Rattle.secure_log.specs.declared.segment.TheConstants.{MAX_ENTRIES}
 use Rattle.secure_log.specs.Segment.{SegmentParts, IsClosed, segment_item, segment_value, segment_pairs}
 use Rattle.evidence_spec.specs.Showing.{numbered, link_item, link_value, shown_link, authenticator_showing, segment_showing}

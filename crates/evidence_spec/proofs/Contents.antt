@@ -7,11 +7,11 @@ use Rattle.sha2.proofs.Facts256.{length-sha256}
 use Rattle.xdr.specs.Item.{Item, Value, Fits, word, hyper, fixed, pair, spelling}
 use Rattle.xdr.proofs.Exact.{one_meaning}
 use Rattle.merkle_keys.specs.Signing.{SignatureParts, signature_item, signature_value}
-use Rattle.log_entries.specs.Signatures.{signature_digest}
-use Rattle.log_entries.specs.declared.entry.Entry.{Entry}
-use Rattle.log_entries.specs.declared.entry.Entry.TheVariants.{Send, Recv, Ack, Clock, Check}
-use Rattle.log_entries.specs.Entry.{entry_item, entry_value, content}
-use Rattle.log_entries.specs.Chain.{NoCollision}
+use Rattle.secure_log.specs.LogEntries.Signatures.{signature_digest}
+use Rattle.secure_log.specs.declared.log_entries.entry.Entry.{Entry}
+use Rattle.secure_log.specs.declared.log_entries.entry.Entry.TheVariants.{Send, Recv, Ack, Clock, Check}
+use Rattle.secure_log.specs.LogEntries.Entry.{entry_item, entry_value, content}
+use Rattle.secure_log.specs.LogEntries.Chain.{NoCollision}
 use Rattle.evidence_spec.specs.Proving.{signature_text, entry_texts}
 use Rattle.evidence_spec.specs.Laws.{SameContent}
 use Rattle.evidence_spec.proofs.Texts.{Within}

@@ -7,11 +7,11 @@ use Rattle.authenticator.specs.declared.authenticator.Authenticator.{Authenticat
 use Rattle.authenticator.specs.declared.member.Member.{Member}
 use Rattle.authenticator.specs.Roster.{member_of}
 use Rattle.authenticator.specs.Signed.{IsSignedIn}
-use Rattle.log_entries.specs.declared.entry.Entry.{Entry}
-use Rattle.log_entries.specs.Chain.{IsIn, NoCollision}
-use Rattle.honest_logs.specs.State.{State}
-use Rattle.honest_logs.specs.Opening.{opening_of}
-use Rattle.honest_logs.specs.HonestLogs.{IsHonestLog}
+use Rattle.secure_log.specs.declared.log_entries.entry.Entry.{Entry}
+use Rattle.secure_log.specs.LogEntries.Chain.{IsIn, NoCollision}
+use Rattle.replay_spec.specs.state_spec.State.{State}
+use Rattle.replay_spec.specs.Opening.{opening_of}
+use Rattle.replay_spec.specs.HonestLogs.{IsHonestLog}
 use Rattle.evidence_spec.specs.Showing.{authenticator_showing}
 use Rattle.evidence_spec.specs.Evidence.{ForkParts, Fork, EvidenceParts}
 use Rattle.evidence_spec.specs.Proving.{IsLog, log_texts, charge_texts, closings, option_texts, option_closings, IsUnforged, Withstands, Proves}

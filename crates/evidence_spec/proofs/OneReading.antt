@@ -9,15 +9,15 @@ use Rattle.authenticator.specs.declared.authenticator.Authenticator.{Authenticat
 use Rattle.authenticator.specs.declared.member.Member.{Member}
 use Rattle.authenticator.specs.declared.member.Kind.TheVariants.{Client}
 use Rattle.authenticator.specs.Roster.{member_of}
-use Rattle.log_entries.specs.declared.entry.Entry.{Entry}
-use Rattle.log_entries.specs.declared.entry.Entry.TheVariants.{Clock}
-use Rattle.log_entries.specs.Entry.{content}
-use Rattle.log_entries.specs.Chain.{zeros, chain_text, link_of, NoCollision}
+use Rattle.secure_log.specs.declared.log_entries.entry.Entry.{Entry}
+use Rattle.secure_log.specs.declared.log_entries.entry.Entry.TheVariants.{Clock}
+use Rattle.secure_log.specs.LogEntries.Entry.{content}
+use Rattle.secure_log.specs.LogEntries.Chain.{zeros, chain_text, link_of, NoCollision}
 use Rattle.secure_log.specs.Log.{log_hash}
-use Rattle.honest_logs.specs.State.{State, opening_client}
-use Rattle.honest_logs.specs.Steps.{after_entry}
-use Rattle.honest_logs.specs.Opening.{opening_of, opening_by}
-use Rattle.honest_logs.specs.HonestLogs.{IsHonestLog}
+use Rattle.replay_spec.specs.state_spec.State.{State, opening_client}
+use Rattle.replay_spec.specs.Steps.{after_entry}
+use Rattle.replay_spec.specs.Opening.{opening_of, opening_by}
+use Rattle.replay_spec.specs.HonestLogs.{IsHonestLog}
 use Rattle.evidence_spec.specs.Evidence.{Replay}
 use Rattle.evidence_spec.specs.Proving.{IsLog, log_texts, Proves}
 use Rattle.evidence_spec.specs.Laws.{one_reading}

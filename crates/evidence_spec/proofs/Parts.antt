@@ -4,9 +4,9 @@ use Rattle.std.proofs.Common.{◌≡◌, ℕ, ◌+◌, List, [], ◌∷◌, ◌+
 use Rattle.std.proofs.lemmas.Grind.{flat_map-append}
 use Rattle.std.specs.List.{AllByRecursion, flat_map}
 use Rattle.xdr.specs.Item.{Fits}
-use Rattle.log_entries.specs.declared.entry.Entry.{Entry}
-use Rattle.log_entries.specs.Entry.{entry_item, entry_value}
-use Rattle.log_entries.specs.Chain.{Link, link_of, links_from, IsIn, NoCollision}
+use Rattle.secure_log.specs.declared.log_entries.entry.Entry.{Entry}
+use Rattle.secure_log.specs.LogEntries.Entry.{entry_item, entry_value}
+use Rattle.secure_log.specs.LogEntries.Chain.{Link, link_of, links_from, IsIn, NoCollision}
 use Rattle.evidence_spec.specs.Proving.{entry_texts}
 use Rattle.evidence_spec.proofs.Texts.{Within, left, right}
 use Rattle.evidence_spec.proofs.Places.{all_front, length-links}
@@ -25,14 +25,19 @@ each_back : (xs ys : List Entry) → EachFits (xs ++ ys) → EachFits ys
 each_back [] ys each = each
 each_back (x ∷ xs) ys each = each_back xs ys each.1
 
--- ---- entries behind links
+-- ---- entries after links
 
 -- entries in two parts, whose links are these
 pub record Splits (first : ℕ) (es : List Entry) (xs ys : List Link) : Type 0 where
+  -- the first part
   pub front : List Entry
+  -- the second part
   pub back : List Entry
+  -- the two are all the entries
   pub whole : es ≡ front ++ back
+  -- the links of the first part
   pub one : links_from first front ≡ xs
+  -- the links of the second part, numbered on from the first
   pub other : (next : ℕ) → next ≡ first + length xs → links_from next back ≡ ys
 
 split : (first : ℕ) (es : List Entry) (xs ys : List Link) → links_from first es ≡ xs ++ ys → Splits first es xs ys
@@ -89,11 +94,15 @@ middle_texts xs ys zs t i =
 
 -- ---- entries in a log
 
--- entries stand in a log, behind as many others
+-- entries stand in a log, after as many others
 pub record AreEntries (log : List Entry) (count : ℕ) (es : List Entry) : Type 0 where
+  -- the entries before them
   pub before : List Entry
+  -- the entries after them
   pub rest : List Entry
+  -- these are all entries of the log
   pub whole : log ≡ before ++ (es ++ rest)
+  -- as many stand before them as `count` says
   pub place : length before ≡ count
 
 -- Entries whose links stand among those of a log are the log's there.

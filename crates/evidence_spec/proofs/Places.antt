@@ -2,8 +2,8 @@
 -- Serves: one_hash_at_a_number, what_is_shown_is_of_the_log.
 use Rattle.std.proofs.Common.{◌≡◌, ℕ, suc, ◌+◌, List, [], ◌∷◌, ◌++◌, length, inl, inr, refl, sym, ap, ap₂, subst, ◌∙◌, arith}
 use Rattle.std.specs.List.{AllByRecursion}
-use Rattle.log_entries.specs.declared.entry.Entry.{Entry}
-use Rattle.log_entries.specs.Chain.{Link, hash_after, last_hash, pairs, links_from}
+use Rattle.secure_log.specs.declared.log_entries.entry.Entry.{Entry}
+use Rattle.secure_log.specs.LogEntries.Chain.{Link, hash_after, last_hash, pairs, links_from}
 use Rattle.evidence_spec.specs.Showing.{ShownLink, numbered, IsAmong}
 
 -- links are numbered one after the other, from `first` on
@@ -31,16 +31,21 @@ length-links first (e ∷ es) = ap suc (length-links (first + 1) es)
 
 -- ---- a pair's place
 
--- a number and a hash are those behind the first links of a chain
-pub record IsBehind (before : ℕ) (opening : List ℕ) (links : List Link) (number : ℕ) (hash : List ℕ) : Type 0 where
+-- a number and a hash are those after the first links of a chain
+pub record IsAfter (before : ℕ) (opening : List ℕ) (links : List Link) (number : ℕ) (hash : List ℕ) : Type 0 where
+  -- the links up to there
   pub front : List Link
+  -- the links after them
   pub rest : List Link
+  -- these are all links
   pub whole : links ≡ front ++ rest
+  -- the number is as many past `before` as there are links up to there
   pub count : number ≡ before + length front
+  -- the hash is the one after those links
   pub is : hash ≡ last_hash opening front
 
 at_once : (before : ℕ) (opening : List ℕ) (links : List Link) (number : ℕ) (hash : List ℕ)
-    → ◌≡◌ {A = ℕ × List ℕ} (number, hash) (before, opening) → IsBehind before opening links number hash
+    → ◌≡◌ {A = ℕ × List ℕ} (number, hash) (before, opening) → IsAfter before opening links number hash
 at_once before opening links number hash e = record {
   front = [];
   rest = links;
@@ -49,10 +54,10 @@ at_once before opening links number hash e = record {
   is = ap (λ (p : ℕ × List ℕ). p.1) e;
 }
 
--- each pair of a chain is the one behind some of its first links
+-- each pair of a chain is the one after some of its first links
 pub behind : (before : ℕ) (opening : List ℕ) (links : List Link) (number : ℕ) (hash : List ℕ)
     → AreNumbered (before + 1) links → IsAmong (number, hash) (pairs before opening links)
-    → IsBehind before opening links number hash
+    → IsAfter before opening links number hash
 behind before opening [] number hash n (inl e) = at_once before opening [] number hash e
 behind before opening [] number hash n (inr i) = absurd i
 behind before opening (l ∷ links) number hash n (inl e) = at_once before opening (l ∷ links) number hash e
@@ -67,7 +72,7 @@ behind before opening (l ∷ links) number hash n (inr i) =
       is = rest.is;
     }
 
--- and the number and hash behind some first links are a pair of the chain
+-- and the number and hash after some first links are a pair of the chain
 pub among : (before : ℕ) (opening : List ℕ) (front rest : List Link) (number : ℕ)
     → AreNumbered (before + 1) (front ++ rest) → number ≡ before + length front
     → IsAmong (number, last_hash opening front) (pairs before opening (front ++ rest))

@@ -7,9 +7,9 @@ use Rattle.std.specs.List.{AllByRecursion, flat_map}
 use Rattle.xdr.specs.Item.{Fits}
 use Rattle.authenticator.specs.Numbers.{is_number}
 use Rattle.authenticator.specs.declared.member.Member.{Member}
-use Rattle.log_entries.specs.declared.entry.Entry.{Entry}
-use Rattle.log_entries.specs.Chain.{IsLink, IsChain, zeros, links_from, chain_texts, NoCollision}
-use Rattle.log_entries.proofs.Chains.{links-are-links}
+use Rattle.secure_log.specs.declared.log_entries.entry.Entry.{Entry}
+use Rattle.secure_log.specs.LogEntries.Chain.{IsLink, IsChain, zeros, links_from, chain_texts, NoCollision}
+use Rattle.secure_log.proofs.OfLogEntries.Chains.{links-are-links}
 use Rattle.secure_log.specs.Log.{log_pairs}
 use Rattle.secure_log.specs.Segment.{SegmentParts, IsClosed, segment_pairs}
 use Rattle.secure_log.proofs.Places.{is_chain}

@@ -2,18 +2,18 @@
 use Rattle.std.specs.Prelude.{◌≡◌, ◌≢◌, ℕ, Bool, true, ◌==◌, ◌||◌, if◌then◌else◌, List, map}
 use Rattle.std.specs.Prelude.{Option, Some, None, option_map}
 use Rattle.xdr.specs.Item.{Item, Value, word, fixed, pair, array, choice, optional}
-use Rattle.xdr_texts.specs.Text.{Text}
+use Rattle.xdr.specs.Texts.Text.{Text}
 use Rattle.authenticator.specs.declared.member.Member.{Member}
 use Rattle.authenticator.specs.Roster.{member_of}
 use Rattle.authenticator.specs.Numbers.{number_item}
 use Rattle.authenticator.specs.Signed.{authenticator_item, authenticator_value}
-use Rattle.log_entries.specs.Chain.{zeros}
-use Rattle.log_entries.specs.Entry.{entry_item, entry_value}
+use Rattle.secure_log.specs.LogEntries.Chain.{zeros}
+use Rattle.secure_log.specs.LogEntries.Entry.{entry_item, entry_value}
 use Rattle.secure_log.specs.Segment.{SegmentParts, IsClosed}
-use Rattle.honest_logs.specs.Placed.{placed_in}
-use Rattle.honest_logs.specs.Stepping.{ReplayFault}
-use Rattle.honest_logs.specs.Replay.{Fault, verdict_of}
-use Rattle.honest_logs.specs.Opening.{opening_of}
+use Rattle.replay_spec.specs.Placed.{placed_in}
+use Rattle.replay_spec.specs.Stepping.{ReplayFault}
+use Rattle.replay_spec.specs.Replay.{Fault, verdict_of}
+use Rattle.replay_spec.specs.Opening.{opening_of}
 use Rattle.evidence_spec.specs.declared.limits.TheConstants as limits
 use Rattle.evidence_spec.specs.Showing.{ShowingParts, IsClosedShowing, Shows, showing_item, showing_value}
 
@@ -34,15 +34,18 @@ pub data Charge : Type 0 where
   -- a segment from the first entry on, in which a replay finds a fault
   Replay : SegmentParts → Charge
 
+-- what a node is charged with
 pub record EvidenceParts : Type 0 where
   pub node : ℕ
   pub charge : Charge
 
 -- ---- texts (RFC 4506)
 
+-- a fork in a text: the number, a showing, and another one if there is one
 abbrev pub fork_item : Item
 fork_item = pair number_item (pair showing_item (optional showing_item))
 
+-- a fork, as its text's value
 abbrev pub fork_value : ForkParts → Value fork_item
 fork_value f = (f.at, (showing_value f.a, option_map showing_value f.b))
 
@@ -51,6 +54,7 @@ abbrev pub audited_item : Item
 audited_item =
     pair word (pair number_item (pair (fixed 32) (pair (array MAX_AUDITED entry_item) authenticator_item)))
 
+-- a segment, as its text's value
 abbrev pub audited_value : SegmentParts → Value audited_item
 audited_value s = (s.node, (s.first, (s.opening, (map entry_value s.entries, authenticator_value s.closing))))
 
@@ -58,20 +62,24 @@ audited_value s = (s.node, (s.first, (s.opening, (map entry_value s.entries, aut
 abbrev pub is_charge : ℕ → Bool
 is_charge n = (n == 1) || (n == 2)
 
+-- what stands after a charge's number
 abbrev pub charge_item : ℕ → Item
 charge_item n = if n == 1 then fork_item else audited_item
 
+-- evidence in a text: the node, and the charge
 abbrev pub evidence_item : Item
 evidence_item = pair word (choice is_charge charge_item)
 
+-- a charge, as its text's value
 abbrev pub charge_value : Charge → Value (choice is_charge charge_item)
 charge_value (Fork f) = (1, fork_value f)
 charge_value (Replay s) = (2, audited_value s)
 
+-- evidence, as its text's value
 abbrev pub evidence_value : EvidenceParts → Value evidence_item
 evidence_value e = (e.node, charge_value e.charge)
 
--- its text, behind which nothing may follow
+-- its text, after which nothing may follow
 abbrev pub evidence_text : Text
 evidence_text = record { item = evidence_item; test = λ _. true }
 
@@ -97,6 +105,7 @@ pub record ShowsNoOpening (ms : List Member) (node : ℕ) (a : ShowingParts) : T
   pub shown : Shows a 0 hash
   pub differs : hash ≢ zeros
 
+-- a fork is accepted: two showings show two hashes at a number, or one alone shows a wrong opening
 abbrev pub AcceptsFork : List Member → (node at : ℕ) → ShowingParts → Option ShowingParts → Type 0
 AcceptsFork ms node at a (Some b) = ShowsTwo ms node at a b
 AcceptsFork ms node at a None = ShowsNoOpening ms node a
@@ -114,6 +123,7 @@ pub record AcceptsReplay (ms : List Member) (node : ℕ) (s : SegmentParts) : Ty
   pub number : ℕ
   pub found : verdict_of ms (opening_of member) (placed_in s) ≡ Fault fault number
 
+-- a charge against a node is accepted under a roster
 abbrev pub AcceptsCharge : List Member → (node : ℕ) → Charge → Type 0
 AcceptsCharge ms node (Fork f) = AcceptsFork ms node f.at f.a f.b
 AcceptsCharge ms node (Replay s) = AcceptsReplay ms node s

@@ -9,15 +9,15 @@ use Rattle.authenticator.specs.declared.member.Kind.TheVariants.{Client}
 use Rattle.authenticator.specs.declared.authenticator.Authenticator.{Authenticator}
 use Rattle.authenticator.specs.Roster.{member_of}
 use Rattle.authenticator.specs.Signed.{IsSignedIn, authenticator_item, authenticator_value}
-use Rattle.log_entries.specs.Chain.{zeros, IsIn, NoCollision}
-use Rattle.log_entries.specs.Entry.{entry_item, entry_value, kind_number, content}
-use Rattle.log_entries.specs.declared.entry.Entry.{Entry}
-use Rattle.log_entries.specs.declared.entry.Entry.TheVariants.{Clock}
+use Rattle.secure_log.specs.LogEntries.Chain.{zeros, IsIn, NoCollision}
+use Rattle.secure_log.specs.LogEntries.Entry.{entry_item, entry_value, kind_number, content}
+use Rattle.secure_log.specs.declared.log_entries.entry.Entry.{Entry}
+use Rattle.secure_log.specs.declared.log_entries.entry.Entry.TheVariants.{Clock}
 use Rattle.secure_log.specs.Log.{log_hash, log_pairs}
 use Rattle.secure_log.specs.Segment.{SegmentParts, IsClosed, segment_item, segment_value, segment_pairs}
-use Rattle.honest_logs.specs.State.{State}
-use Rattle.honest_logs.specs.Opening.{opening_of}
-use Rattle.honest_logs.specs.HonestLogs.{IsHonestLog}
+use Rattle.replay_spec.specs.state_spec.State.{State}
+use Rattle.replay_spec.specs.Opening.{opening_of}
+use Rattle.replay_spec.specs.HonestLogs.{IsHonestLog}
 use Rattle.evidence_spec.specs.Showing.{ShowingParts, IsClosedShowing, IsAmong, Shows}
 use Rattle.evidence_spec.specs.Showing.{showing_item, showing_value, showing_pairs}
 use Rattle.evidence_spec.specs.Showing.{authenticator_showing, segment_showing}

@@ -1,11 +1,4 @@
-pub use Rattle.honest_logs.specs.StateSteps
-pub use Rattle.honest_logs.specs.State
-pub use Rattle.honest_logs.specs.Signing
-pub use Rattle.honest_logs.specs.Placed
-pub use Rattle.honest_logs.specs.Stepping
-pub use Rattle.honest_logs.specs.Replay
-pub use Rattle.honest_logs.specs.Opening
-pub use Rattle.honest_logs.specs.HonestLogs
+pub use Rattle.replay_spec.specs as replay_spec
 pub mod Showing
 pub mod Evidence
 pub mod Proving

@@ -8,15 +8,15 @@ use Rattle.authenticator.specs.declared.member.Member.{Member}
 use Rattle.authenticator.specs.declared.authenticator.Authenticator.{Authenticator}
 use Rattle.authenticator.specs.Roster.{member_of}
 use Rattle.authenticator.specs.Signed.{IsSignedIn}
-use Rattle.log_entries.specs.declared.entry.Entry.{Entry}
-use Rattle.log_entries.specs.declared.entry.Entry.TheVariants.{Send, Recv, Ack, Clock, Check}
-use Rattle.log_entries.specs.Entry.{entry_item, entry_value, content}
-use Rattle.log_entries.specs.Chain.{zeros, links_from, chain_texts, NoCollision}
+use Rattle.secure_log.specs.declared.log_entries.entry.Entry.{Entry}
+use Rattle.secure_log.specs.declared.log_entries.entry.Entry.TheVariants.{Send, Recv, Ack, Clock, Check}
+use Rattle.secure_log.specs.LogEntries.Entry.{entry_item, entry_value, content}
+use Rattle.secure_log.specs.LogEntries.Chain.{zeros, links_from, chain_texts, NoCollision}
 use Rattle.secure_log.specs.Log.{log_pairs}
 use Rattle.secure_log.specs.Segment.{SegmentParts}
-use Rattle.honest_logs.specs.State.{State}
-use Rattle.honest_logs.specs.Opening.{opening_of}
-use Rattle.honest_logs.specs.HonestLogs.{IsHonestLog}
+use Rattle.replay_spec.specs.state_spec.State.{State}
+use Rattle.replay_spec.specs.Opening.{opening_of}
+use Rattle.replay_spec.specs.HonestLogs.{IsHonestLog}
 use Rattle.evidence_spec.specs.Showing.{ShowingParts, IsAmong, numbered}
 use Rattle.evidence_spec.specs.Evidence.{Charge, Fork, Replay, EvidenceParts}
 
@@ -27,6 +27,7 @@ pub record IsLog (entries : List Entry) : Type 0 where
 
 -- ---- texts that are hashed
 
+-- a signature's text
 abbrev pub signature_text : SignatureParts → List ℕ
 signature_text signature = spelling signature_item (signature_value signature)
 
@@ -40,7 +41,7 @@ entry_texts (Ack to seq mine number prev signature) =
 entry_texts (Clock seconds microseconds) = content (Clock seconds microseconds) ∷ []
 entry_texts (Check digest) = content (Check digest) ∷ []
 
--- the texts that are hashed for entries that are numbered from `first` on, behind a hash: those of the chain,
+-- the texts that are hashed for entries that are numbered from `first` on, after a hash: those of the chain,
 -- and those of each entry
 abbrev pub hashed_texts : (first : ℕ) (opening : List ℕ) → List Entry → List (List ℕ)
 hashed_texts first opening entries =
@@ -50,6 +51,7 @@ hashed_texts first opening entries =
 abbrev pub log_texts : List Entry → List (List ℕ)
 log_texts entries = hashed_texts 1 zeros entries
 
+-- the texts that are hashed for a segment
 abbrev pub segment_texts : SegmentParts → List (List ℕ)
 segment_texts s = hashed_texts s.first s.opening s.entries
 
@@ -57,16 +59,19 @@ segment_texts s = hashed_texts s.first s.opening s.entries
 abbrev pub showing_texts : ShowingParts → List (List ℕ)
 showing_texts s = chain_texts s.opening (numbered s.first s.links)
 
+-- the texts of a showing that may be there, or none
 abbrev pub option_texts : Option ShowingParts → List (List ℕ)
 option_texts None = []
 option_texts (Some s) = showing_texts s
 
+-- the texts of a fork's showings, or of a replay's segment
 abbrev pub charge_texts : Charge → List (List ℕ)
 charge_texts (Fork f) = showing_texts f.a ++ option_texts f.b
 charge_texts (Replay s) = segment_texts s
 
 -- ---- what is signed
 
+-- the closing of a showing that may be there, or none
 abbrev pub option_closings : Option ShowingParts → List Authenticator
 option_closings None = []
 option_closings (Some s) = s.closing ∷ []

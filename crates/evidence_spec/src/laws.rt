@@ -6,7 +6,7 @@ ghost use Rattle.evidence_spec.specs.Laws.{AuthenticatorsShowOnePair, SegmentsSh
 ghost use Rattle.evidence_spec.specs.Laws.{OwnTextsProveNothing, UnsignedProveNothing};
 ghost use Rattle.evidence_spec.specs.Laws.{OneReadingProvesNothing};
 
-use honest_logs::replay_laws::{logs_grow, sound_exactly_if};
+use replay_spec::laws::{logs_grow, sound_exactly_if};
 
 /// A log has one hash at each number.
 pub fn one_hash_at_a_number()

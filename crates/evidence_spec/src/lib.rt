@@ -4,5 +4,4 @@
 pub mod laws;
 mod limits;
 
-pub use honest_logs::replay_laws;
 pub use limits::MAX_AUDITED;

@@ -1,5 +1,5 @@
--- Items one after the other behind their count.
--- Serves: add_entries here; add_to of Received and of Sends (states).
+-- Items one after the other after their count.
+-- Serves: add_entries here; add_to of Received and of Sends (state_machine::states).
 use Rattle.std.proofs.Common.{◌≡◌, ℕ, ◌<◌, ◌≤◌, ◌^◌, List, [], ◌∷◌, ◌++◌, length, map, Result, Ok, Err, refl}
 use Rattle.std.proofs.Common.{sym, ap, subst, ◌∙◌, append_assoc, arith}
 use Rattle.std.specs.Prelude.{OnOk}
@@ -68,7 +68,7 @@ module _ {X : Type 0} (a : Item) (value : X → Value a) where
       (h.begins.0 ++ more.0, more.1 ∙ ap (λ t. t ++ more.0) h.begins.1 ∙ append_assoc old h.begins.0 more.0)
 
   module _ {E : Type 0} (max : ℕ) (xs : List X) where
-    -- their texts behind their count
+    -- their texts after their count
     pub adds_counted : (old first new : List ℕ) (r : Result (Unit {0}) E)
         → first ≡ old ++ number_spelling 4 (length xs)
         → Adds (texts xs) first r new → Adds (spelling (array max a) (map value xs)) old r new
@@ -82,7 +82,7 @@ module _ {X : Type 0} (a : Item) (value : X → Value a) where
           ∙ append_assoc old (number_spelling 4 (length xs)) h.0,
     )
 
-    -- items that each have a spelling have one together, behind their count
+    -- items that each have a spelling have one together, after their count
     pub fits_counted : (r : Result (Unit {0}) E) → max < 2 ^ 32 → length xs ≤ max → OnOk r (EachFits xs)
         → OnOk r (Fits (array max a) (map value xs))
     fits_counted (Ok x) word few each =

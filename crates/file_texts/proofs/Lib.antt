@@ -1,3 +1,4 @@
+pub use Rattle.fs_model.proofs as fs_model
 pub mod Files
 pub mod Arrays
 mod NumberedFiles

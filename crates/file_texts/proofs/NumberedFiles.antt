@@ -9,10 +9,10 @@ use Rattle.std.proofs.Math.Seq.{drop-cons}
 use Rattle.std.proofs.lemmas.List.Elements.{All-nil, All-cons, All-head, All-tail, All-weaker}
 use Rattle.std.proofs.lemmas.Option.{slice_get-get_or}
 use Rattle.fs_model.specs.Files.{File}
-use Rattle.fs_rules.specs.Rules.{AreRising, numbers_of}
-use Rattle.fs_rules.proofs.Listed.{number_at}
-use Rattle.inodes.specs.Inodes.{file_in}
-use Rattle.inodes.specs.declared.inode.Inode.{Inode}
+use Rattle.tree_rules.specs.FileRules.Rules.{AreRising, numbers_of}
+use Rattle.tree_rules.proofs.OfFileRules.Listed.{number_at}
+use Rattle.tree_rules.specs.inodes.Inodes.{file_in}
+use Rattle.tree_rules.specs.inodes.declared.inode.Inode.{Inode}
 use Rattle.tree_rules.specs.Listed.{files_in}
 use Rattle.file_texts.specs.Alone.{IsFileAlone, AreAlone}
 use Rattle.file_texts.specs.Parts.{file_of, files_given}
@@ -68,7 +68,7 @@ alone next es h = record {
       well 1 next es h;
 }
 
--- behind the first file all numbers are above its own
+-- after the first file all numbers are above its own
 after_first : (low next : ℕ) (e : ℕ × File) (es : List (ℕ × File)) → AreRising (numbers_of (e ∷ es))
     → All (Between low next) es → All (Between (e.0 + 1) next) es
 after_first low next e es up all k d lt =
@@ -118,7 +118,7 @@ none_read next given = record {
 module _ (i next low : ℕ) (given : List FilePart) (inodes : List (ℕ × Inode))
     (read : AreRead i next low given inodes) where
   module _ (p : FilePart) (inside : i < length given) (at : p ≡ get_or given i p) where
-    -- the place behind
+    -- the place after
     next_place : suc i ≡ i + 1
     next_place = omega arith
 

@@ -1,12 +1,12 @@
 -- What a file must keep by itself, whatever other files there are.
 use Rattle.std.specs.Prelude.{◌<◌, ◌≤◌, List, IsTrue}
 use Rattle.std.specs.List.{All}
-use Rattle.nfs_items.specs.Terms.{FileNumber}
+use Rattle.fs_model.specs.nfs_items.Terms.{FileNumber}
 use Rattle.fs_model.specs.Listing.{DirEntry, entry_name}
 use Rattle.fs_model.specs.Names.{is_name}
 use Rattle.fs_model.specs.Files.{Body, File, listing_in}
 use Rattle.fs_model.specs.Trees.{IsBody, IsTime}
-use Rattle.fs_rules.specs.Rules.{AreRising, numbers_of}
+use Rattle.tree_rules.specs.FileRules.Rules.{AreRising, numbers_of}
 
 -- a body is within its limit; a directory's cookies rise from 3 to below the next, and its names differ and
 -- keep the name rule

@@ -2,7 +2,7 @@
 use Rattle.std.specs.Prelude.{ℕ, Bool, List, ◌==◌, ◌||◌, if◌then◌else◌}
 use Rattle.sha2.specs.Sha256.{sha256}
 use Rattle.xdr.specs.Item.{Item, Value, word, opaque, pair, array, choice, spelling}
-use Rattle.nfs_items.specs.Timeval.{timeval, timeval_value}
+use Rattle.fs_model.specs.nfs_items.Timeval.{timeval, timeval_value}
 use Rattle.fs_model.specs.Maxima.{max_file_size, max_target, max_name, max_entries}
 use Rattle.fs_model.specs.Listing.{DirEntry}
 use Rattle.fs_model.specs.Files.{Body, Regular, Symlink, Directory, File}
@@ -26,7 +26,7 @@ body_item kind =
 abbrev pub attributes_item : Item
 attributes_item = pair word (pair word (pair word (pair timeval (pair timeval timeval))))
 
--- what stands behind a file's kind
+-- what stands after a file's kind
 abbrev pub kind_item : ℕ → Item
 kind_item kind = pair attributes_item (body_item kind)
 

@@ -1,7 +1,7 @@
 -- The file that a value says. Each value gives one: a number that stands for no kind gives a regular file.
 use Rattle.std.specs.Prelude.{ℕ, zero, suc, []}
 use Rattle.xdr.specs.Item.{Value}
-use Rattle.nfs_items.specs.Timeval.{Timeval, timeval}
+use Rattle.fs_model.specs.nfs_items.Timeval.{Timeval, timeval}
 use Rattle.fs_model.specs.Files.{Body, Regular, Symlink, Directory, File}
 use Rattle.file_texts.specs.FileItems.{file_item, body_item, attributes_item}
 

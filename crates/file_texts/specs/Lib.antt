@@ -1,3 +1,5 @@
+pub use Rattle.fs_model.specs as fs_model
+pub use Rattle.fs_model.specs.nfs_items as nfs_items
 pub mod FileItems
 pub mod FileValues
 pub mod Parts

@@ -1,8 +1,8 @@
 -- What the parts of a file's text say.
 use Rattle.std.specs.Prelude.{List, map}
-use Rattle.nfs_items.specs.Terms.{FileNumber}
+use Rattle.fs_model.specs.nfs_items.Terms.{FileNumber}
 use Rattle.xdr.specs.Item.{Value, choice}
-use Rattle.nfs_items.specs.Timeval.{Timeval, timeval}
+use Rattle.fs_model.specs.nfs_items.Timeval.{Timeval, timeval}
 use Rattle.fs_model.specs.Files.{Body, File}
 use Rattle.fs_model.specs.Files as files
 use Rattle.tree_rules.specs.GivenListing.{said_entries}
@@ -21,7 +21,7 @@ time_said t = (t.seconds, t.microseconds)
 abbrev pub attributes_said : AttributesPart → Value attributes_item
 attributes_said a = (a.mode, (a.uid, (a.gid, (time_said a.atime, (time_said a.mtime, time_said a.ctime)))))
 
--- what stands behind a file's number
+-- what stands after a file's number
 abbrev pub kind_said : AttributesPart → BodyPart → Value (choice is_file_kind kind_item)
 kind_said a (Regular bytes) = (1, (attributes_said a, bytes.now))
 kind_said a (Symlink target) = (5, (attributes_said a, target.now))

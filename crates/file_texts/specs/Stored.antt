@@ -2,7 +2,7 @@
 use Rattle.std.specs.Prelude.{ℕ}
 use Rattle.std.specs.declared.vec.Vec.{Vec}
 use Rattle.fs_model.specs.Listing.{DirEntry}
-use Rattle.directories.specs.declared.directory.Entry.{Entry}
+use Rattle.tree_rules.specs.inodes.declared.directories.directory.Entry.{Entry}
 
 -- the entry of a directory that a stored name, number and cookie are
 abbrev pub entry_in : {A : Type 0} → Vec ℕ A × Entry → DirEntry

@@ -1,14 +1,14 @@
 //! The digest of a file's text.
 
 ghost use Rattle.std.specs.Prelude.{◌≡◌, IfOk};
-ghost use Rattle.inodes.specs.Inodes.{body_in, file_in};
+ghost use Rattle.tree_rules.specs.inodes.Inodes.{body_in, file_in};
 ghost use Rattle.file_texts.specs.Bounds.{IsWritable};
 ghost use Rattle.file_texts.specs.FileItems.{file_digest};
 
 use crate::write::add_file;
-use inodes::Inode;
 use sha2::{Digest, Sha256};
 use std::alloc::AllocError;
+use tree_rules::inodes_code::Inode;
 
 /// The digest of the text of a file with its number. `buffer` is room for the text: what it holds before and
 /// after means nothing.

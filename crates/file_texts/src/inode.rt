@@ -2,16 +2,16 @@
 
 ghost use Rattle.std.specs.Prelude.{◌≡◌, IfOk, MatchOption};
 ghost use Rattle.fs_model.specs.Trees.{IsTime};
-ghost use Rattle.inodes.specs.Inodes.{body_in, file_in};
+ghost use Rattle.tree_rules.specs.inodes.Inodes.{body_in, file_in};
 ghost use Rattle.file_texts.specs.Alone.{IsBodyAlone, IsFileAlone};
 ghost use Rattle.file_texts.specs.Bounds.{IsWritable};
 ghost use Rattle.file_texts.specs.Parts.{time_of, body_of, file_of};
 
 use crate::parts::{BodyPart, FilePart, TimePart};
-use inodes::{Body, Inode};
-use nfs_items::Time;
+use fs_model::nfs_items_code::Time;
 use std::alloc::{AllocError, Global};
 use tree_rules::directory_of;
+use tree_rules::inodes_code::{Body, Inode};
 
 /// The first number that is no mode: a mode has twelve bits.
 const MODES: u32 = 0o10000;

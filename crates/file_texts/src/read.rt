@@ -4,7 +4,7 @@ ghost use Rattle.std.specs.Prelude.{◌≡◌};
 ghost use Rattle.xdr.specs.Item.{pair, word, array, choice};
 ghost use Rattle.xdr.specs.Reading.{GivesUnless};
 ghost use Rattle.xdr.specs.ReadError.{xdr_fault};
-ghost use Rattle.nfs_items.specs.Timeval.{timeval};
+ghost use Rattle.fs_model.specs.nfs_items.Timeval.{timeval};
 ghost use Rattle.tree_rules.specs.GivenListing.{said_entry, said_entries};
 ghost use Rattle.file_texts.specs.FileItems.{entry_item, attributes_item, kind_item, is_file_kind, file_item};
 ghost use Rattle.file_texts.specs.declared.read.TheConstants.{MAX_ENTRIES};
@@ -64,7 +64,7 @@ fn read_file<'a>(alloc: Global, reader: &mut Reader<'a>) -> Result<FilePart<'a>,
     })
 }
 
-/// What stands behind a file's number.
+/// What stands after a file's number.
 fn read_kind<'a>(
     alloc: Global,
     reader: &mut Reader<'a>,
@@ -120,7 +120,7 @@ fn read_directory<'a>(
     Ok((attributes, next, entries))
 }
 
-/// A directory's entries behind their count.
+/// A directory's entries after their count.
 fn read_entries<'a>(
     alloc: Global,
     reader: &mut Reader<'a>,

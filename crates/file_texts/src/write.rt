@@ -4,22 +4,22 @@ ghost use Rattle.std.specs.Prelude.{◌≡◌, ◌≤◌, OnOk, length, map};
 ghost use Rattle.std.specs.List.{flat_map, AllByRecursion};
 ghost use Rattle.xdr.specs.Item.{Fits, array, choice, spelling};
 ghost use Rattle.xdr.specs.Writing.{Adds};
-ghost use Rattle.nfs_items.specs.Timeval.{timeval, timeval_value};
+ghost use Rattle.fs_model.specs.nfs_items.Timeval.{timeval, timeval_value};
 ghost use Rattle.fs_model.specs.Maxima.{max_file_size, max_target, max_name};
 ghost use Rattle.fs_model.specs.Files.{listing_in};
-ghost use Rattle.directories.specs.Entries.{entries_of};
-ghost use Rattle.inodes.specs.Inodes.{body_in, file_in};
+ghost use Rattle.tree_rules.specs.inodes.Directories.Entries.{entries_of};
+ghost use Rattle.tree_rules.specs.inodes.Inodes.{body_in, file_in};
 ghost use Rattle.file_texts.specs.FileItems.{entry_item, attributes_item, attributes_value, kind_item};
 ghost use Rattle.file_texts.specs.FileItems.{kind_value, is_file_kind, file_item, file_value};
 ghost use Rattle.file_texts.specs.Bounds.{IsWritable};
 ghost use Rattle.file_texts.specs.Stored.{entry_in};
 ghost use Rattle.file_texts.specs.declared.read.TheConstants.{MAX_ENTRIES};
 
-use directories::{Directory, Entry};
+use fs_model::nfs_items_code::Time;
 use indexmap::map::Slice;
-use inodes::{Body, Inode};
-use nfs_items::Time;
 use std::alloc::AllocError;
+use tree_rules::inodes_code::directories::{Directory, Entry};
+use tree_rules::inodes_code::{Body, Inode};
 use xdr::Writer;
 
 /// Appends the text of a file with its number; where memory is refused a part of it may stand.
@@ -33,7 +33,7 @@ pub fn add_file(number: u32, inode: &Inode, out: &mut Vec<u8>) -> Result<(), All
     add_kind(inode, out)
 }
 
-/// What stands behind a file's number.
+/// What stands after a file's number.
 fn add_kind(inode: &Inode, out: &mut Vec<u8>) -> Result<(), AllocError>
     requires { IsWritable (body_in inode.now.body) }
     ensures fits { OnOk result
@@ -90,7 +90,7 @@ fn add_directory(inode: &Inode, listing: &Directory, out: &mut Vec<u8>) -> Resul
     add_entries(listing, out)
 }
 
-/// A directory's entries behind their count.
+/// A directory's entries after their count.
 fn add_entries(listing: &Directory, out: &mut Vec<u8>) -> Result<(), AllocError>
     requires few { length listing.now.entries ≤ MAX_ENTRIES }
     requires names { AllByRecursion (λ e. length e.0 ≤ max_name) listing.now.entries }

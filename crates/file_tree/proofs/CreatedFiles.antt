@@ -2,22 +2,22 @@
 -- Serves: `create_new`.
 use Rattle.std.proofs.Common.{◌≡◌, ℕ, ◌≤◌, List, length, replicate, None, Ok, refl, ap, subst, ◌∙◌, arith}
 use Rattle.std.specs.Prelude.{IsTrue, unwrap_or}
-use Rattle.nfs_items.specs.Timeval.{Timeval}
-use Rattle.nfs_items.specs.Caller.{Caller}
-use Rattle.fs_model.specs.Files.{Body, Regular, File, Files}
-use Rattle.fs_model.specs.Trees.{IsTime, IsFile, IsFileTree}
-use Rattle.fs_changes.specs.Limits.{has_room}
+use Rattle.nfs_spec.specs.nfs_items.Timeval.{Timeval}
+use Rattle.nfs_spec.specs.nfs_items.Caller.{Caller}
+use Rattle.nfs_spec.specs.fs_model.Files.{Body, Regular, File, Files}
+use Rattle.nfs_spec.specs.fs_model.Trees.{IsTime, IsFile, IsFileTree}
+use Rattle.nfs_spec.specs.fs_model.Changes.Limits.{has_room}
 use Rattle.nfs_spec.specs.Changes.{new_file}
 use Rattle.nfs_spec.specs.Procedures.{create, add_file}
 use Rattle.nfs_spec.specs.Sattr.{GivenFields}
-use Rattle.nfs_spec_steps.specs.Granted.{CreateNewOk, new_regular}
-use Rattle.nfs_spec_steps.proofs.Making.{create_ok}
-use Rattle.nfs_spec_laws.specs.Laws.{AreValidFields, NamesIn}
-use Rattle.nfs_spec_laws.proofs.FilesFit.{regular_fits}
-use Rattle.file_checks.specs.Bounds.{HasWords}
-use Rattle.file_checks.specs.CountChanges.{MayMake}
-use Rattle.file_checks.specs.Creates.{DecidesCreate}
-use Rattle.file_checks.proofs.GrantedNames.{may_make, make_does, make_names}
+use Rattle.inode_table.specs.nfs_laws.Steps.Granted.{CreateNewOk, new_regular}
+use Rattle.inode_table.proofs.nfs_laws.OfSteps.Making.{create_ok}
+use Rattle.inode_table.specs.nfs_laws.Laws.{AreValidFields, NamesIn}
+use Rattle.inode_table.proofs.nfs_laws.FilesFit.{regular_fits}
+use Rattle.inode_table.specs.nfs_laws.Sizes.Bounds.{HasWords}
+use Rattle.inode_table.specs.nfs_counts.CountChanges.{MayMake}
+use Rattle.file_tree.specs.FileChecks.Creates.{DecidesCreate}
+use Rattle.file_tree.proofs.OfFileChecks.GrantedNames.{may_make, make_does, make_names}
 
 -- a new file of zeros, as many as the size that is given, or none
 pub new_regular_is : (who : Caller) (now : Timeval) (a : GivenFields) (file : File) (body : Body) (size : ℕ)

@@ -3,17 +3,17 @@
 use Rattle.std.proofs.Common.{Bor, ◌≡◌, ℕ, List, Some, None, Ok, Err, option_map, if◌then◌else◌, refl, sym}
 use Rattle.std.proofs.Common.{ap, ◌∙◌}
 use Rattle.std.specs.Prelude.{Option}
-use Rattle.nfs_items.specs.Caller.{Caller}
-use Rattle.nfs_items.specs.declared.stat.Stat.TheVariants as stats
-use Rattle.fs_model.specs.Files.{File, Files, file_at, parent_of}
+use Rattle.nfs_spec.specs.nfs_items.Caller.{Caller}
+use Rattle.nfs_spec.specs.nfs_items.declared.stat.Stat.TheVariants as stats
+use Rattle.nfs_spec.specs.fs_model.Files.{File, Files, file_at, parent_of}
 use Rattle.nfs_spec.specs.ProcedureChecks.{◌>>=◌, ok_or, listing_or, may_search}
 use Rattle.nfs_spec.specs.FileAttributes.{attributes_of}
 use Rattle.nfs_spec.specs.Effects.{attributes_at, number_named, number_at_name, number_in_listing}
-use Rattle.inodes.specs.Inodes.{body_in, file_in, parent_in, KeepsParent}
-use Rattle.inodes.specs.InodeLookUp.{look_up_in}
-use Rattle.inodes.specs.declared.inode.Body as stored
-use Rattle.inodes.specs.declared.inode.Body.TheVariants as code
-use Rattle.inodes.specs.declared.inode.Inode.{Inode}
+use Rattle.inode_table.specs.inodes.Inodes.{body_in, file_in, parent_in, KeepsParent}
+use Rattle.inode_table.specs.inodes.InodeLookUp.{look_up_in}
+use Rattle.inode_table.specs.inodes.declared.inode.Body as stored
+use Rattle.inode_table.specs.inodes.declared.inode.Body.TheVariants as code
+use Rattle.inode_table.specs.inodes.declared.inode.Inode.{Inode}
 
 -- in a directory, the one above is the one that it keeps
 named_in : (w : Files) (who : Caller) (n : ℕ) (name : List ℕ) (f : File) (b : stored.Body)

@@ -1,3 +1,7 @@
+pub use Rattle.nfs_spec.proofs as nfs_spec
+pub use Rattle.inode_table.proofs.tree_rules as tree_rules
+mod OfNameChecks
+pub mod OfFileChecks
 mod FilesSeen
 mod LookUpPaths
 mod PageNames

@@ -3,16 +3,16 @@
 -- Serves: `Tree::lookup`.
 use Rattle.std.proofs.Common.{◌≡◌, ℕ, Bool, true, false, List, Option, Some, None, Result, Ok, Err}
 use Rattle.std.proofs.Common.{option_map, option_and_then, if◌then◌else◌, refl, sym, ap, subst, ◌∙◌}
-use Rattle.nfs_items.specs.Caller.{Caller}
-use Rattle.nfs_items.specs.declared.stat.Stat.{Stat}
-use Rattle.nfs_items.specs.declared.stat.Stat.TheVariants as stats
-use Rattle.fs_model.specs.Listing.{entry_at}
-use Rattle.fs_model.specs.Names.{dot_dot, is_name}
-use Rattle.fs_model.specs.Files.{Body, Regular, Symlink, Directory, File, Files, file_at, listing_in}
-use Rattle.fs_model.specs.Files.{is_directory, places, parent_of}
-use Rattle.fs_model.specs.Trees.{IsFileTree}
-use Rattle.fs_model.proofs.Walks.{step_last}
-use Rattle.fs_model.proofs.Parents.{parent_path}
+use Rattle.nfs_spec.specs.nfs_items.Caller.{Caller}
+use Rattle.nfs_spec.specs.nfs_items.declared.stat.Stat.{Stat}
+use Rattle.nfs_spec.specs.nfs_items.declared.stat.Stat.TheVariants as stats
+use Rattle.nfs_spec.specs.fs_model.Listing.{entry_at}
+use Rattle.nfs_spec.specs.fs_model.Names.{dot_dot, is_name}
+use Rattle.nfs_spec.specs.fs_model.Files.{Body, Regular, Symlink, Directory, File, Files, file_at, listing_in}
+use Rattle.nfs_spec.specs.fs_model.Files.{is_directory, places, parent_of}
+use Rattle.nfs_spec.specs.fs_model.Trees.{IsFileTree}
+use Rattle.nfs_spec.proofs.fs_model.Walks.{step_last}
+use Rattle.nfs_spec.proofs.fs_model.Parents.{parent_path}
 use Rattle.nfs_spec.specs.ProcedureChecks.{◌>>=◌, ok_or, listing_or, may_search}
 use Rattle.nfs_spec.specs.Effects.{number_named, number_at_name}
 use Rattle.nfs_spec.proofs.Lookups.{plain_name}

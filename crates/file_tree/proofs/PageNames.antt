@@ -4,21 +4,22 @@ use Rattle.std.proofs.Common.{◌≡◌, ℕ, zero, suc, ◌≤◌, List, [], �
 use Rattle.std.proofs.Common.{arith, sym, ap, subst}
 use Rattle.std.specs.Prelude.{IsTrue}
 use Rattle.std.specs.List.{AllByRecursion}
-use Rattle.nfs_items.specs.Caller.{Caller}
-use Rattle.nfs_items.specs.declared.stat.Stat.{Stat}
-use Rattle.nfs_types.specs.Calls.{Page}
-use Rattle.nfs_types.specs.Results.{entry_of, page_of, outcome_of}
-use Rattle.nfs_types.specs.declared.results.PageEntry as stored_entry
-use Rattle.nfs_types.specs.declared.results.Page as stored
-use Rattle.fs_model.specs.Files.{Files, is_directory, listing_in}
-use Rattle.fs_model.specs.Trees.{IsFileTree}
-use Rattle.fs_changes.specs.Limits.{has_room}
-use Rattle.fs_changes.proofs.Room.{within}
+use Rattle.nfs_spec.specs.nfs_items.Caller.{Caller}
+use Rattle.nfs_spec.specs.nfs_items.declared.stat.Stat.{Stat}
+use Rattle.nfs_spec.specs.nfs_types.Calls.{Page}
+use Rattle.nfs_spec.specs.nfs_types.Results.{entry_of, page_of}
+use Rattle.nfs_spec.specs.nfs_items.Attributes.{outcome_of}
+use Rattle.nfs_spec.specs.nfs_types.declared.results.PageEntry as stored_entry
+use Rattle.nfs_spec.specs.nfs_types.declared.results.Page as stored
+use Rattle.nfs_spec.specs.fs_model.Files.{Files, is_directory, listing_in}
+use Rattle.nfs_spec.specs.fs_model.Trees.{IsFileTree}
+use Rattle.nfs_spec.specs.fs_model.Changes.Limits.{has_room}
+use Rattle.nfs_spec.proofs.fs_model.OfChanges.Room.{within}
 use Rattle.nfs_spec.specs.Procedures.{read_dir}
-use Rattle.nfs_spec_steps.specs.Read.{ReadDirOk}
-use Rattle.nfs_spec_steps.proofs.Reading.{read_dir_ok}
-use Rattle.file_checks.specs.Bounds.{AreWords}
-use Rattle.file_checks.proofs.Values.{EntryFits, page_fits}
+use Rattle.inode_table.specs.nfs_laws.Steps.Read.{ReadDirOk}
+use Rattle.inode_table.proofs.nfs_laws.OfSteps.Reading.{read_dir_ok}
+use Rattle.inode_table.specs.nfs_laws.Sizes.Bounds.{AreWords}
+use Rattle.inode_table.proofs.nfs_laws.OfSizes.Values.{EntryFits, page_fits}
 
 -- what is so by recursion is so of each
 all_of : {A : Type 0} (P : A → Type 0) (xs : List A) → AllByRecursion P xs → All P xs

@@ -1,14 +1,14 @@
 -- What REMOVE and RMDIR do to paths.
 -- Serves: `Tree::remove`, `Tree::remove_dir`.
 use Rattle.std.proofs.Common.{◌≡◌, ℕ, List, true, false, Ok}
-use Rattle.nfs_items.specs.Timeval.{Timeval}
-use Rattle.nfs_items.specs.Caller.{Caller}
-use Rattle.fs_model.specs.Files.{Files}
-use Rattle.fs_model.specs.Trees.{IsTime, IsFileTree}
+use Rattle.nfs_spec.specs.nfs_items.Timeval.{Timeval}
+use Rattle.nfs_spec.specs.nfs_items.Caller.{Caller}
+use Rattle.nfs_spec.specs.fs_model.Files.{Files}
+use Rattle.nfs_spec.specs.fs_model.Trees.{IsTime, IsFileTree}
 use Rattle.nfs_spec.specs.Procedures.{remove, remove_dir}
-use Rattle.nfs_spec_steps.proofs.Removing.{remove_ok, remove_dir_ok}
-use Rattle.nfs_spec_laws.specs.Laws.{UnnamesIn}
-use Rattle.nfs_spec_laws.proofs.Paths.{remove_takes}
+use Rattle.inode_table.proofs.nfs_laws.OfSteps.Removing.{remove_ok, remove_dir_ok}
+use Rattle.inode_table.specs.nfs_laws.Laws.{UnnamesIn}
+use Rattle.inode_table.proofs.nfs_laws.Paths.{remove_takes}
 
 module _ (now : Timeval) (time : IsTime now) (w : Files) (tree : IsFileTree w) (who : Caller) (dir : ℕ)
     (name : List ℕ) (after : Files) where

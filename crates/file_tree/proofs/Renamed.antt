@@ -1,15 +1,15 @@
 -- What RENAME does to paths.
 -- Serves: `Tree::rename`.
 use Rattle.std.proofs.Common.{◌≡◌, ℕ, ◌≤◌, List, length, Ok}
-use Rattle.nfs_items.specs.Timeval.{Timeval}
-use Rattle.nfs_items.specs.Caller.{Caller}
-use Rattle.fs_model.specs.Files.{Files}
-use Rattle.fs_model.specs.Trees.{IsTime, IsFileTree}
+use Rattle.nfs_spec.specs.nfs_items.Timeval.{Timeval}
+use Rattle.nfs_spec.specs.nfs_items.Caller.{Caller}
+use Rattle.nfs_spec.specs.fs_model.Files.{Files}
+use Rattle.nfs_spec.specs.fs_model.Trees.{IsTime, IsFileTree}
 use Rattle.nfs_spec.specs.Procedures.{rename}
-use Rattle.nfs_spec_steps.specs.Granted.{IsSameFile}
-use Rattle.nfs_spec_steps.proofs.Renaming.{rename_ok}
-use Rattle.nfs_spec_laws.specs.Laws.{RenamesIn}
-use Rattle.nfs_spec_laws.proofs.Paths.{rename_moves}
+use Rattle.inode_table.specs.nfs_laws.Steps.Granted.{IsSameFile}
+use Rattle.inode_table.proofs.nfs_laws.OfSteps.Renaming.{rename_ok}
+use Rattle.inode_table.specs.nfs_laws.Laws.{RenamesIn}
+use Rattle.inode_table.proofs.nfs_laws.Paths.{rename_moves}
 
 -- where two names are not of one file, what is below the one comes below the other
 pub renamed : (now : Timeval) → IsTime now → (w : Files) → IsFileTree w

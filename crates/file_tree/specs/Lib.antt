@@ -1,2 +1,8 @@
+pub use Rattle.inode_table.specs.fs_model as fs_model
+pub use Rattle.nfs_spec.specs as nfs_spec
+pub use Rattle.nfs_spec.specs.nfs_types as nfs_types
+pub use Rattle.inode_table.specs.tree_rules as tree_rules
+pub mod NameChecks
+pub mod FileChecks
 pub mod LookUps
 pub mod Performs

@@ -1,6 +1,6 @@
 -- Look-ups, as steps along paths.
 use Rattle.std.specs.Prelude.{◌≡◌, ℕ, List, [], ◌∷◌, ◌++◌, Option, Some, option_map}
-use Rattle.fs_model.specs.Paths.{Places, path_at}
+use Rattle.nfs_spec.specs.fs_model.Paths.{Places, path_at}
 
 -- each path to the directory leads on, by the name, to the number, or to nothing
 abbrev pub LeadsOn : Places → ℕ → List ℕ → Option ℕ → Type 0

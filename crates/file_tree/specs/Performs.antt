@@ -1,7 +1,7 @@
 -- What a call that changes files did, against its effect by definition.
 use Rattle.std.specs.Prelude.{◌≡◌, Result, Ok, Err}
-use Rattle.nfs_items.specs.declared.stat.Stat.{Stat}
-use Rattle.fs_model.specs.Files.{Files}
+use Rattle.nfs_spec.specs.nfs_items.declared.stat.Stat.{Stat}
+use Rattle.nfs_spec.specs.fs_model.Files.{Files}
 use Rattle.nfs_spec.specs.Changes.{Effect}
 
 -- done, and these are the files after it; or refused, and the files are as they were

@@ -1,9 +1,11 @@
 //! The files of a server, as a tree of directories.
 #![tactic(auto)]
 
+pub mod file_checks;
 mod limits;
 mod linking;
 mod making;
+pub mod name_checks;
 mod parts;
 mod paths;
 mod reading;
@@ -12,5 +14,7 @@ mod renaming;
 mod setting;
 mod tree;
 
+pub use inode_table::tree_rules_code;
 pub use limits::{MAX_BLOCKS, MAX_ENTRIES, MAX_FILES, MAX_NUMBER};
+pub use nfs_spec::nfs_types_code;
 pub use tree::Tree;

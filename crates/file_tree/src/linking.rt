@@ -1,21 +1,21 @@
 //! Calls that give a file one more name, or take one away.
 
 ghost use Rattle.std.specs.Prelude.{◌≡◌, ◌≤◌, length};
-ghost use Rattle.nfs_items.specs.CallerOf.{caller_of};
-ghost use Rattle.fs_model.specs.Maxima.{max_name};
+ghost use Rattle.nfs_spec.specs.nfs_items.CallerOf.{caller_of};
+ghost use Rattle.nfs_spec.specs.fs_model.Maxima.{max_name};
 ghost use Rattle.nfs_spec.specs.Procedures.{link};
-ghost use Rattle.nfs_spec_laws.specs.Laws.{NamesIn};
+ghost use Rattle.inode_table.specs.nfs_laws.Laws.{NamesIn};
 ghost use Rattle.file_tree.specs.Performs.{Performs, IfDone};
 
+use crate::file_checks::check_link;
 use crate::tree::Tree;
-use file_checks::check_link;
-use nfs_items::{Stat, Time, Who};
+use nfs_spec::nfs_items_code::{Stat, Time, Who};
 use std::alloc::{AllocError, Global};
 
 impl Tree {
     /// Gives a file or symbolic link one more name (RFC 1094, section 2.2.13). Of the file Stale and IsDir;
-    /// then Stale, NotDir, Acces, Exist and NoSpc, in this order. A refusal, and want of memory, leave the
-    /// files as they were.
+    /// then Stale, NotDir, Acces, Exist and NoSpc, in this order. A refusal, or running out of memory, leaves
+    /// the files as they were.
     pub fn link(
         &mut self,
         alloc: Global,

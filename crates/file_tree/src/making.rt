@@ -1,22 +1,23 @@
 //! Calls that make files.
 
 ghost use Rattle.std.specs.Prelude.{◌≡◌, ◌≤◌, ◌+◌, [], Ok, None, length};
-ghost use Rattle.nfs_items.specs.CallerOf.{caller_of};
-ghost use Rattle.fs_model.specs.Files.{listing_in, places};
-ghost use Rattle.fs_model.specs.Maxima.{max_name, max_number, max_target};
-ghost use Rattle.fs_model.specs.Trees.{IsFile};
+ghost use Rattle.nfs_spec.specs.nfs_items.CallerOf.{caller_of};
+ghost use Rattle.nfs_spec.specs.fs_model.Files.{listing_in, places};
+ghost use Rattle.nfs_spec.specs.fs_model.Maxima.{max_name, max_number, max_target};
+ghost use Rattle.nfs_spec.specs.fs_model.Trees.{IsFile};
 ghost use Rattle.nfs_spec.specs.Sattr.{given_fields};
 ghost use Rattle.nfs_spec.specs.Procedures.{create, make, make_dir, symlink};
-ghost use Rattle.nfs_spec_laws.specs.Laws.{AreValidFields, NamesIn};
-ghost use Rattle.inodes.specs.Given.{given_in};
-ghost use Rattle.inodes.specs.Inodes.{body_in, file_in};
-ghost use Rattle.file_checks.specs.Creates.{DecidesCreate};
+ghost use Rattle.inode_table.specs.nfs_laws.Laws.{AreValidFields, NamesIn};
+ghost use Rattle.inode_table.specs.inodes.Given.{given_in};
+ghost use Rattle.inode_table.specs.inodes.Inodes.{body_in, file_in};
+ghost use Rattle.file_tree.specs.FileChecks.Creates.{DecidesCreate};
 ghost use Rattle.file_tree.specs.Performs.{Performs, IfDone};
 
+use crate::file_checks::{check_make, find_to_create};
 use crate::tree::Tree;
-use file_checks::{check_make, find_to_create};
-use inodes::{Body, Directory, Given, Inode};
-use nfs_items::{Sattr, Stat, Time, Who};
+use inode_table::inodes_code::directories::Directory;
+use inode_table::inodes_code::{Body, Given, Inode};
+use nfs_spec::nfs_items_code::{Sattr, Stat, Time, Who};
 use std::alloc::{AllocError, Global};
 
 /// Attributes of which none is given.
@@ -32,8 +33,8 @@ const NOTHING_GIVEN: Given = Given {
 impl Tree {
     /// Makes a regular file, or sets the attributes of the one that has the name (RFC 1094, section 2.2.10);
     /// gives its number. Stale, NotDir, Acces; where the name is taken Exist unless by a regular file, else
-    /// as `set_attributes`; where it is free Acces, FBig and NoSpc. A refusal, and want of memory, leave the
-    /// files as they were.
+    /// as `set_attributes`; where it is free Acces, FBig and NoSpc. A refusal, or running out of memory,
+    /// leaves the files as they were.
     pub fn create(
         &mut self,
         alloc: Global,
@@ -89,7 +90,7 @@ impl Tree {
     }
 
     /// Makes a directory (RFC 1094, section 2.2.15), and gives its number. Stale, NotDir, Acces, Exist and
-    /// NoSpc, in this order. A refusal, and want of memory, leave the files as they were.
+    /// NoSpc, in this order. A refusal, or running out of memory, leaves the files as they were.
     pub fn make_dir(
         &mut self,
         alloc: Global,
@@ -121,7 +122,7 @@ impl Tree {
     }
 
     /// Makes a symbolic link (RFC 1094, section 2.2.14), and gives its number. Stale, NotDir, Acces, Exist
-    /// and NoSpc, in this order. A refusal, and want of memory, leave the files as they were.
+    /// and NoSpc, in this order. A refusal, or running out of memory, leaves the files as they were.
     pub fn symlink(
         &mut self,
         alloc: Global,

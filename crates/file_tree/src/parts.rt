@@ -2,16 +2,16 @@
 
 ghost use Rattle.std.specs.Prelude.{◌≡◌, IfOk, IsTrue};
 ghost use Rattle.std.specs.FinMap as finite;
-ghost use Rattle.fs_model.specs.Trees.{IsFileTree};
-ghost use Rattle.fs_changes.specs.Limits.{has_room};
-ghost use Rattle.file_checks.specs.Bounds.{AreWords};
-ghost use Rattle.fs_rules.specs.Rules.{AreRising, numbers_of};
-ghost use Rattle.inodes.specs.Inodes.{files_of};
-ghost use Rattle.file_checks.specs.Listed.{files_in};
+ghost use Rattle.nfs_spec.specs.fs_model.Trees.{IsFileTree};
+ghost use Rattle.nfs_spec.specs.fs_model.Changes.Limits.{has_room};
+ghost use Rattle.inode_table.specs.nfs_laws.Sizes.Bounds.{AreWords};
+ghost use Rattle.inode_table.specs.tree_rules.FileRules.Rules.{AreRising, numbers_of};
+ghost use Rattle.inode_table.specs.inodes.Inodes.{files_of};
+ghost use Rattle.inode_table.specs.tree_rules.Listed.{files_in};
 
 use crate::tree::Tree;
-use file_checks::InodeTable;
-use inodes::Inode;
+use inode_table::InodeTable;
+use inode_table::inodes_code::Inode;
 use std::alloc::{AllocError, Global};
 use std::collections::btree_map::Iter;
 

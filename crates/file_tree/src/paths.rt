@@ -1,11 +1,11 @@
 //! Walks along paths, which look at no permission.
 
 ghost use Rattle.std.specs.Prelude.{◌≡◌, option_map};
-ghost use Rattle.fs_model.specs.Listing.{place_number};
-ghost use Rattle.fs_model.specs.Files.{places};
+ghost use Rattle.nfs_spec.specs.fs_model.Listing.{place_number};
+ghost use Rattle.nfs_spec.specs.fs_model.Files.{places};
 
 use crate::tree::Tree;
-use inodes::Body;
+use inode_table::inodes_code::Body;
 
 impl Tree {
     /// The number that a directory lists under a name, whoever asks; none where the directory's number is no

@@ -1,16 +1,17 @@
 //! Calls that read alone.
 
 ghost use Rattle.std.specs.Prelude.{◌≡◌, ◌≤◌, All, IfOk, List, ℕ, Some, drop, length, min, take};
-ghost use Rattle.nfs_items.specs.CallerOf.{caller_of};
-ghost use Rattle.nfs_types.specs.Results.{outcome_of, bytes_of, page_of};
-ghost use Rattle.fs_model.specs.Maxima.{max_data, max_name, max_target};
+ghost use Rattle.nfs_spec.specs.nfs_items.CallerOf.{caller_of};
+ghost use Rattle.nfs_spec.specs.nfs_items.Attributes.{outcome_of};
+ghost use Rattle.nfs_spec.specs.nfs_types.Results.{bytes_of, page_of};
+ghost use Rattle.nfs_spec.specs.fs_model.Maxima.{max_data, max_name, max_target};
 ghost use Rattle.nfs_spec.specs.Procedures.{read_link, read, read_dir, stat_fs};
 
 use crate::limits::MAX_BLOCKS;
 use crate::tree::Tree;
-use inodes::{BLOCK_SIZE, Body};
-use nfs_items::{Stat, Who};
-use nfs_types::{FsStats, MAXDATA, Page, ReadOk};
+use inode_table::inodes_code::{BLOCK_SIZE, Body};
+use nfs_spec::nfs_items_code::{Stat, Who};
+use nfs_spec::nfs_types_code::{FsStats, MAXDATA, Page, ReadOk};
 use std::alloc::{AllocError, Global};
 
 /// The bytes from an offset on, at most a count of them and `MAXDATA`; none past the end.

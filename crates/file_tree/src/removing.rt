@@ -1,14 +1,14 @@
 //! Calls that take names out.
 
 ghost use Rattle.std.specs.Prelude.{◌≡◌, OnOk};
-ghost use Rattle.nfs_items.specs.CallerOf.{caller_of};
+ghost use Rattle.nfs_spec.specs.nfs_items.CallerOf.{caller_of};
 ghost use Rattle.nfs_spec.specs.Procedures.{remove, remove_dir};
-ghost use Rattle.nfs_spec_laws.specs.Laws.{UnnamesIn};
+ghost use Rattle.inode_table.specs.nfs_laws.Laws.{UnnamesIn};
 ghost use Rattle.file_tree.specs.Performs.{Does};
 
+use crate::name_checks::{check_remove, check_remove_dir};
 use crate::tree::Tree;
-use file_checks::{check_remove, check_remove_dir};
-use nfs_items::{Stat, Time, Who};
+use nfs_spec::nfs_items_code::{Stat, Time, Who};
 
 impl Tree {
     /// Takes a name of a file or symbolic link out (RFC 1094, section 2.2.11), and with its last name the

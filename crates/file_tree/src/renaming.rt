@@ -1,23 +1,24 @@
 //! RENAME.
 
 ghost use Rattle.std.specs.Prelude.{◌≡◌, ◌≤◌, length};
-ghost use Rattle.nfs_items.specs.CallerOf.{caller_of};
-ghost use Rattle.fs_model.specs.Maxima.{max_name};
+ghost use Rattle.nfs_spec.specs.nfs_items.CallerOf.{caller_of};
+ghost use Rattle.nfs_spec.specs.fs_model.Maxima.{max_name};
 ghost use Rattle.nfs_spec.specs.Procedures.{rename};
-ghost use Rattle.nfs_spec_steps.specs.Granted.{IsSameFile};
-ghost use Rattle.nfs_spec_laws.specs.Laws.{RenamesIn};
+ghost use Rattle.inode_table.specs.nfs_laws.Steps.Granted.{IsSameFile};
+ghost use Rattle.inode_table.specs.nfs_laws.Laws.{RenamesIn};
 ghost use Rattle.file_tree.specs.Performs.{Performs, IfDone};
 
+use crate::name_checks::{Move, check_rename};
 use crate::tree::Tree;
-use file_checks::{Move, check_rename};
-use nfs_items::{Stat, Time, Who};
+use nfs_spec::nfs_items_code::{Stat, Time, Who};
 use std::alloc::{AllocError, Global};
 
 impl Tree {
     /// Gives an entry another name, in the same or another directory, over what may stand there (RFC 1094,
     /// section 2.2.12); of one file under both names nothing changes. Of each directory Stale and NotDir,
     /// then Acces of each; NoEnt; Acces where a directory would come into itself; NotDir, IsDir and NotEmpty
-    /// of what stands at the new name; NoSpc. A refusal, and want of memory, leave the files as they were.
+    /// of what stands at the new name; NoSpc. A refusal, or running out of memory, leaves the files as they
+    /// were.
     pub fn rename(
         &mut self,
         alloc: Global,

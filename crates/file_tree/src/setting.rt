@@ -1,23 +1,23 @@
 //! Calls that change what a file holds: its attributes and its bytes.
 
 ghost use Rattle.std.specs.Prelude.{◌≡◌};
-ghost use Rattle.nfs_items.specs.CallerOf.{caller_of};
+ghost use Rattle.nfs_spec.specs.nfs_items.CallerOf.{caller_of};
 ghost use Rattle.nfs_spec.specs.Sattr.{given_fields};
 ghost use Rattle.nfs_spec.specs.Procedures.{set_attributes, write};
-ghost use Rattle.nfs_spec_laws.specs.Laws.{AreValidFields};
-ghost use Rattle.inodes.specs.Given.{given_in};
+ghost use Rattle.inode_table.specs.nfs_laws.Laws.{AreValidFields};
+ghost use Rattle.inode_table.specs.inodes.Given.{given_in};
 ghost use Rattle.file_tree.specs.Performs.{Performs};
 
+use crate::file_checks::{check_set, check_write};
 use crate::tree::Tree;
-use file_checks::{check_set, check_write};
-use inodes::Given;
-use nfs_items::{Sattr, Stat, Time, Who};
+use inode_table::inodes_code::Given;
+use nfs_spec::nfs_items_code::{Sattr, Stat, Time, Who};
 use std::alloc::AllocError;
 
 impl Tree {
     /// Sets the attributes of a file that are given (RFC 1094, section 2.2.3). Stale, then Perm, then IsDir,
-    /// NxIo, Acces, FBig and NoSpc where a size is given. A refusal, and want of memory, leave the files as
-    /// they were.
+    /// NxIo, Acces, FBig and NoSpc where a size is given. A refusal, or running out of memory, leaves the
+    /// files as they were.
     pub fn set_attributes(
         &mut self,
         who: &Who,
@@ -53,7 +53,7 @@ impl Tree {
 
     /// Writes bytes into a regular file at an offset (RFC 1094, section 2.2.9), with zeros between its end
     /// and an offset past it; no bytes change nothing. Stale, IsDir, NxIo, Acces, FBig and NoSpc, in this
-    /// order. A refusal, and want of memory, leave the files as they were.
+    /// order. A refusal, or running out of memory, leaves the files as they were.
     pub fn write(
         &mut self,
         who: &Who,

@@ -1,18 +1,18 @@
 //! The tree.
 
 ghost use Rattle.std.specs.Prelude.{◌≡◌, ℕ, List, IfOk, OnOk, IsTrue, Some, None, Err};
-ghost use Rattle.nfs_items.specs.CallerOf.{caller_of};
-ghost use Rattle.fs_model.specs.Files.{places};
-ghost use Rattle.fs_model.specs.Names.{is_name, dot_dot};
-ghost use Rattle.fs_model.specs.Trees.{IsFileTree};
-ghost use Rattle.fs_changes.specs.Limits.{has_room};
+ghost use Rattle.nfs_spec.specs.nfs_items.CallerOf.{caller_of};
+ghost use Rattle.nfs_spec.specs.fs_model.Files.{places};
+ghost use Rattle.nfs_spec.specs.fs_model.Names.{is_name, dot_dot};
+ghost use Rattle.nfs_spec.specs.fs_model.Trees.{IsFileTree};
+ghost use Rattle.nfs_spec.specs.fs_model.Changes.Limits.{has_room};
 ghost use Rattle.nfs_spec.specs.Effects.{attributes_at, number_at_name};
 ghost use Rattle.nfs_spec.specs.Opening.{opening_files};
-ghost use Rattle.file_checks.specs.Bounds.{AreWords};
+ghost use Rattle.inode_table.specs.nfs_laws.Sizes.Bounds.{AreWords};
 ghost use Rattle.file_tree.specs.LookUps.{LeadsOn, LeadsBack};
 
-use file_checks::InodeTable;
-use nfs_items::{Fattr, Stat, Who};
+use inode_table::InodeTable;
+use nfs_spec::nfs_items_code::{Fattr, Stat, Who};
 use std::alloc::{AllocError, Global};
 use std::marker::Model;
 
@@ -23,7 +23,7 @@ pub struct Tree {
 }
 
 impl Model for Tree {
-    ghost use Rattle.fs_model.specs.Files.{Files, files_code};
+    ghost use Rattle.nfs_spec.specs.fs_model.Files.{Files, files_code};
 
     ghost Value = { Files };
 
@@ -90,25 +90,5 @@ impl Tree {
             Some(inode) => inode.number_at(who, dir, name),
             None => Err(Stat::Stale),
         }
-    }
-}
-
-#[cfg(test)]
-mod tests {
-    use super::*;
-    use std::test::Fail;
-
-    #[test]
-    fn opens(rt: HostRuntime) -> Result<(), Fail> {
-        let tree = Tree::opening(rt.alloc(), 7)?;
-        let nobody = Who::nobody();
-        let hello = tree.lookup(&nobody, 1, b"hello")?;
-        assert_eq!(rt; hello, 2);
-        let attributes = tree.attributes(hello)?;
-        assert_eq!(rt; attributes.mode, 0o100644);
-        assert_eq!(rt; attributes.size, 6);
-        assert_eq!(rt; attributes.fsid, 7);
-        assert_eq!(rt; tree.attributes(1)?.nlink, 2);
-        Ok(())
     }
 }

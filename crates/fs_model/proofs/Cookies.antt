@@ -1,5 +1,5 @@
 -- Cookies that rise: they rise still where an entry goes, and where one is put last with the next cookie.
--- Serves: trees_stay_trees (nfs_spec_laws), `Directory::put` (inodes).
+-- Serves: trees_stay_trees (nfs_laws), `Directory::put` (inodes).
 use Rattle.std.proofs.Common.{ℕ, ◌+◌, ◌≤◌, Bool, true, false, cond, List, [], ◌∷◌, ◌++◌, arith}
 use Rattle.std.specs.Map.{remove_entry}
 use Rattle.nfs_items.specs.Terms.{Name}

@@ -27,7 +27,7 @@ module _ {X : Type 0} where
   found_first : (e : List ℕ × X) (es : List (List ℕ × X)) → lookup (pointwise nat_eq e.0) (e ∷ es) ≡ Some e.1
   found_first e es = cond-true _ _ _ (nat_list_eq_equiv.refl e.0)
 
-  -- what is behind one entry
+  -- what is after one entry
   behind : (e : List ℕ × X) (es : List (List ℕ × X)) (y : List ℕ) → IsDistinct (pointwise nat_eq) (keys_of (e ∷ es)) → (pointwise nat_eq y e.0 ≡ true → lookup (pointwise nat_eq y) es ≡ None)
   unfolding IsDistinct
   behind e es y distinct is = not_before nat_list_eq_equiv e.0 y is es distinct.0

@@ -1,3 +1,5 @@
+pub mod OfChanges
+pub mod OfEditedTrees
 pub mod Walks
 pub mod Counts
 pub mod OnePath

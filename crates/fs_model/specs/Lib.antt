@@ -1,5 +1,5 @@
-pub use Rattle.nfs_items.specs.Timeval
-pub use Rattle.nfs_items.specs.Terms
+pub use Rattle.nfs_items.specs as nfs_items
+pub mod Changes
 pub mod Maxima
 pub mod Names
 pub mod Listing

@@ -6,36 +6,35 @@ use Rattle.std.specs.Prelude.{Option, Some, None, IfSome, Err}
 use Rattle.std.specs.Io.KnownBytes.{Appends}
 use Rattle.std.proofs.lemmas.List.{append-nil}
 use Rattle.std.specs.List.{concat}
-use Rattle.records.specs.Count.{Rises}
-use Rattle.records.specs.Record.{IsRecord, IsUnfinished, PassesLimit}
-use Rattle.records.specs.Writing.{WritesFront}
-use Rattle.records.specs.declared.record.TheConstants.{MAX_RECORD}
-use Rattle.records.specs.declared.fault.RecordFault.{RecordFault}
-use Rattle.records.specs.declared.fault.RecordFault.TheVariants as reader_faults
-use Rattle.records.specs.Reading.{FailsUnless, StopsAt, TakesToLimit, TakesPart, IsPartOfRecord, fault_after}
-use Rattle.links.specs.Timeval.{Timeval}
-use Rattle.links.specs.World.{World}
-use Rattle.links.specs.Replies.{reply_owed, world_after}
-use Rattle.links.specs.Owed.{record_of, replies_owed, world_after_all}
-use Rattle.links.specs.Readings.{Readings, IsBehind}
-use Rattle.links.specs.declared.fault.LinkFault.{LinkFault}
-use Rattle.links.specs.declared.fault.LinkFault.TheVariants as links
+use Rattle.rpc.specs.Records.Count.{Rises}
+use Rattle.rpc.specs.Records.Record.{IsRecord, IsUnfinished, PassesLimit}
+use Rattle.rpc.specs.Records.Writing.{WritesFront}
+use Rattle.rpc.specs.declared.records.record.TheConstants.{MAX_RECORD}
+use Rattle.rpc.specs.declared.records.fault.RecordFault.{RecordFault}
+use Rattle.rpc.specs.declared.records.fault.RecordFault.TheVariants as reader_faults
+use Rattle.rpc.specs.Records.Reading.{FailsUnless, StopsAt, fault_after}
+use Rattle.nfs_items.specs.Timeval.{Timeval}
+use Rattle.worlds.specs.World.{World}
+use Rattle.service.specs.Replies.{reply_owed, world_after}
+use Rattle.service.specs.Owed.{record_of, replies_owed, world_after_all}
+use Rattle.gateway.specs.Links.Readings.{Readings, IsAfter}
+use Rattle.gateway.specs.declared.links.fault.LinkFault.{LinkFault}
+use Rattle.gateway.specs.declared.links.fault.LinkFault.TheVariants as links
 use Rattle.gateway.specs.declared.fault.StreamFault.{StreamFault}
 use Rattle.gateway.specs.declared.fault.StreamFault.TheVariants as faults
 use Rattle.gateway.specs.Faults.{of_records, of_link}
-use Rattle.gateway.specs.Streams.{Serves, ServesPart, StopsBeforeReply, StopsInReply, TakesNothing, TakesUnfinished}
-use Rattle.gateway.specs.Serving.{with_readings, text_owed, LinkStandsAfter, IfTold, LeavesOff, StandsAfter}
-use Rattle.gateway.proofs.StreamProgress.{Progress, ReadsRecord, begins, pushes, stops_after, stops_before_reply, stops_in_reply, is_part, is_part_in_reply, serves}
+use Rattle.record_streams.specs.Streams.{Serves, ServesPart, StopsBeforeReply, StopsInReply, TakesNothing}
+use Rattle.record_streams.specs.InTurn.{with_times}
+use Rattle.record_streams.specs.Faults as stream_faults
+use Rattle.record_streams.proofs.Timed.{with_times-append}
+use Rattle.gateway.specs.Serving.{text_owed, LinkStandsAfter, IfTold, LeavesOff, StandsAfter}
+use Rattle.record_streams.proofs.StreamProgress as streams
+use Rattle.record_streams.proofs.StreamProgress.{Progress, ReadsRecord, begins, pushes, stops_after, stops_before_reply, stops_in_reply, is_part, is_part_in_reply, serves}
 
 -- ---- one record more: its reading, what is owed to it, and the world after it
 
-with_readings-push : (f : Readings) (k : ℕ) (rs : List (List ℕ)) (r : List ℕ) → with_readings f k (rs ++ r ∷ []) ≡ with_readings f k rs ++ (f (k + length rs), r) ∷ []
-with_readings-push f k [] r = let e : k + 0 ≡ k = omega arith in rw e refl
-with_readings-push f k (s ∷ rs) r =
-    let e : k + length (s ∷ rs) ≡ (k + 1) + length rs = omega arith in rw e (ap (λ (cs : List (Timeval × List ℕ)). (f k, s) ∷ cs) (with_readings-push f (k + 1) rs r))
-
-with_next : (f : Readings) (rs : List (List ℕ)) (r : List ℕ) → with_readings f 0 (rs ++ r ∷ []) ≡ with_readings f 0 rs ++ (f (length rs), r) ∷ []
-with_next f rs r = let e : 0 + length rs ≡ length rs = omega arith in with_readings-push f 0 rs r ∙ rw e refl
+with_next : (f : Readings) (rs : List (List ℕ)) (r : List ℕ) → with_times f 0 (rs ++ r ∷ []) ≡ with_times f 0 rs ++ (f (length rs), r) ∷ []
+with_next f rs r = let e : 0 + length rs ≡ length rs = omega arith in with_times-append f 0 rs (r ∷ []) ∙ rw e refl
 
 replies_owed-push : (w : World) (cs : List (Timeval × List ℕ)) (time : Timeval) (r : List ℕ)
     → replies_owed w (cs ++ (time, r) ∷ []) ≡ replies_owed w cs ++ record_of (reply_owed (world_after_all w cs) time r)
@@ -50,15 +49,15 @@ world_after_all-push w (c ∷ cs) time r = world_after_all-push (world_after w c
 
 -- the world after some records
 abbrev pub world_at : World → Readings → List (List ℕ) → World
-world_at w f records = world_after_all w (with_readings f 0 records)
+world_at w f records = world_after_all w (with_times f 0 records)
 
 -- the world after one record more
 world_at-push : (w : World) (f : Readings) (rs : List (List ℕ)) (r : List ℕ) → world_at w f (rs ++ r ∷ []) ≡ world_after (world_at w f rs) (f (length rs)) r
-world_at-push w f rs r = ap (world_after_all w) (with_next f rs r) ∙ world_after_all-push w (with_readings f 0 rs) (f (length rs)) r
+world_at-push w f rs r = ap (world_after_all w) (with_next f rs r) ∙ world_after_all-push w (with_times f 0 rs) (f (length rs)) r
 
--- what is owed to one record more stands behind what is owed to those before it
+-- what is owed to one record more stands after what is owed to those before it
 text_owed-push : (w : World) (f : Readings) (rs : List (List ℕ)) (r : List ℕ) → text_owed w f (rs ++ r ∷ []) ≡ text_owed w f rs ++ record_of (reply_owed (world_at w f rs) (f (length rs)) r)
-text_owed-push w f rs r = ap (replies_owed w) (with_next f rs r) ∙ replies_owed-push w (with_readings f 0 rs) (f (length rs)) r
+text_owed-push w f rs r = ap (replies_owed w) (with_next f rs r) ∙ replies_owed-push w (with_times f 0 rs) (f (length rs)) r
 
 -- a record that was read is within the bound of what a link is handed
 pub record_fits : {text r : List ℕ} → IsRecord text r → length r ≤ MAX_RECORD
@@ -88,38 +87,38 @@ stands_at_first w f = record { readings_taken = λ k. let e : 0 + k ≡ k = omeg
 
 module _ {w : World} {f : Readings} {world : Option World} {readings : Option Readings} {rs : List (List ℕ)} (s : LinkStandsAfter w f world readings rs []) where
   -- so many readings are taken as there are records
-  taken_so_far : IsBehind (length rs) f readings
-  taken_so_far = subst (λ (n : ℕ). IsBehind n f readings) (let e : length (rs ++ []) ≡ length rs = omega (arith, length-append rs []) in e) s.readings_taken
+  taken_so_far : IsAfter (length rs) f readings
+  taken_so_far = subst (λ (n : ℕ). IsAfter n f readings) (let e : length (rs ++ []) ≡ length rs = omega (arith, length-append rs []) in e) s.readings_taken
 
   -- the next reading
   next_reading : (time : Timeval) → IfSome readings (λ g. time ≡ g 0) → time ≡ f (length rs)
   next_reading time h = by readings taken_so_far h
     where
-      by : (o : Option Readings) → IsBehind (length rs) f o → IfSome o (λ g. time ≡ g 0) → time ≡ f (length rs)
+      by : (o : Option Readings) → IsAfter (length rs) f o → IfSome o (λ g. time ≡ g 0) → time ≡ f (length rs)
       by None b h = absurd b
       by (Some g) b h = let e : length rs + 0 ≡ length rs = omega arith in h ∙ b 0 ∙ rw e refl
 
   -- a reading more was taken
-  takes_reading : (readings' : Option Readings) (r : List ℕ) → IfSome readings (λ g. IsBehind 1 g readings') → IsBehind (length (rs ++ r ∷ [])) f readings'
+  takes_reading : (readings' : Option Readings) (r : List ℕ) → IfSome readings (λ g. IsAfter 1 g readings') → IsAfter (length (rs ++ r ∷ [])) f readings'
   takes_reading readings' r h = by readings readings' taken_so_far h
     where
-      by : (o o' : Option Readings) → IsBehind (length rs) f o → IfSome o (λ g. IsBehind 1 g o') → IsBehind (length (rs ++ r ∷ [])) f o'
+      by : (o o' : Option Readings) → IsAfter (length rs) f o → IfSome o (λ g. IsAfter 1 g o') → IsAfter (length (rs ++ r ∷ [])) f o'
       by None o' b h = absurd b
       by (Some g) None b h = absurd h
       by (Some g) (Some g') b h = λ k. let e : length rs + (1 + k) ≡ length (rs ++ r ∷ []) + k = omega (arith, length-append rs (r ∷ [])) in h k ∙ b (1 + k) ∙ rw e refl
 
   -- a record was read at a reading of the clock, and the link's answer moved the world
-  pub stands_answered : (world' : Option World) (readings' : Option Readings) (time : Timeval) (r : List ℕ) → IfSome readings (λ g. time ≡ g 0) → IfSome readings (λ g. IsBehind 1 g readings')
+  pub stands_answered : (world' : Option World) (readings' : Option Readings) (time : Timeval) (r : List ℕ) → IfSome readings (λ g. time ≡ g 0) → IfSome readings (λ g. IsAfter 1 g readings')
       → IfSome world (λ v. world' ≡ Some (world_after v time r)) → LinkStandsAfter w f world' readings' (rs ++ r ∷ []) []
   stands_answered world' readings' time r reading rest moves = record {
     readings_taken = let e : length ((rs ++ r ∷ []) ++ []) ≡ length (rs ++ r ∷ []) = omega (arith, length-append (rs ++ r ∷ []) []) in
-        subst (λ (n : ℕ). IsBehind n f readings') (sym e) (takes_reading readings' r rest);
+        subst (λ (n : ℕ). IsAfter n f readings') (sym e) (takes_reading readings' r rest);
     world_is = λ e. of_some (λ v. world' ≡ Some (world_after v time r)) (s.world_is refl) moves
         ∙ ap (λ (t : Timeval). Some (world_after (world_at w f rs) t r)) (next_reading time reading) ∙ ap Some (sym (world_at-push w f rs r));
   }
 
   -- a record was read at a reading of the clock, and the link gave no answer
-  pub stands_unanswered : (world' : Option World) (readings' : Option Readings) (r : List ℕ) → IfSome readings (λ g. IsBehind 1 g readings') → LinkStandsAfter w f world' readings' rs (r ∷ [])
+  pub stands_unanswered : (world' : Option World) (readings' : Option Readings) (r : List ℕ) → IfSome readings (λ g. IsAfter 1 g readings') → LinkStandsAfter w f world' readings' rs (r ∷ [])
   stands_unanswered world' readings' r rest = record { readings_taken = takes_reading readings' r rest; world_is = λ e. absurd cc }
 
   -- what is owed to that record
@@ -160,7 +159,7 @@ pub record Turn (may may_now : LinkFault → Type 0) (served : Type 0) (failed :
 -- one record more was read at a reading of the clock, and answered
 pub serves_one : (world world₁ world' : Option World) (readings readings₁ readings' : Option Readings) (k : ℕ) (before mid mid' written_before written written' : Option (List ℕ)) (more r : List ℕ) (time : Timeval)
     → IsServed world world₁ readings readings₁ k before mid written_before written → ReadsRecord mid mid' more r
-    → IfSome readings₁ (λ g. time ≡ g 0) → IfSome readings₁ (λ g. IsBehind 1 g readings')
+    → IfSome readings₁ (λ g. time ≡ g 0) → IfSome readings₁ (λ g. IsAfter 1 g readings')
     → IfSome world₁ (λ v. world' ≡ Some (world_after v time r)) → IfSome world₁ (λ v. Appends written written' (record_of (reply_owed v time r)))
     → IsServed world world' readings readings' (k + 1) before mid' written_before written'
 serves_one world world₁ world' readings readings₁ readings' k before mid mid' written_before written written' more r time served reads reading rest moves wrote =
@@ -193,18 +192,25 @@ module _ (world world' : Option World) (readings readings' : Option Readings) (k
   pub leaves_off_reading : (e : RecordFault) (failed : Option RecordFault) (mid' : Option (List ℕ)) (m n : ℕ) → failed ≡ fault_after {A = Unit {0}} None (Err e) → ((e ≡ reader_faults.NoMemory) → mid' ≡ mid)
       → StopsAt e mid mid' → FailsUnless e PassesLimit IsUnfinished mid m n → IfTold world readings (λ w f.
       LeavesOff (of_records e) failed (text_owed w f) (LinkStandsAfter w f world' readings') before mid' written_before written)
-  leaves_off_reading reader_faults.NoMemory failed mid' m n fails same stops why = if_told world readings served (λ w f p. inl (stops_after p TakesNothing (same refl)))
-  leaves_off_reading reader_faults.RecordTooLong failed mid' m n fails same stops why = if_told world readings served (λ w f p. stops_after p TakesToLimit stops)
-  leaves_off_reading reader_faults.Device failed mid' m n fails same stops why = rw fails (if_told world readings served (λ w f p. stops_after p (TakesPart IsPartOfRecord) stops))
-  leaves_off_reading reader_faults.EndInRecord failed mid' m n fails same stops why = if_told world readings served (λ w f p. stops_after p TakesUnfinished (stops, why.0))
+  leaves_off_reading e failed mid' m n fails same stops why = by e (if_told world readings served (λ w f p. streams.leaves_off_reading p e failed mid' m n fails same stops why))
+    where
+      by : (e : RecordFault) → IfTold world readings (λ w f. stream_faults.LeavesOff e failed (text_owed w f) (LinkStandsAfter w f world' readings') before mid' written_before written)
+          → IfTold world readings (λ w f. LeavesOff (of_records e) failed (text_owed w f) (LinkStandsAfter w f world' readings') before mid' written_before written)
+      by reader_faults.NoMemory h = h
+      by reader_faults.RecordTooLong h = h
+      by reader_faults.Device h = h
+      by reader_faults.EndInRecord h = h
 
 -- what stands then
 pub stands_reading : (e : RecordFault) (failed : Option RecordFault) (mid : Option (List ℕ)) (reads reads' writes writes' : ℕ) → failed ≡ fault_after {A = Unit {0}} None (Err e) → ((e ≡ reader_faults.NoMemory) → reads' ≡ reads)
     → FailsUnless e PassesLimit IsUnfinished mid reads reads' → writes' ≡ writes → StandsAfter (of_records e) failed reads reads' writes writes'
-stands_reading reader_faults.NoMemory failed mid reads reads' writes writes' fails same why kept = (fails, same refl, kept)
-stands_reading reader_faults.RecordTooLong failed mid reads reads' writes writes' fails same why kept = (fails, why.1, kept)
-stands_reading reader_faults.Device failed mid reads reads' writes writes' fails same why kept = inl (fails, why, kept)
-stands_reading reader_faults.EndInRecord failed mid reads reads' writes writes' fails same why kept = (fails, why.1, kept)
+stands_reading e failed mid reads reads' writes writes' fails same why kept = by e (streams.stands_reading e failed mid reads reads' writes writes' fails same why kept)
+  where
+    by : (e : RecordFault) → stream_faults.StandsAfter e failed reads reads' writes writes' → StandsAfter (of_records e) failed reads reads' writes writes'
+    by reader_faults.NoMemory h = h
+    by reader_faults.RecordTooLong h = h
+    by reader_faults.Device h = h
+    by reader_faults.EndInRecord h = h
 
 -- ---- a record that gets no answer, or not the whole of it
 
@@ -227,7 +233,7 @@ fails_by e world₁ world' time r written written' same (inr (f, e', s, may, the
 
 module _ (world world₁ world' : Option World) (readings readings₁ readings' : Option Readings) (k : ℕ) (before mid mid' written_before written written' : Option (List ℕ)) (more r : List ℕ) (time : Timeval)
     (served : IsServed world world₁ readings readings₁ k before mid written_before written) (reads : ReadsRecord mid mid' more r)
-    (reading : IfSome readings₁ (λ g. time ≡ g 0)) (rest : IfSome readings₁ (λ g. IsBehind 1 g readings')) where
+    (reading : IfSome readings₁ (λ g. time ≡ g 0)) (rest : IfSome readings₁ (λ g. IsAfter 1 g readings')) where
   -- a beginning of what is owed stands written
   pub part_answering : (e : StreamFault) → DeviceFails e world₁ world' time r written written' ⊎ LinkFails e written written'
       → IfTold world readings (λ w f. IfSome before (λ input. ServesPart (text_owed w f) input written_before written'))

@@ -1,2 +1,1 @@
-mod StreamProgress
 mod GatewayTurns

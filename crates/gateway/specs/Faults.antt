@@ -1,9 +1,9 @@
 -- The faults of a gateway, by number, and where they come from.
 use Rattle.std.specs.Prelude.{ℕ, ⊤, Result, Ok, Err}
-use Rattle.records.specs.declared.fault.RecordFault.{RecordFault}
-use Rattle.records.specs.declared.fault.RecordFault.TheVariants as records
-use Rattle.links.specs.declared.fault.LinkFault.{LinkFault}
-use Rattle.links.specs.declared.fault.LinkFault.TheVariants as links
+use Rattle.rpc.specs.declared.records.fault.RecordFault.{RecordFault}
+use Rattle.rpc.specs.declared.records.fault.RecordFault.TheVariants as records
+use Rattle.gateway.specs.declared.links.fault.LinkFault.{LinkFault}
+use Rattle.gateway.specs.declared.links.fault.LinkFault.TheVariants as links
 use Rattle.gateway.specs.declared.fault.StreamFault.{StreamFault}
 use Rattle.gateway.specs.declared.fault.StreamFault.TheVariants as faults
 

@@ -1,7 +1,4 @@
-pub use Rattle.records.specs.Record
-pub use Rattle.records.specs.Stream
-pub use Rattle.records.specs.Count
-pub use Rattle.links.specs.Readings
-pub mod Streams
+pub use Rattle.service.specs as service
+pub mod Links
 pub mod Serving
 pub mod Faults

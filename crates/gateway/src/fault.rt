@@ -2,8 +2,8 @@
 
 ghost use Rattle.std.specs.Prelude.{◌≡◌};
 
-use links::LinkFault;
-use records::RecordFault;
+use crate::links::LinkFault;
+use rpc::records::RecordFault;
 use thiserror::Error;
 
 /// Why a stream came to an end before its records did.

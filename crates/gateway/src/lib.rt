@@ -2,11 +2,9 @@
 #![tactic(auto)]
 
 mod fault;
+pub mod links;
 mod serve;
-#[cfg(test)]
-mod tests;
 
 pub use fault::StreamFault;
-pub use links::{Clock, FixedClock, Link, LinkFault, ScriptedClock, Service, Time};
-pub use records::{Counting, RecordReader};
 pub use serve::{Gateway, Served};
+pub use service as service_code;

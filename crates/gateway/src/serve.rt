@@ -4,21 +4,22 @@ ghost use Rattle.std.specs.Prelude.{◌≡◌, ◌≤◌, ◌⊎◌, length, tru
 ghost use Rattle.std.specs.Prelude.{IfErr, OnOk, OnErr, IsErrOf, IfSome, Some, None, Err};
 ghost use Rattle.std.specs.Option.{option_map};
 ghost use Rattle.std.specs.Io.KnownBytes.{Appends, IsAtEnd};
-ghost use Rattle.records.specs.Count.{Rises, CountsErr};
-ghost use Rattle.records.specs.Writing.{WritesPart, WritesFront};
-ghost use Rattle.records.specs.declared.record.TheConstants.{MAX_RECORD};
-ghost use Rattle.links.specs.Replies.{reply_owed, world_after};
-ghost use Rattle.links.specs.Owed.{record_of};
-ghost use Rattle.links.specs.declared.fault.LinkFault.{LinkFault};
-ghost use Rattle.links.specs.declared.fault.LinkFault.TheVariants as links;
+ghost use Rattle.rpc.specs.Records.Count.{Rises, CountsErr};
+ghost use Rattle.rpc.specs.Records.Writing.{WritesPart, WritesFront};
+ghost use Rattle.rpc.specs.declared.records.record.TheConstants.{MAX_RECORD};
+ghost use Rattle.service.specs.Replies.{reply_owed, world_after};
+ghost use Rattle.service.specs.Owed.{record_of};
+ghost use Rattle.gateway.specs.declared.links.fault.LinkFault.{LinkFault};
+ghost use Rattle.gateway.specs.declared.links.fault.LinkFault.TheVariants as links;
 ghost use Rattle.gateway.specs.declared.fault.StreamFault.TheVariants.{Device, KeysUsedUp, Failed};
-ghost use Rattle.gateway.specs.Streams.{Serves, ServesPart};
+ghost use Rattle.record_streams.specs.Streams.{Serves, ServesPart};
 ghost use Rattle.gateway.specs.Faults.{of_records, of_link, IsOfStream, IsOkOr};
 ghost use Rattle.gateway.specs.Serving.{IfTold, text_owed, LinkStandsAfter, LeavesOff, StandsAfter};
 
 use crate::fault::StreamFault;
-use links::{Clock, Link, Time};
-use records::{Counting, RecordReader, write_record};
+use crate::links::{Clock, Link};
+use nfs_items::Time;
+use rpc::records::{Counting, RecordReader, write_record};
 use std::alloc::Global;
 use std::io::{Read, Write};
 use std::marker::Model;
@@ -49,7 +50,7 @@ fn write_reply<W: Write>(
     Ok(())
 }
 
-/// Brings a record to the link at a time, and writes the reply, if one is owed. Behind a fault of the link
+/// Brings a record to the link at a time, and writes the reply, if one is owed. After a fault of the link
 /// nothing was written.
 fn answer<L: Link, W: Write>(
     alloc: Global,
@@ -150,7 +151,7 @@ impl Gateway {
     ///
     /// `Ok` counts the records. `RecordTooLong` (3) and `EndInRecord` (5) come where the input goes on with
     /// bytes that pass a limit, or ends within a record: what is owed to the records before was written, and
-    /// the reader has taken no byte behind the limit, or all. `Device` (4) comes where a read or a write
+    /// the reader has taken no byte after the limit, or all. `Device` (4) comes where a read or a write
     /// failed: all records that were taken are answered, or all but the last, of whose reply a part was
     /// written. `KeysUsedUp` (6) and `Failed` (8) are the link's: all records that were taken are answered
     /// but the last. `NoMemory` (7) comes where memory was refused, here or to the link, or after 2^64 - 2
@@ -174,12 +175,12 @@ impl Gateway {
         ensures kept { OnOk result ((reader.new.fault ≡ None)
             × (reader.new.reader.count ≡ reader.old.reader.count) × (writer.new.count ≡ writer.old.count)) }
 
-        // Behind a fault a beginning of the text owed was written.
+        // After a fault a beginning of the text owed was written.
         ensures part { OnErr result (IfTold (L.world link.old) (C.readings clock.old) (λ w f.
             IfSome (R.remaining reader.old.reader.inner) (λ input.
             ServesPart (text_owed w f) input (W.contents writer.old.inner) (W.contents writer.new.inner)))) }
 
-        // The first fault: which comes when, and what stands behind it.
+        // The first fault: which comes when, and what stands after it.
         ensures taken { IfErr result (λ e. self.old ≡ false → reader.old.fault ≡ None →
             IfTold (L.world link.old) (C.readings clock.old) (λ w f. LeavesOff e reader.new.fault
             (text_owed w f) (LinkStandsAfter w f (L.world link.new) (C.readings clock.new))

@@ -8,13 +8,13 @@ use Rattle.std.specs.Ordering.{nat_cmp}
 use Rattle.std.specs.FinMap as finite
 use Rattle.std.proofs.lemmas.Map.Keys.{below_from_sorted}
 use Rattle.fs_model.specs.Trees.{IsBody, IsFile, IsFileTree}
-use Rattle.fs_rules.specs.Rules.{AreRising, numbers_of}
-use Rattle.fs_rules.proofs.Listed.{entries_listed, holds_at}
-use Rattle.fs_rules.proofs.Decided.{tree_files}
-use Rattle.inodes.specs.Inodes.{file_in, files_of}
-use Rattle.inodes.specs.declared.inode.Inode.{Inode}
-use Rattle.inode_links.specs.Listed.{files_in}
-use Rattle.inode_links.proofs.Seen.{at_inode, same_numbers}
+use Rattle.tree_rules.specs.FileRules.Rules.{AreRising, numbers_of}
+use Rattle.tree_rules.proofs.OfFileRules.Listed.{entries_listed, holds_at}
+use Rattle.tree_rules.proofs.OfFileRules.Decided.{tree_files}
+use Rattle.tree_rules.specs.inodes.Inodes.{file_in, files_of}
+use Rattle.tree_rules.specs.inodes.declared.inode.Inode.{Inode}
+use Rattle.tree_rules.specs.Listed.{files_in}
+use Rattle.tree_rules.proofs.Seen.{at_inode, same_numbers}
 
 -- of a tree each body is within its limit
 pub bodies : (fsid next : ℕ) (inodes : List (ℕ × Inode)) → AreRising (numbers_of inodes)

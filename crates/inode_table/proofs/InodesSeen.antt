@@ -8,18 +8,18 @@ use Rattle.std.specs.Map.{keys_of}
 use Rattle.std.specs.List.Sorted.{IsStrictlySortedBy}
 use Rattle.std.proofs.lemmas.Map.Keys.{IsDistinct-from_sorted, IsDistinct-head, sorted_tail}
 use Rattle.fs_model.proofs.Reached.{not_before}
-use Rattle.fs_changes.specs.Limits.{file_count}
+use Rattle.fs_model.specs.Changes.Limits.{file_count}
 use Rattle.std.specs.FinMap as finite
 use Rattle.std.specs.Prelude.{Option}
 use Rattle.std.specs.Option.{option_map_or}
 use Rattle.fs_model.specs.Files.{File, Files, file_at, is_directory, parent_of}
 use Rattle.fs_model.specs.Trees.{IsBody}
-use Rattle.nfs_spec.specs.FileAttributes.{attributes_of}
-use Rattle.inodes.specs.Inodes.{body_in, file_in, inode_at, files_of, fattr_of, parent_in, KeepsParent}
-use Rattle.inodes.specs.declared.inode.Body as stored
-use Rattle.inodes.specs.declared.inode.Body.TheVariants as code
-use Rattle.inodes.specs.declared.inode.Inode.{Inode}
-use Rattle.inodes.proofs.FilesSeen.{file_seen}
+use Rattle.nfs_counts.specs.nfs_spec.FileAttributes.{attributes_of}
+use Rattle.tree_rules.specs.inodes.Inodes.{body_in, file_in, inode_at, files_of, fattr_of, parent_in, KeepsParent}
+use Rattle.tree_rules.specs.inodes.declared.inode.Body as stored
+use Rattle.tree_rules.specs.inodes.declared.inode.Body.TheVariants as code
+use Rattle.tree_rules.specs.inodes.declared.inode.Inode.{Inode}
+use Rattle.tree_rules.proofs.inodes.FilesSeen.{file_seen}
 use Rattle.inode_table.specs.declared.table.InodeTable.TheInside.{Inside}
 use Rattle.inode_table.proofs.Tables.{files_in, IsWhole}
 

@@ -2,27 +2,27 @@
 -- Serves: `InodeTable::set`, `InodeTable::write`.
 use Rattle.std.proofs.Common.{◌≡◌, ℕ, ◌+◌, ◌-◌, ◌≤◌, List, Option, Some, None, option_map, sym, ap, subst}
 use Rattle.std.proofs.Common.{◌∙◌, refl, arith}
-use Rattle.nfs_items.specs.Timeval.{Timeval}
+use Rattle.fs_model.specs.nfs_items.Timeval.{Timeval}
 use Rattle.fs_model.specs.Files.{File, Files, listing_in, is_directory}
 use Rattle.fs_model.specs.Trees.{IsBody, IsFile, IsTime}
 use Rattle.fs_model.proofs.Walks.{some_same}
-use Rattle.fs_changes.specs.Edits.{with_changed_file}
-use Rattle.fs_changes.specs.Limits.{blocks_in, block_count}
-use Rattle.fs_changes.proofs.Room.{within}
-use Rattle.nfs_spec.specs.Sattr.{GivenFields}
-use Rattle.nfs_spec.specs.Changes.{with_mtime, apply_fields, body_with_length}
-use Rattle.nfs_spec.specs.Procedures.{with_bytes_written}
-use Rattle.nfs_spec_laws.specs.Laws.{AreValidFields}
-use Rattle.nfs_spec_laws.proofs.Bytes.{length-resized}
-use Rattle.nfs_spec_laws.proofs.FilesFit.{set_lists, set_keeps, set_fits, rewritten_fits}
-use Rattle.nfs_spec_moves.specs.Bounds.{HasWords}
-use Rattle.inodes.specs.declared.inode.Inode.{Inode}
-use Rattle.inodes.specs.Contents.{body_with_bytes_at}
-use Rattle.inodes.specs.Inodes.{files_of, stored_at}
-use Rattle.inode_edits.specs.Slots.{ChangesFile}
-use Rattle.inode_edits.proofs.EditedInodes.{own_stored, changed_alike}
+use Rattle.fs_model.specs.Changes.Edits.{with_changed_file}
+use Rattle.fs_model.specs.Changes.Limits.{blocks_in, block_count}
+use Rattle.fs_model.proofs.OfChanges.Room.{within}
+use Rattle.nfs_counts.specs.nfs_spec.Sattr.{GivenFields}
+use Rattle.nfs_counts.specs.nfs_spec.Changes.{with_mtime, apply_fields, body_with_length}
+use Rattle.nfs_counts.specs.nfs_spec.Procedures.{with_bytes_written}
+use Rattle.nfs_counts.specs.nfs_laws.Laws.{AreValidFields}
+use Rattle.nfs_counts.proofs.nfs_laws.Bytes.{length-resized}
+use Rattle.nfs_counts.proofs.nfs_laws.FilesFit.{set_lists, set_keeps, set_fits, rewritten_fits}
+use Rattle.nfs_counts.specs.nfs_laws.Sizes.Bounds.{HasWords}
+use Rattle.tree_rules.specs.inodes.declared.inode.Inode.{Inode}
+use Rattle.tree_rules.specs.inodes.Contents.{body_with_bytes_at}
+use Rattle.tree_rules.specs.inodes.Inodes.{files_of, stored_at}
+use Rattle.inode_table.specs.Edits.Slots.{ChangesFile}
+use Rattle.inode_table.proofs.OfEdits.EditedInodes.{own_stored, changed_alike}
 use Rattle.inode_table.specs.declared.table.InodeTable.TheInside.{Inside}
-use Rattle.inodes.specs.Edits.{IsSizable, MaySet, MayWriteAt}
+use Rattle.tree_rules.specs.inodes.Edits.{IsSizable, MaySet, MayWriteAt}
 use Rattle.inode_table.specs.Kept.{AreKept}
 use Rattle.inode_table.proofs.Tables.{files_in, IsWhole, stored, kept_blocks, change_kept}
 

@@ -3,28 +3,28 @@
 use Rattle.std.proofs.Common.{◌≡◌, ◌≢◌, ℕ, ◌+◌, ◌<◌, ◌≤◌, ◌^◌, Bool, true, false, cond, List, [], Option}
 use Rattle.std.proofs.Common.{Some, None, option_map, IsSome, refl, sym, ap, subst, ◌∙◌, arith}
 use Rattle.std.specs.Option.{option_map_or}
-use Rattle.nfs_items.specs.Timeval.{Timeval}
+use Rattle.fs_model.specs.nfs_items.Timeval.{Timeval}
 use Rattle.fs_model.specs.Listing.{Listing, with_entry}
 use Rattle.fs_model.specs.Files.{File, Files, file_at, listing, listing_in, is_directory, IsDirectory}
 use Rattle.fs_model.specs.Trees.{IsTime}
-use Rattle.fs_changes.specs.Edits.{with_name, map_listing}
-use Rattle.fs_changes.specs.Limits.{blocks_in}
-use Rattle.nfs_spec.specs.Changes.{touch, touch_ctime, with_mtime, with_ctime}
-use Rattle.nfs_spec.specs.Procedures.{add_file}
-use Rattle.nfs_spec_trees.proofs.FilesFit.{dir_file, next_free}
-use Rattle.nfs_spec_moves.specs.Counted.{IsKept}
-use Rattle.nfs_spec_moves.specs.CountChanges.{MayMake, MayLink}
-use Rattle.nfs_spec_moves.proofs.Facts.{links_bounded, entries_bounded}
-use Rattle.nfs_spec_moves.proofs.Making.{kept_by_make}
-use Rattle.nfs_spec_moves.proofs.Linking.{kept_by_link}
-use Rattle.inodes.specs.declared.inode.Inode.{Inode}
-use Rattle.inodes.specs.Inodes.{body_in, file_in, files_of, inode_at, parent_in, stored_at, links_at}
-use Rattle.inodes.specs.Inodes.{above_at}
-use Rattle.inode_edits.specs.Slots.{ChangesFile, ChangesLinks, AddsNamed}
-use Rattle.inode_edits.proofs.EditedInodes.{other_stored}
-use Rattle.inodes.proofs.FilesSeen.{file_seen}
-use Rattle.inode_edits.proofs.Listed.{swap}
-use Rattle.inode_edits.proofs.NamedInodes.{has_inode, listed_room}
+use Rattle.fs_model.specs.Changes.Edits.{with_name, map_listing}
+use Rattle.fs_model.specs.Changes.Limits.{blocks_in}
+use Rattle.nfs_counts.specs.nfs_spec.Changes.{touch, touch_ctime, with_mtime, with_ctime}
+use Rattle.nfs_counts.specs.nfs_spec.Procedures.{add_file}
+use Rattle.nfs_counts.proofs.nfs_laws.OfTrees.FilesFit.{dir_file, next_free}
+use Rattle.nfs_counts.specs.Counted.{IsKept}
+use Rattle.nfs_counts.specs.CountChanges.{MayMake, MayLink}
+use Rattle.nfs_counts.proofs.Facts.{links_bounded, entries_bounded}
+use Rattle.nfs_counts.proofs.Making.{kept_by_make}
+use Rattle.nfs_counts.proofs.Linking.{kept_by_link}
+use Rattle.tree_rules.specs.inodes.declared.inode.Inode.{Inode}
+use Rattle.tree_rules.specs.inodes.Inodes.{body_in, file_in, files_of, inode_at, parent_in, stored_at, links_at}
+use Rattle.tree_rules.specs.inodes.Inodes.{above_at}
+use Rattle.inode_table.specs.Edits.Slots.{ChangesFile, ChangesLinks, AddsNamed}
+use Rattle.inode_table.proofs.OfEdits.EditedInodes.{other_stored}
+use Rattle.tree_rules.proofs.inodes.FilesSeen.{file_seen}
+use Rattle.inode_table.proofs.OfEdits.Listed.{swap}
+use Rattle.inode_table.proofs.OfEdits.NamedInodes.{has_inode, listed_room}
 use Rattle.inode_table.specs.declared.table.InodeTable.TheInside.{Inside}
 use Rattle.inode_table.specs.Kept.{AreKept}
 use Rattle.inode_table.proofs.Tables.{files_in, IsWhole, stored}

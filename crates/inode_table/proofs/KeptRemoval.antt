@@ -2,21 +2,21 @@
 -- Serves: `InodeTable::unlink`; what an entry that moves replaces, in MovedEntry.
 use Rattle.std.proofs.Common.{◌≡◌, ℕ, ◌+◌, ◌-◌, ◌<◌, ◌≤◌, ◌^◌, Bool, true, false, cond, List, Some, sym, ap}
 use Rattle.std.proofs.Common.{subst, ◌∙◌, arith}
-use Rattle.nfs_items.specs.Timeval.{Timeval}
+use Rattle.fs_model.specs.nfs_items.Timeval.{Timeval}
 use Rattle.fs_model.specs.Files.{File, Files, is_directory}
 use Rattle.fs_model.specs.Trees.{IsTime}
-use Rattle.fs_changes.specs.Edits.{without_name}
-use Rattle.fs_changes.specs.Limits.{blocks_in}
-use Rattle.nfs_spec.specs.Changes.{touch, unlink, after_unlink, with_mtime}
-use Rattle.nfs_spec_trees.proofs.FilesFit.{dir_file}
-use Rattle.nfs_spec_moves.specs.Counted.{IsKept}
-use Rattle.nfs_spec_moves.specs.CountChanges.{MayUnlink, is_last_name}
-use Rattle.nfs_spec_moves.proofs.Facts.{links_positive}
-use Rattle.nfs_spec_moves.proofs.Unnaming.{unlinks}
-use Rattle.nfs_spec_moves.proofs.Unlinking.{last_name_told, kept_by_unlink}
-use Rattle.inodes.specs.declared.inode.Inode.{Inode}
-use Rattle.inodes.specs.Inodes.{files_of, stored_at, links_at, above_at}
-use Rattle.inode_edits.specs.Slots.{ChangesFile, MayUnname, Unnames}
+use Rattle.fs_model.specs.Changes.Edits.{without_name}
+use Rattle.fs_model.specs.Changes.Limits.{blocks_in}
+use Rattle.nfs_counts.specs.nfs_spec.Changes.{touch, unlink, after_unlink, with_mtime}
+use Rattle.nfs_counts.proofs.nfs_laws.OfTrees.FilesFit.{dir_file}
+use Rattle.nfs_counts.specs.Counted.{IsKept}
+use Rattle.nfs_counts.specs.CountChanges.{MayUnlink, is_last_name}
+use Rattle.nfs_counts.proofs.Facts.{links_positive}
+use Rattle.nfs_counts.proofs.Unnaming.{unlinks}
+use Rattle.nfs_counts.proofs.Unlinking.{last_name_told, kept_by_unlink}
+use Rattle.tree_rules.specs.inodes.declared.inode.Inode.{Inode}
+use Rattle.tree_rules.specs.inodes.Inodes.{files_of, stored_at, links_at, above_at}
+use Rattle.inode_table.specs.Edits.Slots.{ChangesFile, MayUnname, Unnames}
 use Rattle.inode_table.specs.declared.table.InodeTable.TheInside.{Inside}
 use Rattle.inode_table.specs.Kept.{AreKept}
 use Rattle.inode_table.proofs.Tables.{files_in, IsWhole, stored, kept_blocks}

@@ -1,4 +1,7 @@
-pub use Rattle.nfs_spec_moves.proofs.Values
+pub use Rattle.nfs_counts.proofs.nfs_laws as nfs_laws
+pub use Rattle.tree_rules.proofs as tree_rules
+pub mod OfEdits
+pub mod OfLinks
 mod InodesSeen
 mod Tables
 mod KeptContents

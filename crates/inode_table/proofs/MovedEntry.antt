@@ -7,30 +7,30 @@ use Rattle.std.specs.Option.{option_map_or}
 use Rattle.std.specs.Map.{lookup}
 use Rattle.std.specs.Cmp.Lexicographic.{pointwise}
 use Rattle.std.proofs.lemmas.Bool.{cases_eq}
-use Rattle.nfs_items.specs.Timeval.{Timeval}
+use Rattle.fs_model.specs.nfs_items.Timeval.{Timeval}
 use Rattle.fs_model.specs.Listing.{Listing, entry_at, with_entry, without_entry}
 use Rattle.fs_model.specs.Files.{File, Files, listing_in, is_directory, places}
 use Rattle.fs_model.specs.Trees.{IsTime}
 use Rattle.fs_model.proofs.Walks.{none_some, some_same}
-use Rattle.fs_changes.specs.Edits.{with_name, without_name, map_listing}
-use Rattle.fs_changes.specs.Limits.{blocks_in}
-use Rattle.fs_changes.proofs.Shapes.{kind, changed_kinds}
-use Rattle.nfs_spec.specs.Changes.{touch, touch_ctime, unlink, after_unlink, with_ctime, with_mtime}
-use Rattle.nfs_spec.specs.Procedures.{unlink_target, move_entry}
-use Rattle.nfs_spec_trees.proofs.FilesFit.{dir_file, distinct_names}
-use Rattle.nfs_spec_moves.specs.Counted.{IsKept}
-use Rattle.nfs_spec_moves.specs.CountChanges.{MayUnlink, MayMove, CountsCleared, CountsMoved, is_last_name}
-use Rattle.nfs_spec_moves.specs.CountChanges.{blocks_freed}
-use Rattle.nfs_spec_moves.proofs.Facts.{entries_bounded, links_positive, links_bounded, links_of_parent}
-use Rattle.nfs_spec_moves.proofs.Unlinking.{last_name_told}
-use Rattle.nfs_spec_moves.proofs.Moving.{kept_by_move}
-use Rattle.inodes.specs.declared.inode.Inode.{Inode}
-use Rattle.inodes.specs.Inodes.{body_in, file_in, files_of, inode_at, stored_at, links_at, above_at}
-use Rattle.inode_edits.specs.Moves.{DropsTarget, GainsLink, LosesName}
-use Rattle.inode_edits.specs.Slots.{ChangesFile, MayUnname, SetsParent, TakesEntry}
-use Rattle.inode_edits.proofs.EditedInodes.{other_stored}
-use Rattle.inodes.proofs.FilesSeen.{file_seen}
-use Rattle.inode_edits.proofs.Listed.{relisted_kind, unlink_swap, unlinked_other, name_swap, name_again}
+use Rattle.fs_model.specs.Changes.Edits.{with_name, without_name, map_listing}
+use Rattle.fs_model.specs.Changes.Limits.{blocks_in}
+use Rattle.fs_model.proofs.OfChanges.Shapes.{kind, changed_kinds}
+use Rattle.nfs_counts.specs.nfs_spec.Changes.{touch, touch_ctime, unlink, after_unlink, with_ctime, with_mtime}
+use Rattle.nfs_counts.specs.nfs_spec.Procedures.{unlink_target, move_entry}
+use Rattle.nfs_counts.proofs.nfs_laws.OfTrees.FilesFit.{dir_file, distinct_names}
+use Rattle.nfs_counts.specs.Counted.{IsKept}
+use Rattle.nfs_counts.specs.CountChanges.{MayUnlink, MayMove, CountsCleared, CountsMoved, is_last_name}
+use Rattle.nfs_counts.specs.CountChanges.{blocks_freed}
+use Rattle.nfs_counts.proofs.Facts.{entries_bounded, links_positive, links_bounded, links_of_parent}
+use Rattle.nfs_counts.proofs.Unlinking.{last_name_told}
+use Rattle.nfs_counts.proofs.OfMoves.Moving.{kept_by_move}
+use Rattle.tree_rules.specs.inodes.declared.inode.Inode.{Inode}
+use Rattle.tree_rules.specs.inodes.Inodes.{body_in, file_in, files_of, inode_at, stored_at, links_at, above_at}
+use Rattle.inode_table.specs.Edits.Moves.{DropsTarget, GainsLink, LosesName}
+use Rattle.inode_table.specs.Edits.Slots.{ChangesFile, MayUnname, SetsParent, TakesEntry}
+use Rattle.inode_table.proofs.OfEdits.EditedInodes.{other_stored}
+use Rattle.tree_rules.proofs.inodes.FilesSeen.{file_seen}
+use Rattle.inode_table.proofs.OfEdits.Listed.{relisted_kind, unlink_swap, unlinked_other, name_swap, name_again}
 use Rattle.inode_table.specs.declared.table.InodeTable.TheInside.{Inside}
 use Rattle.inode_table.specs.Kept.{AreKept}
 use Rattle.inode_table.proofs.KeptRemoval.{freed_most, may_unname, some_entry}

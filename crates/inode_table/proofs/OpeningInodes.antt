@@ -8,21 +8,21 @@ use Rattle.std.specs.FinMap as finite
 use Rattle.std.specs.Cmp.{nat_cmp_total}
 use Rattle.std.specs.Prelude.{IsTrue, ◌<◌, ◌^◌, map, sum_by, length}
 use Rattle.fs_model.specs.Files.{Body, File, is_directory, listing_in, parent_of}
-use Rattle.fs_changes.specs.Limits.{entry_count, block_count, blocks_in, has_room}
-use Rattle.nfs_spec_moves.specs.Bounds.{HasWords, AreWords}
-use Rattle.nfs_spec_moves.specs.Counted.{AreCounted}
-use Rattle.inodes.specs.Inodes.{links_at, above_at, file_in, files_of, parent_in, KeepsParent}
+use Rattle.fs_model.specs.Changes.Limits.{entry_count, block_count, blocks_in, has_room}
+use Rattle.nfs_counts.specs.nfs_laws.Sizes.Bounds.{HasWords, AreWords}
+use Rattle.nfs_counts.specs.Counted.{AreCounted}
+use Rattle.tree_rules.specs.inodes.Inodes.{links_at, above_at, file_in, files_of, parent_in, KeepsParent}
 use Rattle.inode_table.specs.Kept.{AreKept}
 use Rattle.fs_model.specs.Trees.{IsFileTree}
 use Rattle.fs_model.proofs.Walks.{some_same, none_some}
 use Rattle.fs_model.proofs.Counts.{same_number}
-use Rattle.nfs_spec.specs.FileAttributes.{nlink_of}
-use Rattle.nfs_spec.specs.Opening.{first_file, opening_root, opening_hello, opening_files}
-use Rattle.nfs_spec.proofs.OpeningFiles.{hello_there, opening_names, opening_entries, opening_room}
-use Rattle.nfs_spec.proofs.OpeningTree.{one_directory, opening_is_tree}
-use Rattle.inodes.specs.declared.inode.Body as stored
-use Rattle.inodes.specs.declared.inode.Body.TheVariants as code
-use Rattle.inodes.specs.declared.inode.Inode.{Inode}
+use Rattle.nfs_counts.specs.nfs_spec.FileAttributes.{nlink_of}
+use Rattle.nfs_counts.specs.nfs_spec.Opening.{first_file, opening_root, opening_hello, opening_files}
+use Rattle.nfs_counts.proofs.nfs_spec.OpeningFiles.{hello_there, opening_names, opening_entries, opening_room}
+use Rattle.nfs_counts.proofs.nfs_spec.OpeningTree.{one_directory, opening_is_tree}
+use Rattle.tree_rules.specs.inodes.declared.inode.Body as stored
+use Rattle.tree_rules.specs.inodes.declared.inode.Body.TheVariants as code
+use Rattle.tree_rules.specs.inodes.declared.inode.Inode.{Inode}
 
 -- a number of each file, in all
 abbrev total : (File → ℕ) → List (ℕ × File) → ℕ

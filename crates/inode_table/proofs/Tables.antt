@@ -4,15 +4,15 @@ use Rattle.std.proofs.Common.{◌≡◌, ℕ, ◌+◌, ◌-◌, ◌≤◌, List,
 use Rattle.std.proofs.Common.{◌∙◌, arith}
 use Rattle.fs_model.specs.Files.{File, Files, file_at}
 use Rattle.fs_model.specs.Trees.{IsBody}
-use Rattle.fs_changes.specs.Limits.{blocks_in, block_count}
-use Rattle.fs_changes.proofs.Finite.{total_without}
-use Rattle.nfs_spec_moves.specs.Counted.{IsKept}
-use Rattle.nfs_spec_moves.specs.CountChanges.{MayChange}
-use Rattle.nfs_spec_moves.proofs.Contents.{kept_alike, kept_by_change}
-use Rattle.inodes.specs.declared.inode.Inode.{Inode}
-use Rattle.inodes.specs.Inodes.{files_of, stored_at, links_at, above_at}
-use Rattle.inode_edits.specs.Slots.{AreAlike, ChangesFile}
-use Rattle.inodes.proofs.FilesSeen.{file_seen}
+use Rattle.fs_model.specs.Changes.Limits.{blocks_in, block_count}
+use Rattle.fs_model.proofs.OfChanges.Finite.{total_without}
+use Rattle.nfs_counts.specs.Counted.{IsKept}
+use Rattle.nfs_counts.specs.CountChanges.{MayChange}
+use Rattle.nfs_counts.proofs.Contents.{kept_alike, kept_by_change}
+use Rattle.tree_rules.specs.inodes.declared.inode.Inode.{Inode}
+use Rattle.tree_rules.specs.inodes.Inodes.{files_of, stored_at, links_at, above_at}
+use Rattle.inode_table.specs.Edits.Slots.{AreAlike, ChangesFile}
+use Rattle.tree_rules.proofs.inodes.FilesSeen.{file_seen}
 use Rattle.inode_table.specs.declared.table.InodeTable.TheInside.{Inside}
 use Rattle.inode_table.specs.Kept.{AreKept}
 

@@ -1,8 +1,8 @@
 -- What a table keeps: a tree within its limits, and beside it what counting over the files gives.
 use Rattle.std.specs.Prelude.{ℕ, List}
-use Rattle.nfs_spec_moves.specs.Counted.{IsKept}
-use Rattle.inodes.specs.declared.inode.Inode.{Inode}
-use Rattle.inodes.specs.Inodes.{files_of, links_at, above_at}
+use Rattle.nfs_counts.specs.Counted.{IsKept}
+use Rattle.tree_rules.specs.inodes.declared.inode.Inode.{Inode}
+use Rattle.tree_rules.specs.inodes.Inodes.{files_of, links_at, above_at}
 
 -- by the server's number, the next number, the entries and blocks in all, and the inodes
 abbrev pub AreKept : ℕ → ℕ → ℕ → ℕ → List (ℕ × Inode) → Type 0

@@ -2,8 +2,11 @@
 //! ask for.
 #![tactic(auto)]
 
+pub mod edits;
+pub mod links;
 mod opening;
 mod table;
 
-pub use inode_links::{MAX_BLOCKS, MAX_ENTRIES, MAX_FILES};
 pub use table::InodeTable;
+pub use tree_rules as tree_rules_code;
+pub use tree_rules::inodes_code;

@@ -3,37 +3,38 @@
 ghost use Rattle.std.specs.Prelude.{◌≡◌, ◌≢◌, ◌≤◌, ◌<◌, ◌+◌, ◌^◌, ℕ, List, [], IfOk, IfSome, OnOk, OnErr};
 ghost use Rattle.std.specs.Prelude.{IsTrue, IsSome, Some, None, length, option_map, true, false};
 ghost use Rattle.std.specs.FinMap as finite;
-ghost use Rattle.nfs_items.specs.Terms.{FileNumber, Cookie};
+ghost use Rattle.fs_model.specs.nfs_items.Terms.{FileNumber, Cookie};
 ghost use Rattle.fs_model.specs.Files.{Regular, File, Files, file_at, places, parent_of, listing, listing_in};
 ghost use Rattle.fs_model.specs.Files.{is_directory, IsDirectory};
 ghost use Rattle.fs_model.specs.Maxima.{max_name};
 ghost use Rattle.fs_model.specs.Names.{is_name};
 ghost use Rattle.fs_model.specs.Trees.{IsBody, IsFile, IsFileTree, IsTime};
-ghost use Rattle.fs_changes.specs.Edits.{with_changed_file, with_name};
-ghost use Rattle.fs_changes.specs.Limits.{file_count, entry_count, block_count, blocks_in, has_room};
-ghost use Rattle.nfs_spec.specs.FileAttributes.{attributes_of};
-ghost use Rattle.nfs_spec.specs.Changes.{touch, touch_ctime, unlink, apply_fields};
-ghost use Rattle.nfs_spec.specs.Opening.{opening_files};
-ghost use Rattle.nfs_spec.specs.Procedures.{add_file, move_entry, with_bytes_written};
-ghost use Rattle.nfs_spec_laws.specs.Laws.{AreValidFields};
-ghost use Rattle.nfs_spec_laws.specs.Room.{HasRoomToMake, HasRoomToLink};
-ghost use Rattle.nfs_spec_moves.specs.Bounds.{AreWords};
-ghost use Rattle.inodes.specs.Given.{given_in};
-ghost use Rattle.fs_rules.specs.Rules.{AreRising, numbers_of};
-ghost use Rattle.inodes.specs.Inodes.{body_in, file_in, files_of, fattr_of, KeepsParent};
-ghost use Rattle.inode_links.specs.Listed.{files_in};
-ghost use Rattle.nfs_spec_moves.specs.CountChanges.{MayMake, MayLink, MayUnlink, MayMove};
-ghost use Rattle.inodes.specs.Edits.{MaySet, MayWriteAt};
+ghost use Rattle.fs_model.specs.Changes.Edits.{with_changed_file, with_name};
+ghost use Rattle.fs_model.specs.Changes.Limits.{file_count, entry_count, block_count, blocks_in, has_room};
+ghost use Rattle.nfs_counts.specs.nfs_spec.FileAttributes.{attributes_of};
+ghost use Rattle.nfs_counts.specs.nfs_spec.Changes.{touch, touch_ctime, unlink, apply_fields};
+ghost use Rattle.nfs_counts.specs.nfs_spec.Opening.{opening_files};
+ghost use Rattle.nfs_counts.specs.nfs_spec.Procedures.{add_file, move_entry, with_bytes_written};
+ghost use Rattle.nfs_counts.specs.nfs_laws.Laws.{AreValidFields};
+ghost use Rattle.nfs_counts.specs.nfs_laws.Room.{HasRoomToMake, HasRoomToLink};
+ghost use Rattle.nfs_counts.specs.nfs_laws.Sizes.Bounds.{AreWords};
+ghost use Rattle.tree_rules.specs.inodes.Given.{given_in};
+ghost use Rattle.tree_rules.specs.FileRules.Rules.{AreRising, numbers_of};
+ghost use Rattle.tree_rules.specs.inodes.Inodes.{body_in, file_in, files_of, fattr_of, KeepsParent};
+ghost use Rattle.tree_rules.specs.Listed.{files_in};
+ghost use Rattle.nfs_counts.specs.CountChanges.{MayMake, MayLink, MayUnlink, MayMove};
+ghost use Rattle.tree_rules.specs.inodes.Edits.{MaySet, MayWriteAt};
 
+use crate::edits::{renaming, slots};
+use crate::links::linked_inodes;
 use crate::opening::{hello_inode, root_inode};
-use inode_edits::{renaming, slots};
-use inode_links::{linked_inodes, total_usage};
-use inodes::{Given, Inode};
-use nfs_items::Time;
+use fs_model::nfs_items_code::Time;
 use std::alloc::{AllocError, Global};
 use std::collections::BTreeMap;
 use std::collections::btree_map::Iter;
 use std::marker::Model;
+use tree_rules::inodes_code::{Given, Inode};
+use tree_rules::total_usage;
 
 /// The files of a server under their numbers, of which the root's is 1. A number is never used again.
 #[derive(Drop)]
@@ -49,7 +50,7 @@ pub struct InodeTable {
 
 impl Model for InodeTable {
     ghost use Rattle.fs_model.specs.Files.{Files, files_code};
-    ghost use Rattle.inodes.specs.Inodes.{files_of};
+    ghost use Rattle.tree_rules.specs.inodes.Inodes.{files_of};
     ghost use Rattle.inode_table.specs.Kept.{AreKept};
 
     ghost Value = { Files };

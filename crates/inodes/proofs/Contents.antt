@@ -6,7 +6,7 @@ use Rattle.std.proofs.lemmas.List.{append-nil, take_all, drop_all, take-append-l
 use Rattle.std.proofs.lemmas.List.{length-append, length-replicate, take_at}
 use Rattle.std.proofs.lemmas.Bool.{cases_lt}
 use Rattle.std.proofs.Math.Seq.{take-append-add}
-use Rattle.directories.specs.Changes.{with_length, with_bytes_at}
+use Rattle.nfs_spec.specs.Changes.{with_length, with_bytes_at}
 
 -- the front of filled bytes is the bytes at that length
 front : (offset m : ℕ) (old : List ℕ) → offset ≤ m
@@ -28,7 +28,7 @@ front offset m old le = by (cases_lt offset (length old))
         (omega (arith, le)))
         ∙ ap (λ (l : List ℕ). l ++ replicate (offset - length old) 0) (sym (take_all offset old ge))
 
--- what lies behind the end is what lay there: nothing, where zeros were put
+-- what lies after the end is what lay there: nothing, where zeros were put
 back : (e m : ℕ) (old : List ℕ) → m ≡ length old + (e - length old)
     → drop e (old ++ replicate (m - length old) 0) ≡ drop e old
 back e m old is = by (cases_lt e (length old))

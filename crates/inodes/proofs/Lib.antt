@@ -1,2 +1,3 @@
+mod OfDirectories
 mod Contents
 pub mod FilesSeen

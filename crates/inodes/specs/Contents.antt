@@ -1,7 +1,7 @@
 -- What becomes of a body when bytes are written into it.
 use Rattle.std.specs.Prelude.{ℕ, List}
-use Rattle.fs_model.specs.Files.{Body, Regular, Symlink, Directory}
-use Rattle.directories.specs.Changes.{with_bytes_at}
+use Rattle.nfs_spec.specs.fs_model.Files.{Body, Regular, Symlink, Directory}
+use Rattle.nfs_spec.specs.Changes.{with_bytes_at}
 
 -- a regular file's bytes with others written at an offset; no other body has bytes
 abbrev pub body_with_bytes_at : ℕ → List ℕ → Body → Body

@@ -1,11 +1,11 @@
 -- What an edit of a file's contents asks of the files before it.
 use Rattle.std.specs.Prelude.{◌≡◌, ℕ, ◌≤◌, ◌+◌, List, length, Some}
-use Rattle.nfs_items.specs.Terms.{FileNumber}
-use Rattle.fs_model.specs.Maxima.{max_file_size, max_blocks}
-use Rattle.fs_model.specs.Files.{Regular, File, Files, file_at}
-use Rattle.fs_changes.specs.Limits.{block_count, blocks_in}
-use Rattle.directories.specs.Sattr.{GivenFields}
-use Rattle.directories.specs.Changes.{body_with_length, with_bytes_at}
+use Rattle.nfs_spec.specs.nfs_items.Terms.{FileNumber}
+use Rattle.nfs_spec.specs.fs_model.Maxima.{max_file_size, max_blocks}
+use Rattle.nfs_spec.specs.fs_model.Files.{Regular, File, Files, file_at}
+use Rattle.nfs_spec.specs.fs_model.Changes.Limits.{block_count, blocks_in}
+use Rattle.nfs_spec.specs.Sattr.{GivenFields}
+use Rattle.nfs_spec.specs.Changes.{body_with_length, with_bytes_at}
 
 -- a file takes a size, in bytes, only where it is a regular file, and within the limits
 pub record IsSizable (fs : Files) (file : File) (size : ℕ) : Type 0 where

@@ -1,5 +1,5 @@
 -- The attributes that a call gives, as definitions see them.
-use Rattle.directories.specs.Sattr.{GivenFields}
+use Rattle.nfs_spec.specs.Sattr.{GivenFields}
 use Rattle.inodes.specs.declared.given.Given.{Given}
 
 -- the fields that a value of the program gives

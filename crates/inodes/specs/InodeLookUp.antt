@@ -1,11 +1,11 @@
 -- A look-up in an inode.
 use Rattle.std.specs.Prelude.{ℕ, List, Result, Err, if◌then◌else◌}
-use Rattle.nfs_items.specs.Caller.{Caller}
-use Rattle.nfs_items.specs.declared.stat.Stat.{Stat}
-use Rattle.nfs_items.specs.declared.stat.Stat.TheVariants as stats
-use Rattle.directories.specs.ProcedureChecks.{◌>>=◌, ok_or, listing_or, may_search}
+use Rattle.nfs_spec.specs.nfs_items.Caller.{Caller}
+use Rattle.nfs_spec.specs.nfs_items.declared.stat.Stat.{Stat}
+use Rattle.nfs_spec.specs.nfs_items.declared.stat.Stat.TheVariants as stats
+use Rattle.nfs_spec.specs.ProcedureChecks.{◌>>=◌, ok_or, listing_or, may_search}
 use Rattle.inodes.specs.declared.inode.Inode.{Inode}
-use Rattle.directories.specs.Effects.{number_in_listing}
+use Rattle.nfs_spec.specs.Effects.{number_in_listing}
 use Rattle.inodes.specs.Inodes.{body_in, file_in, parent_in}
 
 -- NOTDIR; search permission, else ACCES; NOENT

@@ -5,10 +5,10 @@ use Rattle.std.specs.BTreeMap.{is_at}
 use Rattle.std.specs.Map.{lookup}
 use Rattle.std.specs.FinMap as finite
 use Rattle.std.specs.Option.{option_map_or}
-use Rattle.nfs_items.specs.declared.attributes.Fattr.{Fattr}
-use Rattle.nfs_items.specs.Terms.{FileNumber}
-use Rattle.fs_model.specs.Files.{Body, Regular, Symlink, Directory, File, Files}
-use Rattle.directories.specs.FileAttributes.{type_of, type_bits, size_of}
+use Rattle.nfs_spec.specs.nfs_items.declared.attributes.Fattr.{Fattr}
+use Rattle.nfs_spec.specs.nfs_items.Terms.{FileNumber}
+use Rattle.nfs_spec.specs.fs_model.Files.{Body, Regular, Symlink, Directory, File, Files}
+use Rattle.nfs_spec.specs.FileAttributes.{type_of, type_bits, size_of}
 use Rattle.inodes.specs.declared.inode.Body as stored
 use Rattle.inodes.specs.declared.inode.Body.TheVariants as code
 use Rattle.inodes.specs.declared.inode.Inode.{Inode}

@@ -1,3 +1,4 @@
+pub mod Directories
 pub mod Inodes
 pub mod Contents
 pub mod Edits

@@ -1,17 +1,17 @@
 //! What a file refuses a caller.
 
+use crate::directories::{Directory, is_name};
 use crate::given::Given;
 use crate::inode::{Body, Inode, MAX_FILE_SIZE};
-use directories::{Directory, is_name};
-use nfs_types::{Stat, Who};
+use nfs_spec::nfs_items_code::{Stat, Who};
 
 impl Inode {
     ghost use Rattle.std.specs.Prelude.{◌≡◌, ◌==◌, ◌||◌, ◌&&◌};
     ghost use Rattle.std.specs.Result.{result_map_both};
-    ghost use Rattle.nfs_items.specs.CallerOf.{caller_of};
-    ghost use Rattle.nfs_items.specs.declared.stat.Stat.TheVariants as stats;
-    ghost use Rattle.directories.specs.Changes.{check_owner, check_resize, is_in_group, may_give_group};
-    ghost use Rattle.directories.specs.ProcedureChecks.{NumberedDir, check_edit, listing_or, owns};
+    ghost use Rattle.nfs_spec.specs.nfs_items.CallerOf.{caller_of};
+    ghost use Rattle.nfs_spec.specs.nfs_items.declared.stat.Stat.TheVariants as stats;
+    ghost use Rattle.nfs_spec.specs.Changes.{check_owner, check_resize, is_in_group, may_give_group};
+    ghost use Rattle.nfs_spec.specs.ProcedureChecks.{NumberedDir, check_edit, listing_or, owns};
     ghost use Rattle.inodes.specs.Given.{given_in};
     ghost use Rattle.inodes.specs.Inodes.{body_in, file_in};
 
@@ -96,8 +96,8 @@ impl Inode {
 }
 
 ghost use Rattle.std.specs.Prelude.{◌≡◌};
-ghost use Rattle.nfs_items.specs.CallerOf.{caller_of};
-ghost use Rattle.directories.specs.Changes.{is_in_group};
+ghost use Rattle.nfs_spec.specs.nfs_items.CallerOf.{caller_of};
+ghost use Rattle.nfs_spec.specs.Changes.{is_in_group};
 
 /// Whether a group is one of a caller's.
 fn is_in_group(who: &Who, gid: u32) -> bool

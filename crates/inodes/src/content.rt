@@ -1,7 +1,7 @@
 //! The bytes of a regular file.
 
 ghost use Rattle.std.specs.Prelude.{◌≡◌, ◌<◌, ◌≤◌, ◌+◌, ◌^◌, ◌++◌, OnOk, OnErr, length, take, drop};
-ghost use Rattle.directories.specs.Changes.{with_length, with_bytes_at};
+ghost use Rattle.nfs_spec.specs.Changes.{with_length, with_bytes_at};
 
 use std::alloc::AllocError;
 

@@ -1,15 +1,15 @@
 //! Edits of an inode by what becomes of other files.
 
 use crate::inode::{Body, Inode};
-use nfs_types::Time;
+use nfs_spec::nfs_items_code::Time;
 use std::alloc::AllocError;
 
 impl Inode {
     ghost use Rattle.std.specs.Prelude.{◌≡◌, ◌<◌, ◌^◌, ◌-◌, OnOk, OnErr, if◌then◌else◌};
-    ghost use Rattle.fs_model.specs.Files.{is_directory, listing_in};
-    ghost use Rattle.fs_model.specs.Listing.{with_entry, without_entry};
-    ghost use Rattle.fs_changes.specs.Edits.{map_listing};
-    ghost use Rattle.directories.specs.Changes.{with_ctime, with_mtime};
+    ghost use Rattle.nfs_spec.specs.fs_model.Files.{is_directory, listing_in};
+    ghost use Rattle.nfs_spec.specs.fs_model.Listing.{with_entry, without_entry};
+    ghost use Rattle.nfs_spec.specs.fs_model.Changes.Edits.{map_listing};
+    ghost use Rattle.nfs_spec.specs.Changes.{with_ctime, with_mtime};
     ghost use Rattle.inodes.specs.Inodes.{body_in, file_in, parent_in};
 
     /// mtime and ctime become now.

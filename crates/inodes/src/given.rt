@@ -1,9 +1,9 @@
 //! Attributes that a call gives.
 
 ghost use Rattle.std.specs.Prelude.{◌≡◌};
-ghost use Rattle.directories.specs.Sattr.{given_word, given_mode, given_time};
+ghost use Rattle.nfs_spec.specs.Sattr.{given_word, given_mode, given_time};
 
-use nfs_types::{RawTime, Sattr, Time};
+use nfs_spec::nfs_items_code::{RawTime, Sattr, Time};
 
 /// The word that gives nothing.
 const NOT_GIVEN: u32 = 0xffff_ffff;
@@ -26,7 +26,7 @@ pub struct Given {
 
 impl Given {
     ghost use Rattle.std.specs.Prelude.{◌≡◌, ◌||◌, is_some};
-    ghost use Rattle.directories.specs.Sattr.{given_fields, gives_any};
+    ghost use Rattle.nfs_spec.specs.Sattr.{given_fields, gives_any};
     ghost use Rattle.inodes.specs.Given.{given_in};
 
     /// What the attributes of a call give at a clock reading. A word of all ones gives nothing, nor does the

@@ -1,9 +1,9 @@
 //! A file as it is stored.
 
 use crate::content;
+use crate::directories::Directory;
 use crate::given::Given;
-use directories::Directory;
-use nfs_types::{Fattr, FileType, Stat, Time, Who};
+use nfs_spec::nfs_items_code::{Fattr, FileType, Stat, Time, Who};
 use std::alloc::AllocError;
 
 /// The greatest size of a regular file in bytes.
@@ -35,13 +35,13 @@ pub enum Body {
 
 impl Body {
     ghost use Rattle.std.specs.Prelude.{◌≡◌, ◌≤◌};
-    ghost use Rattle.fs_model.specs.Files.{is_directory};
-    ghost use Rattle.fs_model.specs.Trees.{IsBody};
-    ghost use Rattle.fs_changes.specs.Limits.{blocks_in};
-    ghost use Rattle.directories.specs.FileAttributes.{type_of, type_bits, size_of};
-    ghost use Rattle.directories.specs.Procedures.{is_regular};
+    ghost use Rattle.nfs_spec.specs.fs_model.Files.{is_directory};
+    ghost use Rattle.nfs_spec.specs.fs_model.Trees.{IsBody};
+    ghost use Rattle.nfs_spec.specs.fs_model.Changes.Limits.{blocks_in};
+    ghost use Rattle.nfs_spec.specs.FileAttributes.{type_of, type_bits, size_of};
+    ghost use Rattle.nfs_spec.specs.Procedures.{is_regular};
     ghost use Rattle.std.specs.Prelude.{◌<◌, ◌^◌, Some, OnOk, OnErr, length};
-    ghost use Rattle.directories.specs.Changes.{body_with_length};
+    ghost use Rattle.nfs_spec.specs.Changes.{body_with_length};
     ghost use Rattle.inodes.specs.Inodes.{body_in, parent_in};
     ghost use Rattle.inodes.specs.Contents.{body_with_bytes_at};
 
@@ -162,13 +162,13 @@ pub struct Inode {
 
 impl Inode {
     ghost use Rattle.std.specs.Prelude.{◌≡◌};
-    ghost use Rattle.nfs_items.specs.CallerOf.{caller_of};
-    ghost use Rattle.fs_model.specs.Trees.{IsBody};
+    ghost use Rattle.nfs_spec.specs.nfs_items.CallerOf.{caller_of};
+    ghost use Rattle.nfs_spec.specs.fs_model.Trees.{IsBody};
     ghost use Rattle.std.specs.Prelude.{◌≤◌, ◌<◌, ◌^◌, OnOk, OnErr, length};
-    ghost use Rattle.directories.specs.Changes.{with_mtime, apply_fields};
+    ghost use Rattle.nfs_spec.specs.Changes.{with_mtime, apply_fields};
     ghost use Rattle.std.specs.Result.{result_map_both};
-    ghost use Rattle.directories.specs.ProcedureChecks.{class_of, permits, may_search, owns, may_read};
-    ghost use Rattle.directories.specs.ProcedureChecks.{may_write, bytes_of, target_of};
+    ghost use Rattle.nfs_spec.specs.ProcedureChecks.{class_of, permits, may_search, owns, may_read};
+    ghost use Rattle.nfs_spec.specs.ProcedureChecks.{may_write, bytes_of, target_of};
     ghost use Rattle.inodes.specs.Inodes.{body_in, parent_in, file_in, fattr_of};
     ghost use Rattle.inodes.specs.Contents.{body_with_bytes_at};
     ghost use Rattle.inodes.specs.Given.{given_in};

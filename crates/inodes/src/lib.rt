@@ -4,13 +4,11 @@
 
 mod checks;
 mod content;
+pub mod directories;
 mod edits;
 mod given;
 mod inode;
 mod new;
-#[cfg(test)]
-mod tests;
 
-pub use directories::{Directory, Entry, FIRST_COOKIE, is_name};
 pub use given::Given;
 pub use inode::{BLOCK_SIZE, Body, Inode, MAX_FILE_SIZE};

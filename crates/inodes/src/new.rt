@@ -2,12 +2,12 @@
 
 use crate::given::Given;
 use crate::inode::{Body, Inode};
-use nfs_types::{Time, Who};
+use nfs_spec::nfs_items_code::{Time, Who};
 use std::alloc::{AllocError, Global};
 
 impl Body {
     ghost use Rattle.std.specs.Prelude.{◌≡◌, IfOk, replicate};
-    ghost use Rattle.fs_model.specs.Files.{Regular};
+    ghost use Rattle.nfs_spec.specs.fs_model.Files.{Regular};
     ghost use Rattle.inodes.specs.Inodes.{body_in};
 
     /// A regular file of zeros, with a size in bytes.
@@ -22,8 +22,8 @@ impl Body {
 
 impl Inode {
     ghost use Rattle.std.specs.Prelude.{◌≡◌};
-    ghost use Rattle.nfs_items.specs.CallerOf.{caller_of};
-    ghost use Rattle.directories.specs.Changes.{new_file};
+    ghost use Rattle.nfs_spec.specs.nfs_items.CallerOf.{caller_of};
+    ghost use Rattle.nfs_spec.specs.Changes.{new_file};
     ghost use Rattle.inodes.specs.Given.{given_in};
     ghost use Rattle.inodes.specs.Inodes.{body_in, file_in};
 

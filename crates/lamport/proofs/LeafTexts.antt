@@ -16,7 +16,7 @@ pub end_to_end_more : (f : ℕ → List ℕ) (n : ℕ) → end_to_end f (n + 1) 
 unfolding end_to_end
 end_to_end_more f n = rw add-one refl
 
--- a leaf's text as far as n places, behind the byte 0
+-- a leaf's text as far as n places, after the byte 0
 unfoldable pub leaf_front : (ℕ → Bool → List ℕ) → ℕ → List ℕ
 leaf_front hash n = 0 ∷ end_to_end (λ place. hash place false ++ hash place true) n
 

@@ -11,6 +11,3 @@ pub use buffers::TextBuffers;
 pub use key::{OneTimeKey, OneTimeSignature, PLACES, TEXT_SIZE};
 pub use keys::LeafKeys;
 pub use shown::shown_key;
-
-#[cfg(test)]
-mod tests;

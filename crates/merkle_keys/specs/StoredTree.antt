@@ -1,4 +1,4 @@
--- A tree's hashes in one list: level after level, the leaves first. Behind the leaves the j-th inner hash
+-- A tree's hashes in one list: level after level, the leaves first. After the leaves the j-th inner hash
 -- is over the hashes 2j and 2j + 1 of the list.
 use Rattle.std.specs.Prelude.{◌≡◌, ℕ, ◌+◌, ◌-◌, ◌*◌, ◌^◌, ◌<◌, ◌≤◌, List, [], length, slice_index_or}
 use Rattle.merkle_keys.specs.Tree.{inner_hash, tree_hash}

@@ -27,7 +27,7 @@ pub enum SignFault {
 impl SignFault {
     ghost use Rattle.merkle_keys.specs.FaultNumbers.{fault_number};
 
-    /// The number that programs print: 1 KeysUsedUp. Want of memory has none.
+    /// The number that programs print: 1 KeysUsedUp. Being out of memory has none.
     pub fn number(self) -> Option<u32>
         ensures { result ≡ fault_number self }
     {

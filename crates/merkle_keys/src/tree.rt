@@ -92,7 +92,7 @@ fn leaf_hashes(alloc: Global, keys: &LeafKeys, leaves: u32) -> Result<Vec<[u8; 3
     Ok(hashes)
 }
 
-/// Adds the inner hashes behind the leaves': the n-th of them is over the hashes 2n and 2n + 1 of all.
+/// Adds the inner hashes after the leaves': the n-th of them is over the hashes 2n and 2n + 1 of all.
 fn add_inner_hashes(hashes: &mut Vec<[u8; 32]>, leaves: usize) -> Result<(), AllocError>
     requires some { 1 ≤ leaves }
     requires few { leaves ≤ 2 ^ MAX_HEIGHT }

@@ -118,7 +118,7 @@ mounts_pushed mounts host are short new room = record {
   differ = IsDistinct-push same_mount_equiv mounts (root_of host) are.differ new;
 }
 
--- a machine's name behind others is its mount behind theirs
+-- a machine's name after others is its mount after theirs
 pub pushed-shown : {A : Type 0} (name : A → HostName) (hosts new : List A) (h : A) (host : HostName)
     (mounts : Mounts) → new ≡ hosts ++ h ∷ [] → name h ≡ host
     → map (λ h. root_of (name h)) hosts ≡ mounts

@@ -8,7 +8,7 @@ use Rattle.xdr.specs.Item.{Fits, spelling, number_spelling, padding, word, opaqu
 use Rattle.xdr.proofs.Front.{length-number_spelling}
 use Rattle.nfs_items.specs.Caller.{Caller}
 use Rattle.nfs_items.specs.Handle.{handle_of}
-use Rattle.fs_model.specs.Files.{Files}
+use Rattle.file_tree.specs.fs_model.Files.{Files}
 use Rattle.mount_types.specs.declared.arguments.MountProcedure.TheVariants as procedures
 use Rattle.mount_types.specs.Calls as calls
 use Rattle.mount_types.specs.Calls.{Mount, MountCall, MountAnswer}

@@ -11,8 +11,8 @@ use Rattle.nfs_items.specs.Handle.{FileHandle}
 use Rattle.nfs_items.specs.Caller.{Caller}
 use Rattle.nfs_items.specs.Terms.{Name}
 use Rattle.nfs_items.specs.declared.stat.Stat.TheVariants.{NoEnt, Acces, NoSpc}
-use Rattle.fs_model.specs.Files.{Files, places}
-use Rattle.fs_model.specs.Paths.{path_at}
+use Rattle.file_tree.specs.fs_model.Files.{Files, places}
+use Rattle.file_tree.specs.fs_model.Paths.{path_at}
 use Rattle.mount_types.specs.Calls as calls
 use Rattle.mount_types.specs.Calls.{HostName, DirPath, Mount, MountCall, MountAnswer}
 use Rattle.mount_types.specs.Mounts.{Mounts, max_mounts, root_of, same_mount, is_listed, without_mount}

@@ -7,8 +7,8 @@ use Rattle.std.specs.Option.{is_some, option_map_or}
 use Rattle.std.specs.List.{filter}
 use Rattle.std.proofs.lemmas.List.{at_drop_more, at_drop_all}
 use Rattle.nfs_items.specs.Terms.{Name}
-use Rattle.fs_model.specs.Listing.{Place, place_number}
-use Rattle.fs_model.specs.Paths.{Places, walk}
+use Rattle.file_tree.specs.fs_model.Listing.{Place, place_number}
+use Rattle.file_tree.specs.fs_model.Paths.{Places, walk}
 use Rattle.mount.specs.Walks.{number_after}
 
 module _ (at : Places) where
@@ -61,6 +61,6 @@ module _ (at : Places) where
         this_part ∙ ap (λ (o : Option ℕ). option_map_or (λ m. lead_on m (drop (i + 1) all)) o false)
         (sym after ∙ none)
 
-  -- behind the last part something is reached
+  -- after the last part something is reached
   pub leads_to_end : (all : List Name) (i n : ℕ) → length all ≡ i → lead_on n (drop i all) ≡ true
   leads_to_end all i n end = at_drop_all (lead_on n) all i (omega (arith, end))

@@ -1,6 +1,5 @@
-pub use Rattle.nfs_items.specs.CallerOf
-pub use Rattle.fs_model.specs.Files
-pub use Rattle.mount_types.specs.Calls
+pub use Rattle.mount_types.specs as mount_types
+pub use Rattle.file_tree.specs.nfs_spec as nfs_spec
 pub mod Paths
 pub mod MountCalls
 pub mod Walks

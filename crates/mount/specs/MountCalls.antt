@@ -6,8 +6,8 @@ use Rattle.nfs_items.specs.Handle.{handle_of}
 use Rattle.nfs_items.specs.Caller.{Caller}
 use Rattle.nfs_items.specs.Terms.{Name}
 use Rattle.nfs_items.specs.declared.stat.Stat.TheVariants.{NoEnt, Acces, NoSpc}
-use Rattle.fs_model.specs.Files.{Files, places}
-use Rattle.fs_model.specs.Paths.{path_at}
+use Rattle.file_tree.specs.fs_model.Files.{Files, places}
+use Rattle.file_tree.specs.fs_model.Paths.{path_at}
 use Rattle.mount_types.specs.Calls.{HostName, MountCall, Null, Mnt, Dump, Umnt, Umntall, Export, MountAnswer}
 use Rattle.mount_types.specs.Calls.{Nothing, Mounted, Mounts as Listed, Exports}
 use Rattle.mount_types.specs.Mounts.{Mounts, root_path, max_mounts, root_of, is_listed, without_mount}

@@ -3,8 +3,8 @@
 use Rattle.std.specs.Prelude.{Bool, true, false, nat_lt, List, [], ◌∷◌, length, Option, Some, None, is_some}
 use Rattle.std.specs.Prelude.{option_map, if◌then◌else◌}
 use Rattle.nfs_items.specs.Terms.{Name, FileNumber}
-use Rattle.fs_model.specs.Listing.{place_number}
-use Rattle.fs_model.specs.Paths.{Places, path_at}
+use Rattle.file_tree.specs.fs_model.Listing.{place_number}
+use Rattle.file_tree.specs.fs_model.Paths.{Places, path_at}
 
 -- names lead to the root itself
 abbrev pub is_root : Option (List Name) → Bool

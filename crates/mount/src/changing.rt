@@ -8,9 +8,9 @@ ghost use Rattle.mount.specs.Performs.{Performs};
 
 use crate::paths::{ROOT, is_root, is_there};
 use crate::table::MountTable;
+use file_tree::Tree;
 use mount_types::MountResult;
 use nfs_items::{FileHandle, Stat};
-use nfs_procs::Tree;
 use std::alloc::{AllocError, Global};
 
 /// A machine mounts the root (RFC 1094, appendix A.5.2): NoSpc where 40 others have it mounted.

@@ -4,7 +4,7 @@ ghost use Rattle.std.specs.Prelude.{◌≡◌, ◌≢◌, ◌≤◌, true, false
 ghost use Rattle.xdr.specs.Item.{Fits};
 ghost use Rattle.nfs_items.specs.Caller.{Caller};
 ghost use Rattle.nfs_items.specs.Handle.{FileHandle};
-ghost use Rattle.fs_model.specs.Files.{Files};
+ghost use Rattle.file_tree.specs.fs_model.Files.{Files};
 ghost use Rattle.mount_types.specs.declared.limits.TheConstants.{MNTNAMLEN};
 ghost use Rattle.mount_types.specs.Calls.{HostName, DirPath, MountCall, Mnt, Umnt, Umntall, Mounted};
 ghost use Rattle.mount_types.specs.Texts.{procedure_in, answer_item, answer_value, answer_text, IsAnswerTo};

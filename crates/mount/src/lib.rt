@@ -20,9 +20,9 @@ mod table;
 pub mod worked;
 
 use changing::{mount, unmount};
+use file_tree::Tree;
 use mount_types::{MNT_ANSWER, MountArgs, MountResult, write_mount_result};
 use nfs_items::Who;
-pub use nfs_procs::{Tree, nfs_call};
 use paths::root_path;
 use std::alloc::{AllocError, Global};
 pub use table::MountTable;
@@ -102,3 +102,6 @@ pub fn mount_call(
         MountArgs::Export => export(out),
     }
 }
+
+pub use file_tree as file_tree_code;
+pub use mount_types as mount_types_code;

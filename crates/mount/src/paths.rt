@@ -2,13 +2,13 @@
 
 ghost use Rattle.std.specs.Prelude.{◌≡◌, ◌==◌, is_some};
 ghost use Rattle.std.specs.List.{list_all};
-ghost use Rattle.fs_model.specs.Files.{places};
-ghost use Rattle.fs_model.specs.Paths.{path_at};
+ghost use Rattle.file_tree.specs.fs_model.Files.{places};
+ghost use Rattle.file_tree.specs.fs_model.Paths.{path_at};
 ghost use Rattle.mount_types.specs.Mounts.{root_path};
 ghost use Rattle.mount.specs.Paths.{slash, names_between, names_on};
 ghost use Rattle.mount.specs.Walks.{is_root, is_there, number_after};
 
-use nfs_procs::Tree;
+use file_tree::Tree;
 
 /// The byte between names.
 const SLASH: u8 = b'/';

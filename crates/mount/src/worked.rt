@@ -4,7 +4,7 @@ ghost use Rattle.std.specs.Prelude.{◌≡◌, false, [], ◌∷◌, codes, Some
 ghost use Rattle.nfs_items.specs.Caller.{Caller};
 ghost use Rattle.nfs_items.specs.Handle.{handle_of};
 ghost use Rattle.nfs_items.specs.declared.stat.Stat.TheVariants as stats;
-ghost use Rattle.nfs_spec.specs.Opening.{opening_files};
+ghost use Rattle.file_tree.specs.nfs_spec.Opening.{opening_files};
 ghost use Rattle.mount_types.specs.Calls.{HostName, Mnt, Umnt, Umntall, Nothing, Mounted};
 ghost use Rattle.mount_types.specs.Mounts.{Mounts, root_of, is_listed};
 ghost use Rattle.mount.specs.Paths.{names_on};
@@ -22,7 +22,7 @@ pub fn paths_have_names()
 {}
 
 /// MNT of the root, first, once more, and where 40 others have it mounted; of a file that is there, with a
-/// slash behind it too; of one that isn't, of `.`, of a path through a file, and of one that doesn't begin
+/// slash after it too; of one that isn't, of `.`, of a path through a file, and of one that doesn't begin
 /// with a slash.
 pub fn mounts_come_out()
     ensures first { mount_does (opening_files 1) [] (by m) (Mnt (codes "//"))

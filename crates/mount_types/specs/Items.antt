@@ -1,5 +1,5 @@
 -- Arguments and results of all procedures as items (RFC 1094, appendix A.4 and A.5).
-use Rattle.xdr.specs.Item.{Item, opaque, pair, linked}
+use Rattle.nfs_items.specs.xdr.Item.{Item, opaque, pair, linked}
 use Rattle.nfs_items.specs.Handle.{fhandle}
 use Rattle.nfs_items.specs.Attributes.{stat_or}
 use Rattle.mount_types.specs.declared.limits.TheConstants.{MNTPATHLEN, MNTNAMLEN}

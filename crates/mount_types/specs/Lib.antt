@@ -1,5 +1,4 @@
-pub use Rattle.nfs_items.specs.Handle
-pub use Rattle.nfs_items.specs.Attributes
+pub use Rattle.nfs_items.specs as nfs_items
 pub mod Calls
 pub mod Items
 pub mod Texts

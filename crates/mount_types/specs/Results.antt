@@ -1,25 +1,18 @@
 -- What the program's results say.
-use Rattle.std.specs.Prelude.{ℕ, ◌<◌, ◌^◌, All, List, [], ◌∷◌, ◌++◌, length, map, Result, Ok, Err}
-use Rattle.xdr.specs.Item.{word, empty, spelling}
+use Rattle.std.specs.Prelude.{ℕ, ◌<◌, ◌^◌, All, List, [], ◌∷◌, length, map}
+use Rattle.nfs_items.specs.xdr.Item.{spelling}
 use Rattle.nfs_items.specs.Handle.{fhandle}
-use Rattle.nfs_items.specs.Attributes.{stat_value}
-use Rattle.nfs_items.specs.declared.handle.FileHandle as stored
-use Rattle.nfs_items.specs.declared.stat.Stat.{Stat}
+use Rattle.nfs_items.specs.Attributes.{outcome_of, outcome_text}
 use Rattle.mount_types.specs.declared.results.MountResult.{MountResult}
 use Rattle.mount_types.specs.declared.results.MountResult.TheVariants as code
 use Rattle.mount_types.specs.Items.{mountlist, exportlist}
 use Rattle.mount_types.specs.Calls as calls
 use Rattle.mount_types.specs.Calls.{MountAnswer}
 
--- a file handle by its bytes, or the stat of a refusal
-abbrev pub handle_or : Result stored.FileHandle Stat → Result (List ℕ) Stat
-handle_or (Ok handle) = Ok handle.0
-handle_or (Err e) = Err e
-
 -- the answer that a value of the program is
 abbrev pub answer_of : MountResult → MountAnswer
 answer_of code.Nothing = calls.Nothing
-answer_of (code.Mounted r) = calls.Mounted (handle_or r)
+answer_of (code.Mounted r) = calls.Mounted (outcome_of (λ handle. handle.0) r)
 answer_of (code.Mounts hosts directory) = calls.Mounts (map (λ h. (h.items, directory.now)) hosts.now)
 answer_of (code.Exported directory) = calls.Exports ((directory.now, []) ∷ [])
 
@@ -36,15 +29,10 @@ IsShort code.Nothing = Unit {0}
 IsShort (code.Mounted r) = Unit {0}
 IsShort _ = ⊥
 
--- the number of an error
-abbrev pub error_number : Stat → ℕ
-error_number e = (stat_value empty e).0
-
 -- the bytes of an answer, by what it is
 abbrev pub answer_bytes : MountResult → List ℕ
 answer_bytes code.Nothing = []
-answer_bytes (code.Mounted (Ok handle)) = spelling word 0 ++ spelling fhandle handle.0
-answer_bytes (code.Mounted (Err e)) = spelling word (error_number e)
+answer_bytes (code.Mounted r) = outcome_text (λ handle. spelling fhandle handle.0) r
 answer_bytes (code.Mounts hosts directory) =
     spelling mountlist (map (λ h. (h.items, directory.now)) hosts.now)
 answer_bytes (code.Exported directory) = spelling exportlist ((directory.now, []) ∷ [])

@@ -1,8 +1,9 @@
 -- What bytes say of a call, and the bytes of its answer (RFC 1094, appendix A.5).
-use Rattle.std.specs.Prelude.{◌≡◌, ℕ, List, [], ◌∷◌, ◌++◌, Option, Ok}
-use Rattle.std.specs.List.{slice_get}
-use Rattle.xdr.specs.Item.{Item, empty, Value, Fits, spelling}
-use Rattle.xdr.specs.Reading.{Read, ◌>>=◌, read_at}
+use Rattle.std.specs.Prelude.{ℕ, List, [], ◌∷◌, Option}
+use Rattle.nfs_items.specs.xdr.Item.{Item, empty, Value}
+use Rattle.nfs_items.specs.xdr.Reading.{Read}
+use Rattle.nfs_items.specs.Programs as programs
+use Rattle.nfs_items.specs.Programs.{Procedure, Program}
 use Rattle.nfs_items.specs.Handle.{fhandle}
 use Rattle.nfs_items.specs.Attributes.{outcome_value}
 use Rattle.mount_types.specs.declared.arguments.MountProcedure.{MountProcedure}
@@ -13,14 +14,8 @@ use Rattle.mount_types.specs.Items.{dirpath, fhstatus, mountlist, exportlist}
 
 -- ---- arguments
 
--- a procedure: the item of its arguments, the call that their value says, and the item of its results
-pub record Procedure : Type 0 where
-  pub arguments : Item
-  pub says : Value arguments → MountCall
-  pub results : Item
-
 -- what a procedure takes and gives (RFC 1094, appendix A.5)
-abbrev pub procedure_of : MountProcedure → Procedure
+abbrev pub procedure_of : MountProcedure → Procedure MountCall
 procedure_of procedures.Null = record { arguments = empty; says = λ v. calls.Null; results = empty }
 procedure_of procedures.Mnt = record { arguments = dirpath; says = calls.Mnt; results = fhstatus }
 procedure_of procedures.Dump = record { arguments = empty; says = λ v. calls.Dump; results = mountlist }
@@ -35,24 +30,14 @@ numbered =
     ∷ procedures.Export
     ∷ []
 
--- the procedure of a number
-abbrev pub procedure_at : ℕ → Option MountProcedure
-procedure_at n = slice_get numbered n
-
--- an item at the front, and the call that it says
-abbrev pub said : (a : Item) → (Value a → MountCall) → List ℕ → Read MountCall
-said a say bytes = read_at a bytes >>= λ x. Ok (say x.0, x.1)
-
--- the call that the bytes behind a procedure's header say
-abbrev pub call_at : MountProcedure → List ℕ → Read MountCall
-call_at procedure bytes = said (procedure_of procedure).arguments (procedure_of procedure).says bytes
-
--- the spelling of arguments that say a call stands at the front, and the rest behind it
-abbrev pub SaysCall : MountProcedure → List ℕ → MountCall → List ℕ → Type 0
-SaysCall procedure bytes call rest =
-    (v : Value (procedure_of procedure).arguments) × Fits (procedure_of procedure).arguments v
-    × (call ≡ (procedure_of procedure).says v)
-    × (bytes ≡ spelling (procedure_of procedure).arguments v ++ rest)
+-- the procedure of a call
+abbrev pub procedure_in : MountCall → MountProcedure
+procedure_in calls.Null = procedures.Null
+procedure_in (calls.Mnt path) = procedures.Mnt
+procedure_in calls.Dump = procedures.Dump
+procedure_in (calls.Umnt path) = procedures.Umnt
+procedure_in calls.Umntall = procedures.Umntall
+procedure_in calls.Export = procedures.Export
 
 -- ---- results
 
@@ -70,9 +55,33 @@ answer_value (calls.Mounted r) = outcome_value fhandle (λ handle. handle) r
 answer_value (calls.Mounts mounts) = mounts
 answer_value (calls.Exports exports) = exports
 
+-- ---- the program
+
+-- MOUNT version 1 as a remote program
+abbrev pub mount_program : Program MountProcedure MountCall MountAnswer
+mount_program = record {
+  numbered = numbered;
+  procedure_of = procedure_of;
+  procedure_in = procedure_in;
+  answer_item = answer_item;
+  answer_value = answer_value;
+}
+
+-- the procedure of a number
+abbrev pub procedure_at : ℕ → Option MountProcedure
+procedure_at n = programs.procedure_at mount_program n
+
+-- the call that the bytes after a procedure's header say
+abbrev pub call_at : MountProcedure → List ℕ → Read MountCall
+call_at procedure bytes = programs.call_at mount_program procedure bytes
+
+-- the spelling of arguments that say a call stands at the front, and the rest after it
+abbrev pub SaysCall : MountProcedure → List ℕ → MountCall → List ℕ → Type 0
+SaysCall procedure bytes call rest = programs.SaysCall mount_program procedure bytes call rest
+
 -- the one spelling of an answer
 abbrev pub answer_text : MountAnswer → List ℕ
-answer_text a = spelling (answer_item a) (answer_value a)
+answer_text a = programs.answer_text mount_program a
 
 -- an answer of a procedure's results
 abbrev pub IsAnswerTo : MountProcedure → MountAnswer → Type 0
@@ -83,12 +92,3 @@ IsAnswerTo procedures.Umnt calls.Nothing = Unit {0}
 IsAnswerTo procedures.Umntall calls.Nothing = Unit {0}
 IsAnswerTo procedures.Export (calls.Exports exports) = Unit {0}
 IsAnswerTo _ _ = ⊥
-
--- the procedure of a call
-abbrev pub procedure_in : MountCall → MountProcedure
-procedure_in calls.Null = procedures.Null
-procedure_in (calls.Mnt path) = procedures.Mnt
-procedure_in calls.Dump = procedures.Dump
-procedure_in (calls.Umnt path) = procedures.Umnt
-procedure_in calls.Umntall = procedures.Umntall
-procedure_in calls.Export = procedures.Export

@@ -1,44 +1,36 @@
 //! What holds of arguments and answers in bytes.
 
-ghost use Rattle.std.specs.Prelude.{◌≡◌, ◌↔◌, ◌<◌, ◌++◌, ℕ, List, None, Ok, Err};
-ghost use Rattle.xdr.specs.declared.fault.XdrFault.{XdrFault};
-ghost use Rattle.xdr.specs.Item.{IsBytes, Fits};
-ghost use Rattle.xdr.specs.Reading.{read_at};
+ghost use Rattle.std.specs.Prelude.{◌≡◌, ◌↔◌, ◌<◌, ◌++◌, ℕ, List, None};
+ghost use Rattle.nfs_items.specs.xdr.Item.{Fits};
+ghost use Rattle.nfs_items.specs.Programs.{ReadsWhatIsSaid, HasFaultsOfItems, SaysOneCall, SaysOwnCalls};
+ghost use Rattle.nfs_items.specs.Programs.{KeepsBounds, SpellsAnswers};
 ghost use Rattle.mount_types.specs.declared.arguments.MountProcedure.{MountProcedure};
-ghost use Rattle.mount_types.specs.Calls.{MountCall, MountAnswer};
+ghost use Rattle.mount_types.specs.Calls.{MountAnswer};
 ghost use Rattle.mount_types.specs.Bounds.{HasBounds};
-ghost use Rattle.mount_types.specs.Texts.{procedure_of, procedure_at, procedure_in, call_at, SaysCall};
-ghost use Rattle.mount_types.specs.Texts.{answer_item, answer_value, answer_text, IsAnswerTo};
+ghost use Rattle.mount_types.specs.Texts.{mount_program, procedure_of, procedure_at, answer_item, answer_value};
+ghost use Rattle.mount_types.specs.Texts.{answer_text, IsAnswerTo};
 
 use crate::limits::{MNTNAMLEN, MNTPATHLEN};
 
-/// A procedure's arguments are read exactly where their spelling stands at the front, whatever stands behind
+/// A procedure's arguments are read exactly where their spelling stands at the front, whatever stands after
 /// it; the fault is that of reading their item; the numbers of procedures are 0 to 5; and bytes say one call
 /// at most, which is of that procedure.
 pub fn arguments_are_read_as_spelled()
-    ensures exact { (procedure : MountProcedure) (bytes rest : List ℕ) (call : MountCall) → IsBytes bytes →
-        ((call_at procedure bytes ≡ Ok (call, rest)) ↔ SaysCall procedure bytes call rest) }
-    ensures faults { (procedure : MountProcedure) (bytes : List ℕ) (fault : XdrFault) →
-        ((call_at procedure bytes ≡ Err fault)
-        ↔ (read_at (procedure_of procedure).arguments bytes ≡ Err fault)) }
+    ensures exact { ReadsWhatIsSaid mount_program }
+    ensures faults { HasFaultsOfItems mount_program }
     ensures none { (n : ℕ) → ((procedure_at n ≡ None) ↔ (5 < n)) }
-    ensures one_call { (procedure : MountProcedure) (bytes x y : List ℕ) (a b : MountCall) →
-        SaysCall procedure bytes a x → SaysCall procedure bytes b y → (a ≡ b) × (x ≡ y) }
-    ensures own { (procedure : MountProcedure) (bytes rest : List ℕ) (call : MountCall) →
-        SaysCall procedure bytes call rest → procedure_in call ≡ procedure }
+    ensures one_call { SaysOneCall mount_program }
+    ensures own { SaysOwnCalls mount_program }
 {}
 
 /// A call that is read from bytes has a path of at most 1,024 bytes (RFC 1094, appendix A.3).
 pub fn calls_are_bounded()
-    ensures { (procedure : MountProcedure) (bytes rest : List ℕ) (call : MountCall) → IsBytes bytes →
-        call_at procedure bytes ≡ Ok (call, rest) → HasBounds call }
+    ensures { KeepsBounds mount_program HasBounds }
 {}
 
 /// An answer's text can be read back, and says the answer, exactly where the answer's value fits.
 pub fn answers_are_spelled()
-    ensures { (a : MountAnswer) (rest : List ℕ) → IsBytes (answer_text a ++ rest) →
-        ((read_at (answer_item a) (answer_text a ++ rest) ≡ Ok (answer_value a, rest))
-        ↔ Fits (answer_item a) (answer_value a)) }
+    ensures { SpellsAnswers mount_program }
 {}
 
 /// An answer of a procedure is of the procedure's results, and no answer of a procedure begins another, so

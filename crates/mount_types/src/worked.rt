@@ -1,7 +1,7 @@
 //! Answers in bytes.
 
 ghost use Rattle.std.specs.Prelude.{◌≡◌, [], ◌∷◌, codes, Ok, Err};
-ghost use Rattle.xdr.specs.declared.fault.XdrFault.TheVariants as faults;
+ghost use Rattle.nfs_items.specs.xdr.declared.fault.XdrFault.TheVariants as faults;
 ghost use Rattle.nfs_items.specs.declared.stat.Stat.TheVariants as stats;
 ghost use Rattle.nfs_items.specs.Handle.{handle_of};
 ghost use Rattle.mount_types.specs.declared.arguments.MountProcedure.TheVariants as procedures;

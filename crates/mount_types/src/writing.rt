@@ -3,18 +3,18 @@
 ghost use Rattle.std.specs.Prelude.{◌≡◌, ◌<◌, ◌≤◌, ◌-◌, ◌^◌, ◌++◌, ◌∷◌, [], All, IsOk, length, map, vec_len};
 ghost use Rattle.std.specs.Prelude.{vec_capacity};
 ghost use Rattle.std.specs.List.{flat_map};
-ghost use Rattle.xdr.specs.Item.{word, spelling};
-ghost use Rattle.xdr.specs.Writing.{Adds, Appends, Takes};
+ghost use Rattle.nfs_items.specs.xdr.Item.{word, spelling};
+ghost use Rattle.nfs_items.specs.xdr.Writing.{Adds, Appends, Takes};
 ghost use Rattle.nfs_items.specs.Handle.{fhandle};
 ghost use Rattle.mount_types.specs.Items.{mount, mountlist, exportlist};
 ghost use Rattle.mount_types.specs.Texts.{answer_text};
-ghost use Rattle.mount_types.specs.Results.{answer_of, HasLengths, IsShort, error_number, answer_bytes};
+ghost use Rattle.mount_types.specs.Results.{answer_of, HasLengths, IsShort, answer_bytes};
 
 use crate::limits::MNT_ANSWER;
 use crate::results::MountResult;
-use nfs_items::{FileHandle, Stat};
+use nfs_items::FileHandle;
+use nfs_items::xdr_code::{Writer, all_or_nothing};
 use std::alloc::AllocError;
-use xdr::{Writer, all_or_nothing};
 
 /// The status of a directory that was mounted (RFC 1094, appendix A.4.2).
 const OK: u32 = 0;
@@ -46,18 +46,10 @@ fn add_result(answer: &MountResult, out: &mut Vec<u8>) -> Result<(), AllocError>
     match answer {
         MountResult::Nothing => Ok(()),
         MountResult::Mounted(Ok(handle)) => add_handle(handle, out),
-        MountResult::Mounted(Err(stat)) => add_error(*stat, out),
+        MountResult::Mounted(Err(stat)) => stat.write(out),
         MountResult::Mounts { hosts, directory } => add_list(hosts, directory, out),
         MountResult::Exported(directory) => add_export(directory, out),
     }
-}
-
-fn add_error(stat: Stat, out: &mut Vec<u8>) -> Result<(), AllocError>
-    ensures adds { Adds (spelling word (error_number stat)) out.old.items result out.new.items }
-    ensures room { Takes 4 (vec_capacity out.old - vec_len out.old)
-        result (vec_capacity out.new - vec_len out.new) }
-{
-    out.put_u32(stat as u32)
 }
 
 fn add_handle(handle: &FileHandle, out: &mut Vec<u8>) -> Result<(), AllocError>
@@ -93,7 +85,7 @@ fn add_mounts(hosts: &[Vec<u8>], directory: &[u8], out: &mut Vec<u8>) -> Result<
     Ok(())
 }
 
-/// Each mount behind TRUE, and then FALSE.
+/// Each mount after TRUE, and then FALSE.
 fn add_list(hosts: &[Vec<u8>], directory: &[u8], out: &mut Vec<u8>) -> Result<(), AllocError>
     requires hosts { All (λ h. length h.items < 2 ^ 32) hosts.now }
     requires directory { length directory.now < 2 ^ 32 }
@@ -104,7 +96,7 @@ fn add_list(hosts: &[Vec<u8>], directory: &[u8], out: &mut Vec<u8>) -> Result<()
     out.put_u32(END)
 }
 
-/// One directory with no group behind it, and then FALSE.
+/// One directory with no group after it, and then FALSE.
 fn add_export(directory: &[u8], out: &mut Vec<u8>) -> Result<(), AllocError>
     requires { length directory.now < 2 ^ 32 }
     ensures { Adds (spelling exportlist ((directory.now, []) ∷ [])) out.old.items result out.new.items }

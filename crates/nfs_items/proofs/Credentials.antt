@@ -3,11 +3,11 @@
 use Rattle.std.proofs.Common.{◌≡◌, ℕ, ◌<◌, ◌^◌, Bool, true, false, List, [], ◌∷◌, ◌++◌, length, Option, Some, None, Ok, option_map, refl, sym, ap, ◌∙◌, append-nil, arith}
 use Rattle.std.specs.Prelude.{◌==◌}
 use Rattle.std.proofs.lemmas.Bool.{eqb-true}
-use Rattle.xdr_texts.specs.Item.{Value, Fits, IsBytes}
-use Rattle.xdr_texts.specs.Reading.{read_at}
-use Rattle.xdr_texts.specs.Text.{text_at}
-use Rattle.xdr_texts.proofs.Exact.{again}
-use Rattle.xdr_texts.proofs.WholeTexts.{is_text, text_more, text_end}
+use Rattle.xdr.specs.Item.{Value, Fits, IsBytes}
+use Rattle.xdr.specs.Reading.{read_at}
+use Rattle.xdr.specs.Texts.Text.{text_at}
+use Rattle.xdr.proofs.Exact.{again}
+use Rattle.xdr.proofs.OfTexts.WholeTexts.{is_text, text_more, text_end}
 use Rattle.nfs_items.specs.Caller.{Caller}
 use Rattle.nfs_items.specs.Credentials.{authsys_parms, credential_text, caller_of_parms, caller_in, body_of, caller_from, IsCaller}
 

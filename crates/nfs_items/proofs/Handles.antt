@@ -6,8 +6,8 @@ use Rattle.std.specs.Cmp.Lexicographic.{pointwise}
 use Rattle.std.proofs.lemmas.Slice.Eq.{bytes_eq-Decides}
 use Rattle.byteorder.specs.Endian.{big_bytes, big_number}
 use Rattle.byteorder.specs.Numbers.{big_from-lt, big_number-reads_back}
-use Rattle.xdr_texts.specs.Item.{IsBytes}
-use Rattle.xdr_texts.proofs.Front.{IsBytes-drop}
+use Rattle.xdr.specs.Item.{IsBytes}
+use Rattle.xdr.proofs.Front.{IsBytes-drop}
 use Rattle.nfs_items.specs.Handle.{handle_of, number_in}
 
 -- the number that stands in a handle's second four bytes

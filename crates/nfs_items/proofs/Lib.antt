@@ -1,4 +1,5 @@
-pub use Rattle.xdr_texts.proofs.Front
-pub use Rattle.xdr_texts.proofs.Exact
+pub use Rattle.xdr.proofs as xdr
 pub mod Credentials
 pub mod Handles
+pub mod Programs
+pub mod Outcomes

@@ -1,6 +1,6 @@
 -- Attributes and stats as items (RFC 1094, section 2.3).
-use Rattle.std.specs.Prelude.{ℕ, Bool, ◌==◌, ◌||◌, nat_le, Result, Ok, Err, if◌then◌else◌}
-use Rattle.xdr_texts.specs.Item.{Item, word, empty, pair, choice, Value}
+use Rattle.std.specs.Prelude.{ℕ, Bool, ◌==◌, ◌||◌, nat_le, List, ◌++◌, Result, Ok, Err, if◌then◌else◌}
+use Rattle.xdr.specs.Item.{Item, word, empty, pair, choice, Value, spelling}
 use Rattle.nfs_items.specs.Timeval.{timeval, timeval_value}
 use Rattle.nfs_items.specs.declared.attributes.FileType.{FileType}
 use Rattle.nfs_items.specs.declared.attributes.FileType.TheVariants.{Regular, Directory, Link}
@@ -46,11 +46,11 @@ is_stat n =
     || (n == 20) || (n == 21) || (n == 27) || (n == 28) || (n == 30) || (n == 63) || (n == 66) || (n == 69)
     || (n == 70) || (n == 99)
 
--- a stat, and behind OK an item
+-- a stat, and after OK an item
 abbrev pub stat_or : Item → Item
 stat_or a = choice is_stat (λ n. if n == 0 then a else empty)
 
--- a stat other than OK, with nothing behind it
+-- a stat other than OK, with nothing after it
 abbrev pub stat_value : (a : Item) → Stat → Value (stat_or a)
 stat_value a stats.Perm = (1, tt)
 stat_value a stats.NoEnt = (2, tt)
@@ -70,7 +70,21 @@ stat_value a stats.DQuot = (69, tt)
 stat_value a stats.Stale = (70, tt)
 stat_value a stats.WFlush = (99, tt)
 
+-- an outcome with another result
+abbrev pub outcome_of : {X Y : Type 0} → (X → Y) → Result X Stat → Result Y Stat
+outcome_of view (Ok x) = Ok (view x)
+outcome_of view (Err e) = Err e
+
 -- a result, or the stat of its refusal
 abbrev pub outcome_value : {X : Type 0} (a : Item) → (X → Value a) → Result X Stat → Value (stat_or a)
 outcome_value a view (Ok x) = (0, view x)
 outcome_value a view (Err e) = stat_value a e
+
+-- the number of a stat other than OK
+abbrev pub stat_number : Stat → ℕ
+stat_number e = (stat_value empty e).0
+
+-- the bytes of an outcome, by whether there is a result: OK and what is after it, or the stat alone
+abbrev pub outcome_text : {X : Type 0} → (X → List ℕ) → Result X Stat → List ℕ
+outcome_text text (Ok x) = spelling word 0 ++ text x
+outcome_text text (Err e) = spelling word (stat_number e)

@@ -1,5 +1,5 @@
 -- What reading a credential's parameters gives.
-use Rattle.xdr_texts.specs.Item.{Value}
+use Rattle.xdr.specs.Item.{Value}
 use Rattle.nfs_items.specs.Credentials.{authsys_parms}
 use Rattle.nfs_items.specs.declared.credential.Parameters.{Parameters}
 

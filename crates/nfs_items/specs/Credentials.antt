@@ -1,8 +1,8 @@
 -- The body of an AUTH_SYS credential (RFC 5531, appendix A), and the caller that it says.
 use Rattle.std.specs.Prelude.{ℕ, ◌<◌, ◌^◌, ◌≤◌, List, length, true, Option, Some, option_map}
 use Rattle.std.specs.List.{AllByRecursion}
-use Rattle.xdr_texts.specs.Item.{Item, word, opaque, pair, array, Value, spelling}
-use Rattle.xdr_texts.specs.Text.{Text, text_at}
+use Rattle.xdr.specs.Item.{Item, word, opaque, pair, array, Value, spelling}
+use Rattle.xdr.specs.Texts.Text.{Text, text_at}
 use Rattle.nfs_items.specs.Caller.{Caller}
 
 -- authsys_parms: stamp, machinename, uid, gid, gids

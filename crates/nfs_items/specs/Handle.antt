@@ -3,7 +3,7 @@
 use Rattle.std.specs.Prelude.{ℕ, List, ◌++◌, replicate, drop, Option, Some, None, if◌then◌else◌, nat_eq}
 use Rattle.std.specs.Cmp.Lexicographic.{pointwise}
 use Rattle.byteorder.specs.Endian.{big_bytes, big_number}
-use Rattle.xdr_texts.specs.Item.{Item, fixed}
+use Rattle.xdr.specs.Item.{Item, fixed}
 
 -- a file handle, by its bytes
 abbrev pub FileHandle : Type 0

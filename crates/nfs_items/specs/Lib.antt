@@ -1,8 +1,4 @@
-pub use Rattle.xdr_texts.specs.Item
-pub use Rattle.xdr_texts.specs.Reading
-pub use Rattle.xdr_texts.specs.Writing
-pub use Rattle.xdr_texts.specs.Text
-pub use Rattle.xdr_texts.specs.XdrFault
+pub use Rattle.xdr.specs as xdr
 pub mod Timeval
 pub mod Handle
 pub mod Terms
@@ -12,3 +8,4 @@ pub mod Caller
 pub mod CallerOf
 pub mod Credentials
 pub mod CredentialRead
+pub mod Programs

@@ -1,5 +1,5 @@
 -- The attributes that a call brings (RFC 1094, section 2.3.6, sattr).
-use Rattle.xdr_texts.specs.Item.{Item, word, pair, Value}
+use Rattle.xdr.specs.Item.{Item, word, pair, Value}
 use Rattle.nfs_items.specs.Timeval.{timeval, timeval_value}
 use Rattle.nfs_items.specs.declared.sattr.Sattr.{Sattr}
 

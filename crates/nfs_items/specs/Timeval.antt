@@ -1,7 +1,7 @@
 -- Times (RFC 1094, section 2.3.4, timeval).
 use Rattle.std.specs.Prelude.{ℕ, Bool, nat_lt, ◌==◌, ◌||◌, ◌&&◌, if◌then◌else◌, refl}
 use Rattle.std.specs.Coded.{Coded, code_by, coded×, coded_ℕ}
-use Rattle.xdr_texts.specs.Item.{Item, word, pair, Value}
+use Rattle.xdr.specs.Item.{Item, word, pair, Value}
 
 -- seconds since the start of 1970, and microseconds
 pub record Timeval : Type 0 where

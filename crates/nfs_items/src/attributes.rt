@@ -2,7 +2,7 @@
 
 use crate::time::Time;
 use std::alloc::AllocError;
-use xdr_texts::Writer;
+use xdr::Writer;
 
 /// What a file is (RFC 1094, section 2.3.2, ftype), of the kinds that this server has.
 #[derive(Clone, Copy, Debug, PartialEq, Eq)]
@@ -38,7 +38,7 @@ pub struct Fattr {
 
 impl Fattr {
     ghost use Rattle.std.specs.Prelude.{◌-◌, vec_len, vec_capacity};
-    ghost use Rattle.xdr_texts.specs.Writing.{Writes, Takes};
+    ghost use Rattle.xdr.specs.Writing.{Writes, Takes};
     ghost use Rattle.nfs_items.specs.Attributes.{fattr, fattr_value};
 
     /// Appends the attributes, 68 bytes. Where memory is refused, the bytes stay as they were.

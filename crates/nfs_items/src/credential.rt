@@ -1,14 +1,14 @@
 //! The body of an AUTH_SYS credential.
 
 ghost use Rattle.std.specs.Prelude.{◌≡◌, option_map};
-ghost use Rattle.xdr_texts.specs.Item.{array, word};
-ghost use Rattle.xdr_texts.specs.Reading.{Gives};
+ghost use Rattle.xdr.specs.Item.{array, word};
+ghost use Rattle.xdr.specs.Reading.{Gives};
 ghost use Rattle.nfs_items.specs.Credentials.{authsys_parms, caller_in};
 ghost use Rattle.nfs_items.specs.CredentialRead.{parameters_value};
 ghost use Rattle.nfs_items.specs.CallerOf.{caller_of};
 
 use crate::who::{Groups, MAX_GROUPS, Who};
-use xdr_texts::{Reader, XdrFault};
+use xdr::{Reader, XdrFault};
 
 /// The greatest length of a machine's name in bytes (RFC 5531, appendix A).
 const MAX_MACHINE_NAME: u32 = 255;
@@ -26,7 +26,7 @@ struct Parameters<'a> {
 /// The caller that the body of an AUTH_SYS credential says (RFC 5531, appendix A), or none where the body
 /// isn't just the spelling of a stamp, a machine's name of at most 255 bytes, a uid, a gid and at most 16
 /// further groups.
-#[tactic(auto, unfolding(xdr_texts::specs::Text::text_at))]
+#[tactic(auto, unfolding(xdr::specs::Texts::Text::text_at))]
 pub fn read_credential(body: &[u8]) -> Option<Who<'_>>
     ensures { option_map caller_of result ≡ caller_in body.now }
 {

@@ -4,16 +4,16 @@ ghost use Rattle.std.specs.Prelude.{◌≡◌};
 
 use byteorder::{BigEndian, ByteOrder};
 use std::alloc::AllocError;
-use xdr_texts::{Reader, Writer, XdrFault};
+use xdr::{Reader, Writer, XdrFault};
 
 /// A file handle (RFC 1094, section 2.3.3): 32 bytes that only the server reads.
 #[derive(Clone, Copy, Debug, PartialEq, Eq)]
 pub struct FileHandle(pub [u8; 32]);
 
 impl FileHandle {
-    ghost use Rattle.xdr_texts.specs.Reading.{Reads};
+    ghost use Rattle.xdr.specs.Reading.{Reads};
     ghost use Rattle.std.specs.Prelude.{◌-◌, vec_len, vec_capacity};
-    ghost use Rattle.xdr_texts.specs.Writing.{Writes, Takes};
+    ghost use Rattle.xdr.specs.Writing.{Writes, Takes};
     ghost use Rattle.nfs_items.specs.Handle.{fhandle, handle_of, number_in};
 
     /// The file handle of a file number on the node fsid.

@@ -1,7 +1,7 @@
 //! What holds of file handles and credentials.
 
 ghost use Rattle.std.specs.Prelude.{◌≡◌, ◌<◌, ◌^◌, ◌↔◌, ◌++◌, ◌∷◌, ℕ, List, Some, None};
-ghost use Rattle.xdr_texts.specs.Item.{IsBytes};
+ghost use Rattle.xdr.specs.Item.{IsBytes};
 ghost use Rattle.nfs_items.specs.Handle.{handle_of, number_in};
 ghost use Rattle.nfs_items.specs.Caller.{Caller};
 ghost use Rattle.nfs_items.specs.Credentials.{caller_in, body_of, caller_from, IsCaller};

@@ -1,10 +1,10 @@
 //! Attributes that a call brings.
 
 ghost use Rattle.std.specs.Prelude.{◌≡◌};
-ghost use Rattle.xdr_texts.specs.Reading.{Gives, Reads};
+ghost use Rattle.xdr.specs.Reading.{Gives, Reads};
 
 use std::marker::Model;
-use xdr_texts::{Reader, XdrFault, put_back_on_err};
+use xdr::{Reader, XdrFault, put_back_on_err};
 
 /// A time as a call brings it (RFC 1094, section 2.3.4): any two words.
 #[derive(Clone, Copy, Debug, PartialEq, Eq)]

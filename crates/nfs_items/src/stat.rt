@@ -1,6 +1,8 @@
 //! Why a procedure was refused.
 
+use std::alloc::AllocError;
 use thiserror::Error;
+use xdr::Writer;
 
 /// A stat other than OK (RFC 1094, section 2.3.1).
 #[derive(Clone, Copy, Debug, PartialEq, Eq, Error)]
@@ -39,4 +41,20 @@ pub enum Stat {
     Stale = 70,
     #[error("write cache flushed")]
     WFlush = 99,
+}
+
+impl Stat {
+    ghost use Rattle.std.specs.Prelude.{◌-◌, vec_len, vec_capacity};
+    ghost use Rattle.xdr.specs.Item.{word};
+    ghost use Rattle.xdr.specs.Writing.{Writes, Takes};
+    ghost use Rattle.nfs_items.specs.Attributes.{stat_number};
+
+    /// Appends the stat's number, 4 bytes. Where memory is refused, the bytes stay as they were.
+    pub fn write(self, out: &mut Vec<u8>) -> Result<(), AllocError>
+        ensures writes { Writes word (stat_number self) out.old.items result out.new.items }
+        ensures room { Takes 4 (vec_capacity out.old - vec_len out.old)
+            result (vec_capacity out.new - vec_len out.new) }
+    {
+        out.put_u32(self as u32)
+    }
 }

@@ -41,7 +41,7 @@ impl Groups {
         }
     }
 
-    /// Puts a group behind the others.
+    /// Puts a group after the others.
     pub fn push(&mut self, group: u32)
         requires { length self.old < 16 }
         ensures { self.new ≡ self.old ++ group ∷ [] }

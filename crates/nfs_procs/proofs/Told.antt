@@ -5,14 +5,14 @@ use Rattle.nfs_items.specs.Handle.{FileHandle, handle_of}
 use Rattle.nfs_items.specs.declared.attributes.Fattr.{Fattr}
 use Rattle.nfs_items.specs.declared.stat.Stat.{Stat}
 use Rattle.nfs_items.specs.declared.stat.Stat.TheVariants as stats
-use Rattle.nfs_types.specs.Calls.{Attributes, DirOp}
-use Rattle.fs_model.specs.Files.{File, Files, file_at}
-use Rattle.nfs_spec.specs.ProcedureChecks.{◌>>=◌, ok_or}
-use Rattle.nfs_spec.specs.FileAttributes.{attributes_of}
-use Rattle.nfs_spec.specs.Effects.{attributes_at}
-use Rattle.nfs_spec.specs.Changes.{Effect}
-use Rattle.nfs_spec.proofs.Present.{none_there}
-use Rattle.nfs_spec.specs.NfsCalls.{answer_and_files, with_attributes, with_handle}
+use Rattle.file_tree.specs.nfs_types.Calls.{Attributes, DirOp}
+use Rattle.nfs_laws.specs.fs_model.Files.{File, Files, file_at}
+use Rattle.nfs_laws.specs.nfs_spec.ProcedureChecks.{◌>>=◌, ok_or}
+use Rattle.nfs_laws.specs.nfs_spec.FileAttributes.{attributes_of}
+use Rattle.nfs_laws.specs.nfs_spec.Effects.{attributes_at}
+use Rattle.nfs_laws.specs.nfs_spec.Changes.{Effect}
+use Rattle.nfs_laws.proofs.nfs_spec.Present.{none_there}
+use Rattle.nfs_laws.specs.nfs_spec.NfsCalls.{answer_and_files, with_attributes, with_handle}
 use Rattle.file_tree.specs.Performs.{Does}
 use Rattle.nfs_procs.specs.Changed.{attributes_then, file_then}
 

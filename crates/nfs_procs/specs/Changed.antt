@@ -6,13 +6,13 @@ use Rattle.nfs_items.specs.Handle.{FileHandle, handle_of}
 use Rattle.nfs_items.specs.Terms.{FileNumber}
 use Rattle.nfs_items.specs.declared.attributes.Fattr.{Fattr}
 use Rattle.nfs_items.specs.declared.stat.Stat.{Stat}
-use Rattle.nfs_types.specs.declared.results.NfsResult.{NfsResult}
-use Rattle.nfs_types.specs.Calls.{Call}
-use Rattle.nfs_types.specs.Results.{answer_of, IsShort}
-use Rattle.fs_model.specs.Files.{Files}
-use Rattle.nfs_spec.specs.ProcedureChecks.{◌>>=◌}
-use Rattle.nfs_spec.specs.Effects.{attributes_at}
-use Rattle.nfs_spec.specs.NfsCalls.{call_does}
+use Rattle.file_tree.specs.nfs_types.declared.results.NfsResult.{NfsResult}
+use Rattle.file_tree.specs.nfs_types.Calls.{Call}
+use Rattle.file_tree.specs.nfs_types.Results.{answer_of, IsShort}
+use Rattle.nfs_laws.specs.fs_model.Files.{Files}
+use Rattle.nfs_laws.specs.nfs_spec.ProcedureChecks.{◌>>=◌}
+use Rattle.nfs_laws.specs.nfs_spec.Effects.{attributes_at}
+use Rattle.nfs_laws.specs.nfs_spec.NfsCalls.{call_does}
 
 -- the answer and the files after it
 abbrev pub IsDone : Files → Caller → Timeval → Call → NfsResult → Files → Type 0

@@ -2,17 +2,17 @@
 
 ghost use Rattle.std.specs.Prelude.{◌≡◌, ◌≤◌, false, length};
 ghost use Rattle.nfs_items.specs.CallerOf.{caller_of};
-ghost use Rattle.fs_model.specs.Maxima.{max_name, max_target};
-ghost use Rattle.nfs_types.specs.Bounds.{HasBounds};
-ghost use Rattle.nfs_types.specs.Calls.{Setattr, Write, Create, Remove, Rename, Link, Symlink, Mkdir, Rmdir};
-ghost use Rattle.nfs_types.specs.Arguments.{call_of};
-ghost use Rattle.nfs_spec_steps.specs.Answers.{only_reads};
+ghost use Rattle.nfs_laws.specs.fs_model.Maxima.{max_name, max_target};
+ghost use Rattle.file_tree.specs.nfs_types.Bounds.{HasBounds};
+ghost use Rattle.file_tree.specs.nfs_types.Calls.{Setattr, Write, Create, Remove, Rename, Link, Symlink, Mkdir, Rmdir};
+ghost use Rattle.file_tree.specs.nfs_types.Arguments.{call_of};
+ghost use Rattle.nfs_laws.specs.Steps.Answers.{only_reads};
 ghost use Rattle.nfs_procs.specs.Changed.{IsDone, IsChanged};
 
 use crate::handles::{attributes_after, file_after, number_for};
 use file_tree::Tree;
+use file_tree::nfs_types_code::{DirOpArgs, NfsArgs, NfsResult};
 use nfs_items::{FileHandle, Sattr, Time, Who};
-use nfs_types::{DirOpArgs, NfsArgs, NfsResult};
 use std::alloc::{AllocError, Global};
 
 /// SETATTR (section 2.2.3).

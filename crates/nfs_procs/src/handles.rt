@@ -1,13 +1,14 @@
-//! File handles, and the attributes behind them.
+//! File handles, and the attributes after them.
 
 ghost use Rattle.std.specs.Prelude.{◌≡◌};
-ghost use Rattle.nfs_types.specs.Results.{outcome_of, dir_op_of};
-ghost use Rattle.nfs_spec.specs.NfsCalls.{number_for};
+ghost use Rattle.nfs_items.specs.Attributes.{outcome_of};
+ghost use Rattle.file_tree.specs.nfs_types.Results.{dir_op_of};
+ghost use Rattle.nfs_laws.specs.nfs_spec.NfsCalls.{number_for};
 ghost use Rattle.nfs_procs.specs.Changed.{attributes_then, file_then};
 
 use file_tree::Tree;
+use file_tree::nfs_types_code::DirOpOk;
 use nfs_items::{Fattr, FileHandle, Stat};
-use nfs_types::DirOpOk;
 
 /// The file number that a handle names here; another handle names 0, which no file has.
 pub(crate) fn number_for(tree: &Tree, file: FileHandle) -> u32

@@ -4,21 +4,21 @@
 ghost use Rattle.std.specs.Prelude.{◌≡◌, OnOk, OnErr};
 ghost use Rattle.xdr.specs.Writing.{Appends};
 ghost use Rattle.nfs_items.specs.CallerOf.{caller_of};
-ghost use Rattle.nfs_types.specs.Bounds.{HasBounds};
-ghost use Rattle.nfs_types.specs.Texts.{answer_text};
-ghost use Rattle.nfs_types.specs.Arguments.{call_of};
-ghost use Rattle.nfs_spec.specs.NfsCalls.{call_does};
-ghost use Rattle.nfs_spec_steps.specs.Answers.{only_reads};
+ghost use Rattle.file_tree.specs.nfs_types.Bounds.{HasBounds};
+ghost use Rattle.file_tree.specs.nfs_types.Texts.{answer_text};
+ghost use Rattle.file_tree.specs.nfs_types.Arguments.{call_of};
+ghost use Rattle.nfs_laws.specs.nfs_spec.NfsCalls.{call_does};
+ghost use Rattle.nfs_laws.specs.Steps.Answers.{only_reads};
 
 mod changing;
 mod handles;
 mod reading;
 
 use changing::change;
-pub use file_tree::Tree;
+use file_tree::Tree;
+use file_tree::nfs_types_code::result_texts::write_result;
+use file_tree::nfs_types_code::{NfsArgs, SHORT_ANSWER};
 use nfs_items::{Time, Who};
-use nfs_results::write_result;
-use nfs_types::{NfsArgs, SHORT_ANSWER};
 use reading::answer_read;
 use std::alloc::{AllocError, Global};
 
@@ -65,3 +65,5 @@ pub fn nfs_call(
     let answer = change(tree, alloc, who, now, args)?;
     write_result(&answer, out)
 }
+
+pub use nfs_laws as nfs_laws_code;

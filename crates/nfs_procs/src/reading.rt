@@ -3,20 +3,21 @@
 ghost use Rattle.std.specs.Prelude.{◌≡◌, true};
 ghost use Rattle.xdr.specs.Writing.{Appends};
 ghost use Rattle.nfs_items.specs.CallerOf.{caller_of};
-ghost use Rattle.nfs_types.specs.Calls.{Attributes, DirOp, Target, Bytes, Entries, Free};
-ghost use Rattle.nfs_types.specs.Texts.{answer_text};
-ghost use Rattle.nfs_types.specs.Arguments.{call_of};
-ghost use Rattle.nfs_types.specs.Results.{outcome_of, dir_op_of};
-ghost use Rattle.nfs_spec.specs.Effects.{getattr, lookup};
-ghost use Rattle.nfs_spec.specs.NfsCalls.{number_for, call_does};
-ghost use Rattle.nfs_spec.specs.Procedures.{read_link, read, read_dir, stat_fs};
-ghost use Rattle.nfs_spec_steps.specs.Answers.{only_reads};
+ghost use Rattle.file_tree.specs.nfs_types.Calls.{Attributes, DirOp, Target, Bytes, Entries, Free};
+ghost use Rattle.file_tree.specs.nfs_types.Texts.{answer_text};
+ghost use Rattle.file_tree.specs.nfs_types.Arguments.{call_of};
+ghost use Rattle.nfs_items.specs.Attributes.{outcome_of};
+ghost use Rattle.file_tree.specs.nfs_types.Results.{dir_op_of};
+ghost use Rattle.nfs_laws.specs.nfs_spec.Effects.{getattr, lookup};
+ghost use Rattle.nfs_laws.specs.nfs_spec.NfsCalls.{number_for, call_does};
+ghost use Rattle.nfs_laws.specs.nfs_spec.Procedures.{read_link, read, read_dir, stat_fs};
+ghost use Rattle.nfs_laws.specs.Steps.Answers.{only_reads};
 
 use crate::handles::number_for;
 use file_tree::Tree;
+use file_tree::nfs_types_code::result_texts::write_result;
+use file_tree::nfs_types_code::{DirOpArgs, DirOpOk, NfsArgs, NfsResult};
 use nfs_items::{Fattr, FileHandle, Stat, Time, Who};
-use nfs_results::write_result;
-use nfs_types::{DirOpArgs, DirOpOk, NfsArgs, NfsResult};
 use std::alloc::{AllocError, Global};
 
 /// GETATTR (section 2.2.2). Stale where the file handle names no file here.

@@ -1,13 +1,4 @@
-pub use Rattle.fs_changes.proofs.Finite
-pub use Rattle.fs_changes.proofs.Walks
-pub use Rattle.fs_changes.proofs.Room
-pub use Rattle.fs_changes.proofs.Listings
-pub use Rattle.fs_changes.proofs.Shapes
-pub use Rattle.fs_changes.proofs.Counts
-pub use Rattle.fs_changes.proofs.OnePath
-pub use Rattle.fs_changes.proofs.Parents
-pub use Rattle.fs_changes.proofs.Reached
-pub use Rattle.fs_changes.proofs.Cookies
+pub use Rattle.fs_model.proofs as fs_model
 pub mod Answered
 pub mod OpeningFiles
 pub mod Lookups

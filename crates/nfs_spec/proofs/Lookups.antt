@@ -4,18 +4,18 @@ use Rattle.std.proofs.Common.{◌≡◌, ℕ, true, cond, List, [], ◌∷◌, �
 use Rattle.std.specs.Prelude.{nat_eq, not}
 use Rattle.std.specs.Cmp.Lexicographic.{pointwise}
 use Rattle.std.proofs.lemmas.Bool.{and_parts, not-true, cond-true, cond-false}
-use Rattle.nfs_types.specs.Caller.{Caller}
-use Rattle.nfs_types.specs.Handle.{handle_of}
-use Rattle.nfs_types.specs.Fattr.{Fattr}
-use Rattle.nfs_types.specs.Stat.{Stat}
-use Rattle.nfs_types.specs.Stat.TheVariants as stats
-use Rattle.fs_changes.specs.Listing.{Listing, entry_at}
-use Rattle.fs_changes.specs.Names.{dot, dot_dot, is_name}
-use Rattle.fs_changes.specs.Paths.{path_at}
-use Rattle.fs_changes.specs.Files.{Body, Regular, Symlink, Directory, Files, listing_in, is_directory, IsDirectory, places}
-use Rattle.fs_changes.specs.Trees.{IsFileTree}
-use Rattle.fs_changes.proofs.Walks.{step_last}
-use Rattle.fs_changes.proofs.Parents.{parent_path}
+use Rattle.fs_model.specs.nfs_items.Caller.{Caller}
+use Rattle.fs_model.specs.nfs_items.Handle.{handle_of}
+use Rattle.fs_model.specs.nfs_items.declared.attributes.Fattr.{Fattr}
+use Rattle.fs_model.specs.nfs_items.declared.stat.Stat.{Stat}
+use Rattle.fs_model.specs.nfs_items.declared.stat.Stat.TheVariants as stats
+use Rattle.fs_model.specs.Listing.{Listing, entry_at}
+use Rattle.fs_model.specs.Names.{dot, dot_dot, is_name}
+use Rattle.fs_model.specs.Paths.{path_at}
+use Rattle.fs_model.specs.Files.{Body, Regular, Symlink, Directory, Files, listing_in, is_directory, IsDirectory, places}
+use Rattle.fs_model.specs.Trees.{IsFileTree}
+use Rattle.fs_model.proofs.Walks.{step_last}
+use Rattle.fs_model.proofs.Parents.{parent_path}
 use Rattle.nfs_spec.specs.ProcedureChecks.{◌>>=◌, ok_or, listing_or, may_search}
 use Rattle.nfs_spec.specs.Effects.{attributes_at, number_named, number_at_name, lookup}
 use Rattle.nfs_spec.specs.LawTerms.{lookup_at_path, IsSearchable}

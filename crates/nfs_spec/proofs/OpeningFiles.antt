@@ -7,11 +7,11 @@ use Rattle.std.specs.Option.{option_map_or}
 use Rattle.std.specs.Ordering.{nat_cmp}
 use Rattle.std.specs.FinMap as finite
 use Rattle.std.specs.Cmp.{nat_cmp_total}
-use Rattle.nfs_types.specs.Caller.{nobody}
-use Rattle.nfs_types.specs.Handle.{handle_of, number_in}
-use Rattle.nfs_types.specs.Stat.TheVariants as stats
-use Rattle.fs_changes.specs.Files.{File, Files, file_at, listing_in, is_directory, names_of, names_in}
-use Rattle.fs_changes.specs.Limits.{blocks_in, has_room}
+use Rattle.fs_model.specs.nfs_items.Caller.{nobody}
+use Rattle.fs_model.specs.nfs_items.Handle.{handle_of, number_in}
+use Rattle.fs_model.specs.nfs_items.declared.stat.Stat.TheVariants as stats
+use Rattle.fs_model.specs.Files.{File, Files, file_at, listing_in, is_directory, names_of, names_in}
+use Rattle.fs_model.specs.Changes.Limits.{blocks_in, has_room}
 use Rattle.nfs_spec.specs.FileAttributes.{attributes_of, nlink_of}
 use Rattle.nfs_spec.specs.Effects.{attributes_at, number_at_name, getattr, lookup}
 use Rattle.nfs_spec.specs.ProcedureChecks.{◌>>=◌, ok_or}

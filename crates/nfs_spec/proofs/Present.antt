@@ -3,17 +3,17 @@
 use Rattle.std.proofs.Common.{◌≡◌, ◌≢◌, ℕ, Bool, true, false, cond, List, Option, Some, None, Result, Ok, Err, IsSome, is_some, option_map, option_and_then, refl, sym, ap, subst, ◌∙◌}
 use Rattle.std.specs.Prelude.{nat_eq}
 use Rattle.std.specs.Cmp.Lexicographic.{pointwise}
-use Rattle.nfs_types.specs.Caller.{Caller}
-use Rattle.nfs_types.specs.Handle.{number_in, handle_of}
-use Rattle.nfs_types.specs.Fattr.{Fattr}
-use Rattle.nfs_types.specs.Stat.{Stat}
-use Rattle.nfs_types.specs.Stat.TheVariants as stats
-use Rattle.fs_changes.specs.Listing.{Listing, entry_at}
-use Rattle.fs_changes.specs.Names.{dot, dot_dot, is_name}
-use Rattle.fs_changes.specs.Files.{Body, Regular, Symlink, Directory, File, Files, file_at, listing_in, is_directory, IsDirectory, places, parent_of}
-use Rattle.fs_changes.specs.Trees.{IsFileTree}
-use Rattle.fs_changes.proofs.Walks.{some_same, none_some}
-use Rattle.fs_changes.proofs.Parents.{parent_there}
+use Rattle.fs_model.specs.nfs_items.Caller.{Caller}
+use Rattle.fs_model.specs.nfs_items.Handle.{number_in, handle_of}
+use Rattle.fs_model.specs.nfs_items.declared.attributes.Fattr.{Fattr}
+use Rattle.fs_model.specs.nfs_items.declared.stat.Stat.{Stat}
+use Rattle.fs_model.specs.nfs_items.declared.stat.Stat.TheVariants as stats
+use Rattle.fs_model.specs.Listing.{Listing, entry_at}
+use Rattle.fs_model.specs.Names.{dot, dot_dot, is_name}
+use Rattle.fs_model.specs.Files.{Body, Regular, Symlink, Directory, File, Files, file_at, listing_in, is_directory, IsDirectory, places, parent_of}
+use Rattle.fs_model.specs.Trees.{IsFileTree}
+use Rattle.fs_model.proofs.Walks.{some_same, none_some}
+use Rattle.fs_model.proofs.Parents.{parent_there}
 use Rattle.nfs_spec.specs.ProcedureChecks.{◌>>=◌, ok_or, listing_or, may_search}
 use Rattle.nfs_spec.specs.FileAttributes.{attributes_of}
 use Rattle.nfs_spec.specs.Effects.{attributes_at, number_named, number_at_name, getattr, lookup}

@@ -2,13 +2,13 @@
 use Rattle.std.specs.Prelude.{ℕ, ◌+◌, ◌-◌, ◌==◌, ◌||◌, ◌&&◌, Bool, true, List, ◌++◌, take, drop, length, replicate, Option, Some, None, Result, Ok, is_some, is_none, unwrap_or, if◌then◌else◌}
 use Rattle.std.specs.Option.{option_map_or}
 use Rattle.std.specs.List.{list_any}
-use Rattle.nfs_types.specs.Timeval.{Timeval}
-use Rattle.nfs_types.specs.Caller.{Caller}
-use Rattle.nfs_types.specs.Stat.{Stat}
-use Rattle.nfs_types.specs.Stat.TheVariants as stats
-use Rattle.nfs_types.specs.Terms.{Name, FileNumber}
-use Rattle.fs_changes.specs.Files.{Body, Regular, Symlink, Directory, File, Files, names_of}
-use Rattle.fs_changes.specs.Edits.{with_changed_file, without_file, without_name}
+use Rattle.fs_model.specs.nfs_items.Timeval.{Timeval}
+use Rattle.fs_model.specs.nfs_items.Caller.{Caller}
+use Rattle.fs_model.specs.nfs_items.declared.stat.Stat.{Stat}
+use Rattle.fs_model.specs.nfs_items.declared.stat.Stat.TheVariants as stats
+use Rattle.fs_model.specs.nfs_items.Terms.{Name, FileNumber}
+use Rattle.fs_model.specs.Files.{Body, Regular, Symlink, Directory, File, Files, names_of}
+use Rattle.fs_model.specs.Changes.Edits.{with_changed_file, without_file, without_name}
 use Rattle.nfs_spec.specs.ProcedureChecks.{◌>>=◌, check, check_size, bytes_of, owns, may_write}
 use Rattle.nfs_spec.specs.Sattr.{GivenFields, gives_any}
 

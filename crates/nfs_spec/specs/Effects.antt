@@ -2,15 +2,15 @@
 -- the first check that fails, in the order written, and then the files are as before.
 use Rattle.std.specs.Prelude.{Option, Some, None, Result, Ok, Err, option_map, nat_eq, if◌then◌else◌}
 use Rattle.std.specs.Cmp.Lexicographic.{pointwise}
-use Rattle.nfs_types.specs.Caller.{Caller}
-use Rattle.nfs_types.specs.Handle.{FileHandle, handle_of}
-use Rattle.nfs_types.specs.Fattr.{Fattr}
-use Rattle.nfs_types.specs.Stat.{Stat}
-use Rattle.nfs_types.specs.Stat.TheVariants as stats
-use Rattle.nfs_types.specs.Terms.{Name, FileNumber}
-use Rattle.fs_changes.specs.Names.{dot, dot_dot, is_name}
-use Rattle.fs_changes.specs.Listing.{Listing, place_number, entry_at}
-use Rattle.fs_changes.specs.Files.{Files, parent_of}
+use Rattle.fs_model.specs.nfs_items.Caller.{Caller}
+use Rattle.fs_model.specs.nfs_items.Handle.{FileHandle, handle_of}
+use Rattle.fs_model.specs.nfs_items.declared.attributes.Fattr.{Fattr}
+use Rattle.fs_model.specs.nfs_items.declared.stat.Stat.{Stat}
+use Rattle.fs_model.specs.nfs_items.declared.stat.Stat.TheVariants as stats
+use Rattle.fs_model.specs.nfs_items.Terms.{Name, FileNumber}
+use Rattle.fs_model.specs.Names.{dot, dot_dot, is_name}
+use Rattle.fs_model.specs.Listing.{Listing, place_number, entry_at}
+use Rattle.fs_model.specs.Files.{Files, parent_of}
 use Rattle.nfs_spec.specs.ProcedureChecks.{◌>>=◌, ok_or, file_of, number_of, listing_or, may_search}
 use Rattle.nfs_spec.specs.FileAttributes.{attributes_of}
 

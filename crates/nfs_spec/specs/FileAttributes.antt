@@ -2,12 +2,12 @@
 use Rattle.std.specs.Prelude.{ℕ, ◌+◌, ◌/◌, Bool, length, count_by}
 use Rattle.std.specs.Option.{option_map_or}
 use Rattle.std.proofs.Common.{false}
-use Rattle.nfs_types.specs.FileType.{FileType}
-use Rattle.nfs_types.specs.FileType.TheVariants as types
-use Rattle.nfs_types.specs.Fattr.{Fattr}
-use Rattle.nfs_types.specs.Terms.{FileNumber}
-use Rattle.fs_changes.specs.Listing.{Listing, entry_number}
-use Rattle.fs_changes.specs.Files.{Body, Regular, Symlink, Directory, File, Files, file_at, is_directory, names_of}
+use Rattle.fs_model.specs.nfs_items.declared.attributes.FileType.{FileType}
+use Rattle.fs_model.specs.nfs_items.declared.attributes.FileType.TheVariants as types
+use Rattle.fs_model.specs.nfs_items.declared.attributes.Fattr.{Fattr}
+use Rattle.fs_model.specs.nfs_items.Terms.{FileNumber}
+use Rattle.fs_model.specs.Listing.{Listing, entry_number}
+use Rattle.fs_model.specs.Files.{Body, Regular, Symlink, Directory, File, Files, file_at, is_directory, names_of}
 
 abbrev pub type_of : Body → FileType
 type_of (Regular bytes) = types.Regular

@@ -1,15 +1,15 @@
 -- What the laws of effects speak of.
 use Rattle.std.specs.Prelude.{◌≡◌, Option, Some, None, IsTrue, Result, Ok, Err}
-use Rattle.nfs_types.specs.Caller.{Caller}
-use Rattle.nfs_types.specs.Handle.{FileHandle, number_in, handle_of}
-use Rattle.nfs_types.specs.Fattr.{Fattr}
-use Rattle.nfs_types.specs.Stat.{Stat}
-use Rattle.nfs_types.specs.Stat.TheVariants as stats
-use Rattle.fs_changes.specs.Names.{FilePath}
-use Rattle.nfs_types.specs.Terms.{FileNumber, Cookie}
-use Rattle.fs_changes.specs.Listing.{place_number}
-use Rattle.fs_changes.specs.Paths.{path_at}
-use Rattle.fs_changes.specs.Files.{File, Files, file_at, is_directory, places}
+use Rattle.fs_model.specs.nfs_items.Caller.{Caller}
+use Rattle.fs_model.specs.nfs_items.Handle.{FileHandle, number_in, handle_of}
+use Rattle.fs_model.specs.nfs_items.declared.attributes.Fattr.{Fattr}
+use Rattle.fs_model.specs.nfs_items.declared.stat.Stat.{Stat}
+use Rattle.fs_model.specs.nfs_items.declared.stat.Stat.TheVariants as stats
+use Rattle.fs_model.specs.Names.{FilePath}
+use Rattle.fs_model.specs.nfs_items.Terms.{FileNumber, Cookie}
+use Rattle.fs_model.specs.Listing.{place_number}
+use Rattle.fs_model.specs.Paths.{path_at}
+use Rattle.fs_model.specs.Files.{File, Files, file_at, is_directory, places}
 use Rattle.nfs_spec.specs.ProcedureChecks.{◌>>=◌, ok_or, may_search}
 use Rattle.nfs_spec.specs.Effects.{attributes_at}
 

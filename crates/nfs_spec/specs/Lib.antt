@@ -1,19 +1,6 @@
-pub use Rattle.nfs_types.specs.Timeval
-pub use Rattle.nfs_types.specs.Handle
-pub use Rattle.nfs_types.specs.Caller
-pub use Rattle.nfs_types.specs.Calls
-pub use Rattle.fs_changes.specs.Listing
-pub use Rattle.fs_changes.specs.Paths
-pub use Rattle.fs_changes.specs.Names
-pub use Rattle.fs_changes.specs.Files
-pub use Rattle.fs_changes.specs.Trees
-pub use Rattle.fs_changes.specs.Edits
-pub use Rattle.fs_changes.specs.Limits
-pub use Rattle.fs_changes.specs.Maxima
-pub use Rattle.nfs_types.specs.Fattr
-pub use Rattle.nfs_types.specs.Stat
-pub use Rattle.nfs_types.specs.SettableAttributes
-pub use Rattle.nfs_types.specs.Terms
+pub use Rattle.fs_model.specs as fs_model
+pub use Rattle.fs_model.specs.nfs_items as nfs_items
+pub use Rattle.nfs_types.specs as nfs_types
 pub mod ProcedureChecks
 pub mod Sattr
 pub mod Changes

@@ -1,9 +1,9 @@
 -- The files that each server begins with: the directory `/`, and in it the regular file `hello`.
 use Rattle.std.specs.Prelude.{ℕ, [], ◌∷◌, codes}
 use Rattle.std.specs.FinMap as finite
-use Rattle.nfs_types.specs.Timeval.{Timeval}
-use Rattle.nfs_types.specs.Terms.{Name}
-use Rattle.fs_changes.specs.Files.{Body, Regular, Directory, File, Files}
+use Rattle.fs_model.specs.nfs_items.Timeval.{Timeval}
+use Rattle.fs_model.specs.nfs_items.Terms.{Name}
+use Rattle.fs_model.specs.Files.{Body, Regular, Directory, File, Files}
 
 abbrev pub epoch : Timeval
 epoch = record { seconds = 0; microseconds = 0 }

@@ -2,19 +2,19 @@
 -- with its stat, then its effect.
 use Rattle.std.specs.Prelude.{ℕ, zero, suc, ◌+◌, ◌-◌, ◌==◌, ◌||◌, ◌&&◌, not, Bool, true, false, List, [], take, drop, length, replicate, min, Option, Some, None, Result, Ok, option_map, is_some, unwrap_or, if◌then◌else◌}
 use Rattle.std.specs.Option.{option_map_or}
-use Rattle.nfs_types.specs.Timeval.{Timeval}
-use Rattle.nfs_types.specs.Caller.{Caller}
-use Rattle.nfs_types.specs.Fattr.{Fattr}
-use Rattle.nfs_types.specs.Stat.{Stat}
-use Rattle.nfs_types.specs.Stat.TheVariants as stats
-use Rattle.fs_changes.specs.Maxima.{max_data, max_blocks}
-use Rattle.nfs_types.specs.Terms.{Name, FileNumber, Cookie}
-use Rattle.fs_changes.specs.Names.{is_name}
+use Rattle.fs_model.specs.nfs_items.Timeval.{Timeval}
+use Rattle.fs_model.specs.nfs_items.Caller.{Caller}
+use Rattle.fs_model.specs.nfs_items.declared.attributes.Fattr.{Fattr}
+use Rattle.fs_model.specs.nfs_items.declared.stat.Stat.{Stat}
+use Rattle.fs_model.specs.nfs_items.declared.stat.Stat.TheVariants as stats
+use Rattle.fs_model.specs.Maxima.{max_data, max_blocks}
+use Rattle.fs_model.specs.nfs_items.Terms.{Name, FileNumber, Cookie}
+use Rattle.fs_model.specs.Names.{is_name}
 use Rattle.nfs_types.specs.declared.results.FsStats.{FsStats}
-use Rattle.fs_changes.specs.Listing.{place_number, entry_at}
-use Rattle.fs_changes.specs.Files.{Body, Regular, Symlink, Directory, File, Files, is_directory, listing_in, parent_of}
-use Rattle.fs_changes.specs.Edits.{with_new_file, with_changed_file, with_name, without_name}
-use Rattle.fs_changes.specs.Limits.{block_count, file_count}
+use Rattle.fs_model.specs.Listing.{place_number, entry_at}
+use Rattle.fs_model.specs.Files.{Body, Regular, Symlink, Directory, File, Files, is_directory, listing_in, parent_of}
+use Rattle.fs_model.specs.Changes.Edits.{with_new_file, with_changed_file, with_name, without_name}
+use Rattle.fs_model.specs.Changes.Limits.{block_count, file_count}
 use Rattle.nfs_spec.specs.FileAttributes.{attributes_of}
 use Rattle.nfs_spec.specs.ProcedureChecks.{◌>>=◌, NumberedDir, file_of, listing_or, dir_of, check, check_size, check_room, check_cookie, check_edit, check_free, number_at, bytes_of, target_of, permits, may_search, may_read, may_write}
 use Rattle.nfs_spec.specs.Sattr.{GivenFields, no_fields}

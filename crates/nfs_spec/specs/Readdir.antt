@@ -1,12 +1,12 @@
 -- READDIR's listing (RFC 1094, section 2.2.17).
 use Rattle.std.specs.Prelude.{ℕ, ◌+◌, ◌-◌, ◌*◌, ◌/◌, nat_le, nat_lt, min, List, [], ◌∷◌, length, map, ◌==◌, if◌then◌else◌}
 use Rattle.std.specs.List.{filter}
-use Rattle.fs_changes.specs.Maxima.{max_data}
-use Rattle.nfs_types.specs.Terms.{FileNumber, Cookie}
-use Rattle.fs_changes.specs.Names.{dot, dot_dot}
+use Rattle.fs_model.specs.Maxima.{max_data}
+use Rattle.fs_model.specs.nfs_items.Terms.{FileNumber, Cookie}
+use Rattle.fs_model.specs.Names.{dot, dot_dot}
 use Rattle.nfs_types.specs.Calls.{PageEntry, Page}
-use Rattle.fs_changes.specs.Listing.{DirEntry, Listing, entry_name, entry_number, entry_cookie}
-use Rattle.fs_changes.specs.Files.{Files, parent_of}
+use Rattle.fs_model.specs.Listing.{DirEntry, Listing, entry_name, entry_number, entry_cookie}
+use Rattle.fs_model.specs.Files.{Files, parent_of}
 
 -- an entry of a directory as READDIR gives it
 abbrev pub page_entry : DirEntry → PageEntry

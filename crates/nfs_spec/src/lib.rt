@@ -2,3 +2,6 @@
 #![tactic(auto)]
 
 pub mod laws;
+
+pub use fs_model::nfs_items_code;
+pub use nfs_types as nfs_types_code;

@@ -1,2 +1,3 @@
+pub mod OfResultTexts
 pub mod ArgumentsRead
 pub mod Bounded

@@ -1,7 +1,8 @@
 -- What the program's arguments say.
-use Rattle.std.specs.Prelude.{◌≡◌, List, ℕ, Result, Ok, Err}
-use Rattle.nfs_items.specs.XdrFault.{XdrFault}
-use Rattle.nfs_items.specs.Item.{Value}
+use Rattle.std.specs.Prelude.{List, ℕ, Result}
+use Rattle.nfs_items.specs.xdr.declared.fault.XdrFault.{XdrFault}
+use Rattle.nfs_items.specs.xdr.Item.{Value}
+use Rattle.nfs_items.specs.Programs as programs
 use Rattle.nfs_types.specs.declared.arguments.NfsProcedure.{NfsProcedure}
 use Rattle.nfs_types.specs.declared.arguments.DirOpArgs.{DirOpArgs}
 use Rattle.nfs_types.specs.declared.arguments.NfsArgs.{NfsArgs}
@@ -9,7 +10,7 @@ use Rattle.nfs_types.specs.declared.arguments.NfsArgs.TheVariants as code
 use Rattle.nfs_types.specs.Items.{diropargs}
 use Rattle.nfs_types.specs.Calls as calls
 use Rattle.nfs_types.specs.Calls.{Call}
-use Rattle.nfs_types.specs.Texts.{call_at}
+use Rattle.nfs_types.specs.Texts.{nfs_program}
 
 abbrev pub diropargs_value : DirOpArgs → Value diropargs
 diropargs_value a = (a.dir.0, a.name.now)
@@ -35,11 +36,10 @@ call_of (code.Rmdir a) = calls.Rmdir a.dir.0 a.name.now
 call_of (code.Readdir dir cookie count) = calls.Readdir dir.0 cookie count
 call_of (code.Statfs file) = calls.Statfs file.0
 
--- A call gave what reading gives: the arguments and the bytes after them, or the first fault.
+-- A reader gave what reading gives: the arguments and the bytes after them, or the first fault.
 abbrev pub GivesCall : NfsProcedure → List ℕ → Result NfsArgs XdrFault → List ℕ → Type 0
-GivesCall procedure old (Ok a) new = call_at procedure old ≡ Ok (call_of a, new)
-GivesCall procedure old (Err e) new = call_at procedure old ≡ Err e
+GivesCall procedure old result new = programs.GivesCall nfs_program call_of procedure old result new
 
 -- The same where what follows the arguments is ignored.
 abbrev pub ReadsCall : NfsProcedure → List ℕ → Result NfsArgs XdrFault → Type 0
-ReadsCall procedure bytes result = (rest : List ℕ) × GivesCall procedure bytes result rest
+ReadsCall procedure bytes result = programs.ReadsCall nfs_program call_of procedure bytes result

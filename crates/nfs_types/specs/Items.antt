@@ -1,5 +1,5 @@
 -- Arguments and results of all procedures as items (RFC 1094, sections 2.2 and 2.3).
-use Rattle.nfs_items.specs.Item.{Item, word, fixed, opaque, empty, flag, pair, linked}
+use Rattle.nfs_items.specs.xdr.Item.{Item, word, fixed, opaque, empty, flag, pair, linked}
 use Rattle.nfs_items.specs.Handle.{fhandle}
 use Rattle.nfs_items.specs.Attributes.{fattr, stat_or}
 use Rattle.nfs_items.specs.Sattr.{sattr}

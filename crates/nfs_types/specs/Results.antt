@@ -1,10 +1,10 @@
 -- What the program's results say.
-use Rattle.std.specs.Prelude.{ℕ, ◌<◌, ◌^◌, All, List, [], ◌++◌, length, map, Result, Ok, Err}
-use Rattle.nfs_items.specs.Item.{word, flag, empty, linked, spelling}
+use Rattle.std.specs.Prelude.{ℕ, ◌<◌, ◌^◌, All, List, [], ◌++◌, length, map, Ok}
+use Rattle.nfs_items.specs.xdr.Item.{flag, linked, spelling}
 use Rattle.nfs_items.specs.Handle.{FileHandle, fhandle}
-use Rattle.nfs_items.specs.Attributes.{fattr, fattr_value, stat_value}
+pub use Rattle.nfs_items.specs.Attributes.{outcome_of}
+use Rattle.nfs_items.specs.Attributes.{fattr, fattr_value, outcome_text}
 use Rattle.nfs_items.specs.declared.attributes.Fattr.{Fattr}
-use Rattle.nfs_items.specs.declared.stat.Stat.{Stat}
 use Rattle.nfs_types.specs.declared.results.DirOpOk.{DirOpOk}
 use Rattle.nfs_types.specs.declared.results.ReadOk.{ReadOk}
 use Rattle.nfs_types.specs.declared.results.PageEntry as stored_entry
@@ -15,11 +15,6 @@ use Rattle.nfs_types.specs.Items.{path, nfsdata, entry, fs_stats}
 use Rattle.nfs_types.specs.Texts.{entry_value, fs_stats_value}
 use Rattle.nfs_types.specs.Calls as calls
 use Rattle.nfs_types.specs.Calls.{Answer, PageEntry, Page}
-
--- an outcome with another result
-abbrev pub outcome_of : {X Y : Type 0} → (X → Y) → Result X Stat → Result Y Stat
-outcome_of view (Ok x) = Ok (view x)
-outcome_of view (Err e) = Err e
 
 abbrev pub entry_of : stored_entry.PageEntry → PageEntry
 entry_of e = record { fileid = e.fileid; name = e.name.now; cookie = e.cookie }
@@ -58,15 +53,6 @@ IsShort (code.Attributes r) = Unit {0}
 IsShort (code.DirOp r) = Unit {0}
 IsShort (code.Status r) = Unit {0}
 IsShort _ = ⊥
-
--- the number of a stat other than OK
-abbrev pub stat_number : Stat → ℕ
-stat_number e = (stat_value empty e).0
-
--- the bytes of an outcome, by whether there is a result: OK and what is behind it, or the stat alone
-abbrev pub outcome_text : {X : Type 0} → (X → List ℕ) → Result X Stat → List ℕ
-outcome_text text (Ok x) = spelling word 0 ++ text x
-outcome_text text (Err e) = spelling word (stat_number e)
 
 -- the bytes of an answer, by what it is
 abbrev pub answer_bytes : NfsResult → List ℕ

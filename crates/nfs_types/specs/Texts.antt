@@ -1,9 +1,11 @@
 -- What bytes say of a call, and the bytes of its answer (RFC 1094, section 2.2).
-use Rattle.std.specs.Prelude.{◌≡◌, ℕ, ◌<◌, ◌^◌, List, [], ◌∷◌, ◌++◌, Option, Ok, map}
-use Rattle.std.specs.List.{slice_get, AllByRecursion}
+use Rattle.std.specs.Prelude.{ℕ, ◌<◌, ◌^◌, List, [], ◌∷◌, Option, Ok, map}
+use Rattle.std.specs.List.{AllByRecursion}
 use Rattle.byteorder.specs.Endian.{big_number, big_bytes}
-use Rattle.nfs_items.specs.Item.{Item, empty, pair, linked, flag, Value, Fits, spelling}
-use Rattle.nfs_items.specs.Reading.{Read, ◌>>=◌, read_at}
+use Rattle.nfs_items.specs.xdr.Item.{Item, empty, pair, linked, flag, Value, Fits}
+use Rattle.nfs_items.specs.xdr.Reading.{Read}
+use Rattle.nfs_items.specs.Programs as programs
+use Rattle.nfs_items.specs.Programs.{Procedure, Program}
 use Rattle.nfs_items.specs.Handle.{fhandle}
 use Rattle.nfs_items.specs.Attributes.{fattr, fattr_value, outcome_value}
 use Rattle.nfs_items.specs.Sattr.{sattr_of}
@@ -17,13 +19,8 @@ use Rattle.nfs_types.specs.Items.{nfsdata, path, attrstat, diropres, readlinkres
 
 -- ---- arguments
 
--- a procedure: the item of its arguments, the call that their value says, and the item of its results
-pub record Procedure : Type 0 where
-  pub arguments : Item
-  pub says : Value arguments → Call
-  pub results : Item
-
-abbrev pub procedure_of : NfsProcedure → Procedure
+-- what a procedure takes and gives
+abbrev pub procedure_of : NfsProcedure → Procedure Call
 procedure_of procedures.Null = record { arguments = empty; says = λ v. calls.Null; results = empty }
 procedure_of procedures.Getattr = record { arguments = fhandle; says = calls.Getattr; results = attrstat }
 procedure_of procedures.Setattr =
@@ -74,25 +71,26 @@ numbered =
     ∷ procedures.Link ∷ procedures.Symlink ∷ procedures.Mkdir ∷ procedures.Rmdir
     ∷ procedures.Readdir ∷ procedures.Statfs ∷ []
 
--- the procedure of a number
-abbrev pub procedure_at : ℕ → Option NfsProcedure
-procedure_at n = slice_get numbered n
-
--- an item at the front, and the call that it says
-abbrev pub said : (a : Item) → (Value a → Call) → List ℕ → Read Call
-said a say bytes = read_at a bytes >>= λ x. Ok (say x.0, x.1)
-
--- the call that the bytes behind a procedure's header say
-abbrev pub call_at : NfsProcedure → List ℕ → Read Call
-call_at procedure bytes = said (procedure_of procedure).arguments (procedure_of procedure).says bytes
-
--- The spelling of arguments that say a call stands at the front, and the rest behind it. Words that mean
--- nothing may be any.
-abbrev pub SaysCall : NfsProcedure → List ℕ → Call → List ℕ → Type 0
-SaysCall procedure bytes call rest =
-    (v : Value (procedure_of procedure).arguments) × Fits (procedure_of procedure).arguments v
-    × (call ≡ (procedure_of procedure).says v)
-    × (bytes ≡ spelling (procedure_of procedure).arguments v ++ rest)
+-- the procedure of a call
+abbrev pub procedure_in : Call → NfsProcedure
+procedure_in calls.Null = procedures.Null
+procedure_in (calls.Getattr file) = procedures.Getattr
+procedure_in (calls.Setattr file attributes) = procedures.Setattr
+procedure_in calls.Root = procedures.Root
+procedure_in (calls.Lookup dir name) = procedures.Lookup
+procedure_in (calls.Readlink file) = procedures.Readlink
+procedure_in (calls.Read file offset count) = procedures.Read
+procedure_in calls.Writecache = procedures.Writecache
+procedure_in (calls.Write file offset new) = procedures.Write
+procedure_in (calls.Create dir name attributes) = procedures.Create
+procedure_in (calls.Remove dir name) = procedures.Remove
+procedure_in (calls.Rename from from_name to to_name) = procedures.Rename
+procedure_in (calls.Link file dir name) = procedures.Link
+procedure_in (calls.Symlink dir name target attributes) = procedures.Symlink
+procedure_in (calls.Mkdir dir name attributes) = procedures.Mkdir
+procedure_in (calls.Rmdir dir name) = procedures.Rmdir
+procedure_in (calls.Readdir dir cookie count) = procedures.Readdir
+procedure_in (calls.Statfs file) = procedures.Statfs
 
 -- ---- results
 
@@ -124,9 +122,34 @@ answer_value (calls.Entries r) =
     outcome_value (pair (linked entry) flag) (λ p. (map entry_value p.entries, p.eof)) r
 answer_value (calls.Free r) = outcome_value fs_stats fs_stats_value r
 
+-- ---- the program
+
+-- NFS version 2 as a remote program
+abbrev pub nfs_program : Program NfsProcedure Call Answer
+nfs_program = record {
+  numbered = numbered;
+  procedure_of = procedure_of;
+  procedure_in = procedure_in;
+  answer_item = answer_item;
+  answer_value = answer_value;
+}
+
+-- the procedure of a number
+abbrev pub procedure_at : ℕ → Option NfsProcedure
+procedure_at n = programs.procedure_at nfs_program n
+
+-- the call that the bytes after a procedure's header say
+abbrev pub call_at : NfsProcedure → List ℕ → Read Call
+call_at procedure bytes = programs.call_at nfs_program procedure bytes
+
+-- The spelling of arguments that say a call stands at the front, and the rest after it. Words that mean
+-- nothing may be any.
+abbrev pub SaysCall : NfsProcedure → List ℕ → Call → List ℕ → Type 0
+SaysCall procedure bytes call rest = programs.SaysCall nfs_program procedure bytes call rest
+
 -- the one spelling of an answer
 abbrev pub answer_text : Answer → List ℕ
-answer_text a = spelling (answer_item a) (answer_value a)
+answer_text a = programs.answer_text nfs_program a
 
 -- the cookies that an answer gives
 abbrev pub cookies_in : Answer → List ℕ
@@ -159,24 +182,3 @@ IsAnswerTo procedures.Rmdir (calls.Status r) = Unit {0}
 IsAnswerTo procedures.Readdir (calls.Entries r) = Unit {0}
 IsAnswerTo procedures.Statfs (calls.Free r) = Unit {0}
 IsAnswerTo _ _ = ⊥
-
--- the procedure of a call
-abbrev pub procedure_in : Call → NfsProcedure
-procedure_in calls.Null = procedures.Null
-procedure_in (calls.Getattr file) = procedures.Getattr
-procedure_in (calls.Setattr file attributes) = procedures.Setattr
-procedure_in calls.Root = procedures.Root
-procedure_in (calls.Lookup dir name) = procedures.Lookup
-procedure_in (calls.Readlink file) = procedures.Readlink
-procedure_in (calls.Read file offset count) = procedures.Read
-procedure_in calls.Writecache = procedures.Writecache
-procedure_in (calls.Write file offset new) = procedures.Write
-procedure_in (calls.Create dir name attributes) = procedures.Create
-procedure_in (calls.Remove dir name) = procedures.Remove
-procedure_in (calls.Rename from from_name to to_name) = procedures.Rename
-procedure_in (calls.Link file dir name) = procedures.Link
-procedure_in (calls.Symlink dir name target attributes) = procedures.Symlink
-procedure_in (calls.Mkdir dir name attributes) = procedures.Mkdir
-procedure_in (calls.Rmdir dir name) = procedures.Rmdir
-procedure_in (calls.Readdir dir cookie count) = procedures.Readdir
-procedure_in (calls.Statfs file) = procedures.Statfs

@@ -5,13 +5,11 @@ mod arguments;
 pub mod laws;
 mod limits;
 mod reading;
+pub mod result_texts;
 mod results;
 pub mod worked;
 
 pub use arguments::{DirOpArgs, NfsArgs, NfsProcedure};
 pub use limits::{MAXDATA, MAXNAMLEN, MAXPATHLEN, SHORT_ANSWER};
-pub use nfs_items::{
-    Fattr, FileHandle, FileType, Groups, RawTime, Sattr, Stat, Time, Who, read_credential,
-};
 pub use reading::read_args;
 pub use results::{DirOpOk, FsStats, NfsResult, Page, PageEntry, ReadOk};

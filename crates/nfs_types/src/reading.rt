@@ -1,7 +1,7 @@
 //! Reads the arguments of procedures.
 
 ghost use Rattle.std.specs.Prelude.{◌≡◌, ℕ, List, IfOk, IsOkAnd};
-ghost use Rattle.nfs_items.specs.Reading.{Gives};
+ghost use Rattle.nfs_items.specs.xdr.Reading.{Gives};
 ghost use Rattle.nfs_types.specs.Items.{diropargs};
 ghost use Rattle.nfs_types.specs.Calls.{Call};
 ghost use Rattle.nfs_types.specs.Texts.{procedure_in, SaysCall};
@@ -11,7 +11,8 @@ ghost use Rattle.nfs_types.specs.declared.arguments.NfsProcedure.TheVariants as 
 
 use crate::arguments::{DirOpArgs, NfsArgs, NfsProcedure};
 use crate::limits::{MAXDATA, MAXNAMLEN, MAXPATHLEN};
-use nfs_items::{FileHandle, Reader, Sattr, XdrFault};
+use nfs_items::xdr_code::{Reader, XdrFault};
+use nfs_items::{FileHandle, Sattr};
 
 /// Reads a procedure's arguments from the front of bytes, and ignores what follows them (RFC 1094,
 /// section 2.2). The fault is the first from left to right.

@@ -23,11 +23,11 @@ pub struct PageEntry<'a> {
     /// The number of the file.
     pub fileid: u32,
     pub name: &'a [u8],
-    /// Where a READDIR goes on behind this entry.
+    /// Where a READDIR goes on after this entry.
     pub cookie: u32,
 }
 
-/// Entries of a directory, and whether none is left behind them.
+/// Entries of a directory, and whether none is left after them.
 #[derive(Drop)]
 pub struct Page<'a> {
     pub entries: Vec<PageEntry<'a>>,

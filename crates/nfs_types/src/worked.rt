@@ -1,16 +1,16 @@
 //! Arguments in bytes.
 
 ghost use Rattle.std.specs.Prelude.{◌≡◌, ◌<◌, ◌^◌, ◌++◌, ℕ, List, length, [], ◌∷◌, Ok, Err};
-ghost use Rattle.nfs_items.specs.XdrFault.TheVariants as faults;
-ghost use Rattle.nfs_items.specs.Item.{number_spelling};
-ghost use Rattle.nfs_items.specs.Reading.{read_at};
+ghost use Rattle.nfs_items.specs.xdr.declared.fault.XdrFault.TheVariants as faults;
+ghost use Rattle.nfs_items.specs.xdr.Item.{number_spelling};
+ghost use Rattle.nfs_items.specs.xdr.Reading.{read_at};
 ghost use Rattle.nfs_types.specs.declared.arguments.NfsProcedure.TheVariants as procedures;
 ghost use Rattle.nfs_types.specs.Items.{filename};
 ghost use Rattle.nfs_types.specs.Texts.{call_at};
 
 /// A name of three bytes with its one byte of padding, and the same with the padding 1; any name of 255 bytes
 /// with its one, and with the padding 1, so that CREATE's arguments are refused. A name whose length word is
-/// above 255 is refused by that word, whatever stands behind it, and WRITE's data at a length above 8192; so
+/// above 255 is refused by that word, whatever stands after it, and WRITE's data at a length above 8192; so
 /// CREATE's and WRITE's arguments are.
 pub fn names_are_read()
     ensures name { read_at filename (0 ∷ 0 ∷ 0 ∷ 3 ∷ 0x61 ∷ 0x62 ∷ 0x63 ∷ 0 ∷ [])

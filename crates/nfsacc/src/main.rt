@@ -2,10 +2,10 @@
 #![tactic(auto)]
 
 use clap::error::ErrorKind;
-use console::{
-    CheckFault, CheckRequest, Judgement, Request, check, check_and_explain, parse, run_rpc,
-};
-use rpc::{Counting, RecordFault, RecordReader};
+use console::command_line::{CheckRequest, Request, parse};
+use console::{CheckFault, Judgement, check, check_and_explain};
+use rpc::records::{Counting, RecordFault, RecordReader};
+use rpc_streams::run_rpc;
 use std::io::BufReader;
 use std::process::ExitCode;
 use std::rt::Files;

@@ -4,14 +4,14 @@ use Rattle.std.proofs.Common.{inr, ℕ, List, Result, Ok, Err, sym, subst}
 use Rattle.authenticator.specs.declared.member.Kind.TheVariants as kinds
 use Rattle.envelopes.specs.declared.envelope.Envelope.{Envelope}
 use Rattle.envelopes.specs.declared.acknowledgement.Ack.{Ack}
-use Rattle.commitment.specs.Sender.{IsSender}
-use Rattle.exchanges.specs.Timeval.{Timeval}
-use Rattle.exchanges.specs.Nodes.{NodeParts, sender_of}
-use Rattle.links.specs.declared.fault.LinkFault.{LinkFault}
-use Rattle.links.specs.declared.fault.LinkFault.TheVariants.{KeysUsedUp, NoMemory, Failed}
-use Rattle.exchanges.specs.Reaching.{AckReaches, Reaches, ServerReceipt}
-use Rattle.exchanges.specs.Exchanges.{IsAsked, IsHeard, IsJoined, having_called}
-use Rattle.exchanges.proofs.Called.{IsSentBy, call_acknowledged}
+use Rattle.commitment.specs.Senders.Sender.{IsSender}
+use Rattle.nfs_items.specs.Timeval.{Timeval}
+use Rattle.node_logs.specs.Steps.Nodes.{NodeParts, sender_of}
+use Rattle.gateway.specs.declared.links.fault.LinkFault.{LinkFault}
+use Rattle.gateway.specs.declared.links.fault.LinkFault.TheVariants.{KeysUsedUp, NoMemory, Failed}
+use Rattle.nodes.specs.Exchanges.Reaching.{AckReaches, Reaches, ServerReceipt}
+use Rattle.nodes.specs.Exchanges.Exchanges.{IsAsked, IsHeard, IsJoined, having_called}
+use Rattle.nodes.proofs.OfExchanges.Called.{IsSentBy, call_acknowledged}
 use Rattle.nodes.specs.Delivery.{HearsNew, TakesAwaited}
 use Rattle.nodes.specs.Faults.{Asks, heard, sent}
 

@@ -2,9 +2,9 @@
 -- Serves: acknowledge_call, acknowledge_reply.
 use Rattle.std.proofs.Common.{inl, inr, Result, sym, subst}
 use Rattle.envelopes.specs.declared.acknowledgement.Ack.{Ack}
-use Rattle.links.specs.declared.fault.LinkFault.{LinkFault}
-use Rattle.exchanges.specs.Nodes.{NodeParts}
-use Rattle.exchanges.specs.Reaching.{IsTaken}
+use Rattle.gateway.specs.declared.links.fault.LinkFault.{LinkFault}
+use Rattle.node_logs.specs.Steps.Nodes.{NodeParts}
+use Rattle.nodes.specs.Exchanges.Reaching.{IsTaken}
 use Rattle.nodes.specs.Delivery.{TakesAwaited, fault_of}
 
 -- What is taken, as the fault of a link tells it.

@@ -1,3 +1,4 @@
+pub mod OfExchanges
 pub mod Delivered
 pub mod Asked
 pub mod Replied

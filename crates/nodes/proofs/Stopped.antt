@@ -1,14 +1,14 @@
 -- An exchange with a fault has failed.
 -- Serves: Direct::carry.
 use Rattle.std.proofs.Common.{◌≡◌, inl, inr, ℕ, true, false, List, refl}
-use Rattle.exchanges.specs.Timeval.{Timeval}
-use Rattle.links.specs.declared.fault.LinkFault.{LinkFault}
-use Rattle.links.specs.declared.fault.LinkFault.TheVariants.{KeysUsedUp, NoMemory, Failed}
-use Rattle.exchanges.specs.Nodes.{NodeParts}
+use Rattle.nfs_items.specs.Timeval.{Timeval}
+use Rattle.gateway.specs.declared.links.fault.LinkFault.{LinkFault}
+use Rattle.gateway.specs.declared.links.fault.LinkFault.TheVariants.{KeysUsedUp, NoMemory, Failed}
+use Rattle.node_logs.specs.Steps.Nodes.{NodeParts}
 use Rattle.nodes.specs.Faults.{StopsCarrying}
 use Rattle.nodes.specs.Directs.{DirectParts, StopsExchange}
 
--- the two behind a fault
+-- the two after a fault
 abbrev pub failed_of : NodeParts → NodeParts → DirectParts
 failed_of c s = record { client = c; server = s; failed = true }
 

@@ -1,20 +1,21 @@
--- Handing what one node shows to another that awaits it, with no refusal but for want of keys or memory.
+-- Handing what one node shows to another that awaits it, refused only when keys or memory run out.
 use Rattle.std.specs.Prelude.{◌≡◌, ◌+◌, ◌≤◌, ℕ, List, length, Result, Ok, Err}
-use Rattle.xdr_texts.specs.Text.{Text, IsText}
+use Rattle.xdr.specs.Texts.Text.{Text, IsText}
 use Rattle.xdr.specs.Item.{Value}
-use Rattle.log_entries.specs.declared.entry.TheConstants.{MAX_BODY}
+use Rattle.secure_log.specs.declared.log_entries.entry.TheConstants.{MAX_BODY}
 use Rattle.envelopes.specs.declared.envelope.Envelope.{Envelope}
 use Rattle.envelopes.specs.declared.acknowledgement.Ack.{Ack}
 use Rattle.commitment.specs.declared.refusal.Refusal.{Refusal}
 use Rattle.commitment.specs.declared.refusal.Refusal.TheVariants as refusals
-use Rattle.exchanges.specs.Timeval.{Timeval}
-use Rattle.exchanges.specs.Nodes.{NodeParts, LacksKeys}
-use Rattle.exchanges.specs.Hearing.{HearsEnvelope}
-use Rattle.exchanges.specs.Sending.{with_receipt, with_send}
-use Rattle.exchanges.specs.AckTaking.{with_ack}
-use Rattle.exchanges.specs.Reaching.{ServerReceipt}
-use Rattle.links.specs.declared.fault.LinkFault.{LinkFault}
-use Rattle.links.specs.declared.fault.LinkFault.TheVariants.{KeysUsedUp, NoMemory, Failed}
+use Rattle.nfs_items.specs.Timeval.{Timeval}
+use Rattle.node_logs.specs.Steps.Nodes.{NodeParts}
+use Rattle.node_logs.specs.Nodes.{LacksKeys}
+use Rattle.node_logs.specs.Hearing.{HearsEnvelope}
+use Rattle.node_logs.specs.Steps.Logging.{with_receipt, with_send}
+use Rattle.node_logs.specs.AckTaking.{with_ack}
+use Rattle.nodes.specs.Exchanges.Reaching.{ServerReceipt}
+use Rattle.gateway.specs.declared.links.fault.LinkFault.{LinkFault}
+use Rattle.gateway.specs.declared.links.fault.LinkFault.TheVariants.{KeysUsedUp, NoMemory, Failed}
 
 -- A call wrote the text of a value, or was refused memory.
 abbrev pub WritesText : (t : Text) → Value t.item → Result (Unit {0}) LinkFault → List ℕ → Type 0

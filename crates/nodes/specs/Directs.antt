@@ -1,13 +1,14 @@
 -- A link of a client and a server that are joined: what an exchange of it gives and leaves.
 use Rattle.std.specs.Prelude.{◌≡◌, ◌⊎◌, Bool, true, false, List, ℕ, Option, Some, None, refl}
 use Rattle.std.specs.Coded.{Coded, code_by, coded×, coded_bool}
-use Rattle.links.specs.declared.fault.LinkFault.{LinkFault}
-use Rattle.links.specs.declared.fault.LinkFault.TheVariants.{KeysUsedUp, NoMemory, Failed}
-use Rattle.exchanges.specs.Timeval.{Timeval}
-use Rattle.exchanges.specs.World.{World}
-use Rattle.exchanges.specs.State.{Machine, Server, Client}
-use Rattle.exchanges.specs.Nodes.{NodeParts, LacksKeys, node_code}
-use Rattle.exchanges.specs.Exchanges.{IsCarried, IsJoined}
+use Rattle.gateway.specs.declared.links.fault.LinkFault.{LinkFault}
+use Rattle.gateway.specs.declared.links.fault.LinkFault.TheVariants.{KeysUsedUp, NoMemory, Failed}
+use Rattle.nfs_items.specs.Timeval.{Timeval}
+use Rattle.worlds.specs.World.{World}
+use Rattle.state_spec.specs.State.{Machine, Server, Client}
+use Rattle.node_logs.specs.Steps.Nodes.{NodeParts}
+use Rattle.node_logs.specs.Nodes.{LacksKeys, node_code}
+use Rattle.nodes.specs.Exchanges.Exchanges.{IsCarried, IsJoined}
 use Rattle.nodes.specs.Faults.{StopsCarrying}
 
 -- what a client and a server that are joined are: both nodes, and whether an exchange had a fault
@@ -50,7 +51,7 @@ pub record IsStopped (d : DirectParts) (time : Timeval) (body : List ℕ) (fault
   pub after : d'.failed ≡ true
   pub stops : StopsCarrying d.client d.server time body fault d'.client d'.server
 
--- Why an exchange isn't answered, and what is left: behind a fault each is Failed, and nothing changes;
+-- Why an exchange isn't answered, and what is left: after a fault each is Failed, and nothing changes;
 -- Failed comes there alone.
 abbrev pub StopsExchange : DirectParts → Timeval → List ℕ → LinkFault → DirectParts → Type 0
 StopsExchange d time body KeysUsedUp d' = IsStopped d time body KeysUsedUp d'
@@ -61,7 +62,7 @@ StopsExchange d time body Failed d' = (d.failed ≡ true) × (d' ≡ d)
 abbrev pub KeysLack : DirectParts → Type 0
 KeysLack d = LacksKeys 1 d.client ⊎ LacksKeys 2 d.server
 
--- What holds behind an exchange that answered a fault: it has failed, and KeysUsedUp came where keys lack.
+-- What holds after an exchange that answered a fault: it has failed, and KeysUsedUp came where keys lack.
 abbrev pub IsFaulted : DirectParts → LinkFault → Type 0
 IsFaulted d KeysUsedUp = (d.failed ≡ true) × KeysLack d
 IsFaulted d NoMemory = d.failed ≡ true

@@ -1,12 +1,13 @@
 -- How far an exchange between a client and a server that are joined comes before a fault, and what is left.
 use Rattle.std.specs.Prelude.{◌≡◌, ◌⊎◌, ℕ, List, Result, Ok, Err}
 use Rattle.envelopes.specs.declared.envelope.Envelope.{Envelope}
-use Rattle.links.specs.declared.fault.LinkFault.{LinkFault}
-use Rattle.links.specs.declared.fault.LinkFault.TheVariants.{KeysUsedUp, NoMemory, Failed}
-use Rattle.exchanges.specs.Timeval.{Timeval}
-use Rattle.exchanges.specs.Nodes.{NodeParts, LacksKeys}
-use Rattle.exchanges.specs.Reaching.{ServerReceipt}
-use Rattle.exchanges.specs.Exchanges.{IsAsked, IsHeard, IsOwed, IsReceived, having_called}
+use Rattle.gateway.specs.declared.links.fault.LinkFault.{LinkFault}
+use Rattle.gateway.specs.declared.links.fault.LinkFault.TheVariants.{KeysUsedUp, NoMemory, Failed}
+use Rattle.nfs_items.specs.Timeval.{Timeval}
+use Rattle.node_logs.specs.Steps.Nodes.{NodeParts}
+use Rattle.node_logs.specs.Nodes.{LacksKeys}
+use Rattle.nodes.specs.Exchanges.Reaching.{ServerReceipt}
+use Rattle.nodes.specs.Exchanges.Exchanges.{IsAsked, IsHeard, IsOwed, IsReceived, having_called}
 
 -- ---- the call
 

@@ -1,11 +1,5 @@
-pub use Rattle.exchanges.specs.Nodes
-pub use Rattle.exchanges.specs.Hearing
-pub use Rattle.exchanges.specs.Sending
-pub use Rattle.exchanges.specs.AckTaking
-pub use Rattle.exchanges.specs.Checkpoints
-pub use Rattle.exchanges.specs.Members
-pub use Rattle.exchanges.specs.Reaching
-pub use Rattle.exchanges.specs.Exchanges
+pub mod Roles
+pub mod Exchanges
 pub mod Delivery
 pub mod Faults
 pub mod Directs

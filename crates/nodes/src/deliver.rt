@@ -1,30 +1,33 @@
 //! Handing what one node shows to another that awaits it.
 
 ghost use Rattle.std.specs.Prelude.{◌≡◌, ◌≤◌, OnOk, None, Some, length};
-ghost use Rattle.log_entries.specs.declared.entry.TheConstants.{MAX_BODY};
+ghost use Rattle.secure_log.specs.declared.log_entries.entry.TheConstants.{MAX_BODY};
 ghost use Rattle.authenticator.specs.declared.member.Kind.TheVariants as kinds;
 ghost use Rattle.envelopes.specs.Envelope.{envelope_text, envelope_value};
 ghost use Rattle.envelopes.specs.Acknowledgement.{ack_text, ack_value};
 ghost use Rattle.envelopes.specs.declared.envelope.Envelope.{Envelope};
 ghost use Rattle.envelopes.specs.declared.acknowledgement.Ack.{Ack};
-ghost use Rattle.commitment.specs.LookUps.{ack_at, envelope_at};
+ghost use Rattle.commitment.specs.Senders.LookUps.{ack_at, envelope_at};
 ghost use Rattle.commitment.specs.Receiver.{Finds};
-ghost use Rattle.commitment.specs.Sender.{IsSender};
-ghost use Rattle.exchanges.specs.Nodes.{receiver_of, sender_of};
-ghost use Rattle.links.specs.declared.fault.LinkFault.TheVariants.{Failed};
-ghost use Rattle.exchanges.specs.Reaching.{AckReaches, Reaches, ack_told};
+ghost use Rattle.commitment.specs.Senders.Sender.{IsSender};
+ghost use Rattle.node_logs.specs.Steps.Nodes.{receiver_of, sender_of};
+ghost use Rattle.gateway.specs.declared.links.fault.LinkFault.TheVariants.{Failed};
+ghost use Rattle.nodes.specs.Exchanges.Reaching.{AckReaches, Reaches, ack_told};
 ghost use Rattle.nodes.specs.Delivery.{CopiesBody, HearsNew, SendsBody, TakesAwaited};
 ghost use Rattle.nodes.specs.Delivery.{TakesNew, WritesText, fault_of};
 
 use crate::client::ClientNode;
 use crate::server::ServerNode;
 use authenticator::Number;
-use exchanges::{AckTaken, Body, Heard, NodeLog, Receipt, Received, Refusal, Time};
-use links::LinkFault;
+use commitment::{Received, Refusal};
+use gateway::links::LinkFault;
+use nfs_items::Time;
+use node_logs::{AckTaken, Heard, NodeLog, Receipt};
+use secure_log::log_entries::Body;
 use std::alloc::Global;
 
-/// A refusal as a fault of the link. What is made by one node isn't refused by the other but for want of keys
-/// or memory.
+/// A refusal as a fault of the link. What is made by one node is refused by the other only when it is out of
+/// keys or memory.
 fn fault_of(refusal: Refusal) -> LinkFault
     ensures { result ≡ fault_of refusal }
 {

@@ -1,22 +1,22 @@
 //! A client and a server with no one between them, as a link.
 
-ghost use Rattle.std.specs.Prelude.{◌≡◌, ◌≤◌, ◌↔◌, true, IsTrue, IfErr, IfOk, IfSome, IsSome, length};
+ghost use Rattle.std.specs.Prelude.{◌≡◌, ◌≤◌, ◌↔◌, true, IsTrue, IfErr, IfOk, IfSome, IsOk, length};
 ghost use Rattle.std.specs.Option.{option_map};
-ghost use Rattle.log_entries.specs.declared.entry.TheConstants.{MAX_BODY};
-ghost use Rattle.links.specs.declared.fault.LinkFault.{LinkFault};
-ghost use Rattle.exchanges.specs.Exchanges.{IsServed, MayJoin};
+ghost use Rattle.secure_log.specs.declared.log_entries.entry.TheConstants.{MAX_BODY};
+ghost use Rattle.gateway.specs.declared.links.fault.LinkFault.{LinkFault};
+ghost use Rattle.nodes.specs.Exchanges.Exchanges.{IsServed, MayJoin};
 ghost use Rattle.nodes.specs.Directs.{IsExchanged, StopsExchange, direct_of, world_in};
 
 use crate::client::ClientNode;
 use crate::exchange::carry;
 use crate::server::ServerNode;
-use exchanges::Time;
-use links::{Link, LinkFault};
+use gateway::links::{Link, LinkFault};
+use nfs_items::Time;
 use std::alloc::Global;
 use std::marker::Model;
 
 /// A client and a server in one process, joined to a link: each exchange is a call of the client, with all
-/// that the two log for it. Behind a fault it has failed.
+/// that the two log for it. After a fault it has failed.
 #[derive(Drop)]
 pub struct Direct {
     client: ClientNode,
@@ -38,17 +38,22 @@ impl Model for Direct {
 }
 
 impl Direct {
-    /// Joins a client and a server. None exactly where they can't be joined: one of them has logged
-    /// something, or they have one number, or one of them isn't listed in the other's roster with its kind,
-    /// root and height.
-    pub fn join(alloc: Global, client: ClientNode, server: ServerNode) -> Option<Direct>
-        ensures joined { IfSome result (λ d. d ≡ direct_of client server) }
-        ensures exact { IsSome result ↔ MayJoin client server }
+    /// Joins a client and a server. Both come back, as they were handed in, exactly where they can't be
+    /// joined: one of them has logged something, or they have one number, or one of them isn't listed in the
+    /// other's roster with its kind, root and height.
+    pub fn join(
+        alloc: Global,
+        client: ClientNode,
+        server: ServerNode,
+    ) -> Result<Direct, (ClientNode, ServerNode)>
+        ensures joined { IfOk result (λ d. d ≡ direct_of client server) }
+        ensures handed_back { IfErr result (λ nodes. nodes ≡ (client, server)) }
+        ensures exact { IsOk result ↔ MayJoin client server }
     {
         if !may_join(&client, &server) {
-            return None;
+            return Err((client, server));
         }
-        Some(Direct {
+        Ok(Direct {
             client,
             server,
             text: Vec::new(alloc),
@@ -70,11 +75,18 @@ impl Direct {
         &self.server
     }
 
+    /// Takes the two apart, also after a fault: gives the client and the server as they are now.
+    pub fn into_nodes(self) -> (ClientNode, ServerNode)
+        ensures { result ≡ (self.client, self.server) }
+    {
+        (self.client, self.server)
+    }
+
     /// Carries a body of at most 12,288 bytes to the server at a time, and gives its reply, if one is owed.
     /// Between them the client logs SEND, ACK and RECV, and the server RECV, CLOCK, SEND and ACK; without a
     /// reply the client SEND and ACK, and the server RECV and CLOCK. `KeysUsedUp` comes only where the client
     /// has no key left, or the server fewer than two, or the client none for the reply; `NoMemory` only where
-    /// a growth was refused; what was done before either stands. `Failed` comes behind a fault, and only
+    /// a growth was refused; what was done before either stands. `Failed` comes after a fault, and only
     /// there; nothing changes then.
     pub fn carry(
         &mut self,
@@ -121,7 +133,7 @@ fn may_join(client: &ClientNode, server: &ServerNode) -> bool
         && server.is_listed(client.node().roster())
 }
 
-/// It tells its server's world. From now on it may lack keys or memory; it has failed behind a fault, and
+/// It tells its server's world. From now on it may lack keys or memory; it has failed after a fault, and
 /// only there. It answers `KeysUsedUp` only where keys lack.
 impl Link for Direct {
     ghost use Rattle.nodes.specs.Directs.{IsFaulted};

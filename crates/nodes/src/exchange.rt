@@ -2,11 +2,11 @@
 
 ghost use Rattle.std.specs.Prelude.{◌≡◌, ◌≤◌, ◌+◌, IfErr, IfOk, IfSome, OnOk, length};
 ghost use Rattle.std.specs.Option.{option_map};
-ghost use Rattle.log_entries.specs.declared.entry.TheConstants.{MAX_BODY};
-ghost use Rattle.commitment.specs.Sender.{IsSender};
-ghost use Rattle.exchanges.specs.Nodes.{sender_of};
-ghost use Rattle.exchanges.specs.Reaching.{IsReplyReady};
-ghost use Rattle.exchanges.specs.Exchanges.{IsCarried, IsJoined, IsReplied, IsServed};
+ghost use Rattle.secure_log.specs.declared.log_entries.entry.TheConstants.{MAX_BODY};
+ghost use Rattle.commitment.specs.Senders.Sender.{IsSender};
+ghost use Rattle.node_logs.specs.Steps.Nodes.{sender_of};
+ghost use Rattle.nodes.specs.Exchanges.Reaching.{IsReplyReady};
+ghost use Rattle.nodes.specs.Exchanges.Exchanges.{IsCarried, IsJoined, IsReplied, IsServed};
 ghost use Rattle.nodes.specs.Faults.{Asks, StopsAtReply, StopsCarrying};
 
 use crate::client::ClientNode;
@@ -14,8 +14,10 @@ use crate::deliver::{
     acknowledge_call, acknowledge_reply, body_of, deliver_call, deliver_reply, last_number, send,
 };
 use crate::server::ServerNode;
-use exchanges::{Number, Receipt, Time};
-use links::LinkFault;
+use authenticator::Number;
+use gateway::links::LinkFault;
+use nfs_items::Time;
+use node_logs::Receipt;
 use std::alloc::Global;
 
 /// Carries a body to the server at a time, and its reply, if one is owed, back.

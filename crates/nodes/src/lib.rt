@@ -5,12 +5,16 @@ mod client;
 mod deliver;
 mod direct;
 mod exchange;
+pub mod exchanges;
+mod node;
+mod role;
 mod server;
 
 pub use client::ClientNode;
 pub use direct::Direct;
-pub use exchanges::{
-    AckTaken, Body, Heard, NodeLog, Number, Receipt, Received, Refusal, Roster, Time,
-};
-pub use links::{Link, LinkFault};
+pub use gateway as gateway_code;
+pub use gateway::service_code;
+pub use node::Node;
+pub use node_logs as node_logs_code;
+pub use role::{Client, Role, Server};
 pub use server::ServerNode;

@@ -16,15 +16,15 @@ use Rattle.authenticator.specs.declared.refusal.Refusal.TheVariants as refusal
 use Rattle.envelopes.specs.Checking.{ChecksEnvelope, ChecksAck}
 use Rattle.envelopes.specs.declared.envelope.Envelope.{Envelope}
 use Rattle.envelopes.specs.declared.acknowledgement.Ack.{Ack}
-use Rattle.log_entries.specs.Chain.{last_hash, links_from}
+use Rattle.secure_log.specs.LogEntries.Chain.{last_hash, links_from}
 use Rattle.secure_log.specs.Segment.{SegmentParts, ClosedParts, Ends}
 use Rattle.secure_log.specs.declared.fault.SegmentFault.{SegmentFault}
 use Rattle.secure_log.specs.declared.fault.SegmentFault.TheVariants as fault
 use Rattle.secure_log.specs.Checking.{ChecksSegment, IsOf}
 use Rattle.packets.specs.Packet.{Delivery, Learn, SendChallenge, Answer, AckIn, delivery_shows, content_at, delivery_of}
-use Rattle.packets.specs.Signing.{is_signed_in, is_same}
+use Rattle.authenticator.specs.Signing.{is_signed_in, is_same}
 use Rattle.packets.specs.Judging.{judged, ends, may_be, is_member, is_of_members, judged_delivery, judged_option, Refuses, Answers}
-use Rattle.packets.proofs.Signed.{is_false, of_signed_in, signed_by_member, unsigned_by_member, same_list, list_same}
+use Rattle.authenticator.proofs.Signed.{is_false, of_signed_in, signed_by_member, unsigned_by_member, same_list, list_same}
 use Rattle.packets.proofs.Contents.{segment_back}
 
 -- ---- the four answers
@@ -224,7 +224,7 @@ acknowledged ms bytes value member (Err refusal.NoMemory) h = tt
 
 -- ---- its number
 
--- a packet is judged by what stands behind its number
+-- a packet is judged by what stands after its number
 pub behind : (ms : List Member) (bytes : List ℕ) (n : ℕ) (rest : List ℕ) → number_at 4 bytes ≡ Ok (n, rest)
     → judged ms bytes ≡ judged_option ms (content_at n rest)
 unfolding judged delivery_of
@@ -236,8 +236,8 @@ pub without_number : (ms : List Member) (bytes : List ℕ) (f : XdrFault) → nu
 unfolding judged delivery_of
 without_number ms bytes f e = rw e refl
 
--- what is owed to what stands behind its number is owed to the packet
-pub answers_behind : {P : Type 0} (ms : List Member) (bytes : List ℕ) (n : ℕ) (rest : List ℕ) (delivery : P → Delivery)
+-- what is owed to what stands after its number is owed to the packet
+pub answers_after : {P : Type 0} (ms : List Member) (bytes : List ℕ) (n : ℕ) (rest : List ℕ) (delivery : P → Delivery)
     (r : Result P Refusal) → number_at 4 bytes ≡ Ok (n, rest)
     → Answers (judged_option ms (content_at n rest)) delivery r → Answers (judged ms bytes) delivery r
-answers_behind ms bytes n rest delivery r e h = rw (behind ms bytes n rest e) h
+answers_after ms bytes n rest delivery r e h = rw (behind ms bytes n rest e) h

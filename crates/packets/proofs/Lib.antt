@@ -1,4 +1,3 @@
-pub use Rattle.authenticator.proofs.Signed
 pub mod Contents
 pub mod Judged
 pub mod Spelled

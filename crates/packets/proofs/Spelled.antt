@@ -8,15 +8,15 @@ use Rattle.xdr.specs.Item.{Value, Fits, IsBytes, word, number_spelling}
 use Rattle.xdr.specs.Reading.{Read, number_at}
 use Rattle.xdr.proofs.Exact.{takes}
 use Rattle.xdr.proofs.Front.{number_again}
-use Rattle.xdr_texts.specs.Text.{IsText, text_at}
-use Rattle.xdr_texts.proofs.WholeTexts.{is_text}
+use Rattle.xdr.specs.Texts.Text.{IsText, text_at}
+use Rattle.xdr.proofs.OfTexts.WholeTexts.{is_text}
 use Rattle.authenticator.specs.Signed.{authenticator_text, authenticator_value}
 use Rattle.envelopes.specs.Envelope.{envelope_text, envelope_value}
 use Rattle.envelopes.specs.Acknowledgement.{ack_text, ack_value}
-use Rattle.log_entries.specs.Entry.{entry_item, entry_value, kind_item, is_kind}
+use Rattle.secure_log.specs.LogEntries.Entry.{entry_item, entry_value, kind_item, is_kind}
 use Rattle.secure_log.specs.Segment.{segment_text, segment_value, segment_item}
 use Rattle.packets.specs.Values.{entry_said, entry_of_kind, authenticator_said, envelope_said, segment_said, ack_said}
-use Rattle.packets.specs.Packet.{Delivery, Learn, SendChallenge, Answer, AckIn, packet_number, IsContent, Says, content_at, behind_number, delivery_of}
+use Rattle.packets.specs.Packet.{Delivery, Learn, SendChallenge, Answer, AckIn, packet_number, IsContent, Says, content_at, after_number, delivery_of}
 use Rattle.packets.proofs.Contents.{segment_back}
 
 -- ---- what a value says is the value
@@ -90,7 +90,7 @@ read_is_said : (bytes : List ℕ) (d : Delivery) → IsBytes bytes → delivery_
 unfolding delivery_of
 read_is_said bytes d bound e = by_read (number_at 4 bytes) refl e
   where
-    by_read : (r : Read ℕ) → number_at 4 bytes ≡ r → behind_number r ≡ Some d → Says bytes d
+    by_read : (r : Read ℕ) → number_at 4 bytes ≡ r → after_number r ≡ Some d → Says bytes d
     by_read (Err f) h e = absurd cc
     by_read (Ok x) h e =
         let t = takes word bytes x bound h in

@@ -9,10 +9,10 @@ use Rattle.authenticator.specs.declared.member.Member.{Member}
 use Rattle.authenticator.specs.declared.refusal.Refusal.{Refusal}
 use Rattle.authenticator.specs.declared.refusal.Refusal.TheVariants.{UnknownNode, Garbage, BadSignature, NoMemory}
 use Rattle.packets.specs.Packet.{Delivery, Learn, SendChallenge, Answer, AckIn, Says, IsContent, content_text, packet_number, packet_text, delivery_of, delivery_shows}
-use Rattle.packets.specs.Signing.{is_signed_in}
+use Rattle.authenticator.specs.Signing.{is_signed_in}
 use Rattle.packets.specs.Judging.{may_be, is_member, is_of_members, judged_delivery, judged_option, judged}
 use Rattle.packets.specs.Taking.{MayBe, IsOfMembers, Means}
-use Rattle.packets.proofs.Signed.{is_false, signed_in_of, of_signed_in}
+use Rattle.authenticator.proofs.Signed.{is_false, signed_in_of, of_signed_in}
 use Rattle.packets.proofs.Judged.{of_ends, ends_of, taken, unsigned, of_strangers, between}
 use Rattle.packets.proofs.Spelled.{exact, one_delivery}
 

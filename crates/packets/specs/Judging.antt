@@ -6,10 +6,10 @@ use Rattle.authenticator.specs.declared.member.Member.{Member}
 use Rattle.authenticator.specs.declared.refusal.Refusal.{Refusal}
 use Rattle.authenticator.specs.declared.refusal.Refusal.TheVariants.{UnknownNode, Garbage, BadSignature}
 use Rattle.authenticator.specs.declared.refusal.Refusal.TheVariants.{NoMemory}
-use Rattle.log_entries.specs.Chain.{last_hash, links_from}
+use Rattle.secure_log.specs.LogEntries.Chain.{last_hash, links_from}
 use Rattle.secure_log.specs.Segment.{SegmentParts}
 use Rattle.packets.specs.Packet.{Delivery, Learn, SendChallenge, Answer, AckIn, delivery_of, delivery_shows}
-use Rattle.packets.specs.Signing.{is_same, is_signed_in}
+use Rattle.authenticator.specs.Signing.{is_same, is_signed_in}
 
 -- whether a segment's closing is of its node, its last number and its last hash
 abbrev pub ends : SegmentParts → Bool
@@ -25,6 +25,7 @@ may_be (SendChallenge e) = not (e.from == e.to)
 may_be (Answer s) = ends s
 may_be (AckIn a) = true
 
+-- a node is a member of the roster
 abbrev pub is_member : List Member → ℕ → Bool
 is_member ms node = is_some (member_of ms node)
 
@@ -45,6 +46,7 @@ judged_delivery ms d =
     ) else Err UnknownNode
     ) else Err Garbage
 
+-- what was read is judged; bytes that hold nothing are garbage
 abbrev pub judged_option : List Member → Option Delivery → Result Delivery Refusal
 judged_option ms None = Err Garbage
 judged_option ms (Some d) = judged_delivery ms d
@@ -53,7 +55,7 @@ judged_option ms (Some d) = judged_delivery ms d
 unfoldable pub judged : List Member → List ℕ → Result Delivery Refusal
 judged ms bytes = judged_option ms (delivery_of bytes)
 
--- A refusal is the one that is owed; want of memory may come in place of any answer.
+-- A refusal is the one that is owed; being out of memory may come in place of any answer.
 abbrev pub Refuses : (owed : Result Delivery Refusal) → Refusal → Type 0
 Refuses owed UnknownNode = owed ≡ Err UnknownNode
 Refuses owed Garbage = owed ≡ Err Garbage

@@ -2,7 +2,7 @@
 use Rattle.std.specs.Prelude.{◌≡◌, ℕ, ◌==◌, List, ◌++◌, Ok, Err, Option, None, option_map, if◌then◌else◌}
 use Rattle.xdr.specs.Item.{number_spelling, spelling}
 use Rattle.xdr.specs.Reading.{Read, number_at}
-use Rattle.xdr_texts.specs.Text.{IsText, text_at}
+use Rattle.xdr.specs.Texts.Text.{IsText, text_at}
 use Rattle.authenticator.specs.Signed.{authenticator_item, authenticator_text, authenticator_value}
 use Rattle.authenticator.specs.declared.authenticator.Authenticator.{Authenticator}
 use Rattle.envelopes.specs.Envelope.{envelope_item, envelope_text, envelope_value, envelope_shows}
@@ -50,6 +50,7 @@ content_text (SendChallenge e) = spelling envelope_item (envelope_value e)
 content_text (Answer s) = spelling segment_item (segment_value s)
 content_text (AckIn a) = spelling ack_item (ack_value a)
 
+-- the text of a packet: its number, and what it delivers
 abbrev pub packet_text : Delivery → List ℕ
 packet_text d = number_spelling 4 (packet_number d) ++ content_text d
 
@@ -65,13 +66,13 @@ content_at number text =
     else None
 
 -- what is delivered, where a packet's number was read
-abbrev pub behind_number : Read ℕ → Option Delivery
-behind_number (Ok (number, text)) = content_at number text
-behind_number (Err fault) = None
+abbrev pub after_number : Read ℕ → Option Delivery
+after_number (Ok (number, text)) = content_at number text
+after_number (Err fault) = None
 
 -- What the bytes deliver, if they are a packet.
 unfoldable pub delivery_of : List ℕ → Option Delivery
-delivery_of bytes = behind_number (number_at 4 bytes)
+delivery_of bytes = after_number (number_at 4 bytes)
 
 -- ---- whose it is
 

@@ -39,7 +39,7 @@ pub record IsTaken (ms : List Member) (bytes : List ℕ) (d : Delivery) : Type 0
 
 -- What it means to be taken for something: of an Ok, that the packet is taken; of Garbage, that the bytes
 -- say nothing well; of UnknownNode, that they say something well that isn't of members; of BadSignature, that
--- they say something of members that isn't signed. Want of memory is nothing that a packet is taken for.
+-- they say something of members that isn't signed. No packet is taken for being out of memory.
 abbrev pub Means : List Member → (bytes : List ℕ) → Result Delivery Refusal → Type 0
 Means ms bytes (Ok d) = IsTaken ms bytes d
 Means ms bytes (Err Garbage) = (d : Delivery) → ¬ SaysWell bytes d

@@ -4,9 +4,9 @@ use Rattle.xdr.specs.Item.{Value}
 use Rattle.merkle_keys.specs.Signing.{SignatureParts, signature_item}
 use Rattle.authenticator.specs.Signed.{authenticator_item}
 use Rattle.authenticator.specs.declared.authenticator.Authenticator.{Authenticator}
-use Rattle.log_entries.specs.Entry.{entry_item, kind_item}
-use Rattle.log_entries.specs.declared.entry.Entry.{Entry}
-use Rattle.log_entries.specs.declared.entry.Entry.TheVariants as entry
+use Rattle.secure_log.specs.LogEntries.Entry.{entry_item, kind_item}
+use Rattle.secure_log.specs.declared.log_entries.entry.Entry.{Entry}
+use Rattle.secure_log.specs.declared.log_entries.entry.Entry.TheVariants as entry
 use Rattle.envelopes.specs.Envelope.{envelope_item}
 use Rattle.envelopes.specs.Acknowledgement.{ack_item}
 use Rattle.envelopes.specs.declared.envelope.Envelope.{Envelope}

@@ -16,7 +16,7 @@ use xdr::Reader;
 /// segment doesn't end in its closing; else `UnknownNode` where who signs, or an envelope's receiver, is no
 /// member; else `BadSignature` where who is to sign it didn't. `NoMemory` comes only where a growth was
 /// refused.
-#[tactic(auto, using(crate::proofs::Judged::answers_behind, crate::proofs::Judged::without_number))]
+#[tactic(auto, using(crate::proofs::Judged::answers_after, crate::proofs::Judged::without_number))]
 pub fn read_packet(alloc: Global, roster: &Roster, bytes: &[u8]) -> Result<Packet, Refusal>
     ensures answers { Answers (judged roster.now bytes.now) delivery_in result }
     ensures under { IfOk result (IsUnder roster.now) }
@@ -28,7 +28,7 @@ pub fn read_packet(alloc: Global, roster: &Roster, bytes: &[u8]) -> Result<Packe
     }
 }
 
-/// What a packet with this number delivers, where the bytes are what stands behind the number.
+/// What a packet with this number delivers, where the bytes are what stands after the number.
 fn read_content(alloc: Global, roster: &Roster, number: u32, text: &[u8]) -> Result<Packet, Refusal>
     ensures answers { Answers (judged_option roster.now (content_at number text.now)) delivery_in result }
     ensures under { IfOk result (IsUnder roster.now) }

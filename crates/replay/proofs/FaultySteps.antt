@@ -7,12 +7,12 @@ use Rattle.authenticator.specs.Roster.{member_of}
 use Rattle.authenticator.specs.Signed.{signed_digest}
 use Rattle.authenticator.specs.declared.member.Member.{Member}
 use Rattle.authenticator.specs.declared.authenticator.Authenticator.{Authenticator}
-use Rattle.log_entries.specs.declared.entry.Entry.{Entry}
-use Rattle.honest_logs.specs.State.{State}
-use Rattle.honest_logs.specs.Signing.{is_signed, is_signed_by, is_signed_in}
-use Rattle.honest_logs.specs.Placed.{place}
-use Rattle.honest_logs.specs.Steps.{after_entry}
-use Rattle.honest_logs.specs.Stepping.{ReplayFault, fault_of, unless_fault, step}
+use Rattle.secure_log.specs.declared.log_entries.entry.Entry.{Entry}
+use Rattle.checkpoint.specs.state_spec.State.{State}
+use Rattle.authenticator.specs.Signing.{is_signed, is_signed_by, is_signed_in}
+use Rattle.replay_spec.specs.Placed.{place}
+use Rattle.replay_spec.specs.Steps.{after_entry}
+use Rattle.replay_spec.specs.Stepping.{ReplayFault, fault_of, unless_fault, step}
 
 -- an entry with a fault
 pub faulty : (ms : List Member) (s : State) (number : ℕ) (before : List ℕ) (e : Entry) (fault : ReplayFault)

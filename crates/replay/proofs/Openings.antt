@@ -3,7 +3,7 @@
 use Rattle.std.proofs.Common.{◌≡◌, ℕ, Result, Ok, Err, IfOk, ap, ◌∙◌}
 use Rattle.std.specs.FinMap as finite
 use Rattle.std.specs.Ordering.{nat_cmp}
-use Rattle.honest_logs.specs.State.{received_cmp, SentMessage, Machine, State, opened_with}
+use Rattle.checkpoint.specs.state_spec.State.{received_cmp, SentMessage, Machine, State, opened_with}
 
 module _ (node : ℕ) (machine : Machine) where
   -- none is received
@@ -21,6 +21,7 @@ module _ (node : ℕ) (machine : Machine) where
     gives_none_received (Ok s) is = none_received s is
     gives_none_received (Err e) is = tt
 
+    -- nor is any message sent there
     pub gives_none_sent : (r : Result State E) → IfOk r (λ s. s ≡ opened_with node machine)
         → IfOk r (λ s. finite.len s.sends ≡ 0)
     gives_none_sent (Ok s) is = none_sent s is

@@ -6,28 +6,28 @@ use Rattle.std.proofs.Common.{Option, Some, None, Result, refl, sym, ap, ap₂, 
 use Rattle.std.specs.FinMap as finite
 use Rattle.authenticator.specs.declared.member.Member.{Member}
 use Rattle.authenticator.specs.declared.authenticator.Authenticator.{Authenticator}
-use Rattle.log_entries.specs.Chain.{hash_after, link_of}
-use Rattle.log_entries.specs.declared.entry.Entry.{Entry}
-use Rattle.states.specs.declared.received.TheConstants.{MAX_RECEIVED}
-use Rattle.states.specs.declared.sends.TheConstants.{MAX_SENDS}
-use Rattle.honest_logs.specs.State.{State}
+use Rattle.secure_log.specs.LogEntries.Chain.{hash_after, link_of}
+use Rattle.secure_log.specs.declared.log_entries.entry.Entry.{Entry}
+use Rattle.checkpoint.specs.state_machine.declared.states.received.TheConstants.{MAX_RECEIVED}
+use Rattle.checkpoint.specs.state_machine.declared.states.sends.TheConstants.{MAX_SENDS}
+use Rattle.checkpoint.specs.state_spec.State.{State}
 use Rattle.replay.specs.Verdicts.{verdict_in, IsSoundWhereHonest}
 use Rattle.replay.specs.declared.verdict.Verdict as memory
-use Rattle.honest_logs.specs.Placed.{Placed, place, placed}
-use Rattle.honest_logs.specs.Stepping.{ReplayFault, step, shown_by}
-use Rattle.honest_logs.specs.Replay.{with_shown, Verdict, Sound, Fault, behind, verdict_of}
-use Rattle.honest_logs.specs.Steps.{Takes}
-use Rattle.honest_logs.specs.LoggedMessages.{is_recv, recv_count, send_count}
-use Rattle.honest_logs.proofs.Counts.{counted_on}
+use Rattle.replay_spec.specs.Placed.{Placed, place, placed}
+use Rattle.replay_spec.specs.Stepping.{ReplayFault, step, shown_by}
+use Rattle.replay_spec.specs.Replay.{with_shown, Verdict, Sound, Fault, behind, verdict_of}
+use Rattle.replay_spec.specs.Steps.{Takes}
+use Rattle.replay_spec.specs.LogLaws.LoggedMessages.{is_recv, recv_count, send_count}
+use Rattle.replay_spec.proofs.OfLogLaws.Counts.{counted_on}
 use Rattle.std.proofs.lemmas.List.Sums.{sum_by-cons}
 use Rattle.std.proofs.Math.Seq.{drop-cons}
 use Rattle.std.specs.Prelude.{Bool, true, false, cond, ◌↔◌}
-use Rattle.honest_logs.specs.Stepping.{is_send}
+use Rattle.replay_spec.specs.Stepping.{is_send}
 
--- the verdict on entries behind those that showed these
-abbrev pub behind_all : List Authenticator → Verdict → Verdict
-behind_all [] v = v
-behind_all (a ∷ found) v = behind (Some a) (behind_all found v)
+-- the verdict on entries after those that showed these
+abbrev pub after_all : List Authenticator → Verdict → Verdict
+after_all [] v = v
+after_all (a ∷ found) v = behind (Some a) (after_all found v)
 
 abbrev one_if : Bool → ℕ
 one_if b = cond b 1 0
@@ -50,48 +50,52 @@ one_sent e =
     omega (arith, low, sum)
 
 -- What is known between two entries: the number of the next, room for the messages of those to come, and that
--- the verdict on all is that on the rest, behind what was found.
+-- the verdict on all is that on the rest, after what was found.
 pub record IsRun (ms : List Member) (start : State) (first : ℕ) (opening : List ℕ) (entries : List Entry)
     (s : State) (shown : List Authenticator) (number : ℕ) (before : List ℕ) (index : ℕ) : Type 0 where
+  -- the number of the next entry
   pub counted : number ≡ first + index
+  -- there is room for a received message of each entry to come
   pub received : finite.len s.received + length (drop index entries) ≤ MAX_RECEIVED
+  -- there is room for a sent message of each entry to come
   pub sends : finite.len s.sends + length (drop index entries) ≤ MAX_SENDS
+  -- the verdict on all entries is the one on the rest, after what was found
   pub verdict : verdict_of ms start (placed first opening entries)
-      ≡ behind_all shown (verdict_of ms s (placed number before (drop index entries)))
+      ≡ after_all shown (verdict_of ms s (placed number before (drop index entries)))
 
--- more is found behind the rest
-behind_more : (shown : List Authenticator) (more : Option Authenticator) (v : Verdict)
-    → behind_all (shown ++ with_shown more []) v ≡ behind_all shown (behind more v)
-behind_more [] None (Sound s found) = refl
-behind_more [] None (Fault fault number) = refl
-behind_more [] (Some a) v = refl
-behind_more (b ∷ shown) more v = ap (behind (Some b)) (behind_more shown more v)
+-- more is found after the rest
+after_more : (shown : List Authenticator) (more : Option Authenticator) (v : Verdict)
+    → after_all (shown ++ with_shown more []) v ≡ after_all shown (behind more v)
+after_more [] None (Sound s found) = refl
+after_more [] None (Fault fault number) = refl
+after_more [] (Some a) v = refl
+after_more (b ∷ shown) more v = ap (behind (Some b)) (after_more shown more v)
 
 -- nothing is found where nothing was
-behind_none : (v : Verdict) → behind None v ≡ v
-behind_none (Sound s found) = refl
-behind_none (Fault fault number) = refl
+after_none : (v : Verdict) → behind None v ≡ v
+after_none (Sound s found) = refl
+after_none (Fault fault number) = refl
 
 -- at the end all is found
-pub all_found : (shown : List Authenticator) (s : State) → behind_all shown (Sound s []) ≡ Sound s shown
+pub all_found : (shown : List Authenticator) (s : State) → after_all shown (Sound s []) ≡ Sound s shown
 all_found [] s = refl
 all_found (a ∷ shown) s = ap (behind (Some a)) (all_found shown s)
 
--- a fault stays one behind what was found
+-- a fault stays one after what was found
 pub fault_found : (shown : List Authenticator) (fault : ReplayFault) (number : ℕ)
-    → behind_all shown (Fault fault number) ≡ Fault fault number
+    → after_all shown (Fault fault number) ≡ Fault fault number
 fault_found [] fault number = refl
 fault_found (a ∷ shown) fault number = ap (behind (Some a)) (fault_found shown fault number)
 
 -- ---- one step
 
 -- the verdict by what the first step gives
-abbrev verdict_behind : List Member → State → Placed → List Placed → Result State ReplayFault → Verdict
-verdict_behind ms s p ps (Ok t) = behind (shown_by s p.entry) (verdict_of ms t ps)
-verdict_behind ms s p ps (Err fault) = Fault fault p.number
+abbrev verdict_after : List Member → State → Placed → List Placed → Result State ReplayFault → Verdict
+verdict_after ms s p ps (Ok t) = behind (shown_by s p.entry) (verdict_of ms t ps)
+verdict_after ms s p ps (Err fault) = Fault fault p.number
 
 first_step : (ms : List Member) (s : State) (p : Placed) (ps : List Placed)
-    → verdict_of ms s (p ∷ ps) ≡ verdict_behind ms s p ps (step ms s p)
+    → verdict_of ms s (p ∷ ps) ≡ verdict_after ms s p ps (step ms s p)
 first_step ms s p ps = by (step ms s p)
   where
     by : (r : Result State ReplayFault) → ◌≡◌ {A = Verdict}
@@ -99,7 +103,7 @@ first_step ms s p ps = by (step ms s p)
           | Ok t ↦ behind (shown_by s p.entry) (verdict_of ms t ps)
           | Err fault ↦ Fault fault p.number
         ])
-        (verdict_behind ms s p ps r)
+        (verdict_after ms s p ps r)
     by (Ok t) = refl
     by (Err fault) = refl
 
@@ -128,7 +132,7 @@ more_sent law ms s t number before e h =
 
 -- ---- a run from an entry to the next
 
--- the entries from one on are it and those behind it
+-- the entries from one on are it and those after it
 pub rest_of : (entries : List Entry) (index : ℕ) (e : Entry) → index < length entries
     → e ≡ get_or entries index e → drop index entries ≡ e ∷ drop (index + 1) entries
 rest_of entries index e inside is =
@@ -148,7 +152,7 @@ module _ (ms : List Member) (start : State) (first : ℕ) (opening : List ℕ) (
     received = received;
     sends = sends;
     verdict =
-        ap₂ (λ n xs. behind_all xs (verdict_of ms start (placed n opening entries))) (sym same) (sym none);
+        ap₂ (λ n xs. after_all xs (verdict_of ms start (placed n opening entries))) (sym same) (sym none);
   }
 
   module _ (s : State) (shown : List Authenticator) (number : ℕ) (before : List ℕ) (index : ℕ)
@@ -165,6 +169,7 @@ module _ (ms : List Member) (start : State) (first : ℕ) (opening : List ℕ) (
           run.received in
           omega (arith, few)
 
+      -- and room for what it sends
       pub room_sends : finite.len s.sends < MAX_SENDS
       room_sends =
           let few = subst (λ (es : List Entry). finite.len s.sends + length es ≤ MAX_SENDS) rest
@@ -173,8 +178,8 @@ module _ (ms : List Member) (start : State) (first : ℕ) (opening : List ℕ) (
 
       -- the verdict on all is that on this entry and the rest
       here : verdict
-          ≡ behind_all shown (verdict_of ms s (placed number before (e ∷ drop (index + 1) entries)))
-      here = run.verdict ∙ ap (λ es. behind_all shown (verdict_of ms s (placed number before es))) rest
+          ≡ after_all shown (verdict_of ms s (placed number before (e ∷ drop (index + 1) entries)))
+      here = run.verdict ∙ ap (λ es. after_all shown (verdict_of ms s (placed number before es))) rest
 
       abbrev at : Placed
       at = place number before e
@@ -187,10 +192,10 @@ module _ (ms : List Member) (start : State) (first : ℕ) (opening : List ℕ) (
           → verdict ≡ Fault fault number
       faults fault h =
           here
-          ∙ ap (behind_all shown) (first_step ms s at later ∙ ap (verdict_behind ms s at later) h)
+          ∙ ap (after_all shown) (first_step ms s at later ∙ ap (verdict_after ms s at later) h)
           ∙ fault_found shown fault number
 
-      -- behind it the run goes on
+      -- after it the run goes on
       pub goes_on : StepsTake → (t : State) → step ms s (place number before e) ≡ Ok t
           → (found : List Authenticator) → found ≡ shown ++ with_shown (shown_by s e) []
           → (after : List ℕ) → after ≡ hash_after before (link_of number e)
@@ -209,17 +214,17 @@ module _ (ms : List Member) (start : State) (first : ℕ) (opening : List ℕ) (
             omega (arith, few, one);
         verdict =
             here
-            ∙ ap (behind_all shown) (first_step ms s at later ∙ ap (verdict_behind ms s at later) h)
-            ∙ sym (behind_more shown (shown_by s e) (verdict_of ms t later))
-            ∙ ap₂ (λ xs b. behind_all xs (verdict_of ms t (placed (number + 1) b (drop (index + 1) entries))))
+            ∙ ap (after_all shown) (first_step ms s at later ∙ ap (verdict_after ms s at later) h)
+            ∙ sym (after_more shown (shown_by s e) (verdict_of ms t later))
+            ∙ ap₂ (λ xs b. after_all xs (verdict_of ms t (placed (number + 1) b (drop (index + 1) entries))))
             (sym more) (sym hash);
       }
 
-    -- behind the last entry all is found
+    -- after the last entry all is found
     pub ends : drop index entries ≡ [] → verdict ≡ Sound s shown
     ends none =
         run.verdict
-        ∙ ap (λ es. behind_all shown (verdict_of ms s (placed number before es))) none
+        ∙ ap (λ es. after_all shown (verdict_of ms s (placed number before es))) none
         ∙ all_found shown s
 
 -- ---- the verdict on all

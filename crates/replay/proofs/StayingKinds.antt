@@ -2,12 +2,12 @@
 -- Serves: step (ServerMachine, FreeMachine).
 use Rattle.std.proofs.Common.{◌≡◌, ℕ, List, Option, Some, None, Result, Ok, Err, sym, subst}
 use Rattle.authenticator.specs.declared.member.Member.{Member}
-use Rattle.log_entries.specs.declared.entry.Entry.{Entry}
-use Rattle.log_entries.specs.declared.entry.Entry.TheVariants.{Send, Recv, Ack, Clock, Check}
-use Rattle.honest_logs.specs.State.{Idle, Heard, Owes, Machine, Server, Client, State}
-use Rattle.honest_logs.specs.Placed.{place}
-use Rattle.honest_logs.specs.Steps.{after_entry}
-use Rattle.honest_logs.specs.Stepping.{ReplayFault, fault_of, step, unless_fault}
+use Rattle.secure_log.specs.declared.log_entries.entry.Entry.{Entry}
+use Rattle.secure_log.specs.declared.log_entries.entry.Entry.TheVariants.{Send, Recv, Ack, Clock, Check}
+use Rattle.checkpoint.specs.state_spec.State.{Idle, Heard, Owes, Machine, Server, Client, State}
+use Rattle.replay_spec.specs.Placed.{place}
+use Rattle.replay_spec.specs.Steps.{after_entry}
+use Rattle.replay_spec.specs.Stepping.{ReplayFault, fault_of, step, unless_fault}
 use Rattle.replay.specs.Answers.{Answers, IsServer, IsClient}
 use Rattle.replay.specs.declared.steps.StepError.{StepError}
 use Rattle.replay.specs.declared.steps.StepError.TheVariants.{NoMemory, Fault}
@@ -54,6 +54,7 @@ server_stays ms s t number before e (Err NoMemory) h is = subst (λ (x : State).
 server_stays ms s t number before e (Err (Fault fault)) h is =
     subst (λ (x : State). IsServer x.machine) (sym h.1) is
 
+-- a client stays a client by a step, whatever the step answers
 pub client_stays : {A : Type 0} (ms : List Member) (s t : State) (number : ℕ) (before : List ℕ) (e : Entry)
     (result : Result A StepError) → Answers (step ms s (place number before e)) s result t
     → IsClient s.machine → IsClient t.machine

@@ -1,10 +1,10 @@
 -- What a step answers, and what it leaves.
 use Rattle.std.specs.Prelude.{◌≡◌, List, Result, Ok, Err}
 use Rattle.authenticator.specs.declared.member.Member.{Member}
-use Rattle.honest_logs.specs.State.{Machine, Server, Client, State}
-use Rattle.honest_logs.specs.Placed.{Placed}
-use Rattle.honest_logs.specs.Stepping.{step}
-use Rattle.honest_logs.specs.Stepping as spec
+use Rattle.checkpoint.specs.state_spec.State.{Machine, Server, Client, State}
+use Rattle.replay_spec.specs.Placed.{Placed}
+use Rattle.replay_spec.specs.Stepping.{step}
+use Rattle.replay_spec.specs.Stepping as spec
 use Rattle.replay.specs.Faults.{fault_in}
 use Rattle.replay.specs.declared.steps.StepError.{StepError}
 use Rattle.replay.specs.declared.steps.StepError.TheVariants.{NoMemory, Fault}

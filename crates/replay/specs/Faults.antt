@@ -1,5 +1,5 @@
 -- What a fault in memory says.
-use Rattle.honest_logs.specs.Stepping as spec
+use Rattle.replay_spec.specs.Stepping as spec
 use Rattle.replay.specs.declared.fault.ReplayFault.{ReplayFault}
 use Rattle.replay.specs.declared.fault.ReplayFault.TheVariants.{BadForm, BadReceive, Repeated, WrongReply}
 use Rattle.replay.specs.declared.fault.ReplayFault.TheVariants.{ClockBack, WrongCheckpoint, BadAck}

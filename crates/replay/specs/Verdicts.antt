@@ -2,10 +2,10 @@
 use Rattle.std.specs.Prelude.{◌≡◌, ◌↔◌, List}
 use Rattle.authenticator.specs.declared.member.Member.{Member}
 use Rattle.authenticator.specs.declared.authenticator.Authenticator.{Authenticator}
-use Rattle.honest_logs.specs.State.{State}
-use Rattle.honest_logs.specs.Placed.{Placed}
-use Rattle.honest_logs.specs.Replay.{Honest, last_state, found}
-use Rattle.honest_logs.specs.Replay as spec
+use Rattle.checkpoint.specs.state_spec.State.{State}
+use Rattle.replay_spec.specs.Placed.{Placed}
+use Rattle.replay_spec.specs.Replay.{Honest, last_state, found}
+use Rattle.replay_spec.specs.Replay as spec
 use Rattle.replay.specs.Faults.{fault_in}
 use Rattle.replay.specs.declared.verdict.Verdict.{Verdict}
 use Rattle.replay.specs.declared.verdict.Verdict.TheVariants.{Sound, Fault}
@@ -17,7 +17,7 @@ abbrev pub verdict_in : Verdict → spec.Verdict
 verdict_in (Sound state found) = spec.Sound state found.items
 verdict_in (Fault fault number) = spec.Fault (fault_in fault) number
 
--- Some list of states makes entries honest behind a state, with this last state, and the entries show these.
+-- Some list of states makes entries honest after a state, with this last state, and the entries show these.
 abbrev pub AreHonest : List Member → State → List Placed → State → List Authenticator → Type 0
 AreHonest ms s ps t shown =
     (ts : List State) × Honest ms s ps ts × (last_state s ts ≡ t) × (found s ps ts ≡ shown)

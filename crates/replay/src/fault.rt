@@ -1,12 +1,12 @@
 //! What an entry may have wrong.
 
 ghost use Rattle.std.specs.Prelude.{◌≡◌};
-ghost use Rattle.honest_logs.specs.Stepping.{fault_number};
+ghost use Rattle.replay_spec.specs.Stepping.{fault_number};
 ghost use Rattle.replay.specs.Faults.{fault_in};
 
 use thiserror::Error;
 
-/// What an entry of a log may have wrong behind a state (PeerReview, SOSP 2007, section 5.4).
+/// What an entry of a log may have wrong after a state (PeerReview, SOSP 2007, section 5.4).
 #[derive(Clone, Copy, Debug, PartialEq, Eq, Error)]
 pub enum ReplayFault {
     /// A CLOCK stands where no server reads its clock, something else stands where it has to, or a CLOCK

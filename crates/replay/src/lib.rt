@@ -11,12 +11,9 @@ mod outcome;
 mod shown;
 mod steps;
 mod take;
-#[cfg(test)]
-mod tests;
 mod turns;
 mod verdict;
 
-pub use checkpoint::{Machine as StateMachine, Stage, State};
 pub use fault::ReplayFault;
 pub use machine::{FreeMachine, Machine, ServerMachine};
 pub use opening::opening_state;

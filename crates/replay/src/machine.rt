@@ -3,19 +3,21 @@
 ghost use Rattle.std.specs.Prelude.{◌≡◌, ◌<◌, ℕ, List, Result, IfOk};
 ghost use Rattle.std.specs.FinMap.{len};
 ghost use Rattle.authenticator.specs.declared.member.Member.{Member};
-ghost use Rattle.states.specs.declared.received.TheConstants.{MAX_RECEIVED};
-ghost use Rattle.states.specs.declared.sends.TheConstants.{MAX_SENDS};
-ghost use Rattle.honest_logs.specs.State.{State};
-ghost use Rattle.honest_logs.specs.StateText.{IsStateText};
-ghost use Rattle.honest_logs.specs.Placed.{Placed, place};
-ghost use Rattle.honest_logs.specs.Stepping.{ReplayFault};
-ghost use Rattle.honest_logs.specs.Stepping as stepping;
+ghost use Rattle.checkpoint.specs.state_machine.declared.states.received.TheConstants.{MAX_RECEIVED};
+ghost use Rattle.checkpoint.specs.state_machine.declared.states.sends.TheConstants.{MAX_SENDS};
+ghost use Rattle.checkpoint.specs.state_spec.State.{State};
+ghost use Rattle.checkpoint.specs.state_spec.StateText.{IsStateText};
+ghost use Rattle.replay_spec.specs.Placed.{Placed, place};
+ghost use Rattle.replay_spec.specs.Stepping.{ReplayFault};
+ghost use Rattle.replay_spec.specs.Stepping as stepping;
 ghost use Rattle.replay.specs.Answers.{Answers, IsClient, IsServer};
 
 use crate::steps::{StepError, step};
 use authenticator::{Number, Roster};
-use checkpoint::{State, state_laws, state_text};
-use secure_log::Entry;
+use checkpoint::state_machine_code::State;
+use checkpoint::state_spec_code::laws as state_laws;
+use checkpoint::state_text;
+use secure_log::log_entries::Entry;
 use std::alloc::{AllocError, Global};
 use std::marker::Model;
 
@@ -25,13 +27,13 @@ pub trait Machine: Drop {
     /// The state that it is in.
     ghost state: { Self → State };
 
-    /// What an entry at its place gives behind a state: the state after it, or its fault.
+    /// What an entry at its place gives after a state: the state after it, or its fault.
     ghost gives: { List Member → State → Placed → Result State ReplayFault };
 
     /// Bytes are a state's text.
     ghost HasText: { State → List ℕ → Type 0 };
 
-    /// Takes an entry of the log of its node, a member of this roster, at a number and behind the hash
+    /// Takes an entry of the log of its node, a member of this roster, at a number and after the hash
     /// `before`: after a refusal its state is as it was.
     fn step(
         &mut self,
@@ -62,8 +64,8 @@ pub struct ServerMachine {
 }
 
 impl Model for ServerMachine {
-    ghost use Rattle.checkpoint.specs.Codes.{state_code};
-    ghost use Rattle.honest_logs.specs.State.{State};
+    ghost use Rattle.checkpoint.specs.state_spec.Codes.{state_code};
+    ghost use Rattle.checkpoint.specs.state_spec.State.{State};
     ghost use Rattle.replay.specs.Answers.{IsServer};
 
     ghost Value = { State };
@@ -101,8 +103,8 @@ impl ServerMachine {
 }
 
 impl Machine for ServerMachine {
-    ghost use Rattle.honest_logs.specs.StateText.{IsStateText};
-    ghost use Rattle.honest_logs.specs.Stepping as stepping;
+    ghost use Rattle.checkpoint.specs.state_spec.StateText.{IsStateText};
+    ghost use Rattle.replay_spec.specs.Stepping as stepping;
 
     ghost state = { λ m. m };
 
@@ -137,8 +139,8 @@ pub struct FreeMachine {
 }
 
 impl Model for FreeMachine {
-    ghost use Rattle.checkpoint.specs.Codes.{state_code};
-    ghost use Rattle.honest_logs.specs.State.{State};
+    ghost use Rattle.checkpoint.specs.state_spec.Codes.{state_code};
+    ghost use Rattle.checkpoint.specs.state_spec.State.{State};
     ghost use Rattle.replay.specs.Answers.{IsClient};
 
     ghost Value = { State };
@@ -176,8 +178,8 @@ impl FreeMachine {
 }
 
 impl Machine for FreeMachine {
-    ghost use Rattle.honest_logs.specs.StateText.{IsStateText};
-    ghost use Rattle.honest_logs.specs.Stepping as stepping;
+    ghost use Rattle.checkpoint.specs.state_spec.StateText.{IsStateText};
+    ghost use Rattle.replay_spec.specs.Stepping as stepping;
 
     ghost state = { λ m. m };
 

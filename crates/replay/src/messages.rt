@@ -1,19 +1,19 @@
 //! Whether messages, their acknowledgements and the digests of states are what they claim.
 
 ghost use Rattle.std.specs.Prelude.{◌≡◌, IfOk};
-ghost use Rattle.log_entries.specs.Messages.{receipt_hash};
-ghost use Rattle.honest_logs.specs.Signing.{is_signed_in};
-ghost use Rattle.honest_logs.specs.Steps.{received_message};
-ghost use Rattle.honest_logs.specs.Stepping.{is_bad_ack, is_bad_receive, is_repeated, is_wrong_checkpoint};
+ghost use Rattle.secure_log.specs.LogEntries.Messages.{receipt_hash};
+ghost use Rattle.authenticator.specs.Signing.{is_signed_in};
+ghost use Rattle.replay_spec.specs.Steps.{received_message};
+ghost use Rattle.replay_spec.specs.Stepping.{is_bad_ack, is_bad_receive, is_repeated, is_wrong_checkpoint};
 
 use crate::turns::is_same;
 use authenticator::{Number, Roster, is_signed};
-use checkpoint::{State, state_digest};
-use honest_logs::replay_laws::tests_as_it_is_signed;
-use log_entries::{Receipt, message_hash, receipt_hash};
+use checkpoint::state_digest;
+use checkpoint::state_machine_code::State;
+use checkpoint::state_machine_code::states::{ReceivedMessage, SentMessage};
 use merkle_keys::Signature;
-use secure_log::{Body, Entry};
-use states::{ReceivedMessage, SentMessage};
+use replay_spec::laws::tests_as_it_is_signed;
+use secure_log::log_entries::{Body, Entry, Receipt, message_hash, receipt_hash};
 use std::alloc::{AllocError, Global};
 
 /// A RECV's sender is the node itself or a stranger, or its signature isn't the sender's, of the hash that is

@@ -2,10 +2,10 @@
 
 ghost use Rattle.std.specs.Prelude.{◌≡◌, IfOk};
 ghost use Rattle.std.specs.FinMap.{len};
-ghost use Rattle.honest_logs.specs.Opening.{opening_of};
+ghost use Rattle.replay_spec.specs.Opening.{opening_of};
 
 use authenticator::{Kind, Member};
-use checkpoint::State;
+use checkpoint::state_machine_code::State;
 use std::alloc::{AllocError, Global};
 
 /// The state that a member begins with, before the first entry of its log: a server's files are the directory

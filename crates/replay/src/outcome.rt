@@ -2,31 +2,30 @@
 
 ghost use Rattle.std.specs.Prelude.{◌+◌, ◌≤◌, ◌<◌, ◌^◌, IfOk, length};
 ghost use Rattle.std.specs.FinMap.{len};
-ghost use Rattle.states.specs.declared.received.TheConstants.{MAX_RECEIVED};
-ghost use Rattle.states.specs.declared.sends.TheConstants.{MAX_SENDS};
-ghost use Rattle.honest_logs.specs.Placed.{placed};
-ghost use Rattle.honest_logs.specs.Replay.{verdict_of};
+ghost use Rattle.checkpoint.specs.state_machine.declared.states.received.TheConstants.{MAX_RECEIVED};
+ghost use Rattle.checkpoint.specs.state_machine.declared.states.sends.TheConstants.{MAX_SENDS};
+ghost use Rattle.replay_spec.specs.Placed.{placed};
+ghost use Rattle.replay_spec.specs.Replay.{verdict_of};
 ghost use Rattle.replay.specs.Verdicts.{IsOutcome};
 
 use crate::fault::ReplayFault;
 use crate::steps::{StepError, step};
 use authenticator::{Number, Roster};
-use checkpoint::State;
-use honest_logs::replay_laws::steps_as_it_takes;
-use log_entries::entry_hash;
-use secure_log::Entry;
+use checkpoint::state_machine_code::State;
+use replay_spec::laws::steps_as_it_takes;
+use secure_log::log_entries::{Entry, entry_hash};
 use std::alloc::{AllocError, Global};
 
 /// Where a replay of entries ends.
 #[derive(Drop)]
 pub enum Outcome {
-    /// Each entry may stand behind those before it: the state after the last.
+    /// Each entry may stand after those before it: the state after the last.
     Sound(State),
     /// What the first entry that may not stand where it does has wrong, and its number.
     Fault(ReplayFault, Number),
 }
 
-/// Where a replay of entries behind a state of their node ends: as `replay_entries`, but what the entries
+/// Where a replay of entries after a state of their node ends: as `replay_entries`, but what the entries
 /// show of other nodes isn't kept, so that no signature is copied. `AllocError` comes only where a growth was
 /// refused.
 pub fn replay_outcome(

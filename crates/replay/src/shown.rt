@@ -1,16 +1,15 @@
 //! What entries show of other nodes' logs.
 
 ghost use Rattle.std.specs.Prelude.{◌≡◌, IfOk};
-ghost use Rattle.honest_logs.specs.Stepping.{shown_by};
+ghost use Rattle.replay_spec.specs.Stepping.{shown_by};
 
 use crate::messages::acknowledged_hash;
 use authenticator::Authenticator;
-use checkpoint::State;
-use log_entries::message_hash;
-use secure_log::Entry;
+use checkpoint::state_machine_code::State;
+use secure_log::log_entries::{Entry, message_hash};
 use std::alloc::{AllocError, Global};
 
-/// The authenticator that an entry behind a state shows, with a copy of the signature: a RECV its sender's,
+/// The authenticator that an entry after a state shows, with a copy of the signature: a RECV its sender's,
 /// an ACK that of the receiver of its message, if that was sent. Other entries show none.
 pub(crate) fn shown_by(
     alloc: Global,

@@ -3,10 +3,10 @@
 ghost use Rattle.std.specs.Prelude.{◌≡◌, ◌<◌, IfOk};
 ghost use Rattle.std.specs.Option.{option_map};
 ghost use Rattle.std.specs.FinMap.{len};
-ghost use Rattle.states.specs.declared.received.TheConstants.{MAX_RECEIVED};
-ghost use Rattle.states.specs.declared.sends.TheConstants.{MAX_SENDS};
-ghost use Rattle.honest_logs.specs.Placed.{place};
-ghost use Rattle.honest_logs.specs.Stepping.{fault_of};
+ghost use Rattle.checkpoint.specs.state_machine.declared.states.received.TheConstants.{MAX_RECEIVED};
+ghost use Rattle.checkpoint.specs.state_machine.declared.states.sends.TheConstants.{MAX_SENDS};
+ghost use Rattle.replay_spec.specs.Placed.{place};
+ghost use Rattle.replay_spec.specs.Stepping.{fault_of};
 ghost use Rattle.replay.specs.Faults.{fault_in};
 ghost use Rattle.replay.specs.Answers.{Steps};
 ghost use Rattle.replay.specs.declared.steps.StepError.TheVariants.{NoMemory};
@@ -16,8 +16,8 @@ use crate::messages::{is_bad_ack, is_bad_receive, is_repeated, is_wrong_checkpoi
 use crate::take::take;
 use crate::turns::{is_bad_form, is_clock_back, is_wrong_reply};
 use authenticator::{Number, Roster};
-use checkpoint::State;
-use secure_log::Entry;
+use checkpoint::state_machine_code::State;
+use secure_log::log_entries::Entry;
 use std::alloc::{AllocError, Global};
 use thiserror::Error;
 
@@ -26,7 +26,7 @@ use thiserror::Error;
 pub enum StepError {
     #[error("out of memory")]
     NoMemory,
-    /// The entry may not stand behind the state.
+    /// The entry may not stand after the state.
     #[error("{0}")]
     Fault(ReplayFault),
 }
@@ -39,7 +39,7 @@ impl From<AllocError> for StepError {
     }
 }
 
-/// The state takes an entry of the log of its node, a member of this roster, at a number and behind the hash
+/// The state takes an entry of the log of its node, a member of this roster, at a number and after the hash
 /// `before`. `Fault` comes exactly where the entry may not stand there, with the first fault that it has in
 /// the order BadForm, WrongReply, BadReceive, Repeated, ClockBack, BadAck, WrongCheckpoint; `NoMemory` only
 /// where a growth was refused. After either the state is as it was.
@@ -62,7 +62,7 @@ pub fn step(
     Ok(())
 }
 
-/// The fault of an entry behind a state, if it has one: each is looked at only where those above don't apply.
+/// The fault of an entry after a state, if it has one: each is looked at only where those above don't apply.
 fn fault_of(
     alloc: Global,
     roster: &Roster,

@@ -2,22 +2,22 @@
 
 ghost use Rattle.std.specs.Prelude.{◌≡◌, ◌<◌, false, OnOk, OnErr};
 ghost use Rattle.std.specs.FinMap.{len};
-ghost use Rattle.states.specs.declared.received.TheConstants.{MAX_RECEIVED};
-ghost use Rattle.states.specs.declared.sends.TheConstants.{MAX_SENDS};
-ghost use Rattle.honest_logs.specs.State.{Heard};
-ghost use Rattle.honest_logs.specs.StateSteps.{at_stage, having_received};
-ghost use Rattle.honest_logs.specs.Steps.{after_entry, received_message};
-ghost use Rattle.honest_logs.specs.Stepping.{shows_no_time};
+ghost use Rattle.checkpoint.specs.state_machine.declared.states.received.TheConstants.{MAX_RECEIVED};
+ghost use Rattle.checkpoint.specs.state_machine.declared.states.sends.TheConstants.{MAX_SENDS};
+ghost use Rattle.checkpoint.specs.state_spec.State.{Heard};
+ghost use Rattle.checkpoint.specs.state_machine.Steps.{at_stage, having_received};
+ghost use Rattle.replay_spec.specs.Steps.{after_entry, received_message};
+ghost use Rattle.replay_spec.specs.Stepping.{shows_no_time};
 
 use crate::messages::received_message;
 use authenticator::Number;
-use checkpoint::{MessageBody, Stage, State};
+use checkpoint::state_machine_code::states::SentMessage;
+use checkpoint::state_machine_code::{MessageBody, Stage, State};
 use nfs_items::Time;
-use secure_log::{Body, Entry};
-use states::SentMessage;
+use secure_log::log_entries::{Body, Entry};
 use std::alloc::{AllocError, Global};
 
-/// The state takes an entry at a number, behind a hash. Where memory is refused nothing changes.
+/// The state takes an entry at a number, after a hash. Where memory is refused nothing changes.
 pub(crate) fn take(
     state: &mut State,
     alloc: Global,

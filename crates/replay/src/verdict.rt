@@ -2,11 +2,11 @@
 
 ghost use Rattle.std.specs.Prelude.{◌≡◌, ◌+◌, ◌≤◌, ◌<◌, ◌^◌, ◌-◌, ◌++◌, [], IfOk, OnOk, length};
 ghost use Rattle.std.specs.FinMap.{len};
-ghost use Rattle.states.specs.declared.received.TheConstants.{MAX_RECEIVED};
-ghost use Rattle.states.specs.declared.sends.TheConstants.{MAX_SENDS};
-ghost use Rattle.honest_logs.specs.Placed.{place, placed, placed_in};
-ghost use Rattle.honest_logs.specs.Stepping.{shown_by};
-ghost use Rattle.honest_logs.specs.Replay.{segment_verdict, verdict_of, with_shown};
+ghost use Rattle.checkpoint.specs.state_machine.declared.states.received.TheConstants.{MAX_RECEIVED};
+ghost use Rattle.checkpoint.specs.state_machine.declared.states.sends.TheConstants.{MAX_SENDS};
+ghost use Rattle.replay_spec.specs.Placed.{place, placed, placed_in};
+ghost use Rattle.replay_spec.specs.Stepping.{shown_by};
+ghost use Rattle.replay_spec.specs.Replay.{segment_verdict, verdict_of, with_shown};
 ghost use Rattle.replay.specs.Answers.{Steps};
 ghost use Rattle.replay.specs.Verdicts.{IsSoundWhereHonest, verdict_in};
 
@@ -15,23 +15,23 @@ use crate::fault::ReplayFault;
 use crate::shown::shown_by;
 use crate::steps::{StepError, step};
 use authenticator::{Authenticator, Number, Roster};
-use checkpoint::State;
-use honest_logs::replay_laws::{sound_exactly_if, steps_as_it_takes};
-use log_entries::entry_hash;
-use secure_log::{ClosedSegment, Entry};
+use checkpoint::state_machine_code::State;
+use replay_spec::laws::{sound_exactly_if, steps_as_it_takes};
+use secure_log::ClosedSegment;
+use secure_log::log_entries::{Entry, entry_hash};
 use std::alloc::{AllocError, Global};
 
 /// What a replay of a segment finds.
 #[derive(Drop)]
 pub enum Verdict {
-    /// Each entry may stand behind those before it: the state after the last, and the authenticators of other
+    /// Each entry may stand after those before it: the state after the last, and the authenticators of other
     /// nodes that the entries show, in order.
     Sound(State, Vec<Authenticator>),
     /// What the first entry that may not stand where it does has wrong, and its number.
     Fault(ReplayFault, Number),
 }
 
-/// What a replay of a segment behind a state finds. The state is copied once, by its text. `AllocError` comes
+/// What a replay of a segment after a state finds. The state is copied once, by its text. `AllocError` comes
 /// only where a growth was refused.
 pub fn replay(alloc: Global, state: &State, segment: &ClosedSegment) -> Result<Verdict, AllocError>
     requires few_received { len state.now.received + length segment.now.segment.entries ≤ MAX_RECEIVED }
@@ -57,8 +57,8 @@ pub fn replay(alloc: Global, state: &State, segment: &ClosedSegment) -> Result<V
     )
 }
 
-/// What a replay of entries behind a state of their node finds, where the first has the number `first` and
-/// stands behind the hash `opening`. A log's first entry has the number 1 and stands behind 32 zero bytes and
+/// What a replay of entries after a state of their node finds, where the first has the number `first` and
+/// stands after the hash `opening`. A log's first entry has the number 1 and stands after 32 zero bytes and
 /// its member's `opening_state`. There may be more entries than a segment holds, and no signature of their
 /// own node is asked for. `AllocError` comes only where a growth was refused.
 pub fn replay_entries(

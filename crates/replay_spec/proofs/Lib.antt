@@ -1,4 +1,4 @@
-pub use Rattle.authenticator.proofs.Signed
+pub mod OfLogLaws
 pub mod Stepping
 pub mod Runs
 pub mod Places

@@ -1,8 +1,8 @@
 -- Entries in two parts, and the pairs of places.
 -- Serves: places_are_joined.
 use Rattle.std.proofs.Common.{◌≡◌, ℕ, ◌+◌, List, [], ◌∷◌, ◌++◌, map, length, refl, ap, ◌∙◌, arith}
-use Rattle.log_entries.specs.declared.entry.Entry.{Entry}
-use Rattle.log_entries.specs.Chain.{hash_after, link_of, last_hash, links_from, pairs}
+use Rattle.secure_log.specs.declared.log_entries.entry.Entry.{Entry}
+use Rattle.secure_log.specs.LogEntries.Chain.{hash_after, link_of, last_hash, links_from, pairs}
 use Rattle.replay_spec.specs.Placed.{place, placed}
 use Rattle.replay_spec.specs.Laws.{pair_at}
 
@@ -19,7 +19,7 @@ places_joined first before (e ∷ es) fs =
     ap (λ ps. place first before e ∷ ps)
     (places_joined (first + 1) after es fs ∙ ap (λ n. placed (first + 1) after es ++ placed n end fs) same)
 
--- the pairs of places, behind the first
+-- the pairs of places, after the first
 pub places_paired : (number : ℕ) (before : List ℕ) (es : List Entry)
     → pairs number before (links_from (number + 1) es)
     ≡ (number, before) ∷ map pair_at (placed (number + 1) before es)

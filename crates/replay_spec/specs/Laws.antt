@@ -2,10 +2,10 @@
 use Rattle.std.specs.Prelude.{◌≡◌, ◌↔◌, ◌+◌, ℕ, List, [], ◌∷◌, ◌++◌, length, map, Ok, Err}
 use Rattle.authenticator.specs.declared.member.Member.{Member}
 use Rattle.authenticator.specs.declared.authenticator.Authenticator.{Authenticator}
-use Rattle.log_entries.specs.Chain.{hash_after, link_of, links_from, last_hash, pairs}
-use Rattle.log_entries.specs.declared.entry.Entry.{Entry}
+use Rattle.secure_log.specs.LogEntries.Chain.{hash_after, link_of, links_from, last_hash, pairs}
+use Rattle.secure_log.specs.declared.log_entries.entry.Entry.{Entry}
 use Rattle.secure_log.specs.Log.{log_hash}
-use Rattle.machines.specs.State.{Machine, State, opened_with}
+use Rattle.state_machine.specs.state_spec.State.{Machine, State, opened_with}
 use Rattle.replay_spec.specs.Placed.{Placed, place, placed}
 use Rattle.replay_spec.specs.Steps.{Takes}
 use Rattle.replay_spec.specs.Stepping.{ReplayFault, step}
@@ -32,7 +32,7 @@ SoundExactlyIf =
     → (verdict_of ms s ps ≡ Sound t shown)
     ↔ ((ts : List State) × Honest ms s ps ts × (last_state s ts ≡ t) × (found s ps ts ≡ shown))
 
--- An entry is the first that has a fault: those before it are honest, and it has this fault behind them.
+-- An entry is the first that has a fault: those before it are honest, and it has this fault after them.
 pub record IsFirstFault (ms : List Member) (s : State) (ps : List Placed) (fault : ReplayFault) (number : ℕ)
     : Type 0 where
   pub before : List Placed
@@ -50,7 +50,7 @@ FaultExactlyIf =
     (ms : List Member) (s : State) (ps : List Placed) (fault : ReplayFault) (number : ℕ)
     → (verdict_of ms s ps ≡ Fault fault number) ↔ IsFirstFault ms s ps fault number
 
--- Where the first part of entries is honest, the whole is exactly where the second is behind the first's last
+-- Where the first part of entries is honest, the whole is exactly where the second is after the first's last
 -- state.
 abbrev pub PartsAreHonest : Type 0
 PartsAreHonest =
@@ -59,7 +59,7 @@ PartsAreHonest =
 
 -- ---- places
 
--- Entries in two parts stand at the places of the first, and at those of the second behind its number and
+-- Entries in two parts stand at the places of the first, and at those of the second after its number and
 -- hash.
 abbrev pub PlacesAreJoined : Type 0
 PlacesAreJoined =
@@ -71,7 +71,7 @@ PlacesAreJoined =
 abbrev pub pair_at : Placed → ℕ × List ℕ
 pair_at p = (p.number, hash_after p.before (link_of p.number p.entry))
 
--- The places' numbers and hashes are the pairs of the chain, behind the first.
+-- The places' numbers and hashes are the pairs of the chain, after the first.
 abbrev pub PlacesHavePairs : Type 0
 PlacesHavePairs =
     (number : ℕ) (before : List ℕ) (es : List Entry)
@@ -89,14 +89,14 @@ OpeningsHaveNoMessages =
 abbrev pub NoEntries : Type 0
 NoEntries = (ms : List Member) (o : State) → IsHonestLog ms o [] o
 
--- An honest log stays so by one entry more that may stand behind its last state.
+-- An honest log stays so by one entry more that may stand after its last state.
 abbrev pub OneEntryMore : Type 0
 OneEntryMore =
     (ms : List Member) (o s t : State) (es : List Entry) (e : Entry)
     → IsHonestLog ms o es s → Takes ms s (place (length es + 1) (log_hash es) e) t
     → IsHonestLog ms o (es ++ e ∷ []) t
 
--- It stays so by more entries that are honest behind its last state.
+-- It stays so by more entries that are honest after its last state.
 abbrev pub EntriesMore : Type 0
 EntriesMore =
     (ms : List Member) (o s t : State) (es fs : List Entry) (ts : List State)

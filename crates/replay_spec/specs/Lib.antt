@@ -1,10 +1,6 @@
-pub use Rattle.machines.specs.Timeval
-pub use Rattle.machines.specs.World
-pub use Rattle.machines.specs.Replies
-pub use Rattle.machines.specs.State
-pub use Rattle.machines.specs.StateText
+pub use Rattle.state_machine.specs.state_spec as state_spec
+pub mod LogLaws
 pub mod StateSteps
-pub use Rattle.authenticator.specs.Signing
 pub mod Shown
 pub mod Placed
 pub mod Steps

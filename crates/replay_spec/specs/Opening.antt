@@ -3,7 +3,7 @@ use Rattle.std.specs.Prelude.{ℕ}
 use Rattle.authenticator.specs.declared.member.Kind.{Kind}
 use Rattle.authenticator.specs.declared.member.Kind.TheVariants as kinds
 use Rattle.authenticator.specs.declared.member.Member.{Member}
-use Rattle.machines.specs.State.{State, opening_server, opening_client}
+use Rattle.state_machine.specs.state_spec.State.{State, opening_server, opening_client}
 
 -- by what the node does
 abbrev pub opening_by : Kind → ℕ → State

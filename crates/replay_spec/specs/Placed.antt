@@ -1,7 +1,7 @@
 -- Entries at their places.
 use Rattle.std.specs.Prelude.{ℕ, ◌+◌, List, [], ◌∷◌}
-use Rattle.log_entries.specs.declared.entry.Entry.{Entry}
-use Rattle.log_entries.specs.Chain.{hash_after, link_of}
+use Rattle.secure_log.specs.declared.log_entries.entry.Entry.{Entry}
+use Rattle.secure_log.specs.LogEntries.Chain.{hash_after, link_of}
 use Rattle.secure_log.specs.Segment.{SegmentParts}
 
 -- an entry with its number in the log and the hash before it
@@ -10,11 +10,11 @@ pub record Placed : Type 0 where
   pub before : List ℕ
   pub entry : Entry
 
--- an entry at a number, behind a hash
+-- an entry at a number, after a hash
 abbrev pub place : ℕ → List ℕ → Entry → Placed
 place number before e = record { number = number; before = before; entry = e }
 
--- entries that are numbered from `first` on, behind a hash
+-- entries that are numbered from `first` on, after a hash
 abbrev pub placed : (first : ℕ) (before : List ℕ) → List Entry → List Placed
 placed first before [] = []
 placed first before (e ∷ es) =

@@ -2,13 +2,13 @@
 use Rattle.std.specs.Prelude.{ℕ, List, [], ◌∷◌, Option, Some, None, Ok, Err}
 use Rattle.authenticator.specs.declared.member.Member.{Member}
 use Rattle.authenticator.specs.declared.authenticator.Authenticator.{Authenticator}
-use Rattle.machines.specs.State.{State}
+use Rattle.state_machine.specs.state_spec.State.{State}
 use Rattle.secure_log.specs.Segment.{SegmentParts}
 use Rattle.replay_spec.specs.Placed.{Placed, placed_in}
 use Rattle.replay_spec.specs.Steps.{Takes}
 use Rattle.replay_spec.specs.Stepping.{ReplayFault, step, shown_by}
 
--- Entries are honest behind a state: after each there is a state that it leads to from the one before.
+-- Entries are honest after a state: after each there is a state that it leads to from the one before.
 abbrev pub Honest : List Member → State → List Placed → List State → Type 0
 Honest ms s [] [] = Unit {0}
 Honest ms s [] (t ∷ ts) = ⊥
@@ -37,12 +37,12 @@ pub data Verdict : Type 0 where
   Sound : State → List Authenticator → Verdict
   Fault : ReplayFault → (number : ℕ) → Verdict
 
--- the verdict on entries behind one that shows this, if it shows something
+-- the verdict on entries after one that shows this, if it shows something
 abbrev pub behind : Option Authenticator → Verdict → Verdict
 behind shown (Sound s more) = Sound s (with_shown shown more)
 behind shown (Fault fault number) = Fault fault number
 
--- the verdict on entries behind a state
+-- the verdict on entries after a state
 abbrev pub verdict_of : List Member → State → List Placed → Verdict
 verdict_of ms s [] = Sound s []
 verdict_of ms s (p ∷ ps) = elim (step ms s p) [
@@ -50,6 +50,6 @@ verdict_of ms s (p ∷ ps) = elim (step ms s p) [
   | Err fault ↦ Fault fault p.number
 ]
 
--- the verdict on a segment behind a state
+-- the verdict on a segment after a state
 abbrev pub segment_verdict : List Member → State → SegmentParts → Verdict
 segment_verdict ms s segment = verdict_of ms s (placed_in segment)

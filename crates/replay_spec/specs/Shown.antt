@@ -3,8 +3,8 @@ use Rattle.std.specs.Prelude.{ℕ, List}
 use Rattle.sha2.specs.Sha256.{sha256}
 use Rattle.merkle_keys.specs.Signing.{SignatureParts}
 use Rattle.authenticator.specs.declared.authenticator.Authenticator.{Authenticator}
-use Rattle.log_entries.specs.Messages.{message_hash, receipt_hash}
-use Rattle.machines.specs.State.{SentMessage}
+use Rattle.secure_log.specs.LogEntries.Messages.{message_hash, receipt_hash}
+use Rattle.state_machine.specs.state_spec.State.{SentMessage}
 
 -- What a RECV in the log of `node` shows of its sender's log: the hash at the sender's SEND, made from the
 -- message's number there, the hash before it, its receiver and the digest of its body.

@@ -5,13 +5,13 @@ use Rattle.std.specs.FinMap as finite
 use Rattle.merkle_keys.specs.Signing.{SignatureParts}
 use Rattle.authenticator.specs.declared.member.Member.{Member}
 use Rattle.authenticator.specs.declared.authenticator.Authenticator.{Authenticator}
-use Rattle.log_entries.specs.declared.entry.Entry.{Entry}
-use Rattle.log_entries.specs.declared.entry.Entry.TheVariants.{Send, Recv, Ack, Clock, Check}
-use Rattle.machines.specs.Timeval.{is_before}
-use Rattle.machines.specs.State.{is_received, SentMessage, Idle, Heard, Owes, Machine, Server, Client, State}
-use Rattle.machines.specs.State.{clock_in}
-use Rattle.machines.specs.StateText.{state_digest}
-use Rattle.replay_spec.specs.Signing.{is_same, is_signed_in}
+use Rattle.secure_log.specs.declared.log_entries.entry.Entry.{Entry}
+use Rattle.secure_log.specs.declared.log_entries.entry.Entry.TheVariants.{Send, Recv, Ack, Clock, Check}
+use Rattle.nfs_items.specs.Timeval.{is_before}
+use Rattle.state_machine.specs.state_spec.State.{is_received, SentMessage, Idle, Heard, Owes, Machine, Server, Client, State}
+use Rattle.state_machine.specs.state_spec.State.{clock_in}
+use Rattle.state_machine.specs.state_spec.StateText.{state_digest}
+use Rattle.authenticator.specs.Signing.{is_same, is_signed_in}
 use Rattle.replay_spec.specs.Shown.{sender_shown, receiver_shown}
 use Rattle.replay_spec.specs.Placed.{Placed}
 use Rattle.replay_spec.specs.Steps.{received_message, time_of, after_entry}
@@ -150,7 +150,7 @@ is_wrong_checkpoint s (Check digest) = not (is_same digest (state_digest s))
 
 -- ---- the first that applies
 
--- The fault of an entry behind a state, if it has one: each is looked at only where those above don't apply.
+-- The fault of an entry after a state, if it has one: each is looked at only where those above don't apply.
 abbrev pub fault_of : List Member → State → Entry → Option ReplayFault
 fault_of ms s e =
     if is_bad_form s.machine e then Some BadForm

@@ -1,4 +1,4 @@
--- The reference machine of a node: which entry may stand behind a state, and the state after it (PeerReview,
+-- The reference machine of a node: which entry may stand after a state, and the state after it (PeerReview,
 -- SOSP 2007, reference implementations of the nodes' state machines).
 use Rattle.std.specs.Prelude.{◌≡◌, ◌≢◌, ◌<◌, ℕ, false, List, Some}
 use Rattle.std.specs.FinMap as finite
@@ -6,14 +6,14 @@ use Rattle.sha2.specs.Sha256.{sha256}
 use Rattle.merkle_keys.specs.Signing.{SignatureParts}
 use Rattle.authenticator.specs.Signed.{IsSignedIn}
 use Rattle.authenticator.specs.declared.member.Member.{Member}
-use Rattle.log_entries.specs.Messages.{message_hash}
-use Rattle.log_entries.specs.declared.entry.Entry.{Entry}
-use Rattle.log_entries.specs.declared.entry.Entry.TheVariants.{Send, Recv, Ack, Clock, Check}
-use Rattle.machines.specs.Timeval.{Timeval, is_before}
-use Rattle.machines.specs.State.{ReceivedMessage, is_received, SentMessage, Idle, Heard, Owes}
-use Rattle.machines.specs.State.{Machine, Server, Client, State, clock_in}
-use Rattle.machines.specs.StateText.{state_digest}
-use Rattle.machines.specs.Steps.{having_received, having_sent, having_acknowledged, at_stage, having_read}
+use Rattle.secure_log.specs.LogEntries.Messages.{message_hash}
+use Rattle.secure_log.specs.declared.log_entries.entry.Entry.{Entry}
+use Rattle.secure_log.specs.declared.log_entries.entry.Entry.TheVariants.{Send, Recv, Ack, Clock, Check}
+use Rattle.nfs_items.specs.Timeval.{Timeval, is_before}
+use Rattle.state_machine.specs.state_spec.State.{ReceivedMessage, is_received, SentMessage, Idle, Heard, Owes}
+use Rattle.state_machine.specs.state_spec.State.{Machine, Server, Client, State, clock_in}
+use Rattle.state_machine.specs.state_spec.StateText.{state_digest}
+use Rattle.state_machine.specs.Steps.{having_received, having_sent, having_acknowledged, at_stage, having_read}
 use Rattle.replay_spec.specs.Shown.{sender_shown, receiver_shown}
 use Rattle.replay_spec.specs.Placed.{Placed}
 
@@ -24,7 +24,7 @@ abbrev pub received_message : (node from seq : ℕ) (prev body : List ℕ) → R
 received_message node from seq prev body =
     record { from = from; seq = seq; hash = message_hash node seq prev (sha256 body) }
 
--- the message that a SEND behind a hash sends
+-- the message that a SEND after a hash sends
 abbrev pub sent_message : (to : ℕ) (prev body : List ℕ) → SentMessage
 sent_message to prev body = record { to = to; prev = prev; body_hash = sha256 body }
 
@@ -49,7 +49,7 @@ MaySend (Server w (Heard from heard)) to body = ⊥
 MaySend (Server w (Owes whom reply)) to body = (to ≡ whom) × (body ≡ reply)
 MaySend (Client clock) to body = Unit {0}
 
--- A CLOCK may stand there: of a server at once behind the RECV of a message; of a client anywhere.
+-- A CLOCK may stand there: of a server at once after the RECV of a message; of a client anywhere.
 abbrev pub MayReadClock : Machine → Type 0
 MayReadClock (Server w Idle) = ⊥
 MayReadClock (Server w (Heard from body)) = Unit {0}
@@ -95,7 +95,7 @@ pub record MayCheck (s : State) (digest : List ℕ) : Type 0 where
   -- it holds the digest of the state before it
   pub same : digest ≡ state_digest s
 
--- An entry may stand behind a state.
+-- An entry may stand after a state.
 abbrev pub MayStand : List Member → State → Entry → Type 0
 MayStand ms s (Send to body) = MaySend s.machine to body
 MayStand ms s (Recv from seq prev body signature) = MayReceive ms s from seq prev body signature
@@ -105,7 +105,7 @@ MayStand ms s (Check digest) = MayCheck s digest
 
 -- ---- the state after it
 
--- The state after an entry at a number, behind a hash: the one before, with what the entry brings. A SEND is
+-- The state after an entry at a number, after a hash: the one before, with what the entry brings. A SEND is
 -- kept under its number, and then a server owes nothing; a RECV's message is taken in, and a server owes a
 -- clock reading for it; an ACK's message is kept no more; at a CLOCK a server answers the message that it
 -- heard, and owes the reply if one is owed; a CHECK changes nothing.

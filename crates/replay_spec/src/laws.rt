@@ -2,8 +2,8 @@
 
 ghost use Rattle.std.specs.Prelude.{◌≡◌, ◌≢◌, ℕ, List, [], ◌∷◌};
 ghost use Rattle.merkle_keys.specs.Signing.{SignatureParts};
-ghost use Rattle.log_entries.specs.declared.entry.Entry.TheVariants.{Send, Recv, Ack, Clock, Check};
-ghost use Rattle.machines.specs.State.{Heard, Owes, opening_client};
+ghost use Rattle.secure_log.specs.declared.log_entries.entry.Entry.TheVariants.{Send, Recv, Ack, Clock, Check};
+ghost use Rattle.state_machine.specs.state_spec.State.{Heard, Owes, opening_client};
 ghost use Rattle.replay_spec.specs.Stepping.{BadForm, BadReceive, WrongReply, ClockBack, BadAck};
 ghost use Rattle.replay_spec.specs.Stepping.{WrongCheckpoint};
 ghost use Rattle.replay_spec.specs.Replay.{Sound, Fault};
@@ -35,7 +35,7 @@ pub fn fault_exactly_if()
     ensures { FaultExactlyIf }
 {}
 
-/// Entries in two parts are honest where the first part is and the second is behind it.
+/// Entries in two parts are honest where the first part is and the second is after it.
 pub fn parts_are_honest()
     ensures { PartsAreHonest }
 {}
@@ -51,7 +51,7 @@ pub fn openings_have_no_messages()
     ensures { OpeningsHaveNoMessages }
 {}
 
-/// A log without entries is honest, and an honest log stays so by entries that may stand behind its last
+/// A log without entries is honest, and an honest log stays so by entries that may stand after its last
 /// state.
 pub fn logs_grow()
     ensures none { NoEntries }

@@ -1,2 +1,4 @@
+pub mod OfRecords
+pub mod OfRecordLaws
 pub mod Replies
 pub mod Messages

@@ -17,7 +17,7 @@ use Rattle.rpc.specs.declared.call.CallFault.{CallFault}
 abbrev Start : Type 0
 Start = Value call_start × List ℕ
 
--- what is read behind them
+-- what is read after them
 abbrev header_read : Start → Read Message
 header_read s = read_at call_header s.1 >>= λ h. Ok (Version2 s.0.0 (header_from h.0), h.1)
 

@@ -8,7 +8,7 @@ pub record Auth : Type 0 where
   pub flavor : ℕ
   pub body : List ℕ
 
--- its item: the standard's `opaque body<400>` behind the flavor
+-- its item: the standard's `opaque body<400>` after the flavor
 abbrev pub opaque_auth : Item
 opaque_auth = pair word (opaque 400)
 

@@ -1,8 +1,4 @@
-pub use Rattle.records.specs.Count
-pub use Rattle.records.specs.Record
-pub use Rattle.records.specs.Stream
-pub use Rattle.records.specs.Reading
-pub use Rattle.records.specs.Writing
+pub mod Records
 pub mod Call
 pub mod CallValues
 pub mod Reply

@@ -64,7 +64,7 @@ reply_text r = spelling reply (reply_value r)
 abbrev pub numbers_text : List ℕ → List ℕ
 numbers_text ns = flat_map (spelling word) ns
 
--- the words behind a reply's first two
+-- the words after a reply's first two
 abbrev pub body_words : ReplyBody → List ℕ
 body_words bodies.Success = 0 ∷ 0 ∷ 0 ∷ 0 ∷ []
 body_words bodies.ProgramUnavailable = 0 ∷ 0 ∷ 0 ∷ 1 ∷ []

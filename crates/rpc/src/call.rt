@@ -34,7 +34,7 @@ pub struct Header<'a> {
     pub verifier: OpaqueAuth<'a>,
 }
 
-/// What stands behind a call's transaction id.
+/// What stands after a call's transaction id.
 #[derive(Clone, Copy, Debug)]
 pub enum CallBody<'a> {
     /// Of another RPC version than 2, which says nothing more that is known here.

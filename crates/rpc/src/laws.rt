@@ -10,7 +10,7 @@ pub fn reads_what_is_said()
         ((message_at bytes ≡ Ok (m, rest)) ↔ Says bytes m rest) }
 {}
 
-/// Bytes say one call at most, with one text behind it.
+/// Bytes say one call at most, with one text after it.
 pub fn says_one_call()
     ensures { (bytes : List ℕ) (m n : Message) (x y : List ℕ) →
         Says bytes m x → Says bytes n y → (m ≡ n) × (x ≡ y) }

@@ -33,7 +33,7 @@ impl AuthStat {
     }
 }
 
-/// What stands behind a reply's transaction id (RFC 5531, section 9, reply_body). The verifier of an accepted
+/// What stands after a reply's transaction id (RFC 5531, section 9, reply_body). The verifier of an accepted
 /// call is AUTH_NONE with no bytes.
 #[derive(Clone, Copy, Debug, PartialEq, Eq)]
 pub enum ReplyBody {

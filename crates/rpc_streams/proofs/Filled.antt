@@ -4,11 +4,11 @@ use Rattle.std.proofs.Common.{◌≡◌, ℕ, ◌+◌, ◌-◌, ◌≤◌, List,
 use Rattle.std.specs.List.{AllByRecursion}
 use Rattle.std.proofs.lemmas.List.{append-nil}
 use Rattle.std.proofs.lemmas.List.Concat.{flat_map-cons, flat_map-append}
-use Rattle.records.specs.Record.{fragment, mark, IsRecord}
-use Rattle.records.specs.Ahead.{IsInFront}
-use Rattle.records.specs.Stream.{AreRecords}
-use Rattle.records.specs.declared.record.TheConstants.{MAX_RECORD}
-use Rattle.records.proofs.Marks.{length-mark}
+use Rattle.rpc.specs.Records.Record.{fragment, mark, IsRecord}
+use Rattle.rpc.specs.Records.Ahead.{IsInFront}
+use Rattle.rpc.specs.Records.Stream.{AreRecords}
+use Rattle.rpc.specs.declared.records.record.TheConstants.{MAX_RECORD}
+use Rattle.rpc.proofs.OfRecords.Marks.{length-mark}
 use Rattle.worlds.specs.World.{World}
 use Rattle.service.specs.Replies.{reply_owed, world_after}
 use Rattle.service.specs.Owed.{record_of}
@@ -19,7 +19,7 @@ use Rattle.rpc_streams.proofs.InTurn.{owed_from-push, world_from-push}
 
 -- ---- records of one fragment each
 
--- a fragment is its bytes behind four
+-- a fragment is its bytes after four
 pub length-fragment : (r : List ℕ) → length (fragment true r) ≡ 4 + length r
 length-fragment r = omega (arith, length-append (mark true (length r)) r, length-mark true (length r))
 
@@ -36,6 +36,7 @@ one_fragment r fits = record {
   fits = record { length_fits = omega (arith, fits); count_fits = omega arith };
 }
 
+-- records of which none is too long are read back from their text
 pub are_records : (rs : List (List ℕ)) → AllByRecursion (λ r. length r ≤ MAX_RECORD) rs → AreRecords (whole_text rs) rs
 are_records [] fit = refl
 are_records (r ∷ rs) fit = (fragment true r, whole_text rs, one_fragment r fit.0, are_records rs fit.1, flat_map-cons (fragment true) r rs)
@@ -76,19 +77,23 @@ length-ends_from w k a h (r ∷ rs) =
 
 -- the records so far end after so many bytes
 pub record Filled (w : World) (k : ℕ) (w' : World) (bytes replies : List ℕ) (ends : List End) (taken : ℕ) : Type 0 where
+  -- the records so far, with their replies and ends, are a batch
   pub batch : IsBatch w k w' bytes replies ends
+  -- so many bytes are their text
   pub taken_is : taken ≡ length (whole_text batch.records)
 
 -- there is an end for each
 pub counted : {w : World} {k : ℕ} {w' : World} {bytes replies : List ℕ} {ends : List End} (b : IsBatch w k w' bytes replies ends) → length ends ≡ length b.records
 counted {w = w} {k = k} b = ap length b.ends_are ∙ length-ends_from w k 0 0 b.records
 
+-- before the first record a batch is filled by none
 pub nothing : (w : World) (k : ℕ) (bytes replies : List ℕ) (ends : List End) → replies ≡ [] → ends ≡ [] → Filled w k w bytes replies ends 0
 nothing w k bytes replies ends e f = record {
   batch = record { records = []; more = bytes; fit = tt; bytes_are = refl; world_is = refl; replies_are = e; ends_are = f };
   taken_is = refl;
 }
 
+-- one more record in front of the rest, with its reply and its end, fills a batch further
 pub one_more : {w w' w'' : World} {k taken : ℕ} {bytes replies replies' : List ℕ} {ends : List End} (r : List ℕ) (taken' owed : ℕ)
     → Filled w k w' bytes replies ends taken → IsInFront r (drop taken bytes)
     → w'' ≡ world_after w' (time_of (k + length ends)) r
@@ -118,6 +123,6 @@ one_more {w = w} {w' = w'} {k = k} {taken = taken} {bytes = bytes} {replies = re
       taken_is = omega (arith, e, f.taken_is, ap length (whole_text-push b.records r), length-append text (fragment true r), length-fragment r);
     }
 
--- the bytes behind those that were taken
+-- the bytes after those that were taken
 pub behind : (taken : ℕ) (bytes : List ℕ) → take (length bytes - taken) (drop taken bytes) ≡ drop taken bytes
 behind taken bytes = take_all (length bytes - taken) (drop taken bytes) (omega (arith, length-drop taken bytes))

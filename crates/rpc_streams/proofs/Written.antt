@@ -7,9 +7,9 @@ use Rattle.std.specs.Io.KnownBytes.{Consumes, Appends}
 use Rattle.std.proofs.lemmas.Bool.{ltb-true, ltb-false, le-ltb}
 use Rattle.std.proofs.lemmas.List.Concat.{flat_map-cons, flat_map-append}
 use lib.Seq.{take-add, take-append-le}
-use Rattle.records.specs.Record.{fragment}
-use Rattle.records.specs.declared.fault.RecordFault.TheVariants as faults
-use Rattle.records.specs.declared.record.TheConstants.{MAX_RECORD}
+use Rattle.rpc.specs.Records.Record.{fragment}
+use Rattle.rpc.specs.declared.records.fault.RecordFault.TheVariants as faults
+use Rattle.rpc.specs.declared.records.record.TheConstants.{MAX_RECORD}
 use Rattle.worlds.specs.World.{World}
 use Rattle.service.specs.Replies.{reply_owed, world_after}
 use Rattle.service.specs.Owed.{record_of}
@@ -36,7 +36,7 @@ in_two_writes (Some xs) (Some ys) x y wrote = (Some (xs ++ x), refl, wrote ∙ s
 text_more : (r : List ℕ) (rs : List (List ℕ)) → length (whole_text (r ∷ rs)) ≡ length (fragment true r) + length (whole_text rs)
 text_more r rs = ap length (flat_map-cons (fragment true) r rs) ∙ length-append (fragment true r) (whole_text rs)
 
--- never behind the last
+-- never after the last
 within_all : (w : World) (k a h : ℕ) (rs : List (List ℕ)) (n : ℕ) → taken_by n a (ends_from w k a h rs) ≤ a + length (whole_text rs)
 within_all w k a h [] n = omega arith
 within_all w k a h (r ∷ rs) n = by (nat_lt n (h + length reply)) refl (within_all (world_after w (time_of k) r) (k + 1) (a + length (fragment true r)) (h + length reply) rs n)
@@ -50,6 +50,7 @@ within_all w k a h (r ∷ rs) n = by (nat_lt n (h + length reply)) refl (within_
     by true e ih = rw e (omega (arith, text_more r rs))
     by false e ih = rw e (omega (arith, text_more r rs, ih))
 
+-- the records whose replies were written end within the bytes
 pub within : {w w' : World} {k : ℕ} {bytes replies : List ℕ} {ends : List End} (n : ℕ) → IsBatch w k w' bytes replies ends → taken_by n 0 ends ≤ length bytes
 within {w = w} {k = k} n b =
     let few : taken_by n 0 (ends_from w k 0 0 b.records) ≤ 0 + length (whole_text b.records) = within_all w k 0 0 b.records n in
@@ -190,7 +191,7 @@ part_of_batch {w = w} {k = k} {bytes = bytes} {replies = replies} left left' bef
       stops = (text, s.last, one_fragment s.last fit.1, takes.2, (take m reply, drop m reply, sym (take-append-drop m reply), omega (arith, length-drop m reply, few), writes.2));
     }
 
--- memory was refused behind them
-pub refused_behind : {w w' : World} {k count : ℕ} {left left' before after : Option (List ℕ)} → AnswersRecords w k w' count left left' before after
+-- memory was refused after them
+pub refused_after : {w w' : World} {k count : ℕ} {left left' before after : Option (List ℕ)} → AnswersRecords w k w' count left left' before after
     → AnswersAndStops faults.NoMemory w k left left' before after
-refused_behind {w' = w'} {count = count} {left' = left'} {after = after} a = record { now = w'; count = count; between = left'; written = after; answers = a; stops = (refl, refl) }
+refused_after {w' = w'} {count = count} {left' = left'} {after = after} a = record { now = w'; count = count; between = left'; written = after; answers = a; stops = (refl, refl) }

@@ -3,30 +3,31 @@ use Rattle.std.specs.Prelude.{◌≡◌, ◌≤◌, ◌+◌, ℕ, nat_lt, true, 
 use Rattle.std.specs.Prelude.{if◌then◌else◌}
 use Rattle.std.specs.List.{flat_map, AllByRecursion}
 use Rattle.std.specs.Io.KnownBytes.{Appends, Consumes}
-use Rattle.records.specs.Record.{fragment, IsRecord}
-use Rattle.records.specs.Stream.{AreRecords}
-use Rattle.records.specs.Writing.{WritesFront}
-use Rattle.records.specs.declared.fault.RecordFault.{RecordFault}
-use Rattle.records.specs.declared.fault.RecordFault.TheVariants as faults
-use Rattle.records.specs.declared.record.TheConstants.{MAX_RECORD}
+use Rattle.rpc.specs.Records.Record.{fragment, IsRecord}
+use Rattle.rpc.specs.Records.Stream.{AreRecords}
+use Rattle.rpc.specs.Records.Writing.{WritesFront}
+use Rattle.rpc.specs.declared.records.fault.RecordFault.{RecordFault}
+use Rattle.rpc.specs.declared.records.fault.RecordFault.TheVariants as faults
+use Rattle.rpc.specs.declared.records.record.TheConstants.{MAX_RECORD}
 use Rattle.worlds.specs.World.{World}
 use Rattle.service.specs.Replies.{reply_owed, world_after}
 use Rattle.service.specs.Owed.{record_of, replies_owed, world_after_all}
-use Rattle.rpc_streams.specs.RunRpc.{time_of, with_times}
+use Rattle.record_streams.specs.InTurn.{with_times}
+use Rattle.rpc_streams.specs.RunRpc.{time_of}
 use Rattle.rpc_streams.specs.declared.batch.End.{End}
 
 -- the records of the replies owed to them, and the world after them
 abbrev pub owed_from : World → ℕ → List (List ℕ) → List ℕ
-owed_from w k records = replies_owed w (with_times k records)
+owed_from w k records = replies_owed w (with_times time_of k records)
 
 abbrev pub world_from : World → ℕ → List (List ℕ) → World
-world_from w k records = world_after_all w (with_times k records)
+world_from w k records = world_after_all w (with_times time_of k records)
 
 -- the text of records of one fragment each
 abbrev pub whole_text : List (List ℕ) → List ℕ
 whole_text records = flat_map (fragment true) records
 
--- where each of them ends, and its reply, behind so many bytes of records and of replies
+-- where each of them ends, and its reply, after so many bytes of records and of replies
 abbrev pub ends_from : World → ℕ → (taken owed : ℕ) → List (List ℕ) → List End
 ends_from w k taken owed [] = []
 ends_from w k taken owed (r ∷ rs) =
@@ -63,15 +64,15 @@ pub record AnswersRecords (w : World) (k : ℕ) (w' : World) (count : ℕ)
   pub world_is : w' ≡ world_from w k records
   pub written : Appends before after (owed_from w k records)
 
--- What was taken and written behind records that were answered, where no more are. Memory was refused:
+-- What was taken and written after records that were answered, where no more are. Memory was refused:
 -- nothing. A write failed: one record more was taken, and a beginning of its reply written, but not all.
-abbrev pub StopsBehind : RecordFault → World → ℕ → (left left' before after : Option (List ℕ)) → Type 0
-StopsBehind faults.NoMemory w k left left' before after = (left' ≡ left) × (after ≡ before)
-StopsBehind faults.Device w k left left' before after =
+abbrev pub StopsAfter : RecordFault → World → ℕ → (left left' before after : Option (List ℕ)) → Type 0
+StopsAfter faults.NoMemory w k left left' before after = (left' ≡ left) × (after ≡ before)
+StopsAfter faults.Device w k left left' before after =
     (text : List ℕ) × (last : List ℕ) × IsRecord text last × Consumes left left' text
     × WritesFront before after (record_of (reply_owed w (time_of k) last))
-StopsBehind faults.RecordTooLong w k left left' before after = ⊥
-StopsBehind faults.EndInRecord w k left left' before after = ⊥
+StopsAfter faults.RecordTooLong w k left left' before after = ⊥
+StopsAfter faults.EndInRecord w k left left' before after = ⊥
 
 -- Records were taken and their replies written, and then it stopped.
 pub record AnswersAndStops (e : RecordFault) (w : World) (k : ℕ) (left left' before after : Option (List ℕ))
@@ -81,4 +82,4 @@ pub record AnswersAndStops (e : RecordFault) (w : World) (k : ℕ) (left left' b
   pub between : Option (List ℕ)
   pub written : Option (List ℕ)
   pub answers : AnswersRecords w k now count left between before written
-  pub stops : StopsBehind e now (k + count) between left' written after
+  pub stops : StopsAfter e now (k + count) between left' written after

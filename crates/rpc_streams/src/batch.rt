@@ -7,14 +7,14 @@ ghost use Rattle.rpc_streams.specs.RunRpc.{time_of};
 ghost use Rattle.rpc_streams.specs.Batches.{IsBatch, taken_by};
 
 use nfs_items::Time;
-use records::{MAX_RECORD, last_mark, record_in_front};
+use rpc::records::{MAX_RECORD, last_mark, record_in_front};
 use service::Service;
 use std::alloc::{AllocError, Global};
 
 /// The bytes of a mark.
 const MARK: usize = 4;
 
-/// No record is answered behind replies of more bytes: more than are owed to what a pipe holds at once, if
+/// No record is answered after replies of more bytes: more than are owed to what a pipe holds at once, if
 /// its calls ask for no data.
 const MOST_BYTES: usize = 122_880;
 
@@ -29,7 +29,7 @@ pub fn time_of_record(k: u64) -> Time
     Time::new(seconds, 0).unwrap()
 }
 
-/// Answers a record at a time: the record of the reply, if one is owed, is put behind what is held. Where
+/// Answers a record at a time: the record of the reply, if one is owed, is put after what is held. Where
 /// memory is refused, nothing has changed.
 pub fn answer_record(
     alloc: Global,

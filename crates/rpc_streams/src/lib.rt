@@ -4,6 +4,5 @@
 mod batch;
 mod stream;
 
-pub use records::{Ahead, Counting, RecordFault, RecordReader};
-pub use service::Service;
+pub use service as service_code;
 pub use stream::run_rpc;

@@ -3,17 +3,21 @@
 ghost use Rattle.std.specs.Prelude.{◌≡◌, ◌<◌, ◌≤◌, ◌+◌, ◌^◌, ◌⊎◌, IfOk, IfErr, OnOk, IsErrOf, IfSome, None};
 ghost use Rattle.std.specs.Prelude.{vec_capacity};
 ghost use Rattle.std.specs.Io.KnownBytes.{Appends, IsAtEnd};
-ghost use Rattle.records.specs.Count.{Rises};
-ghost use Rattle.records.specs.Writing.{WritesFront};
+ghost use Rattle.rpc.specs.Records.Count.{Rises};
+ghost use Rattle.rpc.specs.Records.Writing.{WritesFront};
 ghost use Rattle.service.specs.Replies.{reply_owed, world_after};
 ghost use Rattle.service.specs.Owed.{record_of};
-ghost use Rattle.records.specs.declared.fault.RecordFault.TheVariants.{Device, NoMemory};
-ghost use Rattle.rpc_streams.specs.RunRpc.{Serves, EndsWith, LeavesOff, StandsAfter};
+ghost use Rattle.rpc.specs.declared.records.fault.RecordFault.TheVariants.{Device, NoMemory};
+ghost use Rattle.record_streams.specs.Streams.{Serves};
+ghost use Rattle.record_streams.specs.Faults.{EndsWith, LeavesOff, StandsAfter};
+ghost use Rattle.rpc_streams.specs.RunRpc.{text_owed, SaysNothing};
 ghost use Rattle.rpc_streams.specs.Batches.{AnswersRecords, AnswersAndStops};
 
 use crate::batch::{Batch, MOST_RECORDS, answer_record, time_of_record};
 use nfs_items::Time;
-use records::{Ahead, Counting, MAX_RECORD, RecordFault, RecordReader, write_bytes, write_front};
+use rpc::records::{
+    Ahead, Counting, MAX_RECORD, RecordFault, RecordReader, write_bytes, write_front,
+};
 use service::Service;
 use std::alloc::Global;
 use std::io::Write;
@@ -91,10 +95,10 @@ fn serve_at_hand<R: Ahead + Drop, W: Write>(
 ///
 /// `Ok` is the count of records. `RecordTooLong` and `EndInRecord` come where the input goes on with bytes
 /// that pass a limit, or end within a record: what is owed to the records before them was written, and the
-/// reader has taken no byte behind the limit, or all. `Device` comes where a read or a write failed: all
+/// reader has taken no byte after the limit, or all. `Device` comes where a read or a write failed: all
 /// records that were taken are answered, or all but the last, of whose reply a part was written. `NoMemory`
 /// comes where memory was refused, or after 2^64 - 2 records: the records that were taken are answered, or
-/// all but the last. Then the reader stands behind whole records, and can be read on.
+/// all but the last. Then the reader stands after whole records, and can be read on.
 pub fn run_rpc<R: Ahead + Drop, W: Write>(
     alloc: Global,
     reader: &mut RecordReader<R>,
@@ -102,10 +106,11 @@ pub fn run_rpc<R: Ahead + Drop, W: Write>(
 ) -> Result<u64, RecordFault>
     requires fresh { reader.old.fault ≡ None }
     ensures served { IfOk result (λ count. IfSome (R.remaining reader.old.reader.inner) (λ input.
-        Serves count input (W.contents writer.old.inner) (W.contents writer.new.inner))) }
+        Serves text_owed SaysNothing count input
+        (W.contents writer.old.inner) (W.contents writer.new.inner))) }
     ensures fault { IfErr result (λ e. IfSome (R.remaining reader.old.reader.inner) (λ input.
-        EndsWith e input (W.contents writer.old.inner) (W.contents writer.new.inner))) }
-    ensures taken { IfErr result (λ e. LeavesOff e reader.new.fault
+        EndsWith e text_owed input (W.contents writer.old.inner) (W.contents writer.new.inner))) }
+    ensures taken { IfErr result (λ e. LeavesOff e reader.new.fault text_owed SaysNothing
         (R.remaining reader.old.reader.inner) (R.remaining reader.new.reader.inner)
         (W.contents writer.old.inner) (W.contents writer.new.inner)) }
     ensures end { OnOk result (IsAtEnd (R.remaining reader.new.reader.inner)) }

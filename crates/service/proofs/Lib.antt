@@ -1,3 +1,6 @@
+pub use Rattle.fs_model.proofs as fs_model
+pub use Rattle.nfs_procs.proofs.nfs_laws as nfs_laws
+pub use Rattle.worlds.proofs as worlds
 pub mod Answering
 pub mod Named
 pub mod Replied

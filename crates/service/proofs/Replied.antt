@@ -49,7 +49,7 @@ module _ (w : World) (time : Timeval) (bytes : List ℕ) where
       of_fault (at_time w time) fault old (message_at bytes)
       (subst (λ x. GivesCall x (message_at bytes)) e given)
 
--- the reply that is owed, put behind nothing
+-- the reply that is owed, put after nothing
 pub is_the_reply : (owed : Option (List ℕ)) (new : List ℕ) → IsReplied true owed [] new → Some new ≡ owed
 is_the_reply (Some text) new e = ap (λ (t : List ℕ). Some t) e
 is_the_reply None new never = absurd never

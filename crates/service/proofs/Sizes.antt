@@ -4,7 +4,7 @@ use Rattle.std.proofs.Common.{◌≡◌, ℕ, ◌≤◌, List, length, Ok, Err, 
 use Rattle.std.specs.Prelude.{Option, Some, None, IfSome, option_map}
 use Rattle.xdr.specs.Reading.{Read}
 use Rattle.xdr.proofs.Front.{length-number_spelling}
-use Rattle.records.specs.declared.record.TheConstants.{MAX_RECORD}
+use Rattle.rpc.specs.declared.records.record.TheConstants.{MAX_RECORD}
 use Rattle.rpc.specs.Call.{Message, OtherVersion, Version2, message_at}
 use Rattle.rpc.specs.Reply.{reply_text}
 use Rattle.rpc.specs.declared.reply.ReplyBody.{ReplyBody}
@@ -12,8 +12,8 @@ use Rattle.rpc.specs.declared.reply.ReplyBody.TheVariants as bodies
 use Rattle.nfs_items.specs.Timeval.{Timeval}
 use Rattle.nfs_items.specs.Caller.{Caller}
 use Rattle.fs_model.specs.Trees.{IsFileTree}
-use Rattle.worlds.proofs.Lengths.{answer_length}
-use Rattle.mount_types.specs.Mounts.{AreMounts}
+use Rattle.nfs_procs.proofs.nfs_laws.OfSizes.Lengths.{answer_length}
+use Rattle.mount.specs.mount_types.Mounts.{AreMounts}
 use Rattle.worlds.specs.World.{World, at_time}
 use Rattle.mount.proofs.Sizes.{answer_is_short}
 use Rattle.service.specs.Replies.{OrRefusal, ServedCall, Nfs, Mount, call_or_refusal, call_results}

@@ -20,14 +20,14 @@ use Rattle.nfs_types.specs.Bounds.{HasBounds}
 use Rattle.nfs_types.specs.declared.arguments.NfsProcedure.{NfsProcedure}
 use Rattle.fs_model.specs.Files.{Files}
 use Rattle.fs_model.specs.Trees.{IsTime, IsFileTree}
-use Rattle.fs_changes.specs.Limits.{has_room}
-use Rattle.nfs_spec.specs.NfsCalls.{call_does}
-use Rattle.nfs_spec_laws.specs.Laws.{IsBounded}
-use Rattle.worlds.specs.Bounds.{AreWords, SaysWords, HasWordsIn}
-use Rattle.mount_types.specs.declared.limits.TheConstants.{MNTNAMLEN}
-use Rattle.mount_types.specs.Calls.{MountCall}
-use Rattle.mount_types.specs.Texts as mount_texts
-use Rattle.mount_types.specs.Mounts.{Mounts, AreMounts}
+use Rattle.fs_model.specs.Changes.Limits.{has_room}
+use Rattle.mount.specs.nfs_spec.NfsCalls.{call_does}
+use Rattle.nfs_procs.specs.nfs_laws.Laws.{IsBounded}
+use Rattle.nfs_procs.specs.nfs_laws.Sizes.Bounds.{AreWords, SaysWords, HasWordsIn}
+use Rattle.mount.specs.mount_types.declared.limits.TheConstants.{MNTNAMLEN}
+use Rattle.mount.specs.mount_types.Calls.{MountCall}
+use Rattle.mount.specs.mount_types.Texts as mount_texts
+use Rattle.mount.specs.mount_types.Mounts.{Mounts, AreMounts}
 use Rattle.mount.specs.MountCalls.{host_of, mount_does}
 use Rattle.worlds.specs.World.{World, at_time}
 use Rattle.worlds.specs.IsWorld.{IsWorld}

@@ -1,6 +1,6 @@
 -- What a stream of records is owed.
 use Rattle.std.specs.Prelude.{◌≡◌, ℕ, Bool, true, false, List, [], ◌∷◌, ◌++◌, Option, Some, None}
-use Rattle.records.specs.Record.{fragment}
+use Rattle.rpc.specs.Records.Record.{fragment}
 use Rattle.nfs_items.specs.Timeval.{Timeval}
 use Rattle.worlds.specs.World.{World}
 use Rattle.service.specs.Replies.{reply_owed, world_after}
@@ -10,7 +10,7 @@ abbrev pub record_of : Option (List ℕ) → List ℕ
 record_of None = []
 record_of (Some bytes) = fragment true bytes
 
--- The reply that is owed was put behind what was there, or none is owed and nothing was.
+-- The reply that is owed was put after what was there, or none is owed and nothing was.
 abbrev pub IsReplied : Bool → Option (List ℕ) → List ℕ → List ℕ → Type 0
 IsReplied true (Some text) old new = new ≡ old ++ text
 IsReplied true None old new = ⊥

@@ -12,11 +12,11 @@ use Rattle.nfs_items.specs.Caller.{Caller, nobody}
 use Rattle.nfs_items.specs.Credentials.{caller_in}
 use Rattle.nfs_types.specs.Calls.{Call}
 use Rattle.nfs_types.specs.Texts.{procedure_at, call_at, answer_text}
-use Rattle.nfs_spec.specs.NfsCalls.{call_does}
-use Rattle.mount_types.specs.Calls.{MountCall}
-use Rattle.mount_types.specs.Texts as mount_texts
-use Rattle.mount_types.specs.declared.arguments.MountProcedure.{MountProcedure}
-use Rattle.mount_types.specs.declared.arguments.MountProcedure.TheVariants as mount_procedures
+use Rattle.mount.specs.nfs_spec.NfsCalls.{call_does}
+use Rattle.mount.specs.mount_types.Calls.{MountCall}
+use Rattle.mount.specs.mount_types.Texts as mount_texts
+use Rattle.mount.specs.mount_types.declared.arguments.MountProcedure.{MountProcedure}
+use Rattle.mount.specs.mount_types.declared.arguments.MountProcedure.TheVariants as mount_procedures
 use Rattle.mount.specs.MountCalls.{mount_does}
 use Rattle.service.specs.declared.checks.TheConstants.{AUTH_NONE, AUTH_SYS, NFS_PROGRAM, NFS_VERSION}
 use Rattle.service.specs.declared.checks.TheConstants.{MOUNT_PROGRAM, MOUNT_VERSION}
@@ -117,7 +117,7 @@ call_or_refusal h arguments = do
 
 -- ---- the reply, and the world after it
 
--- a reply's text, with a body and nothing behind it
+-- a reply's text, with a body and nothing after it
 abbrev pub bare_reply : ℕ → ReplyBody → List ℕ
 bare_reply xid body = reply_text (record { xid = xid; body = body })
 

@@ -6,9 +6,9 @@ use Rattle.nfs_items.specs.CallerOf.{caller_of}
 use Rattle.nfs_items.specs.declared.who.Who.{Who}
 use Rattle.nfs_types.specs.Arguments as nfs
 use Rattle.nfs_types.specs.Bounds as nfs_bounds
-use Rattle.mount_types.specs.Arguments as mount
-use Rattle.mount_types.specs.declared.limits.TheConstants.{MNTNAMLEN}
-use Rattle.mount_types.specs.Bounds as mount_bounds
+use Rattle.mount.specs.mount_types.Arguments as mount
+use Rattle.mount.specs.mount_types.declared.limits.TheConstants.{MNTNAMLEN}
+use Rattle.mount.specs.mount_types.Bounds as mount_bounds
 use Rattle.service.specs.declared.checks.ServedArgs.{ServedArgs}
 use Rattle.service.specs.declared.checks.ServedArgs.TheVariants as code
 use Rattle.service.specs.Replies.{OrRefusal, ServedCall, Nfs, Mount}

@@ -7,16 +7,16 @@ ghost use Rattle.service.specs.declared.service.TheConstants.{RPC_VERSION};
 ghost use Rattle.xdr.specs.Item.{IsBytes};
 ghost use Rattle.nfs_items.specs.Timeval.{Timeval};
 ghost use Rattle.fs_model.specs.Trees.{IsTime};
-ghost use Rattle.records.specs.declared.record.TheConstants.{MAX_RECORD};
+ghost use Rattle.rpc.specs.declared.records.record.TheConstants.{MAX_RECORD};
 ghost use Rattle.worlds.specs.World.{World};
 ghost use Rattle.worlds.specs.IsWorld.{IsWorld};
 ghost use Rattle.service.specs.Replies.{Answers, reply_owed, world_after};
 
 use mount::laws::mounts_stay_mounts;
-use nfs_spec_frames::laws::calls_keep_the_files_they_do_not_name;
-use nfs_spec_laws::laws::{no_limit_is_passed, trees_stay_trees};
+use nfs_procs::nfs_laws_code::frames::laws::calls_keep_the_files_they_do_not_name;
+use nfs_procs::nfs_laws_code::laws::{no_limit_is_passed, trees_stay_trees};
+use nfs_procs::nfs_laws_code::sizes::laws::{answers_have_a_spelling, read_calls_are_bounded};
 use nfs_types::laws::calls_are_bounded;
-use worlds::{answers_have_a_spelling, read_calls_are_bounded};
 
 /// A record at a time has one answer: the reply owed, or none, and the world after it.
 pub fn one_answer()

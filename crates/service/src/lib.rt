@@ -5,4 +5,5 @@ mod checks;
 pub mod laws;
 mod service;
 
+pub use mount as mount_code;
 pub use service::Service;

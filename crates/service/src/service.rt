@@ -3,7 +3,7 @@
 ghost use Rattle.std.specs.Prelude.{◌≡◌, ◌≤◌, ◌++◌, List, ℕ, length, None, IfOk, IfSome, OnOk, OnErr, IsOk};
 ghost use Rattle.std.specs.Io.{StartsWith};
 ghost use Rattle.std.specs.Option.{option_map};
-ghost use Rattle.records.specs.declared.record.TheConstants.{MAX_RECORD};
+ghost use Rattle.rpc.specs.declared.records.record.TheConstants.{MAX_RECORD};
 ghost use Rattle.xdr.specs.Writing.{Appends};
 ghost use Rattle.rpc.specs.Call.{Message};
 ghost use Rattle.rpc.specs.CallValues.{IsCallOf};
@@ -16,8 +16,10 @@ ghost use Rattle.service.specs.Owed.{IsReplied};
 ghost use Rattle.service.specs.Views.{served_of, view_of_call, HasShortName, IsBounded};
 
 use crate::checks::{ServedArgs, check_call};
-use mount::{MountTable, Tree, mount_call, nfs_call};
+use mount::file_tree_code::Tree;
+use mount::{MountTable, mount_call};
 use nfs_items::{Time, Who};
+use nfs_procs::nfs_call;
 use rpc::{Call, CallBody, Reply, ReplyBody, read_call, write_reply};
 use std::alloc::{AllocError, Global};
 use std::marker::Model;
@@ -164,7 +166,7 @@ impl Service {
     }
 }
 
-/// Appends a reply with nothing behind it.
+/// Appends a reply with nothing after it.
 fn add_bare_reply(out: &mut Vec<u8>, xid: u32, body: ReplyBody) -> Result<(), AllocError>
     ensures { Appends (bare_reply xid body) out.old.items result out.new.items }
 {

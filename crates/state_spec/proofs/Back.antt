@@ -5,7 +5,7 @@ use Rattle.std.specs.Ordering.{nat_cmp}
 use Rattle.std.specs.declared.cmp.Ordering.{Ordering}
 use Rattle.std.specs.FinMap as finite
 use Rattle.std.specs.FinSet.{FinSet}
-use Rattle.fs_model.specs.Files.{File}
+use Rattle.file_texts.specs.fs_model.Files.{File}
 use Rattle.file_texts.specs.FileItems.{file_item, file_value}
 use Rattle.file_texts.specs.FileValues.{time_from, numbered_from}
 use Rattle.file_texts.proofs.Files.{file_back}

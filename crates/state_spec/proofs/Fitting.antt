@@ -9,17 +9,17 @@ use Rattle.std.specs.Ordering.{nat_cmp, eq_by_cmp}
 use Rattle.std.specs.Cmp.Lexicographic.{pointwise, same_text}
 use Rattle.std.specs.FinMap as finite
 use Rattle.xdr.specs.Item.{Fits, choice}
-use Rattle.fs_model.specs.Maxima.{max_file_size, max_target, max_name, max_files}
-use Rattle.fs_model.specs.Listing.{DirEntry, entry_at}
-use Rattle.fs_model.specs.Files.{Body, Regular, Symlink, Directory, File, file_at, listing_in, places}
-use Rattle.fs_changes.specs.Limits.{file_count}
-use Rattle.fs_model.proofs.Walks.{none_some, some_same}
-use Rattle.fs_changes.proofs.Room.{AllCookies}
-use Rattle.fs_model.proofs.Counts.{file_in, place_in}
+use Rattle.file_texts.specs.fs_model.Maxima.{max_file_size, max_target, max_name, max_files}
+use Rattle.file_texts.specs.fs_model.Listing.{DirEntry, entry_at}
+use Rattle.file_texts.specs.fs_model.Files.{Body, Regular, Symlink, Directory, File, file_at, listing_in, places}
+use Rattle.file_texts.specs.fs_model.Changes.Limits.{file_count}
+use Rattle.file_texts.proofs.fs_model.Walks.{none_some, some_same}
+use Rattle.file_texts.proofs.fs_model.OfChanges.Room.{AllCookies}
+use Rattle.file_texts.proofs.fs_model.Counts.{file_in, place_in}
 use Rattle.worlds.specs.World.{World}
-use Rattle.mount_types.specs.declared.limits.TheConstants.{MNTNAMLEN}
-use Rattle.mount_types.specs.Mounts.{max_mounts}
-use Rattle.worlds.specs.Bounds.{HasWords}
+use Rattle.worlds.specs.mount_types.declared.limits.TheConstants.{MNTNAMLEN}
+use Rattle.worlds.specs.mount_types.Mounts.{max_mounts}
+use Rattle.worlds.specs.nfs_laws.Sizes.Bounds.{HasWords}
 use Rattle.file_texts.specs.FileItems.{entry_item, file_item, file_value, is_file_kind, kind_item, kind_value}
 use Rattle.file_texts.specs.FileItems.{attributes_item, attributes_value}
 use Rattle.state_spec.specs.State.{Stage}

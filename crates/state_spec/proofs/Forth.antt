@@ -13,8 +13,8 @@ use Rattle.std.specs.FinMap.Entries.{below_all, is_sorted}
 use Rattle.std.specs.FinSet.{FinSet}
 use Rattle.std.proofs.lemmas.Bool.{eqb-true, ltb-true}
 use Rattle.xdr.specs.Item.{Value, Fits}
-use Rattle.fs_model.specs.Files.{File}
-use Rattle.fs_model.proofs.Reached.{both_of}
+use Rattle.file_texts.specs.fs_model.Files.{File}
+use Rattle.file_texts.proofs.fs_model.Reached.{both_of}
 use Rattle.file_texts.specs.FileItems.{file_item, file_value}
 use Rattle.file_texts.specs.FileValues.{time_from, numbered_from}
 use Rattle.file_texts.proofs.Files.{either, file_forth}
@@ -163,7 +163,7 @@ no_other_node n le h =
     ⊎_elim (λ one. omega (arith, eqb-true n 1 one)) (λ two. omega (arith, eqb-true n 2 two))
     (either (eqb n 1) (eqb n 2) h)
 
--- what a state says behind its version and node
+-- what a state says after its version and node
 at_kind : (node kind : ℕ) (m : Value (machine_item file_item kind)) → IsTrue (is_node_kind kind)
     → Fits (machine_item file_item kind) m
     → ReceivedRise m.1.0 → SendsRise m.1.1.0 → FilesRise (files_said kind m.1.1.1)

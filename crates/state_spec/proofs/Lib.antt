@@ -1,4 +1,4 @@
-pub use Rattle.file_texts.proofs.Arrays
+pub use Rattle.file_texts.proofs as file_texts
 pub mod Back
 pub mod Forth
 pub mod Fitting

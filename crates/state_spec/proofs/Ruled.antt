@@ -5,18 +5,18 @@ use Rattle.std.proofs.Common.{IsSome, is_some, option_map, refl, sym, ap, subst,
 use Rattle.std.specs.Prelude.{IsTrue}
 use Rattle.std.specs.Option.{option_map_or}
 use Rattle.xdr.specs.Item.{Value, Fits}
-use Rattle.fs_model.specs.Maxima.{max_name}
-use Rattle.fs_model.specs.Listing.{Listing, IsRising, HasDistinctNames}
-use Rattle.fs_model.specs.Names.{is_name}
-use Rattle.fs_model.specs.Files.{Body, Regular, Symlink, Directory, File, Files, file_at, listing, listing_in}
-use Rattle.fs_model.specs.Files.{is_directory, places, IsDirectory}
-use Rattle.fs_model.specs.Trees.{IsBody, IsFile, IsFileTree}
-use Rattle.fs_model.proofs.Walks.{none_some}
-use Rattle.fs_model.proofs.Reached.{path_of}
-use Rattle.fs_changes.specs.Limits.{has_room}
-use Rattle.fs_trees.proofs.Building.{built}
-use Rattle.fs_changes.proofs.Room.{within, room}
-use Rattle.fs_changes.proofs.Shapes.{is_some-kind}
+use Rattle.file_texts.specs.fs_model.Maxima.{max_name}
+use Rattle.file_texts.specs.fs_model.Listing.{Listing, IsRising, HasDistinctNames}
+use Rattle.file_texts.specs.fs_model.Names.{is_name}
+use Rattle.file_texts.specs.fs_model.Files.{Body, Regular, Symlink, Directory, File, Files, file_at, listing, listing_in}
+use Rattle.file_texts.specs.fs_model.Files.{is_directory, places, IsDirectory}
+use Rattle.file_texts.specs.fs_model.Trees.{IsBody, IsFile, IsFileTree}
+use Rattle.file_texts.proofs.fs_model.Walks.{none_some}
+use Rattle.file_texts.proofs.fs_model.Reached.{path_of}
+use Rattle.file_texts.specs.fs_model.Changes.Limits.{has_room}
+use Rattle.file_texts.proofs.fs_model.OfEditedTrees.Building.{built}
+use Rattle.file_texts.proofs.fs_model.OfChanges.Room.{within, room}
+use Rattle.file_texts.proofs.fs_model.OfChanges.Shapes.{is_some-kind}
 use Rattle.worlds.specs.World.{World}
 use Rattle.worlds.specs.IsWorld.{IsWorld}
 use Rattle.worlds.proofs.Mounted.{are_mounts, are_of_the_root, are_different}

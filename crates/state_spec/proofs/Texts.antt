@@ -4,9 +4,9 @@ use Rattle.std.proofs.Common.{◌≡◌, ℕ, List, [], Some, sym, ap, subst, �
 use Rattle.std.proofs.lemmas.List.{append-nil}
 use Rattle.xdr.specs.Item.{Fits, IsBytes, spelling}
 use Rattle.xdr.specs.Reading.{read_at}
-use Rattle.xdr_texts.specs.Text.{text_at, whole}
+use Rattle.xdr.specs.Texts.Text.{text_at, whole}
 use Rattle.xdr.proofs.Exact.{again}
-use Rattle.xdr_texts.proofs.WholeTexts.{is_text}
+use Rattle.xdr.proofs.OfTexts.WholeTexts.{is_text}
 use Rattle.file_texts.specs.FileItems.{file_item}
 use Rattle.state_spec.specs.State.{State}
 use Rattle.state_spec.specs.StateItems.{state_item}

@@ -1,5 +1,5 @@
 -- A server's world fits in a text: what files that are a tree within all limits ask for, and its mounts.
--- Serves: the states of machines (machines), the entries that a state keeps (states).
+-- Serves: the states of machines (state_machine), the entries that a state keeps (state_machine::states).
 use Rattle.std.proofs.Common.{◌≡◌, ℕ, ◌+◌, ◌<◌, ◌≤◌, ◌^◌, Bool, true, false, cond, T, List, [], ◌∷◌, map, length, Some, IsSome, is_some, option_and_then, nat_eq, refl, sym, ap, subst, ◌∙◌, arith}
 use Rattle.std.specs.List.{AllByRecursion, IsDistinct}
 use Rattle.std.specs.Map.{lookup}
@@ -10,19 +10,19 @@ use Rattle.std.specs.FinMap.Entries.{find, below_all, is_sorted}
 use Rattle.std.proofs.lemmas.Bool.{cond-true, cond-false}
 use Rattle.std.proofs.lemmas.List.{length-map}
 use Rattle.xdr.specs.Item.{Fits, array, choice}
-use Rattle.mount_types.specs.Calls.{Mount}
-use Rattle.mount_types.specs.Mounts.{IsMount}
-use Rattle.fs_model.specs.Maxima.{max_files, max_entries, max_name}
-use Rattle.fs_model.specs.Listing.{Listing, DirEntry, entry_at, IsRising, HasDistinctNames}
-use Rattle.fs_model.specs.Files.{Body, Regular, Symlink, Directory, File, Files, file_at, listing_in, places}
-use Rattle.fs_model.specs.Trees.{IsBody, IsFileTree}
-use Rattle.fs_model.proofs.Counts.{same_number}
-use Rattle.fs_model.proofs.Reached.{both_of, not_before}
-use Rattle.fs_model.proofs.Walks.{none_some}
-use Rattle.fs_changes.proofs.Finite.{cmp_same, none_above, total_without}
-use Rattle.fs_changes.proofs.Listings.{name_self}
-use Rattle.fs_changes.proofs.Room.{AllCookies, IsWithin, within}
-use Rattle.worlds.specs.Bounds.{AreWords}
+use Rattle.worlds.specs.mount_types.Calls.{Mount}
+use Rattle.worlds.specs.mount_types.Mounts.{IsMount}
+use Rattle.file_texts.specs.fs_model.Maxima.{max_files, max_entries, max_name}
+use Rattle.file_texts.specs.fs_model.Listing.{Listing, DirEntry, entry_at, IsRising, HasDistinctNames}
+use Rattle.file_texts.specs.fs_model.Files.{Body, Regular, Symlink, Directory, File, Files, file_at, listing_in, places}
+use Rattle.file_texts.specs.fs_model.Trees.{IsBody, IsFileTree}
+use Rattle.file_texts.proofs.fs_model.Counts.{same_number}
+use Rattle.file_texts.proofs.fs_model.Reached.{both_of, not_before}
+use Rattle.file_texts.proofs.fs_model.Walks.{none_some}
+use Rattle.file_texts.proofs.fs_model.OfChanges.Finite.{cmp_same, none_above, total_without}
+use Rattle.file_texts.proofs.fs_model.OfChanges.Listings.{name_self}
+use Rattle.file_texts.proofs.fs_model.OfChanges.Room.{AllCookies, IsWithin, within}
+use Rattle.worlds.specs.nfs_laws.Sizes.Bounds.{AreWords}
 use Rattle.worlds.specs.World.{World}
 use Rattle.worlds.specs.IsWorld.{IsWorld}
 use Rattle.file_texts.specs.FileItems.{entry_item, attributes_item, attributes_value, is_file_kind, kind_item, kind_value, file_item, file_value}

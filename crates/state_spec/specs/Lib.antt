@@ -1,4 +1,4 @@
-pub use Rattle.nfs_items.specs.Timeval
+pub use Rattle.file_texts.specs as file_texts
 pub mod Limits
 pub mod State
 pub mod Codes

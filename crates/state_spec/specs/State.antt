@@ -5,9 +5,9 @@ use Rattle.std.specs.declared.cmp.Ordering.{Ordering}
 use Rattle.std.specs.Cmp.Lexicographic.{slice_cmp}
 use Rattle.std.specs.FinMap as finite
 use Rattle.std.specs.FinSet.{FinSet}
-use Rattle.nfs_items.specs.Timeval.{Timeval}
-use Rattle.fs_model.specs.Trees.{IsTime}
-use Rattle.nfs_spec.specs.Opening.{epoch}
+use Rattle.file_texts.specs.nfs_items.Timeval.{Timeval}
+use Rattle.file_texts.specs.fs_model.Trees.{IsTime}
+use Rattle.worlds.specs.nfs_spec.Opening.{epoch}
 use Rattle.worlds.specs.World.{World, opening_world}
 use Rattle.worlds.specs.IsWorld.{IsWorld}
 

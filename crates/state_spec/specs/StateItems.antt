@@ -2,12 +2,12 @@
 use Rattle.std.specs.Prelude.{ℕ, Bool, ◌==◌, ◌||◌, nat_lt, map, if◌then◌else◌}
 use Rattle.std.specs.FinMap as finite
 use Rattle.xdr.specs.Item.{Item, Value, word, hyper, fixed, opaque, empty, pair, array, choice, word_where}
-use Rattle.nfs_items.specs.Timeval.{timeval, timeval_value}
-use Rattle.fs_model.specs.Maxima.{max_files}
-use Rattle.fs_model.specs.Files.{File}
+use Rattle.file_texts.specs.nfs_items.Timeval.{timeval, timeval_value}
+use Rattle.file_texts.specs.fs_model.Maxima.{max_files}
+use Rattle.file_texts.specs.fs_model.Files.{File}
 use Rattle.worlds.specs.World.{World}
-use Rattle.mount_types.specs.declared.limits.TheConstants.{MNTNAMLEN, MNTPATHLEN}
-use Rattle.mount_types.specs.Mounts.{max_mounts}
+use Rattle.worlds.specs.mount_types.declared.limits.TheConstants.{MNTNAMLEN, MNTPATHLEN}
+use Rattle.worlds.specs.mount_types.Mounts.{max_mounts}
 use Rattle.state_spec.specs.Limits.{max_received, max_sends, max_body}
 use Rattle.state_spec.specs.State.{ReceivedMessage, SentMessage, Stage, Idle, Heard, Owes, Machine, Server}
 use Rattle.state_spec.specs.State.{Client, State}
@@ -28,7 +28,7 @@ is_stage n = nat_lt n 3
 abbrev pub stage_body : ℕ → Item
 stage_body stage = if stage == 0 then empty else pair word (opaque max_body)
 
--- a stage: its number, and what stands behind that
+-- a stage: its number, and what stands after that
 abbrev pub stage_item : Item
 stage_item = choice is_stage stage_body
 
@@ -46,13 +46,13 @@ rest_item file kind =
     if kind == 1 then pair stage_item (pair word (pair (array max_mounts mount_item) (array max_files file)))
     else word_where (λ stage. stage == 0)
 
--- the clock, what was received, what was sent, and what stands behind that for a node's kind
+-- the clock, what was received, what was sent, and what stands after that for a node's kind
 abbrev pub machine_item : Item → ℕ → Item
 machine_item file kind =
     pair timeval
     (pair (array max_received received_item) (pair (array max_sends sent_item) (rest_item file kind)))
 
--- version 1, the node, its kind, and what stands behind that
+-- version 1, the node, its kind, and what stands after that
 abbrev pub state_item : Item → Item
 state_item file =
     pair (word_where (λ version. version == 1)) (pair word (choice is_node_kind (machine_item file)))

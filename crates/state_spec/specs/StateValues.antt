@@ -6,7 +6,7 @@ use Rattle.std.specs.declared.cmp.Ordering.{Ordering}
 use Rattle.std.specs.FinMap as finite
 use Rattle.std.specs.FinSet.{FinSet}
 use Rattle.xdr.specs.Item.{Value}
-use Rattle.nfs_items.specs.Timeval.{Timeval}
+use Rattle.file_texts.specs.nfs_items.Timeval.{Timeval}
 use Rattle.worlds.specs.World.{World}
 use Rattle.file_texts.specs.FileItems.{file_item}
 use Rattle.file_texts.specs.FileValues.{time_from, numbered_from}
@@ -31,7 +31,7 @@ received_from v = record { from = v.0; seq = v.1.0; hash = v.1.1 }
 unfoldable pub sent_from : Value sent_item → ℕ × SentMessage
 sent_from v = (v.0, record { to = v.1.0; prev = v.1.1.0; body_hash = v.1.1.1 })
 
--- the stage of a number, with what stands behind that
+-- the stage of a number, with what stands after that
 unfoldable pub stage_of : (n : ℕ) → Value (stage_body n) → Stage
 stage_of zero v = Idle
 stage_of (suc zero) v = Heard v.0 v.1
@@ -42,7 +42,7 @@ stage_of (suc (suc (suc n))) v = Idle
 unfoldable pub stage_from : Value stage_item → Stage
 stage_from v = stage_of v.0 v.1
 
--- the world of a node with this clock, by what stands behind a server's messages
+-- the world of a node with this clock, by what stands after a server's messages
 unfoldable pub world_from : ℕ → Timeval → Value (rest_item file_item 1) → World
 world_from node clock v = record {
   files = record { fsid = node; next = v.1.0; files = map_from nat_cmp (map numbered_from v.1.1.1) };
@@ -50,7 +50,7 @@ world_from node clock v = record {
   mounts = v.1.1.0;
 }
 
--- the machine of a node with this clock, by its kind and what stands behind its messages
+-- the machine of a node with this clock, by its kind and what stands after its messages
 unfoldable pub machine_from : ℕ → Timeval → (kind : ℕ) → Value (rest_item file_item kind) → Machine
 machine_from node clock zero v = Client clock
 machine_from node clock (suc zero) v = Server (world_from node clock v) (stage_from v.0)

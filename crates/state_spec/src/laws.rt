@@ -2,7 +2,7 @@
 
 ghost use Rattle.std.specs.Prelude.{◌≡◌, ◌↔◌, ℕ, List, [], ◌∷◌, ◌++◌, replicate, length, Some};
 ghost use Rattle.xdr.specs.Item.{Fits, IsBytes};
-ghost use Rattle.xdr_texts.specs.Text.{text_at};
+ghost use Rattle.xdr.specs.Texts.Text.{text_at};
 ghost use Rattle.file_texts.specs.FileItems.{file_item};
 ghost use Rattle.state_spec.specs.State.{State, IsState, opening_server};
 ghost use Rattle.state_spec.specs.StateItems.{state_item};

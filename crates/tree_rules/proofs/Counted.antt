@@ -9,10 +9,10 @@ use Rattle.std.proofs.lemmas.List.{take_all, length-map}
 use Rattle.std.proofs.lemmas.List.Elements.{All-more, All-from_get_or}
 use Rattle.std.proofs.lemmas.List.Sums.{sum_by_more, sum_by-take-le, sum_by-cons, get_or-le-sum_by}
 use Rattle.std.proofs.lemmas.Option.{slice_get_within, slice_get_cases, get_or_from_slice_get}
-use Rattle.fs_model.specs.Files.{File, listing_in, names_in}
-use Rattle.fs_rules.specs.Climbs.{AreWays}
-use Rattle.fs_rules.specs.Rules.{IsAt, AreKnown, AreNamesCounted, StandsIn, numbers_of}
-use Rattle.fs_rules.proofs.Listed.{number_at, holds_at}
+use Rattle.nfs_laws.specs.fs_model.Files.{File, listing_in, names_in}
+use Rattle.tree_rules.specs.FileRules.Climbs.{AreWays}
+use Rattle.tree_rules.specs.FileRules.Rules.{IsAt, AreKnown, AreNamesCounted, StandsIn, numbers_of}
+use Rattle.tree_rules.proofs.OfFileRules.Listed.{number_at, holds_at}
 use Rattle.tree_rules.specs.Listed.{entries_among}
 use Rattle.tree_rules.specs.Counting.{IsAmong, IsCount, names_listed, names_among, AddsNames}
 use Rattle.tree_rules.proofs.Naming.{few_names}
@@ -112,7 +112,7 @@ counted_none es numbers n = record {
   unnamed = λ k h none. zeros n k;
 }
 
--- and all behind the last
+-- and all after the last
 pub counted_all : (es : List (ℕ × File)) (numbers names above : List ℕ) (i : ℕ) → length es ≤ i
     → numbers ≡ numbers_of es → AreCountedTo i es numbers names above → AreNamesCounted es names above
 counted_all es numbers names above i ge is old = record {

@@ -13,9 +13,9 @@ use Rattle.std.proofs.lemmas.List.{length-map}
 use Rattle.std.proofs.Math.Seq.{drop-cons}
 use Rattle.std.proofs.lemmas.List.Elements.{All-append, All-cons, All-nil}
 use Rattle.std.proofs.lemmas.Map.Keys.{IsDistinct-push}
-use Rattle.fs_model.specs.Listing.{Listing, entry_at, IsRising, HasDistinctNames}
-use Rattle.fs_model.specs.Names.{is_name}
-use Rattle.fs_model.proofs.Walks.{none_some}
+use Rattle.nfs_laws.specs.fs_model.Listing.{Listing, entry_at, IsRising, HasDistinctNames}
+use Rattle.nfs_laws.specs.fs_model.Names.{is_name}
+use Rattle.nfs_laws.proofs.fs_model.Walks.{none_some}
 use Rattle.tree_rules.specs.declared.entries.GivenEntry.{GivenEntry}
 use Rattle.tree_rules.specs.GivenListing.{IsListing, said_entry, said_entries}
 
@@ -24,16 +24,16 @@ Entries = List (List ℕ × (ℕ × ℕ))
 
 -- ---- cookies
 
--- the least cookie behind entries
+-- the least cookie after entries
 abbrev pub after : ℕ → List (List ℕ × (ℕ × ℕ)) → ℕ
 after low [] = low
 after low (e ∷ es) = after (e.1.1 + 1) es
 
--- the entries behind others rise from the least cookie behind these
-pub rising_behind : (low : ℕ) (xs ys : List (List ℕ × (ℕ × ℕ))) (high : ℕ) → IsRising low (xs ++ ys) high
+-- the entries after others rise from the least cookie after these
+pub rising_after : (low : ℕ) (xs ys : List (List ℕ × (ℕ × ℕ))) (high : ℕ) → IsRising low (xs ++ ys) high
     → IsRising (after low xs) ys high
-rising_behind low [] ys high h = h
-rising_behind low (e ∷ xs) ys high h = rising_behind (e.1.1 + 1) xs ys high h.1
+rising_after low [] ys high h = h
+rising_after low (e ∷ xs) ys high h = rising_after (e.1.1 + 1) xs ys high h.1
 
 -- rising entries begin no higher than they end
 pub rising_within : (low : ℕ) (es : List (List ℕ × (ℕ × ℕ))) (high : ℕ) → IsRising low es high → low ≤ high
@@ -59,10 +59,10 @@ after_added low (x ∷ es) e = after_added (x.1.1 + 1) es e
 
 -- ---- names
 
-all_behind : {A : Type 0} (P : A → Type 0) (xs : List A) (y : A) (ys : List A)
+all_after : {A : Type 0} (P : A → Type 0) (xs : List A) (y : A) (ys : List A)
     → AllByRecursion P (xs ++ y ∷ ys) → P y
-all_behind P [] y ys h = h.0
-all_behind P (x ∷ xs) y ys h = all_behind P xs y ys h.1
+all_after P [] y ys h = h.0
+all_after P (x ∷ xs) y ys h = all_after P xs y ys h.1
 
 -- no name before another is that one
 pub new_name : (xs : List (List ℕ × (ℕ × ℕ))) (e : List ℕ × (ℕ × ℕ)) (ys : List (List ℕ × (ℕ × ℕ)))
@@ -71,7 +71,7 @@ unfolding IsDistinct
 new_name [] e ys h = refl
 new_name (x ∷ xs) e ys h =
     let apart : pointwise nat_eq x.0 e.0 ≡ false =
-    all_behind (λ y. pointwise nat_eq x.0 y ≡ false) (keys_of xs) e.0 (keys_of ys)
+    all_after (λ y. pointwise nat_eq x.0 y ≡ false) (keys_of xs) e.0 (keys_of ys)
     (subst (AllByRecursion (λ y. pointwise nat_eq x.0 y ≡ false))
     (map-append (λ e. e.0) xs (e ∷ ys)) h.0) in
     cond-false _ _ _ (nat_list_eq_equiv.symm e.0 x.0 ∙ apart) ∙ new_name xs e ys h.1
@@ -98,7 +98,7 @@ distinct_added es e h none =
 pub record AreRead (count : ℕ) (given : List GivenEntry) (d : Listing) : Type 0 where
   -- the directory lists the entries read so far
   pub entries : d.entries ≡ said_entries (take count given)
-  -- its next cookie is the one behind their last
+  -- its next cookie is the one after their last
   pub next : d.next ≡ after 3 (said_entries (take count given))
   -- their cookies rise to it from 3
   pub rising : IsRising 3 (said_entries (take count given)) d.next
@@ -126,7 +126,7 @@ module _ (given : List GivenEntry) (i : ℕ) (e : GivenEntry) (inside : i < leng
         → (d.next ≤ e.cookie) × (e.cookie < next)
     cookie_rises next h =
         let r =
-        rising_behind 3 (said_entries (take i given))
+        rising_after 3 (said_entries (take i given))
         (said_entry e ∷ said_entries (drop (suc i) given)) next
         (subst (λ es. IsRising 3 es next) whole h.rising) in
         let w = rising_within (e.cookie + 1) (said_entries (drop (suc i) given)) next r.1 in
@@ -210,6 +210,6 @@ module _ (given : List GivenEntry) (i : ℕ) (d : Listing) (le : length given �
   pub next_above : (next : ℕ) → IsListing next (said_entries given) → d.next ≤ next
   next_above next h =
       let r =
-      rising_behind 3 (said_entries given) [] next
+      rising_after 3 (said_entries given) [] next
       (subst (λ es. IsRising 3 es next) (sym (append-nil (said_entries given))) h.rising) in
       omega (arith, r, read.next, ap (after 3) all)

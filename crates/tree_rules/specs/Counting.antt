@@ -1,9 +1,9 @@
 -- How many names each number has, and which directory has one.
 use Rattle.std.specs.Prelude.{◌≡◌, ◌<◌, ◌+◌, ℕ, List, length, slice_index, sum_by}
 use Rattle.nfs_items.specs.Terms.{FileNumber}
-use Rattle.fs_model.specs.Listing.{DirEntry}
-use Rattle.fs_model.specs.Files.{File, names_in, one_if}
-use Rattle.fs_rules.specs.Rules.{AreKnown, AreNamesCounted}
+use Rattle.nfs_laws.specs.fs_model.Listing.{DirEntry}
+use Rattle.nfs_laws.specs.fs_model.Files.{File, names_in, one_if}
+use Rattle.tree_rules.specs.FileRules.Rules.{AreKnown, AreNamesCounted}
 
 -- a number is one of these
 abbrev pub IsAmong : List FileNumber → FileNumber → Type 0

@@ -2,7 +2,7 @@
 
 ghost use Rattle.std.specs.Prelude.{◌≡◌, ◌==◌, ℕ, map, slice_index, IfOk};
 ghost use Rattle.std.specs.List.{list_all};
-ghost use Rattle.fs_rules.specs.Climbs.{AreWays, TellsWays};
+ghost use Rattle.tree_rules.specs.FileRules.Climbs.{AreWays, TellsWays};
 
 use std::alloc::{AllocError, Global};
 

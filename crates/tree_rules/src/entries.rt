@@ -3,7 +3,7 @@
 ghost use Rattle.std.specs.Prelude.{◌≡◌, IfOk, MatchOption};
 ghost use Rattle.tree_rules.specs.GivenListing.{IsListing, said_entries};
 
-use directories::{Directory, Entry, is_name};
+use inodes::directories::{Directory, Entry, is_name};
 use std::alloc::{AllocError, Global};
 
 /// An entry as it is given.

@@ -3,12 +3,13 @@
 
 mod climb;
 mod entries;
+pub mod file_rules;
 mod limits;
 mod names;
 mod rules;
 
 pub use entries::{GivenEntry, directory_of};
-pub use inodes::{Body, Directory, Inode};
+pub use inodes as inodes_code;
 pub use limits::{MAX_BLOCKS, MAX_ENTRIES, MAX_FILES, Usage, total_usage};
 pub use names::{Counts, count_names, numbers_in, place_of};
 pub use rules::is_tree;

@@ -3,11 +3,11 @@
 ghost use Rattle.std.specs.Prelude.{◌≡◌, ◌≤◌, ◌<◌, ◌+◌, ◌^◌, ◌⊎◌, ℕ, IfSome, IsTrue, MatchOption, false};
 ghost use Rattle.std.specs.Prelude.{length};
 ghost use Rattle.std.specs.List.{All};
-ghost use Rattle.fs_model.specs.Maxima.{max_blocks, max_entries};
-ghost use Rattle.fs_model.specs.Files.{listing_in};
-ghost use Rattle.fs_model.specs.Trees.{IsBody};
-ghost use Rattle.fs_changes.specs.Limits.{block_count, blocks_in, entry_count, has_room};
-ghost use Rattle.fs_rules.specs.Rules.{AreRising, numbers_of};
+ghost use Rattle.nfs_laws.specs.fs_model.Maxima.{max_blocks, max_entries};
+ghost use Rattle.nfs_laws.specs.fs_model.Files.{listing_in};
+ghost use Rattle.nfs_laws.specs.fs_model.Trees.{IsBody};
+ghost use Rattle.nfs_laws.specs.fs_model.Changes.Limits.{block_count, blocks_in, entry_count, has_room};
+ghost use Rattle.tree_rules.specs.FileRules.Rules.{AreRising, numbers_of};
 ghost use Rattle.inodes.specs.Inodes.{body_in, file_in, files_of};
 ghost use Rattle.tree_rules.specs.Listed.{entries_among, files_in};
 

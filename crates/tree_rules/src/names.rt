@@ -3,15 +3,16 @@
 ghost use Rattle.std.specs.Prelude.{◌≡◌, ◌≢◌, ◌<◌, ◌≤◌, ◌+◌, ◌↔◌, ℕ, true, length, slice_index, MatchOption};
 ghost use Rattle.std.specs.Prelude.{MatchBool, IfOk, map, replicate};
 ghost use Rattle.std.specs.List.{All};
-ghost use Rattle.fs_model.specs.Maxima.{max_entries};
-ghost use Rattle.fs_model.specs.Listing.{entry_number};
-ghost use Rattle.fs_model.specs.Files.{listing_in};
-ghost use Rattle.fs_rules.specs.Rules.{AreKnown, AreRising, numbers_of};
+ghost use Rattle.nfs_laws.specs.fs_model.Maxima.{max_entries};
+ghost use Rattle.nfs_laws.specs.fs_model.Listing.{entry_number};
+ghost use Rattle.nfs_laws.specs.fs_model.Files.{listing_in};
+ghost use Rattle.tree_rules.specs.FileRules.Rules.{AreKnown, AreRising, numbers_of};
 ghost use Rattle.inodes.specs.Inodes.{body_in};
 ghost use Rattle.tree_rules.specs.Listed.{entries_among, files_in};
 ghost use Rattle.tree_rules.specs.Counting.{AddsNames, IsAmong, IsCount};
 
-use inodes::{Body, Directory, Inode};
+use inodes::directories::Directory;
+use inodes::{Body, Inode};
 use std::alloc::{AllocError, Global};
 
 /// The place of a number among numbers that rise.

@@ -2,10 +2,10 @@
 
 ghost use Rattle.std.specs.Prelude.{◌≡◌, ◌≤◌, ◌==◌, ◌↔◌, ℕ, length, IsTrue, IfOk, MatchBool, nat_lt};
 ghost use Rattle.std.specs.Prelude.{if◌then◌else◌};
-ghost use Rattle.fs_model.specs.Maxima.{max_entries};
-ghost use Rattle.fs_model.specs.Files.{is_directory};
-ghost use Rattle.fs_model.specs.Trees.{IsFileTree};
-ghost use Rattle.fs_rules.specs.Rules.{AreFiles, AreRising, HaveNames, may_have, numbers_of};
+ghost use Rattle.nfs_laws.specs.fs_model.Maxima.{max_entries};
+ghost use Rattle.nfs_laws.specs.fs_model.Files.{is_directory};
+ghost use Rattle.nfs_laws.specs.fs_model.Trees.{IsFileTree};
+ghost use Rattle.tree_rules.specs.FileRules.Rules.{AreFiles, AreRising, HaveNames, may_have, numbers_of};
 ghost use Rattle.inodes.specs.Inodes.{body_in, files_of};
 ghost use Rattle.tree_rules.specs.Listed.{entries_among, files_in};
 

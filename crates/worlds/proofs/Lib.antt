@@ -1,2 +1,2 @@
-pub use Rattle.nfs_spec_sizes.proofs.Lengths
+pub use Rattle.nfs_laws.proofs.nfs_spec as nfs_spec
 pub mod Mounted

@@ -1,8 +1,8 @@
 -- The worlds that a server can have.
 use Rattle.std.specs.Prelude.{◌≡◌, ◌<◌, ◌^◌, ℕ, IsTrue}
-use Rattle.fs_model.specs.Trees.{IsTime, IsFileTree}
-use Rattle.fs_changes.specs.Limits.{has_room}
-use Rattle.nfs_spec_sizes.specs.Bounds.{AreWords}
+use Rattle.nfs_laws.specs.fs_model.Trees.{IsTime, IsFileTree}
+use Rattle.nfs_laws.specs.fs_model.Changes.Limits.{has_room}
+use Rattle.nfs_laws.specs.Sizes.Bounds.{AreWords}
 use Rattle.mount_types.specs.Mounts.{AreMounts}
 use Rattle.worlds.specs.World.{World}
 

@@ -1,3 +1,5 @@
-pub use Rattle.nfs_spec_sizes.specs.Bounds
+pub use Rattle.mount_types.specs as mount_types
+pub use Rattle.nfs_laws.specs as nfs_laws
+pub use Rattle.nfs_laws.specs.nfs_spec as nfs_spec
 pub mod World
 pub mod IsWorld

@@ -1,9 +1,9 @@
 -- All that a server's replies depend on.
 use Rattle.std.specs.Prelude.{ℕ, List, [], refl}
 use Rattle.std.specs.Coded.{Coded, code_by, coded×, coded_ℕ, coded_list}
-use Rattle.nfs_items.specs.Timeval.{Timeval, timeval_code, later}
-use Rattle.fs_model.specs.Files.{Files, files_code}
-use Rattle.nfs_spec.specs.Opening.{opening_files, epoch}
+use Rattle.mount_types.specs.nfs_items.Timeval.{Timeval, timeval_code, later}
+use Rattle.nfs_laws.specs.fs_model.Files.{Files, files_code}
+use Rattle.nfs_laws.specs.nfs_spec.Opening.{opening_files, epoch}
 
 -- the files, the last clock reading, and the mounts as host name and directory, in order
 pub record World : Type 0 where

@@ -1,7 +1,7 @@
 -- Reading and spelling are the same, for each type of item: `takes` is the one direction and `again` the other,
 -- both by induction on the type, with a pair of lemmas for each way to make a type of others.
--- Serves: reads_what_is_spelled, no_spelling_begins_another; in crates above reads_each_text (xdr_texts),
--- one_list_of_records (records_laws), the laws of rpc, nfs_types, nfs_items and log_entries.
+-- Serves: reads_what_is_spelled, no_spelling_begins_another; reads_each_text (texts), and in crates above
+-- one_list_of_records (rpc::record_laws), the laws of rpc, nfs_types, nfs_items and secure_log.
 use Rattle.std.proofs.Common.{◌≡◌, ℕ, zero, suc, ◌^◌, ◌<◌, ◌≤◌, Bool, true, false, cond, ltb, List, [], ◌∷◌, ◌++◌, length, Ok, Err, refl, sym, ap, subst, ◌∙◌, append_assoc, arith}
 use Rattle.std.specs.Prelude.{IsTrue, ◌↔◌, Option, Some, None, IfSome}
 use Rattle.std.specs.List.{flat_map, AllByRecursion}
@@ -55,7 +55,7 @@ flag_goes : {A : Type 0} (text : A → List ℕ) (fits : A → Type 0) (more : B
 flag_goes text fits true bytes after some none x t e is_more is_end = is_more t e
 flag_goes text fits false bytes after some none x t e is_more is_end = is_end t e
 
--- a bool, and behind TRUE an item
+-- a bool, and after TRUE an item
 optional_takes : {A : Type 0} (read : List ℕ → Read A) (text : A → List ℕ) (fits : A → Type 0) → TakesAll read text fits
     → TakesAll (optional_at read) (optional_spelling text) (λ v. IfSome v fits)
 unfolding optional_at

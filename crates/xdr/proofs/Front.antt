@@ -1,7 +1,7 @@
 -- Numbers, bools and opaque data at the front of bytes: what reading takes is the spelling (`_takes`), and
 -- a spelling is read again (`_again`).
--- Serves: reads_what_is_spelled and no_spelling_begins_another by way of Exact; mark_of in records,
--- some_reading in records_laws; the proofs on calls, arguments and entries in rpc, nfs_types, log_entries and
+-- Serves: reads_what_is_spelled and no_spelling_begins_another by way of Exact; mark_of in rpc::records,
+-- some_reading in rpc::record_laws; the proofs on calls, arguments and entries in rpc, nfs_types and
 -- secure_log.
 use Rattle.std.proofs.Common.{◌≡◌, ℕ, zero, suc, ◌+◌, ◌-◌, ◌%◌, ◌^◌, ◌<◌, ◌≤◌, Bool, true, false, cond, ◌&&◌, ltb, eqb, List, [], ◌∷◌, ◌++◌, length, take, drop, replicate, Ok, Err, refl, sym, ap, subst, ◌∙◌, append_assoc, arith, inl, inr}
 use Rattle.std.specs.List.{list_all}
@@ -46,7 +46,7 @@ guard_true false d r y e = absurd cc
 abbrev pub done : {A : Type 0} → A × List ℕ → Read A
 done x = Ok x
 
--- equal values, and equal bytes behind them
+-- equal values, and equal bytes after them
 pub ok_is : {A : Type 0} (x y : A × List ℕ) → done x ≡ done y → x ≡ y
 ok_is x y e = cc
 
@@ -171,7 +171,7 @@ fixed_again len body rest size =
     let long : ltb (length (body ++ (padding len ++ rest))) (len + pad) ≡ false = le-ltb _ _ (omega (arith, length-append body (padding len ++ rest), length-append (padding len) rest)) in
     ap (fixed_at len) regrouped ∙ rw (long, take_at body (padding len ++ rest) len size, drop_at body (padding len ++ rest) len size, take_at (padding len) rest pad zeros, drop_at (padding len) rest pad zeros, zero_all pad) refl
 
--- what is read as opaque data behind its length is its spelling
+-- what is read as opaque data after its length is its spelling
 pub opaque_takes : (max : ℕ) (bytes body rest : List ℕ) → IsBytes bytes → opaque_at max bytes ≡ Ok (body, rest)
     → Takes bytes (number_spelling 4 (length body) ++ (body ++ padding (length body))) rest × ((length body < 2 ^ 32) × (length body ≤ max))
 unfolding opaque_at

@@ -1,3 +1,4 @@
+pub mod OfTexts
 pub mod Front
 pub mod Exact
 pub mod Room

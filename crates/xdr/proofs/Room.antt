@@ -4,12 +4,12 @@ use Rattle.std.proofs.Common.{◌≡◌, ℕ, ◌+◌, ◌<◌, ◌≤◌, Ok, E
 use Rattle.std.specs.Prelude.{Result, IsErr}
 use Rattle.xdr.specs.Writing.{Takes}
 
--- what was refused for want of room
+-- what was refused because there was no room
 pub refused : {E : Type 0} (taken old : ℕ) (r : Result (Unit {0}) E) (new : ℕ) → IsErr r → old < taken → Takes taken old r new
 refused taken old (Ok x) new is few = absurd cc
 refused taken old (Err e) new is few = few
 
--- a call behind one that was done
+-- a call after one that was done
 pub takes_both : {E : Type 0} (first second taken old middle : ℕ) (r : Result (Unit {0}) E) (new : ℕ)
     → taken ≡ first + second → old ≤ middle + first → Takes second middle r new → Takes taken old r new
 takes_both first second taken old middle (Ok x) new sum before after = omega arith

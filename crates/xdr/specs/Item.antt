@@ -13,7 +13,7 @@ use Rattle.byteorder.specs.Endian.{big_bytes}
 --   repeated     an array of a count that is known (4.12)
 --   array        an array of at most so many items (4.13)
 --   pair         a structure, two parts at a time (4.14)
---   choice       a discriminated union: a number that `known` allows, and what stands behind it (4.15)
+--   choice       a discriminated union: a number that `known` allows, and what stands after it (4.15)
 --   empty        void (4.16)
 --   optional     optional data (4.19)
 --   linked       a list by optional data, as the standard's `stringlist` (4.19)
@@ -54,7 +54,7 @@ Value (hyper_where test) = ℕ
 unfoldable pub number_spelling : ℕ → ℕ → List ℕ
 number_spelling len n = big_bytes len n
 
--- the zero bytes behind len bytes
+-- the zero bytes after len bytes
 abbrev pub padding : ℕ → List ℕ
 padding len = replicate ((4 - len % 4) % 4) 0
 
@@ -63,7 +63,7 @@ abbrev pub optional_spelling : {A : Type 0} → (A → List ℕ) → Option A �
 optional_spelling text None = number_spelling 4 0
 optional_spelling text (Some v) = number_spelling 4 1 ++ text v
 
--- each value behind TRUE, and then FALSE
+-- each value after TRUE, and then FALSE
 abbrev pub linked_spelling : {A : Type 0} → (A → List ℕ) → List A → List ℕ
 linked_spelling text vs = flat_map (λ v. number_spelling 4 1 ++ text v) vs ++ number_spelling 4 0
 

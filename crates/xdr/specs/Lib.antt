@@ -1,3 +1,4 @@
+pub mod Texts
 pub mod Item
 pub mod Fault
 pub mod Reading

@@ -36,7 +36,7 @@ fixed_at len bytes =
     then Ok (take len bytes, drop ((4 - len % 4) % 4) (drop len bytes))
     else Err Padding
 
--- at most max bytes behind their length
+-- at most max bytes after their length
 unfoldable pub opaque_at : ℕ → List ℕ → Read (List ℕ)
 opaque_at max bytes = do
   len ← number_at 4 bytes
@@ -50,13 +50,13 @@ items_at read (suc count) bytes = do
   others ← items_at read count first.1
   Ok (first.0 ∷ others.0, others.1)
 
--- a bool, and behind TRUE what read gives
+-- a bool, and after TRUE what read gives
 unfoldable pub optional_at : {A : Type 0} → (List ℕ → Read A) → List ℕ → Read (Option A)
 optional_at read bytes = do
   more ← flag_at bytes
   if more.0 then (read more.1 >>= λ v. Ok (Some v.0, v.1)) else Ok (None, more.1)
 
--- what read gives behind each TRUE, up to a FALSE. Each bool takes four bytes, so that the fuel, which is the
+-- what read gives after each TRUE, up to a FALSE. Each bool takes four bytes, so that the fuel, which is the
 -- length of the bytes, never runs out before they do.
 unfoldable pub linked_at : {A : Type 0} → (List ℕ → Read A) → ℕ → List ℕ → Read (List A)
 linked_at read zero bytes = Err Short
@@ -95,8 +95,9 @@ read_at (repeated count a) bytes = items_at (read_at a) count bytes
 read_at (word_where test) bytes = tested_at 4 test bytes
 read_at (hyper_where test) bytes = tested_at 8 test bytes
 
--- A call gave what reading gives, and a refused reader stays. It may have other faults, as want of memory:
--- `fault` says which of them are of XDR. The lists are what the reader had left before and after.
+-- A call gave what reading gives, and a refused reader stays. It may have other faults, such as being
+-- out of memory: `fault` says which of them are of XDR. The lists are what the reader had left before and
+-- after.
 abbrev pub ReadsUnless : {X E : Type 0} (fault : E → Option XdrFault) (a : Item)
     → (X → Value a) → List ℕ → Result X E → List ℕ → Type 0
 ReadsUnless fault a view old (Ok x) new = read_at a old ≡ Ok (view x, new)

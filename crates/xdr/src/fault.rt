@@ -8,7 +8,7 @@ pub enum XdrFault {
     /// The bytes end within an item.
     #[error("the bytes end within an item")]
     Short = 1,
-    /// A byte behind opaque data, up to a multiple of four, isn't zero (RFC 4506, section 4.9).
+    /// A byte after opaque data, up to a multiple of four, isn't zero (RFC 4506, section 4.9).
     #[error("padding is not zero")]
     Padding = 2,
     /// A bool is neither 0 nor 1 (RFC 4506, section 4.4).

@@ -5,8 +5,7 @@ mod fault;
 pub mod laws;
 mod list;
 mod reader;
-#[cfg(test)]
-mod tests;
+pub mod texts;
 mod writer;
 
 pub use fault::XdrFault;

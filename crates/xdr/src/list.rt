@@ -1,4 +1,4 @@
-//! Lists behind their count.
+//! Lists after their count.
 
 ghost use Rattle.std.specs.Prelude.{◌≡◌, List, ℕ, map, IfErr, IsSome};
 ghost use Rattle.xdr.specs.Item.{Item, Value, word, array};

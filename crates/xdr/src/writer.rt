@@ -42,7 +42,7 @@ pub trait Writer {
         ensures room { Takes (length (spelling (fixed (length bytes.now)) bytes.now))
             (spare self.old) result (spare self.new) };
 
-    /// Appends bytes behind their length (RFC 4506, sections 4.10 and 4.11).
+    /// Appends bytes after their length (RFC 4506, sections 4.10 and 4.11).
     fn put_opaque(&mut self, bytes: &[u8]) -> Result<(), AllocError>
         requires { length bytes.now < 2 ^ 32 }
         ensures writes { Writes (opaque (length bytes.now)) bytes.now
@@ -89,7 +89,7 @@ impl Writer for Vec<u8> {
     }
 }
 
-/// Takes out what stands behind `start` where the call that wrote it was refused memory, and gives its
+/// Takes out what stands after `start` where the call that wrote it was refused memory, and gives its
 /// result. Nothing is taken out where `start` is the end or beyond it.
 pub fn all_or_nothing(
     out: &mut Vec<u8>,

@@ -1,5 +1,5 @@
 use Rattle.std.proofs.Common.{◌≡◌, true, false, [], arith, ◌∙◌, sym}
-use Rattle.showings.specs.Evidence.{evidence_value}
+use Rattle.evidence_showings.specs.evidence_spec.Evidence.{evidence_value}
 use Rattle.challenge.proofs.CaseTexts.{no_bytes, no_roster_no_case}
 use Rattle.challenge.proofs.case.case_of.Goals as goal
 

@@ -1,5 +1,5 @@
 use Rattle.std.proofs.Common.{◌≡◌, true, false, refl, sym, ◌∙◌, inr}
-use Rattle.log_entries.specs.Chain.{zeros}
+use Rattle.secure_log.specs.LogEntries.Chain.{zeros}
 use Rattle.challenge.proofs.Found.{no_hash, same_zeros, accepts_one}
 use Rattle.challenge.proofs.find.find_in_one.Goals as goal
 
@@ -14,6 +14,7 @@ returns-then-is_zeros c =
       (refl, same_zeros c.args.at c.args.a.now c.in-Some.one (c.in-Some.ensures.exact c.requires.closed.first) (c.is_zeros.ensures.0 c.if-is_zeros.true)),
     )
 
+-- a hash at 0 that isn't zeros is accepted
 pub returns : goal.returns
 unfolding zeros
 returns c =

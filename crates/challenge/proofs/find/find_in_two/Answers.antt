@@ -24,6 +24,7 @@ returns-then-is_same c =
       ),
     )
 
+-- two hashes at the number that differ are accepted
 pub returns : goal.returns
 returns c =
     let differ : ¬ (c.in-Some-hash_at.one ≡ c.in-Some-hash_at-2.other) = λ e. let is : c.is_same.result ≡ true = c.is_same.ensures.1 e in let both : true ≡ false = sym is ∙ c.if-is_same.false in absurd cc in (

@@ -1,6 +1,7 @@
 use Rattle.challenge.proofs.Found.{outcome_finds}
 use Rattle.challenge.proofs.find.replay_finding.Goals as goal
 
+-- the replay's outcome is the finding
 pub returns : goal.returns
 returns c =
     let is = rw (c.in_ok-start.ensures.state, c.first-first.ensures, c.opening.ensures, c.entries.ensures.entries) at c.in_ok-outcome.ensures in

@@ -2,7 +2,7 @@ use Rattle.std.proofs.Common.{refl}
 use Rattle.std.proofs.lemmas.Result.{err_from_is_err_and}
 use Rattle.xdr.specs.ReadError.{xdr_fault}
 use Rattle.xdr.specs.ArraysAndUnions.{choice_ok, choice_err_unless}
-use Rattle.showings.specs.Evidence.{audited_value, fork_value, charge_item, is_charge}
+use Rattle.evidence_showings.specs.evidence_spec.Evidence.{audited_value, fork_value, charge_item, is_charge}
 use Rattle.challenge.specs.Charges.{fork_in}
 use Rattle.challenge.proofs.read.read_charge.Goals as goal
 

@@ -1,7 +1,7 @@
 use Rattle.std.proofs.Common.{◌≡◌, ◌++◌, take}
 use Rattle.std.specs.List.{flat_map}
 use Rattle.xdr.specs.Item.{spelling}
-use Rattle.log_entries.specs.Entry.{entry_item, entry_value}
+use Rattle.secure_log.specs.LogEntries.Entry.{entry_item, entry_value}
 use Rattle.challenge.proofs.write.add_each.Given as goal
 
 abbrev pub invariant-loop-entry : goal.invariant-loop-entry

@@ -1,11 +1,12 @@
 use Rattle.std.proofs.Common.{ap, ◌∙◌}
 use Rattle.sha2.specs.Sha256.{sha256}
 use Rattle.xdr.specs.Item.{fixed}
-use Rattle.file_texts.specs.FileItems.{file_digest}
+use Rattle.state_machine.specs.file_texts.FileItems.{file_digest}
 use Rattle.state_spec.specs.StateText.{state_digest}
 use Rattle.checkpoint.proofs.Fronted.{made}
 use Rattle.checkpoint.proofs.digest.state_digest.Goals as goal
 
+-- the digest is that of what was written, a file's digest in the place of its text
 pub returns : goal.returns
 unfolding state_digest
 returns c =

@@ -7,26 +7,27 @@ use Rattle.state_spec.specs.Limits.{max_received, max_sends}
 use Rattle.state_spec.specs.State.{Machine, clock_in}
 use Rattle.state_spec.specs.StateItems.{received_item, received_value, sent_item, sent_value}
 use Rattle.checkpoint.specs.Fronts.{kind_of, rest_front}
-use Rattle.checkpoint.proofs.Fronted.{added_behind, instead}
+use Rattle.checkpoint.proofs.Fronted.{added_after, instead}
 use Rattle.checkpoint.proofs.front.add_front.Goals as goal
 
+-- each part stands after the ones before it
 pub returns : goal.returns
 returns c =
     let s = c.args.state.now in
-    added_behind (number_spelling 4 1) _ _ _ _ c.add_rest.result c.in_ok-put_u32.ensures.writes
-    (added_behind (number_spelling 4 s.node) _ _ _ _ c.add_rest.result
+    added_after (number_spelling 4 1) _ _ _ _ c.add_rest.result c.in_ok-put_u32.ensures.writes
+    (added_after (number_spelling 4 s.node) _ _ _ _ c.add_rest.result
     (instead (λ n. number_spelling 4 n) _ s.node _ _ c.in_ok-put_u32-2.ensures.writes c.node.ensures)
-    (added_behind (number_spelling 4 (kind_of s.machine)) _ _ _ _ c.add_rest.result
+    (added_after (number_spelling 4 (kind_of s.machine)) _ _ _ _ c.add_rest.result
     (instead (λ n. number_spelling 4 n) _ (kind_of s.machine) _ _ c.in_ok-put_u32-3.ensures.writes
     (c.kind_of.ensures ∙ ap kind_of c.machine.ensures))
-    (added_behind (spelling timeval (timeval_value (clock_in s.machine))) _ _ _ _ c.add_rest.result
+    (added_after (spelling timeval (timeval_value (clock_in s.machine))) _ _ _ _ c.add_rest.result
     (instead (λ t. spelling timeval (timeval_value t)) _ (clock_in s.machine) _ _ c.in_ok-add_time.ensures
     c.clock.ensures)
-    (added_behind (spelling (array max_received received_item)
+    (added_after (spelling (array max_received received_item)
     (map received_value (finite.keys s.received))) _ _ _ _ c.add_rest.result
     (instead (λ r. spelling (array max_received received_item) (map received_value (finite.keys r))) _
     s.received _ _ c.in_ok-add_to.ensures.text c.received.ensures)
-    (added_behind (spelling (array max_sends sent_item) (map sent_value (finite.entries s.sends))) _ _ _ _
+    (added_after (spelling (array max_sends sent_item) (map sent_value (finite.entries s.sends))) _ _ _ _
     c.add_rest.result
     (instead (λ r. spelling (array max_sends sent_item) (map sent_value (finite.entries r))) _ s.sends _ _
     c.in_ok-add_to-2.ensures.text c.sends.ensures)

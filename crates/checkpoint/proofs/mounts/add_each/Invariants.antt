@@ -1,6 +1,6 @@
 use Rattle.std.proofs.Common.{drop}
 use Rattle.mount_types.specs.Mounts.{root_of}
-use Rattle.file_texts.proofs.Arrays.{AddsRest}
+use Rattle.state_machine.proofs.file_texts.Arrays.{AddsRest}
 use Rattle.state_spec.specs.StateItems.{mount_item}
 use Rattle.checkpoint.proofs.mounts.add_each.Given as goal
 

@@ -4,7 +4,7 @@ use Rattle.xdr.specs.Item.{array, spelling}
 use Rattle.xdr.specs.Writing.{Adds}
 use Rattle.mount_types.specs.Calls.{Mount}
 use Rattle.mount_types.specs.Mounts.{max_mounts, root_of, IsMount}
-use Rattle.file_texts.proofs.Arrays.{adds_counted}
+use Rattle.state_machine.proofs.file_texts.Arrays.{adds_counted}
 use Rattle.state_spec.specs.StateItems.{mount_item}
 use Rattle.checkpoint.proofs.MountedHosts.{short_at}
 use Rattle.checkpoint.proofs.mounts.add_mounts.Goals as goal
@@ -14,6 +14,7 @@ add_each-requires c =
     short_at (λ host. host.items) c.hosts-hosts.result.now
     (subst (AllByRecursion IsMount) (sym c.hosts-hosts.ensures) c.are_mounts.ensures.each)
 
+-- the mounts stand after their count
 pub returns : goal.returns
 returns c =
     subst (λ (ms : List Mount). Adds (spelling (array max_mounts mount_item) ms) c.args.out.now.items

@@ -3,14 +3,14 @@ use Rattle.std.specs.List.Sorted.{IsStrictlySortedBy}
 use Rattle.std.specs.Map.{keys_of}
 use Rattle.std.specs.Ordering.{nat_cmp}
 use Rattle.xdr.specs.Item.{Fits}
-use Rattle.file_texts.specs.FileItems.{file_item}
+use Rattle.state_machine.specs.file_texts.FileItems.{file_item}
 use Rattle.state_spec.specs.State.{received_cmp}
 use Rattle.state_spec.specs.StateItems.{state_item}
 use Rattle.state_spec.specs.StateValues.{map_from, set_from, state_from}
 use Rattle.state_spec.specs.Rules.{KeepsRules}
-use Rattle.states.specs.Numbered.{numbered}
-use Rattle.state_parts.specs.declared.parts.MachinePart.{MachinePart}
-use Rattle.machines.specs.Machines.{server_state, client_state}
+use Rattle.state_machine.specs.States.Numbered.{numbered}
+use Rattle.checkpoint.specs.declared.parts.parts.MachinePart.{MachinePart}
+use Rattle.state_machine.specs.Machines.{server_state, client_state}
 use Rattle.checkpoint.specs.PartWorlds.{world_given}
 use Rattle.checkpoint.proofs.Chosen.{when_none, when_some}
 use Rattle.checkpoint.proofs.PartStates.{saying, rule_received, rule_sends, rule_clock, rule_served, server_kept, client_kept}

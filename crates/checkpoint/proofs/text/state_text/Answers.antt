@@ -1,7 +1,8 @@
-use Rattle.file_texts.specs.FileItems.{file_item, file_value}
+use Rattle.state_machine.specs.file_texts.FileItems.{file_item, file_value}
 use Rattle.checkpoint.proofs.Fronted.{made}
 use Rattle.checkpoint.proofs.text.state_text.Goals as goal
 
+-- what was written, part by part, is the state's text
 pub returns : goal.returns
 returns c = record {
   state = c.is_a_state.ensures.state;

@@ -1,4 +1,4 @@
-use Rattle.honest_logs.specs.Opening.{opening_of}
+use Rattle.replay_spec.specs.Opening.{opening_of}
 use Rattle.evidence_spec.proofs.Nothing.{own_texts, unsigned}
 use Rattle.evidence_spec.proofs.OneReading.{reading_proves_nothing}
 use Rattle.evidence_spec.proofs.laws.what_proves_nothing.Goals as goal

@@ -27,6 +27,7 @@ loop-part-preserved c =
     c.loop-part.inodes.items c.loop-part.invariant c.part-item.result c.loop-part-test.true
     c.part-item.is c.in-Some.inode kept.0 c.if-part-low.false c.if-next-part.false kept.1)
 
+-- after the last part all files were read, each one by itself
 pub returns : goal.returns
 returns c = read_all c.loop-part.part-index c.args.next c.loop-part.low c.args.parts.now
     c.loop-part.inodes.items c.loop-part.invariant c.loop-part-test.false

@@ -32,6 +32,7 @@ loop-preserved c =
 pub loop-init : goal.loop-init
 loop-init c = rw c.new-entries.ensures.items (begins (read_at entry_item) c.in_ok-count.count c.u32.new.self)
 
+-- after the last entry the array was read whole
 pub returns : goal.returns
 returns c =
     let whole =

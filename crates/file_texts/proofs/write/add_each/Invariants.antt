@@ -2,7 +2,7 @@ use Rattle.std.proofs.Common.{◌≤◌, length}
 use Rattle.std.specs.List.{AllByRecursion}
 use Rattle.fs_model.specs.Maxima.{max_name}
 use Rattle.fs_model.specs.Listing.{DirEntry}
-use Rattle.directories.specs.Entries.{entries_of}
+use Rattle.tree_rules.specs.inodes.Directories.Entries.{entries_of}
 use Rattle.file_texts.specs.FileItems.{entry_item}
 use Rattle.file_texts.specs.Stored.{entry_in}
 use Rattle.file_texts.proofs.Arrays.{AddsRest}

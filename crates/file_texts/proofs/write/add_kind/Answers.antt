@@ -2,8 +2,8 @@ use Rattle.std.proofs.Common.{ℕ, List, sym, subst}
 use Rattle.std.specs.Prelude.{OnOk}
 use Rattle.xdr.specs.Item.{Fits, choice, spelling}
 use Rattle.xdr.specs.Writing.{Adds}
-use Rattle.inodes.specs.declared.inode.Body as stored
-use Rattle.inodes.specs.Inodes.{body_in, file_in}
+use Rattle.tree_rules.specs.inodes.declared.inode.Body as stored
+use Rattle.tree_rules.specs.inodes.Inodes.{body_in, file_in}
 use Rattle.file_texts.specs.FileItems.{attributes_value, is_file_kind, kind_item, kind_value}
 use Rattle.file_texts.proofs.write.add_kind.Goals as goal
 

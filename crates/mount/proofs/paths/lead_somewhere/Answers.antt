@@ -3,7 +3,7 @@ use Rattle.std.specs.List.{slice_split}
 use Rattle.std.proofs.lemmas.List.{length_push}
 use Rattle.std.proofs.lemmas.Iterator.Splits.{YieldsList-from_slice_split}
 use Rattle.std.proofs.lemmas.Iterator.Consumers.{YieldsList-turn, YieldsList-end}
-use Rattle.fs_model.specs.Files.{places}
+use Rattle.file_tree.specs.fs_model.Files.{places}
 use Rattle.mount.specs.Paths.{slash}
 use Rattle.mount.proofs.Walked.{lead_on, leads_from, leads_nowhere, leads_to_end}
 use Rattle.mount.proofs.paths.lead_somewhere.Goals as goal
@@ -39,6 +39,7 @@ returns-in_default c =
     c.number_after.ensures c.in_default.is)
     ∙ c.loop-name.invariant.leads
 
+-- after the last name the way led somewhere
 pub returns : goal.returns
 returns c =
     let parts : List (List ℕ) = slice_split (λ byte. byte == slash) c.args.names.now in

@@ -1,6 +1,6 @@
 use Rattle.std.proofs.Common.{◌≡◌, ◌==◌, length, drop}
 use Rattle.std.specs.List.{slice_split}
-use Rattle.fs_model.specs.Files.{places}
+use Rattle.file_tree.specs.fs_model.Files.{places}
 use Rattle.mount.specs.Paths.{slash}
 use Rattle.mount.proofs.Walked.{lead_on}
 use Rattle.mount.proofs.paths.lead_somewhere.Given as goal

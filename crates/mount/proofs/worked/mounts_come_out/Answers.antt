@@ -4,11 +4,11 @@ use Rattle.std.specs.Prelude.{nat_lt, codes, if◌then◌else◌}
 use Rattle.std.specs.Option.{is_some}
 use Rattle.std.proofs.lemmas.Bool.{le-ltb}
 use Rattle.nfs_items.specs.declared.stat.Stat.TheVariants.{Acces, NoEnt}
-use Rattle.fs_model.specs.Listing.{Place, entry_at}
-use Rattle.fs_model.specs.Files.{File, listing_in, places}
-use Rattle.fs_model.specs.Paths.{walk}
-use Rattle.nfs_spec.specs.Opening.{opening_root, opening_hello, opening_files}
-use Rattle.nfs_spec.proofs.OpeningFiles.{root_there, hello_there}
+use Rattle.file_tree.specs.fs_model.Listing.{Place, entry_at}
+use Rattle.file_tree.specs.fs_model.Files.{File, listing_in, places}
+use Rattle.file_tree.specs.fs_model.Paths.{walk}
+use Rattle.file_tree.specs.nfs_spec.Opening.{opening_root, opening_hello, opening_files}
+use Rattle.file_tree.proofs.nfs_spec.OpeningFiles.{root_there, hello_there}
 use Rattle.mount_types.specs.Calls.{MountAnswer, Mounted}
 use Rattle.mount_types.specs.Mounts.{Mounts, max_mounts}
 use Rattle.mount.specs.MountCalls.{mount_at}

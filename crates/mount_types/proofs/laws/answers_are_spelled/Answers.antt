@@ -1,9 +1,7 @@
-use Rattle.std.proofs.Common.{◌++◌, refl}
-use Rattle.xdr.proofs.Exact.{is_spelled}
-use Rattle.mount_types.specs.Texts.{answer_item, answer_value, answer_text}
+use Rattle.nfs_items.proofs.Programs.{answer_is_spelled}
+use Rattle.mount_types.specs.Texts.{mount_program}
 use Rattle.mount_types.proofs.laws.answers_are_spelled.Goals as goal
 
+-- the law on every program, of MOUNT
 pub returns : goal.returns
-returns c a rest bound =
-    let both = is_spelled (answer_item a) (answer_value a) (answer_text a ++ rest) rest bound in
-    ((λ e. (both.0 e).0), (λ f. both.1 (f, refl)))
+returns c = answer_is_spelled mount_program

@@ -1,5 +1,5 @@
 use Rattle.std.proofs.Common.{refl}
-use Rattle.xdr.specs.Item.{number_spelling}
+use Rattle.nfs_items.specs.xdr.Item.{number_spelling}
 use Rattle.nfs_items.specs.Handle.{handle_of}
 use Rattle.mount_types.proofs.worked.answers_come_out.Goals as goal
 

@@ -1,5 +1,5 @@
 use Rattle.std.proofs.Common.{refl}
-use Rattle.xdr.specs.Reading.{number_at, fixed_at, opaque_at}
+use Rattle.nfs_items.specs.xdr.Reading.{number_at, fixed_at, opaque_at}
 use Rattle.mount_types.proofs.worked.paths_are_read.Goals as goal
 
 pub returns-clause-root : goal.returns-clause-root

@@ -1,6 +1,7 @@
 use Rattle.mount_types.proofs.AnswersSaid.{list_ends}
 use Rattle.mount_types.proofs.writing.add_list.Goals as goal
 
+-- FALSE after the mounts ends the list
 pub returns : goal.returns
 returns c =
     list_ends (λ h. h.items) c.args.directory.now c.args.hosts.now c.args.out.now.items

@@ -1,6 +1,6 @@
 use Rattle.std.proofs.Common.{◌≡◌, ◌++◌, take}
 use Rattle.std.specs.List.{flat_map}
-use Rattle.xdr.specs.Item.{word, spelling}
+use Rattle.nfs_items.specs.xdr.Item.{word, spelling}
 use Rattle.mount_types.specs.Items.{mount}
 use Rattle.mount_types.proofs.writing.add_mounts.Given as goal
 

@@ -1,7 +1,7 @@
 use Rattle.std.proofs.Common.{◌≤◌, length-append, arith, ◌∙◌}
 use Rattle.std.proofs.lemmas.Result.{err_from_is_err_and}
-use Rattle.xdr_texts.specs.Item.{word}
-use Rattle.xdr_texts.specs.ArraysAndUnions.{goes_on, fails, ends, array_at}
+use Rattle.xdr.specs.Item.{word}
+use Rattle.xdr.specs.ArraysAndUnions.{goes_on, fails, ends, array_at}
 use Rattle.nfs_items.proofs.credential.read_groups.Goals as goal
 
 pub returns-in_err-group : goal.returns-in_err-group
@@ -16,7 +16,7 @@ loop-preserved c = record {
   text = rw c.push.ensures (goes_on _ _ _ _ _ _ _ _ c.loop-test.true c.in_ok-group.ensures c.loop.invariant.text);
 }
 
--- behind the last group, what was read is the whole array
+-- after the last group, what was read is the whole array
 pub returns : goal.returns
 returns c =
     let few : c.in_ok-count.count ≤ 16 = omega arith in

@@ -1,7 +1,7 @@
 use Rattle.std.proofs.Common.{◌≡◌, length}
-use Rattle.xdr_texts.specs.Item.{word}
-use Rattle.xdr_texts.specs.Reading.{read_at}
-use Rattle.xdr_texts.specs.ArraysAndUnions.{Continues}
+use Rattle.xdr.specs.Item.{word}
+use Rattle.xdr.specs.Reading.{read_at}
+use Rattle.xdr.specs.ArraysAndUnions.{Continues}
 use Rattle.nfs_items.proofs.credential.read_groups.Given as goal
 
 abbrev pub invariant-loop : goal.invariant-loop

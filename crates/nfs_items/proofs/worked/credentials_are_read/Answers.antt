@@ -1,6 +1,6 @@
 use Rattle.std.proofs.Common.{refl}
-use Rattle.xdr_texts.specs.Reading.{number_at, fixed_at, opaque_at, items_at}
-use Rattle.xdr_texts.specs.Text.{text_at}
+use Rattle.xdr.specs.Reading.{number_at, fixed_at, opaque_at, items_at}
+use Rattle.xdr.specs.Texts.Text.{text_at}
 use Rattle.nfs_items.proofs.worked.credentials_are_read.Goals as goal
 
 pub returns-clause-body : goal.returns-clause-body

@@ -1,16 +1,18 @@
 use Rattle.std.proofs.Common.{subst}
 use Rattle.nfs_items.specs.CallerOf.{caller_of}
-use Rattle.nfs_types.specs.Results.{outcome_of, dir_op_of}
-use Rattle.nfs_spec.specs.Sattr.{given_fields}
-use Rattle.nfs_spec.specs.NfsCalls.{number_for}
-use Rattle.nfs_spec.specs.Procedures.{make_dir}
-use Rattle.nfs_spec_steps.specs.Granted.{new_directory}
-use Rattle.nfs_spec_steps.proofs.Making.{make_dir_ok}
-use Rattle.nfs_spec_steps.proofs.AfterEffects.{make_there}
+use Rattle.nfs_items.specs.Attributes.{outcome_of}
+use Rattle.file_tree.specs.nfs_types.Results.{dir_op_of}
+use Rattle.nfs_laws.specs.nfs_spec.Sattr.{given_fields}
+use Rattle.nfs_laws.specs.nfs_spec.NfsCalls.{number_for}
+use Rattle.nfs_laws.specs.nfs_spec.Procedures.{make_dir}
+use Rattle.nfs_laws.specs.Steps.Granted.{new_directory}
+use Rattle.nfs_laws.proofs.OfSteps.Making.{make_dir_ok}
+use Rattle.nfs_laws.proofs.OfSteps.AfterEffects.{make_there}
 use Rattle.file_tree.specs.Performs.{Does}
 use Rattle.nfs_procs.proofs.Told.{handle_told}
 use Rattle.nfs_procs.proofs.changing.make_dir.Goals as goal
 
+-- MKDIR answers as its effect says: the stat of a refusal, or the handle and the attributes
 pub returns : goal.returns
 returns c =
     let fs = c.args.tree.now in

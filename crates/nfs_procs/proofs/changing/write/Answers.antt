@@ -1,14 +1,15 @@
 use Rattle.std.proofs.Common.{ap, subst, ◌∙◌}
 use Rattle.nfs_items.specs.CallerOf.{caller_of}
-use Rattle.nfs_spec.specs.NfsCalls.{number_for}
-use Rattle.nfs_spec.specs.Procedures.{write}
-use Rattle.nfs_spec_steps.proofs.Setting.{write_ok}
-use Rattle.nfs_spec_steps.proofs.AfterEffects.{write_there}
+use Rattle.nfs_laws.specs.nfs_spec.NfsCalls.{number_for}
+use Rattle.nfs_laws.specs.nfs_spec.Procedures.{write}
+use Rattle.nfs_laws.proofs.OfSteps.Setting.{write_ok}
+use Rattle.nfs_laws.proofs.OfSteps.AfterEffects.{write_there}
 use Rattle.file_tree.specs.Performs.{Does}
 use Rattle.nfs_procs.specs.Changed.{attributes_then}
 use Rattle.nfs_procs.proofs.Told.{attributes_told}
 use Rattle.nfs_procs.proofs.changing.write.Goals as goal
 
+-- WRITE answers as its effect says: the stat of a refusal, or the attributes
 pub returns : goal.returns
 returns c =
     let fs = c.args.tree.now in

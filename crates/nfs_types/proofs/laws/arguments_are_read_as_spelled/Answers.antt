@@ -1,17 +1,19 @@
-use Rattle.nfs_types.proofs.ArgumentsRead.{read_as_said, fault_is, no_procedure, one_call, own_call}
+use Rattle.nfs_items.proofs.Programs as programs
+use Rattle.nfs_types.specs.Texts.{nfs_program}
+use Rattle.nfs_types.proofs.ArgumentsRead.{own_value, no_procedure}
 use Rattle.nfs_types.proofs.laws.arguments_are_read_as_spelled.Goals as goal
 
 pub returns-clause-exact : goal.returns-clause-exact
-returns-clause-exact c procedure bytes rest call bound = read_as_said procedure bytes rest call bound
+returns-clause-exact c = programs.read_as_said nfs_program
 
 pub returns-clause-faults : goal.returns-clause-faults
-returns-clause-faults c = fault_is
+returns-clause-faults c = programs.fault_is nfs_program
 
 pub returns-clause-none : goal.returns-clause-none
 returns-clause-none c = no_procedure
 
 pub returns-clause-one_call : goal.returns-clause-one_call
-returns-clause-one_call c = one_call
+returns-clause-one_call c = programs.one_call nfs_program
 
 pub returns-clause-own : goal.returns-clause-own
-returns-clause-own c = own_call
+returns-clause-own c = programs.own_call nfs_program own_value

@@ -1,11 +1,11 @@
 use Rattle.std.proofs.Common.{◌≡◌, ◌<◌, ◌≤◌, ◌^◌, ◌++◌, ◌∷◌, ltb, true, false, arith, subst, ℕ, List, Ok, Err, refl, sym, ap, ◌∙◌, length, append-nil}
 use Rattle.std.proofs.lemmas.Bool.{lt-ltb, le-ltb}
 use Rattle.std.proofs.lemmas.List.{drop_at, length-append}
-use Rattle.nfs_items.specs.XdrFault.TheVariants.{Padding, TooLong}
-use Rattle.nfs_items.specs.Item.{number_spelling, padding}
-use Rattle.nfs_items.specs.Reading.{number_at, fixed_at, opaque_at, read_at}
-use Rattle.nfs_items.proofs.Front.{number_again, opaque_again}
-use Rattle.nfs_items.proofs.Exact.{again}
+use Rattle.nfs_items.specs.xdr.declared.fault.XdrFault.TheVariants.{Padding, TooLong}
+use Rattle.nfs_items.specs.xdr.Item.{number_spelling, padding}
+use Rattle.nfs_items.specs.xdr.Reading.{number_at, fixed_at, opaque_at, read_at}
+use Rattle.nfs_items.proofs.xdr.Front.{number_again, opaque_again}
+use Rattle.nfs_items.proofs.xdr.Exact.{again}
 use Rattle.nfs_items.specs.Handle.{fhandle}
 use Rattle.nfs_types.proofs.worked.names_are_read.Goals as goal
 

@@ -1,9 +1,10 @@
-use Rattle.links.specs.declared.fault.LinkFault.TheVariants.{Failed}
-use Rattle.exchanges.proofs.Reached.{taken_by}
+use Rattle.gateway.specs.declared.links.fault.LinkFault.TheVariants.{Failed}
+use Rattle.nodes.proofs.OfExchanges.Reached.{taken_by}
 use Rattle.nodes.specs.Delivery.{fault_of}
 use Rattle.nodes.proofs.Delivered.{awaited}
 use Rattle.nodes.proofs.deliver.acknowledge_call.Goals as goal
 
+-- the acknowledgement that the server shows is the one that the client awaits
 pub returns : goal.returns
 returns c a h =
     awaited c.args.client.now c.take_ack.new.self a c.ack_taken.result

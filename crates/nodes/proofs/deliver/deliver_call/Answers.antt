@@ -1,4 +1,4 @@
-use Rattle.exchanges.proofs.Reached.{call_found}
+use Rattle.nodes.proofs.OfExchanges.Reached.{call_found}
 use Rattle.nodes.proofs.deliver.deliver_call.Goals as goal
 
 pub returns-clause-hears : goal.returns-clause-hears

@@ -1,4 +1,4 @@
-use Rattle.exchanges.proofs.Reached.{call_found}
+use Rattle.nodes.proofs.OfExchanges.Reached.{call_found}
 use Rattle.nodes.proofs.deliver.deliver_reply.Goals as goal
 
 pub returns-clause-takes : goal.returns-clause-takes

@@ -1,4 +1,4 @@
-use Rattle.exchanges.proofs.Reached.{heard_as}
+use Rattle.nodes.proofs.OfExchanges.Reached.{heard_as}
 use Rattle.nodes.proofs.deliver.hear.Goals as goal
 
 pub returns-in-Ok-New-clause-hears : goal.returns-in-Ok-New-clause-hears

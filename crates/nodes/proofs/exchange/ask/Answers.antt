@@ -1,4 +1,4 @@
-use Rattle.exchanges.proofs.Called.{sent_by}
+use Rattle.nodes.proofs.OfExchanges.Called.{sent_by}
 use Rattle.nodes.proofs.Asked.{asks_err, asks_ok, asks_refused, is_heard}
 use Rattle.nodes.proofs.exchange.ask.Goals as goal
 

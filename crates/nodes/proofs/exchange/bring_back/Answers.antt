@@ -1,6 +1,6 @@
 use Rattle.std.proofs.Common.{ap, length, ◌∙◌}
-use Rattle.exchanges.specs.Nodes.{NodeParts, sender_of}
-use Rattle.commitment.specs.LookUps.{envelope_at}
+use Rattle.node_logs.specs.Steps.Nodes.{NodeParts, sender_of}
+use Rattle.commitment.specs.Senders.LookUps.{envelope_at}
 use Rattle.nodes.proofs.Replied.{is_replied, stops_replying}
 use Rattle.nodes.proofs.exchange.bring_back.Goals as goal
 

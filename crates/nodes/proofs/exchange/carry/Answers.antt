@@ -1,5 +1,5 @@
 use Rattle.std.proofs.Common.{inr}
-use Rattle.exchanges.proofs.Answered.{asked_joined, none_due, replied_joined, reply_due, served_replied}
+use Rattle.nodes.proofs.OfExchanges.Answered.{asked_joined, none_due, replied_joined, reply_due, served_replied}
 use Rattle.nodes.proofs.exchange.carry.Goals as goal
 
 pub bring_back-requires : goal.bring_back-requires

@@ -1,4 +1,4 @@
-use Rattle.honest_logs.specs.State.{opening_server, opening_client}
+use Rattle.checkpoint.specs.state_spec.State.{opening_server, opening_client}
 use Rattle.replay.proofs.Openings.{none_received, none_sent, gives_none_received, gives_none_sent}
 use Rattle.replay.proofs.opening.opening_state.Goals as goal
 

@@ -1,7 +1,7 @@
 use Rattle.std.proofs.Common.{◌≡◌, [], Ok, Err, ap, refl, sym, subst, ◌∙◌, arith}
-use Rattle.honest_logs.specs.Placed.{place}
-use Rattle.honest_logs.specs.Stepping.{step}
-use Rattle.honest_logs.specs.Replay.{Fault}
+use Rattle.replay_spec.specs.Placed.{place}
+use Rattle.replay_spec.specs.Stepping.{step}
+use Rattle.replay_spec.specs.Replay.{Fault}
 use Rattle.replay.specs.Faults.{fault_in}
 use Rattle.replay.specs.Answers.{Steps}
 use Rattle.replay.specs.declared.steps.StepError.{StepError}
@@ -72,6 +72,7 @@ loop-entry-preserved c =
     c.new-place.ensures c.in-Ok.ensures in
     (_, on there _ refl c.entry_hash-before.result c.entry_hash-before.ensures)
 
+-- after the last entry the replay ends there
 pub returns : goal.returns
 returns c =
     let whole = ends

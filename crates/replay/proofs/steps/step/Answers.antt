@@ -12,6 +12,7 @@ returns-in-Some c = (
   refl,
 )
 
+-- an entry without a fault is taken
 pub returns : goal.returns
 returns c =
     faultless c.args.roster.now c.args.state.now c.args.number c.args.before.now c.args.entry.now

@@ -1,7 +1,7 @@
 use Rattle.std.proofs.Common.{◌≡◌, Ok, Err, ap, sym, subst, ◌∙◌, arith}
-use Rattle.honest_logs.specs.Placed.{place}
-use Rattle.honest_logs.specs.Stepping.{step}
-use Rattle.honest_logs.specs.Replay.{Fault}
+use Rattle.replay_spec.specs.Placed.{place}
+use Rattle.replay_spec.specs.Stepping.{step}
+use Rattle.replay_spec.specs.Replay.{Fault}
 use Rattle.replay.specs.Faults.{fault_in}
 use Rattle.replay.specs.Answers.{Steps}
 use Rattle.replay.specs.declared.steps.StepError.{StepError}
@@ -70,6 +70,7 @@ loop-entry-preserved c =
     on there c.replay_entry.new.found.items c.in-Ok.ensures.found c.entry_hash-before.result
     c.entry_hash-before.ensures
 
+-- after the last entry the verdict is sound
 pub returns : goal.returns
 returns c =
     let whole = ends

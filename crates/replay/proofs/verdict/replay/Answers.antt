@@ -1,9 +1,9 @@
 use Rattle.std.proofs.Common.{◌≡◌, ◌+◌, List, length, sym, ap, subst, arith}
 use Rattle.authenticator.specs.declared.authenticator.Authenticator.{Authenticator}
-use Rattle.log_entries.specs.declared.entry.Entry.{Entry}
+use Rattle.secure_log.specs.declared.log_entries.entry.Entry.{Entry}
 use Rattle.secure_log.specs.Segment.{SegmentParts}
-use Rattle.honest_logs.specs.Placed.{placed, placed_in}
-use Rattle.honest_logs.specs.Replay.{verdict_of}
+use Rattle.replay_spec.specs.Placed.{placed, placed_in}
+use Rattle.replay_spec.specs.Replay.{verdict_of}
 use Rattle.replay.proofs.Runs.{sound_as}
 use Rattle.replay.proofs.verdict.replay.Goals as goal
 

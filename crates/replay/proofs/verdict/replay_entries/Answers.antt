@@ -1,6 +1,6 @@
 use Rattle.std.proofs.Common.{refl}
-use Rattle.honest_logs.specs.Placed.{placed}
-use Rattle.honest_logs.specs.Replay.{verdict_of}
+use Rattle.replay_spec.specs.Placed.{placed}
+use Rattle.replay_spec.specs.Replay.{verdict_of}
 use Rattle.replay.proofs.Runs.{sound_as}
 use Rattle.replay.proofs.verdict.replay_entries.Goals as goal
 

@@ -1,11 +1,11 @@
 use Rattle.std.proofs.Common.{◌≡◌, ◌≢◌, ℕ, Bool, true, false, cond, not, List, [], Some, None, Ok, Err}
 use Rattle.std.proofs.Common.{refl, ap}
-use Rattle.machines.specs.State.{opening_client}
-use Rattle.machines.specs.StateText.{state_digest}
-use Rattle.replay_spec.specs.Signing.{is_same}
+use Rattle.state_machine.specs.state_spec.State.{opening_client}
+use Rattle.state_machine.specs.state_spec.StateText.{state_digest}
+use Rattle.authenticator.specs.Signing.{is_same}
 use Rattle.replay_spec.specs.Stepping.{WrongCheckpoint, unless_fault, step}
 use Rattle.replay_spec.specs.Replay.{Verdict, Fault, behind, verdict_of}
-use Rattle.replay_spec.proofs.Signed.{same_list, list_same}
+use Rattle.authenticator.proofs.Signed.{same_list, list_same}
 use Rattle.replay_spec.proofs.laws.clients_have_faults.Goals as goal
 
 -- the verdict on a CHECK, by whether it has the digest

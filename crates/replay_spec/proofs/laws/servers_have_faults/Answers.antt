@@ -1,9 +1,9 @@
 use Rattle.std.proofs.Common.{ℕ, cond, not, List, [], Option, Some, None, Ok, Err, nat_cmp, refl, ap}
 use Rattle.std.specs.FinMap as finite
 use Rattle.merkle_keys.specs.Signing.{SignatureParts}
-use Rattle.log_entries.specs.declared.entry.Entry.TheVariants.{Ack}
-use Rattle.machines.specs.State.{SentMessage, opening_server}
-use Rattle.machines.specs.Steps.{having_acknowledged}
+use Rattle.secure_log.specs.declared.log_entries.entry.Entry.TheVariants.{Ack}
+use Rattle.state_machine.specs.state_spec.State.{SentMessage, opening_server}
+use Rattle.state_machine.specs.Steps.{having_acknowledged}
 use Rattle.replay_spec.specs.Stepping.{BadAck, fits_message, unless_fault, shown_by, step}
 use Rattle.replay_spec.specs.Replay.{Verdict, Fault, behind, verdict_of}
 use Rattle.replay_spec.proofs.laws.servers_have_faults.Goals as goal

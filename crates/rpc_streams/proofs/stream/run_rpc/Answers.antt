@@ -1,6 +1,6 @@
 use Rattle.std.proofs.Common.{◌≡◌, ◌∙◌, true, ap, Err, rules}
 use Rattle.std.proofs.lemmas.Result.{err_from_is_err_and}
-use Rattle.rpc_streams.proofs.LoopProgress.{ends, unanswered, pushes, answers, stops_behind, leaves_off_behind, stops_between, stops_at_once, leaves_off_reading, leaves_off_answering}
+use Rattle.rpc_streams.proofs.LoopProgress.{ends, unanswered, pushes, answers, stops_behind, leaves_off_after, stops_between, stops_at_once, leaves_off_reading, leaves_off_answering}
 use Rattle.rpc_streams.proofs.stream.run_rpc.Goals as goal
 
 pub returns-in_default-clause-taken : goal.returns-in_default-clause-taken
@@ -68,7 +68,7 @@ returns-in_err-k-clause-taken g c =
     let wrote = rw (c.time_of_record-time.ensures, c.deref.ensures.value) at c.in_ok-serve.ensures.text in
     let next = rw (c.time_of_record-time.ensures, c.deref.ensures.value) at c.in_ok-serve.ensures.world in
     let now = pushes c.loop-k.invariant.0.progress (record { is_record = found.1; taken = found.2 }) next wrote in
-    rw (p.1, p.2) (leaves_off_behind _ (c.in_err-k.ensures.reader.0 ∙ failed) now c.in_err-k.ensures.stops)
+    rw (p.1, p.2) (leaves_off_after _ (c.in_err-k.ensures.reader.0 ∙ failed) now c.in_err-k.ensures.stops)
 
 pub loop-k-preserved : goal.loop-k-preserved
 loop-k-preserved g c =

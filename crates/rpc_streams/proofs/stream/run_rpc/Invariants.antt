@@ -1,6 +1,6 @@
 use Rattle.std.proofs.Common.{◌≤◌, ◌-◌, ◌^◌}
 use Rattle.std.specs.Prelude.{vec_capacity}
-use Rattle.records.specs.declared.record.TheConstants.{MAX_RECORD}
+use Rattle.rpc.specs.declared.records.record.TheConstants.{MAX_RECORD}
 use Rattle.rpc_streams.specs.declared.batch.TheConstants.{MOST_RECORDS}
 use Rattle.rpc_streams.proofs.LoopProgress.{Turn}
 use Rattle.rpc_streams.proofs.stream.run_rpc.Given as goal

@@ -1,5 +1,5 @@
 use Rattle.std.proofs.Common.{◌≡◌, length, rules}
-use Rattle.rpc_streams.proofs.Written.{within, whole_batch, part_of_batch, refused_behind}
+use Rattle.rpc_streams.proofs.Written.{within, whole_batch, part_of_batch, refused_after}
 use Rattle.rpc_streams.proofs.stream.serve_at_hand.Goals as goal
 
 pub pass-requires : goal.pass-requires
@@ -16,7 +16,7 @@ pub returns-then-is_err-clause-stops : goal.returns-then-is_err-clause-stops
 returns-then-is_err-clause-stops g c =
     let taken = rw (c.taken.ensures, ← c.at_hand.ensures.bytes) at c.pass.ensures.taken in
     let written = rw c.deref.ensures.value at c.write_front-written.ensures.text in
-    refused_behind (whole_batch _ _ _ _ c.write_front-written.result c.fill-filled.ensures.batch (search rules) taken written)
+    refused_after (whole_batch _ _ _ _ c.write_front-written.result c.fill-filled.ensures.batch (search rules) taken written)
 
 pub returns-clause-answers : goal.returns-clause-answers
 returns-clause-answers g c =

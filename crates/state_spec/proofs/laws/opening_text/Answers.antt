@@ -5,10 +5,10 @@ use Rattle.std.specs.declared.cmp.Ordering.{Ordering}
 use Rattle.std.specs.FinMap as finite
 use Rattle.xdr.specs.Item.{Item, Value, Fits, fixed, spelling, number_spelling}
 use Rattle.sha2.proofs.Facts256.{length-sha256}
-use Rattle.fs_model.specs.Files.{File}
-use Rattle.nfs_spec.specs.Opening.{opening_root, opening_hello}
-use Rattle.nfs_spec.proofs.OpeningFiles.{opening_room, opening_entries}
-use Rattle.nfs_spec.proofs.OpeningTree.{opening_is_tree}
+use Rattle.file_texts.specs.fs_model.Files.{File}
+use Rattle.worlds.specs.nfs_spec.Opening.{opening_root, opening_hello}
+use Rattle.worlds.proofs.nfs_spec.OpeningFiles.{opening_room, opening_entries}
+use Rattle.worlds.proofs.nfs_spec.OpeningTree.{opening_is_tree}
 use Rattle.worlds.specs.World.{opening_world}
 use Rattle.worlds.proofs.Mounted.{are_mounts}
 use Rattle.file_texts.specs.FileItems.{file_item, file_value, file_digest}

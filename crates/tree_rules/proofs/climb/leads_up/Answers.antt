@@ -1,8 +1,8 @@
 use Rattle.std.proofs.Common.{ℕ, List, arith, get_or, map, subst, sym, ap, ◌∙◌}
 use Rattle.std.specs.List.{list_all}
 use Rattle.std.specs.Prelude.{◌==◌}
-use Rattle.fs_rules.specs.Climbs.{AreWays}
-use Rattle.fs_rules.proofs.Climbs.{steps_within, steps_doubled, tells}
+use Rattle.tree_rules.specs.FileRules.Climbs.{AreWays}
+use Rattle.tree_rules.proofs.OfFileRules.Climbs.{steps_within, steps_doubled, tells}
 use Rattle.tree_rules.proofs.climb.leads_up.Goals as goal
 
 pub doubled-requires : goal.doubled-requires
@@ -16,6 +16,7 @@ loop-steps-preserved c =
     c.loop-steps.invariant
     (c.in_ok-up-2.ensures ∙ ap (λ (up : List ℕ). map (λ a. get_or up a 0) up) c.deref.ensures.value)
 
+-- all places are at the first after these steps exactly where each leads up to it
 pub returns : goal.returns
 returns c =
     tells c.args.above.now c.loop-steps.steps c.loop-steps.up.items c.are_first.result c.loop-steps.invariant

@@ -1,5 +1,5 @@
 use Rattle.std.proofs.Common.{length, ◌+◌, ◌-◌}
-use Rattle.fs_rules.proofs.Climbs.{AreSteps}
+use Rattle.tree_rules.proofs.OfFileRules.Climbs.{AreSteps}
 use Rattle.tree_rules.proofs.climb.leads_up.Given as goal
 
 abbrev pub invariant-loop-steps : goal.invariant-loop-steps

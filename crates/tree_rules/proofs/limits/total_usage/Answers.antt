@@ -1,5 +1,5 @@
 use Rattle.std.proofs.Common.{ℕ, ◌<◌, ◌≤◌, length, arith, sym, subst, ◌∙◌}
-use Rattle.fs_rules.specs.Rules.{AreRising, IsAt}
+use Rattle.tree_rules.specs.FileRules.Rules.{AreRising, IsAt}
 use Rattle.inodes.specs.Inodes.{file_in}
 use Rattle.inodes.specs.declared.inode.Inode.{Inode}
 use Rattle.tree_rules.specs.Listed.{files_in}

@@ -3,7 +3,7 @@ use Rattle.std.specs.List.{All}
 use Rattle.std.proofs.lemmas.List.{length-replicate}
 use Rattle.inodes.specs.Inodes.{file_in}
 use Rattle.inodes.specs.declared.inode.Inode.{Inode}
-use Rattle.fs_model.specs.Files.{listing_in}
+use Rattle.nfs_laws.specs.fs_model.Files.{listing_in}
 use Rattle.tree_rules.specs.Listed.{files_in}
 use Rattle.tree_rules.specs.Counting.{IsAmong}
 use Rattle.tree_rules.proofs.Counted.{AreKnownTo, counted_none, counted_more, counted_all, known_more}
@@ -53,6 +53,7 @@ loop-place-preserved c =
           (file_in e.1) at c.args.numbers.now c.loop-place.invariant.known c.if-not-add_inode.ensures.known;
     }
 
+-- after the last file all names were counted
 pub returns : goal.returns
 returns c =
     let es = files_in c.args.inodes.now in

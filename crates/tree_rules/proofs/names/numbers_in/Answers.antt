@@ -3,6 +3,7 @@ use Rattle.std.proofs.lemmas.Iterator.{YieldsList-from_slice, YieldsList-from_ma
 use Rattle.inodes.specs.declared.inode.Inode.{Inode}
 use Rattle.tree_rules.proofs.names.numbers_in.Goals as goal
 
+-- the numbers are collected file by file
 pub returns : goal.returns
 returns c =
     items_from_collect _ c.collect.ensures.ran

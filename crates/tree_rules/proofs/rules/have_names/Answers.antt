@@ -16,6 +16,7 @@ loop-place-preserved c =
     have_more c.loop-place.place c.args.inodes.now c.args.names.now c.index-inodes-place.result inside
     (sym c.if-not-may_have.ensures) c.loop-place.invariant
 
+-- after the last place each has names as it may
 pub returns : goal.returns
 returns c =
     λ k n f at. let r = inode_of_place c.args.inodes.now k n f at in

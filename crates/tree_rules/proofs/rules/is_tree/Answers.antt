@@ -3,14 +3,14 @@ use Rattle.std.proofs.Common.{⊎_elim, Some, eqb, eqb-true, eq-eqb, sym, ap, su
 use Rattle.std.specs.Prelude.{IsTrue, ◌↔◌}
 use Rattle.std.proofs.lemmas.Bool.{cases_lt}
 use Rattle.std.proofs.lemmas.Option.{get_or_from_slice_get}
-use Rattle.fs_model.specs.Files.{File}
-use Rattle.fs_model.specs.Trees.{IsFileTree}
+use Rattle.nfs_laws.specs.fs_model.Files.{File}
+use Rattle.nfs_laws.specs.fs_model.Trees.{IsFileTree}
 use Rattle.inodes.specs.Inodes.{file_in}
 use Rattle.inodes.specs.declared.inode.Inode.{Inode}
-use Rattle.fs_rules.specs.Climbs.{AreWays, TellsWays}
-use Rattle.fs_rules.specs.Rules.{files_listed, AreFiles, HaveNames, IsAt}
-use Rattle.fs_rules.proofs.Ways.{root_place}
-use Rattle.fs_rules.proofs.Decided.{rules_suffice, tree_known, tree_names, tree_leads}
+use Rattle.tree_rules.specs.FileRules.Climbs.{AreWays, TellsWays}
+use Rattle.tree_rules.specs.FileRules.Rules.{files_listed, AreFiles, HaveNames, IsAt}
+use Rattle.tree_rules.proofs.OfFileRules.Ways.{root_place}
+use Rattle.tree_rules.proofs.OfFileRules.Decided.{rules_suffice, tree_known, tree_names, tree_leads}
 use Rattle.tree_rules.specs.Listed.{files_in}
 use Rattle.tree_rules.specs.Counting.{IsCount}
 use Rattle.tree_rules.proofs.Counted.{are_ways}
@@ -77,6 +77,7 @@ module _ (inodes : List (ℕ × Inode)) (fsid next : ℕ) (each : AreFiles next 
   if_decided (Ok b) t = decided b t
   if_decided (Err e) t = tt
 
+-- where names and ways are as they may the files are decided by the rules
 pub returns : goal.returns
 returns c = λ fsid next each.
     let found = rw c.in-Some.is at c.in_ok-counts.ensures in

@@ -1,12 +1,13 @@
 use Rattle.std.proofs.Common.{Ok, sym, ap, ◌∙◌}
 use Rattle.nfs_spec.specs.Effects.{attributes_at}
-use Rattle.inodes.specs.Inodes.{file_in, fattr_of}
+use Rattle.inode_table.specs.inodes.Inodes.{file_in, fattr_of}
 use Rattle.file_tree.proofs.FilesSeen.{seen, unseen, attributes_none, attributes_some}
 use Rattle.file_tree.proofs.tree.Tree.attributes.Goals as goal
 
 pub attributes-requires : goal.attributes-requires
 attributes-requires c = c.in-Some.ensures.body
 
+-- the attributes of the inode, with the server's number, are the file's
 pub returns : goal.returns
 returns c =
     ap (λ a. Ok a) (c.attributes.ensures

@@ -1,10 +1,10 @@
 use Rattle.std.proofs.Common.{Some, None, Ok, refl, sym, ap, subst, ◌∙◌}
-use Rattle.nfs_items.specs.CallerOf.{caller_of}
-use Rattle.fs_model.proofs.Walks.{none_some}
+use Rattle.nfs_spec.specs.nfs_items.CallerOf.{caller_of}
+use Rattle.nfs_spec.proofs.fs_model.Walks.{none_some}
 use Rattle.nfs_spec.specs.ProcedureChecks.{◌>>=◌}
 use Rattle.nfs_spec.specs.Procedures.{set_attributes, create}
-use Rattle.inodes.specs.Given.{given_in}
-use Rattle.file_checks.specs.Creates.{DecidesCreate}
+use Rattle.inode_table.specs.inodes.Given.{given_in}
+use Rattle.file_tree.specs.FileChecks.Creates.{DecidesCreate}
 use Rattle.file_tree.specs.Performs.{Does}
 use Rattle.file_tree.proofs.tree.Tree.create.Goals as goal
 

@@ -1,11 +1,11 @@
 use Rattle.std.proofs.Common.{None, Ok, sym, subst, rules}
-use Rattle.nfs_items.specs.CallerOf.{caller_of}
-use Rattle.fs_model.specs.Trees.{IsTime}
-use Rattle.nfs_spec_laws.specs.Laws.{NamesIn}
-use Rattle.file_checks.specs.Bounds.{HasWords}
-use Rattle.inodes.specs.Given.{given_in}
-use Rattle.inodes.specs.Inodes.{file_in}
-use Rattle.file_checks.specs.Creates.{DecidesCreate}
+use Rattle.nfs_spec.specs.nfs_items.CallerOf.{caller_of}
+use Rattle.nfs_spec.specs.fs_model.Trees.{IsTime}
+use Rattle.inode_table.specs.nfs_laws.Laws.{NamesIn}
+use Rattle.inode_table.specs.nfs_laws.Sizes.Bounds.{HasWords}
+use Rattle.inode_table.specs.inodes.Given.{given_in}
+use Rattle.inode_table.specs.inodes.Inodes.{file_in}
+use Rattle.file_tree.specs.FileChecks.Creates.{DecidesCreate}
 use Rattle.file_tree.proofs.CreatedFiles.{new_regular_is, may_create, create_does, create_names}
 use Rattle.file_tree.proofs.tree.Tree.create_new.Goals as goal
 

@@ -1,8 +1,8 @@
 use Rattle.std.proofs.Common.{◌≡◌, subst, rules}
-use Rattle.nfs_items.specs.CallerOf.{caller_of}
-use Rattle.nfs_spec_laws.specs.Laws.{NamesIn}
-use Rattle.fs_model.specs.Trees.{IsTime}
-use Rattle.file_checks.proofs.GrantedNames.{may_link, link_does, link_names}
+use Rattle.nfs_spec.specs.nfs_items.CallerOf.{caller_of}
+use Rattle.inode_table.specs.nfs_laws.Laws.{NamesIn}
+use Rattle.nfs_spec.specs.fs_model.Trees.{IsTime}
+use Rattle.file_tree.proofs.OfFileChecks.GrantedNames.{may_link, link_does, link_names}
 use Rattle.file_tree.proofs.tree.Tree.link.Goals as goal
 
 pub link-requires : goal.link-requires

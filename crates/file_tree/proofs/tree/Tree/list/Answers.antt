@@ -1,9 +1,9 @@
 use Rattle.std.proofs.Common.{subst}
 use Rattle.std.specs.Prelude.{IsTrue}
-use Rattle.nfs_items.specs.CallerOf.{caller_of}
-use Rattle.fs_model.specs.Trees.{IsFileTree}
-use Rattle.fs_changes.specs.Limits.{has_room}
-use Rattle.file_checks.specs.Bounds.{AreWords}
+use Rattle.nfs_spec.specs.nfs_items.CallerOf.{caller_of}
+use Rattle.nfs_spec.specs.fs_model.Trees.{IsFileTree}
+use Rattle.nfs_spec.specs.fs_model.Changes.Limits.{has_room}
+use Rattle.inode_table.specs.nfs_laws.Sizes.Bounds.{AreWords}
 use Rattle.file_tree.proofs.PageNames.{names_fit_if}
 use Rattle.file_tree.proofs.tree.Tree.list.Goals as goal
 

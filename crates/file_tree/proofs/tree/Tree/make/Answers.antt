@@ -1,12 +1,12 @@
 use Rattle.std.proofs.Common.{◌≡◌, sym, subst, rules}
-use Rattle.nfs_items.specs.CallerOf.{caller_of}
-use Rattle.fs_model.specs.Trees.{IsTime}
+use Rattle.nfs_spec.specs.nfs_items.CallerOf.{caller_of}
+use Rattle.nfs_spec.specs.fs_model.Trees.{IsTime}
 use Rattle.nfs_spec.specs.Procedures.{make, add_file}
-use Rattle.nfs_spec_steps.proofs.Making.{make_ok}
-use Rattle.nfs_spec_laws.specs.Laws.{NamesIn}
-use Rattle.file_checks.specs.Bounds.{HasWords}
-use Rattle.inodes.specs.Inodes.{file_in}
-use Rattle.file_checks.proofs.GrantedNames.{may_make, make_does, make_names}
+use Rattle.inode_table.proofs.nfs_laws.OfSteps.Making.{make_ok}
+use Rattle.inode_table.specs.nfs_laws.Laws.{NamesIn}
+use Rattle.inode_table.specs.nfs_laws.Sizes.Bounds.{HasWords}
+use Rattle.inode_table.specs.inodes.Inodes.{file_in}
+use Rattle.file_tree.proofs.OfFileChecks.GrantedNames.{may_make, make_does, make_names}
 use Rattle.file_tree.proofs.tree.Tree.make.Goals as goal
 
 pub make-requires : goal.make-requires

@@ -1,9 +1,9 @@
 use Rattle.std.proofs.Common.{sym, subst, rules}
-use Rattle.nfs_items.specs.CallerOf.{caller_of}
-use Rattle.fs_model.specs.Trees.{IsTime}
-use Rattle.nfs_spec_laws.specs.Laws.{AreValidFields}
-use Rattle.nfs_spec_laws.proofs.FilesFit.{given_are_valid, directory_fits}
-use Rattle.inodes.specs.Given.{given_in}
+use Rattle.nfs_spec.specs.nfs_items.CallerOf.{caller_of}
+use Rattle.nfs_spec.specs.fs_model.Trees.{IsTime}
+use Rattle.inode_table.specs.nfs_laws.Laws.{AreValidFields}
+use Rattle.inode_table.proofs.nfs_laws.FilesFit.{given_are_valid, directory_fits}
+use Rattle.inode_table.specs.inodes.Given.{given_in}
 use Rattle.file_tree.proofs.tree.Tree.make_dir.Goals as goal
 
 pub make-requires-clause-file : goal.make-requires-clause-file

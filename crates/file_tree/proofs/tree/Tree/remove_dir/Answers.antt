@@ -1,6 +1,6 @@
 use Rattle.std.proofs.Common.{◌≡◌, Ok, Err, refl, sym, ap, subst, ◌∙◌, arith, rules}
-use Rattle.nfs_items.specs.CallerOf.{caller_of}
-use Rattle.fs_model.specs.Trees.{IsFileTree}
+use Rattle.nfs_spec.specs.nfs_items.CallerOf.{caller_of}
+use Rattle.nfs_spec.specs.fs_model.Trees.{IsFileTree}
 use Rattle.nfs_spec.specs.Procedures.{remove_dir}
 use Rattle.file_tree.specs.Performs.{Does}
 use Rattle.file_tree.proofs.Removed.{dir_removed}

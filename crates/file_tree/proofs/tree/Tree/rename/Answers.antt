@@ -1,8 +1,8 @@
 use Rattle.std.proofs.Common.{sym, ap, subst, ◌≡◌, ◌∙◌, arith, rules, Ok}
-use Rattle.nfs_items.specs.CallerOf.{caller_of}
-use Rattle.fs_model.specs.Trees.{IsFileTree}
+use Rattle.nfs_spec.specs.nfs_items.CallerOf.{caller_of}
+use Rattle.nfs_spec.specs.fs_model.Trees.{IsFileTree}
 use Rattle.nfs_spec.specs.Procedures.{move_entry, rename}
-use Rattle.file_checks.specs.Moves.{moved}
+use Rattle.file_tree.specs.FileChecks.Moves.{moved}
 use Rattle.file_tree.proofs.Renamed.{renamed}
 use Rattle.file_tree.proofs.tree.Tree.rename.Goals as goal
 

@@ -1,6 +1,6 @@
 use Rattle.std.proofs.Common.{sym}
-use Rattle.nfs_items.specs.CallerOf.{caller_of}
-use Rattle.file_checks.proofs.Granted.{may_write_at, write_does, write_does_nothing}
+use Rattle.nfs_spec.specs.nfs_items.CallerOf.{caller_of}
+use Rattle.file_tree.proofs.OfFileChecks.Granted.{may_write_at, write_does, write_does_nothing}
 use Rattle.file_tree.proofs.tree.Tree.write.Goals as goal
 
 pub returns-then-is_empty : goal.returns-then-is_empty
@@ -17,6 +17,7 @@ write-requires c =
     (caller_of c.args.who.now) c.args.now c.args.number c.args.offset c.args.bytes.now granted.0 granted.1
     (sym c.if-is_empty.ensures)
 
+-- the table takes the bytes that the check granted
 pub returns : goal.returns
 returns c =
     let granted = c.in_default.ensures c.args.now in

@@ -1,8 +1,9 @@
 use Rattle.std.proofs.Common.{sym, ap, ◌∙◌}
-use Rattle.fs_changes.specs.Limits.{file_count}
+use Rattle.fs_model.specs.Changes.Limits.{file_count}
 use Rattle.inode_table.proofs.InodesSeen.{count_seen}
 use Rattle.inode_table.proofs.table.InodeTable.file_count.Goals as goal
 
+-- the map has one entry for each file
 pub returns : goal.returns
 returns c =
     let inside = c.self.inside in

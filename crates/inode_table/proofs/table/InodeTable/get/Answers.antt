@@ -2,9 +2,9 @@ use Rattle.std.proofs.Common.{Bor, Option, Some, None, refl, sym, ap, ◌≡◌,
 use Rattle.std.specs.Prelude.{IfSome, option_map}
 use Rattle.std.specs.Option.{option_copied}
 use Rattle.fs_model.specs.Files.{file_at}
-use Rattle.inodes.specs.Inodes.{file_in}
-use Rattle.inodes.specs.declared.inode.Inode.{Inode}
-use Rattle.inodes.proofs.FilesSeen.{file_seen}
+use Rattle.tree_rules.specs.inodes.Inodes.{file_in}
+use Rattle.tree_rules.specs.inodes.declared.inode.Inode.{Inode}
+use Rattle.tree_rules.proofs.inodes.FilesSeen.{file_seen}
 use Rattle.inode_table.proofs.InodesSeen.{is_body, attributes_kept, parent_kept}
 use Rattle.inode_table.proofs.table.InodeTable.get.Goals as goal
 

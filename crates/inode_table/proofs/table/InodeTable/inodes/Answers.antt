@@ -1,10 +1,11 @@
 use Rattle.std.proofs.Common.{ap, ◌∙◌}
 use Rattle.std.specs.FinMap as finite
 use Rattle.fs_model.specs.Files.{Files}
-use Rattle.inode_links.specs.Listed.{files_in}
+use Rattle.tree_rules.specs.Listed.{files_in}
 use Rattle.inode_table.proofs.GivenInodes.{in_order}
 use Rattle.inode_table.proofs.table.InodeTable.inodes.Goals as goal
 
+-- the map is gone through in order of its numbers
 pub returns : goal.returns
 returns c =
     let t = c.self.inside in

@@ -2,10 +2,10 @@ use Rattle.std.proofs.Common.{ℕ, ◌<◌, ◌^◌, sym, ap, subst, ◌∙◌, 
 use Rattle.std.specs.Prelude.{IsTrue}
 use Rattle.std.specs.List.{All}
 use Rattle.fs_model.specs.Trees.{IsBody, IsFileTree}
-use Rattle.fs_changes.specs.Limits.{block_count, entry_count, has_room}
-use Rattle.nfs_spec_moves.specs.Bounds.{AreWords}
-use Rattle.inodes.specs.Inodes.{file_in, files_of}
-use Rattle.inodes.specs.declared.inode.Inode.{Inode}
+use Rattle.fs_model.specs.Changes.Limits.{block_count, entry_count, has_room}
+use Rattle.nfs_counts.specs.nfs_laws.Sizes.Bounds.{AreWords}
+use Rattle.tree_rules.specs.inodes.Inodes.{file_in, files_of}
+use Rattle.tree_rules.specs.inodes.declared.inode.Inode.{Inode}
 use Rattle.inode_table.proofs.GivenInodes.{bodies}
 use Rattle.inode_table.proofs.table.InodeTable.of_inodes.Goals as goal
 
@@ -32,5 +32,6 @@ invariant_of-result c =
           ∙ ap block_count (sym files);
     }
 
+-- the inodes with their links counted are of the same files
 pub returns : goal.returns
 returns c = c.in_ok-linked_inodes.ensures.files c.args.fsid c.args.next

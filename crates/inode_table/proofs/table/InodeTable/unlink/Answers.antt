@@ -18,6 +18,7 @@ invariant_of-self c =
     unlink_kept c.self.inside c.self.invariant c.self.view_is c.args.now c.requires.2 c.unlink-freed.ensures
     c.touch.ensures c.time_is_valid.ensures.time c.time_is_valid.ensures.word
 
+-- the name goes and the directory is touched
 pub returns : goal.returns
 returns c =
     unlinked_files c.self.inside c.self.invariant c.self.view_is c.args.now c.requires.2

@@ -6,6 +6,7 @@ use Rattle.mount_types.specs.Mounts.{Mounts, root_of, is_listed}
 use Rattle.mount.proofs.Listed.{is_listed-shown}
 use Rattle.mount.proofs.table.MountTable.contains.Goals as goal
 
+-- one of the hosts is this one exactly where its mount is listed
 pub returns : goal.returns
 returns c =
     any_from_yields_List (λ h. bytes_eq c.args.host.now h.items) _ _ _ c.any.ensures.ran

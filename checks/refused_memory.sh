@@ -1,0 +1,146 @@
+#!/usr/bin/env bash
+# Want of memory at each request inside the calls that take memory leaves all as it was, gives no answer, and the same
+# call gives what it should when it is made once more: `checks/refused_memory.sh [SUBJECT..]`, all subjects if none is named.
+# The program of checks/refused_memory has them as modules. It is built once, and run with each request of a subject's calls
+# refused in turn.
+set -euo pipefail
+cd "$(dirname "$0")/.."
+. checks/scratch_crate.sh
+
+# The number of the request that is refused, in all runs: what is made before the calls takes fewer, and a run makes so
+# many others then that the next one to be tried is this one.
+readonly REFUSED=400
+
+# Of each subject how many requests the calls have at most, and how many what is made first has, which aren't refused.
+declare -rA MOST=(
+    [replies]=30 [files]=90 [keys]=10 [log]=84 [state]=80 [calls]=124 [streams]=24 [steps]=30 [entries]=30 [segments]=56
+    [evidence]=124
+)
+declare -rA MADE=(
+    [replies]=0 [files]=0 [keys]=0 [log]=1 [state]=1 [calls]=11 [streams]=15 [steps]=113 [entries]=120 [segments]=148
+    [evidence]=1
+)
+readonly CASE=$PWD/checks/evidence/wrong_checkpoint.evidence
+
+# Standard input for each run of a subject: its name, what it reads, and a byte for each of the others. In run 0 the last
+# of the others is refused.
+make_cases() {
+    local subject=$1 request others=$((REFUSED - ${MADE[$1]}))
+    for ((request = 0; request <= ${MOST[$subject]}; request++)); do
+        {
+            echo "$subject"
+            if [ "$subject" = evidence ]; then cat "$CASE"; fi
+            head -c $((others - request)) /dev/zero
+        } > "$work/cases/$subject.$(printf %03d $request)"
+    done
+}
+
+# wrong WORDS FILE: says what is wrong, shows the file, and ends.
+wrong() {
+    echo "$subject: $1" >&2
+    cat "$2" >&2
+    exit 1
+}
+
+# see_runs SUBJECT
+# Writes what its runs printed to $work/all_lines, and to $work/lines that of the runs in which a request of its calls was
+# refused. All held, run 0 shows that MADE is right, and the last that there are fewer requests than MOST.
+see_runs() {
+    local front made
+    subject=$1
+    awk -v subject="$subject" '/^== / { wanted = index($2, subject ".") == 1 } wanted' "$work/log" > "$work/runs"
+    front=$(sed -n 's/^request \([0-9]*\) of the input was refused$/\1/p' "$work/runs" | head -1)
+    made=${front:+$((REFUSED - front))}
+    if [ "$made" != "${MADE[$subject]}" ]; then
+        wrong "what is made first takes ${made:-fewer}, not ${MADE[$subject]} requests" "$work/runs"
+    fi
+    grep '^refused' "$work/runs" | sed 1d > "$work/all_lines"
+    if [ "$(wc -l < "$work/all_lines")" -ne "${MOST[$subject]}" ] || grep -qv ', held true$' "$work/all_lines"; then
+        wrong 'a run did not hold' "$work/runs"
+    fi
+    if ! tail -1 "$work/all_lines" | grep -q '^refused 0'; then
+        wrong "there are ${MOST[$subject]} requests or more" "$work/all_lines"
+    fi
+    grep -v '^refused 0' "$work/all_lines" > "$work/lines"
+}
+
+# refused_in CALL: in how many runs a request of this call was refused.
+refused_in() {
+    grep -c "^refused 1 in $1, " "$work/lines" || true
+}
+
+# least_refused LEAST CALL..: of each call at least so many requests were refused.
+least_refused() {
+    local least=$1 call count
+    shift
+    for call in "$@"; do
+        count=$(refused_in "$call")
+        [ "$count" -ge "$least" ] || wrong "$count requests of $call were refused, and not $least" "$work/lines"
+        echo "$call: each of $count refused requests leaves all as it was"
+    done
+}
+
+# exactly_refused COUNT CALL COUNT CALL..: of each call so many requests were refused, and of none else; they are the first.
+exactly_refused() {
+    local all=0
+    while [ $# -gt 0 ]; do
+        [ "$(refused_in "$2")" -eq "$1" ] || wrong "not $1 requests of $2 were refused" "$work/lines"
+        echo "$2: each of $1 refused requests leaves all as it was"
+        all=$((all + $1))
+        shift 2
+    done
+    cmp -s "$work/lines" <(head -n $all "$work/all_lines") || wrong "not $all requests were refused" "$work/all_lines"
+}
+
+# All calls of a run gave together what they gave in the others.
+gave_the_same() {
+    [ "$(grep -o ', gave [0-9]*' "$work/runs" | sort -u | wc -l)" -eq 1 ] || wrong 'runs gave unlike things' "$work/runs"
+}
+
+# check_subject SUBJECT: sees that of each of its calls so many requests were refused as there should be.
+check_subject() {
+    see_runs "$1"
+    case $1 in
+        # One request to read a record or to see that there is none, and one a reply; of a run 7 to open, 3 for all that it
+        # reads and writes, and one of MKDIR.
+        replies) exactly_refused 7 Service::opening 3 Service::answer 4 RecordReader::next 11 run_rpc ;;
+        # One is for the reply, the others are for what the call does.
+        files) least_refused 2 MNT SETATTR WRITE CREATE MKDIR SYMLINK LINK RENAME READDIR ;;
+        # A signer takes memory once when it is made and three times for each of its two signatures.
+        keys) exactly_refused 1 Signer::new 6 Signer::sign ;;
+        log)
+            least_refused 1 Roster::read Roster::write Roster::try_clone Authenticator::write check Entry::read \
+                Entry::write Log::reserve Log::append OpenSegment::write check_segment
+            ;;
+        state) least_refused 2 read_state state_text state_digest ;;
+        calls)
+            gave_the_same
+            least_refused 4 send hear receive take_ack checkpoint answer_challenge
+            ;;
+        streams) least_refused 4 serve_stream ;;
+        steps)
+            gave_the_same
+            least_refused 2 opening_state step
+            ;;
+        entries)
+            gave_the_same
+            least_refused 2 replay_entries
+            ;;
+        segments)
+            gave_the_same
+            least_refused 2 replay
+            ;;
+        evidence)
+            least_refused 9 read_case take_case write_case evidence_text read_evidence of_authenticator from_start \
+                check_evidence
+            ;;
+    esac
+}
+
+subjects=("$@")
+if [ $# -eq 0 ]; then subjects=(replies files keys log state calls streams steps entries segments evidence); fi
+scratch_crate refused_memory checks/refused_memory rpc_streams challenge evidence_showings replay node_logs checkpoint state_machine gateway service nfs_items rpc commitment secure_log authenticator merkle_keys xdr sha2
+mkdir "$work/cases"
+for subject in "${subjects[@]}"; do make_cases "$subject"; done
+rt try --steps 1 --fail-alloc $REFUSED --cases "$work/cases" > "$work/log" 2>&1 || { cat "$work/log" >&2; exit 1; }
+for subject in "${subjects[@]}"; do check_subject "$subject"; done

@@ -1,0 +1,29 @@
+//! Tests of keys, rosters, logs, segments and of messages between nodes.
+#![tactic(auto)]
+
+#[cfg(test)]
+mod acks;
+#[cfg(test)]
+mod authenticators;
+#[cfg(test)]
+mod closed;
+#[cfg(test)]
+mod hostile;
+#[cfg(test)]
+mod limits;
+#[cfg(test)]
+mod logs;
+#[cfg(test)]
+mod lookups;
+#[cfg(test)]
+mod messages;
+#[cfg(test)]
+mod nodes;
+#[cfg(test)]
+mod one_time_keys;
+#[cfg(test)]
+mod rosters;
+#[cfg(test)]
+mod segments;
+#[cfg(test)]
+mod signatures;

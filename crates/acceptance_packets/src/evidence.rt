@@ -1,0 +1,259 @@
+//! Evidence against node 2, made, written, read and examined. Each function is small, and gives none or
+//! false where memory is refused.
+
+use crate::lone::{keys, roster};
+use authenticator::{Number, Roster};
+use challenge::evidence_showings_code::Showing;
+use challenge::replay_code::ReplayFault;
+use challenge::{
+    AuditedLog, Case, Charge, Evidence, EvidenceFault, Finding, Fork, NotAccepted, check_evidence,
+    examine, read_case, read_evidence, write_case,
+};
+use merkle_keys::Signer;
+use secure_log::log_entries::{Entry, entry_hash};
+use std::alloc::Global;
+use test_helpers::signed;
+
+/// What evidence holds.
+#[derive(Clone, Copy, Debug)]
+enum Content {
+    /// Two hashes at number 5.
+    TwoHashes,
+    /// A hash of bytes that are all this one, at number 0.
+    AtZero(u8),
+    /// A log that has a reading of the clock at one second and so many microseconds alone.
+    Clock(u32),
+}
+
+/// What an authenticator of a hash shows.
+fn shown(alloc: Global, signer: &mut Signer, number: u64, hash: [u8; 32]) -> Option<Showing> {
+    match signed(signer, 2, Number::new(number.min(5)), hash) {
+        Some(authenticator) => Showing::of_authenticator(alloc, &authenticator).ok(),
+        None => None,
+    }
+}
+
+fn two_hashes(alloc: Global, signer: &mut Signer) -> Option<Evidence> {
+    let at = Number::new(5);
+    let a = shown(alloc, signer, 5, [1; 32])?;
+    let b = shown(alloc, signer, 5, [2; 32])?;
+    Some(Evidence::new(2, Charge::Fork(Fork { at, a, b: Some(b) })))
+}
+
+fn at_zero(alloc: Global, signer: &mut Signer, hash: [u8; 32]) -> Option<Evidence> {
+    let at = Number::new(0);
+    let a = shown(alloc, signer, 0, hash)?;
+    Some(Evidence::new(2, Charge::Fork(Fork { at, a, b: None })))
+}
+
+fn clock(alloc: Global, signer: &mut Signer, microseconds: u32) -> Option<Evidence> {
+    let entry = Entry::Clock {
+        seconds: 1,
+        microseconds,
+    };
+    let hash = entry_hash(&[0; 32], 1, &entry);
+    let closing = signed(signer, 2, Number::new(1), hash)?;
+    let mut entries = Vec::new(alloc);
+    let pushed = entries.push(entry);
+    if pushed.is_err() {
+        return None;
+    }
+    match AuditedLog::from_start(alloc, 2, entries, &closing) {
+        Ok(log) => Some(Evidence::new(2, Charge::Replay(log))),
+        Err(_) => None,
+    }
+}
+
+fn evidence_of(alloc: Global, signer: &mut Signer, content: Content) -> Option<Evidence> {
+    match content {
+        Content::TwoHashes => two_hashes(alloc, signer),
+        Content::AtZero(byte) => at_zero(alloc, signer, [byte; 32]),
+        Content::Clock(microseconds) => clock(alloc, signer, microseconds),
+    }
+}
+
+/// The text of a case with this evidence.
+fn case_text(alloc: Global, roster: &Roster, evidence: &Evidence) -> Option<Vec<u8>> {
+    let mut text = Vec::new(alloc);
+    match write_case(roster, evidence, &mut text) {
+        Ok(()) => Some(text),
+        Err(_) => None,
+    }
+}
+
+/// Whether this is found in evidence, and it is accepted only then.
+fn finds(alloc: Global, roster: &Roster, evidence: &Evidence, finding: &Finding) -> bool {
+    let accepted = !matches!(finding, Finding::NotAccepted(_));
+    let is_found = match examine(alloc, roster, evidence) {
+        Ok(found) => found == *finding,
+        Err(_) => false,
+    };
+    let is_accepted = match check_evidence(alloc, roster, evidence) {
+        Ok(is_accepted) => is_accepted == accepted,
+        Err(_) => false,
+    };
+    is_found && is_accepted
+}
+
+/// Whether this is found in evidence that is read from a text.
+fn finds_in_text(alloc: Global, roster: &Roster, text: &[u8], finding: &Finding) -> bool {
+    match read_evidence(alloc, text) {
+        Ok(evidence) => finds(alloc, roster, &evidence, finding),
+        Err(_) => false,
+    }
+}
+
+/// Whether this is found in a case that is read from a text.
+fn finds_in_case(alloc: Global, text: &[u8], finding: &Finding) -> bool {
+    match read_case(alloc, text) {
+        Ok(Case { roster, evidence }) => finds(alloc, &roster, &evidence, finding),
+        Err(_) => false,
+    }
+}
+
+/// Whether this is found in evidence that is written and read back.
+fn finds_again(alloc: Global, roster: &Roster, evidence: &Evidence, finding: &Finding) -> bool {
+    let in_text = match evidence.evidence_text(alloc) {
+        Ok(text) => finds_in_text(alloc, roster, &text, finding),
+        Err(_) => false,
+    };
+    let in_case = match case_text(alloc, roster, evidence) {
+        Some(text) => finds_in_case(alloc, &text, finding),
+        None => false,
+    };
+    in_text && in_case
+}
+
+/// Node 2's roster, and evidence against it.
+#[derive(Drop)]
+struct Made {
+    roster: Roster,
+    evidence: Evidence,
+}
+
+fn made_of(alloc: Global, content: Content) -> Option<Made> {
+    let mut signer = keys(alloc)?;
+    let roster = roster(alloc, &signer)?;
+    let evidence = evidence_of(alloc, &mut signer, content)?;
+    Some(Made { roster, evidence })
+}
+
+/// Whether this is found in evidence with this content, also where it is read back.
+fn is_found(alloc: Global, content: Content, finding: &Finding) -> bool {
+    match made_of(alloc, content) {
+        Some(Made { roster, evidence }) => {
+            finds(alloc, &roster, &evidence, finding)
+                && finds_again(alloc, &roster, &evidence, finding)
+        }
+        None => false,
+    }
+}
+
+/// The finding of two hashes.
+fn two(at: u64, one: u8, other: u8) -> Finding {
+    Finding::TwoHashes {
+        at: Number::new(at.min(5)),
+        one: [one; 32],
+        other: [other; 32],
+    }
+}
+
+// A clock shows microseconds below 1,000,000.
+#[test]
+fn evidence_is_examined(rt: HostRuntime) {
+    for (content, finding) in [
+        (Content::TwoHashes, two(5, 1, 2)),
+        (Content::AtZero(1), two(0, 1, 0)),
+        (
+            Content::AtZero(0),
+            Finding::NotAccepted(NotAccepted::NoTwoHashes),
+        ),
+        (
+            Content::Clock(1_000_000),
+            Finding::Fault(ReplayFault::BadForm, Number::new(1)),
+        ),
+        (
+            Content::Clock(999_999),
+            Finding::NotAccepted(NotAccepted::NoFault),
+        ),
+    ] {
+        let found = is_found(rt.alloc(), content, &finding);
+        assert!(rt; found, "{content:?}");
+    }
+}
+
+/// Whether evidence whose text ends in another bit isn't signed: that is in the path of its last signature.
+fn is_not_signed(alloc: Global, made: &Made) -> bool {
+    match made.evidence.evidence_text(alloc) {
+        Ok(mut text) => {
+            if let Some(last) = text.last_mut() {
+                *last ^= 1;
+            }
+            let finding = Finding::NotAccepted(NotAccepted::NotSigned);
+            finds_in_text(alloc, &made.roster, &text, &finding)
+        }
+        Err(_) => false,
+    }
+}
+
+/// What bytes are read as.
+#[derive(Clone, Copy)]
+enum Kind {
+    Evidence,
+    Case,
+}
+
+/// Why bytes aren't read.
+fn fault(alloc: Global, kind: Kind, bytes: &[u8]) -> Option<EvidenceFault> {
+    match kind {
+        Kind::Evidence => read_evidence(alloc, bytes).err(),
+        Kind::Case => read_case(alloc, bytes).err(),
+    }
+}
+
+/// Whether a text is garbage that is cut at any length, or has a byte more.
+fn is_garbage_changed(alloc: Global, kind: Kind, mut text: Vec<u8>) -> bool {
+    for len in 0..text.len() {
+        if fault(alloc, kind, &text[..len]) != Some(EvidenceFault::Garbage) {
+            return false;
+        }
+    }
+    text.push(0).is_ok() && fault(alloc, kind, &text) == Some(EvidenceFault::Garbage)
+}
+
+/// Whether evidence of two hashes isn't signed with its text's last bit changed.
+fn is_last_bit_signed(alloc: Global) -> bool {
+    match made_of(alloc, Content::TwoHashes) {
+        Some(made) => is_not_signed(alloc, &made),
+        None => false,
+    }
+}
+
+/// Whether the text of evidence is refused where it is changed.
+fn is_evidence_refused(alloc: Global) -> bool {
+    match made_of(alloc, Content::AtZero(1)) {
+        Some(made) => match made.evidence.evidence_text(alloc) {
+            Ok(text) => is_garbage_changed(alloc, Kind::Evidence, text),
+            Err(_) => false,
+        },
+        None => false,
+    }
+}
+
+/// Whether the text of a case is refused where it is changed.
+fn is_case_refused(alloc: Global) -> bool {
+    match made_of(alloc, Content::Clock(1_000_000)) {
+        Some(made) => match case_text(alloc, &made.roster, &made.evidence) {
+            Some(text) => is_garbage_changed(alloc, Kind::Case, text),
+            None => false,
+        },
+        None => false,
+    }
+}
+
+#[test]
+fn changed_evidence_is_refused(rt: HostRuntime) {
+    assert!(rt; is_last_bit_signed(rt.alloc()));
+    assert!(rt; is_evidence_refused(rt.alloc()));
+    assert!(rt; is_case_refused(rt.alloc()));
+}

@@ -1,0 +1,45 @@
+//! Command lines, and what they ask for.
+
+use console::command_line::{CheckRequest, Request, parse};
+use std::test::Fail;
+
+fn check(file: &str, explain: bool) -> Request<'_> {
+    Request::Check(CheckRequest { file, explain })
+}
+
+#[test]
+fn command_lines_are_read(rt: HostRuntime) -> Result<(), Fail> {
+    let cases = [
+        ("nfsacc rpc", Some(Request::Rpc)),
+        ("nfsacc rpc --", Some(Request::Rpc)),
+        ("nfsacc", None),
+        ("nfsacc RPC", None),
+        ("nfsacc rpc 1", None),
+        ("nfsacc rpc rpc", None),
+        ("nfsacc rpc -- --", None),
+        ("nfsacc rpc -", None),
+        ("nfsacc rpc -h", None),
+        ("nfsacc -- rpc", None),
+        ("nfsacc help rpc", None),
+        ("nfsacc --version", None),
+        ("nfsacc check f", Some(check("f", false))),
+        ("nfsacc check --explain f", Some(check("f", true))),
+        ("nfsacc check f --explain", Some(check("f", true))),
+        ("nfsacc check --explain -- -f", Some(check("-f", true))),
+        ("nfsacc check -", Some(check("-", false))),
+        ("nfsacc check", None),
+        ("nfsacc check --explain", None),
+        ("nfsacc check -f", None),
+        ("nfsacc check f g", None),
+        ("nfsacc check --explain --explain f", None),
+        ("nfsacc check --help", None),
+    ];
+    for (line, request) in cases {
+        let mut words = Vec::new(rt.alloc());
+        for word in line.split_whitespace() {
+            words.push(String::from_str(rt.alloc(), word)?)?;
+        }
+        assert_eq!(rt; parse(rt.alloc(), &words).ok(), request, "{line}");
+    }
+    Ok(())
+}

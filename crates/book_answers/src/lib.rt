@@ -1,4 +1,0 @@
-//! What a node answers is accepted.
-#![tactic(auto)]
-
-pub mod laws;

@@ -1,4 +1,0 @@
-//! When there is evidence against a node, and what it proves.
-#![tactic(auto)]
-
-pub mod laws;

@@ -1,5 +1,0 @@
-pub mod Bytes
-pub mod Computed
-pub mod Hashes
-pub mod Many
-pub mod Telling

@@ -1,4 +1,0 @@
-pub mod Audits
-pub mod Digests
-pub mod Forwarding
-pub mod Rounds

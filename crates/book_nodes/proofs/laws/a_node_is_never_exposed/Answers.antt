@@ -1,8 +1,0 @@
-use Rattle.book_nodes.proofs.laws.a_node_is_never_exposed.Goals as goal
-
-pub returns : goal.returns
-returns c = λ m history listed member h unforged unlike.
-    let n = c.args.node.now in
-    let log = c.a_node_keeps_a_log.ensures in
-    c.honest_is_never_exposed.ensures n.roster m history n.entries n.state member h log.is_log
-    (log.honest m listed) unforged unlike

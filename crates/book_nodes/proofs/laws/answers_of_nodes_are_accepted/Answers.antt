@@ -1,5 +1,0 @@
-use Rattle.book_nodes.proofs.Answered.{answered}
-use Rattle.book_nodes.proofs.laws.answers_of_nodes_are_accepted.Goals as goal
-
-pub returns : goal.returns
-returns c = answered c.answers_are_accepted.ensures c.packets_are_taken_as_meant.ensures.meant

@@ -1,5 +1,0 @@
-use Rattle.book_nodes.proofs.Asked.{can_be_answered}
-use Rattle.book_nodes.proofs.laws.what_is_asked_can_be_answered.Goals as goal
-
-pub returns : goal.returns
-returns c = can_be_answered

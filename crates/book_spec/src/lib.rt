@@ -1,4 +1,0 @@
-//! What a witness may say of a node, and what it answers, as definitions.
-#![tactic(auto)]
-
-pub use evidence_spec::laws as evidence_laws;

@@ -1,4 +1,0 @@
-//! An honest node is never exposed.
-#![tactic(auto)]
-
-pub mod laws;

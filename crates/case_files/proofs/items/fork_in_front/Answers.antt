@@ -1,9 +1,0 @@
-use Rattle.std.proofs.Common.{sym, arith}
-use Rattle.challenge.specs.Evidence.{fork_item, fork_value}
-use Rattle.challenge.specs.Charges.{fork_in}
-use Rattle.case_files.proofs.Suffixes.{leaves}
-use Rattle.case_files.proofs.items.fork_in_front.Goals as goal
-
-pub returns : goal.returns
-returns c = leaves fork_item c.args.bytes.now c.rest.result.now (fork_value (fork_in c.in_ok-fork.fork)) (λ i. omega (arith, c.type_inv.bytes i))
-    (rw (c.new-reader.ensures, sym c.rest.ensures) at c.in_ok-fork.ensures)

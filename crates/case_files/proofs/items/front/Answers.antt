@@ -1,7 +1,0 @@
-use Rattle.std.proofs.Common.{sym, arith}
-use Rattle.case_files.proofs.Suffixes.{leaves}
-use Rattle.case_files.proofs.items.front.Goals as goal
-
-pub returns : goal.returns
-returns g c = leaves g.T.FromXdr.item c.args.bytes.now c.rest.result.now _ (λ i. omega (arith, c.type_inv.bytes i))
-    (rw (c.new-reader.ensures, sym c.rest.ensures) at c.in_ok-item.ensures)

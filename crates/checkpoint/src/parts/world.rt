@@ -1,0 +1,91 @@
+//! What only a server's text has: the stage, the next number, the mounts and the files.
+
+ghost use Rattle.xdr.specs.Item.{pair, word, opaque};
+ghost use Rattle.xdr.specs.Reading.{GivesUnless};
+ghost use Rattle.xdr.specs.ReadError.{xdr_fault};
+ghost use Rattle.state_machine.specs.file_texts.FileItems.{file_item};
+ghost use Rattle.state_spec.specs.StateItems.{mount_item, stage_item, rest_item};
+ghost use Rattle.checkpoint.specs.declared.parts.world.TheConstants.{MAX_BODY};
+ghost use Rattle.checkpoint.specs.Parts.SaidParts.{mount_said, stage_said, world_said};
+
+use crate::parts::parts::{MountPart, StagePart, WorldPart};
+use std::alloc::Global;
+use xdr::{FromXdr, ReadError, Reader, XdrFault, put_back_on_err, read_array};
+
+/// The most bytes of a message's body.
+const MAX_BODY: u32 = 12_288;
+
+/// The greatest count of mounts.
+const MAX_MOUNTS: u32 = 40;
+
+/// The most bytes of a machine's name (RFC 1094, appendix A.3).
+const MAX_HOST: u32 = 255;
+
+/// The most bytes of a directory's path (RFC 1094, appendix A.3).
+const MAX_DIRECTORY: u32 = 1_024;
+
+/// The greatest count of files.
+const MAX_FILES: u32 = 8_192;
+
+impl<'a> FromXdr<'a> for MountPart<'a> {
+    ghost item = { mount_item };
+
+    ghost value = { mount_said };
+
+    fn read(_alloc: Global, reader: &mut Reader<'a>) -> Result<MountPart<'a>, ReadError> {
+        let start = reader.rest();
+        let read = read_mount(reader);
+        put_back_on_err(reader, start, read)
+    }
+}
+
+/// What stands after a server's messages.
+pub fn read_world<'a>(alloc: Global, reader: &mut Reader<'a>) -> Result<WorldPart<'a>, ReadError>
+    ensures { GivesUnless xdr_fault (rest_item file_item 1) world_said reader.old result reader.new }
+{
+    let stage = read_stage(reader)?;
+    let next = reader.u32()?;
+    let mounts = read_array(alloc, reader, MAX_MOUNTS)?;
+    let files = read_array(alloc, reader, MAX_FILES)?;
+    Ok(WorldPart {
+        stage,
+        next,
+        mounts,
+        files,
+    })
+}
+
+fn read_stage<'a>(reader: &mut Reader<'a>) -> Result<StagePart<'a>, ReadError>
+    ensures { GivesUnless xdr_fault stage_item stage_said reader.old result reader.new }
+{
+    match reader.u32()? {
+        0 => Ok(StagePart::Idle),
+        1 => {
+            let (from, body) = read_message(reader)?;
+            Ok(StagePart::Heard { from, body })
+        }
+        2 => {
+            let (to, body) = read_message(reader)?;
+            Ok(StagePart::Owes { to, body })
+        }
+        _ => Err(ReadError::Fault(XdrFault::BadEnum)),
+    }
+}
+
+/// The other node, and a body.
+fn read_message<'a>(reader: &mut Reader<'a>) -> Result<(u32, &'a [u8]), ReadError>
+    ensures { GivesUnless xdr_fault (pair word (opaque MAX_BODY)) (λ x. (x.0, x.1.now))
+        reader.old result reader.new }
+{
+    let node = reader.u32()?;
+    let body = reader.opaque(MAX_BODY)?;
+    Ok((node, body))
+}
+
+fn read_mount<'a>(reader: &mut Reader<'a>) -> Result<MountPart<'a>, ReadError>
+    ensures { GivesUnless xdr_fault mount_item mount_said reader.old result reader.new }
+{
+    let host = reader.opaque(MAX_HOST)?;
+    let directory = reader.opaque(MAX_DIRECTORY)?;
+    Ok(MountPart { host, directory })
+}

@@ -1,2 +1,0 @@
-pub mod CheckWords
-pub mod CommandLines

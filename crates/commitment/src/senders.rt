@@ -1,0 +1,10 @@
+//! A node's log with the keys that sign each SEND and RECV of it, and what that log gives to others.
+
+pub mod laws;
+mod lookups;
+mod refusal;
+mod reserve;
+mod sender;
+
+pub use refusal::SendRefusal;
+pub use sender::Sender;

@@ -1,4 +1,0 @@
-mod Cuts
-mod Fronts
-mod Listings
-mod Rising

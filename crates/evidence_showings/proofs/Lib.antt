@@ -1,0 +1,3 @@
+pub use Rattle.evidence_spec.proofs as evidence_spec
+pub mod Texts
+pub mod Hashes

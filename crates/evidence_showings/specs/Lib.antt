@@ -1,0 +1,3 @@
+pub use Rattle.evidence_spec.specs as evidence_spec
+pub mod Kinds
+pub mod Showings

@@ -1,0 +1,16 @@
+//! Showings: parts of a log that are shown by their links alone, closed by a signature.
+#![tactic(auto)]
+
+mod chain;
+mod closing;
+mod kind;
+mod link;
+mod read;
+mod showing;
+mod write;
+
+pub use closing::{copy_of, is_signed_in};
+pub use evidence_spec as evidence_spec_code;
+pub use kind::EntryKind;
+pub use link::ShownLink;
+pub use showing::Showing;

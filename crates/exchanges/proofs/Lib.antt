@@ -1,6 +1,0 @@
-pub mod Texts
-pub mod Shown
-pub mod Fresh
-pub mod Reached
-pub mod Called
-pub mod Answered

@@ -1,6 +1,0 @@
-//! Limits of a server.
-
-pub use name_checks::{MAX_BLOCKS, MAX_ENTRIES, MAX_FILES};
-
-/// The greatest file number or cookie that is given.
-pub const MAX_NUMBER: u32 = 4_294_967_294;

@@ -1,0 +1,4 @@
+pub mod Decides
+pub mod FreePlaces
+pub mod Creates
+pub mod Moves

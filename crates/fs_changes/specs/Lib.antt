@@ -1,9 +1,0 @@
-pub use Rattle.fs_model.specs.Timeval
-pub use Rattle.fs_model.specs.Listing
-pub use Rattle.fs_model.specs.Paths
-pub use Rattle.fs_model.specs.Names
-pub use Rattle.fs_model.specs.Files
-pub use Rattle.fs_model.specs.Trees
-pub use Rattle.fs_model.specs.Maxima
-pub mod Edits
-pub mod Limits

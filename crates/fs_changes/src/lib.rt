@@ -1,2 +1,0 @@
-//! Changes of files, and what they leave of places, kinds, counts of names and how much files take.
-#![tactic(auto)]

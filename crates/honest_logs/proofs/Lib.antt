@@ -1,9 +1,0 @@
-pub use Rattle.replay_spec.proofs.Runs
-pub use Rattle.replay_spec.proofs.Places
-pub use Rattle.replay_spec.proofs.Logs
-pub mod Serving
-pub mod Orders
-pub mod Entries
-pub mod Received
-pub mod Sends
-pub mod Counts

@@ -1,8 +1,0 @@
-use Rattle.honest_logs.proofs.Counts.{counted_on, lie_below}
-use Rattle.honest_logs.proofs.laws.messages_are_bounded.Goals as goal
-
-pub returns-clause-count : goal.returns-clause-count
-returns-clause-count c = counted_on
-
-pub returns-clause-numbers : goal.returns-clause-numbers
-returns-clause-numbers c = lie_below

@@ -1,4 +1,0 @@
-pub mod EditedInodes
-pub mod NamedInodes
-pub mod Listed
-mod Dropped

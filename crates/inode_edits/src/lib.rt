@@ -1,6 +1,0 @@
-//! Edits of inodes that stand under their numbers, and what each leaves of their files and of what is kept
-//! beside them.
-#![tactic(auto)]
-
-pub mod renaming;
-pub mod slots;

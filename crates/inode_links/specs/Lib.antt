@@ -1,2 +1,0 @@
-pub use Rattle.tree_rules.specs.Listed
-pub mod Linked

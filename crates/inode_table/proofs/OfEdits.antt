@@ -1,0 +1,5 @@
+-- Lemmas on inodes whose entries come, change and go. Serves: `edits`.
+pub mod EditedInodes
+pub mod NamedInodes
+pub mod Listed
+pub mod Dropped

@@ -1,4 +1,0 @@
-pub mod Fronts
-pub mod Values
-pub mod Chains
-pub mod Pairs

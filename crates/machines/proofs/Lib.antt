@@ -1,3 +1,0 @@
-pub mod StatesFit
-pub mod Numbers
-pub mod Served

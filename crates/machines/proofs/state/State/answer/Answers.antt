@@ -1,9 +1,0 @@
-use Rattle.machines.specs.Machines.{machine_in}
-use Rattle.machines.proofs.Served.{same_node_tried}
-use Rattle.machines.proofs.state.State.answer.Goals as goal
-
-pub invariant_of-self : goal.invariant_of-self
-invariant_of-self c =
-    same_node_tried c.self.inside.node (machine_in c.self.inside.machine) (machine_in c.answer_by.new.machine)
-    c.args.time c.args.body.now c.answer_by.result c.answer_by.ensures.ok c.answer_by.ensures.err
-    c.self.invariant

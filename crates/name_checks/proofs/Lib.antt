@@ -1,5 +1,0 @@
-pub use Rattle.inode_table.proofs.Values
-mod Chains
-mod Unnamed
-mod Climbs
-mod Moved

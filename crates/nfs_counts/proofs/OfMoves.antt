@@ -1,0 +1,3 @@
+-- Lemmas on what RENAME does to counts of names. Serves: `moves`.
+pub mod Clearing
+pub mod Moving

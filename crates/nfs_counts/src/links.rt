@@ -1,0 +1,3 @@
+//! What each edit of files does to the nlink of every file.
+
+pub mod laws;

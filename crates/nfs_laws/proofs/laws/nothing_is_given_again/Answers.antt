@@ -1,0 +1,6 @@
+use Rattle.nfs_laws.proofs.EveryCall.{stays}
+use Rattle.nfs_laws.proofs.laws.nothing_is_given_again.Goals as goal
+
+-- the files after a call follow those before it
+pub returns : goal.returns
+returns c = λ w who now call tree time bound. (stays now time w tree who call bound).anew

@@ -1,0 +1,10 @@
+pub use Rattle.nfs_spec.specs.fs_model as fs_model
+pub use Rattle.nfs_spec.specs as nfs_spec
+pub mod Readdir
+pub mod Steps
+pub mod Trees
+pub mod Changes
+pub mod Frames
+pub mod Sizes
+pub mod Room
+pub mod Laws

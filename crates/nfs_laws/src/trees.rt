@@ -1,0 +1,3 @@
+//! What making, linking, removing and renaming do to a tree of files.
+
+pub mod laws;

@@ -1,2 +1,0 @@
-pub mod AnswersRead
-pub mod AnswersSaid

@@ -1,4 +1,0 @@
-//! What changes of files do to the numbers that a server keeps beside them.
-#![tactic(auto)]
-
-pub mod laws;

@@ -1,6 +1,0 @@
-use Rattle.nfs_spec_frames.proofs.CallEffects.{did}
-use Rattle.nfs_spec_frames.proofs.laws.calls_change_what_they_name.Goals as goal
-
--- by cases of the call
-pub returns : goal.returns
-returns c w who now call tree not = did w who now tree call not

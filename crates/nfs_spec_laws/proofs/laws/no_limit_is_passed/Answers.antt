@@ -1,6 +1,0 @@
-use Rattle.nfs_spec_laws.proofs.EveryCall.{stays}
-use Rattle.nfs_spec_laws.proofs.laws.no_limit_is_passed.Goals as goal
-
--- the files after a call follow those before it
-pub returns : goal.returns
-returns c = λ w who now call tree time bound. (stays now time w tree who call bound).room

@@ -1,2 +1,0 @@
-mod ListingCounts
-pub mod LinkCounts

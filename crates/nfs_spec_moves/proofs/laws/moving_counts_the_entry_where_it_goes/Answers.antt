@@ -1,6 +1,0 @@
-use Rattle.nfs_spec_moves.proofs.Moving.{kept_by_move}
-use Rattle.nfs_spec_moves.proofs.laws.moving_counts_the_entry_where_it_goes.Goals as goal
-
--- the law
-pub returns : goal.returns
-returns c = kept_by_move

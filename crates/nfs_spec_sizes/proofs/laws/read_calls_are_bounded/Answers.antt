@@ -1,6 +1,0 @@
-use Rattle.nfs_spec_sizes.proofs.ReadCalls.{bounded, has_words}
-use Rattle.nfs_spec_sizes.proofs.laws.read_calls_are_bounded.Goals as goal
-
--- the law
-pub returns : goal.returns
-returns c call h = (bounded call h, has_words call h)

@@ -1,4 +1,0 @@
-//! What follows from a procedure's answering Ok: the checks that it passed, and what it did.
-#![tactic(auto)]
-
-pub mod laws;

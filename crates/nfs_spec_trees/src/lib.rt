@@ -1,4 +1,0 @@
-//! What making, linking, removing and renaming do to a tree of files.
-#![tactic(auto)]
-
-pub mod laws;

@@ -1,0 +1,347 @@
+-- A reply reaches the client, and its acknowledgement the server; it is the one owed, and both stay joined.
+-- Serves: laws.exchanges_serve, and nodes: exchange.carry.
+use Rattle.std.proofs.Common.{◌≡◌, ℕ, ◌+◌, ◌<◌, ◌≤◌, Bool, cond, List, [], ◌∷◌, ◌++◌, length, Option, Some, None, refl, sym, ap, subst, ◌∙◌, arith, append_assoc, length-append}
+use Rattle.std.specs.Prelude.{IsSome, IsSomeAnd}
+use Rattle.std.specs.FinMap as finite
+use Rattle.sha2.specs.Sha256.{sha256}
+use Rattle.authenticator.specs.declared.member.Kind.TheVariants as kinds
+use Rattle.authenticator.specs.declared.member.Member.{Member}
+use Rattle.secure_log.specs.LogEntries.Messages.{message_hash}
+use Rattle.secure_log.specs.declared.log_entries.entry.Entry.{Entry}
+use Rattle.secure_log.specs.declared.log_entries.entry.Entry.TheVariants.{Send, Recv, Clock}
+use Rattle.envelopes.specs.declared.envelope.Envelope.{Envelope}
+use Rattle.envelopes.specs.declared.acknowledgement.Ack.{Ack}
+use Rattle.commitment.specs.Senders.LookUps.{FitsEnvelope, ack_at, envelope_at}
+use Rattle.commitment.specs.Senders.Sender.{IsSender}
+use Rattle.nfs_items.specs.Timeval.{Timeval, later}
+use Rattle.worlds.specs.World.{World, at_time}
+use Rattle.gateway.specs.service.Replies.{reply_owed, world_after}
+use Rattle.state_spec.specs.State.{State, Idle, Machine, Server, clock_in}
+use Rattle.node_logs.specs.replay_spec.LogLaws.HonestServers.{heard_entries, with_reply}
+use Rattle.node_logs.specs.Steps.Nodes.{NodeParts, sender_of}
+use Rattle.node_logs.specs.Hearing.{HearsEnvelope, receipt_from}
+use Rattle.node_logs.specs.Steps.Serving.{reading_at}
+use Rattle.node_logs.specs.Steps.Logging.{with_receipt}
+use Rattle.node_logs.specs.AckTaking.{ack_entry}
+use Rattle.node_logs.specs.declared.outcome.Receipt.{Receipt}
+use Rattle.node_logs.proofs.OfSteps.Served.{later_late}
+use Rattle.nodes.specs.Exchanges.Members.{IsListed}
+use Rattle.nodes.specs.Exchanges.Reaching.{AckReaches, IsReplyReady, ReceivesUpTo}
+use Rattle.nodes.specs.Exchanges.Exchanges.{IsAsked, IsJoined, IsReplied, IsServed}
+use Rattle.nodes.proofs.OfExchanges.Texts.{some_same}
+use Rattle.nodes.proofs.OfExchanges.Shown.{ack_shown, envelope_shown}
+use Rattle.nodes.proofs.OfExchanges.Fresh.{not_received, up_to_both, up_to_more}
+use Rattle.nodes.proofs.OfExchanges.Called.{heard_by, listed_stays, sent_there}
+
+-- ---- the acknowledgement of a reply
+
+-- The acknowledgement of a reply reaches the server.
+pub reply_acknowledged : (c s c1 : NodeParts) (number receipt : ℕ) (h : IsReplyReady c s number)
+    → c1 ≡ with_receipt c h.envelope → IsSender (sender_of c1) → receipt ≡ length c1.entries
+    → (a : Ack) × AckReaches c1 kinds.Client receipt s a
+reply_acknowledged c s c1 number receipt h same is last =
+    let e = h.envelope in
+    let log : c1.entries ≡ c.entries ++ Recv e.from e.seq e.prev e.body e.signature ∷ [] =
+    ap (λ (x : NodeParts). x.entries) same in
+    let node : c1.node ≡ c.node = ap (λ (x : NodeParts). x.node) same in
+    let place : receipt ≡ length c.entries + 1 =
+    last ∙ ap length log ∙ length-append c.entries (Recv e.from e.seq e.prev e.body e.signature ∷ []) in
+    let x = ack_shown (sender_of c1) c.entries [] e.from e.seq e.prev e.body e.signature is log in
+    let a = x.0 in
+    let k = x.1 in
+    let seq : a.seq ≡ number = k.numbered ∙ h.numbered in
+    let fits : FitsEnvelope a e = record {
+      receiver = k.signer ∙ node ∙ sym h.reaches.receiver;
+      sender = k.sender;
+      number = k.numbered;
+      prev = k.before;
+      body = k.says;
+      signature = k.signed;
+    } in (
+      a,
+      record {
+        ack = ap (ack_at (sender_of c1)) place ∙ k.there;
+        fits = subst (λ (o : Option Envelope). IsSomeAnd o (FitsEnvelope a))
+            (sym (ap (envelope_at (sender_of s)) seq ∙ h.reaches.envelope)) fits;
+        listed = listed_stays s.roster kinds.Client c c1 node (ap (λ (x : NodeParts). x.signer.master) same)
+            (ap (λ (x : NodeParts). x.signer.height) same) h.client;
+        awaited = subst (λ (k : ℕ). IsSome (finite.get s.state.sends k)) (sym seq) h.awaited;
+      },
+    )
+
+-- ---- what the server did with a call
+
+-- A time that is no earlier than the last reading is the time that a server answers at.
+same_time : (w : World) (time : Timeval) → at_time w (later time w.clock) ≡ at_time w time
+same_time w time =
+    let once : later (later time w.clock) w.clock ≡ later time w.clock =
+    ap (λ (b : Bool). cond b w.clock (later time w.clock)) (later_late time w.clock) in
+    ap (λ (t : Timeval). record w { clock = t }) once
+
+same_reply : (w : World) (time : Timeval) (body : List ℕ)
+    → reply_owed w (later time w.clock) body ≡ reply_owed w time body
+unfolding reply_owed
+same_reply w time body = rw (same_time w time) refl
+
+same_world : (w : World) (time : Timeval) (body : List ℕ)
+    → world_after w (later time w.clock) body ≡ world_after w time body
+unfolding world_after
+same_world w time body = rw (same_time w time) refl
+
+machine_stays : (s : State) (k : ℕ) (h : List ℕ) (to : ℕ) (o : Option (List ℕ)) → (with_reply s k h to o).machine ≡ s.machine
+machine_stays s k h to None = refl
+machine_stays s k h to (Some reply) = refl
+
+-- It answered what is owed.
+pub served_by : (s t : NodeParts) (time : Timeval) (body : List ℕ) (e : Envelope) (r : Receipt)
+    → e.body ≡ body → (h : HearsEnvelope s time e r t)
+    → IsServed s time body (reply_owed h.world (reading_at s time) e.body) t
+served_by s t time body e r says h =
+    let w = h.world in
+    let reading : reading_at s time ≡ later time w.clock =
+    ap (λ (m : Machine). later time (clock_in m)) h.idle in
+    record {
+      world = w;
+      idle = h.idle;
+      owed =
+          ap (λ (x : Timeval). reply_owed w x e.body) reading ∙ same_reply w time e.body ∙ ap (reply_owed w time) says;
+      after =
+          ap (λ (x : NodeParts). x.state.machine) h.heard
+          ∙ machine_stays
+          (heard_by s w e (reading_at s time) None).state _ _ e.from (reply_owed w (reading_at s time) e.body)
+          ∙ ap (λ (x : Timeval). Server (world_after w x e.body) Idle) reading
+          ∙ ap (λ (x : World). Server x Idle) (same_world w time e.body ∙ ap (world_after w time) says);
+    }
+
+-- ---- after a call
+
+-- the client's log by the server's numbers
+client_up_to : (c s c1 t : NodeParts) (time : Timeval) (body : List ℕ) (r : Receipt) (limit : ℕ)
+    → IsAsked c s time body r c1 t → ReceivesUpTo limit c.entries → ReceivesUpTo limit c1.entries
+client_up_to c s c1 t time body r limit asked few =
+    subst (λ (n : NodeParts). ReceivesUpTo limit n.entries) (sym asked.taken)
+    (up_to_both limit (c.entries ++ Send s.node body ∷ []) _
+    (up_to_both limit c.entries _ few (omega arith, tt)) (omega arith, tt))
+
+server_up_to : (limit : ℕ) (es : List Entry) (e : Envelope) (time : Timeval) (o : Option (List ℕ)) → e.seq ≤ limit
+    → ReceivesUpTo limit es → ReceivesUpTo limit (es ++ heard_entries e.from e.seq e.prev e.body e.signature time o)
+server_up_to limit es e time None h few =
+    up_to_both limit es _ few (h, (omega arith, tt))
+server_up_to limit es e time (Some reply) h few =
+    up_to_both limit es _ few (h, (omega arith, (omega arith, tt)))
+
+client_long : (c s c1 t : NodeParts) (time : Timeval) (body : List ℕ) (r : Receipt) → IsAsked c s time body r c1 t
+    → length c1.entries ≡ length c.entries + 2
+client_long c s c1 t time body r asked =
+    let log = ap (λ (n : NodeParts). length n.entries) asked.taken in
+    omega (
+      arith,
+      log,
+      length-append (c.entries ++ Send s.node body ∷ []) (ack_entry asked.ack ∷ []),
+      length-append c.entries (Send s.node body ∷ []),
+    )
+
+server_long : (es : List Entry) (e : Envelope) (time : Timeval) (o : Option (List ℕ))
+    → length es ≤ length (es ++ heard_entries e.from e.seq e.prev e.body e.signature time o)
+server_long es e time o =
+    let more = length-append es (heard_entries e.from e.seq e.prev e.body e.signature time o) in
+    omega (arith, more)
+
+-- Both stay joined.
+pub asked_joined : (c s c1 t : NodeParts) (time : Timeval) (body : List ℕ) (r : Receipt) → IsJoined c s
+    → IsAsked c s time body r c1 t → IsJoined c1 t
+asked_joined c s c1 t time body r joined asked =
+    let h = asked.heard.hears in
+    let e = asked.heard.envelope in
+    let o = reply_owed h.world (reading_at s time) e.body in
+    let client : c1.node ≡ c.node = ap (λ (n : NodeParts). n.node) asked.taken in
+    let server : t.node ≡ s.node = ap (λ (n : NodeParts). n.node) h.heard in
+    let long = client_long c s c1 t time body r asked in
+    let numbered = asked.heard.call.numbered in
+    let longer : length s.entries ≤ length t.entries =
+    subst (λ (n : NodeParts). length s.entries ≤ length n.entries) (sym h.heard)
+    (server_long s.entries e (reading_at s time) o) in
+    record {
+      two = λ same. joined.two (sym client ∙ same ∙ server);
+      client = subst (λ (ms : List Member). IsListed ms kinds.Client c1) (sym (ap (λ (n : NodeParts). n.roster) h.heard))
+          (listed_stays s.roster kinds.Client c c1 client (ap (λ (n : NodeParts). n.signer.master) asked.taken)
+          (ap (λ (n : NodeParts). n.signer.height) asked.taken) joined.client);
+      server = subst (λ (ms : List Member). IsListed ms kinds.Server t) (sym (ap (λ (n : NodeParts). n.roster) asked.taken))
+          (listed_stays c.roster kinds.Server s t server (ap (λ (n : NodeParts). n.signer.master) h.heard)
+          (ap (λ (n : NodeParts). n.signer.height) h.heard) joined.server);
+      heard = subst (λ (n : NodeParts). ReceivesUpTo (length c1.entries) n.entries) (sym h.heard)
+          (server_up_to (length c1.entries) s.entries e (reading_at s time) o (omega (arith, long, numbered))
+          (up_to_more (length c.entries) (length c1.entries) s.entries (omega (arith, long)) joined.heard));
+      received = client_up_to c s c1 t time body r (length t.entries) asked
+          (up_to_more (length s.entries) (length t.entries) c.entries longer joined.received);
+    }
+
+-- ---- the reply that the call owes
+
+-- The server owes its reply at a number, and it is ready.
+pub record IsDue (c1 s t : NodeParts) (time : Timeval) (body : List ℕ) (number : ℕ) : Type 0 where
+  -- the reply at that number reaches the client, and awaits its acknowledgement
+  pub ready : IsReplyReady c1 t number
+  -- it is the one owed to the body
+  pub served : IsServed s time body (Some ready.envelope.body) t
+
+three : (es : List Entry) (a b : Entry) → length (es ++ a ∷ b ∷ []) + 1 ≡ length es + 1 + 1 + 1
+three es a b = omega (arith, length-append es (a ∷ b ∷ []))
+
+-- what is ready of a reply that the server logged
+reply_ready : (c s c1 t : NodeParts) (time : Timeval) (body : List ℕ) (r : Receipt) (number : ℕ) (reply : List ℕ)
+    → IsJoined c s → (asked : IsAsked c s time body r c1 t) → IsSender (sender_of t) → number ≡ length s.entries + 1 + 2
+    → t ≡ heard_by s asked.heard.hears.world asked.heard.envelope (reading_at s time) (Some reply)
+    → (ready : IsReplyReady c1 t number) × (ready.envelope.body ≡ reply)
+reply_ready c s c1 t time body r number reply joined asked is at heard_it =
+    let e = asked.heard.envelope in
+    let reading = reading_at s time in
+    let recv = Recv e.from e.seq e.prev e.body e.signature in
+    let clock = Clock reading.seconds reading.microseconds in
+    let front = s.entries ++ recv ∷ clock ∷ [] in
+    let log : t.entries ≡ front ++ Send e.from reply ∷ [] =
+    ap (λ (n : NodeParts). n.entries) heard_it ∙ sym (append_assoc s.entries (recv ∷ clock ∷ []) (Send e.from reply ∷ [])) in
+    let node : t.node ≡ s.node = ap (λ (n : NodeParts). n.node) heard_it in
+    let client : c1.node ≡ c.node = ap (λ (n : NodeParts). n.node) asked.taken in
+    let joined1 = asked_joined c s c1 t time body r joined asked in
+    let long = three s.entries recv clock in
+    let place : length front + 1 ≡ number = omega (arith, long, at) in
+    let x = envelope_shown (sender_of t) front [] e.from reply is log in
+    let f = x.0 in
+    let k = x.1 in
+    let numbered : f.seq ≡ number = k.numbered ∙ place in
+    let past : length s.entries < f.seq = omega (arith, numbered, at) in
+    let all : length t.entries ≡ length front + 1 =
+    ap length log ∙ length-append front (Send e.from reply ∷ []) in
+    let sent : length s.entries + 1 + 1 + 1 ≡ number = omega (arith, at) in (
+      record {
+        envelope = f;
+        reaches = record {
+          envelope = ap (envelope_at (sender_of t)) (sym place) ∙ k.there;
+          receiver = k.receiver ∙ asked.heard.call.sender ∙ sym client;
+          two = λ same. joined1.two (sym same);
+          listed = joined1.server;
+          new = not_received c1.node 1 (length s.entries) c1.entries
+              (record {
+                from = f.from;
+                seq = f.seq;
+                hash = message_hash f.to f.seq f.prev (sha256 f.body);
+              })
+              (client_up_to c s c1 t time body r (length s.entries) asked joined.received) past;
+        };
+        numbered = numbered;
+        within = omega (arith, all, place);
+        client = joined1.client;
+        awaited = subst (λ (n : NodeParts). IsSome (finite.get n.state.sends number)) (sym heard_it)
+            (subst (λ (j : ℕ). IsSome (finite.get
+            (heard_by s asked.heard.hears.world e reading (Some reply)).state.sends j)) sent
+            (sent_there s.state.sends (length s.entries + 1 + 1 + 1) _));
+      },
+      k.says,
+    )
+
+-- A reply that the receipt names is ready at its number, and is the one owed.
+pub reply_due : (c s c1 t : NodeParts) (time : Timeval) (body : List ℕ) (r : Receipt) (number : ℕ) → IsJoined c s
+    → IsAsked c s time body r c1 t → IsSender (sender_of t) → r.reply ≡ Some number → IsDue c1 s t time body number
+reply_due c s c1 t time body r number joined asked is owed =
+    by (reply_owed asked.heard.hears.world (reading_at s time) asked.heard.envelope.body) refl
+  where
+    serves : IsServed s time body
+        (reply_owed asked.heard.hears.world (reading_at s time) asked.heard.envelope.body) t
+    serves = served_by s t time body asked.heard.envelope r asked.heard.call.says asked.heard.hears
+
+    by : (o : Option (List ℕ))
+        → reply_owed asked.heard.hears.world (reading_at s time) asked.heard.envelope.body ≡ o
+        → IsDue c1 s t time body number
+    by None x =
+        let none : r.reply ≡ None =
+        ap (λ (y : Receipt). y.reply) asked.heard.hears.receipt
+        ∙ ap (λ (o : Option (List ℕ)). (receipt_from (length s.entries + 1) o).reply) x in
+        absurd (cc)
+    by (Some reply) x =
+        let some : r.reply ≡ Some (length s.entries + 1 + 2) =
+        ap (λ (y : Receipt). y.reply) asked.heard.hears.receipt
+        ∙ ap (λ (o : Option (List ℕ)). (receipt_from (length s.entries + 1) o).reply) x in
+        let at : number ≡ length s.entries + 1 + 2 = some_same (sym owed ∙ some) in
+        let heard_it : t ≡ heard_by s asked.heard.hears.world asked.heard.envelope (reading_at s time) (Some reply) =
+        asked.heard.hears.heard
+        ∙ ap (heard_by s asked.heard.hears.world asked.heard.envelope (reading_at s time)) x in
+        let y = reply_ready c s c1 t time body r number reply joined asked is at heard_it in
+        record {
+          ready = y.0;
+          served =
+              subst (λ (o : Option (List ℕ)). IsServed s time body o t)
+              (x ∙ ap (λ (b : List ℕ). Some b) (sym y.1)) serves;
+        }
+
+-- No reply is owed.
+pub none_due : (c s c1 t : NodeParts) (time : Timeval) (body : List ℕ) (r : Receipt)
+    → IsAsked c s time body r c1 t → r.reply ≡ None → IsServed s time body None t
+none_due c s c1 t time body r asked none =
+    by (reply_owed asked.heard.hears.world (reading_at s time) asked.heard.envelope.body) refl
+  where
+    by : (o : Option (List ℕ))
+        → reply_owed asked.heard.hears.world (reading_at s time) asked.heard.envelope.body ≡ o
+        → IsServed s time body None t
+    by None x =
+        subst (λ (o : Option (List ℕ)). IsServed s time body o t) x
+        (served_by s t time body asked.heard.envelope r asked.heard.call.says asked.heard.hears)
+    by (Some reply) x =
+        let some : r.reply ≡ Some (length s.entries + 1 + 2) =
+        ap (λ (y : Receipt). y.reply) asked.heard.hears.receipt
+        ∙ ap (λ (o : Option (List ℕ)). (receipt_from (length s.entries + 1) o).reply) x in
+        absurd (cc)
+
+-- ---- after a reply
+
+-- the reply that was brought back is the one that was ready
+same_envelope : (c1 t c2 t2 : NodeParts) (number : ℕ) (reply : List ℕ) (h : IsReplyReady c1 t number)
+    (k : IsReplied c1 t number reply c2 t2) → k.envelope ≡ h.envelope
+same_envelope c1 t c2 t2 number reply h k = some_same (sym k.received.envelope ∙ h.reaches.envelope)
+
+-- What the server did stays so.
+pub served_replied : (c1 s t c2 t2 : NodeParts) (time : Timeval) (body : List ℕ) (number : ℕ) (reply : List ℕ)
+    → IsDue c1 s t time body number → IsReplied c1 t number reply c2 t2 → IsServed s time body (Some reply) t2
+served_replied c1 s t c2 t2 time body number reply due k =
+    let says : reply ≡ due.ready.envelope.body =
+    k.body ∙ ap (λ (e : Envelope). e.body) (same_envelope c1 t c2 t2 number reply due.ready k) in
+    record {
+      world = due.served.world;
+      idle = due.served.idle;
+      owed = ap (λ (b : List ℕ). Some b) says ∙ due.served.owed;
+      after = ap (λ (n : NodeParts). n.state.machine) k.taken ∙ due.served.after;
+    }
+
+-- Both stay joined.
+pub replied_joined : (c1 t c2 t2 : NodeParts) (number : ℕ) (reply : List ℕ) → IsJoined c1 t → IsReplyReady c1 t number
+    → IsReplied c1 t number reply c2 t2 → IsJoined c2 t2
+replied_joined c1 t c2 t2 number reply joined h k =
+    let e = k.envelope in
+    let got = k.received.received in
+    let client : c2.node ≡ c1.node = ap (λ (n : NodeParts). n.node) got in
+    let server : t2.node ≡ t.node = ap (λ (n : NodeParts). n.node) k.taken in
+    let recv = Recv e.from e.seq e.prev e.body e.signature in
+    let long : length c2.entries ≡ length c1.entries + 1 =
+    ap (λ (n : NodeParts). length n.entries) got ∙ length-append c1.entries (recv ∷ []) in
+    let longer : length t2.entries ≡ length t.entries + 1 =
+    ap (λ (n : NodeParts). length n.entries) k.taken ∙ length-append t.entries (ack_entry k.ack ∷ []) in
+    let seq : e.seq ≡ number =
+    ap (λ (x : Envelope). x.seq) (same_envelope c1 t c2 t2 number reply h k) ∙ h.numbered in
+    let within = h.within in
+    record {
+      two = λ same. joined.two (sym client ∙ same ∙ server);
+      client = subst (λ (ms : List Member). IsListed ms kinds.Client c2) (sym (ap (λ (n : NodeParts). n.roster) k.taken))
+          (listed_stays t.roster kinds.Client c1 c2 client (ap (λ (n : NodeParts). n.signer.master) got)
+          (ap (λ (n : NodeParts). n.signer.height) got) joined.client);
+      server = subst (λ (ms : List Member). IsListed ms kinds.Server t2) (sym (ap (λ (n : NodeParts). n.roster) got))
+          (listed_stays c1.roster kinds.Server t t2 server (ap (λ (n : NodeParts). n.signer.master) k.taken)
+          (ap (λ (n : NodeParts). n.signer.height) k.taken) joined.server);
+      heard = subst (λ (n : NodeParts). ReceivesUpTo (length c2.entries) n.entries) (sym k.taken)
+          (up_to_both (length c2.entries) t.entries (ack_entry k.ack ∷ [])
+          (up_to_more (length c1.entries) (length c2.entries) t.entries (omega (arith, long)) joined.heard)
+          (omega arith, tt));
+      received = subst (λ (n : NodeParts). ReceivesUpTo (length t2.entries) n.entries) (sym got)
+          (up_to_both (length t2.entries) c1.entries (recv ∷ [])
+          (up_to_more (length t.entries) (length t2.entries) c1.entries (omega (arith, longer)) joined.received)
+          (omega (arith, seq, within, longer), tt));
+    }

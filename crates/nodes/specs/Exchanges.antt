@@ -1,0 +1,4 @@
+pub mod Members
+pub mod Reaching
+pub mod Exchanges
+pub mod Laws

@@ -1,0 +1,3 @@
+//! What an exchange between a client and a server is, and what holds of it.
+
+pub mod laws;

@@ -1,4 +1,0 @@
-pub mod OneRecord
-pub mod OneList
-pub mod OneReading
-pub mod SomeReading

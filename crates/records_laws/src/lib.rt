@@ -1,4 +1,0 @@
-//! What holds of the texts of records (RFC 5531, section 11).
-#![tactic(auto)]
-
-pub mod laws;

@@ -1,0 +1,3 @@
+pub mod LoggedMessages
+pub mod HonestServers
+pub mod Laws

@@ -1,3 +1,0 @@
-pub use Rattle.evidence_spec.proofs.Places
-pub mod Texts
-pub mod Hashes

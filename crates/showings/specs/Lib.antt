@@ -1,9 +1,0 @@
-pub use Rattle.evidence_spec.specs.Stepping
-pub use Rattle.evidence_spec.specs.Replay
-pub use Rattle.evidence_spec.specs.Placed
-pub use Rattle.evidence_spec.specs.Opening
-pub use Rattle.evidence_spec.specs.Showing
-pub use Rattle.evidence_spec.specs.Evidence
-pub use Rattle.evidence_spec.specs.Proving
-pub mod Kinds
-pub mod Showings

@@ -1,3 +1,0 @@
-pub mod Signing
-pub mod Auditing
-pub mod Showing

@@ -1,0 +1,49 @@
+//! The reference machine of a node.
+
+ghost use Rattle.std.specs.Prelude.{◌≡◌, ℕ};
+ghost use Rattle.state_spec.specs.State.{clock_in, IsMachine};
+ghost use Rattle.state_machine.specs.Machines.{machine_in, IsOf, MachineFits};
+
+use crate::stage::Stage;
+use nfs_items::Time;
+use service::Service;
+
+/// The reference machine of a node: what its next entries depend on beside its messages.
+#[derive(Drop)]
+pub enum Machine {
+    /// A server, and what it owes next.
+    Server(Service, Stage),
+    /// A client, of which the last clock reading is known.
+    Client(Time),
+}
+
+impl Machine {
+    /// The last clock reading.
+    pub fn clock(&self) -> Time
+        ensures { result ≡ clock_in (machine_in self.now) }
+    {
+        match self {
+            Machine::Server(service, _) => service.clock(),
+            Machine::Client(clock) => *clock,
+        }
+    }
+
+    /// It is one that its node can have, and within the bounds of a text, as its types keep it: does nothing,
+    /// and tells a caller's proof.
+    pub(crate) fn is_valid(&self)
+        ensures machine { (node : ℕ) → IsOf node (machine_in self.now) →
+            IsMachine node (machine_in self.now) }
+        ensures text { MachineFits (machine_in self.now) }
+    {
+        match self {
+            Machine::Server(service, stage) => {
+                service.is_a_world();
+                stage.is_bounded();
+            }
+            Machine::Client(clock) => {
+                let _seconds = clock.seconds();
+                let _microseconds = clock.microseconds();
+            }
+        }
+    }
+}

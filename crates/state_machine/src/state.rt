@@ -1,0 +1,146 @@
+//! The state of a node.
+
+ghost use Rattle.std.specs.Prelude.{◌≡◌, IfOk};
+ghost use Rattle.xdr.specs.Item.{Fits};
+ghost use Rattle.state_spec.specs.State.{IsState, clock_in, opening_client, opening_server};
+ghost use Rattle.state_spec.specs.StateItems.{state_item};
+ghost use Rattle.state_spec.specs.StateText.{said};
+ghost use Rattle.state_spec.specs.file_texts.FileItems.{file_item};
+ghost use Rattle.state_machine.specs.Stages.{stage_in};
+ghost use Rattle.state_machine.specs.Machines.{machine_in, server_state, client_state};
+
+use crate::machine::Machine;
+use crate::stage::{Stage, is_word};
+use crate::states::{Received, Sends};
+use nfs_items::Time;
+use service::Service;
+use std::alloc::{AllocError, Global};
+use std::marker::Model;
+
+/// The state of a node: the messages that it received, those that it sent and that have no acknowledgement
+/// yet, and its machine. A server's files have its number.
+#[derive(Drop)]
+pub struct State {
+    node: u32,
+    pub(crate) received: Received,
+    pub(crate) sends: Sends,
+    pub(crate) machine: Machine,
+}
+
+impl Model for State {
+    ghost use Rattle.state_spec.specs.State.{State};
+    ghost use Rattle.state_spec.specs.Codes.{state_code};
+
+    ghost Value = { State };
+
+    ghost coded = { state_code };
+
+    ghost use Rattle.state_machine.specs.Machines.{machine_in, IsOf};
+
+    ghost view = { λ s. record {
+      node = s.node;
+      received = s.received;
+      sends = s.sends;
+      machine = machine_in s.machine;
+    } };
+
+    ghost invariant = { λ s. IsOf s.node (machine_in s.machine) };
+}
+
+impl State {
+    /// The state that the server of a number begins with.
+    pub fn opening_server(alloc: Global, node: u32) -> Result<State, AllocError>
+        ensures { IfOk result (λ state. state ≡ opening_server node) }
+    {
+        let service = Service::opening(alloc, node)?;
+        Ok(State {
+            node,
+            received: Received::new(alloc),
+            sends: Sends::new(alloc),
+            machine: Machine::Server(service, Stage::Idle),
+        })
+    }
+
+    /// The state that the client of a number begins with. No memory is taken.
+    pub fn opening_client(alloc: Global, node: u32) -> State
+        ensures { result ≡ opening_client node }
+    {
+        State {
+            node,
+            received: Received::new(alloc),
+            sends: Sends::new(alloc),
+            machine: Machine::Client(Time::epoch()),
+        }
+    }
+
+    /// The state of a server, whose number is that of its files.
+    pub fn server(service: Service, stage: Stage, received: Received, sends: Sends) -> State
+        ensures { result ≡ server_state service (stage_in stage) received sends }
+    {
+        State {
+            node: service.tree().fsid(),
+            received,
+            sends,
+            machine: Machine::Server(service, stage),
+        }
+    }
+
+    /// The state of a client.
+    pub fn client(node: u32, clock: Time, received: Received, sends: Sends) -> State
+        ensures { result ≡ client_state node clock received sends }
+    {
+        State {
+            node,
+            received,
+            sends,
+            machine: Machine::Client(clock),
+        }
+    }
+
+    /// The node's number.
+    pub fn node(&self) -> u32
+        ensures { result ≡ self.now.node }
+    {
+        self.node
+    }
+
+    /// The messages that the node received.
+    pub fn received(&self) -> &Received
+        ensures { result.now ≡ self.now.received }
+    {
+        &self.received
+    }
+
+    /// The messages that the node sent and that have no acknowledgement yet.
+    pub fn sends(&self) -> &Sends
+        ensures { result.now ≡ self.now.sends }
+    {
+        &self.sends
+    }
+
+    /// The node's machine.
+    pub fn machine(&self) -> &Machine
+        ensures { machine_in result.now ≡ self.now.machine }
+    {
+        &self.machine
+    }
+
+    /// The last clock reading.
+    pub fn clock(&self) -> Time
+        ensures { result ≡ clock_in self.now.machine }
+    {
+        self.machine.clock()
+    }
+
+    /// It is one that a node can be in, and what is said of it can be spelled, as its types keep it: does
+    /// nothing, and tells a caller's proof.
+    pub fn is_a_state(&self)
+        ensures state { IsState self.now }
+        ensures fits { Fits (state_item file_item) (said self.now) }
+    {
+        is_word(self.node);
+        self.received.are_bounded();
+        self.sends.are_bounded();
+        self.machine.is_valid();
+    }
+}

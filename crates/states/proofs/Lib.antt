@@ -1,4 +1,0 @@
-pub mod Orders
-pub mod Kept
-pub mod NumberedMessages
-pub mod Again

@@ -1,0 +1,112 @@
+-- What a file lists, and the places in the tree that it is.
+-- Serves: Ways and Decided here.
+use Rattle.std.proofs.Common.{◌≡◌, ⊎_elim, ℕ, ◌<◌, Bool, true, false, cond, List, [], ◌∷◌, length, get_or}
+use Rattle.std.proofs.Common.{sum_by, Some, nat_eq, option_and_then, refl, sym, ap, subst, ◌∙◌, arith, eqb}
+use Rattle.std.proofs.Common.{eqb-true}
+use Rattle.std.specs.List.{All, IsDistinct, AllByRecursion}
+use Rattle.std.specs.Map.{lookup, keys_of}
+use Rattle.std.specs.Cmp.{IsEquivalence}
+use Rattle.std.specs.Cmp.Lexicographic.{pointwise, same_text, nat_list_eq_equiv}
+use Rattle.std.proofs.lemmas.Bool.{cases_lt, cond-true, cond-false}
+use Rattle.std.proofs.lemmas.Option.{slice_get-get_or}
+use Rattle.std.proofs.lemmas.List.Elements.{recursion_from_All}
+use Rattle.std.proofs.lemmas.List.Sums.{sum_by-cons}
+use Rattle.std.proofs.lemmas.Map.Entries.{lookup_from_place}
+use Rattle.nfs_laws.specs.fs_model.Listing.{entry_at, HasDistinctNames}
+use Rattle.nfs_laws.specs.fs_model.Files.{File, Files, file_at, listing_in, places, one_if, names_in}
+use Rattle.nfs_laws.proofs.fs_model.Walks.{none_some, some_same}
+use Rattle.nfs_laws.proofs.fs_model.Reached.{not_before}
+
+-- what counts is found under its own key
+module _ {K X : Type 0} {eq : K → K → Bool} (laws : IsEquivalence eq) where
+  counted : (f : X → ℕ) (es : List (K × X)) → IsDistinct eq (keys_of es) → 0 < sum_by (λ e. f e.1) es
+      → (k : K) × (v : X) × (lookup (eq k) es ≡ Some v) × (0 < f v)
+  unfolding IsDistinct
+  counted f [] distinct h = absurd (omega arith)
+  counted f (e ∷ es) distinct h = ⊎_elim
+      (λ here. (e.0, e.1, cond-true _ _ _ (laws.refl e.0), here))
+      (λ none.
+      let rest = counted f es distinct.1 (omega (arith, sum_by-cons (λ (e : K × X). f e.1) e es, none, h)) in
+      (rest.0, rest.1, behind rest.0 rest.1 rest.2 (eq rest.0 e.0) refl, rest.3))
+      (cases_lt 0 (f e.1))
+    where
+      behind : (k : K) (v : X) → lookup (eq k) es ≡ Some v → (b : Bool) → eq k e.0 ≡ b
+          → lookup (eq k) (e ∷ es) ≡ Some v
+      behind k v found true is = absurd (none_some (sym (not_before laws e.0 k is es distinct.0) ∙ found))
+      behind k v found false is = cond-false _ _ _ is ∙ found
+
+named_one : (n : ℕ) (p : ℕ × ℕ) → 0 < one_if n ([], p) → p.0 ≡ n
+named_one n p h = by (eqb p.0 n) refl h
+  where
+    by : (b : Bool) → eqb p.0 n ≡ b → 0 < cond b 1 0 → p.0 ≡ n
+    by true e h = eqb-true p.0 n e
+    by false e h = absurd (omega arith)
+
+-- what holds of each value holds of what is looked up
+looked_up : {K X : Type 0} (P : X → Type 0) (t : K → Bool) (es : List (K × X)) (v : X)
+    → AllByRecursion (λ e. P e.1) es → lookup t es ≡ Some v → P v
+looked_up P t [] v all h = absurd (none_some h)
+looked_up P t (e ∷ es) v all h = elim (t e.0) as (λ b. cond b (Some e.1) (lookup t es) ≡ Some v → P v) [
+  | true ↦ λ is. subst P (some_same is) all.0
+  | false ↦ λ is. looked_up P t es v all.1 is
+] h
+
+-- the same of a key too
+found_key : {X : Type 0} (P : List ℕ → Type 0) (name : List ℕ) (es : List (List ℕ × X)) (v : X)
+    → AllByRecursion (λ e. P e.0) es → lookup (pointwise nat_eq name) es ≡ Some v → P name
+found_key P name [] v all h = absurd (none_some h)
+found_key P name (e ∷ es) v all h = by (pointwise nat_eq name e.0) refl h (found_key P name es v all.1)
+  where
+    by : (b : Bool) → pointwise nat_eq name e.0 ≡ b
+        → cond b (Some e.1) (lookup (pointwise nat_eq name) es) ≡ Some v
+        → (lookup (pointwise nat_eq name) es ≡ Some v → P name) → P name
+    by true is g next = subst P (sym (same_text name e.0 (sym is))) all.0
+    by false is g next = next g
+
+module _ (w : Files) (n : ℕ) (f : File) (there : file_at w n ≡ Some f) where
+  -- what a file lists is a place
+  pub place_of_entry : (name : List ℕ) (p : ℕ × ℕ) → entry_at (listing_in f.body) name ≡ Some p
+      → places w n name ≡ Some p
+  place_of_entry name p h = ap (option_and_then (λ f. entry_at (listing_in f.body) name)) there ∙ h
+
+  -- a place below a file is what the file lists
+  pub entry_of_place : (name : List ℕ) (p : ℕ × ℕ) → places w n name ≡ Some p
+      → entry_at (listing_in f.body) name ≡ Some p
+  entry_of_place name p h = sym (ap (option_and_then (λ f. entry_at (listing_in f.body) name)) there) ∙ h
+
+  -- a number that it names has a place
+  pub place_of_name : (m : ℕ) → HasDistinctNames (listing_in f.body).entries → 0 < names_in m f
+      → (name : List ℕ) × (c : ℕ) × (places w n name ≡ Some (m, c))
+  place_of_name m distinct h =
+      let e =
+      counted nat_list_eq_equiv (λ (p : ℕ × ℕ). one_if m ([], p))
+      (listing_in f.body).entries distinct h in
+      (e.0, e.1.1, place_of_entry e.0 (m, e.1.1) (e.2 ∙ ap (λ k. Some (k, e.1.1)) (named_one m e.1 e.3)))
+
+  -- each entry is a place
+  pub place_at : HasDistinctNames (listing_in f.body).entries → (i : ℕ) (d : List ℕ × (ℕ × ℕ))
+      → i < length (listing_in f.body).entries
+      → places w n (get_or (listing_in f.body).entries i d).0
+      ≡ Some (get_or (listing_in f.body).entries i d).1
+  place_at distinct i d h =
+      place_of_entry (get_or (listing_in f.body).entries i d).0 (get_or (listing_in f.body).entries i d).1
+      (lookup_from_place nat_list_eq_equiv (listing_in f.body).entries i
+      (get_or (listing_in f.body).entries i d).0 (get_or (listing_in f.body).entries i d).1 distinct
+      (slice_get-get_or (listing_in f.body).entries i d h))
+
+  -- what holds of each entry's number, or name, holds of each place's
+  pub number_of_place : (P : ℕ → Type 0) → All (λ (x : List ℕ × (ℕ × ℕ)). P x.1.0) (listing_in f.body).entries
+      → (name : List ℕ) (p : ℕ × ℕ) → places w n name ≡ Some p → P p.0
+  number_of_place P all name p h =
+      looked_up (λ (p : ℕ × ℕ). P p.0) (pointwise nat_eq name) (listing_in f.body).entries p
+      (recursion_from_All (λ (x : List ℕ × (ℕ × ℕ)). P x.1.0) (listing_in f.body).entries all)
+      (entry_of_place name p h)
+
+  -- what holds of each entry's name holds of the name of each place
+  pub name_of_place : (P : List ℕ → Type 0)
+      → All (λ (x : List ℕ × (ℕ × ℕ)). P x.0) (listing_in f.body).entries → (name : List ℕ) (p : ℕ × ℕ)
+      → places w n name ≡ Some p → P name
+  name_of_place P all name p h =
+      found_key P name (listing_in f.body).entries p
+      (recursion_from_All (λ (x : List ℕ × (ℕ × ℕ)). P x.0) (listing_in f.body).entries all)
+      (entry_of_place name p h)

@@ -1,2 +1,0 @@
-mod GivenTrees
-mod WrittenFiles

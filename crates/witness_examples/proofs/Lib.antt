@@ -1,0 +1,7 @@
+pub mod OfSigned
+pub mod OfLimits
+pub mod Bytes
+pub mod Computed
+pub mod Hashes
+pub mod Many
+pub mod Telling

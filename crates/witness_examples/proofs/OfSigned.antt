@@ -1,0 +1,4 @@
+-- Lemmas on histories of signed values. Serves: `signed`.
+pub mod Signing
+pub mod Auditing
+pub mod Showing

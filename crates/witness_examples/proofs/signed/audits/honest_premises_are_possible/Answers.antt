@@ -1,0 +1,16 @@
+use Rattle.std.proofs.Common.{sym, subst}
+use Rattle.witness_spec.specs.Premises.{NoCollisionWith, Unforged}
+use Rattle.witness_examples.specs.Signed.Audited.{readings}
+use Rattle.witness_examples.specs.Signed.Audited.{alone, client}
+use Rattle.witness_examples.proofs.OfSigned.Auditing.{own_all, reading_honest, unforged, unlike}
+use Rattle.witness_examples.proofs.signed.audits.honest_premises_are_possible.Goals as goal
+
+pub returns-clause-honest : goal.returns-clause-honest
+returns-clause-honest c = reading_honest
+
+pub returns-clause-unforged : goal.returns-clause-unforged
+returns-clause-unforged c = λ secret.
+    subst (Unforged (alone secret) (client secret) readings) (sym (own_all secret)) (unforged secret)
+
+pub returns-clause-unlike : goal.returns-clause-unlike
+returns-clause-unlike c = λ secret. subst (NoCollisionWith readings) (sym (own_all secret)) (unlike secret)

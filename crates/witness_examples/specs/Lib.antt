@@ -1,0 +1,6 @@
+pub mod Signed
+pub mod Limits
+pub mod Worked
+pub mod Bytes
+pub mod Forks
+pub mod Reaching

@@ -1,0 +1,19 @@
+-- What histories reach.
+use Rattle.std.specs.Prelude.{List}
+use Rattle.authenticator.specs.declared.member.Member.{Member}
+use Rattle.witness_spec.specs.Refusals.{Refusal}
+use Rattle.witness_spec.specs.Events.{Event}
+use Rattle.witness_spec.specs.Replies.{Reply, refused}
+use Rattle.witness_spec.specs.Steps.{Step, Past}
+use Rattle.witness_spec.specs.Owing.{Owes}
+use Rattle.witness_spec.specs.Histories.{History, IsOwed, AreOwed}
+
+-- From an empty book on, each of a node's own steps has the reply that is owed to it after the earlier ones;
+-- and after them all a step is owed this reply.
+pub record Reaches (ms : List Member) (m : Member) (past : Past) (step : Step) (reply : Reply) : Type 0 where
+  pub steps : AreOwed ms m past
+  pub next : Owes ms m past step reply
+
+-- An event is owed this refusal after every history.
+abbrev pub IsRefused : List Member → Event → Refusal → Type 0
+IsRefused ms event refusal = (history : History) → IsOwed ms history event (refused event refusal)

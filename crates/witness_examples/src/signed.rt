@@ -1,0 +1,4 @@
+//! Histories of values that are really signed.
+
+pub mod audits;
+pub mod messages;

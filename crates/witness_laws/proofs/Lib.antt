@@ -1,0 +1,11 @@
+pub use Rattle.witness_spec.proofs.evidence_spec as evidence_spec
+pub mod OfAnswers
+pub mod OfTrust
+pub mod OfEvidence
+pub mod Replied
+pub mod OwnSteps
+pub mod LeftOut
+pub mod Exposing
+pub mod Checked
+pub mod Reach
+pub mod Doing

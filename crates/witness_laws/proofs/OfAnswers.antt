@@ -1,0 +1,2 @@
+-- Lemmas on answers to challenges. Serves: `answers`.
+pub mod Answering

@@ -1,0 +1,6 @@
+-- Lemmas on audits, charges and what exposes a node. Serves: `evidence`.
+pub mod Audits
+pub mod Before
+pub mod Charges
+pub mod Audited
+pub mod Told

@@ -1,0 +1,273 @@
+-- While a node isn't exposed, all audited entries are an honest log up to the end; so a segment in which a
+-- replay finds a fault is one after them, from the first entry on.
+-- Serves: evidence_where_exposed, evidence_proves.
+use Rattle.std.proofs.Common.{◌≡◌, inl, inr, ℕ, ◌+◌, ◌-◌, ◌^◌, ◌<◌, false, List, [], ◌∷◌, ◌++◌, map}
+use Rattle.std.proofs.Common.{length, Some, refl, sym, ap, subst, ◌∙◌, arith, length-append}
+use Rattle.std.proofs.Common.{append_assoc, append-nil}
+use Rattle.std.specs.List.{AllByRecursion}
+use Rattle.std.proofs.lemmas.List.{length-map}
+use Rattle.xdr.specs.Item.{Fits}
+use Rattle.authenticator.specs.Roster.{member_of}
+use Rattle.authenticator.specs.declared.authenticator.Authenticator.{Authenticator}
+use Rattle.authenticator.specs.declared.member.Member.{Member}
+use Rattle.secure_log.specs.declared.log_entries.entry.Entry.{Entry}
+use Rattle.secure_log.specs.LogEntries.Entry.{entry_item, entry_value}
+use Rattle.secure_log.specs.LogEntries.Chain.{Link, zeros, pairs, hash_after, last_hash, links_from}
+use Rattle.secure_log.proofs.OfLogEntries.Pairs.{last_hash-parts}
+use Rattle.secure_log.specs.Segment.{SegmentParts, ClosedParts, segment_pairs}
+use Rattle.state_spec.specs.State.{State}
+use Rattle.witness_spec.specs.replay_spec.Opening.{opening_of}
+use Rattle.witness_spec.specs.replay_spec.Placed.{Placed, placed, placed_in}
+use Rattle.witness_spec.specs.replay_spec.Stepping.{ReplayFault, step}
+use Rattle.witness_spec.specs.replay_spec.Replay.{Sound, Fault, Honest, last_state, verdict_of}
+use Rattle.witness_spec.proofs.replay_spec.Places.{places_joined}
+use Rattle.witness_spec.proofs.replay_spec.Runs.{is_sound, first_fault, is_fault, joined, last_joined}
+use Rattle.witness_spec.specs.evidence_spec.Showing.{IsAmong}
+use Rattle.witness_spec.specs.evidence_spec.Evidence.{Replay}
+use Rattle.witness_spec.proofs.evidence_spec.Chained.{zeros-length}
+use Rattle.witness_spec.proofs.evidence_spec.Places.{AreNumbered, entries_numbered, length-links}
+use Rattle.witness_spec.specs.Events.{JobParts}
+use Rattle.witness_spec.specs.Replies.{Reply}
+use Rattle.witness_spec.specs.Steps.{Step, Past}
+use Rattle.witness_spec.specs.Pairs.{Pair}
+use Rattle.witness_spec.specs.Done.{noted, accepted, filed}
+use Rattle.witness_spec.specs.Standing.{End, end_of, end_after, moved_by, verdict_on, sound_entries, entries_filed}
+use Rattle.witness_spec.specs.Standing.{audited, pairs_noted, pairs_accepted, shown, is_exposed}
+use Rattle.witness_spec.specs.Exposing.{audited_with}
+use Rattle.witness_laws.proofs.OfEvidence.Audits.{IsGoodSegment, IsNext}
+use Rattle.witness_laws.proofs.OfEvidence.Before.{on_right, one_shown, accepted_shown, first_some}
+use Rattle.witness_laws.proofs.OfEvidence.Charges.{IsGoodCharge, first_shown}
+
+-- ---- chains
+
+abbrev EachFits : List Entry → Type 0
+EachFits es = AllByRecursion (Fits entry_item) (map entry_value es)
+
+each_joined : (xs ys : List Entry) → EachFits xs → EachFits ys → EachFits (xs ++ ys)
+each_joined [] ys a b = b
+each_joined (x ∷ xs) ys a b = (a.0, each_joined xs ys a.1 b)
+
+opening_there : (before : ℕ) (opening : List ℕ) (links : List Link)
+    → IsAmong (before, opening) (pairs before opening links)
+opening_there before opening [] = inl refl
+opening_there before opening (l ∷ links) = inl refl
+
+last_there : (before : ℕ) (opening : List ℕ) (links : List Link) (n : ℕ) → AreNumbered (before + 1) links
+    → n ≡ before + length links → IsAmong (n, last_hash opening links) (pairs before opening links)
+last_there before opening [] n are h =
+    let same : n ≡ before = omega (arith, h) in inl (ap (λ (k : ℕ). (k, opening)) same)
+last_there before opening (l ∷ links) n are h =
+    inr (last_there l.number (hash_after opening l) links n (subst (λ k. AreNumbered (k + 1) links) (sym are.0) are.1)
+    (omega (arith, h, are.0)))
+
+-- ---- what is audited
+
+-- all audited entries are an honest log up to the end, and its last pair was shown
+pub record IsAudited (ms : List Member) (m : Member) (past : Past) : Type 0 where
+  -- as many entries were audited as the end says
+  pub count : length (audited ms m past) ≡ (end_of ms m past).number
+  -- the pair after the last of them was shown
+  pub there : IsAmong ((end_of ms m past).number, last_hash zeros (links_from 1 (audited ms m past)))
+      (shown ms m past)
+  -- each has a text
+  pub each : AllByRecursion (Fits entry_item) (map entry_value (audited ms m past))
+  -- the state after each entry
+  pub states : List State
+  -- the entries are honest from the state that the member begins with
+  pub honest : Honest ms (opening_of m) (placed 1 zeros (audited ms m past)) states
+  -- the last state is that of the end
+  pub last : last_state (opening_of m) states ≡ (end_of ms m past).state
+
+-- before any step nothing is audited, and the end is at 0, with the state that the node begins with
+pub none_audited : (ms : List Member) (m : Member) → IsAudited ms m []
+none_audited ms m =
+    record { count = refl; there = first_shown ms m []; each = tt; states = []; honest = tt; last = refl }
+
+-- a segment after the audited entries, with them
+record IsJoined (ms : List Member) (m : Member) (past : Past) (s : SegmentParts) : Type 0 where
+  count : length (audited ms m past ++ s.entries) ≡ s.closing.number
+  hash : last_hash zeros (links_from 1 (audited ms m past ++ s.entries)) ≡ s.closing.hash
+  each : EachFits (audited ms m past ++ s.entries)
+  places : placed 1 zeros (audited ms m past ++ s.entries) ≡ placed 1 zeros (audited ms m past) ++ placed_in s
+
+is_joined : (ms : List Member) (m : Member) (past : Past) (c : ClosedParts) → is_exposed ms m past ≡ false
+    → IsAudited ms m past → IsNext ms m past c → IsGoodSegment ms m c.segment → IsJoined ms m past c.segment
+is_joined ms m past c e a next good =
+    let s = c.segment in
+    let some = first_some ms m s good in
+    let front = audited ms m past in
+    let end = (end_of ms m past).number in
+    let before : s.first - 1 ≡ end = omega (arith, next.first, some) in
+    let opened : IsAmong (end, s.opening) (shown ms m past) =
+    subst (λ k. IsAmong (k, s.opening) (shown ms m past)) before
+    (accepted_shown ms m past s (s.first - 1, s.opening) next.among
+    (opening_there (s.first - 1) s.opening (links_from s.first s.entries))) in
+    let opening : last_hash zeros (links_from 1 front) ≡ s.opening =
+    one_shown ms m past e end (last_hash zeros (links_from 1 front)) s.opening a.there opened in
+    let place : s.first ≡ 1 + length front = omega (arith, next.first, a.count) in
+    record {
+      count = omega (arith, length-append front s.entries, next.first, a.count, good.closed.ends.number);
+      hash = last_hash-parts zeros 1 front s.entries s.first place
+          ∙ (ap (λ h. last_hash h (links_from s.first s.entries)) opening ∙ sym good.closed.ends.hash);
+      each = each_joined front s.entries a.each good.text.0.1.1.1.0.2;
+      places = places_joined 1 zeros front s.entries
+          ∙ (ap (λ k. placed 1 zeros front ++ placed k (last_hash zeros (links_from 1 front)) s.entries) (sym place)
+          ∙ ap (λ h. placed 1 zeros front ++ placed s.first h s.entries) opening);
+    }
+
+-- its last pair was shown
+last_shown : (ms : List Member) (m : Member) (past : Past) (c : ClosedParts) → IsNext ms m past c
+    → IsGoodSegment ms m c.segment → IsAmong (c.segment.closing.number, c.segment.closing.hash) (shown ms m past)
+last_shown ms m past c next good =
+    let s = c.segment in
+    let some = first_some ms m s good in
+    let back : s.first ≡ s.first - 1 + 1 = omega (arith, some) in
+    let links = links_from s.first s.entries in
+    accepted_shown ms m past s (s.closing.number, s.closing.hash) next.among
+    (subst (λ h. IsAmong (s.closing.number, h) (segment_pairs s)) (sym good.closed.ends.hash)
+    (last_there (s.first - 1) s.opening links s.closing.number
+    (subst (λ k. AreNumbered k links) back (entries_numbered s.first s.entries))
+    (omega (arith, good.closed.ends.number, some, length-links s.first s.entries))))
+
+module _ (ms : List Member) (m : Member) (past : Past) (p : Step × Reply) where
+  shown_stays : (q : Pair) → IsAmong q (shown ms m past) → IsAmong q (shown ms m (p ∷ past))
+  shown_stays q i =
+      on_right q (pairs_noted (is_exposed ms m past) (noted p.0 p.1))
+      (pairs_accepted (accepted p.0 p.1) ++ shown ms m past)
+      (on_right q (pairs_accepted (accepted p.0 p.1)) (shown ms m past) i)
+
+  -- the invariant in words that a step changes
+  record Are (number : ℕ) (state : State) (es : List Entry) : Type 0 where
+    count : length es ≡ number
+    there : IsAmong (number, last_hash zeros (links_from 1 es)) (shown ms m (p ∷ past))
+    each : EachFits es
+    states : List State
+    honest : Honest ms (opening_of m) (placed 1 zeros es) states
+    last : last_state (opening_of m) states ≡ state
+
+  from_are : (end : End) (es : List Entry) → end_of ms m (p ∷ past) ≡ end → audited ms m (p ∷ past) ≡ es
+      → Are end.number end.state es → IsAudited ms m (p ∷ past)
+  from_are end es is_end is_es a =
+      let b : Are (end_of ms m (p ∷ past)).number (end_of ms m (p ∷ past)).state (audited ms m (p ∷ past)) =
+      subst (λ (x : End). Are x.number x.state (audited ms m (p ∷ past))) (sym is_end)
+      (subst (Are end.number end.state) (sym is_es) a) in
+      record {
+        count = b.count;
+        there = b.there;
+        each = b.each;
+        states = b.states;
+        honest = b.honest;
+        last = b.last;
+      }
+
+  -- nothing new is audited
+  pub audited_stays : entries_filed ms (end_of ms m past).state (filed p.0 p.1) ≡ []
+      → end_of ms m (p ∷ past) ≡ end_of ms m past → IsAudited ms m past → IsAudited ms m (p ∷ past)
+  audited_stays none is_end a =
+      from_are (end_of ms m past) (audited ms m past) is_end
+      (ap (λ x. audited ms m past ++ x) none ∙ append-nil (audited ms m past))
+      (record {
+        count = a.count;
+        there = shown_stays ((end_of ms m past).number, last_hash zeros (links_from 1 (audited ms m past))) a.there;
+        each = a.each;
+        states = a.states;
+        honest = a.honest;
+        last = a.last;
+      })
+
+  -- a segment that was found sound is audited
+  pub audited_on : (j : JobParts) (t : State) (found : List Authenticator) → is_exposed ms m past ≡ false
+      → filed p.0 p.1 ≡ Some j → verdict_on ms (end_of ms m past).state j ≡ Sound t found
+      → IsNext ms m past j.segment → IsGoodSegment ms m j.segment.segment → IsAudited ms m past
+      → IsAudited ms m (p ∷ past)
+  audited_on j t found e is v next good a =
+      let s = j.segment.segment in
+      let state = (end_of ms m past).state in
+      let k = is_joined ms m past j.segment e a next good in
+      let run = is_sound ms state (placed_in s) t found v in
+      from_are (record { number = s.closing.number; state = t }) (audited ms m past ++ s.entries)
+      (ap (end_after ms (end_of ms m past)) is ∙ ap (moved_by (end_of ms m past) s.closing.number) v)
+      (ap (λ x. audited ms m past ++ entries_filed ms state x) is
+      ∙ ap (λ x. audited ms m past ++ sound_entries s.entries x) v)
+      (record {
+        count = k.count;
+        there = shown_stays (s.closing.number, last_hash zeros (links_from 1 (audited ms m past ++ s.entries)))
+            (subst (λ h. IsAmong (s.closing.number, h) (shown ms m past)) (sym k.hash)
+            (last_shown ms m past j.segment next good));
+        each = k.each;
+        states = a.states ++ run.states;
+        honest = subst (λ ps. Honest ms (opening_of m) ps (a.states ++ run.states)) (sym k.places)
+            (joined ms (opening_of m) (placed 1 zeros (audited ms m past)) (placed_in s) a.states run.states a.honest
+            (subst (λ x. Honest ms x (placed_in s) run.states) (sym a.last) run.honest));
+        last = last_joined (opening_of m) a.states run.states
+            ∙ (ap (λ x. last_state x run.states) a.last ∙ run.last);
+      })
+
+-- ---- a fault
+
+-- a fault after honest entries is one of the whole
+fault_behind : (ms : List Member) (o s : State) (ps qs : List Placed) (ts : List State) (fault : ReplayFault)
+    (number : ℕ) → Honest ms o ps ts → last_state o ts ≡ s → verdict_of ms s qs ≡ Fault fault number
+    → verdict_of ms o (ps ++ qs) ≡ Fault fault number
+fault_behind ms o s ps qs ts fault number honest last v =
+    let f = first_fault ms s qs fault number v in
+    is_fault ms o (ps ++ qs) fault number (record {
+      before = ps ++ f.before;
+      entry = f.entry;
+      rest = f.rest;
+      whole = ap (λ x. ps ++ x) f.whole ∙ sym (append_assoc ps f.before (f.entry ∷ f.rest));
+      states = ts ++ f.states;
+      honest = joined ms o ps f.before ts f.states honest
+          (subst (λ x. Honest ms x f.before f.states) (sym last) f.honest);
+      refused = ap (λ x. step ms x f.entry) (last_joined o ts f.states ∙ ap (λ x. last_state x f.states) last)
+          ∙ f.refused;
+      there = f.there;
+    })
+
+-- A segment in which a replay finds a fault after the end, with all that was audited, is a charge.
+pub replay_charge : (ms : List Member) (m : Member) (past : Past) (j : JobParts) (fault : ReplayFault) (number : ℕ)
+    → member_of ms m.node ≡ Some m → is_exposed ms m past ≡ false → IsAudited ms m past
+    → IsNext ms m past j.segment → IsGoodSegment ms m j.segment.segment
+    → verdict_on ms (end_of ms m past).state j ≡ Fault fault number
+    → IsGoodCharge ms m (Replay (audited_with ms m past j.segment.segment))
+replay_charge ms m past j fault number is e a next good v =
+    let s = j.segment.segment in
+    let k = is_joined ms m past j.segment e a next good in
+    let values = length-map (audited ms m past ++ s.entries) entry_value in
+    let node : m.node < 2 ^ 32 = omega (arith, good.text.0.0, good.closed.ends.node, good.node) in
+    record {
+      small = node;
+      accepted = record {
+        of_node = refl;
+        first = refl;
+        opening = refl;
+        closed = record {
+          ends = record { node = good.node; number = omega (arith, k.count); hash = sym k.hash };
+          signed = good.closed.signed;
+        };
+        member = m;
+        is_member = is;
+        fault = fault;
+        number = number;
+        found = ap (verdict_of ms (opening_of m)) k.places
+            ∙ fault_behind ms (opening_of m) (end_of ms m past).state (placed 1 zeros (audited ms m past)) (placed_in s)
+            a.states fault number a.honest a.last v;
+      };
+      text = (
+        omega arith,
+        refl,
+        (
+          node,
+          (
+            (omega arith, refl),
+            (
+              zeros-length,
+              (
+                (omega (arith, values, k.count, next.last), omega (arith, values, k.count, next.last), k.each),
+                good.text.0.1.1.1.1,
+              ),
+            ),
+          ),
+        ),
+      );
+    }

@@ -1,0 +1,379 @@
+-- A step that exposes a node brings a charge that is accepted, and has a text; another brings none.
+-- Serves: evidence_where_exposed, evidence_proves.
+use Rattle.std.proofs.Common.{◌≡◌, ◌≢◌, ◌⊎◌, inl, inr, ℕ, ◌+◌, ◌-◌, ◌^◌, ◌<◌, ◌≤◌, Bool, true, false, cond, ◌||◌, ◌==◌}
+use Rattle.std.proofs.Common.{List, [], ◌∷◌, ◌++◌, length, Option, Some, None, refl, sym, ap, ap₂, subst, ◌∙◌}
+use Rattle.std.proofs.Common.{arith, eqb-true, length-append, not, zero, suc}
+use Rattle.std.specs.Prelude.{option_map, option_and_then}
+use Rattle.std.proofs.lemmas.Bool.{and_parts, or_cases, or_right, true≢false, ltb-true, lt-ltb}
+use Rattle.xdr.specs.Item.{Fits, choice}
+use Rattle.authenticator.specs.Numbers.{number_item}
+use Rattle.authenticator.specs.declared.authenticator.Authenticator.{Authenticator}
+use Rattle.authenticator.specs.declared.member.Member.{Member}
+use Rattle.secure_log.specs.LogEntries.Chain.{zeros, links_from}
+use Rattle.secure_log.specs.Segment.{SegmentParts, ClosedParts, segment_pairs}
+use Rattle.authenticator.specs.Signing.{is_same}
+use Rattle.witness_spec.specs.replay_spec.Replay.{Verdict, Sound, Fault}
+use Rattle.witness_spec.specs.replay_spec.Stepping.{ReplayFault}
+use Rattle.authenticator.proofs.Signed.{is_false, list_same}
+use Rattle.witness_spec.specs.evidence_spec.Showing.{ShowingParts, IsAmong, authenticator_showing, segment_showing}
+use Rattle.witness_spec.specs.evidence_spec.Evidence.{Charge, Fork, Replay, AcceptsCharge, is_charge, charge_item, charge_value}
+use Rattle.witness_spec.proofs.evidence_spec.Places.{AreNumbered, entries_numbered, length-links, behind, one_hash}
+use Rattle.witness_spec.specs.Events.{JobParts}
+use Rattle.witness_spec.specs.Replies.{Reply}
+use Rattle.witness_spec.specs.Steps.{Step, Past}
+use Rattle.witness_spec.specs.Pairs.{Pair, pair_of, first_pair, differ, is_fork, has_fork, first_fork}
+use Rattle.witness_spec.specs.Done.{noted, accepted, filed}
+use Rattle.witness_spec.specs.Standing.{end_of, verdict_on, finds_fault, has_fault, pairs_noted, pairs_accepted, shown}
+use Rattle.witness_spec.specs.Standing.{is_exposed, is_fault, kept, all_accepted, Stage, NoAudit, Wanted, Given, Out}
+use Rattle.witness_spec.specs.Standing.{stage_of}
+use Rattle.witness_spec.specs.Exposing.{showing_before, fork_of, new_fork, audited_with, replay_of, charge_of, new_charge}
+use Rattle.witness_spec.specs.Histories.{AreOwed}
+use Rattle.witness_spec.specs.Laws.{HasTwoHashes, HasFaultyFile}
+use Rattle.witness_laws.proofs.Exposing.{fork_at, of_file, exposed_is, is_exposed_told, exposed_why, why_exposed}
+use Rattle.witness_laws.proofs.Doing.{Did, Doing, Nothing, Notes, Accepts, Asks, Begins, Files, PutsBack}
+use Rattle.witness_laws.proofs.Checked.{IsLearned, IsCheckedStep, AreChecked}
+use Rattle.witness_laws.proofs.OfEvidence.Audits.{IsGoodSegment, good_given, Stand}
+use Rattle.witness_laws.proofs.OfEvidence.Before.{split, on_left, on_right, one_shown, IsGoodShowing, good_authenticator}
+use Rattle.witness_laws.proofs.OfEvidence.Before.{first_some, good_segment, shown_before}
+
+-- ---- forks between new pairs and old
+
+record Forks (new old : List Pair) (n : ℕ) : Type 0 where
+  one : List ℕ
+  other : List ℕ
+  one_new : IsAmong (n, one) new
+  other_old : IsAmong (n, other) old
+  differs : one ≢ other
+
+record Other (n : ℕ) (x : List ℕ) (old : List Pair) : Type 0 where
+  hash : List ℕ
+  there : IsAmong (n, hash) old
+  differs : x ≢ hash
+
+other_of : (n : ℕ) (x : List ℕ) (old : List Pair) → is_fork (n, x) old ≡ true → Other n x old
+other_of n x [] h = absurd (true≢false (sym h))
+other_of n x (q ∷ old) h =
+    by (or_cases (differ (n, x) q) (is_fork (n, x) old) h) (λ k. other_of n x old k)
+  where
+    by : (differ (n, x) q ≡ true) ⊎ (is_fork (n, x) old ≡ true) → (is_fork (n, x) old ≡ true → Other n x old)
+        → Other n x (q ∷ old)
+    by (inl d) rest =
+        let both = and_parts (n == q.0) (not (is_same x q.1)) d in
+        record {
+          hash = q.1;
+          there = inl (ap (λ (k : ℕ). (k, q.1)) (eqb-true n q.0 both.0));
+          differs = λ e. true≢false (sym both.1 ∙ ap not (list_same x q.1 e));
+        }
+    by (inr k) rest =
+        let g = rest k in record { hash = g.hash; there = inr g.there; differs = g.differs }
+
+some_same : (x y : ℕ) → ◌≡◌ {A = Option ℕ} (Some x) (Some y) → x ≡ y
+some_same x y h = cc
+
+-- the number of the first fork is one
+first_is : (new old : List Pair) (n : ℕ) → first_fork new old ≡ Some n → Forks new old n
+first_is [] old n h = absurd (cc)
+first_is (q ∷ new) old n h = by (is_fork q old) refl h (λ k. first_is new old n k)
+  where
+    by : (b : Bool) → is_fork q old ≡ b → ◌≡◌ {A = Option ℕ} (cond b (Some q.0) (first_fork new old)) (Some n)
+        → (first_fork new old ≡ Some n → Forks new old n) → Forks (q ∷ new) old n
+    by true e h rest =
+        let number : q.0 ≡ n = some_same q.0 n h in
+        let g = other_of q.0 q.1 old e in
+        record {
+          one = q.1;
+          other = g.hash;
+          one_new = inl (ap (λ (k : ℕ). (k, q.1)) (sym number));
+          other_old = subst (λ k. IsAmong (k, g.hash) old) number g.there;
+          differs = g.differs;
+        }
+    by false e h rest =
+        let g = rest h in
+        record { one = g.one; other = g.other; one_new = inr g.one_new; other_old = g.other_old; differs = g.differs }
+
+-- where there is no first one there is none
+none_first : (new old : List Pair) (q : Pair) → first_fork new old ≡ None → IsAmong q new → is_fork q old ≡ false
+none_first [] old q h i = absurd i
+none_first (p ∷ new) old q h i = by (is_fork p old) refl h i (λ k j. none_first new old q k j)
+  where
+    by : (b : Bool) → is_fork p old ≡ b → ◌≡◌ {A = Option ℕ} (cond b (Some p.0) (first_fork new old)) None
+        → (q ≡ p) ⊎ IsAmong q new → (first_fork new old ≡ None → IsAmong q new → is_fork q old ≡ false)
+        → is_fork q old ≡ false
+    by true e h i rest = absurd (cc)
+    by false e h (inl same) rest = ap (λ r. is_fork r old) same ∙ e
+    by false e h (inr i) rest = rest h i
+
+-- ---- numbers
+
+zero_fits : Fits number_item 0
+zero_fits = (omega arith, refl)
+
+lower_fits : (n k : ℕ) → n ≤ k → Fits number_item k → Fits number_item n
+lower_fits n k h fits =
+    let small : k < 2 ^ 64 - 1 = ltb-true k (2 ^ 64 - 1) fits.1 in
+    (omega (arith, h, fits.0), lt-ltb n (2 ^ 64 - 1) (omega (arith, h, small)))
+
+positive : (n : ℕ) → (n == 0) ≡ false → 1 ≤ n
+positive zero h = absurd (true≢false h)
+positive (suc n) h = omega arith
+
+-- ---- charges
+
+-- it is accepted against the node, and has a text with it
+pub record IsGoodCharge (ms : List Member) (m : Member) (g : Charge) : Type 0 where
+  -- the node's number has 32 bits
+  pub small : m.node < 2 ^ 32
+  -- the charge is accepted
+  pub accepted : AcceptsCharge ms m.node g
+  -- the charge has a text
+  pub text : Fits (choice is_charge charge_item) (charge_value g)
+
+-- a step exposes with a charge, or does neither
+pub data Charging (ms : List Member) (m : Member) (past : Past) (p : Step × Reply) : Type 0 where
+  Uncharged : new_charge ms m past p.0 p.1 ≡ None → is_exposed ms m (p ∷ past) ≡ false → Charging ms m past p
+  Charged : (g : Charge) → new_charge ms m past p.0 p.1 ≡ Some g → is_exposed ms m (p ∷ past) ≡ true
+      → IsGoodCharge ms m g → Charging ms m past p
+
+-- what is shown anew: a showing with its pairs, of one hash at each number
+record IsNew (ms : List Member) (m : Member) (new : ShowingParts) (ps : List Pair) : Type 0 where
+  good : IsGoodShowing ms m new ps
+  one : (n : ℕ) (x y : List ℕ) → IsAmong (n, x) ps → IsAmong (n, y) ps → x ≡ y
+  few : (n : ℕ) (x : List ℕ) → IsAmong (n, x) ps → Fits number_item n
+
+new_authenticator : (ms : List Member) (m : Member) (a : Authenticator) → IsLearned ms m a
+    → IsNew ms m (authenticator_showing a) (pair_of a ∷ [])
+new_authenticator ms m a good = record {
+  good = good_authenticator ms m a good;
+  one = λ n x y i j. its x n i ∙ sym (its y n j);
+  few = λ n x i. number n x i;
+}
+  where
+    its : (x : List ℕ) (n : ℕ) → IsAmong (n, x) (pair_of a ∷ []) → x ≡ a.hash
+    its x n (inl e) = ap (λ (q : Pair). q.1) e
+    its x n (inr i) = absurd i
+
+    number : (n : ℕ) (x : List ℕ) → IsAmong (n, x) (pair_of a ∷ []) → Fits number_item n
+    number n x (inl e) = subst (Fits number_item) (sym (ap (λ (q : Pair). q.0) e)) good.text.1.0
+    number n x (inr i) = absurd i
+
+new_segment : (ms : List Member) (m : Member) (s : SegmentParts) → IsGoodSegment ms m s
+    → IsNew ms m (segment_showing s) (segment_pairs s)
+new_segment ms m s good =
+    let some : 0 < s.first = first_some ms m s good in
+    let back : s.first ≡ s.first - 1 + 1 = omega (arith, some) in
+    let links = links_from s.first s.entries in
+    let are : AreNumbered (s.first - 1 + 1) links =
+    subst (λ k. AreNumbered k links) back (entries_numbered s.first s.entries) in
+    record {
+      good = good_segment ms m s good;
+      one = λ n x y i j. one_hash (s.first - 1) s.opening links n x y are i j;
+      few = λ n x i.
+          let h = behind (s.first - 1) s.opening links n x are i in
+          lower_fits n s.closing.number
+          (omega (
+            arith,
+            h.count,
+            ap length h.whole,
+            length-append h.front h.rest,
+            some,
+            good.closed.ends.number,
+            length-links s.first s.entries,
+          )) good.text.0.1.1.1.1.1.0;
+    }
+
+-- the pair before the first entry is always among those that were shown
+pub first_shown : (ms : List Member) (m : Member) (past : Past) → IsAmong first_pair (shown ms m past)
+first_shown ms m [] = inl refl
+first_shown ms m (p ∷ past) =
+    on_right first_pair (pairs_noted (is_exposed ms m past) (noted p.0 p.1))
+    (pairs_accepted (accepted p.0 p.1) ++ shown ms m past)
+    (on_right first_pair (pairs_accepted (accepted p.0 p.1)) (shown ms m past) (first_shown ms m past))
+
+module _ (ms : List Member) (m : Member) (past : Past) (p : Step × Reply) (owed : AreOwed ms m past)
+    (checked : AreChecked ms m past) (stand : Stand ms m past) (e : is_exposed ms m past ≡ false) where
+  -- ---- a fork
+
+  -- the charge of a fork at 0
+  at_zero : (new : ShowingParts) (ps : List Pair) → IsNew ms m new ps → Forks ps (shown ms m past) 0
+      → IsGoodCharge ms m (Fork (record { at = 0; a = new; b = None }))
+  at_zero new ps is f =
+      let zero_is : f.other ≡ zeros =
+      one_shown ms m past e 0 f.other zeros f.other_old (first_shown ms m past) in
+      record {
+        small = omega (arith, is.good.shows.text.0, is.good.node);
+        accepted = record {
+          a_node = is.good.node;
+          closed = is.good.shows.closed;
+          hash = f.one;
+          shown = subst (IsAmong (0, f.one)) (sym is.good.shows.is) f.one_new;
+          differs = λ h. f.differs (h ∙ sym zero_is);
+        };
+        text = (omega arith, refl, (zero_fits, (is.good.shows.text, tt)));
+      }
+
+  -- the charge of a fork after 0, with what showed the other hash
+  at_number : (n : ℕ) (new old : ShowingParts) (ps qs : List Pair) → IsNew ms m new ps
+      → IsGoodShowing ms m old qs → (f : Forks ps (shown ms m past) n) → IsAmong (n, f.other) qs
+      → IsGoodCharge ms m (Fork (record { at = n; a = old; b = Some new }))
+  at_number n new old ps qs is before f there = record {
+    small = omega (arith, is.good.shows.text.0, is.good.node);
+    accepted = record {
+      a_node = before.node;
+      b_node = is.good.node;
+      a_closed = before.shows.closed;
+      b_closed = is.good.shows.closed;
+      one = f.other;
+      other = f.one;
+      one_shown = subst (IsAmong (n, f.other)) (sym before.shows.is) there;
+      other_shown = subst (IsAmong (n, f.one)) (sym is.good.shows.is) f.one_new;
+      differ = λ h. f.differs (sym h);
+    };
+    text = (omega arith, refl, (is.few n f.one f.one_new, (before.shows.text, is.good.shows.text)));
+  }
+
+  -- new pairs of a showing, as they are shown after the step, and charged
+  record ShowsNew (new : ShowingParts) (ps : List Pair) : Type 0 where
+    is : IsNew ms m new ps
+    shown_is : shown ms m (p ∷ past) ≡ ps ++ shown ms m past
+    fault_is : has_fault ms m (p ∷ past) ≡ has_fault ms m past
+    charge_is : new_charge ms m past p.0 p.1 ≡ new_fork ms m past new ps
+
+  not_faulty : has_fault ms m past ≡ true → ⊥
+  not_faulty h = true≢false (sym (or_right (has_fork (shown ms m past)) (has_fault ms m past) h) ∙ e)
+
+  -- where no new pair forks, no number has two hashes
+  none_exposes : (new : ShowingParts) (ps : List Pair) → ShowsNew new ps → first_fork ps (shown ms m past) ≡ None
+      → is_exposed ms m (p ∷ past) ≡ true → ⊥
+  none_exposes new ps s none h = by (exposed_why ms m (p ∷ past) (is_exposed_told ms m (p ∷ past) h))
+    where
+      apart : (n : ℕ) (x y : List ℕ) → x ≢ y → IsAmong (n, x) ps → IsAmong (n, y) (shown ms m past) → ⊥
+      apart n x y d i j =
+          true≢false (sym (fork_at n x y (shown ms m past) d j) ∙ none_first ps (shown ms m past) (n, x) none i)
+
+      two : (n : ℕ) (x y : List ℕ) → x ≢ y → IsAmong (n, x) ps ⊎ IsAmong (n, x) (shown ms m past)
+          → IsAmong (n, y) ps ⊎ IsAmong (n, y) (shown ms m past) → ⊥
+      two n x y d (inl i) (inl j) = d (s.is.one n x y i j)
+      two n x y d (inl i) (inr j) = apart n x y d i j
+      two n x y d (inr i) (inl j) = apart n y x (λ k. d (sym k)) j i
+      two n x y d (inr i) (inr j) = d (one_shown ms m past e n x y i j)
+
+      by : HasTwoHashes (shown ms m (p ∷ past)) ⊎ HasFaultyFile ms m (p ∷ past) → ⊥
+      by (inl g) =
+          two g.number g.one g.other g.differ
+          (split (g.number, g.one) ps (shown ms m past) (subst (IsAmong (g.number, g.one)) s.shown_is g.one_shown))
+          (split (g.number, g.other) ps (shown ms m past) (subst (IsAmong (g.number, g.other)) s.shown_is g.other_shown))
+      by (inr g) = not_faulty (sym s.fault_is ∙ of_file ms m (p ∷ past) g)
+
+  -- where one forks, it has
+  fork_exposes : (new : ShowingParts) (ps : List Pair) (n : ℕ) → ShowsNew new ps → Forks ps (shown ms m past) n
+      → is_exposed ms m (p ∷ past) ≡ true
+  fork_exposes new ps n s f =
+      let two : HasTwoHashes (shown ms m (p ∷ past)) = record {
+        number = n;
+        one = f.one;
+        other = f.other;
+        one_shown = subst (IsAmong (n, f.one)) (sym s.shown_is) (on_left (n, f.one) ps (shown ms m past) f.one_new);
+        other_shown = subst (IsAmong (n, f.other)) (sym s.shown_is)
+            (on_right (n, f.other) ps (shown ms m past) f.other_old);
+        differ = f.differs;
+      } in exposed_is ms m (p ∷ past) (why_exposed ms m (p ∷ past) (inl two))
+
+  charged_at : (new : ShowingParts) (ps : List Pair) (n : ℕ) (b : Bool) → ShowsNew new ps
+      → first_fork ps (shown ms m past) ≡ Some n → (n == 0) ≡ b → Charging ms m past p
+  charged_at new ps n true s is z =
+      let f = first_is ps (shown ms m past) n is in
+      let zero_is : n ≡ 0 = eqb-true n 0 z in
+      Charged (Fork (record { at = 0; a = new; b = None }))
+      (s.charge_is ∙ (ap (option_and_then (fork_of (kept ms m past) (all_accepted past) new)) is
+      ∙ ap (fork_of (kept ms m past) (all_accepted past) new) zero_is))
+      (fork_exposes new ps n s f) (at_zero new ps s.is (subst (Forks ps (shown ms m past)) zero_is f))
+  charged_at new ps n false s is z =
+      let f = first_is ps (shown ms m past) n is in
+      let old = shown_before ms m past n f.other owed checked stand e (positive n z) f.other_old in
+      Charged (Fork (record { at = n; a = old.showing; b = Some new }))
+      (s.charge_is ∙ (ap (option_and_then (fork_of (kept ms m past) (all_accepted past) new)) is
+      ∙ (ap (λ b. cond b (Some (Fork (record { at = 0; a = new; b = None })))
+      (option_map (λ x. Fork (record { at = n; a = x; b = Some new }))
+      (showing_before (kept ms m past) (all_accepted past) n))) z
+      ∙ ap (option_map (λ x. Fork (record { at = n; a = x; b = Some new }))) old.is)))
+      (fork_exposes new ps n s f) (at_number n new old.showing ps old.ps s.is old.good f old.there)
+
+  shows_new : (new : ShowingParts) (ps : List Pair) (o : Option ℕ) → ShowsNew new ps
+      → first_fork ps (shown ms m past) ≡ o → Charging ms m past p
+  shows_new new ps None s is =
+      Uncharged (s.charge_is ∙ ap (option_and_then (fork_of (kept ms m past) (all_accepted past) new)) is)
+      (is_false (is_exposed ms m (p ∷ past)) (none_exposes new ps s is))
+  shows_new new ps (Some n) s is = charged_at new ps n (n == 0) s is refl
+
+  -- ---- what a step does
+
+  shown_by : (a : Option Authenticator) (c : Option ClosedParts) → noted p.0 p.1 ≡ a → accepted p.0 p.1 ≡ c
+      → shown ms m (p ∷ past) ≡ pairs_noted false a ++ (pairs_accepted c ++ shown ms m past)
+  shown_by a c is_a is_c =
+      ap (λ b. pairs_noted b (noted p.0 p.1) ++ (pairs_accepted (accepted p.0 p.1) ++ shown ms m past)) e
+      ∙ (ap (λ x. pairs_noted false x ++ (pairs_accepted (accepted p.0 p.1) ++ shown ms m past)) is_a
+      ∙ ap (λ x. pairs_noted false a ++ (pairs_accepted x ++ shown ms m past)) is_c)
+
+  fault_by : (j : Option JobParts) → filed p.0 p.1 ≡ j
+      → has_fault ms m (p ∷ past) ≡ (finds_fault ms (end_of ms m past).state j || has_fault ms m past)
+  fault_by j is = ap (λ x. finds_fault ms (end_of ms m past).state x || has_fault ms m past) is
+
+  charge_by : (a : Option Authenticator) (c : Option ClosedParts) (j : Option JobParts) → noted p.0 p.1 ≡ a
+      → accepted p.0 p.1 ≡ c → filed p.0 p.1 ≡ j → new_charge ms m past p.0 p.1 ≡ charge_of ms m past a c j
+  charge_by a c j is_a is_c is_j =
+      ap (λ x. charge_of ms m past x (accepted p.0 p.1) (filed p.0 p.1)) is_a
+      ∙ (ap (λ x. charge_of ms m past a x (filed p.0 p.1)) is_c ∙ ap (charge_of ms m past a c) is_j)
+
+  -- a step that shows nothing and files nothing
+  shows_nothing : (to : Stage) → Did past p None None None to → Charging ms m past p
+  shows_nothing to did =
+      Uncharged (charge_by None None None did.notes did.accepts did.files)
+      (ap₂ (λ ps b. has_fork ps || b) (shown_by None None did.notes did.accepts) (fault_by None did.files) ∙ e)
+
+  -- a replay's verdict
+  files : (j : JobParts) (v : Verdict) → Did past p None None (Some j) NoAudit
+      → verdict_on ms (end_of ms m past).state j ≡ v
+      → ((fault : ReplayFault) (number : ℕ) → v ≡ Fault fault number
+      → IsGoodCharge ms m (Replay (audited_with ms m past j.segment.segment))) → Charging ms m past p
+  files j (Sound t found) did is good =
+      Uncharged
+      (charge_by None None (Some j) did.notes did.accepts did.files
+      ∙ ap (replay_of ms m past j.segment.segment) is)
+      (ap₂ (λ ps b. has_fork ps || b) (shown_by None None did.notes did.accepts)
+      (fault_by (Some j) did.files ∙ ap (λ v. is_fault v || has_fault ms m past) is) ∙ e)
+  files j (Fault fault number) did is good =
+      Charged (Replay (audited_with ms m past j.segment.segment))
+      (charge_by None None (Some j) did.notes did.accepts did.files
+      ∙ ap (replay_of ms m past j.segment.segment) is)
+      (or_right (has_fork (shown ms m (p ∷ past))) (has_fault ms m (p ∷ past))
+      (fault_by (Some j) did.files ∙ ap (λ v. is_fault v || has_fault ms m past) is))
+      (good fault number refl)
+
+  -- Each step exposes with a charge, or does neither.
+  pub charging : Doing ms m past p → IsCheckedStep ms m p.0
+      → ((j : JobParts) (fault : ReplayFault) (number : ℕ) → stage_of past ≡ Out j.segment
+      → verdict_on ms (end_of ms m past).state j ≡ Fault fault number
+      → IsGoodCharge ms m (Replay (audited_with ms m past j.segment.segment))) → Charging ms m past p
+  charging (Nothing did) c faulty = shows_nothing (stage_of past) did
+  charging (Notes a is did) c faulty =
+      shows_new (authenticator_showing a) (pair_of a ∷ []) (first_fork (pair_of a ∷ []) (shown ms m past))
+      (record {
+        is = new_authenticator ms m a (subst (IsCheckedStep ms m) is c);
+        shown_is = shown_by (Some a) None did.notes did.accepts;
+        fault_is = fault_by None did.files;
+        charge_is = charge_by (Some a) None None did.notes did.accepts did.files;
+      }) refl
+  charging (Accepts d is wanted did) c faulty =
+      shows_new (segment_showing d.segment) (segment_pairs d.segment)
+      (first_fork (segment_pairs d.segment) (shown ms m past))
+      (record {
+        is = new_segment ms m d.segment (good_given ms m d (subst (IsCheckedStep ms m) is c));
+        shown_is = shown_by None (Some d) did.notes did.accepts;
+        fault_is = fault_by None did.files;
+        charge_is = charge_by None (Some d) None did.notes did.accepts did.files;
+      }) refl
+  charging (Asks first last is few did) c faulty = shows_nothing (Wanted first last) did
+  charging (Begins d is did) c faulty = shows_nothing (Out d) did
+  charging (PutsBack d is did) c faulty = shows_nothing (Given d) did
+  charging (Files j is did) c faulty =
+      files j (verdict_on ms (end_of ms m past).state j) did refl (λ fault number h. faulty j fault number is h)

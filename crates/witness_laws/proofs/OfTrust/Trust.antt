@@ -1,0 +1,336 @@
+-- What stands after a node's own steps while its log is honest: all that was shown is of the log, and the end
+-- lies in it, with the log's state there.
+-- Serves: honest_is_never_exposed.
+use Rattle.std.proofs.Common.{◌≡◌, inl, inr, ℕ, ◌+◌, ◌-◌, ◌<◌, ◌≤◌, Bool, true, false, ◌||◌, List, [], ◌∷◌}
+use Rattle.std.proofs.Common.{◌++◌, length, Option, Some, None, refl, sym, ap, ap₂, subst, ◌∙◌, append_assoc}
+use Rattle.std.proofs.Common.{length-append, arith}
+use Rattle.std.specs.List.{AllByRecursion, flat_map}
+use Rattle.std.proofs.lemmas.Bool.{and_parts, or_from, ltb-true}
+use Rattle.xdr.specs.Item.{Fits}
+use Rattle.authenticator.specs.declared.authenticator.Authenticator.{Authenticator}
+use Rattle.authenticator.specs.declared.member.Member.{Member}
+use Rattle.secure_log.specs.LogEntries.Chain.{Link, hash_after, link_of, links_from, last_hash, pairs, zeros, NoCollision}
+use Rattle.secure_log.specs.declared.log_entries.entry.Entry.{Entry}
+use Rattle.secure_log.proofs.OfLogEntries.Pairs.{last_hash-parts}
+use Rattle.secure_log.specs.Log.{log_hash, log_pairs}
+use Rattle.secure_log.specs.Segment.{SegmentParts, ClosedParts, HasText, segment_pairs}
+use Rattle.witness_spec.proofs.replay_spec.Runs.{sound}
+use Rattle.witness_spec.proofs.replay_spec.Places.{places_joined}
+use Rattle.witness_spec.specs.evidence_spec.Laws.{OneHashAtANumber, IsPartOf}
+use Rattle.witness_spec.proofs.evidence_spec.Shown.{segment_in_log, segment_is_part}
+use Rattle.witness_spec.proofs.evidence_spec.Texts.{Within, fewer, left, right, both}
+use Rattle.state_spec.specs.State.{State}
+use Rattle.witness_spec.specs.replay_spec.Opening.{opening_of}
+use Rattle.witness_spec.specs.replay_spec.Placed.{placed, placed_in}
+use Rattle.witness_spec.specs.replay_spec.Replay.{Honest, Sound, last_state, found, segment_verdict}
+use Rattle.witness_spec.specs.evidence_spec.Showing.{IsAmong}
+use Rattle.witness_spec.specs.evidence_spec.Evidence.{audited_item, audited_value}
+use Rattle.witness_spec.specs.evidence_spec.Proving.{IsLog, IsUnforged, log_texts, segment_texts}
+use Rattle.witness_spec.specs.Events.{JobParts}
+use Rattle.witness_spec.specs.Replies.{Reply}
+use Rattle.witness_spec.specs.Steps.{Step, Past}
+use Rattle.witness_spec.specs.Pairs.{Pair, pair_of, has_fork}
+use Rattle.witness_spec.specs.Done.{noted, accepted}
+use Rattle.witness_spec.specs.Standing.{End, end_of, end_after, moved_by, is_fault, finds_fault, has_fault}
+use Rattle.witness_spec.specs.Standing.{pairs_noted, pairs_accepted, shown, is_exposed, Stage, NoAudit, Wanted, Given}
+use Rattle.witness_spec.specs.Standing.{Out, stage_of}
+use Rattle.witness_spec.specs.Histories.{AreOwed}
+use Rattle.witness_spec.specs.Premises.{authenticators_in, texts_in}
+use Rattle.witness_laws.proofs.Checked.{IsLearned, IsGiven, IsCheckedStep, AreChecked}
+use Rattle.witness_laws.proofs.Doing.{Did, Doing, Nothing, Notes, Accepts, Asks, Begins, Files, PutsBack, doing}
+use Rattle.witness_laws.proofs.OfTrust.Pairs.{no_fork, among_parts}
+use Rattle.witness_laws.proofs.OfTrust.Parts.{split, same_parts}
+
+-- ---- places of a log
+
+head_among : (n : ℕ) (h : List ℕ) (ls : List Link) → IsAmong (n, h) (pairs n h ls)
+head_among n h [] = inl refl
+head_among n h (l ∷ ls) = inl refl
+
+-- the hash after the first entries is the log's there
+at_place : (b : ℕ) (h : List ℕ) (xs ys : List Entry)
+    → IsAmong (b + length xs, last_hash h (links_from (b + 1) xs)) (pairs b h (links_from (b + 1) (xs ++ ys)))
+at_place b h [] ys =
+    let same : b ≡ b + 0 = omega arith in
+    subst (λ n. IsAmong (n, h) (pairs b h (links_from (b + 1) ys))) same (head_among b h (links_from (b + 1) ys))
+at_place b h (x ∷ xs) ys =
+    let same : (b + 1) + length xs ≡ b + length (x ∷ xs) = omega arith in
+    let next : List ℕ = hash_after h (link_of (b + 1) x) in
+    inr (subst
+    (λ n. IsAmong (n, last_hash next (links_from (b + 1 + 1) xs)) (pairs (b + 1) next (links_from (b + 1 + 1) (xs ++ ys))))
+    same (at_place (b + 1) next xs ys))
+
+-- a segment that has a text has one as audited entries too
+audited_fits : (s : SegmentParts) → HasText s → Fits audited_item (audited_value s)
+audited_fits s t =
+    let f = t.0 in
+    (f.0, (f.1.0, (f.1.1.0, ((f.1.1.1.0.0, omega (arith, f.1.1.1.0.1), f.1.1.1.0.2), f.1.1.1.1))))
+
+first_is : (s : SegmentParts) → HasText s → 0 < s.first
+first_is s t = ltb-true 0 s.first (and_parts _ _ t.1).0
+
+none_some : {A : Type 0} (x : A) → ◌≡◌ {A = Option A} None (Some x) → ⊥
+none_some x h = cc
+
+module _ (ms : List Member) (m : Member) (log : List Entry) (one : OneHashAtANumber) (is : IsLog log)
+    (all : List (List ℕ)) (unlike : NoCollision all) (log_within : Within (log_texts log) all) where
+  -- all of these pairs are the log's
+  abbrev pub InLog : List Pair → Type 0
+  InLog ps = (q : Pair) → IsAmong q ps → IsAmong q (log_pairs log)
+
+  -- the end lies in the log, after whose first entries its state is, and the rest is honest
+  pub record Reached (end : End) : Type 0 where
+    -- the entries up to the end
+    pub before : List Entry
+    -- the entries after it
+    pub rest : List Entry
+    -- these are the whole log
+    pub whole : log ≡ before ++ rest
+    -- there are as many before the end as its number
+    pub count : length before ≡ end.number
+    -- the states of the rest
+    pub states : List State
+    -- the rest is honest from the end's state
+    pub honest : Honest ms end.state (placed (length before + 1) (log_hash before) rest) states
+
+  -- a segment is the log's, right after the end
+  pub record IsNextIn (end : End) (c : ClosedParts) : Type 0 where
+    -- it begins after the end
+    pub first : c.segment.first ≡ end.number + 1
+    -- it has an entry at each number up to its closing one
+    pub last : c.segment.closing.number + 1 ≡ c.segment.first + length c.segment.entries
+    -- its entries stand in the log
+    pub part : IsPartOf log c.segment
+    -- its opening hash is that of the end
+    pub opening : IsAmong (end.number, c.segment.opening) (log_pairs log)
+
+  abbrev pub StageFits : End → Stage → Type 0
+  StageFits end NoAudit = Unit {0}
+  StageFits end (Wanted first last) = first ≡ end.number + 1
+  StageFits end (Given c) = IsNextIn end c
+  StageFits end (Out c) = IsNextIn end c
+
+  -- what stands after own steps: all that was shown is of the log, and the audit is on it
+  pub record Trusted (past : Past) : Type 0 where
+    -- all pairs that were shown are of the log
+    pub shown_in : InLog (shown ms m past)
+    -- no segment had a fault
+    pub no_fault : has_fault ms m past ≡ false
+    -- the audit's end lies in the log
+    pub reached : Reached (end_of ms m past)
+    -- what is under way is the log's part after the end
+    pub stage : StageFits (end_of ms m past) (stage_of past)
+
+  -- ---- what is shown
+
+  noted_in : (b : Bool) (a : Authenticator) → IsAmong (pair_of a) (log_pairs log) → InLog (pairs_noted b (Some a))
+  noted_in true a i q j = absurd j
+  noted_in false a i q (inl e) = subst (λ r. IsAmong r (log_pairs log)) (sym e) i
+  noted_in false a i q (inr j) = absurd j
+
+  joined_in : (xs ys : List Pair) → InLog xs → InLog ys → InLog (xs ++ ys)
+  joined_in xs ys h k q i = elim (among_parts q xs ys i) [ inl a ↦ h q a | inr b ↦ k q b ]
+
+  shown_is : (past : Past) (p : Step × Reply) (learned : Option Authenticator) (answer : Option ClosedParts)
+      → noted p.0 p.1 ≡ learned → accepted p.0 p.1 ≡ answer
+      → shown ms m (p ∷ past)
+      ≡ pairs_noted (is_exposed ms m past) learned ++ (pairs_accepted answer ++ shown ms m past)
+  shown_is past p learned answer e f =
+      ap₂ (λ n a. pairs_noted (is_exposed ms m past) n ++ (pairs_accepted a ++ shown ms m past)) e f
+
+  shown_on : (past : Past) (p : Step × Reply) (learned : Option Authenticator) (answer : Option ClosedParts)
+      → noted p.0 p.1 ≡ learned → accepted p.0 p.1 ≡ answer
+      → InLog (pairs_noted (is_exposed ms m past) learned) → InLog (pairs_accepted answer)
+      → InLog (shown ms m past) → InLog (shown ms m (p ∷ past))
+  shown_on past p learned answer e f h k g q i =
+      joined_in (pairs_noted (is_exposed ms m past) learned) (pairs_accepted answer ++ shown ms m past) h
+      (joined_in (pairs_accepted answer) (shown ms m past) k g) q
+      (subst (IsAmong q) (shown_is past p learned answer e f) i)
+
+  nothing_in : InLog []
+  nothing_in q i = absurd i
+
+  -- ---- a step that files nothing
+
+  unfiled : (past : Past) (p : Step × Reply) (learned : Option Authenticator) (answer : Option ClosedParts)
+      (to : Stage) → Did past p learned answer None to
+      → InLog (pairs_noted (is_exposed ms m past) learned) → InLog (pairs_accepted answer)
+      → StageFits (end_of ms m past) to → Trusted past → Trusted (p ∷ past)
+  unfiled past p learned answer to did h k fits g =
+      let same : end_of ms m past ≡ end_of ms m (p ∷ past) = sym (ap (end_after ms (end_of ms m past)) did.files) in
+      record {
+        shown_in = shown_on past p learned answer did.notes did.accepts h k g.shown_in;
+        no_fault = ap (λ j. finds_fault ms (end_of ms m past).state j || has_fault ms m past) did.files ∙ g.no_fault;
+        reached = subst Reached same g.reached;
+        stage = subst (λ e. StageFits e (stage_of (p ∷ past))) same
+            (subst (StageFits (end_of ms m past)) (sym did.stage) fits);
+      }
+
+  -- ---- a segment is accepted
+
+  next_in : (end : End) (c : ClosedParts) → IsGiven ms m c → IsAmong (pair_of c.segment.closing) (log_pairs log)
+      → Within (segment_texts c.segment) all → c.segment.first ≡ end.number + 1
+      → IsNextIn end c × InLog (segment_pairs c.segment)
+  next_in end c given i within first =
+      let fits = audited_fits c.segment given.text in
+      let some : 1 ≤ c.segment.first = omega (arith, first_is c.segment given.text) in
+      let apart = fewer (log_texts log ++ segment_texts c.segment) all
+      (both (log_texts log) (segment_texts c.segment) all log_within within) unlike in
+      let in_log : InLog (segment_pairs c.segment) =
+      λ q j. segment_in_log ms log c.segment is fits some given.closed i apart q.0 q.1 j in
+      let place : c.segment.first - 1 ≡ end.number = omega (arith, first) in (
+        record {
+          first = first;
+          last = given.closed.ends.number;
+          part = segment_is_part ms log c.segment is fits some given.closed i apart;
+          opening = subst (λ n. IsAmong (n, c.segment.opening) (log_pairs log)) place
+              (in_log (c.segment.first - 1, c.segment.opening)
+              (head_among (c.segment.first - 1) c.segment.opening (links_from c.segment.first c.segment.entries)));
+        },
+        in_log,
+      )
+
+  -- ---- a segment is filed
+
+  -- it is honest after the end, and so the log is after it
+  pub record Filed (end : End) (c : ClosedParts) : Type 0 where
+    -- the state after it
+    pub state : State
+    -- what it shows of other nodes
+    pub found : List Authenticator
+    -- the verdict on it is sound
+    pub sound : segment_verdict ms end.state c.segment ≡ Sound state found
+    -- its closing number lies in the log, with that state
+    pub reached : Reached (record { number = c.segment.closing.number; state = state })
+
+  file_sound : (end : End) (c : ClosedParts) → IsNextIn end c → Reached end → Filed end c
+  file_sound end c next r =
+      let s : SegmentParts = c.segment in
+      let es : List Entry = s.entries in
+      let same = same_parts r.before next.part.before r.rest (es ++ next.part.rest)
+      (sym r.whole ∙ next.part.whole) (omega (arith, r.count, next.part.place, next.first)) in
+      let none_more : 0 + length r.before ≡ length r.before = omega arith in
+      let there : IsAmong (length r.before, log_hash r.before) (log_pairs log) =
+      subst (λ l. IsAmong (length r.before, log_hash r.before) (log_pairs l)) (sym r.whole)
+      (subst (λ n. IsAmong (n, log_hash r.before) (log_pairs (r.before ++ r.rest))) none_more
+      (at_place 0 zeros r.before r.rest)) in
+      let hash : log_hash r.before ≡ s.opening =
+      one log end.number (log_hash r.before) s.opening
+      (subst (λ n. IsAmong (n, log_hash r.before) (log_pairs log)) r.count there) next.opening in
+      let number : length r.before + 1 ≡ s.first = omega (arith, r.count, next.first) in
+      let last : length r.before + 1 + length es ≡ s.first + length es = omega (arith, number) in
+      let honest : Honest ms end.state (placed s.first s.opening (es ++ next.part.rest)) r.states =
+      subst (λ l. Honest ms end.state (placed s.first s.opening l) r.states) same.1
+      (subst (λ h. Honest ms end.state (placed s.first h r.rest) r.states) hash
+      (subst (λ n. Honest ms end.state (placed n (log_hash r.before) r.rest) r.states) number r.honest)) in
+      let parts = split ms end.state (placed_in s)
+      (placed (s.first + length es) (last_hash s.opening (links_from s.first es)) next.part.rest) r.states
+      (subst (λ ps. Honest ms end.state ps r.states) (places_joined s.first s.opening es next.part.rest) honest) in
+      let behind : log_hash (r.before ++ es) ≡ last_hash s.opening (links_from s.first es) =
+      last_hash-parts zeros 1 r.before es s.first (omega (arith, number))
+      ∙ ap (λ h. last_hash h (links_from s.first es)) hash in
+      let far : length (r.before ++ es) + 1 ≡ s.first + length es =
+      omega (arith, length-append r.before es, number) in
+      record {
+        state = last_state end.state parts.first;
+        found = found end.state (placed_in s) parts.first;
+        sound = sound ms end.state (placed_in s) parts.first parts.honest;
+        reached = record {
+          before = r.before ++ es;
+          rest = next.part.rest;
+          whole = r.whole ∙ (ap (λ l. r.before ++ l) same.1 ∙ sym (append_assoc r.before es next.part.rest));
+          count = omega (arith, far, next.last);
+          states = parts.more;
+          honest = subst (λ n. Honest ms (last_state end.state parts.first)
+              (placed n (log_hash (r.before ++ es)) next.part.rest) parts.more) (sym far)
+              (subst (λ h. Honest ms (last_state end.state parts.first)
+              (placed (s.first + length es) h next.part.rest) parts.more) (sym behind) parts.rest);
+        };
+      }
+
+  files_on : (past : Past) (p : Step × Reply) (j : JobParts) → stage_of past ≡ Out j.segment
+      → Did past p None None (Some j) NoAudit → Trusted past → Trusted (p ∷ past)
+  files_on past p j out did g =
+      let end : End = end_of ms m past in
+      let f = file_sound end j.segment (subst (StageFits end) out g.stage) g.reached in
+      let moved : end_of ms m (p ∷ past) ≡ record { number = j.segment.segment.closing.number; state = f.state } =
+      ap (end_after ms end) did.files ∙ ap (moved_by end j.segment.segment.closing.number) f.sound in
+      record {
+        shown_in = shown_on past p None None did.notes did.accepts nothing_in nothing_in g.shown_in;
+        no_fault = ap (λ x. finds_fault ms end.state x || has_fault ms m past) did.files
+            ∙ (ap (λ v. is_fault v || has_fault ms m past) f.sound ∙ g.no_fault);
+        reached = subst Reached (sym moved) f.reached;
+        stage = subst (StageFits (end_of ms m (p ∷ past))) (sym did.stage) tt;
+      }
+
+  -- ---- all steps
+
+  one_step : (past : Past) (p : Step × Reply) → Doing ms m past p → IsCheckedStep ms m p.0
+      → AllByRecursion (IsUnforged ms m.node log) (authenticators_in p.0) → Within (texts_in p.0) all
+      → Trusted past → Trusted (p ∷ past)
+  one_step past p (Nothing did) checked unforged within g =
+      unfiled past p None None (stage_of past) did nothing_in nothing_in g.stage g
+  one_step past p (Notes a same did) checked unforged within g =
+      let learned : IsLearned ms m a = subst (IsCheckedStep ms m) same checked in
+      let free = subst (λ s. AllByRecursion (IsUnforged ms m.node log) (authenticators_in s)) same unforged in
+      unfiled past p (Some a) None (stage_of past) did
+      (noted_in (is_exposed ms m past) a (free.0 learned.node learned.signed)) nothing_in g.stage g
+  one_step past p (Accepts c same wanted did) checked unforged within g =
+      let given : IsGiven ms m c = subst (IsCheckedStep ms m) same checked in
+      let free = subst (λ s. AllByRecursion (IsUnforged ms m.node log) (authenticators_in s)) same unforged in
+      let first : c.segment.first ≡ (end_of ms m past).number + 1 =
+      subst (StageFits (end_of ms m past)) wanted g.stage in
+      let next = next_in (end_of ms m past) c given (free.0 given.node given.closed.signed)
+      (subst (λ s. Within (texts_in s) all) same within) first in
+      unfiled past p None (Some c) (Given c) did nothing_in next.1 next.0 g
+  one_step past p (Asks first last at few did) checked unforged within g =
+      unfiled past p None None (Wanted first last) did nothing_in nothing_in at g
+  one_step past p (Begins c at did) checked unforged within g =
+      unfiled past p None None (Out c) did nothing_in nothing_in (subst (StageFits (end_of ms m past)) at g.stage) g
+  one_step past p (PutsBack c at did) checked unforged within g =
+      unfiled past p None None (Given c) did nothing_in nothing_in (subst (StageFits (end_of ms m past)) at g.stage) g
+  one_step past p (Files j at did) checked unforged within g = files_on past p j at did g
+
+  all_parts : {A : Type 0} (P : A → Type 0) (xs ys : List A) → AllByRecursion P (xs ++ ys)
+      → AllByRecursion P xs × AllByRecursion P ys
+  all_parts P [] ys h = (tt, h)
+  all_parts P (x ∷ xs) ys h = let k = all_parts P xs ys h.1 in ((h.0, k.0), k.1)
+
+  trusted : (past : Past) (states : List State) → Honest ms (opening_of m) (placed 1 zeros log) states
+      → AreOwed ms m past → AreChecked ms m past
+      → AllByRecursion (IsUnforged ms m.node log) (flat_map (λ p. authenticators_in p.0) past)
+      → Within (flat_map (λ p. texts_in p.0) past) all → Trusted past
+  trusted [] states honest owed checked unforged within = record {
+    shown_in = λ q i. elim i [
+      | inl e ↦ subst (λ r. IsAmong r (log_pairs log)) (sym e) (head_among 0 zeros (links_from 1 log))
+      | inr j ↦ absurd j
+    ];
+    no_fault = refl;
+    reached = record {
+      before = [];
+      rest = log;
+      whole = refl;
+      count = refl;
+      states = states;
+      honest = honest;
+    };
+    stage = tt;
+  }
+  trusted (p ∷ past) states honest owed checked unforged within =
+      let parts = all_parts (IsUnforged ms m.node log) (authenticators_in p.0)
+      (flat_map (λ q. authenticators_in q.0) past) unforged in
+      let texts = flat_map (λ (q : Step × Reply). texts_in q.0) past in
+      one_step past p (doing ms m past p.0 p.1 owed.0) checked.0 parts.0
+      (λ t i. within t (left (texts_in p.0) texts t i))
+      (trusted past states honest owed.1 checked.1 parts.1
+      (λ t i. within t (right (texts_in p.0) texts t i)))
+
+  -- it isn't exposed
+  pub not_exposed : (past : Past) (states : List State) → Honest ms (opening_of m) (placed 1 zeros log) states
+      → AreOwed ms m past → AreChecked ms m past
+      → AllByRecursion (IsUnforged ms m.node log) (flat_map (λ p. authenticators_in p.0) past)
+      → Within (flat_map (λ p. texts_in p.0) past) all → is_exposed ms m past ≡ false
+  not_exposed past states honest owed checked unforged within =
+      let g = trusted past states honest owed checked unforged within in
+      or_from (has_fork (shown ms m past)) (has_fault ms m past)
+      (no_fork log one (shown ms m past) g.shown_in) g.no_fault

@@ -1,0 +1,104 @@
+-- An audit asks for numbers after the end, in order, and at most as many as may be asked for.
+-- Serves: Doing here; what_is_asked_can_be_answered (witness_nodes).
+use Rattle.std.proofs.Common.{◌≡◌, ◌⊎◌, inl, inr, ℕ, ◌+◌, ◌<◌, ◌≤◌, Bool, true, false, cond, ◌==◌, nat_le}
+use Rattle.std.proofs.Common.{nat_lt, max, List, [], ◌∷◌, map, filter, refl, sym, ap, subst, ◌∙◌, arith}
+use Rattle.std.specs.List.{AllByRecursion, fold}
+use Rattle.std.proofs.Math.Nat.{le-max_left, le-max_right, max-le}
+use Rattle.std.proofs.lemmas.Bool.{leb-true, leb-false, ltb-true, true≢false}
+use Rattle.authenticator.specs.declared.authenticator.Authenticator.{Authenticator}
+use Rattle.authenticator.specs.declared.member.Member.{Member}
+use Rattle.witness_spec.specs.evidence_spec.Showing.{IsAmong}
+use Rattle.witness_spec.specs.Limits.{MAX_ASKED}
+use Rattle.witness_spec.specs.Steps.{Past}
+use Rattle.witness_spec.specs.Standing.{end_of, kept, noted_before}
+use Rattle.witness_spec.specs.Owing.{last_in_reach}
+
+-- numbers in order, at most as many as one audit may ask for
+pub record IsInReach (first last : ℕ) : Type 0 where
+  -- they are in order
+  pub order : first ≤ last
+  -- they are at most `MAX_ASKED`
+  pub few : last < first + MAX_ASKED
+
+-- a number is that of an authenticator among these
+pub record IsNumberOf (learned : List Authenticator) (number : ℕ) : Type 0 where
+  -- the authenticator
+  pub authenticator : Authenticator
+  -- it is among these
+  pub among : IsAmong authenticator learned
+  -- it has the number
+  pub is : authenticator.number ≡ number
+
+-- none, or a number of these after an end that an audit can reach
+abbrev Reached : (all : List Authenticator) (end n : ℕ) → Type 0
+Reached all end n = (n ≡ 0) ⊎ ((end < n) × (n ≤ end + MAX_ASKED) × IsNumberOf all n)
+
+greater : (a b : ℕ) → (max a b ≡ a) ⊎ (max a b ≡ b)
+greater a b = by (nat_le a b) refl
+  where
+    by : (c : Bool) → nat_le a b ≡ c → (max a b ≡ a) ⊎ (max a b ≡ b)
+    by true e =
+        let le : a ≤ b = leb-true a b e in
+        let same : b ≤ b = omega arith in
+        inr (omega (arith, le-max_right a b, max-le {a = a} {b = b} {k = b} le same))
+    by false e =
+        let le : b ≤ a = omega (arith, leb-false a b e) in
+        let same : a ≤ a = omega arith in
+        inl (omega (arith, le-max_left a b, max-le {a = a} {b = b} {k = a} same le))
+
+module _ (all : List Authenticator) (end : ℕ) where
+  greater_reached : (a b : ℕ) → Reached all end a → Reached all end b → Reached all end (max a b)
+  greater_reached a b h k =
+      elim (greater a b) [
+        | inl e ↦ subst (Reached all end) (sym e) h
+        | inr e ↦ subst (Reached all end) (sym e) k
+      ]
+
+  all_reached : (n : ℕ) (learned : List Authenticator) → Reached all end n
+      → ((a : Authenticator) → IsAmong a learned → IsAmong a all) → AllByRecursion (λ a. end < a.number) learned
+      → Reached all end (fold max n (filter (λ k. nat_le k (end + MAX_ASKED)) (map (λ a. a.number) learned)))
+  all_reached n [] h within behind = h
+  all_reached n (a ∷ learned) h within behind =
+      by (nat_le a.number (end + MAX_ASKED)) refl
+      (filter (λ k. nat_le k (end + MAX_ASKED)) (map (λ b. b.number) learned))
+      (λ k r. all_reached k learned r (λ b i. within b (inr i)) behind.1)
+    where
+      by : (c : Bool) → nat_le a.number (end + MAX_ASKED) ≡ c → (rest : List ℕ)
+          → ((k : ℕ) → Reached all end k → Reached all end (fold max k rest))
+          → Reached all end (fold max n (cond c (a.number ∷ rest) rest))
+      by true e rest more =
+          more (max n a.number)
+          (greater_reached n a.number h
+          (inr (
+            behind.0,
+            leb-true a.number (end + MAX_ASKED) e,
+            record { authenticator = a; among = within a (inl refl); is = refl },
+          )))
+      by false e rest more = more n h
+
+  -- The greatest number in reach after an end, if there is one, ends an audit that is in reach, and is that of
+  -- one of these.
+  pub in_reach : (learned : List Authenticator) → ((a : Authenticator) → IsAmong a learned → IsAmong a all)
+      → AllByRecursion (λ a. end < a.number) learned → (last_in_reach end learned == 0) ≡ false
+      → IsInReach (end + 1) (last_in_reach end learned) × IsNumberOf all (last_in_reach end learned)
+  in_reach learned within behind some =
+      elim (all_reached 0 learned (inl refl) within behind) [
+        | inl e ↦ absurd (true≢false (sym (ap (λ n. n == 0) e) ∙ some))
+        | inr b ↦ (record { order = omega (arith, b.0); few = omega (arith, b.1) }, b.2)
+      ]
+
+after_end : (end : ℕ) (xs : List Authenticator)
+    → AllByRecursion (λ a. end < a.number) (filter (λ a. nat_lt end a.number) xs)
+after_end end [] = tt
+after_end end (a ∷ xs) = by (nat_lt end a.number) refl (filter (λ b. nat_lt end b.number) xs) (after_end end xs)
+  where
+    by : (c : Bool) → nat_lt end a.number ≡ c → (rest : List Authenticator)
+        → AllByRecursion (λ b. end < b.number) rest
+        → AllByRecursion (λ b. end < b.number) (cond c (a ∷ rest) rest)
+    by true e rest more = (ltb-true end a.number e, more)
+    by false e rest more = more
+
+-- All that is kept lies after the end.
+pub kept_after : (ms : List Member) (m : Member) (past : Past)
+    → AllByRecursion (λ a. (end_of ms m past).number < a.number) (kept ms m past)
+kept_after ms m past = after_end (end_of ms m past).number (noted_before ms m past)

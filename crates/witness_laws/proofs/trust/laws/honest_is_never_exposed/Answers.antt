@@ -1,0 +1,24 @@
+use Rattle.std.proofs.Common.{flat_map, ◌++◌, sym, ◌∙◌}
+use Rattle.std.proofs.lemmas.Bool.{true≢false}
+use Rattle.witness_spec.proofs.evidence_spec.Places.{one_hash, entries_numbered}
+use Rattle.witness_spec.proofs.evidence_spec.Texts.{left, right}
+use Rattle.secure_log.specs.LogEntries.Chain.{zeros, links_from}
+use Rattle.witness_spec.specs.evidence_spec.Proving.{log_texts}
+use Rattle.witness_spec.specs.Histories.{own}
+use Rattle.witness_spec.specs.Premises.{texts_in}
+use Rattle.witness_laws.proofs.OwnSteps.{own_owed}
+use Rattle.witness_laws.proofs.Checked.{own_checked}
+use Rattle.witness_laws.proofs.Exposing.{exposed_is}
+use Rattle.witness_laws.proofs.OfTrust.Trust.{not_exposed}
+use Rattle.witness_laws.proofs.trust.laws.honest_is_never_exposed.Goals as goal
+
+-- a node that the history tells exposed would be exposed by own steps that expose nobody
+pub returns : goal.returns
+returns c = λ ms m history log s member h is honest unforged unlike told.
+    let past = own ms m.node history in
+    let texts = flat_map (λ p. texts_in p.0) past in
+    true≢false (sym (exposed_is ms m past told)
+    ∙ not_exposed ms m log
+    (λ l n a b i j. one_hash 0 zeros (links_from 1 l) n a b (entries_numbered 1 l) i j) is
+    (log_texts log ++ texts) unlike (left (log_texts log) texts) past honest.states honest.honest
+    (own_owed ms m member history h) (own_checked ms m member history h) unforged (right (log_texts log) texts))

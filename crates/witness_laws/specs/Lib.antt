@@ -1,0 +1,2 @@
+pub use Rattle.witness_spec.specs.evidence_spec as evidence_spec
+pub use Rattle.witness_spec.specs as witness_spec

@@ -1,0 +1,3 @@
+//! What a node answers is accepted.
+
+pub mod laws;

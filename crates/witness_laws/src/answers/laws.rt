@@ -1,0 +1,15 @@
+//! Whoever answers a challenge closes it.
+
+ghost use Rattle.witness_spec.specs.Laws.{AnswersAreAccepted, AcksClose};
+
+/// The part of its log that a node was asked for, closed by its signature there, is the node's step, it is
+/// accepted, and after it no audit is open.
+pub fn answers_are_accepted()
+    ensures { AnswersAreAccepted }
+{}
+
+/// The acknowledgement of a message that a node is challenged with is the node's step, it closes the
+/// challenge, and after it none of that message is open.
+pub fn acknowledgements_close()
+    ensures { AcksClose }
+{}

@@ -1,0 +1,3 @@
+//! An honest node is never exposed.
+
+pub mod laws;

@@ -1,0 +1,182 @@
+-- What holds between nodes and witnesses. Each is the contract of a function in src/laws.rt.
+use Rattle.std.specs.Prelude.{◌≡◌, ◌≢◌, ◌↔◌, ℕ, IsSome, IsTrue, List, ◌∷◌, ◌++◌, Some, Ok}
+use Rattle.std.specs.List.{AllByRecursion}
+use Rattle.xdr.specs.Item.{IsBytes, number_spelling}
+use Rattle.xdr.specs.Texts.Text.{IsText}
+use Rattle.authenticator.specs.Roster.{IsRoster, member_of}
+use Rattle.authenticator.specs.Signed.{IsSignedBy}
+use Rattle.authenticator.specs.declared.member.Member.{Member}
+use Rattle.secure_log.specs.LogEntries.Chain.{NoCollision}
+use Rattle.secure_log.specs.Segment.{SegmentParts, segment_text, segment_value}
+use Rattle.envelopes.specs.Envelope.{envelope_message}
+use Rattle.envelopes.specs.Acknowledgement.{ack_shows, ack_text, ack_value}
+use Rattle.envelopes.specs.Checking.{IsTextOf}
+use Rattle.envelopes.specs.declared.envelope.Envelope.{Envelope}
+use Rattle.envelopes.specs.declared.acknowledgement.Ack.{Ack}
+use Rattle.secure_log.specs.declared.fault.SegmentFault.{SegmentFault}
+use Rattle.secure_log.specs.declared.fault.SegmentFault.TheVariants.{NoMemory}
+use Rattle.commitment.specs.Senders.Sender.{IsSender, signed_at}
+use Rattle.commitment.specs.Senders.LookUps.{ack_at}
+use Rattle.commitment.specs.Received.{IsReceiptAt}
+use Rattle.commitment.specs.Outcomes.{receipt_number}
+use Rattle.commitment.specs.declared.outcome.Received.{Received}
+use Rattle.nfs_items.specs.Timeval.{Timeval}
+use Rattle.node_logs.specs.Steps.Nodes.{NodeParts, log_of, sender_of}
+use Rattle.node_logs.specs.Nodes.{IsMemberOf}
+use Rattle.node_logs.specs.Challenges.{AnswersChallenge, RefusesChallenge}
+use Rattle.node_logs.specs.Hearing.{Hears}
+use Rattle.node_logs.specs.Sending.{TakesEnvelope}
+use Rattle.node_logs.specs.declared.outcome.Heard.{Heard}
+use Rattle.node_logs.specs.declared.outcome.Heard.TheVariants.{New, Repeat}
+use Rattle.witness_laws.specs.evidence_spec.Showing.{IsAmong}
+use Rattle.witness_laws.specs.evidence_spec.Proving.{log_texts}
+use Rattle.witness_laws.specs.witness_spec.Events.{PublicKey, Event, IsEvent}
+use Rattle.witness_laws.specs.witness_spec.Events as events
+use Rattle.witness_laws.specs.witness_spec.Replies.{Reply, SendOf, Exposed}
+use Rattle.witness_laws.specs.witness_spec.Whose.{is_key_of, whose}
+use Rattle.witness_laws.specs.witness_spec.Standing.{Wanted, stage_of, open_challenges, indication}
+use Rattle.witness_laws.specs.witness_spec.Histories.{History, own, IsOwed, IsHistory}
+use Rattle.witness_laws.specs.witness_spec.Premises.{Unforged, NoCollisionWith}
+use Rattle.witness_laws.specs.witness_spec.Laws.{AnswersAudit, ClosesChallenge}
+use Rattle.witness_nodes.specs.Logs.{IsListedAs, ShowsItsOwn}
+
+-- ---- who is never exposed
+
+-- A node is never exposed under its roster, where none of its signatures is forged and no two texts have one
+-- digest.
+abbrev pub IsNeverExposed : NodeParts → Type 0
+IsNeverExposed n =
+    (m : Member) (history : History)
+    → IsListedAs n m → member_of n.roster m.node ≡ Some m → IsHistory n.roster history
+    → Unforged n.roster m n.entries (own n.roster m.node history)
+    → NoCollisionWith n.entries (own n.roster m.node history)
+    → indication n.roster m (own n.roster m.node history) ≢ Exposed
+
+-- Nor is it where all that a witness was shown of its log is what the node itself showed, and no two texts of
+-- that log have one digest. Nothing is supposed of signatures.
+abbrev pub OwnWordsNeverExpose : NodeParts → Type 0
+OwnWordsNeverExpose n =
+    (m : Member) (history : History)
+    → IsListedAs n m → member_of n.roster m.node ≡ Some m → IsHistory n.roster history
+    → AllByRecursion (λ p. ShowsItsOwn n p.0) (own n.roster m.node history)
+    → NoCollision (log_texts n.entries)
+    → indication n.roster m (own n.roster m.node history) ≢ Exposed
+
+-- ---- bytes
+
+-- Bytes that are handed in are the same step as an event: the same replies are owed to both, and after both
+-- the node's own steps are the same.
+pub record IsSameStep (ms : List Member) (m : Member) (history : History) (bytes : List ℕ) (event : Event)
+    : Type 0 where
+  pub bound : IsEvent (events.Deliver bytes)
+  pub step : whose ms (events.Deliver bytes) ≡ whose ms event
+  pub owed : (reply : Reply)
+      → IsOwed ms history (events.Deliver bytes) reply ↔ IsOwed ms history event reply
+  pub own_steps : (reply : Reply)
+      → own ms m.node ((events.Deliver bytes, reply) ∷ history) ≡ own ms m.node ((event, reply) ∷ history)
+
+-- ---- who answers
+
+-- The bytes are the text of a segment that may be handed in, that answers the audit which is open and is
+-- accepted for it; and so are they as a packet, after its number.
+pub record IsAcceptedAnswer (ms : List Member) (m : Member) (history : History) (bytes : List ℕ)
+    : Type 0 where
+  pub segment : SegmentParts
+  pub text : IsText segment_text (segment_value segment) bytes
+  pub event : IsEvent (events.Answer (record { segment = segment; roster = ms }))
+  pub accepted : AnswersAudit ms m history (record { segment = segment; roster = ms })
+  pub packet : IsSameStep ms m history (number_spelling 4 3 ++ bytes)
+      (events.Answer (record { segment = segment; roster = ms }))
+
+-- Where an audit is open, a node that signed at the last number refuses the challenge with its numbers
+-- only where memory runs out.
+abbrev pub AskedCanBeAnswered : Type 0
+AskedCanBeAnswered =
+    (ms : List Member) (m : Member) (history : History) (n : NodeParts) (first last : ℕ)
+    (fault : SegmentFault)
+    → member_of ms m.node ≡ Some m → IsHistory ms history
+    → stage_of (own ms m.node history) ≡ Wanted first last
+    → IsSender (sender_of n) → IsSome (signed_at (sender_of n) last)
+    → RefusesChallenge n first last fault → fault ≡ NoMemory
+
+-- So it does where all that a witness was shown of its log is what the node itself showed: then an audit asks
+-- up to a number at which the node signed.
+abbrev pub OwnWordsCanBeAnswered : NodeParts → Type 0
+OwnWordsCanBeAnswered n =
+    (ms : List Member) (m : Member) (history : History) (first last : ℕ) (fault : SegmentFault)
+    → member_of ms m.node ≡ Some m → IsHistory ms history
+    → AllByRecursion (λ p. ShowsItsOwn n p.0) (own ms m.node history)
+    → stage_of (own ms m.node history) ≡ Wanted first last
+    → RefusesChallenge n first last fault → fault ≡ NoMemory
+
+-- What a node answers to the challenge with the numbers that an audit asked for is accepted, and closes it.
+abbrev pub AnswersOfNodesAreAccepted : Type 0
+AnswersOfNodesAreAccepted =
+    (ms : List Member) (m : Member) (history : History) (n : NodeParts) (first last : ℕ) (bytes : List ℕ)
+    → IsRoster ms → member_of ms m.node ≡ Some m → m.node ≡ n.node → IsMemberOf n m
+    → stage_of (own ms m.node history) ≡ Wanted first last
+    → AnswersChallenge n first last bytes → IsBytes bytes
+    → IsAcceptedAnswer ms m history bytes
+
+-- The acknowledgement that the RECV with a number makes closes a challenge, handed in with the node's key, or
+-- as a packet after its number.
+pub record AckCloses (ms : List Member) (m : Member) (history : History) (n : NodeParts) (number : ℕ)
+    : Type 0 where
+  pub ack : Ack
+  pub is : ack_at (sender_of n) number ≡ Some ack
+  pub signed : IsSignedBy m (ack_shows ack)
+  pub closes : (key : PublicKey) → IsTrue (is_key_of m key) → ClosesChallenge ms m history ack key
+  pub packet : (key : PublicKey) (text : List ℕ) → IsTrue (is_key_of m key)
+      → IsText ack_text (ack_value ack) text → IsBytes text
+      → IsSameStep ms m history (number_spelling 4 4 ++ text) (events.AckIn ack key)
+
+-- Where the RECV of a message stands in a node's log and the message is that of an open challenge, its
+-- acknowledgement closes the challenge.
+abbrev pub AcksOfNodesClose : Type 0
+AcksOfNodesClose =
+    (ms : List Member) (m : Member) (history : History) (n : NodeParts) (number : ℕ) (e : Envelope)
+    → member_of ms m.node ≡ Some m → m.node ≡ n.node → IsMemberOf n m → IsSender (sender_of n)
+    → IsReceiptAt (log_of n) (envelope_message e) number
+    → IsAmong (SendOf e) (open_challenges (own ms m.node history))
+    → AckCloses ms m history n number
+
+-- ---- what is received
+
+-- the number of the RECV of a message that a server heard
+abbrev pub heard_number : Heard → ℕ
+heard_number (New r) = r.ack
+heard_number (Repeat r) = r.ack
+
+-- The RECV of the message that a server heard, now or before, stands in its log at the number that it gives.
+abbrev pub HeardIsLogged : Type 0
+HeardIsLogged =
+    (n n' : NodeParts) (time : Timeval) (bytes : List ℕ) (e : Envelope) (h : Heard)
+    → Hears n time bytes (Ok h) n' → IsTextOf bytes e
+    → IsReceiptAt (log_of n') (envelope_message e) (heard_number h)
+
+-- The same of what a client receives.
+abbrev pub ReceivedIsLogged : Type 0
+ReceivedIsLogged =
+    (n n' : NodeParts) (bytes : List ℕ) (e : Envelope) (r : Received)
+    → TakesEnvelope n bytes (Ok r) n' → IsTextOf bytes e
+    → IsReceiptAt (log_of n') (envelope_message e) (receipt_number r)
+
+-- So the acknowledgement that a node gives of the envelope of an open challenge closes it: that of a server,
+-- and that of a client.
+abbrev pub HeardChallengesClose : Type 0
+HeardChallengesClose =
+    (ms : List Member) (m : Member) (history : History)
+    (n n' : NodeParts) (time : Timeval) (bytes : List ℕ) (e : Envelope) (h : Heard)
+    → member_of ms m.node ≡ Some m → m.node ≡ n'.node → IsMemberOf n' m → IsSender (sender_of n')
+    → IsTextOf bytes e → IsAmong (SendOf e) (open_challenges (own ms m.node history))
+    → Hears n time bytes (Ok h) n'
+    → AckCloses ms m history n' (heard_number h)
+
+abbrev pub ReceivedChallengesClose : Type 0
+ReceivedChallengesClose =
+    (ms : List Member) (m : Member) (history : History)
+    (n n' : NodeParts) (bytes : List ℕ) (e : Envelope) (r : Received)
+    → member_of ms m.node ≡ Some m → m.node ≡ n'.node → IsMemberOf n' m → IsSender (sender_of n')
+    → IsTextOf bytes e → IsAmong (SendOf e) (open_challenges (own ms m.node history))
+    → TakesEnvelope n bytes (Ok r) n'
+    → AckCloses ms m history n' (receipt_number r)

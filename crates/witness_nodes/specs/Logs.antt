@@ -1,0 +1,75 @@
+-- A node's own log, and what the node showed of it, as the laws on witnesses speak of them.
+use Rattle.std.specs.Prelude.{◌≡◌, ℕ, List, ◌++◌, Some}
+use Rattle.authenticator.specs.declared.authenticator.Authenticator.{Authenticator}
+use Rattle.authenticator.specs.declared.member.Kind.{Kind}
+use Rattle.authenticator.specs.declared.member.Kind.TheVariants as kinds
+use Rattle.authenticator.specs.declared.member.Member.{Member}
+use Rattle.secure_log.specs.declared.log_entries.entry.Entry.{Entry}
+use Rattle.secure_log.specs.Log.{log_pairs}
+use Rattle.secure_log.specs.Part.{with_closing}
+use Rattle.secure_log.specs.Segment.{SegmentParts}
+use Rattle.commitment.specs.Senders.Sender.{IsSender}
+use Rattle.commitment.specs.Senders.LookUps.{authenticator_at}
+use Rattle.state_spec.specs.State.{Machine, Server, Client}
+use Rattle.node_logs.specs.replay_spec.HonestLogs.{IsHonestLog}
+use Rattle.node_logs.specs.Steps.Nodes.{NodeParts, sender_of}
+use Rattle.node_logs.specs.Nodes.{IsMemberOf}
+use Rattle.node_logs.specs.Challenges.{AnswersChallenge}
+use Rattle.node_logs.specs.replay_spec.Opening.{opening_of}
+use Rattle.witness_laws.specs.evidence_spec.Showing.{IsAmong}
+use Rattle.witness_laws.specs.evidence_spec.Proving.{IsLog}
+use Rattle.witness_laws.specs.witness_spec.Steps.{Step, Learn, Answer}
+
+-- ---- its log
+
+-- what a node does, by its reference machine
+abbrev pub kind_of : Machine → Kind
+kind_of (Server w stage) = kinds.Server
+kind_of (Client clock) = kinds.Client
+
+-- A member of a roster is this node: by its number, by what it does, and by its key.
+pub record IsListedAs (n : NodeParts) (m : Member) : Type 0 where
+  pub node : m.node ≡ n.node
+  pub kind : m.kind ≡ kind_of n.state.machine
+  pub key : IsMemberOf n m
+
+-- The laws on witnesses speak of a node's log: its entries have texts and are fewer than 2^64, it is honest
+-- from the state that a member like this node begins with, and each authenticator that the node makes has its
+-- number and hash in it.
+pub record KeepsALog (n : NodeParts) : Type 0 where
+  pub is_log : IsLog n.entries
+  pub honest : (m : Member) → IsListedAs n m → IsHonestLog n.roster (opening_of m) n.entries n.state
+  pub shown : (number : ℕ) (a : Authenticator) → authenticator_at (sender_of n) number ≡ Some a
+      → IsAmong (a.number, a.hash) (log_pairs n.entries)
+
+-- ---- what it showed of it
+
+-- A node is an earlier one whose log went on.
+pub record WentOn (before n : NodeParts) : Type 0 where
+  pub sender : IsSender (sender_of before)
+  pub node : before.node ≡ n.node
+  pub rest : List Entry
+  pub entries : n.entries ≡ before.entries ++ rest
+
+-- A node made this authenticator, now or when its log was shorter.
+pub record IsHandedOut (n : NodeParts) (a : Authenticator) : Type 0 where
+  pub before : NodeParts
+  pub went_on : WentOn before n
+  pub number : ℕ
+  pub made : authenticator_at (sender_of before) number ≡ Some a
+
+-- It answered a challenge with this segment, now or when its log was shorter.
+pub record IsAnswered (n : NodeParts) (s : SegmentParts) : Type 0 where
+  pub before : NodeParts
+  pub went_on : WentOn before n
+  pub first : ℕ
+  pub last : ℕ
+  pub bytes : List ℕ
+  pub answers : AnswersChallenge before first last bytes
+  pub is : s ≡ with_closing answers.answer.part answers.answer.closing
+
+-- What a step shows of a node's log, the node showed itself.
+abbrev pub ShowsItsOwn : NodeParts → Step → Type 0
+ShowsItsOwn n (Learn a) = IsHandedOut n a
+ShowsItsOwn n (Answer c) = IsAnswered n c.segment
+ShowsItsOwn n _ = Unit {0}

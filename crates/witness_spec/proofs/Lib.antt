@@ -1,0 +1,2 @@
+pub use Rattle.evidence_spec.proofs as evidence_spec
+pub use Rattle.evidence_spec.proofs.replay_spec as replay_spec

@@ -1,0 +1,85 @@
+-- The evidence against a node: that of the first step that exposes it.
+use Rattle.std.specs.Prelude.{ℕ, ◌==◌, ◌&&◌, nat_le, List, [], ◌∷◌, ◌++◌, find}
+use Rattle.std.specs.Prelude.{Option, Some, None, option_map, option_and_then, if◌then◌else◌}
+use Rattle.authenticator.specs.declared.authenticator.Authenticator.{Authenticator}
+use Rattle.authenticator.specs.declared.member.Member.{Member}
+use Rattle.secure_log.specs.LogEntries.Chain.{zeros}
+use Rattle.secure_log.specs.Segment.{SegmentParts, ClosedParts, segment_pairs}
+use Rattle.evidence_spec.specs.replay_spec.Replay.{Verdict, Sound, Fault}
+use Rattle.evidence_spec.specs.Showing.{ShowingParts, authenticator_showing, segment_showing}
+use Rattle.evidence_spec.specs.Evidence.{Charge, Fork, Replay, EvidenceParts}
+use Rattle.witness_spec.specs.Events.{JobParts}
+use Rattle.witness_spec.specs.Replies.{Reply}
+use Rattle.witness_spec.specs.Steps.{Step, Past}
+use Rattle.witness_spec.specs.Pairs.{Pair, pair_of, first_fork}
+use Rattle.witness_spec.specs.Done.{noted, accepted, filed}
+use Rattle.witness_spec.specs.Standing.{end_of, audited, shown, is_exposed, kept, all_accepted, verdict_on}
+
+-- ---- what showed a hash at a number before
+
+-- the segment that holds a place, from its first number to its last
+abbrev pub segment_holding : (number : ℕ) → List SegmentParts → Option SegmentParts
+segment_holding number segments =
+    find (λ s. nat_le s.first number && nat_le number s.closing.number) segments
+
+-- the showing of an authenticator, if there is one, else of a segment, if there is one
+abbrev pub or_segment : Option Authenticator → Option SegmentParts → Option ShowingParts
+or_segment (Some a) segment = Some (authenticator_showing a)
+or_segment None segment = option_map segment_showing segment
+
+-- the learned authenticator that is kept at the number, else the accepted segment that holds the place
+abbrev pub showing_before : List Authenticator → List SegmentParts → (number : ℕ) → Option ShowingParts
+showing_before learned segments number =
+    or_segment (find (λ a. a.number == number) learned) (segment_holding number segments)
+
+-- ---- the evidence
+
+-- A showing that shows another hash at a number is a fork with what showed one there before; at 0 alone,
+-- since every log has zeros there.
+abbrev pub fork_of : List Authenticator → List SegmentParts → (new : ShowingParts) (number : ℕ)
+    → Option Charge
+fork_of learned segments new number =
+    if number == 0 then Some (Fork (record { at = 0; a = new; b = None }))
+    else option_map (λ old. Fork (record { at = number; a = old; b = Some new }))
+    (showing_before learned segments number)
+
+-- the fork that a new showing makes with what a node showed, at the least number
+abbrev pub new_fork : List Member → Member → Past → ShowingParts → List Pair → Option Charge
+new_fork ms m past new pairs =
+    option_and_then (fork_of (kept ms m past) (all_accepted past) new) (first_fork pairs (shown ms m past))
+
+-- all audited entries and those of a segment, with its closing
+abbrev pub audited_with : List Member → Member → Past → SegmentParts → SegmentParts
+audited_with ms m past s = record {
+  node = m.node;
+  first = 1;
+  opening = zeros;
+  entries = audited ms m past ++ s.entries;
+  closing = s.closing;
+}
+
+-- what a replay's fault is shown by
+abbrev pub replay_of : List Member → Member → Past → SegmentParts → Verdict → Option Charge
+replay_of ms m past s (Sound t found) = None
+replay_of ms m past s (Fault fault number) = Some (Replay (audited_with ms m past s))
+
+abbrev pub charge_of : List Member → Member → Past
+    → Option Authenticator → Option ClosedParts → Option JobParts → Option Charge
+charge_of ms m past (Some a) segment job = new_fork ms m past (authenticator_showing a) (pair_of a ∷ [])
+charge_of ms m past None (Some c) job =
+    new_fork ms m past (segment_showing c.segment) (segment_pairs c.segment)
+charge_of ms m past None None (Some j) =
+    replay_of ms m past j.segment.segment (verdict_on ms (end_of ms m past).state j)
+charge_of ms m past None None None = None
+
+-- what a step shows against the node
+abbrev pub new_charge : List Member → Member → Past → Step → Reply → Option Charge
+new_charge ms m past step reply =
+    charge_of ms m past (noted step reply) (accepted step reply) (filed step reply)
+
+-- The evidence against the node, if it is exposed: the first that there was.
+abbrev pub evidence : List Member → Member → Past → Option EvidenceParts
+evidence ms m [] = None
+evidence ms m (p ∷ past) =
+    if is_exposed ms m past then evidence ms m past
+    else option_map (λ g. record { node = m.node; charge = g }) (new_charge ms m past p.0 p.1)

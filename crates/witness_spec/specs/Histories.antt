@@ -1,0 +1,116 @@
+-- Histories: what was handed to a witness, with its replies, the newest first; and what its books hold after
+-- one.
+use Rattle.std.specs.Prelude.{◌≡◌, ◌⊎◌, ◌↔◌, ℕ, ◌==◌, List, [], ◌∷◌, ◌++◌}
+use Rattle.std.specs.Prelude.{Option, Result, Ok, Err, if◌then◌else◌}
+use Rattle.authenticator.specs.declared.authenticator.Authenticator.{Authenticator}
+use Rattle.authenticator.specs.declared.member.Member.{Member}
+use Rattle.secure_log.specs.Segment.{SegmentParts}
+use Rattle.evidence_spec.specs.Showing.{IsAmong}
+use Rattle.evidence_spec.specs.Evidence.{EvidenceParts}
+use Rattle.witness_spec.specs.Refusals.{Refusal, NoMemory}
+use Rattle.witness_spec.specs.Events.{Event, Question, ItsIndication, ItsChallenges, ItsEvidence, IsEvent}
+use Rattle.witness_spec.specs.Events as events
+use Rattle.witness_spec.specs.Replies.{Reply, refused, is_want_of_memory, Challenge}
+use Rattle.witness_spec.specs.Steps.{OwnStep, Past}
+use Rattle.witness_spec.specs.Whose.{whose}
+use Rattle.witness_spec.specs.Pairs.{Pair}
+use Rattle.witness_spec.specs.Standing.{End, end_of, shown, kept, Stage, stage_of, begins, open_challenges}
+use Rattle.witness_spec.specs.Standing.{outbox, all_accepted}
+use Rattle.witness_spec.specs.Exposing.{evidence}
+use Rattle.witness_spec.specs.Owing.{Owes}
+
+-- events with their replies, the newest first
+abbrev pub History : Type 0
+History = List (Event × Reply)
+
+-- ---- own steps
+
+-- a step with its reply, if it is this node's
+abbrev pub own_step : (node : ℕ) → Result OwnStep Refusal → Reply → Past
+own_step node (Err refusal) reply = []
+own_step node (Ok o) reply = if o.member.node == node then (o.step, reply) ∷ [] else []
+
+-- A step that was answered as out of memory is nobody's.
+abbrev pub own_one : List Member → (node : ℕ) → Event × Reply → Past
+own_one ms node p = if is_want_of_memory p.1 then [] else own_step node (whose ms p.0) p.1
+
+-- a node's own steps in a history
+abbrev pub own : List Member → (node : ℕ) → History → Past
+own ms node [] = []
+own ms node (p ∷ history) = own_one ms node p ++ own ms node history
+
+-- ---- histories
+
+-- the reply that is owed to an event: by event and roster alone where it is nobody's step
+abbrev pub OwesTo : List Member → History → Event → Reply → Result OwnStep Refusal → Type 0
+OwesTo ms history event reply (Err refusal) = reply ≡ refused event refusal
+OwesTo ms history event reply (Ok o) = Owes ms o.member (own ms o.member.node history) o.step reply
+
+-- the reply is the one that is owed to the event, whose step it is told by the roster
+abbrev pub IsOwed : List Member → History → Event → Reply → Type 0
+IsOwed ms history event reply = OwesTo ms history event reply (whose ms event)
+
+-- It may run out of memory: neither an indication that is asked for does, nor a job that is put back.
+abbrev pub MayWant : Event → Type 0
+MayWant (events.PutBack j) = ⊥
+MayWant (events.Ask node ItsIndication) = ⊥
+MayWant _ = Unit {0}
+
+-- An event is refused as out of memory.
+pub record IsWanting (event : Event) (reply : Reply) : Type 0 where
+  pub may : MayWant event
+  pub is : reply ≡ refused event NoMemory
+
+-- Each event is one that can be handed in, and each reply is the one that is owed after the earlier events,
+-- or the refusal of an event that ran out of memory.
+abbrev pub IsHistory : List Member → History → Type 0
+IsHistory ms [] = Unit {0}
+IsHistory ms (p ∷ history) =
+    IsEvent p.0 × (IsOwed ms history p.0 p.1 ⊎ IsWanting p.0 p.1) × IsHistory ms history
+
+-- the same of one node's own steps
+abbrev pub AreOwed : List Member → Member → Past → Type 0
+AreOwed ms m [] = Unit {0}
+AreOwed ms m (p ∷ past) = Owes ms m past p.0 p.1 × AreOwed ms m past
+
+-- ---- books
+
+-- what a book holds of its node
+pub record BookParts : Type 0 where
+  pub end : End
+  pub stage : Stage
+  pub begun : ℕ
+  pub pairs : List Pair
+  pub learned : List Authenticator
+  pub challenges : List Challenge
+  pub outbox : List Authenticator
+  pub segments : List SegmentParts
+  pub evidence : Option EvidenceParts
+
+-- The lists hold the same.
+abbrev pub HoldSame : {A : Type 0} → List A → List A → Type 0
+HoldSame {A} xs ys = (x : A) → IsAmong x xs ↔ IsAmong x ys
+
+-- A book holds what a node's own steps say.
+pub record StandsFor (ms : List Member) (m : Member) (past : Past) (b : BookParts) : Type 0 where
+  pub end : b.end ≡ end_of ms m past
+  pub stage : b.stage ≡ stage_of past
+  pub begun : b.begun ≡ begins past
+  pub pairs : HoldSame b.pairs (shown ms m past)
+  pub learned : HoldSame b.learned (kept ms m past)
+  pub challenges : b.challenges ≡ open_challenges past
+  pub outbox : b.outbox ≡ outbox ms m past
+  pub segments : HoldSame b.segments (all_accepted past)
+  pub evidence : b.evidence ≡ evidence ms m past
+
+-- There is a book for each of these members, that holds what the member's own steps in a history say.
+abbrev pub StandEach : List Member → History → List Member → List BookParts → Type 0
+StandEach ms history [] [] = Unit {0}
+StandEach ms history [] (b ∷ books) = ⊥
+StandEach ms history (m ∷ members) [] = ⊥
+StandEach ms history (m ∷ members) (b ∷ books) =
+    StandsFor ms m (own ms m.node history) b × StandEach ms history members books
+
+-- The books of a roster stand for a history.
+abbrev pub Stands : List Member → List BookParts → History → Type 0
+Stands ms books history = StandEach ms history ms books

@@ -1,0 +1,254 @@
+-- What one node's own steps say of it. The steps are listed with their replies, the newest first; `m` is the
+-- node's member of the roster `ms`.
+use Rattle.std.specs.Prelude.{ℕ, Bool, true, false, not, ◌&&◌, ◌||◌, ◌==◌, nat_lt, List, [], ◌∷◌, ◌++◌}
+use Rattle.std.specs.Prelude.{filter, drop, count_by, Option, Some, None, is_some}
+use Rattle.std.specs.Prelude.{if◌then◌else◌}
+use Rattle.std.specs.List.{list_any}
+use Rattle.sha2.specs.Sha256.{sha256}
+use Rattle.authenticator.specs.declared.authenticator.Authenticator.{Authenticator}
+use Rattle.authenticator.specs.declared.member.Member.{Member}
+use Rattle.secure_log.specs.declared.log_entries.entry.Entry.{Entry}
+use Rattle.secure_log.specs.declared.log_entries.entry.Entry.TheVariants as entries
+use Rattle.secure_log.specs.LogEntries.Messages.{message_hash}
+use Rattle.secure_log.specs.Segment.{SegmentParts, ClosedParts, segment_pairs}
+use Rattle.envelopes.specs.Envelope.{envelope_message}
+use Rattle.envelopes.specs.Acknowledgement.{acked_message}
+use Rattle.envelopes.specs.declared.message.Message.{Message}
+use Rattle.state_spec.specs.State.{State}
+use Rattle.evidence_spec.specs.replay_spec.Opening.{opening_of}
+use Rattle.authenticator.specs.Signing.{is_same}
+use Rattle.evidence_spec.specs.replay_spec.Replay.{Verdict, Sound, Fault, segment_verdict}
+use Rattle.witness_spec.specs.Events.{JobParts}
+use Rattle.witness_spec.specs.Replies.{Reply, Challenge, AuditOf, SendOf}
+use Rattle.witness_spec.specs.Replies.{Indication, Trusted, Suspected, Exposed}
+use Rattle.witness_spec.specs.Replies as replies
+use Rattle.witness_spec.specs.Steps.{Step, Past}
+use Rattle.witness_spec.specs.Steps as steps
+use Rattle.witness_spec.specs.Pairs.{Pair, pair_of, first_pair, has_fork}
+use Rattle.witness_spec.specs.Done.{noted, accepted, begun, filed, forwarded}
+
+-- ---- what was audited
+
+-- the last number of the last segment that was filed Sound, and the state there
+pub record End : Type 0 where
+  pub number : ℕ
+  pub state : State
+
+-- the segment of a job, if there is one, and what a replay of it finds after a state
+abbrev pub verdict_on : List Member → State → JobParts → Verdict
+verdict_on ms s j = segment_verdict ms s j.segment.segment
+
+-- a verdict on a segment with this last number moves the end
+abbrev pub moved_by : End → (last : ℕ) → Verdict → End
+moved_by end last (Sound s found) = record { number = last; state = s }
+moved_by end last (Fault fault number) = end
+
+-- the end after a job that may have been filed
+abbrev pub end_after : List Member → End → Option JobParts → End
+end_after ms end None = end
+end_after ms end (Some j) = moved_by end j.segment.segment.closing.number (verdict_on ms end.state j)
+
+-- At first it is 0, with the state that the node begins with.
+abbrev pub end_of : List Member → Member → Past → End
+end_of ms m [] = record { number = 0; state = opening_of m }
+end_of ms m (p ∷ past) = end_after ms (end_of ms m past) (filed p.0 p.1)
+
+-- A verdict is a fault: no list of states makes the segment honest.
+abbrev pub is_fault : Verdict → Bool
+is_fault (Sound s found) = false
+is_fault (Fault fault number) = true
+
+-- a job that may have been filed has a fault
+abbrev pub finds_fault : List Member → State → Option JobParts → Bool
+finds_fault ms s None = false
+finds_fault ms s (Some j) = is_fault (verdict_on ms s j)
+
+-- some File was answered Filed for a segment that no list of states makes honest
+abbrev pub has_fault : List Member → Member → Past → Bool
+has_fault ms m [] = false
+has_fault ms m (p ∷ past) =
+    finds_fault ms (end_of ms m past).state (filed p.0 p.1) || has_fault ms m past
+
+-- the entries of a segment that is found sound
+abbrev pub sound_entries : List Entry → Verdict → List Entry
+sound_entries entries (Sound s found) = entries
+sound_entries entries (Fault fault number) = []
+
+-- the entries of a job that may have been filed, where it is sound
+abbrev pub entries_filed : List Member → State → Option JobParts → List Entry
+entries_filed ms s None = []
+entries_filed ms s (Some j) = sound_entries j.segment.segment.entries (verdict_on ms s j)
+
+-- all entries that were audited: those of the segments filed Sound, in order
+abbrev pub audited : List Member → Member → Past → List Entry
+audited ms m [] = []
+audited ms m (p ∷ past) = audited ms m past ++ entries_filed ms (end_of ms m past).state (filed p.0 p.1)
+
+-- ---- what was shown
+
+-- the pairs of an authenticator that was noted while the node wasn't exposed
+abbrev pub pairs_noted : (was_exposed : Bool) → Option Authenticator → List Pair
+pairs_noted was_exposed None = []
+pairs_noted true (Some a) = []
+pairs_noted false (Some a) = pair_of a ∷ []
+
+-- the pairs of a segment that was accepted
+abbrev pub pairs_accepted : Option ClosedParts → List Pair
+pairs_accepted None = []
+pairs_accepted (Some c) = segment_pairs c.segment
+
+-- What was shown: the pair before the first entry, those of each segment that was accepted, and of each
+-- authenticator that was noted while the node wasn't yet exposed.
+abbrev pub shown : List Member → Member → Past → List Pair
+shown ms m [] = first_pair ∷ []
+shown ms m (p ∷ past) =
+    pairs_noted (has_fork (shown ms m past) || has_fault ms m past) (noted p.0 p.1)
+    ++ (pairs_accepted (accepted p.0 p.1) ++ shown ms m past)
+
+-- One number has two hashes among what was shown, or a segment was filed that isn't honest.
+abbrev pub is_exposed : List Member → Member → Past → Bool
+is_exposed ms m past = has_fork (shown ms m past) || has_fault ms m past
+
+-- ---- what is kept
+
+-- an authenticator that was noted, unless the node is exposed
+abbrev pub unless_exposed : Bool → Option Authenticator → List Authenticator
+unless_exposed exposed None = []
+unless_exposed true (Some a) = []
+unless_exposed false (Some a) = a ∷ []
+
+-- those that were noted before the exposing step
+abbrev pub noted_before : List Member → Member → Past → List Authenticator
+noted_before ms m [] = []
+noted_before ms m (p ∷ past) =
+    unless_exposed (is_exposed ms m (p ∷ past)) (noted p.0 p.1) ++ noted_before ms m past
+
+-- of these, those with numbers above the end
+abbrev pub kept : List Member → Member → Past → List Authenticator
+kept ms m past = filter (λ a. nat_lt (end_of ms m past).number a.number) (noted_before ms m past)
+
+-- the segments that were accepted, the newest first
+abbrev pub segment_of : Option ClosedParts → List SegmentParts
+segment_of None = []
+segment_of (Some c) = c.segment ∷ []
+
+-- all segments that were accepted, the newest first
+abbrev pub all_accepted : Past → List SegmentParts
+all_accepted [] = []
+all_accepted (p ∷ past) = segment_of (accepted p.0 p.1) ++ all_accepted past
+
+-- ---- the audit
+
+-- How far an audit is: there is none; a segment is asked for; one is given; a job of it is out.
+pub data Stage : Type 0 where
+  NoAudit : Stage
+  Wanted : (first last : ℕ) → Stage
+  Given : ClosedParts → Stage
+  Out : ClosedParts → Stage
+
+-- the audit's stage after a step with its reply
+abbrev pub stage_after : Stage → Step → Reply → Stage
+stage_after stage steps.Audit (replies.Asked first last) = Wanted first last
+stage_after stage (steps.Answer c) replies.Accepted = Given c
+stage_after stage steps.Begin (replies.Job j) = Out j.segment
+stage_after stage (steps.PutBack j) replies.Returned = Given j.segment
+stage_after stage (steps.File d) replies.Filed = NoAudit
+stage_after stage _ _ = stage
+
+-- It is told by the last successful Audit, Answer, Begin, PutBack or File.
+abbrev pub stage_of : Past → Stage
+stage_of [] = NoAudit
+stage_of (p ∷ past) = stage_after (stage_of past) p.0 p.1
+
+-- how many jobs were begun
+abbrev pub begins : Past → ℕ
+begins past = count_by (λ p. is_some (begun p.0 p.1)) past
+
+-- The job of a segment: it has the number of the last Begin and the end's state.
+abbrev pub job_of : List Member → Member → Past → ClosedParts → JobParts
+job_of ms m past c =
+    record { node = m.node; number = begins past; state = (end_of ms m past).state; segment = c }
+
+-- the job that is out
+abbrev pub out_at : List Member → Member → Past → Stage → Option JobParts
+out_at ms m past NoAudit = None
+out_at ms m past (Wanted first last) = None
+out_at ms m past (Given c) = None
+out_at ms m past (Out c) = Some (job_of ms m past c)
+
+-- the job that is out, if one is
+abbrev pub job_out : List Member → Member → Past → Option JobParts
+job_out ms m past = out_at ms m past (stage_of past)
+
+-- ---- open challenges
+
+-- two messages are the same
+abbrev pub same_message : Message → Message → Bool
+same_message a b = (a.from == b.from) && ((a.seq == b.seq) && is_same a.hash b.hash)
+
+-- an entry in the log of `node` is the RECV of a message
+abbrev pub is_recv_of : (node : ℕ) → Message → Entry → Bool
+is_recv_of node message (entries.Send to body) = false
+is_recv_of node message (entries.Recv from seq prev body signature) =
+    same_message message (record { from = from; seq = seq; hash = message_hash node seq prev (sha256 body) })
+is_recv_of node message (entries.Ack to seq mine number prev signature) = false
+is_recv_of node message (entries.Clock seconds microseconds) = false
+is_recv_of node message (entries.Check digest) = false
+
+-- a segment answers the audit, and each send challenge whose message a RECV in it has
+abbrev pub is_answered : SegmentParts → Challenge → Bool
+is_answered s (AuditOf first last) = true
+is_answered s (SendOf e) = list_any (is_recv_of s.node (envelope_message e)) s.entries
+
+-- a challenge is to acknowledge a message
+abbrev pub is_send_of : Message → Challenge → Bool
+is_send_of message (AuditOf first last) = false
+is_send_of message (SendOf e) = same_message message (envelope_message e)
+
+-- the open challenges after a step with its reply
+abbrev pub open_after : List Challenge → Step → Reply → List Challenge
+open_after old steps.Audit (replies.Asked first last) = old ++ AuditOf first last ∷ []
+open_after old (steps.SendChallenge e) replies.Opened = old ++ SendOf e ∷ []
+open_after old (steps.Answer c) replies.Accepted = filter (λ x. not (is_answered c.segment x)) old
+open_after old (steps.AckIn a) replies.Closed = filter (λ x. not (is_send_of (acked_message a) x)) old
+open_after old _ _ = old
+
+-- the challenges that were accepted and not answered since, in order
+abbrev pub open_challenges : Past → List Challenge
+open_challenges [] = []
+open_challenges (p ∷ past) = open_after (open_challenges past) p.0 p.1
+
+-- a node without evidence is Suspected where a challenge is open, else Trusted
+abbrev pub without_evidence : List Challenge → Indication
+without_evidence [] = Trusted
+without_evidence (x ∷ xs) = Suspected
+
+-- What is said of the node.
+abbrev pub indication : List Member → Member → Past → Indication
+indication ms m past =
+    if is_exposed ms m past then Exposed else without_evidence (open_challenges past)
+
+-- ---- the outbox
+
+-- what a sound replay found
+abbrev pub sound_found : Verdict → List Authenticator
+sound_found (Sound s found) = found
+sound_found (Fault fault number) = []
+
+-- what the replay of a job that may have been filed found
+abbrev pub found_filed : List Member → State → Option JobParts → List Authenticator
+found_filed ms s None = []
+found_filed ms s (Some j) = sound_found (verdict_on ms s j)
+
+-- what the segments filed Sound show of other nodes' logs, in order
+abbrev pub all_found : List Member → Member → Past → List Authenticator
+all_found ms m [] = []
+all_found ms m (p ∷ past) = all_found ms m past ++ found_filed ms (end_of ms m past).state (filed p.0 p.1)
+
+-- how many were forwarded
+abbrev pub forwards : Past → ℕ
+forwards past = count_by (λ p. is_some (forwarded p.0 p.1)) past
+
+-- what is still to be forwarded, the oldest first
+abbrev pub outbox : List Member → Member → Past → List Authenticator
+outbox ms m past = drop (forwards past) (all_found ms m past)

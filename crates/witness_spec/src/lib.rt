@@ -1,0 +1,4 @@
+//! What a witness may say of a node, and what it answers, as definitions.
+#![tactic(auto)]
+
+pub use evidence_spec as evidence_spec_code;

@@ -1,0 +1,2 @@
+-- Lemmas on texts that are read whole. Serves: `texts`.
+pub mod WholeTexts

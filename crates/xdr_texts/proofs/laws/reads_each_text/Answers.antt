@@ -1,8 +1,0 @@
-use Rattle.xdr_texts.proofs.WholeTexts.{is_text, one_text}
-use Rattle.xdr_texts.proofs.laws.reads_each_text.Goals as goal
-
-pub returns-clause-exact : goal.returns-clause-exact
-returns-clause-exact c = is_text
-
-pub returns-clause-one_value : goal.returns-clause-one_value
-returns-clause-one_value c = one_text
