@@ -10,7 +10,7 @@ use secure_log::log_entries::{Body, Entry};
 use secure_log::{ClosedSegment, Log, check_segment};
 use std::alloc::Global;
 use test_helpers::MASTER;
-use xdr::{FromXdr, ReadError, Reader, XdrFault};
+use xdr::{FromXdr, ReadFault, Reader, XdrFault};
 
 /// How often a key signs a digest before it is used up, each time by the next leaf.
 fn signings(signer: &mut Signer, height: u32) -> Option<u32> {
@@ -98,7 +98,7 @@ fn is_too_long(alloc: Global) -> bool {
     match longer_text(alloc) {
         Some(text) => match Entry::read(alloc, &mut Reader::new(&text)) {
             Ok(_) => false,
-            Err(error) => matches!(&error, ReadError::Fault(XdrFault::TooLong)),
+            Err(error) => matches!(&error, ReadFault::Fault(XdrFault::TooLong)),
         },
         None => false,
     }

@@ -3,7 +3,7 @@
 use authenticator::{Authenticator, Kind, Member, Number, Roster, signed_digest};
 use merkle_keys::Signer;
 use replay::{
-    FreeMachine, Machine, ReplayFault, ServerMachine, StepError, Verdict, opening_state, replay,
+    FreeMachine, Machine, ReplayFault, ServerMachine, StepFault, Verdict, opening_state, replay,
     replay_entries,
 };
 use secure_log::log_entries::{Body, Entry, SignatureText, message_hash};
@@ -282,14 +282,14 @@ const SERVER: Member = Member {
 };
 
 /// The first step of a server, which reads its clock: the bytes of its text after it, and what it answers.
-fn server_step(alloc: Global, roster: &Roster) -> Result<(usize, Option<StepError>), AllocError> {
+fn server_step(alloc: Global, roster: &Roster) -> Result<(usize, Option<StepFault>), AllocError> {
     let mut machine = ServerMachine::new(opening_state(alloc, &SERVER)?);
     let answer = machine.step(alloc, roster, Number::new(1), &[0; 32], &clock(1, 0));
     Ok((machine.text(alloc)?.len(), answer.err()))
 }
 
 /// The same of a client.
-fn client_step(alloc: Global, roster: &Roster) -> Result<(usize, Option<StepError>), AllocError> {
+fn client_step(alloc: Global, roster: &Roster) -> Result<(usize, Option<StepFault>), AllocError> {
     let client = Member {
         kind: Kind::Client,
         ..SERVER
@@ -303,7 +303,7 @@ fn client_step(alloc: Global, roster: &Roster) -> Result<(usize, Option<StepErro
 fn machines(rt: HostRuntime) -> Result<(), Fail> {
     let roster = Roster::new(Vec::new(rt.alloc()))?;
     let (_, answer) = server_step(rt.alloc(), &roster)?;
-    assert_eq!(rt; answer, Some(StepError::Fault(ReplayFault::BadForm)));
+    assert_eq!(rt; answer, Some(StepFault::Fault(ReplayFault::BadForm)));
     let (_, answer) = client_step(rt.alloc(), &roster)?;
     assert_eq!(rt; answer, None);
     Ok(())

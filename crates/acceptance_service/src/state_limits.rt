@@ -2,7 +2,7 @@
 
 use crate::limits::name;
 use crate::state_texts::kind_of;
-use checkpoint::StateError;
+use checkpoint::StateFault;
 use std::alloc::Global;
 use std::test::Fail;
 use test_helpers::{of_text, push_text, push_words};
@@ -113,7 +113,7 @@ fn blocks(alloc: Global, bytes: u32) -> Result<Vec<u8>, Fail> {
 /// Each limit on messages at its bound, and one past it.
 #[test]
 fn limits_on_messages(rt: HostRuntime) -> Result<(), Fail> {
-    let garbage = Some(StateError::Garbage);
+    let garbage = Some(StateFault::Garbage);
     assert_eq!(rt; kind_of(&rt, &received(rt.alloc(), 131_072)?)?, None);
     assert_eq!(rt; kind_of(&rt, &received(rt.alloc(), 131_073)?)?, garbage);
     assert_eq!(rt; kind_of(&rt, &sent(rt.alloc(), 131_072)?)?, None);
@@ -124,8 +124,8 @@ fn limits_on_messages(rt: HostRuntime) -> Result<(), Fail> {
 /// Each limit of a server at its bound, and one past it.
 #[test]
 fn limits_of_a_server(rt: HostRuntime) -> Result<(), Fail> {
-    let garbage = Some(StateError::Garbage);
-    let none = Some(StateError::NotAState);
+    let garbage = Some(StateFault::Garbage);
+    let none = Some(StateFault::NotAState);
     assert_eq!(rt; kind_of(&rt, &mounted(rt.alloc(), 40)?)?, None);
     assert_eq!(rt; kind_of(&rt, &mounted(rt.alloc(), 41)?)?, garbage);
     assert_eq!(rt; kind_of(&rt, &files(rt.alloc(), 8_192)?)?, None);

@@ -2,7 +2,7 @@
 //! each row a name stands before the words of the text.
 
 use checkpoint::state_machine_code::State;
-use checkpoint::{StateError, read_state, state_digest, state_text};
+use checkpoint::{StateFault, read_state, state_digest, state_text};
 use std::alloc::AllocGlobal;
 use std::process::Abort;
 use std::test::Fail;
@@ -105,7 +105,7 @@ a directory of 1,025 bytes: 1 1 1 0*5 2 1 1 6d000000 401 2f2f2f2f*256 2f000000 1
 ";
 
 /// What a text is.
-pub fn kind_of(rt: &(impl Abort + AllocGlobal), bytes: &[u8]) -> Result<Option<StateError>, Fail> {
+pub fn kind_of(rt: &(impl Abort + AllocGlobal), bytes: &[u8]) -> Result<Option<StateFault>, Fail> {
     match read_state(rt.alloc(), bytes) {
         Ok(state) => {
             let text = state_text(rt.alloc(), &state)?;
@@ -120,7 +120,7 @@ pub fn kind_of(rt: &(impl Abort + AllocGlobal), bytes: &[u8]) -> Result<Option<S
 fn are_all(
     rt: &(impl Abort + AllocGlobal),
     rows: &str,
-    kind: Option<StateError>,
+    kind: Option<StateFault>,
 ) -> Result<(), Fail> {
     for row in rows.lines() {
         if let Some((name, words)) = row.split_once(':') {
@@ -157,15 +157,15 @@ const EXCHANGED: &str = "1 1 1 0*5 3 0 2
 /// These are no states, and that text a byte shorter or a byte longer is Garbage.
 #[test]
 fn the_opening_state_changed(rt: HostRuntime) -> Result<(), Fail> {
-    let none = Some(StateError::NotAState);
+    let none = Some(StateFault::NotAState);
     assert_eq!(rt; kind_of(&rt, &of_text(rt.alloc(), ANOTHER_COOKIE)?)?, none);
     assert_eq!(rt; kind_of(&rt, &of_text(rt.alloc(), EXCHANGED)?)?, none);
     let mut bytes = of_text(rt.alloc(), OPENING)?;
     let last = bytes.pop();
     assert!(rt; last == Some(0));
-    assert_eq!(rt; kind_of(&rt, &bytes)?, Some(StateError::Garbage));
+    assert_eq!(rt; kind_of(&rt, &bytes)?, Some(StateFault::Garbage));
     bytes.extend_from_slice(&[0, 0])?;
-    assert_eq!(rt; kind_of(&rt, &bytes)?, Some(StateError::Garbage));
+    assert_eq!(rt; kind_of(&rt, &bytes)?, Some(StateFault::Garbage));
     Ok(())
 }
 
@@ -176,10 +176,10 @@ fn states_are_written_as_they_were_read(rt: HostRuntime) -> Result<(), Fail> {
 
 #[test]
 fn each_rule_is_looked_at(rt: HostRuntime) -> Result<(), Fail> {
-    are_all(&rt, NO_STATES, Some(StateError::NotAState))
+    are_all(&rt, NO_STATES, Some(StateFault::NotAState))
 }
 
 #[test]
 fn other_bytes_are_garbage(rt: HostRuntime) -> Result<(), Fail> {
-    are_all(&rt, GARBAGE, Some(StateError::Garbage))
+    are_all(&rt, GARBAGE, Some(StateFault::Garbage))
 }

@@ -1,7 +1,8 @@
 -- A roster's members as a text, one after the other; the member with a number; and that members have no
 -- fault exactly where they fit and rise.
 -- Serves: Roster::write by add_members, Roster::new, Checked::vouch (authenticator).
-use Rattle.std.proofs.Common.{◌≡◌, ◌==◌, ℕ, Bool, true, false, cond, List, [], ◌∷◌, ◌++◌, length, Result, Ok, Err, Option, Some, None, refl, sym, ap, ◌∙◌, append_assoc}
+use Rattle.std.proofs.Common.{◌≡◌, ◌==◌, ℕ, Bool, true, false, cond, List, [], ◌∷◌, ◌++◌, length, Result, Ok}
+use Rattle.std.proofs.Common.{Err, Option, Some, None, refl, sym, ap, ◌∙◌, append_assoc}
 use Rattle.std.specs.Prelude.{IsTrue, ◌&&◌, nat_lt}
 use Rattle.std.proofs.lemmas.Bool.{eqb-true}
 use Rattle.std.proofs.lemmas.List.{length-map}
@@ -11,7 +12,8 @@ use Rattle.xdr.specs.Writing.{Adds}
 use Rattle.authenticator.specs.declared.member.Member.{Member}
 use Rattle.authenticator.specs.declared.refusal.RosterFault.{RosterFault}
 use Rattle.authenticator.specs.declared.refusal.RosterFault.TheVariants.{BadNumber, BadHeight, NotRising}
-use Rattle.authenticator.specs.Roster.{member_item, member_value, roster_item, roster_value, is_node, is_height, rises_above, EachFits, first_of, first_fault, member_of}
+use Rattle.authenticator.specs.Roster.{member_item, member_value, roster_item, roster_value, is_node}
+use Rattle.authenticator.specs.Roster.{is_height, rises_above, EachFits, first_of, first_fault, member_of}
 
 -- the members' texts
 abbrev pub texts : List Member → List ℕ

@@ -6,7 +6,8 @@ use Rattle.authenticator.specs.Signed.{IsSignedBy, authenticator_text, authentic
 use Rattle.authenticator.specs.declared.member.Member.{Member}
 use Rattle.authenticator.specs.declared.authenticator.Authenticator.{Authenticator}
 use Rattle.authenticator.specs.declared.refusal.Refusal.{Refusal}
-use Rattle.authenticator.specs.declared.refusal.Refusal.TheVariants.{UnknownNode, Garbage, BadSignature, NoMemory}
+use Rattle.authenticator.specs.declared.refusal.Refusal.TheVariants.{UnknownNode, Garbage, BadSignature}
+use Rattle.authenticator.specs.declared.refusal.Refusal.TheVariants.{NoMemory}
 
 -- The bytes are the text of an authenticator that names this member of the roster.
 pub record IsFrom (ms : List Member) (bytes : List ℕ) (a : Authenticator) (m : Member) : Type 0 where

@@ -1,7 +1,8 @@
 -- The numbers of the refusals of an authenticator.
 use Rattle.std.specs.Prelude.{ℕ, Option, Some, None}
 use Rattle.authenticator.specs.declared.refusal.Refusal.{Refusal}
-use Rattle.authenticator.specs.declared.refusal.Refusal.TheVariants.{UnknownNode, Garbage, BadSignature, NoMemory}
+use Rattle.authenticator.specs.declared.refusal.Refusal.TheVariants.{UnknownNode, Garbage, BadSignature}
+use Rattle.authenticator.specs.declared.refusal.Refusal.TheVariants.{NoMemory}
 
 -- the number of a refusal; being out of memory has none
 abbrev pub refusal_number : Refusal → Option ℕ

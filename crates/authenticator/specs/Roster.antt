@@ -1,5 +1,6 @@
 -- Rosters: the members of a service, by rising numbers.
-use Rattle.std.specs.Prelude.{ℕ, suc, Bool, true, ◌&&◌, ◌||◌, ◌==◌, nat_lt, IsTrue, List, [], ◌∷◌, map, Option, Some, None, if◌then◌else◌, length}
+use Rattle.std.specs.Prelude.{ℕ, suc, Bool, true, ◌&&◌, ◌||◌, ◌==◌, nat_lt, IsTrue, List, [], ◌∷◌, map}
+use Rattle.std.specs.Prelude.{Option, Some, None, if◌then◌else◌, length}
 use Rattle.std.specs.List.{AllByRecursion}
 use Rattle.xdr.specs.Item.{Item, Value, Fits, word_where, fixed, pair, array}
 use Rattle.xdr.specs.Texts.Text.{Text}
@@ -10,7 +11,8 @@ use Rattle.authenticator.specs.declared.member.TheConstants.{MAX_NODE}
 use Rattle.authenticator.specs.declared.roster.TheConstants.{MAX_MEMBERS}
 use Rattle.merkle_keys.specs.declared.signature.TheConstants.{MAX_HEIGHT}
 use Rattle.authenticator.specs.declared.refusal.RosterFault.{RosterFault}
-use Rattle.authenticator.specs.declared.refusal.RosterFault.TheVariants.{TooMany, BadNumber, BadHeight, NotRising}
+use Rattle.authenticator.specs.declared.refusal.RosterFault.TheVariants.{TooMany, BadNumber, BadHeight}
+use Rattle.authenticator.specs.declared.refusal.RosterFault.TheVariants.{NotRising}
 
 -- a kind's number in a text
 abbrev pub kind_number : Kind → ℕ

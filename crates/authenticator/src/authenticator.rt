@@ -3,10 +3,11 @@
 ghost use Rattle.std.specs.Prelude.{◌≡◌, ◌↔◌, IsTrue, OnOk};
 ghost use Rattle.xdr.specs.Item.{Fits, spelling, number_spelling};
 ghost use Rattle.xdr.specs.Reading.{GivesUnless};
-ghost use Rattle.xdr.specs.ReadError.{xdr_fault};
+ghost use Rattle.xdr.specs.ReadFault.{xdr_fault};
 ghost use Rattle.xdr.specs.Writing.{Writes, Adds};
 ghost use Rattle.merkle_keys.specs.Signing.{Signed};
-ghost use Rattle.authenticator.specs.Signed.{IsSignedBy, signed_digest, authenticator_item, authenticator_value, authenticator_text};
+ghost use Rattle.authenticator.specs.Signed.{IsSignedBy, signed_digest, authenticator_item};
+ghost use Rattle.authenticator.specs.Signed.{authenticator_value, authenticator_text};
 
 use crate::member::Member;
 use crate::number::Number;
@@ -14,7 +15,7 @@ use merkle_keys::{Signature, verify};
 use sha2::{Digest, Sha256};
 use std::alloc::{AllocError, Global};
 use xdr::texts::FromText;
-use xdr::{FromXdr, ReadError, Reader, Writer, put_back_on_err};
+use xdr::{FromXdr, ReadFault, Reader, Writer, put_back_on_err};
 
 /// A node's word, by its signature, that its log has this hash at this number. Nothing is checked of it:
 /// `check` makes a `Checked` value of one that is a member's and signed.
@@ -92,14 +93,14 @@ impl<'a> FromXdr<'a> for Authenticator {
 
     ghost value = { authenticator_value };
 
-    fn read(alloc: Global, reader: &mut Reader<'a>) -> Result<Authenticator, ReadError> {
+    fn read(alloc: Global, reader: &mut Reader<'a>) -> Result<Authenticator, ReadFault> {
         let start = reader.rest();
         let read = read_fields(alloc, reader);
         put_back_on_err(reader, start, read)
     }
 }
 
-fn read_fields<'a>(alloc: Global, reader: &mut Reader<'a>) -> Result<Authenticator, ReadError>
+fn read_fields<'a>(alloc: Global, reader: &mut Reader<'a>) -> Result<Authenticator, ReadFault>
     ensures { GivesUnless xdr_fault authenticator_item authenticator_value reader.old result reader.new }
 {
     let node = reader.u32()?;
@@ -119,7 +120,7 @@ impl<'a> FromText<'a> for Authenticator {
 
     ghost value = { authenticator_value };
 
-    fn read_front(alloc: Global, reader: &mut Reader<'a>) -> Result<Authenticator, ReadError> {
+    fn read_front(alloc: Global, reader: &mut Reader<'a>) -> Result<Authenticator, ReadFault> {
         Authenticator::read(alloc, reader)
     }
 

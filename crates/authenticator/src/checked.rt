@@ -11,7 +11,7 @@ use crate::member::Member;
 use crate::refusal::Refusal;
 use crate::roster::Roster;
 use std::alloc::Global;
-use xdr::texts::{TextError, read_text};
+use xdr::texts::{TextFault, read_text};
 
 /// A value that shows what a node signed: an authenticator, or what one is made of.
 pub trait Signs: Drop {
@@ -89,8 +89,8 @@ pub fn check(
 {
     let authenticator: Authenticator = match read_text(alloc, bytes) {
         Ok(authenticator) => authenticator,
-        Err(TextError::NoMemory) => return Err(Refusal::NoMemory),
-        Err(TextError::NotAText) => return Err(Refusal::Garbage),
+        Err(TextFault::NoMemory) => return Err(Refusal::NoMemory),
+        Err(TextFault::NotAText) => return Err(Refusal::Garbage),
     };
     let Some(member) = roster.member(authenticator.node) else {
         return Err(Refusal::UnknownNode);

@@ -3,13 +3,14 @@
 ghost use Rattle.std.specs.Prelude.{◌≡◌, IsTrue};
 ghost use Rattle.xdr.specs.Item.{Fits, word_where, spelling};
 ghost use Rattle.xdr.specs.Reading.{Gives, GivesUnless};
-ghost use Rattle.xdr.specs.ReadError.{xdr_fault};
+ghost use Rattle.xdr.specs.ReadFault.{xdr_fault};
 ghost use Rattle.xdr.specs.Writing.{Adds, Writes};
-ghost use Rattle.authenticator.specs.Roster.{kind_number, is_node, is_kind, is_height, member_item, member_value};
+ghost use Rattle.authenticator.specs.Roster.{kind_number, is_node, is_kind, is_height, member_item};
+ghost use Rattle.authenticator.specs.Roster.{member_value};
 
 use merkle_keys::MAX_HEIGHT;
 use std::alloc::{AllocError, Global};
-use xdr::{FromXdr, ReadError, Reader, Writer, XdrFault, all_or_nothing, put_back_on_err};
+use xdr::{FromXdr, ReadFault, Reader, Writer, XdrFault, all_or_nothing, put_back_on_err};
 
 /// What a node does in the service.
 #[derive(Clone, Copy, Debug, PartialEq, Eq)]
@@ -42,7 +43,7 @@ impl<'a> FromXdr<'a> for Member {
 
     ghost value = { member_value };
 
-    fn read(_alloc: Global, reader: &mut Reader<'a>) -> Result<Member, ReadError> {
+    fn read(_alloc: Global, reader: &mut Reader<'a>) -> Result<Member, ReadFault> {
         let start = reader.rest();
         let read = read_member(reader);
         Ok(put_back_on_err(reader, start, read)?)

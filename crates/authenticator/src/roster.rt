@@ -4,18 +4,20 @@ ghost use Rattle.std.specs.Prelude.{◌≡◌, IfOk, MatchResult, ◌↔◌, IsT
 ghost use Rattle.std.specs.List.{flat_map};
 ghost use Rattle.xdr.specs.Item.{Value, Fits, spelling};
 ghost use Rattle.xdr.specs.Texts.Text.{IsText, GivesText};
-ghost use Rattle.xdr.specs.Texts.TextError.{is_no_text};
-ghost use Rattle.xdr.specs.declared.texts.text.TextError.TheVariants.{NoMemory};
+ghost use Rattle.xdr.specs.Texts.TextFault.{is_no_text};
+ghost use Rattle.xdr.specs.declared.texts.text.TextFault.TheVariants.{NoMemory};
 ghost use Rattle.xdr.specs.Writing.{Writes, Adds};
-ghost use Rattle.authenticator.specs.Roster.{member_item, member_value, roster_item, roster_text, roster_value, rises_above, IsRoster, EachFits, member_fault, first_fault, roster_fault, member_of};
+ghost use Rattle.authenticator.specs.Roster.{member_item, member_value, roster_item, roster_text};
+ghost use Rattle.authenticator.specs.Roster.{roster_value, rises_above, IsRoster, EachFits, member_fault};
+ghost use Rattle.authenticator.specs.Roster.{first_fault, roster_fault, member_of};
 
 use crate::member::{MAX_NODE, Member, write_member};
 use crate::refusal::RosterFault;
 use merkle_keys::MAX_HEIGHT;
 use std::alloc::{AllocError, Global};
 use std::marker::Model;
-use xdr::texts::{FromText, TextError, read_text};
-use xdr::{ReadError, Reader, Writer, all_or_nothing, read_array};
+use xdr::texts::{FromText, TextFault, read_text};
+use xdr::{ReadFault, Reader, Writer, all_or_nothing, read_array};
 
 /// The members of a service: at most `MAX_MEMBERS`, by rising numbers from 1 to `MAX_NODE`, with heights
 /// from 1 to `merkle_keys::MAX_HEIGHT`.
@@ -50,7 +52,7 @@ impl<'a> FromText<'a> for Members {
 
     ghost value = { λ m. map member_value m.members.items };
 
-    fn read_front(alloc: Global, reader: &mut Reader<'a>) -> Result<Members, ReadError> {
+    fn read_front(alloc: Global, reader: &mut Reader<'a>) -> Result<Members, ReadFault> {
         let members = read_array(alloc, reader, MAX_MEMBERS)?;
         Ok(Members { members })
     }
@@ -150,7 +152,7 @@ impl Roster {
 
     /// The roster whose text the bytes are. `NotAText` comes exactly where they are the text of none,
     /// `NoMemory` only where a growth was refused.
-    pub fn read(alloc: Global, bytes: &[u8]) -> Result<Roster, TextError>
+    pub fn read(alloc: Global, bytes: &[u8]) -> Result<Roster, TextFault>
         ensures exact { GivesText is_no_text roster_text roster_value bytes.now result }
         ensures found { IfOk result (λ r. IsText roster_text (roster_value r) bytes.now) }
         ensures only { (v : Value roster_text.item) → IsText roster_text v bytes.now →

@@ -13,12 +13,15 @@ use Rattle.replay.specs.Faults.{fault_in}
 use Rattle.replay.specs.declared.outcome.Outcome.{Outcome}
 use Rattle.replay.specs.declared.outcome.Outcome.TheVariants as outcomes
 use Rattle.evidence_showings.specs.evidence_spec.Showing.{ShowingParts, IsClosedShowing, Shows}
-use Rattle.evidence_showings.specs.evidence_spec.Evidence.{Charge, Fork, Replay, EvidenceParts, AcceptsFork, AcceptsReplay, AcceptsCharge, Accepts}
+use Rattle.evidence_showings.specs.evidence_spec.Evidence.{Charge, Fork, Replay, EvidenceParts, AcceptsFork}
+use Rattle.evidence_showings.specs.evidence_spec.Evidence.{AcceptsReplay, AcceptsCharge, Accepts}
 use Rattle.challenge.specs.declared.finding.Finding.{Finding}
 use Rattle.challenge.specs.declared.finding.Finding.TheVariants as found
 use Rattle.challenge.specs.declared.finding.NotAccepted.{NotAccepted}
 use Rattle.challenge.specs.declared.finding.NotAccepted.TheVariants as reasons
-use Rattle.challenge.specs.Findings.{is_accepted, finding_in, AcceptsHashes, AcceptsTwo, AcceptsOne, ShowingLacks, HasNoTwo, ForkLacks, LogLacks, IsClosedOf, IsAudited, Finds, FindsInFork, FindsInLog, FindsInCharge}
+use Rattle.challenge.specs.Findings.{is_accepted, finding_in, AcceptsHashes, AcceptsTwo, AcceptsOne}
+use Rattle.challenge.specs.Findings.{ShowingLacks, HasNoTwo, ForkLacks, LogLacks, IsClosedOf, IsAudited}
+use Rattle.challenge.specs.Findings.{Finds, FindsInFork, FindsInLog, FindsInCharge}
 
 -- ---- what lacks something isn't accepted
 

@@ -23,7 +23,8 @@ use Rattle.challenge.specs.declared.finding.Finding.TheVariants as found
 use Rattle.challenge.specs.declared.finding.NotAccepted.{NotAccepted}
 use Rattle.challenge.specs.declared.finding.NotAccepted.TheVariants as reasons
 use Rattle.challenge.specs.Findings.{ShowingLacks, LacksAfterFirst, ForkLacks, IsFromStart, LogLacks}
-use Rattle.challenge.specs.Findings.{AcceptsHashes, AcceptsFault, FindsInFork, FindsInLog, FindsInCharge, OneFinding}
+use Rattle.challenge.specs.Findings.{AcceptsHashes, AcceptsFault, FindsInFork, FindsInLog, FindsInCharge}
+use Rattle.challenge.specs.Findings.{OneFinding}
 use Rattle.challenge.proofs.Found.{showing_lacks, fork_lacks, log_lacks, fork_accepts}
 
 -- ---- what is lacking first

@@ -13,7 +13,7 @@ use crate::evidence::Evidence;
 use crate::fault::EvidenceFault;
 use authenticator::{MAX_MEMBERS, Member, Roster};
 use std::alloc::{AllocError, Global};
-use xdr::{FromXdr, ReadError, Reader, all_or_nothing, read_array};
+use xdr::{FromXdr, ReadFault, Reader, all_or_nothing, read_array};
 
 /// A roster, and evidence against one of its members.
 #[derive(Drop)]
@@ -24,16 +24,16 @@ pub struct Case {
     pub evidence: Evidence,
 }
 
-impl From<ReadError> for EvidenceFault {
+impl From<ReadFault> for EvidenceFault {
     ghost use Rattle.std.specs.Prelude.{◌≡◌};
     ghost use Rattle.challenge.specs.Readings.{fault_of};
 
     ghost from_gives = { λ e f. f ≡ fault_of e };
 
-    fn from(error: ReadError) -> EvidenceFault {
+    fn from(error: ReadFault) -> EvidenceFault {
         match error {
-            ReadError::NoMemory => EvidenceFault::NoMemory,
-            ReadError::Fault(_) => EvidenceFault::Garbage,
+            ReadFault::NoMemory => EvidenceFault::NoMemory,
+            ReadFault::Fault(_) => EvidenceFault::Garbage,
         }
     }
 }

@@ -3,10 +3,11 @@
 ghost use Rattle.std.specs.Prelude.{◌≡◌, IfOk, MatchResult, option_map};
 ghost use Rattle.xdr.specs.Item.{Value, choice, optional};
 ghost use Rattle.xdr.specs.Reading.{GivesUnless};
-ghost use Rattle.xdr.specs.ReadError.{xdr_fault};
+ghost use Rattle.xdr.specs.ReadFault.{xdr_fault};
 ghost use Rattle.xdr.specs.Texts.Text.{GivesText, IsText};
 ghost use Rattle.evidence_showings.specs.evidence_spec.Showing.{showing_item, showing_value};
-ghost use Rattle.evidence_showings.specs.evidence_spec.Evidence.{audited_item, audited_value, evidence_item, evidence_value};
+ghost use Rattle.evidence_showings.specs.evidence_spec.Evidence.{audited_item, audited_value, evidence_item};
+ghost use Rattle.evidence_showings.specs.evidence_spec.Evidence.{evidence_value};
 ghost use Rattle.evidence_showings.specs.evidence_spec.Evidence.{evidence_text, fork_item, fork_value};
 ghost use Rattle.evidence_showings.specs.evidence_spec.Evidence.{charge_item, charge_value, is_charge};
 ghost use Rattle.challenge.specs.FaultNumbers.{is_garbage};
@@ -20,8 +21,8 @@ use authenticator::{Authenticator, Number};
 use evidence_showings::Showing;
 use evidence_showings::evidence_spec_code::MAX_AUDITED;
 use std::alloc::Global;
-use xdr::texts::{FromText, TextError, read_text};
-use xdr::{FromXdr, ReadError, Reader, XdrFault, put_back_on_err, read_array};
+use xdr::texts::{FromText, TextFault, read_text};
+use xdr::{FromXdr, ReadFault, Reader, XdrFault, put_back_on_err, read_array};
 
 /// The evidence whose text the bytes are. `Garbage` comes exactly where they are the text of none, `NoMemory`
 /// only where a growth was refused. Nothing is reserved by a count alone.
@@ -33,8 +34,8 @@ pub fn read_evidence(alloc: Global, bytes: &[u8]) -> Result<Evidence, EvidenceFa
 {
     match read_text(alloc, bytes) {
         Ok(evidence) => Ok(evidence),
-        Err(TextError::NoMemory) => Err(EvidenceFault::NoMemory),
-        Err(TextError::NotAText) => Err(EvidenceFault::Garbage),
+        Err(TextFault::NoMemory) => Err(EvidenceFault::NoMemory),
+        Err(TextFault::NotAText) => Err(EvidenceFault::Garbage),
     }
 }
 
@@ -43,7 +44,7 @@ impl<'a> FromXdr<'a> for Evidence {
 
     ghost value = { evidence_value };
 
-    fn read(alloc: Global, reader: &mut Reader<'a>) -> Result<Evidence, ReadError> {
+    fn read(alloc: Global, reader: &mut Reader<'a>) -> Result<Evidence, ReadFault> {
         let start = reader.rest();
         let read = read_parts(alloc, reader);
         put_back_on_err(reader, start, read)
@@ -55,7 +56,7 @@ impl<'a> FromText<'a> for Evidence {
 
     ghost value = { evidence_value };
 
-    fn read_front(alloc: Global, reader: &mut Reader<'a>) -> Result<Evidence, ReadError> {
+    fn read_front(alloc: Global, reader: &mut Reader<'a>) -> Result<Evidence, ReadFault> {
         Evidence::read(alloc, reader)
     }
 
@@ -64,7 +65,7 @@ impl<'a> FromText<'a> for Evidence {
     }
 }
 
-fn read_parts<'a>(alloc: Global, reader: &mut Reader<'a>) -> Result<Evidence, ReadError>
+fn read_parts<'a>(alloc: Global, reader: &mut Reader<'a>) -> Result<Evidence, ReadFault>
     ensures { GivesUnless xdr_fault evidence_item evidence_value reader.old result reader.new }
 {
     let node = reader.u32()?;
@@ -72,7 +73,7 @@ fn read_parts<'a>(alloc: Global, reader: &mut Reader<'a>) -> Result<Evidence, Re
     Ok(Evidence::new(node, charge))
 }
 
-fn read_charge<'a>(alloc: Global, reader: &mut Reader<'a>) -> Result<Charge, ReadError>
+fn read_charge<'a>(alloc: Global, reader: &mut Reader<'a>) -> Result<Charge, ReadFault>
     ensures { GivesUnless xdr_fault (choice is_charge charge_item) (λ g. charge_value (charge_in g))
         reader.old result reader.new }
 {
@@ -85,12 +86,12 @@ fn read_charge<'a>(alloc: Global, reader: &mut Reader<'a>) -> Result<Charge, Rea
             let log = AuditedLog::read(alloc, reader)?;
             Ok(Charge::Replay(log))
         }
-        _ => Err(ReadError::Fault(XdrFault::BadEnum)),
+        _ => Err(ReadFault::Fault(XdrFault::BadEnum)),
     }
 }
 
 /// A fork from the front of bytes. After an `Err` the reader may stand within it.
-pub fn read_fork<'a>(alloc: Global, reader: &mut Reader<'a>) -> Result<Fork, ReadError>
+pub fn read_fork<'a>(alloc: Global, reader: &mut Reader<'a>) -> Result<Fork, ReadFault>
     ensures { GivesUnless xdr_fault fork_item (λ f. fork_value (fork_in f)) reader.old result reader.new }
 {
     let at = Number::read(alloc, reader)?;
@@ -100,7 +101,7 @@ pub fn read_fork<'a>(alloc: Global, reader: &mut Reader<'a>) -> Result<Fork, Rea
 }
 
 #[tactic(auto, unfolding(xdr::specs::Reading::optional_at))]
-fn read_second<'a>(alloc: Global, reader: &mut Reader<'a>) -> Result<Option<Showing>, ReadError>
+fn read_second<'a>(alloc: Global, reader: &mut Reader<'a>) -> Result<Option<Showing>, ReadFault>
     ensures { GivesUnless xdr_fault (optional showing_item) (λ b. option_map showing_value b)
         reader.old result reader.new }
 {
@@ -116,14 +117,14 @@ impl<'a> FromXdr<'a> for AuditedLog {
 
     ghost value = { audited_value };
 
-    fn read(alloc: Global, reader: &mut Reader<'a>) -> Result<AuditedLog, ReadError> {
+    fn read(alloc: Global, reader: &mut Reader<'a>) -> Result<AuditedLog, ReadFault> {
         let start = reader.rest();
         let read = read_log(alloc, reader);
         put_back_on_err(reader, start, read)
     }
 }
 
-fn read_log<'a>(alloc: Global, reader: &mut Reader<'a>) -> Result<AuditedLog, ReadError>
+fn read_log<'a>(alloc: Global, reader: &mut Reader<'a>) -> Result<AuditedLog, ReadFault>
     ensures { GivesUnless xdr_fault audited_item audited_value reader.old result reader.new }
 {
     let start = reader.rest();

@@ -11,7 +11,8 @@ use Rattle.fs_model.specs.Maxima.{max_files}
 use Rattle.fs_model.specs.Files.{File}
 use Rattle.state_spec.specs.Limits.{max_received, max_sends}
 use Rattle.state_spec.specs.State.{Machine, Server, Client, clock_in, State}
-use Rattle.state_spec.specs.StateItems.{received_item, received_value, sent_item, sent_value, stage_item, stage_value, mount_item, state_item, state_value, machine_value}
+use Rattle.state_spec.specs.StateItems.{received_item, received_value, sent_item, sent_value, stage_item}
+use Rattle.state_spec.specs.StateItems.{stage_value, mount_item, state_item, state_value, machine_value}
 use Rattle.checkpoint.specs.Fronts.{kind_of, rest_front, front_text, files_text}
 
 -- seven texts in a row, and one after them

@@ -29,7 +29,8 @@ use Rattle.state_spec.specs.State.{ReceivedMessage, received_cmp, State, IsState
 use Rattle.state_spec.specs.State as spec
 use Rattle.state_spec.specs.StateItems.{sent_item, received_value, state_item}
 use Rattle.state_spec.specs.StateText.{Said, said}
-use Rattle.state_spec.specs.StateValues.{map_from, set_from, received_from, sent_from, stage_of, stage_from, world_from, machine_from, state_from}
+use Rattle.state_spec.specs.StateValues.{map_from, set_from, received_from, sent_from, stage_of, stage_from}
+use Rattle.state_spec.specs.StateValues.{world_from, machine_from, state_from}
 use Rattle.state_spec.specs.Rules.{ListsRise, KeepsRules}
 use Rattle.state_spec.proofs.Back.{map_back}
 use Rattle.state_spec.proofs.Forth.{entries_of_map, forth}

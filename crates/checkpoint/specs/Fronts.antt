@@ -8,7 +8,8 @@ use Rattle.fs_model.specs.Maxima.{max_files}
 use Rattle.fs_model.specs.Files.{File}
 use Rattle.state_spec.specs.Limits.{max_received, max_sends}
 use Rattle.state_spec.specs.State.{Machine, Server, Client, clock_in, State}
-use Rattle.state_spec.specs.StateItems.{received_item, received_value, sent_item, sent_value, stage_item, stage_value, mount_item}
+use Rattle.state_spec.specs.StateItems.{received_item, received_value, sent_item, sent_value, stage_item}
+use Rattle.state_spec.specs.StateItems.{stage_value, mount_item}
 
 -- a server is 1, a client 2
 abbrev pub kind_of : Machine → ℕ

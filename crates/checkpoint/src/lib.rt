@@ -10,7 +10,7 @@ mod text;
 pub mod trees;
 
 pub use digest::state_digest;
-pub use read::{StateError, read_state};
+pub use read::{StateFault, read_state};
 pub use state_machine as state_machine_code;
 pub use state_spec as state_spec_code;
 pub use text::state_text;

@@ -8,4 +8,4 @@ mod world;
 
 pub use mounted::mounts_of;
 pub use parts::{MachinePart, MountPart, StagePart, StatePart, WorldPart};
-pub use whole::{PartsError, read_parts};
+pub use whole::{PartsFault, read_parts};

@@ -14,10 +14,10 @@ ghost use Rattle.checkpoint.specs.Parts.SaidParts.{state_said};
 ghost use Rattle.checkpoint.specs.Parts.Bounds.{AreBounded, IsBoundedWorld, IsShortStage};
 ghost use Rattle.state_machine.specs.Stages.{stage_in};
 ghost use Rattle.checkpoint.specs.PartWorlds.{IsServed, stage_given, world_given};
-ghost use Rattle.checkpoint.specs.declared.read.StateError.TheVariants.{Garbage, NoMemory, NotAState};
+ghost use Rattle.checkpoint.specs.declared.read.StateFault.TheVariants.{Garbage, NoMemory, NotAState};
 
 use crate::parts::{
-    MachinePart, PartsError, StagePart, StatePart, WorldPart, mounts_of, read_parts,
+    MachinePart, PartsFault, StagePart, StatePart, WorldPart, mounts_of, read_parts,
 };
 use crate::trees::tree_of;
 use nfs_items::Time;
@@ -29,7 +29,7 @@ use thiserror::Error;
 
 /// Why bytes could not be read as the text of a state.
 #[derive(Clone, Copy, Debug, PartialEq, Eq, Error)]
-pub enum StateError {
+pub enum StateFault {
     #[error("out of memory")]
     NoMemory,
     /// They aren't spelled as a state is: another version, an unknown kind, stage or file type, a count or
@@ -42,7 +42,7 @@ pub enum StateError {
     NotAState,
 }
 
-impl StateError {
+impl StateFault {
     ghost use Rattle.std.specs.Prelude.{◌≡◌};
     ghost use Rattle.checkpoint.specs.ErrorNumbers.{error_number};
 
@@ -51,25 +51,25 @@ impl StateError {
         ensures { result ≡ error_number self }
     {
         match self {
-            StateError::Garbage => Some(1),
-            StateError::NotAState => Some(2),
-            StateError::NoMemory => None,
+            StateFault::Garbage => Some(1),
+            StateFault::NotAState => Some(2),
+            StateFault::NoMemory => None,
         }
     }
 }
 
-impl From<AllocError> for StateError {
+impl From<AllocError> for StateFault {
     ghost from_gives = { λ _ e. e ≡ NoMemory };
 
-    fn from(_e: AllocError) -> StateError {
-        StateError::NoMemory
+    fn from(_e: AllocError) -> StateFault {
+        StateFault::NoMemory
     }
 }
 
 /// The state whose text the bytes are (RFC 4506). `Garbage` comes where they are spelled as no state is,
 /// `NotAState` where they are spelled so and no state says what they say, `NoMemory` only where a growth was
 /// refused.
-pub fn read_state(alloc: Global, bytes: &[u8]) -> Result<State, StateError>
+pub fn read_state(alloc: Global, bytes: &[u8]) -> Result<State, StateFault>
     ensures found { IfOk result (λ state. IsStateText state bytes.now) }
     ensures garbage { IfErr result (λ error. error ≡ Garbage → IsGarbage bytes.now) }
     ensures not_a_state { IfErr result (λ error. error ≡ NotAState → IsNotAState bytes.now) }
@@ -79,10 +79,10 @@ pub fn read_state(alloc: Global, bytes: &[u8]) -> Result<State, StateError>
     match read_parts(alloc, bytes) {
         Ok(parts) => match state_of(alloc, &parts)? {
             Some(state) => Ok(state),
-            None => Err(StateError::NotAState),
+            None => Err(StateFault::NotAState),
         },
-        Err(PartsError::NoMemory) => Err(StateError::NoMemory),
-        Err(PartsError::Garbage) => Err(StateError::Garbage),
+        Err(PartsFault::NoMemory) => Err(StateFault::NoMemory),
+        Err(PartsFault::Garbage) => Err(StateFault::Garbage),
     }
 }
 

@@ -1,9 +1,11 @@
 -- The numbers of the refusals of messages, and those that sending gives.
 use Rattle.std.specs.Prelude.{ℕ, Option, Some, None}
 use Rattle.commitment.specs.declared.senders.refusal.SendRefusal.{SendRefusal}
-use Rattle.commitment.specs.declared.senders.refusal.SendRefusal.TheVariants.{KeysUsedUp as NoKey, NoMemory as NoRoom}
+use Rattle.commitment.specs.declared.senders.refusal.SendRefusal.TheVariants.{KeysUsedUp as NoKey}
+use Rattle.commitment.specs.declared.senders.refusal.SendRefusal.TheVariants.{NoMemory as NoRoom}
 use Rattle.commitment.specs.declared.refusal.Refusal.{Refusal}
-use Rattle.commitment.specs.declared.refusal.Refusal.TheVariants.{Garbage, NotForMe, BadSignature, KeysUsedUp, NoMemory}
+use Rattle.commitment.specs.declared.refusal.Refusal.TheVariants.{Garbage, NotForMe, BadSignature, KeysUsedUp}
+use Rattle.commitment.specs.declared.refusal.Refusal.TheVariants.{NoMemory}
 
 -- the number of a refusal; being out of memory has none
 abbrev pub refusal_number : Refusal → Option ℕ

@@ -5,7 +5,8 @@ use Rattle.secure_log.specs.authenticator.Roster.{member_of}
 use Rattle.secure_log.specs.authenticator.Signed.{IsSignedBy}
 use Rattle.secure_log.specs.authenticator.declared.member.Member.{Member}
 use Rattle.secure_log.specs.authenticator.declared.refusal.Refusal.{Refusal}
-use Rattle.secure_log.specs.authenticator.declared.refusal.Refusal.TheVariants.{UnknownNode, Garbage, BadSignature, NoMemory}
+use Rattle.secure_log.specs.authenticator.declared.refusal.Refusal.TheVariants.{UnknownNode, Garbage}
+use Rattle.secure_log.specs.authenticator.declared.refusal.Refusal.TheVariants.{BadSignature, NoMemory}
 use Rattle.envelopes.specs.declared.envelope.Envelope.{Envelope}
 use Rattle.envelopes.specs.declared.acknowledgement.Ack.{Ack}
 use Rattle.envelopes.specs.Envelope.{envelope_text, envelope_value, envelope_shows}

@@ -10,7 +10,7 @@ use crate::acknowledgement::Ack;
 use crate::envelope::Envelope;
 use secure_log::authenticator_code::{Checked, Member, Refusal, Roster, is_signed};
 use std::alloc::Global;
-use xdr::texts::{TextError, read_text};
+use xdr::texts::{TextFault, read_text};
 
 /// Checks an envelope's text: `Garbage` where it is none, or the sender is the receiver, else `UnknownNode`
 /// where the sender or the receiver is no member, else `BadSignature` where the sender didn't sign it.
@@ -24,8 +24,8 @@ pub fn check_envelope(
 {
     let envelope: Envelope = match read_text(alloc, bytes) {
         Ok(envelope) => envelope,
-        Err(TextError::NoMemory) => return Err(Refusal::NoMemory),
-        Err(TextError::NotAText) => return Err(Refusal::Garbage),
+        Err(TextFault::NoMemory) => return Err(Refusal::NoMemory),
+        Err(TextFault::NotAText) => return Err(Refusal::Garbage),
     };
     if envelope.from == envelope.to {
         return Err(Refusal::Garbage);
@@ -50,8 +50,8 @@ pub fn check_ack(alloc: Global, roster: &Roster, bytes: &[u8]) -> Result<Checked
 {
     let ack: Ack = match read_text(alloc, bytes) {
         Ok(ack) => ack,
-        Err(TextError::NoMemory) => return Err(Refusal::NoMemory),
-        Err(TextError::NotAText) => return Err(Refusal::Garbage),
+        Err(TextFault::NoMemory) => return Err(Refusal::NoMemory),
+        Err(TextFault::NotAText) => return Err(Refusal::Garbage),
     };
     let Some(member) = roster.member(ack.by) else {
         return Err(Refusal::UnknownNode);

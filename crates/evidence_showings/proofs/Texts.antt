@@ -1,7 +1,8 @@
 -- What was read has a text; links as a text, one after the other, after their count; and what is shown of a
 -- segment or an authenticator has a text.
 -- Serves: copy_of, Showing::of_authenticator, Showing::of_segment, read_parts, add_links.
-use Rattle.std.proofs.Common.{◌≡◌, ℕ, ◌+◌, ◌<◌, ◌≤◌, ◌^◌, List, [], ◌∷◌, ◌++◌, length, map, Result, Ok, Err, refl, sym, ap, ◌∙◌, append_assoc, arith}
+use Rattle.std.proofs.Common.{◌≡◌, ℕ, ◌+◌, ◌<◌, ◌≤◌, ◌^◌, List, [], ◌∷◌, ◌++◌, length, map, Result, Ok, Err}
+use Rattle.std.proofs.Common.{refl, sym, ap, ◌∙◌, append_assoc, arith}
 use Rattle.std.proofs.lemmas.List.{length-map}
 use Rattle.std.specs.List.{flat_map, AllByRecursion}
 use Rattle.std.specs.Prelude.{IsTrue}
@@ -17,7 +18,8 @@ use Rattle.secure_log.specs.declared.log_entries.entry.Entry.{Entry}
 use Rattle.secure_log.specs.declared.log_entries.entry.Entry.TheVariants as entries
 use Rattle.secure_log.specs.LogEntries.Entry.{kind_number, is_kind, content}
 use Rattle.secure_log.specs.declared.segment.TheConstants.{MAX_ENTRIES}
-use Rattle.evidence_spec.specs.Showing.{ShownLink, ShowingParts, shown_link, link_item, link_value, showing_item, showing_value}
+use Rattle.evidence_spec.specs.Showing.{ShownLink, ShowingParts, shown_link, link_item, link_value}
+use Rattle.evidence_spec.specs.Showing.{showing_item, showing_value}
 use Rattle.evidence_showings.specs.Showings.{HasText}
 
 -- what was read has a text

@@ -1,6 +1,7 @@
 -- Evidence that is accepted proves that a node has no honest log.
 -- Serves: accepted_evidence_proves.
-use Rattle.std.proofs.Common.{◌≡◌, ℕ, ◌+◌, List, [], ◌∷◌, ◌++◌, length, Option, Some, None, inl, refl, sym, ap, subst, ◌∙◌, arith}
+use Rattle.std.proofs.Common.{◌≡◌, ℕ, ◌+◌, List, [], ◌∷◌, ◌++◌, length, Option, Some, None, inl, refl, sym}
+use Rattle.std.proofs.Common.{ap, subst, ◌∙◌, arith}
 use Rattle.std.specs.Prelude.{IsSomeAnd, ◌↔◌, option_map}
 use Rattle.std.specs.List.{AllByRecursion}
 use Rattle.xdr.specs.Item.{Fits, optional}
@@ -17,10 +18,13 @@ use Rattle.replay_spec.specs.state_spec.State.{State}
 use Rattle.replay_spec.specs.Placed.{Placed, placed}
 use Rattle.replay_spec.specs.Replay.{Honest, last_state, found, Sound, verdict_of}
 use Rattle.replay_spec.specs.Opening.{opening_of}
-use Rattle.evidence_spec.specs.Showing.{ShowingParts, IsClosedShowing, IsAmong, Shows, showing_item, showing_value}
+use Rattle.evidence_spec.specs.Showing.{ShowingParts, IsClosedShowing, IsAmong, Shows, showing_item}
+use Rattle.evidence_spec.specs.Showing.{showing_value}
 use Rattle.evidence_spec.specs.Evidence.{Charge, Fork, Replay, audited_item, audited_value}
-use Rattle.evidence_spec.specs.Evidence.{evidence_item, charge_value, AcceptsFork, AcceptsReplay, AcceptsCharge}
-use Rattle.evidence_spec.specs.Proving.{IsLog, log_texts, showing_texts, option_texts, IsUnforged, option_closings, Withstands, Proves}
+use Rattle.evidence_spec.specs.Evidence.{evidence_item, charge_value, AcceptsFork, AcceptsReplay}
+use Rattle.evidence_spec.specs.Evidence.{AcceptsCharge}
+use Rattle.evidence_spec.specs.Proving.{IsLog, log_texts, showing_texts, option_texts, IsUnforged}
+use Rattle.evidence_spec.specs.Proving.{option_closings, Withstands, Proves}
 use Rattle.evidence_spec.specs.Laws.{IsPartOf}
 use Rattle.evidence_spec.proofs.Texts.{Within, fewer, left, right, both}
 use Rattle.evidence_spec.proofs.Places.{entries_numbered, one_hash}

@@ -1,9 +1,11 @@
 -- A chain whose last pair is one of a log is a part of the log's chain, and its pairs are the log's.
 -- Serves: what_is_shown_is_of_the_log.
-use Rattle.std.proofs.Common.{◌≡◌, ℕ, ◌+◌, ◌-◌, ◌<◌, List, [], ◌∷◌, ◌++◌, length, refl, sym, ap, subst, ◌∙◌, arith, append_assoc, length-append}
+use Rattle.std.proofs.Common.{◌≡◌, ℕ, ◌+◌, ◌-◌, ◌<◌, List, [], ◌∷◌, ◌++◌, length, refl, sym, ap, subst, ◌∙◌}
+use Rattle.std.proofs.Common.{arith, append_assoc, length-append}
 use Rattle.std.proofs.lemmas.List.{length-replicate}
 use Rattle.std.specs.List.{AllByRecursion}
-use Rattle.secure_log.specs.LogEntries.Chain.{Link, IsLink, IsChain, IsEndOf, zeros, hash_after, last_hash, pairs, chain_texts, NoCollision}
+use Rattle.secure_log.specs.LogEntries.Chain.{Link, IsLink, IsChain, IsEndOf, zeros, hash_after, last_hash}
+use Rattle.secure_log.specs.LogEntries.Chain.{pairs, chain_texts, NoCollision}
 use Rattle.secure_log.proofs.OfLogEntries.Chains.{chain_end}
 use Rattle.evidence_spec.specs.Showing.{IsAmong}
 use Rattle.evidence_spec.proofs.Texts.{Within, fewer, left, right, both, beginning}

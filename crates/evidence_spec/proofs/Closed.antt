@@ -1,6 +1,7 @@
 -- A signed authenticator alone, and the links of a closed segment, are closed showings.
 -- Serves: what_is_shown_is_closed.
-use Rattle.std.proofs.Common.{◌≡◌, ℕ, ◌+◌, ◌-◌, ◌<◌, ◌^◌, List, [], ◌∷◌, length, map, refl, sym, ap, ◌∙◌, arith}
+use Rattle.std.proofs.Common.{◌≡◌, ℕ, ◌+◌, ◌-◌, ◌<◌, ◌^◌, List, [], ◌∷◌, length, map, refl, sym, ap, ◌∙◌}
+use Rattle.std.proofs.Common.{arith}
 use Rattle.std.specs.List.{AllByRecursion}
 use Rattle.std.proofs.lemmas.List.{length-map}
 use Rattle.sha2.proofs.Facts256.{length-sha256}
@@ -14,7 +15,8 @@ use Rattle.secure_log.specs.LogEntries.Entry.{is_kind, kind_number, entry_value,
 use Rattle.secure_log.specs.LogEntries.Chain.{last_hash, links_from, link_of, pairs}
 use Rattle.secure_log.specs.declared.segment.TheConstants.{MAX_ENTRIES}
 use Rattle.secure_log.specs.Segment.{SegmentParts, IsClosed, segment_item, segment_value, segment_pairs}
-use Rattle.evidence_spec.specs.Showing.{numbered, link_item, link_value, shown_link, authenticator_showing, segment_showing}
+use Rattle.evidence_spec.specs.Showing.{numbered, link_item, link_value, shown_link, authenticator_showing}
+use Rattle.evidence_spec.specs.Showing.{segment_showing}
 use Rattle.evidence_spec.specs.Laws.{ShowsPairs}
 use Rattle.evidence_spec.proofs.Shown.{next_fits}
 

@@ -14,7 +14,8 @@ use Rattle.replay_spec.specs.Opening.{opening_of}
 use Rattle.replay_spec.specs.HonestLogs.{IsHonestLog}
 use Rattle.evidence_spec.specs.Showing.{authenticator_showing}
 use Rattle.evidence_spec.specs.Evidence.{ForkParts, Fork, EvidenceParts}
-use Rattle.evidence_spec.specs.Proving.{IsLog, log_texts, charge_texts, closings, option_texts, option_closings, IsUnforged, Withstands, Proves}
+use Rattle.evidence_spec.specs.Proving.{IsLog, log_texts, charge_texts, closings, option_texts}
+use Rattle.evidence_spec.specs.Proving.{option_closings, IsUnforged, Withstands, Proves}
 use Rattle.evidence_spec.proofs.Texts.{fewer, both}
 
 -- evidence whose texts are all those of an honest log, with no signature forged against it, proves nothing

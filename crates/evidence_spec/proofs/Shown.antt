@@ -13,7 +13,8 @@ use Rattle.secure_log.proofs.OfLogEntries.Chains.{links-are-links}
 use Rattle.secure_log.specs.Log.{log_pairs}
 use Rattle.secure_log.specs.Segment.{SegmentParts, IsClosed, segment_pairs}
 use Rattle.secure_log.proofs.Places.{is_chain}
-use Rattle.evidence_spec.specs.Showing.{ShownLink, ShowingParts, IsClosedShowing, IsAmong, Shows, link_item, link_value, showing_item, showing_value, numbered}
+use Rattle.evidence_spec.specs.Showing.{ShownLink, ShowingParts, IsClosedShowing, IsAmong, Shows, link_item}
+use Rattle.evidence_spec.specs.Showing.{link_value, showing_item, showing_value, numbered}
 use Rattle.evidence_spec.specs.Evidence.{audited_item, audited_value}
 use Rattle.evidence_spec.specs.Proving.{IsLog, entry_texts, log_texts, segment_texts, showing_texts}
 use Rattle.evidence_spec.specs.Laws.{IsPartOf}

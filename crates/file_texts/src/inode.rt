@@ -68,7 +68,7 @@ fn body_of(alloc: Global, part: &BodyPart) -> Result<Option<Body>, AllocError>
 {
     match part {
         BodyPart::Regular(bytes) => Ok(Some(Body::Regular(bytes.to_vec(alloc)?))),
-        BodyPart::Symlink(target) => Ok(Some(Body::Link(target.to_vec(alloc)?))),
+        BodyPart::Symlink(target) => Ok(Some(Body::Symlink(target.to_vec(alloc)?))),
         BodyPart::Directory { next, entries } => match directory_of(alloc, *next, entries)? {
             Some(listing) => Ok(Some(Body::Directory { parent: 0, listing })),
             None => Ok(None),

@@ -3,7 +3,7 @@
 ghost use Rattle.std.specs.Prelude.{◌≡◌};
 ghost use Rattle.xdr.specs.Item.{pair, word, array, choice};
 ghost use Rattle.xdr.specs.Reading.{GivesUnless};
-ghost use Rattle.xdr.specs.ReadError.{xdr_fault};
+ghost use Rattle.xdr.specs.ReadFault.{xdr_fault};
 ghost use Rattle.fs_model.specs.nfs_items.Timeval.{timeval};
 ghost use Rattle.tree_rules.specs.GivenListing.{said_entry, said_entries};
 ghost use Rattle.file_texts.specs.FileItems.{entry_item, attributes_item, kind_item, is_file_kind, file_item};
@@ -13,7 +13,7 @@ ghost use Rattle.file_texts.specs.Parts.{time_said, attributes_said, kind_said, 
 use crate::parts::{AttributesPart, BodyPart, FilePart, TimePart};
 use std::alloc::Global;
 use tree_rules::GivenEntry;
-use xdr::{FromXdr, ReadError, Reader, XdrFault, put_back_on_err};
+use xdr::{FromXdr, ReadFault, Reader, XdrFault, put_back_on_err};
 
 /// The most bytes of a name.
 const MAX_NAME: u32 = 255;
@@ -32,14 +32,14 @@ impl<'a> FromXdr<'a> for FilePart<'a> {
 
     ghost value = { file_said };
 
-    fn read(alloc: Global, reader: &mut Reader<'a>) -> Result<FilePart<'a>, ReadError> {
+    fn read(alloc: Global, reader: &mut Reader<'a>) -> Result<FilePart<'a>, ReadFault> {
         let start = reader.rest();
         let read = read_file(alloc, reader);
         put_back_on_err(reader, start, read)
     }
 }
 
-fn read_entry<'a>(reader: &mut Reader<'a>) -> Result<GivenEntry<'a>, ReadError>
+fn read_entry<'a>(reader: &mut Reader<'a>) -> Result<GivenEntry<'a>, ReadFault>
     ensures { GivesUnless xdr_fault entry_item said_entry reader.old result reader.new }
 {
     let name = reader.opaque(MAX_NAME)?;
@@ -52,7 +52,7 @@ fn read_entry<'a>(reader: &mut Reader<'a>) -> Result<GivenEntry<'a>, ReadError>
     })
 }
 
-fn read_file<'a>(alloc: Global, reader: &mut Reader<'a>) -> Result<FilePart<'a>, ReadError>
+fn read_file<'a>(alloc: Global, reader: &mut Reader<'a>) -> Result<FilePart<'a>, ReadFault>
     ensures { GivesUnless xdr_fault file_item file_said reader.old result reader.new }
 {
     let number = reader.u32()?;
@@ -68,7 +68,7 @@ fn read_file<'a>(alloc: Global, reader: &mut Reader<'a>) -> Result<FilePart<'a>,
 fn read_kind<'a>(
     alloc: Global,
     reader: &mut Reader<'a>,
-) -> Result<(AttributesPart, BodyPart<'a>), ReadError>
+) -> Result<(AttributesPart, BodyPart<'a>), ReadFault>
     ensures { GivesUnless xdr_fault (choice is_file_kind kind_item) (λ x. kind_said x.0 x.1)
         reader.old result reader.new }
 {
@@ -85,11 +85,11 @@ fn read_kind<'a>(
             let (attributes, target) = read_symlink(reader)?;
             Ok((attributes, BodyPart::Symlink(target)))
         }
-        _ => Err(ReadError::Fault(XdrFault::BadEnum)),
+        _ => Err(ReadFault::Fault(XdrFault::BadEnum)),
     }
 }
 
-fn read_regular<'a>(reader: &mut Reader<'a>) -> Result<(AttributesPart, &'a [u8]), ReadError>
+fn read_regular<'a>(reader: &mut Reader<'a>) -> Result<(AttributesPart, &'a [u8]), ReadFault>
     ensures { GivesUnless xdr_fault (kind_item 1) (λ x. (attributes_said x.0, x.1.now))
         reader.old result reader.new }
 {
@@ -98,7 +98,7 @@ fn read_regular<'a>(reader: &mut Reader<'a>) -> Result<(AttributesPart, &'a [u8]
     Ok((attributes, bytes))
 }
 
-fn read_symlink<'a>(reader: &mut Reader<'a>) -> Result<(AttributesPart, &'a [u8]), ReadError>
+fn read_symlink<'a>(reader: &mut Reader<'a>) -> Result<(AttributesPart, &'a [u8]), ReadFault>
     ensures { GivesUnless xdr_fault (kind_item 5) (λ x. (attributes_said x.0, x.1.now))
         reader.old result reader.new }
 {
@@ -110,7 +110,7 @@ fn read_symlink<'a>(reader: &mut Reader<'a>) -> Result<(AttributesPart, &'a [u8]
 fn read_directory<'a>(
     alloc: Global,
     reader: &mut Reader<'a>,
-) -> Result<(AttributesPart, u32, Vec<GivenEntry<'a>>), ReadError>
+) -> Result<(AttributesPart, u32, Vec<GivenEntry<'a>>), ReadFault>
     ensures { GivesUnless xdr_fault (kind_item 2)
         (λ x. (attributes_said x.0, (x.1, said_entries x.2.items))) reader.old result reader.new }
 {
@@ -124,13 +124,13 @@ fn read_directory<'a>(
 fn read_entries<'a>(
     alloc: Global,
     reader: &mut Reader<'a>,
-) -> Result<Vec<GivenEntry<'a>>, ReadError>
+) -> Result<Vec<GivenEntry<'a>>, ReadFault>
     ensures { GivesUnless xdr_fault (array MAX_ENTRIES entry_item) (λ v. said_entries v.items)
         reader.old result reader.new }
 {
     let count = reader.u32()?;
     if count > MAX_ENTRIES {
-        return Err(ReadError::Fault(XdrFault::TooLong));
+        return Err(ReadFault::Fault(XdrFault::TooLong));
     }
     let mut entries = Vec::new(alloc);
     for _ in 0..count {
@@ -139,7 +139,7 @@ fn read_entries<'a>(
     Ok(entries)
 }
 
-fn read_attributes(reader: &mut Reader<'_>) -> Result<AttributesPart, ReadError>
+fn read_attributes(reader: &mut Reader<'_>) -> Result<AttributesPart, ReadFault>
     ensures { GivesUnless xdr_fault attributes_item attributes_said reader.old result reader.new }
 {
     let mode = reader.u32()?;
@@ -158,7 +158,7 @@ fn read_attributes(reader: &mut Reader<'_>) -> Result<AttributesPart, ReadError>
     })
 }
 
-fn read_time(reader: &mut Reader<'_>) -> Result<TimePart, ReadError>
+fn read_time(reader: &mut Reader<'_>) -> Result<TimePart, ReadFault>
     ensures { GivesUnless xdr_fault timeval time_said reader.old result reader.new }
 {
     let seconds = reader.u32()?;

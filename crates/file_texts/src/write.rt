@@ -44,7 +44,7 @@ fn add_kind(inode: &Inode, out: &mut Vec<u8>) -> Result<(), AllocError>
 {
     match &inode.body {
         Body::Regular(bytes) => add_regular(inode, bytes, out),
-        Body::Link(target) => add_symlink(inode, target, out),
+        Body::Symlink(target) => add_symlink(inode, target, out),
         Body::Directory { listing, .. } => add_directory(inode, listing, out),
     }
 }

@@ -138,7 +138,7 @@ impl Tree {
             self.old result self.new }
         ensures paths { IfDone result (λ number. NamesIn self.old self.new dir name.now number) }
     {
-        let body = Body::Link(target.to_vec(alloc)?);
+        let body = Body::Symlink(target.to_vec(alloc)?);
         self.make(
             alloc,
             who,

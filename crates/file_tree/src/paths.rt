@@ -15,7 +15,7 @@ impl Tree {
     {
         match &self.table.get(dir)?.body {
             Body::Directory { listing, .. } => listing.find(name).map(|entry| entry.number),
-            Body::Regular(_) | Body::Link(_) => None,
+            Body::Regular(_) | Body::Symlink(_) => None,
         }
     }
 }

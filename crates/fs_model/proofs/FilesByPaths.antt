@@ -1,6 +1,7 @@
 -- Files are told by their paths, and by what each file holds beside its names.
 -- Serves: files_are_told_by_paths (fs_model).
-use Rattle.std.proofs.Common.{◌≡◌, ℕ, ◌+◌, ◌≤◌, Bool, true, false, cond, List, [], ◌∷◌, ◌++◌, Option, Some, None, nat_eq, option_map, option_and_then, refl, sym, ap, ◌∙◌, arith}
+use Rattle.std.proofs.Common.{◌≡◌, ℕ, ◌+◌, ◌≤◌, Bool, true, false, cond, List, [], ◌∷◌, ◌++◌, Option, Some}
+use Rattle.std.proofs.Common.{None, nat_eq, option_map, option_and_then, refl, sym, ap, ◌∙◌, arith}
 use Rattle.std.specs.List.{IsDistinct}
 use Rattle.std.specs.Map.{lookup, keys_of}
 use Rattle.std.specs.Cmp.{nat_cmp_total}
@@ -9,7 +10,8 @@ use Rattle.std.specs.FinMap as finite
 use Rattle.std.proofs.lemmas.Bool.{cond-true, cond-false}
 use Rattle.fs_model.specs.Listing.{entry_at, IsRising, HasDistinctNames}
 use Rattle.fs_model.specs.Paths.{path_at}
-use Rattle.fs_model.specs.Files.{Body, Regular, Symlink, Directory, File, Files, file_at, listing_in, is_directory, IsDirectory, places, body_without_entries, without_entries}
+use Rattle.fs_model.specs.Files.{Body, Regular, Symlink, Directory, File, Files, file_at, listing_in}
+use Rattle.fs_model.specs.Files.{is_directory, IsDirectory, places, body_without_entries, without_entries}
 use Rattle.fs_model.specs.Trees.{IsBody, IsFileTree}
 use Rattle.fs_model.proofs.Walks.{none_some, some_same, step_last}
 use Rattle.fs_model.proofs.Reached.{not_before}

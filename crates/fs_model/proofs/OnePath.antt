@@ -1,6 +1,7 @@
 -- A directory has one name, so it has one path.
 -- Serves: directories_have_one_path (fs_model).
-use Rattle.std.proofs.Common.{◌≡◌, ◌≢◌, ⊎_elim, ℕ, zero, suc, ◌≤◌, List, [], ◌∷◌, ◌++◌, length, Some, sym, ap, ◌∙◌, length-append, arith}
+use Rattle.std.proofs.Common.{◌≡◌, ◌≢◌, ⊎_elim, ℕ, zero, suc, ◌≤◌, List, [], ◌∷◌, ◌++◌, length, Some, sym, ap}
+use Rattle.std.proofs.Common.{◌∙◌, length-append, arith}
 use Rattle.fs_model.specs.Paths.{path_at, HasOnePathEach}
 use Rattle.fs_model.specs.Files.{Files, IsDirectory, places}
 use Rattle.fs_model.specs.Trees.{IsFileTree}

@@ -1,6 +1,7 @@
 -- The directory that names a directory.
 -- Serves: lookup_goes_by_paths, what_is_there_is_not_stale (nfs_spec).
-use Rattle.std.proofs.Common.{◌≡◌, ⊎_elim, ℕ, List, [], ◌∷◌, ◌++◌, Some, IsSome, sym, ap, subst, ◌∙◌, eqb, eq-eqb}
+use Rattle.std.proofs.Common.{◌≡◌, ⊎_elim, ℕ, List, [], ◌∷◌, ◌++◌, Some, IsSome, sym, ap, subst, ◌∙◌, eqb}
+use Rattle.std.proofs.Common.{eq-eqb}
 use Rattle.std.proofs.lemmas.Bool.{cond-true}
 use Rattle.fs_model.specs.Paths.{path_at}
 use Rattle.fs_model.specs.Files.{Files, file_at, IsDirectory, places, parent_of}

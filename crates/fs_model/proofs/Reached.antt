@@ -1,6 +1,8 @@
 -- What has a name has a path, and what a path leads to is there.
 -- Serves: numbers_have_paths (fs_model).
-use Rattle.std.proofs.Common.{◌≡◌, ◌≢◌, Option, ⊎_elim, ℕ, ◌<◌, Bool, true, false, cond, T, List, [], ◌∷◌, ◌++◌, sum_by, Some, None, IsSome, is_some, eqb, option_and_then, refl, sym, ap, subst, ◌∙◌, arith}
+use Rattle.std.proofs.Common.{◌≡◌, ◌≢◌, Option, ⊎_elim, ℕ, ◌<◌, Bool, true, false, cond, T, List, [], ◌∷◌}
+use Rattle.std.proofs.Common.{◌++◌, sum_by, Some, None, IsSome, is_some, eqb, option_and_then, refl, sym, ap}
+use Rattle.std.proofs.Common.{subst, ◌∙◌, arith}
 use Rattle.std.specs.Prelude.{◌&&◌}
 use Rattle.std.specs.List.{IsDistinct, AllByRecursion}
 use Rattle.std.specs.Map.{lookup, keys_of}
@@ -15,7 +17,8 @@ use Rattle.std.proofs.lemmas.Bool.{cases_eq, cases_lt, eqb-true, cond-true, cond
 use Rattle.std.proofs.lemmas.List.Sums.{sum_by-cons}
 use Rattle.fs_model.specs.Listing.{entry_at, HasDistinctNames}
 use Rattle.fs_model.specs.Paths.{path_at}
-use Rattle.fs_model.specs.Files.{File, Body, Regular, Symlink, Directory, Files, file_at, listing_in, places, one_if, names_in, names_of}
+use Rattle.fs_model.specs.Files.{File, Body, Regular, Symlink, Directory, Files, file_at, listing_in, places}
+use Rattle.fs_model.specs.Files.{one_if, names_in, names_of}
 use Rattle.fs_model.specs.Trees.{IsFileTree, IsBody}
 use Rattle.fs_model.proofs.Walks.{none_some, one_number, step_last, last_name, last_step}
 use Rattle.fs_model.proofs.Counts.{all_names, find_lookup}

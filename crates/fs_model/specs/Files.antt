@@ -1,6 +1,7 @@
 -- The files of a server, as its callers see them: a map from numbers to files. The map from paths is read off
 -- it by walks. Kind, nlink, size, blocks, fsid and fileid are told by these, so that one world has one text.
-use Rattle.std.specs.Prelude.{◌≡◌, ℕ, ◌==◌, Bool, true, false, List, [], sum_by, find, nat_lt, Option, Some, option_map, option_and_then, if◌then◌else◌, refl}
+use Rattle.std.specs.Prelude.{◌≡◌, ℕ, ◌==◌, Bool, true, false, List, [], sum_by, find, nat_lt, Option, Some}
+use Rattle.std.specs.Prelude.{option_map, option_and_then, if◌then◌else◌, refl}
 use Rattle.std.specs.Option.{option_map_or}
 use Rattle.std.specs.Ordering.{nat_cmp}
 use Rattle.std.specs.FinMap as finite

@@ -1,5 +1,6 @@
 -- Paths in a tree of numbered directories, by walks along their names.
-use Rattle.std.specs.Prelude.{◌≡◌, ◌≢◌, ℕ, [], ◌∷◌, ◌++◌, Option, Some, None, IsSome, option_map, option_and_then}
+use Rattle.std.specs.Prelude.{◌≡◌, ◌≢◌, ℕ, [], ◌∷◌, ◌++◌, Option, Some, None, IsSome, option_map}
+use Rattle.std.specs.Prelude.{option_and_then}
 use Rattle.nfs_items.specs.Terms.{Name, FileNumber, Cookie}
 use Rattle.fs_model.specs.Names.{FilePath}
 use Rattle.fs_model.specs.Listing.{Place, place_number}

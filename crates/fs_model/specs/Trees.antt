@@ -6,7 +6,8 @@ use Rattle.fs_model.specs.Listing.{IsRising, HasDistinctNames}
 use Rattle.fs_model.specs.Paths.{IsTree}
 use Rattle.fs_model.specs.Maxima.{max_file_size, max_target, max_name}
 use Rattle.fs_model.specs.Names.{is_name}
-use Rattle.fs_model.specs.Files.{Body, Regular, Symlink, Directory, File, Files, file_at, IsDirectory, places, parent_of, names_of}
+use Rattle.fs_model.specs.Files.{Body, Regular, Symlink, Directory, File, Files, file_at, IsDirectory, places}
+use Rattle.fs_model.specs.Files.{parent_of, names_of}
 
 -- a body is within its limit, in bytes; the cookies of a directory rise from 3 to below the next, and its
 -- names differ

@@ -1,7 +1,8 @@
 -- One record more over a link: its reading, what is owed to it, and the world after it; the gateway's loop before its k-th
 -- turn (Turn), and what follows at each of its ends.
 -- Serves: Gateway::serve_stream (gateway).
-use Rattle.std.proofs.Common.{◌≡◌, ◌⊎◌, inl, inr, ℕ, ◌+◌, ◌≤◌, List, [], ◌∷◌, ◌++◌, arith, length, sym, ap, ◌∙◌, refl, length-append, append_assoc, subst}
+use Rattle.std.proofs.Common.{◌≡◌, ◌⊎◌, inl, inr, ℕ, ◌+◌, ◌≤◌, List, [], ◌∷◌, ◌++◌, arith, length, sym, ap}
+use Rattle.std.proofs.Common.{◌∙◌, refl, length-append, append_assoc, subst}
 use Rattle.std.specs.Prelude.{Option, Some, None, IfSome, Err}
 use Rattle.std.specs.Io.KnownBytes.{Appends}
 use Rattle.std.proofs.lemmas.List.{append-nil}
@@ -29,7 +30,9 @@ use Rattle.record_streams.specs.Faults as stream_faults
 use Rattle.record_streams.proofs.Timed.{with_times-append}
 use Rattle.gateway.specs.Serving.{text_owed, LinkStandsAfter, IfTold, LeavesOff, StandsAfter}
 use Rattle.record_streams.proofs.StreamProgress as streams
-use Rattle.record_streams.proofs.StreamProgress.{Progress, ReadsRecord, begins, pushes, stops_after, stops_before_reply, stops_in_reply, is_part, is_part_in_reply, serves}
+use Rattle.record_streams.proofs.StreamProgress.{Progress, ReadsRecord, begins, pushes, stops_after}
+use Rattle.record_streams.proofs.StreamProgress.{stops_before_reply, stops_in_reply, is_part}
+use Rattle.record_streams.proofs.StreamProgress.{is_part_in_reply, serves}
 
 -- ---- one record more: its reading, what is owed to it, and the world after it
 

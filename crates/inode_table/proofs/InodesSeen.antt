@@ -15,7 +15,8 @@ use Rattle.std.specs.Option.{option_map_or}
 use Rattle.fs_model.specs.Files.{File, Files, file_at, is_directory, parent_of}
 use Rattle.fs_model.specs.Trees.{IsBody}
 use Rattle.nfs_counts.specs.nfs_spec.FileAttributes.{attributes_of}
-use Rattle.tree_rules.specs.inodes.Inodes.{body_in, file_in, inode_at, files_of, fattr_of, parent_in, KeepsParent}
+use Rattle.tree_rules.specs.inodes.Inodes.{body_in, file_in, inode_at, files_of, fattr_of, parent_in}
+use Rattle.tree_rules.specs.inodes.Inodes.{KeepsParent}
 use Rattle.tree_rules.specs.inodes.declared.inode.Body as stored
 use Rattle.tree_rules.specs.inodes.declared.inode.Body.TheVariants as code
 use Rattle.tree_rules.specs.inodes.declared.inode.Inode.{Inode}

@@ -18,7 +18,8 @@ use Rattle.nfs_counts.proofs.Facts.{links_bounded, entries_bounded}
 use Rattle.nfs_counts.proofs.Making.{kept_by_make}
 use Rattle.nfs_counts.proofs.Linking.{kept_by_link}
 use Rattle.tree_rules.specs.inodes.declared.inode.Inode.{Inode}
-use Rattle.tree_rules.specs.inodes.Inodes.{body_in, file_in, files_of, inode_at, parent_in, stored_at, links_at}
+use Rattle.tree_rules.specs.inodes.Inodes.{body_in, file_in, files_of, inode_at, parent_in, stored_at}
+use Rattle.tree_rules.specs.inodes.Inodes.{links_at}
 use Rattle.tree_rules.specs.inodes.Inodes.{above_at}
 use Rattle.inode_table.specs.Edits.Slots.{ChangesFile, ChangesLinks, AddsNamed}
 use Rattle.inode_table.proofs.OfEdits.EditedInodes.{other_stored}

@@ -15,7 +15,8 @@ use Rattle.fs_model.proofs.Walks.{none_some, some_same}
 use Rattle.fs_model.specs.Changes.Edits.{with_name, without_name, map_listing}
 use Rattle.fs_model.specs.Changes.Limits.{blocks_in}
 use Rattle.fs_model.proofs.OfChanges.Shapes.{kind, changed_kinds}
-use Rattle.nfs_counts.specs.nfs_spec.Changes.{touch, touch_ctime, unlink, after_unlink, with_ctime, with_mtime}
+use Rattle.nfs_counts.specs.nfs_spec.Changes.{touch, touch_ctime, unlink, after_unlink, with_ctime}
+use Rattle.nfs_counts.specs.nfs_spec.Changes.{with_mtime}
 use Rattle.nfs_counts.specs.nfs_spec.Procedures.{unlink_target, move_entry}
 use Rattle.nfs_counts.proofs.nfs_laws.OfTrees.FilesFit.{dir_file, distinct_names}
 use Rattle.nfs_counts.specs.Counted.{IsKept}
@@ -25,12 +26,14 @@ use Rattle.nfs_counts.proofs.Facts.{entries_bounded, links_positive, links_bound
 use Rattle.nfs_counts.proofs.Unlinking.{last_name_told}
 use Rattle.nfs_counts.proofs.OfMoves.Moving.{kept_by_move}
 use Rattle.tree_rules.specs.inodes.declared.inode.Inode.{Inode}
-use Rattle.tree_rules.specs.inodes.Inodes.{body_in, file_in, files_of, inode_at, stored_at, links_at, above_at}
+use Rattle.tree_rules.specs.inodes.Inodes.{body_in, file_in, files_of, inode_at, stored_at, links_at}
+use Rattle.tree_rules.specs.inodes.Inodes.{above_at}
 use Rattle.inode_table.specs.Edits.Moves.{DropsTarget, GainsLink, LosesName}
 use Rattle.inode_table.specs.Edits.Slots.{ChangesFile, MayUnname, SetsParent, TakesEntry}
 use Rattle.inode_table.proofs.OfEdits.EditedInodes.{other_stored}
 use Rattle.tree_rules.proofs.inodes.FilesSeen.{file_seen}
-use Rattle.inode_table.proofs.OfEdits.Listed.{relisted_kind, unlink_swap, unlinked_other, name_swap, name_again}
+use Rattle.inode_table.proofs.OfEdits.Listed.{relisted_kind, unlink_swap, unlinked_other, name_swap}
+use Rattle.inode_table.proofs.OfEdits.Listed.{name_again}
 use Rattle.inode_table.specs.declared.table.InodeTable.TheInside.{Inside}
 use Rattle.inode_table.specs.Kept.{AreKept}
 use Rattle.inode_table.proofs.KeptRemoval.{freed_most, may_unname, some_entry}

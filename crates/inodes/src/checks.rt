@@ -90,7 +90,7 @@ impl Inode {
     {
         match &self.body {
             Body::Directory { listing, .. } => Ok(listing),
-            Body::Regular(_) | Body::Link(_) => Err(Stat::NotDir),
+            Body::Regular(_) | Body::Symlink(_) => Err(Stat::NotDir),
         }
     }
 }

@@ -43,7 +43,7 @@ impl Inode {
     {
         match &mut self.body {
             Body::Directory { listing, .. } => listing.put(name, number),
-            Body::Regular(_) | Body::Link(_) => Ok(()),
+            Body::Regular(_) | Body::Symlink(_) => Ok(()),
         }
     }
 

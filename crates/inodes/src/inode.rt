@@ -25,7 +25,7 @@ pub enum Body {
     /// At most `MAX_FILE_SIZE` bytes.
     Regular(Vec<u8>),
     /// The target of a symbolic link, at most 1,024 bytes.
-    Link(Vec<u8>),
+    Symlink(Vec<u8>),
     Directory {
         /// The number of the directory above; the root's own for the root.
         parent: u32,
@@ -51,7 +51,7 @@ impl Body {
     {
         match self {
             Body::Regular(_) => FileType::Regular,
-            Body::Link(_) => FileType::Link,
+            Body::Symlink(_) => FileType::Link,
             Body::Directory { .. } => FileType::Directory,
         }
     }
@@ -62,7 +62,7 @@ impl Body {
     {
         match self {
             Body::Regular(_) => 0o100000,
-            Body::Link(_) => 0o120000,
+            Body::Symlink(_) => 0o120000,
             Body::Directory { .. } => 0o040000,
         }
     }
@@ -88,7 +88,7 @@ impl Body {
     {
         match self {
             Body::Regular(bytes) => (bytes.len() as u32 + BLOCK_SIZE - 1) / BLOCK_SIZE,
-            Body::Link(_) | Body::Directory { .. } => 0,
+            Body::Symlink(_) | Body::Directory { .. } => 0,
         }
     }
 
@@ -100,7 +100,7 @@ impl Body {
     {
         match self {
             Body::Regular(bytes) => bytes.len() as u32,
-            Body::Link(target) => target.len() as u32,
+            Body::Symlink(target) => target.len() as u32,
             Body::Directory { .. } => BLOCK_SIZE,
         }
     }
@@ -114,7 +114,7 @@ impl Body {
     {
         match self {
             Body::Regular(bytes) => content::resize(bytes, size as usize),
-            Body::Link(_) | Body::Directory { .. } => Ok(()),
+            Body::Symlink(_) | Body::Directory { .. } => Ok(()),
         }
     }
 
@@ -140,7 +140,7 @@ impl Body {
     {
         match self {
             Body::Regular(bytes) => content::write_at(bytes, offset as usize, new),
-            Body::Link(_) | Body::Directory { .. } => Ok(()),
+            Body::Symlink(_) | Body::Directory { .. } => Ok(()),
         }
     }
 }
@@ -255,7 +255,7 @@ impl Inode {
     {
         match &self.body {
             Body::Regular(bytes) => Ok(bytes.as_slice()),
-            Body::Link(_) => Err(Stat::NxIo),
+            Body::Symlink(_) => Err(Stat::NxIo),
             Body::Directory { .. } => Err(Stat::IsDir),
         }
     }
@@ -265,7 +265,7 @@ impl Inode {
         ensures { result_map_both (λ target. target.now) (λ e. e) result ≡ target_of (body_in self.now.body) }
     {
         match &self.body {
-            Body::Link(target) => Ok(target.as_slice()),
+            Body::Symlink(target) => Ok(target.as_slice()),
             Body::Regular(_) | Body::Directory { .. } => Err(Stat::NxIo),
         }
     }

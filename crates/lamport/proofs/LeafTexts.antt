@@ -1,9 +1,11 @@
 -- A leaf's text and a signature's two texts, as far as the first n places: each is empty (or the byte 0) at
 -- first, grows by one place's piece, and is the whole at PLACES.
 -- Serves: OneTimeKey::leaf_hash, OneTimeKey::texts, shown_key (lamport).
-use Rattle.std.proofs.Common.{◌≡◌, ℕ, ◌+◌, Bool, true, false, not, cond, List, [], ◌∷◌, ◌++◌, refl, sym, append_assoc, add-one}
+use Rattle.std.proofs.Common.{◌≡◌, ℕ, ◌+◌, Bool, true, false, not, cond, List, [], ◌∷◌, ◌++◌, refl, sym}
+use Rattle.std.proofs.Common.{append_assoc, add-one}
 use Rattle.sha2.specs.Sha256.{sha256}
-use Rattle.lamport.specs.Lamport.{end_to_end, piece, LeafKey, secret, public_hash, digest_bit, leaf_text, leaf_hash, shown_hash, shown_secrets, other_hashes}
+use Rattle.lamport.specs.Lamport.{end_to_end, piece, LeafKey, secret, public_hash, digest_bit, leaf_text}
+use Rattle.lamport.specs.Lamport.{leaf_hash, shown_hash, shown_secrets, other_hashes}
 use Rattle.lamport.specs.declared.key.TheConstants.{PLACES}
 
 -- no pieces

@@ -2,13 +2,15 @@
 -- that key, and all keys that one signature shows have one leaf hash.
 -- Serves: a_key_shows_itself, a_signature_shows_one_key (lamport); Signer::sign, signed_under_the_key_shown,
 -- each_leaf_signs_under_the_root (merkle_keys).
-use Rattle.std.proofs.Common.{◌≡◌, ℕ, zero, suc, ◌+◌, ◌*◌, ◌<◌, ◌≤◌, Bool, true, false, not, List, ◌++◌, length, drop, refl, sym, ap, ◌∙◌, arith, length-append, length-drop, inl, inr}
+use Rattle.std.proofs.Common.{◌≡◌, ℕ, zero, suc, ◌+◌, ◌*◌, ◌<◌, ◌≤◌, Bool, true, false, not, List, ◌++◌}
+use Rattle.std.proofs.Common.{length, drop, refl, sym, ap, ◌∙◌, arith, length-append, length-drop, inl, inr}
 use Rattle.std.proofs.lemmas.List.{take-append-le, drop-append-le}
 use Rattle.std.proofs.Math.Seq.{take-length, drop-append_seam}
 use Rattle.std.proofs.lemmas.Bool.{cases_lt}
 use Rattle.sha2.specs.Sha256.{sha256}
 use Rattle.sha2.proofs.Facts256.{length-sha256}
-use Rattle.lamport.specs.Lamport.{end_to_end, piece, LeafKey, secret, public_hash, digest_bit, leaf_text, leaf_hash, shown_hash, shown_secrets, other_hashes, Shows}
+use Rattle.lamport.specs.Lamport.{end_to_end, piece, LeafKey, secret, public_hash, digest_bit, leaf_text}
+use Rattle.lamport.specs.Lamport.{leaf_hash, shown_hash, shown_secrets, other_hashes, Shows}
 use Rattle.lamport.specs.declared.key.TheConstants.{PLACES, TEXT_SIZE}
 
 -- n pieces of 32 bytes

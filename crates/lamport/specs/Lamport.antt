@@ -1,6 +1,7 @@
 -- One-time keys over SHA-256 (FIPS 180-4), after L. Lamport, Constructing digital signatures from a
 -- one way function, 1979. A key signs a digest of 256 bits by showing one secret for each of them.
-use Rattle.std.specs.Prelude.{◌≡◌, ℕ, zero, suc, ◌-◌, ◌*◌, ◌/◌, ◌%◌, ◌<◌, Bool, true, false, not, List, [], ◌∷◌, ◌++◌, take, drop, slice_index, ◌==◌, if◌then◌else◌}
+use Rattle.std.specs.Prelude.{◌≡◌, ℕ, zero, suc, ◌-◌, ◌*◌, ◌/◌, ◌%◌, ◌<◌, Bool, true, false, not, List, []}
+use Rattle.std.specs.Prelude.{◌∷◌, ◌++◌, take, drop, slice_index, ◌==◌, if◌then◌else◌}
 use Rattle.std.specs.Int.{w32, bit_at, to_be_bytes}
 use Rattle.sha2.specs.Sha256.{sha256}
 use Rattle.lamport.specs.declared.key.TheConstants.{PLACES}

@@ -1,7 +1,9 @@
 //! Keys that sign once.
 
-ghost use Rattle.std.specs.Prelude.{◌≡◌, ◌<◌, ◌^◌, ◌+◌, ◌≤◌, IfOk, IfErr, not, ◌++◌, if◌then◌else◌, vec_len, vec_capacity};
-ghost use Rattle.lamport.specs.Lamport.{LeafKey, digest_bit, secret, public_hash, leaf_hash, shown_secrets, other_hashes};
+ghost use Rattle.std.specs.Prelude.{◌≡◌, ◌<◌, ◌^◌, ◌+◌, ◌≤◌, IfOk, IfErr, not, ◌++◌, if◌then◌else◌, vec_len};
+ghost use Rattle.std.specs.Prelude.{vec_capacity};
+ghost use Rattle.lamport.specs.Lamport.{LeafKey, digest_bit, secret, public_hash, leaf_hash, shown_secrets};
+ghost use Rattle.lamport.specs.Lamport.{other_hashes};
 
 use crate::buffers::TextBuffers;
 use crate::shown::{digest_bit, leaf_start};

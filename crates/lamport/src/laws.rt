@@ -1,7 +1,8 @@
 //! What holds of what a signature shows.
 
 ghost use Rattle.std.specs.Prelude.{◌≡◌, ℕ, Bool, List};
-ghost use Rattle.lamport.specs.Lamport.{LeafKey, Shows, public_hash, leaf_hash, shown_hash, shown_secrets, other_hashes};
+ghost use Rattle.lamport.specs.Lamport.{LeafKey, Shows, public_hash, leaf_hash, shown_hash, shown_secrets};
+ghost use Rattle.lamport.specs.Lamport.{other_hashes};
 
 /// What a key shows of itself for a digest shows its public hashes.
 pub fn a_key_shows_itself()

@@ -1,6 +1,7 @@
 //! Signers, of which each leaf signs once.
 
-ghost use Rattle.std.specs.Prelude.{◌≡◌, ◌↔◌, ◌+◌, ◌-◌, ◌^◌, ◌<◌, ◌≤◌, [], ◌∷◌, ◌++◌, length, slice_index_or, IfOk, OnOk, OnErr, vec_len, vec_capacity};
+ghost use Rattle.std.specs.Prelude.{◌≡◌, ◌↔◌, ◌+◌, ◌-◌, ◌^◌, ◌<◌, ◌≤◌, [], ◌∷◌, ◌++◌, length, slice_index_or};
+ghost use Rattle.std.specs.Prelude.{IfOk, OnOk, OnErr, vec_len, vec_capacity};
 ghost use Rattle.merkle_keys.specs.Tree.{root, authentication_path};
 ghost use Rattle.merkle_keys.specs.declared.signer.SignFault.TheVariants.{NoMemory};
 ghost use Rattle.merkle_keys.specs.Signing.{Signed, signature_of};

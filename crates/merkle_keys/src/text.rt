@@ -6,7 +6,7 @@ ghost use Rattle.sha2.specs.Sha256.{sha256};
 ghost use Rattle.sha2.specs.Hashers.{Holds256};
 ghost use Rattle.xdr.specs.Item.{Fits, Value, fixed, array, spelling};
 ghost use Rattle.xdr.specs.Reading.{GivesUnless, ReadsUnless};
-ghost use Rattle.xdr.specs.ReadError.{xdr_fault};
+ghost use Rattle.xdr.specs.ReadFault.{xdr_fault};
 ghost use Rattle.xdr.specs.Writing.{Writes, Adds};
 ghost use Rattle.merkle_keys.specs.Signing.{signature_item, signature_value};
 
@@ -14,21 +14,21 @@ use crate::signature::{MAX_HEIGHT, Signature};
 use lamport::TEXT_SIZE;
 use sha2::{Digest, Sha256};
 use std::alloc::{AllocError, Global};
-use xdr::{FromXdr, ReadError, Reader, Writer, XdrFault, all_or_nothing, put_back_on_err};
+use xdr::{FromXdr, ReadFault, Reader, Writer, XdrFault, all_or_nothing, put_back_on_err};
 
 impl<'a> FromXdr<'a> for Signature {
     ghost item = { signature_item };
 
     ghost value = { signature_value };
 
-    fn read(alloc: Global, reader: &mut Reader<'a>) -> Result<Signature, ReadError> {
+    fn read(alloc: Global, reader: &mut Reader<'a>) -> Result<Signature, ReadFault> {
         let start = reader.rest();
         let read = read_fields(alloc, reader);
         put_back_on_err(reader, start, read)
     }
 }
 
-fn read_fields<'a>(alloc: Global, reader: &mut Reader<'a>) -> Result<Signature, ReadError>
+fn read_fields<'a>(alloc: Global, reader: &mut Reader<'a>) -> Result<Signature, ReadFault>
     ensures { GivesUnless xdr_fault signature_item signature_value reader.old result reader.new }
 {
     let leaf = reader.u32()?;
@@ -43,14 +43,14 @@ fn read_fields<'a>(alloc: Global, reader: &mut Reader<'a>) -> Result<Signature, 
     })
 }
 
-fn read_path<'a>(alloc: Global, reader: &mut Reader<'a>) -> Result<Vec<[u8; 32]>, ReadError>
+fn read_path<'a>(alloc: Global, reader: &mut Reader<'a>) -> Result<Vec<[u8; 32]>, ReadFault>
     ensures few { IfOk result (λ v. length v.items ≤ MAX_HEIGHT) }
     ensures text { GivesUnless xdr_fault (array MAX_HEIGHT (fixed 32)) (λ v. v.items)
         reader.old result reader.new }
 {
     let count = reader.u32()?;
     if count > MAX_HEIGHT {
-        return Err(ReadError::Fault(XdrFault::TooLong));
+        return Err(ReadFault::Fault(XdrFault::TooLong));
     }
     let mut path = Vec::with_capacity(alloc, count as usize)?;
     for _ in 0..count {
@@ -59,7 +59,7 @@ fn read_path<'a>(alloc: Global, reader: &mut Reader<'a>) -> Result<Vec<[u8; 32]>
     Ok(path)
 }
 
-fn read_hash(reader: &mut Reader<'_>) -> Result<[u8; 32], ReadError>
+fn read_hash(reader: &mut Reader<'_>) -> Result<[u8; 32], ReadFault>
     ensures { ReadsUnless xdr_fault (fixed 32) (λ b. b) reader.old result reader.new }
 {
     Ok(*reader.fixed::<32>()?)

@@ -12,7 +12,8 @@ use Rattle.mount_types.specs.declared.arguments.MountProcedure.TheVariants as pr
 use Rattle.mount_types.specs.Items.{mountlist, exportlist}
 use Rattle.mount_types.specs.Calls as calls
 use Rattle.mount_types.specs.Calls.{MountAnswer}
-use Rattle.mount_types.specs.Texts.{mount_program, answer_item, answer_value, answer_text, procedure_of, IsAnswerTo}
+use Rattle.mount_types.specs.Texts.{mount_program, answer_item, answer_value, answer_text, procedure_of}
+use Rattle.mount_types.specs.Texts.{IsAnswerTo}
 
 -- the answer of a procedure that stands at the front
 answer_at : MountProcedure → List ℕ → Read MountAnswer

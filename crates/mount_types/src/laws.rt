@@ -7,7 +7,8 @@ ghost use Rattle.nfs_items.specs.Programs.{KeepsBounds, SpellsAnswers};
 ghost use Rattle.mount_types.specs.declared.arguments.MountProcedure.{MountProcedure};
 ghost use Rattle.mount_types.specs.Calls.{MountAnswer};
 ghost use Rattle.mount_types.specs.Bounds.{HasBounds};
-ghost use Rattle.mount_types.specs.Texts.{mount_program, procedure_of, procedure_at, answer_item, answer_value};
+ghost use Rattle.mount_types.specs.Texts.{mount_program, procedure_of, procedure_at, answer_item};
+ghost use Rattle.mount_types.specs.Texts.{answer_value};
 ghost use Rattle.mount_types.specs.Texts.{answer_text, IsAnswerTo};
 
 use crate::limits::{MNTNAMLEN, MNTPATHLEN};

@@ -1,6 +1,7 @@
 -- Other contents of a file leave what is kept, but for the blocks.
 -- Serves: contents_leave_the_links.
-use Rattle.std.proofs.Common.{◌≡◌, ⊎_elim, ℕ, ◌+◌, ◌<◌, ◌≤◌, ◌^◌, Option, Some, None, is_some, option_map, refl, sym, ap, subst, ◌∙◌, arith}
+use Rattle.std.proofs.Common.{◌≡◌, ⊎_elim, ℕ, ◌+◌, ◌<◌, ◌≤◌, ◌^◌, Option, Some, None, is_some, option_map}
+use Rattle.std.proofs.Common.{refl, sym, ap, subst, ◌∙◌, arith}
 use Rattle.std.proofs.lemmas.Bool.{cases_eq}
 use Rattle.nfs_items.specs.Timeval.{Timeval}
 use Rattle.nfs_laws.specs.fs_model.Files.{File, Files, file_at, listing_in, is_directory}
@@ -8,7 +9,8 @@ use Rattle.nfs_laws.specs.fs_model.Trees.{IsTime, IsFile}
 use Rattle.nfs_laws.proofs.fs_model.Walks.{none_some, some_same}
 use Rattle.nfs_laws.specs.fs_model.Changes.Edits.{with_changed_file}
 use Rattle.nfs_laws.specs.fs_model.Changes.Limits.{blocks_in}
-use Rattle.nfs_laws.proofs.fs_model.OfChanges.Finite.{nothing_changes, changed_here, changed_other, total_changed}
+use Rattle.nfs_laws.proofs.fs_model.OfChanges.Finite.{nothing_changes, changed_here, changed_other}
+use Rattle.nfs_laws.proofs.fs_model.OfChanges.Finite.{total_changed}
 use Rattle.nfs_laws.proofs.fs_model.OfChanges.Shapes.{same_shape, changed_files}
 use Rattle.nfs_laws.proofs.fs_model.OfEditedTrees.SameShape.{stays_shaped}
 use Rattle.nfs_laws.proofs.fs_model.OfChanges.Room.{within}

@@ -1,13 +1,15 @@
 -- How great and how small kept numbers are.
 -- Serves: kept_numbers_are_bounded.
-use Rattle.std.proofs.Common.{◌≡◌, ℕ, ◌+◌, ◌≤◌, Bool, true, false, cond, List, length, Option, Some, None, is_some, nat_eq, sum_by, option_map, refl, sym, ap, ◌∙◌, arith}
+use Rattle.std.proofs.Common.{◌≡◌, ℕ, ◌+◌, ◌≤◌, Bool, true, false, cond, List, length, Option, Some, None}
+use Rattle.std.proofs.Common.{is_some, nat_eq, sum_by, option_map, refl, sym, ap, ◌∙◌, arith}
 use Rattle.std.specs.Option.{option_map_or}
 use Rattle.std.specs.Ordering.{nat_cmp, eq_by_cmp}
 use Rattle.std.specs.Cmp.Lexicographic.{pointwise}
 use Rattle.std.specs.FinMap as finite
 use Rattle.std.proofs.lemmas.List.Sums.{count_by-le-length, sum_by-le-sum_by}
 use Rattle.nfs_laws.specs.fs_model.Listing.{entry_number}
-use Rattle.nfs_laws.specs.fs_model.Files.{Body, Regular, Symlink, Directory, File, Files, file_at, listing_in, is_directory, IsDirectory, places, names_of, names_in}
+use Rattle.nfs_laws.specs.fs_model.Files.{Body, Regular, Symlink, Directory, File, Files, file_at, listing_in}
+use Rattle.nfs_laws.specs.fs_model.Files.{is_directory, IsDirectory, places, names_of, names_in}
 use Rattle.nfs_laws.proofs.fs_model.Walks.{none_some, some_same}
 use Rattle.nfs_laws.proofs.fs_model.Counts.{count_of_one, sum_by_second, file_in, place_in}
 use Rattle.nfs_laws.specs.fs_model.Changes.Limits.{entry_count}

@@ -1,6 +1,7 @@
 -- What is kept beside files, by counts of theirs; the directory above one stays where its name does.
 -- Serves: the laws of counts here.
-use Rattle.std.proofs.Common.{◌≡◌, ◌≢◌, ⊎_elim, ℕ, ◌<◌, ◌^◌, Bool, true, false, List, [], Option, Some, None, IsSome, is_some, option_map, refl, sym, ap, ◌∙◌, arith}
+use Rattle.std.proofs.Common.{◌≡◌, ◌≢◌, ⊎_elim, ℕ, ◌<◌, ◌^◌, Bool, true, false, List, [], Option, Some, None}
+use Rattle.std.proofs.Common.{IsSome, is_some, option_map, refl, sym, ap, ◌∙◌, arith}
 use Rattle.std.specs.Prelude.{IsTrue}
 use Rattle.std.specs.Option.{option_map_or}
 use Rattle.std.proofs.lemmas.Bool.{cases_eq, or_right}

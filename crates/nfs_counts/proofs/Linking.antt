@@ -1,6 +1,7 @@
 -- Another name of a file counts for the file, and is kept.
 -- Serves: linking_counts_one_name_more.
-use Rattle.std.proofs.Common.{◌≡◌, ◌≢◌, ⊎_elim, ℕ, ◌+◌, ◌<◌, ◌^◌, Bool, true, false, List, Option, Some, is_some, option_map, refl, sym, ap, subst, ◌∙◌, arith}
+use Rattle.std.proofs.Common.{◌≡◌, ◌≢◌, ⊎_elim, ℕ, ◌+◌, ◌<◌, ◌^◌, Bool, true, false, List, Option, Some}
+use Rattle.std.proofs.Common.{is_some, option_map, refl, sym, ap, subst, ◌∙◌, arith}
 use Rattle.std.specs.Prelude.{IsTrue}
 use Rattle.std.proofs.lemmas.Bool.{cases_eq}
 use Rattle.nfs_items.specs.Timeval.{Timeval}
@@ -25,7 +26,8 @@ use Rattle.nfs_laws.proofs.OfSizes.Words.{touch_on, name_on, mark_on}
 use Rattle.nfs_counts.specs.Counted.{IsKept}
 use Rattle.nfs_counts.specs.CountChanges.{MayLink}
 use Rattle.nfs_counts.specs.Links.Links.{link_count}
-use Rattle.nfs_counts.proofs.OfLinks.LinkCounts.{touched_alike, marked_alike, HasEntryMore, more_links, named_more}
+use Rattle.nfs_counts.proofs.OfLinks.LinkCounts.{touched_alike, marked_alike, HasEntryMore, more_links}
+use Rattle.nfs_counts.proofs.OfLinks.LinkCounts.{named_more}
 use Rattle.nfs_counts.proofs.Kept.{kept_links, counted_by, added_parents, superuser, may_edit, says_words}
 
 module _ (now : Timeval) (time : IsTime now) (word : now.seconds < 2 ^ 32) (fs : Files)

@@ -1,6 +1,7 @@
 -- A new file under a name counts where it is named, and is kept.
 -- Serves: making_counts_the_new_file.
-use Rattle.std.proofs.Common.{◌≡◌, ◌≢◌, ⊎_elim, ℕ, ◌+◌, ◌<◌, ◌^◌, Bool, true, false, cond, List, Some, None, IsSome, is_some, refl, sym, ap, subst, ◌∙◌, arith}
+use Rattle.std.proofs.Common.{◌≡◌, ◌≢◌, ⊎_elim, ℕ, ◌+◌, ◌<◌, ◌^◌, Bool, true, false, cond, List, Some, None}
+use Rattle.std.proofs.Common.{IsSome, is_some, refl, sym, ap, subst, ◌∙◌, arith}
 use Rattle.std.specs.Prelude.{IsTrue}
 use Rattle.std.proofs.lemmas.Bool.{cases_eq}
 use Rattle.nfs_items.specs.Timeval.{Timeval}
@@ -26,7 +27,8 @@ use Rattle.nfs_laws.proofs.OfSizes.Words.{make_on}
 use Rattle.nfs_counts.specs.Counted.{IsKept}
 use Rattle.nfs_counts.specs.CountChanges.{MayMake, CountsMade}
 use Rattle.nfs_counts.specs.Links.Links.{link_count}
-use Rattle.nfs_counts.proofs.OfLinks.LinkCounts.{touched_alike, HasEntryMore, more_links, named_more, new_others, new_own, new_entries, new_blocks}
+use Rattle.nfs_counts.proofs.OfLinks.LinkCounts.{touched_alike, HasEntryMore, more_links, named_more}
+use Rattle.nfs_counts.proofs.OfLinks.LinkCounts.{new_others, new_own, new_entries, new_blocks}
 use Rattle.nfs_counts.proofs.Kept.{kept_links, counted_by, added_parents, superuser, may_edit, says_words}
 
 module _ (now : Timeval) (time : IsTime now) (word : now.seconds < 2 ^ 32) (fs : Files)

@@ -1,6 +1,7 @@
 -- A name that goes counts no more, and is kept.
 -- Serves: unlinking_counts_one_name_less.
-use Rattle.std.proofs.Common.{◌≡◌, ◌≢◌, ℕ, ◌+◌, ◌<◌, ◌^◌, List, Option, is_some, option_map, refl, sym, ap, ◌∙◌, arith, eqb}
+use Rattle.std.proofs.Common.{◌≡◌, ◌≢◌, ℕ, ◌+◌, ◌<◌, ◌^◌, List, Option, is_some, option_map, refl, sym, ap}
+use Rattle.std.proofs.Common.{◌∙◌, arith, eqb}
 use Rattle.nfs_items.specs.Timeval.{Timeval}
 use Rattle.nfs_laws.specs.fs_model.Files.{File, Files, is_directory, names_of}
 use Rattle.nfs_laws.specs.fs_model.Trees.{IsTime}

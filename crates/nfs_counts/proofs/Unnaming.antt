@@ -1,6 +1,8 @@
 -- What the going of a name does to nlinks, and which name is the last.
 -- Serves: unlinking_counts_one_name_less here, and Moving.
-use Rattle.std.proofs.Common.{◌≡◌, ◌≢◌, ⊎_elim, ℕ, ◌+◌, Bool, true, false, cond, List, [], Option, Some, None, IsSome, is_some, nat_eq, eqb, option_map, option_and_then, refl, sym, ap, subst, ◌∙◌, arith, eq-eqb, ne_eqb}
+use Rattle.std.proofs.Common.{◌≡◌, ◌≢◌, ⊎_elim, ℕ, ◌+◌, Bool, true, false, cond, List, [], Option, Some, None}
+use Rattle.std.proofs.Common.{IsSome, is_some, nat_eq, eqb, option_map, option_and_then, refl, sym, ap, subst}
+use Rattle.std.proofs.Common.{◌∙◌, arith, eq-eqb, ne_eqb}
 use Rattle.std.specs.Prelude.{◌||◌}
 use Rattle.std.specs.Map.{lookup}
 use Rattle.std.specs.Cmp.Lexicographic.{pointwise}
@@ -20,7 +22,8 @@ use Rattle.nfs_laws.specs.nfs_spec.Changes.{unlink, after_unlink}
 use Rattle.nfs_laws.proofs.OfTrees.FilesFit.{dir_file, distinct_names, mark_shape}
 use Rattle.nfs_counts.specs.CountChanges.{is_last_name, CountsUnlinked}
 use Rattle.nfs_counts.specs.Links.Links.{link_count}
-use Rattle.nfs_counts.proofs.OfLinks.LinkCounts.{marked_alike, HasEntryMore, more_links, unnamed_less, gone_others, gone_entries, gone_blocks, plain_links}
+use Rattle.nfs_counts.proofs.OfLinks.LinkCounts.{marked_alike, HasEntryMore, more_links, unnamed_less}
+use Rattle.nfs_counts.proofs.OfLinks.LinkCounts.{gone_others, gone_entries, gone_blocks, plain_links}
 
 -- files that a name went from, and the file with it where the name was its last
 pub record IsUnlinked (w w' : Files) (d n : ℕ) (f : File) (last : Bool) : Type 0 where

@@ -1,9 +1,11 @@
 -- What each change of files takes, and what it does to what is kept beside them.
-use Rattle.std.specs.Prelude.{◌≡◌, ◌≢◌, ℕ, ◌+◌, ◌==◌, ◌≤◌, ◌||◌, ◌&&◌, Bool, true, false, IsTrue, [], length, Option, Some, None, option_map, if◌then◌else◌}
+use Rattle.std.specs.Prelude.{◌≡◌, ◌≢◌, ℕ, ◌+◌, ◌==◌, ◌≤◌, ◌||◌, ◌&&◌, Bool, true, false, IsTrue, [], length}
+use Rattle.std.specs.Prelude.{Option, Some, None, option_map, if◌then◌else◌}
 use Rattle.nfs_items.specs.Terms.{FileNumber, Cookie, Name}
 use Rattle.nfs_laws.specs.fs_model.Names.{is_name}
 use Rattle.nfs_laws.specs.fs_model.Maxima.{max_name, max_number}
-use Rattle.nfs_laws.specs.fs_model.Files.{Body, File, Files, file_at, listing_in, listing, is_directory, IsDirectory, places}
+use Rattle.nfs_laws.specs.fs_model.Files.{Body, File, Files, file_at, listing_in, listing, is_directory}
+use Rattle.nfs_laws.specs.fs_model.Files.{IsDirectory, places}
 use Rattle.nfs_laws.specs.fs_model.Trees.{IsFile}
 use Rattle.nfs_laws.specs.fs_model.Changes.Limits.{blocks_in}
 use Rattle.nfs_laws.specs.nfs_spec.Procedures.{is_above}

@@ -11,7 +11,8 @@ ghost use Rattle.nfs_laws.specs.fs_model.Changes.Limits.{blocks_in};
 ghost use Rattle.nfs_laws.specs.nfs_spec.Changes.{touch, touch_ctime, unlink};
 ghost use Rattle.nfs_laws.specs.nfs_spec.Procedures.{add_file};
 ghost use Rattle.nfs_counts.specs.Counted.{IsKept};
-ghost use Rattle.nfs_counts.specs.CountChanges.{MayChange, MayMake, CountsMade, MayLink, MayUnlink, is_last_name, blocks_freed, CountsUnlinked};
+ghost use Rattle.nfs_counts.specs.CountChanges.{MayChange, MayMake, CountsMade, MayLink, MayUnlink};
+ghost use Rattle.nfs_counts.specs.CountChanges.{is_last_name, blocks_freed, CountsUnlinked};
 
 /// Other contents of a file, with the same entries, leave what is kept as it is, but for the blocks; times
 /// leave it all.

@@ -1,7 +1,8 @@
 -- Each call, by file handles, gives in a tree the stat of the first of `checks_of` that fails: what a call
 -- adds to its procedure (a handle to be read, attributes to be shown) gives no stat but STALE.
 -- Serves: stats_of_calls.
-use Rattle.std.proofs.Common.{◌≡◌, ℕ, Bool, true, false, cond, List, [], ◌∷◌, Option, Some, None, Result, Ok, Err, is_some, option_map, option_and_then, refl, sym, ap, ◌∙◌, arith}
+use Rattle.std.proofs.Common.{◌≡◌, ℕ, Bool, true, false, cond, List, [], ◌∷◌, Option, Some, None, Result, Ok}
+use Rattle.std.proofs.Common.{Err, is_some, option_map, option_and_then, refl, sym, ap, ◌∙◌, arith}
 use Rattle.std.specs.Prelude.{IsSome, unwrap_or}
 use Rattle.nfs_items.specs.Timeval.{Timeval}
 use Rattle.nfs_items.specs.Caller.{Caller}
@@ -20,7 +21,8 @@ use Rattle.nfs_spec.specs.Effects.{attributes_at, number_named, number_at_name}
 use Rattle.nfs_spec.specs.LawTerms.{stat_in}
 use Rattle.nfs_types.specs.Calls as calls
 use Rattle.nfs_types.specs.Calls.{Call, Answer}
-use Rattle.nfs_spec.specs.NfsCalls.{answer_and_files, with_attributes, with_handle, without_number, number_for, call_does}
+use Rattle.nfs_spec.specs.NfsCalls.{answer_and_files, with_attributes, with_handle, without_number}
+use Rattle.nfs_spec.specs.NfsCalls.{number_for, call_does}
 use Rattle.nfs_spec.proofs.Present.{named_there}
 use Rattle.nfs_laws.specs.Steps.Answers.{refusal_in}
 use Rattle.nfs_laws.proofs.OfSteps.Steps.{bind_ok, no_error, found_ok, directory_ok}
@@ -30,7 +32,8 @@ use Rattle.nfs_laws.proofs.OfSteps.Making.{make_ok, create_ok}
 use Rattle.nfs_errors.specs.Checks.{Checks, first_failing, is_there}
 use Rattle.nfs_errors.specs.Tables.{lookup_checks, checks_of}
 use Rattle.nfs_errors.proofs.StepsInTurn.{HasStat, no_some}
-use Rattle.nfs_errors.proofs.ReaderChecks.{of_getattr, of_lookup, of_read_link, of_read, of_read_dir, of_figures}
+use Rattle.nfs_errors.proofs.ReaderChecks.{of_getattr, of_lookup, of_read_link, of_read, of_read_dir}
+use Rattle.nfs_errors.proofs.ReaderChecks.{of_figures}
 use Rattle.nfs_errors.proofs.WriteChecks.{of_write}
 use Rattle.nfs_errors.proofs.MakeChecks.{of_make}
 use Rattle.nfs_errors.proofs.SetattrChecks.{of_set}

@@ -12,7 +12,8 @@ use Rattle.fs_model.specs.Names.{is_name}
 use Rattle.fs_model.specs.Files.{Regular, Files, file_at, places}
 use Rattle.fs_model.specs.Trees.{IsFileTree}
 use Rattle.fs_model.specs.Changes.Limits.{has_room}
-use Rattle.nfs_spec.specs.ProcedureChecks.{NumberedDir, file_of, dir_of, check, check_size, check_room, may_search, may_write}
+use Rattle.nfs_spec.specs.ProcedureChecks.{NumberedDir, file_of, dir_of, check, check_size, check_room}
+use Rattle.nfs_spec.specs.ProcedureChecks.{may_search, may_write}
 use Rattle.nfs_spec.specs.Sattr.{GivenFields}
 use Rattle.nfs_spec.specs.Changes.{new_file}
 use Rattle.nfs_spec.specs.Procedures.{set_attributes, create_over, create_new, create, is_regular, add_file}
@@ -20,7 +21,8 @@ use Rattle.nfs_laws.specs.Steps.Granted.{IsFound}
 use Rattle.nfs_laws.proofs.OfSteps.Steps.{found_ok, dir_ok, place_found}
 use Rattle.nfs_errors.specs.Checks.{Checks, holds_at, if_given}
 use Rattle.nfs_errors.specs.Tables.{set_checks, create_checks}
-use Rattle.nfs_errors.proofs.StepsInTurn.{HasStat, in_turn, done, of_check, of_same, of_that_file, of_dir, of_test_at, named_file}
+use Rattle.nfs_errors.proofs.StepsInTurn.{HasStat, in_turn, done, of_check, of_same, of_that_file, of_dir}
+use Rattle.nfs_errors.proofs.StepsInTurn.{of_test_at, named_file}
 use Rattle.nfs_errors.proofs.SetattrChecks.{of_set}
 
 module _ (w : Files) (tree : IsFileTree w) (who : Caller) (now : Timeval) (dir : ℕ) (name : List ℕ) where

@@ -1,7 +1,8 @@
 -- No step of any procedure is refused with IO, NODEV, ROFS, NAMETOOLONG, DQUOT or WFLUSH: `Gives` goes
 -- through each of its steps, whatever the files are.
 -- Serves: some_stats_are_never_given.
-use Rattle.std.proofs.Common.{◌≡◌, ◌≢◌, ℕ, Bool, true, false, List, [], Option, Some, None, Result, Ok, Err, option_map, refl, sym, ap, subst, ◌∙◌}
+use Rattle.std.proofs.Common.{◌≡◌, ◌≢◌, ℕ, Bool, true, false, List, [], Option, Some, None, Result, Ok, Err}
+use Rattle.std.proofs.Common.{option_map, refl, sym, ap, subst, ◌∙◌}
 use Rattle.std.specs.Prelude.{if◌then◌else◌}
 use Rattle.std.specs.Option.{option_map_or}
 use Rattle.nfs_items.specs.Timeval.{Timeval}
@@ -9,14 +10,17 @@ use Rattle.nfs_items.specs.Caller.{Caller}
 use Rattle.nfs_items.specs.declared.stat.Stat.{Stat}
 use Rattle.nfs_items.specs.declared.stat.Stat.TheVariants as stats
 use Rattle.fs_model.specs.Files.{Body, Regular, Symlink, Directory, File, Files, file_at}
-use Rattle.nfs_spec.specs.ProcedureChecks.{◌>>=◌, NumberedDir, ok_or, file_of, listing_or, dir_of, check, check_edit, number_at, bytes_of, target_of}
+use Rattle.nfs_spec.specs.ProcedureChecks.{◌>>=◌, NumberedDir, ok_or, file_of, listing_or, dir_of, check}
+use Rattle.nfs_spec.specs.ProcedureChecks.{check_edit, number_at, bytes_of, target_of}
 use Rattle.nfs_spec.specs.Sattr.{GivenFields, given_fields, no_fields}
 use Rattle.nfs_spec.specs.Changes.{check_owner, check_resize, new_file, Effect}
 use Rattle.nfs_spec.specs.Effects.{attributes_at, number_at_name, getattr, lookup}
-use Rattle.nfs_spec.specs.Procedures.{set_attributes, read_link, read, write, create_over, create_new, create, make, link, remove, remove_dir, check_target, rename, read_dir, stat_fs}
+use Rattle.nfs_spec.specs.Procedures.{set_attributes, read_link, read, write, create_over, create_new, create}
+use Rattle.nfs_spec.specs.Procedures.{make, link, remove, remove_dir, check_target, rename, read_dir, stat_fs}
 use Rattle.nfs_types.specs.Calls as calls
 use Rattle.nfs_types.specs.Calls.{Call, Answer}
-use Rattle.nfs_spec.specs.NfsCalls.{answer_and_files, with_attributes, with_handle, without_number, number_for, call_does}
+use Rattle.nfs_spec.specs.NfsCalls.{answer_and_files, with_attributes, with_handle, without_number}
+use Rattle.nfs_spec.specs.NfsCalls.{number_for, call_does}
 use Rattle.nfs_spec.specs.LawTerms.{stat_in}
 use Rattle.nfs_laws.specs.Steps.Answers.{refusal_in}
 use Rattle.fs_model.specs.Listing.{entry_at}

@@ -14,7 +14,8 @@ use Rattle.nfs_spec.specs.Procedures.{link}
 use Rattle.nfs_laws.proofs.OfSteps.Steps.{found_ok, dir_ok}
 use Rattle.nfs_errors.specs.Checks.{is_dir}
 use Rattle.nfs_errors.specs.Tables.{link_checks}
-use Rattle.nfs_errors.proofs.StepsInTurn.{HasStat, in_turn, done, of_check, of_same, of_file, of_dir, test_at, of_edit, of_free}
+use Rattle.nfs_errors.proofs.StepsInTurn.{HasStat, in_turn, done, of_check, of_same, of_file, of_dir, test_at}
+use Rattle.nfs_errors.proofs.StepsInTurn.{of_edit, of_free}
 
 -- LINK: the file, its kind, the directory, the edit, the free name, and room
 pub of_link : (w : Files) (who : Caller) (now : Timeval) (from dir : ℕ) (name : List ℕ) → HasStat (link w who now from dir name) (link_checks w who now from dir name)

@@ -1,18 +1,22 @@
 -- GETATTR, LOOKUP, READLINK, READ, READDIR and STATFS give the stat of the first of their checks that fails.
 -- Serves: stats_are_of_the_first_failing_check; by CallChecks stats_of_calls.
-use Rattle.std.proofs.Common.{◌≡◌, ℕ, Bool, true, false, cond, List, [], ◌∷◌, Option, Some, None, Err, refl, sym, ap, subst, ◌∙◌}
+use Rattle.std.proofs.Common.{◌≡◌, ℕ, Bool, true, false, cond, List, [], ◌∷◌, Option, Some, None, Err, refl}
+use Rattle.std.proofs.Common.{sym, ap, subst, ◌∙◌}
 use Rattle.std.specs.Prelude.{◌||◌, is_some}
 use Rattle.std.specs.Option.{option_map_or}
 use Rattle.nfs_items.specs.Caller.{Caller}
 use Rattle.nfs_items.specs.declared.stat.Stat.TheVariants as stats
 use Rattle.fs_model.specs.Listing.{Listing}
 use Rattle.fs_model.specs.Files.{File, Files, file_at, listing, listing_in}
-use Rattle.nfs_spec.specs.ProcedureChecks.{ok_or, listing_or, file_of, dir_of, bytes_of, check, permits, may_search, may_read}
+use Rattle.nfs_spec.specs.ProcedureChecks.{ok_or, listing_or, file_of, dir_of, bytes_of, check, permits}
+use Rattle.nfs_spec.specs.ProcedureChecks.{may_search, may_read}
 use Rattle.nfs_spec.specs.Effects.{attributes_at, number_named, number_at_name}
 use Rattle.nfs_spec.specs.Procedures.{read_link, read, read_dir, stat_fs}
 use Rattle.nfs_laws.proofs.OfSteps.Steps.{found_ok, directory_ok, dir_ok}
-use Rattle.nfs_errors.specs.Tables.{file_checks, lookup_checks, read_link_checks, read_checks, read_dir_checks}
-use Rattle.nfs_errors.proofs.StepsInTurn.{HasStat, in_turn, done, of_file, of_dir, of_listing_at, of_bytes_at, of_target_at, of_test_at, test_at}
+use Rattle.nfs_errors.specs.Tables.{file_checks, lookup_checks, read_link_checks, read_checks}
+use Rattle.nfs_errors.specs.Tables.{read_dir_checks}
+use Rattle.nfs_errors.proofs.StepsInTurn.{HasStat, in_turn, done, of_file, of_dir, of_listing_at, of_bytes_at}
+use Rattle.nfs_errors.proofs.StepsInTurn.{of_target_at, of_test_at, test_at}
 
 -- GETATTR: STALE
 pub of_getattr : (w : Files) (n : ℕ) → HasStat (attributes_at w n) (file_checks w n)

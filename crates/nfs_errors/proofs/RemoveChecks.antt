@@ -13,7 +13,8 @@ use Rattle.nfs_spec.specs.Procedures.{remove, remove_dir}
 use Rattle.nfs_laws.proofs.OfSteps.Steps.{found_ok, directory_ok, dir_ok, number_ok, place_found}
 use Rattle.nfs_errors.specs.Checks.{holds_named, is_dir}
 use Rattle.nfs_errors.specs.Tables.{remove_checks, remove_dir_checks}
-use Rattle.nfs_errors.proofs.StepsInTurn.{HasStat, in_turn, done, of_same, of_that_file, of_dir, test_named, named_file, of_listing, of_edit, of_number}
+use Rattle.nfs_errors.proofs.StepsInTurn.{HasStat, in_turn, done, of_same, of_that_file, of_dir, test_named}
+use Rattle.nfs_errors.proofs.StepsInTurn.{named_file, of_listing, of_edit, of_number}
 
 module _ (w : Files) (tree : IsFileTree w) (who : Caller) (now : Timeval) (dir : ℕ) (name : List ℕ) where
   -- REMOVE: `remove_checks`

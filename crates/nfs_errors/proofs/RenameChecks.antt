@@ -1,7 +1,8 @@
 -- RENAME gives in a tree the stat of the first of `rename_checks` that fails; where both names stand for one
 -- file nothing more is asked.
 -- Serves: stats_of_rename; by CallChecks stats_of_calls.
-use Rattle.std.proofs.Common.{◌≡◌, ℕ, Bool, true, false, cond, not, List, [], ◌∷◌, Option, Some, None, Result, Ok, option_map, refl, sym, ap, subst, ◌∙◌}
+use Rattle.std.proofs.Common.{◌≡◌, ℕ, Bool, true, false, cond, not, List, [], ◌∷◌, Option, Some, None, Result}
+use Rattle.std.proofs.Common.{Ok, option_map, refl, sym, ap, subst, ◌∙◌}
 use Rattle.std.specs.Prelude.{◌&&◌, ◌||◌, ◌==◌, nat_le, is_none}
 use Rattle.std.specs.Option.{option_map_or}
 use Rattle.nfs_items.specs.Timeval.{Timeval}
@@ -11,13 +12,15 @@ use Rattle.nfs_items.specs.declared.stat.Stat.TheVariants as stats
 use Rattle.fs_model.specs.Listing.{Listing, entry_at}
 use Rattle.fs_model.specs.Files.{File, Files, file_at, listing, listing_in, is_directory, places}
 use Rattle.fs_model.specs.Trees.{IsFileTree}
-use Rattle.nfs_spec.specs.ProcedureChecks.{◌>>=◌, NumberedDir, file_of, dir_of, check, check_cookie, check_edit, number_at}
+use Rattle.nfs_spec.specs.ProcedureChecks.{◌>>=◌, NumberedDir, file_of, dir_of, check, check_cookie}
+use Rattle.nfs_spec.specs.ProcedureChecks.{check_edit, number_at}
 use Rattle.nfs_spec.specs.Procedures.{is_above, check_target, move_entry, rename}
 use Rattle.nfs_laws.specs.Steps.Granted.{IsFound}
 use Rattle.nfs_laws.proofs.OfSteps.Steps.{found_ok, dir_ok, number_ok, place_found}
 use Rattle.nfs_errors.specs.Checks.{Checks, holds_named, is_dir, lists_nothing}
 use Rattle.nfs_errors.specs.Tables.{is_same_file, is_named_above, rename_checks}
-use Rattle.nfs_errors.proofs.StepsInTurn.{HasStat, in_turn, done, of_same, of_that_file, of_dir, test_named, named_file, of_edit, of_number}
+use Rattle.nfs_errors.proofs.StepsInTurn.{HasStat, in_turn, done, of_same, of_that_file, of_dir, test_named}
+use Rattle.nfs_errors.proofs.StepsInTurn.{named_file, of_edit, of_number}
 
 branch : {A : Type 0} (b : Bool) (x : A) (r : Result A Stat) (cs : Checks) → HasStat r cs → HasStat (cond b (Ok x) r) (cond b [] cs)
 branch true x r cs h = done x

@@ -17,7 +17,8 @@ use Rattle.nfs_spec.specs.Procedures.{set_attributes}
 use Rattle.nfs_laws.proofs.OfSteps.Steps.{found_ok}
 use Rattle.nfs_errors.specs.Checks.{holds_at, if_given, is_link}
 use Rattle.nfs_errors.specs.Tables.{set_checks}
-use Rattle.nfs_errors.proofs.StepsInTurn.{HasStat, in_turn, done, of_check, of_same, of_file, test_at, of_bytes_at, of_test_at}
+use Rattle.nfs_errors.proofs.StepsInTurn.{HasStat, in_turn, done, of_check, of_same, of_file, test_at}
+use Rattle.nfs_errors.proofs.StepsInTurn.{of_bytes_at, of_test_at}
 
 given_same : {A : Type 0} (o : Option A) (p q : A → Bool) → ((x : A) → p x ≡ q x) → if_given o p ≡ if_given o q
 given_same None p q same = refl

@@ -1,7 +1,8 @@
 -- A step's stat is that of the first of its checks that fails, and of steps in turn that of the first of all
 -- their checks: `in_turn` joins them; the steps that procedures share follow, each with its checks.
 -- Serves: all laws of this crate but some_stats_are_never_given.
-use Rattle.std.proofs.Common.{◌≡◌, ℕ, Bool, true, false, cond, List, [], ◌∷◌, ◌++◌, Option, Some, None, Result, Ok, Err, option_map, not, refl, sym, ap, subst, ◌∙◌}
+use Rattle.std.proofs.Common.{◌≡◌, ℕ, Bool, true, false, cond, List, [], ◌∷◌, ◌++◌, Option, Some, None}
+use Rattle.std.proofs.Common.{Result, Ok, Err, option_map, not, refl, sym, ap, subst, ◌∙◌}
 use Rattle.std.specs.Prelude.{◌&&◌, is_some, is_none, IsSome}
 use Rattle.std.specs.Option.{option_map_or}
 use Rattle.nfs_items.specs.Caller.{Caller}
@@ -9,11 +10,14 @@ use Rattle.nfs_items.specs.declared.stat.Stat.{Stat}
 use Rattle.nfs_items.specs.declared.stat.Stat.TheVariants as stats
 use Rattle.fs_model.specs.Listing.{entry_at}
 use Rattle.fs_model.specs.Names.{is_name}
-use Rattle.fs_model.specs.Files.{Body, Regular, Symlink, Directory, File, Files, file_at, is_directory, places}
+use Rattle.fs_model.specs.Files.{Body, Regular, Symlink, Directory, File, Files, file_at, is_directory}
+use Rattle.fs_model.specs.Files.{places}
 use Rattle.fs_model.specs.Trees.{IsFileTree}
 use Rattle.fs_model.proofs.Walks.{none_some}
 use Rattle.nfs_spec.specs.FileAttributes.{is_directory_at}
-use Rattle.nfs_spec.specs.ProcedureChecks.{◌>>=◌, NumberedDir, ok_or, listing_or, file_of, dir_of, check, check_edit, check_free, number_at, bytes_of, target_of, may_search, may_write}
+use Rattle.nfs_spec.specs.ProcedureChecks.{◌>>=◌, NumberedDir, ok_or, listing_or, file_of, dir_of, check}
+use Rattle.nfs_spec.specs.ProcedureChecks.{check_edit, check_free, number_at, bytes_of, target_of, may_search}
+use Rattle.nfs_spec.specs.ProcedureChecks.{may_write}
 use Rattle.nfs_spec.specs.LawTerms.{stat_in}
 use Rattle.nfs_laws.specs.Steps.Granted.{IsFound}
 use Rattle.nfs_laws.proofs.OfSteps.Steps.{place_found}

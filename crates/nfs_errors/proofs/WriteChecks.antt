@@ -1,6 +1,7 @@
 -- WRITE gives the stat of the first of `write_checks` that fails.
 -- Serves: stats_of_changes_are_of_the_first_failing_check; by CallChecks stats_of_calls.
-use Rattle.std.proofs.Common.{◌≡◌, ℕ, ◌+◌, Bool, true, false, cond, List, [], ◌∷◌, length, Option, Result, Ok, refl, ap, ◌∙◌}
+use Rattle.std.proofs.Common.{◌≡◌, ℕ, ◌+◌, Bool, true, false, cond, List, [], ◌∷◌, length, Option, Result, Ok}
+use Rattle.std.proofs.Common.{refl, ap, ◌∙◌}
 use Rattle.std.specs.Prelude.{◌||◌, ◌==◌, nat_le}
 use Rattle.std.specs.Option.{option_map_or}
 use Rattle.nfs_items.specs.Timeval.{Timeval}
@@ -15,7 +16,8 @@ use Rattle.nfs_spec.specs.Procedures.{with_bytes_written, write}
 use Rattle.nfs_laws.proofs.OfSteps.Steps.{found_ok, bytes_ok}
 use Rattle.nfs_errors.specs.Checks.{bytes_in, bytes_at}
 use Rattle.nfs_errors.specs.Tables.{after_write, write_checks}
-use Rattle.nfs_errors.proofs.StepsInTurn.{HasStat, in_turn, done, of_check, of_same, of_file, of_bytes_at, of_test_at}
+use Rattle.nfs_errors.proofs.StepsInTurn.{HasStat, in_turn, done, of_check, of_same, of_file, of_bytes_at}
+use Rattle.nfs_errors.proofs.StepsInTurn.{of_test_at}
 
 -- where there is nothing to do the last two checks pass
 of_some : {A : Type 0} (none size room : Bool) (x : A) (r : Result A Stat) → HasStat r ((size, stats.FBig) ∷ (room, stats.NoSpc) ∷ [])

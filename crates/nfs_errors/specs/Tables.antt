@@ -1,6 +1,7 @@
 -- The checks of each procedure of NFS version 2 (RFC 1094, section 2.2), in order, each with its stat. The
 -- standard leaves the choice and the order of stats open.
-use Rattle.std.specs.Prelude.{ℕ, ◌+◌, ◌==◌, ◌||◌, ◌&&◌, not, nat_le, Bool, false, List, [], ◌∷◌, ◌++◌, length, Option, is_some, is_none, if◌then◌else◌}
+use Rattle.std.specs.Prelude.{ℕ, ◌+◌, ◌==◌, ◌||◌, ◌&&◌, not, nat_le, Bool, false, List, [], ◌∷◌, ◌++◌, length}
+use Rattle.std.specs.Prelude.{Option, is_some, is_none, if◌then◌else◌}
 use Rattle.std.specs.Option.{option_map_or}
 use Rattle.nfs_items.specs.Timeval.{Timeval}
 use Rattle.nfs_items.specs.Caller.{Caller}
@@ -22,7 +23,8 @@ use Rattle.nfs_types.specs.Calls as calls
 use Rattle.nfs_laws.specs.Steps.Granted.{new_regular, new_directory, new_link}
 use Rattle.nfs_types.specs.Calls.{Call}
 use Rattle.nfs_spec.specs.NfsCalls.{number_for}
-use Rattle.nfs_errors.specs.Checks.{Checks, is_there, holds_at, holds_named, names_directory, if_given, is_link, lists_nothing, bytes_at}
+use Rattle.nfs_errors.specs.Checks.{Checks, is_there, holds_at, holds_named, names_directory, if_given}
+use Rattle.nfs_errors.specs.Checks.{is_link, lists_nothing, bytes_at}
 
 -- ---- shared
 

@@ -12,12 +12,16 @@ ghost use Rattle.fs_model.specs.Trees.{IsFileTree};
 ghost use Rattle.nfs_spec.specs.Effects.{attributes_at, number_at_name};
 ghost use Rattle.nfs_spec.specs.LawTerms.{stat_in};
 ghost use Rattle.nfs_spec.specs.Sattr.{GivenFields};
-ghost use Rattle.nfs_spec.specs.Procedures.{set_attributes, read_link, read, write, create, remove, rename, link, symlink, make_dir, remove_dir, read_dir, stat_fs};
+ghost use Rattle.nfs_spec.specs.Procedures.{set_attributes, read_link, read, write, create, remove, rename};
+ghost use Rattle.nfs_spec.specs.Procedures.{link, symlink, make_dir, remove_dir, read_dir, stat_fs};
 ghost use Rattle.nfs_types.specs.Calls.{Call};
 ghost use Rattle.nfs_spec.specs.NfsCalls.{call_does};
 ghost use Rattle.nfs_laws.specs.Steps.Answers.{refusal_in};
 ghost use Rattle.nfs_errors.specs.Checks.{first_failing};
-ghost use Rattle.nfs_errors.specs.Tables.{file_checks, set_checks, lookup_checks, read_link_checks, read_checks, write_checks, create_checks, remove_checks, rename_checks, link_checks, symlink_checks, make_dir_checks, remove_dir_checks, read_dir_checks, checks_of};
+ghost use Rattle.nfs_errors.specs.Tables.{file_checks, set_checks, lookup_checks, read_link_checks};
+ghost use Rattle.nfs_errors.specs.Tables.{read_checks, write_checks, create_checks, remove_checks};
+ghost use Rattle.nfs_errors.specs.Tables.{rename_checks, link_checks, symlink_checks, make_dir_checks};
+ghost use Rattle.nfs_errors.specs.Tables.{remove_dir_checks, read_dir_checks, checks_of};
 
 /// The stat is that of the first check that fails, and there is none where all pass: of the procedures that
 /// only read.

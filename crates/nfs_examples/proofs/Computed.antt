@@ -1,7 +1,8 @@
 -- Files that a list of numbers and files gives, where each entry shadows those of its number after it: what is
 -- looked up in them, counted over them, and left of them after each kind of change.
 -- Serves: all worked calls of this crate, so that each computes to its whole answer.
-use Rattle.std.proofs.Common.{◌≡◌, ℕ, List, [], ◌∷◌, length, map, sum_by, Option, Some, None, refl, sym, ap, ◌∙◌, arith, true, false, cond, not, Equal}
+use Rattle.std.proofs.Common.{◌≡◌, ℕ, List, [], ◌∷◌, length, map, sum_by, Option, Some, None, refl, sym, ap}
+use Rattle.std.proofs.Common.{◌∙◌, arith, true, false, cond, not, Equal}
 use Rattle.std.specs.Ordering.{nat_cmp, eq_by_cmp}
 use Rattle.std.specs.FinMap as finite
 use Rattle.std.specs.FinMap.Entries.{where_key, find-where_key}

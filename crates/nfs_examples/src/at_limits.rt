@@ -9,8 +9,10 @@ ghost use Rattle.nfs_spec.specs.Sattr.{given_fields};
 ghost use Rattle.nfs_spec.specs.Opening.{epoch, hello, opening_files};
 ghost use Rattle.nfs_spec.specs.Effects.{attributes_at};
 ghost use Rattle.nfs_spec.specs.Procedures.{write, create, rename};
-ghost use Rattle.nfs_examples.specs.Worked.{superuser, size_alone, ignored, soon, files_from, a, x, y, with_three};
-ghost use Rattle.nfs_examples.specs.AtLimits.{last, past_last, with_bytes, with_file_named, with_x, with_cookie, with_last_cookie};
+ghost use Rattle.nfs_examples.specs.Worked.{superuser, size_alone, ignored, soon, files_from, a, x, y};
+ghost use Rattle.nfs_examples.specs.Worked.{with_three};
+ghost use Rattle.nfs_examples.specs.AtLimits.{last, past_last, with_bytes, with_file_named, with_x};
+ghost use Rattle.nfs_examples.specs.AtLimits.{with_cookie, with_last_cookie};
 
 /// WRITE of any 8,192 bytes over `hello` by user 0, and its attributes then; of any bytes by another, who
 /// may not.

@@ -9,7 +9,8 @@ ghost use Rattle.nfs_spec.specs.Opening.{epoch, opening_files};
 ghost use Rattle.nfs_spec.specs.Effects.{number_at_name, getattr};
 ghost use Rattle.nfs_spec.specs.Procedures.{create, link, remove, symlink, read_link, make_dir, remove_dir};
 ghost use Rattle.nfs_examples.specs.Worked.{superuser, size_alone, ignored, files_from};
-ghost use Rattle.nfs_examples.specs.Linked.{e, f, g, s, with_f, with_f_and_g, with_g, with_neither, with_f_again, with_s, with_e, without_e};
+ghost use Rattle.nfs_examples.specs.Linked.{e, f, g, s, with_f, with_f_and_g, with_g, with_neither};
+ghost use Rattle.nfs_examples.specs.Linked.{with_f_again, with_s, with_e, without_e};
 
 /// CREATE of `f`, LINK of it as `g`, and GETATTR: two links. REMOVE of `f`: one link. REMOVE of `g`, and
 /// GETATTR by its handle: STALE. CREATE of `f`: the next number and the next cookie.

@@ -8,11 +8,17 @@ ghost use Rattle.nfs_items.specs.declared.attributes.FileType.TheVariants as typ
 ghost use Rattle.fs_model.specs.Names.{dot, dot_dot};
 ghost use Rattle.nfs_spec.specs.FileAttributes.{attributes_of};
 ghost use Rattle.nfs_spec.specs.Sattr.{given_fields};
-ghost use Rattle.nfs_spec.specs.Opening.{epoch, hello, first_file, opening_root, opening_hello, opening_files};
+ghost use Rattle.nfs_spec.specs.Opening.{epoch, hello, first_file, opening_root, opening_hello};
+ghost use Rattle.nfs_spec.specs.Opening.{opening_files};
 ghost use Rattle.nfs_spec.specs.Effects.{attributes_at, number_at_name, getattr};
-ghost use Rattle.nfs_spec.specs.Procedures.{read, write, read_dir, read_link, stat_fs, set_attributes, create, make_dir, symlink, rename, link, remove, remove_dir};
+ghost use Rattle.nfs_spec.specs.Procedures.{read, write, read_dir, read_link, stat_fs, set_attributes};
+ghost use Rattle.nfs_spec.specs.Procedures.{create, make_dir, symlink, rename, link, remove, remove_dir};
 ghost use Rattle.fs_model.specs.Files.{Regular, names_of};
-ghost use Rattle.nfs_examples.specs.Worked.{superuser, size_alone, ignored, files_from, with_cut, with_unlinked, a, d, with_directory, with_renamed, with_link, root_between, soon, with_written, empty_file, with_made, root_emptied, with_next, link_to_t, b, c, with_inner, with_nested, with_nested_renamed, x, y, with_three, with_two};
+ghost use Rattle.nfs_examples.specs.Worked.{superuser, size_alone, ignored, files_from, with_cut};
+ghost use Rattle.nfs_examples.specs.Worked.{with_unlinked, a, d, with_directory, with_renamed, with_link};
+ghost use Rattle.nfs_examples.specs.Worked.{root_between, soon, with_written, empty_file, with_made};
+ghost use Rattle.nfs_examples.specs.Worked.{root_emptied, with_next, link_to_t, b, c, with_inner};
+ghost use Rattle.nfs_examples.specs.Worked.{with_nested, with_nested_renamed, x, y, with_three, with_two};
 
 /// READ, WRITE without permission, READDIR and STATFS of the files that a server begins with.
 pub fn reads_of_the_opening()

@@ -1,6 +1,7 @@
 -- The caller that the body of an AUTH_SYS credential says, and the body that says a caller.
 -- Serves: `credentials_say_callers`.
-use Rattle.std.proofs.Common.{◌≡◌, ℕ, ◌<◌, ◌^◌, Bool, true, false, List, [], ◌∷◌, ◌++◌, length, Option, Some, None, Ok, option_map, refl, sym, ap, ◌∙◌, append-nil, arith}
+use Rattle.std.proofs.Common.{◌≡◌, ℕ, ◌<◌, ◌^◌, Bool, true, false, List, [], ◌∷◌, ◌++◌, length, Option, Some}
+use Rattle.std.proofs.Common.{None, Ok, option_map, refl, sym, ap, ◌∙◌, append-nil, arith}
 use Rattle.std.specs.Prelude.{◌==◌}
 use Rattle.std.proofs.lemmas.Bool.{eqb-true}
 use Rattle.xdr.specs.Item.{Value, Fits, IsBytes}
@@ -9,7 +10,8 @@ use Rattle.xdr.specs.Texts.Text.{text_at}
 use Rattle.xdr.proofs.Exact.{again}
 use Rattle.xdr.proofs.OfTexts.WholeTexts.{is_text, text_more, text_end}
 use Rattle.nfs_items.specs.Caller.{Caller}
-use Rattle.nfs_items.specs.Credentials.{authsys_parms, credential_text, caller_of_parms, caller_in, body_of, caller_from, IsCaller}
+use Rattle.nfs_items.specs.Credentials.{authsys_parms, credential_text, caller_of_parms, caller_in, body_of}
+use Rattle.nfs_items.specs.Credentials.{caller_from, IsCaller}
 
 -- the parameters that a body holds
 parms_in : (body : List ℕ) (who : Caller) → caller_in body ≡ Some who → (v : Value authsys_parms) × (text_at credential_text body ≡ Some v) × (caller_of_parms v ≡ who)

@@ -1,6 +1,7 @@
 -- The file number that a handle tells, and that no other bytes tell it.
 -- Serves: `laws::handles_tell_numbers`.
-use Rattle.std.proofs.Common.{◌≡◌, ℕ, ◌^◌, ◌<◌, Bool, true, false, cond, List, ◌++◌, drop, replicate, Some, None, refl, sym, ap, ◌∙◌}
+use Rattle.std.proofs.Common.{◌≡◌, ℕ, ◌^◌, ◌<◌, Bool, true, false, cond, List, ◌++◌, drop, replicate, Some}
+use Rattle.std.proofs.Common.{None, refl, sym, ap, ◌∙◌}
 use Rattle.std.specs.Prelude.{◌↔◌, nat_eq}
 use Rattle.std.specs.Cmp.Lexicographic.{pointwise}
 use Rattle.std.proofs.lemmas.Slice.Eq.{bytes_eq-Decides}

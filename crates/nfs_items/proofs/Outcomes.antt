@@ -6,7 +6,8 @@ use Rattle.std.proofs.lemmas.List.{append-nil}
 use Rattle.xdr.specs.Item.{Item, word, Value, Fits, spelling}
 use Rattle.xdr.specs.Reading.{Read, ◌>>=◌, read_at}
 use Rattle.xdr.proofs.Exact.{again}
-use Rattle.nfs_items.specs.Attributes.{stat_or, stat_value, stat_number, outcome_of, outcome_value, outcome_text}
+use Rattle.nfs_items.specs.Attributes.{stat_or, stat_value, stat_number, outcome_of, outcome_value}
+use Rattle.nfs_items.specs.Attributes.{outcome_text}
 use Rattle.nfs_items.specs.declared.stat.Stat.{Stat}
 use Rattle.nfs_items.specs.declared.stat.Stat.TheVariants as stats
 

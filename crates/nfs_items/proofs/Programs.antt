@@ -1,7 +1,8 @@
 -- What reading a remote program's calls gives is what their bytes say: found, and nothing else.
 -- Serves: in nfs_types and mount_types the readers of arguments and the law `arguments_are_read_as_spelled`; in
 -- nfs_types::result_texts and mount_types the laws `answers_are_spelled` and `answers_have_one_meaning`.
-use Rattle.std.proofs.Common.{◌≡◌, ℕ, ◌≤◌, length, List, ◌++◌, Some, None, Ok, Err, refl, sym, ap, subst, ◌∙◌, ⊎_elim}
+use Rattle.std.proofs.Common.{◌≡◌, ℕ, ◌≤◌, length, List, ◌++◌, Some, None, Ok, Err, refl, sym, ap, subst, ◌∙◌}
+use Rattle.std.proofs.Common.{⊎_elim}
 use Rattle.std.specs.Prelude.{◌↔◌, Result, IfOk, IsOkAnd}
 use Rattle.std.proofs.lemmas.List.{take_at, drop_at}
 use Rattle.std.proofs.lemmas.Option.{slice_get_past, slice_get-get_or}
@@ -12,7 +13,8 @@ use Rattle.xdr.specs.Reading.{Read, ◌>>=◌, read_at}
 use Rattle.xdr.proofs.Front.{IsBytes-take, IsBytes-drop, bind_ok, done, ok_is}
 use Rattle.xdr.proofs.Exact.{takes, again, is_spelled}
 use Rattle.nfs_items.specs.Programs.{Program, procedure_at, said, call_at, SaysCall, GivesCall, answer_text}
-use Rattle.nfs_items.specs.Programs.{ReadsWhatIsSaid, HasFaultsOfItems, SaysOneCall, SaysOwnCalls, KeepsBounds, SpellsAnswers}
+use Rattle.nfs_items.specs.Programs.{ReadsWhatIsSaid, HasFaultsOfItems, SaysOneCall, SaysOwnCalls}
+use Rattle.nfs_items.specs.Programs.{KeepsBounds, SpellsAnswers}
 
 -- A value of a procedure's arguments says a call of that procedure.
 abbrev pub OwnValues : {P Call Answer : Type 0} → Program P Call Answer → Type 0

@@ -38,13 +38,13 @@ pub struct Fattr {
 
 impl Fattr {
     ghost use Rattle.std.specs.Prelude.{◌-◌, vec_len, vec_capacity};
-    ghost use Rattle.xdr.specs.Writing.{Writes, Takes};
+    ghost use Rattle.xdr.specs.Writing.{Writes, Spends};
     ghost use Rattle.nfs_items.specs.Attributes.{fattr, fattr_value};
 
     /// Appends the attributes, 68 bytes. Where memory is refused, the bytes stay as they were.
     pub fn write(&self, out: &mut Vec<u8>) -> Result<(), AllocError>
         ensures writes { Writes fattr (fattr_value self.now) out.old.items result out.new.items }
-        ensures room { Takes 68 (vec_capacity out.old - vec_len out.old)
+        ensures room { Spends 68 (vec_capacity out.old - vec_len out.old)
             result (vec_capacity out.new - vec_len out.new) }
     {
         out.put_u32s(&[

@@ -13,7 +13,7 @@ pub struct FileHandle(pub [u8; 32]);
 impl FileHandle {
     ghost use Rattle.xdr.specs.Reading.{Reads};
     ghost use Rattle.std.specs.Prelude.{◌-◌, vec_len, vec_capacity};
-    ghost use Rattle.xdr.specs.Writing.{Writes, Takes};
+    ghost use Rattle.xdr.specs.Writing.{Writes, Spends};
     ghost use Rattle.nfs_items.specs.Handle.{fhandle, handle_of, number_in};
 
     /// The file handle of a file number on the node fsid.
@@ -51,7 +51,7 @@ impl FileHandle {
     /// Appends the file handle. Where memory is refused, the bytes stay as they were.
     pub fn write(&self, out: &mut Vec<u8>) -> Result<(), AllocError>
         ensures writes { Writes fhandle self.now.0 out.old.items result out.new.items }
-        ensures room { Takes 32 (vec_capacity out.old - vec_len out.old)
+        ensures room { Spends 32 (vec_capacity out.old - vec_len out.old)
             result (vec_capacity out.new - vec_len out.new) }
     {
         out.put_fixed(&self.0)

@@ -46,13 +46,13 @@ pub enum Stat {
 impl Stat {
     ghost use Rattle.std.specs.Prelude.{◌-◌, vec_len, vec_capacity};
     ghost use Rattle.xdr.specs.Item.{word};
-    ghost use Rattle.xdr.specs.Writing.{Writes, Takes};
+    ghost use Rattle.xdr.specs.Writing.{Writes, Spends};
     ghost use Rattle.nfs_items.specs.Attributes.{stat_number};
 
     /// Appends the stat's number, 4 bytes. Where memory is refused, the bytes stay as they were.
     pub fn write(self, out: &mut Vec<u8>) -> Result<(), AllocError>
         ensures writes { Writes word (stat_number self) out.old.items result out.new.items }
-        ensures room { Takes 4 (vec_capacity out.old - vec_len out.old)
+        ensures room { Spends 4 (vec_capacity out.old - vec_len out.old)
             result (vec_capacity out.new - vec_len out.new) }
     {
         out.put_u32(self as u32)

@@ -1,6 +1,7 @@
 -- What is set, written or made is a file within its limits.
 -- Serves: trees_stay_trees.
-use Rattle.std.proofs.Common.{◌≡◌, ℕ, ◌+◌, ◌%◌, ◌<◌, ◌≤◌, Bool, true, false, cond, List, [], length, replicate, Option, Some, None, eqb, ltb, refl, sym, subst, arith}
+use Rattle.std.proofs.Common.{◌≡◌, ℕ, ◌+◌, ◌%◌, ◌<◌, ◌≤◌, Bool, true, false, cond, List, [], length}
+use Rattle.std.proofs.Common.{replicate, Option, Some, None, eqb, ltb, refl, sym, subst, arith}
 use Rattle.std.specs.Prelude.{unwrap_or, ◌||◌, is_some}
 use Rattle.std.specs.List.{IsDistinct}
 use Rattle.std.proofs.lemmas.Bool.{ltb-false}

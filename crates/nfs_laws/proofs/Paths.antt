@@ -9,7 +9,8 @@ use Rattle.nfs_spec.proofs.fs_model.Walks.{one_number}
 use Rattle.nfs_spec.proofs.fs_model.OfEditedTrees.Adding.{adds_path}
 use Rattle.nfs_spec.proofs.fs_model.OfEditedTrees.Taking.{takes_path}
 use Rattle.nfs_spec.specs.Sattr.{GivenFields}
-use Rattle.nfs_laws.specs.Steps.Granted.{MakeOk, CreateOk, LinkOk, UnnameOk, IsSameFile, RenameOk, new_regular}
+use Rattle.nfs_laws.specs.Steps.Granted.{MakeOk, CreateOk, LinkOk, UnnameOk, IsSameFile, RenameOk}
+use Rattle.nfs_laws.specs.Steps.Granted.{new_regular}
 use Rattle.nfs_laws.proofs.OfTrees.Making.{make_added, link_added}
 use Rattle.nfs_laws.proofs.OfTrees.Removing.{remove_taken}
 use Rattle.nfs_laws.proofs.OfTrees.Renaming.{renames_paths}

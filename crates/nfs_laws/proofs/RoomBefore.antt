@@ -1,6 +1,7 @@
 -- Room after an effect, told by the files before it.
 -- Serves: room_is_told_before.
-use Rattle.std.proofs.Common.{◌≡◌, ◌≢◌, ⊎_elim, ℕ, ◌+◌, ◌≤◌, true, List, [], length, Option, Some, None, option_map, refl, sym, ap, ◌∙◌, arith}
+use Rattle.std.proofs.Common.{◌≡◌, ◌≢◌, ⊎_elim, ℕ, ◌+◌, ◌≤◌, true, List, [], length, Option, Some, None}
+use Rattle.std.proofs.Common.{option_map, refl, sym, ap, ◌∙◌, arith}
 use Rattle.std.specs.Prelude.{◌↔◌}
 use Rattle.std.proofs.lemmas.Bool.{cases_eq}
 use Rattle.nfs_spec.specs.nfs_items.Timeval.{Timeval}
@@ -10,8 +11,11 @@ use Rattle.nfs_spec.specs.fs_model.Trees.{IsFileTree}
 use Rattle.nfs_spec.proofs.fs_model.Walks.{none_some, some_same}
 use Rattle.nfs_spec.specs.fs_model.Changes.Edits.{with_changed_file, with_new_file, with_name}
 use Rattle.nfs_spec.specs.fs_model.Changes.Limits.{blocks_in, entry_count, block_count, has_room}
-use Rattle.nfs_spec.proofs.fs_model.OfChanges.Finite.{nothing_changes, changed_next, changed_here, changed_other, new_here, new_other, total, total_changed, total_new}
-use Rattle.nfs_spec.proofs.fs_model.OfChanges.Room.{count_new, count_changed, AllCookies, within, room, still_room}
+use Rattle.nfs_spec.proofs.fs_model.OfChanges.Finite.{nothing_changes, changed_next, changed_here}
+use Rattle.nfs_spec.proofs.fs_model.OfChanges.Finite.{changed_other, new_here, new_other, total}
+use Rattle.nfs_spec.proofs.fs_model.OfChanges.Finite.{total_changed, total_new}
+use Rattle.nfs_spec.proofs.fs_model.OfChanges.Room.{count_new, count_changed, AllCookies, within, room}
+use Rattle.nfs_spec.proofs.fs_model.OfChanges.Room.{still_room}
 use Rattle.nfs_spec.specs.Changes.{touch, with_mtime, touch_ctime, with_ctime}
 use Rattle.nfs_spec.specs.Procedures.{add_file}
 use Rattle.nfs_laws.specs.Room.{HasRoomToMake, HasRoomToLink}

@@ -1,6 +1,7 @@
 -- SETATTR, WRITE and CREATE leave a tree a tree.
 -- Serves: trees_stay_trees, nothing_is_given_again and no_limit_is_passed.
-use Rattle.std.proofs.Common.{◌≡◌, ◌≢◌, ℕ, ◌≤◌, Bool, true, false, List, [], length, Option, Some, None, refl, sym, ap, subst, ◌∙◌, arith}
+use Rattle.std.proofs.Common.{◌≡◌, ◌≢◌, ℕ, ◌≤◌, Bool, true, false, List, [], length, Option, Some, None, refl}
+use Rattle.std.proofs.Common.{sym, ap, subst, ◌∙◌, arith}
 use Rattle.std.specs.Prelude.{◌==◌, if◌then◌else◌}
 use Rattle.nfs_spec.specs.nfs_items.Timeval.{Timeval}
 use Rattle.nfs_spec.specs.nfs_items.Caller.{Caller}
@@ -21,7 +22,8 @@ use Rattle.nfs_laws.specs.Trees.Anew.{Follows}
 use Rattle.nfs_laws.proofs.OfTrees.GivenAnew.{nothing_given, same_given, cookie_changed}
 use Rattle.nfs_laws.proofs.OfTrees.Making.{make_follows}
 use Rattle.nfs_laws.specs.Laws.{AreValidFields}
-use Rattle.nfs_laws.proofs.FilesFit.{set_lists, set_keeps, resized_fits, set_fits, rewritten_fits, regular_fits}
+use Rattle.nfs_laws.proofs.FilesFit.{set_lists, set_keeps, resized_fits, set_fits, rewritten_fits}
+use Rattle.nfs_laws.proofs.FilesFit.{regular_fits}
 
 -- files follow themselves
 pub unchanged : (w : Files) → IsFileTree w → Follows w w

@@ -1,13 +1,15 @@
 //! What holds of every call.
 
-ghost use Rattle.std.specs.Prelude.{◌≡◌, ◌↔◌, ◌≤◌, ◌+◌, IsTrue, ℕ, List, [], length, true, false, Some, None, Ok};
+ghost use Rattle.std.specs.Prelude.{◌≡◌, ◌↔◌, ◌≤◌, ◌+◌, IsTrue, ℕ, List, [], length, true, false, Some, None};
+ghost use Rattle.std.specs.Prelude.{Ok};
 ghost use Rattle.nfs_spec.specs.nfs_items.Timeval.{Timeval};
 ghost use Rattle.nfs_spec.specs.nfs_items.Caller.{Caller};
 ghost use Rattle.nfs_spec.specs.nfs_items.declared.stat.Stat.{Stat};
 ghost use Rattle.nfs_spec.specs.nfs_items.declared.attributes.Fattr.{Fattr};
 ghost use Rattle.nfs_spec.specs.nfs_items.Terms.{FileNumber, Name};
 ghost use Rattle.nfs_spec.specs.fs_model.Maxima.{max_name, max_target, max_blocks, max_number};
-ghost use Rattle.nfs_spec.specs.fs_model.Files.{File, Files, file_at, IsDirectory, is_directory, listing, listing_in, places, names_of};
+ghost use Rattle.nfs_spec.specs.fs_model.Files.{File, Files, file_at, IsDirectory, is_directory, listing};
+ghost use Rattle.nfs_spec.specs.fs_model.Files.{listing_in, places, names_of};
 ghost use Rattle.nfs_spec.specs.fs_model.Trees.{IsTime, IsFileTree};
 ghost use Rattle.nfs_spec.specs.fs_model.Changes.Edits.{with_changed_file, with_name};
 ghost use Rattle.nfs_spec.specs.fs_model.Changes.Limits.{has_room, block_count, blocks_in};
@@ -15,7 +17,8 @@ ghost use Rattle.nfs_spec.specs.FileAttributes.{subdirectories};
 ghost use Rattle.nfs_spec.specs.Effects.{attributes_at};
 ghost use Rattle.nfs_spec.specs.Sattr.{GivenFields};
 ghost use Rattle.nfs_spec.specs.Changes.{touch, touch_ctime};
-ghost use Rattle.nfs_spec.specs.Procedures.{add_file, create, make_dir, symlink, link, remove, remove_dir, rename};
+ghost use Rattle.nfs_spec.specs.Procedures.{add_file, create, make_dir, symlink, link, remove, remove_dir};
+ghost use Rattle.nfs_spec.specs.Procedures.{rename};
 ghost use Rattle.nfs_spec.specs.nfs_types.Calls.{Call};
 ghost use Rattle.nfs_spec.specs.NfsCalls.{call_does};
 ghost use Rattle.nfs_laws.specs.Trees.Anew.{GivesAnew};

@@ -1,6 +1,7 @@
 -- LOOKUP goes by paths.
 -- Serves: lookup_goes_by_paths (nfs_spec).
-use Rattle.std.proofs.Common.{◌≡◌, ℕ, true, cond, List, [], ◌∷◌, ◌++◌, Option, Some, None, Result, Ok, Err, option_map, option_and_then, refl, sym, ap, ◌∙◌}
+use Rattle.std.proofs.Common.{◌≡◌, ℕ, true, cond, List, [], ◌∷◌, ◌++◌, Option, Some, None, Result, Ok, Err}
+use Rattle.std.proofs.Common.{option_map, option_and_then, refl, sym, ap, ◌∙◌}
 use Rattle.std.specs.Prelude.{nat_eq, not}
 use Rattle.std.specs.Cmp.Lexicographic.{pointwise}
 use Rattle.std.proofs.lemmas.Bool.{and_parts, not-true, cond-true, cond-false}
@@ -12,7 +13,8 @@ use Rattle.fs_model.specs.nfs_items.declared.stat.Stat.TheVariants as stats
 use Rattle.fs_model.specs.Listing.{Listing, entry_at}
 use Rattle.fs_model.specs.Names.{dot, dot_dot, is_name}
 use Rattle.fs_model.specs.Paths.{path_at}
-use Rattle.fs_model.specs.Files.{Body, Regular, Symlink, Directory, Files, listing_in, is_directory, IsDirectory, places}
+use Rattle.fs_model.specs.Files.{Body, Regular, Symlink, Directory, Files, listing_in, is_directory}
+use Rattle.fs_model.specs.Files.{IsDirectory, places}
 use Rattle.fs_model.specs.Trees.{IsFileTree}
 use Rattle.fs_model.proofs.Walks.{step_last}
 use Rattle.fs_model.proofs.Parents.{parent_path}

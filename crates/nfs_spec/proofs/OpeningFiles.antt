@@ -1,6 +1,7 @@
 -- The files that a server begins with.
 -- Serves: opening_files_show, opening_files_are_a_tree (nfs_spec).
-use Rattle.std.proofs.Common.{◌≡◌, ℕ, ◌+◌, Bool, cond, true, false, List, [], ◌∷◌, Option, Some, Ok, refl, sym, ap, ◌∙◌, map, sum_by, length, arith}
+use Rattle.std.proofs.Common.{◌≡◌, ℕ, ◌+◌, Bool, cond, true, false, List, [], ◌∷◌, Option, Some, Ok, refl}
+use Rattle.std.proofs.Common.{sym, ap, ◌∙◌, map, sum_by, length, arith}
 use Rattle.std.specs.Prelude.{nat_le, ◌&&◌}
 use Rattle.std.specs.List.{list_all}
 use Rattle.std.specs.Option.{option_map_or}

@@ -1,6 +1,7 @@
 -- In a tree, what is there is not STALE.
 -- Serves: what_is_there_is_not_stale (nfs_spec).
-use Rattle.std.proofs.Common.{◌≡◌, ◌≢◌, ℕ, Bool, true, false, cond, List, Option, Some, None, Result, Ok, Err, IsSome, is_some, option_map, option_and_then, refl, sym, ap, subst, ◌∙◌}
+use Rattle.std.proofs.Common.{◌≡◌, ◌≢◌, ℕ, Bool, true, false, cond, List, Option, Some, None, Result, Ok, Err}
+use Rattle.std.proofs.Common.{IsSome, is_some, option_map, option_and_then, refl, sym, ap, subst, ◌∙◌}
 use Rattle.std.specs.Prelude.{nat_eq}
 use Rattle.std.specs.Cmp.Lexicographic.{pointwise}
 use Rattle.fs_model.specs.nfs_items.Caller.{Caller}
@@ -10,7 +11,8 @@ use Rattle.fs_model.specs.nfs_items.declared.stat.Stat.{Stat}
 use Rattle.fs_model.specs.nfs_items.declared.stat.Stat.TheVariants as stats
 use Rattle.fs_model.specs.Listing.{Listing, entry_at}
 use Rattle.fs_model.specs.Names.{dot, dot_dot, is_name}
-use Rattle.fs_model.specs.Files.{Body, Regular, Symlink, Directory, File, Files, file_at, listing_in, is_directory, IsDirectory, places, parent_of}
+use Rattle.fs_model.specs.Files.{Body, Regular, Symlink, Directory, File, Files, file_at, listing_in}
+use Rattle.fs_model.specs.Files.{is_directory, IsDirectory, places, parent_of}
 use Rattle.fs_model.specs.Trees.{IsFileTree}
 use Rattle.fs_model.proofs.Walks.{some_same, none_some}
 use Rattle.fs_model.proofs.Parents.{parent_there}

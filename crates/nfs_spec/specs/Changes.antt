@@ -1,5 +1,7 @@
 -- What procedures that change files share.
-use Rattle.std.specs.Prelude.{ℕ, ◌+◌, ◌-◌, ◌==◌, ◌||◌, ◌&&◌, Bool, true, List, ◌++◌, take, drop, length, replicate, Option, Some, None, Result, Ok, is_some, is_none, unwrap_or, if◌then◌else◌}
+use Rattle.std.specs.Prelude.{ℕ, ◌+◌, ◌-◌, ◌==◌, ◌||◌, ◌&&◌, Bool, true, List, ◌++◌, take, drop, length}
+use Rattle.std.specs.Prelude.{replicate, Option, Some, None, Result, Ok, is_some, is_none, unwrap_or}
+use Rattle.std.specs.Prelude.{if◌then◌else◌}
 use Rattle.std.specs.Option.{option_map_or}
 use Rattle.std.specs.List.{list_any}
 use Rattle.fs_model.specs.nfs_items.Timeval.{Timeval}

@@ -7,7 +7,8 @@ use Rattle.fs_model.specs.nfs_items.declared.attributes.FileType.TheVariants as 
 use Rattle.fs_model.specs.nfs_items.declared.attributes.Fattr.{Fattr}
 use Rattle.fs_model.specs.nfs_items.Terms.{FileNumber}
 use Rattle.fs_model.specs.Listing.{Listing, entry_number}
-use Rattle.fs_model.specs.Files.{Body, Regular, Symlink, Directory, File, Files, file_at, is_directory, names_of}
+use Rattle.fs_model.specs.Files.{Body, Regular, Symlink, Directory, File, Files, file_at, is_directory}
+use Rattle.fs_model.specs.Files.{names_of}
 
 abbrev pub type_of : Body → FileType
 type_of (Regular bytes) = types.Regular

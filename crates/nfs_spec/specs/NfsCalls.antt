@@ -7,7 +7,9 @@ use Rattle.fs_model.specs.nfs_items.Handle.{FileHandle, handle_of, number_in}
 use Rattle.fs_model.specs.nfs_items.declared.attributes.Fattr.{Fattr}
 use Rattle.fs_model.specs.nfs_items.declared.stat.Stat.{Stat}
 use Rattle.fs_model.specs.nfs_items.Terms.{FileNumber}
-use Rattle.nfs_types.specs.Calls.{Call, Null, Getattr, Setattr, Root, Lookup, Readlink, Read, Writecache, Write, Create, Remove, Rename, Link, Symlink, Mkdir, Rmdir, Readdir, Statfs, Answer, Nothing, Attributes, DirOp, Target, Bytes, Status, Entries, Free}
+use Rattle.nfs_types.specs.Calls.{Call, Null, Getattr, Setattr, Root, Lookup, Readlink, Read, Writecache}
+use Rattle.nfs_types.specs.Calls.{Write, Create, Remove, Rename, Link, Symlink, Mkdir, Rmdir, Readdir, Statfs}
+use Rattle.nfs_types.specs.Calls.{Answer, Nothing, Attributes, DirOp, Target, Bytes, Status, Entries, Free}
 use Rattle.fs_model.specs.Files.{Files}
 use Rattle.nfs_spec.specs.ProcedureChecks.{◌>>=◌}
 use Rattle.nfs_spec.specs.Sattr.{given_fields}

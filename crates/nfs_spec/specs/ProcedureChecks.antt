@@ -1,5 +1,6 @@
 -- The checks that procedures share, each with its stat.
-use Rattle.std.specs.Prelude.{ℕ, ◌*◌, ◌==◌, ◌||◌, ◌&&◌, nat_lt, nat_le, bit_and, option_map, is_none, Bool, List, Option, Some, None, Result, Ok, Err, if◌then◌else◌}
+use Rattle.std.specs.Prelude.{ℕ, ◌*◌, ◌==◌, ◌||◌, ◌&&◌, nat_lt, nat_le, bit_and, option_map, is_none, Bool}
+use Rattle.std.specs.Prelude.{List, Option, Some, None, Result, Ok, Err, if◌then◌else◌}
 use Rattle.std.specs.List.{list_any}
 use Rattle.fs_model.specs.nfs_items.Caller.{Caller}
 use Rattle.fs_model.specs.nfs_items.Handle.{FileHandle, number_in}

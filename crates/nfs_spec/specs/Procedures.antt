@@ -1,6 +1,8 @@
 -- What each procedure does to numbered files (RFC 1094, section 2.2): its checks in the order written, each
 -- with its stat, then its effect.
-use Rattle.std.specs.Prelude.{ℕ, zero, suc, ◌+◌, ◌-◌, ◌==◌, ◌||◌, ◌&&◌, not, Bool, true, false, List, [], take, drop, length, replicate, min, Option, Some, None, Result, Ok, option_map, is_some, unwrap_or, if◌then◌else◌}
+use Rattle.std.specs.Prelude.{ℕ, zero, suc, ◌+◌, ◌-◌, ◌==◌, ◌||◌, ◌&&◌, not, Bool, true, false, List, []}
+use Rattle.std.specs.Prelude.{take, drop, length, replicate, min, Option, Some, None, Result, Ok, option_map}
+use Rattle.std.specs.Prelude.{is_some, unwrap_or, if◌then◌else◌}
 use Rattle.std.specs.Option.{option_map_or}
 use Rattle.fs_model.specs.nfs_items.Timeval.{Timeval}
 use Rattle.fs_model.specs.nfs_items.Caller.{Caller}
@@ -12,13 +14,17 @@ use Rattle.fs_model.specs.nfs_items.Terms.{Name, FileNumber, Cookie}
 use Rattle.fs_model.specs.Names.{is_name}
 use Rattle.nfs_types.specs.declared.results.FsStats.{FsStats}
 use Rattle.fs_model.specs.Listing.{place_number, entry_at}
-use Rattle.fs_model.specs.Files.{Body, Regular, Symlink, Directory, File, Files, is_directory, listing_in, parent_of}
+use Rattle.fs_model.specs.Files.{Body, Regular, Symlink, Directory, File, Files, is_directory, listing_in}
+use Rattle.fs_model.specs.Files.{parent_of}
 use Rattle.fs_model.specs.Changes.Edits.{with_new_file, with_changed_file, with_name, without_name}
 use Rattle.fs_model.specs.Changes.Limits.{block_count, file_count}
 use Rattle.nfs_spec.specs.FileAttributes.{attributes_of}
-use Rattle.nfs_spec.specs.ProcedureChecks.{◌>>=◌, NumberedDir, file_of, listing_or, dir_of, check, check_size, check_room, check_cookie, check_edit, check_free, number_at, bytes_of, target_of, permits, may_search, may_read, may_write}
+use Rattle.nfs_spec.specs.ProcedureChecks.{◌>>=◌, NumberedDir, file_of, listing_or, dir_of, check, check_size}
+use Rattle.nfs_spec.specs.ProcedureChecks.{check_room, check_cookie, check_edit, check_free, number_at}
+use Rattle.nfs_spec.specs.ProcedureChecks.{bytes_of, target_of, permits, may_search, may_read, may_write}
 use Rattle.nfs_spec.specs.Sattr.{GivenFields, no_fields}
-use Rattle.nfs_spec.specs.Changes.{Effect, touch, touch_ctime, with_mtime, with_bytes_at, check_owner, check_resize, apply_fields, new_file, unlink}
+use Rattle.nfs_spec.specs.Changes.{Effect, touch, touch_ctime, with_mtime, with_bytes_at, check_owner}
+use Rattle.nfs_spec.specs.Changes.{check_resize, apply_fields, new_file, unlink}
 use Rattle.nfs_types.specs.Calls.{Page}
 use Rattle.nfs_spec.specs.Readdir.{dir_entries, page_of}
 

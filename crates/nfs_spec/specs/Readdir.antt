@@ -1,5 +1,6 @@
 -- READDIR's listing (RFC 1094, section 2.2.17).
-use Rattle.std.specs.Prelude.{ℕ, ◌+◌, ◌-◌, ◌*◌, ◌/◌, nat_le, nat_lt, min, List, [], ◌∷◌, length, map, ◌==◌, if◌then◌else◌}
+use Rattle.std.specs.Prelude.{ℕ, ◌+◌, ◌-◌, ◌*◌, ◌/◌, nat_le, nat_lt, min, List, [], ◌∷◌, length, map, ◌==◌}
+use Rattle.std.specs.Prelude.{if◌then◌else◌}
 use Rattle.std.specs.List.{filter}
 use Rattle.fs_model.specs.Maxima.{max_data}
 use Rattle.fs_model.specs.nfs_items.Terms.{FileNumber, Cookie}

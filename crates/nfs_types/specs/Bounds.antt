@@ -4,7 +4,8 @@ use Rattle.nfs_items.specs.Timeval.{Timeval}
 use Rattle.nfs_items.specs.Terms.{Name}
 use Rattle.nfs_items.specs.declared.sattr.Sattr.{Sattr}
 use Rattle.nfs_types.specs.declared.limits.TheConstants.{MAXNAMLEN, MAXPATHLEN, MAXDATA}
-use Rattle.nfs_types.specs.Calls.{Call, Null, Getattr, Setattr, Root, Lookup, Readlink, Read, Writecache, Write, Create, Remove, Rename, Link, Symlink, Mkdir, Rmdir, Readdir, Statfs}
+use Rattle.nfs_types.specs.Calls.{Call, Null, Getattr, Setattr, Root, Lookup, Readlink, Read, Writecache}
+use Rattle.nfs_types.specs.Calls.{Write, Create, Remove, Rename, Link, Symlink, Mkdir, Rmdir, Readdir, Statfs}
 
 -- a name of at most 255 bytes (section 2.3.7)
 abbrev pub IsFilename : Name → Type 0

@@ -14,8 +14,10 @@ use Rattle.nfs_types.specs.declared.arguments.NfsProcedure.{NfsProcedure}
 use Rattle.nfs_types.specs.declared.arguments.NfsProcedure.TheVariants as procedures
 use Rattle.nfs_types.specs.Calls as calls
 use Rattle.nfs_types.specs.Calls.{Call, Answer, PageEntry, Page}
-use Rattle.nfs_types.specs.Items.{diropargs, sattrargs, readargs, writeargs, createargs, renameargs, linkargs, symlinkargs, readdirargs}
-use Rattle.nfs_types.specs.Items.{nfsdata, path, attrstat, diropres, readlinkres, readres, status, entry, readdirres, fs_stats, statfsres}
+use Rattle.nfs_types.specs.Items.{diropargs, sattrargs, readargs, writeargs, createargs, renameargs, linkargs}
+use Rattle.nfs_types.specs.Items.{symlinkargs, readdirargs}
+use Rattle.nfs_types.specs.Items.{nfsdata, path, attrstat, diropres, readlinkres, readres, status, entry}
+use Rattle.nfs_types.specs.Items.{readdirres, fs_stats, statfsres}
 
 -- ---- arguments
 

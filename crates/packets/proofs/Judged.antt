@@ -1,6 +1,7 @@
 -- What a packet is taken for, from what a check of its content found.
 -- Serves: read_packet by its four parts.
-use Rattle.std.proofs.Common.{◌≡◌, ◌==◌, ℕ, Bool, true, false, List, length, Result, Ok, Err, Option, Some, None, refl, ap, ◌∙◌}
+use Rattle.std.proofs.Common.{◌≡◌, ◌==◌, ℕ, Bool, true, false, List, length, Result, Ok, Err, Option, Some}
+use Rattle.std.proofs.Common.{None, refl, ap, ◌∙◌}
 use Rattle.std.proofs.Common.{eqb-true, eq-eqb, inl, inr}
 use Rattle.std.specs.Prelude.{◌+◌, ◌&&◌, ◌⊎◌, not, is_some, IsSome, IsSomeAnd}
 use Rattle.std.proofs.lemmas.Bool.{and_parts, and_from}
@@ -21,10 +22,13 @@ use Rattle.secure_log.specs.Segment.{SegmentParts, ClosedParts, Ends}
 use Rattle.secure_log.specs.declared.fault.SegmentFault.{SegmentFault}
 use Rattle.secure_log.specs.declared.fault.SegmentFault.TheVariants as fault
 use Rattle.secure_log.specs.Checking.{ChecksSegment, IsOf}
-use Rattle.packets.specs.Packet.{Delivery, Learn, SendChallenge, Answer, AckIn, delivery_shows, content_at, delivery_of}
+use Rattle.packets.specs.Packet.{Delivery, Learn, SendChallenge, Answer, AckIn, delivery_shows, content_at}
+use Rattle.packets.specs.Packet.{delivery_of}
 use Rattle.authenticator.specs.Signing.{is_signed_in, is_same}
-use Rattle.packets.specs.Judging.{judged, ends, may_be, is_member, is_of_members, judged_delivery, judged_option, Refuses, Answers}
-use Rattle.authenticator.proofs.Signed.{is_false, of_signed_in, signed_by_member, unsigned_by_member, same_list, list_same}
+use Rattle.packets.specs.Judging.{judged, ends, may_be, is_member, is_of_members, judged_delivery}
+use Rattle.packets.specs.Judging.{judged_option, Refuses, GivesDelivery}
+use Rattle.authenticator.proofs.Signed.{is_false, of_signed_in, signed_by_member, unsigned_by_member}
+use Rattle.authenticator.proofs.Signed.{same_list, list_same}
 use Rattle.packets.proofs.Contents.{segment_back}
 
 -- ---- the four answers
@@ -61,7 +65,7 @@ unknown ms node e = rw e refl
 -- what its check answers is what is owed to its packet
 pub learned : {C : Type 0} (ms : List Member) (bytes : List ℕ) (value : C → Authenticator) (member : C → Member)
     (r : Result C Refusal) → Checks ms bytes value member r
-    → Answers (judged_option ms (content_at 1 bytes)) (λ c. Learn (value c)) r
+    → GivesDelivery (judged_option ms (content_at 1 bytes)) (λ c. Learn (value c)) r
 learned ms bytes value member (Ok c) h =
     let a : Authenticator = value c in
     rw h.0.text
@@ -102,7 +106,7 @@ of_one ms e (inr receiver) = rw receiver (no_second (is_member ms e.from))
 -- what its check answers is what is owed to its packet
 pub challenged : {C : Type 0} (ms : List Member) (bytes : List ℕ) (value : C → Envelope) (member : C → Member)
     (r : Result C Refusal) → ChecksEnvelope ms bytes value member r
-    → Answers (judged_option ms (content_at 2 bytes)) (λ c. SendChallenge (value c)) r
+    → GivesDelivery (judged_option ms (content_at 2 bytes)) (λ c. SendChallenge (value c)) r
 challenged ms bytes value member (Ok c) h =
     let e : Envelope = value c in
     let m : Member = member c in
@@ -207,7 +211,7 @@ answered ms bytes fault.TooLong h = absurd h
 -- what its check answers is what is owed to its packet
 pub acknowledged : {C : Type 0} (ms : List Member) (bytes : List ℕ) (value : C → Ack) (member : C → Member)
     (r : Result C Refusal) → ChecksAck ms bytes value member r
-    → Answers (judged_option ms (content_at 4 bytes)) (λ c. AckIn (value c)) r
+    → GivesDelivery (judged_option ms (content_at 4 bytes)) (λ c. AckIn (value c)) r
 acknowledged ms bytes value member (Ok c) h =
     let a : Ack = value c in
     rw h.0
@@ -239,5 +243,5 @@ without_number ms bytes f e = rw e refl
 -- what is owed to what stands after its number is owed to the packet
 pub answers_after : {P : Type 0} (ms : List Member) (bytes : List ℕ) (n : ℕ) (rest : List ℕ) (delivery : P → Delivery)
     (r : Result P Refusal) → number_at 4 bytes ≡ Ok (n, rest)
-    → Answers (judged_option ms (content_at n rest)) delivery r → Answers (judged ms bytes) delivery r
+    → GivesDelivery (judged_option ms (content_at n rest)) delivery r → GivesDelivery (judged ms bytes) delivery r
 answers_after ms bytes n rest delivery r e h = rw (behind ms bytes n rest e) h

@@ -1,6 +1,8 @@
 -- Bytes are read as a packet exactly where they spell it.
 -- Serves: packets_are_read_as_spelled, packets_are_taken_as_meant.
-use Rattle.std.proofs.Common.{◌≡◌, ◌==◌, ℕ, zero, suc, ◌<◌, Bool, true, false, cond, List, [], ◌∷◌, ◌++◌, map, Ok, Err, Option, Some, None, refl, sym, ap, ap₂, subst, ◌∙◌, eqb-true, ltb-true, arith}
+use Rattle.std.proofs.Common.{◌≡◌, ◌==◌, ℕ, zero, suc, ◌<◌, Bool, true, false, cond, List, [], ◌∷◌, ◌++◌, map}
+use Rattle.std.proofs.Common.{Ok, Err, Option, Some, None, refl, sym, ap, ap₂, subst, ◌∙◌, eqb-true, ltb-true}
+use Rattle.std.proofs.Common.{arith}
 use Rattle.std.proofs.lemmas.Bool.{and_parts}
 use Rattle.std.specs.Prelude.{◌↔◌, nat_lt, option_map, IsTrue, ◌^◌}
 use Rattle.std.specs.List.{AllByRecursion}
@@ -15,8 +17,10 @@ use Rattle.envelopes.specs.Envelope.{envelope_text, envelope_value}
 use Rattle.envelopes.specs.Acknowledgement.{ack_text, ack_value}
 use Rattle.secure_log.specs.LogEntries.Entry.{entry_item, entry_value, kind_item, is_kind}
 use Rattle.secure_log.specs.Segment.{segment_text, segment_value, segment_item}
-use Rattle.packets.specs.Values.{entry_said, entry_of_kind, authenticator_said, envelope_said, segment_said, ack_said}
-use Rattle.packets.specs.Packet.{Delivery, Learn, SendChallenge, Answer, AckIn, packet_number, IsContent, Says, content_at, after_number, delivery_of}
+use Rattle.packets.specs.Values.{entry_said, entry_of_kind, authenticator_said, envelope_said, segment_said}
+use Rattle.packets.specs.Values.{ack_said}
+use Rattle.packets.specs.Packet.{Delivery, Learn, SendChallenge, Answer, AckIn, packet_number, IsContent}
+use Rattle.packets.specs.Packet.{Says, content_at, after_number, delivery_of}
 use Rattle.packets.proofs.Contents.{segment_back}
 
 -- ---- what a value says is the value

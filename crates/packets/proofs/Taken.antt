@@ -1,14 +1,17 @@
 -- What bytes are taken for is what that means.
 -- Serves: packets_are_taken_as_meant.
-use Rattle.std.proofs.Common.{◌++◌, ◌≡◌, ◌==◌, ℕ, Bool, true, false, cond, List, Result, Ok, Err, Option, Some, None, refl, ap, subst, ◌∙◌, eq-eqb}
+use Rattle.std.proofs.Common.{◌++◌, ◌≡◌, ◌==◌, ℕ, Bool, true, false, cond, List, Result, Ok, Err, Option}
+use Rattle.std.proofs.Common.{Some, None, refl, ap, subst, ◌∙◌, eq-eqb}
 use Rattle.std.specs.Prelude.{◌↔◌, not, is_some, IsSome}
 use Rattle.std.proofs.lemmas.Bool.{and_parts, and_from}
 use Rattle.xdr.specs.Item.{IsBytes, number_spelling}
 use Rattle.authenticator.specs.Roster.{member_of}
 use Rattle.authenticator.specs.declared.member.Member.{Member}
 use Rattle.authenticator.specs.declared.refusal.Refusal.{Refusal}
-use Rattle.authenticator.specs.declared.refusal.Refusal.TheVariants.{UnknownNode, Garbage, BadSignature, NoMemory}
-use Rattle.packets.specs.Packet.{Delivery, Learn, SendChallenge, Answer, AckIn, Says, IsContent, content_text, packet_number, packet_text, delivery_of, delivery_shows}
+use Rattle.authenticator.specs.declared.refusal.Refusal.TheVariants.{UnknownNode, Garbage, BadSignature}
+use Rattle.authenticator.specs.declared.refusal.Refusal.TheVariants.{NoMemory}
+use Rattle.packets.specs.Packet.{Delivery, Learn, SendChallenge, Answer, AckIn, Says, IsContent, content_text}
+use Rattle.packets.specs.Packet.{packet_number, packet_text, delivery_of, delivery_shows}
 use Rattle.authenticator.specs.Signing.{is_signed_in}
 use Rattle.packets.specs.Judging.{may_be, is_member, is_of_members, judged_delivery, judged_option, judged}
 use Rattle.packets.specs.Taking.{MayBe, IsOfMembers, Means}

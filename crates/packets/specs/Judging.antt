@@ -63,7 +63,7 @@ Refuses owed BadSignature = owed ≡ Err BadSignature
 Refuses owed NoMemory = Unit {0}
 
 -- What a call answers is what is owed.
-abbrev pub Answers : {P : Type 0} → (owed : Result Delivery Refusal) → (P → Delivery) → Result P Refusal
+abbrev pub GivesDelivery : {P : Type 0} → (owed : Result Delivery Refusal) → (P → Delivery) → Result P Refusal
     → Type 0
-Answers owed delivery (Ok p) = owed ≡ Ok (delivery p)
-Answers owed delivery (Err refusal) = Refuses owed refusal
+GivesDelivery owed delivery (Ok p) = owed ≡ Ok (delivery p)
+GivesDelivery owed delivery (Err refusal) = Refuses owed refusal

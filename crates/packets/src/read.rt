@@ -2,7 +2,7 @@
 
 ghost use Rattle.std.specs.Prelude.{IfOk};
 ghost use Rattle.packets.specs.Packet.{content_at};
-ghost use Rattle.packets.specs.Judging.{Answers, judged, judged_option};
+ghost use Rattle.packets.specs.Judging.{GivesDelivery, judged, judged_option};
 ghost use Rattle.packets.specs.Delivered.{IsUnder, delivery_in};
 
 use crate::packet::Packet;
@@ -18,7 +18,7 @@ use xdr::Reader;
 /// refused.
 #[tactic(auto, using(crate::proofs::Judged::answers_after, crate::proofs::Judged::without_number))]
 pub fn read_packet(alloc: Global, roster: &Roster, bytes: &[u8]) -> Result<Packet, Refusal>
-    ensures answers { Answers (judged roster.now bytes.now) delivery_in result }
+    ensures answers { GivesDelivery (judged roster.now bytes.now) delivery_in result }
     ensures under { IfOk result (IsUnder roster.now) }
 {
     let mut reader = Reader::new(bytes);
@@ -30,7 +30,7 @@ pub fn read_packet(alloc: Global, roster: &Roster, bytes: &[u8]) -> Result<Packe
 
 /// What a packet with this number delivers, where the bytes are what stands after the number.
 fn read_content(alloc: Global, roster: &Roster, number: u32, text: &[u8]) -> Result<Packet, Refusal>
-    ensures answers { Answers (judged_option roster.now (content_at number text.now)) delivery_in result }
+    ensures answers { GivesDelivery (judged_option roster.now (content_at number text.now)) delivery_in result }
     ensures under { IfOk result (IsUnder roster.now) }
 {
     match number {
@@ -44,7 +44,7 @@ fn read_content(alloc: Global, roster: &Roster, number: u32, text: &[u8]) -> Res
 
 #[tactic(auto, using(crate::proofs::Judged::learned))]
 fn learned(alloc: Global, roster: &Roster, text: &[u8]) -> Result<Packet, Refusal>
-    ensures answers { Answers (judged_option roster.now (content_at 1 text.now)) delivery_in result }
+    ensures answers { GivesDelivery (judged_option roster.now (content_at 1 text.now)) delivery_in result }
     ensures under { IfOk result (IsUnder roster.now) }
 {
     match check(alloc, roster, text) {
@@ -55,7 +55,7 @@ fn learned(alloc: Global, roster: &Roster, text: &[u8]) -> Result<Packet, Refusa
 
 #[tactic(auto, using(crate::proofs::Judged::challenged))]
 fn challenged(alloc: Global, roster: &Roster, text: &[u8]) -> Result<Packet, Refusal>
-    ensures answers { Answers (judged_option roster.now (content_at 2 text.now)) delivery_in result }
+    ensures answers { GivesDelivery (judged_option roster.now (content_at 2 text.now)) delivery_in result }
     ensures under { IfOk result (IsUnder roster.now) }
 {
     match check_envelope(alloc, roster, text) {
@@ -66,7 +66,7 @@ fn challenged(alloc: Global, roster: &Roster, text: &[u8]) -> Result<Packet, Ref
 
 #[tactic(auto, using(crate::proofs::Judged::answered, crate::proofs::Judged::given))]
 fn answered(alloc: Global, roster: &Roster, text: &[u8]) -> Result<Packet, Refusal>
-    ensures answers { Answers (judged_option roster.now (content_at 3 text.now)) delivery_in result }
+    ensures answers { GivesDelivery (judged_option roster.now (content_at 3 text.now)) delivery_in result }
     ensures under { IfOk result (IsUnder roster.now) }
 {
     match check_segment(alloc, roster, text) {
@@ -80,7 +80,7 @@ fn answered(alloc: Global, roster: &Roster, text: &[u8]) -> Result<Packet, Refus
 
 #[tactic(auto, using(crate::proofs::Judged::acknowledged))]
 fn acknowledged(alloc: Global, roster: &Roster, text: &[u8]) -> Result<Packet, Refusal>
-    ensures answers { Answers (judged_option roster.now (content_at 4 text.now)) delivery_in result }
+    ensures answers { GivesDelivery (judged_option roster.now (content_at 4 text.now)) delivery_in result }
     ensures under { IfOk result (IsUnder roster.now) }
 {
     match check_ack(alloc, roster, text) {

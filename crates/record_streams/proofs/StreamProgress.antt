@@ -4,7 +4,8 @@
 -- was not wholly written (stops_in_reply); and in each case that a beginning of what is owed stands written (is_part,
 -- is_part_in_reply).
 -- Serves: Gateway::serve_stream (gateway), run_rpc (rpc_streams).
-use Rattle.std.proofs.Common.{◌≡◌, inl, ℕ, ◌+◌, List, [], ◌∷◌, ◌++◌, arith, length, sym, ap, ◌∙◌, refl, length-append, append_assoc, subst}
+use Rattle.std.proofs.Common.{◌≡◌, inl, ℕ, ◌+◌, List, [], ◌∷◌, ◌++◌, arith, length, sym, ap, ◌∙◌, refl}
+use Rattle.std.proofs.Common.{length-append, append_assoc, subst}
 use Rattle.std.specs.Prelude.{Option, Some, None, IfSome, Err}
 use Rattle.std.specs.Io.KnownBytes.{Consumes, Appends}
 use Rattle.std.proofs.KnownBytes.{Consumes-trans, Consumes-nil, Appends-trans, Appends-nil}
@@ -12,11 +13,13 @@ use Rattle.std.proofs.lemmas.List.{append-nil}
 use Rattle.rpc.specs.Records.Record.{IsRecord, IsUnfinished, PassesLimit}
 use Rattle.rpc.specs.Records.Stream.{AreRecords}
 use Rattle.rpc.specs.Records.Writing.{WritesFront}
-use Rattle.rpc.specs.Records.Reading.{Fails, FailsUnless, StopsAt, TakesToLimit, TakesPart, IsPartOfRecord, fault_after}
+use Rattle.rpc.specs.Records.Reading.{Fails, FailsUnless, StopsAt, TakesToLimit, TakesPart, IsPartOfRecord}
+use Rattle.rpc.specs.Records.Reading.{fault_after}
 use Rattle.rpc.specs.declared.records.fault.RecordFault.{RecordFault}
 use Rattle.rpc.specs.declared.records.fault.RecordFault.TheVariants as faults
 use Rattle.rpc.proofs.OfRecords.Streams.{AreRecords-push}
-use Rattle.record_streams.specs.Streams.{Serves, ServesUpTo, ServesPart, StopsAfterRecords, StopsBeforeReply, StopsInReply, TakesNothing, TakesUnfinished}
+use Rattle.record_streams.specs.Streams.{Serves, ServesUpTo, ServesPart, StopsAfterRecords, StopsBeforeReply}
+use Rattle.record_streams.specs.Streams.{StopsInReply, TakesNothing, TakesUnfinished}
 use Rattle.record_streams.specs.Faults.{EndsWith, LeavesOff, StandsAfter}
 
 -- some records and then others

@@ -9,8 +9,8 @@ use Rattle.replay_spec.specs.Placed.{place}
 use Rattle.replay_spec.specs.Steps.{after_entry}
 use Rattle.replay_spec.specs.Stepping.{ReplayFault, fault_of, step, unless_fault}
 use Rattle.replay.specs.Answers.{Answers, IsServer, IsClient}
-use Rattle.replay.specs.declared.steps.StepError.{StepError}
-use Rattle.replay.specs.declared.steps.StepError.TheVariants.{NoMemory, Fault}
+use Rattle.replay.specs.declared.steps.StepFault.{StepFault}
+use Rattle.replay.specs.declared.steps.StepFault.TheVariants.{NoMemory, Fault}
 
 unless_ok : (s t : State) (f : Option ReplayFault) → unless_fault s f ≡ Ok t → s ≡ t
 unless_ok s t None h = cc
@@ -45,7 +45,7 @@ client_after s (Client clock) number before (Check digest) h = tt
 
 -- a step leaves one, whatever it answers
 pub server_stays : {A : Type 0} (ms : List Member) (s t : State) (number : ℕ) (before : List ℕ) (e : Entry)
-    (result : Result A StepError) → Answers (step ms s (place number before e)) s result t
+    (result : Result A StepFault) → Answers (step ms s (place number before e)) s result t
     → IsServer s.machine → IsServer t.machine
 server_stays ms s t number before e (Ok done) h is =
     subst (λ (x : State). IsServer x.machine) (step_after ms s t number before e h)
@@ -56,7 +56,7 @@ server_stays ms s t number before e (Err (Fault fault)) h is =
 
 -- a client stays a client by a step, whatever the step answers
 pub client_stays : {A : Type 0} (ms : List Member) (s t : State) (number : ℕ) (before : List ℕ) (e : Entry)
-    (result : Result A StepError) → Answers (step ms s (place number before e)) s result t
+    (result : Result A StepFault) → Answers (step ms s (place number before e)) s result t
     → IsClient s.machine → IsClient t.machine
 client_stays ms s t number before e (Ok done) h is =
     subst (λ (x : State). IsClient x.machine) (step_after ms s t number before e h)

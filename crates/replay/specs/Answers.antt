@@ -6,19 +6,19 @@ use Rattle.replay_spec.specs.Placed.{Placed}
 use Rattle.replay_spec.specs.Stepping.{step}
 use Rattle.replay_spec.specs.Stepping as spec
 use Rattle.replay.specs.Faults.{fault_in}
-use Rattle.replay.specs.declared.steps.StepError.{StepError}
-use Rattle.replay.specs.declared.steps.StepError.TheVariants.{NoMemory, Fault}
+use Rattle.replay.specs.declared.steps.StepFault.{StepFault}
+use Rattle.replay.specs.declared.steps.StepFault.TheVariants.{NoMemory, Fault}
 
 -- A machine answers a step that gives this from a state: it leaves the state after it, or names the fault
 -- and leaves the state before. That it leaves where memory is refused, too.
-abbrev pub Answers : {A : Type 0} → Result State spec.ReplayFault → State → Result A StepError → State
+abbrev pub Answers : {A : Type 0} → Result State spec.ReplayFault → State → Result A StepFault → State
     → Type 0
 Answers given s (Ok done) t = given ≡ Ok t
 Answers given s (Err NoMemory) t = t ≡ s
 Answers given s (Err (Fault fault)) t = (given ≡ Err (fault_in fault)) × (t ≡ s)
 
 -- A step answers as the reference machine does.
-abbrev pub Steps : {A : Type 0} → List Member → State → Placed → Result A StepError → State → Type 0
+abbrev pub Steps : {A : Type 0} → List Member → State → Placed → Result A StepFault → State → Type 0
 Steps ms s p result t = Answers (step ms s p) s result t
 
 -- the machine of a server

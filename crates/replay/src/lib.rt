@@ -18,5 +18,5 @@ pub use fault::ReplayFault;
 pub use machine::{FreeMachine, Machine, ServerMachine};
 pub use opening::opening_state;
 pub use outcome::{Outcome, replay_outcome};
-pub use steps::{StepError, step};
+pub use steps::{StepFault, step};
 pub use verdict::{Verdict, replay, replay_entries};

@@ -12,7 +12,7 @@ ghost use Rattle.replay_spec.specs.Stepping.{ReplayFault};
 ghost use Rattle.replay_spec.specs.Stepping as stepping;
 ghost use Rattle.replay.specs.Answers.{Answers, IsClient, IsServer};
 
-use crate::steps::{StepError, step};
+use crate::steps::{StepFault, step};
 use authenticator::{Number, Roster};
 use checkpoint::state_machine_code::State;
 use checkpoint::state_spec_code::laws as state_laws;
@@ -42,7 +42,7 @@ pub trait Machine: Drop {
         number: Number,
         before: &[u8; 32],
         entry: &Entry,
-    ) -> Result<(), StepError>
+    ) -> Result<(), StepFault>
         requires few_received { len (state self.old).received < MAX_RECEIVED }
         requires few_sends { len (state self.old).sends < MAX_SENDS }
         ensures { Answers (gives roster.now (state self.old) (place number before.now entry.now))
@@ -119,7 +119,7 @@ impl Machine for ServerMachine {
         number: Number,
         before: &[u8; 32],
         entry: &Entry,
-    ) -> Result<(), StepError> {
+    ) -> Result<(), StepFault> {
         step(&mut self.state, alloc, roster, number, before, entry)
     }
 
@@ -194,7 +194,7 @@ impl Machine for FreeMachine {
         number: Number,
         before: &[u8; 32],
         entry: &Entry,
-    ) -> Result<(), StepError> {
+    ) -> Result<(), StepFault> {
         step(&mut self.state, alloc, roster, number, before, entry)
     }
 

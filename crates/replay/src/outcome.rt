@@ -9,7 +9,7 @@ ghost use Rattle.replay_spec.specs.Replay.{verdict_of};
 ghost use Rattle.replay.specs.Verdicts.{IsOutcome};
 
 use crate::fault::ReplayFault;
-use crate::steps::{StepError, step};
+use crate::steps::{StepFault, step};
 use authenticator::{Number, Roster};
 use checkpoint::state_machine_code::State;
 use replay_spec::laws::steps_as_it_takes;
@@ -50,8 +50,8 @@ pub fn replay_outcome(
         let place = Number::new(number);
         match step(&mut state, alloc, roster, place, &before, entry) {
             Ok(()) => {}
-            Err(StepError::NoMemory) => return Err(AllocError),
-            Err(StepError::Fault(fault)) => return Ok(Outcome::Fault(fault, place)),
+            Err(StepFault::NoMemory) => return Err(AllocError),
+            Err(StepFault::Fault(fault)) => return Ok(Outcome::Fault(fault, place)),
         }
         before = entry_hash(&before, number, entry);
         number += 1;

@@ -9,7 +9,7 @@ ghost use Rattle.replay_spec.specs.Placed.{place};
 ghost use Rattle.replay_spec.specs.Stepping.{fault_of};
 ghost use Rattle.replay.specs.Faults.{fault_in};
 ghost use Rattle.replay.specs.Answers.{Steps};
-ghost use Rattle.replay.specs.declared.steps.StepError.TheVariants.{NoMemory};
+ghost use Rattle.replay.specs.declared.steps.StepFault.TheVariants.{NoMemory};
 
 use crate::fault::ReplayFault;
 use crate::messages::{is_bad_ack, is_bad_receive, is_repeated, is_wrong_checkpoint};
@@ -23,7 +23,7 @@ use thiserror::Error;
 
 /// Why a state took no step.
 #[derive(Clone, Copy, Debug, PartialEq, Eq, Error)]
-pub enum StepError {
+pub enum StepFault {
     #[error("out of memory")]
     NoMemory,
     /// The entry may not stand after the state.
@@ -31,11 +31,11 @@ pub enum StepError {
     Fault(ReplayFault),
 }
 
-impl From<AllocError> for StepError {
+impl From<AllocError> for StepFault {
     ghost from_gives = { λ _ e. e ≡ NoMemory };
 
-    fn from(_e: AllocError) -> StepError {
-        StepError::NoMemory
+    fn from(_e: AllocError) -> StepFault {
+        StepFault::NoMemory
     }
 }
 
@@ -50,13 +50,13 @@ pub fn step(
     number: Number,
     before: &[u8; 32],
     entry: &Entry,
-) -> Result<(), StepError>
+) -> Result<(), StepFault>
     requires few_received { len state.old.received < MAX_RECEIVED }
     requires few_sends { len state.old.sends < MAX_SENDS }
     ensures { Steps roster.now state.old (place number before.now entry.now) result state.new }
 {
     if let Some(fault) = fault_of(alloc, roster, state, entry)? {
-        return Err(StepError::Fault(fault));
+        return Err(StepFault::Fault(fault));
     }
     take(state, alloc, number, before, entry)?;
     Ok(())

@@ -13,7 +13,7 @@ ghost use Rattle.replay.specs.Verdicts.{IsSoundWhereHonest, verdict_in};
 use crate::copy::copy_of;
 use crate::fault::ReplayFault;
 use crate::shown::shown_by;
-use crate::steps::{StepError, step};
+use crate::steps::{StepFault, step};
 use authenticator::{Authenticator, Number, Roster};
 use checkpoint::state_machine_code::State;
 use replay_spec::laws::{sound_exactly_if, steps_as_it_takes};
@@ -105,8 +105,8 @@ fn first_verdict(
         let place = Number::new(number);
         match replay_entry(alloc, roster, &mut state, &mut found, place, &before, entry) {
             Ok(()) => {}
-            Err(StepError::NoMemory) => return Err(AllocError),
-            Err(StepError::Fault(fault)) => return Ok(Verdict::Fault(fault, place)),
+            Err(StepFault::NoMemory) => return Err(AllocError),
+            Err(StepFault::Fault(fault)) => return Ok(Verdict::Fault(fault, place)),
         }
         before = entry_hash(&before, number, entry);
         number += 1;
@@ -123,7 +123,7 @@ fn replay_entry(
     number: Number,
     before: &[u8; 32],
     entry: &Entry,
-) -> Result<(), StepError>
+) -> Result<(), StepFault>
     requires few_received { len state.old.received < MAX_RECEIVED }
     requires few_sends { len state.old.sends < MAX_SENDS }
     ensures step { Steps roster.now state.old (place number before.now entry.now) result state.new }

@@ -9,7 +9,8 @@ use Rattle.merkle_keys.specs.Signing.{SignatureParts}
 use Rattle.authenticator.specs.declared.member.Member.{Member}
 use Rattle.secure_log.specs.declared.log_entries.entry.Entry.{Entry}
 use Rattle.secure_log.specs.declared.log_entries.entry.Entry.TheVariants.{Send, Recv, Ack, Clock, Check}
-use Rattle.state_machine.specs.state_spec.State.{SentMessage, Idle, Heard, Owes, Machine, Server, Client, State}
+use Rattle.state_machine.specs.state_spec.State.{SentMessage, Idle, Heard, Owes, Machine, Server, Client}
+use Rattle.state_machine.specs.state_spec.State.{State}
 use Rattle.state_machine.specs.state_spec.StateText.{state_digest}
 use Rattle.authenticator.specs.Signing.{is_same, is_signed_in}
 use Rattle.replay_spec.specs.Shown.{sender_shown, receiver_shown}

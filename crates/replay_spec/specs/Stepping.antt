@@ -8,7 +8,8 @@ use Rattle.authenticator.specs.declared.authenticator.Authenticator.{Authenticat
 use Rattle.secure_log.specs.declared.log_entries.entry.Entry.{Entry}
 use Rattle.secure_log.specs.declared.log_entries.entry.Entry.TheVariants.{Send, Recv, Ack, Clock, Check}
 use Rattle.nfs_items.specs.Timeval.{is_before}
-use Rattle.state_machine.specs.state_spec.State.{is_received, SentMessage, Idle, Heard, Owes, Machine, Server, Client, State}
+use Rattle.state_machine.specs.state_spec.State.{is_received, SentMessage, Idle, Heard, Owes, Machine, Server}
+use Rattle.state_machine.specs.state_spec.State.{Client, State}
 use Rattle.state_machine.specs.state_spec.State.{clock_in}
 use Rattle.state_machine.specs.state_spec.StateText.{state_digest}
 use Rattle.authenticator.specs.Signing.{is_same, is_signed_in}

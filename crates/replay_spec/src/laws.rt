@@ -2,12 +2,14 @@
 
 ghost use Rattle.std.specs.Prelude.{◌≡◌, ◌≢◌, ℕ, List, [], ◌∷◌};
 ghost use Rattle.merkle_keys.specs.Signing.{SignatureParts};
-ghost use Rattle.secure_log.specs.declared.log_entries.entry.Entry.TheVariants.{Send, Recv, Ack, Clock, Check};
+ghost use Rattle.secure_log.specs.declared.log_entries.entry.Entry.TheVariants.{Send, Recv, Ack, Clock};
+ghost use Rattle.secure_log.specs.declared.log_entries.entry.Entry.TheVariants.{Check};
 ghost use Rattle.state_machine.specs.state_spec.State.{Heard, Owes, opening_client};
 ghost use Rattle.replay_spec.specs.Stepping.{BadForm, BadReceive, WrongReply, ClockBack, BadAck};
 ghost use Rattle.replay_spec.specs.Stepping.{WrongCheckpoint};
 ghost use Rattle.replay_spec.specs.Replay.{Sound, Fault};
-ghost use Rattle.replay_spec.specs.Examples.{server_verdict, client_verdict, client_digest, verdict_at, owed_sent};
+ghost use Rattle.replay_spec.specs.Examples.{server_verdict, client_verdict, client_digest, verdict_at};
+ghost use Rattle.replay_spec.specs.Examples.{owed_sent};
 ghost use Rattle.replay_spec.specs.Laws.{StepsAsItTakes, OneRun, SoundExactlyIf, FaultExactlyIf};
 ghost use Rattle.replay_spec.specs.Laws.{PartsAreHonest, PlacesAreJoined, PlacesHavePairs};
 ghost use Rattle.replay_spec.specs.Laws.{OpeningsHaveNoMessages, NoEntries, OneEntryMore, EntriesMore};

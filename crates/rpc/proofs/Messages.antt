@@ -1,14 +1,16 @@
 -- Reading a call and spelling it are the same.
 -- Serves: reads_what_is_said, says_one_call, read_call (its clauses found and only); Service::answer and the
 -- laws on replies in service.
-use Rattle.std.proofs.Common.{◌≡◌, ◌≢◌, ℕ, Bool, true, false, cond, eqb, List, ◌++◌, Result, Ok, Err, refl, sym, ap, subst, ◌∙◌, append_assoc, arith}
+use Rattle.std.proofs.Common.{◌≡◌, ◌≢◌, ℕ, Bool, true, false, cond, eqb, List, ◌++◌, Result, Ok, Err, refl}
+use Rattle.std.proofs.Common.{sym, ap, subst, ◌∙◌, append_assoc, arith}
 use Rattle.std.specs.Prelude.{◌↔◌, IfOk, IsOkAnd}
 use Rattle.std.proofs.lemmas.Bool.{eqb-true, eqb-false, ne_eqb}
 use Rattle.xdr.specs.Item.{Value, IsBytes, Fits, spelling}
 use Rattle.xdr.specs.Reading.{Read, ◌>>=◌, read_at}
-use Rattle.xdr.proofs.Front.{bind_ok, done, ok_is, Takes, Takes-then}
+use Rattle.xdr.proofs.Front.{bind_ok, done, ok_is, InFront, InFront-then}
 use Rattle.xdr.proofs.Exact.{takes, again}
-use Rattle.rpc.specs.Call.{call_start, call_header, header_value, header_from, Message, OtherVersion, Version2, message_at, Says}
+use Rattle.rpc.specs.Call.{call_start, call_header, header_value, header_from, Message, OtherVersion}
+use Rattle.rpc.specs.Call.{Version2, message_at, Says}
 use Rattle.rpc.specs.CallValues.{IsCallOf, IsCallIn, GivesCall}
 use Rattle.rpc.specs.declared.call.Call.{Call}
 use Rattle.rpc.specs.declared.call.CallFault.{CallFault}
@@ -26,12 +28,12 @@ start_is : (v : Value call_start) (n m : ℕ) → v.1.0 ≡ n → v.1.1 ≡ m �
 start_is v n m e e' = ap (λ (k : ℕ). spelling call_start (v.0, (k, v.1.1))) e ∙ ap (λ (k : ℕ). spelling call_start (v.0, (n, k))) e'
 
 -- what is said, by cases on the version
-behind : (b : Bool) (bytes : List ℕ) (s : Start) (x : Message × List ℕ) → Takes bytes (spelling call_start s.0) s.1 → Fits call_start s.0 → s.0.1.0 ≡ 0
+behind : (b : Bool) (bytes : List ℕ) (s : Start) (x : Message × List ℕ) → InFront bytes (spelling call_start s.0) s.1 → Fits call_start s.0 → s.0.1.0 ≡ 0
     → (b ≡ true → s.0.1.1 ≡ 2) → (b ≡ false → s.0.1.1 ≢ 2) → cond b (header_read s) (Ok (OtherVersion s.0.0 s.0.1.1, s.1)) ≡ Ok x → Says bytes x.0 x.1
 behind true bytes s x t fits zero two other e =
     let q = bind_ok (read_at call_header s.1) (λ h. Ok (Version2 s.0.0 (header_from h.0), h.1)) x e in
     let u = takes call_header s.1 q.0 t.rest_fits q.1 in
-    let both = Takes-then bytes (spelling call_start s.0) s.1 (spelling call_header q.0.0) q.0.1 t u.0 in
+    let both = InFront-then bytes (spelling call_start s.0) s.1 (spelling call_header q.0.0) q.0.1 t u.0 in
     let words : spelling call_start s.0 ≡ spelling call_start (s.0.0, (0, 2)) = start_is s.0 0 2 zero (two refl) in
     let P : Message × List ℕ → Type 0 = λ y. Says bytes y.0 y.1 in
     subst P (ok_is (Version2 s.0.0 (header_from q.0.0), q.0.1) x q.2) (record {

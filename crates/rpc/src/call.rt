@@ -2,7 +2,8 @@
 
 ghost use Rattle.std.specs.Prelude.{◌≡◌, List, ℕ, IfOk, IsOkAnd};
 ghost use Rattle.xdr.specs.Reading.{Gives};
-ghost use Rattle.rpc.specs.Call.{opaque_auth, call_start, call_header, header_value, Message, Says, message_at};
+ghost use Rattle.rpc.specs.Call.{opaque_auth, call_start, call_header, header_value, Message, Says};
+ghost use Rattle.rpc.specs.Call.{message_at};
 ghost use Rattle.rpc.specs.CallValues.{auth_value_of, header_of, IsCallOf, IsCallIn, GivesCall};
 
 use thiserror::Error;

@@ -1,6 +1,7 @@
 -- A batch, as `fill` makes it record by record (Filled: `nothing`, `one_more`).
 -- Serves: `Batch::fill`; serve_at_hand by way of Written.
-use Rattle.std.proofs.Common.{◌≡◌, ℕ, ◌+◌, ◌-◌, ◌≤◌, List, [], ◌∷◌, ◌++◌, arith, length, take, drop, sym, ap, ◌∙◌, refl, length-append, append_assoc, drop_at, length-drop, take_all, true}
+use Rattle.std.proofs.Common.{◌≡◌, ℕ, ◌+◌, ◌-◌, ◌≤◌, List, [], ◌∷◌, ◌++◌, arith, length, take, drop, sym, ap}
+use Rattle.std.proofs.Common.{◌∙◌, refl, length-append, append_assoc, drop_at, length-drop, take_all, true}
 use Rattle.std.specs.List.{AllByRecursion}
 use Rattle.std.proofs.lemmas.List.{append-nil}
 use Rattle.std.proofs.lemmas.List.Concat.{flat_map-cons, flat_map-append}

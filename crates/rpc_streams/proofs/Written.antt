@@ -1,6 +1,8 @@
 -- What it says of a batch's records that its replies were written, all of them or a beginning.
 -- Serves: serve_at_hand.
-use Rattle.std.proofs.Common.{◌≡◌, ℕ, ◌+◌, ◌-◌, ◌<◌, ◌≤◌, List, [], ◌∷◌, ◌++◌, arith, length, take, drop, sym, ap, ◌∙◌, refl, subst, length-append, append_assoc, take_at, drop_at, take-append-drop, length-drop, take_all, Bool, true, false}
+use Rattle.std.proofs.Common.{◌≡◌, ℕ, ◌+◌, ◌-◌, ◌<◌, ◌≤◌, List, [], ◌∷◌, ◌++◌, arith, length, take, drop, sym}
+use Rattle.std.proofs.Common.{ap, ◌∙◌, refl, subst, length-append, append_assoc, take_at, drop_at}
+use Rattle.std.proofs.Common.{take-append-drop, length-drop, take_all, Bool, true, false}
 use Rattle.std.specs.Prelude.{Option, Some, None, nat_lt}
 use Rattle.std.specs.List.{AllByRecursion}
 use Rattle.std.specs.Io.KnownBytes.{Consumes, Appends}
@@ -14,7 +16,8 @@ use Rattle.worlds.specs.World.{World}
 use Rattle.service.specs.Replies.{reply_owed, world_after}
 use Rattle.service.specs.Owed.{record_of}
 use Rattle.rpc_streams.specs.RunRpc.{time_of}
-use Rattle.rpc_streams.specs.Batches.{owed_from, world_from, whole_text, ends_from, taken_by, IsBatch, AnswersRecords, AnswersAndStops}
+use Rattle.rpc_streams.specs.Batches.{owed_from, world_from, whole_text, ends_from, taken_by, IsBatch}
+use Rattle.rpc_streams.specs.Batches.{AnswersRecords, AnswersAndStops}
 use Rattle.rpc_streams.specs.declared.batch.End.{End}
 use Rattle.rpc_streams.proofs.InTurn.{owed_from-append, owed_from-push}
 use Rattle.rpc_streams.proofs.Filled.{one_fragment, are_records, whole_text-push, counted}

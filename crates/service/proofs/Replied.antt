@@ -1,6 +1,7 @@
 -- What was made of a call that was read is the reply owed, and leaves the world after it.
 -- Serves: `Service::answer_into`, and `answer` by it.
-use Rattle.std.proofs.Common.{◌≡◌, ℕ, Bool, true, false, List, [], ◌++◌, Result, Ok, Err, refl, ap, subst, ◌∙◌}
+use Rattle.std.proofs.Common.{◌≡◌, ℕ, Bool, true, false, List, [], ◌++◌, Result, Ok, Err, refl, ap, subst}
+use Rattle.std.proofs.Common.{◌∙◌}
 use Rattle.std.specs.Prelude.{Option, Some, None}
 use Rattle.service.specs.Owed.{IsReplied}
 use Rattle.xdr.specs.Reading.{Read}

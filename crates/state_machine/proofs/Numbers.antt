@@ -8,7 +8,8 @@ use Rattle.nfs_items.specs.Timeval.{Timeval}
 use Rattle.nfs_items.specs.Caller.{Caller}
 use Rattle.service.proofs.nfs_laws.OfFrames.UnnamedFiles.{heads}
 use Rattle.service.specs.worlds.World.{World, at_time}
-use Rattle.service.specs.Replies.{ServedCall, Nfs, Mount, OrRefusal, call_or_refusal, call_results, call_reply, reply_to, world_after_call, world_after}
+use Rattle.service.specs.Replies.{ServedCall, Nfs, Mount, OrRefusal, call_or_refusal, call_results}
+use Rattle.service.specs.Replies.{call_reply, reply_to, world_after_call, world_after}
 use Rattle.state_spec.specs.State.{Idle, Heard, Owes, Machine, Server, Client}
 use Rattle.state_machine.specs.Machines.{IsOf}
 use Rattle.state_machine.specs.Steps.{after_reading}

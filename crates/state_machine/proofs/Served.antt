@@ -1,6 +1,7 @@
 -- What a state is after a message was taken in and answered, and after that was taken back.
 -- Serves: State::answer, State::make_place, State::serve.
-use Rattle.std.proofs.Common.{◌≡◌, ℕ, List, Bool, true, false, Option, Some, None, Result, Ok, Err, is_some, true≢false, refl, sym, ap, subst, ◌∙◌}
+use Rattle.std.proofs.Common.{◌≡◌, ℕ, List, Bool, true, false, Option, Some, None, Result, Ok, Err, is_some}
+use Rattle.std.proofs.Common.{true≢false, refl, sym, ap, subst, ◌∙◌}
 use Rattle.std.specs.Prelude.{OnOk, OnErr}
 use Rattle.std.specs.FinMap as finite
 use Rattle.std.specs.Ordering.{nat_cmp}
@@ -10,7 +11,8 @@ use Rattle.state_machine.proofs.OfStates.Orders.{received_total}
 use Rattle.state_machine.proofs.OfStates.Again.{received_exact, taken_again}
 use Rattle.state_spec.specs.State.{ReceivedMessage, is_received, Machine, Server, Client, State}
 use Rattle.state_machine.specs.Machines.{IsOf}
-use Rattle.state_machine.specs.Steps.{having_received, having_forgotten, having_sent, having_acknowledged, having_answered, having_served, HasPlace}
+use Rattle.state_machine.specs.Steps.{having_received, having_forgotten, having_sent, having_acknowledged}
+use Rattle.state_machine.specs.Steps.{having_answered, having_served, HasPlace}
 use Rattle.state_machine.proofs.Numbers.{after_record}
 
 -- a machine that answered is of the same node

@@ -8,7 +8,8 @@ use Rattle.service.specs.worlds.IsWorld.{IsWorld}
 use Rattle.state_spec.specs.file_texts.FileItems.{file_item, file_value}
 use Rattle.state_spec.specs.Limits.{max_received, max_sends}
 use Rattle.state_spec.specs.State.{Stage, Machine, Server, Client, State}
-use Rattle.state_spec.specs.StateItems.{received_item, received_value, sent_item, sent_value, stage_item, stage_value, machine_value, state_item}
+use Rattle.state_spec.specs.StateItems.{received_item, received_value, sent_item, sent_value, stage_item}
+use Rattle.state_spec.specs.StateItems.{stage_value, machine_value, state_item}
 use Rattle.state_spec.specs.StateText.{said}
 use Rattle.state_spec.proofs.Worlds.{world_fits}
 use Rattle.state_machine.specs.Machines.{MachineFits}

@@ -4,7 +4,8 @@ use Rattle.std.specs.FinMap as finite
 use Rattle.nfs_items.specs.Timeval.{Timeval}
 use Rattle.service.specs.worlds.World.{World}
 use Rattle.service.specs.Replies.{reply_owed, world_after}
-use Rattle.state_spec.specs.State.{ReceivedMessage, with_received, SentMessage, Stage, Idle, Heard, Owes, Machine, Server, Client, State}
+use Rattle.state_spec.specs.State.{ReceivedMessage, with_received, SentMessage, Stage, Idle, Heard, Owes}
+use Rattle.state_spec.specs.State.{Machine, Server, Client, State}
 
 -- a message more among those received
 abbrev pub having_received : State → ReceivedMessage → State

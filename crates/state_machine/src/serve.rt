@@ -1,6 +1,7 @@
 //! What a server does with a message at once.
 
-ghost use Rattle.std.specs.Prelude.{◌≡◌, ◌<◌, ◌≤◌, None, IsSome, IfOk, IfSome, OnOk, OnErr, IsOk, false, length};
+ghost use Rattle.std.specs.Prelude.{◌≡◌, ◌<◌, ◌≤◌, None, IsSome, IfOk, IfSome, OnOk, OnErr, IsOk, false};
+ghost use Rattle.std.specs.Prelude.{length};
 ghost use Rattle.std.specs.Option.{option_map};
 ghost use Rattle.std.specs.FinMap.{get, len};
 ghost use Rattle.state_machine.specs.declared.states.received.TheConstants.{MAX_RECEIVED};
@@ -8,7 +9,9 @@ ghost use Rattle.state_machine.specs.declared.states.sends.TheConstants.{MAX_SEN
 ghost use Rattle.state_spec.specs.State.{is_received};
 ghost use Rattle.state_machine.specs.declared.body.TheConstants.{MAX_BODY};
 ghost use Rattle.state_machine.specs.Machines.{machine_in};
-ghost use Rattle.state_machine.specs.Steps.{IsIdle, reply_by, having_answered, having_forgotten, having_received, having_sent, having_served, HasPlace, HasPlaceFor};
+ghost use Rattle.state_machine.specs.Steps.{IsIdle, reply_by, having_answered, having_forgotten};
+ghost use Rattle.state_machine.specs.Steps.{having_received, having_sent, having_served, HasPlace};
+ghost use Rattle.state_machine.specs.Steps.{HasPlaceFor};
 
 use crate::machine::Machine;
 use crate::state::State;

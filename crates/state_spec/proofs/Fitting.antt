@@ -11,7 +11,8 @@ use Rattle.std.specs.FinMap as finite
 use Rattle.xdr.specs.Item.{Fits, choice}
 use Rattle.file_texts.specs.fs_model.Maxima.{max_file_size, max_target, max_name, max_files}
 use Rattle.file_texts.specs.fs_model.Listing.{DirEntry, entry_at}
-use Rattle.file_texts.specs.fs_model.Files.{Body, Regular, Symlink, Directory, File, file_at, listing_in, places}
+use Rattle.file_texts.specs.fs_model.Files.{Body, Regular, Symlink, Directory, File, file_at, listing_in}
+use Rattle.file_texts.specs.fs_model.Files.{places}
 use Rattle.file_texts.specs.fs_model.Changes.Limits.{file_count}
 use Rattle.file_texts.proofs.fs_model.Walks.{none_some, some_same}
 use Rattle.file_texts.proofs.fs_model.OfChanges.Room.{AllCookies}

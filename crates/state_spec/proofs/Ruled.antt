@@ -8,7 +8,8 @@ use Rattle.xdr.specs.Item.{Value, Fits}
 use Rattle.file_texts.specs.fs_model.Maxima.{max_name}
 use Rattle.file_texts.specs.fs_model.Listing.{Listing, IsRising, HasDistinctNames}
 use Rattle.file_texts.specs.fs_model.Names.{is_name}
-use Rattle.file_texts.specs.fs_model.Files.{Body, Regular, Symlink, Directory, File, Files, file_at, listing, listing_in}
+use Rattle.file_texts.specs.fs_model.Files.{Body, Regular, Symlink, Directory, File, Files, file_at, listing}
+use Rattle.file_texts.specs.fs_model.Files.{listing_in}
 use Rattle.file_texts.specs.fs_model.Files.{is_directory, places, IsDirectory}
 use Rattle.file_texts.specs.fs_model.Trees.{IsBody, IsFile, IsFileTree}
 use Rattle.file_texts.proofs.fs_model.Walks.{none_some}

@@ -1,6 +1,8 @@
 -- A server's world fits in a text: what files that are a tree within all limits ask for, and its mounts.
 -- Serves: the states of machines (state_machine), the entries that a state keeps (state_machine::states).
-use Rattle.std.proofs.Common.{◌≡◌, ℕ, ◌+◌, ◌<◌, ◌≤◌, ◌^◌, Bool, true, false, cond, T, List, [], ◌∷◌, map, length, Some, IsSome, is_some, option_and_then, nat_eq, refl, sym, ap, subst, ◌∙◌, arith}
+use Rattle.std.proofs.Common.{◌≡◌, ℕ, ◌+◌, ◌<◌, ◌≤◌, ◌^◌, Bool, true, false, cond, T, List, [], ◌∷◌, map}
+use Rattle.std.proofs.Common.{length, Some, IsSome, is_some, option_and_then, nat_eq, refl, sym, ap, subst}
+use Rattle.std.proofs.Common.{◌∙◌, arith}
 use Rattle.std.specs.List.{AllByRecursion, IsDistinct}
 use Rattle.std.specs.Map.{lookup}
 use Rattle.std.specs.Ordering.{nat_cmp, eq_by_cmp}
@@ -14,7 +16,8 @@ use Rattle.worlds.specs.mount_types.Calls.{Mount}
 use Rattle.worlds.specs.mount_types.Mounts.{IsMount}
 use Rattle.file_texts.specs.fs_model.Maxima.{max_files, max_entries, max_name}
 use Rattle.file_texts.specs.fs_model.Listing.{Listing, DirEntry, entry_at, IsRising, HasDistinctNames}
-use Rattle.file_texts.specs.fs_model.Files.{Body, Regular, Symlink, Directory, File, Files, file_at, listing_in, places}
+use Rattle.file_texts.specs.fs_model.Files.{Body, Regular, Symlink, Directory, File, Files, file_at}
+use Rattle.file_texts.specs.fs_model.Files.{listing_in, places}
 use Rattle.file_texts.specs.fs_model.Trees.{IsBody, IsFileTree}
 use Rattle.file_texts.proofs.fs_model.Counts.{same_number}
 use Rattle.file_texts.proofs.fs_model.Reached.{both_of, not_before}
@@ -25,7 +28,8 @@ use Rattle.file_texts.proofs.fs_model.OfChanges.Room.{AllCookies, IsWithin, with
 use Rattle.worlds.specs.nfs_laws.Sizes.Bounds.{AreWords}
 use Rattle.worlds.specs.World.{World}
 use Rattle.worlds.specs.IsWorld.{IsWorld}
-use Rattle.file_texts.specs.FileItems.{entry_item, attributes_item, attributes_value, is_file_kind, kind_item, kind_value, file_item, file_value}
+use Rattle.file_texts.specs.FileItems.{entry_item, attributes_item, attributes_value, is_file_kind, kind_item}
+use Rattle.file_texts.specs.FileItems.{kind_value, file_item, file_value}
 use Rattle.state_spec.specs.State.{Stage}
 use Rattle.state_spec.specs.StateItems.{mount_item, stage_item, stage_value, rest_item, world_value}
 

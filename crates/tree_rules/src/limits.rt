@@ -41,7 +41,7 @@ fn entry_count(body: &Body) -> usize
             let _next = listing.next();
             listing.len()
         }
-        Body::Regular(_) | Body::Link(_) => 0,
+        Body::Regular(_) | Body::Symlink(_) => 0,
     }
 }
 

@@ -79,7 +79,7 @@ fn add_inode(
 {
     match body {
         Body::Directory { listing, .. } => add_names(place, listing, numbers, names, above),
-        Body::Regular(_) | Body::Link(_) => true,
+        Body::Regular(_) | Body::Symlink(_) => true,
     }
 }
 

@@ -21,7 +21,7 @@ fn may_have(place: usize, body: &Body, names: usize) -> bool
 {
     match body {
         Body::Directory { .. } => { if place == 0 { names == 0 } else { names == 1 } }
-        Body::Regular(_) | Body::Link(_) => { if place == 0 { false } else { 0 < names } }
+        Body::Regular(_) | Body::Symlink(_) => { if place == 0 { false } else { 0 < names } }
     }
 }
 

@@ -1,6 +1,7 @@
 -- What a packet with a wrong signature is taken for.
 -- Serves: bytes_are_refused.
-use Rattle.std.proofs.Common.{◌≡◌, ℕ, zero, suc, ◌<◌, ◌^◌, ◌/◌, ◌%◌, ◌++◌, false, List, [], ◌∷◌, length, replicate, Err}
+use Rattle.std.proofs.Common.{◌≡◌, ℕ, zero, suc, ◌<◌, ◌^◌, ◌/◌, ◌%◌, ◌++◌, false, List, [], ◌∷◌, length}
+use Rattle.std.proofs.Common.{replicate, Err}
 use Rattle.std.proofs.Common.{refl, ◌∙◌, arith}
 use Rattle.std.proofs.lemmas.List.{length-replicate}
 use Rattle.std.specs.Int.{bytes_high_first, byte_at}

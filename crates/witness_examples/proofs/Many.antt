@@ -1,6 +1,7 @@
 -- What so many learned authenticators are told.
 -- Serves: as_many_as_are_kept, after_as_many_as_are_kept.
-use Rattle.std.proofs.Common.{◌≡◌, ℕ, zero, suc, ◌<◌, ◌≤◌, ◌||◌, sym, Bool, true, false, cond, not, ◌==◌, ◌&&◌, nat_lt}
+use Rattle.std.proofs.Common.{◌≡◌, ℕ, zero, suc, ◌<◌, ◌≤◌, ◌||◌, sym, Bool, true, false, cond, not, ◌==◌}
+use Rattle.std.proofs.Common.{◌&&◌, nat_lt}
 use Rattle.std.proofs.Common.{nat_le, List, [], ◌∷◌, ◌++◌, length, filter, Option, Some}
 use Rattle.std.proofs.Common.{refl, ap, ap₂, ◌∙◌, arith, lt-ltb}
 use Rattle.std.specs.Prelude.{option_map, option_and_then}
@@ -9,7 +10,8 @@ use Rattle.std.proofs.lemmas.Bool.Decides.{nat_tests}
 use Rattle.authenticator.specs.declared.authenticator.Authenticator.{Authenticator}
 use Rattle.witness_spec.specs.Refusals.{LearnedFull}
 use Rattle.witness_spec.specs.Replies.{Reply, Noted, Already, Refused}
-use Rattle.witness_spec.specs.Pairs.{Pair, first_pair, pair_of, first_fork, same_pair, differ, is_shown, is_fork, has_fork}
+use Rattle.witness_spec.specs.Pairs.{Pair, first_pair, pair_of, first_fork, same_pair, differ, is_shown}
+use Rattle.witness_spec.specs.Pairs.{is_fork, has_fork}
 use Rattle.witness_spec.specs.Standing.{end_of, has_fault, pairs_noted, shown, is_exposed, unless_exposed}
 use Rattle.witness_spec.specs.Standing.{noted_before, kept, all_accepted}
 use Rattle.witness_spec.specs.Owing.{learn_reply, Owes}

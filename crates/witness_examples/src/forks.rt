@@ -5,9 +5,11 @@ ghost use Rattle.witness_spec.specs.evidence_spec.Showing.{authenticator_showing
 ghost use Rattle.witness_spec.specs.Events.{ItsIndication, ItsEvidence};
 ghost use Rattle.witness_spec.specs.Replies.{Noted, Already, Accepted, Told, EvidenceIs, Exposed};
 ghost use Rattle.witness_spec.specs.Steps.{Learn, Answer, Ask};
-ghost use Rattle.witness_examples.specs.Worked.{five, learned, one_hash, other_hash, read_hash, segment, closed};
+ghost use Rattle.witness_examples.specs.Worked.{five, learned, one_hash, other_hash, read_hash, segment};
+ghost use Rattle.witness_examples.specs.Worked.{closed};
 ghost use Rattle.witness_examples.specs.Worked.{filed_two, learned_to};
-ghost use Rattle.witness_examples.specs.Forks.{forked, zero_forked, answer_wanted, answer_forked, two_segment};
+ghost use Rattle.witness_examples.specs.Forks.{forked, zero_forked, answer_wanted, answer_forked};
+ghost use Rattle.witness_examples.specs.Forks.{two_segment};
 ghost use Rattle.witness_examples.specs.Forks.{two_given, segment_forked, audited_forked, full_forked};
 ghost use Rattle.witness_examples.specs.Reaching.{Reaches};
 

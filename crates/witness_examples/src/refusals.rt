@@ -14,10 +14,14 @@ ghost use Rattle.witness_spec.specs.Whose.{whose};
 ghost use Rattle.witness_spec.specs.Owing.{Owes};
 ghost use Rattle.witness_spec.specs.Histories.{MayWant, IsHistory};
 ghost use Rattle.envelopes.specs.declared.acknowledgement.Ack.{Ack};
-ghost use Rattle.witness_examples.specs.Worked.{five, second, its_key, other_key, higher_key, learned, sent, one_hash};
-ghost use Rattle.witness_examples.specs.Worked.{learned_two, closed, two_wanted, wanted, given, job, done, out_one};
-ghost use Rattle.witness_examples.specs.Worked.{out_two, other_state, other_segment, filed_two, second_wanted};
-ghost use Rattle.witness_examples.specs.Worked.{exposed_wanted, exposed_given, exposed_out, no_filed, challenged};
+ghost use Rattle.witness_examples.specs.Worked.{five, second, its_key, other_key, higher_key, learned, sent};
+ghost use Rattle.witness_examples.specs.Worked.{one_hash};
+ghost use Rattle.witness_examples.specs.Worked.{learned_two, closed, two_wanted, wanted, given, job, done};
+ghost use Rattle.witness_examples.specs.Worked.{out_one};
+ghost use Rattle.witness_examples.specs.Worked.{out_two, other_state, other_segment, filed_two};
+ghost use Rattle.witness_examples.specs.Worked.{second_wanted};
+ghost use Rattle.witness_examples.specs.Worked.{exposed_wanted, exposed_given, exposed_out, no_filed};
+ghost use Rattle.witness_examples.specs.Worked.{challenged};
 ghost use Rattle.witness_examples.specs.Worked.{learned_to};
 ghost use Rattle.witness_examples.specs.Reaching.{Reaches, IsRefused};
 

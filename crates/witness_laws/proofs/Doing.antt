@@ -20,9 +20,11 @@ use Rattle.witness_spec.specs.evidence_spec.Evidence.{MAX_AUDITED}
 use Rattle.witness_spec.specs.Limits.{MAX_OUTBOX}
 use Rattle.witness_spec.specs.Pairs.{pair_of, is_shown}
 use Rattle.witness_spec.specs.Done.{noted, accepted, filed}
-use Rattle.witness_spec.specs.Standing.{end_of, Stage, NoAudit, Wanted, Given, Out, stage_after, stage_of, job_of}
+use Rattle.witness_spec.specs.Standing.{end_of, Stage, NoAudit, Wanted, Given, Out, stage_after, stage_of}
+use Rattle.witness_spec.specs.Standing.{job_of}
 use Rattle.witness_spec.specs.Standing.{out_at, job_out, is_exposed, shown, kept, outbox}
-use Rattle.witness_spec.specs.Owing.{reply_told, answer_reply, audit_reply, ask_reply, last_in_reach, begin_reply}
+use Rattle.witness_spec.specs.Owing.{reply_told, answer_reply, audit_reply, ask_reply, last_in_reach}
+use Rattle.witness_spec.specs.Owing.{begin_reply}
 use Rattle.witness_spec.specs.Owing.{next_job, back_reply, has_no_room, IsOut, Owes}
 use Rattle.witness_laws.proofs.Reach.{IsInReach, IsNumberOf, in_reach, kept_after}
 

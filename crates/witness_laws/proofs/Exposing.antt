@@ -18,7 +18,8 @@ use Rattle.witness_spec.specs.Replies.{Reply, Challenge, Suspected, Exposed}
 use Rattle.witness_spec.specs.Steps.{Step, Past}
 use Rattle.witness_spec.specs.Pairs.{Pair, differ, is_fork, has_fork}
 use Rattle.witness_spec.specs.Done.{noted, accepted, filed}
-use Rattle.witness_spec.specs.Standing.{end_of, is_fault, finds_fault, has_fault, pairs_noted, pairs_accepted, shown}
+use Rattle.witness_spec.specs.Standing.{end_of, is_fault, finds_fault, has_fault, pairs_noted, pairs_accepted}
+use Rattle.witness_spec.specs.Standing.{shown}
 use Rattle.witness_spec.specs.Standing.{is_exposed, open_challenges, without_evidence, indication}
 use Rattle.witness_spec.specs.Histories.{History, own_one, own}
 use Rattle.witness_spec.specs.Laws.{HasTwoHashes, IsFaultyFile, HasFaultyFile}

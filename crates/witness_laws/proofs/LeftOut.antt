@@ -19,7 +19,8 @@ use Rattle.witness_spec.specs.Steps.{Step, OwnStep}
 use Rattle.witness_spec.specs.Whose.{step_of, is_key_of, same_roster, signed_step, sent_step, closed_step}
 use Rattle.witness_spec.specs.Whose.{delivered_step, judged_step, whose}
 use Rattle.witness_spec.specs.Owing.{Owes}
-use Rattle.witness_spec.specs.Histories.{History, own_one, own, OwesTo, IsOwed, IsWanting, BookParts, StandsFor}
+use Rattle.witness_spec.specs.Histories.{History, own_one, own, OwesTo, IsOwed, IsWanting, BookParts}
+use Rattle.witness_spec.specs.Histories.{StandsFor}
 use Rattle.witness_spec.specs.Histories.{StandEach}
 use Rattle.witness_spec.specs.Laws.{ChangesNothing, IsLeftOut, IsTaken}
 use Rattle.witness_laws.proofs.Replied.{in_table, is_good, owed_good, good_want, good_refused, want_refused}

@@ -20,7 +20,8 @@ use Rattle.witness_spec.specs.Whose.{delivered_step, judged_step, whose}
 use Rattle.witness_spec.specs.Standing.{indication, open_challenges}
 use Rattle.witness_spec.specs.Exposing.{evidence}
 use Rattle.witness_spec.specs.Owing.{Owes}
-use Rattle.witness_spec.specs.Histories.{History, own_step, own_one, own, OwesTo, IsOwed, IsWanting, IsHistory}
+use Rattle.witness_spec.specs.Histories.{History, own_step, own_one, own, OwesTo, IsOwed, IsWanting}
+use Rattle.witness_spec.specs.Histories.{IsHistory}
 use Rattle.witness_spec.specs.Histories.{AreOwed}
 use Rattle.witness_spec.specs.Laws.{SaysSame}
 use Rattle.witness_laws.proofs.Replied.{one_reply, owed_good, good_want, want_refused}

@@ -1,6 +1,7 @@
 -- A step's reply is one, and its refusals are those of the table.
 -- Serves: one_reply, own_steps_alone, left_out_changes_nothing.
-use Rattle.std.proofs.Common.{◌≡◌, ℕ, ◌+◌, ◌-◌, Bool, true, false, cond, ◌&&◌, ◌==◌, nat_le, nat_lt, count_by, List, [], ◌∷◌, Option, Some, None}
+use Rattle.std.proofs.Common.{◌≡◌, ℕ, ◌+◌, ◌-◌, Bool, true, false, cond, ◌&&◌, ◌==◌, nat_le, nat_lt, count_by}
+use Rattle.std.proofs.Common.{List, [], ◌∷◌, Option, Some, None}
 use Rattle.std.proofs.Common.{refl, sym, ap, ◌∙◌}
 use Rattle.std.specs.Bool.{one_answer}
 use Rattle.authenticator.specs.declared.authenticator.Authenticator.{Authenticator}
@@ -11,12 +12,14 @@ use Rattle.witness_spec.specs.Events.{Event, JobParts, Question, ItsIndication, 
 use Rattle.witness_spec.specs.Events as events
 use Rattle.witness_spec.specs.Replies.{Reply, Noted, Already, Opened, Accepted, Closed, Asked, Job, Filed}
 use Rattle.witness_spec.specs.Replies.{Returned, Forwarded, Empty, Told, OpenList, EvidenceIs}
-use Rattle.witness_spec.specs.Replies.{Refused, FileRefused, PutBackRefused, refused, is_want, is_want_of_memory}
+use Rattle.witness_spec.specs.Replies.{Refused, FileRefused, PutBackRefused, refused, is_want}
+use Rattle.witness_spec.specs.Replies.{is_want_of_memory}
 use Rattle.witness_spec.specs.Steps.{Step, Learn, SendChallenge, Answer, AckIn, Audit, Begin, File, PutBack}
 use Rattle.witness_spec.specs.Steps.{Forward, Ask, Past}
 use Rattle.witness_spec.specs.Standing.{Stage, NoAudit, Wanted, Given, Out, stage_of, job_out}
 use Rattle.witness_spec.specs.Standing.{open_challenges, outbox, kept, shown, is_exposed}
-use Rattle.witness_spec.specs.Owing.{reply_told, ask, answer_reply, audit_reply, ask_reply, ask_up_to, begin_reply}
+use Rattle.witness_spec.specs.Owing.{reply_told, ask, answer_reply, audit_reply, ask_reply, ask_up_to}
+use Rattle.witness_spec.specs.Owing.{begin_reply}
 use Rattle.witness_spec.specs.Owing.{back_reply, forward_reply, last_in_reach, has_no_room, is_send, is_open}
 use Rattle.witness_spec.specs.Owing.{next_job, Owes}
 use Rattle.witness_spec.specs.Limits.{MAX_CHALLENGES, MAX_OUTBOX}

@@ -8,7 +8,8 @@ use Rattle.std.proofs.lemmas.Bool.{true≢false}
 use Rattle.sha2.specs.Sha256.{sha256}
 use Rattle.merkle_keys.specs.Signing.{SignatureParts}
 use Rattle.secure_log.specs.declared.log_entries.entry.Entry.{Entry}
-use Rattle.secure_log.specs.declared.log_entries.entry.Entry.TheVariants.{Send, Recv, Ack as Acked, Clock, Check}
+use Rattle.secure_log.specs.declared.log_entries.entry.Entry.TheVariants.{Send, Recv, Ack as Acked, Clock}
+use Rattle.secure_log.specs.declared.log_entries.entry.Entry.TheVariants.{Check}
 use Rattle.envelopes.specs.declared.message.Message.{Message}
 use Rattle.envelopes.specs.declared.acknowledgement.Ack.{Ack}
 use Rattle.envelopes.specs.Acknowledgement.{acked_message}

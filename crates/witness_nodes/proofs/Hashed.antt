@@ -4,7 +4,8 @@ use Rattle.std.proofs.Common.{◌≡◌, inl, inr, ℕ, ◌+◌, List, [], ◌�
 use Rattle.std.proofs.Common.{arith}
 use Rattle.std.specs.Prelude.{flat_map}
 use Rattle.secure_log.specs.declared.log_entries.entry.Entry.{Entry}
-use Rattle.secure_log.specs.LogEntries.Chain.{IsIn, chain_texts, hash_after, last_hash, link_of, links_from, zeros}
+use Rattle.secure_log.specs.LogEntries.Chain.{IsIn, chain_texts, hash_after, last_hash, link_of, links_from}
+use Rattle.secure_log.specs.LogEntries.Chain.{zeros}
 use Rattle.secure_log.specs.Log.{log_hash}
 use Rattle.witness_laws.proofs.evidence_spec.Texts.{Within, left, right, both}
 use Rattle.witness_laws.specs.evidence_spec.Proving.{entry_texts, hashed_texts, log_texts}

@@ -15,7 +15,8 @@ use Rattle.node_logs.specs.Steps.Nodes.{NodeParts, log_of, sender_of}
 use Rattle.witness_laws.proofs.evidence_spec.Texts.{Within, fewer, both}
 use Rattle.witness_laws.specs.evidence_spec.Showing.{IsAmong}
 use Rattle.witness_laws.specs.evidence_spec.Proving.{IsUnforged, hashed_texts, log_texts, segment_texts}
-use Rattle.witness_laws.specs.witness_spec.Steps.{Step, Learn, SendChallenge, Answer, AckIn, Audit, Begin, File, PutBack}
+use Rattle.witness_laws.specs.witness_spec.Steps.{Step, Learn, SendChallenge, Answer, AckIn, Audit, Begin}
+use Rattle.witness_laws.specs.witness_spec.Steps.{File, PutBack}
 use Rattle.witness_laws.specs.witness_spec.Steps.{Forward, Ask, Past}
 use Rattle.witness_laws.specs.witness_spec.Premises.{NoCollisionWith, authenticators_in, texts_in}
 use Rattle.witness_nodes.specs.Logs.{WentOn, IsAnswered, ShowsItsOwn}

@@ -1,7 +1,8 @@
 -- An audit asks up to a number that was learned; so where all that was learned is a node's own, the node signed
 -- there.
 -- Serves: own_words_can_be_answered.
-use Rattle.std.proofs.Common.{◌≡◌, inl, inr, ℕ, ◌+◌, Bool, true, false, cond, List, [], ◌∷◌, ◌++◌, length, filter, nat_lt}
+use Rattle.std.proofs.Common.{◌≡◌, inl, inr, ℕ, ◌+◌, Bool, true, false, cond, List, [], ◌∷◌, ◌++◌, length}
+use Rattle.std.proofs.Common.{filter, nat_lt}
 use Rattle.std.proofs.Common.{Option, Some, None, refl, sym, ap, subst, ◌∙◌, append_assoc}
 use Rattle.std.specs.Prelude.{IsSome, option_map}
 use Rattle.std.specs.List.{AllByRecursion}
@@ -16,7 +17,8 @@ use Rattle.node_logs.specs.Steps.Nodes.{NodeParts, sender_of}
 use Rattle.witness_laws.specs.evidence_spec.Showing.{IsAmong}
 use Rattle.witness_laws.specs.witness_spec.Replies.{Reply}
 use Rattle.witness_laws.specs.witness_spec.Steps.{Step, Learn, Past}
-use Rattle.witness_laws.specs.witness_spec.Standing.{Stage, NoAudit, Wanted, Given, Out, stage_of, kept, noted_before}
+use Rattle.witness_laws.specs.witness_spec.Standing.{Stage, NoAudit, Wanted, Given, Out, stage_of, kept}
+use Rattle.witness_laws.specs.witness_spec.Standing.{noted_before}
 use Rattle.witness_laws.specs.witness_spec.Standing.{unless_exposed, end_of, is_exposed}
 use Rattle.witness_laws.specs.witness_spec.Done.{noted}
 use Rattle.witness_laws.specs.witness_spec.Histories.{AreOwed}

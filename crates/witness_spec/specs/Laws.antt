@@ -35,7 +35,8 @@ use Rattle.witness_spec.specs.Done.{filed}
 use Rattle.witness_spec.specs.Standing.{end_of, shown, Wanted, stage_of, open_challenges, indication}
 use Rattle.witness_spec.specs.Exposing.{evidence}
 use Rattle.witness_spec.specs.Owing.{Owes}
-use Rattle.witness_spec.specs.Histories.{History, own, IsOwed, IsWanting, IsHistory, AreOwed, BookParts, Stands}
+use Rattle.witness_spec.specs.Histories.{History, own, IsOwed, IsWanting, IsHistory, AreOwed, BookParts}
+use Rattle.witness_spec.specs.Histories.{Stands}
 use Rattle.witness_spec.specs.Premises.{Unforged, NoCollisionWith}
 
 -- ---- one reply

@@ -2,20 +2,26 @@
 -- both by induction on the type, with a pair of lemmas for each way to make a type of others.
 -- Serves: reads_what_is_spelled, no_spelling_begins_another; reads_each_text (texts), and in crates above
 -- one_list_of_records (rpc::record_laws), the laws of rpc, nfs_types, nfs_items and secure_log.
-use Rattle.std.proofs.Common.{◌≡◌, ℕ, zero, suc, ◌^◌, ◌<◌, ◌≤◌, Bool, true, false, cond, ltb, List, [], ◌∷◌, ◌++◌, length, Ok, Err, refl, sym, ap, subst, ◌∙◌, append_assoc, arith}
+use Rattle.std.proofs.Common.{◌≡◌, ℕ, zero, suc, ◌^◌, ◌<◌, ◌≤◌, Bool, true, false, cond, ltb, List, [], ◌∷◌}
+use Rattle.std.proofs.Common.{◌++◌, length, Ok, Err, refl, sym, ap, subst, ◌∙◌, append_assoc, arith}
 use Rattle.std.specs.Prelude.{IsTrue, ◌↔◌, Option, Some, None, IfSome}
 use Rattle.std.specs.List.{flat_map, AllByRecursion}
 use Rattle.std.proofs.lemmas.Bool.{ltb-false, le-ltb}
 use Rattle.std.proofs.lemmas.List.{length-append}
 use Rattle.std.proofs.lemmas.List.Concat.{flat_map-cons}
 use Rattle.xdr.specs.declared.fault.XdrFault.TheVariants.{TooLong, BadEnum}
-use Rattle.xdr.specs.Item.{Item, word, hyper, flag, opaque, fixed, empty, pair, array, choice, optional, linked, repeated, word_where, hyper_where, Value, number_spelling, optional_spelling, linked_spelling, spelling, Fits, IsBytes}
-use Rattle.xdr.specs.Reading.{Read, ◌>>=◌, number_at, flag_at, optional_at, linked_at, tested_at, items_at, read_at}
-use Rattle.xdr.proofs.Front.{bind_ok, guard_ok, guard_true, done, ok_is, Takes, Takes-then, number_takes, number_again, length-number_spelling, back4, back8, flag_takes, flag_again, fixed_takes, fixed_again, opaque_takes, opaque_again}
+use Rattle.xdr.specs.Item.{Item, word, hyper, flag, opaque, fixed, empty, pair, array, choice, optional}
+use Rattle.xdr.specs.Item.{linked, repeated, word_where, hyper_where, Value, number_spelling}
+use Rattle.xdr.specs.Item.{optional_spelling, linked_spelling, spelling, Fits, IsBytes}
+use Rattle.xdr.specs.Reading.{Read, ◌>>=◌, number_at, flag_at, optional_at, linked_at, tested_at, items_at}
+use Rattle.xdr.specs.Reading.{read_at}
+use Rattle.xdr.proofs.Front.{bind_ok, guard_ok, guard_true, done, ok_is, InFront, InFront-then, number_takes}
+use Rattle.xdr.proofs.Front.{number_again, length-number_spelling, back4, back8, flag_takes, flag_again}
+use Rattle.xdr.proofs.Front.{fixed_takes, fixed_again, opaque_takes, opaque_again}
 
 -- what is read is spelled so
 abbrev pub TakesAll : {A : Type 0} (read : List ℕ → Read A) (text : A → List ℕ) (fits : A → Type 0) → Type 0
-TakesAll {A} read text fits = (bytes : List ℕ) (x : A × List ℕ) → IsBytes bytes → read bytes ≡ Ok x → Takes bytes (text x.0) x.1 × fits x.0
+TakesAll {A} read text fits = (bytes : List ℕ) (x : A × List ℕ) → IsBytes bytes → read bytes ≡ Ok x → InFront bytes (text x.0) x.1 × fits x.0
 
 -- what is spelled so is read, whatever follows
 abbrev pub ReadsAgain : {A : Type 0} (read : List ℕ → Read A) (text : A → List ℕ) (fits : A → Type 0) → Type 0
@@ -23,18 +29,18 @@ ReadsAgain {A} read text fits = (v : A) (rest : List ℕ) → fits v → read (t
 
 -- items one after the other, as many as are known
 items_take : {A : Type 0} (read : List ℕ → Read A) (text : A → List ℕ) (fits : A → Type 0) → TakesAll read text fits
-    → (n : ℕ) (bytes : List ℕ) (x : List A × List ℕ) → IsBytes bytes → items_at read n bytes ≡ Ok x → Takes bytes (flat_map text x.0) x.1 × (length x.0 ≡ n) × AllByRecursion fits x.0
+    → (n : ℕ) (bytes : List ℕ) (x : List A × List ℕ) → IsBytes bytes → items_at read n bytes ≡ Ok x → InFront bytes (flat_map text x.0) x.1 × (length x.0 ≡ n) × AllByRecursion fits x.0
 unfolding items_at
 items_take {A} read text fits exact zero bytes x bound e =
-    let P : List A × List ℕ → Type 0 = λ y. Takes bytes (flat_map text y.0) y.1 × (length y.0 ≡ 0) × AllByRecursion fits y.0 in
+    let P : List A × List ℕ → Type 0 = λ y. InFront bytes (flat_map text y.0) y.1 × (length y.0 ≡ 0) × AllByRecursion fits y.0 in
     subst P (ok_is ([], bytes) x e) (record { parts = refl; rest_fits = bound }, refl, tt)
 items_take {A} read text fits exact (suc n) bytes x bound e =
     let a = bind_ok (read bytes) (λ first. items_at read n first.1 >>= λ others. Ok (first.0 ∷ others.0, others.1)) x e in
     let b = bind_ok (items_at read n a.0.1) (λ others. Ok (a.0.0 ∷ others.0, others.1)) x a.2 in
     let first = exact bytes a.0 bound a.1 in
     let second = items_take read text fits exact n a.0.1 b.0 first.0.rest_fits b.1 in
-    let both = Takes-then bytes (text a.0.0) a.0.1 (flat_map text b.0.0) b.0.1 first.0 second.0 in
-    let P : List A × List ℕ → Type 0 = λ y. Takes bytes (flat_map text y.0) y.1 × (length y.0 ≡ suc n) × AllByRecursion fits y.0 in
+    let both = InFront-then bytes (text a.0.0) a.0.1 (flat_map text b.0.0) b.0.1 first.0 second.0 in
+    let P : List A × List ℕ → Type 0 = λ y. InFront bytes (flat_map text y.0) y.1 × (length y.0 ≡ suc n) × AllByRecursion fits y.0 in
     subst P (ok_is (a.0.0 ∷ b.0.0, b.0.1) x b.2) (rw flat_map-cons both, ap suc second.1, (first.1, second.2))
 
 -- and their spellings are read
@@ -48,10 +54,10 @@ items_again read text fits exact (v ∷ vs) rest all =
 
 -- by cases on a bool that was read
 flag_goes : {A : Type 0} (text : A → List ℕ) (fits : A → Type 0) (more : Bool) (bytes after : List ℕ) (some none : Read A) (x : A × List ℕ)
-    → Takes bytes (number_spelling 4 (cond more 1 0)) after → cond more some none ≡ Ok x
-    → (Takes bytes (number_spelling 4 1) after → some ≡ Ok x → Takes bytes (text x.0) x.1 × fits x.0)
-    → (Takes bytes (number_spelling 4 0) after → none ≡ Ok x → Takes bytes (text x.0) x.1 × fits x.0)
-    → Takes bytes (text x.0) x.1 × fits x.0
+    → InFront bytes (number_spelling 4 (cond more 1 0)) after → cond more some none ≡ Ok x
+    → (InFront bytes (number_spelling 4 1) after → some ≡ Ok x → InFront bytes (text x.0) x.1 × fits x.0)
+    → (InFront bytes (number_spelling 4 0) after → none ≡ Ok x → InFront bytes (text x.0) x.1 × fits x.0)
+    → InFront bytes (text x.0) x.1 × fits x.0
 flag_goes text fits true bytes after some none x t e is_more is_end = is_more t e
 flag_goes text fits false bytes after some none x t e is_more is_end = is_end t e
 
@@ -64,12 +70,12 @@ optional_takes {A} read text fits exact bytes x bound e =
     let p = bind_ok (flag_at bytes) (λ more. cond {A = Read (Option A)} more.0 (some more.1) (Ok (None, more.1))) x e in
     let after = p.0.1 in
     let first = flag_takes bytes p.0.0 after bound p.1 in
-    let P : Option A × List ℕ → Type 0 = λ y. Takes bytes (optional_spelling text y.0) y.1 × IfSome y.0 fits in
+    let P : Option A × List ℕ → Type 0 = λ y. InFront bytes (optional_spelling text y.0) y.1 × IfSome y.0 fits in
     flag_goes (optional_spelling text) (λ v. IfSome v fits) p.0.0 bytes after (some after) (Ok (None, after)) x first p.2
     (λ t f.
     let q = bind_ok (read after) (λ v. Ok (Some v.0, v.1)) x f in
     let second = exact after q.0 t.rest_fits q.1 in
-    subst P (ok_is (Some q.0.0, q.0.1) x q.2) (Takes-then bytes (number_spelling 4 1) after (text q.0.0) q.0.1 t second.0, second.1))
+    subst P (ok_is (Some q.0.0, q.0.1) x q.2) (InFront-then bytes (number_spelling 4 1) after (text q.0.0) q.0.1 t second.0, second.1))
     (λ t f. subst P (ok_is (None, after) x f) (t, tt))
 
 -- and its spelling is read
@@ -95,14 +101,14 @@ linked_takes {A} read text fits exact (suc fuel) bytes x bound e =
     let p = bind_ok (flag_at bytes) (λ more. cond {A = Read (List A)} more.0 (some more.1) (Ok ([], more.1))) x e in
     let after = p.0.1 in
     let first = flag_takes bytes p.0.0 after bound p.1 in
-    let P : List A × List ℕ → Type 0 = λ y. Takes bytes (linked_spelling text y.0) y.1 × AllByRecursion fits y.0 in
+    let P : List A × List ℕ → Type 0 = λ y. InFront bytes (linked_spelling text y.0) y.1 × AllByRecursion fits y.0 in
     flag_goes (linked_spelling text) (AllByRecursion fits) p.0.0 bytes after (some after) (Ok ([], after)) x first p.2
     (λ t f.
     let q = bind_ok (read after) (λ v. linked_at read fuel v.1 >>= λ vs. Ok (v.0 ∷ vs.0, vs.1)) x f in
     let r = bind_ok (linked_at read fuel q.0.1) (λ vs. Ok (q.0.0 ∷ vs.0, vs.1)) x q.2 in
     let second = exact after q.0 t.rest_fits q.1 in
     let third = linked_takes read text fits exact fuel q.0.1 r.0 second.0.rest_fits r.1 in
-    let both = Takes-then bytes (number_spelling 4 1 ++ text q.0.0) q.0.1 (linked_spelling text r.0.0) r.0.1 (Takes-then bytes (number_spelling 4 1) after (text q.0.0) q.0.1 t second.0) third.0 in
+    let both = InFront-then bytes (number_spelling 4 1 ++ text q.0.0) q.0.1 (linked_spelling text r.0.0) r.0.1 (InFront-then bytes (number_spelling 4 1) after (text q.0.0) q.0.1 t second.0) third.0 in
     subst P (ok_is (q.0.0 ∷ r.0.0, r.0.1) x r.2) (rw linked-cons both, (second.1, third.1)))
     (λ t f. subst P (ok_is ([], after) x f) (t, tt))
 
@@ -137,38 +143,38 @@ unfolding tested_at
 tested_again len test n rest lt h = rw (number_again len n rest lt, h) refl
 
 -- What is read is its spelling, with what follows.
-pub takes : (a : Item) (bytes : List ℕ) (x : Value a × List ℕ) → IsBytes bytes → read_at a bytes ≡ Ok x → Takes bytes (spelling a x.0) x.1 × Fits a x.0
+pub takes : (a : Item) (bytes : List ℕ) (x : Value a × List ℕ) → IsBytes bytes → read_at a bytes ≡ Ok x → InFront bytes (spelling a x.0) x.1 × Fits a x.0
 takes word bytes x bound e = let t = number_takes 4 back4 bytes x.0 x.1 bound e in (t.0, omega (arith, t.1))
 takes hyper bytes x bound e = let t = number_takes 8 back8 bytes x.0 x.1 bound e in (t.0, omega (arith, t.1))
 takes flag bytes x bound e = (flag_takes bytes x.0 x.1 bound e, tt)
 takes (opaque max) bytes x bound e = opaque_takes max bytes x.0 x.1 bound e
 takes (fixed len) bytes x bound e = fixed_takes len bytes x.0 x.1 bound e
 takes empty bytes x bound e =
-    let P : Unit {0} × List ℕ → Type 0 = λ y. Takes bytes [] y.1 × Unit {0} in
+    let P : Unit {0} × List ℕ → Type 0 = λ y. InFront bytes [] y.1 × Unit {0} in
     subst P (ok_is (tt, bytes) x e) (record { parts = refl; rest_fits = bound }, tt)
 takes (pair a b) bytes x bound e =
     let p = bind_ok (read_at a bytes) (λ y. read_at b y.1 >>= λ z. Ok ((y.0, z.0), z.1)) x e in
     let q = bind_ok (read_at b p.0.1) (λ z. Ok ((p.0.0, z.0), z.1)) x p.2 in
     let first = takes a bytes p.0 bound p.1 in
     let second = takes b p.0.1 q.0 first.0.rest_fits q.1 in
-    let P : (Value a × Value b) × List ℕ → Type 0 = λ y. Takes bytes (spelling a y.0.0 ++ spelling b y.0.1) y.1 × (Fits a y.0.0 × Fits b y.0.1) in
-    subst P (ok_is ((p.0.0, q.0.0), q.0.1) x q.2) (Takes-then bytes (spelling a p.0.0) p.0.1 (spelling b q.0.0) q.0.1 first.0 second.0, (first.1, second.1))
+    let P : (Value a × Value b) × List ℕ → Type 0 = λ y. InFront bytes (spelling a y.0.0 ++ spelling b y.0.1) y.1 × (Fits a y.0.0 × Fits b y.0.1) in
+    subst P (ok_is ((p.0.0, q.0.0), q.0.1) x q.2) (InFront-then bytes (spelling a p.0.0) p.0.1 (spelling b q.0.0) q.0.1 first.0 second.0, (first.1, second.1))
 takes (array max a) bytes x bound e =
     let p = bind_ok (number_at 4 bytes) (λ n. cond (ltb max n.0) (Err TooLong) (items_at (read_at a) n.0 n.1)) x e in
     let g = guard_ok (ltb max p.0.0) TooLong (items_at (read_at a) p.0.0 p.0.1) x p.2 in
     let first = number_takes 4 back4 bytes p.0.0 p.0.1 bound p.1 in
     let second = items_take (read_at a) (spelling a) (Fits a) (takes a) p.0.0 p.0.1 x first.0.rest_fits g.1 in
-    let both = Takes-then bytes (number_spelling 4 p.0.0) p.0.1 (flat_map (spelling a) x.0) x.1 first.0 second.0 in
+    let both = InFront-then bytes (number_spelling 4 p.0.0) p.0.1 (flat_map (spelling a) x.0) x.1 first.0 second.0 in
     let le : p.0.0 ≤ max = ltb-false _ _ g.0 in
-    (subst (λ (k : ℕ). Takes bytes (number_spelling 4 k ++ flat_map (spelling a) x.0) x.1) (sym second.1) both, (omega (arith, first.1, second.1), omega (arith, second.1), second.2))
+    (subst (λ (k : ℕ). InFront bytes (number_spelling 4 k ++ flat_map (spelling a) x.0) x.1) (sym second.1) both, (omega (arith, first.1, second.1), omega (arith, second.1), second.2))
 takes (choice known body) bytes x bound e =
     let p = bind_ok (number_at 4 bytes) (λ n. cond (known n.0) (read_at (body n.0) n.1 >>= λ v. Ok ((n.0, v.0), v.1)) (Err BadEnum)) x e in
     let g = guard_true (known p.0.0) BadEnum (read_at (body p.0.0) p.0.1 >>= λ v. Ok ((p.0.0, v.0), v.1)) x p.2 in
     let q = bind_ok (read_at (body p.0.0) p.0.1) (λ v. Ok ((p.0.0, v.0), v.1)) x g.1 in
     let first = number_takes 4 back4 bytes p.0.0 p.0.1 bound p.1 in
     let second = takes (body p.0.0) p.0.1 q.0 first.0.rest_fits q.1 in
-    let P : ((n : ℕ) × Value (body n)) × List ℕ → Type 0 = λ y. Takes bytes (number_spelling 4 y.0.0 ++ spelling (body y.0.0) y.0.1) y.1 × ((y.0.0 < 2 ^ 32) × IsTrue (known y.0.0) × Fits (body y.0.0) y.0.1) in
-    subst P (ok_is ((p.0.0, q.0.0), q.0.1) x q.2) (Takes-then bytes (number_spelling 4 p.0.0) p.0.1 (spelling (body p.0.0) q.0.0) q.0.1 first.0 second.0, (omega (arith, first.1), g.0, second.1))
+    let P : ((n : ℕ) × Value (body n)) × List ℕ → Type 0 = λ y. InFront bytes (number_spelling 4 y.0.0 ++ spelling (body y.0.0) y.0.1) y.1 × ((y.0.0 < 2 ^ 32) × IsTrue (known y.0.0) × Fits (body y.0.0) y.0.1) in
+    subst P (ok_is ((p.0.0, q.0.0), q.0.1) x q.2) (InFront-then bytes (number_spelling 4 p.0.0) p.0.1 (spelling (body p.0.0) q.0.0) q.0.1 first.0 second.0, (omega (arith, first.1), g.0, second.1))
 takes (optional a) bytes x bound e = optional_takes (read_at a) (spelling a) (Fits a) (takes a) bytes x bound e
 takes (linked a) bytes x bound e = linked_takes (read_at a) (spelling a) (Fits a) (takes a) (length bytes) bytes x bound e
 takes (repeated count a) bytes x bound e =

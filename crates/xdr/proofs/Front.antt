@@ -3,13 +3,17 @@
 -- Serves: reads_what_is_spelled and no_spelling_begins_another by way of Exact; mark_of in rpc::records,
 -- some_reading in rpc::record_laws; the proofs on calls, arguments and entries in rpc, nfs_types and
 -- secure_log.
-use Rattle.std.proofs.Common.{◌≡◌, ℕ, zero, suc, ◌+◌, ◌-◌, ◌%◌, ◌^◌, ◌<◌, ◌≤◌, Bool, true, false, cond, ◌&&◌, ltb, eqb, List, [], ◌∷◌, ◌++◌, length, take, drop, replicate, Ok, Err, refl, sym, ap, subst, ◌∙◌, append_assoc, arith, inl, inr}
+use Rattle.std.proofs.Common.{◌≡◌, ℕ, zero, suc, ◌+◌, ◌-◌, ◌%◌, ◌^◌, ◌<◌, ◌≤◌, Bool, true, false, cond, ◌&&◌}
+use Rattle.std.proofs.Common.{ltb, eqb, List, [], ◌∷◌, ◌++◌, length, take, drop, replicate, Ok, Err, refl}
+use Rattle.std.proofs.Common.{sym, ap, subst, ◌∙◌, append_assoc, arith, inl, inr}
 use Rattle.std.specs.List.{list_all}
 use Rattle.std.proofs.lemmas.Bool.{cases_lt, eqb-true, ltb-false, le-ltb}
-use Rattle.std.proofs.lemmas.List.{take_at, drop_at, take-append-drop, length-append, length-take, length-drop, length-replicate, get_or-drop, get_or-take, get_or_past}
+use Rattle.std.proofs.lemmas.List.{take_at, drop_at, take-append-drop, length-append, length-take}
+use Rattle.std.proofs.lemmas.List.{length-drop, length-replicate, get_or-drop, get_or-take, get_or_past}
 use Rattle.std.proofs.lemmas.Nat.{be_bytes_4, be_bytes_8}
 use Rattle.byteorder.specs.Endian.{big_number, big_bytes}
-use Rattle.byteorder.specs.Numbers.{big_from-append, big_from-lt, big_number-reads_back, length-bytes_high_first}
+use Rattle.byteorder.specs.Numbers.{big_from-append, big_from-lt, big_number-reads_back}
+use Rattle.byteorder.specs.Numbers.{length-bytes_high_first}
 use Rattle.xdr.specs.declared.fault.XdrFault.{XdrFault}
 use Rattle.xdr.specs.declared.fault.XdrFault.TheVariants.{Short, Padding, BadBool, TooLong}
 use Rattle.xdr.specs.Item.{IsBytes, number_spelling, padding}
@@ -51,19 +55,19 @@ pub ok_is : {A : Type 0} (x y : A × List ℕ) → done x ≡ done y → x ≡ y
 ok_is x y e = cc
 
 -- A text was taken from the front of bytes, and bytes are left.
-pub record Takes (bytes text rest : List ℕ) : Type 0 where
+pub record InFront (bytes text rest : List ℕ) : Type 0 where
   -- the text stands at the front
   pub parts : bytes ≡ text ++ rest
   -- what is left is bytes
   pub rest_fits : IsBytes rest
 
 -- one after the other
-pub Takes-then : (a x b y c : List ℕ) → Takes a x b → Takes b y c → Takes a (x ++ y) c
-Takes-then a x b y c p q = record { parts = p.parts ∙ ap (λ (t : List ℕ). x ++ t) q.parts ∙ sym (append_assoc x y c); rest_fits = q.rest_fits }
+pub InFront-then : (a x b y c : List ℕ) → InFront a x b → InFront b y c → InFront a (x ++ y) c
+InFront-then a x b y c p q = record { parts = p.parts ∙ ap (λ (t : List ℕ). x ++ t) q.parts ∙ sym (append_assoc x y c); rest_fits = q.rest_fits }
 
 -- a number: `back` says that its bytes are told by it
 pub number_takes : (len : ℕ) → ((bytes : List ℕ) → length bytes ≡ len → IsBytes bytes → big_bytes len (big_number len bytes) ≡ bytes)
-    → (bytes : List ℕ) (n : ℕ) (rest : List ℕ) → IsBytes bytes → number_at len bytes ≡ Ok (n, rest) → Takes bytes (number_spelling len n) rest × (n < 256 ^ len)
+    → (bytes : List ℕ) (n : ℕ) (rest : List ℕ) → IsBytes bytes → number_at len bytes ≡ Ok (n, rest) → InFront bytes (number_spelling len n) rest × (n < 256 ^ len)
 unfolding number_at number_spelling
 number_takes len back bytes n rest fits e =
     let g = guard_ok (ltb (length bytes) len) Short (Ok (big_number len bytes, drop len bytes)) (n, rest) e in
@@ -100,25 +104,25 @@ length-number_spelling len n = length-bytes_high_first len n
 -- ---- bools
 
 -- what is read as a bool is its spelling
-pub flag_takes : (bytes : List ℕ) (b : Bool) (rest : List ℕ) → IsBytes bytes → flag_at bytes ≡ Ok (b, rest) → Takes bytes (number_spelling 4 (cond b 1 0)) rest
+pub flag_takes : (bytes : List ℕ) (b : Bool) (rest : List ℕ) → IsBytes bytes → flag_at bytes ≡ Ok (b, rest) → InFront bytes (number_spelling 4 (cond b 1 0)) rest
 unfolding flag_at
 flag_takes bytes b rest fits e =
     let a = bind_ok (number_at 4 bytes) (λ n. cond {A = Read Bool} (eqb n.0 0) (Ok (false, n.1)) (cond {A = Read Bool} (eqb n.0 1) (Ok (true, n.1)) (Err BadBool))) (b, rest) e in
     let t = number_takes 4 back4 bytes a.0.0 a.0.1 fits a.1 in
     flag_cases (eqb a.0.0 0) (eqb a.0.0 1) bytes a.0.0 a.0.1 b rest t.0 (eqb-true _ _) (eqb-true _ _) a.2
   where
-    flag_cases : (zeroed oned : Bool) (bytes : List ℕ) (n : ℕ) (after : List ℕ) (b : Bool) (rest : List ℕ) → Takes bytes (number_spelling 4 n) after
-        → (zeroed ≡ true → n ≡ 0) → (oned ≡ true → n ≡ 1) → cond {A = Read Bool} zeroed (Ok (false, after)) (cond {A = Read Bool} oned (Ok (true, after)) (Err BadBool)) ≡ Ok (b, rest) → Takes bytes (number_spelling 4 (cond b 1 0)) rest
+    flag_cases : (zeroed oned : Bool) (bytes : List ℕ) (n : ℕ) (after : List ℕ) (b : Bool) (rest : List ℕ) → InFront bytes (number_spelling 4 n) after
+        → (zeroed ≡ true → n ≡ 0) → (oned ≡ true → n ≡ 1) → cond {A = Read Bool} zeroed (Ok (false, after)) (cond {A = Read Bool} oned (Ok (true, after)) (Err BadBool)) ≡ Ok (b, rest) → InFront bytes (number_spelling 4 (cond b 1 0)) rest
     flag_cases true oned bytes n after b rest t z o e =
         let p = ok_is (false, after) (b, rest) e in
         let n-is : n ≡ 0 = z refl in
-        let P : Bool × List ℕ → Type 0 = λ x. Takes bytes (number_spelling 4 (cond x.0 1 0)) x.1 in
-        subst P p (subst (λ (k : ℕ). Takes bytes (number_spelling 4 k) after) n-is t)
+        let P : Bool × List ℕ → Type 0 = λ x. InFront bytes (number_spelling 4 (cond x.0 1 0)) x.1 in
+        subst P p (subst (λ (k : ℕ). InFront bytes (number_spelling 4 k) after) n-is t)
     flag_cases false true bytes n after b rest t z o e =
         let p = ok_is (true, after) (b, rest) e in
         let n-is : n ≡ 1 = o refl in
-        let P : Bool × List ℕ → Type 0 = λ x. Takes bytes (number_spelling 4 (cond x.0 1 0)) x.1 in
-        subst P p (subst (λ (k : ℕ). Takes bytes (number_spelling 4 k) after) n-is t)
+        let P : Bool × List ℕ → Type 0 = λ x. InFront bytes (number_spelling 4 (cond x.0 1 0)) x.1 in
+        subst P p (subst (λ (k : ℕ). InFront bytes (number_spelling 4 k) after) n-is t)
     flag_cases false false bytes n after b rest t z o e = absurd cc
 
 -- a bool's spelling is read as the bool
@@ -145,7 +149,7 @@ zero_all zero = refl
 zero_all (suc n) = zero_all n
 
 -- what is read as opaque data of a known length is its spelling
-pub fixed_takes : (len : ℕ) (bytes body rest : List ℕ) → IsBytes bytes → fixed_at len bytes ≡ Ok (body, rest) → Takes bytes (body ++ padding len) rest × (length body ≡ len)
+pub fixed_takes : (len : ℕ) (bytes body rest : List ℕ) → IsBytes bytes → fixed_at len bytes ≡ Ok (body, rest) → InFront bytes (body ++ padding len) rest × (length body ≡ len)
 unfolding fixed_at
 fixed_takes len bytes body rest fits e =
     let pad : ℕ = (4 - len % 4) % 4 in
@@ -156,10 +160,10 @@ fixed_takes len bytes body rest fits e =
     let both = ok_is (take len bytes, drop pad after) (body, rest) h.1 in
     let size : length (take pad after) ≡ pad = omega (arith, length-take pad after, length-drop len bytes) in
     let zeros : take pad after ≡ padding len = all_zero (take pad after) h.0 ∙ ap (λ (k : ℕ). replicate k 0) size in
-    let first : Takes bytes (take len bytes) after = record { parts = sym (take-append-drop len bytes); rest_fits = IsBytes-drop len bytes fits } in
-    let second : Takes after (padding len) (drop pad after) = record { parts = sym (take-append-drop pad after) ∙ ap (λ (t : List ℕ). t ++ drop pad after) zeros; rest_fits = IsBytes-drop pad after (IsBytes-drop len bytes fits) } in
-    let P : List ℕ × List ℕ → Type 0 = λ x. Takes bytes (x.0 ++ padding len) x.1 × (length x.0 ≡ len) in
-    subst P both (Takes-then bytes (take len bytes) after (padding len) (drop pad after) first second, omega (arith, length-take len bytes))
+    let first : InFront bytes (take len bytes) after = record { parts = sym (take-append-drop len bytes); rest_fits = IsBytes-drop len bytes fits } in
+    let second : InFront after (padding len) (drop pad after) = record { parts = sym (take-append-drop pad after) ∙ ap (λ (t : List ℕ). t ++ drop pad after) zeros; rest_fits = IsBytes-drop pad after (IsBytes-drop len bytes fits) } in
+    let P : List ℕ × List ℕ → Type 0 = λ x. InFront bytes (x.0 ++ padding len) x.1 × (length x.0 ≡ len) in
+    subst P both (InFront-then bytes (take len bytes) after (padding len) (drop pad after) first second, omega (arith, length-take len bytes))
 
 -- and its spelling is read
 pub fixed_again : (len : ℕ) (body rest : List ℕ) → length body ≡ len → fixed_at len ((body ++ padding len) ++ rest) ≡ Ok (body, rest)
@@ -173,16 +177,16 @@ fixed_again len body rest size =
 
 -- what is read as opaque data after its length is its spelling
 pub opaque_takes : (max : ℕ) (bytes body rest : List ℕ) → IsBytes bytes → opaque_at max bytes ≡ Ok (body, rest)
-    → Takes bytes (number_spelling 4 (length body) ++ (body ++ padding (length body))) rest × ((length body < 2 ^ 32) × (length body ≤ max))
+    → InFront bytes (number_spelling 4 (length body) ++ (body ++ padding (length body))) rest × ((length body < 2 ^ 32) × (length body ≤ max))
 unfolding opaque_at
 opaque_takes max bytes body rest fits e =
     let a = bind_ok (number_at 4 bytes) (λ len. cond (ltb max len.0) (Err TooLong) (fixed_at len.0 len.1)) (body, rest) e in
     let t = number_takes 4 back4 bytes a.0.0 a.0.1 fits a.1 in
     let g = guard_ok (ltb max a.0.0) TooLong (fixed_at a.0.0 a.0.1) (body, rest) a.2 in
     let u = fixed_takes a.0.0 a.0.1 body rest t.0.rest_fits g.1 in
-    let both = Takes-then bytes (number_spelling 4 a.0.0) a.0.1 (body ++ padding a.0.0) rest t.0 u.0 in
+    let both = InFront-then bytes (number_spelling 4 a.0.0) a.0.1 (body ++ padding a.0.0) rest t.0 u.0 in
     let le : a.0.0 ≤ max = ltb-false _ _ g.0 in
-    (subst (λ (k : ℕ). Takes bytes (number_spelling 4 k ++ (body ++ padding k)) rest) (sym u.1) both, (omega (arith, t.1, u.1), omega (arith, u.1)))
+    (subst (λ (k : ℕ). InFront bytes (number_spelling 4 k ++ (body ++ padding k)) rest) (sym u.1) both, (omega (arith, t.1, u.1), omega (arith, u.1)))
 
 -- and its spelling is read, where the length is within the bound
 pub opaque_again : (max : ℕ) (body rest : List ℕ) → length body < 2 ^ 32 → length body ≤ max

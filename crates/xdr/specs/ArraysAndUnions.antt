@@ -1,7 +1,8 @@
 -- Reading items one after the other, as a loop does; a union by its number.
 -- Serves: read_array here, and in crates above the functions that read arrays and unions by hand
 -- (read_nodes in merkle_keys, read_entry in log_entries).
-use Rattle.std.proofs.Common.{◌≡◌, ℕ, suc, ◌-◌, ◌+◌, ◌≤◌, ◌<◌, List, [], ◌∷◌, ◌++◌, Ok, Err, refl, sym, ap, ◌∙◌, append_assoc, arith, ltb, false, true, Bool}
+use Rattle.std.proofs.Common.{◌≡◌, ℕ, suc, ◌-◌, ◌+◌, ◌≤◌, ◌<◌, List, [], ◌∷◌, ◌++◌, Ok, Err, refl, sym, ap}
+use Rattle.std.proofs.Common.{◌∙◌, append_assoc, arith, ltb, false, true, Bool}
 use Rattle.std.proofs.lemmas.List.{append-nil}
 use Rattle.xdr.specs.declared.fault.XdrFault.{XdrFault}
 use Rattle.std.specs.Prelude.{Option, Some, None, IfSome}

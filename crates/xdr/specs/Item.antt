@@ -1,5 +1,6 @@
 -- What a value is in bytes (RFC 4506, section 4).
-use Rattle.std.specs.Prelude.{ℕ, ◌-◌, ◌%◌, ◌^◌, ◌<◌, ◌≤◌, ◌≡◌, Bool, IsTrue, Option, Some, None, IfSome, List, [], ◌++◌, length, replicate, slice_index, if◌then◌else◌}
+use Rattle.std.specs.Prelude.{ℕ, ◌-◌, ◌%◌, ◌^◌, ◌<◌, ◌≤◌, ◌≡◌, Bool, IsTrue, Option, Some, None, IfSome, List}
+use Rattle.std.specs.Prelude.{[], ◌++◌, length, replicate, slice_index, if◌then◌else◌}
 use Rattle.std.specs.List.{flat_map, AllByRecursion}
 use Rattle.byteorder.specs.Endian.{big_bytes}
 

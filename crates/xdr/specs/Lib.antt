@@ -3,5 +3,5 @@ pub mod Item
 pub mod Fault
 pub mod Reading
 pub mod Writing
-pub mod ReadError
+pub mod ReadFault
 pub mod ArraysAndUnions

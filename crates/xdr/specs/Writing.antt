@@ -22,6 +22,6 @@ Adds text old (Err e) new = Begins old new
 
 -- A call that appends so many bytes takes no more of the spare ones, and is refused only where they are too
 -- few.
-abbrev pub Takes : {E : Type 0} → ℕ → ℕ → Result (Unit {0}) E → ℕ → Type 0
-Takes taken old (Ok x) new = old ≤ new + taken
-Takes taken old (Err e) new = old < taken
+abbrev pub Spends : {E : Type 0} → ℕ → ℕ → Result (Unit {0}) E → ℕ → Type 0
+Spends taken old (Ok x) new = old ≤ new + taken
+Spends taken old (Err e) new = old < taken

@@ -9,6 +9,6 @@ pub mod texts;
 mod writer;
 
 pub use fault::XdrFault;
-pub use list::{FromXdr, ReadError, read_array};
+pub use list::{FromXdr, ReadFault, read_array};
 pub use reader::{Reader, put_back_on_err};
 pub use writer::{Writer, all_or_nothing};

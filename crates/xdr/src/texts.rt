@@ -3,4 +3,4 @@
 pub mod laws;
 mod text;
 
-pub use text::{FromText, TextError, read_text};
+pub use text::{FromText, TextFault, read_text};

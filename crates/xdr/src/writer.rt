@@ -1,8 +1,9 @@
 //! Appends items to bytes.
 
-ghost use Rattle.std.specs.Prelude.{◌≡◌, ◌<◌, ◌≤◌, ◌^◌, ◌++◌, ◌-◌, ◌*◌, ◌%◌, take, List, ℕ, length, replicate, OnOk, OnErr, vec_len, vec_capacity};
+ghost use Rattle.std.specs.Prelude.{◌≡◌, ◌<◌, ◌≤◌, ◌^◌, ◌++◌, ◌-◌, ◌*◌, ◌%◌, take, List, ℕ, length};
+ghost use Rattle.std.specs.Prelude.{replicate, OnOk, OnErr, vec_len, vec_capacity};
 ghost use Rattle.xdr.specs.Item.{word, hyper, flag, opaque, fixed, repeated, spelling, padding};
-ghost use Rattle.xdr.specs.Writing.{Writes, Adds, Appends, Takes};
+ghost use Rattle.xdr.specs.Writing.{Writes, Adds, Appends, Spends};
 
 use std::alloc::AllocError;
 
@@ -17,29 +18,29 @@ pub trait Writer {
     /// Appends an unsigned integer or an enum, 4 bytes (RFC 4506, sections 4.2 and 4.3).
     fn put_u32(&mut self, n: u32) -> Result<(), AllocError>
         ensures writes { Writes word n (contents self.old) result (contents self.new) }
-        ensures room { Takes 4 (spare self.old) result (spare self.new) };
+        ensures room { Spends 4 (spare self.old) result (spare self.new) };
 
     /// Appends an unsigned hyper integer, 8 bytes (RFC 4506, section 4.5).
     fn put_u64(&mut self, n: u64) -> Result<(), AllocError>
         ensures writes { Writes hyper n (contents self.old) result (contents self.new) }
-        ensures room { Takes 8 (spare self.old) result (spare self.new) };
+        ensures room { Spends 8 (spare self.old) result (spare self.new) };
 
     /// Appends unsigned integers one after the other, without a count (RFC 4506, section 4.12).
     fn put_u32s(&mut self, ns: &[u32]) -> Result<(), AllocError>
         ensures writes { Writes (repeated (length ns.now) word) ns.now
             (contents self.old) result (contents self.new) }
-        ensures room { Takes (4 * length ns.now) (spare self.old) result (spare self.new) };
+        ensures room { Spends (4 * length ns.now) (spare self.old) result (spare self.new) };
 
     /// Appends a bool, 4 bytes (RFC 4506, section 4.4).
     fn put_bool(&mut self, b: bool) -> Result<(), AllocError>
         ensures writes { Writes flag b (contents self.old) result (contents self.new) }
-        ensures room { Takes 4 (spare self.old) result (spare self.new) };
+        ensures room { Spends 4 (spare self.old) result (spare self.new) };
 
     /// Appends bytes whose length is known, and zeros up to a multiple of four (RFC 4506, section 4.9).
     fn put_fixed(&mut self, bytes: &[u8]) -> Result<(), AllocError>
         ensures writes { Writes (fixed (length bytes.now)) bytes.now
             (contents self.old) result (contents self.new) }
-        ensures room { Takes (length (spelling (fixed (length bytes.now)) bytes.now))
+        ensures room { Spends (length (spelling (fixed (length bytes.now)) bytes.now))
             (spare self.old) result (spare self.new) };
 
     /// Appends bytes after their length (RFC 4506, sections 4.10 and 4.11).
@@ -47,7 +48,7 @@ pub trait Writer {
         requires { length bytes.now < 2 ^ 32 }
         ensures writes { Writes (opaque (length bytes.now)) bytes.now
             (contents self.old) result (contents self.new) }
-        ensures room { Takes (length (spelling (opaque (length bytes.now)) bytes.now))
+        ensures room { Spends (length (spelling (opaque (length bytes.now)) bytes.now))
             (spare self.old) result (spare self.new) };
 }
 
@@ -133,7 +134,7 @@ fn spelling_of(ns: &[u32]) -> [u8; 4 * AT_ONCE]
 /// Appends numbers; where memory is refused, some of them may stand.
 fn add_u32s(out: &mut Vec<u8>, ns: &[u32]) -> Result<(), AllocError>
     ensures adds { Adds (spelling (repeated (length ns.now) word) ns.now) out.old.items result out.new.items }
-    ensures room { Takes (4 * length ns.now) (vec_capacity out.old - vec_len out.old)
+    ensures room { Spends (4 * length ns.now) (vec_capacity out.old - vec_len out.old)
         result (vec_capacity out.new - vec_len out.new) }
 {
     let mut rest = ns;
@@ -148,7 +149,7 @@ fn add_u32s(out: &mut Vec<u8>, ns: &[u32]) -> Result<(), AllocError>
 /// Appends bytes and their padding; where memory is refused, a part may stand.
 fn add_fixed(out: &mut Vec<u8>, bytes: &[u8]) -> Result<(), AllocError>
     ensures adds { Adds (spelling (fixed (length bytes.now)) bytes.now) out.old.items result out.new.items }
-    ensures room { Takes (length (spelling (fixed (length bytes.now)) bytes.now))
+    ensures room { Spends (length (spelling (fixed (length bytes.now)) bytes.now))
         (vec_capacity out.old - vec_len out.old) result (vec_capacity out.new - vec_len out.new) }
 {
     let padding = (4 - bytes.len() % 4) % 4;
@@ -160,7 +161,7 @@ fn add_fixed(out: &mut Vec<u8>, bytes: &[u8]) -> Result<(), AllocError>
 fn add_opaque(out: &mut Vec<u8>, bytes: &[u8]) -> Result<(), AllocError>
     requires { length bytes.now < 2 ^ 32 }
     ensures adds { Adds (spelling (opaque (length bytes.now)) bytes.now) out.old.items result out.new.items }
-    ensures room { Takes (length (spelling (opaque (length bytes.now)) bytes.now))
+    ensures room { Spends (length (spelling (opaque (length bytes.now)) bytes.now))
         (vec_capacity out.old - vec_len out.old) result (vec_capacity out.new - vec_len out.new) }
 {
     out.put_u32(bytes.len() as u32)?;

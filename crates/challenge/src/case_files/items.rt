@@ -3,7 +3,7 @@
 ghost use Rattle.std.specs.Prelude.{map};
 ghost use Rattle.xdr.specs.Item.{IsBytes, array, fixed, word};
 ghost use Rattle.xdr.specs.Reading.{GivesUnless};
-ghost use Rattle.xdr.specs.ReadError.{xdr_fault};
+ghost use Rattle.xdr.specs.ReadFault.{xdr_fault};
 ghost use Rattle.authenticator.specs.Roster.{roster_item, roster_value};
 ghost use Rattle.challenge.specs.Charges.{fork_in};
 ghost use Rattle.evidence_showings.specs.evidence_spec.Evidence.{MAX_AUDITED, fork_item, fork_value};
@@ -18,7 +18,7 @@ use authenticator::{Authenticator, MAX_MEMBERS, Member, Number};
 use evidence_showings::evidence_spec_code::MAX_AUDITED;
 use secure_log::log_entries::Entry;
 use std::alloc::Global;
-use xdr::{FromXdr, ReadError, Reader, XdrFault, read_array};
+use xdr::{FromXdr, ReadFault, Reader, XdrFault, read_array};
 
 /// Bytes are bytes: does nothing, and tells a caller's proof.
 pub(crate) fn are_bytes(bytes: &[u8])
@@ -28,7 +28,7 @@ pub(crate) fn are_bytes(bytes: &[u8])
 }
 
 /// The item in front of some bytes, and how many are left after it.
-fn front<'a, T: FromXdr<'a>>(alloc: Global, bytes: &'a [u8]) -> Result<(T, usize), ReadError>
+fn front<'a, T: FromXdr<'a>>(alloc: Global, bytes: &'a [u8]) -> Result<(T, usize), ReadFault>
     ensures { LeavesOf xdr_fault T.item (λ x. T.value x.0) (λ x. x.1) bytes.now result }
 {
     let mut reader = Reader::new(bytes);
@@ -37,7 +37,7 @@ fn front<'a, T: FromXdr<'a>>(alloc: Global, bytes: &'a [u8]) -> Result<(T, usize
 }
 
 /// The members of a roster in front of some bytes, and how many bytes are left after them.
-fn members_in_front(alloc: Global, bytes: &[u8]) -> Result<(Vec<Member>, usize), ReadError>
+fn members_in_front(alloc: Global, bytes: &[u8]) -> Result<(Vec<Member>, usize), ReadFault>
     ensures { LeavesOf xdr_fault roster_item (λ x. roster_value x.0.items) (λ x. x.1) bytes.now result }
 {
     let mut reader = Reader::new(bytes);
@@ -46,7 +46,7 @@ fn members_in_front(alloc: Global, bytes: &[u8]) -> Result<(Vec<Member>, usize),
 }
 
 /// The fork in front of some bytes, and how many are left after it.
-fn fork_in_front(alloc: Global, bytes: &[u8]) -> Result<(Fork, usize), ReadError>
+fn fork_in_front(alloc: Global, bytes: &[u8]) -> Result<(Fork, usize), ReadFault>
     ensures { LeavesOf xdr_fault fork_item (λ x. fork_value (fork_in x.0)) (λ x. x.1) bytes.now result }
 {
     let mut reader = Reader::new(bytes);
@@ -55,7 +55,7 @@ fn fork_in_front(alloc: Global, bytes: &[u8]) -> Result<(Fork, usize), ReadError
 }
 
 /// The hash in front of some bytes, and how many are left after it.
-fn hash_in_front(bytes: &[u8]) -> Result<([u8; 32], usize), ReadError>
+fn hash_in_front(bytes: &[u8]) -> Result<([u8; 32], usize), ReadFault>
     ensures { LeavesOf xdr_fault (fixed 32) (λ x. x.0) (λ x. x.1) bytes.now result }
 {
     let mut reader = Reader::new(bytes);
@@ -64,7 +64,7 @@ fn hash_in_front(bytes: &[u8]) -> Result<([u8; 32], usize), ReadError>
 }
 
 /// Takes a roster's members.
-pub(crate) fn take_members(alloc: Global, source: &mut Source) -> Result<Vec<Member>, ReadError>
+pub(crate) fn take_members(alloc: Global, source: &mut Source) -> Result<Vec<Member>, ReadFault>
     ensures { GivesUnless xdr_fault roster_item (λ v. roster_value v.items) source.old result source.new }
 {
     let (members, left) = members_in_front(alloc, source.rest())?;
@@ -73,7 +73,7 @@ pub(crate) fn take_members(alloc: Global, source: &mut Source) -> Result<Vec<Mem
 }
 
 /// Takes a word.
-pub(crate) fn take_word(alloc: Global, source: &mut Source) -> Result<u32, ReadError>
+pub(crate) fn take_word(alloc: Global, source: &mut Source) -> Result<u32, ReadFault>
     ensures { GivesUnless xdr_fault word (λ n. n) source.old result source.new }
 {
     let (word, left): (u32, usize) = front(alloc, source.rest())?;
@@ -82,7 +82,7 @@ pub(crate) fn take_word(alloc: Global, source: &mut Source) -> Result<u32, ReadE
 }
 
 /// Takes a number of a log.
-pub(crate) fn take_number(alloc: Global, source: &mut Source) -> Result<Number, ReadError>
+pub(crate) fn take_number(alloc: Global, source: &mut Source) -> Result<Number, ReadFault>
     ensures { GivesUnless xdr_fault number_item (λ n. n) source.old result source.new }
 {
     let (number, left): (Number, usize) = front(alloc, source.rest())?;
@@ -91,7 +91,7 @@ pub(crate) fn take_number(alloc: Global, source: &mut Source) -> Result<Number, 
 }
 
 /// Takes a hash.
-pub(crate) fn take_hash(source: &mut Source) -> Result<[u8; 32], ReadError>
+pub(crate) fn take_hash(source: &mut Source) -> Result<[u8; 32], ReadFault>
     ensures { GivesUnless xdr_fault (fixed 32) (λ h. h) source.old result source.new }
 {
     let (hash, left) = hash_in_front(source.rest())?;
@@ -100,7 +100,7 @@ pub(crate) fn take_hash(source: &mut Source) -> Result<[u8; 32], ReadError>
 }
 
 /// Takes an entry of a log.
-fn take_entry(alloc: Global, source: &mut Source) -> Result<Entry, ReadError>
+fn take_entry(alloc: Global, source: &mut Source) -> Result<Entry, ReadFault>
     ensures { GivesUnless xdr_fault entry_item entry_value source.old result source.new }
 {
     let (entry, left): (Entry, usize) = front(alloc, source.rest())?;
@@ -112,7 +112,7 @@ fn take_entry(alloc: Global, source: &mut Source) -> Result<Entry, ReadError>
 pub(crate) fn take_authenticator(
     alloc: Global,
     source: &mut Source,
-) -> Result<Authenticator, ReadError>
+) -> Result<Authenticator, ReadFault>
     ensures { GivesUnless xdr_fault authenticator_item authenticator_value source.old result source.new }
 {
     let (authenticator, left): (Authenticator, usize) = front(alloc, source.rest())?;
@@ -121,7 +121,7 @@ pub(crate) fn take_authenticator(
 }
 
 /// Takes a fork.
-pub(crate) fn take_fork(alloc: Global, source: &mut Source) -> Result<Fork, ReadError>
+pub(crate) fn take_fork(alloc: Global, source: &mut Source) -> Result<Fork, ReadFault>
     ensures { GivesUnless xdr_fault fork_item (λ f. fork_value (fork_in f)) source.old result source.new }
 {
     let (fork, left) = fork_in_front(alloc, source.rest())?;
@@ -130,13 +130,13 @@ pub(crate) fn take_fork(alloc: Global, source: &mut Source) -> Result<Fork, Read
 }
 
 /// Takes the entries of a log, after their count.
-pub(crate) fn take_entries(alloc: Global, source: &mut Source) -> Result<Vec<Entry>, ReadError>
+pub(crate) fn take_entries(alloc: Global, source: &mut Source) -> Result<Vec<Entry>, ReadFault>
     ensures { GivesUnless xdr_fault (array MAX_AUDITED entry_item) (λ v. map entry_value v.items)
         source.old result source.new }
 {
     let count = take_word(alloc, source)?;
     if count > MAX_AUDITED {
-        return Err(ReadError::Fault(XdrFault::TooLong));
+        return Err(ReadFault::Fault(XdrFault::TooLong));
     }
     let mut entries = Vec::new(alloc);
     for _ in 0..count {

@@ -3,9 +3,10 @@
 ghost use Rattle.std.specs.Prelude.{IfOk, map};
 ghost use Rattle.xdr.specs.Item.{choice};
 ghost use Rattle.xdr.specs.Reading.{GivesUnless};
-ghost use Rattle.xdr.specs.ReadError.{xdr_fault};
+ghost use Rattle.xdr.specs.ReadFault.{xdr_fault};
 ghost use Rattle.xdr.specs.Texts.Text.{GivesText, IsText};
-ghost use Rattle.evidence_showings.specs.evidence_spec.Evidence.{audited_item, audited_value, charge_item, charge_value};
+ghost use Rattle.evidence_showings.specs.evidence_spec.Evidence.{audited_item, audited_value, charge_item};
+ghost use Rattle.evidence_showings.specs.evidence_spec.Evidence.{charge_value};
 ghost use Rattle.evidence_showings.specs.evidence_spec.Evidence.{evidence_item, evidence_value, is_charge};
 ghost use Rattle.challenge.specs.Charges.{charge_in};
 ghost use Rattle.challenge.specs.Cases.{case_text, case_value};
@@ -19,7 +20,7 @@ use crate::case_files::source::Source;
 use crate::{AuditedLog, Case, Charge, Evidence, EvidenceFault};
 use authenticator::Roster;
 use std::alloc::Global;
-use xdr::{ReadError, XdrFault};
+use xdr::{ReadFault, XdrFault};
 
 /// The case whose text the bytes are, as `challenge::read_case` finds it. The bytes are given back to memory
 /// while they are read, so that a log's entries stand beside a small part of their text. `Garbage` comes
@@ -51,7 +52,7 @@ fn case_of(alloc: Global, bytes: Vec<u8>) -> Result<Case, EvidenceFault>
 }
 
 /// Takes evidence.
-fn take_evidence(alloc: Global, source: &mut Source) -> Result<Evidence, ReadError>
+fn take_evidence(alloc: Global, source: &mut Source) -> Result<Evidence, ReadFault>
     ensures { GivesUnless xdr_fault evidence_item evidence_value source.old result source.new }
 {
     let node = take_word(alloc, source)?;
@@ -60,7 +61,7 @@ fn take_evidence(alloc: Global, source: &mut Source) -> Result<Evidence, ReadErr
 }
 
 /// Takes what is shown against a node.
-fn take_charge(alloc: Global, source: &mut Source) -> Result<Charge, ReadError>
+fn take_charge(alloc: Global, source: &mut Source) -> Result<Charge, ReadFault>
     ensures { GivesUnless xdr_fault (choice is_charge charge_item) (λ g. charge_value (charge_in g))
         source.old result source.new }
 {
@@ -73,12 +74,12 @@ fn take_charge(alloc: Global, source: &mut Source) -> Result<Charge, ReadError>
             let log = take_log(alloc, source)?;
             Ok(Charge::Replay(log))
         }
-        _ => Err(ReadError::Fault(XdrFault::BadEnum)),
+        _ => Err(ReadFault::Fault(XdrFault::BadEnum)),
     }
 }
 
 /// Takes a log.
-fn take_log(alloc: Global, source: &mut Source) -> Result<AuditedLog, ReadError>
+fn take_log(alloc: Global, source: &mut Source) -> Result<AuditedLog, ReadFault>
     ensures { GivesUnless xdr_fault audited_item audited_value source.old result source.new }
 {
     are_bytes(source.rest());

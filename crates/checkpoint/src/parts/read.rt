@@ -3,7 +3,7 @@
 ghost use Rattle.std.specs.Prelude.{◌==◌};
 ghost use Rattle.xdr.specs.Item.{choice, word_where};
 ghost use Rattle.xdr.specs.Reading.{GivesUnless};
-ghost use Rattle.xdr.specs.ReadError.{xdr_fault};
+ghost use Rattle.xdr.specs.ReadFault.{xdr_fault};
 ghost use Rattle.nfs_items.specs.Timeval.{timeval};
 ghost use Rattle.state_machine.specs.file_texts.FileItems.{file_item};
 ghost use Rattle.state_machine.specs.file_texts.Parts.{time_said};
@@ -15,7 +15,7 @@ use crate::parts::world::read_world;
 use state_machine::file_texts_code::TimePart;
 use state_machine::states::{NumberedSend, ReceivedMessage};
 use std::alloc::Global;
-use xdr::{FromXdr, ReadError, Reader, XdrFault, put_back_on_err, read_array};
+use xdr::{FromXdr, ReadFault, Reader, XdrFault, put_back_on_err, read_array};
 
 /// The one version of a state's text.
 const VERSION: u32 = 1;
@@ -31,14 +31,14 @@ impl<'a> FromXdr<'a> for StatePart<'a> {
 
     ghost value = { state_said };
 
-    fn read(alloc: Global, reader: &mut Reader<'a>) -> Result<StatePart<'a>, ReadError> {
+    fn read(alloc: Global, reader: &mut Reader<'a>) -> Result<StatePart<'a>, ReadFault> {
         let start = reader.rest();
         let read = read_state(alloc, reader);
         put_back_on_err(reader, start, read)
     }
 }
 
-fn read_state<'a>(alloc: Global, reader: &mut Reader<'a>) -> Result<StatePart<'a>, ReadError>
+fn read_state<'a>(alloc: Global, reader: &mut Reader<'a>) -> Result<StatePart<'a>, ReadFault>
     ensures { GivesUnless xdr_fault (state_item file_item) state_said reader.old result reader.new }
 {
     read_version(reader)?;
@@ -55,13 +55,13 @@ fn read_state<'a>(alloc: Global, reader: &mut Reader<'a>) -> Result<StatePart<'a
 
 /// The version, which is 1.
 #[tactic(auto, unfolding(xdr::specs::Reading::tested_at))]
-fn read_version(reader: &mut Reader<'_>) -> Result<(), ReadError>
+fn read_version(reader: &mut Reader<'_>) -> Result<(), ReadFault>
     ensures { GivesUnless xdr_fault (word_where (λ version. version == 1)) (λ _. 1)
         reader.old result reader.new }
 {
     let version = reader.u32()?;
     if version != VERSION {
-        return Err(ReadError::Fault(XdrFault::BadEnum));
+        return Err(ReadFault::Fault(XdrFault::BadEnum));
     }
     Ok(())
 }
@@ -78,7 +78,7 @@ struct SharedPart {
 fn read_machine<'a>(
     alloc: Global,
     reader: &mut Reader<'a>,
-) -> Result<(SharedPart, MachinePart<'a>), ReadError>
+) -> Result<(SharedPart, MachinePart<'a>), ReadFault>
     ensures { GivesUnless xdr_fault (choice is_node_kind (machine_item file_item))
         (λ x. machine_said x.0.clock x.0.received.items x.0.sends.items x.1)
         reader.old result reader.new }
@@ -92,14 +92,14 @@ fn read_machine<'a>(
             let shared = read_client(alloc, reader)?;
             Ok((shared, MachinePart::Client))
         }
-        _ => Err(ReadError::Fault(XdrFault::BadEnum)),
+        _ => Err(ReadFault::Fault(XdrFault::BadEnum)),
     }
 }
 
 fn read_server<'a>(
     alloc: Global,
     reader: &mut Reader<'a>,
-) -> Result<(SharedPart, WorldPart<'a>), ReadError>
+) -> Result<(SharedPart, WorldPart<'a>), ReadFault>
     ensures { GivesUnless xdr_fault (machine_item file_item 1)
         (λ x. kind_said 1 x.0.clock x.0.received.items x.0.sends.items (world_said x.1))
         reader.old result reader.new }
@@ -116,7 +116,7 @@ fn read_server<'a>(
     Ok((shared, world))
 }
 
-fn read_client(alloc: Global, reader: &mut Reader<'_>) -> Result<SharedPart, ReadError>
+fn read_client(alloc: Global, reader: &mut Reader<'_>) -> Result<SharedPart, ReadFault>
     ensures { GivesUnless xdr_fault (machine_item file_item 2)
         (λ x. kind_said 2 x.clock x.received.items x.sends.items 0) reader.old result reader.new }
 {
@@ -133,17 +133,17 @@ fn read_client(alloc: Global, reader: &mut Reader<'_>) -> Result<SharedPart, Rea
 
 /// The stage of a client, which is 0.
 #[tactic(auto, unfolding(xdr::specs::Reading::tested_at))]
-fn read_no_stage(reader: &mut Reader<'_>) -> Result<(), ReadError>
+fn read_no_stage(reader: &mut Reader<'_>) -> Result<(), ReadFault>
     ensures { GivesUnless xdr_fault (rest_item file_item 2) (λ _. 0) reader.old result reader.new }
 {
     let stage = reader.u32()?;
     if stage != 0 {
-        return Err(ReadError::Fault(XdrFault::BadEnum));
+        return Err(ReadFault::Fault(XdrFault::BadEnum));
     }
     Ok(())
 }
 
-fn read_time(reader: &mut Reader<'_>) -> Result<TimePart, ReadError>
+fn read_time(reader: &mut Reader<'_>) -> Result<TimePart, ReadFault>
     ensures { GivesUnless xdr_fault timeval time_said reader.old result reader.new }
 {
     let seconds = reader.u32()?;

@@ -8,17 +8,17 @@ ghost use Rattle.state_spec.specs.StateItems.{state_item};
 ghost use Rattle.state_spec.specs.StateText.{spelled_text, IsGarbage};
 ghost use Rattle.checkpoint.specs.Parts.SaidParts.{state_said};
 ghost use Rattle.checkpoint.specs.Parts.Bounds.{AreBounded};
-ghost use Rattle.checkpoint.specs.declared.parts.whole.PartsError.TheVariants.{Garbage};
+ghost use Rattle.checkpoint.specs.declared.parts.whole.PartsFault.TheVariants.{Garbage};
 
 use crate::parts::parts::StatePart;
 use std::alloc::Global;
 use thiserror::Error;
-use xdr::texts::{FromText, TextError, read_text};
-use xdr::{FromXdr, ReadError, Reader};
+use xdr::texts::{FromText, TextFault, read_text};
+use xdr::{FromXdr, ReadFault, Reader};
 
 /// Why bytes could not be read as the text of a state.
 #[derive(Debug, Drop, Error)]
-pub enum PartsError {
+pub enum PartsFault {
     #[error("out of memory")]
     NoMemory,
     /// They aren't spelled as a state is: another version, an unknown kind, stage or file type, a count or
@@ -32,7 +32,7 @@ impl<'a> FromText<'a> for StatePart<'a> {
 
     ghost value = { state_said };
 
-    fn read_front(alloc: Global, reader: &mut Reader<'a>) -> Result<StatePart<'a>, ReadError> {
+    fn read_front(alloc: Global, reader: &mut Reader<'a>) -> Result<StatePart<'a>, ReadFault> {
         StatePart::read(alloc, reader)
     }
 
@@ -44,7 +44,7 @@ impl<'a> FromText<'a> for StatePart<'a> {
 /// The parts of the text that the bytes are. `Garbage` comes exactly where they are spelled as no state is,
 /// `NoMemory` only where a growth was refused. No count is taken on trust: memory is asked for as items are
 /// read, so it stays within a multiple of the bytes.
-pub fn read_parts<'a>(alloc: Global, bytes: &'a [u8]) -> Result<StatePart<'a>, PartsError>
+pub fn read_parts<'a>(alloc: Global, bytes: &'a [u8]) -> Result<StatePart<'a>, PartsFault>
     ensures said { IfOk result (λ parts. text_at spelled_text bytes.now ≡ Some (state_said parts)) }
     ensures fits { IfOk result (λ parts. Fits (state_item file_item) (state_said parts)) }
     ensures bounds { IfOk result (λ parts. AreBounded parts) }
@@ -52,7 +52,7 @@ pub fn read_parts<'a>(alloc: Global, bytes: &'a [u8]) -> Result<StatePart<'a>, P
 {
     match read_text(alloc, bytes) {
         Ok(parts) => Ok(parts),
-        Err(TextError::NoMemory) => Err(PartsError::NoMemory),
-        Err(TextError::NotAText) => Err(PartsError::Garbage),
+        Err(TextFault::NoMemory) => Err(PartsFault::NoMemory),
+        Err(TextFault::NotAText) => Err(PartsFault::Garbage),
     }
 }

@@ -2,7 +2,7 @@
 
 ghost use Rattle.xdr.specs.Item.{pair, word, opaque};
 ghost use Rattle.xdr.specs.Reading.{GivesUnless};
-ghost use Rattle.xdr.specs.ReadError.{xdr_fault};
+ghost use Rattle.xdr.specs.ReadFault.{xdr_fault};
 ghost use Rattle.state_machine.specs.file_texts.FileItems.{file_item};
 ghost use Rattle.state_spec.specs.StateItems.{mount_item, stage_item, rest_item};
 ghost use Rattle.checkpoint.specs.declared.parts.world.TheConstants.{MAX_BODY};
@@ -10,7 +10,7 @@ ghost use Rattle.checkpoint.specs.Parts.SaidParts.{mount_said, stage_said, world
 
 use crate::parts::parts::{MountPart, StagePart, WorldPart};
 use std::alloc::Global;
-use xdr::{FromXdr, ReadError, Reader, XdrFault, put_back_on_err, read_array};
+use xdr::{FromXdr, ReadFault, Reader, XdrFault, put_back_on_err, read_array};
 
 /// The most bytes of a message's body.
 const MAX_BODY: u32 = 12_288;
@@ -32,7 +32,7 @@ impl<'a> FromXdr<'a> for MountPart<'a> {
 
     ghost value = { mount_said };
 
-    fn read(_alloc: Global, reader: &mut Reader<'a>) -> Result<MountPart<'a>, ReadError> {
+    fn read(_alloc: Global, reader: &mut Reader<'a>) -> Result<MountPart<'a>, ReadFault> {
         let start = reader.rest();
         let read = read_mount(reader);
         put_back_on_err(reader, start, read)
@@ -40,7 +40,7 @@ impl<'a> FromXdr<'a> for MountPart<'a> {
 }
 
 /// What stands after a server's messages.
-pub fn read_world<'a>(alloc: Global, reader: &mut Reader<'a>) -> Result<WorldPart<'a>, ReadError>
+pub fn read_world<'a>(alloc: Global, reader: &mut Reader<'a>) -> Result<WorldPart<'a>, ReadFault>
     ensures { GivesUnless xdr_fault (rest_item file_item 1) world_said reader.old result reader.new }
 {
     let stage = read_stage(reader)?;
@@ -55,7 +55,7 @@ pub fn read_world<'a>(alloc: Global, reader: &mut Reader<'a>) -> Result<WorldPar
     })
 }
 
-fn read_stage<'a>(reader: &mut Reader<'a>) -> Result<StagePart<'a>, ReadError>
+fn read_stage<'a>(reader: &mut Reader<'a>) -> Result<StagePart<'a>, ReadFault>
     ensures { GivesUnless xdr_fault stage_item stage_said reader.old result reader.new }
 {
     match reader.u32()? {
@@ -68,12 +68,12 @@ fn read_stage<'a>(reader: &mut Reader<'a>) -> Result<StagePart<'a>, ReadError>
             let (to, body) = read_message(reader)?;
             Ok(StagePart::Owes { to, body })
         }
-        _ => Err(ReadError::Fault(XdrFault::BadEnum)),
+        _ => Err(ReadFault::Fault(XdrFault::BadEnum)),
     }
 }
 
 /// The other node, and a body.
-fn read_message<'a>(reader: &mut Reader<'a>) -> Result<(u32, &'a [u8]), ReadError>
+fn read_message<'a>(reader: &mut Reader<'a>) -> Result<(u32, &'a [u8]), ReadFault>
     ensures { GivesUnless xdr_fault (pair word (opaque MAX_BODY)) (λ x. (x.0, x.1.now))
         reader.old result reader.new }
 {
@@ -82,7 +82,7 @@ fn read_message<'a>(reader: &mut Reader<'a>) -> Result<(u32, &'a [u8]), ReadErro
     Ok((node, body))
 }
 
-fn read_mount<'a>(reader: &mut Reader<'a>) -> Result<MountPart<'a>, ReadError>
+fn read_mount<'a>(reader: &mut Reader<'a>) -> Result<MountPart<'a>, ReadFault>
     ensures { GivesUnless xdr_fault mount_item mount_said reader.old result reader.new }
 {
     let host = reader.opaque(MAX_HOST)?;

@@ -2,8 +2,10 @@
 -- for a file, and the matches are then that file and whether `--explain` was given. Words are followed from left to
 -- right, after those that were given so far.
 -- Serves: request_by_rules, by way of CommandLines.
-use Rattle.std.proofs.Common.{◌≡◌, ◌+◌, ℕ, suc, arith, Bool, true, false, cond, length, List, [], ◌∷◌, Option, Some, None, codes, refl, sym, ap, ap₂, subst, ◌∙◌}
-use Rattle.std.specs.Prelude.{◌&&◌, ◌||◌, ◌==◌, if◌then◌else◌, drop, encode_utf8, fold, is_some, nat_lt, not, slice_get, slice_index_or, take}
+use Rattle.std.proofs.Common.{◌≡◌, ◌+◌, ℕ, suc, arith, Bool, true, false, cond, length, List, [], ◌∷◌, Option}
+use Rattle.std.proofs.Common.{Some, None, codes, refl, sym, ap, ap₂, subst, ◌∙◌}
+use Rattle.std.specs.Prelude.{◌&&◌, ◌||◌, ◌==◌, if◌then◌else◌, drop, encode_utf8, fold, is_some, nat_lt, not}
+use Rattle.std.specs.Prelude.{slice_get, slice_index_or, take}
 use Rattle.std.specs.List.{after_first, before_first, position_or_len}
 use Rattle.std.specs.Option.{option_map_or}
 use Rattle.std.specs.Str.{bytes_eq, chars}
@@ -11,9 +13,13 @@ use Rattle.std.proofs.lemmas.Bool.{eqb-true, lt-ltb}
 use Rattle.std.specs.Cmp.Lexicographic.{same_text}
 use Rattle.clap.specs.Lexer.{has_byte, long_of, name_and_value, short_of}
 use Rattle.clap.specs.Kinds.{Kinds, or_else}
-use Rattle.clap.specs.Walk.{Held, Outcome, Row, Rule, Text, Walk, after_flag, after_step, bundle, finished, first_of, idle, long_or_other, nothing_held, one_of, plain, settled, short_or_plain, trailing, value, walk_from, walked}
+use Rattle.clap.specs.Walk.{Held, Outcome, Row, Rule, Text, Walk, after_flag, after_step, bundle, finished}
+use Rattle.clap.specs.Walk.{first_of, idle, long_or_other, nothing_held, one_of, plain, settled}
+use Rattle.clap.specs.Walk.{short_or_plain, trailing, value, walk_from, walked}
 use Rattle.clap.specs.Simple.{Shape, built, help_rule}
-use Rattle.clap.specs.Faults.{bundle_fault, bundle_step_fault, check_fault, defaults_fault, flag_word_fault, flags_fault, long_fault, settle_fault, short_fault, step_fault, turn_fault, walk_fault}
+use Rattle.clap.specs.Faults.{bundle_fault, bundle_step_fault, check_fault, defaults_fault, flag_word_fault}
+use Rattle.clap.specs.Faults.{flags_fault, long_fault, settle_fault, short_fault, step_fault, turn_fault}
+use Rattle.clap.specs.Faults.{walk_fault}
 use Rattle.clap.specs.declared.builder.value_parser.Reading.TheVariants.{AsWritten}
 use Rattle.clap.specs.declared.parser.matches.ValueSource.TheVariants.{CommandLine}
 use Rattle.clap.proofs.OnLiterals.{clap_on_literals}

@@ -2,8 +2,11 @@
 -- something, and the matches then say what. Words are followed from left to right: after the program's name, then
 -- after `rpc` or `check`.
 -- Serves: parse, request_by_rules.
-use Rattle.std.proofs.Common.{◌≡◌, ℕ, Bool, true, false, cond, arith, length, List, [], ◌∷◌, Bor, Option, Some, None, Result, Ok, Err, IfErr, ◌⊎◌, inl, inr, option_map, slice_index, codes, refl, sym, ap, subst, ◌∙◌}
-use Rattle.std.specs.Prelude.{◌&&◌, ◌||◌, not, if◌then◌else◌, find, is_some, slice_get, slice_index_or, fold, drop, unwrap_or}
+use Rattle.std.proofs.Common.{◌≡◌, ℕ, Bool, true, false, cond, arith, length, List, [], ◌∷◌, Bor, Option}
+use Rattle.std.proofs.Common.{Some, None, Result, Ok, Err, IfErr, ◌⊎◌, inl, inr, option_map, slice_index}
+use Rattle.std.proofs.Common.{codes, refl, sym, ap, subst, ◌∙◌}
+use Rattle.std.specs.Prelude.{◌&&◌, ◌||◌, not, if◌then◌else◌, find, is_some, slice_get, slice_index_or, fold}
+use Rattle.std.specs.Prelude.{drop, unwrap_or}
 use Rattle.std.specs.List.{AllByRecursion}
 use Rattle.std.specs.Option.{option_map_or}
 use Rattle.std.specs.Cmp.Lexicographic.{same_text}
@@ -12,9 +15,14 @@ use Rattle.clap.specs.Words.{is_simple, is_simple_and_free, subcommand_name_of, 
 use Rattle.clap.specs.declared.parser.matches.ArgMatches.{ArgMatches}
 use Rattle.clap.specs.Lexer.{long_of, short_of}
 use Rattle.clap.specs.Kinds.{FailsBy, IsAmong, Kinds, or_else}
-use Rattle.clap.specs.Walk.{Held, Names, Row, Text, Walk, after_flag, arg_by_long, arg_by_short, bundle_met, bundle_step, finished, has_long, has_short, idle, long_or_other, nothing_held, plain, rows_after, settled, short_or_plain, short_word, stop_after, subcommand_or_other, trailing, value, walk_from, walked}
+use Rattle.clap.specs.Walk.{Held, Names, Row, Text, Walk, after_flag, arg_by_long, arg_by_short, bundle_met}
+use Rattle.clap.specs.Walk.{bundle_step, finished, has_long, has_short, idle, long_or_other, nothing_held}
+use Rattle.clap.specs.Walk.{plain, rows_after, settled, short_or_plain, short_word, stop_after}
+use Rattle.clap.specs.Walk.{subcommand_or_other, trailing, value, walk_from, walked}
 use Rattle.clap.specs.Simple.{Shape, built, entered, help_rule, names_of, subcommand_of}
-use Rattle.clap.specs.Faults.{bundle_fault, bundle_step_fault, built_fault, check_fault, defaults_fault, entered_fault, fault_of, flag_word_fault, flags_fault, level_fault, long_fault, other_fault, settle_fault, short_fault, step_fault, turn_fault, walk_fault}
+use Rattle.clap.specs.Faults.{bundle_fault, bundle_step_fault, built_fault, check_fault, defaults_fault}
+use Rattle.clap.specs.Faults.{entered_fault, fault_of, flag_word_fault, flags_fault, level_fault, long_fault}
+use Rattle.clap.specs.Faults.{other_fault, settle_fault, short_fault, step_fault, turn_fault, walk_fault}
 use Rattle.clap.specs.Values.{kind_of}
 use Rattle.clap.specs.declared.error.Error.{Error}
 use Rattle.clap.specs.declared.error.kind.ErrorKind.{ErrorKind}
@@ -24,7 +32,8 @@ use Rattle.clap.proofs.WalkLemmas.{walk_stopped}
 use Rattle.clap.proofs.FaultLemmas.{stopped_fault}
 use Rattle.console.specs.CommandLine.CommandLine.{Asked, Rpc, asked_after, asked_in, check_of, commands}
 use Rattle.console.specs.declared.command_line.request.Request.{Request}
-use Rattle.console.proofs.OfCommandLine.CheckWords.{IsTaken, Judged, Refused, check, check_words_are_judged, refused_by_first}
+use Rattle.console.proofs.OfCommandLine.CheckWords.{IsTaken, Judged, Refused, check, check_words_are_judged}
+use Rattle.console.proofs.OfCommandLine.CheckWords.{refused_by_first}
 
 -- what holds of none and of each holds of the one that is found
 of_found : {X : Type 0} (test : X → Bool) (xs : List X) (P : Option X → Type 0) → P None → AllByRecursion (λ x. P (Some x)) xs → P (find test xs)

@@ -17,7 +17,8 @@ use Rattle.nfs_spec.proofs.fs_model.Walks.{some_same}
 use Rattle.nfs_spec.specs.ProcedureChecks.{◌>>=◌, file_of, dir_of, check, check_cookie, check_edit, number_at}
 use Rattle.nfs_spec.specs.Procedures.{is_above, check_target, move_entry, rename}
 use Rattle.inode_table.specs.nfs_counts.CountChanges.{MayMove}
-use Rattle.inode_table.proofs.nfs_laws.OfSteps.Steps.{bind_ok, check_ok, file_ok, dir_ok, edit_ok, number_ok, place_found}
+use Rattle.inode_table.proofs.nfs_laws.OfSteps.Steps.{bind_ok, check_ok, file_ok, dir_ok, edit_ok, number_ok}
+use Rattle.inode_table.proofs.nfs_laws.OfSteps.Steps.{place_found}
 use Rattle.inode_table.proofs.nfs_laws.OfSteps.Steps.{listing_found, ok_same}
 use Rattle.inode_table.proofs.nfs_laws.OfSteps.Renaming.{target_ok}
 use Rattle.file_tree.specs.NameChecks.Moves.{Moving, names_to_edit, move_checked, with_moved}

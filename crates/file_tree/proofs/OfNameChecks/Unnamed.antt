@@ -12,7 +12,8 @@ use Rattle.nfs_spec.specs.fs_model.Files.{File, Files, file_at, is_directory, li
 use Rattle.nfs_spec.specs.ProcedureChecks.{◌>>=◌, check, dir_of, file_of, check_edit, listing_or, number_at}
 use Rattle.nfs_spec.specs.Procedures.{remove, remove_dir}
 use Rattle.inode_table.specs.nfs_counts.CountChanges.{MayUnlink}
-use Rattle.inode_table.proofs.nfs_laws.OfSteps.Steps.{bind_ok, check_ok, dir_ok, directory_ok, number_ok, no_length}
+use Rattle.inode_table.proofs.nfs_laws.OfSteps.Steps.{bind_ok, check_ok, dir_ok, directory_ok, number_ok}
+use Rattle.inode_table.proofs.nfs_laws.OfSteps.Steps.{no_length}
 use Rattle.inode_table.proofs.nfs_laws.OfSteps.Steps.{place_found}
 use Rattle.file_tree.specs.NameChecks.Names.{check_empty, number_to_edit, unnamed}
 use Rattle.file_tree.proofs.OfNameChecks.Chains.{bind_assoc, bind_alike}

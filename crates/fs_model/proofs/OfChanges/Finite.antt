@@ -1,11 +1,14 @@
 -- Files after a change, by their numbers, and sums over all files.
 -- Serves: the lemmas of all edits here and in nfs_laws (trees, changes, frames).
-use Rattle.std.proofs.Common.{◌≡◌, ◌≢◌, ℕ, ◌+◌, ◌≤◌, Bool, true, false, cond, not, T, List, [], ◌∷◌, sum_by, Option, Some, None, option_map, refl, sym, ap, ◌∙◌, arith, Ordering, Less, Equal, Greater}
+use Rattle.std.proofs.Common.{◌≡◌, ◌≢◌, ℕ, ◌+◌, ◌≤◌, Bool, true, false, cond, not, T, List, [], ◌∷◌, sum_by}
+use Rattle.std.proofs.Common.{Option, Some, None, option_map, refl, sym, ap, ◌∙◌, arith, Ordering, Less}
+use Rattle.std.proofs.Common.{Equal, Greater}
 use Rattle.std.specs.Option.{option_map_or}
 use Rattle.std.specs.Ordering.{nat_cmp, eq_by_cmp, is_eq, is_lt}
 use Rattle.std.specs.Cmp.{nat_cmp_total, eq_by_cmp_equiv}
 use Rattle.std.specs.FinMap as finite
-use Rattle.std.specs.FinMap.Entries.{by_order, put, find, where_key, below_all, is_sorted, is_sorted-where_key, find-where_key, same_entries}
+use Rattle.std.specs.FinMap.Entries.{by_order, put, find, where_key, below_all, is_sorted}
+use Rattle.std.specs.FinMap.Entries.{is_sorted-where_key, find-where_key, same_entries}
 use Rattle.std.proofs.lemmas.List.Sums.{sum_by-cons}
 use Rattle.fs_model.specs.Files.{File, Files, file_at}
 use Rattle.fs_model.specs.Changes.Edits.{with_new_file, with_changed_file, without_file}

@@ -1,6 +1,8 @@
 -- What changes of files do to how much they take.
 -- Serves: no_limit_is_passed (nfs_laws), room_is_told_before (nfs_laws::trees).
-use Rattle.std.proofs.Common.{◌≡◌, ⊎_elim, ℕ, ◌+◌, ◌-◌, ◌≤◌, Bool, true, false, cond, T, List, [], ◌∷◌, map, length, leb, Option, Some, None, is_some, option_map, nat_eq, refl, sym, ap, subst, ◌∙◌, arith}
+use Rattle.std.proofs.Common.{◌≡◌, ⊎_elim, ℕ, ◌+◌, ◌-◌, ◌≤◌, Bool, true, false, cond, T, List, [], ◌∷◌, map}
+use Rattle.std.proofs.Common.{length, leb, Option, Some, None, is_some, option_map, nat_eq, refl, sym, ap}
+use Rattle.std.proofs.Common.{subst, ◌∙◌, arith}
 use Rattle.std.specs.Prelude.{nat_le}
 use Rattle.std.specs.List.{list_all}
 use Rattle.std.specs.Map.{remove_entry}
@@ -15,9 +17,12 @@ use Rattle.fs_model.specs.Files.{Body, Regular, Symlink, Directory, File, Files,
 use Rattle.fs_model.proofs.Walks.{none_some, some_same}
 use Rattle.fs_model.proofs.Counts.{same_number}
 use Rattle.fs_model.proofs.Reached.{both_of}
-use Rattle.fs_model.specs.Changes.Edits.{with_changed_file, with_new_file, without_file, map_listing, map_body_listing, without_name}
+use Rattle.fs_model.specs.Changes.Edits.{with_changed_file, with_new_file, without_file, map_listing}
+use Rattle.fs_model.specs.Changes.Edits.{map_body_listing, without_name}
 use Rattle.fs_model.specs.Changes.Limits.{blocks_in, block_count, entry_count, file_count, has_room}
-use Rattle.fs_model.proofs.OfChanges.Finite.{by_file, nothing_changes, changed_next, changed_here, changed_other, gone_here, gone_other, total_changed, total_gone, none_above, cmp_same}
+use Rattle.fs_model.proofs.OfChanges.Finite.{by_file, nothing_changes, changed_next, changed_here}
+use Rattle.fs_model.proofs.OfChanges.Finite.{changed_other, gone_here, gone_other, total_changed, total_gone}
+use Rattle.fs_model.proofs.OfChanges.Finite.{none_above, cmp_same}
 
 -- ---- how many files there are
 

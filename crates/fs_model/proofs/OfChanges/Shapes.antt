@@ -1,17 +1,25 @@
 -- What changes of files leave of places, kinds and counts of names.
 -- Serves: trees_stay_trees (nfs_laws); every edit of nfs_laws::trees.
-use Rattle.std.proofs.Common.{◌≡◌, ◌≢◌, ◌⊎◌, inl, inr, ⊎_elim, ℕ, ◌+◌, Bool, true, List, [], sum_by, Option, Some, None, is_some, nat_eq, option_map, option_and_then, refl, sym, ap, subst, ◌∙◌, arith}
+use Rattle.std.proofs.Common.{◌≡◌, ◌≢◌, ◌⊎◌, inl, inr, ⊎_elim, ℕ, ◌+◌, Bool, true, List, [], sum_by, Option}
+use Rattle.std.proofs.Common.{Some, None, is_some, nat_eq, option_map, option_and_then, refl, sym, ap, subst}
+use Rattle.std.proofs.Common.{◌∙◌, arith}
 use Rattle.std.specs.Map.{lookup}
 use Rattle.std.specs.Cmp.Lexicographic.{pointwise}
 use Rattle.std.proofs.lemmas.Bool.{cases_eq}
 use Rattle.fs_model.specs.Listing.{Listing, entry_at, with_entry, without_entry, HasDistinctNames}
 use Rattle.fs_model.specs.Paths.{ChangesPlace}
-use Rattle.fs_model.specs.Files.{Body, Regular, Symlink, Directory, File, Files, file_at, listing_in, is_directory, places, one_if, names_in, names_of}
+use Rattle.fs_model.specs.Files.{Body, Regular, Symlink, Directory, File, Files, file_at, listing_in}
+use Rattle.fs_model.specs.Files.{is_directory, places, one_if, names_in, names_of}
 use Rattle.fs_model.specs.Trees.{IsFile}
-use Rattle.fs_model.specs.Changes.Edits.{with_new_file, with_changed_file, without_file, map_body_listing, map_listing, with_name, without_name}
+use Rattle.fs_model.specs.Changes.Edits.{with_new_file, with_changed_file, without_file, map_body_listing}
+use Rattle.fs_model.specs.Changes.Edits.{map_listing, with_name, without_name}
 use Rattle.fs_model.proofs.Walks.{none_some, some_same, same_name}
-use Rattle.fs_model.proofs.OfChanges.Finite.{new_here, new_other, changed_next, nothing_changes, changed_here, changed_other, gone_here, gone_other, total_new, total_changed, total_without}
-use Rattle.fs_model.proofs.OfChanges.Listings.{one, leads, with_entry_here, with_entry_other, without_entry_here, without_entry_other, names_with_entry, names_without_entry}
+use Rattle.fs_model.proofs.OfChanges.Finite.{new_here, new_other, changed_next, nothing_changes, changed_here}
+use Rattle.fs_model.proofs.OfChanges.Finite.{changed_other, gone_here, gone_other, total_new, total_changed}
+use Rattle.fs_model.proofs.OfChanges.Finite.{total_without}
+use Rattle.fs_model.proofs.OfChanges.Listings.{one, leads, with_entry_here, with_entry_other}
+use Rattle.fs_model.proofs.OfChanges.Listings.{without_entry_here, without_entry_other, names_with_entry}
+use Rattle.fs_model.proofs.OfChanges.Listings.{names_without_entry}
 
 -- whether a number is a directory's, if it is there
 abbrev pub kind : Files → ℕ → Option Bool

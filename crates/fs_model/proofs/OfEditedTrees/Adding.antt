@@ -1,6 +1,7 @@
 -- A name more leaves a tree a tree, with one path more.
 -- Serves: making_adds_a_path, trees_stay_trees (nfs_laws).
-use Rattle.std.proofs.Common.{◌≡◌, ◌≢◌, ⊎_elim, ℕ, ◌+◌, ◌<◌, ◌≤◌, true, List, [], ◌∷◌, ◌++◌, Some, None, IsSome, is_some, sym, ap, subst, ◌∙◌, arith}
+use Rattle.std.proofs.Common.{◌≡◌, ◌≢◌, ⊎_elim, ℕ, ◌+◌, ◌<◌, ◌≤◌, true, List, [], ◌∷◌, ◌++◌, Some, None}
+use Rattle.std.proofs.Common.{IsSome, is_some, sym, ap, subst, ◌∙◌, arith}
 use Rattle.std.specs.Prelude.{IsTrue, length}
 use Rattle.std.proofs.lemmas.Bool.{cases_eq}
 use Rattle.fs_model.specs.Names.{is_name}

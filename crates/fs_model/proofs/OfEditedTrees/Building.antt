@@ -1,7 +1,8 @@
 -- What it takes that files are a tree: the directory above one is told by the counts.
 -- Serves: Adding, Taking, Moving and SameShape here, by them trees_stay_trees (nfs_laws);
 -- tree_rules::file_rules, state_spec.
-use Rattle.std.proofs.Common.{◌≡◌, ◌≢◌, ℕ, ◌+◌, ◌<◌, ◌≤◌, Bool, true, false, cond, List, [], ◌∷◌, sum_by, Some, IsSome, is_some, option_map, refl, sym, ap, ◌∙◌, arith, eqb, ltb, ne_eqb}
+use Rattle.std.proofs.Common.{◌≡◌, ◌≢◌, ℕ, ◌+◌, ◌<◌, ◌≤◌, Bool, true, false, cond, List, [], ◌∷◌, sum_by}
+use Rattle.std.proofs.Common.{Some, IsSome, is_some, option_map, refl, sym, ap, ◌∙◌, arith, eqb, ltb, ne_eqb}
 use Rattle.std.specs.Prelude.{find, nat_lt, IsTrue, length}
 use Rattle.std.specs.Option.{option_map_or}
 use Rattle.std.specs.Map.{lookup}
@@ -12,10 +13,12 @@ use Rattle.std.proofs.lemmas.List.Sums.{sum_by-cons}
 use Rattle.fs_model.specs.Listing.{entry_at}
 use Rattle.fs_model.specs.Names.{is_name}
 use Rattle.fs_model.specs.Paths.{path_at}
-use Rattle.fs_model.specs.Files.{Body, Regular, Symlink, Directory, Files, file_at, listing_in, is_directory, places, names_in, names_of, parent_of}
+use Rattle.fs_model.specs.Files.{Body, Regular, Symlink, Directory, Files, file_at, listing_in, is_directory}
+use Rattle.fs_model.specs.Files.{places, names_in, names_of, parent_of}
 use Rattle.fs_model.specs.Trees.{IsFileTree}
 use Rattle.fs_model.proofs.Walks.{none_some, some_same}
-use Rattle.fs_model.proofs.Counts.{same_number, count_of_one, place_in, file_in, own_name, has_name, all_names}
+use Rattle.fs_model.proofs.Counts.{same_number, count_of_one, place_in, file_in, own_name, has_name}
+use Rattle.fs_model.proofs.Counts.{all_names}
 use Rattle.fs_model.proofs.OfChanges.Shapes.{kind, AllFiles, is_some-kind}
 
 -- the one that counts is the first that counts

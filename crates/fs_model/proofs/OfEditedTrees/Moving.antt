@@ -1,6 +1,8 @@
 -- Another name for what a name stands for leaves a tree a tree, and moves the paths below it.
 -- Serves: renaming_moves_paths, trees_stay_trees (nfs_laws).
-use Rattle.std.proofs.Common.{◌≡◌, ◌≢◌, ⊎_elim, ℕ, ◌≤◌, true, false, List, [], ◌∷◌, ◌++◌, Option, Some, None, IsSome, is_some, option_map, option_and_then, sym, ap, subst, ◌∙◌, append-nil, arith}
+use Rattle.std.proofs.Common.{◌≡◌, ◌≢◌, ⊎_elim, ℕ, ◌≤◌, true, false, List, [], ◌∷◌, ◌++◌, Option, Some, None}
+use Rattle.std.proofs.Common.{IsSome, is_some, option_map, option_and_then, sym, ap, subst, ◌∙◌, append-nil}
+use Rattle.std.proofs.Common.{arith}
 use Rattle.std.specs.Prelude.{IsTrue, length}
 use Rattle.fs_model.specs.Names.{is_name}
 use Rattle.fs_model.specs.Paths.{walk, path_at, Renames}

@@ -1,7 +1,10 @@
 -- What the changes of a tree do to its paths.
 -- Serves: making_adds_a_path, removing_takes_a_path, renaming_moves_paths (nfs_laws).
-use Rattle.std.proofs.Common.{◌≡◌, ◌≢◌, ◌⊎◌, inl, inr, ⊎_elim, ℕ, List, [], ◌∷◌, ◌++◌, length, Option, Some, None, is_some, option_and_then, option_map, refl, sym, ap, subst, ◌∙◌, append_assoc, append-nil, length-append, arith}
-use Rattle.fs_model.specs.Paths.{Places, walk, path_at, HasOnePathEach, AddsPath, TakesPath, Renames, ChangesPlace}
+use Rattle.std.proofs.Common.{◌≡◌, ◌≢◌, ◌⊎◌, inl, inr, ⊎_elim, ℕ, List, [], ◌∷◌, ◌++◌, length, Option, Some}
+use Rattle.std.proofs.Common.{None, is_some, option_and_then, option_map, refl, sym, ap, subst, ◌∙◌}
+use Rattle.std.proofs.Common.{append_assoc, append-nil, length-append, arith}
+use Rattle.fs_model.specs.Paths.{Places, walk, path_at, HasOnePathEach, AddsPath, TakesPath, Renames}
+use Rattle.fs_model.specs.Paths.{ChangesPlace}
 use Rattle.fs_model.proofs.Walks.{walk_same, same_name, same_place, step, step_last}
 
 -- a path does not go on to itself

@@ -15,12 +15,15 @@ use Rattle.fs_model.proofs.Walks.{none_some, some_same}
 use Rattle.fs_model.specs.Changes.Edits.{with_changed_file, with_new_file, without_file, map_listing}
 use Rattle.nfs_counts.specs.nfs_spec.Changes.{after_unlink}
 use Rattle.nfs_counts.specs.CountChanges.{is_last_name, blocks_freed}
-use Rattle.fs_model.proofs.OfChanges.Finite.{cmp_same, cmp_other, new_here, new_other, nothing_changes, changed_here}
+use Rattle.fs_model.proofs.OfChanges.Finite.{cmp_same, cmp_other, new_here, new_other, nothing_changes}
+use Rattle.fs_model.proofs.OfChanges.Finite.{changed_here}
 use Rattle.fs_model.proofs.OfChanges.Finite.{changed_other, gone_here, gone_other}
 use Rattle.tree_rules.specs.inodes.declared.inode.Inode.{Inode}
-use Rattle.tree_rules.specs.inodes.Inodes.{body_in, file_in, inode_at, files_of, parent_in, links_at, above_at}
+use Rattle.tree_rules.specs.inodes.Inodes.{body_in, file_in, inode_at, files_of, parent_in, links_at}
+use Rattle.tree_rules.specs.inodes.Inodes.{above_at}
 use Rattle.tree_rules.specs.inodes.Inodes.{stored_at}
-use Rattle.inode_table.specs.Edits.Slots.{AreAlike, ChangesFile, ChangesLinks, AddsInode, RemovesInode, SetsParent}
+use Rattle.inode_table.specs.Edits.Slots.{AreAlike, ChangesFile, ChangesLinks, AddsInode, RemovesInode}
+use Rattle.inode_table.specs.Edits.Slots.{SetsParent}
 use Rattle.inode_table.specs.Edits.Slots.{MayUnname, TakesEntry, DropsName, Unnames}
 use Rattle.tree_rules.proofs.inodes.FilesSeen.{file_seen}
 

@@ -9,7 +9,8 @@ use Rattle.fs_model.specs.nfs_items.Timeval.{Timeval}
 use Rattle.fs_model.specs.Listing.{Listing, with_entry, without_entry, HasDistinctNames}
 use Rattle.fs_model.specs.Files.{Body, Regular, Symlink, Directory, File, Files, file_at, listing_in}
 use Rattle.fs_model.specs.Files.{is_directory}
-use Rattle.fs_model.specs.Changes.Edits.{with_changed_file, without_file, with_name, without_name, map_body_listing}
+use Rattle.fs_model.specs.Changes.Edits.{with_changed_file, without_file, with_name, without_name}
+use Rattle.fs_model.specs.Changes.Edits.{map_body_listing}
 use Rattle.fs_model.specs.Changes.Edits.{map_listing}
 use Rattle.fs_model.proofs.OfChanges.Finite.{changed_here, changed_other, gone_here, gone_other}
 use Rattle.fs_model.proofs.OfChanges.Listings.{name_other}

@@ -11,9 +11,11 @@ use Rattle.fs_model.specs.Changes.Edits.{with_name}
 use Rattle.fs_model.proofs.OfChanges.Finite.{new_other, gone_here, gone_other}
 use Rattle.nfs_counts.specs.nfs_spec.Changes.{touch, with_mtime}
 use Rattle.tree_rules.specs.inodes.declared.inode.Inode.{Inode}
-use Rattle.tree_rules.specs.inodes.Inodes.{body_in, file_in, files_of, inode_at, parent_in, links_at, above_at}
+use Rattle.tree_rules.specs.inodes.Inodes.{body_in, file_in, files_of, inode_at, parent_in, links_at}
+use Rattle.tree_rules.specs.inodes.Inodes.{above_at}
 use Rattle.tree_rules.specs.inodes.Inodes.{stored_at}
-use Rattle.inode_table.specs.Edits.Slots.{AreAlike, ChangesFile, AddsInode, RemovesInode, AddsEntry, AddsNamed}
+use Rattle.inode_table.specs.Edits.Slots.{AreAlike, ChangesFile, AddsInode, RemovesInode, AddsEntry}
+use Rattle.inode_table.specs.Edits.Slots.{AddsNamed}
 use Rattle.tree_rules.proofs.inodes.FilesSeen.{file_seen}
 use Rattle.inode_table.proofs.OfEdits.EditedInodes.{same_files, some_mapped}
 

@@ -6,7 +6,8 @@ use Rattle.fs_model.specs.Files.{File, file_at, is_directory, IsDirectory, paren
 use Rattle.fs_model.proofs.Walks.{none_some, some_same}
 use Rattle.nfs_counts.specs.nfs_spec.FileAttributes.{nlink_of}
 use Rattle.nfs_counts.specs.Counted.{AreCounted}
-use Rattle.tree_rules.specs.inodes.Inodes.{KeepsParent, body_in, file_in, files_of, inode_at, parent_in, above_at}
+use Rattle.tree_rules.specs.inodes.Inodes.{KeepsParent, body_in, file_in, files_of, inode_at, parent_in}
+use Rattle.tree_rules.specs.inodes.Inodes.{above_at}
 use Rattle.tree_rules.specs.inodes.Inodes.{links_at}
 use Rattle.tree_rules.specs.inodes.declared.inode.Body as stored
 use Rattle.tree_rules.specs.inodes.declared.inode.Body.TheVariants as code

@@ -5,12 +5,14 @@ use Rattle.fs_model.specs.nfs_items.Timeval.{Timeval}
 use Rattle.fs_model.specs.nfs_items.Terms.{FileNumber, Name}
 use Rattle.fs_model.specs.Files.{File, is_directory}
 use Rattle.fs_model.specs.Trees.{IsBody}
-use Rattle.fs_model.specs.Changes.Edits.{with_changed_file, with_new_file, without_file, with_name, without_name}
+use Rattle.fs_model.specs.Changes.Edits.{with_changed_file, with_new_file, without_file, with_name}
+use Rattle.fs_model.specs.Changes.Edits.{without_name}
 use Rattle.nfs_counts.specs.nfs_spec.Changes.{after_unlink}
 use Rattle.nfs_counts.specs.nfs_spec.Procedures.{add_file}
 use Rattle.nfs_counts.specs.CountChanges.{is_last_name, blocks_freed, CountsUnlinked}
 use Rattle.tree_rules.specs.inodes.declared.inode.Inode.{Inode}
-use Rattle.tree_rules.specs.inodes.Inodes.{body_in, file_in, files_of, inode_at, parent_in, stored_at, links_at}
+use Rattle.tree_rules.specs.inodes.Inodes.{body_in, file_in, files_of, inode_at, parent_in, stored_at}
+use Rattle.tree_rules.specs.inodes.Inodes.{links_at}
 use Rattle.tree_rules.specs.inodes.Inodes.{above_at}
 
 -- nothing that is seen or kept changes

@@ -79,7 +79,7 @@ fn links_of(place: usize, numbers: &[u32], inodes: &[(u32, Inode)], counts: &Cou
             nlink: 2 + count_subdirectories(listing, numbers, inodes) as u32,
             parent: number_above(place, numbers, &counts.above),
         },
-        Body::Regular(_) | Body::Link(_) => Links {
+        Body::Regular(_) | Body::Symlink(_) => Links {
             nlink: counts.names[place] as u32,
             parent: 1,
         },

@@ -1,7 +1,8 @@
 -- A map's list of entries, seen through a function of keys and one of values: what a look-up finds, what a removal
 -- leaves, and what stays where another key is put.
 -- Serves: `Directory::find`, `put_last`.
-use Rattle.std.proofs.Common.{◌≡◌, ◌≢◌, nat_eq, ℕ, Bool, true, false, cond, List, [], ◌∷◌, ◌++◌, map, Some, option_map, refl, sym, ap, ◌∙◌}
+use Rattle.std.proofs.Common.{◌≡◌, ◌≢◌, nat_eq, ℕ, Bool, true, false, cond, List, [], ◌∷◌, ◌++◌, map, Some}
+use Rattle.std.proofs.Common.{option_map, refl, sym, ap, ◌∙◌}
 use Rattle.std.proofs.lemmas.List.{map-append}
 use Rattle.std.specs.Map.{lookup, remove_entry, KeepsOthers}
 use Rattle.std.specs.Cmp.Lexicographic.{pointwise, same_text, nat_list_eq_equiv}

@@ -1,9 +1,12 @@
 //! A directory: names in order of insertion.
 
-ghost use Rattle.std.specs.Prelude.{◌≡◌, ◌≢◌, ◌<◌, ◌≤◌, ◌+◌, ◌^◌, ◌-◌, ℕ, List, [], ◌∷◌, ◌++◌, length, slice_index_or, ◌==◌, Some, None, OnOk, OnErr, IfOk, option_map, map, nat_eq, nat_le};
+ghost use Rattle.std.specs.Prelude.{◌≡◌, ◌≢◌, ◌<◌, ◌≤◌, ◌+◌, ◌^◌, ◌-◌, ℕ, List, [], ◌∷◌, ◌++◌, length};
+ghost use Rattle.std.specs.Prelude.{slice_index_or, ◌==◌, Some, None, OnOk, OnErr, IfOk, option_map, map};
+ghost use Rattle.std.specs.Prelude.{nat_eq, nat_le};
 ghost use Rattle.std.specs.Cmp.Lexicographic.{pointwise};
 ghost use Rattle.std.specs.Map.{lookup, remove_entry};
-ghost use Rattle.nfs_spec.specs.fs_model.Listing.{DirEntry, Listing, entry_at, entry_number, with_entry, without_entry};
+ghost use Rattle.nfs_spec.specs.fs_model.Listing.{DirEntry, Listing, entry_at, entry_number, with_entry};
+ghost use Rattle.nfs_spec.specs.fs_model.Listing.{without_entry};
 ghost use Rattle.inodes.specs.Directories.Entries.{entries_of};
 ghost use Rattle.inodes.specs.Directories.Pages.{above};
 ghost use Rattle.nfs_spec.specs.Effects.{number_in_listing};

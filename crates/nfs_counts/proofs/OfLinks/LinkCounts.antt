@@ -1,24 +1,32 @@
 -- What the edits of files do to the nlink of each file.
 -- Serves: edits_count_links; the laws of this crate.
-use Rattle.std.proofs.Common.{◌≡◌, ◌≢◌, ⊎_elim, ℕ, ◌+◌, ◌<◌, Bool, true, false, cond, List, [], length, sum_by, Option, Some, None, option_map, option_and_then, refl, sym, ap, ◌∙◌, arith}
+use Rattle.std.proofs.Common.{◌≡◌, ◌≢◌, ⊎_elim, ℕ, ◌+◌, ◌<◌, Bool, true, false, cond, List, [], length}
+use Rattle.std.proofs.Common.{sum_by, Option, Some, None, option_map, option_and_then, refl, sym, ap, ◌∙◌}
+use Rattle.std.proofs.Common.{arith}
 use Rattle.std.specs.Option.{option_map_or}
 use Rattle.std.specs.Ordering.{nat_cmp, eq_by_cmp}
 use Rattle.std.specs.FinMap as finite
 use Rattle.std.proofs.lemmas.Bool.{cases_eq}
 use Rattle.nfs_items.specs.Timeval.{Timeval}
 use Rattle.nfs_laws.specs.fs_model.Listing.{Listing, entry_at, with_entry, without_entry, HasDistinctNames}
-use Rattle.nfs_laws.specs.fs_model.Files.{Body, Regular, Symlink, Directory, File, Files, file_at, listing_in, listing, is_directory, places, one_if, names_in, names_of}
+use Rattle.nfs_laws.specs.fs_model.Files.{Body, Regular, Symlink, Directory, File, Files, file_at, listing_in}
+use Rattle.nfs_laws.specs.fs_model.Files.{listing, is_directory, places, one_if, names_in, names_of}
 use Rattle.nfs_laws.proofs.fs_model.Walks.{none_some, some_same}
 use Rattle.nfs_laws.proofs.fs_model.Counts.{count_of_one, file_in, all_names}
-use Rattle.nfs_laws.specs.fs_model.Changes.Edits.{with_new_file, with_changed_file, without_file, map_body_listing, map_listing, with_name, without_name}
+use Rattle.nfs_laws.specs.fs_model.Changes.Edits.{with_new_file, with_changed_file, without_file}
+use Rattle.nfs_laws.specs.fs_model.Changes.Edits.{map_body_listing, map_listing, with_name, without_name}
 use Rattle.nfs_laws.specs.fs_model.Changes.Limits.{blocks_in, entry_count, block_count}
-use Rattle.nfs_laws.proofs.fs_model.OfChanges.Finite.{new_here, new_other, nothing_changes, changed_here, changed_other, gone_other, total_new, total_changed, total_without}
+use Rattle.nfs_laws.proofs.fs_model.OfChanges.Finite.{new_here, new_other, nothing_changes, changed_here}
+use Rattle.nfs_laws.proofs.fs_model.OfChanges.Finite.{changed_other, gone_other, total_new, total_changed}
+use Rattle.nfs_laws.proofs.fs_model.OfChanges.Finite.{total_without}
 use Rattle.nfs_laws.proofs.fs_model.OfChanges.Listings.{one, leads, one_same, one_other}
-use Rattle.nfs_laws.proofs.fs_model.OfChanges.Shapes.{kind, same_shape, new_shape, gone_shape, named_shape, unnamed_shape}
+use Rattle.nfs_laws.proofs.fs_model.OfChanges.Shapes.{kind, same_shape, new_shape, gone_shape, named_shape}
+use Rattle.nfs_laws.proofs.fs_model.OfChanges.Shapes.{unnamed_shape}
 use Rattle.nfs_laws.specs.nfs_spec.FileAttributes.{is_directory_at, nlink_of}
 use Rattle.nfs_laws.specs.nfs_spec.Changes.{touch, with_mtime, touch_ctime, with_ctime}
 use Rattle.nfs_counts.specs.Links.Links.{link_count}
-use Rattle.nfs_counts.proofs.OfLinks.ListingCounts.{sum_in, counts_at, sum_with, sum_without, sum_of_ones, directory_one, same_directories}
+use Rattle.nfs_counts.proofs.OfLinks.ListingCounts.{sum_in, counts_at, sum_with, sum_without, sum_of_ones}
+use Rattle.nfs_counts.proofs.OfLinks.ListingCounts.{directory_one, same_directories}
 
 -- by the kind of what is there
 by_kind : Option Bool → ℕ → ℕ → ℕ

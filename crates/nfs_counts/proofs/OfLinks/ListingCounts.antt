@@ -1,6 +1,7 @@
 -- Sums over what a directory lists, with a name more and with a name less.
 -- Serves: LinkCounts here.
-use Rattle.std.proofs.Common.{◌≡◌, ℕ, ◌+◌, ◌<◌, Bool, true, false, cond, List, [], ◌∷◌, length, sum_by, Option, Some, nat_eq, eqb, refl, ap, arith, eq-eqb}
+use Rattle.std.proofs.Common.{◌≡◌, ℕ, ◌+◌, ◌<◌, Bool, true, false, cond, List, [], ◌∷◌, length, sum_by}
+use Rattle.std.proofs.Common.{Option, Some, nat_eq, eqb, refl, ap, arith, eq-eqb}
 use Rattle.std.specs.Option.{option_map_or}
 use Rattle.std.specs.Map.{lookup, remove_entry}
 use Rattle.std.specs.Cmp.Lexicographic.{pointwise}

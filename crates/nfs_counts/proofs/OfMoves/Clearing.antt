@@ -1,6 +1,7 @@
 -- What stands at the new name of an entry that moves goes first.
 -- Serves: Moving here.
-use Rattle.std.proofs.Common.{◌≡◌, ◌≢◌, ⊎_elim, ℕ, Bool, true, false, List, Option, Some, None, IsSome, is_some, nat_eq, option_map, option_and_then, refl, sym, ap, ◌∙◌, arith}
+use Rattle.std.proofs.Common.{◌≡◌, ◌≢◌, ⊎_elim, ℕ, Bool, true, false, List, Option, Some, None, IsSome}
+use Rattle.std.proofs.Common.{is_some, nat_eq, option_map, option_and_then, refl, sym, ap, ◌∙◌, arith}
 use Rattle.std.specs.Map.{lookup}
 use Rattle.std.specs.Cmp.Lexicographic.{pointwise}
 use Rattle.nfs_items.specs.Timeval.{Timeval}

@@ -1,6 +1,7 @@
 -- An entry that moves counts where it goes, and is kept.
 -- Serves: moving_counts_the_entry_where_it_goes.
-use Rattle.std.proofs.Common.{◌≡◌, ◌≢◌, ⊎_elim, inr, ℕ, ◌+◌, ◌<◌, ◌^◌, Bool, true, false, cond, List, Option, Some, None, IsSome, is_some, option_map, refl, sym, ap, ◌∙◌, arith}
+use Rattle.std.proofs.Common.{◌≡◌, ◌≢◌, ⊎_elim, inr, ℕ, ◌+◌, ◌<◌, ◌^◌, Bool, true, false, cond, List, Option}
+use Rattle.std.proofs.Common.{Some, None, IsSome, is_some, option_map, refl, sym, ap, ◌∙◌, arith}
 use Rattle.std.proofs.lemmas.Bool.{cases_eq}
 use Rattle.nfs_items.specs.Timeval.{Timeval}
 use Rattle.nfs_laws.specs.fs_model.Files.{File, Files, file_at, is_directory, IsDirectory, places, parent_of}
@@ -8,7 +9,8 @@ use Rattle.nfs_laws.specs.fs_model.Trees.{IsTime}
 use Rattle.nfs_laws.proofs.fs_model.Walks.{none_some, some_same, one_number, same_place}
 use Rattle.nfs_laws.specs.fs_model.Changes.Edits.{with_name, without_name}
 use Rattle.nfs_laws.proofs.fs_model.OfChanges.Listings.{one, one_same, one_other}
-use Rattle.nfs_laws.proofs.fs_model.OfChanges.Shapes.{kind, AllFiles, IsSameShape, IsNamed, IsUnnamed, same_then, named_shape, unnamed_shape}
+use Rattle.nfs_laws.proofs.fs_model.OfChanges.Shapes.{kind, AllFiles, IsSameShape, IsNamed, IsUnnamed}
+use Rattle.nfs_laws.proofs.fs_model.OfChanges.Shapes.{same_then, named_shape, unnamed_shape}
 use Rattle.nfs_laws.specs.nfs_spec.Changes.{touch, touch_ctime}
 use Rattle.nfs_laws.specs.nfs_spec.Procedures.{unlink_target, move_entry}
 use Rattle.nfs_laws.specs.Steps.Granted.{MoveOk, RenameOk}
@@ -17,7 +19,8 @@ use Rattle.nfs_laws.proofs.OfTrees.FilesFit.{dir_file, distinct_names, unnamed_f
 use Rattle.nfs_laws.proofs.OfTrees.Renaming.{renames_follows}
 use Rattle.nfs_laws.proofs.OfSizes.Words.{moved_words}
 use Rattle.nfs_counts.specs.Links.Links.{link_count}
-use Rattle.nfs_counts.proofs.OfLinks.LinkCounts.{CountsAlike, touched_alike, marked_alike, HasEntryMore, more_links, named_more, unnamed_less}
+use Rattle.nfs_counts.proofs.OfLinks.LinkCounts.{CountsAlike, touched_alike, marked_alike, HasEntryMore}
+use Rattle.nfs_counts.proofs.OfLinks.LinkCounts.{more_links, named_more, unnamed_less}
 use Rattle.nfs_counts.specs.Counted.{IsKept}
 use Rattle.nfs_counts.specs.CountChanges.{MayMove, CountsCleared, CountsMoved}
 use Rattle.nfs_counts.proofs.Kept.{counted_by, parent_stays, superuser, may_edit, says_words}

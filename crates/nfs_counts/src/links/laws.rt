@@ -2,9 +2,11 @@
 
 ghost use Rattle.std.specs.Prelude.{◌≡◌, ◌≢◌, ℕ, ◌+◌, ◌==◌, [], true, Some, None, if◌then◌else◌};
 ghost use Rattle.nfs_items.specs.Terms.{FileNumber, Cookie, Name};
-ghost use Rattle.nfs_laws.specs.fs_model.Files.{File, Files, file_at, listing_in, is_directory, IsDirectory, places};
+ghost use Rattle.nfs_laws.specs.fs_model.Files.{File, Files, file_at, listing_in, is_directory, IsDirectory};
+ghost use Rattle.nfs_laws.specs.fs_model.Files.{places};
 ghost use Rattle.nfs_laws.specs.fs_model.Trees.{IsFileTree};
-ghost use Rattle.nfs_laws.specs.fs_model.Changes.Edits.{with_new_file, with_changed_file, without_file, with_name, without_name};
+ghost use Rattle.nfs_laws.specs.fs_model.Changes.Edits.{with_new_file, with_changed_file, without_file};
+ghost use Rattle.nfs_laws.specs.fs_model.Changes.Edits.{with_name, without_name};
 ghost use Rattle.nfs_counts.specs.Links.Links.{link_count, counted_for};
 
 /// Other contents leave each nlink. A name more of a file counts for the file, and of a directory for the

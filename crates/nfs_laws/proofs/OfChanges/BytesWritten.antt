@@ -1,6 +1,7 @@
 -- Byte i is the one written, else the old one, else zero, of a file after WRITE, SETATTR and CREATE.
 -- Serves: bytes_are_what_was_written (changes); calls_change_what_they_name (frames).
-use Rattle.std.proofs.Common.{◌≡◌, ◌≢◌, ℕ, ◌+◌, ◌-◌, Bool, true, false, List, [], length, replicate, Some, get_or, refl, ap, ◌∙◌, arith}
+use Rattle.std.proofs.Common.{◌≡◌, ◌≢◌, ℕ, ◌+◌, ◌-◌, Bool, true, false, List, [], length, replicate, Some}
+use Rattle.std.proofs.Common.{get_or, refl, ap, ◌∙◌, arith}
 use Rattle.std.specs.Prelude.{unwrap_or, nat_le, nat_lt, ◌&&◌, if◌then◌else◌}
 use Rattle.std.proofs.lemmas.Bool.{leb-true, leb-false, ltb-true, ltb-false}
 use Rattle.std.proofs.lemmas.List.{get_or_past}
@@ -10,7 +11,8 @@ use Rattle.nfs_spec.specs.fs_model.Files.{Regular, File, Files, file_at}
 use Rattle.nfs_spec.specs.Sattr.{GivenFields}
 use Rattle.nfs_spec.specs.Changes.{with_length, body_with_length, with_bytes_at, apply_fields}
 use Rattle.nfs_spec.specs.Procedures.{with_bytes_written}
-use Rattle.nfs_laws.proofs.Bytes.{length-resized, written_length, resized_byte, byte_before, byte_behind, byte_new}
+use Rattle.nfs_laws.proofs.Bytes.{length-resized, written_length, resized_byte, byte_before, byte_behind}
+use Rattle.nfs_laws.proofs.Bytes.{byte_new}
 use Rattle.nfs_laws.specs.Changes.Changed.{Becomes, ChangesBytes, old_byte, IsWritten, IsResized, Makes}
 use Rattle.nfs_laws.specs.Steps.Granted.{SetOk, WriteOk, new_regular}
 use Rattle.nfs_laws.proofs.OfChanges.NamedFiles.{changed_is, wrote_is}

@@ -2,28 +2,35 @@
 -- RenamedFiles.
 -- Serves: setting_keeps_the_rest, making_keeps_the_rest, removing_keeps_the_rest (changes);
 -- calls_change_what_they_name (frames).
-use Rattle.std.proofs.Common.{◌≡◌, ◌≢◌, ℕ, ◌+◌, Bool, true, false, List, [], ◌∷◌, length, Some, None, eqb, nat_eq, option_map, option_and_then, refl, sym, ap, subst, ◌∙◌, eq-eqb, ne_eqb, arith}
+use Rattle.std.proofs.Common.{◌≡◌, ◌≢◌, ℕ, ◌+◌, Bool, true, false, List, [], ◌∷◌, length, Some, None, eqb}
+use Rattle.std.proofs.Common.{nat_eq, option_map, option_and_then, refl, sym, ap, subst, ◌∙◌, eq-eqb, ne_eqb}
+use Rattle.std.proofs.Common.{arith}
 use Rattle.std.specs.Prelude.{◌==◌, if◌then◌else◌}
 use Rattle.std.specs.Map.{lookup}
 use Rattle.std.specs.Cmp.Lexicographic.{pointwise}
 use Rattle.nfs_spec.specs.nfs_items.Timeval.{Timeval}
 use Rattle.nfs_spec.specs.nfs_items.Caller.{Caller}
 use Rattle.nfs_spec.specs.fs_model.Listing.{Listing, entry_at, with_entry, without_entry, HasDistinctNames}
-use Rattle.nfs_spec.specs.fs_model.Files.{Directory, File, Files, file_at, is_directory, listing_in, places, names_of}
+use Rattle.nfs_spec.specs.fs_model.Files.{Directory, File, Files, file_at, is_directory, listing_in, places}
+use Rattle.nfs_spec.specs.fs_model.Files.{names_of}
 use Rattle.nfs_spec.specs.fs_model.Trees.{IsFileTree}
 use Rattle.nfs_spec.proofs.fs_model.Walks.{none_some, some_same}
 use Rattle.nfs_spec.proofs.fs_model.OnePath.{root_has_no_name}
-use Rattle.nfs_spec.specs.fs_model.Changes.Edits.{with_changed_file, with_new_file, with_name, without_name, map_listing}
-use Rattle.nfs_spec.proofs.fs_model.OfChanges.Finite.{new_here, new_other, changed_here, changed_other, gone_here, gone_other}
+use Rattle.nfs_spec.specs.fs_model.Changes.Edits.{with_changed_file, with_new_file, with_name, without_name}
+use Rattle.nfs_spec.specs.fs_model.Changes.Edits.{map_listing}
+use Rattle.nfs_spec.proofs.fs_model.OfChanges.Finite.{new_here, new_other, changed_here, changed_other}
+use Rattle.nfs_spec.proofs.fs_model.OfChanges.Finite.{gone_here, gone_other}
 use Rattle.nfs_spec.proofs.fs_model.OfChanges.Listings.{leads, one_same}
 use Rattle.nfs_spec.proofs.fs_model.OfChanges.Shapes.{unnamed_shape}
 use Rattle.nfs_spec.specs.Sattr.{GivenFields}
-use Rattle.nfs_spec.specs.Changes.{apply_fields, touch, with_mtime, touch_ctime, with_ctime, unlink, after_unlink}
+use Rattle.nfs_spec.specs.Changes.{apply_fields, touch, with_mtime, touch_ctime, with_ctime, unlink}
+use Rattle.nfs_spec.specs.Changes.{after_unlink}
 use Rattle.nfs_spec.specs.Procedures.{with_bytes_written, add_file}
 use Rattle.nfs_laws.proofs.OfTrees.FilesFit.{dir_file, is_dir, next_free, distinct_names}
 use Rattle.nfs_laws.specs.Changes.Changed.{Becomes, LosesName, IsSetTo, IsRewritten, Makes, Links, Unnames}
 use Rattle.nfs_laws.specs.Steps.Granted.{SetOk, WriteOk, MakeOk, LinkOk, UnnameOk}
-use Rattle.nfs_laws.proofs.OfChanges.DirectoryEntries.{listing_of, begins_at, at_same, at_other, at_relisted, at_touched, becomes_touched, becomes_marked}
+use Rattle.nfs_laws.proofs.OfChanges.DirectoryEntries.{listing_of, begins_at, at_same, at_other, at_relisted}
+use Rattle.nfs_laws.proofs.OfChanges.DirectoryEntries.{at_touched, becomes_touched, becomes_marked}
 
 -- ---- SETATTR, WRITE
 

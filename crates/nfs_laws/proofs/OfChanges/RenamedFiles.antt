@@ -1,13 +1,15 @@
 -- What becomes of the files that RENAME names: step by step, from what stands at the new name to both
 -- directories.
 -- Serves: renaming_keeps_the_rest (changes); calls_change_what_they_name (frames).
-use Rattle.std.proofs.Common.{◌≡◌, ◌≢◌, ℕ, zero, suc, Bool, true, false, List, [], ◌∷◌, ◌++◌, Option, Some, None, eqb, option_map, append-nil, refl, sym, ap, subst, ◌∙◌, eq-eqb}
+use Rattle.std.proofs.Common.{◌≡◌, ◌≢◌, ℕ, zero, suc, Bool, true, false, List, [], ◌∷◌, ◌++◌, Option, Some}
+use Rattle.std.proofs.Common.{None, eqb, option_map, append-nil, refl, sym, ap, subst, ◌∙◌, eq-eqb}
 use Rattle.std.specs.Prelude.{◌&&◌, ◌||◌}
 use Rattle.nfs_spec.specs.nfs_items.Timeval.{Timeval}
 use Rattle.nfs_spec.specs.nfs_items.Caller.{Caller}
 use Rattle.nfs_spec.specs.fs_model.Listing.{Listing, entry_at, with_entry, without_entry, HasDistinctNames}
 use Rattle.nfs_spec.specs.fs_model.Paths.{path_at}
-use Rattle.nfs_spec.specs.fs_model.Files.{Directory, File, Files, file_at, is_directory, places, parent_of, names_of}
+use Rattle.nfs_spec.specs.fs_model.Files.{Directory, File, Files, file_at, is_directory, places, parent_of}
+use Rattle.nfs_spec.specs.fs_model.Files.{names_of}
 use Rattle.nfs_spec.specs.fs_model.Trees.{IsFileTree}
 use Rattle.nfs_spec.proofs.fs_model.Walks.{some_same, step_last}
 use Rattle.nfs_spec.proofs.fs_model.OnePath.{one_path}
@@ -21,7 +23,9 @@ use Rattle.nfs_laws.proofs.OfTrees.FilesFit.{dir_file}
 use Rattle.nfs_laws.specs.Changes.Changed.{Becomes, ChangesCtime, IsTouched, LosesName, Moves}
 use Rattle.nfs_laws.specs.Steps.Granted.{RenameOk, MoveOk}
 use Rattle.nfs_laws.proofs.OfChanges.OtherFiles.{unnamed_other, moved_apart, before_mark}
-use Rattle.nfs_laws.proofs.OfChanges.DirectoryEntries.{without_free, with_without, IsAt, listing_of, begins_at, at_same, at_other, at_relisted, at_touched, becomes_touched, becomes_marked}
+use Rattle.nfs_laws.proofs.OfChanges.DirectoryEntries.{without_free, with_without, IsAt, listing_of}
+use Rattle.nfs_laws.proofs.OfChanges.DirectoryEntries.{begins_at, at_same, at_other, at_relisted, at_touched}
+use Rattle.nfs_laws.proofs.OfChanges.DirectoryEntries.{becomes_touched, becomes_marked}
 use Rattle.nfs_laws.proofs.OfChanges.NamedFiles.{entry_here, lists_none, distinct_in, loses}
 
 module _ (w : Files) (who : Caller) (now : Timeval) (tree : IsFileTree w) where

@@ -1,7 +1,8 @@
 -- What stands between a number's file before a call and after it: a relation that each change of one file
 -- keeps is kept by every call.
 -- Serves: files_stay_what_they_are, calls_keep_the_files_they_do_not_name (frames), by KeptParts.
-use Rattle.std.proofs.Common.{◌≡◌, ◌≢◌, ℕ, Bool, true, false, List, Option, Some, None, option_map, ⊎_elim, refl, sym, ap, subst, ◌∙◌, eqb}
+use Rattle.std.proofs.Common.{◌≡◌, ◌≢◌, ℕ, Bool, true, false, List, Option, Some, None, option_map, ⊎_elim}
+use Rattle.std.proofs.Common.{refl, sym, ap, subst, ◌∙◌, eqb}
 use Rattle.std.specs.Prelude.{if◌then◌else◌, ◌==◌, length}
 use Rattle.std.proofs.lemmas.Bool.{cases_eq}
 use Rattle.nfs_spec.specs.nfs_items.Timeval.{Timeval}
@@ -9,11 +10,14 @@ use Rattle.nfs_spec.specs.nfs_items.Caller.{Caller}
 use Rattle.nfs_spec.specs.fs_model.Listing.{Listing, with_entry, without_entry}
 use Rattle.nfs_spec.specs.fs_model.Files.{Regular, File, Files, file_at, places, names_of}
 use Rattle.nfs_spec.proofs.fs_model.Walks.{some_same}
-use Rattle.nfs_spec.specs.fs_model.Changes.Edits.{with_changed_file, with_new_file, without_file, with_name, without_name, map_listing}
-use Rattle.nfs_spec.proofs.fs_model.OfChanges.Finite.{new_other, changed_here, changed_other, gone_here, gone_other}
+use Rattle.nfs_spec.specs.fs_model.Changes.Edits.{with_changed_file, with_new_file, without_file, with_name}
+use Rattle.nfs_spec.specs.fs_model.Changes.Edits.{without_name, map_listing}
+use Rattle.nfs_spec.proofs.fs_model.OfChanges.Finite.{new_other, changed_here, changed_other, gone_here}
+use Rattle.nfs_spec.proofs.fs_model.OfChanges.Finite.{gone_other}
 use Rattle.nfs_spec.specs.nfs_items.declared.sattr.Sattr.{Sattr}
 use Rattle.nfs_spec.specs.Sattr.{given_fields}
-use Rattle.nfs_spec.specs.Changes.{apply_fields, touch, with_mtime, touch_ctime, with_ctime, unlink, after_unlink}
+use Rattle.nfs_spec.specs.Changes.{apply_fields, touch, with_mtime, touch_ctime, with_ctime, unlink}
+use Rattle.nfs_spec.specs.Changes.{after_unlink}
 use Rattle.nfs_spec.specs.Procedures.{with_bytes_written, add_file, unlink_target, move_entry}
 use Rattle.nfs_spec.specs.nfs_types.Calls as calls
 use Rattle.nfs_spec.specs.nfs_types.Calls.{Call, Answer}

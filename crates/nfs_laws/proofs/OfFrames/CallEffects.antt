@@ -16,7 +16,8 @@ use Rattle.nfs_spec.specs.NfsCalls.{number_for, call_does}
 use Rattle.nfs_laws.specs.Steps.Answers.{only_reads, refusal_in}
 use Rattle.nfs_laws.specs.Changes.Changed.{Makes}
 use Rattle.nfs_laws.specs.Steps.Granted.{SetOk, WriteOk, MakeOk, CreateOk, RenameOk}
-use Rattle.nfs_laws.proofs.OfChanges.NamedFiles.{set_becomes, wrote_becomes, made_makes, linked_links, removed_unnames, directory_gone}
+use Rattle.nfs_laws.proofs.OfChanges.NamedFiles.{set_becomes, wrote_becomes, made_makes, linked_links}
+use Rattle.nfs_laws.proofs.OfChanges.NamedFiles.{removed_unnames, directory_gone}
 use Rattle.nfs_laws.proofs.OfChanges.BytesWritten.{set_bytes, wrote_bytes}
 use Rattle.nfs_laws.proofs.OfChanges.RenamedFiles.{renamed_moves}
 use Rattle.nfs_laws.specs.Frames.Done.{IsSetAt, IsWrittenAt, IsCreatedAt, IsMovedAt, Did}

@@ -14,7 +14,8 @@ use Rattle.nfs_spec.specs.Changes.{with_bytes_at, body_with_length}
 use Rattle.nfs_spec.specs.nfs_types.Calls.{Call}
 use Rattle.nfs_spec.specs.NfsCalls.{number_for, call_does}
 use Rattle.nfs_laws.proofs.OfTrees.FilesFit.{next_free}
-use Rattle.nfs_laws.specs.Frames.Named.{IsNoneOf, files_set_by, files_written_by, KeepsKind, KeepsAttributes, KeepsBytes, KeepsAt}
+use Rattle.nfs_laws.specs.Frames.Named.{IsNoneOf, files_set_by, files_written_by, KeepsKind, KeepsAttributes}
+use Rattle.nfs_laws.specs.Frames.Named.{KeepsBytes, KeepsAt}
 use Rattle.nfs_laws.proofs.OfFrames.UnnamedFiles.{at_name}
 use Rattle.nfs_laws.proofs.OfFrames.BeforeAndAfter.{Step, steps}
 

@@ -1,11 +1,13 @@
 -- Calls one after the other keep a tree a tree within the limits, and give no number and no cookie again.
 -- Serves: runs_keep_a_tree_within_its_limits, runs_give_nothing_again (frames).
-use Rattle.std.proofs.Common.{◌≡◌, ◌<◌, ℕ, inr, ⊎_elim, List, [], ◌∷◌, true, false, Option, Some, None, IsSome, is_some, option_map, option_and_then, refl, sym, ap, ◌∙◌, arith}
+use Rattle.std.proofs.Common.{◌≡◌, ◌<◌, ℕ, inr, ⊎_elim, List, [], ◌∷◌, true, false, Option, Some, None}
+use Rattle.std.proofs.Common.{IsSome, is_some, option_map, option_and_then, refl, sym, ap, ◌∙◌, arith}
 use Rattle.std.specs.Prelude.{IsTrue}
 use Rattle.nfs_spec.specs.nfs_items.Timeval.{Timeval}
 use Rattle.nfs_spec.specs.nfs_items.Caller.{Caller}
 use Rattle.nfs_spec.specs.fs_model.Listing.{entry_at}
-use Rattle.nfs_spec.specs.fs_model.Files.{Body, Regular, Symlink, Directory, File, Files, file_at, is_directory, listing_in, IsDirectory}
+use Rattle.nfs_spec.specs.fs_model.Files.{Body, Regular, Symlink, Directory, File, Files, file_at}
+use Rattle.nfs_spec.specs.fs_model.Files.{is_directory, listing_in, IsDirectory}
 use Rattle.nfs_spec.specs.fs_model.Trees.{IsFileTree}
 use Rattle.nfs_spec.proofs.fs_model.Walks.{none_some}
 use Rattle.nfs_spec.specs.fs_model.Changes.Limits.{has_room}

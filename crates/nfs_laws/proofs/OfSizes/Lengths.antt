@@ -1,13 +1,16 @@
 -- The bytes of each answer, kind by kind and then call by call.
 -- Serves: `laws::answers_fit_a_reply`.
-use Rattle.std.proofs.Common.{◌≡◌, ℕ, ◌+◌, ◌-◌, ◌*◌, ◌/◌, ◌%◌, ◌≤◌, Bool, true, false, cond, List, [], ◌∷◌, ◌++◌, length, map, drop, min, Result, Ok, Err, refl, sym, ap, subst, ◌∙◌, arith, lit≤}
+use Rattle.std.proofs.Common.{◌≡◌, ℕ, ◌+◌, ◌-◌, ◌*◌, ◌/◌, ◌%◌, ◌≤◌, Bool, true, false, cond, List, [], ◌∷◌}
+use Rattle.std.proofs.Common.{◌++◌, length, map, drop, min, Result, Ok, Err, refl, sym, ap, subst, ◌∙◌, arith}
+use Rattle.std.proofs.Common.{lit≤}
 use Rattle.std.specs.Prelude.{nat_le, nat_lt}
 use Rattle.std.specs.List.{filter, flat_map}
 use Rattle.std.proofs.lemmas.List.{length-take, length-append, length-replicate}
 use Rattle.std.proofs.lemmas.Bool.{leb-true}
 use Rattle.byteorder.specs.Endian.{big_bytes}
 use Rattle.byteorder.specs.Numbers.{length-bytes_high_first}
-use Rattle.xdr.specs.Item.{Item, Value, spelling, number_spelling, padding, word, opaque, empty, flag, pair, linked}
+use Rattle.xdr.specs.Item.{Item, Value, spelling, number_spelling, padding, word, opaque, empty, flag, pair}
+use Rattle.xdr.specs.Item.{linked}
 use Rattle.xdr.proofs.Front.{length-number_spelling}
 use Rattle.nfs_spec.specs.nfs_items.Timeval.{Timeval}
 use Rattle.nfs_spec.specs.nfs_items.Caller.{Caller}
@@ -28,7 +31,8 @@ use Rattle.nfs_spec.specs.Changes.{Effect}
 use Rattle.nfs_spec.specs.Effects.{getattr, lookup, attributes_at}
 use Rattle.nfs_spec.specs.Procedures as tree
 use Rattle.nfs_spec.specs.Readdir.{cost, longest_front, page_of, dir_entries}
-use Rattle.nfs_spec.specs.NfsCalls.{number_for, answer_and_files, with_attributes, with_handle, without_number, call_does}
+use Rattle.nfs_spec.specs.NfsCalls.{number_for, answer_and_files, with_attributes, with_handle}
+use Rattle.nfs_spec.specs.NfsCalls.{without_number, call_does}
 use Rattle.nfs_spec.specs.Sattr.{given_fields}
 use Rattle.nfs_laws.specs.Steps.Answers.{only_reads}
 use Rattle.nfs_laws.proofs.OfSteps.Steps.{ok_same}

@@ -1,6 +1,8 @@
 -- Values of answers fit: stats, attributes, numbers, and the entries of a page.
 -- Serves: `laws::answers_have_a_spelling`, by OfCalls.
-use Rattle.std.proofs.Common.{◌≡◌, ℕ, ◌+◌, ◌-◌, ◌<◌, ◌≤◌, ◌^◌, Bool, true, false, cond, List, [], ◌∷◌, length, map, min, Some, IsSome, is_some, Result, Ok, Err, option_map, option_and_then, sum_by, refl, sym, ap, subst, ◌∙◌, arith}
+use Rattle.std.proofs.Common.{◌≡◌, ℕ, ◌+◌, ◌-◌, ◌<◌, ◌≤◌, ◌^◌, Bool, true, false, cond, List, [], ◌∷◌, length}
+use Rattle.std.proofs.Common.{map, min, Some, IsSome, is_some, Result, Ok, Err, option_map, option_and_then}
+use Rattle.std.proofs.Common.{sum_by, refl, sym, ap, subst, ◌∙◌, arith}
 use Rattle.std.specs.Prelude.{nat_lt, nat_le, nat_eq, ◌==◌}
 use Rattle.std.specs.List.{filter, AllByRecursion, IsDistinct}
 use Rattle.std.specs.Map.{lookup}
@@ -9,11 +11,13 @@ use Rattle.std.specs.FinMap as finite
 use Rattle.std.proofs.Math.Nat.{div-le_self}
 use Rattle.std.proofs.lemmas.List.Sums.{sum_by-cons, sum_by-le-sum_by, count_by-le-length}
 use Rattle.xdr.specs.Item.{Item, Value, Fits}
-use Rattle.nfs_spec.specs.nfs_items.Attributes.{ftype, ftype_number, fattr, fattr_value, stat_or, stat_value, outcome_value}
+use Rattle.nfs_spec.specs.nfs_items.Attributes.{ftype, ftype_number, fattr, fattr_value, stat_or, stat_value}
+use Rattle.nfs_spec.specs.nfs_items.Attributes.{outcome_value}
 use Rattle.nfs_spec.specs.nfs_items.declared.stat.Stat.{Stat}
 use Rattle.nfs_spec.specs.nfs_items.declared.stat.Stat.TheVariants as stats
 use Rattle.nfs_spec.specs.fs_model.Listing.{Listing, entry_at, IsRising, HasDistinctNames}
-use Rattle.nfs_spec.specs.fs_model.Files.{Body, Regular, Symlink, Directory, File, Files, file_at, listing_in, is_directory, places, one_if, names_in, parent_of}
+use Rattle.nfs_spec.specs.fs_model.Files.{Body, Regular, Symlink, Directory, File, Files, file_at, listing_in}
+use Rattle.nfs_spec.specs.fs_model.Files.{is_directory, places, one_if, names_in, parent_of}
 use Rattle.nfs_spec.specs.fs_model.Trees.{IsBody, IsFileTree}
 use Rattle.nfs_spec.proofs.fs_model.Walks.{none_some}
 use Rattle.nfs_spec.proofs.fs_model.Reached.{not_before}
@@ -22,7 +26,8 @@ use Rattle.nfs_spec.specs.fs_model.Changes.Limits.{entry_count}
 use Rattle.nfs_spec.proofs.fs_model.OfChanges.Finite.{total_without}
 use Rattle.nfs_spec.proofs.fs_model.OfChanges.Listings.{name_self}
 use Rattle.nfs_spec.proofs.fs_model.OfChanges.Room.{AllCookies, IsWithin}
-use Rattle.nfs_spec.specs.FileAttributes.{type_of, type_bits, nlink_of, size_of, is_directory_at, attributes_of}
+use Rattle.nfs_spec.specs.FileAttributes.{type_of, type_bits, nlink_of, size_of, is_directory_at}
+use Rattle.nfs_spec.specs.FileAttributes.{attributes_of}
 use Rattle.nfs_spec.specs.nfs_types.Calls.{PageEntry}
 use Rattle.nfs_spec.specs.Readdir.{dir_entries, cost, longest_front, page_of}
 use Rattle.nfs_laws.specs.Sizes.Bounds.{AreWords}

@@ -1,22 +1,28 @@
 -- Owners, groups and seconds that are words are words after each call.
 -- Serves: `laws::answers_have_a_spelling` (its clause `words`); the laws of nfs_counts.
-use Rattle.std.proofs.Common.{◌≡◌, ⊎_elim, ℕ, ◌<◌, ◌^◌, Bool, true, false, cond, List, [], length, replicate, Option, Some, None, option_map, is_some, refl, sym, subst, ◌∙◌}
+use Rattle.std.proofs.Common.{◌≡◌, ⊎_elim, ℕ, ◌<◌, ◌^◌, Bool, true, false, cond, List, [], length, replicate}
+use Rattle.std.proofs.Common.{Option, Some, None, option_map, is_some, refl, sym, subst, ◌∙◌}
 use Rattle.std.specs.Prelude.{◌==◌, unwrap_or, nat_lt, if◌then◌else◌}
 use Rattle.std.proofs.lemmas.Bool.{cases_eq}
 use Rattle.nfs_spec.specs.nfs_items.Timeval.{Timeval}
 use Rattle.nfs_spec.specs.nfs_items.Caller.{Caller}
 use Rattle.nfs_spec.specs.fs_model.Listing.{Listing}
-use Rattle.nfs_spec.specs.fs_model.Files.{Body, Regular, Symlink, Directory, File, Files, file_at, places, names_of}
+use Rattle.nfs_spec.specs.fs_model.Files.{Body, Regular, Symlink, Directory, File, Files, file_at, places}
+use Rattle.nfs_spec.specs.fs_model.Files.{names_of}
 use Rattle.nfs_spec.proofs.fs_model.Walks.{none_some, some_same}
-use Rattle.nfs_spec.specs.fs_model.Changes.Edits.{with_changed_file, with_new_file, without_file, with_name, without_name, map_listing}
-use Rattle.nfs_spec.proofs.fs_model.OfChanges.Finite.{changed_here, changed_other, gone_here, gone_other, new_here, new_other}
+use Rattle.nfs_spec.specs.fs_model.Changes.Edits.{with_changed_file, with_new_file, without_file, with_name}
+use Rattle.nfs_spec.specs.fs_model.Changes.Edits.{without_name, map_listing}
+use Rattle.nfs_spec.proofs.fs_model.OfChanges.Finite.{changed_here, changed_other, gone_here, gone_other}
+use Rattle.nfs_spec.proofs.fs_model.OfChanges.Finite.{new_here, new_other}
 use Rattle.nfs_spec.specs.nfs_items.declared.sattr.Sattr.{Sattr}
 use Rattle.nfs_spec.specs.Sattr.{GivenFields, given_fields, gives_any, no_fields}
-use Rattle.nfs_spec.specs.Changes.{touch, with_mtime, touch_ctime, with_ctime, unlink, apply_fields, new_file, after_unlink}
+use Rattle.nfs_spec.specs.Changes.{touch, with_mtime, touch_ctime, with_ctime, unlink, apply_fields, new_file}
+use Rattle.nfs_spec.specs.Changes.{after_unlink}
 use Rattle.nfs_spec.specs.Procedures.{with_bytes_written, add_file, unlink_target, move_entry}
 use Rattle.nfs_spec.specs.nfs_types.Calls.{Call}
 use Rattle.nfs_spec.specs.NfsCalls.{number_for, call_does}
-use Rattle.nfs_laws.specs.Steps.Granted.{SetOk, WriteOk, MakeOk, CreateOk, UnnameOk, RenameOk, new_regular, new_directory, new_link}
+use Rattle.nfs_laws.specs.Steps.Granted.{SetOk, WriteOk, MakeOk, CreateOk, UnnameOk, RenameOk, new_regular}
+use Rattle.nfs_laws.specs.Steps.Granted.{new_directory, new_link}
 use Rattle.nfs_laws.proofs.OfSteps.EachCall.{each_call}
 use Rattle.nfs_laws.proofs.FilesFit.{unwrapped}
 use Rattle.nfs_laws.specs.Sizes.Bounds.{HasWords, AsksWords, SaysWords, HasWordsIn}

@@ -16,9 +16,11 @@ use Rattle.nfs_spec.specs.Effects.{attributes_at}
 use Rattle.nfs_spec.specs.Procedures as tree
 use Rattle.nfs_spec.specs.nfs_types.Calls as calls
 use Rattle.nfs_spec.specs.nfs_types.Calls.{Call, Answer}
-use Rattle.nfs_spec.specs.NfsCalls.{answer_and_files, with_attributes, with_handle, without_number, number_for, call_does}
+use Rattle.nfs_spec.specs.NfsCalls.{answer_and_files, with_attributes, with_handle, without_number}
+use Rattle.nfs_spec.specs.NfsCalls.{number_for, call_does}
 use Rattle.nfs_laws.specs.Steps.Answers.{refusal_in, only_reads}
-use Rattle.nfs_laws.specs.Steps.Granted.{SetOk, WriteOk, CreateOk, MakeDirOk, SymlinkOk, LinkOk, RemoveOk, RemoveDirOk, RenameOk}
+use Rattle.nfs_laws.specs.Steps.Granted.{SetOk, WriteOk, CreateOk, MakeDirOk, SymlinkOk, LinkOk, RemoveOk}
+use Rattle.nfs_laws.specs.Steps.Granted.{RemoveDirOk, RenameOk}
 use Rattle.nfs_laws.specs.Steps.Read.{AttributesOk}
 use Rattle.nfs_laws.proofs.OfSteps.Steps.{bind_ok, ok_same}
 use Rattle.nfs_laws.proofs.OfSteps.Setting.{set_ok, write_ok}

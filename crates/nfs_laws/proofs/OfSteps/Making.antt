@@ -10,15 +10,20 @@ use Rattle.nfs_spec.specs.nfs_items.declared.stat.Stat.{Stat}
 use Rattle.nfs_spec.specs.nfs_items.declared.stat.Stat.TheVariants as stats
 use Rattle.nfs_spec.specs.fs_model.Listing.{entry_at}
 use Rattle.nfs_spec.specs.fs_model.Names.{is_name}
-use Rattle.nfs_spec.specs.fs_model.Files.{Body, Regular, Symlink, Directory, File, Files, is_directory, places}
+use Rattle.nfs_spec.specs.fs_model.Files.{Body, Regular, Symlink, Directory, File, Files, is_directory}
+use Rattle.nfs_spec.specs.fs_model.Files.{places}
 use Rattle.nfs_spec.specs.fs_model.Changes.Edits.{with_name}
 use Rattle.nfs_spec.specs.fs_model.Changes.Limits.{has_room}
-use Rattle.nfs_spec.specs.ProcedureChecks.{NumberedDir, file_of, dir_of, check, check_size, check_room, check_edit, check_free, may_search, may_write}
+use Rattle.nfs_spec.specs.ProcedureChecks.{NumberedDir, file_of, dir_of, check, check_size, check_room}
+use Rattle.nfs_spec.specs.ProcedureChecks.{check_edit, check_free, may_search, may_write}
 use Rattle.nfs_spec.specs.Sattr.{GivenFields}
 use Rattle.nfs_spec.specs.Changes.{touch, touch_ctime}
-use Rattle.nfs_spec.specs.Procedures.{set_attributes, add_file, is_regular, create_over, create_new, create, make, make_dir, symlink, link}
-use Rattle.nfs_laws.specs.Steps.Granted.{IsFound, MakeOk, MakeDirOk, SymlinkOk, CreateOverOk, CreateNewOk, CreateOk, LinkOk, new_regular, new_directory, new_link}
-use Rattle.nfs_laws.proofs.OfSteps.Steps.{bind_ok, check_ok, size_ok, file_ok, dir_ok, edit_ok, free_ok, place_found, same_answer, same_files}
+use Rattle.nfs_spec.specs.Procedures.{set_attributes, add_file, is_regular, create_over, create_new, create}
+use Rattle.nfs_spec.specs.Procedures.{make, make_dir, symlink, link}
+use Rattle.nfs_laws.specs.Steps.Granted.{IsFound, MakeOk, MakeDirOk, SymlinkOk, CreateOverOk, CreateNewOk}
+use Rattle.nfs_laws.specs.Steps.Granted.{CreateOk, LinkOk, new_regular, new_directory, new_link}
+use Rattle.nfs_laws.proofs.OfSteps.Steps.{bind_ok, check_ok, size_ok, file_ok, dir_ok, edit_ok, free_ok}
+use Rattle.nfs_laws.proofs.OfSteps.Steps.{place_found, same_answer, same_files}
 use Rattle.nfs_laws.proofs.OfSteps.Setting.{set_ok}
 
 -- room after an effect is room in the files that it left

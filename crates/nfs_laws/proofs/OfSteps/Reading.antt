@@ -13,7 +13,8 @@ use Rattle.nfs_spec.specs.Effects.{attributes_at, number_at_name, getattr, looku
 use Rattle.nfs_spec.specs.nfs_types.Calls.{Page}
 use Rattle.nfs_spec.specs.Procedures.{read_link, read, read_dir}
 use Rattle.nfs_laws.specs.Steps.Read.{AttributesOk, GetattrOk, LookupOk, ReadLinkOk, ReadOk, ReadDirOk}
-use Rattle.nfs_laws.proofs.OfSteps.Steps.{bind_ok, check_ok, found_ok, file_ok, ok_same, bytes_ok, target_ok, dir_ok}
+use Rattle.nfs_laws.proofs.OfSteps.Steps.{bind_ok, check_ok, found_ok, file_ok, ok_same, bytes_ok, target_ok}
+use Rattle.nfs_laws.proofs.OfSteps.Steps.{dir_ok}
 
 -- the attributes of a number
 pub attributes_ok : (w : Files) (n : ℕ) (a : Fattr) → attributes_at w n ≡ Ok a → AttributesOk w n a

@@ -11,7 +11,8 @@ use Rattle.nfs_spec.specs.fs_model.Files.{Files, is_directory}
 use Rattle.nfs_spec.specs.ProcedureChecks.{file_of, dir_of, listing_or, check, check_edit, number_at}
 use Rattle.nfs_spec.specs.Procedures.{remove, remove_dir}
 use Rattle.nfs_laws.specs.Steps.Granted.{RemoveOk, RemoveDirOk}
-use Rattle.nfs_laws.proofs.OfSteps.Steps.{bind_ok, check_ok, file_ok, directory_ok, dir_ok, edit_ok, number_ok, place_found, no_entries, no_length, same_files}
+use Rattle.nfs_laws.proofs.OfSteps.Steps.{bind_ok, check_ok, file_ok, directory_ok, dir_ok, edit_ok}
+use Rattle.nfs_laws.proofs.OfSteps.Steps.{number_ok, place_found, no_entries, no_length, same_files}
 
 -- REMOVE
 pub remove_ok : (w : Files) (who : Caller) (now : Timeval) (dir : ℕ) (name : List ℕ) (after : Files)

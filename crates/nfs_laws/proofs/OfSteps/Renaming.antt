@@ -1,6 +1,7 @@
 -- What follows from the Ok of RENAME.
 -- Serves: granted_changes_pass_their_checks.
-use Rattle.std.proofs.Common.{◌≡◌, ◌≢◌, ◌⊎◌, inl, inr, ℕ, Bool, true, false, List, length, Option, Some, None, Result, Ok, option_map, not, refl, sym, ap, ◌∙◌, eq-eqb, arith}
+use Rattle.std.proofs.Common.{◌≡◌, ◌≢◌, ◌⊎◌, inl, inr, ℕ, Bool, true, false, List, length, Option, Some, None}
+use Rattle.std.proofs.Common.{Result, Ok, option_map, not, refl, sym, ap, ◌∙◌, eq-eqb, arith}
 use Rattle.std.specs.Prelude.{◌==◌, ◌&&◌, ◌||◌, nat_le, if◌then◌else◌}
 use Rattle.std.specs.Option.{option_map_or}
 use Rattle.std.proofs.lemmas.Bool.{not-true, eqb-true, leb-true}
@@ -10,10 +11,12 @@ use Rattle.nfs_spec.specs.nfs_items.declared.stat.Stat.{Stat}
 use Rattle.nfs_spec.specs.nfs_items.declared.stat.Stat.TheVariants as stats
 use Rattle.nfs_spec.specs.fs_model.Listing.{Listing, entry_at}
 use Rattle.nfs_spec.specs.fs_model.Files.{File, Files, is_directory, listing_in, places}
-use Rattle.nfs_spec.specs.ProcedureChecks.{◌>>=◌, NumberedDir, file_of, dir_of, check, check_cookie, check_edit, number_at}
+use Rattle.nfs_spec.specs.ProcedureChecks.{◌>>=◌, NumberedDir, file_of, dir_of, check, check_cookie}
+use Rattle.nfs_spec.specs.ProcedureChecks.{check_edit, number_at}
 use Rattle.nfs_spec.specs.Procedures.{is_above, check_target, move_entry, rename}
 use Rattle.nfs_laws.specs.Steps.Granted.{IsFound, IsSameFile, MayReplace, MoveOk, RenameOk}
-use Rattle.nfs_laws.proofs.OfSteps.Steps.{bind_ok, check_ok, file_ok, dir_ok, edit_ok, number_ok, place_found, listing_found, no_length, same_files}
+use Rattle.nfs_laws.proofs.OfSteps.Steps.{bind_ok, check_ok, file_ok, dir_ok, edit_ok, number_ok, place_found}
+use Rattle.nfs_laws.proofs.OfSteps.Steps.{listing_found, no_length, same_files}
 
 -- what was let through as a target may be replaced
 pub target_ok : (w : Files) (f : File) (t : ℕ) (u : Unit {0}) → check_target w f (Some t) ≡ Ok u

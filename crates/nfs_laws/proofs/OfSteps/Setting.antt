@@ -1,6 +1,7 @@
 -- What follows from the Ok of SETATTR and WRITE.
 -- Serves: granted_changes_pass_their_checks.
-use Rattle.std.proofs.Common.{◌≡◌, ◌≢◌, ℕ, ◌+◌, ◌≤◌, Bool, true, false, List, [], length, Option, Some, Result, Ok, refl, sym, ap, subst, ◌∙◌}
+use Rattle.std.proofs.Common.{◌≡◌, ◌≢◌, ℕ, ◌+◌, ◌≤◌, Bool, true, false, List, [], length, Option, Some}
+use Rattle.std.proofs.Common.{Result, Ok, refl, sym, ap, subst, ◌∙◌}
 use Rattle.std.specs.Prelude.{◌==◌, is_some, if◌then◌else◌}
 use Rattle.std.proofs.lemmas.Bool.{eqb-true}
 use Rattle.nfs_spec.specs.nfs_items.Timeval.{Timeval}
@@ -15,7 +16,8 @@ use Rattle.nfs_spec.specs.Sattr.{GivenFields}
 use Rattle.nfs_spec.specs.Changes.{check_owner, check_resize, apply_fields}
 use Rattle.nfs_spec.specs.Procedures.{set_attributes, write, with_bytes_written}
 use Rattle.nfs_laws.specs.Steps.Granted.{ResizeOk, SetOk, WriteOk}
-use Rattle.nfs_laws.proofs.OfSteps.Steps.{bind_ok, check_ok, size_ok, file_ok, bytes_ok, no_length, same_files}
+use Rattle.nfs_laws.proofs.OfSteps.Steps.{bind_ok, check_ok, size_ok, file_ok, bytes_ok, no_length}
+use Rattle.nfs_laws.proofs.OfSteps.Steps.{same_files}
 
 -- a size that was let through
 pub resize_ok : (who : Caller) (f : File) (size : ℕ) (u : Unit {0}) → check_resize who f (Some size) ≡ Ok u

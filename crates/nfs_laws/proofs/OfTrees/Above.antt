@@ -1,6 +1,8 @@
 -- The way up from a directory: what it passes is what is above.
 -- Serves: above_is_by_paths; renaming_moves_paths and trees_stay_trees.
-use Rattle.std.proofs.Common.{◌≡◌, ◌≢◌, ⊎_elim, ℕ, zero, suc, ◌≤◌, true, false, List, [], ◌∷◌, ◌++◌, length, Option, Some, None, IsSome, is_some, option_and_then, ◌||◌, refl, sym, ap, subst, ◌∙◌, arith, length-append, eqb, eq-eqb}
+use Rattle.std.proofs.Common.{◌≡◌, ◌≢◌, ⊎_elim, ℕ, zero, suc, ◌≤◌, true, false, List, [], ◌∷◌, ◌++◌, length}
+use Rattle.std.proofs.Common.{Option, Some, None, IsSome, is_some, option_and_then, ◌||◌, refl, sym, ap}
+use Rattle.std.proofs.Common.{subst, ◌∙◌, arith, length-append, eqb, eq-eqb}
 use Rattle.std.proofs.lemmas.Bool.{cases_eq, eqb-true, or_left, or_right, or_cases}
 use Rattle.std.proofs.lemmas.Map.Keys.{IsDistinct-cons}
 use Rattle.std.proofs.lemmas.Map.Steps.{length-le_from_keys}

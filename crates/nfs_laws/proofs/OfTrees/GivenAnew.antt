@@ -1,13 +1,16 @@
 -- What each edit gives, it gives anew: cookies of a directory never fall, and numbers neither.
 -- Serves: nothing_is_given_again.
-use Rattle.std.proofs.Common.{◌≡◌, ◌≢◌, ◌⊎◌, inl, inr, ⊎_elim, ℕ, ◌≤◌, Bool, true, false, List, [], Option, Some, None, IsSome, is_some, eqb, option_map, refl, sym, ap, subst, ◌∙◌, arith}
+use Rattle.std.proofs.Common.{◌≡◌, ◌≢◌, ◌⊎◌, inl, inr, ⊎_elim, ℕ, ◌≤◌, Bool, true, false, List, [], Option}
+use Rattle.std.proofs.Common.{Some, None, IsSome, is_some, eqb, option_map, refl, sym, ap, subst, ◌∙◌, arith}
 use Rattle.std.specs.Option.{option_map_or}
 use Rattle.std.proofs.lemmas.Bool.{cases_eq}
 use Rattle.nfs_spec.specs.nfs_items.Timeval.{Timeval}
 use Rattle.nfs_spec.specs.fs_model.Listing.{with_entry, without_entry}
-use Rattle.nfs_spec.specs.fs_model.Files.{Body, Regular, Symlink, Directory, File, Files, file_at, listing_in, listing, IsDirectory, places, names_of}
+use Rattle.nfs_spec.specs.fs_model.Files.{Body, Regular, Symlink, Directory, File, Files, file_at, listing_in}
+use Rattle.nfs_spec.specs.fs_model.Files.{listing, IsDirectory, places, names_of}
 use Rattle.nfs_spec.proofs.fs_model.Walks.{none_some, some_same, same_place}
-use Rattle.nfs_spec.specs.fs_model.Changes.Edits.{with_changed_file, with_new_file, without_file, map_listing, map_body_listing, with_name, without_name}
+use Rattle.nfs_spec.specs.fs_model.Changes.Edits.{with_changed_file, with_new_file, without_file, map_listing}
+use Rattle.nfs_spec.specs.fs_model.Changes.Edits.{map_body_listing, with_name, without_name}
 use Rattle.nfs_spec.proofs.fs_model.OfChanges.Finite.{new_other, changed_here, changed_other, gone_other}
 use Rattle.nfs_spec.proofs.fs_model.OfChanges.Shapes.{kind, IsSameShape, is_some-kind}
 use Rattle.nfs_spec.proofs.fs_model.OfEditedTrees.Adding.{IsAdded}

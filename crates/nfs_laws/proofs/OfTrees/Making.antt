@@ -1,23 +1,28 @@
 -- What makes a file, and LINK, add one entry and leave a tree a tree.
 -- Serves: making_adds_a_path, trees_stay_trees, nothing_is_given_again and no_limit_is_passed.
-use Rattle.std.proofs.Common.{◌≡◌, ◌≢◌, inl, inr, ℕ, ◌≤◌, Bool, true, false, List, [], length, Option, Some, None, IsSome, is_some, option_map, refl, sym, ap, subst, ◌∙◌, arith}
+use Rattle.std.proofs.Common.{◌≡◌, ◌≢◌, inl, inr, ℕ, ◌≤◌, Bool, true, false, List, [], length, Option, Some}
+use Rattle.std.proofs.Common.{None, IsSome, is_some, option_map, refl, sym, ap, subst, ◌∙◌, arith}
 use Rattle.nfs_spec.specs.nfs_items.Timeval.{Timeval}
 use Rattle.nfs_spec.specs.nfs_items.Caller.{Caller}
 use Rattle.nfs_spec.specs.fs_model.Listing.{Listing}
-use Rattle.nfs_spec.specs.fs_model.Files.{File, Files, file_at, listing_in, listing, is_directory, IsDirectory, places}
+use Rattle.nfs_spec.specs.fs_model.Files.{File, Files, file_at, listing_in, listing, is_directory}
+use Rattle.nfs_spec.specs.fs_model.Files.{IsDirectory, places}
 use Rattle.nfs_spec.specs.fs_model.Trees.{IsTime, IsFile, IsFileTree}
 use Rattle.nfs_spec.specs.fs_model.Changes.Edits.{with_new_file, with_name}
 use Rattle.nfs_spec.proofs.fs_model.OfChanges.Finite.{new_other, changed_other}
 use Rattle.nfs_spec.proofs.fs_model.OfChanges.Listings.{leads}
-use Rattle.nfs_spec.proofs.fs_model.OfChanges.Shapes.{kind, AllFiles, IsSameShape, IsNamed, IsOneMore, new_shape, named_shape, new_files, is_some-kind}
+use Rattle.nfs_spec.proofs.fs_model.OfChanges.Shapes.{kind, AllFiles, IsSameShape, IsNamed, IsOneMore}
+use Rattle.nfs_spec.proofs.fs_model.OfChanges.Shapes.{new_shape, named_shape, new_files, is_some-kind}
 use Rattle.nfs_spec.proofs.fs_model.OfEditedTrees.Adding.{IsAdded, stays_added}
 use Rattle.nfs_spec.specs.Changes.{touch, touch_ctime, with_ctime}
 use Rattle.nfs_spec.specs.Procedures.{add_file}
 use Rattle.nfs_laws.specs.Steps.Granted.{MayEdit, MakeOk, LinkOk}
 use Rattle.nfs_laws.proofs.OfSteps.Steps.{listing_there}
 use Rattle.nfs_laws.specs.Trees.Anew.{GivesAnew, Follows}
-use Rattle.nfs_laws.proofs.OfTrees.GivenAnew.{added_given, cookie_new, cookie_named, cookie_touched, cookie_marked}
-use Rattle.nfs_laws.proofs.OfTrees.FilesFit.{is_dir, is_there, missing, next_free, next_unnamed, touch_shape, mark_shape, touch_files, mark_files, named_files, distinct_names}
+use Rattle.nfs_laws.proofs.OfTrees.GivenAnew.{added_given, cookie_new, cookie_named, cookie_touched}
+use Rattle.nfs_laws.proofs.OfTrees.GivenAnew.{cookie_marked}
+use Rattle.nfs_laws.proofs.OfTrees.FilesFit.{is_dir, is_there, missing, next_free, next_unnamed, touch_shape}
+use Rattle.nfs_laws.proofs.OfTrees.FilesFit.{mark_shape, touch_files, mark_files, named_files, distinct_names}
 
 -- nothing is listed by what is no directory or not there
 unlisted : (w : Files) (n : ℕ) (y : List ℕ) → (kind w n ≡ Some true → ⊥) → IsFileTree w → places w n y ≡ None

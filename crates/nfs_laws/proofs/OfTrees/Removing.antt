@@ -1,7 +1,9 @@
 -- REMOVE and RMDIR take one entry out and leave a tree a tree: a name of a file goes, and with the last name the number.
 -- Serves: removing_takes_a_path, trees_stay_trees, nothing_is_given_again and no_limit_is_passed;
 -- the_last_name_takes_the_file (frames).
-use Rattle.std.proofs.Common.{◌≡◌, ◌≢◌, ⊎_elim, inl, inr, ℕ, ◌<◌, Bool, true, false, List, [], Some, None, nat_eq, eqb, is_some, option_map, option_and_then, refl, sym, ap, subst, ◌∙◌, arith}
+use Rattle.std.proofs.Common.{◌≡◌, ◌≢◌, ⊎_elim, inl, inr, ℕ, ◌<◌, Bool, true, false, List, [], Some, None}
+use Rattle.std.proofs.Common.{nat_eq, eqb, is_some, option_map, option_and_then, refl, sym, ap, subst, ◌∙◌}
+use Rattle.std.proofs.Common.{arith}
 use Rattle.std.specs.Map.{lookup}
 use Rattle.std.specs.Cmp.Lexicographic.{pointwise}
 use Rattle.std.proofs.lemmas.Bool.{cases_eq, eqb-true, eqb-false}
@@ -15,7 +17,8 @@ use Rattle.nfs_spec.proofs.fs_model.OnePath.{root_has_no_name}
 use Rattle.nfs_spec.specs.fs_model.Changes.Edits.{without_file, without_name}
 use Rattle.nfs_spec.proofs.fs_model.OfChanges.Finite.{changed_other}
 use Rattle.nfs_spec.proofs.fs_model.OfChanges.Listings.{one, leads, one_same}
-use Rattle.nfs_spec.proofs.fs_model.OfChanges.Shapes.{kind, AllFiles, IsSameShape, IsUnnamed, IsOneLess, unnamed_shape, gone_shape, gone_files}
+use Rattle.nfs_spec.proofs.fs_model.OfChanges.Shapes.{kind, AllFiles, IsSameShape, IsUnnamed, IsOneLess}
+use Rattle.nfs_spec.proofs.fs_model.OfChanges.Shapes.{unnamed_shape, gone_shape, gone_files}
 use Rattle.nfs_spec.proofs.fs_model.OfEditedTrees.Taking.{IsTaken, stays_taken}
 use Rattle.nfs_spec.proofs.fs_model.OfChanges.Room.{no_more_then, still_room}
 use Rattle.nfs_spec.specs.Changes.{touch, touch_ctime, unlink, after_unlink}
@@ -23,7 +26,8 @@ use Rattle.nfs_laws.specs.Steps.Granted.{UnnameOk}
 use Rattle.nfs_laws.specs.Trees.Anew.{Follows}
 use Rattle.nfs_laws.proofs.OfTrees.EditRoom.{touch_no_more, unlink_no_more}
 use Rattle.nfs_laws.proofs.OfTrees.GivenAnew.{taken_given, cookie_taken, cookie_touched}
-use Rattle.nfs_laws.proofs.OfTrees.FilesFit.{dir_file, is_dir, touch_shape, mark_shape, touch_files, mark_files, unnamed_files, distinct_names}
+use Rattle.nfs_laws.proofs.OfTrees.FilesFit.{dir_file, is_dir, touch_shape, mark_shape, touch_files}
+use Rattle.nfs_laws.proofs.OfTrees.FilesFit.{mark_files, unnamed_files, distinct_names}
 
 -- what is taken is taken, whatever changes but the shape
 pub taken_then : (u v w : Files) (d : ℕ) (x : List ℕ) (k c : ℕ) → IsTaken u v d x k c → IsSameShape v w

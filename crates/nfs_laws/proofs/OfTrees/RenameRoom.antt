@@ -1,16 +1,19 @@
 -- RENAME takes no room but for a cookie.
 -- Serves: no_limit_is_passed.
-use Rattle.std.proofs.Common.{◌≡◌, ℕ, ◌+◌, ◌≤◌, Bool, true, false, cond, List, [], ◌∷◌, length, Option, Some, None, nat_eq, option_and_then, refl, sym, ap, ◌∙◌, arith}
+use Rattle.std.proofs.Common.{◌≡◌, ℕ, ◌+◌, ◌≤◌, Bool, true, false, cond, List, [], ◌∷◌, length, Option, Some}
+use Rattle.std.proofs.Common.{None, nat_eq, option_and_then, refl, sym, ap, ◌∙◌, arith}
 use Rattle.std.specs.Map.{lookup, remove_entry}
 use Rattle.std.specs.Cmp.Lexicographic.{pointwise}
 use Rattle.nfs_spec.specs.nfs_items.Timeval.{Timeval}
 use Rattle.nfs_spec.specs.fs_model.Listing.{entry_at, without_entry}
-use Rattle.nfs_spec.specs.fs_model.Files.{Body, Regular, Symlink, Directory, File, Files, file_at, listing_in, is_directory, places}
+use Rattle.nfs_spec.specs.fs_model.Files.{Body, Regular, Symlink, Directory, File, Files, file_at, listing_in}
+use Rattle.nfs_spec.specs.fs_model.Files.{is_directory, places}
 use Rattle.nfs_spec.proofs.fs_model.Walks.{none_some}
 use Rattle.nfs_spec.specs.fs_model.Changes.Edits.{map_listing, map_body_listing, with_name, without_name}
 use Rattle.nfs_spec.specs.fs_model.Changes.Limits.{entry_count, has_room}
 use Rattle.nfs_spec.proofs.fs_model.OfChanges.Finite.{total_changed}
-use Rattle.nfs_spec.proofs.fs_model.OfChanges.Room.{within, IsNoMore, no_more_then, still_room, unnamed_no_more}
+use Rattle.nfs_spec.proofs.fs_model.OfChanges.Room.{within, IsNoMore, no_more_then, still_room}
+use Rattle.nfs_spec.proofs.fs_model.OfChanges.Room.{unnamed_no_more}
 use Rattle.nfs_spec.specs.Changes.{touch, touch_ctime}
 use Rattle.nfs_spec.specs.Procedures.{unlink_target, move_entry}
 use Rattle.nfs_laws.proofs.OfTrees.EditRoom.{touch_no_more, mark_no_more, unlink_no_more, free_in, named_has}

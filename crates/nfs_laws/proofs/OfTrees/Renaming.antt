@@ -1,6 +1,8 @@
 -- RENAME leaves a tree a tree and moves a path: what stands at the new name goes, and then the entry moves.
 -- Serves: renaming_moves_paths, trees_stay_trees, nothing_is_given_again and no_limit_is_passed.
-use Rattle.std.proofs.Common.{◌≡◌, ◌≢◌, ⊎_elim, ℕ, ◌≤◌, Bool, true, false, List, [], ◌∷◌, ◌++◌, length, Option, Some, None, is_some, nat_eq, eqb, option_map, option_and_then, refl, sym, ap, subst, ◌∙◌, arith}
+use Rattle.std.proofs.Common.{◌≡◌, ◌≢◌, ⊎_elim, ℕ, ◌≤◌, Bool, true, false, List, [], ◌∷◌, ◌++◌, length}
+use Rattle.std.proofs.Common.{Option, Some, None, is_some, nat_eq, eqb, option_map, option_and_then, refl}
+use Rattle.std.proofs.Common.{sym, ap, subst, ◌∙◌, arith}
 use Rattle.std.specs.Map.{lookup}
 use Rattle.std.specs.Cmp.Lexicographic.{pointwise}
 use Rattle.std.proofs.lemmas.Bool.{cases_eq, and_cases}
@@ -8,22 +10,27 @@ use Rattle.nfs_spec.specs.nfs_items.Timeval.{Timeval}
 use Rattle.nfs_spec.specs.nfs_items.Caller.{Caller}
 use Rattle.nfs_spec.specs.fs_model.Listing.{Listing, entry_at, without_entry}
 use Rattle.nfs_spec.specs.fs_model.Paths.{Places, walk, path_at, Renames}
-use Rattle.nfs_spec.specs.fs_model.Files.{Body, Regular, Symlink, Directory, File, Files, file_at, listing_in, listing, is_directory, places, names_of}
+use Rattle.nfs_spec.specs.fs_model.Files.{Body, Regular, Symlink, Directory, File, Files, file_at, listing_in}
+use Rattle.nfs_spec.specs.fs_model.Files.{listing, is_directory, places, names_of}
 use Rattle.nfs_spec.specs.fs_model.Trees.{IsTime, IsFileTree}
 use Rattle.nfs_spec.proofs.fs_model.Walks.{none_some, some_same, same_place}
-use Rattle.nfs_spec.specs.fs_model.Changes.Edits.{with_changed_file, map_listing, map_body_listing, with_name, without_name}
+use Rattle.nfs_spec.specs.fs_model.Changes.Edits.{with_changed_file, map_listing, map_body_listing, with_name}
+use Rattle.nfs_spec.specs.fs_model.Changes.Edits.{without_name}
 use Rattle.nfs_spec.proofs.fs_model.OfChanges.Finite.{changed_here, changed_other, gone_other}
 use Rattle.nfs_spec.proofs.fs_model.OfChanges.Listings.{leads}
-use Rattle.nfs_spec.proofs.fs_model.OfChanges.Shapes.{kind, is_some-kind, AllFiles, IsSameShape, IsNamed, IsUnnamed, same_then, named_shape, unnamed_shape}
+use Rattle.nfs_spec.proofs.fs_model.OfChanges.Shapes.{kind, is_some-kind, AllFiles, IsSameShape, IsNamed}
+use Rattle.nfs_spec.proofs.fs_model.OfChanges.Shapes.{IsUnnamed, same_then, named_shape, unnamed_shape}
 use Rattle.nfs_spec.proofs.fs_model.OfEditedTrees.Taking.{stays_taken}
 use Rattle.nfs_spec.proofs.fs_model.OfEditedTrees.Moving.{IsRenamed, IsMoved, renames_path, stays_moved}
 use Rattle.nfs_spec.specs.Changes.{touch, touch_ctime, with_ctime, after_unlink}
 use Rattle.nfs_spec.specs.Procedures.{is_above, unlink_target}
 use Rattle.nfs_laws.specs.Steps.Granted.{MayReplace, MoveOk, RenameOk}
 use Rattle.nfs_laws.proofs.OfSteps.Steps.{listing_there}
-use Rattle.nfs_laws.proofs.OfTrees.FilesFit.{dir_file, is_dir, touch_shape, mark_shape, touch_files, mark_files, named_files, unnamed_files, distinct_names}
+use Rattle.nfs_laws.proofs.OfTrees.FilesFit.{dir_file, is_dir, touch_shape, mark_shape, touch_files}
+use Rattle.nfs_laws.proofs.OfTrees.FilesFit.{mark_files, named_files, unnamed_files, distinct_names}
 use Rattle.nfs_laws.specs.Trees.Anew.{GivesAnew, Follows}
-use Rattle.nfs_laws.proofs.OfTrees.GivenAnew.{nothing_given, taken_given, renamed_given, cookie_taken, cookie_unnamed, cookie_named, cookie_marked, cookie_touched}
+use Rattle.nfs_laws.proofs.OfTrees.GivenAnew.{nothing_given, taken_given, renamed_given, cookie_taken}
+use Rattle.nfs_laws.proofs.OfTrees.GivenAnew.{cookie_unnamed, cookie_named, cookie_marked, cookie_touched}
 use Rattle.nfs_laws.proofs.OfTrees.Removing.{unnamed_taken}
 use Rattle.nfs_laws.proofs.OfTrees.RenameRoom.{moved_room}
 use Rattle.nfs_laws.proofs.OfTrees.Above.{above_found, on_way}

@@ -1,5 +1,6 @@
 -- What becomes of the files that a call names.
-use Rattle.std.specs.Prelude.{◌≡◌, ◌≢◌, ℕ, ◌+◌, ◌-◌, ◌<◌, ◌&&◌, nat_le, nat_lt, max, List, length, slice_index, Some, None, if◌then◌else◌}
+use Rattle.std.specs.Prelude.{◌≡◌, ◌≢◌, ℕ, ◌+◌, ◌-◌, ◌<◌, ◌&&◌, nat_le, nat_lt, max, List, length}
+use Rattle.std.specs.Prelude.{slice_index, Some, None, if◌then◌else◌}
 use Rattle.nfs_spec.specs.nfs_items.Timeval.{Timeval}
 use Rattle.nfs_spec.specs.nfs_items.Terms.{FileNumber, Cookie, Name}
 use Rattle.nfs_spec.specs.fs_model.Listing.{Listing, with_entry, without_entry}

@@ -5,10 +5,12 @@ use Rattle.nfs_spec.specs.nfs_items.Caller.{Caller}
 use Rattle.nfs_spec.specs.nfs_items.Terms.{FileNumber, Cookie, Name}
 use Rattle.nfs_spec.specs.fs_model.Files.{Files, file_at, places}
 use Rattle.nfs_spec.specs.Sattr.{GivenFields, given_fields}
-use Rattle.nfs_spec.specs.nfs_types.Calls.{Call, Setattr, Write, Create, Remove, Rename, Link, Symlink, Mkdir, Rmdir}
+use Rattle.nfs_spec.specs.nfs_types.Calls.{Call, Setattr, Write, Create, Remove, Rename, Link, Symlink, Mkdir}
+use Rattle.nfs_spec.specs.nfs_types.Calls.{Rmdir}
 use Rattle.nfs_spec.specs.NfsCalls.{number_for}
 use Rattle.nfs_laws.specs.Steps.Granted.{IsSameFile, new_regular, new_directory, new_link}
-use Rattle.nfs_laws.specs.Changes.Changed.{Becomes, IsSetTo, IsRewritten, ChangesBytes, IsWritten, IsResized, Makes, Links, Unnames, Moves}
+use Rattle.nfs_laws.specs.Changes.Changed.{Becomes, IsSetTo, IsRewritten, ChangesBytes, IsWritten, IsResized}
+use Rattle.nfs_laws.specs.Changes.Changed.{Makes, Links, Unnames, Moves}
 
 -- attributes are set of a file, and with a size its bytes
 pub record IsSetAt (now : Timeval) (fs fs' : Files) (n : FileNumber) (a : GivenFields) : Type 0 where

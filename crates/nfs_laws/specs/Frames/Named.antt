@@ -1,11 +1,13 @@
 -- Which files a call names.
-use Rattle.std.specs.Prelude.{◌≡◌, ◌≢◌, ℕ, ◌&&◌, Bool, true, false, List, [], ◌∷◌, ◌++◌, Some, is_none, if◌then◌else◌}
+use Rattle.std.specs.Prelude.{◌≡◌, ◌≢◌, ℕ, ◌&&◌, Bool, true, false, List, [], ◌∷◌, ◌++◌, Some, is_none}
+use Rattle.std.specs.Prelude.{if◌then◌else◌}
 use Rattle.std.specs.Option.{option_map_or}
 use Rattle.nfs_spec.specs.nfs_items.Terms.{FileNumber, Name}
 use Rattle.nfs_spec.specs.fs_model.Listing.{Listing}
 use Rattle.nfs_spec.specs.fs_model.Files.{Body, Regular, Directory, File, Files, file_at, places}
 use Rattle.nfs_spec.specs.fs_model.Files as bodies
-use Rattle.nfs_spec.specs.nfs_types.Calls.{Call, Setattr, Write, Create, Remove, Rename, Link, Symlink, Mkdir, Rmdir, Answer}
+use Rattle.nfs_spec.specs.nfs_types.Calls.{Call, Setattr, Write, Create, Remove, Rename, Link, Symlink, Mkdir}
+use Rattle.nfs_spec.specs.nfs_types.Calls.{Rmdir, Answer}
 use Rattle.nfs_spec.specs.NfsCalls.{number_for}
 use Rattle.nfs_laws.specs.Steps.Answers.{refusal_in}
 

@@ -2,7 +2,9 @@
 use Rattle.std.specs.Prelude.{Bool, true, false, Option, None}
 use Rattle.nfs_spec.specs.nfs_items.declared.stat.Stat.{Stat}
 use Rattle.nfs_spec.specs.LawTerms.{stat_in}
-use Rattle.nfs_spec.specs.nfs_types.Calls.{Call, Null, Getattr, Root, Lookup, Readlink, Read, Writecache, Readdir, Statfs, Answer, Nothing, Attributes, DirOp, Target, Bytes, Status, Entries, Free}
+use Rattle.nfs_spec.specs.nfs_types.Calls.{Call, Null, Getattr, Root, Lookup, Readlink, Read, Writecache}
+use Rattle.nfs_spec.specs.nfs_types.Calls.{Readdir, Statfs, Answer, Nothing, Attributes, DirOp, Target, Bytes}
+use Rattle.nfs_spec.specs.nfs_types.Calls.{Status, Entries, Free}
 
 -- the stat of a call that was refused
 abbrev pub refusal_in : Answer → Option Stat

@@ -1,12 +1,14 @@
 -- What follows from the Ok of a procedure that changes files: each check that it passed, and its effect. Each
 -- record speaks of the files before and after, the caller, the clock reading and the procedure's arguments.
-use Rattle.std.specs.Prelude.{◌≡◌, ◌≢◌, ◌⊎◌, ℕ, ◌+◌, ◌==◌, ◌&&◌, ◌≤◌, Bool, true, false, IsTrue, List, [], length, replicate, Some, None, option_map, Ok, unwrap_or, if◌then◌else◌}
+use Rattle.std.specs.Prelude.{◌≡◌, ◌≢◌, ◌⊎◌, ℕ, ◌+◌, ◌==◌, ◌&&◌, ◌≤◌, Bool, true, false, IsTrue, List, []}
+use Rattle.std.specs.Prelude.{length, replicate, Some, None, option_map, Ok, unwrap_or, if◌then◌else◌}
 use Rattle.nfs_spec.specs.nfs_items.Timeval.{Timeval}
 use Rattle.nfs_spec.specs.nfs_items.Caller.{Caller}
 use Rattle.nfs_spec.specs.nfs_items.Terms.{FileNumber, Cookie, Name}
 use Rattle.nfs_spec.specs.fs_model.Maxima.{max_file_size, max_number}
 use Rattle.nfs_spec.specs.fs_model.Names.{is_name}
-use Rattle.nfs_spec.specs.fs_model.Files.{Regular, Symlink, Directory, File, Files, file_at, is_directory, listing_in, listing, places}
+use Rattle.nfs_spec.specs.fs_model.Files.{Regular, Symlink, Directory, File, Files, file_at, is_directory}
+use Rattle.nfs_spec.specs.fs_model.Files.{listing_in, listing, places}
 use Rattle.nfs_spec.specs.fs_model.Changes.Edits.{with_changed_file, with_name}
 use Rattle.nfs_spec.specs.fs_model.Changes.Limits.{has_room}
 use Rattle.nfs_spec.specs.ProcedureChecks.{NumberedDir, may_search, may_write}

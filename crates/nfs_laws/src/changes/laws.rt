@@ -4,13 +4,16 @@ ghost use Rattle.std.specs.Prelude.{◌≡◌, ◌≢◌, ℕ, List, [], replica
 ghost use Rattle.nfs_spec.specs.nfs_items.Timeval.{Timeval};
 ghost use Rattle.nfs_spec.specs.nfs_items.Caller.{Caller};
 ghost use Rattle.nfs_spec.specs.nfs_items.Terms.{FileNumber, Cookie, Name};
-ghost use Rattle.nfs_spec.specs.fs_model.Files.{Body, Regular, Symlink, Directory, File, Files, file_at, places};
+ghost use Rattle.nfs_spec.specs.fs_model.Files.{Body, Regular, Symlink, Directory, File, Files, file_at};
+ghost use Rattle.nfs_spec.specs.fs_model.Files.{places};
 ghost use Rattle.nfs_spec.specs.fs_model.Trees.{IsFileTree};
 ghost use Rattle.nfs_spec.specs.Sattr.{GivenFields, no_fields};
 ghost use Rattle.nfs_spec.specs.Changes.{new_file};
-ghost use Rattle.nfs_spec.specs.Procedures.{set_attributes, write, create, make_dir, symlink, link, remove, remove_dir, rename};
+ghost use Rattle.nfs_spec.specs.Procedures.{set_attributes, write, create, make_dir, symlink, link, remove};
+ghost use Rattle.nfs_spec.specs.Procedures.{remove_dir, rename};
 ghost use Rattle.nfs_laws.specs.Steps.Granted.{IsSameFile, new_regular, new_directory, new_link};
-ghost use Rattle.nfs_laws.specs.Changes.Changed.{Becomes, IsSetTo, IsRewritten, IsWritten, IsResized, ChangesBytes, Makes, Links, Unnames, Moves};
+ghost use Rattle.nfs_laws.specs.Changes.Changed.{Becomes, IsSetTo, IsRewritten, IsWritten, IsResized};
+ghost use Rattle.nfs_laws.specs.Changes.Changed.{ChangesBytes, Makes, Links, Unnames, Moves};
 
 /// SETATTR keeps what isn't given, and CREATE of a name that is there does as SETATTR; WRITE keeps all but
 /// the bytes, mtime and ctime, and of no bytes everything.

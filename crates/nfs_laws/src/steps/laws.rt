@@ -10,8 +10,10 @@ ghost use Rattle.nfs_spec.specs.fs_model.Files.{Files};
 ghost use Rattle.nfs_spec.specs.Sattr.{GivenFields};
 ghost use Rattle.nfs_spec.specs.Effects.{attributes_at, getattr, lookup};
 ghost use Rattle.nfs_spec.specs.nfs_types.Calls.{Page};
-ghost use Rattle.nfs_spec.specs.Procedures.{set_attributes, read_link, read, write, create, make_dir, symlink, link, remove, remove_dir, rename, read_dir};
-ghost use Rattle.nfs_laws.specs.Steps.Granted.{SetOk, WriteOk, CreateOk, MakeDirOk, SymlinkOk, LinkOk, RemoveOk, RemoveDirOk, RenameOk};
+ghost use Rattle.nfs_spec.specs.Procedures.{set_attributes, read_link, read, write, create, make_dir};
+ghost use Rattle.nfs_spec.specs.Procedures.{symlink, link, remove, remove_dir, rename, read_dir};
+ghost use Rattle.nfs_laws.specs.Steps.Granted.{SetOk, WriteOk, CreateOk, MakeDirOk, SymlinkOk, LinkOk};
+ghost use Rattle.nfs_laws.specs.Steps.Granted.{RemoveOk, RemoveDirOk, RenameOk};
 ghost use Rattle.nfs_laws.specs.Steps.Read.{AttributesOk, GetattrOk, LookupOk, ReadLinkOk, ReadOk, ReadDirOk};
 
 /// A procedure that changes files and answers Ok passed each of its checks, and its effect is what is said.

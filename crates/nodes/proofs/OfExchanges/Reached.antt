@@ -1,6 +1,7 @@
 -- What a node shows is accepted by another that it reaches.
 -- Serves: laws.calls_are_accepted, and nodes: deliver.
-use Rattle.std.proofs.Common.{◌≡◌, inl, inr, ℕ, List, Result, Ok, Err, Option, Some, None, refl, sym, ap, subst, ◌∙◌}
+use Rattle.std.proofs.Common.{◌≡◌, inl, inr, ℕ, List, Result, Ok, Err, Option, Some, None, refl, sym, ap}
+use Rattle.std.proofs.Common.{subst, ◌∙◌}
 use Rattle.std.specs.Prelude.{IsSome, IsSomeAnd}
 use Rattle.std.specs.FinMap.{get}
 use Rattle.xdr.specs.Texts.Text.{IsText}
@@ -18,7 +19,8 @@ use Rattle.commitment.specs.Senders.LookUps.{IsAuthenticatorAt, FitsSend, ack_at
 use Rattle.commitment.specs.Receiver.{Finds}
 use Rattle.commitment.specs.Senders.Sender.{IsSender}
 use Rattle.commitment.specs.declared.refusal.Refusal.{Refusal}
-use Rattle.commitment.specs.declared.refusal.Refusal.TheVariants.{Garbage, NotForMe, BadSignature, KeysUsedUp, NoMemory}
+use Rattle.commitment.specs.declared.refusal.Refusal.TheVariants.{Garbage, NotForMe, BadSignature, KeysUsedUp}
+use Rattle.commitment.specs.declared.refusal.Refusal.TheVariants.{NoMemory}
 use Rattle.commitment.proofs.OfSenders.Meanings.{ack_law, authenticator_law, envelope_law}
 use Rattle.nfs_items.specs.Timeval.{Timeval}
 use Rattle.node_logs.specs.Steps.Nodes.{NodeParts, receiver_of, sender_of}

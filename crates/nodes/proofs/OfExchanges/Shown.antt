@@ -1,6 +1,7 @@
 -- What a node shows of an entry of its log: the envelope of a SEND, and the acknowledgement of a RECV.
 -- Serves: Called, Answered.
-use Rattle.std.proofs.Common.{◌≡◌, ℕ, ◌+◌, ◌-◌, true, List, ◌∷◌, ◌++◌, length, get_or, Option, Some, None, refl, sym, ap, ◌∙◌, arith}
+use Rattle.std.proofs.Common.{◌≡◌, ℕ, ◌+◌, ◌-◌, true, List, ◌∷◌, ◌++◌, length, get_or, Option, Some, None}
+use Rattle.std.proofs.Common.{refl, sym, ap, ◌∙◌, arith}
 use Rattle.std.proofs.Math.Seq.{get_or-append_seam}
 use Rattle.sha2.specs.Sha256.{sha256}
 use Rattle.merkle_keys.specs.Signing.{SignatureParts}
@@ -11,7 +12,8 @@ use Rattle.envelopes.specs.declared.envelope.Envelope.{Envelope}
 use Rattle.envelopes.specs.declared.acknowledgement.Ack.{Ack}
 use Rattle.commitment.specs.Signings.Signings.{Signing, is_signed_entry}
 use Rattle.commitment.specs.Senders.Sender.{SenderParts, IsSender, signed_at}
-use Rattle.commitment.specs.Senders.LookUps.{ack_at, ack_from, ack_of, envelope_at, envelope_from, envelope_of}
+use Rattle.commitment.specs.Senders.LookUps.{ack_at, ack_from, ack_of, envelope_at, envelope_from}
+use Rattle.commitment.specs.Senders.LookUps.{envelope_of}
 use Rattle.commitment.proofs.OfSenders.Meanings.{entry_signed, signing_is, unsigned_is}
 
 -- the signing of an entry that is signed

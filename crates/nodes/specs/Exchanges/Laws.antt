@@ -14,7 +14,8 @@ use Rattle.nfs_items.specs.Timeval.{Timeval}
 use Rattle.node_logs.specs.Steps.Nodes.{NodeParts, receiver_of, sender_of}
 use Rattle.node_logs.specs.Hearing.{HearsEnvelope}
 use Rattle.node_logs.specs.declared.outcome.Receipt.{Receipt}
-use Rattle.nodes.specs.Exchanges.Exchanges.{IsAsked, IsCall, IsJoined, IsOwed, IsReplied, IsServed, MayJoin, having_called}
+use Rattle.nodes.specs.Exchanges.Exchanges.{IsAsked, IsCall, IsJoined, IsOwed, IsReplied, IsServed, MayJoin}
+use Rattle.nodes.specs.Exchanges.Exchanges.{having_called}
 
 -- ---- joined
 

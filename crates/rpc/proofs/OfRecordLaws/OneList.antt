@@ -1,6 +1,7 @@
 -- A text is one list of records at most.
 -- Serves: one_list_of_records.
-use Rattle.std.proofs.Common.{◌≡◌, ℕ, ◌<◌, List, [], ◌∷◌, arith, length, refl, sym, ap, ◌∙◌, length-append, subst, true}
+use Rattle.std.proofs.Common.{◌≡◌, ℕ, ◌<◌, List, [], ◌∷◌, arith, length, refl, sym, ap, ◌∙◌, length-append}
+use Rattle.std.proofs.Common.{subst, true}
 use Rattle.rpc.specs.Records.Record.{IsRecord, mark, fragment, fragments}
 use Rattle.rpc.specs.Records.Stream.{AreRecords}
 use Rattle.rpc.proofs.OfRecords.Marks.{length-mark}

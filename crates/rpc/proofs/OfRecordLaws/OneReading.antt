@@ -1,10 +1,12 @@
 -- Of some bytes one reading holds at most. Each reading is told by where the fragments that aren't the last stop
 -- (`Stop`), and this is told by the bytes (`same_cut`).
 -- Serves: one_reading.
-use Rattle.std.proofs.Common.{◌≡◌, ℕ, ◌+◌, ◌<◌, ◌≤◌, ◌⊎◌, List, [], ◌∷◌, ◌++◌, arith, length, sym, ap, ◌∙◌, refl, inl, inr, length-append, append_assoc, Bool, true, false}
+use Rattle.std.proofs.Common.{◌≡◌, ℕ, ◌+◌, ◌<◌, ◌≤◌, ◌⊎◌, List, [], ◌∷◌, ◌++◌, arith, length, sym, ap, ◌∙◌}
+use Rattle.std.proofs.Common.{refl, inl, inr, length-append, append_assoc, Bool, true, false}
 use Rattle.std.specs.List.{concat}
 use Rattle.std.proofs.lemmas.List.Concat.{flat_map-cons}
-use Rattle.rpc.specs.Records.Record.{mark, fragment, fragments, AreWithin, IsRecord, IsUnfinished, PassesLimit, Front, nothing, a_record, unfinished, too_long, BeginsWith}
+use Rattle.rpc.specs.Records.Record.{mark, fragment, fragments, AreWithin, IsRecord, IsUnfinished}
+use Rattle.rpc.specs.Records.Record.{PassesLimit, Front, nothing, a_record, unfinished, too_long, BeginsWith}
 use Rattle.rpc.proofs.OfRecords.Marks.{length-mark}
 use Rattle.rpc.proofs.OfRecords.Marks.{one_mark}
 use Rattle.rpc.proofs.OfRecordLaws.OneRecord.{one_split, one_fragment}

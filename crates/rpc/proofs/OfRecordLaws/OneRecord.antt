@@ -1,6 +1,7 @@
 -- A text is one record at most: the marks and the fragments of two readings agree from the front on.
 -- Serves: one_list_of_records by way of OneList; one_reading, which compares fragments with what stops them.
-use Rattle.std.proofs.Common.{◌≡◌, ℕ, ◌+◌, ◌<◌, List, [], ◌∷◌, ◌++◌, arith, length, take, drop, sym, ap, ◌∙◌, refl, length-append, append_assoc, take_at, drop_at, Bool, true, false, cond}
+use Rattle.std.proofs.Common.{◌≡◌, ℕ, ◌+◌, ◌<◌, List, [], ◌∷◌, ◌++◌, arith, length, take, drop, sym, ap, ◌∙◌}
+use Rattle.std.proofs.Common.{refl, length-append, append_assoc, take_at, drop_at, Bool, true, false, cond}
 use Rattle.std.specs.List.{concat, AllByRecursion}
 use Rattle.std.proofs.lemmas.List.Concat.{flat_map-cons}
 use Rattle.xdr.specs.Item.{word, number_spelling}

@@ -1,6 +1,8 @@
 -- Of any bytes one reading holds: by induction on what is left after the fragments so far.
 -- Serves: some_reading.
-use Rattle.std.proofs.Common.{◌≡◌, ℕ, zero, suc, ◌+◌, ◌-◌, ◌^◌, ◌<◌, ◌≤◌, ◌⊎◌, List, [], ◌∷◌, ◌++◌, arith, length, take, drop, sym, ap, ◌∙◌, refl, inl, inr, length-append, append_assoc, take-append-drop, Bool, true, false}
+use Rattle.std.proofs.Common.{◌≡◌, ℕ, zero, suc, ◌+◌, ◌-◌, ◌^◌, ◌<◌, ◌≤◌, ◌⊎◌, List, [], ◌∷◌, ◌++◌, arith}
+use Rattle.std.proofs.Common.{length, take, drop, sym, ap, ◌∙◌, refl, inl, inr, length-append, append_assoc}
+use Rattle.std.proofs.Common.{take-append-drop, Bool, true, false}
 use Rattle.std.specs.List.{concat}
 use Rattle.std.proofs.lemmas.Bool.{cases_lt}
 use Rattle.std.proofs.lemmas.List.{append-nil, length-take, length-drop}
@@ -10,7 +12,8 @@ use Rattle.byteorder.specs.Endian.{big_number}
 use Rattle.byteorder.specs.Numbers.{big_from-lt}
 use Rattle.xdr.specs.Item.{IsBytes}
 use Rattle.xdr.proofs.Front.{IsBytes-take, IsBytes-drop}
-use Rattle.rpc.specs.Records.Record.{mark, fragment, fragments, AreWithin, Front, nothing, a_record, unfinished, too_long, BeginsWith}
+use Rattle.rpc.specs.Records.Record.{mark, fragment, fragments, AreWithin, Front, nothing, a_record}
+use Rattle.rpc.specs.Records.Record.{unfinished, too_long, BeginsWith}
 use Rattle.rpc.proofs.OfRecords.Marks.{mark_is}
 use Rattle.rpc.specs.declared.records.record.TheConstants.{MAX_RECORD, MAX_FRAGMENTS}
 

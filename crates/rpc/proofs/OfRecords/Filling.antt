@@ -1,6 +1,8 @@
 -- Filling a buffer from its front.
 -- Serves: fill (its loop), read_piece, write_front (its loop).
-use Rattle.std.proofs.Common.{◌≡◌, ℕ, ◌+◌, ◌-◌, ◌≤◌, List, [], ◌++◌, arith, length, take, drop, ap, ◌∙◌, le_refl, take_at, drop_at, length-take-le, length-append, length-drop, replicate, refl}
+use Rattle.std.proofs.Common.{◌≡◌, ℕ, ◌+◌, ◌-◌, ◌≤◌, List, [], ◌++◌, arith, length, take, drop, ap, ◌∙◌}
+use Rattle.std.proofs.Common.{le_refl, take_at, drop_at, length-take-le, length-append, length-drop}
+use Rattle.std.proofs.Common.{replicate, refl}
 use Rattle.std.proofs.lemmas.List.{append-nil, drop_all, take_all}
 use Rattle.std.proofs.lemmas.Slice.{take-put_mid_below}
 use borrow.Rule.Slice.PartMut.{put_mid, post_of}

@@ -1,18 +1,21 @@
 -- The fragments of a record, as read_record's loop takes them: its invariant `Progress`, that it holds at first
 -- (`begins`) and goes on, and what follows where the loop ends.
 -- Serves: read_record (each of its answers names the lemma of its case).
-use Rattle.std.proofs.Common.{◌≡◌, ℕ, ◌+◌, ◌<◌, ◌≤◌, List, [], ◌∷◌, ◌++◌, arith, length, sym, ap, ◌∙◌, refl, length-append, append_assoc, Bool, true, false, inl, inr, ◌⊎◌}
+use Rattle.std.proofs.Common.{◌≡◌, ℕ, ◌+◌, ◌<◌, ◌≤◌, List, [], ◌∷◌, ◌++◌, arith, length, sym, ap, ◌∙◌, refl}
+use Rattle.std.proofs.Common.{length-append, append_assoc, Bool, true, false, inl, inr, ◌⊎◌}
 use Rattle.std.specs.Prelude.{Option, Some, None, IfSome}
 use Rattle.std.specs.List.{concat}
 use Rattle.std.specs.Io.KnownBytes.{Consumes}
 use Rattle.std.proofs.KnownBytes.{Consumes-trans, Consumes-nil}
-use Rattle.rpc.specs.Records.Record.{mark, fragment, fragments, AreWithin, HasRoom, Passes, IsUnfinished, PassesLimit}
+use Rattle.rpc.specs.Records.Record.{mark, fragment, fragments, AreWithin, HasRoom, Passes, IsUnfinished}
+use Rattle.rpc.specs.Records.Record.{PassesLimit}
 use Rattle.std.proofs.lemmas.List.{append-nil}
 use Rattle.std.proofs.lemmas.List.Concat.{flat_map-cons, flat_map-append}
 use Rattle.std.proofs.lemmas.List.Folds.{concat-append}
 use Rattle.rpc.specs.declared.records.fault.RecordFault.{RecordFault}
 use Rattle.rpc.specs.declared.records.fault.RecordFault.TheVariants as faults
-use Rattle.rpc.specs.Records.Reading.{Grows, IsShorter, IsCutMark, Never, Fails, TakesRecord, TakesToLimit, StopsAt, EndsAt, IsPartOfRecord}
+use Rattle.rpc.specs.Records.Reading.{Grows, IsShorter, IsCutMark, Never, Fails, TakesRecord, TakesToLimit}
+use Rattle.rpc.specs.Records.Reading.{StopsAt, EndsAt, IsPartOfRecord}
 use Rattle.rpc.proofs.OfRecords.Marks.{length-mark}
 use Rattle.rpc.specs.declared.records.record.TheConstants.{MAX_RECORD, MAX_FRAGMENTS}
 

@@ -1,6 +1,8 @@
 -- A record in front of some bytes, or none.
 -- Serves: record_in_front.
-use Rattle.std.proofs.Common.{◌≡◌, ℕ, ◌+◌, ◌<◌, ◌≤◌, List, ◌++◌, arith, length, take, drop, sym, ap, ◌∙◌, length-append, append_assoc, take-append-drop, length-take-le, Bool, true, false, inl, inr, ◌⊎◌}
+use Rattle.std.proofs.Common.{◌≡◌, ℕ, ◌+◌, ◌<◌, ◌≤◌, List, ◌++◌, arith, length, take, drop, sym, ap, ◌∙◌}
+use Rattle.std.proofs.Common.{length-append, append_assoc, take-append-drop, length-take-le, Bool, true}
+use Rattle.std.proofs.Common.{false, inl, inr, ◌⊎◌}
 use Rattle.rpc.specs.Records.Record.{mark, fragment}
 use Rattle.rpc.specs.Records.Ahead.{IsInFront, HasNoneInFront}
 use Rattle.rpc.specs.declared.records.record.TheConstants.{MAX_RECORD}

@@ -1,6 +1,7 @@
 -- A mark, as the number that it spells.
 -- Serves: mark_of; record_in_front; read_record by way of Fragments; the laws of record_laws.
-use Rattle.std.proofs.Common.{◌≡◌, ℕ, ◌+◌, ◌<◌, List, length, get_or, sym, ap, ◌∙◌, refl, Bool, true, false, cond, ◌++◌, arith}
+use Rattle.std.proofs.Common.{◌≡◌, ℕ, ◌+◌, ◌<◌, List, length, get_or, sym, ap, ◌∙◌, refl, Bool, true, false}
+use Rattle.std.proofs.Common.{cond, ◌++◌, arith}
 use Rattle.byteorder.specs.Endian.{big_bytes, big_number}
 use Rattle.xdr.specs.Item.{word, number_spelling}
 use Rattle.xdr.proofs.Exact.{one_meaning}

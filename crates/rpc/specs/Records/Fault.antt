@@ -1,7 +1,8 @@
 -- The faults of a stream of records, by number.
 use Rattle.std.specs.Prelude.{ℕ, Option, Some, None}
 use Rattle.rpc.specs.declared.records.fault.RecordFault.{RecordFault}
-use Rattle.rpc.specs.declared.records.fault.RecordFault.TheVariants.{NoMemory, RecordTooLong, Device, EndInRecord}
+use Rattle.rpc.specs.declared.records.fault.RecordFault.TheVariants.{NoMemory, RecordTooLong, Device}
+use Rattle.rpc.specs.declared.records.fault.RecordFault.TheVariants.{EndInRecord}
 
 -- the number of a fault of the stream; being out of memory has none
 abbrev pub fault_number : RecordFault → Option ℕ

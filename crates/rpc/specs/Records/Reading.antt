@@ -1,5 +1,6 @@
 -- What the steps of reading a record do.
-use Rattle.std.specs.Prelude.{◌≡◌, ◌<◌, ◌++◌, ◌^◌, ◌⊎◌, ℕ, List, [], length, Bool, true, false, Result, Ok, Err, Option, Some, None, IfSome}
+use Rattle.std.specs.Prelude.{◌≡◌, ◌<◌, ◌++◌, ◌^◌, ◌⊎◌, ℕ, List, [], length, Bool, true, false, Result, Ok}
+use Rattle.std.specs.Prelude.{Err, Option, Some, None, IfSome}
 use Rattle.std.specs.Io.KnownBytes.{Consumes, Keeps, IsAtEnd}
 use Rattle.rpc.specs.declared.records.record.Mark.{Mark}
 use Rattle.rpc.specs.declared.records.fault.RecordFault.{RecordFault}
@@ -47,9 +48,9 @@ TakesRecord None old new = StaysAtEnd old new
 TakesRecord (Some record_bytes) old new = (text : List ℕ) × IsRecord text record_bytes × Consumes old new text
 
 -- The same of a call that says whether there was one.
-abbrev pub Takes : Bool → List ℕ → Option (List ℕ) → Option (List ℕ) → Type 0
-Takes true bytes old new = TakesRecord (Some bytes) old new
-Takes false bytes old new = TakesRecord None old new
+abbrev pub TakesRecordIf : Bool → List ℕ → Option (List ℕ) → Option (List ℕ) → Type 0
+TakesRecordIf true bytes old new = TakesRecord (Some bytes) old new
+TakesRecordIf false bytes old new = TakesRecord None old new
 
 -- no bytes are such
 abbrev pub Never : List ℕ → Type 0

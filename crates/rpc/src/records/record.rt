@@ -1,12 +1,15 @@
 //! Reads records from a stream (RFC 5531, section 11).
 
-ghost use Rattle.std.specs.Prelude.{◌≡◌, ◌<◌, ◌≤◌, ◌+◌, ◌^◌, ◌⊎◌, [], true, false, length, take, IfOk, IfErr, IfSome, OnOk, OnErr, IsErrOf, vec_len, vec_capacity};
+ghost use Rattle.std.specs.Prelude.{◌≡◌, ◌<◌, ◌≤◌, ◌+◌, ◌^◌, ◌⊎◌, [], true, false, length, take, IfOk, IfErr};
+ghost use Rattle.std.specs.Prelude.{IfSome, OnOk, OnErr, IsErrOf, vec_len, vec_capacity};
 ghost use Rattle.std.specs.Option.{option_map};
 ghost use Rattle.std.specs.Io.{StartsWith};
 ghost use Rattle.std.specs.Io.KnownBytes.{Consumes, IsAtEnd};
 ghost use Rattle.rpc.specs.Records.Count.{Rises};
 ghost use Rattle.rpc.specs.Records.Record.{mark, IsUnfinished, PassesLimit};
-ghost use Rattle.rpc.specs.Records.Reading.{BeginsWithMark, Grows, Fails, FailsUnless, StopsAt, EndsAt, TakesPart, IsCutMark, Never, IsShorter, Takes, TakesRecord, fault_after};
+ghost use Rattle.rpc.specs.Records.Reading.{BeginsWithMark, Grows, Fails, FailsUnless, StopsAt, EndsAt};
+ghost use Rattle.rpc.specs.Records.Reading.{TakesPart, IsCutMark, Never, IsShorter, TakesRecord};
+ghost use Rattle.rpc.specs.Records.Reading.{TakesRecordIf, fault_after};
 
 use crate::records::ahead::Ahead;
 use crate::records::counting::Counting;
@@ -135,7 +138,7 @@ fn passes_limit(count: u32, joined: &[u8], len: u32) -> bool
 fn read_record<R: Read>(reader: &mut Counting<R>, joined: &mut Vec<u8>) -> Result<bool, RecordFault>
     requires empty { joined.old.items ≡ [] }
     requires room { MAX_RECORD ≤ vec_capacity joined.old }
-    ensures found { IfOk result (λ some. Takes some joined.new.items
+    ensures found { IfOk result (λ some. TakesRecordIf some joined.new.items
         (R.remaining reader.old.inner) (R.remaining reader.new.inner)) }
     ensures kept { OnOk result (reader.new.count ≡ reader.old.count) }
     ensures fault { IfErr result (λ e.
@@ -254,7 +257,7 @@ impl<R: Read + Drop> RecordReader<R> {
     /// It takes no memory and never answers `NoMemory`; else as `next`.
     pub fn next_into(&mut self, record: &mut Vec<u8>) -> Result<bool, RecordFault>
         requires room { MAX_RECORD ≤ vec_capacity record.old }
-        ensures found { IfOk result (λ some. Takes some record.new.items
+        ensures found { IfOk result (λ some. TakesRecordIf some record.new.items
             (R.remaining self.old.reader.inner) (R.remaining self.new.reader.inner)) }
         ensures kept { OnOk result (self.new.reader.count ≡ self.old.reader.count) }
         ensures fault { IfErr result (λ e. self.old.fault ≡ None →

@@ -1,6 +1,7 @@
 //! The messages that a node sent and that have no acknowledgement yet.
 
-ghost use Rattle.std.specs.Prelude.{◌≡◌, ◌<◌, ◌≤◌, OnOk, OnErr, IfOk, MatchOption, MatchBool, None, length, map};
+ghost use Rattle.std.specs.Prelude.{◌≡◌, ◌<◌, ◌≤◌, OnOk, OnErr, IfOk, MatchOption, MatchBool, None, length};
+ghost use Rattle.std.specs.Prelude.{map};
 ghost use Rattle.std.specs.FinMap.{get, insert, remove, empty, entries, len};
 ghost use Rattle.std.specs.List.{flat_map, AllByRecursion};
 ghost use Rattle.std.specs.List.Sorted.{IsStrictlySortedBy};

@@ -3,14 +3,14 @@
 ghost use Rattle.std.specs.Prelude.{◌≡◌, OnOk};
 ghost use Rattle.xdr.specs.Item.{Fits, spelling};
 ghost use Rattle.xdr.specs.Reading.{GivesUnless};
-ghost use Rattle.xdr.specs.ReadError.{xdr_fault};
+ghost use Rattle.xdr.specs.ReadFault.{xdr_fault};
 ghost use Rattle.xdr.specs.Writing.{Adds};
 ghost use Rattle.state_spec.specs.StateItems.{received_item, received_value, sent_item, sent_value};
 ghost use Rattle.state_machine.specs.States.Bounds.{SentFits};
 
 use crate::states::message::{ReceivedMessage, SentMessage};
 use std::alloc::{AllocError, Global};
-use xdr::{FromXdr, ReadError, Reader, Writer, put_back_on_err};
+use xdr::{FromXdr, ReadFault, Reader, Writer, put_back_on_err};
 
 /// A message that was sent, with its number in the sender's log.
 #[derive(Clone, Copy, Debug, PartialEq, Eq)]
@@ -34,7 +34,7 @@ impl<'a> FromXdr<'a> for ReceivedMessage {
 
     ghost value = { received_value };
 
-    fn read(_alloc: Global, reader: &mut Reader<'a>) -> Result<ReceivedMessage, ReadError> {
+    fn read(_alloc: Global, reader: &mut Reader<'a>) -> Result<ReceivedMessage, ReadFault> {
         let start = reader.rest();
         let read = read_received(reader);
         put_back_on_err(reader, start, read)
@@ -46,14 +46,14 @@ impl<'a> FromXdr<'a> for NumberedSend {
 
     ghost value = { λ s. sent_value (s.seq, s.message) };
 
-    fn read(_alloc: Global, reader: &mut Reader<'a>) -> Result<NumberedSend, ReadError> {
+    fn read(_alloc: Global, reader: &mut Reader<'a>) -> Result<NumberedSend, ReadFault> {
         let start = reader.rest();
         let read = read_sent(reader);
         put_back_on_err(reader, start, read)
     }
 }
 
-fn read_received(reader: &mut Reader<'_>) -> Result<ReceivedMessage, ReadError>
+fn read_received(reader: &mut Reader<'_>) -> Result<ReceivedMessage, ReadFault>
     ensures { GivesUnless xdr_fault received_item received_value reader.old result reader.new }
 {
     let from = reader.u32()?;
@@ -62,7 +62,7 @@ fn read_received(reader: &mut Reader<'_>) -> Result<ReceivedMessage, ReadError>
     Ok(ReceivedMessage::new(from, seq, hash))
 }
 
-fn read_sent(reader: &mut Reader<'_>) -> Result<NumberedSend, ReadError>
+fn read_sent(reader: &mut Reader<'_>) -> Result<NumberedSend, ReadFault>
     ensures { GivesUnless xdr_fault sent_item (λ s. sent_value (s.seq, s.message))
         reader.old result reader.new }
 {

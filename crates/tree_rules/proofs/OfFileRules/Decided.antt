@@ -16,7 +16,8 @@ use Rattle.nfs_laws.proofs.fs_model.OfChanges.Shapes.{kind, is_some-kind}
 use Rattle.nfs_laws.proofs.fs_model.OfEditedTrees.Building.{built}
 use Rattle.tree_rules.specs.FileRules.Rules.{files_listed, IsAt, AreRising, AreNames, AreFiles, numbers_of}
 use Rattle.tree_rules.specs.FileRules.Rules.{AreNamesCounted, may_have, StandsIn, AreKnown, HaveNames, LeadUp}
-use Rattle.tree_rules.proofs.OfFileRules.Listed.{names_listed, file_of_place, place_of_file, number_in_range, is_file}
+use Rattle.tree_rules.proofs.OfFileRules.Listed.{names_listed, file_of_place, place_of_file, number_in_range}
+use Rattle.tree_rules.proofs.OfFileRules.Listed.{is_file}
 use Rattle.tree_rules.proofs.OfFileRules.Listed.{are_names}
 use Rattle.tree_rules.proofs.OfFileRules.Places.{number_of_place, name_of_place, place_at}
 use Rattle.tree_rules.proofs.OfFileRules.Ways.{path_up, root_place, not_root, leads}

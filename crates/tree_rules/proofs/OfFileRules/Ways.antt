@@ -6,7 +6,8 @@ use Rattle.std.proofs.Common.{◌∙◌, arith, length-append}
 use Rattle.std.specs.Prelude.{slice_get}
 use Rattle.std.proofs.lemmas.Bool.{cases_lt}
 use Rattle.nfs_laws.specs.fs_model.Paths.{path_at}
-use Rattle.nfs_laws.specs.fs_model.Files.{File, Files, file_at, is_directory, IsDirectory, places, parent_of, names_of}
+use Rattle.nfs_laws.specs.fs_model.Files.{File, Files, file_at, is_directory, IsDirectory, places, parent_of}
+use Rattle.nfs_laws.specs.fs_model.Files.{names_of}
 use Rattle.nfs_laws.specs.fs_model.Trees.{IsFileTree}
 use Rattle.nfs_laws.proofs.fs_model.Walks.{none_some, some_same, one_number, step_last, last_name, last_step}
 use Rattle.nfs_laws.proofs.fs_model.Reached.{distinct_in}
@@ -16,7 +17,8 @@ use Rattle.nfs_laws.proofs.OfTrees.Above.{path_length}
 use Rattle.tree_rules.specs.FileRules.Climbs.{climbed}
 use Rattle.tree_rules.specs.FileRules.Rules.{files_listed, IsAt, AreFiles, AreNamesCounted}
 use Rattle.tree_rules.proofs.OfFileRules.Climbs.{climbed-add, climbed-first}
-use Rattle.tree_rules.proofs.OfFileRules.Listed.{rises, names_listed, count_listed, file_of_place, place_of_file, one_place}
+use Rattle.tree_rules.proofs.OfFileRules.Listed.{rises, names_listed, count_listed, file_of_place}
+use Rattle.tree_rules.proofs.OfFileRules.Listed.{place_of_file, one_place}
 use Rattle.tree_rules.proofs.OfFileRules.Listed.{number_in_range, is_file}
 use Rattle.tree_rules.proofs.OfFileRules.Places.{place_of_name}
 

@@ -4,7 +4,8 @@ ghost use Rattle.std.specs.Prelude.{◌≡◌, ◌<◌, ◌↔◌, ℕ, List, le
 ghost use Rattle.nfs_items.specs.Terms.{FileNumber};
 ghost use Rattle.nfs_laws.specs.fs_model.Files.{File, IsDirectory, names_of, parent_of};
 ghost use Rattle.nfs_laws.specs.fs_model.Trees.{IsFileTree};
-ghost use Rattle.tree_rules.specs.FileRules.Rules.{AreFiles, AreKnown, AreNamesCounted, AreRising, FollowsRules, IsAt};
+ghost use Rattle.tree_rules.specs.FileRules.Rules.{AreFiles, AreKnown, AreNamesCounted, AreRising};
+ghost use Rattle.tree_rules.specs.FileRules.Rules.{FollowsRules, IsAt};
 ghost use Rattle.tree_rules.specs.FileRules.Rules.{files_listed, numbers_of};
 
 /// Files that are well each by itself are a tree exactly where they follow the rules; each name stands for a

@@ -1,8 +1,10 @@
 -- What stands after whole audits of one log.
 -- Serves: sixteen_audits, the_last_number, findings_wait.
 use Rattle.std.proofs.Common.{◌≡◌, ℕ, suc, ◌<◌, ◌≤◌, ◌+◌, ◌-◌, Bool, true, false, cond, not, ◌==◌, ◌&&◌}
-use Rattle.std.proofs.Common.{fold, max, le-leb, nat_lt, nat_le, List, [], ◌∷◌, ◌++◌, length, filter, drop, Some}
-use Rattle.std.proofs.Common.{refl, sym, ap, ap₂, subst, ◌∙◌, arith, lt-ltb, eqb-true, eq-eqb, append-nil, append_assoc}
+use Rattle.std.proofs.Common.{fold, max, le-leb, nat_lt, nat_le, List, [], ◌∷◌, ◌++◌, length, filter, drop}
+use Rattle.std.proofs.Common.{Some}
+use Rattle.std.proofs.Common.{refl, sym, ap, ap₂, subst, ◌∙◌, arith, lt-ltb, eqb-true, eq-eqb, append-nil}
+use Rattle.std.proofs.Common.{append_assoc}
 use Rattle.std.proofs.lemmas.Bool.{and_left, or_from}
 use Rattle.std.proofs.lemmas.Bool.Decides.{nat_tests}
 use Rattle.std.proofs.lemmas.List.Sums.{sum_by-cons}
@@ -18,10 +20,13 @@ use Rattle.witness_spec.specs.Replies.{Reply, Noted, Accepted, Asked, Job, Filed
 use Rattle.witness_spec.specs.Steps.{Learn, Answer, Audit, Begin, File, Forward, Past}
 use Rattle.authenticator.specs.Signing.{is_same}
 use Rattle.witness_spec.specs.Pairs.{Pair, pair_of, same_pair, differ, is_shown, is_fork, has_fork}
-use Rattle.witness_spec.specs.Standing.{End, end_of, moved_by, verdict_on, is_fault, has_fault, pairs_noted, shown}
-use Rattle.witness_spec.specs.Standing.{is_exposed, unless_exposed, noted_before, kept, NoAudit, stage_of, begins}
+use Rattle.witness_spec.specs.Standing.{End, end_of, moved_by, verdict_on, is_fault, has_fault, pairs_noted}
+use Rattle.witness_spec.specs.Standing.{shown}
+use Rattle.witness_spec.specs.Standing.{is_exposed, unless_exposed, noted_before, kept, NoAudit, stage_of}
+use Rattle.witness_spec.specs.Standing.{begins}
 use Rattle.witness_spec.specs.Standing.{job_out, sound_found, all_found, forwards, outbox}
-use Rattle.witness_spec.specs.Owing.{has_no_room, last_in_reach, ask_up_to, ask_reply, audit_reply, forward_reply}
+use Rattle.witness_spec.specs.Owing.{has_no_room, last_in_reach, ask_up_to, ask_reply, audit_reply}
+use Rattle.witness_spec.specs.Owing.{forward_reply}
 use Rattle.witness_spec.specs.Owing.{next_job, back_reply, Owes}
 use Rattle.witness_spec.specs.Histories.{AreOwed}
 use Rattle.witness_examples.specs.Reaching.{Reaches}

@@ -1,6 +1,7 @@
 -- The audit of a client that received two messages of one number.
 -- Serves: forks_are_forwarded.
-use Rattle.std.proofs.Common.{◌≡◌, ℕ, zero, suc, true, false, cond, not, List, [], ◌∷◌, Some, None, Result, Ok, Err}
+use Rattle.std.proofs.Common.{◌≡◌, ℕ, zero, suc, true, false, cond, not, List, [], ◌∷◌, Some, None, Result}
+use Rattle.std.proofs.Common.{Ok, Err}
 use Rattle.std.proofs.Common.{refl, ap, ap₂, ◌∙◌, arith}
 use Rattle.std.proofs.lemmas.Cmp.{on_total, then_total}
 use Rattle.std.specs.Cmp.{IsTotalOrder, nat_cmp_total}
@@ -22,7 +23,8 @@ use Rattle.replay_spec.specs.Placed.{Placed, place}
 use Rattle.replay_spec.specs.Replay.{Verdict, Sound, Fault, behind, verdict_of}
 use Rattle.witness_spec.specs.Standing.{verdict_on}
 use Rattle.witness_examples.specs.Worked.{five}
-use Rattle.witness_examples.specs.Limits.Audits.{its_secret, six, clients, sent_hash, sender, receipt, state_heard}
+use Rattle.witness_examples.specs.Limits.Audits.{its_secret, six, clients, sent_hash, sender, receipt}
+use Rattle.witness_examples.specs.Limits.Audits.{state_heard}
 use Rattle.witness_examples.specs.Limits.Forwarding.{other_sent_hash, other_signature, other_sender, both_job}
 use Rattle.witness_examples.specs.Limits.Forwarding.{state_both, both_audited, one_forwarded, both_forwarded}
 use Rattle.witness_examples.proofs.OfLimits.Audits.{Quiet, goes_on, forwarded}

@@ -1,7 +1,9 @@
 -- What stands after rounds of audits, and after an audit of a message that was received.
 -- Serves: sixteen_audits, the_last_number, findings_wait.
-use Rattle.std.proofs.Common.{◌≡◌, ℕ, zero, suc, ◌<◌, ◌≤◌, ◌+◌, ◌*◌, ◌-◌, true, false, cond, nat_le, List, [], ◌∷◌}
-use Rattle.std.proofs.Common.{replicate, not, None, Some, Result, Ok, Err, refl, sym, ap, ap₂, subst, ◌∙◌, arith, le-leb}
+use Rattle.std.proofs.Common.{◌≡◌, ℕ, zero, suc, ◌<◌, ◌≤◌, ◌+◌, ◌*◌, ◌-◌, true, false, cond, nat_le, List, []}
+use Rattle.std.proofs.Common.{◌∷◌}
+use Rattle.std.proofs.Common.{replicate, not, None, Some, Result, Ok, Err, refl, sym, ap, ap₂, subst, ◌∙◌}
+use Rattle.std.proofs.Common.{arith, le-leb}
 use Rattle.std.proofs.lemmas.Bool.Decides.{nat_tests}
 use Rattle.std.specs.FinMap as finite
 use Rattle.std.specs.Prelude.{is_some}
@@ -17,8 +19,10 @@ use Rattle.replay_spec.specs.Placed.{place, placed}
 use Rattle.replay_spec.specs.Replay.{Sound, Fault, behind, verdict_of}
 use Rattle.witness_spec.specs.Standing.{verdict_on}
 use Rattle.witness_examples.specs.Worked.{five}
-use Rattle.witness_examples.specs.Limits.Audits.{tick, ticks, hash_at, ticked, ticked_job, its_secret, six, clients}
-use Rattle.witness_examples.specs.Limits.Audits.{rounds, sent_hash, sender, receipt, heard_hash, heard_segment}
+use Rattle.witness_examples.specs.Limits.Audits.{tick, ticks, hash_at, ticked, ticked_job, its_secret, six}
+use Rattle.witness_examples.specs.Limits.Audits.{clients}
+use Rattle.witness_examples.specs.Limits.Audits.{rounds, sent_hash, sender, receipt, heard_hash}
+use Rattle.witness_examples.specs.Limits.Audits.{heard_segment}
 use Rattle.witness_examples.specs.Limits.Audits.{heard_job, state_heard, heard}
 use Rattle.witness_examples.proofs.OfLimits.Audits.{OnLog, Quiet, goes_on}
 

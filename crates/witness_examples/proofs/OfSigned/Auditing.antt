@@ -1,6 +1,7 @@
 -- A history of signed values is a history, and meets what the law on honest nodes supposes.
 -- Serves: audits.
-use Rattle.std.proofs.Common.{◌≡◌, ◌⊎◌, inl, inr, ℕ, ◌+◌, ◌<◌, ◌^◌, true, cond, ◌==◌, ◌&&◌, List, [], ◌∷◌, ◌++◌, Ok, Err}
+use Rattle.std.proofs.Common.{◌≡◌, ◌⊎◌, inl, inr, ℕ, ◌+◌, ◌<◌, ◌^◌, true, cond, ◌==◌, ◌&&◌, List, [], ◌∷◌}
+use Rattle.std.proofs.Common.{◌++◌, Ok, Err}
 use Rattle.std.proofs.Common.{length, refl, sym, ap, ap₂, subst, ◌∙◌, arith}
 use Rattle.std.specs.Prelude.{slice_index}
 use Rattle.std.proofs.lemmas.Bool.{and_from}
@@ -34,10 +35,12 @@ use Rattle.witness_spec.specs.Owing.{Owes}
 use Rattle.witness_spec.specs.Histories.{History, OwesTo, IsOwed, own, own_step}
 use Rattle.witness_spec.specs.Premises.{NoCollisionWith, Unforged}
 use Rattle.witness_examples.specs.Signed.Audited.{readings, its_log, read_hash, state_read}
-use Rattle.witness_examples.specs.Signed.Audited.{client, client_key, alone, signed, signed_end, signed_segment}
+use Rattle.witness_examples.specs.Signed.Audited.{client, client_key, alone, signed, signed_end}
+use Rattle.witness_examples.specs.Signed.Audited.{signed_segment}
 use Rattle.witness_examples.specs.Signed.Audited.{signed_closed, learned_event, asked_event, answered_event}
 use Rattle.witness_examples.specs.Signed.Audited.{begun_event, filed_event, audited_events, audited_steps}
-use Rattle.witness_examples.specs.Signed.Audited.{learned_step, answered_step, asked_step, begun_step, filed_step}
+use Rattle.witness_examples.specs.Signed.Audited.{learned_step, answered_step, asked_step, begun_step}
+use Rattle.witness_examples.specs.Signed.Audited.{filed_step}
 use Rattle.witness_examples.specs.Signed.Audited.{signed_job, signed_done}
 use Rattle.witness_examples.proofs.OfSigned.Signing.{leaf_signs, signature_fits}
 

@@ -19,7 +19,8 @@ use Rattle.witness_spec.specs.Owing.{Owes}
 use Rattle.witness_spec.specs.Histories.{History, OwesTo, IsOwed, own, own_step}
 use Rattle.witness_examples.specs.Signed.Audited.{client, client_key, alone}
 use Rattle.witness_examples.specs.Signed.Shown.{ones, twos, one_event, one_step, forked_events, forked_steps}
-use Rattle.witness_examples.specs.Signed.Shown.{both, sender, message, acknowledged, sent_hash, sent_signature}
+use Rattle.witness_examples.specs.Signed.Shown.{both, sender, message, acknowledged, sent_hash}
+use Rattle.witness_examples.specs.Signed.Shown.{sent_signature}
 use Rattle.witness_examples.specs.Signed.Shown.{received_hash, challenged_event, challenged_step}
 use Rattle.witness_examples.specs.Signed.Shown.{acknowledged_events, acknowledged_steps}
 use Rattle.witness_examples.proofs.OfSigned.Signing.{leaf_signs, signature_fits}

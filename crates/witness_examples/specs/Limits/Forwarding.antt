@@ -16,7 +16,8 @@ use Rattle.witness_spec.specs.Events.{JobParts}
 use Rattle.witness_spec.specs.Replies.{Noted, Forwarded}
 use Rattle.witness_spec.specs.Steps.{Learn, Forward, Past}
 use Rattle.witness_examples.specs.Worked.{no_signature, learned}
-use Rattle.witness_examples.specs.Limits.Audits.{audited_with, its_secret, clients, sender, receipt, state_heard}
+use Rattle.witness_examples.specs.Limits.Audits.{audited_with, its_secret, clients, sender, receipt}
+use Rattle.witness_examples.specs.Limits.Audits.{state_heard}
 
 -- the hash of the second message
 abbrev pub other_sent_hash : List ℕ

@@ -7,7 +7,8 @@ ghost use Rattle.witness_spec.specs.Standing.{outbox};
 ghost use Rattle.witness_spec.specs.Steps.{Learn, Forward, Ask};
 ghost use Rattle.witness_examples.specs.Worked.{five};
 ghost use Rattle.witness_examples.specs.Limits.Audits.{six, clients, sent_hash, sender};
-ghost use Rattle.witness_examples.specs.Limits.Forwarding.{other_sent_hash, other_sender, both_audited, one_forwarded};
+ghost use Rattle.witness_examples.specs.Limits.Forwarding.{other_sent_hash, other_sender, both_audited};
+ghost use Rattle.witness_examples.specs.Limits.Forwarding.{one_forwarded};
 ghost use Rattle.witness_examples.specs.Limits.Forwarding.{both_forwarded, one_arrived, both_arrived};
 ghost use Rattle.witness_examples.specs.Reaching.{Reaches};
 

@@ -18,8 +18,10 @@ ghost use Rattle.witness_spec.specs.Standing.{Wanted, stage_of};
 ghost use Rattle.witness_spec.specs.Histories.{IsHistory, own};
 ghost use Rattle.witness_spec.specs.Premises.{NoCollisionWith, Unforged};
 ghost use Rattle.witness_examples.specs.Signed.Audited.{readings, state_read};
-ghost use Rattle.witness_examples.specs.Signed.Audited.{alone, client, signed_end, signed_closed, signed_job, signed_done};
-ghost use Rattle.witness_examples.specs.Signed.Audited.{learned_step, asked_step, answered_step, begun_step, filed_step};
+ghost use Rattle.witness_examples.specs.Signed.Audited.{alone, client, signed_end, signed_closed, signed_job};
+ghost use Rattle.witness_examples.specs.Signed.Audited.{signed_done};
+ghost use Rattle.witness_examples.specs.Signed.Audited.{learned_step, asked_step, answered_step, begun_step};
+ghost use Rattle.witness_examples.specs.Signed.Audited.{filed_step};
 ghost use Rattle.witness_examples.specs.Signed.Audited.{audited_events, audited_steps, asked_event, its_log};
 
 /// Whatever its secret, a client is learned of, audited, answers, and its log is filed sound; then it is

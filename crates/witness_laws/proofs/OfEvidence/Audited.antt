@@ -31,7 +31,8 @@ use Rattle.witness_spec.specs.Replies.{Reply}
 use Rattle.witness_spec.specs.Steps.{Step, Past}
 use Rattle.witness_spec.specs.Pairs.{Pair}
 use Rattle.witness_spec.specs.Done.{noted, accepted, filed}
-use Rattle.witness_spec.specs.Standing.{End, end_of, end_after, moved_by, verdict_on, sound_entries, entries_filed}
+use Rattle.witness_spec.specs.Standing.{End, end_of, end_after, moved_by, verdict_on, sound_entries}
+use Rattle.witness_spec.specs.Standing.{entries_filed}
 use Rattle.witness_spec.specs.Standing.{audited, pairs_noted, pairs_accepted, shown, is_exposed}
 use Rattle.witness_spec.specs.Exposing.{audited_with}
 use Rattle.witness_laws.proofs.OfEvidence.Audits.{IsGoodSegment, IsNext}

@@ -13,11 +13,13 @@ use Rattle.witness_spec.specs.Replies.{Reply}
 use Rattle.witness_spec.specs.Steps.{Step, Past}
 use Rattle.witness_spec.specs.evidence_spec.Evidence.{MAX_AUDITED}
 use Rattle.witness_spec.specs.Done.{accepted, filed}
-use Rattle.witness_spec.specs.Standing.{End, end_of, end_after, moved_by, verdict_on, Stage, NoAudit, Wanted, Given}
+use Rattle.witness_spec.specs.Standing.{End, end_of, end_after, moved_by, verdict_on, Stage, NoAudit, Wanted}
+use Rattle.witness_spec.specs.Standing.{Given}
 use Rattle.witness_spec.specs.Standing.{Out, stage_after, stage_of, segment_of, all_accepted}
 use Rattle.witness_spec.specs.Histories.{AreOwed}
 use Rattle.witness_laws.proofs.Checked.{IsGiven, IsCheckedStep, AreChecked}
-use Rattle.witness_laws.proofs.Doing.{Did, Doing, Nothing, Notes, Accepts, Asks, Begins, Files, PutsBack, doing}
+use Rattle.witness_laws.proofs.Doing.{Did, Doing, Nothing, Notes, Accepts, Asks, Begins, Files, PutsBack}
+use Rattle.witness_laws.proofs.Doing.{doing}
 
 -- ---- what holds
 

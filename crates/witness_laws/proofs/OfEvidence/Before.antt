@@ -2,7 +2,8 @@
 -- is kept, or of an accepted segment.
 -- Serves: evidence_where_exposed, evidence_proves.
 use Rattle.std.proofs.Common.{◌≡◌, ◌⊎◌, inl, inr, ℕ, ◌+◌, ◌-◌, ◌<◌, ◌≤◌, Bool, true, false, cond, ◌==◌}
-use Rattle.std.proofs.Common.{nat_lt, nat_le, List, [], ◌∷◌, ◌++◌, filter, length, Option, Some, None, refl, sym, ap}
+use Rattle.std.proofs.Common.{nat_lt, nat_le, List, [], ◌∷◌, ◌++◌, filter, length, Option, Some, None, refl}
+use Rattle.std.proofs.Common.{sym, ap}
 use Rattle.std.proofs.Common.{subst, ◌∙◌, arith, eqb-true, eq-eqb, length-append, map}
 use Rattle.std.specs.Prelude.{find, ◌&&◌}
 use Rattle.std.proofs.lemmas.Bool.{and_parts, and_from, true≢false, ltb-true, ltb-false, leb-true, le-leb}
@@ -22,7 +23,8 @@ use Rattle.witness_spec.specs.Replies.{Reply}
 use Rattle.witness_spec.specs.Steps.{Step, Learn, Past}
 use Rattle.witness_spec.specs.Pairs.{Pair, pair_of, first_pair}
 use Rattle.witness_spec.specs.Done.{noted, accepted}
-use Rattle.witness_spec.specs.Standing.{end_of, pairs_noted, pairs_accepted, shown, is_exposed, unless_exposed}
+use Rattle.witness_spec.specs.Standing.{end_of, pairs_noted, pairs_accepted, shown, is_exposed}
+use Rattle.witness_spec.specs.Standing.{unless_exposed}
 use Rattle.witness_spec.specs.Standing.{noted_before, kept, segment_of, all_accepted}
 use Rattle.witness_spec.specs.Exposing.{segment_holding, or_segment, showing_before}
 use Rattle.witness_spec.specs.Histories.{AreOwed}

@@ -1,6 +1,7 @@
 -- A step that exposes a node brings a charge that is accepted, and has a text; another brings none.
 -- Serves: evidence_where_exposed, evidence_proves.
-use Rattle.std.proofs.Common.{◌≡◌, ◌≢◌, ◌⊎◌, inl, inr, ℕ, ◌+◌, ◌-◌, ◌^◌, ◌<◌, ◌≤◌, Bool, true, false, cond, ◌||◌, ◌==◌}
+use Rattle.std.proofs.Common.{◌≡◌, ◌≢◌, ◌⊎◌, inl, inr, ℕ, ◌+◌, ◌-◌, ◌^◌, ◌<◌, ◌≤◌, Bool, true, false, cond}
+use Rattle.std.proofs.Common.{◌||◌, ◌==◌}
 use Rattle.std.proofs.Common.{List, [], ◌∷◌, ◌++◌, length, Option, Some, None, refl, sym, ap, ap₂, subst, ◌∙◌}
 use Rattle.std.proofs.Common.{arith, eqb-true, length-append, not, zero, suc}
 use Rattle.std.specs.Prelude.{option_map, option_and_then}
@@ -15,25 +16,33 @@ use Rattle.authenticator.specs.Signing.{is_same}
 use Rattle.witness_spec.specs.replay_spec.Replay.{Verdict, Sound, Fault}
 use Rattle.witness_spec.specs.replay_spec.Stepping.{ReplayFault}
 use Rattle.authenticator.proofs.Signed.{is_false, list_same}
-use Rattle.witness_spec.specs.evidence_spec.Showing.{ShowingParts, IsAmong, authenticator_showing, segment_showing}
-use Rattle.witness_spec.specs.evidence_spec.Evidence.{Charge, Fork, Replay, AcceptsCharge, is_charge, charge_item, charge_value}
-use Rattle.witness_spec.proofs.evidence_spec.Places.{AreNumbered, entries_numbered, length-links, behind, one_hash}
+use Rattle.witness_spec.specs.evidence_spec.Showing.{ShowingParts, IsAmong, authenticator_showing}
+use Rattle.witness_spec.specs.evidence_spec.Showing.{segment_showing}
+use Rattle.witness_spec.specs.evidence_spec.Evidence.{Charge, Fork, Replay, AcceptsCharge, is_charge}
+use Rattle.witness_spec.specs.evidence_spec.Evidence.{charge_item, charge_value}
+use Rattle.witness_spec.proofs.evidence_spec.Places.{AreNumbered, entries_numbered, length-links, behind}
+use Rattle.witness_spec.proofs.evidence_spec.Places.{one_hash}
 use Rattle.witness_spec.specs.Events.{JobParts}
 use Rattle.witness_spec.specs.Replies.{Reply}
 use Rattle.witness_spec.specs.Steps.{Step, Past}
 use Rattle.witness_spec.specs.Pairs.{Pair, pair_of, first_pair, differ, is_fork, has_fork, first_fork}
 use Rattle.witness_spec.specs.Done.{noted, accepted, filed}
-use Rattle.witness_spec.specs.Standing.{end_of, verdict_on, finds_fault, has_fault, pairs_noted, pairs_accepted, shown}
-use Rattle.witness_spec.specs.Standing.{is_exposed, is_fault, kept, all_accepted, Stage, NoAudit, Wanted, Given, Out}
+use Rattle.witness_spec.specs.Standing.{end_of, verdict_on, finds_fault, has_fault, pairs_noted}
+use Rattle.witness_spec.specs.Standing.{pairs_accepted, shown}
+use Rattle.witness_spec.specs.Standing.{is_exposed, is_fault, kept, all_accepted, Stage, NoAudit, Wanted}
+use Rattle.witness_spec.specs.Standing.{Given, Out}
 use Rattle.witness_spec.specs.Standing.{stage_of}
-use Rattle.witness_spec.specs.Exposing.{showing_before, fork_of, new_fork, audited_with, replay_of, charge_of, new_charge}
+use Rattle.witness_spec.specs.Exposing.{showing_before, fork_of, new_fork, audited_with, replay_of, charge_of}
+use Rattle.witness_spec.specs.Exposing.{new_charge}
 use Rattle.witness_spec.specs.Histories.{AreOwed}
 use Rattle.witness_spec.specs.Laws.{HasTwoHashes, HasFaultyFile}
-use Rattle.witness_laws.proofs.Exposing.{fork_at, of_file, exposed_is, is_exposed_told, exposed_why, why_exposed}
+use Rattle.witness_laws.proofs.Exposing.{fork_at, of_file, exposed_is, is_exposed_told, exposed_why}
+use Rattle.witness_laws.proofs.Exposing.{why_exposed}
 use Rattle.witness_laws.proofs.Doing.{Did, Doing, Nothing, Notes, Accepts, Asks, Begins, Files, PutsBack}
 use Rattle.witness_laws.proofs.Checked.{IsLearned, IsCheckedStep, AreChecked}
 use Rattle.witness_laws.proofs.OfEvidence.Audits.{IsGoodSegment, good_given, Stand}
-use Rattle.witness_laws.proofs.OfEvidence.Before.{split, on_left, on_right, one_shown, IsGoodShowing, good_authenticator}
+use Rattle.witness_laws.proofs.OfEvidence.Before.{split, on_left, on_right, one_shown, IsGoodShowing}
+use Rattle.witness_laws.proofs.OfEvidence.Before.{good_authenticator}
 use Rattle.witness_laws.proofs.OfEvidence.Before.{first_some, good_segment, shown_before}
 
 -- ---- forks between new pairs and old

@@ -16,7 +16,8 @@ use Rattle.witness_spec.specs.Replies.{Reply, Exposed}
 use Rattle.witness_spec.specs.Steps.{Step, Past}
 use Rattle.witness_spec.specs.Pairs.{has_fork}
 use Rattle.witness_spec.specs.Done.{filed}
-use Rattle.witness_spec.specs.Standing.{end_of, verdict_on, is_fault, finds_fault, has_fault, shown, is_exposed}
+use Rattle.witness_spec.specs.Standing.{end_of, verdict_on, is_fault, finds_fault, has_fault, shown}
+use Rattle.witness_spec.specs.Standing.{is_exposed}
 use Rattle.witness_spec.specs.Standing.{entries_filed, indication, stage_of, Out}
 use Rattle.witness_spec.specs.Exposing.{new_charge, evidence}
 use Rattle.witness_spec.specs.Histories.{AreOwed}
@@ -26,7 +27,8 @@ use Rattle.witness_laws.proofs.Doing.{Doing, Nothing, Notes, Accepts, Asks, Begi
 use Rattle.witness_laws.proofs.Checked.{AreChecked}
 use Rattle.witness_laws.proofs.OfEvidence.Audits.{IsGoodSegment, IsAt, IsNext, Stand, stands, end_stays}
 use Rattle.witness_laws.proofs.OfEvidence.Charges.{IsGoodCharge, Charging, Uncharged, Charged, charging}
-use Rattle.witness_laws.proofs.OfEvidence.Audited.{IsAudited, none_audited, audited_stays, audited_on, replay_charge}
+use Rattle.witness_laws.proofs.OfEvidence.Audited.{IsAudited, none_audited, audited_stays, audited_on}
+use Rattle.witness_laws.proofs.OfEvidence.Audited.{replay_charge}
 
 -- what own steps tell: no evidence, or a charge
 pub data Told (ms : List Member) (m : Member) (past : Past) : Type 0 where

@@ -9,7 +9,8 @@ use Rattle.std.proofs.lemmas.Bool.{and_parts, or_from, ltb-true}
 use Rattle.xdr.specs.Item.{Fits}
 use Rattle.authenticator.specs.declared.authenticator.Authenticator.{Authenticator}
 use Rattle.authenticator.specs.declared.member.Member.{Member}
-use Rattle.secure_log.specs.LogEntries.Chain.{Link, hash_after, link_of, links_from, last_hash, pairs, zeros, NoCollision}
+use Rattle.secure_log.specs.LogEntries.Chain.{Link, hash_after, link_of, links_from, last_hash, pairs, zeros}
+use Rattle.secure_log.specs.LogEntries.Chain.{NoCollision}
 use Rattle.secure_log.specs.declared.log_entries.entry.Entry.{Entry}
 use Rattle.secure_log.proofs.OfLogEntries.Pairs.{last_hash-parts}
 use Rattle.secure_log.specs.Log.{log_hash, log_pairs}
@@ -32,12 +33,14 @@ use Rattle.witness_spec.specs.Steps.{Step, Past}
 use Rattle.witness_spec.specs.Pairs.{Pair, pair_of, has_fork}
 use Rattle.witness_spec.specs.Done.{noted, accepted}
 use Rattle.witness_spec.specs.Standing.{End, end_of, end_after, moved_by, is_fault, finds_fault, has_fault}
-use Rattle.witness_spec.specs.Standing.{pairs_noted, pairs_accepted, shown, is_exposed, Stage, NoAudit, Wanted, Given}
+use Rattle.witness_spec.specs.Standing.{pairs_noted, pairs_accepted, shown, is_exposed, Stage, NoAudit}
+use Rattle.witness_spec.specs.Standing.{Wanted, Given}
 use Rattle.witness_spec.specs.Standing.{Out, stage_of}
 use Rattle.witness_spec.specs.Histories.{AreOwed}
 use Rattle.witness_spec.specs.Premises.{authenticators_in, texts_in}
 use Rattle.witness_laws.proofs.Checked.{IsLearned, IsGiven, IsCheckedStep, AreChecked}
-use Rattle.witness_laws.proofs.Doing.{Did, Doing, Nothing, Notes, Accepts, Asks, Begins, Files, PutsBack, doing}
+use Rattle.witness_laws.proofs.Doing.{Did, Doing, Nothing, Notes, Accepts, Asks, Begins, Files, PutsBack}
+use Rattle.witness_laws.proofs.Doing.{doing}
 use Rattle.witness_laws.proofs.OfTrust.Pairs.{no_fork, among_parts}
 use Rattle.witness_laws.proofs.OfTrust.Parts.{split, same_parts}
 

@@ -1,5 +1,6 @@
 -- Whole texts: an item, a test on its value, and nothing after it.
-use Rattle.std.specs.Prelude.{◌≡◌, ℕ, Bool, IsTrue, List, [], ◌∷◌, Result, Ok, Err, Option, Some, None, if◌then◌else◌}
+use Rattle.std.specs.Prelude.{◌≡◌, ℕ, Bool, IsTrue, List, [], ◌∷◌, Result, Ok, Err, Option, Some, None}
+use Rattle.std.specs.Prelude.{if◌then◌else◌}
 use Rattle.std.specs.Bool.{OnTrue}
 use Rattle.xdr.specs.Item.{Item, Value, Fits, spelling}
 use Rattle.xdr.specs.Reading.{Read, read_at}

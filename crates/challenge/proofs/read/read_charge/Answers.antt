@@ -1,6 +1,6 @@
 use Rattle.std.proofs.Common.{refl}
 use Rattle.std.proofs.lemmas.Result.{err_from_is_err_and}
-use Rattle.xdr.specs.ReadError.{xdr_fault}
+use Rattle.xdr.specs.ReadFault.{xdr_fault}
 use Rattle.xdr.specs.ArraysAndUnions.{choice_ok, choice_err_unless}
 use Rattle.evidence_showings.specs.evidence_spec.Evidence.{audited_value, fork_value, charge_item, is_charge}
 use Rattle.challenge.specs.Charges.{fork_in}

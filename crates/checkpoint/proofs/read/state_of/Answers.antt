@@ -13,7 +13,8 @@ use Rattle.checkpoint.specs.declared.parts.parts.MachinePart.{MachinePart}
 use Rattle.state_machine.specs.Machines.{server_state, client_state}
 use Rattle.checkpoint.specs.PartWorlds.{world_given}
 use Rattle.checkpoint.proofs.Chosen.{when_none, when_some}
-use Rattle.checkpoint.proofs.PartStates.{saying, rule_received, rule_sends, rule_clock, rule_served, server_kept, client_kept}
+use Rattle.checkpoint.proofs.PartStates.{saying, rule_received, rule_sends, rule_clock, rule_served}
+use Rattle.checkpoint.proofs.PartStates.{server_kept, client_kept}
 use Rattle.checkpoint.proofs.read.state_of.Goals as goal
 
 pub returns-in_default : goal.returns-in_default

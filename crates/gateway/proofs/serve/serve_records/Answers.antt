@@ -1,6 +1,7 @@
 use Rattle.std.proofs.Common.{◌∙◌, ap, refl, Err}
 use Rattle.std.proofs.lemmas.Result.{err_from_is_err_and}
-use Rattle.gateway.proofs.GatewayTurns.{served_nothing, serves_one, part_so_far, fails_by, part_answering, leaves_off_answering}
+use Rattle.gateway.proofs.GatewayTurns.{served_nothing, serves_one, part_so_far, fails_by, part_answering}
+use Rattle.gateway.proofs.GatewayTurns.{leaves_off_answering}
 use Rattle.gateway.proofs.serve.serve_records.Goals as goal
 
 pub loop-k-init : goal.loop-k-init

@@ -1,4 +1,5 @@
-use Rattle.nfs_counts.proofs.Facts.{links_positive, links_bounded, links_of_parent, above_named, entries_bounded, blocks_bounded}
+use Rattle.nfs_counts.proofs.Facts.{links_positive, links_bounded, links_of_parent, above_named}
+use Rattle.nfs_counts.proofs.Facts.{entries_bounded, blocks_bounded}
 use Rattle.nfs_counts.proofs.laws.kept_numbers_are_bounded.Goals as goal
 
 pub returns-clause-some : goal.returns-clause-some

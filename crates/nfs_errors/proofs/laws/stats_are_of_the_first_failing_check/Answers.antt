@@ -1,4 +1,5 @@
-use Rattle.nfs_errors.proofs.ReaderChecks.{of_getattr, of_lookup, of_read_link, of_read, of_read_dir, of_figures}
+use Rattle.nfs_errors.proofs.ReaderChecks.{of_getattr, of_lookup, of_read_link, of_read, of_read_dir}
+use Rattle.nfs_errors.proofs.ReaderChecks.{of_figures}
 use Rattle.nfs_errors.proofs.laws.stats_are_of_the_first_failing_check.Goals as goal
 
 pub returns-clause-getattr : goal.returns-clause-getattr

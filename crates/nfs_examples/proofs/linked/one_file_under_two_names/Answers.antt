@@ -4,7 +4,8 @@ use Rattle.nfs_spec.specs.Opening.{epoch, opening_root, opening_hello}
 use Rattle.nfs_examples.specs.Worked.{empty_file}
 use Rattle.nfs_examples.specs.Linked.{f, g, root_of, with_f, with_f_and_g, with_g, with_neither, with_f_again}
 use Rattle.nfs_spec.proofs.OpeningFiles.{root_there}
-use Rattle.nfs_examples.proofs.Computed.{file_of_list, room_of, entries_of, made_is, named_is, marked_is, gone_is}
+use Rattle.nfs_examples.proofs.Computed.{file_of_list, room_of, entries_of, made_is, named_is, marked_is}
+use Rattle.nfs_examples.proofs.Computed.{gone_is}
 use Rattle.nfs_examples.proofs.linked.one_file_under_two_names.Goals as goal
 
 handle_three : number_in 1 (handle_of 1 3) ≡ Some 3

@@ -4,7 +4,8 @@ use Rattle.fs_model.specs.Changes.Limits.{file_count}
 use Rattle.nfs_spec.specs.Procedures.{climbs_to, is_above, move_entry}
 use Rattle.fs_model.specs.Files.{Regular}
 use Rattle.nfs_spec.specs.Opening.{epoch, first_file, opening_root, opening_hello}
-use Rattle.nfs_examples.specs.Worked.{files_from, a, d, root_with, empty_directory, root_between, root_renamed, with_directory, with_renamed, with_link}
+use Rattle.nfs_examples.specs.Worked.{files_from, a, d, root_with, empty_directory, root_between}
+use Rattle.nfs_examples.specs.Worked.{root_renamed, with_directory, with_renamed, with_link}
 use Rattle.nfs_spec.proofs.OpeningFiles.{root_there, hello_there}
 use Rattle.nfs_examples.proofs.Computed.{file_of_list, room_of, entries_of}
 use Rattle.nfs_examples.proofs.rows.changes_on_small_files.Goals as goal

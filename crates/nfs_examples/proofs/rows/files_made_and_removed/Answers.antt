@@ -3,7 +3,9 @@ use Rattle.nfs_items.specs.Handle.{handle_of, number_in}
 use Rattle.fs_model.specs.Changes.Edits.{without_file}
 use Rattle.nfs_spec.specs.Changes.{touch}
 use Rattle.nfs_spec.specs.Opening.{epoch, opening_root, opening_hello}
-use Rattle.nfs_examples.specs.Worked.{files_from, a, root_with, empty_file, link_to_t, root_between, root_emptied, root_again, with_directory, with_written, with_made, with_next}
+use Rattle.nfs_examples.specs.Worked.{files_from, a, root_with, empty_file, link_to_t, root_between}
+use Rattle.nfs_examples.specs.Worked.{root_emptied, root_again, with_directory, with_written, with_made}
+use Rattle.nfs_examples.specs.Worked.{with_next}
 use Rattle.nfs_spec.proofs.OpeningFiles.{root_there, hello_there}
 use Rattle.nfs_examples.proofs.Computed.{file_of_list, room_of, entries_of, without_in, same_files}
 use Rattle.nfs_examples.proofs.rows.files_made_and_removed.Goals as goal

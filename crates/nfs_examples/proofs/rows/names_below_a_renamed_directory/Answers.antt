@@ -3,7 +3,9 @@ use Rattle.std.specs.FinMap as finite
 use Rattle.fs_model.specs.Changes.Limits.{file_count}
 use Rattle.nfs_spec.specs.Procedures.{climbs_to, is_above, move_entry}
 use Rattle.nfs_spec.specs.Opening.{epoch}
-use Rattle.nfs_examples.specs.Worked.{files_from, a, b, c, d, empty_directory, empty_file, directory_of, root_between, root_renamed, with_directory, with_inner, with_nested, with_nested_renamed}
+use Rattle.nfs_examples.specs.Worked.{files_from, a, b, c, d, empty_directory, empty_file, directory_of}
+use Rattle.nfs_examples.specs.Worked.{root_between, root_renamed, with_directory, with_inner, with_nested}
+use Rattle.nfs_examples.specs.Worked.{with_nested_renamed}
 use Rattle.nfs_examples.proofs.Computed.{file_of_list, room_of, entries_of}
 use Rattle.nfs_examples.proofs.rows.names_below_a_renamed_directory.Goals as goal
 

@@ -2,7 +2,8 @@ use Rattle.std.proofs.Common.{◌≡◌, refl, [], ◌∷◌}
 use Rattle.fs_model.specs.Changes.Edits.{without_file}
 use Rattle.nfs_spec.specs.Changes.{touch}
 use Rattle.nfs_spec.specs.Opening.{epoch, opening_hello}
-use Rattle.nfs_examples.specs.Worked.{files_from, empty_file, root_between, root_of_three, root_of_two, with_link, with_three, with_two}
+use Rattle.nfs_examples.specs.Worked.{files_from, empty_file, root_between, root_of_three, root_of_two}
+use Rattle.nfs_examples.specs.Worked.{with_link, with_three, with_two}
 use Rattle.nfs_examples.proofs.Computed.{file_of_list, entries_of, without_in, same_files}
 use Rattle.nfs_examples.proofs.rows.pages_round_a_removal.Goals as goal
 

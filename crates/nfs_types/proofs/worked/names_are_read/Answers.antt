@@ -1,4 +1,5 @@
-use Rattle.std.proofs.Common.{◌≡◌, ◌<◌, ◌≤◌, ◌^◌, ◌++◌, ◌∷◌, ltb, true, false, arith, subst, ℕ, List, Ok, Err, refl, sym, ap, ◌∙◌, length, append-nil}
+use Rattle.std.proofs.Common.{◌≡◌, ◌<◌, ◌≤◌, ◌^◌, ◌++◌, ◌∷◌, ltb, true, false, arith, subst, ℕ, List, Ok, Err}
+use Rattle.std.proofs.Common.{refl, sym, ap, ◌∙◌, length, append-nil}
 use Rattle.std.proofs.lemmas.Bool.{lt-ltb, le-ltb}
 use Rattle.std.proofs.lemmas.List.{drop_at, length-append}
 use Rattle.nfs_items.specs.xdr.declared.fault.XdrFault.TheVariants.{Padding, TooLong}

@@ -1,5 +1,6 @@
 use Rattle.std.proofs.Common.{inr}
-use Rattle.nodes.proofs.OfExchanges.Answered.{asked_joined, none_due, replied_joined, reply_due, served_replied}
+use Rattle.nodes.proofs.OfExchanges.Answered.{asked_joined, none_due, replied_joined, reply_due}
+use Rattle.nodes.proofs.OfExchanges.Answered.{served_replied}
 use Rattle.nodes.proofs.exchange.carry.Goals as goal
 
 pub bring_back-requires : goal.bring_back-requires

@@ -4,7 +4,7 @@ use Rattle.replay_spec.specs.Stepping.{step}
 use Rattle.replay_spec.specs.Replay.{Fault}
 use Rattle.replay.specs.Faults.{fault_in}
 use Rattle.replay.specs.Answers.{Steps}
-use Rattle.replay.specs.declared.steps.StepError.{StepError}
+use Rattle.replay.specs.declared.steps.StepFault.{StepFault}
 use Rattle.std.proofs.lemmas.List.{drop_all}
 use Rattle.replay.proofs.Runs.{begins, rest_of, room_received, room_sends, faults, goes_on, ends}
 use Rattle.replay.proofs.verdict.first_verdict.Goals as goal
@@ -47,7 +47,7 @@ returns-in-Err-Fault c =
     (rest_of c.args.entries.now c.loop-entry.entry-index c.entry-item.result c.loop-entry-test.true
     c.entry-item.is) in
     let fault = fault_in c.in-Err-Fault.fault in
-    let refused = subst (λ (e : StepError). Steps {A = Unit {0}} c.args.roster.now c.loop-entry.state
+    let refused = subst (λ (e : StepFault). Steps {A = Unit {0}} c.args.roster.now c.loop-entry.state
     (place c.new-place.result c.loop-entry.before c.entry-item.result) (Err e)
     c.replay_entry.new.state) c.in-Err-Fault.field-0-is c.in-Err-Fault.ensures.step in
     let there = subst (λ n. step c.args.roster.now c.loop-entry.state

@@ -1,6 +1,8 @@
 use Rattle.std.proofs.Common.{◌≡◌, ◌∙◌, true, ap, Err, rules}
 use Rattle.std.proofs.lemmas.Result.{err_from_is_err_and}
-use Rattle.rpc_streams.proofs.LoopProgress.{ends, unanswered, pushes, answers, stops_behind, leaves_off_after, stops_between, stops_at_once, leaves_off_reading, leaves_off_answering}
+use Rattle.rpc_streams.proofs.LoopProgress.{ends, unanswered, pushes, answers, stops_behind, leaves_off_after}
+use Rattle.rpc_streams.proofs.LoopProgress.{stops_between, stops_at_once, leaves_off_reading}
+use Rattle.rpc_streams.proofs.LoopProgress.{leaves_off_answering}
 use Rattle.rpc_streams.proofs.stream.run_rpc.Goals as goal
 
 pub returns-in_default-clause-taken : goal.returns-in_default-clause-taken

@@ -7,7 +7,8 @@ use Rattle.witness_spec.specs.Histories.{AreOwed}
 use Rattle.witness_examples.specs.Worked.{five, learned, one_hash}
 use Rattle.witness_examples.specs.Forks.{full_forked}
 use Rattle.witness_examples.proofs.Telling.{told}
-use Rattle.witness_examples.proofs.Many.{each_owed, there_already, fork_noted, fork_exposes, fork_evidence, exposed_noted}
+use Rattle.witness_examples.proofs.Many.{each_owed, there_already, fork_noted, fork_exposes, fork_evidence}
+use Rattle.witness_examples.proofs.Many.{exposed_noted}
 use Rattle.witness_examples.proofs.forks.after_as_many_as_are_kept.Goals as goal
 
 all_owed : AreOwed [] five full_forked

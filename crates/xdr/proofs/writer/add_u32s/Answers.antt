@@ -1,4 +1,5 @@
-use Rattle.std.proofs.Common.{arith, length, length-append, length-take, ◌*◌, ◌≡◌, ◌++◌, List, ℕ, ap, sym, ◌∙◌, append_assoc, take-append-drop}
+use Rattle.std.proofs.Common.{arith, length, length-append, length-take, ◌*◌, ◌≡◌, ◌++◌, List, ℕ, ap, sym}
+use Rattle.std.proofs.Common.{◌∙◌, append_assoc, take-append-drop}
 use Rattle.std.specs.List.{flat_map}
 use Rattle.std.proofs.lemmas.List.Concat.{flat_map-append}
 use Rattle.xdr.specs.Item.{number_spelling}

@@ -1,8 +1,11 @@
-use Rattle.std.proofs.Common.{◌≡◌, ◌∙◌, Some, [], List, ℕ, Bor, ap, ap₂, codes, map, option_map, refl, string_bytes, sym}
-use Rattle.clap.specs.Words.{App, app_of, fault_of, found_of, is_simple, is_simple_and_free, rows_of, subcommand_of}
+use Rattle.std.proofs.Common.{◌≡◌, ◌∙◌, Some, [], List, ℕ, Bor, ap, ap₂, codes, map, option_map, refl}
+use Rattle.std.proofs.Common.{string_bytes, sym}
+use Rattle.clap.specs.Words.{App, app_of, fault_of, found_of, is_simple, is_simple_and_free, rows_of}
+use Rattle.clap.specs.Words.{subcommand_of}
 use Rattle.clap.proofs.WalkLemmas.{first_value-rows, one_text-rows}
 use Rattle.console.specs.CommandLine.CommandLine.{Check, commands}
-use Rattle.console.proofs.OfCommandLine.CommandLines.{are_simple, file_is, flag_is, is_check, is_matched, is_rpc, name_is}
+use Rattle.console.proofs.OfCommandLine.CommandLines.{are_simple, file_is, flag_is, is_check, is_matched}
+use Rattle.console.proofs.OfCommandLine.CommandLines.{is_rpc, name_is}
 use Rattle.console.proofs.command_line.request.request_by_rules.Goals as goal
 
 pub returns-in_default-clause-ok : goal.returns-in_default-clause-ok

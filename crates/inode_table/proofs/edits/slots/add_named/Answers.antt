@@ -1,5 +1,6 @@
 use Rattle.std.proofs.Common.{◌∙◌}
-use Rattle.inode_table.proofs.OfEdits.NamedInodes.{has_inode, listed_room, added_other, apart_from, taken_back}
+use Rattle.inode_table.proofs.OfEdits.NamedInodes.{has_inode, listed_room, added_other, apart_from}
+use Rattle.inode_table.proofs.OfEdits.NamedInodes.{taken_back}
 use Rattle.inode_table.proofs.OfEdits.NamedInodes.{adds_named}
 use Rattle.inode_table.proofs.edits.slots.add_named.Goals as goal
 

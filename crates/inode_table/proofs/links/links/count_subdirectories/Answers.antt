@@ -6,7 +6,8 @@ use Rattle.std.proofs.lemmas.List.Sums.{sum_by_more}
 use Rattle.fs_model.specs.Listing.{DirEntry}
 use Rattle.nfs_counts.specs.nfs_spec.FileAttributes.{is_directory_at}
 use Rattle.tree_rules.specs.inodes.Inodes.{files_of}
-use Rattle.inode_table.proofs.links.links.count_subdirectories.Goals.{then-is_directory_at, else-is_directory_at}
+use Rattle.inode_table.proofs.links.links.count_subdirectories.Goals.{then-is_directory_at}
+use Rattle.inode_table.proofs.links.links.count_subdirectories.Goals.{else-is_directory_at}
 use Rattle.inode_table.proofs.links.links.count_subdirectories.Goals as goal
 
 -- a test counts one at most

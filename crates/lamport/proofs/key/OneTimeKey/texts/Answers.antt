@@ -1,6 +1,7 @@
 use Rattle.std.proofs.Common.{◌≡◌, arith}
 use Rattle.lamport.specs.declared.key.TheConstants.{PLACES}
-use Rattle.lamport.proofs.LeafTexts.{shown_front_none, other_front_none, shown_front_more, other_front_more, shown_front_all, other_front_all}
+use Rattle.lamport.proofs.LeafTexts.{shown_front_none, other_front_none, shown_front_more, other_front_more}
+use Rattle.lamport.proofs.LeafTexts.{shown_front_all, other_front_all}
 use Rattle.lamport.proofs.key.OneTimeKey.texts.Goals as goal
 
 pub loop-place-init : goal.loop-place-init

@@ -2,7 +2,8 @@ use Rattle.std.proofs.Common.{◌≡◌, ◌+◌, ◌-◌, ◌*◌, ◌^◌, ◌
 use Rattle.std.proofs.lemmas.List.{get_or_read_under, append-nil}
 use Rattle.std.specs.Prelude.{vec_len}
 use Rattle.merkle_keys.proofs.StoredTrees.{level_hash_at}
-use Rattle.merkle_keys.proofs.Paths.{sibling-lt, above_level, authentication_path_more, authentication_path_none}
+use Rattle.merkle_keys.proofs.Paths.{sibling-lt, above_level, authentication_path_more}
+use Rattle.merkle_keys.proofs.Paths.{authentication_path_none}
 use Rattle.merkle_keys.proofs.signer.Signer.path.Goals as goal
 
 pub overflow_add-first : goal.overflow_add-first

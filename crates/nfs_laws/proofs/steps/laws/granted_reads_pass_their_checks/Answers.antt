@@ -1,4 +1,5 @@
-use Rattle.nfs_laws.proofs.OfSteps.Reading.{attributes_ok, getattr_ok, lookup_ok, read_link_ok, read_ok, read_dir_ok}
+use Rattle.nfs_laws.proofs.OfSteps.Reading.{attributes_ok, getattr_ok, lookup_ok, read_link_ok, read_ok}
+use Rattle.nfs_laws.proofs.OfSteps.Reading.{read_dir_ok}
 use Rattle.nfs_laws.proofs.steps.laws.granted_reads_pass_their_checks.Goals as goal
 
 pub returns-clause-attributes : goal.returns-clause-attributes

@@ -1,4 +1,5 @@
-use Rattle.nodes.proofs.OfExchanges.Answered.{asked_joined, none_due, replied_joined, reply_due, served_replied}
+use Rattle.nodes.proofs.OfExchanges.Answered.{asked_joined, none_due, replied_joined, reply_due}
+use Rattle.nodes.proofs.OfExchanges.Answered.{served_replied}
 use Rattle.nodes.proofs.exchanges.laws.exchanges_serve.Goals as goal
 
 pub returns-clause-replied : goal.returns-clause-replied

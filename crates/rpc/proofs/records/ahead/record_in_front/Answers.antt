@@ -1,8 +1,11 @@
-use Rattle.std.proofs.Common.{◌≡◌, ◌++◌, ◌<◌, ◌⊎◌, true, false, inl, inr, length, rules, arith, sym, take-append-drop}
+use Rattle.std.proofs.Common.{◌≡◌, ◌++◌, ◌<◌, ◌⊎◌, true, false, inl, inr, length, rules, arith, sym}
+use Rattle.std.proofs.Common.{take-append-drop}
 use Rattle.rpc.specs.declared.records.record.TheConstants.{MAX_RECORD}
 use Rattle.rpc.proofs.OfRecords.InFront.{in_front, too_few, not_whole}
 use Rattle.rpc.proofs.records.ahead.record_in_front.Goals as goal
-use Rattle.rpc.proofs.records.ahead.record_in_front.Goals.{then-not-mark-via-then-not-mark, then-not-mark-via-else-not-mark+then-len-gt-MAX_RECORD, then-not-mark-via-else-not-mark+else-len-gt-MAX_RECORD+then-len-rest}
+use Rattle.rpc.proofs.records.ahead.record_in_front.Goals.{then-not-mark-via-then-not-mark}
+use Rattle.rpc.proofs.records.ahead.record_in_front.Goals.{then-not-mark-via-else-not-mark+then-len-gt-MAX_RECORD}
+use Rattle.rpc.proofs.records.ahead.record_in_front.Goals.{then-not-mark-via-else-not-mark+else-len-gt-MAX_RECORD+then-len-rest}
 
 pub returns-then-bytes-lt4-clause-none : goal.returns-then-bytes-lt4-clause-none
 returns-then-bytes-lt4-clause-none c = λ _. too_few _ c.if-bytes-lt4.true

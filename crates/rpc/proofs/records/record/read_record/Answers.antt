@@ -1,6 +1,7 @@
 use Rattle.std.proofs.Common.{arith, rules}
 use Rattle.std.proofs.lemmas.Result.{err_from_is_err_and}
-use Rattle.rpc.proofs.OfRecords.Fragments.{fails_at_mark, fails_at_end, fails_at_piece, stops_at_mark, stops_at_piece, takes_to_limit, is_record, goes_on}
+use Rattle.rpc.proofs.OfRecords.Fragments.{fails_at_mark, fails_at_end, fails_at_piece, stops_at_mark}
+use Rattle.rpc.proofs.OfRecords.Fragments.{stops_at_piece, takes_to_limit, is_record, goes_on}
 use Rattle.rpc.proofs.records.record.read_record.Goals as goal
 
 pub returns-in_err-mark-clause-fault : goal.returns-in_err-mark-clause-fault

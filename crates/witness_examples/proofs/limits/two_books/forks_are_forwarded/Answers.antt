@@ -7,7 +7,8 @@ use Rattle.witness_spec.specs.Steps.{Ask}
 use Rattle.witness_spec.specs.Standing.{open_challenges, without_evidence}
 use Rattle.witness_examples.specs.Worked.{five}
 use Rattle.witness_examples.specs.Limits.Audits.{clients, sent_hash, sender}
-use Rattle.witness_examples.specs.Limits.Forwarding.{other_sent_hash, other_sender, state_both, both_audited, one_forwarded}
+use Rattle.witness_examples.specs.Limits.Forwarding.{other_sent_hash, other_sender, state_both, both_audited}
+use Rattle.witness_examples.specs.Limits.Forwarding.{one_forwarded}
 use Rattle.witness_examples.specs.Limits.Forwarding.{both_forwarded}
 use Rattle.witness_examples.proofs.Telling.{told}
 use Rattle.witness_examples.proofs.OfLimits.Audits.{hidden, is_waiting, then_forward}

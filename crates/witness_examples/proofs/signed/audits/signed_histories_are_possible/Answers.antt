@@ -4,12 +4,17 @@ use Rattle.witness_spec.specs.Events as events
 use Rattle.witness_spec.specs.Replies.{Noted, Asked, Accepted, Job, Filed, Told, Trusted}
 use Rattle.witness_spec.specs.Steps.{Learn, Audit, Answer, Begin, File, Ask}
 use Rattle.witness_examples.specs.Signed.Audited.{read_hash}
-use Rattle.witness_examples.specs.Signed.Audited.{learned_event, asked_event, answered_event, begun_event, filed_event}
-use Rattle.witness_examples.specs.Signed.Audited.{learned_step, asked_step, answered_step, begun_step, filed_step}
-use Rattle.witness_examples.specs.Signed.Audited.{client_key, signed_end, signed_closed, signed_job, signed_done}
+use Rattle.witness_examples.specs.Signed.Audited.{learned_event, asked_event, answered_event, begun_event}
+use Rattle.witness_examples.specs.Signed.Audited.{filed_event}
+use Rattle.witness_examples.specs.Signed.Audited.{learned_step, asked_step, answered_step, begun_step}
+use Rattle.witness_examples.specs.Signed.Audited.{filed_step}
+use Rattle.witness_examples.specs.Signed.Audited.{client_key, signed_end, signed_closed, signed_job}
+use Rattle.witness_examples.specs.Signed.Audited.{signed_done}
 use Rattle.witness_examples.proofs.OfSigned.Signing.{root_length}
-use Rattle.witness_examples.proofs.OfSigned.Auditing.{closed_is, replayed, learned_is, learned_whose, answered_whose, owed}
-use Rattle.witness_examples.proofs.OfSigned.Auditing.{own_learned, own_asked, own_answered, own_begun, own_filed, own_all}
+use Rattle.witness_examples.proofs.OfSigned.Auditing.{closed_is, replayed, learned_is, learned_whose}
+use Rattle.witness_examples.proofs.OfSigned.Auditing.{answered_whose, owed}
+use Rattle.witness_examples.proofs.OfSigned.Auditing.{own_learned, own_asked, own_answered, own_begun}
+use Rattle.witness_examples.proofs.OfSigned.Auditing.{own_filed, own_all}
 use Rattle.witness_examples.proofs.signed.audits.signed_histories_are_possible.Goals as goal
 
 pub returns-clause-roster : goal.returns-clause-roster

@@ -3,8 +3,10 @@ use Rattle.witness_spec.specs.Events as events
 use Rattle.witness_spec.specs.Replies.{Opened, Closed}
 use Rattle.witness_spec.specs.Steps.{SendChallenge, AckIn}
 use Rattle.witness_examples.specs.Signed.Audited.{client, client_key}
-use Rattle.witness_examples.specs.Signed.Shown.{both, message, acknowledged, challenged_event, challenged_step}
-use Rattle.witness_examples.proofs.OfSigned.Showing.{message_is, acknowledged_is, message_whose, acknowledged_whose}
+use Rattle.witness_examples.specs.Signed.Shown.{both, message, acknowledged, challenged_event}
+use Rattle.witness_examples.specs.Signed.Shown.{challenged_step}
+use Rattle.witness_examples.proofs.OfSigned.Showing.{message_is, acknowledged_is, message_whose}
+use Rattle.witness_examples.proofs.OfSigned.Showing.{acknowledged_whose}
 use Rattle.witness_examples.proofs.OfSigned.Showing.{own_challenged, own_acknowledged, owed_to}
 use Rattle.witness_examples.proofs.signed.messages.signed_acknowledgements_are_possible.Goals as goal
 

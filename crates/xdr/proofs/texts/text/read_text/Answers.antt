@@ -1,12 +1,12 @@
 use Rattle.std.proofs.Common.{arith, Ok, Err, refl, false, ◌≡◌, Result}
 use Rattle.std.specs.Prelude.{MatchResult}
-use Rattle.xdr.specs.declared.texts.text.TextError.{TextError}
-use Rattle.xdr.specs.declared.texts.text.TextError.TheVariants.{NoMemory, NotAText}
-use Rattle.xdr.specs.Texts.TextError.{is_no_text}
+use Rattle.xdr.specs.declared.texts.text.TextFault.{TextFault}
+use Rattle.xdr.specs.declared.texts.text.TextFault.TheVariants.{NoMemory, NotAText}
+use Rattle.xdr.specs.Texts.TextFault.{is_no_text}
 use Rattle.xdr.proofs.OfTexts.WholeTexts.{text_found, text_only}
 use Rattle.xdr.proofs.texts.text.read_text.Goals as goal
 
-no_memory : {X : Type 0} (P : X → Type 0) (r : Result X TextError) → MatchResult r P (λ e. is_no_text e ≡ false) → MatchResult r P (λ e. e ≡ NoMemory)
+no_memory : {X : Type 0} (P : X → Type 0) (r : Result X TextFault) → MatchResult r P (λ e. is_no_text e ≡ false) → MatchResult r P (λ e. e ≡ NoMemory)
 no_memory P (Ok x) h = h
 no_memory P (Err NoMemory) h = refl
 no_memory P (Err NotAText) h = absurd cc

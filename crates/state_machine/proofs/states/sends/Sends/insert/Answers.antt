@@ -7,7 +7,8 @@ use Rattle.std.proofs.lemmas.Map.Entries.{length-keys_of}
 use Rattle.xdr.specs.Item.{Fits, word, fixed, pair}
 use Rattle.state_machine.specs.States.Bounds.{SentFits}
 use Rattle.state_machine.specs.declared.states.sends.TheConstants.{MAX_SENDS}
-use Rattle.state_machine.proofs.OfStates.Kept.{len_of_map, one_or_none_within, map_with, all_with_entry, get_of_map, on_err}
+use Rattle.state_machine.proofs.OfStates.Kept.{len_of_map, one_or_none_within, map_with, all_with_entry}
+use Rattle.state_machine.proofs.OfStates.Kept.{get_of_map, on_err}
 use Rattle.state_machine.proofs.states.sends.Sends.insert.Goals as goal
 
 pub invariant_of-self-2 : goal.invariant_of-self-2
