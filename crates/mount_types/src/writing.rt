@@ -4,7 +4,7 @@ ghost use Rattle.std.specs.Prelude.{◌≡◌, ◌<◌, ◌≤◌, ◌-◌, ◌^
 ghost use Rattle.std.specs.Prelude.{vec_capacity};
 ghost use Rattle.std.specs.List.{flat_map};
 ghost use Rattle.nfs_items.specs.xdr.Item.{word, spelling};
-ghost use Rattle.nfs_items.specs.xdr.Writing.{Adds, Appends, Takes};
+ghost use Rattle.nfs_items.specs.xdr.Writing.{Adds, Appends, Spends};
 ghost use Rattle.nfs_items.specs.Handle.{fhandle};
 ghost use Rattle.mount_types.specs.Items.{mount, mountlist, exportlist};
 ghost use Rattle.mount_types.specs.Texts.{answer_text};
@@ -55,7 +55,7 @@ fn add_result(answer: &MountResult, out: &mut Vec<u8>) -> Result<(), AllocError>
 fn add_handle(handle: &FileHandle, out: &mut Vec<u8>) -> Result<(), AllocError>
     ensures adds { Adds (spelling word 0 ++ spelling fhandle handle.now.0)
         out.old.items result out.new.items }
-    ensures room { Takes 36 (vec_capacity out.old - vec_len out.old)
+    ensures room { Spends 36 (vec_capacity out.old - vec_len out.old)
         result (vec_capacity out.new - vec_len out.new) }
 {
     out.put_u32(OK)?;

@@ -4,7 +4,7 @@ ghost use Rattle.std.specs.Prelude.{◌≡◌, ◌<◌, ◌≤◌, ◌-◌, ◌^
 ghost use Rattle.std.specs.Prelude.{vec_capacity};
 ghost use Rattle.std.specs.List.{flat_map};
 ghost use Rattle.nfs_items.specs.xdr.Item.{word, flag, linked, spelling};
-ghost use Rattle.nfs_items.specs.xdr.Writing.{Adds, Appends, Takes};
+ghost use Rattle.nfs_items.specs.xdr.Writing.{Adds, Appends, Spends};
 ghost use Rattle.nfs_items.specs.Handle.{fhandle};
 ghost use Rattle.nfs_items.specs.Attributes.{fattr, fattr_value};
 ghost use Rattle.nfs_types.specs.Items.{path, nfsdata, entry, fs_stats};
@@ -60,7 +60,7 @@ fn add_result(answer: &NfsResult, out: &mut Vec<u8>) -> Result<(), AllocError>
 fn add_attributes(attributes: &Fattr, out: &mut Vec<u8>) -> Result<(), AllocError>
     ensures adds { Adds (spelling word 0 ++ spelling fattr (fattr_value attributes.now))
         out.old.items result out.new.items }
-    ensures room { Takes 72 (vec_capacity out.old - vec_len out.old)
+    ensures room { Spends 72 (vec_capacity out.old - vec_len out.old)
         result (vec_capacity out.new - vec_len out.new) }
 {
     out.put_u32(OK)?;
@@ -71,7 +71,7 @@ fn add_dir_op(found: &DirOpOk, out: &mut Vec<u8>) -> Result<(), AllocError>
     ensures adds { Adds (spelling word 0
         ++ (spelling fhandle found.now.file.0 ++ spelling fattr (fattr_value found.now.attributes)))
         out.old.items result out.new.items }
-    ensures room { Takes 104 (vec_capacity out.old - vec_len out.old)
+    ensures room { Spends 104 (vec_capacity out.old - vec_len out.old)
         result (vec_capacity out.new - vec_len out.new) }
 {
     out.put_u32(OK)?;
