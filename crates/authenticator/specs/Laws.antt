@@ -12,6 +12,7 @@ TestsAsItIsSigned =
     (root : List ℕ) (height : ℕ) (digest : List ℕ) (signature : SignatureParts)
     → IsTrue (is_signed root height digest signature) ↔ Signed root height digest signature
 
+-- The test of an authenticator under a list of members is what it means that the member it names signed it.
 abbrev pub TestsAsItIsSignedIn : Type 0
 TestsAsItIsSignedIn =
     (ms : List Member) (a : Authenticator) → IsTrue (is_signed_in ms a) ↔ IsSignedIn ms a

@@ -2,7 +2,7 @@
 use Rattle.std.specs.Prelude.{◌<◌, ◌≤◌, List, IsTrue}
 use Rattle.std.specs.List.{All}
 use Rattle.fs_model.specs.nfs_items.Terms.{FileNumber}
-use Rattle.fs_model.specs.Listing.{DirEntry, entry_name}
+use Rattle.fs_model.specs.Listing.{NamedEntry, entry_name}
 use Rattle.fs_model.specs.Names.{is_name}
 use Rattle.fs_model.specs.Files.{Body, File, listing_in}
 use Rattle.fs_model.specs.Trees.{IsBody, IsTime}
@@ -12,7 +12,7 @@ use Rattle.tree_rules.specs.FileRules.Rules.{AreRising, numbers_of}
 -- keep the name rule
 pub record IsBodyAlone (b : Body) : Type 0 where
   pub body : IsBody b
-  pub names : All (λ (e : DirEntry). IsTrue (is_name (entry_name e))) (listing_in b).entries
+  pub names : All (λ (e : NamedEntry). IsTrue (is_name (entry_name e))) (listing_in b).entries
 
 -- so does a file's, whose mode is below 4096 and whose times are times
 pub record IsFileAlone (f : File) : Type 0 where

@@ -4,7 +4,7 @@ use Rattle.sha2.specs.Sha256.{sha256}
 use Rattle.xdr.specs.Item.{Item, Value, word, opaque, pair, array, choice, spelling}
 use Rattle.fs_model.specs.nfs_items.Timeval.{timeval, timeval_value}
 use Rattle.fs_model.specs.Maxima.{max_file_size, max_target, max_name, max_entries}
-use Rattle.fs_model.specs.Listing.{DirEntry}
+use Rattle.fs_model.specs.Listing.{NamedEntry}
 use Rattle.fs_model.specs.Files.{Body, Regular, Symlink, Directory, File}
 
 -- an entry of a directory: name, number and cookie
@@ -15,7 +15,7 @@ entry_item = pair (opaque max_name) (pair word word)
 abbrev pub is_file_kind : ℕ → Bool
 is_file_kind n = n == 1 || (n == 2 || n == 5)
 
--- the bytes of a regular file; the target of a link; the next cookie of a directory and its entries
+-- the bytes of a regular file; the target of a symbolic link; the next cookie of a directory and its entries
 abbrev pub body_item : ℕ → Item
 body_item kind =
     if kind == 1 then opaque max_file_size
@@ -35,7 +35,7 @@ abbrev pub file_item : Item
 file_item = pair word (choice is_file_kind kind_item)
 
 -- what is said of an entry
-abbrev pub entry_value : DirEntry → Value entry_item
+abbrev pub entry_value : NamedEntry → Value entry_item
 entry_value e = e
 
 -- what is said of a file's attributes

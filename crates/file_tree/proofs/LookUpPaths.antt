@@ -9,7 +9,7 @@ use Rattle.nfs_spec.specs.nfs_items.declared.stat.Stat.TheVariants as stats
 use Rattle.nfs_spec.specs.fs_model.Listing.{entry_at}
 use Rattle.nfs_spec.specs.fs_model.Names.{dot_dot, is_name}
 use Rattle.nfs_spec.specs.fs_model.Files.{Body, Regular, Symlink, Directory, File, Files, file_at, listing_in}
-use Rattle.nfs_spec.specs.fs_model.Files.{is_directory, places, parent_of}
+use Rattle.nfs_spec.specs.fs_model.Files.{is_directory, directory_entries, parent_of}
 use Rattle.nfs_spec.specs.fs_model.Trees.{IsFileTree}
 use Rattle.nfs_spec.proofs.fs_model.Walks.{step_last}
 use Rattle.nfs_spec.proofs.fs_model.Parents.{parent_path}
@@ -55,7 +55,7 @@ module _ (w : Files) (who : Caller) (dir : ℕ) (name : List ℕ) where
         ]
 
     -- a look-up of a plain name tells what is there
-    pub at_name : IsAt (option_map (λ e. e.0) (places w dir name)) (number_at_name w who dir name)
+    pub at_name : IsAt (option_map (λ e. e.0) (directory_entries w dir name)) (number_at_name w who dir name)
     at_name =
         elim (file_at w dir) as (λ o. IsAt
         (option_map (λ e. e.0) (option_and_then (λ f. entry_at (listing_in f.body) name) o))
@@ -68,10 +68,10 @@ module _ (w : Files) (who : Caller) (dir : ℕ) (name : List ℕ) where
         ]
 
     -- what is there is where each path to the directory leads on
-    pub leads_on : (o : Option ℕ) → option_map (λ e. e.0) (places w dir name) ≡ o
-        → LeadsOn (places w) dir name o
+    pub leads_on : (o : Option ℕ) → option_map (λ e. e.0) (directory_entries w dir name) ≡ o
+        → LeadsOn (directory_entries w) dir name o
     leads_on o is path cookie at =
-        ap (option_map (λ e. e.0)) (step_last (places w) path name dir cookie at) ∙ is
+        ap (option_map (λ e. e.0)) (step_last (directory_entries w) path name dir cookie at) ∙ is
 
 -- `..` of a directory
 module _ (w : Files) (who : Caller) (dir k : ℕ) where
@@ -98,7 +98,7 @@ module _ (w : Files) (who : Caller) (dir k : ℕ) where
   in_file (Some f) h = let b = in_body f f.body h in (ap (λ t. Some t) b.0, b.1)
 
   -- what `..` gives is where each path to the directory came from
-  pub leads_back : IsFileTree w → number_at_name w who dir dot_dot ≡ Ok k → LeadsBack (places w) dir k
+  pub leads_back : IsFileTree w → number_at_name w who dir dot_dot ≡ Ok k → LeadsBack (directory_entries w) dir k
   leads_back tree h path name cookie at =
       let d = in_file (file_at w dir) h in
       ap (option_map (λ e. e.0)) (parent_path w tree dir cookie d.0 path name at).1 ∙ ap (λ n. Some n) d.1

@@ -1,4 +1,4 @@
 pub mod Decides
-pub mod FreePlaces
+pub mod FreeNames
 pub mod Creates
 pub mod Moves

@@ -2,7 +2,7 @@
 
 ghost use Rattle.std.specs.Prelude.{◌≡◌, ◌≤◌, ◌+◌, [], Ok, None, length};
 ghost use Rattle.nfs_spec.specs.nfs_items.CallerOf.{caller_of};
-ghost use Rattle.nfs_spec.specs.fs_model.Files.{listing_in, places};
+ghost use Rattle.nfs_spec.specs.fs_model.Files.{listing_in, directory_entries};
 ghost use Rattle.nfs_spec.specs.fs_model.Maxima.{max_name, max_number, max_target};
 ghost use Rattle.nfs_spec.specs.fs_model.Trees.{IsFile};
 ghost use Rattle.nfs_spec.specs.Sattr.{given_fields};
@@ -50,7 +50,7 @@ impl Tree {
             self.old result self.new }
 
         // Where the name was free, there is one path more for each of the directory.
-        ensures paths { places self.old dir name.now ≡ None →
+        ensures paths { directory_entries self.old dir name.now ≡ None →
             IfDone result (λ number. NamesIn self.old self.new dir name.now number) }
     {
         let given = Given::of(attributes, now);

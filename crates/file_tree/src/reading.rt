@@ -25,7 +25,7 @@ fn part(bytes: &[u8], offset: u32, count: u32) -> &[u8]
 
 impl Tree {
     /// The target of a symbolic link (RFC 1094, section 2.2.6), at most 1,024 bytes. Stale where no file has
-    /// the number, NxIo where that file is no link.
+    /// the number, NxIo where that file is no symbolic link.
     pub fn read_link(&self, number: u32) -> Result<&[u8], Stat>
         ensures value { outcome_of (λ target. target.now) result ≡ read_link self.now number }
         ensures size { IfOk result (λ target. length target.now ≤ max_target) }
@@ -37,8 +37,8 @@ impl Tree {
     }
 
     /// Bytes of a regular file from an offset on, at most `count` and 8,192, and its attributes (RFC 1094,
-    /// section 2.2.7); none past its end. Stale where no file has the number, IsDir, NxIo for a link, and
-    /// Acces where the caller may neither read nor execute it, in this order.
+    /// section 2.2.7); none past its end. Stale where no file has the number, IsDir, NxIo for a symbolic
+    /// link, and Acces where the caller may neither read nor execute it, in this order.
     pub fn read(&self, who: &Who, number: u32, offset: u32, count: u32) -> Result<ReadOk<'_>, Stat>
         ensures value { outcome_of bytes_of result ≡ read self.now (caller_of who.now) number offset count }
         ensures size { IfOk result (λ read. length read.«data».now ≤ max_data) }

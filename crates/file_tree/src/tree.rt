@@ -2,7 +2,7 @@
 
 ghost use Rattle.std.specs.Prelude.{◌≡◌, ℕ, List, IfOk, OnOk, IsTrue, Some, None, Err};
 ghost use Rattle.nfs_spec.specs.nfs_items.CallerOf.{caller_of};
-ghost use Rattle.nfs_spec.specs.fs_model.Files.{places};
+ghost use Rattle.nfs_spec.specs.fs_model.Files.{directory_entries};
 ghost use Rattle.nfs_spec.specs.fs_model.Names.{is_name, dot_dot};
 ghost use Rattle.nfs_spec.specs.fs_model.Trees.{IsFileTree};
 ghost use Rattle.nfs_spec.specs.fs_model.Changes.Limits.{has_room};
@@ -78,12 +78,13 @@ impl Tree {
 
         // A path to the directory, one name longer, leads to the number.
         ensures found { IfOk result (λ number. IsTrue (is_name name.now) →
-            LeadsOn (places self.now) dir name.now (Some number)) }
+            LeadsOn (directory_entries self.now) dir name.now (Some number)) }
         ensures absent { result ≡ Err Stat.NoEnt → IsTrue (is_name name.now) →
-            LeadsOn (places self.now) dir name.now None }
+            LeadsOn (directory_entries self.now) dir name.now None }
 
         // A path to the directory, one name shorter, leads to the one above.
-        ensures above { name.now ≡ dot_dot → IfOk result (λ number. LeadsBack (places self.now) dir number) }
+        ensures above { name.now ≡ dot_dot → IfOk result (λ number.
+            LeadsBack (directory_entries self.now) dir number) }
     {
         self.table.files_are_a_tree();
         match self.table.get(dir) {

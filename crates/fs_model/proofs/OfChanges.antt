@@ -1,4 +1,4 @@
--- Lemmas on what changes of files leave of places, listings and room. Serves: `changes`.
+-- Lemmas on what changes of files leave of entries, listings and room. Serves: `changes`.
 pub mod Finite
 pub mod Listings
 pub mod Shapes

@@ -8,9 +8,11 @@ use Rattle.nfs_items.specs.Terms.{Name}
 abbrev pub FilePath : Type 0
 FilePath = List Name
 
+-- `.`, a directory itself
 abbrev pub dot : Name
 dot = codes "."
 
+-- `..`, the directory above
 abbrev pub dot_dot : Name
 dot_dot = codes ".."
 

@@ -1,1 +1,1 @@
-//! Changes of files, and what they leave of places, kinds, counts of names and how much files take.
+//! Changes of files, and what they leave of entries, kinds, counts of names and how much files take.

@@ -1,4 +1,5 @@
-//! Links: what carries a record to a server and brings the reply back. And clocks, which tell the time of it.
+//! Links, each a way to a node: it carries a record there and brings the reply back. And clocks, which tell
+//! the time of it.
 
 mod clock;
 mod fault;

@@ -9,7 +9,7 @@ use Rattle.std.specs.Cmp.Lexicographic.{pointwise}
 use Rattle.std.proofs.lemmas.Bool.{cases_eq}
 use Rattle.fs_model.specs.nfs_items.Timeval.{Timeval}
 use Rattle.fs_model.specs.Listing.{Listing, entry_at, with_entry, without_entry}
-use Rattle.fs_model.specs.Files.{File, Files, listing_in, is_directory, places}
+use Rattle.fs_model.specs.Files.{File, Files, listing_in, is_directory, directory_entries}
 use Rattle.fs_model.specs.Trees.{IsTime}
 use Rattle.fs_model.proofs.Walks.{none_some, some_same}
 use Rattle.fs_model.specs.Changes.Edits.{with_name, without_name, map_listing}
@@ -39,10 +39,10 @@ use Rattle.inode_table.specs.Kept.{AreKept}
 use Rattle.inode_table.proofs.KeptRemoval.{freed_most, may_unname, some_entry}
 use Rattle.inode_table.proofs.Tables.{files_in, IsWhole, stored, kept_blocks}
 
--- the place of a number that stands somewhere
-place_there : (p : Option (ℕ × ℕ)) (t : ℕ) → option_map (λ e. e.0) p ≡ Some t → (c : ℕ) × (p ≡ Some (t, c))
-place_there None t e = absurd (none_some e)
-place_there (Some p) t e = (p.1, ap (λ m. Some (m, p.1)) (some_same e))
+-- the entry of a number that stands somewhere
+entry_there : (p : Option (ℕ × ℕ)) (t : ℕ) → option_map (λ e. e.0) p ≡ Some t → (c : ℕ) × (p ≡ Some (t, c))
+entry_there None t e = absurd (none_some e)
+entry_there (Some p) t e = (p.1, ap (λ m. Some (m, p.1)) (some_same e))
 
 -- a directory's links where it may lose one, of at least three
 one_less : (b : Bool) (old new least : ℕ) → new + cond b 1 0 ≡ old → least ≤ old
@@ -93,16 +93,16 @@ module _ (table : Inside) (whole : IsWhole table) {w : Files} (view : files_in t
   moved_stored = stored table whole number f may.there
 
   module _ (t : ℕ) (is : target ≡ Some t) where
-    place : (c : ℕ) × (places fs to to_name ≡ Some (t, c))
-    place = place_there (places fs to to_name) t (sym may.is_target ∙ is)
+    its_entry : (c : ℕ) × (directory_entries fs to to_name ≡ Some (t, c))
+    its_entry = entry_there (directory_entries fs to to_name) t (sym may.is_target ∙ is)
 
     abbrev replaced : File
     replaced = (may.replaces t is).other
 
-    may_clear : MayUnlink fs to to_name t place.0 replaced
+    may_clear : MayUnlink fs to to_name t its_entry.0 replaced
     may_clear =
         let r = may.replaces t is in
-        record { is_named = place.1; there = r.there; empty = r.empty }
+        record { is_named = its_entry.1; there = r.there; empty = r.empty }
 
     may_lose : MayUnname es to t replaced
     may_lose = may_unname table whole refl now may_clear
@@ -115,11 +115,12 @@ module _ (table : Inside) (whole : IsWhole table) {w : Files} (view : files_in t
         let r = may.replaces t is in
         let empty = ap (option_and_then (λ f. entry_at (listing_in f.body) from_name)) r.there
         ∙ ap (λ (es : List (List ℕ × (ℕ × ℕ))). lookup (pointwise nat_eq from_name) es) r.empty in
-        none_some (sym empty ∙ ap (λ m. places fs m from_name) (sym e) ∙ may.is_named)
+        none_some (sym empty ∙ ap (λ m. directory_entries fs m from_name) (sym e) ∙ may.is_named)
 
     parent_of_target : is_directory replaced.body ≡ true → 3 ≤ links_at es to
     parent_of_target d =
-        links_of_parent fs (links_at es) (above_at es) entries blocks whole to to_name t place.0 place.1
+        links_of_parent fs (links_at es)
+        (above_at es) entries blocks whole to to_name t its_entry.0 its_entry.1
         (ap (option_map (λ f. is_directory f.body)) (may.replaces t is).there ∙ ap (λ b. Some b) d)
 
   parent_of_moved : is_directory f.body ≡ true → 3 ≤ links_at es from
@@ -142,7 +143,7 @@ module _ (table : Inside) (whole : IsWhole table) {w : Files} (view : files_in t
   not_same : to ≡ from → to_name ≢ from_name
   not_same e same =
       may.other (may.is_target ∙ ap (option_map (λ (e : ℕ × ℕ). e.0))
-      (ap (λ m. places fs m to_name) e ∙ ap (places fs from) same ∙ may.is_named))
+      (ap (λ m. directory_entries fs m to_name) e ∙ ap (directory_entries fs from) same ∙ may.is_named))
 
   module _ {es₁ : List (ℕ × Inode)}
       (p : ChangesFile to (map_listing (λ l. with_entry l to_name number)) es es₁) where
@@ -312,7 +313,7 @@ module _ (table : Inside) (whole : IsWhole table) {w : Files} (view : files_in t
                 let left = without_name fs to to_name in
                 let last = is_last_name g.body (links_at es₁ t) in
                 let told_last = last_name_told fs (links_at es) (above_at es) entries blocks whole
-                to to_name t (place t e).0 g (may_clear t e) in
+                to to_name t (its_entry t e).0 g (may_clear t e) in
                 ap (λ w. without_name w from from_name)
                 (l.files fsid next
                 ∙ ap (λ w. after_unlink last now w t)

@@ -4,7 +4,8 @@ ghost use Rattle.std.specs.Prelude.{◌≡◌, ◌≢◌, ◌≤◌, ◌<◌, �
 ghost use Rattle.std.specs.Prelude.{IsTrue, IsSome, Some, None, length, option_map, true, false};
 ghost use Rattle.std.specs.FinMap as finite;
 ghost use Rattle.fs_model.specs.nfs_items.Terms.{FileNumber, Cookie};
-ghost use Rattle.fs_model.specs.Files.{Regular, File, Files, file_at, places, parent_of, listing, listing_in};
+ghost use Rattle.fs_model.specs.Files.{Regular, File, Files, file_at, directory_entries, parent_of, listing};
+ghost use Rattle.fs_model.specs.Files.{listing_in};
 ghost use Rattle.fs_model.specs.Files.{is_directory, IsDirectory};
 ghost use Rattle.fs_model.specs.Maxima.{max_name};
 ghost use Rattle.fs_model.specs.Names.{is_name};
@@ -253,8 +254,8 @@ impl InodeTable {
         Ok(number)
     }
 
-    /// Gives a file or link one more name, free in its directory; the file's ctime becomes now, and the
-    /// directory is touched. Where memory is refused nothing changes.
+    /// Gives a file or symbolic link one more name, free in its directory; the file's ctime becomes now, and
+    /// the directory is touched. Where memory is refused nothing changes.
     pub fn link(
         &mut self,
         now: Time,

@@ -51,7 +51,7 @@ impl Body {
     {
         match self {
             Body::Regular(_) => FileType::Regular,
-            Body::Symlink(_) => FileType::Link,
+            Body::Symlink(_) => FileType::Symlink,
             Body::Directory { .. } => FileType::Directory,
         }
     }
@@ -150,7 +150,7 @@ impl Body {
 pub struct Inode {
     /// The twelve kept bits of the mode, of which the low nine are the permissions.
     pub mode: u16,
-    /// The names of a file or link; two and the subdirectories of a directory.
+    /// The names of a file or symbolic link; two and the subdirectories of a directory.
     pub nlink: u32,
     pub uid: u32,
     pub gid: u32,

@@ -7,7 +7,7 @@ use Rattle.std.specs.Option.{is_some}
 use Rattle.std.specs.List.{filter, list_all, slice_split, onto_first}
 use Rattle.std.proofs.lemmas.Bool.{lt-ltb}
 use Rattle.nfs_items.specs.Terms.{Name}
-use Rattle.file_tree.specs.fs_model.Paths.{Places, path_at}
+use Rattle.file_tree.specs.fs_model.Paths.{DirectoryEntries, path_at}
 use Rattle.mount.specs.Paths.{slash, names_between, names_on}
 use Rattle.mount.specs.Walks.{is_root, is_there}
 
@@ -49,13 +49,13 @@ empty_is_no_root [] none = refl
 empty_is_no_root (byte ∷ rest) none = absurd (omega arith)
 
 -- nor does it lead anywhere
-pub empty_leads_nowhere : (at : Places) (path : List ℕ) → length path ≡ 0
+pub empty_leads_nowhere : (at : DirectoryEntries) (path : List ℕ) → length path ≡ 0
     → is_there at (names_on path) ≡ false
 empty_leads_nowhere at [] none = refl
 empty_leads_nowhere at (byte ∷ rest) none = absurd (omega arith)
 
 -- a path leads where the names after its slash do
-pub leads_as_names : (at : Places) (path : List ℕ) (byte : ℕ) (rest : List ℕ) → path ≡ byte ∷ rest
+pub leads_as_names : (at : DirectoryEntries) (path : List ℕ) (byte : ℕ) (rest : List ℕ) → path ≡ byte ∷ rest
     → is_there at (names_on path) ≡ ((byte == slash) && is_some (path_at at (names_between rest)))
 leads_as_names at path byte rest is = rw is (chosen (byte == slash))
   where

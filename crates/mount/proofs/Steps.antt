@@ -11,7 +11,7 @@ use Rattle.nfs_items.specs.Handle.{FileHandle}
 use Rattle.nfs_items.specs.Caller.{Caller}
 use Rattle.nfs_items.specs.Terms.{Name}
 use Rattle.nfs_items.specs.declared.stat.Stat.TheVariants.{NoEnt, Acces, NoSpc}
-use Rattle.file_tree.specs.fs_model.Files.{Files, places}
+use Rattle.file_tree.specs.fs_model.Files.{Files, directory_entries}
 use Rattle.file_tree.specs.fs_model.Paths.{path_at}
 use Rattle.mount_types.specs.Calls as calls
 use Rattle.mount_types.specs.Calls.{HostName, DirPath, Mount, MountCall, MountAnswer}
@@ -67,7 +67,7 @@ module _ (fs : Files) (mounts : Mounts) (host : HostName) where
       chosen false true = root
       chosen false false = full
   mount_answers P root absent there full (Some (name ∷ names)) =
-      chosen (is_some (path_at (places fs) (name ∷ names)))
+      chosen (is_some (path_at (directory_entries fs) (name ∷ names)))
     where
       chosen : (b : Bool) → P (calls.Mounted (Err (if b then Acces else NoEnt)))
       chosen true = there

@@ -7,18 +7,18 @@ use Rattle.std.specs.Option.{is_some, option_map_or}
 use Rattle.std.specs.List.{filter}
 use Rattle.std.proofs.lemmas.List.{at_drop_more, at_drop_all}
 use Rattle.nfs_items.specs.Terms.{Name}
-use Rattle.file_tree.specs.fs_model.Listing.{Place, place_number}
-use Rattle.file_tree.specs.fs_model.Paths.{Places, walk}
+use Rattle.file_tree.specs.fs_model.Listing.{DirectoryEntry, file_number}
+use Rattle.file_tree.specs.fs_model.Paths.{DirectoryEntries, walk}
 use Rattle.mount.specs.Walks.{number_after}
 
-module _ (at : Places) where
+module _ (at : DirectoryEntries) where
   -- the parts from a number on lead to something
   abbrev pub lead_on : ℕ → List Name → Bool
   lead_on n parts = is_some (walk at (n, 0) (filter (λ name. nat_lt 0 (length name)) parts))
 
   -- a walk goes by the numbers alone
-  by_number : (from : Place) (path : List Name)
-      → is_some (walk at from path) ≡ is_some (walk at (place_number from, 0) path)
+  by_number : (from : DirectoryEntry) (path : List Name)
+      → is_some (walk at from path) ≡ is_some (walk at (file_number from, 0) path)
   by_number from [] = refl
   by_number from (name ∷ path) = refl
 
@@ -26,16 +26,16 @@ module _ (at : Places) where
       → lead_on n (part ∷ parts) ≡ option_map_or (λ m. lead_on m parts) (number_after at n part) false
   one_part n part parts = chosen (nat_lt 0 (length part)) (filter (λ name. nat_lt 0 (length name)) parts)
     where
-      found : (o : Option Place) (names : List Name)
+      found : (o : Option DirectoryEntry) (names : List Name)
           → is_some (option_and_then (λ next. walk at next names) o)
-          ≡ option_map_or (λ m. is_some (walk at (m, 0) names)) (option_map place_number o) false
+          ≡ option_map_or (λ m. is_some (walk at (m, 0) names)) (option_map file_number o) false
       found None names = refl
       found (Some e) names = by_number e names
 
       chosen : (b : Bool) (names : List Name)
           → is_some (walk at (n, 0) (cond b (part ∷ names) names))
           ≡ option_map_or (λ m. is_some (walk at (m, 0) names))
-          (if b then option_map place_number (at n part) else Some n) false
+          (if b then option_map file_number (at n part) else Some n) false
       chosen true names = found (at n part) names
       chosen false names = refl
 

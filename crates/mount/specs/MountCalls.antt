@@ -6,7 +6,7 @@ use Rattle.nfs_items.specs.Handle.{handle_of}
 use Rattle.nfs_items.specs.Caller.{Caller}
 use Rattle.nfs_items.specs.Terms.{Name}
 use Rattle.nfs_items.specs.declared.stat.Stat.TheVariants.{NoEnt, Acces, NoSpc}
-use Rattle.file_tree.specs.fs_model.Files.{Files, places}
+use Rattle.file_tree.specs.fs_model.Files.{Files, directory_entries}
 use Rattle.file_tree.specs.fs_model.Paths.{path_at}
 use Rattle.mount_types.specs.Calls.{HostName, MountCall, Null, Mnt, Dump, Umnt, Umntall, Export, MountAnswer}
 use Rattle.mount_types.specs.Calls.{Nothing, Mounted, Mounts as Listed, Exports}
@@ -36,7 +36,7 @@ abbrev pub mount_at : Files → Mounts → HostName → Option (List Name) → M
 mount_at fs mounts host None = (Mounted (Err NoEnt), mounts)
 mount_at fs mounts host (Some []) = mount_root fs mounts host
 mount_at fs mounts host (Some (name ∷ names)) =
-    (Mounted (Err (if is_some (path_at (places fs) (name ∷ names)) then Acces else NoEnt)), mounts)
+    (Mounted (Err (if is_some (path_at (directory_entries fs) (name ∷ names)) then Acces else NoEnt)), mounts)
 
 -- a machine unmounts what names lead to: only the root can be mounted
 abbrev pub unmount_at : Mounts → HostName → Option (List Name) → Mounts

@@ -3,8 +3,8 @@
 use Rattle.std.specs.Prelude.{Bool, true, false, nat_lt, List, [], ◌∷◌, length, Option, Some, None, is_some}
 use Rattle.std.specs.Prelude.{option_map, if◌then◌else◌}
 use Rattle.nfs_items.specs.Terms.{Name, FileNumber}
-use Rattle.file_tree.specs.fs_model.Listing.{place_number}
-use Rattle.file_tree.specs.fs_model.Paths.{Places, path_at}
+use Rattle.file_tree.specs.fs_model.Listing.{file_number}
+use Rattle.file_tree.specs.fs_model.Paths.{DirectoryEntries, path_at}
 
 -- names lead to the root itself
 abbrev pub is_root : Option (List Name) → Bool
@@ -13,11 +13,11 @@ is_root (Some []) = true
 is_root (Some (name ∷ names)) = false
 
 -- names lead to something
-abbrev pub is_there : Places → Option (List Name) → Bool
+abbrev pub is_there : DirectoryEntries → Option (List Name) → Bool
 is_there at None = false
 is_there at (Some names) = is_some (path_at at names)
 
 -- the number of what stands between slashes, in the directory of a number;
 -- nothing between two is the directory itself
-abbrev pub number_after : Places → FileNumber → Name → Option FileNumber
-number_after at dir name = if nat_lt 0 (length name) then option_map place_number (at dir name) else Some dir
+abbrev pub number_after : DirectoryEntries → FileNumber → Name → Option FileNumber
+number_after at dir name = if nat_lt 0 (length name) then option_map file_number (at dir name) else Some dir

@@ -60,10 +60,13 @@ pub kept_by_change : (fs : Files) (links above links' above' : ℕ → ℕ) (ent
     → ((n : ℕ) → links' n ≡ links n) → ((n : ℕ) → above' n ≡ above n)
     → entries' ≡ entries → blocks' + blocks_in f.body ≡ blocks + blocks_in (change f).body → blocks' ≤ 32768
     → IsKept (with_changed_file fs k change) links' above' entries' blocks'
-kept_by_change fs links above links' above' entries blocks entries' blocks' k f change kept may same same_above e b most =
+kept_by_change fs links above links' above' entries blocks entries' blocks' k f change kept may same
+    same_above e b most =
     let after = with_changed_file fs k change in
-    let lists = λ (g : File) (h : file_at fs k ≡ Some g). of_file (λ g. listing_in (change g).body ≡ listing_in g.body) may.listing g h in
-    let keeps = λ (g : File) (h : file_at fs k ≡ Some g). of_file (λ g. is_directory (change g).body ≡ is_directory g.body) may.kind g h in
+    let lists = λ (g : File) (h : file_at fs k ≡ Some g). of_file
+    (λ g. listing_in (change g).body ≡ listing_in g.body) may.listing g h in
+    let keeps = λ (g : File) (h : file_at fs k ≡ Some g). of_file
+    (λ g. is_directory (change g).body ≡ is_directory g.body) may.kind g h in
     let shape = same_shape fs k change lists keeps in
     let tree = stays_shaped fs after kept.tree shape
     (changed_files fs k change kept.tree.files (λ g h. of_file (λ g. IsFile (change g)) may.file g h)) in
@@ -73,14 +76,17 @@ kept_by_change fs links above links' above' entries blocks entries' blocks' k f 
       room = (to_write fs kept.room k change f may.there may.listing).1 (omega (arith, b, most, kept.blocks));
       words = record {
         fsid = kept.words.fsid;
-        files = changed_words fs k change kept.words.files (λ g h. of_file (λ g. HasWords (change g)) may.words g h);
+        files = changed_words fs k change kept.words.files
+            (λ g h. of_file (λ g. HasWords (change g)) may.words g h);
       };
       counted = counted_by after links' above'
-          (λ n is. same n ∙ kept_links fs links above kept.counted n (sym (ap is_some (shape.kinds n)) ∙ is) ∙ sym (changed_links fs k change lists keeps n))
+          (λ n is. same n ∙ kept_links fs links above kept.counted n (sym (ap is_some (shape.kinds n)) ∙ is)
+          ∙ sym (changed_links fs k change lists keeps n))
           (λ n is.
           let was = sym (shape.kinds n) ∙ is in
           same_above n ∙ kept.counted.parents n was
-          ∙ sym (parent_stays fs after kept.tree tree n was is (λ d c y h. (c, sym (shape.places d y) ∙ h))));
+          ∙ sym (parent_stays fs after kept.tree tree n was is
+          (λ d c y h. (c, sym (shape.directory_entries d y) ∙ h))));
       entries = e ∙ kept.entries ∙ sym (changed_entries fs k change lists keeps);
       blocks = omega (arith, b, kept.blocks, blocks_after);
     }
@@ -95,15 +101,17 @@ stamped : (fs : Files) (links above : ℕ → ℕ) (entries blocks : ℕ) → Is
     → IsKept (with_changed_file fs k change) links above entries blocks
 stamped fs links above entries blocks kept k change body fits words = by (file_at fs k) refl
   where
-    by : (o : Option File) → file_at fs k ≡ o → IsKept (with_changed_file fs k change) links above entries blocks
+    by : (o : Option File) → file_at fs k ≡ o
+        → IsKept (with_changed_file fs k change) links above entries blocks
     by None e = subst (λ w. IsKept w links above entries blocks) (sym (nothing_changes fs k change 0 e)) kept
-    by (Some f) e = kept_by_change fs links above links above entries blocks entries blocks k f change kept (record {
-      there = e;
-      listing = ap listing_in (body f);
-      kind = ap is_directory (body f);
-      file = fits f (kept.tree.files k f e);
-      words = words f (kept.words.files k f e);
-    }) (λ n. refl) (λ n. refl) refl (ap (λ b. blocks + blocks_in b) (sym (body f)))
+    by (Some f) e =
+        kept_by_change fs links above links above entries blocks entries blocks k f change kept (record {
+          there = e;
+          listing = ap listing_in (body f);
+          kind = ap is_directory (body f);
+          file = fits f (kept.tree.files k f e);
+          words = words f (kept.words.files k f e);
+        }) (λ n. refl) (λ n. refl) refl (ap (λ b. blocks + blocks_in b) (sym (body f)))
         (omega (arith, kept.blocks, (within fs kept.room).blocks))
 
 -- times leave what is kept

@@ -57,10 +57,20 @@ module _ (now : Timeval) (time : IsTime now) (word : now.seconds < 2 ^ 32) (fs :
 
   room : IsTrue (has_room after)
   room = (to_link now fs kept.room dir name edit.file edit.there edit.directory may.free from).1
-      (subst (HasRoomToLink fs) (ap (λ (l : Listing). l.next) (listing_there fs dir edit.file edit.there)) may.room)
+      (subst (HasRoomToLink fs)
+      (ap (λ (l : Listing). l.next) (listing_there fs dir edit.file edit.there)) may.room)
 
   ok : LinkOk fs superuser now from dir name after
-  ok = record { file = f; there = may.there; plain = may.plain; directory = edit; free = may.free; room = room; effect = refl }
+  ok = record {
+    file = f;
+    there = may.there;
+    plain = may.plain;
+    directory = edit;
+    free = may.free;
+    room =
+        room;
+    effect = refl;
+  }
 
   added : IsAdded fs after dir name from (listing fs dir).next
   added = link_added now time fs kept.tree superuser dir name may.bounded from after ok
@@ -72,8 +82,10 @@ module _ (now : Timeval) (time : IsTime now) (word : now.seconds < 2 ^ 32) (fs :
   shape = mark_shape now fs from
 
   more : HasEntryMore marked named dir from false
-  more = named_more marked dir from name false edit.file (changed_other fs from (with_ctime now) dir other ∙ edit.there) edit.directory
-      (distinct_names fs dir edit.file kept.tree.files edit.there) (shape.kinds from ∙ from_kind) (shape.places dir name ∙ may.free)
+  more = named_more marked dir from name false edit.file
+      (changed_other fs from (with_ctime now) dir other ∙ edit.there) edit.directory
+      (distinct_names fs dir edit.file kept.tree.files edit.there) (shape.kinds from ∙ from_kind)
+      (shape.directory_entries dir name ∙ may.free)
 
   counts : (n : ℕ) → link_count after n ≡ link_count fs n + one n from
   counts n = (touched_alike now named dir).links n ∙ more_links marked named dir from false more n
@@ -93,18 +105,35 @@ module _ (now : Timeval) (time : IsTime now) (word : now.seconds < 2 ^ 32) (fs :
       fsid = kept.words.fsid;
       files =
           let says = says_words now word in
-          touch_on now superuser says named dir (name_on now superuser says marked dir name from (mark_on now superuser says fs from kept.words.files));
+          touch_on now superuser says named dir
+          (name_on now superuser says marked dir name from
+          (mark_on now superuser says fs from kept.words.files));
     };
     counted = counted_by after links' above'
         (λ n is.
         let was = kept_links fs links above kept.counted n (sym (ap is_some (kinds n)) ∙ is) in
         ⊎_elim
-        (λ e. let same = ap links' e in let before = ap links e in omega (arith, same, before, own, was, counts n, one_same n from e))
+        (λ e. let same = ap links' e in let before = ap links e in
+        omega (arith, same, before, own, was, counts n, one_same n from e))
         (λ ne. omega (arith, others n ne, was, counts n, one_other n from ne))
         (cases_eq n from))
         (λ n is. same_above n ∙ kept.counted.parents n (sym (kinds n) ∙ is)
         ∙ sym (added_parents fs after kept.tree follows.tree dir name from (listing fs dir).next added n
         (λ e. true_false (sym is ∙ kinds n ∙ ap (kind fs) e ∙ from_kind)) is));
-    entries = omega (arith, e, kept.entries, (touched_alike now named dir).entries, more.entries, (marked_alike now fs from).entries);
-    blocks = omega (arith, b, kept.blocks, (touched_alike now named dir).blocks, more.blocks, (marked_alike now fs from).blocks);
+    entries = omega (
+      arith,
+      e,
+      kept.entries,
+      (touched_alike now named dir).entries,
+      more.entries,
+      (marked_alike now fs from).entries,
+    );
+    blocks = omega (
+      arith,
+      b,
+      kept.blocks,
+      (touched_alike now named dir).blocks,
+      more.blocks,
+      (marked_alike now fs from).blocks,
+    );
   }

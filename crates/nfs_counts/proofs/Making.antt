@@ -51,30 +51,39 @@ module _ (now : Timeval) (time : IsTime now) (word : now.seconds < 2 ^ 32) (fs :
   other e = omega (arith, e, kept.tree.numbers dir (kept.tree.tree.there dir may.directory))
 
   room : IsTrue (has_room after)
-  room = (to_make now fs kept.tree kept.room dir name edit.file edit.there edit.directory may.free f may.empty may.cookie).1
-      (subst (λ c. HasRoomToMake fs c (blocks_in f.body)) (ap (λ (l : Listing). l.next) (listing_there fs dir edit.file edit.there)) may.room)
+  room = (to_make now fs kept.tree kept.room dir name edit.file edit.there edit.directory may.free f may.empty
+      may.cookie).1
+      (subst (λ c. HasRoomToMake fs c (blocks_in f.body))
+      (ap (λ (l : Listing). l.next) (listing_there fs dir edit.file edit.there)) may.room)
 
   ok : MakeOk fs superuser now dir name f fs.next after
   ok = record { directory = edit; free = may.free; room = room; is_next = refl; effect = refl }
 
   added : IsAdded fs after dir name fs.next (listing fs dir).next
-  added = make_added now time fs kept.tree superuser dir name may.bounded f may.empty may.file fs.next after ok
+  added = make_added now time fs kept.tree superuser dir name may.bounded f may.empty may.file fs.next after
+      ok
 
   follows : Follows fs after
-  follows = make_follows now time fs kept.tree superuser dir name may.bounded f may.empty may.file fs.next after ok
+  follows = make_follows now time fs kept.tree superuser dir name may.bounded f may.empty may.file fs.next
+      after ok
 
   shape : IsOneMore fs one_more fs.next (is_directory f.body)
   shape = new_shape fs f free may.empty
 
   more : HasEntryMore one_more (with_name one_more dir name fs.next) dir fs.next (is_directory f.body)
-  more = named_more one_more dir fs.next name (is_directory f.body) edit.file (new_other fs f dir other ∙ edit.there) edit.directory
-      (distinct_names fs dir edit.file kept.tree.files edit.there) shape.new (shape.places dir name ∙ may.free)
+  more = named_more one_more dir fs.next name (is_directory f.body) edit.file
+      (new_other fs f dir other ∙ edit.there) edit.directory
+      (distinct_names fs dir edit.file kept.tree.files edit.there) shape.new
+      (shape.directory_entries dir name ∙ may.free)
 
   own_kind : kind after fs.next ≡ Some (is_directory f.body)
-  own_kind = (touch_shape now (with_name one_more dir name fs.next) dir).kinds fs.next ∙ more.kinds fs.next ∙ shape.new
+  own_kind = (touch_shape now (with_name one_more dir name fs.next) dir).kinds fs.next ∙ more.kinds fs.next
+      ∙ shape.new
 
-  counts : (n : ℕ) → link_count after n ≡ link_count one_more n + one n (cond (is_directory f.body) dir fs.next)
-  counts n = (touched_alike now (with_name one_more dir name fs.next) dir).links n ∙ more_links one_more _ dir fs.next (is_directory f.body) more n
+  counts : (n : ℕ) → link_count after n ≡ link_count one_more n + one n
+      (cond (is_directory f.body) dir fs.next)
+  counts n = (touched_alike now (with_name one_more dir name fs.next) dir).links n
+      ∙ more_links one_more _ dir fs.next (is_directory f.body) more n
 
   own_links : (b : Bool) → cond b 2 0 + one fs.next (cond b dir fs.next) ≡ cond b 2 1
   own_links true = let zero = one_other fs.next dir (λ e. other (sym e)) in omega (arith, zero)
@@ -99,22 +108,54 @@ module _ (now : Timeval) (time : IsTime now) (word : now.seconds < 2 ^ 32) (fs :
   kept_by_make made e b = record {
     tree = follows.tree;
     room = room;
-    words = record { fsid = kept.words.fsid; files = make_on now superuser (says_words now word) fs dir name f may.words kept.words.files };
+    words = record {
+      fsid = kept.words.fsid;
+      files =
+          make_on now superuser (says_words now word) fs dir name f may.words kept.words.files;
+    };
     counted = counted_by after links' above'
         (λ n is. ⊎_elim
-        (λ new. ap links' new ∙ made.own ∙ sym (ap (link_count after) new ∙ counts fs.next ∙ ap (λ a. a + one fs.next (cond (is_directory f.body) dir fs.next)) (new_own fs f free (next_unnamed fs kept.tree) may.empty) ∙ own_links (is_directory f.body)))
+        (λ new. ap links' new ∙ made.own
+        ∙ sym (ap (link_count after) new ∙ counts fs.next
+        ∙ ap (λ a. a + one fs.next (cond (is_directory f.body) dir fs.next))
+        (new_own fs f free (next_unnamed fs kept.tree) may.empty) ∙ own_links (is_directory f.body)))
         (λ not. ⊎_elim
-        (λ d. let same = ap links' d in let was = ap links d in let one = ap (λ m. one m (cond (is_directory f.body) dir fs.next)) d ∙ dir_links (is_directory f.body) in
+        (λ d. let same = ap links' d in let was = ap links d in let one =
+        ap (λ m. one m (cond (is_directory f.body) dir fs.next)) d ∙ dir_links (is_directory f.body) in
         omega (arith, same, was, made.directory, unfolded n not is, counts n, one))
-        (λ ne. omega (arith, made.others n not ne, unfolded n not is, counts n, other_links (is_directory f.body) n not ne))
+        (λ ne. omega (
+          arith,
+          made.others n not ne,
+          unfolded n not is,
+          counts n,
+          other_links (is_directory f.body) n not ne,
+        ))
         (cases_eq n dir))
         (cases_eq n fs.next))
         (λ n is. ⊎_elim
         (λ new. ap above' new ∙ made.own_above (some_same (sym own_kind ∙ sym (ap (kind after) new) ∙ is))
-        ∙ sym (ap (parent_of after) new ∙ follows.tree.tree.up dir name fs.next (listing fs dir).next added.change.here (sym (ap (kind after) new) ∙ is)))
+        ∙ sym (ap (parent_of after) new
+        ∙ follows.tree.tree.up dir name fs.next (listing fs dir).next added.change.here
+        (sym (ap (kind after) new) ∙ is)))
         (λ not. made.others_above n not ∙ kept.counted.parents n (sym (added.kinds n not) ∙ is)
-        ∙ sym (added_parents fs after kept.tree follows.tree dir name fs.next (listing fs dir).next added n not is))
+        ∙ sym (added_parents fs after kept.tree follows.tree dir name fs.next
+        (listing fs dir).next added n not is))
         (cases_eq n fs.next));
-    entries = omega (arith, e, kept.entries, (touched_alike now (with_name one_more dir name fs.next) dir).entries, more.entries, new_entries fs f free (next_unnamed fs kept.tree) may.empty);
-    blocks = omega (arith, b, kept.blocks, (touched_alike now (with_name one_more dir name fs.next) dir).blocks, more.blocks, new_blocks fs f free (next_unnamed fs kept.tree) may.empty);
+    entries = omega (
+      arith,
+      e,
+      kept.entries,
+      (touched_alike now (with_name one_more dir name fs.next) dir).entries,
+      more.entries,
+      new_entries fs f free (next_unnamed fs kept.tree) may.empty,
+    );
+    blocks = omega (
+      arith,
+      b,
+      kept.blocks,
+      (touched_alike now
+          (with_name one_more dir name fs.next) dir).blocks,
+      more.blocks,
+      new_blocks fs f free (next_unnamed fs kept.tree) may.empty,
+    );
   }

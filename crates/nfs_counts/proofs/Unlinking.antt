@@ -21,13 +21,17 @@ use Rattle.nfs_counts.proofs.Kept.{kept_links, counted_by, taken_parents, superu
 use Rattle.nfs_counts.proofs.Unnaming.{IsUnlinked, last_by_links, unlinks, unlinked_links}
 
 module _ (fs : Files) (links above : ℕ → ℕ) (entries blocks : ℕ) (kept : IsKept fs links above entries blocks)
-    (dir : ℕ) (name : List ℕ) (number cookie : ℕ) (f : File) (may : MayUnlink fs dir name number cookie f) where
+    (dir : ℕ) (name : List ℕ) (number cookie : ℕ) (f : File)
+    (may : MayUnlink fs dir name number cookie f) where
   own_links : links number ≡ link_count fs number
-  own_links = kept_links fs links above kept.counted number (ap (λ (o : Option File). is_some (option_map (λ f. is_directory f.body) o)) may.there)
+  own_links = kept_links fs links above kept.counted number
+      (ap (λ (o : Option File). is_some (option_map (λ f. is_directory f.body) o)) may.there)
 
   -- which name is the last is told by what is kept
   pub last_name_told : eqb (names_of (without_name fs dir name) number) 0 ≡ is_last_name f.body (links number)
-  last_name_told = last_by_links fs kept.tree dir name number cookie may.is_named f may.there may.empty ∙ ap (is_last_name f.body) (sym own_links)
+  last_name_told =
+      last_by_links fs kept.tree dir name number cookie may.is_named f may.there may.empty
+      ∙ ap (is_last_name f.body) (sym own_links)
 
 module _ (now : Timeval) (time : IsTime now) (word : now.seconds < 2 ^ 32) (fs : Files)
     (links above links' above' : ℕ → ℕ) (entries blocks entries' blocks' : ℕ)
@@ -41,7 +45,8 @@ module _ (now : Timeval) (time : IsTime now) (word : now.seconds < 2 ^ 32) (fs :
 
   ok : UnnameOk (is_directory f.body) fs superuser now dir name after
   ok = record {
-    directory = may_edit fs dir name (kept.tree.tree.lists dir name number cookie may.is_named) (kept.tree.names dir name (ap is_some may.is_named)).0;
+    directory = may_edit fs dir name (kept.tree.tree.lists dir name number cookie may.is_named)
+        (kept.tree.names dir name (ap is_some may.is_named)).0;
     number = number;
     cookie = cookie;
     is_named = may.is_named;
@@ -76,14 +81,18 @@ module _ (now : Timeval) (time : IsTime now) (word : now.seconds < 2 ^ 32) (fs :
       fsid = kept.words.fsid;
       files =
           let says = says_words now word in
-          touch_on now superuser says left dir (unname now superuser says fs dir name number kept.words.files);
+          touch_on now superuser says left dir
+          (unname now superuser says fs dir name number kept.words.files);
     };
     counted = counted_by after links' above'
-        (λ n is. unlinked_links fs left dir number f links links' unlinked same_links counts (kept_links fs links above kept.counted) n
-        (sym (ap is_some ((touch_shape now left dir).kinds n)) ∙ is) ∙ sym ((touched_alike now left dir).links n))
+        (λ n is. unlinked_links fs left dir number f links links' unlinked same_links counts
+        (kept_links fs links above kept.counted) n
+        (sym (ap is_some ((touch_shape now left dir).kinds n)) ∙ is)
+        ∙ sym ((touched_alike now left dir).links n))
         (λ n is.
         let p = taken_parents fs after kept.tree follows.tree dir name number cookie taken n is in
         same_above n p.0 ∙ kept.counted.parents n (sym (taken.kinds n p.0) ∙ is) ∙ sym p.1);
     entries = omega (arith, e, kept.entries, unlinked.entries, (touched_alike now left dir).entries);
-    blocks = let freed = ap (blocks_freed f.body) same_links in omega (arith, b, kept.blocks, freed, unlinked.blocks, (touched_alike now left dir).blocks);
+    blocks = let freed = ap (blocks_freed f.body) same_links in
+        omega (arith, b, kept.blocks, freed, unlinked.blocks, (touched_alike now left dir).blocks);
   }

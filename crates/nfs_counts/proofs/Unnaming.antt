@@ -9,7 +9,8 @@ use Rattle.std.specs.Cmp.Lexicographic.{pointwise}
 use Rattle.std.proofs.lemmas.Bool.{cases_eq, eqb-true, or_parts}
 use Rattle.nfs_items.specs.Timeval.{Timeval}
 use Rattle.nfs_laws.specs.fs_model.Listing.{entry_at}
-use Rattle.nfs_laws.specs.fs_model.Files.{File, Files, file_at, listing_in, is_directory, places, names_of}
+use Rattle.nfs_laws.specs.fs_model.Files.{File, Files, file_at, listing_in, is_directory, directory_entries}
+use Rattle.nfs_laws.specs.fs_model.Files.{names_of}
 use Rattle.nfs_laws.specs.fs_model.Trees.{IsFileTree}
 use Rattle.nfs_laws.proofs.fs_model.Walks.{none_some}
 use Rattle.nfs_laws.proofs.fs_model.OnePath.{root_has_no_name}
@@ -49,17 +50,17 @@ nothing_there o e h = tf (sym (ap is_some e) ∙ h)
     tf h = cc
 
 module _ (w : Files) (tree : IsFileTree w) (d : ℕ) (x : List ℕ) (n c : ℕ)
-    (had : places w d x ≡ Some (n, c)) (f : File) (there : file_at w n ≡ Some f)
+    (had : directory_entries w d x ≡ Some (n, c)) (f : File) (there : file_at w n ≡ Some f)
     (empty : (listing_in f.body).entries ≡ []) where
   left : Files
   left = without_name w d x
 
-  lists_nothing : places w n x ≡ None
+  lists_nothing : directory_entries w n x ≡ None
   lists_nothing = ap (option_and_then (λ f. entry_at (listing_in f.body) x)) there
       ∙ ap (λ (es : List (List ℕ × (ℕ × ℕ))). lookup (pointwise nat_eq x) es) empty
 
   not_above : n ≢ d
-  not_above e = none_some (sym lists_nothing ∙ ap (λ m. places w m x) e ∙ had)
+  not_above e = none_some (sym lists_nothing ∙ ap (λ m. directory_entries w m x) e ∙ had)
 
   own_kind : kind w n ≡ Some (is_directory f.body)
   own_kind = ap (option_map (λ f. is_directory f.body)) there
@@ -68,7 +69,8 @@ module _ (w : Files) (tree : IsFileTree w) (d : ℕ) (x : List ℕ) (n c : ℕ)
   unfolding left
   less =
       let df = dir_file w d (tree.tree.lists d x n c had) in
-      unnamed_less w d n x (is_directory f.body) df.0 df.1 df.2 (distinct_names w d df.0 tree.files df.1) own_kind c had
+      unnamed_less w d n x (is_directory f.body) df.0 df.1 df.2
+      (distinct_names w d df.0 tree.files df.1) own_kind c had
 
   there_left : file_at left n ≡ Some f
   unfolding left
@@ -90,17 +92,21 @@ module _ (w : Files) (tree : IsFileTree w) (d : ℕ) (x : List ℕ) (n c : ℕ)
       by false e =
           let plain = plain_links w n f there e in
           ⊎_elim
-          (λ none. eq-eqb (names_of left n) 0 none ∙ sym (eq-eqb (link_count w n) 1 (omega (arith, plain, one_left, none))))
-          (λ some. ne_eqb (names_of left n) 0 some ∙ sym (ne_eqb (link_count w n) 1 (λ one. some (omega (arith, plain, one_left, one)))))
+          (λ none. eq-eqb (names_of left n) 0 none
+          ∙ sym (eq-eqb (link_count w n) 1 (omega (arith, plain, one_left, none))))
+          (λ some. ne_eqb (names_of left n) 0 some
+          ∙ sym (ne_eqb (link_count w n) 1 (λ one. some (omega (arith, plain, one_left, one)))))
           (cases_eq (names_of left n) 0)
 
   links_left : (m : ℕ) → link_count left m + one m (cond (is_directory f.body) d n) ≡ link_count w m
   links_left m = sym (more_links left w d n (is_directory f.body) less m)
 
   -- a name goes, and with the last one the file
-  pub unlinks : (now : Timeval) → IsUnlinked w (unlink now w d x n) d n f (is_last_name f.body (link_count w n))
+  pub unlinks : (now : Timeval)
+      → IsUnlinked w (unlink now w d x n) d n f (is_last_name f.body (link_count w n))
   unfolding left
-  unlinks now = subst (λ b. IsUnlinked w (unlink now w d x n) d n f b) last_by_links (by (eqb (names_of left n) 0) refl)
+  unlinks now =
+      subst (λ b. IsUnlinked w (unlink now w d x n) d n f b) last_by_links (by (eqb (names_of left n) 0) refl)
     where
       by : (b : Bool) → eqb (names_of left n) 0 ≡ b → IsUnlinked w (after_unlink b now left n) d n f b
       by true e =
@@ -110,9 +116,11 @@ module _ (w : Files) (tree : IsFileTree w) (d : ℕ) (x : List ℕ) (n c : ℕ)
             apart = not_above;
             gone = λ _. shape.gone;
             own = λ h. absurd cc;
-            others = λ m ne. let kept = gone_others left n f there_left none empty m ne in omega (arith, kept, links_left m);
+            others = λ m ne. let kept = gone_others left n f there_left none empty m ne in
+                omega (arith, kept, links_left m);
             kinds = λ m is. ⊎_elim
-                (λ same. absurd (nothing_there (kind (without_file left n) m) (ap (kind (without_file left n)) same ∙ shape.gone) is))
+                (λ same. absurd (nothing_there (kind (without_file left n) m)
+                (ap (kind (without_file left n)) same ∙ shape.gone) is))
                 (λ ne. shape.kinds m ne ∙ sym (less.kinds m))
                 (cases_eq m n);
             entries = omega (arith, gone_entries left n f there_left none empty, less.entries);
@@ -137,7 +145,8 @@ pub unlinked_links : (w w' : Files) (d n : ℕ) (f : File) (links links' : ℕ �
     → ((m : ℕ) → IsSome (kind w m) → links m ≡ link_count w m)
     → (m : ℕ) → IsSome (kind w' m) → links' m ≡ link_count w' m
 unlinked_links w w' d n f links links' u own counts kept m is = ⊎_elim
-    (λ e. ap links' e ∙ left (is_last_name f.body (link_count w n)) refl (subst (λ i. IsSome (kind w' i)) e is) ∙ sym (ap (link_count w') e))
+    (λ e. ap links' e ∙ left (is_last_name f.body (link_count w n)) refl
+    (subst (λ i. IsSome (kind w' i)) e is) ∙ sym (ap (link_count w') e))
     (λ not.
     let was = kept m (sym (ap is_some (u.kinds m is)) ∙ is) in
     ⊎_elim
@@ -147,7 +156,13 @@ unlinked_links w w' d n f links links' u own counts kept m is = ⊎_elim
     let one_here : one m (cond (is_directory f.body) d n) ≡ cond (is_directory f.body) 1 0 =
     ap (λ i. one i (cond (is_directory f.body) d n)) e ∙ in_directory (is_directory f.body) in
     omega (arith, here, before, counts.directory, u.others m not, was, one_here))
-    (λ ne. omega (arith, counts.others m not ne, u.others m not, was, elsewhere (is_directory f.body) m not ne))
+    (λ ne. omega (
+      arith,
+      counts.others m not ne,
+      u.others m not,
+      was,
+      elsewhere (is_directory f.body) m not ne,
+    ))
     (cases_eq m d))
     (cases_eq m n)
   where
@@ -159,10 +174,12 @@ unlinked_links w w' d n f links links' u own counts kept m is = ⊎_elim
     elsewhere true m not ne = one_other m d ne
     elsewhere false m not ne = one_other m n not
 
-    left : (b : Bool) → is_last_name f.body (link_count w n) ≡ b → IsSome (kind w' n) → links' n ≡ link_count w' n
+    left : (b : Bool) → is_last_name f.body (link_count w n) ≡ b → IsSome (kind w' n)
+        → links' n ≡ link_count w' n
     left true e is = absurd (nothing_there (kind w' n) (u.gone e) is)
     left false e is =
         let plain : one n (cond (is_directory f.body) d n) ≡ 1 =
-        ap (λ b. one n (cond b d n)) (or_parts (is_directory f.body) (eqb (link_count w n) 1) e).0 ∙ one_same n n refl in
+        ap (λ b. one n (cond b d n)) (or_parts (is_directory f.body) (eqb (link_count w n) 1) e).0
+        ∙ one_same n n refl in
         let less = counts.own (ap (is_last_name f.body) own ∙ e) in
         omega (arith, less, own, u.own e, plain)

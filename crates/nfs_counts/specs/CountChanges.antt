@@ -5,7 +5,7 @@ use Rattle.nfs_items.specs.Terms.{FileNumber, Cookie, Name}
 use Rattle.nfs_laws.specs.fs_model.Names.{is_name}
 use Rattle.nfs_laws.specs.fs_model.Maxima.{max_name, max_number}
 use Rattle.nfs_laws.specs.fs_model.Files.{Body, File, Files, file_at, listing_in, listing, is_directory}
-use Rattle.nfs_laws.specs.fs_model.Files.{IsDirectory, places}
+use Rattle.nfs_laws.specs.fs_model.Files.{IsDirectory, directory_entries}
 use Rattle.nfs_laws.specs.fs_model.Trees.{IsFile}
 use Rattle.nfs_laws.specs.fs_model.Changes.Limits.{blocks_in}
 use Rattle.nfs_laws.specs.nfs_spec.Procedures.{is_above}
@@ -28,7 +28,7 @@ pub record MayChange (fs : Files) (k : FileNumber) (f : File) (change : File →
 -- a new file that lists nothing may go under a free name of a directory
 pub record MayMake (fs : Files) (dir : FileNumber) (name : Name) (f : File) : Type 0 where
   pub directory : IsDirectory fs dir
-  pub free : places fs dir name ≡ None
+  pub free : directory_entries fs dir name ≡ None
   pub named : IsTrue (is_name name)
   pub bounded : length name ≤ max_name
   pub empty : (listing_in f.body).entries ≡ []
@@ -51,7 +51,7 @@ pub record MayLink (fs : Files) (from dir : FileNumber) (name : Name) (f : File)
   pub there : file_at fs from ≡ Some f
   pub plain : is_directory f.body ≡ false
   pub directory : IsDirectory fs dir
-  pub free : places fs dir name ≡ None
+  pub free : directory_entries fs dir name ≡ None
   pub named : IsTrue (is_name name)
   pub bounded : length name ≤ max_name
   pub room : HasRoomToLink fs (listing fs dir).next
@@ -61,7 +61,7 @@ pub record MayLink (fs : Files) (from dir : FileNumber) (name : Name) (f : File)
 -- a name may go if what it stands for lists nothing
 pub record MayUnlink (fs : Files) (dir : FileNumber) (name : Name) (number : FileNumber) (cookie : Cookie)
     (f : File) : Type 0 where
-  pub is_named : places fs dir name ≡ Some (number, cookie)
+  pub is_named : directory_entries fs dir name ≡ Some (number, cookie)
   pub there : file_at fs number ≡ Some f
   pub empty : (listing_in f.body).entries ≡ []
 
@@ -85,12 +85,12 @@ pub record CountsUnlinked (dir number : FileNumber) (body : Body) (links links' 
 -- the file at a name may go to another, in place of the target that may stand there
 pub record MayMove (fs : Files) (number from : FileNumber) (from_name : Name) (to : FileNumber)
     (to_name : Name) (f : File) (cookie : Cookie) (target : Option FileNumber) : Type 0 where
-  pub is_named : places fs from from_name ≡ Some (number, cookie)
+  pub is_named : directory_entries fs from from_name ≡ Some (number, cookie)
   pub there : file_at fs number ≡ Some f
   pub directory : IsDirectory fs to
   pub named : IsTrue (is_name to_name)
   pub bounded : length to_name ≤ max_name
-  pub is_target : target ≡ option_map (λ e. e.0) (places fs to to_name)
+  pub is_target : target ≡ option_map (λ e. e.0) (directory_entries fs to to_name)
   pub other : target ≢ Some number
   pub not_above : (is_directory f.body && is_above fs number to) ≡ false
   pub replaces : (t : FileNumber) → target ≡ Some t → MayReplace fs f t

@@ -4,7 +4,8 @@ ghost use Rattle.std.specs.Prelude.{◌≡◌, ◌≢◌, ℕ, ◌+◌, ◌==◌
 ghost use Rattle.nfs_items.specs.Timeval.{Timeval};
 ghost use Rattle.nfs_items.specs.Terms.{FileNumber, Cookie, Name};
 ghost use Rattle.nfs_laws.specs.fs_model.Maxima.{max_entries, max_blocks};
-ghost use Rattle.nfs_laws.specs.fs_model.Files.{File, Files, file_at, IsDirectory, places, names_of};
+ghost use Rattle.nfs_laws.specs.fs_model.Files.{File, Files, file_at, IsDirectory, directory_entries};
+ghost use Rattle.nfs_laws.specs.fs_model.Files.{names_of};
 ghost use Rattle.nfs_laws.specs.fs_model.Trees.{IsTime};
 ghost use Rattle.nfs_laws.specs.fs_model.Changes.Edits.{with_changed_file, with_name, without_name};
 ghost use Rattle.nfs_laws.specs.fs_model.Changes.Limits.{blocks_in};
@@ -88,11 +89,11 @@ pub fn kept_numbers_are_bounded()
     ensures parent { (fs : Files) (links above : FileNumber → ℕ) (entries blocks : ℕ) →
         IsKept fs links above entries blocks →
         (dir : FileNumber) (name : Name) (n : FileNumber) (cookie : Cookie) →
-        places fs dir name ≡ Some (n, cookie) → IsDirectory fs n → 3 ≤ links dir }
+        directory_entries fs dir name ≡ Some (n, cookie) → IsDirectory fs n → 3 ≤ links dir }
     ensures above { (fs : Files) (links above : FileNumber → ℕ) (entries blocks : ℕ) →
         IsKept fs links above entries blocks →
         (dir : FileNumber) (name : Name) (n : FileNumber) (cookie : Cookie) →
-        places fs dir name ≡ Some (n, cookie) → IsDirectory fs n → above n ≡ dir }
+        directory_entries fs dir name ≡ Some (n, cookie) → IsDirectory fs n → above n ≡ dir }
     ensures entries { (fs : Files) (links above : FileNumber → ℕ) (entries blocks : ℕ) →
         IsKept fs links above entries blocks → entries ≤ max_entries }
     ensures blocks { (fs : Files) (links above : FileNumber → ℕ) (entries blocks : ℕ) →

@@ -43,10 +43,19 @@ IsGiven e = is_ever_given e ≡ true
 
 -- it is none of the six, one by one
 abbrev pub IsNoneOfSix : Stat → Type 0
-IsNoneOfSix e = (e ≢ stats.Io) × (e ≢ stats.NoDev) × (e ≢ stats.RoFs) × (e ≢ stats.NameTooLong) × (e ≢ stats.DQuot) × (e ≢ stats.WFlush)
+IsNoneOfSix e =
+    (e ≢ stats.Io) × (e ≢ stats.NoDev) × (e ≢ stats.RoFs) × (e ≢ stats.NameTooLong) × (e ≢ stats.DQuot)
+    × (e ≢ stats.WFlush)
 
 none_of_six : (e : Stat) → IsGiven e → IsNoneOfSix e
-none_of_six e h = (differs stats.Io refl, differs stats.NoDev refl, differs stats.RoFs refl, differs stats.NameTooLong refl, differs stats.DQuot refl, differs stats.WFlush refl)
+none_of_six e h = (
+  differs stats.Io refl,
+  differs stats.NoDev refl,
+  differs stats.RoFs refl,
+  differs stats.NameTooLong refl,
+  differs stats.DQuot refl,
+  differs stats.WFlush refl,
+)
   where
     differs : (s : Stat) → is_ever_given s ≡ false → e ≢ s
     differs s out is = no_some (sym out ∙ sym (ap is_ever_given is) ∙ h)
@@ -56,7 +65,8 @@ abbrev Gives : {A : Type 0} → Result A Stat → Type 0
 Gives (Ok x) = Unit {0}
 Gives (Err e) = IsGiven e
 
-one_after : {A B : Type 0} (r : Result A Stat) (f : A → Result B Stat) → Gives r → ((a : A) → Gives (f a)) → Gives (r >>= f)
+one_after : {A B : Type 0} (r : Result A Stat) (f : A → Result B Stat) → Gives r → ((a : A) → Gives (f a))
+    → Gives (r >>= f)
 one_after (Ok a) f h k = k a
 one_after (Err e) f h k = h
 
@@ -132,7 +142,8 @@ module _ (w : Files) (who : Caller) (now : Timeval) where
   given_new : (d : NumberedDir) (name : List ℕ) (a : GivenFields) → Gives (create_new w who now d name a)
   given_new d name a = search (one_after, given_check)
 
-  given_either : (a : GivenFields) (d : NumberedDir) (name : List ℕ) (o : Option (ℕ × ℕ)) → Gives (option_map_or (λ e. create_over w who now a e.0) o (create_new w who now d name a))
+  given_either : (a : GivenFields) (d : NumberedDir) (name : List ℕ) (o : Option (ℕ × ℕ))
+      → Gives (option_map_or (λ e. create_over w who now a e.0) o (create_new w who now d name a))
   given_either a d name None = given_new d name a
   given_either a d name (Some e) = given_over a e.0
 
@@ -146,13 +157,26 @@ module _ (w : Files) (who : Caller) (now : Timeval) where
   given_link from dir name = search (one_after, given_file, given_dir, given_edit, given_check) depth 16
 
   given_remove : (dir : ℕ) (name : List ℕ) → Gives (remove w who now dir name)
-  given_remove dir name = search (one_after, given_dir, given_edit, given_number, given_file, given_check) depth 16
+  given_remove dir name =
+      search (one_after, given_dir, given_edit, given_number, given_file, given_check) depth 16
 
   given_remove_dir : (dir : ℕ) (name : List ℕ) → Gives (remove_dir w who now dir name)
-  given_remove_dir dir name = search (one_after, given_dir, given_edit, given_number, given_file, given_listing, given_check) depth 16
+  given_remove_dir dir name =
+      search (one_after, given_dir, given_edit, given_number, given_file, given_listing, given_check) depth 16
 
-  given_rename : (from : ℕ) (from_name : List ℕ) (to : ℕ) (to_name : List ℕ) → Gives (rename w who now from from_name to to_name)
-  given_rename from from_name to to_name = search (one_after, given_dir, given_edit, given_number, given_file, given_if, given_check, given_target_check) depth 16
+  given_rename : (from : ℕ) (from_name : List ℕ) (to : ℕ) (to_name : List ℕ)
+      → Gives (rename w who now from from_name to to_name)
+  given_rename from from_name to to_name =
+      search (
+        one_after,
+        given_dir,
+        given_edit,
+        given_number,
+        given_file,
+        given_if,
+        given_check,
+        given_target_check,
+      ) depth 16
 
   given_read_dir : (n cookie count : ℕ) → Gives (read_dir w who n cookie count)
   given_read_dir n cookie count = search (one_after, given_dir, given_check)
@@ -164,7 +188,8 @@ module _ (w : Files) (who : Caller) (now : Timeval) where
   given_attributes v n = search (one_after, given_file, given_ok)
 
   given_getattr : (file : List ℕ) → Gives (getattr w file)
-  given_getattr file = one_after _ _ (given_found stats.Stale (number_in w.fsid file) refl) (given_attributes w)
+  given_getattr file =
+      one_after _ _ (given_found stats.Stale (number_in w.fsid file) refl) (given_attributes w)
 
   given_name : (dir : ℕ) (name : List ℕ) → Gives (number_at_name w who dir name)
   given_name dir name = search (one_after, given_file, given_listing, given_if, given_found)
@@ -177,13 +202,17 @@ module _ (w : Files) (who : Caller) (now : Timeval) where
   abbrev Tells : Answer → Type 0
   Tells answer = (stat : Stat) → refusal_in answer ≡ Some stat → IsNoneOfSix stat
 
-  tells : {A : Type 0} (r : Result A Stat) → Gives r → (stat : Stat) → stat_in r ≡ Some stat → IsNoneOfSix stat
+  tells : {A : Type 0} (r : Result A Stat) → Gives r → (stat : Stat) → stat_in r ≡ Some stat
+      → IsNoneOfSix stat
   tells (Ok x) h stat is = absurd (none_some is)
   tells (Err e) h stat is = subst IsNoneOfSix (some_same is) (none_of_six e h)
 
-  told_tells : {A : Type 0} (say : Result A Stat → Answer) → ((r : Result A Stat) → refusal_in (say r) ≡ stat_in r) → (e : Effect A) → Gives e → Tells (answer_and_files say w e).0
+  told_tells : {A : Type 0} (say : Result A Stat → Answer)
+      → ((r : Result A Stat) → refusal_in (say r) ≡ stat_in r) → (e : Effect A) → Gives e
+      → Tells (answer_and_files say w e).0
   told_tells say says (Ok x) h stat is = absurd (none_some (sym (says (Ok x.0)) ∙ is))
-  told_tells say says (Err e) h stat is = subst IsNoneOfSix (some_same (sym (says (Err e)) ∙ is)) (none_of_six e h)
+  told_tells say says (Err e) h stat is =
+      subst IsNoneOfSix (some_same (sym (says (Err e)) ∙ is)) (none_of_six e h)
 
   given_with_attributes : (n : ℕ) (e : Effect (Unit {0})) → Gives e → Gives (with_attributes n e)
   given_with_attributes n e h = search (one_after, h, given_attributes, given_ok) depth 16
@@ -198,19 +227,39 @@ module _ (w : Files) (who : Caller) (now : Timeval) where
   pub answers : (call : Call) → Tells (call_does w who now call).0
   answers calls.Null = λ stat is. absurd (none_some is)
   answers (calls.Getattr file) = tells (getattr w file) (given_getattr file)
-  answers (calls.Setattr file s) = told_tells calls.Attributes (λ r. refl) _ (given_with_attributes (number_for w file) _ (given_set (number_for w file) (given_fields now s)))
+  answers (calls.Setattr file s) =
+      told_tells calls.Attributes (λ r. refl) _
+      (given_with_attributes (number_for w file) _ (given_set (number_for w file) (given_fields now s)))
   answers calls.Root = λ stat is. absurd (none_some is)
   answers (calls.Lookup dir name) = tells (lookup w who dir name) (given_lookup dir name)
-  answers (calls.Readlink file) = tells (read_link w (number_for w file)) (given_read_link (number_for w file))
-  answers (calls.Read file offset count) = tells (read w who (number_for w file) offset count) (given_read (number_for w file) offset count)
+  answers (calls.Readlink file) =
+      tells (read_link w (number_for w file)) (given_read_link (number_for w file))
+  answers (calls.Read file offset count) =
+      tells (read w who (number_for w file) offset count) (given_read (number_for w file) offset count)
   answers calls.Writecache = λ stat is. absurd (none_some is)
-  answers (calls.Write file offset new) = told_tells calls.Attributes (λ r. refl) _ (given_with_attributes (number_for w file) _ (given_write (number_for w file) offset new))
-  answers (calls.Create dir name s) = told_tells calls.DirOp (λ r. refl) _ (given_with_handle _ (given_create (number_for w dir) name (given_fields now s)))
-  answers (calls.Remove dir name) = told_tells calls.Status (λ r. refl) _ (given_remove (number_for w dir) name)
-  answers (calls.Rename from from_name to to_name) = told_tells calls.Status (λ r. refl) _ (given_rename (number_for w from) from_name (number_for w to) to_name)
-  answers (calls.Link from dir name) = told_tells calls.Status (λ r. refl) _ (given_link (number_for w from) (number_for w dir) name)
-  answers (calls.Symlink dir name target s) = told_tells calls.Status (λ r. refl) _ (given_without_number _ (given_make (number_for w dir) name (new_file who now no_fields 511 (Symlink target))))
-  answers (calls.Mkdir dir name s) = told_tells calls.DirOp (λ r. refl) _ (given_with_handle _ (given_make (number_for w dir) name (new_file who now (given_fields now s) 493 (Directory (record { next = 3; entries = [] })))))
-  answers (calls.Rmdir dir name) = told_tells calls.Status (λ r. refl) _ (given_remove_dir (number_for w dir) name)
-  answers (calls.Readdir dir cookie count) = tells (read_dir w who (number_for w dir) cookie count) (given_read_dir (number_for w dir) cookie count)
+  answers (calls.Write file offset new) =
+      told_tells calls.Attributes (λ r. refl) _
+      (given_with_attributes (number_for w file) _ (given_write (number_for w file) offset new))
+  answers (calls.Create dir name s) =
+      told_tells calls.DirOp (λ r. refl) _
+      (given_with_handle _ (given_create (number_for w dir) name (given_fields now s)))
+  answers (calls.Remove dir name) =
+      told_tells calls.Status (λ r. refl) _ (given_remove (number_for w dir) name)
+  answers (calls.Rename from from_name to to_name) =
+      told_tells calls.Status (λ r. refl) _
+      (given_rename (number_for w from) from_name (number_for w to) to_name)
+  answers (calls.Link from dir name) =
+      told_tells calls.Status (λ r. refl) _ (given_link (number_for w from) (number_for w dir) name)
+  answers (calls.Symlink dir name target s) =
+      told_tells calls.Status (λ r. refl) _
+      (given_without_number _ (given_make (number_for w dir) name
+      (new_file who now no_fields 511 (Symlink target))))
+  answers (calls.Mkdir dir name s) =
+      told_tells calls.DirOp (λ r. refl) _
+      (given_with_handle _ (given_make (number_for w dir) name
+      (new_file who now (given_fields now s) 493 (Directory (record { next = 3; entries = [] })))))
+  answers (calls.Rmdir dir name) =
+      told_tells calls.Status (λ r. refl) _ (given_remove_dir (number_for w dir) name)
+  answers (calls.Readdir dir cookie count) =
+      tells (read_dir w who (number_for w dir) cookie count) (given_read_dir (number_for w dir) cookie count)
   answers (calls.Statfs file) = tells (stat_fs w (number_for w file)) (given_figures (number_for w file))

@@ -18,12 +18,15 @@ use Rattle.nfs_errors.proofs.StepsInTurn.{HasStat, in_turn, done, of_check, of_s
 use Rattle.nfs_errors.proofs.StepsInTurn.{of_edit, of_free}
 
 -- LINK: the file, its kind, the directory, the edit, the free name, and room
-pub of_link : (w : Files) (who : Caller) (now : Timeval) (from dir : ℕ) (name : List ℕ) → HasStat (link w who now from dir name) (link_checks w who now from dir name)
+pub of_link : (w : Files) (who : Caller) (now : Timeval) (from dir : ℕ) (name : List ℕ)
+    → HasStat (link w who now from dir name) (link_checks w who now from dir name)
 of_link w who now from dir name =
     let after = touch now (with_name (touch_ctime now w from) dir name from) dir in
     in_turn (file_of w from) _ (of_file w from) (λ f is.
     let there = found_ok stats.Stale (file_at w from) f is in
-    in_turn (check (not (is_directory f.body)) stats.IsDir) _ (of_same (not (is_directory f.body)) (not (is_directory_at w from)) stats.IsDir (ap not (test_at w from f is_dir there))) (λ _ _.
+    in_turn (check (not (is_directory f.body)) stats.IsDir) _
+    (of_same (not (is_directory f.body)) (not (is_directory_at w from)) stats.IsDir
+    (ap not (test_at w from f is_dir there))) (λ _ _.
     in_turn (dir_of w dir) _ (of_dir w dir) (λ d is.
     let found = dir_ok w dir d is in
     in_turn (check_edit who d name) _ (of_edit w dir d found name who) (λ _ _.

@@ -1,11 +1,12 @@
--- MKDIR and SYMLINK give the stat of the first of their checks that fails: those of a new file in a directory.
+-- MKDIR and SYMLINK give the stat of the first of their checks that fails: those of a new file in a
+-- directory.
 -- Serves: stats_of_changes_are_of_the_first_failing_check; by CallChecks stats_of_calls.
 use Rattle.std.proofs.Common.{ℕ, List, [], ◌∷◌, ◌++◌}
 use Rattle.std.specs.Prelude.{is_none}
 use Rattle.nfs_items.specs.Timeval.{Timeval}
 use Rattle.nfs_items.specs.Caller.{Caller}
 use Rattle.nfs_items.specs.declared.stat.Stat.TheVariants as stats
-use Rattle.fs_model.specs.Files.{File, Files, places}
+use Rattle.fs_model.specs.Files.{File, Files, directory_entries}
 use Rattle.fs_model.specs.Changes.Limits.{has_room}
 use Rattle.nfs_spec.specs.ProcedureChecks.{dir_of, check_room, check_edit, check_free}
 use Rattle.nfs_spec.specs.Procedures.{add_file, make}
@@ -15,7 +16,10 @@ use Rattle.nfs_errors.proofs.StepsInTurn.{HasStat, in_turn, done, of_check, of_d
 
 -- a new file: the directory, the edit, the free name, and room
 pub of_make : (w : Files) (who : Caller) (now : Timeval) (dir : ℕ) (name : List ℕ) (f : File)
-    → HasStat (make w who now dir name f) (directory_checks w dir ++ edit_checks w who dir name ++ (is_none (places w dir name), stats.Exist) ∷ (has_room (add_file now w dir name f), stats.NoSpc) ∷ [])
+    → HasStat (make w who now dir name f)
+    (directory_checks w dir ++ edit_checks w who dir name
+    ++ (is_none (directory_entries w dir name), stats.Exist)
+    ∷ (has_room (add_file now w dir name f), stats.NoSpc) ∷ [])
 of_make w who now dir name f =
     let after = add_file now w dir name f in
     in_turn (dir_of w dir) _ (of_dir w dir) (λ d is.

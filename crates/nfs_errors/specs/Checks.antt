@@ -5,8 +5,9 @@ use Rattle.std.specs.Option.{option_map_or}
 use Rattle.nfs_items.specs.declared.stat.Stat.{Stat}
 use Rattle.fs_model.specs.Files as bodies
 use Rattle.nfs_items.specs.Terms.{FileNumber, Name}
-use Rattle.fs_model.specs.Files.{Body, File, Files, file_at, listing_in, is_directory, places}
+use Rattle.fs_model.specs.Files.{Body, File, Files, file_at, listing_in, is_directory, directory_entries}
 
+-- checks in the order in which they are made: whether each passes, and the stat if it doesn't
 abbrev pub Checks : Type 0
 Checks = List (Bool × Stat)
 
@@ -27,7 +28,7 @@ holds_at fs n test = option_map_or test (file_at fs n) false
 
 -- whether a name in a directory stands for a file that passes a test
 abbrev pub holds_named : Files → FileNumber → Name → (File → Bool) → Bool
-holds_named fs dir name test = option_map_or (λ e. holds_at fs e.0 test) (places fs dir name) false
+holds_named fs dir name test = option_map_or (λ e. holds_at fs e.0 test) (directory_entries fs dir name) false
 
 -- whether a file is a directory
 abbrev pub is_dir : File → Bool

@@ -7,10 +7,10 @@ use Rattle.nfs_items.specs.Timeval.{Timeval}
 use Rattle.nfs_items.specs.Caller.{Caller}
 use Rattle.fs_model.specs.Maxima.{max_file_size, max_number}
 use Rattle.nfs_items.specs.Terms.{FileNumber, Name}
-use Rattle.fs_model.specs.Listing.{Place}
+use Rattle.fs_model.specs.Listing.{DirectoryEntry}
 use Rattle.nfs_items.specs.declared.stat.Stat.TheVariants as stats
 use Rattle.fs_model.specs.Names.{is_name}
-use Rattle.fs_model.specs.Files.{File, Files, listing, places}
+use Rattle.fs_model.specs.Files.{File, Files, listing, directory_entries}
 use Rattle.fs_model.specs.Changes.Edits.{with_changed_file, with_name}
 use Rattle.fs_model.specs.Changes.Limits.{has_room}
 use Rattle.nfs_spec.specs.FileAttributes.{is_directory_at}
@@ -107,12 +107,12 @@ write_checks fs who now n offset new =
     ∷ ((length new == 0) || has_room (after_write fs now n offset new), stats.NoSpc)
     ∷ []
 
--- CREATE (section 2.2.10): of a name that is there EXIST unless regular, and then as SETATTR; of a new one
--- write permission in the directory, and what is asked of a size
+-- CREATE (section 2.2.10) of a name that is there: EXIST unless regular, and then as SETATTR
 abbrev pub create_over_checks : Files → Caller → Timeval → GivenFields → FileNumber → Checks
 create_over_checks fs who now a n =
     (holds_at fs n (λ f. is_regular f.body), stats.Exist) ∷ set_checks fs who now n a
 
+-- CREATE of a new name: write permission in the directory, a given size within its limit, and room
 abbrev pub create_new_checks : Files → Caller → Timeval → FileNumber → Name → GivenFields → Checks
 create_new_checks fs who now dir name a =
     (holds_at fs dir (may_write who), stats.Acces)
@@ -120,61 +120,67 @@ create_new_checks fs who now dir name a =
     ∷ (has_room (add_file now fs dir name (new_regular who now a)), stats.NoSpc)
     ∷ []
 
--- by what stands at the name
+-- what CREATE asks for by what has the name
 abbrev pub create_at_checks :
-    Files → Caller → Timeval → FileNumber → Name → GivenFields → Option Place → Checks
-create_at_checks fs who now dir name a place =
-    option_map_or (λ e. create_over_checks fs who now a e.0) place (create_new_checks fs who now dir name a)
+    Files → Caller → Timeval → FileNumber → Name → GivenFields → Option DirectoryEntry → Checks
+create_at_checks fs who now dir name a entry =
+    option_map_or (λ e. create_over_checks fs who now a e.0) entry (create_new_checks fs who now dir name a)
 
+-- CREATE: the directory, the name, search permission, and then what the name asks for
 abbrev pub create_checks : Files → Caller → Timeval → FileNumber → Name → GivenFields → Checks
 create_checks fs who now dir name a =
     directory_checks fs dir
     ++ (is_name name, stats.Acces)
     ∷ (holds_at fs dir (may_search who), stats.Acces)
-    ∷ create_at_checks fs who now dir name a (places fs dir name)
+    ∷ create_at_checks fs who now dir name a (directory_entries fs dir name)
 
 -- REMOVE (section 2.2.11)
 abbrev pub remove_checks : Files → Caller → FileNumber → Name → Checks
 remove_checks fs who dir name =
     directory_checks fs dir ++ edit_checks fs who dir name
-    ++ (is_some (places fs dir name), stats.NoEnt)
+    ++ (is_some (directory_entries fs dir name), stats.NoEnt)
     ∷ (not (names_directory fs dir name), stats.IsDir)
     ∷ []
 
 -- whether a name stands for this number
 abbrev pub stands_for : Files → FileNumber → Name → FileNumber → Bool
-stands_for fs dir name n = option_map_or (λ e. e.0 == n) (places fs dir name) false
+stands_for fs dir name n = option_map_or (λ e. e.0 == n) (directory_entries fs dir name) false
 
 -- whether two names stand for one file
 abbrev pub is_same_file : Files → FileNumber → Name → FileNumber → Name → Bool
 is_same_file fs from from_name to to_name =
-    option_map_or (λ s. stands_for fs to to_name s.0) (places fs from from_name) false
+    option_map_or (λ s. stands_for fs to to_name s.0) (directory_entries fs from from_name) false
 
 -- whether a name stands for a directory that is another, or above it
 abbrev pub is_named_above : Files → FileNumber → Name → FileNumber → Bool
 is_named_above fs dir name lower =
-    names_directory fs dir name && option_map_or (λ e. is_above fs e.0 lower) (places fs dir name) false
+    names_directory fs dir name && option_map_or (λ e. is_above fs e.0 lower)
+    (directory_entries fs dir name) false
 
 -- whether nothing has a name, or what has it passes a test with what the other name stands for: a directory
 -- goes over a directory alone, another kind over another kind
 abbrev pub may_replace_as_directory : Files → FileNumber → Name → FileNumber → Name → Bool
 may_replace_as_directory fs from from_name to to_name =
-    is_none (places fs to to_name) || not (names_directory fs from from_name) || names_directory fs to to_name
+    is_none (directory_entries fs to to_name) || not
+    (names_directory fs from from_name) || names_directory fs to to_name
 
+-- the same the other way round: what is no directory goes over what is none
 abbrev pub may_replace_as_other : Files → FileNumber → Name → FileNumber → Name → Bool
 may_replace_as_other fs from from_name to to_name =
-    is_none (places fs to to_name) || names_directory fs from from_name || not (names_directory fs to to_name)
+    is_none (directory_entries fs to to_name) || names_directory fs from from_name || not
+    (names_directory fs to to_name)
 
 -- whether nothing has a name, or what has it lists nothing
 abbrev pub is_free_or_empty : Files → FileNumber → Name → Bool
-is_free_or_empty fs dir name = is_none (places fs dir name) || holds_named fs dir name lists_nothing
+is_free_or_empty fs dir name =
+    is_none (directory_entries fs dir name) || holds_named fs dir name lists_nothing
 
 -- RENAME (section 2.2.12): where both names stand for one file, no more is asked
 abbrev pub rename_checks : Files → Caller → FileNumber → Name → FileNumber → Name → Checks
 rename_checks fs who from from_name to to_name =
     directory_checks fs from ++ directory_checks fs to
     ++ edit_checks fs who from from_name ++ edit_checks fs who to to_name
-    ++ (is_some (places fs from from_name), stats.NoEnt)
+    ++ (is_some (directory_entries fs from from_name), stats.NoEnt)
     ∷ (if is_same_file fs from from_name to to_name then [] else
     (not (is_named_above fs from from_name to), stats.Acces)
     ∷ (may_replace_as_directory fs from from_name to to_name, stats.NotDir)
@@ -189,7 +195,7 @@ link_checks fs who now from dir name =
     (is_there fs from, stats.Stale)
     ∷ (not (is_directory_at fs from), stats.IsDir)
     ∷ directory_checks fs dir ++ edit_checks fs who dir name
-    ++ (is_none (places fs dir name), stats.Exist)
+    ++ (is_none (directory_entries fs dir name), stats.Exist)
     ∷ (has_room (touch now (with_name (touch_ctime now fs from) dir name from) dir), stats.NoSpc)
     ∷ []
 
@@ -197,7 +203,7 @@ link_checks fs who now from dir name =
 abbrev pub symlink_checks : Files → Caller → Timeval → FileNumber → Name → List ℕ → Checks
 symlink_checks fs who now dir name target =
     directory_checks fs dir ++ edit_checks fs who dir name
-    ++ (is_none (places fs dir name), stats.Exist)
+    ++ (is_none (directory_entries fs dir name), stats.Exist)
     ∷ (has_room (add_file now fs dir name (new_link who now target)), stats.NoSpc)
     ∷ []
 
@@ -205,7 +211,7 @@ symlink_checks fs who now dir name target =
 abbrev pub make_dir_checks : Files → Caller → Timeval → FileNumber → Name → GivenFields → Checks
 make_dir_checks fs who now dir name a =
     directory_checks fs dir ++ edit_checks fs who dir name
-    ++ (is_none (places fs dir name), stats.Exist)
+    ++ (is_none (directory_entries fs dir name), stats.Exist)
     ∷ (has_room (add_file now fs dir name (new_directory who now a)), stats.NoSpc)
     ∷ []
 
@@ -213,7 +219,7 @@ make_dir_checks fs who now dir name a =
 abbrev pub remove_dir_checks : Files → Caller → FileNumber → Name → Checks
 remove_dir_checks fs who dir name =
     directory_checks fs dir ++ edit_checks fs who dir name
-    ++ (is_some (places fs dir name), stats.NoEnt)
+    ++ (is_some (directory_entries fs dir name), stats.NoEnt)
     ∷ (names_directory fs dir name, stats.NotDir)
     ∷ (holds_named fs dir name lists_nothing, stats.NotEmpty)
     ∷ []
@@ -224,6 +230,7 @@ read_dir_checks fs who dir = directory_checks fs dir ++ (holds_at fs dir (may_re
 
 -- ---- each call, by file handles
 
+-- the checks of a call, in their order
 abbrev pub checks_of : Files → Caller → Timeval → Call → Checks
 checks_of fs who now calls.Null = []
 checks_of fs who now (calls.Getattr file) = file_checks fs (number_for fs file)

@@ -5,10 +5,11 @@ use Rattle.nfs_spec.specs.Opening.{epoch, first_file, opening_root, opening_hell
 use Rattle.nfs_examples.specs.Worked.{a, x, soon, empty_file, root_with}
 use Rattle.nfs_examples.specs.Linked.{root_of}
 
--- the last cookie and the last number that are given, and what is next after it
+-- the last cookie and the last number that are given
 abbrev pub last : ℕ
 last = 0xfffffffe
 
+-- what is next once the last number or cookie was given
 abbrev pub past_last : ℕ
 past_last = 0xffffffff
 
@@ -24,6 +25,7 @@ hello_of bytes = record {
   body = Regular bytes;
 }
 
+-- the opening files, and `hello` with these bytes over its old file
 abbrev pub with_bytes : List ℕ → List (ℕ × File)
 with_bytes bytes = (2, hello_of bytes) ∷ (1, opening_root) ∷ (2, opening_hello) ∷ []
 

@@ -54,14 +54,16 @@ with_directory =
 abbrev pub d : List ℕ
 d = codes "d"
 
--- the root when `a` is renamed to `d`: the entry comes last with a new cookie
+-- the root while `a` is renamed to `d`, without the entry: it comes last, with a new cookie
 abbrev pub root_between : File
 root_between = first_file 0x1ff (Directory (record { next = 5; entries = (hello, (2, 3)) ∷ [] }))
 
+-- the root after that, with `d` last
 abbrev pub root_renamed : File
 root_renamed =
     first_file 0x1ff (Directory (record { next = 6; entries = (hello, (2, 3)) ∷ (d, (3, 5)) ∷ [] }))
 
+-- after RENAME of `a` to `d`
 abbrev pub with_renamed : List (ℕ × File)
 with_renamed =
     (1, root_renamed) ∷ (1, root_renamed) ∷ (3, empty_directory) ∷ (1, root_renamed) ∷ (1, root_between)
@@ -88,6 +90,7 @@ hello_written = record {
   body = Regular (codes "hello\n" ++ (replicate 506 0 ++ codes "A"));
 }
 
+-- after that WRITE
 abbrev pub with_written : List (ℕ × File)
 with_written = (2, hello_written) ∷ (1, opening_root) ∷ (2, opening_hello) ∷ []
 
@@ -111,6 +114,7 @@ with_made f = (1, root_with a 3) ∷ (1, root_with a 3) ∷ (3, f) ∷ (1, openi
 abbrev pub root_emptied : File
 root_emptied = first_file 0x1ff (Directory (record { next = 4; entries = [] }))
 
+-- the root with a new `hello`, under the next number and the next cookie
 abbrev pub root_again : File
 root_again = first_file 0x1ff (Directory (record { next = 5; entries = (hello, (3, 4)) ∷ [] }))
 
@@ -118,14 +122,15 @@ root_again = first_file 0x1ff (Directory (record { next = 5; entries = (hello, (
 abbrev pub with_next : List (ℕ × File)
 with_next = (1, root_again) ∷ (1, root_again) ∷ (3, empty_file) ∷ (1, root_emptied) ∷ []
 
--- a link to `t`
+-- a symbolic link to `t`
 abbrev pub link_to_t : File
 link_to_t = first_file 0x1ff (Symlink (codes "t"))
 
--- `b` and `c`
+-- `b`
 abbrev pub b : List ℕ
 b = codes "b"
 
+-- `c`
 abbrev pub c : List ℕ
 c = codes "c"
 
@@ -134,10 +139,11 @@ abbrev pub directory_of : List ℕ → ℕ → File
 directory_of name number =
     first_file 0x1ed (Directory (record { next = 4; entries = (name, (number, 3)) ∷ [] }))
 
--- `b` made in the directory `a`, and `c` in that
+-- `b` made in the directory `a`
 abbrev pub with_inner : List (ℕ × File)
 with_inner = (3, directory_of b 4) ∷ (3, directory_of b 4) ∷ (4, empty_directory) ∷ with_directory
 
+-- and `c` made in `b`
 abbrev pub with_nested : List (ℕ × File)
 with_nested = (4, directory_of c 5) ∷ (4, directory_of c 5) ∷ (5, empty_file) ∷ with_inner
 
@@ -147,24 +153,28 @@ with_nested_renamed =
     (1, root_renamed) ∷ (1, root_renamed) ∷ (3, directory_of b 4) ∷ (1, root_renamed) ∷ (1, root_between)
     ∷ with_nested
 
--- `x` and `y`
+-- `x`
 abbrev pub x : List ℕ
 x = codes "x"
 
+-- `y`
 abbrev pub y : List ℕ
 y = codes "y"
 
--- the root with `hello`, `x` and `y` under cookies 3 to 5, and the same without `hello`
+-- the root with `hello`, `x` and `y` under cookies 3 to 5
 abbrev pub root_of_three : File
 root_of_three =
     first_file 0x1ff
     (Directory (record { next = 6; entries = (hello, (2, 3)) ∷ (x, (3, 4)) ∷ (y, (4, 5)) ∷ [] }))
 
+-- the same root without `hello`
 abbrev pub root_of_two : File
 root_of_two = first_file 0x1ff (Directory (record { next = 6; entries = (x, (3, 4)) ∷ (y, (4, 5)) ∷ [] }))
 
+-- files with that root of three, before `hello` is removed
 abbrev pub with_three : List (ℕ × File)
 with_three = (1, root_of_three) ∷ (2, opening_hello) ∷ (3, empty_file) ∷ (4, empty_file) ∷ []
 
+-- files with the root of two, after `hello` was removed
 abbrev pub with_two : List (ℕ × File)
 with_two = (1, root_of_two) ∷ (3, empty_file) ∷ (4, empty_file) ∷ []

@@ -59,7 +59,8 @@ outcome_is a view back (Err stats.Stale) same = refl
 outcome_is a view back (Err stats.WFlush) same = refl
 
 -- an outcome, read as its stat and what stands after OK
-pub read_outcome : {X Answer : Type 0} (a : Item) → (Value a → X) → (Result X Stat → Answer) → List ℕ → Read Answer
+pub read_outcome : {X Answer : Type 0} (a : Item) → (Value a → X) → (Result X Stat → Answer) → List ℕ
+    → Read Answer
 read_outcome a back make bytes = read_at (stat_or a) bytes >>= λ x. Ok (make (outcome_at a back x.0), x.1)
 
 -- an outcome that fits is read back from its spelling

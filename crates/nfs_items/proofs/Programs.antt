@@ -1,6 +1,6 @@
 -- What reading a remote program's calls gives is what their bytes say: found, and nothing else.
--- Serves: in nfs_types and mount_types the readers of arguments and the law `arguments_are_read_as_spelled`; in
--- nfs_types::result_texts and mount_types the laws `answers_are_spelled` and `answers_have_one_meaning`.
+-- Serves: in nfs_types and mount_types the readers of arguments and the law `arguments_are_read_as_spelled`;
+-- in nfs_types::result_texts and mount_types the laws `answers_are_spelled` and `answers_have_one_meaning`.
 use Rattle.std.proofs.Common.{◌≡◌, ℕ, ◌≤◌, length, List, ◌++◌, Some, None, Ok, Err, refl, sym, ap, subst, ◌∙◌}
 use Rattle.std.proofs.Common.{⊎_elim}
 use Rattle.std.specs.Prelude.{◌↔◌, Result, IfOk, IsOkAnd}
@@ -118,12 +118,14 @@ module _ {P Call Answer : Type 0} (program : Program P Call Answer) where
   pub answer_is_spelled : SpellsAnswers program
   answer_is_spelled a rest bound =
       let both =
-      is_spelled (program.answer_item a) (program.answer_value a) (answer_text program a ++ rest) rest bound in
+      is_spelled (program.answer_item a) (program.answer_value a)
+      (answer_text program a ++ rest) rest bound in
       ((λ e. (both.0 e).0), (λ f. both.1 (f, refl)))
 
   -- texts of answers that are read back with what stands after them: neither begins the other
   pub read_back_is_one : (answer_at : List ℕ → Read Answer) (a b : Answer) (x y : List ℕ)
-      → answer_at (answer_text program a ++ x) ≡ Ok (a, x) → answer_at (answer_text program b ++ y) ≡ Ok (b, y)
+      → answer_at (answer_text program a ++ x) ≡ Ok (a, x)
+      → answer_at (answer_text program b ++ y) ≡ Ok (b, y)
       → answer_text program a ++ x ≡ answer_text program b ++ y → (a ≡ b) × (x ≡ y)
   read_back_is_one answer_at a b x y first second e =
       let both = ok_is (a, x) (b, y) (sym first ∙ ap answer_at e ∙ second) in
@@ -137,7 +139,8 @@ module _ {P Call Answer X : Type 0} (program : Program P Call Answer) (call_of :
   pub given_is_said : (result : Result X XdrFault) (new : List ℕ) → IsBytes bytes
       → GivesCall program call_of procedure bytes result new
       → IfOk result (λ a. (rest : List ℕ) × SaysCall program procedure bytes (call_of a) rest)
-  given_is_said (Ok a) new bound given = (new, read_is_said program procedure bytes new (call_of a) bound given)
+  given_is_said (Ok a) new bound given =
+      (new, read_is_said program procedure bytes new (call_of a) bound given)
   given_is_said (Err e) new bound given = tt
 
   -- what bytes say is what was read

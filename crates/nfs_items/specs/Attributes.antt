@@ -3,7 +3,7 @@ use Rattle.std.specs.Prelude.{ℕ, Bool, ◌==◌, ◌||◌, nat_le, List, ◌++
 use Rattle.xdr.specs.Item.{Item, word, empty, pair, choice, Value, spelling}
 use Rattle.nfs_items.specs.Timeval.{timeval, timeval_value}
 use Rattle.nfs_items.specs.declared.attributes.FileType.{FileType}
-use Rattle.nfs_items.specs.declared.attributes.FileType.TheVariants.{Regular, Directory, Link}
+use Rattle.nfs_items.specs.declared.attributes.FileType.TheVariants.{Regular, Directory, Symlink}
 use Rattle.nfs_items.specs.declared.attributes.Fattr.{Fattr}
 use Rattle.nfs_items.specs.declared.stat.Stat.{Stat}
 use Rattle.nfs_items.specs.declared.stat.Stat.TheVariants as stats
@@ -12,15 +12,17 @@ use Rattle.nfs_items.specs.declared.stat.Stat.TheVariants as stats
 abbrev pub ftype : Item
 ftype = choice (λ n. nat_le n 5) (λ n. empty)
 
+-- the number of a file type: NFREG is 1, NFDIR 2, NFLNK 5
 abbrev pub ftype_number : FileType → ℕ
 ftype_number Regular = 1
 ftype_number Directory = 2
-ftype_number Link = 5
+ftype_number Symlink = 5
 
 -- a file's three times: atime, mtime, ctime
 abbrev pub times : Item
 times = pair timeval (pair timeval timeval)
 
+-- the three times of a file, as a value of that item
 abbrev pub times_value : Fattr → Value times
 times_value a = (timeval_value a.atime, (timeval_value a.mtime, timeval_value a.ctime))
 
@@ -28,6 +30,7 @@ times_value a = (timeval_value a.atime, (timeval_value a.mtime, timeval_value a.
 abbrev pub fattr_end : Item
 fattr_end = pair word (pair word (pair word (pair word (pair word times))))
 
+-- the last fields of a fattr, as a value of that item
 abbrev pub fattr_end_value : Fattr → Value fattr_end
 fattr_end_value a = (a.blocksize, (a.rdev, (a.blocks, (a.fsid, (a.fileid, times_value a)))))
 
@@ -35,6 +38,7 @@ fattr_end_value a = (a.blocksize, (a.rdev, (a.blocks, (a.fsid, (a.fileid, times_
 abbrev pub fattr : Item
 fattr = pair ftype (pair word (pair word (pair word (pair word (pair word fattr_end)))))
 
+-- the attributes of a file, as a value of that item
 abbrev pub fattr_value : Fattr → Value fattr
 fattr_value a =
     ((ftype_number a.file_type, tt), (a.mode, (a.nlink, (a.uid, (a.gid, (a.size, fattr_end_value a))))))

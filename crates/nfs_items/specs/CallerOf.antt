@@ -3,6 +3,7 @@ use Rattle.std.specs.Prelude.{option_map}
 use Rattle.nfs_items.specs.declared.who.Who.{Who}
 use Rattle.nfs_items.specs.Caller.{Caller}
 
+-- the caller that a value of the program stands for
 abbrev pub caller_of : Who → Caller
 caller_of w = record {
   uid = w.uid;

@@ -9,6 +9,7 @@ use Rattle.xdr.specs.Item.{Item, fixed}
 abbrev pub FileHandle : Type 0
 FileHandle = List ℕ
 
+-- fhandle: 32 bytes
 abbrev pub fhandle : Item
 fhandle = fixed 32
 

@@ -7,6 +7,7 @@ use Rattle.nfs_items.specs.declared.sattr.Sattr.{Sattr}
 abbrev pub sattr : Item
 sattr = pair word (pair word (pair word (pair word (pair timeval timeval))))
 
+-- attributes that a call brings, as a value of that item
 abbrev pub sattr_value : Sattr → Value sattr
 sattr_value s = (s.mode, (s.uid, (s.gid, (s.size, (timeval_value s.atime, timeval_value s.mtime)))))
 

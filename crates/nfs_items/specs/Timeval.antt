@@ -8,14 +8,17 @@ pub record Timeval : Type 0 where
   pub seconds : ℕ
   pub microseconds : ℕ
 
+-- times are told apart by seconds and microseconds
 abbrev pub timeval_code : Coded Timeval
 timeval_code =
     code_by (ℕ × ℕ) (coded× coded_ℕ coded_ℕ)
     (λ t. (t.seconds, t.microseconds)) (λ p. record { seconds = p.0; microseconds = p.1 }) (λ _. refl)
 
+-- timeval: seconds and microseconds, a word each
 abbrev pub timeval : Item
 timeval = pair word word
 
+-- a time as a value of that item
 abbrev pub timeval_value : Timeval → Value timeval
 timeval_value t = (t.seconds, t.microseconds)
 

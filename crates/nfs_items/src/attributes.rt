@@ -9,7 +9,7 @@ use xdr::Writer;
 pub enum FileType {
     Regular = 1,
     Directory = 2,
-    Link = 5,
+    Symlink = 5,
 }
 
 /// The attributes of a file (RFC 1094, section 2.3.5, fattr).
@@ -18,7 +18,7 @@ pub struct Fattr {
     pub file_type: FileType,
     /// Type bits and twelve kept bits, of which the low nine are the permissions.
     pub mode: u32,
-    /// Names of a file or link; two and the subdirectories of a directory.
+    /// Names of a file or symbolic link; two and the subdirectories of a directory.
     pub nlink: u32,
     pub uid: u32,
     pub gid: u32,

@@ -10,7 +10,12 @@ use Rattle.nfs_spec.specs.Changes.{with_length, with_bytes_at}
 -- what is cut or grown has the size asked for
 pub length-resized : (size : ℕ) (bytes : List ℕ) → length (with_length size bytes) ≡ size
 length-resized size bytes =
-    omega (arith, length-append (take size bytes) (replicate (size - length bytes) 0), length-take size bytes, length-replicate {A = ℕ} (size - length bytes) 0)
+    omega (
+      arith,
+      length-append (take size bytes) (replicate (size - length bytes) 0),
+      length-take size bytes,
+      length-replicate {A = ℕ} (size - length bytes) 0,
+    )
 
 -- what is written ends where the new bytes end, or the old ones
 pub written_length : (offset : ℕ) (new old : List ℕ)
@@ -55,7 +60,8 @@ pub byte_behind : (offset : ℕ) (new old : List ℕ) (i : ℕ) → offset + len
     → get_or (with_bytes_at offset new old) i 0 ≡ get_or old i 0
 byte_behind offset new old i le =
     let place : (offset + length new) + ((i - offset) - length new) ≡ i = omega arith in
-    get_or-append_right (with_length offset old) (new ++ drop (offset + length new) old) offset i 0 (length-resized offset old) (omega arith)
+    get_or-append_right (with_length offset old) (new ++ drop (offset + length new) old) offset i 0
+    (length-resized offset old) (omega arith)
     ∙ get_or-append_right new (drop (offset + length new) old) (length new) (i - offset) 0 refl (omega arith)
     ∙ get_or-drop (offset + length new) old ((i - offset) - length new) 0
     ∙ ap (λ n. get_or old n 0) place
@@ -65,6 +71,7 @@ pub byte_new : (offset : ℕ) (new old : List ℕ) (i : ℕ) → i < length new
     → get_or (with_bytes_at offset new old) (offset + i) 0 ≡ get_or new i 0
 byte_new offset new old i lt =
     let place : (offset + i) - offset ≡ i = omega arith in
-    get_or-append_right (with_length offset old) (new ++ drop (offset + length new) old) offset (offset + i) 0 (length-resized offset old) (omega arith)
+    get_or-append_right (with_length offset old) (new ++ drop (offset + length new) old) offset (offset + i) 0
+    (length-resized offset old) (omega arith)
     ∙ ap (λ n. get_or (new ++ drop (offset + length new) old) n 0) place
     ∙ get_or_append_left new (drop (offset + length new) old) 0 i lt

@@ -9,7 +9,8 @@ use Rattle.nfs_spec.specs.nfs_types.Calls.{Call}
 use Rattle.nfs_spec.specs.NfsCalls.{call_does}
 
 any_machine : (w : Files) (uid gid : ℕ) (gids : List ℕ) (a b : Option (List ℕ)) (now : Timeval) (call : Call)
-    → call_does w (record { uid = uid; gid = gid; gids = gids; machine_name = a }) now call ≡ call_does w (record { uid = uid; gid = gid; gids = gids; machine_name = b }) now call
+    → call_does w (record { uid = uid; gid = gid; gids = gids; machine_name = a }) now call
+    ≡ call_does w (record { uid = uid; gid = gid; gids = gids; machine_name = b }) now call
 any_machine w uid gid gids a b now calls.Null = refl
 any_machine w uid gid gids a b now (calls.Getattr file) = refl
 any_machine w uid gid gids a b now (calls.Setattr file s) = refl

@@ -36,33 +36,44 @@ module _ (now : Timeval) (time : IsTime now) (w : Files) (tree : IsFileTree w) (
   stays = each_call w who now (λ call answer after. IsBounded call → Follows w after) (record {
     reads = λ call answer only bound. unchanged w tree;
     refused = λ call answer stat says bound. unchanged w tree;
-    set_attributes = λ file s a after o _ bound. set_follows now time w tree who (number_for w file) (given_fields now s) (given_are_valid now s time) after o;
-    write = λ file offset new a after o _ bound. write_follows now time w tree who (number_for w file) offset new after o;
-    create = λ dir name s number a after o _ bound. create_follows now time w tree who (number_for w dir) name bound (given_fields now s) (given_are_valid now s time) number after o;
+    set_attributes =
+        λ file s a after o _ bound. set_follows now time w tree who (number_for w file) (given_fields now s)
+        (given_are_valid now s time) after o;
+    write = λ file offset new a after o _ bound. write_follows now time w tree who
+        (number_for w file) offset new after o;
+    create = λ dir name s number a after o _ bound. create_follows now time w tree who
+        (number_for w dir) name bound (given_fields now s) (given_are_valid now s time) number after o;
     make_dir = λ dir name s number a after o _ bound.
-        make_follows now time w tree who (number_for w dir) name bound (new_directory who now (given_fields now s)) refl
+        make_follows now time w tree who (number_for w dir) name bound
+        (new_directory who now (given_fields now s)) refl
         (directory_fits who now time (given_fields now s) (given_are_valid now s time)) number after o;
     symlink = λ dir name target s number after o bound.
-        make_follows now time w tree who (number_for w dir) name bound.0 (new_link who now target) refl (link_fits who now time target bound.1) number after o;
-    link = λ from dir name after o bound. link_follows now time w tree who (number_for w dir) name bound (number_for w from) after o;
-    remove = λ dir name after o bound. remove_follows now time w tree who (number_for w dir) name after false o;
-    remove_dir = λ dir name after o bound. remove_follows now time w tree who (number_for w dir) name after true o;
-    rename = λ from from_name to to_name after o bound. rename_follows (number_for w from) from_name (number_for w to) to_name bound after o;
+        make_follows now time w tree who (number_for w dir) name bound.0 (new_link who now target) refl
+        (link_fits who now time target bound.1) number after o;
+    link = λ from dir name after o bound. link_follows now time w tree who (number_for w dir) name bound
+        (number_for w from) after o;
+    remove = λ dir name after o bound. remove_follows now time w tree who
+        (number_for w dir) name after false o;
+    remove_dir =
+        λ dir name after o bound. remove_follows now time w tree who (number_for w dir) name after true o;
+    rename = λ from from_name to to_name after o bound. rename_follows (number_for w from) from_name
+        (number_for w to) to_name bound after o;
   })
 
 -- a refusal leaves the files as they were
 pub refusals : (w : Files) (who : Caller) (now : Timeval) (call : Call) (stat : Stat)
     → refusal_in (call_does w who now call).0 ≡ Some stat → (call_does w who now call).1 ≡ w
-refusals w who now call stat = each_call w who now (λ call answer after. refusal_in answer ≡ Some stat → after ≡ w) (record {
-  reads = λ call answer only h. refl;
-  refused = λ call answer stat says h. refl;
-  set_attributes = λ file s a after o _ h. absurd (none_some h);
-  write = λ file offset new a after o _ h. absurd (none_some h);
-  create = λ dir name s number a after o _ h. absurd (none_some h);
-  make_dir = λ dir name s number a after o _ h. absurd (none_some h);
-  symlink = λ dir name target s number after o h. absurd (none_some h);
-  link = λ from dir name after o h. absurd (none_some h);
-  remove = λ dir name after o h. absurd (none_some h);
-  remove_dir = λ dir name after o h. absurd (none_some h);
-  rename = λ from from_name to to_name after o h. absurd (none_some h);
-}) call
+refusals w who now call stat =
+    each_call w who now (λ call answer after. refusal_in answer ≡ Some stat → after ≡ w) (record {
+      reads = λ call answer only h. refl;
+      refused = λ call answer stat says h. refl;
+      set_attributes = λ file s a after o _ h. absurd (none_some h);
+      write = λ file offset new a after o _ h. absurd (none_some h);
+      create = λ dir name s number a after o _ h. absurd (none_some h);
+      make_dir = λ dir name s number a after o _ h. absurd (none_some h);
+      symlink = λ dir name target s number after o h. absurd (none_some h);
+      link = λ from dir name after o h. absurd (none_some h);
+      remove = λ dir name after o h. absurd (none_some h);
+      remove_dir = λ dir name after o h. absurd (none_some h);
+      rename = λ from from_name to to_name after o h. absurd (none_some h);
+    }) call

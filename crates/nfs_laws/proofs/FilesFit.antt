@@ -42,7 +42,8 @@ time_given now t u time = by (eqb t.seconds 4294967295) (ltb 999999 t.microsecon
         → IsTime u
     by true b e h = absurd (none_some h)
     by false true e h = subst IsTime (some_same h) time
-    by false false e h = let small = ltb-false 999999 t.microseconds e in subst IsTime (some_same h) (omega (arith, small))
+    by false false e h = let small = ltb-false 999999 t.microseconds e in
+        subst IsTime (some_same h) (omega (arith, small))
 
 -- what a caller asks for may be asked for
 pub given_are_valid : (now : Timeval) (s : Sattr) → IsTime now → AreValidFields (given_fields now s)
@@ -74,7 +75,8 @@ pub resized_fits : (who : Caller) (f : File) (size : Option ℕ) → ((n : ℕ) 
 resized_fits who f None ok fits = fits
 resized_fits who f (Some size) ok fits =
     let o = ok size refl in
-    subst (λ b. IsBody (body_with_length (Some size) b)) (sym o.regular) (omega (arith, length-resized size o.bytes, o.fits))
+    subst (λ b. IsBody (body_with_length (Some size) b)) (sym o.regular)
+    (omega (arith, length-resized size o.bytes, o.fits))
 
 -- a file with what is given set is one
 pub set_fits : (now : Timeval) → IsTime now → (a : GivenFields) → AreValidFields a → (f : File) → IsFile f
@@ -129,13 +131,16 @@ module _ (who : Caller) (now : Timeval) (time : IsTime now) where
       → IsFile (new_regular who now a)
   regular_fits a is le =
       let size = unwrap_or a.size 0 in
-      new_fits who now time a is 420 (omega arith) (Regular (replicate size 0)) (omega (arith, length-replicate {A = ℕ} size 0, le))
+      new_fits who now time a is 420 (omega arith) (Regular (replicate size 0))
+      (omega (arith, length-replicate {A = ℕ} size 0, le))
 
   -- what MKDIR makes is a file
   pub directory_fits : (a : GivenFields) → AreValidFields a → IsFile (new_directory who now a)
   directory_fits a is =
-      new_fits who now time a is 493 (omega arith) (Directory (record { next = 3; entries = [] })) (omega arith, no_names)
+      new_fits who now time a is 493 (omega arith) (Directory (record { next = 3; entries = [] }))
+      (omega arith, no_names)
 
   -- what SYMLINK makes is a file
   pub link_fits : (target : List ℕ) → length target ≤ 1024 → IsFile (new_link who now target)
-  link_fits target short = new_fits who now time no_fields none_are_valid 511 (omega arith) (Symlink target) short
+  link_fits target short =
+      new_fits who now time no_fields none_are_valid 511 (omega arith) (Symlink target) short

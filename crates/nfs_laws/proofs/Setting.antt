@@ -6,7 +6,7 @@ use Rattle.std.specs.Prelude.{◌==◌, if◌then◌else◌}
 use Rattle.nfs_spec.specs.nfs_items.Timeval.{Timeval}
 use Rattle.nfs_spec.specs.nfs_items.Caller.{Caller}
 use Rattle.nfs_spec.specs.fs_model.Listing.{Listing}
-use Rattle.nfs_spec.specs.fs_model.Files.{File, Files, file_at, listing_in, is_directory, places}
+use Rattle.nfs_spec.specs.fs_model.Files.{File, Files, file_at, listing_in, is_directory, directory_entries}
 use Rattle.nfs_spec.specs.fs_model.Trees.{IsTime, IsFile, IsFileTree}
 use Rattle.nfs_spec.proofs.fs_model.Walks.{some_same}
 use Rattle.nfs_spec.specs.fs_model.Changes.Edits.{with_changed_file}
@@ -76,7 +76,8 @@ module _ (now : Timeval) (time : IsTime now) (w : Files) (tree : IsFileTree w) (
           → has_room (with_changed_file w n (apply_fields now a)) ≡ true
       in_room (Some size) e = λ _. subst (λ v. has_room v ≡ true) o.effect (o.room size e)
       in_room None e = still_room w (with_changed_file w n (apply_fields now a))
-          (changed_no_more w n (apply_fields now a) (λ f. same_smaller f (apply_fields now a f) (ap (λ size. body_with_length size f.body) e)))
+          (changed_no_more w n (apply_fields now a)
+          (λ f. same_smaller f (apply_fields now a f) (ap (λ size. body_with_length size f.body) e)))
 
   -- WRITE
   pub write_follows : (n offset : ℕ) (new : List ℕ) (after : Files) → WriteOk w who now n offset new after
@@ -97,17 +98,20 @@ module _ (now : Timeval) (time : IsTime now) (w : Files) (tree : IsFileTree w) (
             there = o.there;
             lists = sym (ap listing_in o.regular);
             keeps = sym (ap is_directory o.regular);
-            fits = rewritten_fits now time offset new o.old o.file o.regular (tree.files n o.file o.there) (o.fits some);
-            room = λ _. subst (λ v. has_room v ≡ true) (o.effect ∙ ap (λ none. if none then w else changed) e) (o.room some);
+            fits = rewritten_fits now time offset new o.old o.file o.regular (tree.files n o.file o.there)
+                (o.fits some);
+            room = λ _. subst (λ v. has_room v ≡ true) (o.effect ∙ ap (λ none. if none then w else changed) e)
+                (o.room some);
           })
 
   -- CREATE, of a new name or of one that is there
   pub create_follows : (dir : ℕ) (name : List ℕ) → length name ≤ 255 → (a : GivenFields) → AreValidFields a
       → (number : ℕ) (after : Files) → CreateOk w who now dir name a number after → Follows w after
-  create_follows dir name bound a is number after o = by (places w dir name) refl
+  create_follows dir name bound a is number after o = by (directory_entries w dir name) refl
     where
-      by : (p : Option (ℕ × ℕ)) → places w dir name ≡ p → Follows w after
+      by : (p : Option (ℕ × ℕ)) → directory_entries w dir name ≡ p → Follows w after
       by None e =
           let new = o.fresh e in
-          make_follows now time w tree who dir name bound (new_regular who now a) refl (regular_fits who now time a is new.fits) number after new.make
+          make_follows now time w tree who dir name bound (new_regular who now a) refl
+          (regular_fits who now time a is new.fits) number after new.make
       by (Some p) e = set_follows p.0 a is after (o.over p.0 p.1 e).set

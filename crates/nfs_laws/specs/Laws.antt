@@ -5,7 +5,7 @@ use Rattle.nfs_spec.specs.nfs_items.Terms.{FileNumber, Cookie, Name}
 use Rattle.nfs_spec.specs.fs_model.Names.{FilePath}
 use Rattle.nfs_spec.specs.fs_model.Maxima.{max_name, max_target}
 use Rattle.nfs_spec.specs.fs_model.Paths.{path_at, AddsPath, TakesPath, Renames}
-use Rattle.nfs_spec.specs.fs_model.Files.{Files, listing, places}
+use Rattle.nfs_spec.specs.fs_model.Files.{Files, listing, directory_entries}
 use Rattle.nfs_spec.specs.fs_model.Trees.{IsTime}
 use Rattle.nfs_spec.specs.Sattr.{GivenFields}
 use Rattle.nfs_spec.specs.nfs_types.Calls.{Call, Create, Rename, Link, Symlink, Mkdir}
@@ -28,19 +28,20 @@ IsBounded _ = Unit {0}
 -- from each path of the directory there is one path more, with the directory's next cookie
 abbrev pub NamesIn : Files → Files → FileNumber → Name → FileNumber → Type 0
 NamesIn fs fs' dir name number =
-    (path : FilePath) (cookie : Cookie) → path_at (places fs) path ≡ Some (dir, cookie)
-    → AddsPath (path_at (places fs)) (path_at (places fs')) (path ++ name ∷ []) number (listing fs dir).next
+    (path : FilePath) (cookie : Cookie) → path_at (directory_entries fs) path ≡ Some (dir, cookie)
+    → AddsPath (path_at (directory_entries fs)) (path_at (directory_entries fs')) (path ++ name ∷ []) number
+    (listing fs dir).next
 
 -- one path less
 abbrev pub UnnamesIn : Files → Files → FileNumber → Name → Type 0
 UnnamesIn fs fs' dir name =
-    (path : FilePath) (cookie : Cookie) → path_at (places fs) path ≡ Some (dir, cookie)
-    → TakesPath (path_at (places fs)) (path_at (places fs')) (path ++ name ∷ [])
+    (path : FilePath) (cookie : Cookie) → path_at (directory_entries fs) path ≡ Some (dir, cookie)
+    → TakesPath (path_at (directory_entries fs)) (path_at (directory_entries fs')) (path ++ name ∷ [])
 
 -- the paths through the one name go on through the other
 abbrev pub RenamesIn : Files → Files → FileNumber → Name → FileNumber → Name → Type 0
 RenamesIn fs fs' from from_name to to_name =
     (p q : FilePath) (c d : Cookie)
-    → path_at (places fs) p ≡ Some (from, c) → path_at (places fs) q ≡ Some (to, d)
-    → Renames (path_at (places fs)) (path_at (places fs'))
+    → path_at (directory_entries fs) p ≡ Some (from, c) → path_at (directory_entries fs) q ≡ Some (to, d)
+    → Renames (path_at (directory_entries fs)) (path_at (directory_entries fs'))
     (p ++ from_name ∷ []) (q ++ to_name ∷ []) (listing fs to).next

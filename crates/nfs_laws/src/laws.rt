@@ -9,7 +9,7 @@ ghost use Rattle.nfs_spec.specs.nfs_items.declared.attributes.Fattr.{Fattr};
 ghost use Rattle.nfs_spec.specs.nfs_items.Terms.{FileNumber, Name};
 ghost use Rattle.nfs_spec.specs.fs_model.Maxima.{max_name, max_target, max_blocks, max_number};
 ghost use Rattle.nfs_spec.specs.fs_model.Files.{File, Files, file_at, IsDirectory, is_directory, listing};
-ghost use Rattle.nfs_spec.specs.fs_model.Files.{listing_in, places, names_of};
+ghost use Rattle.nfs_spec.specs.fs_model.Files.{listing_in, directory_entries, names_of};
 ghost use Rattle.nfs_spec.specs.fs_model.Trees.{IsTime, IsFileTree};
 ghost use Rattle.nfs_spec.specs.fs_model.Changes.Edits.{with_changed_file, with_name};
 ghost use Rattle.nfs_spec.specs.fs_model.Changes.Limits.{has_room, block_count, blocks_in};
@@ -53,13 +53,13 @@ pub fn no_limit_is_passed()
 pub fn room_is_told_before()
     ensures make { (fs : Files) (now : Timeval) (dir : FileNumber) (name : Name) (d f : File) →
         IsFileTree fs → IsTrue (has_room fs) → file_at fs dir ≡ Some d → is_directory d.body ≡ true →
-        places fs dir name ≡ None →
+        directory_entries fs dir name ≡ None →
         (listing_in f.body).entries ≡ [] → (listing_in f.body).next ≤ max_number + 1 →
         (IsTrue (has_room (add_file now fs dir name f))
         ↔ HasRoomToMake fs (listing_in d.body).next (blocks_in f.body)) }
     ensures link { (fs : Files) (now : Timeval) (from dir : FileNumber) (name : Name) (d : File) →
         IsTrue (has_room fs) → file_at fs dir ≡ Some d → is_directory d.body ≡ true →
-        places fs dir name ≡ None →
+        directory_entries fs dir name ≡ None →
         (IsTrue (has_room (touch now (with_name (touch_ctime now fs from) dir name from) dir))
         ↔ HasRoomToLink fs (listing_in d.body).next) }
     ensures write { (fs : Files) (n : FileNumber) (change : File → File) (f : File) →
@@ -94,7 +94,7 @@ pub fn making_adds_a_path()
     ensures create { (fs after : Files) (who : Caller) (now : Timeval) (dir : FileNumber) (name : Name)
         (a : GivenFields) (number : FileNumber) → IsFileTree fs → IsTime now → AreValidFields a →
         length name ≤ max_name → create fs who now dir name a ≡ Ok (number, after) →
-        places fs dir name ≡ None → (number ≡ fs.next) × NamesIn fs after dir name number }
+        directory_entries fs dir name ≡ None → (number ≡ fs.next) × NamesIn fs after dir name number }
     ensures make_dir { (fs after : Files) (who : Caller) (now : Timeval) (dir : FileNumber) (name : Name)
         (a : GivenFields) (number : FileNumber) → IsFileTree fs → IsTime now → AreValidFields a →
         length name ≤ max_name → make_dir fs who now dir name a ≡ Ok (number, after) →
@@ -137,6 +137,6 @@ pub fn links_are_counted()
     ensures some { (fs : Files) (n : FileNumber) (a : Fattr) → IsFileTree fs →
         attributes_at fs n ≡ Ok a → 1 ≤ a.nlink }
     ensures two { (fs : Files) (n dir other c b : ℕ) (x y : List ℕ) (a : Fattr) →
-        places fs dir x ≡ Some (n, c) → places fs other y ≡ Some (n, b) → ((dir ≡ other) × (x ≡ y) → ⊥) →
-        attributes_at fs n ≡ Ok a → 2 ≤ a.nlink }
+        directory_entries fs dir x ≡ Some (n, c) → directory_entries fs other y ≡ Some (n, b) →
+        ((dir ≡ other) × (x ≡ y) → ⊥) → attributes_at fs n ≡ Ok a → 2 ≤ a.nlink }
 {}

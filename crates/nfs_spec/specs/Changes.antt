@@ -24,6 +24,7 @@ Effect A = Result (A × Files) Stat
 abbrev pub with_mtime : Timeval → File → File
 with_mtime now f = record f { mtime = now; ctime = now }
 
+-- the same of the file of a number
 abbrev pub touch : Timeval → Files → FileNumber → Files
 touch now fs dir = with_changed_file fs dir (with_mtime now)
 
@@ -31,6 +32,7 @@ touch now fs dir = with_changed_file fs dir (with_mtime now)
 abbrev pub with_ctime : Timeval → File → File
 with_ctime now f = record f { ctime = now }
 
+-- the same of the file of a number
 abbrev pub touch_ctime : Timeval → Files → FileNumber → Files
 touch_ctime now fs n = with_changed_file fs n (with_ctime now)
 
@@ -63,7 +65,7 @@ check_owner who f a = do
   _ ← check (option_map_or (λ uid. (who.uid == 0) || (owns who f && (uid == f.uid))) a.uid true) stats.Perm
   check (option_map_or (may_give_group who f) a.gid true) stats.Perm
 
--- a given size: ISDIR, or NXIO for a link; ACCES without write permission; FBIG
+-- a given size: ISDIR, or NXIO for a symbolic link; ACCES without write permission; FBIG
 abbrev pub check_resize : Caller → File → Option ℕ → Result (Unit {0}) Stat
 check_resize who f None = Ok tt
 check_resize who f (Some size) = do
@@ -71,6 +73,7 @@ check_resize who f (Some size) = do
   _ ← check (may_write who f) stats.Acces
   check_size size
 
+-- a regular file's bytes cut or grown to a given size; other bodies stay
 abbrev pub body_with_length : Option ℕ → Body → Body
 body_with_length None body = body
 body_with_length (Some size) (Regular bytes) = Regular (with_length size bytes)

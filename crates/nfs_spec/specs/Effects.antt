@@ -9,13 +9,14 @@ use Rattle.fs_model.specs.nfs_items.declared.stat.Stat.{Stat}
 use Rattle.fs_model.specs.nfs_items.declared.stat.Stat.TheVariants as stats
 use Rattle.fs_model.specs.nfs_items.Terms.{Name, FileNumber}
 use Rattle.fs_model.specs.Names.{dot, dot_dot, is_name}
-use Rattle.fs_model.specs.Listing.{Listing, place_number, entry_at}
+use Rattle.fs_model.specs.Listing.{Listing, file_number, entry_at}
 use Rattle.fs_model.specs.Files.{Files, parent_of}
 use Rattle.nfs_spec.specs.ProcedureChecks.{◌>>=◌, ok_or, file_of, number_of, listing_or, may_search}
 use Rattle.nfs_spec.specs.FileAttributes.{attributes_of}
 
 -- ---- of a file number
 
+-- the attributes of a number's file: STALE where there is none
 abbrev pub attributes_at : Files → FileNumber → Result Fattr Stat
 attributes_at fs n = do
   f ← file_of fs n
@@ -27,7 +28,7 @@ abbrev pub number_in_listing : FileNumber → FileNumber → Listing → Name �
 number_in_listing own above l name =
     if pointwise nat_eq name dot then Some own
     else if pointwise nat_eq name dot_dot then Some above
-    else if is_name name then option_map place_number (entry_at l name)
+    else if is_name name then option_map file_number (entry_at l name)
     else None
 
 -- of files: the directory above the root is the root

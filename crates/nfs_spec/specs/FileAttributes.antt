@@ -10,9 +10,10 @@ use Rattle.fs_model.specs.Listing.{Listing, entry_number}
 use Rattle.fs_model.specs.Files.{Body, Regular, Symlink, Directory, File, Files, file_at, is_directory}
 use Rattle.fs_model.specs.Files.{names_of}
 
+-- ftype: NFREG, NFLNK or NFDIR, by what a file holds
 abbrev pub type_of : Body → FileType
 type_of (Regular bytes) = types.Regular
-type_of (Symlink target) = types.Link
+type_of (Symlink target) = types.Symlink
 type_of (Directory l) = types.Directory
 
 -- the bits of a mode that tell the type
@@ -25,6 +26,7 @@ type_bits (Directory l) = 0o040000
 abbrev pub is_directory_at : Files → FileNumber → Bool
 is_directory_at fs n = option_map_or (λ f. is_directory f.body) (file_at fs n) false
 
+-- how many entries of a listing are directories'
 abbrev pub subdirectories : Files → Listing → ℕ
 subdirectories fs l = count_by (λ e. is_directory_at fs (entry_number e)) l.entries
 
@@ -40,6 +42,7 @@ size_of (Regular bytes) = length bytes
 size_of (Symlink target) = length target
 size_of (Directory l) = 512
 
+-- fattr: the attributes of a file under its number
 abbrev pub attributes_of : Files → FileNumber → File → Fattr
 attributes_of fs n f = record {
   file_type = type_of f.body;

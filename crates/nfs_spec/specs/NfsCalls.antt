@@ -33,6 +33,7 @@ with_attributes n e = do
   a ← attributes_at x.1 n
   Ok (a, x.1)
 
+-- with the file handle and the attributes of the number that it gives
 abbrev pub with_handle : Effect FileNumber → Effect (FileHandle × Fattr)
 with_handle e = do
   x ← e

@@ -5,9 +5,11 @@ use Rattle.fs_model.specs.nfs_items.Timeval.{Timeval}
 use Rattle.fs_model.specs.nfs_items.Terms.{Name}
 use Rattle.fs_model.specs.Files.{Body, Regular, Directory, File, Files}
 
+-- the start of 1970
 abbrev pub epoch : Timeval
 epoch = record { seconds = 0; microseconds = 0 }
 
+-- the name of the one file that is there at first
 abbrev pub hello : Name
 hello = codes "hello"
 
@@ -31,6 +33,7 @@ opening_root = first_file 0o777 (Directory (record { next = 4; entries = (hello,
 abbrev pub opening_hello : File
 opening_hello = first_file 0o644 (Regular (codes "hello\n"))
 
+-- the files that the server of a node begins with
 abbrev pub opening_files : ℕ → Files
 opening_files fsid = record {
   fsid = fsid;

@@ -9,7 +9,7 @@ use Rattle.fs_model.specs.nfs_items.declared.stat.Stat.TheVariants as stats
 use Rattle.fs_model.specs.Maxima.{max_file_size, max_number}
 use Rattle.fs_model.specs.nfs_items.Terms.{Name, FileNumber}
 use Rattle.fs_model.specs.Names.{is_name}
-use Rattle.fs_model.specs.Listing.{Listing, place_number, entry_at}
+use Rattle.fs_model.specs.Listing.{Listing, file_number, entry_at}
 use Rattle.fs_model.specs.Changes.Limits.{has_room}
 use Rattle.fs_model.specs.Files.{Body, Regular, Symlink, Directory, File, Files, file_at}
 
@@ -32,6 +32,7 @@ file_of fs n = ok_or stats.Stale (file_at fs n)
 abbrev pub number_of : Files → FileHandle → Result FileNumber Stat
 number_of fs handle = ok_or stats.Stale (number_in fs.fsid handle)
 
+-- what a directory lists; a stat where the body is no directory's
 abbrev pub listing_or : Stat → Body → Result Listing Stat
 listing_or e (Regular bytes) = Err e
 listing_or e (Symlink target) = Err e
@@ -58,14 +59,17 @@ may_search who f = permits who f 1
 abbrev pub owns : Caller → File → Bool
 owns who f = who.uid == f.uid
 
+-- read permission, for the owner whatever the mode
 abbrev pub may_read : Caller → File → Bool
 may_read who f = owns who f || permits who f 4
 
+-- write permission, for the owner whatever the mode
 abbrev pub may_write : Caller → File → Bool
 may_write who f = owns who f || permits who f 2
 
 -- ---- checks that say nothing but their stat
 
+-- nothing where a test passes, else its stat
 abbrev pub check : Bool → Stat → Result (Unit {0}) Stat
 check b e = if b then Ok tt else Err e
 
@@ -87,7 +91,7 @@ bytes_of (Regular bytes) = Ok bytes
 bytes_of (Symlink target) = Err stats.NxIo
 bytes_of (Directory l) = Err stats.IsDir
 
--- the target of a link: NXIO
+-- the target of a symbolic link: NXIO
 abbrev pub target_of : Body → Result (List ℕ) Stat
 target_of (Regular bytes) = Err stats.NxIo
 target_of (Symlink target) = Ok target
@@ -114,7 +118,7 @@ check_edit who d name = do
 
 -- what a name stands for: NOENT
 abbrev pub number_at : NumberedDir → Name → Result FileNumber Stat
-number_at d name = ok_or stats.NoEnt (option_map place_number (entry_at d.listing name))
+number_at d name = ok_or stats.NoEnt (option_map file_number (entry_at d.listing name))
 
 -- a name is free: EXIST
 abbrev pub check_free : NumberedDir → Name → Result (Unit {0}) Stat

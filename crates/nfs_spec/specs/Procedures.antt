@@ -13,7 +13,7 @@ use Rattle.fs_model.specs.Maxima.{max_data, max_blocks}
 use Rattle.fs_model.specs.nfs_items.Terms.{Name, FileNumber, Cookie}
 use Rattle.fs_model.specs.Names.{is_name}
 use Rattle.nfs_types.specs.declared.results.FsStats.{FsStats}
-use Rattle.fs_model.specs.Listing.{place_number, entry_at}
+use Rattle.fs_model.specs.Listing.{file_number, entry_at}
 use Rattle.fs_model.specs.Files.{Body, Regular, Symlink, Directory, File, Files, is_directory, listing_in}
 use Rattle.fs_model.specs.Files.{parent_of}
 use Rattle.fs_model.specs.Changes.Edits.{with_new_file, with_changed_file, with_name, without_name}
@@ -73,6 +73,7 @@ write fs who now n offset new = do
 abbrev pub add_file : Timeval → Files → FileNumber → Name → File → Files
 add_file now fs dir name f = touch now (with_name (with_new_file fs f) dir name fs.next) dir
 
+-- whether a body is a regular file's
 abbrev pub is_regular : Body → Bool
 is_regular (Regular bytes) = true
 is_regular (Symlink target) = false
@@ -102,7 +103,7 @@ create fs who now dir name a = do
   d ← dir_of fs dir
   _ ← check (is_name name) stats.Acces
   _ ← check (may_search who d.file) stats.Acces
-  option_map_or (λ e. create_over fs who now a (place_number e)) (entry_at d.listing name)
+  option_map_or (λ e. create_over fs who now a (file_number e)) (entry_at d.listing name)
       (create_new fs who now d name a)
 
 -- a new file that needs Edit, a free name and Room
@@ -199,7 +200,7 @@ rename fs who now from from_name to to_name = do
   _ ← check_edit who e to_name
   n ← number_at d from_name
   f ← file_of fs n
-  let target = option_map place_number (entry_at e.listing to_name)
+  let target = option_map file_number (entry_at e.listing to_name)
   let after = move_entry now fs n from from_name to to_name target
   if option_map_or (λ t. t == n) target false then Ok (tt, fs) else do
     _ ← check (not (is_directory f.body && is_above fs n to)) stats.Acces

@@ -6,11 +6,11 @@ use Rattle.fs_model.specs.Maxima.{max_data}
 use Rattle.fs_model.specs.nfs_items.Terms.{FileNumber, Cookie}
 use Rattle.fs_model.specs.Names.{dot, dot_dot}
 use Rattle.nfs_types.specs.Calls.{PageEntry, Page}
-use Rattle.fs_model.specs.Listing.{DirEntry, Listing, entry_name, entry_number, entry_cookie}
+use Rattle.fs_model.specs.Listing.{NamedEntry, Listing, entry_name, entry_number, entry_cookie}
 use Rattle.fs_model.specs.Files.{Files, parent_of}
 
 -- an entry of a directory as READDIR gives it
-abbrev pub page_entry : DirEntry → PageEntry
+abbrev pub page_entry : NamedEntry → PageEntry
 page_entry e = record { fileid = entry_number e; name = entry_name e; cookie = entry_cookie e }
 
 -- `.` and `..`, then the entries in order of insertion, by the directory's own number, the one above and what
@@ -34,6 +34,7 @@ abbrev pub longest_front : ℕ → List PageEntry → List PageEntry
 longest_front count [] = []
 longest_front count (e ∷ es) = if nat_le (cost e) count then e ∷ longest_front (count - cost e) es else []
 
+-- the page after a cookie, of so many bytes at most: the longest front, and whether it is the last page
 abbrev pub page_of : Cookie → ℕ → List PageEntry → Page
 page_of cookie count es =
     let above = filter (λ e. nat_lt cookie e.cookie) es in

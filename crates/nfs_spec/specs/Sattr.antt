@@ -31,6 +31,7 @@ pub record GivenFields : Type 0 where
   pub atime : Option Timeval
   pub mtime : Option Timeval
 
+-- what a sattr gives, at a clock reading
 abbrev pub given_fields : Timeval → Sattr → GivenFields
 given_fields now s = record {
   mode = given_mode s.mode;
@@ -41,6 +42,7 @@ given_fields now s = record {
   mtime = given_time now s.mtime;
 }
 
+-- whether anything is given
 abbrev pub gives_any : GivenFields → Bool
 gives_any a =
     is_some a.mode || is_some a.uid || is_some a.gid || is_some a.size || is_some a.atime || is_some a.mtime

@@ -38,6 +38,8 @@ value_bounded procedures.Symlink v f bytes = (f.0.1.1, f.1.0.1, sattr_words v.1.
 value_bounded procedures.Mkdir v f bytes = (f.0.1.1, sattr_words v.1 f.1)
 value_bounded procedures.Rmdir v f bytes = f.1.1
 value_bounded procedures.Readdir v f bytes =
-    let cookie : IsBytes v.1.0 = front_bytes v.1.0 (padding 4) (front_bytes (v.1.0 ++ padding 4) _ (back_bytes (v.0 ++ padding 32) _ bytes)) in
+    let cookie : IsBytes v.1.0 =
+    front_bytes v.1.0 (padding 4)
+    (front_bytes (v.1.0 ++ padding 4) _ (back_bytes (v.0 ++ padding 32) _ bytes)) in
     (big_from-lt 0 4 v.1.0 cookie, f.1.1)
 value_bounded procedures.Statfs v f bytes = tt

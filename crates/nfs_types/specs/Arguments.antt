@@ -12,6 +12,7 @@ use Rattle.nfs_types.specs.Calls as calls
 use Rattle.nfs_types.specs.Calls.{Call}
 use Rattle.nfs_types.specs.Texts.{nfs_program}
 
+-- a directory's handle and a name, as a value of that item
 abbrev pub diropargs_value : DirOpArgs → Value diropargs
 diropargs_value a = (a.dir.0, a.name.now)
 

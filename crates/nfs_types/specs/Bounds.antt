@@ -11,9 +11,11 @@ use Rattle.nfs_types.specs.Calls.{Write, Create, Remove, Rename, Link, Symlink, 
 abbrev pub IsFilename : Name → Type 0
 IsFilename name = length name ≤ MAXNAMLEN
 
+-- an unsigned number of 32 bits
 abbrev pub IsWord : ℕ → Type 0
 IsWord n = n < 2 ^ 32
 
+-- both numbers of a time are words
 abbrev pub HasTimeWords : Timeval → Type 0
 HasTimeWords t = IsWord t.seconds × IsWord t.microseconds
 

@@ -16,15 +16,19 @@ use Rattle.nfs_types.specs.Texts.{entry_value, fs_stats_value}
 use Rattle.nfs_types.specs.Calls as calls
 use Rattle.nfs_types.specs.Calls.{Answer, PageEntry, Page}
 
+-- the entry that a value of the program stands for
 abbrev pub entry_of : stored_entry.PageEntry → PageEntry
 entry_of e = record { fileid = e.fileid; name = e.name.now; cookie = e.cookie }
 
+-- the page that a value of the program stands for
 abbrev pub page_of : stored.Page → Page
 page_of p = record { entries = map entry_of p.entries.items; eof = p.eof }
 
+-- a file's handle and its attributes
 abbrev pub dir_op_of : DirOpOk → FileHandle × Fattr
 dir_op_of x = (x.file.0, x.attributes)
 
+-- a file's attributes, and the bytes that were read of it
 abbrev pub bytes_of : ReadOk → Fattr × List ℕ
 bytes_of x = (x.attributes, x.data.now)
 

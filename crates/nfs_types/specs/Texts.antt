@@ -96,13 +96,15 @@ procedure_in (calls.Statfs file) = procedures.Statfs
 
 -- ---- results
 
+-- an entry of READDIR as a value of its item
 abbrev pub entry_value : PageEntry → Value entry
 entry_value e = (e.fileid, (e.name, big_bytes 4 e.cookie))
 
+-- what STATFS gives as a value of its item
 abbrev pub fs_stats_value : FsStats → Value fs_stats
 fs_stats_value f = (f.transfer_size, (f.block_size, (f.blocks, (f.free, f.available))))
 
--- the item of an answer, and its value
+-- the item of an answer
 abbrev pub answer_item : Answer → Item
 answer_item calls.Nothing = empty
 answer_item (calls.Attributes r) = attrstat
@@ -113,6 +115,7 @@ answer_item (calls.Status r) = status
 answer_item (calls.Entries r) = readdirres
 answer_item (calls.Free r) = statfsres
 
+-- an answer as a value of its item
 abbrev pub answer_value : (a : Answer) → Value (answer_item a)
 answer_value calls.Nothing = tt
 answer_value (calls.Attributes r) = outcome_value fattr fattr_value r

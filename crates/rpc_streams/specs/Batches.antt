@@ -20,6 +20,7 @@ use Rattle.rpc_streams.specs.declared.batch.End.{End}
 abbrev pub owed_from : World → ℕ → List (List ℕ) → List ℕ
 owed_from w k records = replies_owed w (with_times time_of k records)
 
+-- the world after these records
 abbrev pub world_from : World → ℕ → List (List ℕ) → World
 world_from w k records = world_after_all w (with_times time_of k records)
 

@@ -28,6 +28,7 @@ abbrev pub machine_at : Machine → Stage → Machine
 machine_at (Server w old) stage = Server w stage
 machine_at (Client clock) stage = Client clock
 
+-- a state whose server is at another stage
 abbrev pub at_stage : State → Stage → State
 at_stage s stage = record s { machine = machine_at s.machine stage }
 
@@ -47,6 +48,7 @@ abbrev pub after_reading : Machine → Timeval → Machine
 after_reading (Server w stage) time = answered w stage time
 after_reading (Client clock) time = Client time
 
+-- a state after a clock reading
 abbrev pub having_read : State → Timeval → State
 having_read s time = record s { machine = after_reading s.machine time }
 

@@ -10,13 +10,13 @@ use Rattle.std.specs.Cmp.Lexicographic.{pointwise, same_text}
 use Rattle.std.specs.FinMap as finite
 use Rattle.xdr.specs.Item.{Fits, choice}
 use Rattle.file_texts.specs.fs_model.Maxima.{max_file_size, max_target, max_name, max_files}
-use Rattle.file_texts.specs.fs_model.Listing.{DirEntry, entry_at}
+use Rattle.file_texts.specs.fs_model.Listing.{NamedEntry, entry_at}
 use Rattle.file_texts.specs.fs_model.Files.{Body, Regular, Symlink, Directory, File, file_at, listing_in}
-use Rattle.file_texts.specs.fs_model.Files.{places}
+use Rattle.file_texts.specs.fs_model.Files.{directory_entries}
 use Rattle.file_texts.specs.fs_model.Changes.Limits.{file_count}
 use Rattle.file_texts.proofs.fs_model.Walks.{none_some, some_same}
 use Rattle.file_texts.proofs.fs_model.OfChanges.Room.{AllCookies}
-use Rattle.file_texts.proofs.fs_model.Counts.{file_in, place_in}
+use Rattle.file_texts.proofs.fs_model.Counts.{file_in, listed_in}
 use Rattle.worlds.specs.World.{World}
 use Rattle.worlds.specs.mount_types.declared.limits.TheConstants.{MNTNAMLEN}
 use Rattle.worlds.specs.mount_types.Mounts.{max_mounts}
@@ -40,7 +40,7 @@ found_fits n f (e ∷ es) all h =
     ] h
 
 -- a name that is found in a list whose names fit
-found_name : (name : List ℕ) (p : ℕ × ℕ) (es : List DirEntry) → AllByRecursion (Fits entry_item) es
+found_name : (name : List ℕ) (p : ℕ × ℕ) (es : List NamedEntry) → AllByRecursion (Fits entry_item) es
     → lookup (pointwise nat_eq name) es ≡ Some p → length name ≤ max_name
 found_name name p [] all h = absurd (none_some h)
 found_name name p (e ∷ es) all h = by (λ is. found_name name p es all.1 is) (pointwise nat_eq name e.0) refl h
@@ -136,8 +136,8 @@ module _ (w : World) (stage : Stage) (fits : Fits (rest_item file_item 1)
   short_hosts = short_host w.mounts fits.1.1.0.2
 
   -- names are within their bound
-  pub short_names : (n : ℕ) (name : List ℕ) (p : ℕ × ℕ) → places w.files n name ≡ Some p
+  pub short_names : (n : ℕ) (name : List ℕ) (p : ℕ × ℕ) → directory_entries w.files n name ≡ Some p
       → length name ≤ max_name
   short_names n name p found =
-      let f = place_in w.files n name p found in
+      let f = listed_in w.files n name p found in
       short_name f.0.body name p (body_at n f.0 f.1) f.2

@@ -10,7 +10,7 @@ use Rattle.file_texts.specs.fs_model.Listing.{Listing, IsRising, HasDistinctName
 use Rattle.file_texts.specs.fs_model.Names.{is_name}
 use Rattle.file_texts.specs.fs_model.Files.{Body, Regular, Symlink, Directory, File, Files, file_at, listing}
 use Rattle.file_texts.specs.fs_model.Files.{listing_in}
-use Rattle.file_texts.specs.fs_model.Files.{is_directory, places, IsDirectory}
+use Rattle.file_texts.specs.fs_model.Files.{is_directory, directory_entries, IsDirectory}
 use Rattle.file_texts.specs.fs_model.Trees.{IsBody, IsFile, IsFileTree}
 use Rattle.file_texts.proofs.fs_model.Walks.{none_some}
 use Rattle.file_texts.proofs.fs_model.Reached.{path_of}
@@ -93,10 +93,10 @@ module _ (w : World) (stage : Stage) (fits : Fits (rest_item file_item 1)
         body = body_of f.body (body_at w stage fits n f there) (rule_at n f there);
       }
 
-  name_of : (n : ℕ) (name : List ℕ) → IsSome (places w.files n name)
+  name_of : (n : ℕ) (name : List ℕ) → IsSome (directory_entries w.files n name)
       → IsTrue (is_name name) × (length name ≤ max_name)
   name_of n name is =
-      let p = some_of (places w.files n name) is in
+      let p = some_of (directory_entries w.files n name) is in
       (rules.tree.names n name is, short_names w stage fits n name p.0 p.1)
 
   is_tree : IsFileTree w.files

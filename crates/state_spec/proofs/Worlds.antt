@@ -15,9 +15,9 @@ use Rattle.xdr.specs.Item.{Fits, array, choice}
 use Rattle.worlds.specs.mount_types.Calls.{Mount}
 use Rattle.worlds.specs.mount_types.Mounts.{IsMount}
 use Rattle.file_texts.specs.fs_model.Maxima.{max_files, max_entries, max_name}
-use Rattle.file_texts.specs.fs_model.Listing.{Listing, DirEntry, entry_at, IsRising, HasDistinctNames}
+use Rattle.file_texts.specs.fs_model.Listing.{Listing, NamedEntry, entry_at, IsRising, HasDistinctNames}
 use Rattle.file_texts.specs.fs_model.Files.{Body, Regular, Symlink, Directory, File, Files, file_at}
-use Rattle.file_texts.specs.fs_model.Files.{listing_in, places}
+use Rattle.file_texts.specs.fs_model.Files.{listing_in, directory_entries}
 use Rattle.file_texts.specs.fs_model.Trees.{IsBody, IsFileTree}
 use Rattle.file_texts.proofs.fs_model.Counts.{same_number}
 use Rattle.file_texts.proofs.fs_model.Reached.{both_of, not_before}
@@ -64,9 +64,9 @@ all_mapped f P (x ∷ xs) all = (all.0, all_mapped f P xs all.1)
 
 module _ (P : List ℕ → ℕ × ℕ → Type 0) where
   -- what holds of each look-up holds of each entry
-  all_named : (es : List DirEntry) → HasDistinctNames es
+  all_named : (es : List NamedEntry) → HasDistinctNames es
       → ((name : List ℕ) (v : ℕ × ℕ) → lookup (pointwise nat_eq name) es ≡ Some v → P name v)
-      → AllByRecursion (λ (e : DirEntry). P e.0 e.1) es
+      → AllByRecursion (λ (e : NamedEntry). P e.0 e.1) es
   unfolding IsDistinct
   all_named [] distinct holds = tt
   all_named (e ∷ es) distinct holds = (
@@ -82,13 +82,13 @@ module _ (P : List ℕ → ℕ × ℕ → Type 0) where
       behind name v at false other = ap (λ b. cond b (Some e.1) (lookup (pointwise nat_eq name) es)) other
           ∙ at
 
-at_most : (low : ℕ) (es : List DirEntry) (high : ℕ) → IsRising low es high → low ≤ high
+at_most : (low : ℕ) (es : List NamedEntry) (high : ℕ) → IsRising low es high → low ≤ high
 at_most low [] high h = h
 at_most low (e ∷ es) high h = omega (arith, h.0, at_most (e.1.1 + 1) es high h.1)
 
 -- entries whose names are short and whose numbers are words fit, where their cookies rise to a word
-each_fits : (low : ℕ) (es : List DirEntry) (high : ℕ) → high ≤ 4294967295 → IsRising low es high
-    → AllByRecursion (λ (e : DirEntry). (e.1.0 < 2 ^ 32) × (length e.0 ≤ max_name)) es
+each_fits : (low : ℕ) (es : List NamedEntry) (high : ℕ) → high ≤ 4294967295 → IsRising low es high
+    → AllByRecursion (λ (e : NamedEntry). (e.1.0 < 2 ^ 32) × (length e.0 ≤ max_name)) es
     → AllByRecursion (Fits entry_item) es
 each_fits low [] high le h all = tt
 each_fits low (e ∷ es) high le h all = (
@@ -139,11 +139,11 @@ module _ (w : Files) (tree : IsFileTree w) (room : IsWithin w) (words : AreWords
         few,
         each_fits 3 l.entries l.next (omega (arith, next, room.cookies n f there)) body.0
             (all_named (λ name v. (v.0 < 2 ^ 32) × (length name ≤ max_name)) l.entries body.1 (λ name v at.
-            let place : places w n name ≡ Some v =
+            let its_entry : directory_entries w n name ≡ Some v =
             ap (option_and_then (λ f. entry_at (listing_in f.body) name)) there
             ∙ ap (λ l. entry_at l name) same ∙ at in (
-              number_fits v.0 (tree.tree.named n name v.0 v.1 place),
-              (tree.names n name (ap is_some place)).1,
+              number_fits v.0 (tree.tree.named n name v.0 v.1 its_entry),
+              (tree.names n name (ap is_some its_entry)).1,
             ))),
       )
 

@@ -12,7 +12,8 @@ use Rattle.file_texts.specs.fs_model.Maxima.{max_entries, max_blocks}
 use Rattle.file_texts.specs.fs_model.Names.{FilePath, is_name}
 use Rattle.file_texts.specs.fs_model.Listing.{IsRising, HasDistinctNames}
 use Rattle.file_texts.specs.fs_model.Paths.{path_at}
-use Rattle.file_texts.specs.fs_model.Files.{File, Files, file_at, listing, places, names_of, IsDirectory}
+use Rattle.file_texts.specs.fs_model.Files.{File, Files, file_at, listing, directory_entries, names_of}
+use Rattle.file_texts.specs.fs_model.Files.{IsDirectory}
 use Rattle.file_texts.specs.fs_model.Trees.{IsTime}
 use Rattle.file_texts.specs.fs_model.Changes.Limits.{entry_count, block_count}
 use Rattle.worlds.specs.World.{World}
@@ -37,7 +38,7 @@ NoEntryNamesTheRoot fs = names_of fs 1 ≡ 0
 abbrev pub EntriesNameFiles : Files → Type 0
 EntriesNameFiles fs =
     (dir : FileNumber) (name : Name) (number : FileNumber) (cookie : Cookie)
-    → places fs dir name ≡ Some (number, cookie) → IsSome (file_at fs number)
+    → directory_entries fs dir name ≡ Some (number, cookie) → IsSome (file_at fs number)
 
 -- Every other number than 1 has a name.
 abbrev pub FilesHaveNames : Files → Type 0
@@ -51,7 +52,7 @@ DirectoriesHaveOneName fs = (n : FileNumber) → n ≢ 1 → IsDirectory fs n �
 abbrev pub FilesAreReached : Files → Type 0
 FilesAreReached fs =
     (n : FileNumber) → IsSome (file_at fs n)
-    → (path : FilePath) × (cookie : Cookie) × (path_at (places fs) path ≡ Some (n, cookie))
+    → (path : FilePath) × (cookie : Cookie) × (path_at (directory_entries fs) path ≡ Some (n, cookie))
 
 -- The names in a directory differ.
 abbrev pub NamesDiffer : Files → Type 0
@@ -59,7 +60,8 @@ NamesDiffer fs = (n : FileNumber) → IsDirectory fs n → HasDistinctNames (lis
 
 -- Names keep the name rule.
 abbrev pub NamesKeepTheRule : Files → Type 0
-NamesKeepTheRule fs = (dir : FileNumber) (name : Name) → IsSome (places fs dir name) → IsTrue (is_name name)
+NamesKeepTheRule fs =
+    (dir : FileNumber) (name : Name) → IsSome (directory_entries fs dir name) → IsTrue (is_name name)
 
 -- The cookies in a directory are at least 3, rise strictly, and are below its next cookie.
 abbrev pub CookiesRise : Files → Type 0

@@ -95,6 +95,7 @@ distinct_added es e h none =
 
 -- ---- what was read of the first entries
 
+-- what a directory is once so many of the given entries were read
 pub record AreRead (count : ℕ) (given : List GivenEntry) (d : Listing) : Type 0 where
   -- the directory lists the entries read so far
   pub entries : d.entries ≡ said_entries (take count given)

@@ -1,7 +1,7 @@
 -- How many names each number has, and which directory has one.
 use Rattle.std.specs.Prelude.{◌≡◌, ◌<◌, ◌+◌, ℕ, List, length, slice_index, sum_by}
 use Rattle.nfs_items.specs.Terms.{FileNumber}
-use Rattle.nfs_laws.specs.fs_model.Listing.{DirEntry}
+use Rattle.nfs_laws.specs.fs_model.Listing.{NamedEntry}
 use Rattle.nfs_laws.specs.fs_model.Files.{File, names_in, one_if}
 use Rattle.tree_rules.specs.FileRules.Rules.{AreKnown, AreNamesCounted}
 
@@ -10,7 +10,7 @@ abbrev pub IsAmong : List FileNumber → FileNumber → Type 0
 IsAmong numbers number = (k : ℕ) × (k < length numbers) × (slice_index numbers k ≡ number)
 
 -- the entries of a listing that name a number
-abbrev pub names_listed : FileNumber → List DirEntry → ℕ
+abbrev pub names_listed : FileNumber → List NamedEntry → ℕ
 names_listed n entries = sum_by (one_if n) entries
 
 -- the names of a number in all
@@ -19,7 +19,7 @@ names_among n es = sum_by (λ (e : FileNumber × File). names_in n e.1) es
 
 -- The names that entries give are added to the counts,
 -- and each number that they name has their place above it.
-pub record AddsNames (place : ℕ) (numbers : List FileNumber) (entries : List DirEntry)
+pub record AddsNames (place : ℕ) (numbers : List FileNumber) (entries : List NamedEntry)
     (names above names' above' : List ℕ) : Type 0 where
   -- each count rises by the entries that name its number
   pub counted : (k : ℕ) → k < length numbers

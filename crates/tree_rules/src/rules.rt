@@ -15,7 +15,7 @@ use inodes::{Body, Inode};
 use std::alloc::{AllocError, Global};
 
 /// Whether a place may have so many names: the root, which is a directory, none; another directory one; a
-/// file or link at least one.
+/// file or symbolic link at least one.
 fn may_have(place: usize, body: &Body, names: usize) -> bool
     ensures { result ≡ may_have place (is_directory (body_in body.now)) names }
 {

@@ -63,6 +63,7 @@ abbrev pub replay_of : List Member → Member → Past → SegmentParts → Verd
 replay_of ms m past s (Sound t found) = None
 replay_of ms m past s (Fault fault number) = Some (Replay (audited_with ms m past s))
 
+-- the charge that follows from an authenticator noted, a segment accepted or a job filed, where there is one
 abbrev pub charge_of : List Member → Member → Past
     → Option Authenticator → Option ClosedParts → Option JobParts → Option Charge
 charge_of ms m past (Some a) segment job = new_fork ms m past (authenticator_showing a) (pair_of a ∷ [])

@@ -95,6 +95,7 @@ pub record IsLeftOut (ms : List Member) (event : Event) (refusal : Refusal) : Ty
   pub few : refusal_number refusal ≤ 3
   pub changes : (history : History) (reply : Reply) → ChangesNothing ms history event reply
 
+-- An event that is nobody's step is left out, whatever the history.
 abbrev pub LeftOutChangesNothing : Type 0
 LeftOutChangesNothing =
     (ms : List Member) (event : Event) (refusal : Refusal)
@@ -106,8 +107,7 @@ WantChangesNothing =
     (ms : List Member) (history : History) (event : Event) (reply : Reply)
     → IsWanting event reply → ChangesNothing ms history event reply
 
--- Every other event is a step of its node, and is refused neither by 1, 2 or 3 nor as out of
--- memory.
+-- Every other event is a step of its node, and is refused neither by 1, 2 or 3 nor as out of memory.
 pub record IsTaken (ms : List Member) (history : History) (event : Event) (reply : Reply) (o : OwnStep)
     : Type 0 where
   pub own_step : own ms o.member.node ((event, reply) ∷ history)
@@ -117,6 +117,7 @@ pub record IsTaken (ms : List Member) (history : History) (event : Event) (reply
   pub refusals : (refusal : Refusal) → reply ≡ refused event refusal
       → (4 ≤ refusal_number refusal) × (refusal_number refusal ≤ 13)
 
+-- An event that is a node's step is taken by that node, with any reply that is owed to it.
 abbrev pub OthersAreTaken : Type 0
 OthersAreTaken =
     (ms : List Member) (history : History) (event : Event) (reply : Reply) (o : OwnStep)
@@ -200,6 +201,7 @@ pub record IsProof (ms : List Member) (m : Member) (e : EvidenceParts) : Type 0 
   pub accepted : Accepts ms e
   pub proves : Proves ms e
 
+-- The evidence that a history gives against a member proves that it has no honest log.
 abbrev pub EvidenceProves : Type 0
 EvidenceProves =
     (ms : List Member) (m : Member) (history : History) (e : EvidenceParts)
@@ -222,6 +224,8 @@ pub record AnswersAudit (ms : List Member) (m : Member) (history : History) (c :
 abbrev pub answer_of : List Member → OpenSegment → Authenticator → ClosedParts
 answer_of ms s closing = record { segment = with_closing s closing; roster = ms }
 
+-- The part of a node's log that was asked for, closed by the node's signature at its last number, answers the
+-- audit.
 abbrev pub AnswersAreAccepted : Type 0
 AnswersAreAccepted =
     (ms : List Member) (m : Member) (history : History) (log : LogParts) (first last : ℕ) (s : OpenSegment)
@@ -241,6 +245,7 @@ pub record ClosesChallenge (ms : List Member) (m : Member) (history : History) (
       → let after : History = (events.AckIn a key, Closed) ∷ history in
       ¬ IsAmong (SendOf e) (open_challenges (own ms m.node after))
 
+-- A node's acknowledgement of a message that it is challenged with closes the challenge.
 abbrev pub AcksClose : Type 0
 AcksClose =
     (ms : List Member) (m : Member) (history : History) (e : Envelope) (a : Ack) (key : PublicKey)

@@ -15,6 +15,7 @@ pub record World : Type 0 where
 abbrev pub world_of : Files → Timeval → List (List ℕ × List ℕ) → World
 world_of files clock mounts = record { files = files; clock = clock; mounts = mounts }
 
+-- worlds are told apart by their files, clock and mounts
 abbrev pub world_code : Coded World
 world_code =
     code_by (Files × (Timeval × List (List ℕ × List ℕ)))

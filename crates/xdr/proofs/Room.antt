@@ -5,7 +5,8 @@ use Rattle.std.specs.Prelude.{Result, IsErr}
 use Rattle.xdr.specs.Writing.{Spends}
 
 -- what was refused because there was no room
-pub refused : {E : Type 0} (taken old : ℕ) (r : Result (Unit {0}) E) (new : ℕ) → IsErr r → old < taken → Spends taken old r new
+pub refused : {E : Type 0} (taken old : ℕ) (r : Result (Unit {0}) E) (new : ℕ) → IsErr r → old < taken
+    → Spends taken old r new
 refused taken old (Ok x) new is few = absurd cc
 refused taken old (Err e) new is few = few
 

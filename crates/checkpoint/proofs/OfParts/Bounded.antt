@@ -6,7 +6,7 @@ use Rattle.std.proofs.lemmas.List.Elements.{All-from_recursion}
 use Rattle.xdr.specs.Item.{Fits, choice}
 use Rattle.mount_types.specs.declared.limits.TheConstants.{MNTNAMLEN, MNTPATHLEN}
 use Rattle.fs_model.specs.Maxima.{max_name}
-use Rattle.fs_model.specs.Listing.{DirEntry}
+use Rattle.fs_model.specs.Listing.{NamedEntry}
 use Rattle.state_machine.specs.file_texts.Bounds.{IsWritable}
 use Rattle.state_machine.specs.file_texts.FileItems.{file_item, entry_item, is_file_kind, kind_item}
 use Rattle.state_machine.specs.file_texts.Parts.{kind_said, file_said, body_of}
@@ -43,8 +43,8 @@ each_of : {A B : Type 0} (f : A → B) (P : B → Type 0) (Q : A → Type 0)
 each_of f P Q made xs all = All-from_recursion Q xs (each_made f P Q made xs all)
 
 -- names of entries that fit are short
-short_names : (es : List DirEntry) → AllByRecursion (Fits entry_item) es
-    → AllByRecursion (λ (e : DirEntry). length e.0 ≤ max_name) es
+short_names : (es : List NamedEntry) → AllByRecursion (Fits entry_item) es
+    → AllByRecursion (λ (e : NamedEntry). length e.0 ≤ max_name) es
 short_names [] all = tt
 short_names (e ∷ es) all = (all.0.0.1, short_names es all.1)
 

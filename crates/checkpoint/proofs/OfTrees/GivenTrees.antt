@@ -5,7 +5,7 @@ use Rattle.std.proofs.Common.{sym, subst, ◌∙◌}
 use Rattle.std.specs.Prelude.{IsTrue, ◌↔◌}
 use Rattle.std.specs.List.{All}
 use Rattle.std.proofs.lemmas.List.Elements.{All-nil, All-map, All-from_recursion}
-use Rattle.fs_model.specs.Listing.{DirEntry, entry_name}
+use Rattle.fs_model.specs.Listing.{NamedEntry, entry_name}
 use Rattle.fs_model.specs.Maxima.{max_name}
 use Rattle.fs_model.specs.Names.{is_name}
 use Rattle.fs_model.specs.Files.{Body, Regular, Symlink, Directory, File, listing_in}
@@ -28,12 +28,12 @@ use Rattle.checkpoint.specs.Trees.ServedTrees.{IsServedTree}
 
 -- the names of a file that keeps its rules and that a text holds are names within their limit
 are_names : (b : Body) → IsWritable b → IsBodyAlone b → AreNames (listing_in b).entries
-are_names (Regular bytes) w h = All-nil (λ (e : DirEntry). IsTrue (is_name (entry_name e))
+are_names (Regular bytes) w h = All-nil (λ (e : NamedEntry). IsTrue (is_name (entry_name e))
     × (length (entry_name e) ≤ max_name))
-are_names (Symlink target) w h = All-nil (λ (e : DirEntry). IsTrue (is_name (entry_name e))
+are_names (Symlink target) w h = All-nil (λ (e : NamedEntry). IsTrue (is_name (entry_name e))
     × (length (entry_name e) ≤ max_name))
 are_names (Directory l) w h = λ i d lt.
-    (h.names i d lt, All-from_recursion (λ (e : DirEntry). length e.0 ≤ max_name) l.entries w.1 i d lt)
+    (h.names i d lt, All-from_recursion (λ (e : NamedEntry). length e.0 ≤ max_name) l.entries w.1 i d lt)
 
 -- a file that keeps its rules is one
 is_file : (f : File) → IsFileAlone f → IsFile f

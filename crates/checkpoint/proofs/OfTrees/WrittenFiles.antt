@@ -16,14 +16,14 @@ use Rattle.std.proofs.lemmas.Map.Entries.{lookup_from_place}
 use Rattle.xdr.specs.Item.{Item, Value, Fits, array, spelling, number_spelling}
 use Rattle.xdr.specs.Writing.{Adds}
 use Rattle.fs_model.specs.Maxima.{max_files, max_entries, max_name}
-use Rattle.fs_model.specs.Listing.{DirEntry}
+use Rattle.fs_model.specs.Listing.{NamedEntry}
 use Rattle.fs_model.specs.Files.{Body, Regular, Symlink, Directory, File, Files, file_at, listing_in}
 use Rattle.fs_model.specs.Trees.{IsBody, IsFileTree}
 use Rattle.fs_model.proofs.Counts.{count_of_one, file_in, find_lookup, sum_by_second}
 use Rattle.fs_model.proofs.Reached.{both_of, distinct_in}
 use Rattle.fs_model.specs.Changes.Limits.{has_room}
 use Rattle.fs_model.proofs.OfChanges.Room.{within}
-use Rattle.file_tree.proofs.tree_rules.OfFileRules.Places.{place_at}
+use Rattle.file_tree.proofs.tree_rules.OfFileRules.ListedEntries.{entry_in_order}
 use Rattle.inodes.specs.Inodes as stored
 use Rattle.inodes.specs.declared.inode.Inode.{Inode}
 use Rattle.file_tree.specs.tree_rules.Listed.{files_in}
@@ -78,20 +78,20 @@ module _ (w : Files) (tree : IsFileTree w) (room : IsTrue (has_room w)) where
 
   -- its names are within their limit
   short_names : (n : ℕ) (f : File) → file_at w n ≡ Some f
-      → All (λ (e : DirEntry). length e.0 ≤ max_name) (listing_in f.body).entries
+      → All (λ (e : NamedEntry). length e.0 ≤ max_name) (listing_in f.body).entries
   short_names n f is = λ i d h.
       let x = get_or (listing_in f.body).entries i d in
-      (tree.names n x.0 (ap is_some (place_at w n f is (distinct_in f.body (tree.files n f is).body) i d
+      (tree.names n x.0 (ap is_some (entry_in_order w n f is (distinct_in f.body (tree.files n f is).body) i d
       h))).1
 
   -- what is known of a file bounds its body
   bounded : (b : Body) → IsBody b → length (listing_in b).entries ≤ max_entries
-      → All (λ (e : DirEntry). length e.0 ≤ max_name) (listing_in b).entries → IsWritable b
+      → All (λ (e : NamedEntry). length e.0 ≤ max_name) (listing_in b).entries → IsWritable b
   bounded (Regular bytes) h few short = h
   bounded (Symlink target) h few short = h
   bounded (Directory l) h few short = (
     few,
-    recursion_from_All (λ (e : DirEntry). length e.0 ≤ max_name)
+    recursion_from_All (λ (e : NamedEntry). length e.0 ≤ max_name)
         l.entries short,
   )
 

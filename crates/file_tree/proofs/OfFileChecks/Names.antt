@@ -11,7 +11,7 @@ use Rattle.nfs_spec.specs.nfs_items.declared.stat.Stat.{Stat}
 use Rattle.nfs_spec.specs.nfs_items.declared.stat.Stat.TheVariants as stats
 use Rattle.nfs_spec.specs.fs_model.Listing.{Listing, entry_at}
 use Rattle.nfs_spec.specs.fs_model.Names.{is_name}
-use Rattle.nfs_spec.specs.fs_model.Files.{Body, Regular, File, Files, file_at, listing_in, places}
+use Rattle.nfs_spec.specs.fs_model.Files.{Body, Regular, File, Files, file_at, listing_in, directory_entries}
 use Rattle.nfs_spec.specs.fs_model.Trees.{IsFileTree}
 use Rattle.nfs_spec.specs.fs_model.Changes.Limits.{has_room, blocks_in}
 use Rattle.nfs_spec.specs.ProcedureChecks.{◌>>=◌, NumberedDir, ok_or, listing_or, file_of, dir_of, check}
@@ -39,7 +39,7 @@ module _ (w : Files) (who : Caller) (now : Timeval) (dir : ℕ) (name : List ℕ
   found = passes (ok_or stats.Stale (file_at w dir)) f _ _ (ap (ok_or stats.Stale) there)
       (passes (listing_or stats.NotDir f.body) l _ _ lists refl)
 
-  at_name : places w dir name ≡ entry_at l name
+  at_name : directory_entries w dir name ≡ entry_at l name
   at_name = ap (option_and_then (λ f. entry_at (listing_in f.body) name)) there
       ∙ ap (λ l. entry_at l name) (directory_ok stats.NotDir f.body l lists).1
 
@@ -76,7 +76,7 @@ module _ (w : Files) (who : Caller) (now : Timeval) (dir : ℕ) (name : List ℕ
     -- a free name
     module _ (none : None ≡ entry_at l name) where
       -- nothing stands at it
-      pub free : places w dir name ≡ None
+      pub free : directory_entries w dir name ≡ None
       free = at_name ∙ sym none
 
       abbrev made : Files

@@ -5,7 +5,7 @@ use Rattle.std.proofs.Common.{eq-eqb, ne_eqb}
 use Rattle.std.proofs.lemmas.Bool.{or_left}
 use Rattle.std.specs.Prelude.{◌||◌}
 use Rattle.nfs_spec.specs.fs_model.Paths.{path_at}
-use Rattle.nfs_spec.specs.fs_model.Files.{Files, IsDirectory, places, parent_of}
+use Rattle.nfs_spec.specs.fs_model.Files.{Files, IsDirectory, directory_entries, parent_of}
 use Rattle.nfs_spec.specs.fs_model.Trees.{IsFileTree}
 use Rattle.nfs_spec.proofs.fs_model.Walks.{one_number, last_name, last_step}
 use Rattle.nfs_spec.proofs.fs_model.Parents.{root_parent}
@@ -35,8 +35,8 @@ parent_is_directory w tree n is =
     let r = tree.tree.reached n is in
     ⊎_elim
     (λ e. subst (IsDirectory w)
-    (sym (root_parent w n (one_number n r.1 1 0 (sym r.2 ∙ ap (path_at (places w)) e)))) tree.tree.root)
+    (sym (root_parent w n (one_number n r.1 1 0 (sym r.2 ∙ ap (path_at (directory_entries w)) e)))) tree.tree.root)
     (λ l.
-    let s = last_step (places w) (1, 0) l.0 l.1 n r.1 (sym (ap (path_at (places w)) l.2) ∙ r.2) in
+    let s = last_step (directory_entries w) (1, 0) l.0 l.1 n r.1 (sym (ap (path_at (directory_entries w)) l.2) ∙ r.2) in
     subst (IsDirectory w) (sym (tree.tree.up s.0 l.1 n r.1 s.3 is)) (tree.tree.lists s.0 l.1 n r.1 s.3))
     (last_name r.0)

@@ -12,13 +12,13 @@ use Rattle.nfs_spec.specs.nfs_items.declared.stat.Stat.{Stat}
 use Rattle.nfs_spec.specs.nfs_items.declared.stat.Stat.TheVariants as stats
 use Rattle.nfs_spec.specs.fs_model.Names.{is_name}
 use Rattle.nfs_spec.specs.fs_model.Listing.{Listing, entry_at}
-use Rattle.nfs_spec.specs.fs_model.Files.{File, Files, file_at, is_directory, IsDirectory, listing, places}
+use Rattle.nfs_spec.specs.fs_model.Files.{File, Files, file_at, is_directory, IsDirectory, listing, directory_entries}
 use Rattle.nfs_spec.proofs.fs_model.Walks.{some_same}
 use Rattle.nfs_spec.specs.ProcedureChecks.{◌>>=◌, file_of, dir_of, check, check_cookie, check_edit, number_at}
 use Rattle.nfs_spec.specs.Procedures.{is_above, check_target, move_entry, rename}
 use Rattle.inode_table.specs.nfs_counts.CountChanges.{MayMove}
 use Rattle.inode_table.proofs.nfs_laws.OfSteps.Steps.{bind_ok, check_ok, file_ok, dir_ok, edit_ok, number_ok}
-use Rattle.inode_table.proofs.nfs_laws.OfSteps.Steps.{place_found}
+use Rattle.inode_table.proofs.nfs_laws.OfSteps.Steps.{entry_found}
 use Rattle.inode_table.proofs.nfs_laws.OfSteps.Steps.{listing_found, ok_same}
 use Rattle.inode_table.proofs.nfs_laws.OfSteps.Renaming.{target_ok}
 use Rattle.file_tree.specs.NameChecks.Moves.{Moving, names_to_edit, move_checked, with_moved}
@@ -93,11 +93,11 @@ module _ (w : Files) (who : Caller) (from : ℕ) (from_name : List ℕ) (to : �
     -- the cookie of the entry that moves
     pub cookie : ℕ
     -- the old name stands for the number
-    pub is_named : places w from from_name ≡ Some (n, cookie)
+    pub is_named : directory_entries w from from_name ≡ Some (n, cookie)
     -- the new name is to be in a directory
     pub directory : IsDirectory w to
     -- what stands at the new name is what is listed there
-    pub listed : places w to to_name ≡ entry_at l to_name
+    pub listed : directory_entries w to to_name ≡ entry_at l to_name
     -- the next cookie is that of the listing
     pub next : (listing w to).next ≡ l.next
     -- the new name may be given
@@ -113,14 +113,14 @@ module _ (w : Files) (who : Caller) (from : ℕ) (from_name : List ℕ) (to : �
       let q = bind_ok (check_edit who e.0 to_name) _ (n, l) p.2 in
       let k = bind_ok (number_at d.0 from_name) _ (n, l) q.2 in
       let both : (k.0, e.0.listing) ≡ (n, l) = ok_same k.2 in
-      let place = number_ok d.0 from_name k.0 k.1 in
+      let its_entry = number_ok d.0 from_name k.0 k.1 in
       let found = dir_ok w to e.0 e.1 in
       record {
-        cookie = place.0;
-        is_named = place_found w from d.0 (dir_ok w from d.0 d.1) from_name ∙ place.1
-            ∙ ap (λ (b : ℕ × Listing). Some (b.0, place.0)) both;
+        cookie = its_entry.0;
+        is_named = entry_found w from d.0 (dir_ok w from d.0 d.1) from_name ∙ its_entry.1
+            ∙ ap (λ (b : ℕ × Listing). Some (b.0, its_entry.0)) both;
         directory = ap (option_map (λ f. is_directory f.body)) found.there ∙ ap (λ b. Some b) found.directory;
-        listed = place_found w to e.0 found to_name ∙ ap (λ (b : ℕ × Listing). entry_at b.1 to_name) both;
+        listed = entry_found w to e.0 found to_name ∙ ap (λ (b : ℕ × Listing). entry_at b.1 to_name) both;
         next = ap (λ (l : Listing). l.next) (listing_found w to e.0 found)
             ∙ ap (λ (b : ℕ × Listing). b.1.next) both;
         named = (edit_ok w who to e.0 to_name q.0 found q.1).named;

@@ -14,7 +14,7 @@ use Rattle.nfs_spec.specs.Procedures.{remove, remove_dir}
 use Rattle.inode_table.specs.nfs_counts.CountChanges.{MayUnlink}
 use Rattle.inode_table.proofs.nfs_laws.OfSteps.Steps.{bind_ok, check_ok, dir_ok, directory_ok, number_ok}
 use Rattle.inode_table.proofs.nfs_laws.OfSteps.Steps.{no_length}
-use Rattle.inode_table.proofs.nfs_laws.OfSteps.Steps.{place_found}
+use Rattle.inode_table.proofs.nfs_laws.OfSteps.Steps.{entry_found}
 use Rattle.file_tree.specs.NameChecks.Names.{check_empty, number_to_edit, unnamed}
 use Rattle.file_tree.proofs.OfNameChecks.Chains.{bind_assoc, bind_alike}
 
@@ -51,11 +51,11 @@ module _ (w : Files) (who : Caller) (dir : ℕ) (name : List ℕ) where
   may_unlink n f h there empty =
       let d = bind_ok (dir_of w dir) _ n h in
       let e = bind_ok (check_edit who d.0 name) _ n d.2 in
-      let place = number_ok d.0 name n e.2 in (
-        place.0,
+      let entry = number_ok d.0 name n e.2 in (
+        entry.0,
         f,
         record {
-          is_named = place_found w dir d.0 (dir_ok w dir d.0 d.1) name ∙ place.1;
+          is_named = entry_found w dir d.0 (dir_ok w dir d.0 d.1) name ∙ entry.1;
           there = there;
           empty = empty;
         },

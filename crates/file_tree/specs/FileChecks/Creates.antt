@@ -5,7 +5,7 @@ use Rattle.nfs_spec.specs.nfs_items.Caller.{Caller}
 use Rattle.nfs_spec.specs.nfs_items.declared.stat.Stat.{Stat}
 use Rattle.nfs_spec.specs.nfs_items.declared.stat.Stat.TheVariants as stats
 use Rattle.nfs_spec.specs.nfs_items.Terms.{FileNumber, Cookie, Name}
-use Rattle.nfs_spec.specs.fs_model.Files.{File, Files, places}
+use Rattle.nfs_spec.specs.fs_model.Files.{File, Files, directory_entries}
 use Rattle.nfs_spec.specs.ProcedureChecks.{◌>>=◌, file_of, check, check_size, may_write}
 use Rattle.nfs_spec.specs.Sattr.{GivenFields}
 use Rattle.nfs_spec.specs.Procedures.{set_attributes, is_regular, create}
@@ -29,9 +29,9 @@ check_new who d size room = do
 abbrev pub DecidesCreate : Files → Caller → Timeval → FileNumber → Name → GivenFields
     → Result (Option FileNumber) Stat → Type 0
 DecidesCreate fs who now dir name a (Ok (Some n)) =
-    ((cookie : Cookie) × (places fs dir name ≡ Some (n, cookie)))
+    ((cookie : Cookie) × (directory_entries fs dir name ≡ Some (n, cookie)))
     × (create fs who now dir name a ≡ (set_attributes fs who now n a >>= λ after. Ok (n, after.1)))
 DecidesCreate fs who now dir name a (Ok None) =
-    (places fs dir name ≡ None)
+    (directory_entries fs dir name ≡ None)
     × ((x : FileNumber × Files) × (create fs who now dir name a ≡ Ok x))
 DecidesCreate fs who now dir name a (Err e) = create fs who now dir name a ≡ Err e

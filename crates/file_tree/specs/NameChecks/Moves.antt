@@ -7,7 +7,7 @@ use Rattle.nfs_spec.specs.nfs_items.Caller.{Caller}
 use Rattle.nfs_spec.specs.nfs_items.declared.stat.Stat.{Stat}
 use Rattle.nfs_spec.specs.nfs_items.declared.stat.Stat.TheVariants as stats
 use Rattle.nfs_spec.specs.nfs_items.Terms.{Name, FileNumber}
-use Rattle.nfs_spec.specs.fs_model.Listing.{Listing, place_number, entry_at}
+use Rattle.nfs_spec.specs.fs_model.Listing.{Listing, file_number, entry_at}
 use Rattle.nfs_spec.specs.fs_model.Files.{Files, is_directory}
 use Rattle.nfs_spec.specs.ProcedureChecks.{◌>>=◌, file_of, dir_of, check, check_cookie, check_edit, number_at}
 use Rattle.nfs_spec.specs.Procedures.{is_above, check_target, move_entry}
@@ -41,7 +41,7 @@ move_of m = (m.number, m.target)
 abbrev pub move_checked : Files → FileNumber → FileNumber → Listing → Name → Result (Option Moving) Stat
 move_checked fs n to l to_name = do
   f ← file_of fs n
-  let target = option_map place_number (entry_at l to_name)
+  let target = option_map file_number (entry_at l to_name)
   if option_map_or (λ t. t == n) target false then Ok None else do
     _ ← check (not (is_directory f.body && is_above fs n to)) stats.Acces
     _ ← check_target fs f target

@@ -5,7 +5,7 @@ use Rattle.nfs_spec.specs.nfs_items.Caller.{Caller}
 use Rattle.nfs_spec.specs.nfs_items.declared.stat.Stat.{Stat}
 use Rattle.nfs_spec.specs.nfs_items.declared.stat.Stat.TheVariants as stats
 use Rattle.nfs_spec.specs.nfs_items.Terms.{Name, FileNumber}
-use Rattle.nfs_spec.specs.fs_model.Listing.{Listing, place_number, entry_at}
+use Rattle.nfs_spec.specs.fs_model.Listing.{Listing, file_number, entry_at}
 use Rattle.nfs_spec.specs.fs_model.Files.{File, Files}
 use Rattle.nfs_spec.specs.ProcedureChecks.{◌>>=◌, ok_or, listing_or, check, NumberedDir, dir_of, check_edit}
 use Rattle.nfs_spec.specs.ProcedureChecks.{number_at}
@@ -19,7 +19,7 @@ numbered_dir n found = record { number = n; file = file_in found.inode.now; list
 
 -- what a name stands for, or NOENT
 abbrev pub number_listed : Listing → Name → Result FileNumber Stat
-number_listed l name = ok_or stats.NoEnt (option_map place_number (entry_at l name))
+number_listed l name = ok_or stats.NoEnt (option_map file_number (entry_at l name))
 
 -- the first checks of REMOVE and RMDIR
 abbrev pub number_to_edit : Files → Caller → FileNumber → Name → Result FileNumber Stat

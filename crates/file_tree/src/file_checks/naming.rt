@@ -9,7 +9,7 @@ ghost use Rattle.nfs_spec.specs.fs_model.Maxima.{max_number};
 ghost use Rattle.nfs_spec.specs.fs_model.Changes.Limits.{blocks_in};
 ghost use Rattle.nfs_spec.specs.Procedures.{make, link};
 ghost use Rattle.file_tree.specs.FileChecks.Decides.{Decides};
-ghost use Rattle.file_tree.specs.FileChecks.FreePlaces.{free_place};
+ghost use Rattle.file_tree.specs.FileChecks.FreeNames.{free_name};
 
 use crate::file_checks::room::{check_entry, check_file};
 use inode_table::InodeTable;
@@ -18,14 +18,14 @@ use nfs_spec::nfs_items_code::{Stat, Who};
 
 /// What a directory lists, where a caller may put a name into it that is free: Stale, NotDir, Acces and
 /// Exist, in this order.
-fn free_place<'a>(
+fn free_name<'a>(
     table: &'a InodeTable,
     who: &Who,
     dir: u32,
     name: &[u8],
 ) -> Result<&'a Directory, Stat>
     ensures { result_map_both (λ listing. listing.now) (λ e. e) result
-        ≡ free_place table.now (caller_of who.now) dir name.now }
+        ≡ free_name table.now (caller_of who.now) dir name.now }
 {
     let Some(inode) = table.get(dir) else {
         return Err(Stat::Stale);
@@ -53,7 +53,7 @@ pub fn check_make(
         Decides (make table.now (caller_of who.now) now dir name.now f) result }
 {
     table.files_are_a_tree();
-    let listing = free_place(table, who, dir, name)?;
+    let listing = free_name(table, who, dir, name)?;
     check_file(table, listing, blocks)
 }
 
@@ -76,6 +76,6 @@ pub fn check_link(
     if inode.body.is_directory() {
         return Err(Stat::IsDir);
     }
-    let listing = free_place(table, who, dir, name)?;
+    let listing = free_name(table, who, dir, name)?;
     check_entry(table, listing)
 }

@@ -32,11 +32,15 @@ cmp_other q k not = by (eq_by_cmp nat_cmp q k) refl
 module _ (w : Files) (f : File) (n : ℕ) where
   -- the new number has the new file
   pub new_here : n ≡ w.next → file_at (with_new_file w f) n ≡ Some f
-  new_here e = finite.get-insert nat_cmp_total w.files w.next f n ∙ ap (λ b. cond b (Some f) (file_at w n)) (cmp_same n w.next e)
+  new_here e =
+      finite.get-insert nat_cmp_total w.files w.next f n
+      ∙ ap (λ b. cond b (Some f) (file_at w n)) (cmp_same n w.next e)
 
   -- other numbers have what they had
   pub new_other : n ≢ w.next → file_at (with_new_file w f) n ≡ file_at w n
-  new_other e = finite.get-insert nat_cmp_total w.files w.next f n ∙ ap (λ b. cond b (Some f) (file_at w n)) (cmp_other n w.next e)
+  new_other e =
+      finite.get-insert nat_cmp_total w.files w.next f n
+      ∙ ap (λ b. cond b (Some f) (file_at w n)) (cmp_other n w.next e)
 
 -- the files with a change of what stands at a number, by what stands there
 unfoldable pub by_file : Files → ℕ → (File → File) → Option File → Files
@@ -64,7 +68,9 @@ module _ (w : Files) (k : ℕ) (change : File → File) (n : ℕ) where
     where
       by : (o : Option File) → file_at w k ≡ o → file_at (by_file w k change o) n ≡ option_map change o
       by None is = ap (file_at w) e ∙ is
-      by (Some f) is = finite.get-insert nat_cmp_total w.files k (change f) n ∙ ap (λ b. cond b (Some (change f)) (file_at w n)) (cmp_same n k e)
+      by (Some f) is =
+          finite.get-insert nat_cmp_total w.files k (change f) n
+          ∙ ap (λ b. cond b (Some (change f)) (file_at w n)) (cmp_same n k e)
 
   -- other numbers have what they had
   pub changed_other : n ≢ k → file_at (with_changed_file w k change) n ≡ file_at w n
@@ -73,16 +79,20 @@ module _ (w : Files) (k : ℕ) (change : File → File) (n : ℕ) where
     where
       by : (o : Option File) → file_at (by_file w k change o) n ≡ file_at w n
       by None = refl
-      by (Some f) = finite.get-insert nat_cmp_total w.files k (change f) n ∙ ap (λ b. cond b (Some (change f)) (file_at w n)) (cmp_other n k e)
+      by (Some f) =
+          finite.get-insert nat_cmp_total w.files k (change f) n
+          ∙ ap (λ b. cond b (Some (change f)) (file_at w n)) (cmp_other n k e)
 
 module _ (w : Files) (k n : ℕ) where
   -- the number has no file
   pub gone_here : n ≡ k → file_at (without_file w k) n ≡ None
-  gone_here e = finite.get-remove nat_cmp_total w.files k n ∙ ap (λ b. cond b None (file_at w n)) (cmp_same n k e)
+  gone_here e =
+      finite.get-remove nat_cmp_total w.files k n ∙ ap (λ b. cond b None (file_at w n)) (cmp_same n k e)
 
   -- other numbers have what they had
   pub gone_other : n ≢ k → file_at (without_file w k) n ≡ file_at w n
-  gone_other e = finite.get-remove nat_cmp_total w.files k n ∙ ap (λ b. cond b None (file_at w n)) (cmp_other n k e)
+  gone_other e =
+      finite.get-remove nat_cmp_total w.files k n ∙ ap (λ b. cond b None (file_at w n)) (cmp_other n k e)
 
 -- ---- sums
 
@@ -91,14 +101,17 @@ less Less h = refl
 less Equal h = absurd h
 less Greater h = absurd h
 
-none_below : {X : Type 0} (x y : ℕ) → nat_cmp x y ≡ Less → (es : List (ℕ × X)) → T (below_all nat_cmp y es) → find nat_cmp x es ≡ None
+none_below : {X : Type 0} (x y : ℕ) → nat_cmp x y ≡ Less → (es : List (ℕ × X)) → T (below_all nat_cmp y es)
+    → find nat_cmp x es ≡ None
 none_below x y lt [] h = refl
 none_below x y lt (e ∷ es) h =
     let b = both_of (is_lt (nat_cmp y e.0)) (below_all nat_cmp y es) h in
-    ap (λ r. cond (is_eq r) (Some e.1) (find nat_cmp x es)) (nat_cmp_total.trans x y e.0 lt (less _ b.0)) ∙ none_below x y lt es b.1
+    ap (λ r. cond (is_eq r) (Some e.1) (find nat_cmp x es)) (nat_cmp_total.trans x y e.0 lt (less _ b.0))
+    ∙ none_below x y lt es b.1
 
 -- what is below all keys is not found
-pub none_above : {X : Type 0} (x : ℕ) (es : List (ℕ × X)) → T (below_all nat_cmp x es) → find nat_cmp x es ≡ None
+pub none_above : {X : Type 0} (x : ℕ) (es : List (ℕ × X)) → T (below_all nat_cmp x es)
+    → find nat_cmp x es ≡ None
 none_above x [] h = refl
 none_above x (e ∷ es) h =
     let b = both_of (is_lt (nat_cmp x e.0)) (below_all nat_cmp x es) h in
@@ -109,25 +122,32 @@ module _ {X : Type 0} (f : X → ℕ) where
   pub had : Option X → ℕ
   had o = option_map_or f o 0
 
-  sum_put : (k : ℕ) (v : X) (es : List (ℕ × X)) → T (is_sorted nat_cmp es) → sum_by (λ e. f e.1) (put nat_cmp k v es) + had (find nat_cmp k es) ≡ sum_by (λ e. f e.1) es + f v
+  sum_put : (k : ℕ) (v : X) (es : List (ℕ × X)) → T (is_sorted nat_cmp es)
+      → sum_by (λ e. f e.1) (put nat_cmp k v es) + had (find nat_cmp k es) ≡ sum_by (λ e. f e.1) es + f v
   unfolding had
   sum_put k v [] h = omega (arith, sum_by-cons (λ (e : ℕ × X). f e.1) (k, v) [])
   sum_put k v (e ∷ es) h =
       let b = both_of (below_all nat_cmp e.0 es) (is_sorted nat_cmp es) h in
       let parts = sum_by-cons (λ (e : ℕ × X). f e.1) e es in
-      elim (nat_cmp k e.0) as (λ r. nat_cmp k e.0 ≡ r → sum_by (λ e. f e.1) (by_order r ((k, v) ∷ e ∷ es) ((e.0, v) ∷ es) (e ∷ put nat_cmp k v es)) + option_map_or f (cond (is_eq r) (Some e.1) (find nat_cmp k es)) 0 ≡ sum_by (λ e. f e.1) (e ∷ es) + f v) [
+      elim (nat_cmp k e.0) as (λ r. nat_cmp k e.0 ≡ r
+      → sum_by (λ e. f e.1) (by_order r ((k, v) ∷ e ∷ es) ((e.0, v) ∷ es)
+      (e ∷ put nat_cmp k v es)) + option_map_or f (cond (is_eq r) (Some e.1) (find nat_cmp k es)) 0
+      ≡ sum_by (λ e. f e.1) (e ∷ es) + f v) [
         | Less ↦ λ is.
             let none = ap (λ o. option_map_or f o 0) (none_below k e.0 is es b.0) in
             let more = sum_by-cons (λ (e : ℕ × X). f e.1) (k, v) (e ∷ es) in
             omega (arith, none, more)
-        | Equal ↦ λ is. let more = sum_by-cons (λ (e : ℕ × X). f e.1) (e.0, v) es in omega (arith, parts, more)
+        | Equal ↦ λ is. let more = sum_by-cons (λ (e : ℕ × X). f e.1) (e.0, v) es in
+            omega (arith, parts, more)
         | Greater ↦ λ is.
             let more = sum_by-cons (λ (e : ℕ × X). f e.1) e (put nat_cmp k v es) in
             let rest = sum_put k v es b.1 in
             omega (arith, parts, more, rest)
       ] refl
 
-  sum_where : (k : ℕ) (es : List (ℕ × X)) → T (is_sorted nat_cmp es) → sum_by (λ e. f e.1) (where_key nat_cmp (λ x. not (eq_by_cmp nat_cmp k x)) es) + had (find nat_cmp k es) ≡ sum_by (λ e. f e.1) es
+  sum_where : (k : ℕ) (es : List (ℕ × X)) → T (is_sorted nat_cmp es)
+      → sum_by (λ e. f e.1) (where_key nat_cmp (λ x. not (eq_by_cmp nat_cmp k x)) es) + had
+      (find nat_cmp k es) ≡ sum_by (λ e. f e.1) es
   unfolding had
   sum_where k [] h = omega arith
   sum_where k (e ∷ es) h =
@@ -135,35 +155,53 @@ module _ {X : Type 0} (f : X → ℕ) where
       let parts = sum_by-cons (λ (e : ℕ × X). f e.1) e es in
       let rest = sum_where k es b.1 in
       let left = where_key nat_cmp (λ x. not (eq_by_cmp nat_cmp k x)) es in
-      elim (eq_by_cmp nat_cmp k e.0) as (λ t. eq_by_cmp nat_cmp k e.0 ≡ t → sum_by (λ e. f e.1) (cond (not t) (e ∷ left) left) + option_map_or f (cond t (Some e.1) (find nat_cmp k es)) 0 ≡ sum_by (λ e. f e.1) (e ∷ es)) [
+      elim (eq_by_cmp nat_cmp k e.0) as (λ t. eq_by_cmp nat_cmp k e.0 ≡ t
+      → sum_by (λ e. f e.1) (cond (not t) (e ∷ left) left) + option_map_or f
+      (cond t (Some e.1) (find nat_cmp k es)) 0 ≡ sum_by (λ e. f e.1) (e ∷ es)) [
         | true ↦ λ is.
-            let none = ap (λ o. option_map_or f o 0) (ap (λ m. find nat_cmp m es) (same_number k e.0 is) ∙ none_above e.0 es b.0) in
+            let none = ap (λ o. option_map_or f o 0)
+            (ap (λ m. find nat_cmp m es) (same_number k e.0 is) ∙ none_above e.0 es b.0) in
             omega (arith, parts, rest, none)
-        | false ↦ λ is. let more = sum_by-cons (λ (e : ℕ × X). f e.1) e left in omega (arith, parts, more, rest)
+        | false ↦ λ is. let more = sum_by-cons (λ (e : ℕ × X). f e.1) e left in
+            omega (arith, parts, more, rest)
       ] refl
 
 turned : {A : Type 0} (b : Bool) (x y : A) → cond (not b) x y ≡ cond b y x
 turned true x y = refl
 turned false x y = refl
 
-entries-remove : {X : Type 0} (m : finite.FinMap nat_cmp X) (k : ℕ) → finite.entries (finite.remove m k) ≡ where_key nat_cmp (λ x. not (eq_by_cmp nat_cmp k x)) (finite.entries m)
-entries-remove m k = same_entries nat_cmp nat_cmp_total finite.nat_cmp-IsAntisymmetric _ _ (finite.entries_sorted (finite.remove m k)) (is_sorted-where_key nat_cmp _ (finite.entries m) (finite.entries_sorted m))
-    (λ q. sym (finite.get-entries (finite.remove m k) q) ∙ finite.get-remove nat_cmp_total m k q ∙ ap (cond (eq_by_cmp nat_cmp q k) None) (finite.get-entries m q)
-    ∙ sym (find-where_key nat_cmp (λ x. not (eq_by_cmp nat_cmp k x)) q (λ x is. ap (λ y. not (eq_by_cmp nat_cmp k y)) (sym (finite.nat_cmp-IsAntisymmetric q x is))) (finite.entries m)
-    ∙ turned (eq_by_cmp nat_cmp k q) _ _ ∙ ap (λ b. cond b None (find nat_cmp q (finite.entries m))) ((eq_by_cmp_equiv nat_cmp_total).symm k q)))
+entries-remove : {X : Type 0} (m : finite.FinMap nat_cmp X) (k : ℕ)
+    → finite.entries (finite.remove m k)
+    ≡ where_key nat_cmp (λ x. not (eq_by_cmp nat_cmp k x)) (finite.entries m)
+entries-remove m k =
+    same_entries nat_cmp nat_cmp_total finite.nat_cmp-IsAntisymmetric _ _
+    (finite.entries_sorted (finite.remove m k))
+    (is_sorted-where_key nat_cmp _ (finite.entries m) (finite.entries_sorted m))
+    (λ q. sym (finite.get-entries (finite.remove m k) q) ∙ finite.get-remove nat_cmp_total m k q
+    ∙ ap (cond (eq_by_cmp nat_cmp q k) None) (finite.get-entries m q)
+    ∙ sym (find-where_key nat_cmp (λ x. not (eq_by_cmp nat_cmp k x)) q
+    (λ x is. ap (λ y. not (eq_by_cmp nat_cmp k y)) (sym (finite.nat_cmp-IsAntisymmetric q x is)))
+    (finite.entries m)
+    ∙ turned (eq_by_cmp nat_cmp k q) _ _
+    ∙ ap (λ b. cond b None (find nat_cmp q (finite.entries m))) ((eq_by_cmp_equiv nat_cmp_total).symm k q)))
 
 -- the sum of a number of each file
 abbrev pub total : (File → ℕ) → Files → ℕ
 total f w = sum_by f (finite.values w.files)
 
 module _ (f : File → ℕ) (w : Files) where
-  in_all : (m : finite.FinMap nat_cmp File) → sum_by f (finite.values m) ≡ sum_by (λ e. f e.1) (finite.entries m)
+  in_all : (m : finite.FinMap nat_cmp File)
+      → sum_by f (finite.values m) ≡ sum_by (λ e. f e.1) (finite.entries m)
   in_all m = sum_by_second f (finite.entries m)
 
-  total_put : (k : ℕ) (v : File) → sum_by f (finite.values (finite.insert w.files k v)) + had f (file_at w k) ≡ total f w + f v
+  total_put : (k : ℕ) (v : File)
+      → sum_by f (finite.values (finite.insert w.files k v)) + had f (file_at w k) ≡ total f w + f v
   total_put k v =
       let one = sum_put f k v (finite.entries w.files) (finite.entries_sorted w.files) in
-      let after : sum_by f (finite.values (finite.insert w.files k v)) ≡ sum_by (λ e. f e.1) (put nat_cmp k v (finite.entries w.files)) = in_all (finite.insert w.files k v) ∙ ap (sum_by (λ e. f e.1)) (finite.entries-insert nat_cmp_total w.files k v) in
+      let after : sum_by f (finite.values (finite.insert w.files k v))
+      ≡ sum_by (λ e. f e.1) (put nat_cmp k v (finite.entries w.files)) =
+      in_all (finite.insert w.files k v)
+      ∙ ap (sum_by (λ e. f e.1)) (finite.entries-insert nat_cmp_total w.files k v) in
       let same = ap (had f) (finite.get-entries w.files k) in
       let before = in_all w.files in
       omega (arith, one, after, same, before)
@@ -174,12 +212,18 @@ module _ (f : File → ℕ) (w : Files) where
   total_new g none = let one = total_put w.next g in let zero = ap (had f) none in omega (arith, one, zero)
 
   -- a changed file counts as changed and not as before
-  pub total_changed : (k : ℕ) (change : File → File) (g : File) → file_at w k ≡ Some g → total f (with_changed_file w k change) + f g ≡ total f w + f (change g)
+  pub total_changed : (k : ℕ) (change : File → File) (g : File) → file_at w k ≡ Some g
+      → total f (with_changed_file w k change) + f g ≡ total f w + f (change g)
   unfolding had
   total_changed k change g there =
       let one = total_put k (change g) in
       let old = ap (had f) there in
-      let same = ap (λ o. total f (record { fsid = w.fsid; next = w.next; files = option_map_or (λ h. finite.insert w.files k (change h)) o w.files })) there in
+      let same = ap (λ o. total f (record {
+        fsid = w.fsid;
+        next = w.next;
+        files =
+            option_map_or (λ h. finite.insert w.files k (change h)) o w.files;
+      })) there in
       omega (arith, one, old, same)
 
   -- a file that is gone counts no more
@@ -187,7 +231,10 @@ module _ (f : File → ℕ) (w : Files) where
   unfolding had
   total_without k g there =
       let less = sum_where f k (finite.entries w.files) (finite.entries_sorted w.files) in
-      let after : total f (without_file w k) ≡ sum_by (λ e. f e.1) (where_key nat_cmp (λ x. not (eq_by_cmp nat_cmp k x)) (finite.entries w.files)) = in_all (finite.remove w.files k) ∙ ap (sum_by (λ e. f e.1)) (entries-remove w.files k) in
+      let after : total f (without_file w k)
+      ≡ sum_by (λ e. f e.1) (where_key nat_cmp (λ x. not (eq_by_cmp nat_cmp k x))
+      (finite.entries w.files)) =
+      in_all (finite.remove w.files k) ∙ ap (sum_by (λ e. f e.1)) (entries-remove w.files k) in
       let same = ap (had f) (sym (finite.get-entries w.files k) ∙ there) in
       let before = in_all w.files in
       omega (arith, less, after, same, before)
@@ -197,6 +244,9 @@ module _ (f : File → ℕ) (w : Files) where
   unfolding had
   total_gone k =
       let less = sum_where f k (finite.entries w.files) (finite.entries_sorted w.files) in
-      let after : total f (without_file w k) ≡ sum_by (λ e. f e.1) (where_key nat_cmp (λ x. not (eq_by_cmp nat_cmp k x)) (finite.entries w.files)) = in_all (finite.remove w.files k) ∙ ap (sum_by (λ e. f e.1)) (entries-remove w.files k) in
+      let after : total f (without_file w k)
+      ≡ sum_by (λ e. f e.1) (where_key nat_cmp (λ x. not (eq_by_cmp nat_cmp k x))
+      (finite.entries w.files)) =
+      in_all (finite.remove w.files k) ∙ ap (sum_by (λ e. f e.1)) (entries-remove w.files k) in
       let before = in_all w.files in
       omega (arith, less, after, before)

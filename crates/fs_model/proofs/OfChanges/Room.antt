@@ -27,8 +27,11 @@ use Rattle.fs_model.proofs.OfChanges.Finite.{none_above, cmp_same}
 -- ---- how many files there are
 
 -- a new file is one more
-pub count_new : (w : Files) (f : File) → file_at w w.next ≡ None → file_count (with_new_file w f) ≡ file_count w + 1
-count_new w f none = finite.len-insert nat_cmp_total w.files w.next f ∙ ap (λ o. cond (is_some o) (file_count w) (file_count w + 1)) none
+pub count_new : (w : Files) (f : File) → file_at w w.next ≡ None
+    → file_count (with_new_file w f) ≡ file_count w + 1
+count_new w f none =
+    finite.len-insert nat_cmp_total w.files w.next f
+    ∙ ap (λ o. cond (is_some o) (file_count w) (file_count w + 1)) none
 
 module _ (w : Files) (k : ℕ) (change : File → File) where
   -- a changed file is none more
@@ -38,13 +41,16 @@ module _ (w : Files) (k : ℕ) (change : File → File) where
     where
       by : (o : Option File) → file_at w k ≡ o → file_count (by_file w k change o) ≡ file_count w
       by None e = refl
-      by (Some f) e = finite.len-insert nat_cmp_total w.files k (change f) ∙ ap (λ o. cond (is_some o) (file_count w) (file_count w + 1)) e
+      by (Some f) e =
+          finite.len-insert nat_cmp_total w.files k (change f)
+          ∙ ap (λ o. cond (is_some o) (file_count w) (file_count w + 1)) e
 
 -- without a file there are no more
 pub count_gone : (w : Files) (k : ℕ) → file_count (without_file w k) ≤ file_count w
 count_gone w k = let e = finite.len-remove nat_cmp_total w.files k in by (is_some (file_at w k)) e
   where
-    by : (b : Bool) → file_count (without_file w k) ≡ cond b (file_count w - 1) (file_count w) → file_count (without_file w k) ≤ file_count w
+    by : (b : Bool) → file_count (without_file w k) ≡ cond b (file_count w - 1) (file_count w)
+        → file_count (without_file w k) ≤ file_count w
     by true e = omega (arith, e)
     by false e = omega (arith, e)
 
@@ -55,7 +61,8 @@ unfoldable pub AllCookies : Files → Type 0
 AllCookies w = (n : ℕ) (f : File) → file_at w n ≡ Some f → (listing_in f.body).next ≤ 4294967295
 
 module _ {X : Type 0} (p : X → Bool) where
-  all_found : (es : List (ℕ × X)) → list_all p (map (λ e. e.1) es) ≡ true → (n : ℕ) (v : X) → find nat_cmp n es ≡ Some v → p v ≡ true
+  all_found : (es : List (ℕ × X)) → list_all p (map (λ e. e.1) es) ≡ true → (n : ℕ) (v : X)
+      → find nat_cmp n es ≡ Some v → p v ≡ true
   all_found [] all n v h = absurd (none_some h)
   all_found (e ∷ es) all n v h =
       let parts = and_parts (p e.1) (list_all p (map (λ (e : ℕ × X). e.1) es)) all in
@@ -64,7 +71,8 @@ module _ {X : Type 0} (p : X → Bool) where
         | false ↦ λ is. all_found es parts.1 n v is
       ] h
 
-  found_all : (es : List (ℕ × X)) → T (is_sorted nat_cmp es) → ((n : ℕ) (v : X) → find nat_cmp n es ≡ Some v → p v ≡ true) → list_all p (map (λ e. e.1) es) ≡ true
+  found_all : (es : List (ℕ × X)) → T (is_sorted nat_cmp es)
+      → ((n : ℕ) (v : X) → find nat_cmp n es ≡ Some v → p v ≡ true) → list_all p (map (λ e. e.1) es) ≡ true
   found_all [] sorted all = refl
   found_all (e ∷ es) sorted all =
       let b = both_of (below_all nat_cmp e.0 es) (is_sorted nat_cmp es) sorted in
@@ -75,8 +83,11 @@ module _ {X : Type 0} (p : X → Bool) where
       own : (n : ℕ) → eq_by_cmp nat_cmp n n ≡ true
       own n = cmp_same n n refl
 
-      behind : (n : ℕ) (v : X) → T (below_all nat_cmp e.0 es) → find nat_cmp n es ≡ Some v → (b : Bool) → eq_by_cmp nat_cmp n e.0 ≡ b → find nat_cmp n (e ∷ es) ≡ Some v
-      behind n v below h true is = absurd (none_some (sym (ap (λ m. find nat_cmp m es) (same_number n e.0 is) ∙ none_above e.0 es below) ∙ h))
+      behind : (n : ℕ) (v : X) → T (below_all nat_cmp e.0 es) → find nat_cmp n es ≡ Some v → (b : Bool)
+          → eq_by_cmp nat_cmp n e.0 ≡ b → find nat_cmp n (e ∷ es) ≡ Some v
+      behind n v below h true is =
+          absurd (none_some (sym (ap (λ m. find nat_cmp m es) (same_number n e.0 is)
+          ∙ none_above e.0 es below) ∙ h))
       behind n v below h false is = cond-false _ _ _ is ∙ h
 
 -- ---- room
@@ -110,7 +121,9 @@ within w h =
       entries = leb-true _ _ b.0;
       blocks = leb-true _ _ c.0;
       next = leb-true _ _ d.0;
-      cookies = λ n f there. leb-true _ _ (all_found low_cookie (finite.entries w.files) d.1 n f (sym (finite.get-entries w.files n) ∙ there));
+      cookies = λ n f there. leb-true _ _
+          (all_found low_cookie (finite.entries w.files) d.1 n f
+          (sym (finite.get-entries w.files n) ∙ there));
     }
 
 -- room by its parts
@@ -121,7 +134,8 @@ room w h =
     and_from (leb (entry_count w) 16384) _ (le-leb _ _ h.entries) (
     and_from (leb (block_count w) 32768) _ (le-leb _ _ h.blocks) (
     and_from (leb w.next 4294967295) _ (le-leb _ _ h.next)
-    (found_all low_cookie (finite.entries w.files) (finite.entries_sorted w.files) (λ n f e. le-leb _ _ (h.cookies n f (finite.get-entries w.files n ∙ e))))
+    (found_all low_cookie (finite.entries w.files) (finite.entries_sorted w.files)
+    (λ n f e. le-leb _ _ (h.cookies n f (finite.get-entries w.files n ∙ e))))
     )
     )
     )
@@ -143,13 +157,30 @@ pub record IsNoMore (w w' : Files) : Type 0 where
 
 -- no more and then no more is no more
 pub no_more_then : (u v w : Files) → IsNoMore u v → IsNoMore v w → IsNoMore u w
-no_more_then u v w a b = record { files = omega (arith, a.files, b.files); entries = omega (arith, a.entries, b.entries); blocks = omega (arith, a.blocks, b.blocks); next = omega (arith, a.next, b.next); cookies = λ all. b.cookies (a.cookies all) }
+no_more_then u v w a b =
+    record {
+      files = omega (arith, a.files, b.files);
+      entries = omega (arith, a.entries, b.entries);
+      blocks =
+          omega (arith, a.blocks, b.blocks);
+      next = omega (arith, a.next, b.next);
+      cookies =
+          λ all. b.cookies (a.cookies all);
+    }
 
 -- what takes no more has room
 pub still_room : (w w' : Files) → IsNoMore w w' → has_room w ≡ true → has_room w' ≡ true
 still_room w w' a h =
     let was = within w h in
-    room w' (record { files = omega (arith, a.files, was.files); entries = omega (arith, a.entries, was.entries); blocks = omega (arith, a.blocks, was.blocks); next = omega (arith, a.next, was.next); cookies = a.cookies was.cookies })
+    room w' (record {
+      files = omega (arith, a.files, was.files);
+      entries =
+          omega (arith, a.entries, was.entries);
+      blocks = omega (arith, a.blocks, was.blocks);
+      next =
+          omega (arith, a.next, was.next);
+      cookies = a.cookies was.cookies;
+    })
 
 -- a file that takes no more than another
 pub record IsSmaller (f g : File) : Type 0 where
@@ -161,27 +192,42 @@ pub record IsSmaller (f g : File) : Type 0 where
   pub next : (listing_in g.body).next ≤ (listing_in f.body).next
 
 -- a change to a smaller file takes no more
-pub changed_no_more : (w : Files) (k : ℕ) (change : File → File) → ((f : File) → IsSmaller f (change f)) → IsNoMore w (with_changed_file w k change)
+pub changed_no_more : (w : Files) (k : ℕ) (change : File → File) → ((f : File) → IsSmaller f (change f))
+    → IsNoMore w (with_changed_file w k change)
 unfolding AllCookies
 changed_no_more w k change small = by (file_at w k) refl
   where
-    cookies : AllCookies w → (n : ℕ) (f : File) → file_at (with_changed_file w k change) n ≡ Some f → (listing_in f.body).next ≤ 4294967295
+    cookies : AllCookies w → (n : ℕ) (f : File) → file_at (with_changed_file w k change) n ≡ Some f
+        → (listing_in f.body).next ≤ 4294967295
     cookies all n f h = ⊎_elim
         (λ e. of (file_at w k) refl (sym (changed_here w k change n e) ∙ h))
         (λ ne. all n f (sym (changed_other w k change n ne) ∙ h))
         (cases_eq n k)
       where
-        of : (o : Option File) → file_at w k ≡ o → option_map change o ≡ Some f → (listing_in f.body).next ≤ 4294967295
+        of : (o : Option File) → file_at w k ≡ o → option_map change o ≡ Some f
+            → (listing_in f.body).next ≤ 4294967295
         of None e g = absurd (none_some g)
         of (Some old) e g =
             let same = ap (λ (x : File). (listing_in x.body).next) (some_same g) in
             omega (arith, same, all k old e, (small old).next)
 
     by : (o : Option File) → file_at w k ≡ o → IsNoMore w (with_changed_file w k change)
-    by None e = subst (IsNoMore w) (sym (nothing_changes w k change 0 e)) (record { files = omega arith; entries = omega arith; blocks = omega arith; next = omega arith; cookies = λ all. all })
+    by None e = subst (IsNoMore w) (sym (nothing_changes w k change 0 e))
+        (record {
+          files = omega arith;
+          entries = omega arith;
+          blocks = omega arith;
+          next =
+              omega arith;
+          cookies = λ all. all;
+        })
     by (Some f) e = record {
       files = omega (arith, count_changed w k change);
-      entries = omega (arith, total_changed (λ g. length (listing_in g.body).entries) w k change f e, (small f).entries);
+      entries = omega (
+        arith,
+        total_changed (λ g. length (listing_in g.body).entries) w k change f e,
+        (small f).entries,
+      );
       blocks = omega (arith, total_changed (λ g. blocks_in g.body) w k change f e, (small f).blocks);
       next = omega (arith, changed_next w k change 0);
       cookies = cookies;
@@ -202,17 +248,20 @@ gone_no_more w k = record {
 }
 
 -- without an entry a list is no longer
-pub length-removed : {X : Type 0} (t : List ℕ → Bool) (es : List (List ℕ × X)) → length (remove_entry t es) ≤ length es
+pub length-removed : {X : Type 0} (t : List ℕ → Bool) (es : List (List ℕ × X))
+    → length (remove_entry t es) ≤ length es
 length-removed t [] = omega arith
-length-removed t (e ∷ es) = elim (t e.0) as (λ b. length (cond b es (e ∷ remove_entry t es)) ≤ length (e ∷ es)) [
-  | true ↦ omega arith
-  | false ↦ omega (arith, length-removed t es)
-]
+length-removed t (e ∷ es) =
+    elim (t e.0) as (λ b. length (cond b es (e ∷ remove_entry t es)) ≤ length (e ∷ es)) [
+      | true ↦ omega arith
+      | false ↦ omega (arith, length-removed t es)
+    ]
 
 unnamed_smaller : (x : List ℕ) (f : File) → IsSmaller f (map_listing (λ l. without_entry l x) f)
 unnamed_smaller x f = record { entries = entries f.body; blocks = blocks f.body; next = next f.body }
   where
-    entries : (b : Body) → length (listing_in (map_body_listing (λ l. without_entry l x) b)).entries ≤ length (listing_in b).entries
+    entries : (b : Body) → length (listing_in (map_body_listing (λ l. without_entry l x) b)).entries
+        ≤ length (listing_in b).entries
     entries (Regular bytes) = omega arith
     entries (Symlink target) = omega arith
     entries (Directory l) = length-removed (pointwise nat_eq x) l.entries

@@ -1,4 +1,4 @@
--- What changes of files leave of places, kinds and counts of names.
+-- What changes of files leave of entries, kinds and counts of names.
 -- Serves: trees_stay_trees (nfs_laws); every edit of nfs_laws::trees.
 use Rattle.std.proofs.Common.{◌≡◌, ◌≢◌, ◌⊎◌, inl, inr, ⊎_elim, ℕ, ◌+◌, Bool, true, List, [], sum_by, Option}
 use Rattle.std.proofs.Common.{Some, None, is_some, nat_eq, option_map, option_and_then, refl, sym, ap, subst}
@@ -7,9 +7,9 @@ use Rattle.std.specs.Map.{lookup}
 use Rattle.std.specs.Cmp.Lexicographic.{pointwise}
 use Rattle.std.proofs.lemmas.Bool.{cases_eq}
 use Rattle.fs_model.specs.Listing.{Listing, entry_at, with_entry, without_entry, HasDistinctNames}
-use Rattle.fs_model.specs.Paths.{ChangesPlace}
+use Rattle.fs_model.specs.Paths.{ChangesEntry}
 use Rattle.fs_model.specs.Files.{Body, Regular, Symlink, Directory, File, Files, file_at, listing_in}
-use Rattle.fs_model.specs.Files.{is_directory, places, one_if, names_in, names_of}
+use Rattle.fs_model.specs.Files.{is_directory, directory_entries, one_if, names_in, names_of}
 use Rattle.fs_model.specs.Trees.{IsFile}
 use Rattle.fs_model.specs.Changes.Edits.{with_new_file, with_changed_file, without_file, map_body_listing}
 use Rattle.fs_model.specs.Changes.Edits.{map_listing, with_name, without_name}
@@ -37,10 +37,10 @@ is_some-kind w n = by (file_at w n)
     by None = refl
     by (Some f) = refl
 
--- places, kinds, counts of names and the next number are as they were
+-- entries, kinds, counts of names and the next number are as they were
 pub record IsSameShape (w w' : Files) : Type 0 where
   -- each name of each directory leads to what it led to
-  pub places : (n : ℕ) (y : List ℕ) → places w' n y ≡ places w n y
+  pub directory_entries : (n : ℕ) (y : List ℕ) → directory_entries w' n y ≡ directory_entries w n y
   -- each number keeps its kind: a directory, another file, or not there
   pub kinds : (n : ℕ) → kind w' n ≡ kind w n
   -- each number has as many names as before
@@ -51,32 +51,37 @@ pub record IsSameShape (w w' : Files) : Type 0 where
 -- one shape and then one shape is one shape
 pub same_then : (u v w : Files) → IsSameShape u v → IsSameShape v w → IsSameShape u w
 same_then u v w a b = record {
-  places = λ n y. b.places n y ∙ a.places n y;
+  directory_entries = λ n y. b.directory_entries n y ∙ a.directory_entries n y;
   kinds = λ n. b.kinds n ∙ a.kinds n;
   names = λ n. b.names n ∙ a.names n;
   next = b.next ∙ a.next;
 }
 
 -- what is read of one file
-read_place : List ℕ → Option File → Option (ℕ × ℕ)
-read_place y o = option_and_then (λ f. entry_at (listing_in f.body) y) o
+read_entry : List ℕ → Option File → Option (ℕ × ℕ)
+read_entry y o = option_and_then (λ f. entry_at (listing_in f.body) y) o
 
 -- ---- one file changed
 
 module _ (w : Files) (k : ℕ) (change : File → File) where
   -- a change that keeps a file its kind keeps all kinds
-  pub changed_kinds : ((f : File) → file_at w k ≡ Some f → is_directory (change f).body ≡ is_directory f.body) → (n : ℕ) → kind (with_changed_file w k change) n ≡ kind w n
+  pub changed_kinds : ((f : File) → file_at w k ≡ Some f → is_directory (change f).body ≡ is_directory f.body)
+      → (n : ℕ) → kind (with_changed_file w k change) n ≡ kind w n
   changed_kinds keeps n = ⊎_elim
-      (λ e. ap (option_map (λ f. is_directory f.body)) (changed_here w k change n e) ∙ by (file_at w k) refl ∙ sym (ap (kind w) e))
+      (λ e. ap (option_map (λ f. is_directory f.body)) (changed_here w k change n e) ∙ by (file_at w k) refl
+      ∙ sym (ap (kind w) e))
       (λ ne. ap (option_map (λ f. is_directory f.body)) (changed_other w k change n ne))
       (cases_eq n k)
     where
-      by : (o : Option File) → file_at w k ≡ o → option_map (λ f. is_directory f.body) (option_map change o) ≡ option_map (λ f. is_directory f.body) (file_at w k)
+      by : (o : Option File) → file_at w k ≡ o
+          → option_map (λ f. is_directory f.body) (option_map change o)
+          ≡ option_map (λ f. is_directory f.body) (file_at w k)
       by None is = sym (ap (option_map (λ f. is_directory f.body)) is)
       by (Some f) is = ap (λ b. Some b) (keeps f is) ∙ sym (ap (option_map (λ f. is_directory f.body)) is)
 
   -- a change to a file within its limits leaves all so
-  pub changed_files : AllFiles w → ((f : File) → file_at w k ≡ Some f → IsFile (change f)) → AllFiles (with_changed_file w k change)
+  pub changed_files : AllFiles w → ((f : File) → file_at w k ≡ Some f → IsFile (change f))
+      → AllFiles (with_changed_file w k change)
   changed_files all fits n f h = ⊎_elim
       (λ e. by (file_at w k) refl (sym (changed_here w k change n e) ∙ h))
       (λ ne. all n f (sym (changed_other w k change n ne) ∙ h))
@@ -87,24 +92,28 @@ module _ (w : Files) (k : ℕ) (change : File → File) where
       by (Some old) is g = subst IsFile (some_same g) (fits old is)
 
   -- whose listing stays
-  pub same_shape : ((f : File) → file_at w k ≡ Some f → listing_in (change f).body ≡ listing_in f.body) → ((f : File) → file_at w k ≡ Some f → is_directory (change f).body ≡ is_directory f.body)
+  pub same_shape : ((f : File) → file_at w k ≡ Some f → listing_in (change f).body ≡ listing_in f.body)
+      → ((f : File) → file_at w k ≡ Some f → is_directory (change f).body ≡ is_directory f.body)
       → IsSameShape w (with_changed_file w k change)
-  unfolding read_place
+  unfolding read_entry
   same_shape lists keeps = record {
-    places = λ n y. ⊎_elim
-        (λ e. ap (read_place y) (changed_here w k change n e) ∙ place y (file_at w k) refl ∙ sym (ap (λ m. places w m y) e))
-        (λ ne. ap (read_place y) (changed_other w k change n ne))
+    directory_entries = λ n y. ⊎_elim
+        (λ e. ap (read_entry y) (changed_here w k change n e) ∙ entry y (file_at w k) refl
+        ∙ sym (ap (λ m. directory_entries w m y) e))
+        (λ ne. ap (read_entry y) (changed_other w k change n ne))
         (cases_eq n k);
     kinds = changed_kinds keeps;
     names = λ n. count n (file_at w k) refl;
     next = changed_next w k change 0;
   }
     where
-      place : (y : List ℕ) (o : Option File) → file_at w k ≡ o → read_place y (option_map change o) ≡ read_place y (file_at w k)
-      place y None is = sym (ap (read_place y) is)
-      place y (Some f) is = ap (λ l. entry_at l y) (lists f is) ∙ sym (ap (read_place y) is)
+      entry : (y : List ℕ) (o : Option File) → file_at w k ≡ o
+          → read_entry y (option_map change o) ≡ read_entry y (file_at w k)
+      entry y None is = sym (ap (read_entry y) is)
+      entry y (Some f) is = ap (λ l. entry_at l y) (lists f is) ∙ sym (ap (read_entry y) is)
 
-      count : (n : ℕ) (o : Option File) → file_at w k ≡ o → names_of (with_changed_file w k change) n ≡ names_of w n
+      count : (n : ℕ) (o : Option File) → file_at w k ≡ o
+          → names_of (with_changed_file w k change) n ≡ names_of w n
       count n None is = ap (λ v. names_of v n) (nothing_changes w k change 0 is)
       count n (Some f) is =
           let all = total_changed (names_in n) w k change f is in
@@ -113,41 +122,51 @@ module _ (w : Files) (k : ℕ) (change : File → File) where
 
 -- ---- one directory relisted
 
-directory_relisted : (change : Listing → Listing) (b : Body) → is_directory (map_body_listing change b) ≡ is_directory b
+directory_relisted : (change : Listing → Listing) (b : Body)
+    → is_directory (map_body_listing change b) ≡ is_directory b
 directory_relisted change (Regular bytes) = refl
 directory_relisted change (Symlink target) = refl
 directory_relisted change (Directory l) = refl
 
-listing_relisted : (change : Listing → Listing) (b : Body) → is_directory b ≡ true → listing_in (map_body_listing change b) ≡ change (listing_in b)
+listing_relisted : (change : Listing → Listing) (b : Body) → is_directory b ≡ true
+    → listing_in (map_body_listing change b) ≡ change (listing_in b)
 listing_relisted change (Regular bytes) h = cc
 listing_relisted change (Symlink target) h = cc
 listing_relisted change (Directory l) h = refl
 
-module _ (w : Files) (d : ℕ) (f : File) (there : file_at w d ≡ Some f) (is : is_directory f.body ≡ true) (change : Listing → Listing) where
+module _ (w : Files) (d : ℕ) (f : File) (there : file_at w d ≡ Some f) (is : is_directory f.body ≡ true)
+    (change : Listing → Listing) where
   own_listing : listing_in (map_listing change f).body ≡ change (listing_in f.body)
   own_listing = listing_relisted change f.body is
 
-  -- the changed directory has the places of its changed listing
-  pub relisted_here : (y : List ℕ) → places (with_changed_file w d (map_listing change)) d y ≡ entry_at (change (listing_in f.body)) y
-  unfolding read_place
-  relisted_here y = ap (read_place y) (changed_here w d (map_listing change) d refl ∙ ap (option_map (map_listing change)) there) ∙ ap (λ l. entry_at l y) own_listing
+  -- the changed directory has the entries of its changed listing
+  pub relisted_here : (y : List ℕ)
+      → directory_entries (with_changed_file w d (map_listing change)) d y
+      ≡ entry_at (change (listing_in f.body)) y
+  unfolding read_entry
+  relisted_here y =
+      ap (read_entry y) (changed_here w d (map_listing change) d refl
+      ∙ ap (option_map (map_listing change)) there) ∙ ap (λ l. entry_at l y) own_listing
 
-  -- other directories have the places that they had
-  pub relisted_other : (n : ℕ) (y : List ℕ) → n ≢ d → places (with_changed_file w d (map_listing change)) n y ≡ places w n y
-  unfolding read_place
-  relisted_other n y not = ap (read_place y) (changed_other w d (map_listing change) n not)
+  -- other directories have the entries that they had
+  pub relisted_other : (n : ℕ) (y : List ℕ) → n ≢ d
+      → directory_entries (with_changed_file w d (map_listing change)) n y ≡ directory_entries w n y
+  unfolding read_entry
+  relisted_other n y not = ap (read_entry y) (changed_other w d (map_listing change) n not)
 
-  -- a directory has the places of its listing
-  pub own_places : (y : List ℕ) → places w d y ≡ entry_at (listing_in f.body) y
-  unfolding read_place
-  own_places y = ap (read_place y) there
+  -- a directory has the entries of its listing
+  pub own_entries : (y : List ℕ) → directory_entries w d y ≡ entry_at (listing_in f.body) y
+  unfolding read_entry
+  own_entries y = ap (read_entry y) there
 
   -- kinds stay
   pub relisted_kinds : (n : ℕ) → kind (with_changed_file w d (map_listing change)) n ≡ kind w n
   relisted_kinds = changed_kinds w d (map_listing change) (λ g _. directory_relisted change g.body)
 
   -- how often a number is named changes with the listing alone
-  pub relisted_names : (n : ℕ) → names_of (with_changed_file w d (map_listing change)) n + sum_by (one_if n) (listing_in f.body).entries ≡ names_of w n + sum_by (one_if n) (change (listing_in f.body)).entries
+  pub relisted_names : (n : ℕ)
+      → names_of (with_changed_file w d (map_listing change)) n + sum_by (one_if n)
+      (listing_in f.body).entries ≡ names_of w n + sum_by (one_if n) (change (listing_in f.body)).entries
   relisted_names n =
       let all = total_changed (names_in n) w d (map_listing change) f there in
       let own = ap (λ l. sum_by (one_if n) l.entries) own_listing in
@@ -156,31 +175,33 @@ module _ (w : Files) (d : ℕ) (f : File) (there : file_at w d ≡ Some f) (is :
 -- what a name more does
 pub record IsNamed (w w' : Files) (d : ℕ) (x : List ℕ) (k cookie : ℕ) : Type 0 where
   -- the name leads to the number with this cookie, and each other name to what it led to
-  pub change : ChangesPlace (places w) (places w') d x (Some (k, cookie))
+  pub change : ChangesEntry (directory_entries w) (directory_entries w') d x (Some (k, cookie))
   -- all numbers keep their kinds
   pub kinds : (n : ℕ) → kind w' n ≡ kind w n
   -- the number has one name more, and what the name led to before one less
-  pub names : (n : ℕ) → names_of w' n + leads n (places w d x) ≡ names_of w n + one n k
+  pub names : (n : ℕ) → names_of w' n + leads n (directory_entries w d x) ≡ names_of w n + one n k
   -- the next number stays
   pub next : w'.next ≡ w.next
 
 -- what a name less does
 pub record IsUnnamed (w w' : Files) (d : ℕ) (x : List ℕ) : Type 0 where
   -- the name leads to nothing, and each other name to what it led to
-  pub change : ChangesPlace (places w) (places w') d x None
+  pub change : ChangesEntry (directory_entries w) (directory_entries w') d x None
   -- all numbers keep their kinds
   pub kinds : (n : ℕ) → kind w' n ≡ kind w n
   -- what the name led to before has one name less
-  pub names : (n : ℕ) → names_of w' n + leads n (places w d x) ≡ names_of w n
+  pub names : (n : ℕ) → names_of w' n + leads n (directory_entries w d x) ≡ names_of w n
   -- the next number stays
   pub next : w'.next ≡ w.next
 
-module _ (w : Files) (d : ℕ) (x : List ℕ) (f : File) (there : file_at w d ≡ Some f) (is : is_directory f.body ≡ true) (distinct : HasDistinctNames (listing_in f.body).entries) where
+module _ (w : Files) (d : ℕ) (x : List ℕ) (f : File) (there : file_at w d ≡ Some f)
+    (is : is_directory f.body ≡ true) (distinct : HasDistinctNames (listing_in f.body).entries) where
   -- what a name more leaves
   pub named_shape : (k : ℕ) → IsNamed w (with_name w d x k) d x k (listing_in f.body).next
   named_shape k = record {
     change = record {
-      here = relisted_here w d f there is (λ l. with_entry l x k) x ∙ with_entry_here (listing_in f.body) x k distinct;
+      here = relisted_here w d f there is (λ l. with_entry l x k) x
+          ∙ with_entry_here (listing_in f.body) x k distinct;
       rest = λ n y not. ⊎_elim
           (λ e. by_name n y not e (same_name y x))
           (λ ne. relisted_other w d f there is (λ l. with_entry l x k) n y ne)
@@ -190,22 +211,26 @@ module _ (w : Files) (d : ℕ) (x : List ℕ) (f : File) (there : file_at w d �
     names = λ n.
         let all = relisted_names w d f there is (λ l. with_entry l x k) n in
         let own = names_with_entry n (listing_in f.body) x k in
-        let old = ap (leads n) (own_places w d f there is (λ l. l) x) in
+        let old = ap (leads n) (own_entries w d f there is (λ l. l) x) in
         omega (arith, all, own, old);
     next = changed_next w d (map_listing (λ l. with_entry l x k)) 0;
   }
     where
-      by_name : (n : ℕ) (y : List ℕ) → ((n ≡ d) × (y ≡ x) → ⊥) → n ≡ d → (y ≡ x) ⊎ (y ≢ x) → places (with_name w d x k) n y ≡ places w n y
+      by_name : (n : ℕ) (y : List ℕ) → ((n ≡ d) × (y ≡ x) → ⊥) → n ≡ d → (y ≡ x) ⊎ (y ≢ x)
+          → directory_entries (with_name w d x k) n y ≡ directory_entries w n y
       by_name n y not e (inl same) = absurd (not (e, same))
       by_name n y not e (inr other) =
-          ap (λ m. places (with_name w d x k) m y) e ∙ relisted_here w d f there is (λ l. with_entry l x k) y ∙ with_entry_other (listing_in f.body) x k distinct y other
-          ∙ sym (ap (λ m. places w m y) e ∙ own_places w d f there is (λ l. l) y)
+          ap (λ m. directory_entries (with_name w d x k) m y) e
+          ∙ relisted_here w d f there is (λ l. with_entry l x k) y
+          ∙ with_entry_other (listing_in f.body) x k distinct y other
+          ∙ sym (ap (λ m. directory_entries w m y) e ∙ own_entries w d f there is (λ l. l) y)
 
   -- what a name less leaves
   pub unnamed_shape : IsUnnamed w (without_name w d x) d x
   unnamed_shape = record {
     change = record {
-      here = relisted_here w d f there is (λ l. without_entry l x) x ∙ without_entry_here (listing_in f.body) x distinct;
+      here = relisted_here w d f there is (λ l. without_entry l x) x
+          ∙ without_entry_here (listing_in f.body) x distinct;
       rest = λ n y not. ⊎_elim
           (λ e. by_name n y not e (same_name y x))
           (λ ne. relisted_other w d f there is (λ l. without_entry l x) n y ne)
@@ -215,23 +240,26 @@ module _ (w : Files) (d : ℕ) (x : List ℕ) (f : File) (there : file_at w d �
     names = λ n.
         let all = relisted_names w d f there is (λ l. without_entry l x) n in
         let own = names_without_entry n (listing_in f.body) x in
-        let old = ap (leads n) (own_places w d f there is (λ l. l) x) in
+        let old = ap (leads n) (own_entries w d f there is (λ l. l) x) in
         omega (arith, all, own, old);
     next = changed_next w d (map_listing (λ l. without_entry l x)) 0;
   }
     where
-      by_name : (n : ℕ) (y : List ℕ) → ((n ≡ d) × (y ≡ x) → ⊥) → n ≡ d → (y ≡ x) ⊎ (y ≢ x) → places (without_name w d x) n y ≡ places w n y
+      by_name : (n : ℕ) (y : List ℕ) → ((n ≡ d) × (y ≡ x) → ⊥) → n ≡ d → (y ≡ x) ⊎ (y ≢ x)
+          → directory_entries (without_name w d x) n y ≡ directory_entries w n y
       by_name n y not e (inl same) = absurd (not (e, same))
       by_name n y not e (inr other) =
-          ap (λ m. places (without_name w d x) m y) e ∙ relisted_here w d f there is (λ l. without_entry l x) y ∙ without_entry_other (listing_in f.body) x distinct y other
-          ∙ sym (ap (λ m. places w m y) e ∙ own_places w d f there is (λ l. l) y)
+          ap (λ m. directory_entries (without_name w d x) m y) e
+          ∙ relisted_here w d f there is (λ l. without_entry l x) y
+          ∙ without_entry_other (listing_in f.body) x distinct y other
+          ∙ sym (ap (λ m. directory_entries w m y) e ∙ own_entries w d f there is (λ l. l) y)
 
 -- ---- one file more, and one less, that lists nothing
 
 -- one file more, with no name yet
 pub record IsOneMore (w w' : Files) (k : ℕ) (directory : Bool) : Type 0 where
   -- each name of each directory leads to what it led to
-  pub places : (n : ℕ) (y : List ℕ) → places w' n y ≡ places w n y
+  pub directory_entries : (n : ℕ) (y : List ℕ) → directory_entries w' n y ≡ directory_entries w n y
   -- all other numbers keep their kinds
   pub kinds : (n : ℕ) → n ≢ k → kind w' n ≡ kind w n
   -- the new number is there, a directory or not as said
@@ -242,12 +270,15 @@ pub record IsOneMore (w w' : Files) (k : ℕ) (directory : Bool) : Type 0 where
   pub next : w'.next ≡ k + 1
 
 -- what a new file leaves
-pub new_shape : (w : Files) (f : File) → file_at w w.next ≡ None → (listing_in f.body).entries ≡ [] → IsOneMore w (with_new_file w f) w.next (is_directory f.body)
-unfolding read_place
+pub new_shape : (w : Files) (f : File) → file_at w w.next ≡ None → (listing_in f.body).entries ≡ []
+    → IsOneMore w (with_new_file w f) w.next (is_directory f.body)
+unfolding read_entry
 new_shape w f none empty = record {
-  places = λ n y. ⊎_elim
-      (λ e. ap (read_place y) (new_here w f n e) ∙ ap (λ (es : List (List ℕ × (ℕ × ℕ))). lookup (pointwise nat_eq y) es) empty ∙ sym (ap (λ m. places w m y) e ∙ ap (read_place y) none))
-      (λ ne. ap (read_place y) (new_other w f n ne))
+  directory_entries = λ n y. ⊎_elim
+      (λ e. ap (read_entry y) (new_here w f n e)
+      ∙ ap (λ (es : List (List ℕ × (ℕ × ℕ))). lookup (pointwise nat_eq y) es) empty
+      ∙ sym (ap (λ m. directory_entries w m y) e ∙ ap (read_entry y) none))
+      (λ ne. ap (read_entry y) (new_other w f n ne))
       (cases_eq n w.next);
   kinds = λ n ne. ap (option_map (λ f. is_directory f.body)) (new_other w f n ne);
   new = ap (option_map (λ f. is_directory f.body)) (new_here w f w.next refl);
@@ -261,7 +292,7 @@ new_shape w f none empty = record {
 -- one file less, which lists nothing
 pub record IsOneLess (w w' : Files) (k : ℕ) : Type 0 where
   -- each name of each directory leads to what it led to
-  pub places : (n : ℕ) (y : List ℕ) → places w' n y ≡ places w n y
+  pub directory_entries : (n : ℕ) (y : List ℕ) → directory_entries w' n y ≡ directory_entries w n y
   -- all other numbers keep their kinds
   pub kinds : (n : ℕ) → n ≢ k → kind w' n ≡ kind w n
   -- the number isn't there
@@ -272,12 +303,15 @@ pub record IsOneLess (w w' : Files) (k : ℕ) : Type 0 where
   pub next : w'.next ≡ w.next
 
 -- what a file less leaves
-pub gone_shape : (w : Files) (k : ℕ) (f : File) → file_at w k ≡ Some f → (listing_in f.body).entries ≡ [] → IsOneLess w (without_file w k) k
-unfolding read_place
+pub gone_shape : (w : Files) (k : ℕ) (f : File) → file_at w k ≡ Some f → (listing_in f.body).entries ≡ []
+    → IsOneLess w (without_file w k) k
+unfolding read_entry
 gone_shape w k f there empty = record {
-  places = λ n y. ⊎_elim
-      (λ e. ap (read_place y) (gone_here w k n e) ∙ sym (ap (λ m. places w m y) e ∙ ap (read_place y) there ∙ ap (λ (es : List (List ℕ × (ℕ × ℕ))). lookup (pointwise nat_eq y) es) empty))
-      (λ ne. ap (read_place y) (gone_other w k n ne))
+  directory_entries = λ n y. ⊎_elim
+      (λ e. ap (read_entry y) (gone_here w k n e)
+      ∙ sym (ap (λ m. directory_entries w m y) e ∙ ap (read_entry y) there
+      ∙ ap (λ (es : List (List ℕ × (ℕ × ℕ))). lookup (pointwise nat_eq y) es) empty))
+      (λ ne. ap (read_entry y) (gone_other w k n ne))
       (cases_eq n k);
   kinds = λ n ne. ap (option_map (λ f. is_directory f.body)) (gone_other w k n ne);
   gone = ap (option_map (λ f. is_directory f.body)) (gone_here w k k refl);

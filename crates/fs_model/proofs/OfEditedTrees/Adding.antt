@@ -5,10 +5,10 @@ use Rattle.std.proofs.Common.{IsSome, is_some, sym, ap, subst, ◌∙◌, arith}
 use Rattle.std.specs.Prelude.{IsTrue, length}
 use Rattle.std.proofs.lemmas.Bool.{cases_eq}
 use Rattle.fs_model.specs.Names.{is_name}
-use Rattle.fs_model.specs.Paths.{path_at, AddsPath, ChangesPlace}
-use Rattle.fs_model.specs.Files.{Files, IsDirectory, places, names_of}
+use Rattle.fs_model.specs.Paths.{path_at, AddsPath, ChangesEntry}
+use Rattle.fs_model.specs.Files.{Files, IsDirectory, directory_entries, names_of}
 use Rattle.fs_model.specs.Trees.{IsFileTree}
-use Rattle.fs_model.proofs.Walks.{none_some, one_number, same_place}
+use Rattle.fs_model.proofs.Walks.{none_some, one_number, same_entry}
 use Rattle.fs_model.proofs.OnePath.{one_path}
 use Rattle.fs_model.proofs.OfChanges.Listings.{one, one_same, one_other}
 use Rattle.fs_model.proofs.OfChanges.Shapes.{kind, AllFiles}
@@ -20,11 +20,11 @@ pub record IsAdded (w w' : Files) (d : ℕ) (x : List ℕ) (k cookie : ℕ) : Ty
   -- the name goes into a directory
   pub dir : kind w d ≡ Some true
   -- which doesn't have the name yet
-  pub free : places w d x ≡ None
+  pub free : directory_entries w d x ≡ None
   -- the name leads to the number then, with this cookie, and each other name to what it led to
-  pub change : ChangesPlace (places w) (places w') d x (Some (k, cookie))
+  pub change : ChangesEntry (directory_entries w) (directory_entries w') d x (Some (k, cookie))
   -- the number lists nothing then
-  pub empty : (y : List ℕ) → places w' k y ≡ None
+  pub empty : (y : List ℕ) → directory_entries w' k y ≡ None
   -- all other numbers keep their kinds
   pub kinds : (n : ℕ) → n ≢ k → kind w' n ≡ kind w n
   -- the number is there then
@@ -44,39 +44,52 @@ pub record IsAdded (w w' : Files) (d : ℕ) (x : List ℕ) (k cookie : ℕ) : Ty
   -- each file is still as a file may be
   pub files : AllFiles w'
 
-module _ (w w' : Files) (tree : IsFileTree w) (d : ℕ) (x : List ℕ) (k cookie : ℕ) (a : IsAdded w w' d x k cookie) where
+module _ (w w' : Files) (tree : IsFileTree w) (d : ℕ) (x : List ℕ) (k cookie : ℕ)
+    (a : IsAdded w w' d x k cookie) where
   old : IsWellNamed w
   old = facts w tree
 
   -- a name more is one path more
-  pub adds_path : (path : List (List ℕ)) (c : ℕ) → path_at (places w) path ≡ Some (d, c) → AddsPath (path_at (places w)) (path_at (places w')) (path ++ x ∷ []) k cookie
-  adds_path path c at = adds (places w) (IsDirectory w) (one_path w tree) path d c x a.dir at (places w') k cookie a.change a.free a.empty
+  pub adds_path : (path : List (List ℕ)) (c : ℕ) → path_at (directory_entries w) path ≡ Some (d, c)
+      → AddsPath (path_at (directory_entries w)) (path_at (directory_entries w')) (path ++ x ∷ []) k cookie
+  adds_path path c at =
+      adds (directory_entries w) (IsDirectory w) (one_path w tree) path d c x a.dir at
+      (directory_entries w') k cookie a.change a.free a.empty
 
   -- an old directory keeps its path
-  kept : (n : ℕ) → kind w n ≡ Some true → (p : List (List ℕ)) × (c : ℕ) × (path_at (places w') p ≡ Some (n, c))
+  kept : (n : ℕ) → kind w n ≡ Some true
+      → (p : List (List ℕ)) × (c : ℕ) × (path_at (directory_entries w') p ≡ Some (n, c))
   kept n is =
       let r = tree.tree.reached n is in
       let above = tree.tree.reached d a.dir in
-      let law = adds_path above.0 above.1 above.2 in
-      (r.0, r.1, law.others r.0 (λ e. none_some (sym law.free ∙ sym (ap (path_at (places w)) e) ∙ r.2)) ∙ r.2)
+      let law = adds_path above.0 above.1 above.2 in (
+        r.0,
+        r.1,
+        law.others r.0
+            (λ e. none_some (sym law.free ∙ sym (ap (path_at (directory_entries w)) e) ∙ r.2)) ∙ r.2,
+      )
 
-  added : (n : ℕ) → n ≡ k → (p : List (List ℕ)) × (c : ℕ) × (path_at (places w') p ≡ Some (n, c))
+  added : (n : ℕ) → n ≡ k → (p : List (List ℕ)) × (c : ℕ) × (path_at (directory_entries w') p ≡ Some (n, c))
   added n e =
       let above = tree.tree.reached d a.dir in
       let law = adds_path above.0 above.1 above.2 in
       (above.0 ++ x ∷ [], cookie, law.added ∙ ap (λ m. Some (m, cookie)) (sym e))
 
-  there : (n : ℕ) (y : List ℕ) (m c : ℕ) → places w' n y ≡ Some (m, c) → IsSome (kind w' m)
+  there : (n : ℕ) (y : List ℕ) (m c : ℕ) → directory_entries w' n y ≡ Some (m, c) → IsSome (kind w' m)
   there n y m c h = ⊎_elim
-      (λ e. subst (λ m. IsSome (kind w' m)) (one_number k cookie m c (sym a.change.here ∙ sym (λ i. places w' (e.0 i) (e.1 i)) ∙ h)) a.there)
+      (λ e. subst (λ m. IsSome (kind w' m))
+      (one_number k cookie m c
+      (sym a.change.here ∙ sym (λ i. directory_entries w' (e.0 i) (e.1 i)) ∙ h)) a.there)
       (λ ne. still m (tree_there n y m c (sym (a.change.rest n y ne) ∙ h)))
-      (same_place n d y x)
+      (same_entry n d y x)
     where
-      tree_there : (n : ℕ) (y : List ℕ) (m c : ℕ) → places w n y ≡ Some (m, c) → IsSome (kind w m)
+      tree_there : (n : ℕ) (y : List ℕ) (m c : ℕ) → directory_entries w n y ≡ Some (m, c) → IsSome (kind w m)
       tree_there n y m c h = (facts w tree).there n y m c h
 
       still : (m : ℕ) → IsSome (kind w m) → IsSome (kind w' m)
-      still m is = ⊎_elim (λ e. subst (λ m. IsSome (kind w' m)) (sym e) a.there) (λ ne. ap is_some (a.kinds m ne) ∙ is) (cases_eq m k)
+      still m is =
+          ⊎_elim (λ e. subst (λ m. IsSome (kind w' m)) (sym e) a.there) (λ ne. ap is_some (a.kinds m ne) ∙ is)
+          (cases_eq m k)
 
   -- with a name more a tree stays a tree
   pub stays_added : IsFileTree w'
@@ -86,8 +99,10 @@ module _ (w w' : Files) (tree : IsFileTree w) (d : ℕ) (x : List ℕ) (k cookie
     there = there;
     root = let own = one_other 1 k (λ e. a.not_root (sym e)) in omega (arith, a.names 1, own, tree.root);
     directories = λ n not is. ⊎_elim
-        (λ e. let own = one_same n k e in let same = ap (names_of w) e in omega (arith, a.names n, own, same, a.fresh (ap (kind w') (sym e) ∙ is)))
-        (λ ne. let own = one_other n k ne in omega (arith, a.names n, own, tree.directories n not (sym (a.kinds n ne) ∙ is)))
+        (λ e. let own = one_same n k e in let same = ap (names_of w) e in
+        omega (arith, a.names n, own, same, a.fresh (ap (kind w') (sym e) ∙ is)))
+        (λ ne. let own = one_other n k ne in
+        omega (arith, a.names n, own, tree.directories n not (sym (a.kinds n ne) ∙ is)))
         (cases_eq n k);
     named = λ n not is. ⊎_elim
         (λ e. let own = one_same n k e in omega (arith, a.names n, own))
@@ -95,11 +110,12 @@ module _ (w w' : Files) (tree : IsFileTree w) (d : ℕ) (x : List ℕ) (k cookie
         (cases_eq n k);
     numbers = λ n is. ⊎_elim
         (λ e. (omega (arith, a.number), omega (arith, a.number)))
-        (λ ne. let was = (facts w tree).numbers n (ap is_some (sym (a.kinds n ne)) ∙ is) in (was.0, omega (arith, was, a.next)))
+        (λ ne. let was = (facts w tree).numbers n (ap is_some (sym (a.kinds n ne)) ∙ is) in
+        (was.0, omega (arith, was, a.next)))
         (cases_eq n k);
     names = λ n name is. ⊎_elim
         (λ e. subst (λ y. IsTrue (is_name y) × (length y ≤ 255)) (sym e.1) a.name)
         (λ ne. tree.names n name (ap is_some (sym (a.change.rest n name ne)) ∙ is))
-        (same_place n d name x);
+        (same_entry n d name x);
     files = a.files;
   })

@@ -14,26 +14,34 @@ use Rattle.fs_model.specs.Listing.{entry_at}
 use Rattle.fs_model.specs.Names.{is_name}
 use Rattle.fs_model.specs.Paths.{path_at}
 use Rattle.fs_model.specs.Files.{Body, Regular, Symlink, Directory, Files, file_at, listing_in, is_directory}
-use Rattle.fs_model.specs.Files.{places, names_in, names_of, parent_of}
+use Rattle.fs_model.specs.Files.{directory_entries, names_in, names_of, parent_of}
 use Rattle.fs_model.specs.Trees.{IsFileTree}
 use Rattle.fs_model.proofs.Walks.{none_some, some_same}
-use Rattle.fs_model.proofs.Counts.{same_number, count_of_one, place_in, file_in, own_name, has_name}
+use Rattle.fs_model.proofs.Counts.{same_number, count_of_one, listed_in, file_in, own_name, has_name}
 use Rattle.fs_model.proofs.Counts.{all_names}
 use Rattle.fs_model.proofs.OfChanges.Shapes.{kind, AllFiles, is_some-kind}
 
 -- the one that counts is the first that counts
-first_counted : {X : Type 0} (g : X → ℕ) (es : List (ℕ × X)) (d : ℕ) (f : X) → lookup (eq_by_cmp nat_cmp d) es ≡ Some f → 0 < g f → sum_by (λ e. g e.1) es ≤ 1
+first_counted : {X : Type 0} (g : X → ℕ) (es : List (ℕ × X)) (d : ℕ) (f : X)
+    → lookup (eq_by_cmp nat_cmp d) es ≡ Some f → 0 < g f → sum_by (λ e. g e.1) es ≤ 1
     → option_map_or (λ e. e.0) (find (λ e. nat_lt 0 (g e.1)) es) 1 ≡ d
 first_counted g [] d f found some most = absurd (none_some found)
 first_counted {X} g (e ∷ es) d f found some most =
     let parts = sum_by-cons (λ (e : ℕ × X). g e.1) e es in
-    by g e es d f some most parts (λ h le. first_counted g es d f h some le) (ltb 0 (g e.1)) (eq_by_cmp nat_cmp d e.0) refl refl found
+    by g e es d f some most parts (λ h le. first_counted g es d f h some le) (ltb 0 (g e.1))
+    (eq_by_cmp nat_cmp d e.0) refl refl found
   where
-    by : {X : Type 0} (g : X → ℕ) (e : ℕ × X) (es : List (ℕ × X)) (d : ℕ) (f : X) → 0 < g f → sum_by (λ e. g e.1) (e ∷ es) ≤ 1 → sum_by (λ (e : ℕ × X). g e.1) (e ∷ es) ≡ g e.1 + sum_by (λ (e : ℕ × X). g e.1) es
-        → (lookup (eq_by_cmp nat_cmp d) es ≡ Some f → sum_by (λ e. g e.1) es ≤ 1 → option_map_or (λ e. e.0) (find (λ e. nat_lt 0 (g e.1)) es) 1 ≡ d)
-        → (a b : Bool) → ltb 0 (g e.1) ≡ a → eq_by_cmp nat_cmp d e.0 ≡ b → cond b (Some e.1) (lookup (eq_by_cmp nat_cmp d) es) ≡ Some f
+    by : {X : Type 0} (g : X → ℕ) (e : ℕ × X) (es : List (ℕ × X)) (d : ℕ) (f : X) → 0 < g f
+        → sum_by (λ e. g e.1) (e ∷ es) ≤ 1
+        → sum_by (λ (e : ℕ × X). g e.1) (e ∷ es) ≡ g e.1 + sum_by (λ (e : ℕ × X). g e.1) es
+        → (lookup (eq_by_cmp nat_cmp d) es ≡ Some f → sum_by (λ e. g e.1) es ≤ 1
+        → option_map_or (λ e. e.0) (find (λ e. nat_lt 0 (g e.1)) es) 1 ≡ d)
+        → (a b : Bool) → ltb 0 (g e.1) ≡ a → eq_by_cmp nat_cmp d e.0 ≡ b
+        → cond b (Some e.1) (lookup (eq_by_cmp nat_cmp d) es) ≡ Some f
         → option_map_or (λ e. e.0) (cond (ltb 0 (g e.1)) (Some e) (find (λ e. nat_lt 0 (g e.1)) es)) 1 ≡ d
-    by g e es d f some most parts next true true s t h = ap (λ b. option_map_or (λ e. e.0) (cond b (Some e) (find (λ e. nat_lt 0 (g e.1)) es)) 1) s ∙ sym (same_number d e.0 t)
+    by g e es d f some most parts next true true s t h =
+        ap (λ b. option_map_or (λ e. e.0) (cond b (Some e) (find (λ e. nat_lt 0 (g e.1)) es)) 1) s
+        ∙ sym (same_number d e.0 t)
     by g e es d f some most parts next true false s t h =
         let more = count_of_one g (eq_by_cmp nat_cmp d) es f h in
         let own = ltb-true 0 (g e.1) s in
@@ -43,21 +51,26 @@ first_counted {X} g (e ∷ es) d f found some most =
         let own = ltb-false 0 (g e.1) s in
         absurd (omega (arith, same, own, some))
     by g e es d f some most parts next false false s t h =
-        ap (λ b. option_map_or (λ e. e.0) (cond b (Some e) (find (λ e. nat_lt 0 (g e.1)) es)) 1) s ∙ next h (omega (arith, parts, most))
+        ap (λ b. option_map_or (λ e. e.0) (cond b (Some e) (find (λ e. nat_lt 0 (g e.1)) es)) 1) s
+        ∙ next h (omega (arith, parts, most))
 
 -- the directory that names a directory is the one above it
 above_it : (w : Files) → names_of w 1 ≡ 0 → ((n : ℕ) → n ≢ 1 → kind w n ≡ Some true → names_of w n ≡ 1)
-    → (n : ℕ) (y : List ℕ) (k c : ℕ) → places w n y ≡ Some (k, c) → kind w k ≡ Some true → parent_of w k ≡ n
+    → (n : ℕ) (y : List ℕ) (k c : ℕ) → directory_entries w n y ≡ Some (k, c) → kind w k ≡ Some true
+    → parent_of w k ≡ n
 above_it w root directories n y k c h is =
     let own = has_name w k n c y h in
     let not_root : k ≢ 1 = λ e. let same = ap (names_of w) e in absurd (omega (arith, own, same, root)) in
-    let f = place_in w n y (k, c) h in
+    let f = listed_in w n y (k, c) h in
     cond-false (eqb k 1) 1 _ (ne_eqb k 1 not_root)
-    ∙ first_counted (names_in k) (finite.entries w.files) n f.0 (file_in w n f.0 f.1) (own_name w k f.0 y c f.2) (omega (arith, directories k not_root is, all_names w k))
+    ∙ first_counted (names_in k) (finite.entries w.files) n f.0 (file_in w n f.0 f.1)
+    (own_name w k f.0 y c f.2) (omega (arith, directories k not_root is, all_names w k))
 
 -- what has no entry is no directory
-lists_of : (w : Files) (n : ℕ) (y : List ℕ) (e : ℕ × ℕ) → places w n y ≡ Some e → kind w n ≡ Some true
-lists_of w n y e h = let f = place_in w n y e h in ap (option_map (λ f. is_directory f.body)) f.1 ∙ ap (λ b. Some b) (by f.0.body f.2)
+lists_of : (w : Files) (n : ℕ) (y : List ℕ) (e : ℕ × ℕ) → directory_entries w n y ≡ Some e
+    → kind w n ≡ Some true
+lists_of w n y e h = let f = listed_in w n y e h in
+    ap (option_map (λ f. is_directory f.body)) f.1 ∙ ap (λ b. Some b) (by f.0.body f.2)
   where
     by : (b : Body) → entry_at (listing_in b) y ≡ Some e → is_directory b ≡ true
     by (Regular bytes) h = absurd (none_some h)
@@ -72,9 +85,10 @@ pub record IsWellNamed (w : Files) : Type 0 where
   -- number 1 is a directory
   pub root_is : kind w 1 ≡ Some true
   -- each directory has a path
-  pub reached : (n : ℕ) → kind w n ≡ Some true → (p : List (List ℕ)) × (c : ℕ) × (path_at (places w) p ≡ Some (n, c))
+  pub reached : (n : ℕ) → kind w n ≡ Some true
+      → (p : List (List ℕ)) × (c : ℕ) × (path_at (directory_entries w) p ≡ Some (n, c))
   -- what a name leads to is there
-  pub there : (n : ℕ) (y : List ℕ) (k c : ℕ) → places w n y ≡ Some (k, c) → IsSome (kind w k)
+  pub there : (n : ℕ) (y : List ℕ) (k c : ℕ) → directory_entries w n y ≡ Some (k, c) → IsSome (kind w k)
   -- the root has no name
   pub root : names_of w 1 ≡ 0
   -- each other directory has one name
@@ -84,7 +98,8 @@ pub record IsWellNamed (w : Files) : Type 0 where
   -- the numbers of files are above 0 and below the next that is given
   pub numbers : (n : ℕ) → IsSome (kind w n) → (1 ≤ n) × (n < w.next)
   -- each name is one that an entry may have
-  pub names : (n : ℕ) (name : List ℕ) → IsSome (places w n name) → IsTrue (is_name name) × (length name ≤ 255)
+  pub names : (n : ℕ) (name : List ℕ) → IsSome (directory_entries w n name)
+      → IsTrue (is_name name) × (length name ≤ 255)
   -- each file is as a file may be
   pub files : AllFiles w
 

@@ -26,6 +26,7 @@ map_body_listing change (Regular bytes) = Regular bytes
 map_body_listing change (Symlink target) = Symlink target
 map_body_listing change (Directory l) = Directory (change l)
 
+-- a file with a changed listing; only a directory's changes anything
 abbrev pub map_listing : (Listing → Listing) → File → File
 map_listing change f = record f { body = map_body_listing change f.body }
 

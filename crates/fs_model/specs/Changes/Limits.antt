@@ -11,12 +11,15 @@ blocks_in (Regular bytes) = (length bytes + 511) / 512
 blocks_in (Symlink target) = 0
 blocks_in (Directory l) = 0
 
+-- the blocks of all files
 abbrev pub block_count : Files → ℕ
 block_count fs = sum_by (λ f. blocks_in f.body) (finite.values fs.files)
 
+-- the entries of all directories
 abbrev pub entry_count : Files → ℕ
 entry_count fs = sum_by (λ f. length (listing_in f.body).entries) (finite.values fs.files)
 
+-- how many files there are
 abbrev pub file_count : Files → ℕ
 file_count fs = finite.len fs.files
 

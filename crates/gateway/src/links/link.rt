@@ -12,8 +12,9 @@ use nfs_items::Time;
 use service::Service;
 use std::alloc::Global;
 
-/// Carries records to a server, and brings the replies back. A link that waits for others keeps its runtime
-/// itself.
+/// A link is the way to a node, a transport: it carries records to a server, and brings the replies back. It
+/// has nothing to do with links in files, nor with those of a hash chain. A link that waits for others keeps
+/// its runtime itself.
 ///
 /// Its ghost members say what is known of it. `world` is that of its server, where it is told; then each
 /// answer is the reply owed (RFC 5531, section 9), and the world moves as that says. `may_fault` are the

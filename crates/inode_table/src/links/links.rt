@@ -19,7 +19,7 @@ use tree_rules::{Counts, count_names, numbers_in, place_of};
 /// What is kept beside a file.
 #[derive(Clone, Copy)]
 pub struct Links {
-    /// The names of a file or link; two and the subdirectories of a directory.
+    /// The names of a file or symbolic link; two and the subdirectories of a directory.
     pub nlink: u32,
     /// The number of the directory above a directory, the root's own for the root.
     pub parent: u32,

@@ -5,7 +5,7 @@ ghost use Rattle.std.specs.Prelude.{slice_index_or, ◌==◌, Some, None, OnOk, 
 ghost use Rattle.std.specs.Prelude.{nat_eq, nat_le};
 ghost use Rattle.std.specs.Cmp.Lexicographic.{pointwise};
 ghost use Rattle.std.specs.Map.{lookup, remove_entry};
-ghost use Rattle.nfs_spec.specs.fs_model.Listing.{DirEntry, Listing, entry_at, entry_number, with_entry};
+ghost use Rattle.nfs_spec.specs.fs_model.Listing.{NamedEntry, Listing, entry_at, entry_number, with_entry};
 ghost use Rattle.nfs_spec.specs.fs_model.Listing.{without_entry};
 ghost use Rattle.inodes.specs.Directories.Entries.{entries_of};
 ghost use Rattle.inodes.specs.Directories.Pages.{above};
@@ -95,7 +95,7 @@ impl Directory {
     /// The number that the entry at a place in this order stands for; places count from 0.
     pub fn number_in(&self, place: usize) -> u32
         requires { place < length self.now.entries }
-        ensures { (none : DirEntry) → entry_number (slice_index_or self.now.entries place none) ≡ result }
+        ensures { (none : NamedEntry) → entry_number (slice_index_or self.now.entries place none) ≡ result }
     {
         let (_, entry) = self.entries.get_index(place).unwrap();
         entry.number

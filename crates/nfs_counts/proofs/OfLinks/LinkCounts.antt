@@ -10,7 +10,8 @@ use Rattle.std.proofs.lemmas.Bool.{cases_eq}
 use Rattle.nfs_items.specs.Timeval.{Timeval}
 use Rattle.nfs_laws.specs.fs_model.Listing.{Listing, entry_at, with_entry, without_entry, HasDistinctNames}
 use Rattle.nfs_laws.specs.fs_model.Files.{Body, Regular, Symlink, Directory, File, Files, file_at, listing_in}
-use Rattle.nfs_laws.specs.fs_model.Files.{listing, is_directory, places, one_if, names_in, names_of}
+use Rattle.nfs_laws.specs.fs_model.Files.{listing, is_directory, directory_entries, one_if, names_in}
+use Rattle.nfs_laws.specs.fs_model.Files.{names_of}
 use Rattle.nfs_laws.proofs.fs_model.Walks.{none_some, some_same}
 use Rattle.nfs_laws.proofs.fs_model.Counts.{count_of_one, file_in, all_names}
 use Rattle.nfs_laws.specs.fs_model.Changes.Edits.{with_new_file, with_changed_file, without_file}
@@ -37,18 +38,21 @@ by_kind (Some false) directory plain = plain
 directories_in : Files → ℕ → ℕ
 directories_in w n = sum_in (directory_one w) (listing w n).entries
 
-links_by_kind : (w : Files) (n : ℕ) → link_count w n ≡ by_kind (kind w n) (2 + directories_in w n) (names_of w n)
+links_by_kind : (w : Files) (n : ℕ)
+    → link_count w n ≡ by_kind (kind w n) (2 + directories_in w n) (names_of w n)
 unfolding by_kind directories_in
 links_by_kind w n = by (file_at w n)
   where
-    of_body : (b : Body) → nlink_of w n b ≡ by_kind (Some (is_directory b)) (2 + sum_in (directory_one w) (listing_in b).entries) (names_of w n)
+    of_body : (b : Body) → nlink_of w n b ≡ by_kind (Some (is_directory b))
+        (2 + sum_in (directory_one w) (listing_in b).entries) (names_of w n)
     of_body (Regular bytes) = refl
     of_body (Symlink target) = refl
     of_body (Directory l) = refl
 
     by : (o : Option File) → option_map_or (λ f. nlink_of w n f.body) o 0
         ≡ by_kind (option_map (λ f. is_directory f.body) o)
-        (2 + sum_in (directory_one w) (option_map_or (λ f. listing_in f.body) o (record { next = 0; entries = [] })).entries)
+        (2 + sum_in (directory_one w)
+        (option_map_or (λ f. listing_in f.body) o (record { next = 0; entries = [] })).entries)
         (names_of w n)
     by None = refl
     by (Some f) = of_body f.body
@@ -62,7 +66,8 @@ same_links w w' n kinds directories names =
 kind_at : (w w' : Files) (n : ℕ) → kind w' n ≡ kind w n → is_directory_at w' n ≡ is_directory_at w n
 kind_at w w' n same = at w' ∙ ap (λ o. option_map_or (λ b. b) o false) same ∙ sym (at w)
   where
-    by : (o : Option File) → option_map_or (λ f. is_directory f.body) o false ≡ option_map_or (λ b. b) (option_map (λ f. is_directory f.body) o) false
+    by : (o : Option File) → option_map_or (λ f. is_directory f.body) o false
+        ≡ option_map_or (λ b. b) (option_map (λ f. is_directory f.body) o) false
     by None = refl
     by (Some f) = refl
 
@@ -129,7 +134,8 @@ stamped_alike w k change body = record {
   where
     by : (o : Option File) → file_at w k ≡ o → block_count (with_changed_file w k change) ≡ block_count w
     by None is = ap block_count (nothing_changes w k change 0 is)
-    by (Some f) is = let same = ap blocks_in (body f) in omega (arith, total_changed (λ g. blocks_in g.body) w k change f is, same)
+    by (Some f) is = let same = ap blocks_in (body f) in
+        omega (arith, total_changed (λ g. blocks_in g.body) w k change f is, same)
 
 -- times
 pub touched_alike : (now : Timeval) (w : Files) (d : ℕ) → CountsAlike w (touch now w d)
@@ -173,11 +179,13 @@ module _ (w w' : Files) (d k : ℕ) (directory : Bool) (m : HasEntryMore w w' d 
       (λ e.
       let here = same ∙ ap (λ i. sum_in (directory_one w) (listing w' i).entries) e in
       let own = ap (λ i. sum_in (directory_one w) (listing w i).entries) e in
-      let counted : cond directory (one n d) 0 ≡ cond directory 1 0 = ap (λ i. cond directory i 0) (one_same n d e) in
+      let counted : cond directory (one n d) 0 ≡ cond directory 1 0 =
+      ap (λ i. cond directory i 0) (one_same n d e) in
       omega (arith, here, own, m.own, counted))
       (λ ne.
       let there = same ∙ ap (λ (l : Listing). sum_in (directory_one w) l.entries) (m.others n ne) in
-      let none : cond directory (one n d) 0 ≡ 0 = ap (λ i. cond directory i 0) (one_other n d ne) ∙ both_zero directory in
+      let none : cond directory (one n d) 0 ≡ 0 = ap (λ i. cond directory i 0) (one_other n d ne)
+      ∙ both_zero directory in
       omega (arith, there, none))
       (cases_eq n d)
     where
@@ -201,20 +209,26 @@ module _ (w w' : Files) (d k : ℕ) (directory : Bool) (m : HasEntryMore w w' d 
       ∙ by (kind w n) directory refl refl ∙ ap (λ a. a + one n (cond directory d k)) (sym (links_by_kind w n))
     where
       by : (o : Option Bool) (b : Bool) → kind w n ≡ o → directory ≡ b
-          → by_kind o (2 + directories_in w' n) (names_of w' n) ≡ by_kind o (2 + directories_in w n) (names_of w n) + one n (cond b d k)
-      by None b is e = let zero = one_other n (cond b d k) (apart n (cond b d k) None (Some b) is (holder_kind b e) none_some) in omega (arith, zero)
-      by (Some true) true is e = let more = directories_more n ∙ ap (λ b. directories_in w n + cond b (one n d) 0) e in omega (arith, more)
+          → by_kind o (2 + directories_in w' n) (names_of w' n)
+          ≡ by_kind o (2 + directories_in w n) (names_of w n) + one n (cond b d k)
+      by None b is e = let zero =
+          one_other n (cond b d k) (apart n (cond b d k) None (Some b) is (holder_kind b e) none_some) in
+          omega (arith, zero)
+      by (Some true) true is e = let more =
+          directories_more n ∙ ap (λ b. directories_in w n + cond b (one n d) 0) e in omega (arith, more)
       by (Some true) false is e =
           let more = directories_more n ∙ ap (λ b. directories_in w n + cond b (one n d) 0) e in
           let zero = one_other n k (apart n k (Some true) (Some false) is (holder_kind false e) true_false) in
           omega (arith, more, zero)
       by (Some false) true is e =
-          let own = one_other n k (apart n k (Some false) (Some true) is (m.named ∙ ap (λ b. Some b) e) (λ h. true_false (sym h))) in
+          let own = one_other n k (apart n k (Some false) (Some true) is (m.named ∙ ap (λ b. Some b) e)
+          (λ h. true_false (sym h))) in
           let zero = one_other n d (apart n d (Some false) (Some true) is m.dir (λ h. true_false (sym h))) in
           omega (arith, m.names n, own, zero)
       by (Some false) false is e = m.names n
 
-relisted_blocks : (change : Listing → Listing) (b : Body) → blocks_in (map_body_listing change b) ≡ blocks_in b
+relisted_blocks : (change : Listing → Listing) (b : Body)
+    → blocks_in (map_body_listing change b) ≡ blocks_in b
 relisted_blocks change (Regular bytes) = refl
 relisted_blocks change (Symlink target) = refl
 relisted_blocks change (Directory l) = refl
@@ -240,7 +254,8 @@ module _ (w : Files) (d k : ℕ) (x : List ℕ) (directory : Bool) (f : File) (t
 
   relisted : (change : Listing → Listing) → listing (relist change) d ≡ change (listing_in f.body)
   unfolding list_in
-  relisted change = ap list_in (changed_here w d (map_listing change) d refl ∙ ap (option_map (map_listing change)) there)
+  relisted change =
+      ap list_in (changed_here w d (map_listing change) d refl ∙ ap (option_map (map_listing change)) there)
       ∙ relisted_body change f.body is
 
   others_listed : (change : Listing → Listing) (n : ℕ) → n ≢ d → listing (relist change) n ≡ listing w n
@@ -248,27 +263,38 @@ module _ (w : Files) (d k : ℕ) (x : List ℕ) (directory : Bool) (f : File) (t
   others_listed change n ne = ap list_in (changed_other w d (map_listing change) n ne)
 
   relisted_count : (change : Listing → Listing)
-      → entry_count (relist change) + length (listing_in f.body).entries ≡ entry_count w + length (change (listing_in f.body)).entries
+      → entry_count (relist change) + length (listing_in f.body).entries
+      ≡ entry_count w + length (change (listing_in f.body)).entries
   relisted_count change =
       let own = ap (λ (l : Listing). length l.entries) (relisted_body change f.body is) in
-      omega (arith, own, total_changed (λ g. length (listing_in g.body).entries) w d (map_listing change) f there)
+      omega (
+        arith,
+        own,
+        total_changed (λ g. length (listing_in g.body).entries) w d
+            (map_listing change) f there,
+      )
 
   relisted_blocks_count : (change : Listing → Listing) → block_count (relist change) ≡ block_count w
   relisted_blocks_count change =
-      omega (arith, relisted_blocks change f.body, total_changed (λ g. blocks_in g.body) w d (map_listing change) f there)
+      omega (
+        arith,
+        relisted_blocks change f.body,
+        total_changed (λ g. blocks_in g.body) w d (map_listing change) f there,
+      )
 
-  entries_at : places w d x ≡ entry_at (listing_in f.body) x
+  entries_at : directory_entries w d x ≡ entry_at (listing_in f.body) x
   entries_at = ap (option_and_then (λ f. entry_at (listing_in f.body) x)) there
 
   counted : (v : Files) → kind v k ≡ kind w k → directory_one v k ≡ cond directory 1 0
   counted v same = ap (λ b. cond b 1 0) (at (file_at v k) (same ∙ named))
     where
-      at : (o : Option File) → option_map (λ f. is_directory f.body) o ≡ Some directory → option_map_or (λ f. is_directory f.body) o false ≡ directory
+      at : (o : Option File) → option_map (λ f. is_directory f.body) o ≡ Some directory
+          → option_map_or (λ f. is_directory f.body) o false ≡ directory
       at None h = absurd (none_some h)
       at (Some f) h = some_same h
 
   -- a name more is an entry more
-  pub named_more : places w d x ≡ None → HasEntryMore w (with_name w d x k) d k directory
+  pub named_more : directory_entries w d x ≡ None → HasEntryMore w (with_name w d x k) d k directory
   named_more free =
       let shape = named_shape w d x f there is distinct k in
       let l = listing_in f.body in
@@ -287,12 +313,19 @@ module _ (w : Files) (d k : ℕ) (x : List ℕ) (directory : Bool) (f : File) (t
         others = others_listed change;
         entries =
             let zero = ap (counts_at (λ _. 1)) none in
-            omega (arith, relisted_count change, sum_with (λ _. 1) l x k, zero, sum_of_ones l.entries, sum_of_ones (with_entry l x k).entries);
+            omega (
+              arith,
+              relisted_count change,
+              sum_with (λ _. 1) l x k,
+              zero,
+              sum_of_ones l.entries,
+              sum_of_ones (with_entry l x k).entries,
+            );
         blocks = relisted_blocks_count change;
       }
 
   -- a name less is an entry less
-  pub unnamed_less : (cookie : ℕ) → places w d x ≡ Some (k, cookie)
+  pub unnamed_less : (cookie : ℕ) → directory_entries w d x ≡ Some (k, cookie)
       → HasEntryMore (without_name w d x) w d k directory
   unnamed_less cookie had =
       let shape = unnamed_shape w d x f there is distinct in
@@ -309,11 +342,25 @@ module _ (w : Files) (d k : ℕ) (x : List ℕ) (directory : Bool) (f : File) (t
             let after = ap (λ (l : Listing). sum_in (directory_one left) l.entries) (relisted change) in
             let before = ap (λ (l : Listing). sum_in (directory_one left) l.entries) listed in
             let one = ap (counts_at (directory_one left)) found in
-            omega (arith, after, before, one, sum_without (directory_one left) l x, counted left (shape.kinds k));
+            omega (
+              arith,
+              after,
+              before,
+              one,
+              sum_without (directory_one left) l x,
+              counted left (shape.kinds k),
+            );
         others = λ n ne. sym (others_listed change n ne);
         entries =
             let one = ap (counts_at (λ _. 1)) found in
-            omega (arith, relisted_count change, sum_without (λ _. 1) l x, one, sum_of_ones l.entries, sum_of_ones (without_entry l x).entries);
+            omega (
+              arith,
+              relisted_count change,
+              sum_without (λ _. 1) l x,
+              one,
+              sum_of_ones l.entries,
+              sum_of_ones (without_entry l x).entries,
+            );
         blocks = sym (relisted_blocks_count change);
       }
 
@@ -324,11 +371,14 @@ named_by w n m some = by (file_at w n) refl
   where
     by : (o : Option File) → file_at w n ≡ o → 0 < names_of w m
     by None e =
-        let none = ap (λ o. sum_by (one_if m) (option_map_or (λ f. listing_in f.body) o (record { next = 0; entries = [] })).entries) e in
+        let none = ap (λ o. sum_by (one_if m) (option_map_or (λ f. listing_in f.body) o
+        (record { next = 0; entries = [] })).entries) e in
         absurd (omega (arith, none, some))
     by (Some f) e =
-        let own = ap (λ o. sum_by (one_if m) (option_map_or (λ f. listing_in f.body) o (record { next = 0; entries = [] })).entries) e in
-        let outer = count_of_one (names_in m) (eq_by_cmp nat_cmp n) (finite.entries w.files) f (file_in w n f e) in
+        let own = ap (λ o. sum_by (one_if m) (option_map_or (λ f. listing_in f.body) o
+        (record { next = 0; entries = [] })).entries) e in
+        let outer = count_of_one (names_in m) (eq_by_cmp nat_cmp n) (finite.entries w.files) f
+        (file_in w n f e) in
         omega (arith, own, outer, all_names w m, some)
 
 -- where a number that has no name gets a file or loses it, the others keep their nlink
@@ -336,18 +386,22 @@ others_keep : (w w' : Files) (k : ℕ) → names_of w k ≡ 0 → ((n : ℕ) →
     → ((n : ℕ) → n ≢ k → file_at w' n ≡ file_at w n) → (n : ℕ) → n ≢ k → link_count w' n ≡ link_count w n
 unfolding directories_in
 others_keep w w' k none names others n ne =
-    let list_of = λ (o : Option File). option_map_or (λ f. listing_in f.body) o (record { next = 0; entries = [] }) in
+    let list_of = λ (o : Option File). option_map_or (λ f. listing_in f.body) o
+    (record { next = 0; entries = [] }) in
     let kinds = λ (m : ℕ) (not : m ≢ k). ap (option_map (λ (f : File). is_directory f.body)) (others m not) in
     same_links w w' n (kinds n ne)
     (ap (λ o. sum_in (directory_one w') (list_of o).entries) (others n ne)
-    ∙ same_directories w w' (listing w n).entries (λ m some. kind_at w w' m (kinds m (λ e. let zero = ap (names_of w) e in absurd (omega (arith, named_by w n m some, zero, none))))))
+    ∙ same_directories w w' (listing w n).entries
+    (λ m some. kind_at w w' m
+    (kinds m (λ e. let zero = ap (names_of w) e in absurd (omega (arith, named_by w n m some, zero, none))))))
     (names n)
 
 module _ (w : Files) (f : File) (free : file_at w w.next ≡ None) (unnamed : names_of w w.next ≡ 0)
     (empty : (listing_in f.body).entries ≡ []) where
   -- a new file without names leaves the others
   pub new_others : (n : ℕ) → n ≢ w.next → link_count (with_new_file w f) n ≡ link_count w n
-  new_others = others_keep w (with_new_file w f) w.next unnamed (new_shape w f free empty).names (new_other w f)
+  new_others =
+      others_keep w (with_new_file w f) w.next unnamed (new_shape w f free empty).names (new_other w f)
 
   -- a directory has two links from the start
   pub new_own : link_count (with_new_file w f) w.next ≡ cond (is_directory f.body) 2 0
@@ -356,9 +410,12 @@ module _ (w : Files) (f : File) (free : file_at w w.next ≡ None) (unnamed : na
       let shape = new_shape w f free empty in
       let v = with_new_file w f in
       let none : directories_in v w.next ≡ 0 =
-      ap (λ o. sum_in (directory_one v) (option_map_or (λ (f : File). listing_in f.body) o (record { next = 0; entries = [] })).entries) (new_here w f w.next refl)
+      ap (λ o. sum_in (directory_one v)
+      (option_map_or (λ (f : File). listing_in f.body) o (record { next = 0; entries = [] })).entries)
+      (new_here w f w.next refl)
       ∙ ap (sum_in (directory_one v)) empty in
-      links_by_kind v w.next ∙ (λ i. by_kind (shape.new i) (2 + none i) ((shape.names w.next ∙ unnamed) i)) ∙ by (is_directory f.body)
+      links_by_kind v w.next ∙ (λ i. by_kind (shape.new i) (2 + none i) ((shape.names w.next ∙ unnamed) i))
+      ∙ by (is_directory f.body)
     where
       by : (b : Bool) → by_kind (Some b) (2 + 0) 0 ≡ cond b 2 0
       by true = refl
@@ -366,7 +423,8 @@ module _ (w : Files) (f : File) (free : file_at w w.next ≡ None) (unnamed : na
 
   -- a new file that lists nothing brings no entry
   pub new_entries : entry_count (with_new_file w f) ≡ entry_count w
-  new_entries = let none = ap length empty in omega (arith, total_new (λ g. length (listing_in g.body).entries) w f free, none)
+  new_entries = let none = ap length empty in
+      omega (arith, total_new (λ g. length (listing_in g.body).entries) w f free, none)
 
   -- and the blocks of its own
   pub new_blocks : block_count (with_new_file w f) ≡ block_count w + blocks_in f.body
@@ -376,11 +434,13 @@ module _ (w : Files) (k : ℕ) (f : File) (there : file_at w k ≡ Some f) (unna
     (empty : (listing_in f.body).entries ≡ []) where
   -- a file that goes without names leaves the others
   pub gone_others : (n : ℕ) → n ≢ k → link_count (without_file w k) n ≡ link_count w n
-  gone_others = others_keep w (without_file w k) k unnamed (gone_shape w k f there empty).names (gone_other w k)
+  gone_others =
+      others_keep w (without_file w k) k unnamed (gone_shape w k f there empty).names (gone_other w k)
 
   -- no entry goes with it
   pub gone_entries : entry_count (without_file w k) ≡ entry_count w
-  gone_entries = let none = ap length empty in omega (arith, total_without (λ g. length (listing_in g.body).entries) w k f there, none)
+  gone_entries = let none = ap length empty in
+      omega (arith, total_without (λ g. length (listing_in g.body).entries) w k f there, none)
 
   -- and its blocks are free
   pub gone_blocks : block_count (without_file w k) + blocks_in f.body ≡ block_count w
@@ -391,5 +451,6 @@ pub plain_links : (w : Files) (n : ℕ) (f : File) → file_at w n ≡ Some f �
     → link_count w n ≡ names_of w n
 unfolding by_kind
 plain_links w n f there plain =
-    links_by_kind w n ∙ ap (λ o. by_kind (option_map (λ f. is_directory f.body) o) (2 + directories_in w n) (names_of w n)) there
+    links_by_kind w n ∙ ap (λ o. by_kind (option_map (λ f. is_directory f.body) o) (2 + directories_in w n)
+    (names_of w n)) there
     ∙ ap (λ b. by_kind (Some b) (2 + directories_in w n) (names_of w n)) plain

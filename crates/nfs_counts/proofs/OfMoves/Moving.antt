@@ -4,9 +4,10 @@ use Rattle.std.proofs.Common.{◌≡◌, ◌≢◌, ⊎_elim, inr, ℕ, ◌+◌,
 use Rattle.std.proofs.Common.{Some, None, IsSome, is_some, option_map, refl, sym, ap, ◌∙◌, arith}
 use Rattle.std.proofs.lemmas.Bool.{cases_eq}
 use Rattle.nfs_items.specs.Timeval.{Timeval}
-use Rattle.nfs_laws.specs.fs_model.Files.{File, Files, file_at, is_directory, IsDirectory, places, parent_of}
+use Rattle.nfs_laws.specs.fs_model.Files.{File, Files, file_at, is_directory, IsDirectory, directory_entries}
+use Rattle.nfs_laws.specs.fs_model.Files.{parent_of}
 use Rattle.nfs_laws.specs.fs_model.Trees.{IsTime}
-use Rattle.nfs_laws.proofs.fs_model.Walks.{none_some, some_same, one_number, same_place}
+use Rattle.nfs_laws.proofs.fs_model.Walks.{none_some, some_same, one_number, same_entry}
 use Rattle.nfs_laws.specs.fs_model.Changes.Edits.{with_name, without_name}
 use Rattle.nfs_laws.proofs.fs_model.OfChanges.Listings.{one, one_same, one_other}
 use Rattle.nfs_laws.proofs.fs_model.OfChanges.Shapes.{kind, AllFiles, IsSameShape, IsNamed, IsUnnamed}
@@ -24,7 +25,7 @@ use Rattle.nfs_counts.proofs.OfLinks.LinkCounts.{more_links, named_more, unnamed
 use Rattle.nfs_counts.specs.Counted.{IsKept}
 use Rattle.nfs_counts.specs.CountChanges.{MayMove, CountsCleared, CountsMoved}
 use Rattle.nfs_counts.proofs.Kept.{counted_by, parent_stays, superuser, may_edit, says_words}
-use Rattle.nfs_counts.proofs.OfMoves.Clearing.{IsCleared, place_there, unlists, cleared}
+use Rattle.nfs_counts.proofs.OfMoves.Clearing.{IsCleared, entry_there, unlists, cleared}
 
 zero_in : (b : Bool) (n : ℕ) → n ≡ 0 → ◌≡◌ {A = ℕ} (cond b n 0) 0
 zero_in true n e = e
@@ -39,7 +40,7 @@ module _ (now : Timeval) (time : IsTime now) (word : now.seconds < 2 ^ 32) (fs :
   abbrev after : Files
   after = move_entry now fs number from from_name to to_name target
 
-  abbrev found : (n c : ℕ) → places fs to to_name ≡ Some (n, c) → target ≡ Some n
+  abbrev found : (n c : ℕ) → directory_entries fs to to_name ≡ Some (n, c) → target ≡ Some n
   found n c h = may.is_target ∙ ap (option_map (λ (e : ℕ × ℕ). e.0)) h
 
   -- a rename that is granted
@@ -54,7 +55,8 @@ module _ (now : Timeval) (time : IsTime now) (word : now.seconds < 2 ^ 32) (fs :
 
   abbrev ok : RenameOk fs superuser now from from_name to to_name after
   ok = record {
-    source = may_edit fs from from_name (kept.tree.tree.lists from from_name number cookie may.is_named) (kept.tree.names from from_name (ap is_some may.is_named)).0;
+    source = may_edit fs from from_name (kept.tree.tree.lists from from_name number cookie may.is_named)
+        (kept.tree.names from from_name (ap is_some may.is_named)).0;
     target = may_edit fs to to_name may.directory may.named;
     number = number;
     cookie = cookie;
@@ -65,7 +67,8 @@ module _ (now : Timeval) (time : IsTime now) (word : now.seconds < 2 ^ 32) (fs :
   }
 
   follows : Follows fs after
-  follows = renames_follows now time fs kept.tree superuser from from_name to to_name after ok moves may.bounded
+  follows = renames_follows now time fs kept.tree superuser from from_name to to_name after ok moves
+      may.bounded
 
   abbrev directory : Bool
   directory = is_directory f.body
@@ -75,20 +78,23 @@ module _ (now : Timeval) (time : IsTime now) (word : now.seconds < 2 ^ 32) (fs :
 
   clear : IsCleared fs cleared_files to to_name target links₁ entries' blocks'
   unfolding cleared_files
-  clear = cleared now time fs links links₁ above entries blocks entries' blocks' kept number from from_name to to_name f cookie target may clears
+  clear = cleared now time fs links links₁ above entries blocks entries' blocks' kept number from from_name to
+      to_name f cookie target may clears
 
   -- what has an entry is not the target
-  lists_on : (n : ℕ) (y : List ℕ) (e : ℕ × ℕ) → places fs n y ≡ Some e → target ≢ Some n
+  lists_on : (n : ℕ) (y : List ℕ) (e : ℕ × ℕ) → directory_entries fs n y ≡ Some e → target ≢ Some n
   lists_on n y e h at = none_some
-      (sym (unlists now time fs links links₁ above entries blocks entries' blocks' kept number from from_name to to_name f cookie target may clears n at y) ∙ h)
+      (sym (unlists now time fs links links₁ above entries blocks entries' blocks' kept number from from_name
+      to to_name f cookie target may clears n at y) ∙ h)
 
   to_stays : target ≢ Some to
-  to_stays at = let p = place_there (places fs to to_name) to (sym may.is_target ∙ at) in lists_on to to_name (to, p.0) p.1 at
+  to_stays at = let p = entry_there (directory_entries fs to to_name) to (sym may.is_target ∙ at) in
+      lists_on to to_name (to, p.0) p.1 at
 
   apart : (from ≡ to) × (from_name ≡ to_name) → ⊥
-  apart e = may.other (found number cookie (sym (λ i. places fs (e.0 i) (e.1 i)) ∙ may.is_named))
+  apart e = may.other (found number cookie (sym (λ i. directory_entries fs (e.0 i) (e.1 i)) ∙ may.is_named))
 
-  source : places cleared_files from from_name ≡ Some (number, cookie)
+  source : directory_entries cleared_files from from_name ≡ Some (number, cookie)
   source = clear.rest from from_name apart ∙ may.is_named
 
   from_kind : kind cleared_files from ≡ Some true
@@ -106,7 +112,8 @@ module _ (now : Timeval) (time : IsTime now) (word : now.seconds < 2 ^ 32) (fs :
 
   unnamed : IsUnnamed cleared_files taken from from_name
   unfolding taken
-  unnamed = unnamed_shape cleared_files from from_name from_file.0 from_file.1 from_file.2 (distinct_names cleared_files from from_file.0 clear.files from_file.1)
+  unnamed = unnamed_shape cleared_files from from_name from_file.0 from_file.1 from_file.2
+      (distinct_names cleared_files from from_file.0 clear.files from_file.1)
 
   less : HasEntryMore taken cleared_files from number directory
   unfolding taken
@@ -120,7 +127,7 @@ module _ (now : Timeval) (time : IsTime now) (word : now.seconds < 2 ^ 32) (fs :
   to_file : (g : File) × (file_at taken to ≡ Some g) × (is_directory g.body ≡ true)
   to_file = dir_file taken to (unnamed.kinds to ∙ clear.kinds to to_stays ∙ may.directory)
 
-  free : places taken to to_name ≡ None
+  free : directory_entries taken to to_name ≡ None
   free = unnamed.change.rest to to_name (λ e. apart (sym e.0, sym e.1)) ∙ clear.free
 
   put : Files
@@ -128,7 +135,11 @@ module _ (now : Timeval) (time : IsTime now) (word : now.seconds < 2 ^ 32) (fs :
 
   named : (g : ℕ) × IsNamed taken put to to_name number g
   unfolding put
-  named = (_, named_shape taken to to_name to_file.0 to_file.1 to_file.2 (distinct_names taken to to_file.0 taken_files to_file.1) number)
+  named = (
+    _,
+    named_shape taken to to_name to_file.0 to_file.1 to_file.2
+        (distinct_names taken to to_file.0 taken_files to_file.1) number,
+  )
 
   more : HasEntryMore taken put to number directory
   unfolding put
@@ -160,18 +171,23 @@ module _ (now : Timeval) (time : IsTime now) (word : now.seconds < 2 ^ 32) (fs :
   kinds : (n : ℕ) → kind after n ≡ kind cleared_files n
   kinds n = stamps.kinds n ∙ more.kinds n ∙ unnamed.kinds n
 
-  there : places after to to_name ≡ Some (number, named.0)
-  there = stamps.places to to_name ∙ named.1.change.here
+  there : directory_entries after to to_name ≡ Some (number, named.0)
+  there = stamps.directory_entries to to_name ∙ named.1.change.here
 
-  before : (n d c : ℕ) (y : List ℕ) → n ≢ number → places after d y ≡ Some (n, c) → places fs d y ≡ Some (n, c)
+  before : (n d c : ℕ) (y : List ℕ) → n ≢ number → directory_entries after d y ≡ Some (n, c)
+      → directory_entries fs d y ≡ Some (n, c)
   before n d c y not h = ⊎_elim
-      (λ e. absurd (not (one_number n c number named.0 (sym h ∙ (λ i. places after (e.0 i) (e.1 i)) ∙ there))))
+      (λ e. absurd (not (one_number n c number named.0
+      (sym h ∙ (λ i. directory_entries after (e.0 i) (e.1 i)) ∙ there))))
       (λ not_to. ⊎_elim
-      (λ e. absurd (none_some (sym (named.1.change.rest d y not_to ∙ (λ i. places taken (e.0 i) (e.1 i)) ∙ unnamed.change.here) ∙ sym (stamps.places d y) ∙ h)))
+      (λ e. absurd (none_some (sym (named.1.change.rest d y not_to
+      ∙ (λ i. directory_entries taken (e.0 i) (e.1 i)) ∙ unnamed.change.here)
+      ∙ sym (stamps.directory_entries d y) ∙ h)))
       (λ not_from.
-      sym (stamps.places d y ∙ named.1.change.rest d y not_to ∙ unnamed.change.rest d y not_from ∙ clear.rest d y not_to) ∙ h)
-      (same_place d from y from_name))
-      (same_place d to y to_name)
+      sym (stamps.directory_entries d y ∙ named.1.change.rest d y not_to ∙ unnamed.change.rest d y not_from
+      ∙ clear.rest d y not_to) ∙ h)
+      (same_entry d from y from_name))
+      (same_entry d to y to_name)
 
   counts : (n : ℕ) → link_count after n + one n (cond directory from number)
       ≡ link_count cleared_files n + one n (cond directory to number)
@@ -187,7 +203,8 @@ module _ (now : Timeval) (time : IsTime now) (word : now.seconds < 2 ^ 32) (fs :
         (λ e.
         let own = ap links₂ e in
         let was = ap links₁ e in
-        let here : cond directory (one n from) 0 ≡ cond directory 1 0 = ap (λ m. cond directory m 0) (one_same n from e) in
+        let here : cond directory (one n from) 0 ≡ cond directory 1 0 =
+        ap (λ m. cond directory m 0) (one_same n from e) in
         omega (arith, own, was, here, moved.leaves))
         (λ ne. omega (arith, moved.others_left n ne, zero_in directory (one n from) (one_other n from ne)))
         (cases_eq n from)
@@ -197,7 +214,8 @@ module _ (now : Timeval) (time : IsTime now) (word : now.seconds < 2 ^ 32) (fs :
         (λ e.
         let own = ap links' e in
         let was = ap links₂ e in
-        let here : cond directory (one n to) 0 ≡ cond directory 1 0 = ap (λ m. cond directory m 0) (one_same n to e) in
+        let here : cond directory (one n to) 0 ≡ cond directory 1 0 =
+        ap (λ m. cond directory m 0) (one_same n to e) in
         omega (arith, own, was, here, moved.reaches))
         (λ ne. omega (arith, moved.others_reached n ne, zero_in directory (one n to) (one_other n to ne)))
         (cases_eq n to)
@@ -209,7 +227,8 @@ module _ (now : Timeval) (time : IsTime now) (word : now.seconds < 2 ^ 32) (fs :
         was = clear.links n (sym (ap is_some (kinds n)) ∙ is)
 
         by : (b : Bool)
-            → link_count after n + one n (cond b from number) ≡ link_count cleared_files n + one n (cond b to number)
+            → link_count after n + one n (cond b from number)
+            ≡ link_count cleared_files n + one n (cond b to number)
             → links₂ n + cond b (one n from) 0 ≡ links₁ n → links' n ≡ links₂ n + cond b (one n to) 0
             → links' n ≡ link_count after n
         by true c l r = omega (arith, c, l, r, was)
@@ -238,7 +257,8 @@ module _ (now : Timeval) (time : IsTime now) (word : now.seconds < 2 ^ 32) (fs :
       room = follows.room kept.room;
       words = record {
         fsid = kept.words.fsid;
-        files = moved_words now superuser (says_words now word) fs kept.words.files number from from_name to to_name target;
+        files = moved_words now superuser
+            (says_words now word) fs kept.words.files number from from_name to to_name target;
       };
       counted = counted_by after links' above' links_after above_after;
       entries = omega (arith, clear.entries, less.entries, more.entries, alike.entries);

@@ -49,29 +49,41 @@ module _ (w : Files) (who : Caller) (now : Timeval) (tree : IsFileTree w) where
   DidAfter call answer w' = refusal_in answer ≡ None → Did w who now call w'
 
   set_at : (n : ℕ) (a : GivenFields) (w' : Files) → SetOk w who now n a w' → IsSetAt now w w' n a
-  set_at n a w' o = record { attributes = set_becomes w who now n a w' o; bytes = λ size given. set_bytes w who now n size a given w' o }
+  set_at n a w' o =
+      record {
+        attributes = set_becomes w who now n a w' o;
+        bytes =
+            λ size given. set_bytes w who now n size a given w' o;
+      }
 
-  written_at : (n offset : ℕ) (new : List ℕ) (w' : Files) → WriteOk w who now n offset new w' → IsWrittenAt now w w' n offset new
+  written_at : (n offset : ℕ) (new : List ℕ) (w' : Files) → WriteOk w who now n offset new w'
+      → IsWrittenAt now w w' n offset new
   written_at n offset new w' o = record {
     rest = λ some. wrote_becomes w who now n offset new some w' o;
     bytes = λ some. wrote_bytes w who now n offset new some w' o;
-    none = λ e. o.effect ∙ ap (λ bytes. if length bytes == 0 then w else with_changed_file w n (with_bytes_written now offset new o.old)) e;
+    none = λ e. o.effect ∙ ap (λ bytes. if length bytes == 0 then w else with_changed_file w n
+        (with_bytes_written now offset new o.old)) e;
   }
 
-  new_at : (dir : ℕ) (name : List ℕ) (f : File) (number : ℕ) (w' : Files) → MakeOk w who now dir name f number w' → Makes now w w' dir name w.next f
-  new_at dir name f number w' o = subst (λ k. Makes now w w' dir name k f) o.is_next (made_makes w who now tree dir name f number w' o)
+  new_at : (dir : ℕ) (name : List ℕ) (f : File) (number : ℕ) (w' : Files)
+      → MakeOk w who now dir name f number w' → Makes now w w' dir name w.next f
+  new_at dir name f number w' o =
+      subst (λ k. Makes now w w' dir name k f) o.is_next (made_makes w who now tree dir name f number w' o)
 
-  created_at : (dir : ℕ) (name : List ℕ) (a : GivenFields) (number : ℕ) (w' : Files) → CreateOk w who now dir name a number w' → IsCreatedAt who now w w' dir name a
+  created_at : (dir : ℕ) (name : List ℕ) (a : GivenFields) (number : ℕ) (w' : Files)
+      → CreateOk w who now dir name a number w' → IsCreatedAt who now w w' dir name a
   created_at dir name a number w' o = record {
     over = λ n c at. set_at n a w' (o.over n c at).set;
     fresh = λ free. new_at dir name _ number w' (o.fresh free).make;
   }
 
-  moved_at : (from : ℕ) (from_name : List ℕ) (to : ℕ) (to_name : List ℕ) (w' : Files) → RenameOk w who now from from_name to to_name w' → IsMovedAt now w w' from from_name to to_name
+  moved_at : (from : ℕ) (from_name : List ℕ) (to : ℕ) (to_name : List ℕ) (w' : Files)
+      → RenameOk w who now from from_name to to_name w' → IsMovedAt now w w' from from_name to to_name
   moved_at from from_name to to_name w' o = record {
     same = λ one. ⊎_elim
         (λ r. r.1)
-        (λ m. absurd (m.other one.2 (one.4 ∙ ap (λ k. Some (k, one.2)) (ap (λ (e : ℕ × ℕ). e.0) (some_same (sym one.3 ∙ o.is_named))))))
+        (λ m. absurd (m.other one.2 (one.4 ∙ ap (λ k. Some (k, one.2))
+        (ap (λ (e : ℕ × ℕ). e.0) (some_same (sym one.3 ∙ o.is_named))))))
         o.outcome;
     moves = λ other. ⊎_elim
         (λ r. absurd (other r.0))
@@ -86,14 +98,17 @@ module _ (w : Files) (who : Caller) (now : Timeval) (tree : IsFileTree w) where
     refused = λ call answer stat says not. absurd (none_some (sym not ∙ says));
     set_attributes = λ file s _ after o _ not. set_at (number_for w file) (given_fields now s) after o;
     write = λ file offset new _ after o _ not. written_at (number_for w file) offset new after o;
-    create = λ dir name s number _ after o _ not. created_at (number_for w dir) name (given_fields now s) number after o;
+    create = λ dir name s number _ after o _ not. created_at (number_for w dir) name
+        (given_fields now s) number after o;
     make_dir = λ dir name s number _ after o _ not. new_at (number_for w dir) name _ number after o;
     symlink = λ dir name target s number after o not. new_at (number_for w dir) name _ number after o;
-    link = λ from dir name after o not. linked_links w who now (number_for w from) (number_for w dir) name after o;
+    link = λ from dir name after o not. linked_links w who now (number_for w from)
+        (number_for w dir) name after o;
     remove = λ dir name after o not. removed_unnames w who now tree false (number_for w dir) name after o;
     remove_dir = λ dir name after o not. record {
       unnamed = removed_unnames w who now tree true (number_for w dir) name after o;
       gone = λ n c at. directory_gone w who now tree (number_for w dir) name n c at after o;
     };
-    rename = λ from from_name to to_name after o not. moved_at (number_for w from) from_name (number_for w to) to_name after o;
+    rename = λ from from_name to to_name after o not. moved_at (number_for w from) from_name
+        (number_for w to) to_name after o;
   })

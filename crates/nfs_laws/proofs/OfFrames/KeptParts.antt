@@ -22,17 +22,33 @@ use Rattle.nfs_laws.proofs.OfFrames.BeforeAndAfter.{Step, steps}
 -- ---- nothing stays nothing
 
 -- a number without a file gets none but as the next one
-pub absent : (w : Files) (who : Caller) (now : Timeval) (call : Call) (n : ℕ) → n ≢ w.next → file_at w n ≡ None → file_at (call_does w who now call).1 n ≡ None
+pub absent : (w : Files) (who : Caller) (now : Timeval) (call : Call) (n : ℕ) → n ≢ w.next
+    → file_at w n ≡ None → file_at (call_does w who now call).1 n ≡ None
 absent w who now call n ne none =
     subst (λ (o : Option File). Step (λ f g. Unit {0}) o (file_at (call_does w who now call).1 n)) none
-    (steps (λ f g. Unit {0}) now (record { same = λ f. tt; joins = λ f g h a b. tt; marks = λ f. tt; touches = λ f. tt; relists = λ change f. tt }) n w who (λ call. Unit {0}) ne
-    (record { sets = λ file s a e f. tt; creates = λ dir name s a k c is e f. tt; writes = λ file offset new a e before f is. tt }) call tt)
+    (steps (λ f g. Unit {0}) now
+    (record {
+      same = λ f. tt;
+      joins = λ f g h a b. tt;
+      marks = λ f. tt;
+      touches = λ f. tt;
+      relists =
+          λ change f. tt;
+    }) n w who (λ call. Unit {0}) ne
+    (record {
+      sets = λ file s a e f. tt;
+      creates = λ dir name s a k c is e f. tt;
+      writes =
+          λ file offset new a e before f is. tt;
+    }) call tt)
 
 -- what stands between two files that are there
-between : (R : File → File → Type 0) (a b : Option File) → Step R a b → (f g : File) → a ≡ Some f → b ≡ Some g → R f g
+between : (R : File → File → Type 0) (a b : Option File) → Step R a b → (f g : File) → a ≡ Some f → b ≡ Some g
+    → R f g
 between R None b h f g is is' = absurd (none_some is)
 between R (Some f') None h f g is is' = absurd (none_some is')
-between R (Some f') (Some g') h f g is is' = subst (λ (v : File). R v g) (some_same is) (subst (λ (v : File). R f' v) (some_same is') h)
+between R (Some f') (Some g') h f g is is' =
+    subst (λ (v : File). R v g) (some_same is) (subst (λ (v : File). R f' v) (some_same is') h)
   where
     some_same : {a b : File} → Some a ≡ Some b → a ≡ b
     some_same h = cc
@@ -66,7 +82,8 @@ kind_resized (Some size) (Directory l) = (l, refl)
 
 module _ (w : Files) (who : Caller) (now : Timeval) (tree : IsFileTree w) where
   -- kinds, and targets of links
-  pub kinds : (call : Call) (n : ℕ) → KeepsAt (λ old new. KeepsKind old.body new.body) w (call_does w who now call).1 n
+  pub kinds : (call : Call) (n : ℕ)
+      → KeepsAt (λ old new. KeepsKind old.body new.body) w (call_does w who now call).1 n
   kinds call n old new is is' =
       let R : File → File → Type 0 = λ f g. KeepsKind f.body g.body in
       between R (file_at w n) (file_at (call_does w who now call).1 n)
@@ -79,7 +96,8 @@ module _ (w : Files) (who : Caller) (now : Timeval) (tree : IsFileTree w) where
       }) n w who (λ call. Unit {0}) (old_number w tree n old is) (record {
         sets = λ file s a e f. kind_resized (given_fields now s).size f.body;
         creates = λ dir name s a k c at e f. kind_resized (given_fields now s).size f.body;
-        writes = λ file offset new a e before f regular. subst (λ b. KeepsKind b (Regular (with_bytes_at offset new before))) (sym regular) (_, refl);
+        writes = λ file offset new a e before f regular. subst
+            (λ b. KeepsKind b (Regular (with_bytes_at offset new before))) (sym regular) (_, refl);
       })
       call tt) old new is is'
 
@@ -89,19 +107,32 @@ module _ (w : Files) (who : Caller) (now : Timeval) (tree : IsFileTree w) where
   attributes_same f = record { mode = refl; uid = refl; gid = refl; atime = refl }
 
   -- mode, owner, group and atime
-  pub attributes : (call : Call) (n : ℕ) → IsNoneOf n (files_set_by w call) → KeepsAt KeepsAttributes w (call_does w who now call).1 n
+  pub attributes : (call : Call) (n : ℕ) → IsNoneOf n (files_set_by w call)
+      → KeepsAt KeepsAttributes w (call_does w who now call).1 n
   attributes call n ns old new is is' =
       between KeepsAttributes (file_at w n) (file_at (call_does w who now call).1 n)
       (steps KeepsAttributes now (record {
         same = attributes_same;
-        joins = λ f g h a b. record { mode = b.mode ∙ a.mode; uid = b.uid ∙ a.uid; gid = b.gid ∙ a.gid; atime = b.atime ∙ a.atime };
+        joins = λ f g h a b. record {
+          mode = b.mode ∙ a.mode;
+          uid = b.uid ∙ a.uid;
+          gid =
+              b.gid ∙ a.gid;
+          atime = b.atime ∙ a.atime;
+        };
         marks = λ f. record { mode = refl; uid = refl; gid = refl; atime = refl };
         touches = λ f. record { mode = refl; uid = refl; gid = refl; atime = refl };
         relists = λ change f. record { mode = refl; uid = refl; gid = refl; atime = refl };
       }) n w who (λ call. IsNoneOf n (files_set_by w call)) (old_number w tree n old is) (record {
         sets = λ file s a e f. absurd (a.0 e);
         creates = λ dir name s a k c at e f. absurd (at_name w who now (number_for w dir) name k c n at a e);
-        writes = λ file offset new a e before f regular. record { mode = refl; uid = refl; gid = refl; atime = refl };
+        writes = λ file offset new a e before f regular. record {
+          mode = refl;
+          uid = refl;
+          gid = refl;
+          atime =
+              refl;
+        };
       })
       call ns) old new is is'
 
@@ -111,7 +142,8 @@ module _ (w : Files) (who : Caller) (now : Timeval) (tree : IsFileTree w) where
   bytes_relisted change b bytes is = ap (map_body_listing change) is
 
   -- bytes of regular files
-  pub bytes : (call : Call) (n : ℕ) → IsNoneOf n (files_written_by w call) → KeepsAt (λ old new. KeepsBytes old.body new.body) w (call_does w who now call).1 n
+  pub bytes : (call : Call) (n : ℕ) → IsNoneOf n (files_written_by w call)
+      → KeepsAt (λ old new. KeepsBytes old.body new.body) w (call_does w who now call).1 n
   bytes call n ns old new is is' =
       let R : File → File → Type 0 = λ f g. KeepsBytes f.body g.body in
       between R (file_at w n) (file_at (call_does w who now call).1 n)

@@ -36,7 +36,8 @@ use Rattle.nfs_laws.proofs.OfSizes.Values.{outcome_fits, AreSpelled, attributes_
 -- ---- values
 
 at_fits : (w : Files) → AreSpelled w → (n : ℕ) (a : Fattr) → AttributesOk w n a → Fits fattr (fattr_value a)
-at_fits w h n a o = subst (λ (a : Fattr). Fits fattr (fattr_value a)) (sym o.answer) (attributes_fit w h n o.file o.there)
+at_fits w h n a o =
+    subst (λ (a : Fattr). Fits fattr (fattr_value a)) (sym o.answer) (attributes_fit w h n o.file o.there)
 
 handle_fits : (fsid n : ℕ) → length (handle_of fsid n) ≡ 32
 unfolding handle_of
@@ -75,7 +76,10 @@ of_status r = record { fits = outcome_fits empty (λ x. x) r (λ x h. tt); cooki
 entries_fit : (es : List PageEntry) → AllByRecursion EntryFits es
     → AllByRecursion (Fits entry) (map entry_value es)
 entries_fit [] a = tt
-entries_fit (e ∷ es) a = ((a.0.fileid, ((omega (arith, a.0.name), a.0.name), length-bytes_high_first 4 e.cookie)), entries_fit es a.1)
+entries_fit (e ∷ es) a = (
+  (a.0.fileid, ((omega (arith, a.0.name), a.0.name), length-bytes_high_first 4 e.cookie)),
+  entries_fit es a.1,
+)
 
 cookies_fit : (es : List PageEntry) → AllByRecursion EntryFits es
     → AllByRecursion (λ c. c < 2 ^ 32) (map (λ e. e.cookie) es)
@@ -84,8 +88,19 @@ cookies_fit (e ∷ es) a = (a.0.cookie, cookies_fit es a.1)
 
 of_entries : (r : Result Page Stat) → ((p : Page) → r ≡ Ok p → AllByRecursion EntryFits p.entries)
     → IsSpelled (calls.Entries r)
-of_entries (Ok p) fits = record { fits = outcome_fits (pair (linked entry) flag) page_value (Ok p) (λ q h. (entries_fit q.entries (fits q h), tt)); cookies = cookies_fit p.entries (fits p refl) }
-of_entries (Err e) fits = record { fits = outcome_fits (pair (linked entry) flag) page_value (Err e) (λ q h. (entries_fit q.entries (fits q h), tt)); cookies = tt }
+of_entries (Ok p) fits =
+    record {
+      fits =
+          outcome_fits (pair (linked entry) flag) page_value (Ok p) (λ q h. (entries_fit q.entries (fits q h), tt));
+      cookies = cookies_fit p.entries (fits p refl);
+    }
+of_entries (Err e) fits =
+    record {
+      fits =
+          outcome_fits (pair (linked entry) flag) page_value (Err e)
+          (λ q h. (entries_fit q.entries (fits q h), tt));
+      cookies = tt;
+    }
 
 -- ---- calls that change files
 
@@ -102,41 +117,59 @@ refusal_spelled calls.Nothing stat h = absurd (none_some h)
 refusal_spelled (calls.Attributes r) stat h = of_attributes r (λ a is. absurd (granted r a stat is h))
 refusal_spelled (calls.DirOp r) stat h = of_dir_op r (λ x is. absurd (granted r x stat is h))
 refusal_spelled (calls.Target r) stat h =
-    record { fits = outcome_fits path (λ target. target) r (λ t is. absurd (granted r t stat is h)); cookies = tt }
+    record {
+      fits = outcome_fits path (λ target. target) r (λ t is. absurd (granted r t stat is h));
+      cookies =
+          tt;
+    }
 refusal_spelled (calls.Bytes r) stat h =
-    record { fits = outcome_fits (pair fattr (opaque 8192)) data_value r (λ x is. absurd (granted r x stat is h)); cookies = tt }
+    record {
+      fits =
+          outcome_fits (pair fattr (opaque 8192)) data_value r (λ x is. absurd (granted r x stat is h));
+      cookies = tt;
+    }
 refusal_spelled (calls.Status r) stat h = of_status r
 refusal_spelled (calls.Entries r) stat h = of_entries r (λ p is. absurd (granted r p stat is h))
 refusal_spelled (calls.Free r) stat h =
-    record { fits = outcome_fits (pair word (pair word (pair word (pair word word)))) fs_stats_value r (λ x is. absurd (granted r x stat is h)); cookies = tt }
+    record {
+      fits =
+          outcome_fits (pair word (pair word (pair word (pair word word)))) fs_stats_value r
+          (λ x is. absurd (granted r x stat is h));
+      cookies = tt;
+    }
 
 -- the attributes of a number have a spelling
 attributes_spelled : (w : Files) → AreSpelled w → (n : ℕ) (a : Fattr) → AttributesOk w n a
     → IsSpelled (calls.Attributes (Ok a))
-attributes_spelled w h n a o = of_attributes (Ok a) (λ b is. subst (λ (b : Fattr). Fits fattr (fattr_value b)) (ok_same is) (at_fits w h n a o))
+attributes_spelled w h n a o =
+    of_attributes (Ok a) (λ b is. subst (λ (b : Fattr). Fits fattr (fattr_value b)) (ok_same is)
+    (at_fits w h n a o))
 
 -- so have a number's handle and attributes
 handle_spelled : (w : Files) → AreSpelled w → (n : ℕ) (a : Fattr) → AttributesOk w n a
     → IsSpelled (calls.DirOp (Ok (handle_of w.fsid n, a)))
 handle_spelled w h n a o = of_dir_op (Ok (handle_of w.fsid n, a)) (λ x is.
-    subst (λ (x : List ℕ × Fattr). Fits (pair fhandle fattr) (pair_value x)) (ok_same is) (handle_fits w.fsid n, at_fits w h n a o))
+    subst (λ (x : List ℕ × Fattr). Fits (pair fhandle fattr) (pair_value x)) (ok_same is)
+    (handle_fits w.fsid n, at_fits w h n a o))
 
 -- a call that changes files is answered what has a spelling
 of_change : (w : Files) (who : Caller) (now : Timeval) (call : Call) → only_reads call ≡ false
     → AreSpelled (call_does w who now call).1 → IsSpelled (call_does w who now call).0
-of_change w who now = each_call w who now (λ call answer after. only_reads call ≡ false → AreSpelled after → IsSpelled answer) (record {
-  reads = λ call answer only not h. absurd (both only not);
-  refused = λ call answer stat is not h. refusal_spelled answer stat is;
-  set_attributes = λ file s a after o at not h. attributes_spelled after h (number_for w file) a at;
-  write = λ file offset new a after o at not h. attributes_spelled after h (number_for w file) a at;
-  create = λ dir name s number a after o at not h. handle_spelled after h number a at;
-  make_dir = λ dir name s number a after o at not h. handle_spelled after h number a at;
-  symlink = λ dir name target s number after o not h. of_status (Ok tt);
-  link = λ from dir name after o not h. of_status (Ok tt);
-  remove = λ dir name after o not h. of_status (Ok tt);
-  remove_dir = λ dir name after o not h. of_status (Ok tt);
-  rename = λ from from_name to to_name after o not h. of_status (Ok tt);
-})
+of_change w who now =
+    each_call w who now (λ call answer after. only_reads call ≡ false → AreSpelled after → IsSpelled answer)
+    (record {
+      reads = λ call answer only not h. absurd (both only not);
+      refused = λ call answer stat is not h. refusal_spelled answer stat is;
+      set_attributes = λ file s a after o at not h. attributes_spelled after h (number_for w file) a at;
+      write = λ file offset new a after o at not h. attributes_spelled after h (number_for w file) a at;
+      create = λ dir name s number a after o at not h. handle_spelled after h number a at;
+      make_dir = λ dir name s number a after o at not h. handle_spelled after h number a at;
+      symlink = λ dir name target s number after o not h. of_status (Ok tt);
+      link = λ from dir name after o not h. of_status (Ok tt);
+      remove = λ dir name after o not h. of_status (Ok tt);
+      remove_dir = λ dir name after o not h. of_status (Ok tt);
+      rename = λ from from_name to to_name after o not h. of_status (Ok tt);
+    })
   where
     both : {b : Bool} → b ≡ true → b ≡ false → ⊥
     both p q = tf (sym p ∙ q)
@@ -148,7 +181,9 @@ of_change w who now = each_call w who now (λ call answer after. only_reads call
 
 module _ (w : Files) (h : AreSpelled w) (who : Caller) where
   of_getattr : (file : List ℕ) → IsSpelled (calls.Attributes (getattr w file))
-  of_getattr file = of_attributes (getattr w file) (λ a is. let o = getattr_ok w file a is in at_fits w h o.number a o.attributes)
+  of_getattr file =
+      of_attributes (getattr w file)
+      (λ a is. let o = getattr_ok w file a is in at_fits w h o.number a o.attributes)
 
   of_lookup : (dir name : List ℕ) → IsSpelled (calls.DirOp (lookup w who dir name))
   of_lookup dir name = of_dir_op (lookup w who dir name) (λ x is.
@@ -169,8 +204,10 @@ module _ (w : Files) (h : AreSpelled w) (who : Caller) where
     fits = outcome_fits (pair fattr (opaque 8192)) data_value (read w who n offset count) (λ x is.
         let o = read_ok w who n offset count x.0 x.1 is in
         let short = ap length o.answer in
-        let long = length-take (min count 8192) (drop offset o.bytes) in
-        (at_fits w h n x.0 (record { file = o.file; there = o.there; answer = o.attributes }), (omega (arith, short, long), omega (arith, short, long))));
+        let long = length-take (min count 8192) (drop offset o.bytes) in (
+          at_fits w h n x.0 (record { file = o.file; there = o.there; answer = o.attributes }),
+          (omega (arith, short, long), omega (arith, short, long)),
+        ));
     cookies = tt;
   }
 
@@ -178,13 +215,16 @@ module _ (w : Files) (h : AreSpelled w) (who : Caller) where
   of_page n cookie count = of_entries (read_dir w who n cookie count) (λ p is.
       let o = read_dir_ok w who n cookie count p is in
       subst (λ (p : Page). AllByRecursion EntryFits p.entries) (sym o.answer)
-      (page_fits w h n o.file o.listing o.there (ap is_directory o.directory) (ap listing_in o.directory) cookie count))
+      (page_fits w h n o.file o.listing o.there (ap is_directory o.directory)
+      (ap listing_in o.directory) cookie count))
 
   of_free : (n : ℕ) → IsSpelled (calls.Free (stat_fs w n))
   of_free n = record {
-    fits = outcome_fits (pair word (pair word (pair word (pair word word)))) fs_stats_value (stat_fs w n) (λ x is.
+    fits = outcome_fits (pair word (pair word (pair word (pair word word)))) fs_stats_value (stat_fs w n)
+        (λ x is.
         let f = bind_ok (file_of w n) _ x is in
-        subst (λ (x : FsStats). Fits (pair word (pair word (pair word (pair word word)))) (fs_stats_value x)) (ok_same f.2) (omega arith, (omega arith, (omega arith, (omega arith, omega arith)))));
+        subst (λ (x : FsStats). Fits (pair word (pair word (pair word (pair word word)))) (fs_stats_value x))
+        (ok_same f.2) (omega arith, (omega arith, (omega arith, (omega arith, omega arith)))));
     cookies = tt;
   }
 
@@ -207,11 +247,15 @@ of_call w who now h calls.Writecache after = nothing
 of_call w who now h (calls.Readdir dir cookie count) after = of_page w h who (number_for w dir) cookie count
 of_call w who now h (calls.Statfs file) after = of_free w h who (number_for w file)
 of_call w who now h (calls.Setattr file s) after = of_change w who now (calls.Setattr file s) refl after
-of_call w who now h (calls.Write file offset new) after = of_change w who now (calls.Write file offset new) refl after
+of_call w who now h (calls.Write file offset new) after =
+    of_change w who now (calls.Write file offset new) refl after
 of_call w who now h (calls.Create dir name s) after = of_change w who now (calls.Create dir name s) refl after
 of_call w who now h (calls.Remove dir name) after = of_change w who now (calls.Remove dir name) refl after
-of_call w who now h (calls.Rename from from_name to to_name) after = of_change w who now (calls.Rename from from_name to to_name) refl after
-of_call w who now h (calls.Link from dir name) after = of_change w who now (calls.Link from dir name) refl after
-of_call w who now h (calls.Symlink dir name target s) after = of_change w who now (calls.Symlink dir name target s) refl after
+of_call w who now h (calls.Rename from from_name to to_name) after =
+    of_change w who now (calls.Rename from from_name to to_name) refl after
+of_call w who now h (calls.Link from dir name) after =
+    of_change w who now (calls.Link from dir name) refl after
+of_call w who now h (calls.Symlink dir name target s) after =
+    of_change w who now (calls.Symlink dir name target s) refl after
 of_call w who now h (calls.Mkdir dir name s) after = of_change w who now (calls.Mkdir dir name s) refl after
 of_call w who now h (calls.Rmdir dir name) after = of_change w who now (calls.Rmdir dir name) refl after

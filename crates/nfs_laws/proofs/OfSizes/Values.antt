@@ -17,7 +17,7 @@ use Rattle.nfs_spec.specs.nfs_items.declared.stat.Stat.{Stat}
 use Rattle.nfs_spec.specs.nfs_items.declared.stat.Stat.TheVariants as stats
 use Rattle.nfs_spec.specs.fs_model.Listing.{Listing, entry_at, IsRising, HasDistinctNames}
 use Rattle.nfs_spec.specs.fs_model.Files.{Body, Regular, Symlink, Directory, File, Files, file_at, listing_in}
-use Rattle.nfs_spec.specs.fs_model.Files.{is_directory, places, one_if, names_in, parent_of}
+use Rattle.nfs_spec.specs.fs_model.Files.{is_directory, directory_entries, one_if, names_in, parent_of}
 use Rattle.nfs_spec.specs.fs_model.Trees.{IsBody, IsFileTree}
 use Rattle.nfs_spec.proofs.fs_model.Walks.{none_some}
 use Rattle.nfs_spec.proofs.fs_model.Reached.{not_before}
@@ -63,7 +63,8 @@ outcome_fits a view (Err e) fits = stat_fits a e
 
 names_few : (n : ℕ) (es : List (List ℕ × (ℕ × ℕ))) → sum_by (one_if n) es ≤ length es
 names_few n [] = omega arith
-names_few n (e ∷ es) = let parts = sum_by-cons (one_if n) e es in omega (arith, parts, names_few n es, one_few (e.1.0 == n))
+names_few n (e ∷ es) = let parts = sum_by-cons (one_if n) e es in
+    omega (arith, parts, names_few n es, one_few (e.1.0 == n))
   where
     one_few : (b : Bool) → cond b 1 0 ≤ 1
     one_few true = omega arith
@@ -75,9 +76,25 @@ length_few w n f there = omega (arith, total_without (λ g. length (listing_in g
 
 nlink_few : (w : Files) (n : ℕ) (f : File) → file_at w n ≡ Some f → (b : Body)
     → listing_in f.body ≡ listing_in b → nlink_of w n b ≤ entry_count w + 2
-nlink_few w n f there (Regular bytes) same = omega (arith, sum_by-le-sum_by (names_in n) (λ g. length (listing_in g.body).entries) (finite.values w.files) (λ g. names_few n (listing_in g.body).entries))
-nlink_few w n f there (Symlink target) same = omega (arith, sum_by-le-sum_by (names_in n) (λ g. length (listing_in g.body).entries) (finite.values w.files) (λ g. names_few n (listing_in g.body).entries))
-nlink_few w n f there (Directory l) same = omega (arith, count_by-le-length (λ (e : List ℕ × (ℕ × ℕ)). is_directory_at w e.1.0) l.entries, length_few w n f there, ap (λ (l : Listing). length l.entries) same)
+nlink_few w n f there (Regular bytes) same =
+    omega (
+      arith,
+      sum_by-le-sum_by (names_in n) (λ g. length (listing_in g.body).entries)
+          (finite.values w.files) (λ g. names_few n (listing_in g.body).entries),
+    )
+nlink_few w n f there (Symlink target) same =
+    omega (
+      arith,
+      sum_by-le-sum_by (names_in n) (λ g. length (listing_in g.body).entries)
+          (finite.values w.files) (λ g. names_few n (listing_in g.body).entries),
+    )
+nlink_few w n f there (Directory l) same =
+    omega (
+      arith,
+      count_by-le-length (λ (e : List ℕ × (ℕ × ℕ)). is_directory_at w e.1.0) l.entries,
+      length_few w n f there,
+      ap (λ (l : Listing). length l.entries) same,
+    )
 
 bits_few : (b : Body) → type_bits b ≤ 40960
 bits_few (Regular bytes) = omega arith
@@ -114,8 +131,43 @@ attributes_fit w h n f there =
     let own = h.tree.files n f there in
     let words = h.words.files n f there in
     let size = size_few f.body own.body in
-    let blocks = div-le_self (size_of f.body + 511) 512 in
-    (type_fits f.body, (omega (arith, own.mode, bits_few f.body), (omega (arith, nlink_few w n f there f.body refl, h.room.entries), (words.uid, (words.gid, (omega (arith, size), (omega arith, (omega arith, (omega (arith, size, blocks), (h.words.fsid, (number_fits w h n (ap is_some there), ((words.atime, omega (arith, own.atime)), ((words.mtime, omega (arith, own.mtime)), (words.ctime, omega (arith, own.ctime)))))))))))))))
+    let blocks = div-le_self (size_of f.body + 511) 512 in (
+      type_fits f.body,
+      (
+        omega (arith, own.mode, bits_few f.body),
+        (
+          omega (arith, nlink_few w n f there f.body refl, h.room.entries),
+          (
+            words.uid,
+            (
+              words.gid,
+              (
+                omega (arith, size),
+                (
+                  omega arith,
+                  (
+                    omega arith,
+                    (
+                      omega (arith, size, blocks),
+                      (
+                        h.words.fsid,
+                        (
+                          number_fits w h n (ap is_some there),
+                          (
+                            (words.atime, omega (arith, own.atime)),
+                            ((words.mtime, omega (arith, own.mtime)), (words.ctime, omega (arith, own.ctime))),
+                          ),
+                        ),
+                      ),
+                    ),
+                  ),
+                ),
+              ),
+            ),
+          ),
+        ),
+      ),
+    )
 
 -- ---- entries
 
@@ -134,13 +186,16 @@ module _ (P : List ℕ → ℕ × ℕ → Type 0) where
       behind : (name : List ℕ) (v : ℕ × ℕ) → lookup (pointwise nat_eq name) es ≡ Some v → (b : Bool)
           → pointwise nat_eq name e.0 ≡ b
           → cond (pointwise nat_eq name e.0) (Some e.1) (lookup (pointwise nat_eq name) es) ≡ Some v
-      behind name v at true same = absurd (none_some (sym (not_before nat_list_eq_equiv e.0 name same es distinct.0) ∙ at))
-      behind name v at false other = ap (λ b. cond b (Some e.1) (lookup (pointwise nat_eq name) es)) other ∙ at
+      behind name v at true same =
+          absurd (none_some (sym (not_before nat_list_eq_equiv e.0 name same es distinct.0) ∙ at))
+      behind name v at false other =
+          ap (λ b. cond b (Some e.1) (lookup (pointwise nat_eq name) es)) other ∙ at
 
 low_cookies : (low : ℕ) (es : List (List ℕ × (ℕ × ℕ))) (high : ℕ) → IsRising low es high
     → AllByRecursion (λ e. e.1.1 < high) es
 low_cookies low [] high h = tt
-low_cookies low (e ∷ es) high h = (omega (arith, at_most (e.1.1 + 1) es high h.1), low_cookies (e.1.1 + 1) es high h.1)
+low_cookies low (e ∷ es) high h =
+    (omega (arith, at_most (e.1.1 + 1) es high h.1), low_cookies (e.1.1 + 1) es high h.1)
   where
     at_most : (low : ℕ) (es : List (List ℕ × (ℕ × ℕ))) (high : ℕ) → IsRising low es high → low ≤ high
     at_most low [] high h = h
@@ -155,8 +210,10 @@ pub record EntryFits (e : PageEntry) : Type 0 where
   -- its cookie is a word
   pub cookie : e.cookie < 2 ^ 32
 
-listed_fit : (es : List (List ℕ × (ℕ × ℕ))) → AllByRecursion (λ e. (e.1.0 < 2 ^ 32) × (length e.0 ≤ 255)) es → AllByRecursion (λ e. e.1.1 < 2 ^ 32) es
-    → AllByRecursion EntryFits (map (λ (e : List ℕ × (ℕ × ℕ)). record { fileid = e.1.0; name = e.0; cookie = e.1.1 }) es)
+listed_fit : (es : List (List ℕ × (ℕ × ℕ))) → AllByRecursion (λ e. (e.1.0 < 2 ^ 32) × (length e.0 ≤ 255)) es
+    → AllByRecursion (λ e. e.1.1 < 2 ^ 32) es
+    → AllByRecursion EntryFits
+    (map (λ (e : List ℕ × (ℕ × ℕ)). record { fileid = e.1.0; name = e.0; cookie = e.1.1 }) es)
 listed_fit [] a b = tt
 listed_fit (e ∷ es) a b = (record { fileid = a.0.0; name = a.0.1; cookie = b.0 }, listed_fit es a.1 b.1)
 
@@ -168,18 +225,21 @@ weaker (e ∷ es) high le a = (omega (arith, le, a.0), weaker es high le a.1)
 all_front : (P : PageEntry → Type 0) (count : ℕ) (es : List PageEntry) → AllByRecursion P es
     → AllByRecursion P (longest_front count es)
 all_front P count [] a = tt
-all_front P count (e ∷ es) a = elim (nat_le (cost e) count) as (λ b. AllByRecursion P (cond b (e ∷ longest_front (count - cost e) es) [])) [
-  | true ↦ (a.0, all_front P (count - cost e) es a.1)
-  | false ↦ tt
-]
+all_front P count (e ∷ es) a =
+    elim (nat_le (cost e) count) as (λ b. AllByRecursion P
+    (cond b (e ∷ longest_front (count - cost e) es) [])) [
+      | true ↦ (a.0, all_front P (count - cost e) es a.1)
+      | false ↦ tt
+    ]
 
 all_above : (P : PageEntry → Type 0) (test : PageEntry → Bool) (es : List PageEntry) → AllByRecursion P es
     → AllByRecursion P (filter test es)
 all_above P test [] a = tt
-all_above P test (e ∷ es) a = elim (test e) as (λ b. AllByRecursion P (cond b (e ∷ filter test es) (filter test es))) [
-  | true ↦ (a.0, all_above P test es a.1)
-  | false ↦ all_above P test es a.1
-]
+all_above P test (e ∷ es) a =
+    elim (test e) as (λ b. AllByRecursion P (cond b (e ∷ filter test es) (filter test es))) [
+      | true ↦ (a.0, all_above P test es a.1)
+      | false ↦ all_above P test es a.1
+    ]
 
 -- each entry of a page fits
 pub page_fits : (w : Files) → AreSpelled w → (dir : ℕ) (f : File) (l : Listing) → file_at w dir ≡ Some f
@@ -187,15 +247,30 @@ pub page_fits : (w : Files) → AreSpelled w → (dir : ℕ) (f : File) (l : Lis
     → AllByRecursion EntryFits (page_of cookie count (dir_entries w dir l)).entries
 unfolding AllCookies
 page_fits w h dir f l there is own cookie count =
-    all_front EntryFits (min count 8192) _ (all_above EntryFits (λ e. nat_lt cookie e.cookie) (dir_entries w dir l) (
+    all_front EntryFits (min count 8192) _
+    (all_above EntryFits (λ e. nat_lt cookie e.cookie) (dir_entries w dir l) (
       record { fileid = number_fits w h dir (ap is_some there); name = omega arith; cookie = omega arith },
       (
-        record { fileid = number_fits w h (parent_of w dir) (parent_there w h.tree dir (ap (option_map (λ f. is_directory f.body)) there ∙ ap (λ b. Some b) is)); name = omega arith; cookie = omega arith },
+        record {
+          fileid =
+              number_fits w h (parent_of w dir)
+              (parent_there w h.tree dir
+              (ap (option_map (λ f. is_directory f.body)) there ∙ ap (λ b. Some b) is));
+          name =
+              omega arith;
+          cookie = omega arith;
+        },
         listed_fit l.entries
             (all_entries (λ name v. (v.0 < 2 ^ 32) × (length name ≤ 255)) l.entries body.1 (λ name v at.
-            let place : places w dir name ≡ Some v = ap (option_and_then (λ f. entry_at (listing_in f.body) name)) there ∙ ap (λ l. entry_at l name) own ∙ at in
-            (number_fits w h v.0 (h.tree.tree.named dir name v.0 v.1 place), (h.tree.names dir name (ap is_some place)).1)))
-            (weaker l.entries l.next (let same = ap (λ (l : Listing). l.next) own in omega (arith, same, h.room.cookies dir f there)) (low_cookies 3 l.entries l.next body.0)),
+            let its_entry : directory_entries w dir name ≡ Some v =
+            ap (option_and_then (λ f. entry_at (listing_in f.body) name)) there
+            ∙ ap (λ l. entry_at l name) own ∙ at in (
+              number_fits w h v.0 (h.tree.tree.named dir name v.0 v.1 its_entry),
+              (h.tree.names dir name (ap is_some its_entry)).1,
+            )))
+            (weaker l.entries l.next
+            (let same = ap (λ (l : Listing). l.next) own in
+            omega (arith, same, h.room.cookies dir f there)) (low_cookies 3 l.entries l.next body.0)),
       ),
     ))
   where
@@ -206,4 +281,5 @@ page_fits w h dir f l there is own cookie count =
     in_body (Directory l) is h = h
 
     body : IsRising 3 l.entries l.next × HasDistinctNames l.entries
-    body = subst (λ (l : Listing). IsRising 3 l.entries l.next × HasDistinctNames l.entries) own (in_body f.body is (h.tree.files dir f there).body)
+    body = subst (λ (l : Listing). IsRising 3 l.entries l.next × HasDistinctNames l.entries) own
+        (in_body f.body is (h.tree.files dir f there).body)

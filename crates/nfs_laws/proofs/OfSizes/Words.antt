@@ -7,7 +7,8 @@ use Rattle.std.proofs.lemmas.Bool.{cases_eq}
 use Rattle.nfs_spec.specs.nfs_items.Timeval.{Timeval}
 use Rattle.nfs_spec.specs.nfs_items.Caller.{Caller}
 use Rattle.nfs_spec.specs.fs_model.Listing.{Listing}
-use Rattle.nfs_spec.specs.fs_model.Files.{Body, Regular, Symlink, Directory, File, Files, file_at, places}
+use Rattle.nfs_spec.specs.fs_model.Files.{Body, Regular, Symlink, Directory, File, Files, file_at}
+use Rattle.nfs_spec.specs.fs_model.Files.{directory_entries}
 use Rattle.nfs_spec.specs.fs_model.Files.{names_of}
 use Rattle.nfs_spec.proofs.fs_model.Walks.{none_some, some_same}
 use Rattle.nfs_spec.specs.fs_model.Changes.Edits.{with_changed_file, with_new_file, without_file, with_name}
@@ -27,6 +28,7 @@ use Rattle.nfs_laws.proofs.OfSteps.EachCall.{each_call}
 use Rattle.nfs_laws.proofs.FilesFit.{unwrapped}
 use Rattle.nfs_laws.specs.Sizes.Bounds.{HasWords, AsksWords, SaysWords, HasWordsIn}
 
+-- the attributes of each file are words
 abbrev pub AllWords : Files → Type 0
 AllWords w = (n : ℕ) (f : File) → file_at w n ≡ Some f → HasWords f
 
@@ -56,7 +58,8 @@ new w f own all n g h = ⊎_elim
     (cases_eq n w.next)
 
 listed : (change : Listing → Listing) (f : File) → HasWords f → HasWords (map_listing change f)
-listed change f own = record { uid = own.uid; gid = own.gid; atime = own.atime; mtime = own.mtime; ctime = own.ctime }
+listed change f own =
+    record { uid = own.uid; gid = own.gid; atime = own.atime; mtime = own.mtime; ctime = own.ctime }
 
 -- ---- what is asked
 
@@ -83,12 +86,21 @@ asked : (now : Timeval) (s : Sattr) → now.seconds < 2 ^ 32 → AsksWords s →
 asked now s lt h = record {
   uid = λ n e. word_asked (s.uid == 4294967295) s.uid n h.uid e;
   gid = λ n e. word_asked (s.gid == 4294967295) s.gid n h.gid e;
-  atime = λ t e. time_asked (s.atime.seconds == 4294967295) (nat_lt 999999 s.atime.microseconds) now s.atime t lt h.atime e;
-  mtime = λ t e. time_asked (s.mtime.seconds == 4294967295) (nat_lt 999999 s.mtime.microseconds) now s.mtime t lt h.mtime e;
+  atime = λ t e. time_asked (s.atime.seconds == 4294967295)
+      (nat_lt 999999 s.atime.microseconds) now s.atime t lt h.atime e;
+  mtime = λ t e. time_asked (s.mtime.seconds == 4294967295)
+      (nat_lt 999999 s.mtime.microseconds) now s.mtime t lt h.mtime e;
 }
 
 none_wanted : WantsWords no_fields
-none_wanted = record { uid = λ n h. absurd (none_asked h); gid = λ n h. absurd (none_asked h); atime = λ t h. absurd (none_asked h); mtime = λ t h. absurd (none_asked h) }
+none_wanted =
+    record {
+      uid = λ n h. absurd (none_asked h);
+      gid = λ n h. absurd (none_asked h);
+      atime =
+          λ t h. absurd (none_asked h);
+      mtime = λ t h. absurd (none_asked h);
+    }
 
 either : (P : Timeval → Type 0) (b : Bool) (t u : Timeval) → P t → P u → P (cond b t u)
 either P true t u p q = p
@@ -108,7 +120,8 @@ module _ (now : Timeval) (who : Caller) (says : SaysWords who now) where
     uid = unwrapped (λ n. n < 2 ^ 32) a.uid f.uid wants.uid own.uid;
     gid = unwrapped (λ n. n < 2 ^ 32) a.gid f.gid wants.gid own.gid;
     atime = unwrapped IsWord a.atime f.atime wants.atime own.atime;
-    mtime = unwrapped IsWord a.mtime _ wants.mtime (either IsWord (is_some a.size) now f.mtime says.seconds own.mtime);
+    mtime = unwrapped IsWord a.mtime _ wants.mtime
+        (either IsWord (is_some a.size) now f.mtime says.seconds own.mtime);
     ctime = either IsWord (gives_any a) now f.ctime says.seconds own.ctime;
   }
 
@@ -116,18 +129,22 @@ module _ (now : Timeval) (who : Caller) (says : SaysWords who now) where
       → HasWords (new_file who now a mode body)
   unfolding IsWord
   new_words a wants mode body = record {
-    uid = one_of (who.uid == 0) _ who.uid (unwrapped (λ n. n < 2 ^ 32) a.uid who.uid wants.uid says.uid) says.uid;
-    gid = one_of (who.uid == 0) _ who.gid (unwrapped (λ n. n < 2 ^ 32) a.gid who.gid wants.gid says.gid) says.gid;
+    uid = one_of (who.uid == 0) _ who.uid
+        (unwrapped (λ n. n < 2 ^ 32) a.uid who.uid wants.uid says.uid) says.uid;
+    gid = one_of (who.uid == 0) _ who.gid
+        (unwrapped (λ n. n < 2 ^ 32) a.gid who.gid wants.gid says.gid) says.gid;
     atime = unwrapped IsWord a.atime now wants.atime says.seconds;
     mtime = unwrapped IsWord a.mtime now wants.mtime says.seconds;
     ctime = says.seconds;
   }
 
   touched_words : (f : File) → HasWords f → HasWords (with_mtime now f)
-  touched_words f own = record { uid = own.uid; gid = own.gid; atime = own.atime; mtime = says.seconds; ctime = says.seconds }
+  touched_words f own =
+      record { uid = own.uid; gid = own.gid; atime = own.atime; mtime = says.seconds; ctime = says.seconds }
 
   marked_words : (f : File) → HasWords f → HasWords (with_ctime now f)
-  marked_words f own = record { uid = own.uid; gid = own.gid; atime = own.atime; mtime = own.mtime; ctime = says.seconds }
+  marked_words f own =
+      record { uid = own.uid; gid = own.gid; atime = own.atime; mtime = own.mtime; ctime = says.seconds }
 
   -- times that are words
   pub touch_on : (w : Files) (d : ℕ) → AllWords w → AllWords (touch now w d)
@@ -155,7 +172,9 @@ module _ (now : Timeval) (who : Caller) (says : SaysWords who now) where
   -- a new file with words
   pub make_on : (w : Files) (d : ℕ) (x : List ℕ) (f : File) → HasWords f → AllWords w
       → AllWords (add_file now w d x f)
-  make_on w d x f own all = touch_on (with_name (with_new_file w f) d x w.next) d (name_on (with_new_file w f) d x w.next (new w f own all))
+  make_on w d x f own all =
+      touch_on (with_name (with_new_file w f) d x w.next) d
+      (name_on (with_new_file w f) d x w.next (new w f own all))
 
   -- an entry that moves
   pub moved_words : (w : Files) → AllWords w
@@ -167,7 +186,8 @@ module _ (now : Timeval) (who : Caller) (says : SaysWords who now) where
       let w₃ = with_name w₂ to to_name n in
       let w₄ = touch_ctime now w₃ n in
       let w₅ = touch now w₄ from in
-      touch_on w₅ to (touch_on w₄ from (mark_on w₃ n (name_on w₂ to to_name n (name_off w₁ from from_name (clear target)))))
+      touch_on w₅ to (touch_on w₄ from (mark_on w₃ n
+      (name_on w₂ to to_name n (name_off w₁ from from_name (clear target)))))
     where
       clear : (o : Option ℕ) → AllWords (unlink_target now w to to_name o)
       clear None = all
@@ -183,7 +203,8 @@ module _ (now : Timeval) (who : Caller) (says : SaysWords who now) where
   module _ (w : Files) (all : AllWords w) where
     of_set : (n : ℕ) (a : GivenFields) → WantsWords a → (after : Files) → SetOk w who now n a after
         → AllWords after
-    of_set n a wants after o = subst AllWords (sym o.effect) (changed w n (apply_fields now a) (set_words a wants) all)
+    of_set n a wants after o =
+        subst AllWords (sym o.effect) (changed w n (apply_fields now a) (set_words a wants) all)
 
     of_write : (n offset : ℕ) (new : List ℕ) (after : Files) → WriteOk w who now n offset new after
         → AllWords after
@@ -192,7 +213,8 @@ module _ (now : Timeval) (who : Caller) (says : SaysWords who now) where
         by : (none : Bool)
             → AllWords (if none then w else with_changed_file w n (with_bytes_written now offset new o.old))
         by true = all
-        by false = changed w n (with_bytes_written now offset new o.old) (rewritten_words offset new o.old) all
+        by false = changed w n (with_bytes_written now offset new o.old)
+            (rewritten_words offset new o.old) all
 
     of_make : (dir : ℕ) (name : List ℕ) (f : File) → HasWords f → (number : ℕ) (after : Files)
         → MakeOk w who now dir name f number after → AllWords after
@@ -200,23 +222,28 @@ module _ (now : Timeval) (who : Caller) (says : SaysWords who now) where
 
     of_create : (dir : ℕ) (name : List ℕ) (a : GivenFields) → WantsWords a → (number : ℕ) (after : Files)
         → CreateOk w who now dir name a number after → AllWords after
-    of_create dir name a wants number after o = by (places w dir name) refl
+    of_create dir name a wants number after o = by (directory_entries w dir name) refl
       where
-        by : (p : Option (ℕ × ℕ)) → places w dir name ≡ p → AllWords after
+        by : (p : Option (ℕ × ℕ)) → directory_entries w dir name ≡ p → AllWords after
         by None free =
-            of_make dir name (new_regular who now a) (new_words a wants 420 (Regular (replicate (unwrap_or a.size 0) 0))) number after (o.fresh free).make
+            of_make dir name (new_regular who now a)
+            (new_words a wants 420 (Regular (replicate (unwrap_or a.size 0) 0))) number after
+            (o.fresh free).make
         by (Some p) at = of_set p.0 a wants after (o.over p.0 p.1 at).set
 
     of_remove : (kind : Bool) (dir : ℕ) (name : List ℕ) (after : Files)
         → UnnameOk kind w who now dir name after → AllWords after
     of_remove kind dir name after o =
-        subst AllWords (sym o.effect) (touch_on (unlink now w dir name o.number) dir (unname w dir name o.number all))
+        subst AllWords (sym o.effect)
+        (touch_on (unlink now w dir name o.number) dir (unname w dir name o.number all))
 
     of_rename : (from : ℕ) (from_name : List ℕ) (to : ℕ) (to_name : List ℕ) (after : Files)
         → RenameOk w who now from from_name to to_name after → AllWords after
     of_rename from from_name to to_name after o = ⊎_elim
         (λ same. subst AllWords (sym same.1) all)
-        (λ m. subst AllWords (sym m.effect) (moved_words w all o.number from from_name to to_name (option_map (λ e. e.0) (places w to to_name))))
+        (λ m. subst AllWords (sym m.effect)
+        (moved_words w all o.number from from_name to to_name
+        (option_map (λ e. e.0) (directory_entries w to to_name))))
         o.outcome
 
     -- words of files stay words after every call that brings words
@@ -224,20 +251,28 @@ module _ (now : Timeval) (who : Caller) (says : SaysWords who now) where
     of_call = each_call w who now (λ call answer after. HasWordsIn call → AllWords after) (record {
       reads = λ call answer only asks. all;
       refused = λ call answer stat is asks. all;
-      set_attributes = λ file s a after o _ asks. of_set (number_for w file) (given_fields now s) (asked now s says.seconds asks) after o;
+      set_attributes =
+          λ file s a after o _ asks. of_set (number_for w file) (given_fields now s)
+          (asked now s says.seconds asks) after o;
       write = λ file offset new a after o _ asks. of_write (number_for w file) offset new after o;
       create = λ dir name s number a after o _ asks.
-          of_create (number_for w dir) name (given_fields now s) (asked now s says.seconds asks) number after o;
+          of_create (number_for w dir) name (given_fields now s)
+          (asked now s says.seconds asks) number after o;
       make_dir = λ dir name s number a after o _ asks.
           of_make (number_for w dir) name (new_directory who now (given_fields now s))
-          (new_words (given_fields now s) (asked now s says.seconds asks) 493 (Directory (record { next = 3; entries = [] }))) number after o;
+          (new_words (given_fields now s) (asked now s says.seconds asks) 493
+          (Directory (record { next = 3; entries = [] }))) number after o;
       symlink = λ dir name target s number after o asks.
-          of_make (number_for w dir) name (new_link who now target) (new_words no_fields none_wanted 511 (Symlink target)) number after o;
+          of_make (number_for w dir) name (new_link who now target)
+          (new_words no_fields none_wanted 511 (Symlink target)) number after o;
       link = λ from dir name after o asks.
           let n = number_for w from in
           let d = number_for w dir in
-          subst AllWords (sym o.effect) (touch_on (with_name (touch_ctime now w n) d name n) d (name_on (touch_ctime now w n) d name n (mark_on w n all)));
+          subst AllWords (sym o.effect)
+          (touch_on (with_name (touch_ctime now w n) d name n) d
+          (name_on (touch_ctime now w n) d name n (mark_on w n all)));
       remove = λ dir name after o asks. of_remove false (number_for w dir) name after o;
       remove_dir = λ dir name after o asks. of_remove true (number_for w dir) name after o;
-      rename = λ from from_name to to_name after o asks. of_rename (number_for w from) from_name (number_for w to) to_name after o;
+      rename = λ from from_name to to_name after o asks. of_rename (number_for w from) from_name
+          (number_for w to) to_name after o;
     })

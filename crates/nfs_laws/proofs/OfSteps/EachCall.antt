@@ -1,5 +1,5 @@
--- What is to be shown of each call, so that it holds of every call: of those that only read and of refusals with the
--- files as they were, and of each procedure that was granted with what follows from its Ok.
+-- What is to be shown of each call, so that it holds of every call: of those that only read and of refusals
+-- with the files as they were, and of each procedure that was granted with what follows from its Ok.
 -- Serves: trees_stay_trees, nothing_is_given_again, no_limit_is_passed and refusals_leave_files;
 -- the laws of `frames`; answers_have_a_spelling (sizes).
 use Rattle.std.proofs.Common.{◌≡◌, ℕ, true, List, Some, Result, Ok, Err, refl, sym, ap, subst, ◌∙◌}
@@ -111,8 +111,11 @@ handle_granted e handle a after h =
     record {
       number = p.0.0;
       granted = p.1 ∙ ap (λ (x : (List ℕ × Fattr) × Files). Ok (p.0.0, x.1)) same;
-      attributes = attributes_ok after p.0.0 a (subst (λ (x : (List ℕ × Fattr) × Files). attributes_at x.1 p.0.0 ≡ Ok x.0.1) same q.1);
-      is_named = sym (ap (λ (x : (List ℕ × Fattr) × Files). handle_of x.1.fsid p.0.0) same) ∙ ap (λ (x : (List ℕ × Fattr) × Files). x.0.0) same;
+      attributes =
+          attributes_ok after p.0.0 a
+          (subst (λ (x : (List ℕ × Fattr) × Files). attributes_at x.1 p.0.0 ≡ Ok x.0.1) same q.1);
+      is_named = sym (ap (λ (x : (List ℕ × Fattr) × Files). handle_of x.1.fsid p.0.0) same)
+          ∙ ap (λ (x : (List ℕ × Fattr) × Files). x.0.0) same;
     }
   where
     given : ℕ × Files → Fattr → Effect (List ℕ × Fattr)
@@ -132,11 +135,13 @@ module _ (w : Files) (who : Caller) (now : Timeval) (P : Call → Answer → Fil
   -- a granted effect with a file handle
   handled : (call : Call) (e : Effect ℕ) (handle : List ℕ) (a : Fattr) (after : Files)
       → with_handle e ≡ Ok ((handle, a), after)
-      → ((number : ℕ) → e ≡ Ok (number, after) → AttributesOk after number a → P call (calls.DirOp (Ok (handle_of after.fsid number, a))) after)
+      → ((number : ℕ) → e ≡ Ok (number, after) → AttributesOk after number a
+      → P call (calls.DirOp (Ok (handle_of after.fsid number, a))) after)
       → P call (calls.DirOp (Ok (handle, a))) after
   handled call e handle a after h says =
       let g = handle_granted e handle a after h in
-      subst (λ (b : List ℕ). P call (calls.DirOp (Ok (b, a))) after) g.is_named (says g.number g.granted g.attributes)
+      subst (λ (b : List ℕ). P call (calls.DirOp (Ok (b, a))) after) g.is_named
+      (says g.number g.granted g.attributes)
 
   -- the fact holds of every call
   pub each_call : (call : Call) → P call (call_does w who now call).0 (call_does w who now call).1
@@ -153,36 +158,49 @@ module _ (w : Files) (who : Caller) (now : Timeval) (P : Call → Answer → Fil
       let n = number_for w file in
       let call = calls.Setattr file s in
       let e = tree.set_attributes w who now n (given_fields now s) in
-      of_effect (P call) w calls.Attributes (with_attributes n e) (λ stat. each.refused call (calls.Attributes (Err stat)) stat refl)
-      (λ a after h. let g = attributes_granted n e a after h in each.set_attributes file s a after (set_ok w who now n (given_fields now s) after g.0) g.1)
+      of_effect (P call) w calls.Attributes (with_attributes n e)
+      (λ stat. each.refused call (calls.Attributes (Err stat)) stat refl)
+      (λ a after h. let g = attributes_granted n e a after h in
+      each.set_attributes file s a after (set_ok w who now n (given_fields now s) after g.0) g.1)
   each_call (calls.Write file offset new) =
       let n = number_for w file in
       let call = calls.Write file offset new in
       let e = tree.write w who now n offset new in
-      of_effect (P call) w calls.Attributes (with_attributes n e) (λ stat. each.refused call (calls.Attributes (Err stat)) stat refl)
-      (λ a after h. let g = attributes_granted n e a after h in each.write file offset new a after (write_ok w who now n offset new after g.0) g.1)
+      of_effect (P call) w calls.Attributes (with_attributes n e)
+      (λ stat. each.refused call (calls.Attributes (Err stat)) stat refl)
+      (λ a after h. let g = attributes_granted n e a after h in
+      each.write file offset new a after (write_ok w who now n offset new after g.0) g.1)
   each_call (calls.Create dir name s) =
       let d = number_for w dir in
       let call = calls.Create dir name s in
       let e = tree.create w who now d name (given_fields now s) in
-      of_effect (P call) w calls.DirOp (with_handle e) (λ stat. each.refused call (calls.DirOp (Err stat)) stat refl)
-      (λ x after h. handled call e x.0 x.1 after h (λ number k. each.create dir name s number x.1 after (create_ok w who now d name (given_fields now s) number after k)))
+      of_effect (P call) w calls.DirOp (with_handle e)
+      (λ stat. each.refused call (calls.DirOp (Err stat)) stat refl)
+      (λ x after h. handled call e x.0 x.1 after h
+      (λ number k. each.create dir name s number x.1 after
+      (create_ok w who now d name (given_fields now s) number after k)))
   each_call (calls.Mkdir dir name s) =
       let d = number_for w dir in
       let call = calls.Mkdir dir name s in
       let e = tree.make_dir w who now d name (given_fields now s) in
-      of_effect (P call) w calls.DirOp (with_handle e) (λ stat. each.refused call (calls.DirOp (Err stat)) stat refl)
-      (λ x after h. handled call e x.0 x.1 after h (λ number k. each.make_dir dir name s number x.1 after (make_dir_ok w who now d name (given_fields now s) number after k)))
+      of_effect (P call) w calls.DirOp (with_handle e)
+      (λ stat. each.refused call (calls.DirOp (Err stat)) stat refl)
+      (λ x after h. handled call e x.0 x.1 after h
+      (λ number k. each.make_dir dir name s number x.1 after
+      (make_dir_ok w who now d name (given_fields now s) number after k)))
   each_call (calls.Symlink dir name target s) =
       let d = number_for w dir in
       let call = calls.Symlink dir name target s in
       let e = tree.symlink w who now d name target in
-      of_effect (P call) w calls.Status (without_number e) (λ stat. each.refused call (calls.Status (Err stat)) stat refl)
-      (λ u after h. let g = number_granted e after h in each.symlink dir name target s g.0 after (symlink_ok w who now d name target g.0 after g.1))
+      of_effect (P call) w calls.Status (without_number e)
+      (λ stat. each.refused call (calls.Status (Err stat)) stat refl)
+      (λ u after h. let g = number_granted e after h in
+      each.symlink dir name target s g.0 after (symlink_ok w who now d name target g.0 after g.1))
   each_call (calls.Link from dir name) =
       let call = calls.Link from dir name in
       of_effect (P call) w calls.Status _ (λ stat. each.refused call (calls.Status (Err stat)) stat refl)
-      (λ u after h. each.link from dir name after (link_ok w who now (number_for w from) (number_for w dir) name after h))
+      (λ u after h. each.link from dir name after
+      (link_ok w who now (number_for w from) (number_for w dir) name after h))
   each_call (calls.Remove dir name) =
       let call = calls.Remove dir name in
       of_effect (P call) w calls.Status _ (λ stat. each.refused call (calls.Status (Err stat)) stat refl)
@@ -194,4 +212,5 @@ module _ (w : Files) (who : Caller) (now : Timeval) (P : Call → Answer → Fil
   each_call (calls.Rename from from_name to to_name) =
       let call = calls.Rename from from_name to to_name in
       of_effect (P call) w calls.Status _ (λ stat. each.refused call (calls.Status (Err stat)) stat refl)
-      (λ u after h. each.rename from from_name to to_name after (rename_ok w who now (number_for w from) from_name (number_for w to) to_name after h))
+      (λ u after h. each.rename from from_name to to_name after
+      (rename_ok w who now (number_for w from) from_name (number_for w to) to_name after h))

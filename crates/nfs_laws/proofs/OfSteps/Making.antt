@@ -11,7 +11,7 @@ use Rattle.nfs_spec.specs.nfs_items.declared.stat.Stat.TheVariants as stats
 use Rattle.nfs_spec.specs.fs_model.Listing.{entry_at}
 use Rattle.nfs_spec.specs.fs_model.Names.{is_name}
 use Rattle.nfs_spec.specs.fs_model.Files.{Body, Regular, Symlink, Directory, File, Files, is_directory}
-use Rattle.nfs_spec.specs.fs_model.Files.{places}
+use Rattle.nfs_spec.specs.fs_model.Files.{directory_entries}
 use Rattle.nfs_spec.specs.fs_model.Changes.Edits.{with_name}
 use Rattle.nfs_spec.specs.fs_model.Changes.Limits.{has_room}
 use Rattle.nfs_spec.specs.ProcedureChecks.{NumberedDir, file_of, dir_of, check, check_size, check_room}
@@ -23,7 +23,7 @@ use Rattle.nfs_spec.specs.Procedures.{make, make_dir, symlink, link}
 use Rattle.nfs_laws.specs.Steps.Granted.{IsFound, MakeOk, MakeDirOk, SymlinkOk, CreateOverOk, CreateNewOk}
 use Rattle.nfs_laws.specs.Steps.Granted.{CreateOk, LinkOk, new_regular, new_directory, new_link}
 use Rattle.nfs_laws.proofs.OfSteps.Steps.{bind_ok, check_ok, size_ok, file_ok, dir_ok, edit_ok, free_ok}
-use Rattle.nfs_laws.proofs.OfSteps.Steps.{place_found, same_answer, same_files}
+use Rattle.nfs_laws.proofs.OfSteps.Steps.{entry_found, same_answer, same_files}
 use Rattle.nfs_laws.proofs.OfSteps.Setting.{set_ok}
 
 -- room after an effect is room in the files that it left
@@ -42,7 +42,7 @@ make_ok w who now dir name f number after h =
     let found = dir_ok w dir d.0 d.1 in
     record {
       directory = edit_ok w who dir d.0 name e.0 found e.1;
-      free = place_found w dir d.0 found name ∙ free_ok d.0 name r.0 r.1;
+      free = entry_found w dir d.0 found name ∙ free_ok d.0 name r.0 r.1;
       room = in_room (add_file now w dir name f) after s.0 (same_files s.2) s.1;
       is_next = same_answer s.2;
       effect = same_files s.2;
@@ -52,20 +52,22 @@ make_ok w who now dir name f number after h =
 pub make_dir_ok : (w : Files) (who : Caller) (now : Timeval) (dir : ℕ) (name : List ℕ) (a : GivenFields)
     (number : ℕ) (after : Files) → make_dir w who now dir name a ≡ Ok (number, after)
     → MakeDirOk w who now dir name a number after
-make_dir_ok w who now dir name a number after h = make_ok w who now dir name (new_directory who now a) number after h
+make_dir_ok w who now dir name a number after h =
+    make_ok w who now dir name (new_directory who now a) number after h
 
 -- SYMLINK
 pub symlink_ok : (w : Files) (who : Caller) (now : Timeval) (dir : ℕ) (name target : List ℕ) (number : ℕ)
     (after : Files) → symlink w who now dir name target ≡ Ok (number, after)
     → SymlinkOk w who now dir name target number after
-symlink_ok w who now dir name target number after h = make_ok w who now dir name (new_link who now target) number after h
+symlink_ok w who now dir name target number after h =
+    make_ok w who now dir name (new_link who now target) number after h
 
 -- ---- CREATE
 
 module _ (w : Files) (who : Caller) (now : Timeval) (dir : ℕ) (name : List ℕ) (a : GivenFields) (number : ℕ)
     (after : Files) where
   new_ok : (d : NumberedDir) → IsFound w dir d → is_name name ≡ true → may_search who d.file ≡ true
-      → places w dir name ≡ None → create_new w who now d name a ≡ Ok (number, after)
+      → directory_entries w dir name ≡ None → create_new w who now d name a ≡ Ok (number, after)
       → CreateNewOk w who now dir name a number after
   new_ok d found named searched free h =
       let f = new_regular who now a in
@@ -96,7 +98,8 @@ module _ (w : Files) (who : Caller) (now : Timeval) (dir : ℕ) (name : List ℕ
       let r = bind_ok (check (is_regular f.0.body) stats.Exist) _ (number, after) f.2 in
       let s = bind_ok (set_attributes w who now n a) _ (number, after) r.2 in
       let b = regular f.0.body (check_ok (is_regular f.0.body) stats.Exist r.0 r.1) in
-      let set_again : set_attributes w who now n a ≡ Ok (tt, after) = s.1 ∙ ap (λ (v : Files). Ok (tt, v)) (sym (same_files s.2)) in
+      let set_again : set_attributes w who now n a ≡ Ok (tt, after) =
+      s.1 ∙ ap (λ (v : Files). Ok (tt, v)) (sym (same_files s.2)) in
       record {
         file = f.0;
         bytes = b.0;
@@ -122,9 +125,10 @@ module _ (w : Files) (who : Caller) (now : Timeval) (dir : ℕ) (name : List ℕ
   create_ok h =
       let d = bind_ok (dir_of w dir) _ (number, after) h in
       let p = bind_ok (check (is_name name) stats.Acces) _ (number, after) d.2 in
-      let q = bind_ok (check (may_search who d.0.file) stats.Acces) (λ _. end d.0 (entry_at d.0.listing name)) (number, after) p.2 in
+      let q = bind_ok (check (may_search who d.0.file) stats.Acces) (λ _. end d.0 (entry_at d.0.listing name))
+      (number, after) p.2 in
       let found = dir_ok w dir d.0 d.1 in
-      let here = place_found w dir d.0 found name in
+      let here = entry_found w dir d.0 found name in
       let named = check_ok (is_name name) stats.Acces p.0 p.1 in
       let searched = check_ok (may_search who d.0.file) stats.Acces q.0 q.1 in
       record {
@@ -154,7 +158,7 @@ link_ok w who now from dir name after h =
       there = file_ok w from f.0 f.1;
       plain = not-true (is_directory f.0.body) (check_ok (not (is_directory f.0.body)) stats.IsDir p.0 p.1);
       directory = edit_ok w who dir d.0 name e.0 found e.1;
-      free = place_found w dir d.0 found name ∙ free_ok d.0 name r.0 r.1;
+      free = entry_found w dir d.0 found name ∙ free_ok d.0 name r.0 r.1;
       room = in_room linked after s.0 (same_files s.2) s.1;
       effect = same_files s.2;
     }

@@ -26,7 +26,12 @@ attributes_ok w n a h =
 pub getattr_ok : (w : Files) (handle : List ℕ) (a : Fattr) → getattr w handle ≡ Ok a → GetattrOk w handle a
 getattr_ok w handle a h =
     let n = bind_ok (number_of w handle) _ a h in
-    record { number = n.0; is_named = found_ok stats.Stale (number_in w.fsid handle) n.0 n.1; attributes = attributes_ok w n.0 a n.2 }
+    record {
+      number = n.0;
+      is_named = found_ok stats.Stale (number_in w.fsid handle) n.0 n.1;
+      attributes =
+          attributes_ok w n.0 a n.2;
+    }
 
 -- LOOKUP
 pub lookup_ok : (w : Files) (who : Caller) (dir name handle : List ℕ) (a : Fattr)

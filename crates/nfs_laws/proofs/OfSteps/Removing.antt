@@ -12,7 +12,7 @@ use Rattle.nfs_spec.specs.ProcedureChecks.{file_of, dir_of, listing_or, check, c
 use Rattle.nfs_spec.specs.Procedures.{remove, remove_dir}
 use Rattle.nfs_laws.specs.Steps.Granted.{RemoveOk, RemoveDirOk}
 use Rattle.nfs_laws.proofs.OfSteps.Steps.{bind_ok, check_ok, file_ok, directory_ok, dir_ok, edit_ok}
-use Rattle.nfs_laws.proofs.OfSteps.Steps.{number_ok, place_found, no_entries, no_length, same_files}
+use Rattle.nfs_laws.proofs.OfSteps.Steps.{number_ok, entry_found, no_entries, no_length, same_files}
 
 -- REMOVE
 pub remove_ok : (w : Files) (who : Caller) (now : Timeval) (dir : ℕ) (name : List ℕ) (after : Files)
@@ -24,13 +24,14 @@ remove_ok w who now dir name after h =
     let f = bind_ok (file_of w n.0) _ (tt, after) n.2 in
     let r = bind_ok (check (not (is_directory f.0.body)) stats.IsDir) _ (tt, after) f.2 in
     let found = dir_ok w dir d.0 d.1 in
-    let place = number_ok d.0 name n.0 n.1 in
-    let plain = not-true (is_directory f.0.body) (check_ok (not (is_directory f.0.body)) stats.IsDir r.0 r.1) in
+    let entry = number_ok d.0 name n.0 n.1 in
+    let plain = not-true (is_directory f.0.body)
+    (check_ok (not (is_directory f.0.body)) stats.IsDir r.0 r.1) in
     record {
       directory = edit_ok w who dir d.0 name e.0 found e.1;
       number = n.0;
-      cookie = place.0;
-      is_named = place_found w dir d.0 found name ∙ place.1;
+      cookie = entry.0;
+      is_named = entry_found w dir d.0 found name ∙ entry.1;
       file = f.0;
       there = file_ok w n.0 f.0 f.1;
       kind = plain;
@@ -49,14 +50,14 @@ remove_dir_ok w who now dir name after h =
     let l = bind_ok (listing_or stats.NotDir f.0.body) _ (tt, after) f.2 in
     let r = bind_ok (check (length l.0.entries == 0) stats.NotEmpty) _ (tt, after) l.2 in
     let found = dir_ok w dir d.0 d.1 in
-    let place = number_ok d.0 name n.0 n.1 in
+    let entry = number_ok d.0 name n.0 n.1 in
     let own = directory_ok stats.NotDir f.0.body l.0 l.1 in
     let zero = eqb-true (length l.0.entries) 0 (check_ok (length l.0.entries == 0) stats.NotEmpty r.0 r.1) in
     record {
       directory = edit_ok w who dir d.0 name e.0 found e.1;
       number = n.0;
-      cookie = place.0;
-      is_named = place_found w dir d.0 found name ∙ place.1;
+      cookie = entry.0;
+      is_named = entry_found w dir d.0 found name ∙ entry.1;
       file = f.0;
       there = file_ok w n.0 f.0 f.1;
       kind = own.0;

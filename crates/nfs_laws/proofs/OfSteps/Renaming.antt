@@ -10,12 +10,12 @@ use Rattle.nfs_spec.specs.nfs_items.Caller.{Caller}
 use Rattle.nfs_spec.specs.nfs_items.declared.stat.Stat.{Stat}
 use Rattle.nfs_spec.specs.nfs_items.declared.stat.Stat.TheVariants as stats
 use Rattle.nfs_spec.specs.fs_model.Listing.{Listing, entry_at}
-use Rattle.nfs_spec.specs.fs_model.Files.{File, Files, is_directory, listing_in, places}
+use Rattle.nfs_spec.specs.fs_model.Files.{File, Files, is_directory, listing_in, directory_entries}
 use Rattle.nfs_spec.specs.ProcedureChecks.{◌>>=◌, NumberedDir, file_of, dir_of, check, check_cookie}
 use Rattle.nfs_spec.specs.ProcedureChecks.{check_edit, number_at}
 use Rattle.nfs_spec.specs.Procedures.{is_above, check_target, move_entry, rename}
 use Rattle.nfs_laws.specs.Steps.Granted.{IsFound, IsSameFile, MayReplace, MoveOk, RenameOk}
-use Rattle.nfs_laws.proofs.OfSteps.Steps.{bind_ok, check_ok, file_ok, dir_ok, edit_ok, number_ok, place_found}
+use Rattle.nfs_laws.proofs.OfSteps.Steps.{bind_ok, check_ok, file_ok, dir_ok, edit_ok, number_ok, entry_found}
 use Rattle.nfs_laws.proofs.OfSteps.Steps.{listing_found, no_length, same_files}
 
 -- what was let through as a target may be replaced
@@ -32,7 +32,8 @@ target_ok w f t u h =
       kind = agree (is_directory f.body) (is_directory g.0.body)
           (check_ok (not (is_directory f.body) || is_directory g.0.body) stats.NotDir a.0 a.1)
           (check_ok (is_directory f.body || not (is_directory g.0.body)) stats.IsDir b.0 b.1);
-      empty = no_length entries (eqb-true (length entries) 0 (check_ok (length entries == 0) stats.NotEmpty u b.2));
+      empty = no_length entries
+          (eqb-true (length entries) 0 (check_ok (length entries == 0) stats.NotEmpty u b.2));
     }
   where
     agree : (a b : Bool) → (not a || b) ≡ true → (a || not b) ≡ true → b ≡ a
@@ -43,7 +44,8 @@ target_ok w f t u h =
 
 module _ (w : Files) (who : Caller) (now : Timeval) (from : ℕ) (from_name : List ℕ) (to : ℕ)
     (to_name : List ℕ) (after : Files) where
-  module _ (e : NumberedDir) (found : IsFound w to e) (n b : ℕ) (at : places w from from_name ≡ Some (n, b))
+  module _ (e : NumberedDir) (found : IsFound w to e) (n b : ℕ)
+      (at : directory_entries w from from_name ≡ Some (n, b))
       (f : File) where
     abbrev target : Option ℕ
     target = option_map (λ p. p.0) (entry_at e.listing to_name)
@@ -52,10 +54,10 @@ module _ (w : Files) (who : Caller) (now : Timeval) (from : ℕ) (from_name : Li
     abbrev is_it : Option ℕ → Bool
     is_it o = option_map_or (λ t. t == n) o false
 
-    here : places w to to_name ≡ entry_at e.listing to_name
-    here = place_found w to e found to_name
+    here : directory_entries w to to_name ≡ entry_at e.listing to_name
+    here = entry_found w to e found to_name
 
-    differs : is_it target ≡ false → (c : ℕ) → places w to to_name ≢ Some (n, c)
+    differs : is_it target ≡ false → (c : ℕ) → directory_entries w to to_name ≢ Some (n, c)
     differs not c is =
         tf (sym (ap (λ o. is_it (option_map (λ p. p.0) o)) (sym here ∙ is) ∙ eq-eqb n n refl) ∙ not)
       where
@@ -81,20 +83,24 @@ module _ (w : Files) (who : Caller) (now : Timeval) (from : ℕ) (from_name : Li
         >>= λ _. check_cookie e.listing >>= λ _. Ok (tt, move_entry now w n from from_name to to_name target)
 
     ends : (same : Bool) → is_it target ≡ same → end same ≡ Ok (tt, after)
-        → (IsSameFile w from from_name to to_name × (after ≡ w)) ⊎ MoveOk w now from from_name to to_name n f after
+        → (IsSameFile w from from_name to to_name × (after ≡ w))
+        ⊎ MoveOk w now from from_name to to_name n f after
     ends true same h = inl (one_file same, same_files h)
     ends false same h =
         let a = bind_ok (check (not (is_directory f.body && is_above w n to)) stats.Acces) _ (tt, after) h in
         let t = bind_ok (check_target w f target) _ (tt, after) a.2 in
         let c = bind_ok (check_cookie e.listing) _ (tt, after) t.2 in
-        let low = leb-true e.listing.next 4294967294 (check_ok (nat_le e.listing.next 4294967294) stats.NoSpc c.0 c.1) in
+        let low = leb-true e.listing.next 4294967294
+        (check_ok (nat_le e.listing.next 4294967294) stats.NoSpc c.0 c.1) in
         inr (record {
           other = differs same;
           not_above = not-true (is_directory f.body && is_above w n to)
               (check_ok (not (is_directory f.body && is_above w n to)) stats.Acces a.0 a.1);
-          replaces = λ k c is. target_ok w f k t.0 (ap (λ o. check_target w f (option_map (λ p. p.0) o)) (sym is ∙ here) ∙ t.1);
+          replaces = λ k c is. target_ok w f k t.0
+              (ap (λ o. check_target w f (option_map (λ p. p.0) o)) (sym is ∙ here) ∙ t.1);
           cookie = omega (arith, ap (λ (l : Listing). l.next) (listing_found w to e found), low);
-          effect = same_files c.2 ∙ ap (λ o. move_entry now w n from from_name to to_name (option_map (λ p. p.0) o)) (sym here);
+          effect = same_files c.2 ∙ ap (λ o. move_entry now w n from from_name to to_name
+              (option_map (λ p. p.0) o)) (sym here);
         })
 
   -- RENAME
@@ -109,15 +115,16 @@ module _ (w : Files) (who : Caller) (now : Timeval) (from : ℕ) (from_name : Li
       let f = bind_ok (file_of w n.0) _ (tt, after) n.2 in
       let found = dir_ok w from d.0 d.1 in
       let found_to = dir_ok w to e.0 e.1 in
-      let place = number_ok d.0 from_name n.0 n.1 in
-      let at = place_found w from d.0 found from_name ∙ place.1 in
+      let entry = number_ok d.0 from_name n.0 n.1 in
+      let at = entry_found w from d.0 found from_name ∙ entry.1 in
       record {
         source = edit_ok w who from d.0 from_name p.0 found p.1;
         target = edit_ok w who to e.0 to_name q.0 found_to q.1;
         number = n.0;
-        cookie = place.0;
+        cookie = entry.0;
         is_named = at;
         file = f.0;
         there = file_ok w n.0 f.0 f.1;
-        outcome = ends e.0 found_to n.0 place.0 at f.0 (is_it e.0 found_to n.0 place.0 at f.0 (target e.0 found_to n.0 place.0 at f.0)) refl f.2;
+        outcome = ends e.0 found_to n.0 entry.0 at f.0
+            (is_it e.0 found_to n.0 entry.0 at f.0 (target e.0 found_to n.0 entry.0 at f.0)) refl f.2;
       }

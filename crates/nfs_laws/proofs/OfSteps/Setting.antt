@@ -48,7 +48,8 @@ set_ok w who now n a after h =
       there = file_ok w n f.0 f.1;
       owner = o.1;
       resize = λ size given. resize_ok who f.0 size tt (ap (check_resize who f.0) (sym given) ∙ r.1);
-      room = λ size given. subst (λ v. has_room v ≡ true) (sym effect) (check_ok (has_room changed) stats.NoSpc tt
+      room = λ size given. subst (λ v. has_room v ≡ true) (sym effect)
+          (check_ok (has_room changed) stats.NoSpc tt
           (ap (λ (size : Option ℕ). if is_some size then check_room changed else Ok tt) (sym given) ∙ s.1));
       effect = effect;
     }
@@ -86,7 +87,8 @@ module _ (w : Files) (who : Caller) (now : Timeval) (n offset : ℕ) (new : List
   write_ok h =
       let f = bind_ok (file_of w n) _ (tt, after) h in
       let b = bind_ok (bytes_of f.0.body) _ (tt, after) f.2 in
-      let m = bind_ok (check (may_write who f.0) stats.Acces) (λ _. end b.0 (length new == 0)) (tt, after) b.2 in
+      let m = bind_ok (check (may_write who f.0) stats.Acces) (λ _. end b.0 (length new == 0))
+      (tt, after) b.2 in
       let e = ends b.0 (length new == 0) refl m.2 in
       record {
         file = f.0;

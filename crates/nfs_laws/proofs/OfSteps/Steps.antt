@@ -11,7 +11,7 @@ use Rattle.nfs_spec.specs.nfs_items.declared.stat.Stat.TheVariants as stats
 use Rattle.nfs_spec.specs.fs_model.Listing.{Listing, entry_at}
 use Rattle.nfs_spec.specs.fs_model.Names.{is_name}
 use Rattle.nfs_spec.specs.fs_model.Files.{Body, Regular, Symlink, Directory, File, Files, file_at, listing_in}
-use Rattle.nfs_spec.specs.fs_model.Files.{listing, is_directory, places}
+use Rattle.nfs_spec.specs.fs_model.Files.{listing, is_directory, directory_entries}
 use Rattle.nfs_spec.proofs.fs_model.Walks.{none_some, some_same}
 use Rattle.nfs_spec.specs.ProcedureChecks.{◌>>=◌, ok_or, listing_or, check, check_size, check_edit}
 use Rattle.nfs_spec.specs.ProcedureChecks.{check_free, NumberedDir, file_of, dir_of, number_at, bytes_of}
@@ -113,14 +113,17 @@ dir_ok w n d h =
     (record { number = refl; there = file_ok w n a.0 a.1; directory = l.0; listing = l.1 })
 
 -- what a directory has at a name, by what was found
-pub place_found : (w : Files) (dir : ℕ) (d : NumberedDir) → IsFound w dir d → (name : List ℕ)
-    → places w dir name ≡ entry_at d.listing name
-place_found w dir d found name =
-    ap (option_and_then (λ f. entry_at (listing_in f.body) name)) found.there ∙ ap (λ l. entry_at l name) found.listing
+pub entry_found : (w : Files) (dir : ℕ) (d : NumberedDir) → IsFound w dir d → (name : List ℕ)
+    → directory_entries w dir name ≡ entry_at d.listing name
+entry_found w dir d found name =
+    ap (option_and_then (λ f. entry_at (listing_in f.body) name)) found.there
+    ∙ ap (λ l. entry_at l name) found.listing
 
 -- what the number of a file that is there lists
 pub listing_there : (w : Files) (n : ℕ) (f : File) → file_at w n ≡ Some f → listing w n ≡ listing_in f.body
-listing_there w n f there = ap (λ (o : Option File). option_map_or (λ f. listing_in f.body) o (record { next = 0; entries = [] })) there
+listing_there w n f there =
+    ap (λ (o : Option File). option_map_or (λ f. listing_in f.body) o
+    (record { next = 0; entries = [] })) there
 
 -- what the number of a directory that was found lists
 pub listing_found : (w : Files) (dir : ℕ) (d : NumberedDir) → IsFound w dir d → listing w dir ≡ d.listing
@@ -145,7 +148,8 @@ edit_ok w who dir d name u found h =
 -- a name that was let through stands for nothing
 pub free_ok : (d : NumberedDir) (name : List ℕ) (u : Unit {0}) → check_free d name ≡ Ok u
     → entry_at d.listing name ≡ None
-free_ok d name u h = none (entry_at d.listing name) (check_ok (is_none (entry_at d.listing name)) stats.Exist u h)
+free_ok d name u h =
+    none (entry_at d.listing name) (check_ok (is_none (entry_at d.listing name)) stats.Exist u h)
   where
     none : (o : Option (ℕ × ℕ)) → is_none o ≡ true → o ≡ None
     none None h = refl
@@ -157,7 +161,8 @@ free_ok d name u h = none (entry_at d.listing name) (check_ok (is_none (entry_at
 -- a number that was found stands at the name, with a cookie
 pub number_ok : (d : NumberedDir) (name : List ℕ) (n : ℕ) → number_at d name ≡ Ok n
     → (c : ℕ) × (entry_at d.listing name ≡ Some (n, c))
-number_ok d name n h = by (entry_at d.listing name) (found_ok stats.NoEnt (option_map (λ e. e.0) (entry_at d.listing name)) n h)
+number_ok d name n h =
+    by (entry_at d.listing name) (found_ok stats.NoEnt (option_map (λ e. e.0) (entry_at d.listing name)) n h)
   where
     by : (o : Option (ℕ × ℕ)) → option_map (λ e. e.0) o ≡ Some n → (c : ℕ) × (o ≡ Some (n, c))
     by None g = absurd (none_some g)

@@ -8,7 +8,7 @@ use Rattle.nfs_spec.specs.fs_model.Files.{Body, Regular, Symlink, Directory, Fil
 use Rattle.nfs_spec.specs.fs_model.Files.{is_directory, names_of}
 use Rattle.nfs_spec.specs.fs_model.Trees.{IsBody, IsTime, IsFile, IsFileTree}
 use Rattle.nfs_spec.proofs.fs_model.Walks.{none_some}
-use Rattle.nfs_spec.proofs.fs_model.Reached.{distinct_in, place_of}
+use Rattle.nfs_spec.proofs.fs_model.Reached.{distinct_in, entry_of_number}
 use Rattle.std.proofs.lemmas.Bool.{cases_lt}
 use Rattle.nfs_spec.specs.fs_model.Changes.Edits.{with_changed_file, map_listing, map_body_listing}
 use Rattle.nfs_spec.proofs.fs_model.Cookies.{rising_pushed, rising_removed}
@@ -56,7 +56,8 @@ next_free w tree = by (file_at w w.next) refl
 -- and no entry names it
 pub next_unnamed : (w : Files) → IsFileTree w → names_of w w.next ≡ 0
 next_unnamed w tree = ⊎_elim
-    (λ some. let p = place_of w tree w.next some in absurd (missing (file_at w w.next) (next_free w tree) (tree.tree.named p.0 p.1 w.next p.2 p.3)))
+    (λ some. let p = entry_of_number w tree w.next some in
+    absurd (missing (file_at w w.next) (next_free w tree) (tree.tree.named p.0 p.1 w.next p.2 p.3)))
     (λ none. omega (arith, none))
     (cases_lt 0 (names_of w w.next))
 
@@ -64,11 +65,13 @@ next_unnamed w tree = ⊎_elim
 
 -- a file whose mtime and ctime are set to a time stays one
 pub touched_fits : (now : Timeval) → IsTime now → (f : File) → IsFile f → IsFile (with_mtime now f)
-touched_fits now time f fits = record { mode = fits.mode; atime = fits.atime; mtime = time; ctime = time; body = fits.body }
+touched_fits now time f fits =
+    record { mode = fits.mode; atime = fits.atime; mtime = time; ctime = time; body = fits.body }
 
 -- a file whose ctime is set to a time stays one
 pub marked_fits : (now : Timeval) → IsTime now → (f : File) → IsFile f → IsFile (with_ctime now f)
-marked_fits now time f fits = record { mode = fits.mode; atime = fits.atime; mtime = fits.mtime; ctime = time; body = fits.body }
+marked_fits now time f fits =
+    record { mode = fits.mode; atime = fits.atime; mtime = fits.mtime; ctime = time; body = fits.body }
 
 -- times change nothing of the tree's shape
 pub touch_shape : (now : Timeval) (w : Files) (d : ℕ) → IsSameShape w (touch now w d)
@@ -80,19 +83,22 @@ mark_shape now w d = same_shape w d (with_ctime now) (λ f _. refl) (λ f _. ref
 
 -- times leave each file one
 pub touch_files : (now : Timeval) (w : Files) (d : ℕ) → IsTime now → AllFiles w → AllFiles (touch now w d)
-touch_files now w d time all = changed_files w d (with_mtime now) all (λ f h. touched_fits now time f (all d f h))
+touch_files now w d time all =
+    changed_files w d (with_mtime now) all (λ f h. touched_fits now time f (all d f h))
 
 -- so does ctime alone
 pub mark_files : (now : Timeval) (w : Files) (d : ℕ) → IsTime now → AllFiles w
     → AllFiles (touch_ctime now w d)
-mark_files now w d time all = changed_files w d (with_ctime now) all (λ f h. marked_fits now time f (all d f h))
+mark_files now w d time all =
+    changed_files w d (with_ctime now) all (λ f h. marked_fits now time f (all d f h))
 
 -- ---- names
 
 named_body : (x : List ℕ) (k : ℕ) (b : Body) → IsBody b → IsBody (map_body_listing (λ l. with_entry l x k) b)
 named_body x k (Regular bytes) h = h
 named_body x k (Symlink target) h = h
-named_body x k (Directory l) h = (rising_pushed 3 _ l.next x k (rising_removed 3 _ l.entries l.next h.0), with_entry_distinct l x k h.1)
+named_body x k (Directory l) h =
+    (rising_pushed 3 _ l.next x k (rising_removed 3 _ l.entries l.next h.0), with_entry_distinct l x k h.1)
 
 unnamed_body : (x : List ℕ) (b : Body) → IsBody b → IsBody (map_body_listing (λ l. without_entry l x) b)
 unnamed_body x (Regular bytes) h = h
@@ -101,17 +107,22 @@ unnamed_body x (Directory l) h = (rising_removed 3 _ l.entries l.next h.0, witho
 
 relisted_fits : (change : Listing → Listing) (f : File) → IsFile f → IsBody (map_body_listing change f.body)
     → IsFile (map_listing change f)
-relisted_fits change f fits body = record { mode = fits.mode; atime = fits.atime; mtime = fits.mtime; ctime = fits.ctime; body = body }
+relisted_fits change f fits body =
+    record { mode = fits.mode; atime = fits.atime; mtime = fits.mtime; ctime = fits.ctime; body = body }
 
 -- a name more leaves each file one
 pub named_files : (w : Files) (d : ℕ) (x : List ℕ) (k : ℕ) → AllFiles w
     → AllFiles (with_changed_file w d (map_listing (λ l. with_entry l x k)))
-named_files w d x k all = changed_files w d (map_listing (λ l. with_entry l x k)) all (λ f h. relisted_fits (λ l. with_entry l x k) f (all d f h) (named_body x k f.body (all d f h).body))
+named_files w d x k all =
+    changed_files w d (map_listing (λ l. with_entry l x k)) all
+    (λ f h. relisted_fits (λ l. with_entry l x k) f (all d f h) (named_body x k f.body (all d f h).body))
 
 -- a name less leaves each file one
 pub unnamed_files : (w : Files) (d : ℕ) (x : List ℕ) → AllFiles w
     → AllFiles (with_changed_file w d (map_listing (λ l. without_entry l x)))
-unnamed_files w d x all = changed_files w d (map_listing (λ l. without_entry l x)) all (λ f h. relisted_fits (λ l. without_entry l x) f (all d f h) (unnamed_body x f.body (all d f h).body))
+unnamed_files w d x all =
+    changed_files w d (map_listing (λ l. without_entry l x)) all
+    (λ f h. relisted_fits (λ l. without_entry l x) f (all d f h) (unnamed_body x f.body (all d f h).body))
 
 -- a directory's names differ
 pub distinct_names : (w : Files) (d : ℕ) (f : File) → AllFiles w → file_at w d ≡ Some f

@@ -7,8 +7,8 @@ use Rattle.std.proofs.lemmas.Bool.{cases_eq}
 use Rattle.nfs_spec.specs.nfs_items.Timeval.{Timeval}
 use Rattle.nfs_spec.specs.fs_model.Listing.{with_entry, without_entry}
 use Rattle.nfs_spec.specs.fs_model.Files.{Body, Regular, Symlink, Directory, File, Files, file_at, listing_in}
-use Rattle.nfs_spec.specs.fs_model.Files.{listing, IsDirectory, places, names_of}
-use Rattle.nfs_spec.proofs.fs_model.Walks.{none_some, some_same, same_place}
+use Rattle.nfs_spec.specs.fs_model.Files.{listing, IsDirectory, directory_entries, names_of}
+use Rattle.nfs_spec.proofs.fs_model.Walks.{none_some, some_same, same_entry}
 use Rattle.nfs_spec.specs.fs_model.Changes.Edits.{with_changed_file, with_new_file, without_file, map_listing}
 use Rattle.nfs_spec.specs.fs_model.Changes.Edits.{map_body_listing, with_name, without_name}
 use Rattle.nfs_spec.proofs.fs_model.OfChanges.Finite.{new_other, changed_here, changed_other, gone_other}
@@ -30,14 +30,18 @@ pub cookie_changed : (w : Files) (k : ℕ) (change : File → File)
     → (n : ℕ) → (listing w n).next ≤ (listing (with_changed_file w k change) n).next
 unfolding next_of
 cookie_changed w k change grows n = ⊎_elim
-    (λ e. let here = ap next_of (changed_here w k change n e) in let own = ap (λ m. next_of (file_at w m)) e in let more = by (file_at w k) refl in omega (arith, here, own, more))
+    (λ e. let here = ap next_of (changed_here w k change n e) in let own =
+    ap (λ m. next_of (file_at w m)) e in let more = by (file_at w k) refl in
+    omega (arith, here, own, more))
     (λ ne. let same = ap next_of (changed_other w k change n ne) in omega (arith, same))
     (cases_eq n k)
   where
     by : (o : Option File) → file_at w k ≡ o
         → next_of (file_at w k) ≤ next_of (option_map change (file_at w k))
-    by None e = let before = ap next_of e in let after = ap (λ o. next_of (option_map change o)) e in omega (arith, before, after)
-    by (Some f) e = let before = ap next_of e in let after = ap (λ o. next_of (option_map change o)) e in omega (arith, before, after, grows f e)
+    by None e = let before = ap next_of e in let after = ap (λ o. next_of (option_map change o)) e in
+        omega (arith, before, after)
+    by (Some f) e = let before = ap next_of e in let after = ap (λ o. next_of (option_map change o)) e in
+        omega (arith, before, after, grows f e)
 
 more_after : (x : List ℕ) (k : ℕ) (b : Body)
     → (listing_in b).next ≤ (listing_in (map_body_listing (λ l. with_entry l x k) b)).next
@@ -95,7 +99,14 @@ cookie_taken now w d x k n ne = by (eqb (names_of (without_name w d x) k) 0)
 
 -- files that stay as they are give nothing
 pub nothing_given : (w : Files) → GivesAnew w w
-nothing_given w = record { next = omega arith; numbers = λ n is. inl is; cookies = λ n _ _. omega arith; entries = λ n y k c _ h. inl h }
+nothing_given w =
+    record {
+      next = omega arith;
+      numbers = λ n is. inl is;
+      cookies = λ n _ _. omega arith;
+      entries =
+          λ n y k c _ h. inl h;
+    }
 
 there_since : (w w' : Files) (n : ℕ) → kind w' n ≡ kind w n → IsSome (file_at w' n) → IsSome (file_at w n)
 there_since w w' n same is = is_some-kind w n ∙ ap is_some (sym same) ∙ sym (is_some-kind w' n) ∙ is
@@ -107,7 +118,7 @@ same_given w w' s cookies = record {
   next = omega (arith, s.next);
   numbers = λ n is. inl (there_since w w' n (s.kinds n) is);
   cookies = λ n _ _. cookies n;
-  entries = λ n y k c _ h. inl (sym (s.places n y) ∙ h);
+  entries = λ n y k c _ h. inl (sym (s.directory_entries n y) ∙ h);
 }
 
 -- an entry more is given anew: its cookie, and its number if that wasn't there
@@ -123,11 +134,12 @@ added_given w w' d x k cookie a new known cookies = record {
   cookies = λ n is _. cookies n is;
   entries = λ n y m c _ h. ⊎_elim
       (λ e.
-      let own : cookie ≡ c = second (sym a.change.here ∙ sym (λ i. places w' (e.0 i) (e.1 i)) ∙ h) in
+      let own : cookie ≡ c = second (sym a.change.here ∙ sym (λ i. directory_entries w' (e.0 i) (e.1 i))
+      ∙ h) in
       let same = ap (λ m. (listing w m).next) e.0 in
       inr (omega (arith, own, same, new)))
       (λ ne. inl (sym (a.change.rest n y ne) ∙ h))
-      (same_place n d y x);
+      (same_entry n d y x);
 }
   where
     second : {m p q : ℕ} → ◌≡◌ {A = Option (ℕ × ℕ)} (Some (k, p)) (Some (m, q)) → p ≡ q
@@ -144,9 +156,9 @@ taken_given w w' d x k c a cookies there = record {
       (cases_eq n k);
   cookies = λ n _ is. cookies n (λ e. no_directory (ap (kind w') (sym e) ∙ is));
   entries = λ n y m b _ h. ⊎_elim
-      (λ e. absurd (none_some (sym a.change.here ∙ sym (λ i. places w' (e.0 i) (e.1 i)) ∙ h)))
+      (λ e. absurd (none_some (sym a.change.here ∙ sym (λ i. directory_entries w' (e.0 i) (e.1 i)) ∙ h)))
       (λ ne. inl (sym (a.change.rest n y ne) ∙ h))
-      (same_place n d y x);
+      (same_entry n d y x);
 }
   where
     some_false : ◌≡◌ {A = Option Bool} (Some false) (Some true) → ⊥
@@ -167,14 +179,14 @@ renamed_given w w' d₁ x₁ d₂ x₂ s sc cookie a new next there cookies = re
   cookies = cookies;
   entries = λ n y m c _ h. ⊎_elim
       (λ e.
-      let own : cookie ≡ c = second (sym a.put ∙ sym (λ i. places w' (e.0 i) (e.1 i)) ∙ h) in
+      let own : cookie ≡ c = second (sym a.put ∙ sym (λ i. directory_entries w' (e.0 i) (e.1 i)) ∙ h) in
       let same = ap (λ m. (listing w m).next) e.0 in
       inr (omega (arith, own, same, new)))
       (λ n₂. ⊎_elim
-      (λ e. absurd (none_some (sym a.taken ∙ sym (λ i. places w' (e.0 i) (e.1 i)) ∙ h)))
+      (λ e. absurd (none_some (sym a.taken ∙ sym (λ i. directory_entries w' (e.0 i) (e.1 i)) ∙ h)))
       (λ n₁. inl (sym (a.rest n y n₁ n₂) ∙ h))
-      (same_place n d₁ y x₁))
-      (same_place n d₂ y x₂);
+      (same_entry n d₁ y x₁))
+      (same_entry n d₂ y x₂);
 }
   where
     second : {m p q : ℕ} → ◌≡◌ {A = Option (ℕ × ℕ)} (Some (s, p)) (Some (m, q)) → p ≡ q

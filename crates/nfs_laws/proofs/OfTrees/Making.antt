@@ -6,7 +6,7 @@ use Rattle.nfs_spec.specs.nfs_items.Timeval.{Timeval}
 use Rattle.nfs_spec.specs.nfs_items.Caller.{Caller}
 use Rattle.nfs_spec.specs.fs_model.Listing.{Listing}
 use Rattle.nfs_spec.specs.fs_model.Files.{File, Files, file_at, listing_in, listing, is_directory}
-use Rattle.nfs_spec.specs.fs_model.Files.{IsDirectory, places}
+use Rattle.nfs_spec.specs.fs_model.Files.{IsDirectory, directory_entries}
 use Rattle.nfs_spec.specs.fs_model.Trees.{IsTime, IsFile, IsFileTree}
 use Rattle.nfs_spec.specs.fs_model.Changes.Edits.{with_new_file, with_name}
 use Rattle.nfs_spec.proofs.fs_model.OfChanges.Finite.{new_other, changed_other}
@@ -25,15 +25,16 @@ use Rattle.nfs_laws.proofs.OfTrees.FilesFit.{is_dir, is_there, missing, next_fre
 use Rattle.nfs_laws.proofs.OfTrees.FilesFit.{mark_shape, touch_files, mark_files, named_files, distinct_names}
 
 -- nothing is listed by what is no directory or not there
-unlisted : (w : Files) (n : ℕ) (y : List ℕ) → (kind w n ≡ Some true → ⊥) → IsFileTree w → places w n y ≡ None
-unlisted w n y not tree = by (places w n y) refl
+unlisted : (w : Files) (n : ℕ) (y : List ℕ) → (kind w n ≡ Some true → ⊥) → IsFileTree w
+    → directory_entries w n y ≡ None
+unlisted w n y not tree = by (directory_entries w n y) refl
   where
-    by : (o : Option (ℕ × ℕ)) → places w n y ≡ o → places w n y ≡ None
+    by : (o : Option (ℕ × ℕ)) → directory_entries w n y ≡ o → directory_entries w n y ≡ None
     by None e = e
     by (Some p) e = absurd (not (tree.tree.lists n y p.0 p.1 e))
 
 module _ (now : Timeval) (time : IsTime now) (w : Files) (tree : IsFileTree w) (who : Caller) (dir : ℕ)
-    (name : List ℕ) (edit : MayEdit w who dir name) (free : places w dir name ≡ None)
+    (name : List ℕ) (edit : MayEdit w who dir name) (free : directory_entries w dir name ≡ None)
     (bound : length name ≤ 255) where
   next_cookie : (listing_in edit.file.body).next ≡ (listing w dir).next
   next_cookie = ap (λ (l : Listing). l.next) (sym (listing_there w dir edit.file edit.there))
@@ -51,7 +52,8 @@ module _ (now : Timeval) (time : IsTime now) (w : Files) (tree : IsFileTree w) (
     more = new_shape w f (next_free w tree) empty
 
     other : dir ≢ w.next
-    other e = missing (file_at w w.next) (next_free w tree) (subst (λ m. IsSome (file_at w m)) e (is_there w dir edit.file edit.there))
+    other e = missing (file_at w w.next) (next_free w tree)
+        (subst (λ m. IsSome (file_at w m)) e (is_there w dir edit.file edit.there))
 
     there₁ : file_at w₁ dir ≡ Some edit.file
     unfolding w₁
@@ -65,7 +67,8 @@ module _ (now : Timeval) (time : IsTime now) (w : Files) (tree : IsFileTree w) (
     unfolding w₂
     named =
         subst (IsNamed w₁ (with_name w₁ dir name w.next) dir name w.next) next_cookie
-        (named_shape w₁ dir name edit.file there₁ edit.directory (distinct_names w₁ dir edit.file files₁ there₁) w.next)
+        (named_shape w₁ dir name edit.file there₁ edit.directory
+        (distinct_names w₁ dir edit.file files₁ there₁) w.next)
 
     touched_shape : IsSameShape w₂ (add_file now w dir name f)
     unfolding w₁ w₂
@@ -77,11 +80,13 @@ module _ (now : Timeval) (time : IsTime now) (w : Files) (tree : IsFileTree w) (
       dir = is_dir w dir edit.file edit.there edit.directory;
       free = free;
       change = record {
-        here = touched_shape.places dir name ∙ named.change.here;
-        rest = λ n y not. touched_shape.places n y ∙ named.change.rest n y not ∙ more.places n y;
+        here = touched_shape.directory_entries dir name ∙ named.change.here;
+        rest = λ n y not. touched_shape.directory_entries n y ∙ named.change.rest n y not
+            ∙ more.directory_entries n y;
       };
-      empty = λ y. touched_shape.places w.next y ∙ named.change.rest w.next y (λ e. other (sym e.0))
-          ∙ more.places w.next y ∙ unlisted w w.next y next_no_dir tree;
+      empty = λ y. touched_shape.directory_entries w.next y
+          ∙ named.change.rest w.next y (λ e. other (sym e.0))
+          ∙ more.directory_entries w.next y ∙ unlisted w w.next y next_no_dir tree;
       kinds = λ n ne. touched_shape.kinds n ∙ named.kinds n ∙ more.kinds n ne;
       there = ap is_some (touched_shape.kinds w.next ∙ named.kinds w.next ∙ more.new);
       not_root = λ e. absurd (omega (arith, e, tree.numbers 1 (tree.tree.there 1 tree.tree.root)));
@@ -90,9 +95,12 @@ module _ (now : Timeval) (time : IsTime now) (w : Files) (tree : IsFileTree w) (
           let a = touched_shape.names n in
           let b = named.names n in
           let c = more.names n in
-          let zero = ap (leads n) (more.places dir name ∙ free) in
+          let zero = ap (leads n) (more.directory_entries dir name ∙ free) in
           omega (arith, a, b, c, zero);
-      number = (omega (arith, tree.numbers 1 (tree.tree.there 1 tree.tree.root)), omega (arith, touched_shape.next, named.next, more.next));
+      number = (
+        omega (arith, tree.numbers 1 (tree.tree.there 1 tree.tree.root)),
+        omega (arith, touched_shape.next, named.next, more.next),
+      );
       next = omega (arith, touched_shape.next, named.next, more.next);
       name = (edit.named, bound);
       files = touch_files now w₂ dir time (named_files w₁ dir name w.next files₁);
@@ -134,7 +142,8 @@ module _ (now : Timeval) (time : IsTime now) (w : Files) (tree : IsFileTree w) (
     unfolding u₂
     u_named =
         subst (IsNamed u₁ (with_name u₁ dir name k) dir name k) next_cookie
-        (named_shape u₁ dir name edit.file u_there edit.directory (distinct_names u₁ dir edit.file u_files u_there) k)
+        (named_shape u₁ dir name edit.file u_there edit.directory
+        (distinct_names u₁ dir edit.file u_files u_there) k)
 
     u_touched : IsSameShape u₂ (touch now (with_name (touch_ctime now w k) dir name k) dir)
     unfolding u₁ u₂
@@ -147,22 +156,25 @@ module _ (now : Timeval) (time : IsTime now) (w : Files) (tree : IsFileTree w) (
       dir = is_dir w dir edit.file edit.there edit.directory;
       free = free;
       change = record {
-        here = u_touched.places dir name ∙ u_named.change.here;
-        rest = λ n y not. u_touched.places n y ∙ u_named.change.rest n y not ∙ marked_shape.places n y;
+        here = u_touched.directory_entries dir name ∙ u_named.change.here;
+        rest = λ n y not. u_touched.directory_entries n y ∙ u_named.change.rest n y not
+            ∙ marked_shape.directory_entries n y;
       };
-      empty = λ y. u_touched.places k y ∙ u_named.change.rest k y (λ e. apart (sym e.0))
-          ∙ marked_shape.places k y ∙ unlisted w k y (λ h. true_false (sym h ∙ kind_k)) tree;
+      empty = λ y. u_touched.directory_entries k y ∙ u_named.change.rest k y (λ e. apart (sym e.0))
+          ∙ marked_shape.directory_entries k y ∙ unlisted w k y (λ h. true_false (sym h ∙ kind_k)) tree;
       kinds = λ n ne. u_touched.kinds n ∙ u_named.kinds n ∙ marked_shape.kinds n;
       there = ap is_some (u_touched.kinds k ∙ u_named.kinds k ∙ marked_shape.kinds k ∙ kind_k);
       not_root = λ e. true_false (sym tree.tree.root ∙ ap (kind w) (sym e) ∙ kind_k);
-      fresh = λ h. absurd (true_false (sym h ∙ u_touched.kinds k ∙ u_named.kinds k ∙ marked_shape.kinds k ∙ kind_k));
+      fresh = λ h. absurd (true_false (sym h ∙ u_touched.kinds k ∙ u_named.kinds k ∙ marked_shape.kinds k
+          ∙ kind_k));
       names = λ n.
           let a = u_touched.names n in
           let b = u_named.names n in
           let c = marked_shape.names n in
-          let zero = ap (leads n) (marked_shape.places dir name ∙ free) in
+          let zero = ap (leads n) (marked_shape.directory_entries dir name ∙ free) in
           omega (arith, a, b, c, zero);
-      number = let n = tree.numbers k (is_there w k f there_k) in (n.0, omega (arith, n, u_touched.next, u_named.next, marked_shape.next));
+      number = let n = tree.numbers k (is_there w k f there_k) in
+          (n.0, omega (arith, n, u_touched.next, u_named.next, marked_shape.next));
       next = omega (arith, u_touched.next, u_named.next, marked_shape.next);
       name = (edit.named, bound);
       files = touch_files now u₂ dir time (named_files u₁ dir name k u_files);
@@ -183,13 +195,16 @@ module _ (now : Timeval) (time : IsTime now) (w : Files) (tree : IsFileTree w) (
 
     -- what makes a file adds one entry, with the next number and the directory's next cookie
     pub make_added : IsAdded w after dir name number (listing w dir).next
-    make_added = as_made (λ n v. IsAdded w v dir name n (listing w dir).next) (made_added now time w tree who dir name o.directory o.free bound f empty fits)
+    make_added =
+        as_made (λ n v. IsAdded w v dir name n (listing w dir).next)
+        (made_added now time w tree who dir name o.directory o.free bound f empty fits)
 
     given : GivesAnew w (add_file now w dir name f)
     given =
         let one = with_new_file w f in
         let a = made_added now time w tree who dir name o.directory o.free bound f empty fits in
-        added_given w (add_file now w dir name f) dir name w.next (listing w dir).next a (omega arith) (inr (omega arith))
+        added_given w (add_file now w dir name f) dir name w.next (listing w dir).next a (omega arith)
+        (inr (omega arith))
         (λ n is. omega (
           arith,
           cookie_new w f n (not_next w tree n is),
@@ -217,7 +232,8 @@ module _ (now : Timeval) (time : IsTime now) (w : Files) (tree : IsFileTree w) (
     given_linked : GivesAnew w (touch now (with_name (touch_ctime now w from) dir name from) dir)
     given_linked =
         let one = touch_ctime now w from in
-        added_given w (touch now (with_name one dir name from) dir) dir name from (listing w dir).next linked (omega arith) (inl (ap is_some o.there))
+        added_given w (touch now (with_name one dir name from) dir) dir name from (listing w dir).next linked
+        (omega arith) (inl (ap is_some o.there))
         (λ n is. omega (
           arith,
           cookie_marked now w from n,

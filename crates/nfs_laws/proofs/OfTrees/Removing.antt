@@ -1,4 +1,5 @@
--- REMOVE and RMDIR take one entry out and leave a tree a tree: a name of a file goes, and with the last name the number.
+-- REMOVE and RMDIR take one entry out and leave a tree a tree: a name of a file goes, and with the last name
+-- the number.
 -- Serves: removing_takes_a_path, trees_stay_trees, nothing_is_given_again and no_limit_is_passed;
 -- the_last_name_takes_the_file (frames).
 use Rattle.std.proofs.Common.{◌≡◌, ◌≢◌, ⊎_elim, inl, inr, ℕ, ◌<◌, Bool, true, false, List, [], Some, None}
@@ -10,7 +11,8 @@ use Rattle.std.proofs.lemmas.Bool.{cases_eq, eqb-true, eqb-false}
 use Rattle.nfs_spec.specs.nfs_items.Timeval.{Timeval}
 use Rattle.nfs_spec.specs.nfs_items.Caller.{Caller}
 use Rattle.nfs_spec.specs.fs_model.Listing.{entry_at}
-use Rattle.nfs_spec.specs.fs_model.Files.{File, Files, file_at, listing_in, is_directory, places, names_of}
+use Rattle.nfs_spec.specs.fs_model.Files.{File, Files, file_at, listing_in, is_directory, directory_entries}
+use Rattle.nfs_spec.specs.fs_model.Files.{names_of}
 use Rattle.nfs_spec.specs.fs_model.Trees.{IsTime, IsFileTree}
 use Rattle.nfs_spec.proofs.fs_model.Walks.{none_some}
 use Rattle.nfs_spec.proofs.fs_model.OnePath.{root_has_no_name}
@@ -34,7 +36,11 @@ pub taken_then : (u v w : Files) (d : ℕ) (x : List ℕ) (k c : ℕ) → IsTake
     → AllFiles w → IsTaken u w d x k c
 taken_then u v w d x k c a s files = record {
   had = a.had;
-  change = record { here = s.places d x ∙ a.change.here; rest = λ n y not. s.places n y ∙ a.change.rest n y not };
+  change = record {
+    here = s.directory_entries d x ∙ a.change.here;
+    rest =
+        λ n y not. s.directory_entries n y ∙ a.change.rest n y not;
+  };
   empty = a.empty;
   kinds = λ n ne. s.kinds n ∙ a.kinds n ne;
   left = ⊎_elim
@@ -47,14 +53,14 @@ taken_then u v w d x k c a s files = record {
 }
 
 module _ (now : Timeval) (time : IsTime now) (w : Files) (tree : IsFileTree w) (d : ℕ) (x : List ℕ) (n c : ℕ)
-    (had : places w d x ≡ Some (n, c)) (f : File) (there : file_at w n ≡ Some f)
+    (had : directory_entries w d x ≡ Some (n, c)) (f : File) (there : file_at w n ≡ Some f)
     (empty : (listing_in f.body).entries ≡ []) where
-  nothing_below : (y : List ℕ) → places w n y ≡ None
+  nothing_below : (y : List ℕ) → directory_entries w n y ≡ None
   nothing_below y = ap (option_and_then (λ f. entry_at (listing_in f.body) y)) there
       ∙ ap (λ (es : List (List ℕ × (ℕ × ℕ))). lookup (pointwise nat_eq y) es) empty
 
   apart : n ≢ d
-  apart e = none_some (sym (ap (λ m. places w m x) (sym e) ∙ nothing_below x) ∙ had)
+  apart e = none_some (sym (ap (λ m. directory_entries w m x) (sym e) ∙ nothing_below x) ∙ had)
 
   dir_kind : kind w d ≡ Some true
   dir_kind = tree.tree.lists d x n c had
@@ -68,13 +74,14 @@ module _ (now : Timeval) (time : IsTime now) (w : Files) (tree : IsFileTree w) (
 
   less : IsUnnamed w w₁ d x
   unfolding w₁
-  less = let df = dir_file w d dir_kind in unnamed_shape w d x df.0 df.1 df.2 (distinct_names w d df.0 tree.files df.1)
+  less = let df = dir_file w d dir_kind in
+      unnamed_shape w d x df.0 df.1 df.2 (distinct_names w d df.0 tree.files df.1)
 
   there₁ : file_at w₁ n ≡ Some f
   unfolding w₁
   there₁ = changed_other w d _ n apart ∙ there
 
-  own_leads : (m : ℕ) → leads m (places w d x) ≡ one m n
+  own_leads : (m : ℕ) → leads m (directory_entries w d x) ≡ one m n
   own_leads m = ap (leads m) had
 
   one_less : IsOneLess w₁ (without_file w₁ n) n
@@ -83,7 +90,11 @@ module _ (now : Timeval) (time : IsTime now) (w : Files) (tree : IsFileTree w) (
   all_gone : names_of w₁ n ≡ 0 → IsTaken w (without_file w₁ n) d x n c
   all_gone zero = record {
     had = had;
-    change = record { here = one_less.places d x ∙ less.change.here; rest = λ m y not. one_less.places m y ∙ less.change.rest m y not };
+    change = record {
+      here = one_less.directory_entries d x ∙ less.change.here;
+      rest =
+          λ m y not. one_less.directory_entries m y ∙ less.change.rest m y not;
+    };
     empty = nothing_below;
     kinds = λ m ne. one_less.kinds m ne ∙ less.kinds m;
     left = inr (one_less.gone, one_less.names n ∙ zero);
@@ -101,7 +112,14 @@ module _ (now : Timeval) (time : IsTime now) (w : Files) (tree : IsFileTree w) (
       by true e =
           let not_root : n ≢ 1 = λ r. root_has_no_name w tree d c x (had ∙ ap (λ m. Some (m, c)) r) in
           let own = one_same n n refl in
-          absurd (omega (arith, some, less.names n, own_leads n, own, tree.directories n not_root (is_dir w n f there e)))
+          absurd (omega (
+            arith,
+            some,
+            less.names n,
+            own_leads n,
+            own,
+            tree.directories n not_root (is_dir w n f there e),
+          ))
 
   some_left : 0 < names_of w₁ n → IsTaken w (touch_ctime now w₁ n) d x n c
   some_left some =
@@ -110,7 +128,11 @@ module _ (now : Timeval) (time : IsTime now) (w : Files) (tree : IsFileTree w) (
       ∙ ap (λ b. Some b) (plain some) in
       record {
         had = had;
-        change = record { here = s.places d x ∙ less.change.here; rest = λ m y not. s.places m y ∙ less.change.rest m y not };
+        change = record {
+          here = s.directory_entries d x ∙ less.change.here;
+          rest =
+              λ m y not. s.directory_entries m y ∙ less.change.rest m y not;
+        };
         empty = nothing_below;
         kinds = λ m ne. s.kinds m ∙ less.kinds m;
         left = inl (s.kinds n ∙ less.kinds n ∙ own, own, omega (arith, s.names n, some));
@@ -126,7 +148,9 @@ module _ (now : Timeval) (time : IsTime now) (w : Files) (tree : IsFileTree w) (
     where
       by : (b : Bool) → eqb (names_of w₁ n) 0 ≡ b → IsTaken w (after_unlink b now w₁ n) d x n c
       by true e = all_gone (eqb-true _ _ e)
-      by false e = some_left (⊎_elim (λ z. absurd (eqb-false _ _ e z)) (λ ne. positive (names_of w₁ n) ne) (cases_eq (names_of w₁ n) 0))
+      by false e =
+          some_left (⊎_elim (λ z. absurd (eqb-false _ _ e z)) (λ ne. positive (names_of w₁ n) ne)
+          (cases_eq (names_of w₁ n) 0))
         where
           positive : (m : ℕ) → m ≢ 0 → 0 < m
           positive m ne = omega arith
@@ -135,7 +159,8 @@ module _ (now : Timeval) (time : IsTime now) (w : Files) (tree : IsFileTree w) (
   pub touched_taken : IsTaken w (touch now (unlink now w d x n) d) d x n c
   touched_taken =
       let v = unlink now w d x n in
-      taken_then w v (touch now v d) d x n c unnamed_taken (touch_shape now v d) (touch_files now v d time unnamed_taken.files)
+      taken_then w v (touch now v d) d x n c unnamed_taken (touch_shape now v d)
+      (touch_files now v d time unnamed_taken.files)
 
 -- ---- REMOVE, RMDIR
 
@@ -155,8 +180,13 @@ module _ (now : Timeval) (time : IsTime now) (w : Files) (tree : IsFileTree w) (
       subst (Follows w) (sym o.effect) (record {
         tree = stays_taken w end tree dir name o.number o.cookie taken;
         anew = taken_given w end dir name o.number o.cookie taken
-            (λ n ne. omega (arith, cookie_taken now w dir name o.number n ne, cookie_touched now (unlink now w dir name o.number) dir n))
+            (λ n ne. omega (
+              arith,
+              cookie_taken now w dir name o.number n ne,
+              cookie_touched now (unlink now w dir name o.number) dir n,
+            ))
             (ap is_some o.there);
         room = still_room w end
-            (no_more_then w (unlink now w dir name o.number) end (unlink_no_more now w dir name o.number) (touch_no_more now (unlink now w dir name o.number) dir));
+            (no_more_then w (unlink now w dir name o.number) end (unlink_no_more now w dir name o.number)
+            (touch_no_more now (unlink now w dir name o.number) dir));
       })

@@ -9,11 +9,11 @@ use Rattle.std.proofs.lemmas.Bool.{cases_eq, and_cases}
 use Rattle.nfs_spec.specs.nfs_items.Timeval.{Timeval}
 use Rattle.nfs_spec.specs.nfs_items.Caller.{Caller}
 use Rattle.nfs_spec.specs.fs_model.Listing.{Listing, entry_at, without_entry}
-use Rattle.nfs_spec.specs.fs_model.Paths.{Places, walk, path_at, Renames}
+use Rattle.nfs_spec.specs.fs_model.Paths.{DirectoryEntries, walk, path_at, Renames}
 use Rattle.nfs_spec.specs.fs_model.Files.{Body, Regular, Symlink, Directory, File, Files, file_at, listing_in}
-use Rattle.nfs_spec.specs.fs_model.Files.{listing, is_directory, places, names_of}
+use Rattle.nfs_spec.specs.fs_model.Files.{listing, is_directory, directory_entries, names_of}
 use Rattle.nfs_spec.specs.fs_model.Trees.{IsTime, IsFileTree}
-use Rattle.nfs_spec.proofs.fs_model.Walks.{none_some, some_same, same_place}
+use Rattle.nfs_spec.proofs.fs_model.Walks.{none_some, some_same, same_entry}
 use Rattle.nfs_spec.specs.fs_model.Changes.Edits.{with_changed_file, map_listing, map_body_listing, with_name}
 use Rattle.nfs_spec.specs.fs_model.Changes.Edits.{without_name}
 use Rattle.nfs_spec.proofs.fs_model.OfChanges.Finite.{changed_here, changed_other, gone_other}
@@ -36,7 +36,8 @@ use Rattle.nfs_laws.proofs.OfTrees.RenameRoom.{moved_room}
 use Rattle.nfs_laws.proofs.OfTrees.Above.{above_found, on_way}
 
 -- a walk where less lies is one where more lies
-walk_less : (at to : Places) → ((n : ℕ) (y : List ℕ) (e : ℕ × ℕ) → to n y ≡ Some e → at n y ≡ Some e)
+walk_less : (at to : DirectoryEntries)
+    → ((n : ℕ) (y : List ℕ) (e : ℕ × ℕ) → to n y ≡ Some e → at n y ≡ Some e)
     → (e f : ℕ × ℕ) (p : List (List ℕ)) → walk to e p ≡ Some f → walk at e p ≡ Some f
 walk_less at to less e f [] h = h
 walk_less at to less e f (y ∷ p) h = by (to e.0 y) refl (λ g. walk_less at to less g f p)
@@ -57,12 +58,14 @@ next_changed : (w : Files) (k : ℕ) (change : File → File)
     → next_in (with_changed_file w k change) n ≡ next_in w n
 unfolding next_in
 next_changed w k change keeps n = ⊎_elim
-    (λ e. ap (option_map (λ f. (listing_in f.body).next)) (changed_here w k change n e) ∙ by (file_at w k) ∙ sym (ap (λ m. option_map (λ f. (listing_in f.body).next) (file_at w m)) e))
+    (λ e. ap (option_map (λ f. (listing_in f.body).next)) (changed_here w k change n e) ∙ by (file_at w k)
+    ∙ sym (ap (λ m. option_map (λ f. (listing_in f.body).next) (file_at w m)) e))
     (λ ne. ap (option_map (λ f. (listing_in f.body).next)) (changed_other w k change n ne))
     (cases_eq n k)
   where
     by : (o : Option File)
-        → option_map (λ f. (listing_in f.body).next) (option_map change o) ≡ option_map (λ f. (listing_in f.body).next) o
+        → option_map (λ f. (listing_in f.body).next) (option_map change o)
+        ≡ option_map (λ f. (listing_in f.body).next) o
     by None = refl
     by (Some f) = ap (λ m. Some m) (keeps f)
 
@@ -79,22 +82,31 @@ next_unnamed w d x = next_changed w d (map_listing (λ l. without_entry l x)) (�
 
 record IsCleared (w w₁ : Files) (d : ℕ) (x : List ℕ) : Type 0 where
   tree : IsFileTree w₁
-  free : places w₁ d x ≡ None
-  rest : (n : ℕ) (y : List ℕ) → ((n ≡ d) × (y ≡ x) → ⊥) → places w₁ n y ≡ places w n y
-  kinds : (n : ℕ) → ((c : ℕ) → places w d x ≢ Some (n, c)) → kind w₁ n ≡ kind w n
+  free : directory_entries w₁ d x ≡ None
+  rest : (n : ℕ) (y : List ℕ) → ((n ≡ d) × (y ≡ x) → ⊥) → directory_entries w₁ n y ≡ directory_entries w n y
+  kinds : (n : ℕ) → ((c : ℕ) → directory_entries w d x ≢ Some (n, c)) → kind w₁ n ≡ kind w n
   cookie : next_in w₁ d ≡ next_in w d
   anew : GivesAnew w w₁
 
 module _ (now : Timeval) (time : IsTime now) (w : Files) (tree : IsFileTree w) (d : ℕ) (x : List ℕ)
-    (f : File) (target : (t c : ℕ) → places w d x ≡ Some (t, c) → MayReplace w f t) where
-  unlists : (t c : ℕ) → places w d x ≡ Some (t, c) → (y : List ℕ) → places w t y ≡ None
+    (f : File) (target : (t c : ℕ) → directory_entries w d x ≡ Some (t, c) → MayReplace w f t) where
+  unlists : (t c : ℕ) → directory_entries w d x ≡ Some (t, c) → (y : List ℕ) → directory_entries w t y ≡ None
   unlists t c h y = let g = target t c h in ap (option_and_then (λ f. entry_at (listing_in f.body) y)) g.there
       ∙ ap (λ (es : List (List ℕ × (ℕ × ℕ))). lookup (pointwise nat_eq y) es) g.empty
 
-  is_cleared : (o : Option (ℕ × ℕ)) → places w d x ≡ o
+  is_cleared : (o : Option (ℕ × ℕ)) → directory_entries w d x ≡ o
       → IsCleared w (unlink_target now w d x (option_map (λ e. e.0) o)) d x
   unfolding next_in
-  is_cleared None h = record { tree = tree; free = h; rest = λ n y not. refl; kinds = λ n not. refl; cookie = refl; anew = nothing_given w }
+  is_cleared None h =
+      record {
+        tree = tree;
+        free = h;
+        rest = λ n y not. refl;
+        kinds = λ n not. refl;
+        cookie = refl;
+        anew =
+            nothing_given w;
+      }
   is_cleared (Some t) h =
       let g = target t.0 t.1 h in
       let a = unnamed_taken now time w tree d x t.0 t.1 h g.other g.there g.empty in
@@ -104,12 +116,15 @@ module _ (now : Timeval) (time : IsTime now) (w : Files) (tree : IsFileTree w) (
         rest = a.change.rest;
         kinds = λ n not. a.kinds n (λ e. not t.1 (h ∙ ap (λ m. Some (m, t.1)) (sym e)));
         anew = taken_given w _ d x t.0 t.1 a (cookie_taken now w d x t.0) (ap is_some g.there);
-        cookie = by_left (eqb (names_of (without_name w d x) t.0) 0) t.0 (λ e. none_some (sym (unlists t.0 t.1 h x) ∙ ap (λ m. places w m x) e ∙ h));
+        cookie = by_left (eqb (names_of (without_name w d x) t.0) 0) t.0
+            (λ e. none_some (sym (unlists t.0 t.1 h x) ∙ ap (λ m. directory_entries w m x) e ∙ h));
       }
     where
       by_left : (b : Bool) (k : ℕ) → k ≢ d
           → next_in (after_unlink b now (without_name w d x) k) d ≡ next_in w d
-      by_left true k not = ap (option_map (λ f. (listing_in f.body).next)) (gone_other (without_name w d x) k d (λ e. not (sym e)))
+      by_left true k not =
+          ap (option_map (λ f. (listing_in f.body).next))
+          (gone_other (without_name w d x) k d (λ e. not (sym e)))
           ∙ next_unnamed w d x d
       by_left false k not = next_changed (without_name w d x) k (with_ctime now) (λ f. refl) d
           ∙ next_unnamed w d x d
@@ -123,9 +138,10 @@ module _ (now : Timeval) (time : IsTime now) (w : Files) (tree : IsFileTree w) (
   dir₂ : kind w to ≡ Some true
   dir₂ = is_dir w to o.target.file o.target.there o.target.directory
 
-  not_above : (r : List (List ℕ)) (c : ℕ) → walk (places w) (o.number, o.cookie) r ≢ Some (to, c)
+  not_above : (r : List (List ℕ)) (c : ℕ) → walk (directory_entries w) (o.number, o.cookie) r ≢ Some (to, c)
   not_above r c h = ⊎_elim
-      (λ plain. some_false (sym (ap (option_map (λ f. is_directory f.body)) o.there ∙ ap (λ v. Some v) plain) ∙ on_way w tree (o.number, o.cookie) r to c h dir₂))
+      (λ plain. some_false (sym (ap (option_map (λ f. is_directory f.body)) o.there ∙ ap (λ v. Some v) plain)
+      ∙ on_way w tree (o.number, o.cookie) r to c h dir₂))
       (λ low. tf (sym (above_found w tree o.number o.cookie r to c dir₂ h) ∙ low))
       (and_cases (is_directory o.file.body) (is_above w o.number to) m.not_above)
     where
@@ -135,28 +151,28 @@ module _ (now : Timeval) (time : IsTime now) (w : Files) (tree : IsFileTree w) (
       some_false : ◌≡◌ {A = Option Bool} (Some false) (Some true) → ⊥
       some_false h = cc
 
-  target : (t c : ℕ) → places w to to_name ≡ Some (t, c) → MayReplace w o.file t
+  target : (t c : ℕ) → directory_entries w to to_name ≡ Some (t, c) → MayReplace w o.file t
   target t c h = m.replaces t c h
 
   w₁ : Files
-  w₁ = unlink_target now w to to_name (option_map (λ e. e.0) (places w to to_name))
+  w₁ = unlink_target now w to to_name (option_map (λ e. e.0) (directory_entries w to to_name))
 
   a₁ : IsCleared w w₁ to to_name
   unfolding w₁
-  a₁ = is_cleared now time w tree to to_name o.file target (places w to to_name) refl
+  a₁ = is_cleared now time w tree to to_name o.file target (directory_entries w to to_name) refl
 
   -- what lists is not the target
-  lists_on : (n : ℕ) (y : List ℕ) (e : ℕ × ℕ) → places w n y ≡ Some e → (c : ℕ)
-      → places w to to_name ≢ Some (n, c)
+  lists_on : (n : ℕ) (y : List ℕ) (e : ℕ × ℕ) → directory_entries w n y ≡ Some e → (c : ℕ)
+      → directory_entries w to to_name ≢ Some (n, c)
   lists_on n y e h c is = none_some (sym (unlists now time w tree to to_name o.file target n c is y) ∙ h)
 
-  not_target₂ : (c : ℕ) → places w to to_name ≢ Some (to, c)
+  not_target₂ : (c : ℕ) → directory_entries w to to_name ≢ Some (to, c)
   not_target₂ c h = lists_on to to_name (to, c) h c h
 
   apart : (from ≡ to) × (from_name ≡ to_name) → ⊥
-  apart e = m.other o.cookie (sym (λ i. places w (e.0 i) (e.1 i)) ∙ o.is_named)
+  apart e = m.other o.cookie (sym (λ i. directory_entries w (e.0 i) (e.1 i)) ∙ o.is_named)
 
-  source₁ : places w₁ from from_name ≡ Some (o.number, o.cookie)
+  source₁ : directory_entries w₁ from from_name ≡ Some (o.number, o.cookie)
   source₁ = a₁.rest from from_name apart ∙ o.is_named
 
   dir₁₁ : kind w₁ from ≡ Some true
@@ -171,7 +187,8 @@ module _ (now : Timeval) (time : IsTime now) (w : Files) (tree : IsFileTree w) (
 
   less : IsUnnamed w₁ w₂ from from_name
   unfolding w₂
-  less = let f = dir_file w₁ from dir₁₁ in unnamed_shape w₁ from from_name f.0 f.1 f.2 (distinct_names w₁ from f.0 a₁.tree.files f.1)
+  less = let f = dir_file w₁ from dir₁₁ in
+      unnamed_shape w₁ from from_name f.0 f.1 f.2 (distinct_names w₁ from f.0 a₁.tree.files f.1)
 
   files₂ : AllFiles w₂
   unfolding w₂
@@ -183,7 +200,9 @@ module _ (now : Timeval) (time : IsTime now) (w : Files) (tree : IsFileTree w) (
   same_cookie : (listing_in to_file.0.body).next ≡ (listing w to).next
   unfolding next_in w₂
   same_cookie =
-      some_same (sym (ap (option_map (λ f. (listing_in f.body).next)) to_file.1) ∙ next_unnamed w₁ from from_name to ∙ a₁.cookie ∙ ap (option_map (λ f. (listing_in f.body).next)) o.target.there)
+      some_same (sym (ap (option_map (λ f. (listing_in f.body).next)) to_file.1)
+      ∙ next_unnamed w₁ from from_name to ∙ a₁.cookie
+      ∙ ap (option_map (λ f. (listing_in f.body).next)) o.target.there)
       ∙ sym (ap (λ (l : Listing). l.next) (listing_there w to o.target.file o.target.there))
 
   w₃ : Files
@@ -191,7 +210,9 @@ module _ (now : Timeval) (time : IsTime now) (w : Files) (tree : IsFileTree w) (
 
   more : IsNamed w₂ w₃ to to_name o.number (listing w to).next
   unfolding w₃
-  more = subst (λ c. IsNamed w₂ (with_name w₂ to to_name o.number) to to_name o.number c) same_cookie (named_shape w₂ to to_name to_file.0 to_file.1 to_file.2 (distinct_names w₂ to to_file.0 files₂ to_file.1) o.number)
+  more = subst (λ c. IsNamed w₂ (with_name w₂ to to_name o.number) to to_name o.number c) same_cookie
+      (named_shape w₂ to to_name to_file.0 to_file.1 to_file.2
+      (distinct_names w₂ to to_file.0 files₂ to_file.1) o.number)
 
   w₄ : Files
   w₄ = touch_ctime now w₃ o.number
@@ -204,37 +225,42 @@ module _ (now : Timeval) (time : IsTime now) (w : Files) (tree : IsFileTree w) (
 
   files₆ : AllFiles end
   unfolding w₃ w₄ w₅ end
-  files₆ = touch_files now w₅ to time (touch_files now w₄ from time (mark_files now w₃ o.number time (named_files w₂ to to_name o.number files₂)))
+  files₆ = touch_files now w₅ to time
+      (touch_files now w₄ from time
+      (mark_files now w₃ o.number time (named_files w₂ to to_name o.number files₂)))
 
   shape : IsSameShape w₃ end
   unfolding w₄ w₅ end
-  shape = same_then w₃ w₄ end (mark_shape now w₃ o.number) (same_then w₄ w₅ end (touch_shape now w₄ from) (touch_shape now w₅ to))
+  shape = same_then w₃ w₄ end (mark_shape now w₃ o.number)
+      (same_then w₄ w₅ end (touch_shape now w₄ from) (touch_shape now w₅ to))
 
-  put : places end to to_name ≡ Some (o.number, (listing w to).next)
-  put = shape.places to to_name ∙ more.change.here
+  put : directory_entries end to to_name ≡ Some (o.number, (listing w to).next)
+  put = shape.directory_entries to to_name ∙ more.change.here
 
-  taken : places end from from_name ≡ None
-  taken = shape.places from from_name ∙ more.change.rest from from_name apart ∙ less.change.here
+  taken : directory_entries end from from_name ≡ None
+  taken = shape.directory_entries from from_name ∙ more.change.rest from from_name apart ∙ less.change.here
 
   rest : (n : ℕ) (y : List ℕ) → ((n ≡ from) × (y ≡ from_name) → ⊥) → ((n ≡ to) × (y ≡ to_name) → ⊥)
-      → places end n y ≡ places w₁ n y
-  rest n y n₁ n₂ = shape.places n y ∙ more.change.rest n y n₂ ∙ less.change.rest n y n₁
+      → directory_entries end n y ≡ directory_entries w₁ n y
+  rest n y n₁ n₂ = shape.directory_entries n y ∙ more.change.rest n y n₂ ∙ less.change.rest n y n₁
 
-  free₂ : places w₂ to to_name ≡ None
+  free₂ : directory_entries w₂ to to_name ≡ None
   free₂ = less.change.rest to to_name (λ e. apart (sym e.0, sym e.1)) ∙ a₁.free
 
-  still : (n : ℕ) (y : List ℕ) (e : ℕ × ℕ) → places w₁ n y ≡ Some e → places w n y ≡ Some e
+  still : (n : ℕ) (y : List ℕ) (e : ℕ × ℕ) → directory_entries w₁ n y ≡ Some e
+      → directory_entries w n y ≡ Some e
   still n y e h = ⊎_elim
-      (λ same. absurd (none_some (sym a₁.free ∙ sym (λ i. places w₁ (same.0 i) (same.1 i)) ∙ h)))
+      (λ same. absurd (none_some (sym a₁.free ∙ sym (λ i. directory_entries w₁ (same.0 i) (same.1 i)) ∙ h)))
       (λ other. sym (a₁.rest n y other) ∙ h)
-      (same_place n to y to_name)
+      (same_entry n to y to_name)
 
   moves : IsMoved w₁ end from from_name to to_name o.number o.cookie (listing w to).next
   moves = record {
     renamed = record {
       dir = dir₂₁;
       source = source₁;
-      not_above = λ r c h. not_above r c (walk_less (places w) (places w₁) still (o.number, o.cookie) (to, c) r h);
+      not_above = λ r c h. not_above r c
+          (walk_less (directory_entries w) (directory_entries w₁) still (o.number, o.cookie) (to, c) r h);
       target = λ t c h. absurd (none_some (sym a₁.free ∙ h));
       put = put;
       taken = taken;
@@ -267,9 +293,11 @@ module _ (now : Timeval) (time : IsTime now) (w : Files) (tree : IsFileTree w) (
 
   given : GivesAnew w end
   unfolding w₂ w₃ w₄ w₅ end
-  given = renamed_given w end from from_name to to_name o.number o.cookie (listing w to).next renames (omega arith)
+  given = renamed_given w end from from_name to to_name o.number o.cookie (listing w to).next renames
+      (omega arith)
       (omega (arith, a₁.anew.next, moves.next))
-      (λ n is. a₁.anew.numbers n (is_some-kind w₁ n ∙ ap is_some (sym (moves.kinds n)) ∙ sym (is_some-kind end n) ∙ is))
+      (λ n is. a₁.anew.numbers n
+      (is_some-kind w₁ n ∙ ap is_some (sym (moves.kinds n)) ∙ sym (is_some-kind end n) ∙ is))
       (λ n is is'. omega (
         arith,
         a₁.anew.cookies n is (sym (moves.kinds n) ∙ is'),
@@ -286,15 +314,20 @@ module _ (now : Timeval) (time : IsTime now) (w : Files) (tree : IsFileTree w) (
   renames_follows = subst (Follows w) (sym m.effect) (record {
     tree = stays_moved w₁ end a₁.tree from from_name to to_name o.number o.cookie (listing w to).next moves;
     anew = given;
-    room = moved_room now w o.number from from_name to to_name (option_map (λ e. e.0) (places w to to_name)) (o.number, o.cookie) source₁ to_file.0 to_file.1 to_file.2 free₂
+    room = moved_room now w o.number from from_name to to_name
+        (option_map (λ e. e.0) (directory_entries w to to_name))
+        (o.number, o.cookie) source₁ to_file.0 to_file.1 to_file.2 free₂
         (omega (arith, same_cookie, m.cookie));
   })
 
   -- what the one path led to is at the other, with all below it and the directory's next cookie
-  pub renames_paths : (p q : List (List ℕ)) (b c : ℕ) → path_at (places w) p ≡ Some (from, b)
-      → path_at (places w) q ≡ Some (to, c)
-      → Renames (path_at (places w)) (path_at (places after)) (p ++ from_name ∷ []) (q ++ to_name ∷ []) (listing w to).next
+  pub renames_paths : (p q : List (List ℕ)) (b c : ℕ) → path_at (directory_entries w) p ≡ Some (from, b)
+      → path_at (directory_entries w) q ≡ Some (to, c)
+      → Renames (path_at (directory_entries w)) (path_at (directory_entries after)) (p ++ from_name ∷ [])
+      (q ++ to_name ∷ []) (listing w to).next
   unfolding w₁ w₂ w₃ w₄ w₅ end
   renames_paths p q b c at_from at_to =
-      subst (λ (v : Files). Renames (path_at (places w)) (path_at (places v)) (p ++ from_name ∷ []) (q ++ to_name ∷ []) (listing w to).next) (sym m.effect)
-      (renames_path w end tree from from_name to to_name o.number o.cookie (listing w to).next renames p q b c at_from at_to)
+      subst (λ (v : Files). Renames (path_at (directory_entries w)) (path_at (directory_entries v))
+      (p ++ from_name ∷ []) (q ++ to_name ∷ []) (listing w to).next) (sym m.effect)
+      (renames_path w end tree from from_name to to_name o.number o.cookie
+      (listing w to).next renames p q b c at_from at_to)

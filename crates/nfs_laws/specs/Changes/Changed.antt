@@ -4,7 +4,8 @@ use Rattle.std.specs.Prelude.{slice_index, Some, None, if◌then◌else◌}
 use Rattle.nfs_spec.specs.nfs_items.Timeval.{Timeval}
 use Rattle.nfs_spec.specs.nfs_items.Terms.{FileNumber, Cookie, Name}
 use Rattle.nfs_spec.specs.fs_model.Listing.{Listing, with_entry, without_entry}
-use Rattle.nfs_spec.specs.fs_model.Files.{Regular, Directory, File, Files, file_at, places, names_of}
+use Rattle.nfs_spec.specs.fs_model.Files.{Regular, Directory, File, Files, file_at, directory_entries}
+use Rattle.nfs_spec.specs.fs_model.Files.{names_of}
 use Rattle.nfs_spec.specs.Sattr.{GivenFields}
 use Rattle.nfs_spec.specs.Changes.{apply_fields}
 
@@ -65,7 +66,8 @@ pub record ChangesBytes (Change : List ℕ → List ℕ → Type 0) (old new : F
 -- ---- what the procedures do to the files that they name
 
 -- SETATTR: what is given is set, and the rest stays; mtime is now where a size is given, and ctime where
--- anything is; bytes stay where no size is given, and a directory's entries and a link's target always
+-- anything is; bytes stay where no size is given, a directory's entries and a symbolic link's target
+-- always
 abbrev pub IsSetTo : Timeval → GivenFields → File → File → Type 0
 IsSetTo now a old new = new ≡ apply_fields now a old
 
@@ -79,13 +81,13 @@ pub record Makes (now : Timeval) (fs fs' : Files) (dir : FileNumber) (name : Nam
     (file : File) : Type 0 where
   pub number_is : number ≡ fs.next
   pub free : file_at fs number ≡ None
-  pub unused : places fs dir name ≡ None
+  pub unused : directory_entries fs dir name ≡ None
   pub made : file_at fs' number ≡ Some file
   pub directory : Becomes fs fs' dir (IsTouched now (λ l. with_entry l name number))
 
 -- LINK: a file has another name, which was free
 pub record Links (now : Timeval) (fs fs' : Files) (number dir : FileNumber) (name : Name) : Type 0 where
-  pub unused : places fs dir name ≡ None
+  pub unused : directory_entries fs dir name ≡ None
   pub file : Becomes fs fs' number (ChangesCtime now)
   pub directory : Becomes fs fs' dir (IsTouched now (λ l. with_entry l name number))
 
@@ -93,7 +95,7 @@ pub record Links (now : Timeval) (fs fs' : Files) (number dir : FileNumber) (nam
 pub record Unnames (now : Timeval) (fs fs' : Files) (dir : FileNumber) (name : Name) : Type 0 where
   pub number : FileNumber
   pub cookie : Cookie
-  pub was : places fs dir name ≡ Some (number, cookie)
+  pub was : directory_entries fs dir name ≡ Some (number, cookie)
   pub file : LosesName now fs fs' number
   pub directory : Becomes fs fs' dir (IsTouched now (λ l. without_entry l name))
 
@@ -107,9 +109,10 @@ pub record Moves (now : Timeval) (fs fs' : Files) (from : FileNumber) (from_name
     (to_name : Name) : Type 0 where
   pub number : FileNumber
   pub cookie : Cookie
-  pub was : places fs from from_name ≡ Some (number, cookie)
+  pub was : directory_entries fs from from_name ≡ Some (number, cookie)
   pub file : Becomes fs fs' number (ChangesCtime now)
-  pub target : (t : FileNumber) (c : Cookie) → places fs to to_name ≡ Some (t, c) → LosesName now fs fs' t
+  pub target : (t : FileNumber) (c : Cookie) → directory_entries fs to to_name ≡ Some (t, c)
+      → LosesName now fs fs' t
   pub source : from ≢ to → Becomes fs fs' from (IsTouched now (λ l. without_entry l from_name))
   pub apart : from ≢ to → Becomes fs fs' to (IsTouched now (λ l. with_entry l to_name number))
   pub within : from ≡ to

@@ -3,7 +3,7 @@ use Rattle.std.specs.Prelude.{◌≡◌, ◌≢◌, ℕ, List, [], Some, None}
 use Rattle.nfs_spec.specs.nfs_items.Timeval.{Timeval}
 use Rattle.nfs_spec.specs.nfs_items.Caller.{Caller}
 use Rattle.nfs_spec.specs.nfs_items.Terms.{FileNumber, Cookie, Name}
-use Rattle.nfs_spec.specs.fs_model.Files.{Files, file_at, places}
+use Rattle.nfs_spec.specs.fs_model.Files.{Files, file_at, directory_entries}
 use Rattle.nfs_spec.specs.Sattr.{GivenFields, given_fields}
 use Rattle.nfs_spec.specs.nfs_types.Calls.{Call, Setattr, Write, Create, Remove, Rename, Link, Symlink, Mkdir}
 use Rattle.nfs_spec.specs.nfs_types.Calls.{Rmdir}
@@ -27,13 +27,15 @@ pub record IsWrittenAt (now : Timeval) (fs fs' : Files) (n : FileNumber) (offset
 -- a file that is there has attributes set; else one is made
 pub record IsCreatedAt (who : Caller) (now : Timeval) (fs fs' : Files) (dir : FileNumber) (name : Name)
     (a : GivenFields) : Type 0 where
-  pub over : (n : FileNumber) (c : Cookie) → places fs dir name ≡ Some (n, c) → IsSetAt now fs fs' n a
-  pub fresh : places fs dir name ≡ None → Makes now fs fs' dir name fs.next (new_regular who now a)
+  pub over : (n : FileNumber) (c : Cookie) → directory_entries fs dir name ≡ Some (n, c)
+      → IsSetAt now fs fs' n a
+  pub fresh : directory_entries fs dir name ≡ None → Makes now fs fs' dir name fs.next (new_regular who now a)
 
 -- what the name stood for is gone
 pub record IsGoneAt (now : Timeval) (fs fs' : Files) (dir : FileNumber) (name : Name) : Type 0 where
   pub unnamed : Unnames now fs fs' dir name
-  pub gone : (n : FileNumber) (c : Cookie) → places fs dir name ≡ Some (n, c) → file_at fs' n ≡ None
+  pub gone : (n : FileNumber) (c : Cookie) → directory_entries fs dir name ≡ Some (n, c)
+      → file_at fs' n ≡ None
 
 -- where both names stand for one file nothing changes
 pub record IsMovedAt (now : Timeval) (fs fs' : Files) (from : FileNumber) (from_name : Name) (to : FileNumber)

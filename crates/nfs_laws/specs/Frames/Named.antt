@@ -4,7 +4,7 @@ use Rattle.std.specs.Prelude.{if◌then◌else◌}
 use Rattle.std.specs.Option.{option_map_or}
 use Rattle.nfs_spec.specs.nfs_items.Terms.{FileNumber, Name}
 use Rattle.nfs_spec.specs.fs_model.Listing.{Listing}
-use Rattle.nfs_spec.specs.fs_model.Files.{Body, Regular, Directory, File, Files, file_at, places}
+use Rattle.nfs_spec.specs.fs_model.Files.{Body, Regular, Directory, File, Files, file_at, directory_entries}
 use Rattle.nfs_spec.specs.fs_model.Files as bodies
 use Rattle.nfs_spec.specs.nfs_types.Calls.{Call, Setattr, Write, Create, Remove, Rename, Link, Symlink, Mkdir}
 use Rattle.nfs_spec.specs.nfs_types.Calls.{Rmdir, Answer}
@@ -18,7 +18,7 @@ IsNoneOf n (m ∷ ms) = (n ≢ m) × IsNoneOf n ms
 
 -- what a name stands for, if it stands for anything
 abbrev pub files_at_name : Files → FileNumber → Name → List FileNumber
-files_at_name fs dir name = option_map_or (λ e. e.0 ∷ []) (places fs dir name) []
+files_at_name fs dir name = option_map_or (λ e. e.0 ∷ []) (directory_entries fs dir name) []
 
 -- the numbers of the files that a call names: of SETATTR and WRITE the file; of CREATE the file that is
 -- there, else the directory and the new number; of MKDIR and SYMLINK the directory and the new number; of
@@ -28,7 +28,8 @@ abbrev pub files_named_by : Files → Call → List FileNumber
 files_named_by fs (Setattr file s) = number_for fs file ∷ []
 files_named_by fs (Write file offset new) = number_for fs file ∷ []
 files_named_by fs (Create dir name s) =
-    option_map_or (λ e. e.0 ∷ []) (places fs (number_for fs dir) name) (number_for fs dir ∷ fs.next ∷ [])
+    option_map_or (λ e. e.0 ∷ []) (directory_entries fs (number_for fs dir) name)
+    (number_for fs dir ∷ fs.next ∷ [])
 files_named_by fs (Mkdir dir name s) = number_for fs dir ∷ fs.next ∷ []
 files_named_by fs (Symlink dir name target s) = number_for fs dir ∷ fs.next ∷ []
 files_named_by fs (Link from dir name) = number_for fs from ∷ number_for fs dir ∷ []
@@ -43,7 +44,7 @@ files_named_by fs _ = []
 
 -- a call makes a file unless it is refused: CREATE of a name that isn't there, MKDIR and SYMLINK
 abbrev pub makes_file : Files → Call → Bool
-makes_file fs (Create dir name s) = is_none (places fs (number_for fs dir) name)
+makes_file fs (Create dir name s) = is_none (directory_entries fs (number_for fs dir) name)
 makes_file fs (Mkdir dir name s) = true
 makes_file fs (Symlink dir name target s) = true
 makes_file fs _ = false
@@ -64,7 +65,7 @@ abbrev pub files_written_by : Files → Call → List FileNumber
 files_written_by fs (Write file offset new) = number_for fs file ∷ []
 files_written_by fs call = files_set_by fs call
 
--- a file is of the kind that it was, and a link has the target that it had
+-- a file is of the kind that it was, and a symbolic link has the target that it had
 abbrev pub KeepsKind : Body → Body → Type 0
 KeepsKind (Regular bytes) body = (new : List ℕ) × (body ≡ Regular new)
 KeepsKind (bodies.Symlink target) body = body ≡ bodies.Symlink target

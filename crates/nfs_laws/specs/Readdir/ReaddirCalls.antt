@@ -24,6 +24,7 @@ abbrev pub page_or_none : Result Page Stat → Page
 page_or_none (Ok page) = page
 page_or_none (Err e) = record { entries = []; eof = false }
 
+-- the page that an answer holds; one to another procedure has an empty one
 abbrev pub page_in : Answer → Page
 page_in (Entries r) = page_or_none r
 page_in _ = record { entries = []; eof = false }

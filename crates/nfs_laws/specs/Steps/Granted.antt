@@ -8,7 +8,7 @@ use Rattle.nfs_spec.specs.nfs_items.Terms.{FileNumber, Cookie, Name}
 use Rattle.nfs_spec.specs.fs_model.Maxima.{max_file_size, max_number}
 use Rattle.nfs_spec.specs.fs_model.Names.{is_name}
 use Rattle.nfs_spec.specs.fs_model.Files.{Regular, Symlink, Directory, File, Files, file_at, is_directory}
-use Rattle.nfs_spec.specs.fs_model.Files.{listing_in, listing, places}
+use Rattle.nfs_spec.specs.fs_model.Files.{listing_in, listing, directory_entries}
 use Rattle.nfs_spec.specs.fs_model.Changes.Edits.{with_changed_file, with_name}
 use Rattle.nfs_spec.specs.fs_model.Changes.Limits.{has_room}
 use Rattle.nfs_spec.specs.ProcedureChecks.{NumberedDir, may_search, may_write}
@@ -43,6 +43,8 @@ pub record ResizeOk (who : Caller) (file : File) (size : ℕ) : Type 0 where
   pub written : IsTrue (may_write who file)
   pub fits : size ≤ max_file_size
 
+-- SETATTR is granted: to who may set each given field, and where a size is given, for a regular file with
+-- room
 pub record SetOk (fs : Files) (who : Caller) (now : Timeval) (n : FileNumber) (a : GivenFields)
     (after : Files) : Type 0 where
   pub file : File
@@ -52,7 +54,7 @@ pub record SetOk (fs : Files) (who : Caller) (now : Timeval) (n : FileNumber) (a
   pub room : (size : ℕ) → a.size ≡ Some size → IsTrue (has_room after)
   pub effect : after ≡ with_changed_file fs n (apply_fields now a)
 
--- of no bytes nothing changes
+-- WRITE is granted, of bytes to a regular file with room; of no bytes nothing changes
 pub record WriteOk (fs : Files) (who : Caller) (now : Timeval) (n : FileNumber) (offset : ℕ) (new : List ℕ)
     (after : Files) : Type 0 where
   pub file : File
@@ -75,7 +77,7 @@ new_regular who now a = new_file who now a 0o644 (Regular (replicate (unwrap_or 
 abbrev pub new_directory : Caller → Timeval → GivenFields → File
 new_directory who now a = new_file who now a 0o755 (Directory (record { next = 3; entries = [] }))
 
--- the link that SYMLINK makes: mode 0777
+-- the symbolic link that SYMLINK makes: mode 0777
 abbrev pub new_link : Caller → Timeval → List ℕ → File
 new_link who now target = new_file who now no_fields 0o777 (Symlink target)
 
@@ -83,16 +85,18 @@ new_link who now target = new_file who now no_fields 0o777 (Symlink target)
 pub record MakeOk (fs : Files) (who : Caller) (now : Timeval) (dir : FileNumber) (name : Name) (f : File)
     (number : FileNumber) (after : Files) : Type 0 where
   pub directory : MayEdit fs who dir name
-  pub free : places fs dir name ≡ None
+  pub free : directory_entries fs dir name ≡ None
   pub room : IsTrue (has_room after)
   pub is_next : number ≡ fs.next
   pub effect : after ≡ add_file now fs dir name f
 
+-- MKDIR made a directory
 abbrev pub MakeDirOk : Files → Caller → Timeval → FileNumber → Name → GivenFields → FileNumber → Files
     → Type 0
 MakeDirOk fs who now dir name a number after =
     MakeOk fs who now dir name (new_directory who now a) number after
 
+-- SYMLINK made a symbolic link with this target
 abbrev pub SymlinkOk : Files → Caller → Timeval → FileNumber → Name → List ℕ → FileNumber → Files → Type 0
 SymlinkOk fs who now dir name target number after =
     MakeOk fs who now dir name (new_link who now target) number after
@@ -114,6 +118,7 @@ pub record CreateNewOk (fs : Files) (who : Caller) (now : Timeval) (dir : FileNu
   pub fits : unwrap_or a.size 0 ≤ max_file_size
   pub make : MakeOk fs who now dir name (new_regular who now a) number after
 
+-- CREATE is granted: of a free name it makes a file, of a regular file's name it sets attributes
 pub record CreateOk (fs : Files) (who : Caller) (now : Timeval) (dir : FileNumber) (name : Name)
     (a : GivenFields) (number : FileNumber) (after : Files) : Type 0 where
   pub file : File
@@ -121,17 +126,18 @@ pub record CreateOk (fs : Files) (who : Caller) (now : Timeval) (dir : FileNumbe
   pub directory : is_directory file.body ≡ true
   pub named : IsTrue (is_name name)
   pub searched : IsTrue (may_search who file)
-  pub fresh : places fs dir name ≡ None → CreateNewOk fs who now dir name a number after
-  pub over : (n : FileNumber) (cookie : Cookie) → places fs dir name ≡ Some (n, cookie)
+  pub fresh : directory_entries fs dir name ≡ None → CreateNewOk fs who now dir name a number after
+  pub over : (n : FileNumber) (cookie : Cookie) → directory_entries fs dir name ≡ Some (n, cookie)
       → CreateOverOk fs who now n a number after
 
+-- LINK gave a file that is no directory one more name, which was free
 pub record LinkOk (fs : Files) (who : Caller) (now : Timeval) (from dir : FileNumber) (name : Name)
     (after : Files) : Type 0 where
   pub file : File
   pub there : file_at fs from ≡ Some file
   pub plain : is_directory file.body ≡ false
   pub directory : MayEdit fs who dir name
-  pub free : places fs dir name ≡ None
+  pub free : directory_entries fs dir name ≡ None
   pub room : IsTrue (has_room after)
   pub effect : after ≡ touch now (with_name (touch_ctime now fs from) dir name from) dir
 
@@ -143,16 +149,18 @@ pub record UnnameOk (of_directory : Bool) (fs : Files) (who : Caller) (now : Tim
   pub directory : MayEdit fs who dir name
   pub number : FileNumber
   pub cookie : Cookie
-  pub is_named : places fs dir name ≡ Some (number, cookie)
+  pub is_named : directory_entries fs dir name ≡ Some (number, cookie)
   pub file : File
   pub there : file_at fs number ≡ Some file
   pub kind : is_directory file.body ≡ of_directory
   pub empty : (listing_in file.body).entries ≡ []
   pub effect : after ≡ touch now (unlink now fs dir name number) dir
 
+-- REMOVE took away a name of what is no directory
 abbrev pub RemoveOk : Files → Caller → Timeval → FileNumber → Name → Files → Type 0
 RemoveOk fs who now dir name after = UnnameOk false fs who now dir name after
 
+-- RMDIR took away the name of an empty directory
 abbrev pub RemoveDirOk : Files → Caller → Timeval → FileNumber → Name → Files → Type 0
 RemoveDirOk fs who now dir name after = UnnameOk true fs who now dir name after
 
@@ -162,7 +170,7 @@ RemoveDirOk fs who now dir name after = UnnameOk true fs who now dir name after
 abbrev pub IsSameFile : Files → FileNumber → Name → FileNumber → Name → Type 0
 IsSameFile fs from from_name to to_name =
     (n : FileNumber) × (b : Cookie) × (c : Cookie)
-    × (places fs from from_name ≡ Some (n, b)) × (places fs to to_name ≡ Some (n, c))
+    × (directory_entries fs from from_name ≡ Some (n, b)) × (directory_entries fs to to_name ≡ Some (n, c))
 
 -- a file may take the place of another: that one lists nothing, and is a directory exactly where the first
 -- is one
@@ -176,22 +184,24 @@ pub record MayReplace (fs : Files) (file : File) (n : FileNumber) : Type 0 where
 -- above it
 pub record MoveOk (fs : Files) (now : Timeval) (from : FileNumber) (from_name : Name) (to : FileNumber)
     (to_name : Name) (number : FileNumber) (file : File) (after : Files) : Type 0 where
-  pub other : (cookie : Cookie) → places fs to to_name ≢ Some (number, cookie)
+  pub other : (cookie : Cookie) → directory_entries fs to to_name ≢ Some (number, cookie)
   pub not_above : (is_directory file.body && is_above fs number to) ≡ false
-  pub replaces : (n : FileNumber) (cookie : Cookie) → places fs to to_name ≡ Some (n, cookie)
+  pub replaces : (n : FileNumber) (cookie : Cookie) → directory_entries fs to to_name ≡ Some (n, cookie)
       → MayReplace fs file n
   pub cookie : (listing fs to).next ≤ max_number
   pub effect :
       after
-      ≡ move_entry now fs number from from_name to to_name (option_map (λ e. e.0) (places fs to to_name))
+      ≡ move_entry now fs number from from_name to to_name
+      (option_map (λ e. e.0) (directory_entries fs to to_name))
 
+-- RENAME is granted: it changes nothing where both names are of one file, else it moves the entry
 pub record RenameOk (fs : Files) (who : Caller) (now : Timeval) (from : FileNumber) (from_name : Name)
     (to : FileNumber) (to_name : Name) (after : Files) : Type 0 where
   pub source : MayEdit fs who from from_name
   pub target : MayEdit fs who to to_name
   pub number : FileNumber
   pub cookie : Cookie
-  pub is_named : places fs from from_name ≡ Some (number, cookie)
+  pub is_named : directory_entries fs from from_name ≡ Some (number, cookie)
   pub file : File
   pub there : file_at fs number ≡ Some file
   pub outcome :

@@ -19,11 +19,13 @@ pub record AttributesOk (fs : Files) (n : FileNumber) (a : Fattr) : Type 0 where
   pub there : file_at fs n ≡ Some file
   pub answer : a ≡ attributes_of fs n file
 
+-- GETATTR gives the attributes of the file that a handle names
 pub record GetattrOk (fs : Files) (handle : FileHandle) (a : Fattr) : Type 0 where
   pub number : FileNumber
   pub is_named : number_in fs.fsid handle ≡ Some number
   pub attributes : AttributesOk fs number a
 
+-- LOOKUP gives the handle and the attributes of what a name stands for in a directory
 pub record LookupOk (fs : Files) (who : Caller) (dir : FileHandle) (name : Name) (handle : FileHandle)
     (a : Fattr) : Type 0 where
   pub dir_number : FileNumber
@@ -33,11 +35,13 @@ pub record LookupOk (fs : Files) (who : Caller) (dir : FileHandle) (name : Name)
   pub answer : handle ≡ handle_of fs.fsid number
   pub attributes : AttributesOk fs number a
 
+-- READLINK gives the target of a symbolic link
 pub record ReadLinkOk (fs : Files) (n : FileNumber) (target : List ℕ) : Type 0 where
   pub file : File
   pub there : file_at fs n ≡ Some file
   pub answer : file.body ≡ Symlink target
 
+-- READ gives attributes and a part of a regular file that the caller may read or execute
 pub record ReadOk (fs : Files) (who : Caller) (n : FileNumber) (offset count : ℕ) (a : Fattr)
     (part : List ℕ) : Type 0 where
   pub file : File
@@ -48,6 +52,7 @@ pub record ReadOk (fs : Files) (who : Caller) (n : FileNumber) (offset count : �
   pub attributes : a ≡ attributes_of fs n file
   pub answer : part ≡ take (min count max_data) (drop offset bytes)
 
+-- READDIR gives a page of a directory that the caller may read
 pub record ReadDirOk (fs : Files) (who : Caller) (n : FileNumber) (cookie : Cookie) (count : ℕ)
     (page : Page) : Type 0 where
   pub file : File

@@ -1,7 +1,7 @@
 -- Numbers and cookies are never used again.
 use Rattle.std.specs.Prelude.{◌≡◌, ◌⊎◌, ◌≤◌, Some, IsSome, IsTrue}
 use Rattle.nfs_spec.specs.nfs_items.Terms.{FileNumber, Cookie, Name}
-use Rattle.nfs_spec.specs.fs_model.Files.{Files, file_at, listing, IsDirectory, places}
+use Rattle.nfs_spec.specs.fs_model.Files.{Files, file_at, listing, IsDirectory, directory_entries}
 use Rattle.nfs_spec.specs.fs_model.Changes.Limits.{has_room}
 use Rattle.nfs_spec.specs.fs_model.Trees.{IsFileTree}
 
@@ -13,8 +13,8 @@ pub record GivesAnew (fs fs' : Files) : Type 0 where
   pub cookies : (n : FileNumber) → IsDirectory fs n → IsDirectory fs' n
       → (listing fs n).next ≤ (listing fs' n).next
   pub entries : (n : FileNumber) (name : Name) (k : FileNumber) (c : Cookie) → IsDirectory fs n
-      → places fs' n name ≡ Some (k, c)
-      → (places fs n name ≡ Some (k, c)) ⊎ ((listing fs n).next ≤ c)
+      → directory_entries fs' n name ≡ Some (k, c)
+      → (directory_entries fs n name ≡ Some (k, c)) ⊎ ((listing fs n).next ≤ c)
 
 -- a tree follows in which numbers and cookies are given anew, and no limit is passed that was not
 pub record Follows (fs fs' : Files) : Type 0 where

@@ -5,7 +5,7 @@ ghost use Rattle.nfs_spec.specs.nfs_items.Timeval.{Timeval};
 ghost use Rattle.nfs_spec.specs.nfs_items.Caller.{Caller};
 ghost use Rattle.nfs_spec.specs.nfs_items.Terms.{FileNumber, Cookie, Name};
 ghost use Rattle.nfs_spec.specs.fs_model.Files.{Body, Regular, Symlink, Directory, File, Files, file_at};
-ghost use Rattle.nfs_spec.specs.fs_model.Files.{places};
+ghost use Rattle.nfs_spec.specs.fs_model.Files.{directory_entries};
 ghost use Rattle.nfs_spec.specs.fs_model.Trees.{IsFileTree};
 ghost use Rattle.nfs_spec.specs.Sattr.{GivenFields, no_fields};
 ghost use Rattle.nfs_spec.specs.Changes.{new_file};
@@ -23,7 +23,7 @@ pub fn setting_keeps_the_rest()
         set_attributes fs who now n a ≡ Ok (tt, after) → Becomes fs after n (IsSetTo now a) }
     ensures create { (fs after : Files) (who : Caller) (now : Timeval) (dir n : FileNumber) (cookie : Cookie)
         (number : FileNumber)
-        (name : Name) (a : GivenFields) → places fs dir name ≡ Some (n, cookie) →
+        (name : Name) (a : GivenFields) → directory_entries fs dir name ≡ Some (n, cookie) →
         create fs who now dir name a ≡ Ok (number, after) →
         (number ≡ n) × (set_attributes fs who now n a ≡ Ok (tt, after)) }
     ensures write { (fs after : Files) (who : Caller) (now : Timeval) (n : FileNumber) (offset : ℕ)
@@ -38,7 +38,7 @@ pub fn setting_keeps_the_rest()
 /// else stays but mtime and ctime.
 pub fn making_keeps_the_rest()
     ensures create { (fs after : Files) (who : Caller) (now : Timeval) (dir number : FileNumber) (name : Name)
-        (a : GivenFields) → IsFileTree fs → places fs dir name ≡ None →
+        (a : GivenFields) → IsFileTree fs → directory_entries fs dir name ≡ None →
         create fs who now dir name a ≡ Ok (number, after) →
         Makes now fs after dir name number
         (new_regular who now a) }
@@ -80,7 +80,7 @@ pub fn removing_keeps_the_rest()
         IsFileTree fs → remove_dir fs who now dir name ≡ Ok (tt, after) → Unnames now fs after dir name }
     ensures gone { (fs after : Files) (who : Caller) (now : Timeval) (dir n : FileNumber) (cookie : Cookie)
         (name : Name) →
-        IsFileTree fs → places fs dir name ≡ Some (n, cookie) →
+        IsFileTree fs → directory_entries fs dir name ≡ Some (n, cookie) →
         remove_dir fs who now dir name ≡ Ok (tt, after) →
         file_at after n ≡ None }
 {}
@@ -107,7 +107,7 @@ pub fn bytes_are_what_was_written()
         Becomes fs after n (ChangesBytes (IsResized size)) }
     ensures create { (fs after : Files) (who : Caller) (now : Timeval) (dir number : FileNumber) (size : ℕ)
         (name : Name)
-        (a : GivenFields) → IsFileTree fs → a.size ≡ Some size → places fs dir name ≡ None →
+        (a : GivenFields) → IsFileTree fs → a.size ≡ Some size → directory_entries fs dir name ≡ None →
         create fs who now dir name a ≡ Ok (number, after) →
         (g : File) × (file_at after number ≡ Some g) × (g.body ≡ Regular (replicate size 0)) }
 {}

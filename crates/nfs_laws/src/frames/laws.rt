@@ -4,7 +4,8 @@ ghost use Rattle.std.specs.Prelude.{◌≡◌, ◌≢◌, ◌+◌, ◌<◌, ℕ,
 ghost use Rattle.nfs_spec.specs.nfs_items.Timeval.{Timeval};
 ghost use Rattle.nfs_spec.specs.nfs_items.Caller.{Caller};
 ghost use Rattle.nfs_spec.specs.nfs_items.Terms.{FileNumber, Cookie, Name};
-ghost use Rattle.nfs_spec.specs.fs_model.Files.{Files, file_at, listing, IsDirectory, places, names_of};
+ghost use Rattle.nfs_spec.specs.fs_model.Files.{Files, file_at, listing, IsDirectory, directory_entries};
+ghost use Rattle.nfs_spec.specs.fs_model.Files.{names_of};
 ghost use Rattle.nfs_spec.specs.fs_model.Trees.{IsTime, IsFileTree};
 ghost use Rattle.nfs_spec.specs.fs_model.Changes.Limits.{has_room};
 ghost use Rattle.nfs_spec.specs.Procedures.{remove, remove_dir};
@@ -40,8 +41,8 @@ pub fn calls_change_what_they_name()
         refusal_in (call_does fs who now call).0 ≡ None → Did fs who now call (call_does fs who now call).1 }
 {}
 
-/// In a tree a file stays of its kind, and a link has its target; mode, owner, group and atime are set by
-/// SETATTR and by CREATE of a file that is there alone, and bytes by these and WRITE.
+/// In a tree a file stays of its kind, and a symbolic link has its target; mode, owner, group and atime are
+/// set by SETATTR and by CREATE of a file that is there alone, and bytes by these and WRITE.
 pub fn files_stay_what_they_are()
     ensures kinds { (fs : Files) (who : Caller) (now : Timeval) (call : Call) (n : FileNumber) →
         IsFileTree fs →
@@ -79,7 +80,8 @@ pub fn runs_give_nothing_again()
     ensures cookie { (fs : Files) (requests : List Request) (n k : FileNumber) (c : Cookie) (name : Name) →
         IsFileTree fs →
         AreBounded requests → IsDirectory fs n → c < (listing fs n).next →
-        places (files_after fs requests) n name ≡ Some (k, c) → places fs n name ≡ Some (k, c) }
+        directory_entries (files_after fs requests) n name ≡ Some (k, c) →
+        directory_entries fs n name ≡ Some (k, c) }
 {}
 
 /// REMOVE of a file's last name takes the file away, so that no path leads to its number; RMDIR takes the
@@ -88,13 +90,14 @@ pub fn runs_give_nothing_again()
 pub fn the_last_name_takes_the_file()
     ensures last { (fs after : Files) (who : Caller) (now : Timeval) (dir : FileNumber) (name : Name)
         (n : FileNumber) (c : Cookie) →
-        IsFileTree fs → IsTime now → places fs dir name ≡ Some (n, c) → names_of fs n ≡ 1 →
+        IsFileTree fs → IsTime now → directory_entries fs dir name ≡ Some (n, c) → names_of fs n ≡ 1 →
         remove fs who now dir name ≡ Ok (tt, after) → IsGone after n }
     ensures more { (fs after : Files) (who : Caller) (now : Timeval) (dir : FileNumber) (name : Name)
         (n : FileNumber) (c : Cookie) →
-        IsFileTree fs → IsTime now → places fs dir name ≡ Some (n, c) → 1 < names_of fs n →
+        IsFileTree fs → IsTime now → directory_entries fs dir name ≡ Some (n, c) → 1 < names_of fs n →
         remove fs who now dir name ≡ Ok (tt, after) → HasOneNameLess fs after now n }
     ensures directory { (fs after : Files) (who : Caller) (now : Timeval) (dir : FileNumber) (name : Name)
-        (n : FileNumber) (c : Cookie) → IsFileTree fs → IsTime now → places fs dir name ≡ Some (n, c) →
+        (n : FileNumber) (c : Cookie) → IsFileTree fs → IsTime now →
+        directory_entries fs dir name ≡ Some (n, c) →
         remove_dir fs who now dir name ≡ Ok (tt, after) → IsGone after n }
 {}

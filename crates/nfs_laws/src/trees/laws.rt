@@ -3,12 +3,12 @@
 ghost use Rattle.std.specs.Prelude.{◌≡◌, ◌↔◌, ℕ, true};
 ghost use Rattle.nfs_spec.specs.nfs_items.Terms.{FileNumber};
 ghost use Rattle.nfs_spec.specs.fs_model.Paths.{IsAbove};
-ghost use Rattle.nfs_spec.specs.fs_model.Files.{Files, IsDirectory, places};
+ghost use Rattle.nfs_spec.specs.fs_model.Files.{Files, IsDirectory, directory_entries};
 ghost use Rattle.nfs_spec.specs.fs_model.Trees.{IsFileTree};
 ghost use Rattle.nfs_spec.specs.Procedures.{is_above};
 
 /// What is above a directory is what paths lead down from.
 pub fn above_is_by_paths()
     ensures { (fs : Files) (upper dir : FileNumber) → IsFileTree fs → IsDirectory fs dir →
-        ((is_above fs upper dir ≡ true) ↔ IsAbove (places fs) upper dir) }
+        ((is_above fs upper dir ≡ true) ↔ IsAbove (directory_entries fs) upper dir) }
 {}

@@ -13,7 +13,7 @@ use Rattle.nfs_items.specs.Attributes.{ftype_number, fattr, fattr_value}
 use Rattle.nfs_items.proofs.Outcomes.{read_outcome, outcome_again}
 use Rattle.nfs_items.proofs.Programs.{read_back_is_one}
 use Rattle.nfs_items.specs.declared.attributes.FileType.{FileType}
-use Rattle.nfs_items.specs.declared.attributes.FileType.TheVariants.{Regular, Directory, Link}
+use Rattle.nfs_items.specs.declared.attributes.FileType.TheVariants.{Regular, Directory, Symlink}
 use Rattle.nfs_items.specs.declared.attributes.Fattr.{Fattr}
 use Rattle.nfs_items.specs.declared.stat.Stat.{Stat}
 use Rattle.nfs_types.specs.declared.arguments.NfsProcedure.{NfsProcedure}
@@ -29,12 +29,12 @@ use Rattle.nfs_types.specs.Texts.{procedure_of, IsSpelled, IsAnswerTo}
 
 -- the type of a file's number
 abbrev file_type_at : ℕ → FileType
-file_type_at n = cond (eqb n 1) Regular (cond (eqb n 2) Directory Link)
+file_type_at n = cond (eqb n 1) Regular (cond (eqb n 2) Directory Symlink)
 
 file_type_is : (t : FileType) → file_type_at (ftype_number t) ≡ t
 file_type_is Regular = refl
 file_type_is Directory = refl
-file_type_is Link = refl
+file_type_is Symlink = refl
 
 -- attributes back from their value
 abbrev time_at : Value timeval → Timeval

@@ -7,10 +7,11 @@ use Rattle.std.specs.Prelude.{IsTrue, slice_get}
 use Rattle.std.proofs.lemmas.Bool.{cases_lt}
 use Rattle.std.proofs.lemmas.Option.{slice_get-get_or}
 use Rattle.nfs_laws.specs.fs_model.Names.{is_name}
-use Rattle.nfs_laws.specs.fs_model.Files.{File, Files, file_at, listing_in, is_directory, places, names_of}
+use Rattle.nfs_laws.specs.fs_model.Files.{File, Files, file_at, listing_in, is_directory, directory_entries}
+use Rattle.nfs_laws.specs.fs_model.Files.{names_of}
 use Rattle.nfs_laws.specs.fs_model.Trees.{IsFileTree}
 use Rattle.nfs_laws.proofs.fs_model.Walks.{none_some, some_same}
-use Rattle.nfs_laws.proofs.fs_model.Counts.{place_in}
+use Rattle.nfs_laws.proofs.fs_model.Counts.{listed_in}
 use Rattle.nfs_laws.proofs.fs_model.Reached.{distinct_in}
 use Rattle.nfs_laws.proofs.fs_model.OfChanges.Shapes.{kind, is_some-kind}
 use Rattle.nfs_laws.proofs.fs_model.OfEditedTrees.Building.{built}
@@ -19,7 +20,7 @@ use Rattle.tree_rules.specs.FileRules.Rules.{AreNamesCounted, may_have, StandsIn
 use Rattle.tree_rules.proofs.OfFileRules.Listed.{names_listed, file_of_place, place_of_file, number_in_range}
 use Rattle.tree_rules.proofs.OfFileRules.Listed.{is_file}
 use Rattle.tree_rules.proofs.OfFileRules.Listed.{are_names}
-use Rattle.tree_rules.proofs.OfFileRules.Places.{number_of_place, name_of_place, place_at}
+use Rattle.tree_rules.proofs.OfFileRules.ListedEntries.{number_of_entry, name_of_entry, entry_in_order}
 use Rattle.tree_rules.proofs.OfFileRules.Ways.{path_up, root_place, not_root, leads}
 
 -- ---- what a place may have
@@ -73,11 +74,12 @@ file_of_some w n h = by (file_at w n) refl
     by None is = absurd (tf (sym (ap is_some is) ∙ h))
     by (Some f) is = (f, is)
 
-place_some : (w : Files) (n : ℕ) (name : List ℕ) → IsSome (places w n name)
-    → (p : ℕ × ℕ) × (places w n name ≡ Some p)
-place_some w n name h = by (places w n name) refl
+entry_some : (w : Files) (n : ℕ) (name : List ℕ) → IsSome (directory_entries w n name)
+    → (p : ℕ × ℕ) × (directory_entries w n name ≡ Some p)
+entry_some w n name h = by (directory_entries w n name) refl
   where
-    by : (o : Option (ℕ × ℕ)) → places w n name ≡ o → (p : ℕ × ℕ) × (places w n name ≡ Some p)
+    by : (o : Option (ℕ × ℕ)) → directory_entries w n name ≡ o
+        → (p : ℕ × ℕ) × (directory_entries w n name ≡ Some p)
     by None is = absurd (tf (sym (ap is_some is) ∙ h))
     by (Some p) is = (p, is)
 
@@ -90,7 +92,7 @@ module _ (fsid next : ℕ) (es : List (ℕ × File)) (up : AreRising (numbers_of
       → AreNames (listing_in f.body).entries
   named_well n f there = λ i d h.
       let x = get_or (listing_in f.body).entries i d in
-      tree.names n x.0 (ap is_some (place_at (files_listed fsid next es) n f there
+      tree.names n x.0 (ap is_some (entry_in_order (files_listed fsid next es) n f there
       (distinct_in f.body (tree.files n f there).body) i d h))
 
   there_at : (k : ℕ) (e : ℕ × File) → k < length es
@@ -115,7 +117,7 @@ module _ (fsid next : ℕ) (es : List (ℕ × File)) (each : AreFiles next es)
       let there = file_of_place fsid next es each.rising k n f at in
       let x = get_or (listing_in f.body).entries i d in
       let place =
-      place_at (files_listed fsid next es) n f there
+      entry_in_order (files_listed fsid next es) n f there
       (distinct_in f.body (is_file next es each k n f at).body) i d h in
       let g = file_of_some (files_listed fsid next es) x.1.0 (tree.tree.named n x.0 x.1.0 x.1.1 place) in
       let p = place_of_file fsid next es each.rising x.1.0 g.0 g.1 in
@@ -157,10 +159,10 @@ module _ (fsid next : ℕ) (es : List (ℕ × File)) (each : AreFiles next es) (
           path_up fsid next es each names above counts first later_named steps p.0 n f.0 p.1
           (ways p.0 n f.0 p.1);
       there = λ n y k c h.
-          let f = place_in (files_listed fsid next es) n y (k, c) h in
+          let f = listed_in (files_listed fsid next es) n y (k, c) h in
           let p = place_of_file fsid next es each.rising n f.0 f.1 in
           let s =
-          number_of_place (files_listed fsid next es) n f.0 f.1 (StandsIn es) (known p.0 n f.0 p.1) y
+          number_of_entry (files_listed fsid next es) n f.0 f.1 (StandsIn es) (known p.0 n f.0 p.1) y
           (k, c) h in
           sym (is_some-kind (files_listed fsid next es) k)
           ∙ ap is_some (file_of_place fsid next es each.rising s.0 k s.1 s.2);
@@ -182,10 +184,10 @@ module _ (fsid next : ℕ) (es : List (ℕ × File)) (each : AreFiles next es) (
           let p = place_of_file fsid next es each.rising n f.0 f.1 in
           number_in_range next es each p.0 n f.0 p.1;
       names = λ n name is.
-          let e = place_some (files_listed fsid next es) n name is in
-          let f = place_in (files_listed fsid next es) n name e.0 e.1 in
+          let e = entry_some (files_listed fsid next es) n name is in
+          let f = listed_in (files_listed fsid next es) n name e.0 e.1 in
           let p = place_of_file fsid next es each.rising n f.0 f.1 in
-          name_of_place (files_listed fsid next es) n f.0 f.1
+          name_of_entry (files_listed fsid next es) n f.0 f.1
           (λ name. IsTrue (is_name name) × (length name ≤ 255))
           (are_names next es each p.0 n f.0 p.1) name e.0 e.1;
       files =

@@ -6,7 +6,8 @@ use Rattle.std.proofs.Common.{◌∙◌, arith, length-append}
 use Rattle.std.specs.Prelude.{slice_get}
 use Rattle.std.proofs.lemmas.Bool.{cases_lt}
 use Rattle.nfs_laws.specs.fs_model.Paths.{path_at}
-use Rattle.nfs_laws.specs.fs_model.Files.{File, Files, file_at, is_directory, IsDirectory, places, parent_of}
+use Rattle.nfs_laws.specs.fs_model.Files.{File, Files, file_at, is_directory, IsDirectory, directory_entries}
+use Rattle.nfs_laws.specs.fs_model.Files.{parent_of}
 use Rattle.nfs_laws.specs.fs_model.Files.{names_of}
 use Rattle.nfs_laws.specs.fs_model.Trees.{IsFileTree}
 use Rattle.nfs_laws.proofs.fs_model.Walks.{none_some, some_same, one_number, step_last, last_name, last_step}
@@ -20,7 +21,7 @@ use Rattle.tree_rules.proofs.OfFileRules.Climbs.{climbed-add, climbed-first}
 use Rattle.tree_rules.proofs.OfFileRules.Listed.{rises, names_listed, count_listed, file_of_place}
 use Rattle.tree_rules.proofs.OfFileRules.Listed.{place_of_file, one_place}
 use Rattle.tree_rules.proofs.OfFileRules.Listed.{number_in_range, is_file}
-use Rattle.tree_rules.proofs.OfFileRules.Places.{place_of_name}
+use Rattle.tree_rules.proofs.OfFileRules.ListedEntries.{entry_with_number}
 
 module _ (fsid next : ℕ) (es : List (ℕ × File)) (each : AreFiles next es) (names above : List ℕ)
     (counts : AreNamesCounted es names above) where
@@ -30,13 +31,13 @@ module _ (fsid next : ℕ) (es : List (ℕ × File)) (each : AreFiles next es) (
   -- a named place is in the directory above it
   named_in : (k n : ℕ) (f : File) → IsAt es k n f → 0 < get_or names k 0
       → (m : ℕ) × (g : File) × IsAt es (get_or above k 0) m g
-      × ((name : List ℕ) × (c : ℕ) × (places (files_listed fsid next es) m name ≡ Some (n, c)))
+      × ((name : List ℕ) × (c : ℕ) × (directory_entries (files_listed fsid next es) m name ≡ Some (n, c)))
   named_in k n f at some =
       let b = counts.named_by k n f at some in (
         b.0,
         b.1,
         b.2,
-        place_of_name (files_listed fsid next es) b.0 b.1
+        entry_with_number (files_listed fsid next es) b.0 b.1
             (file_of_place fsid next es each.rising (get_or above k 0) b.0 b.1 b.2) n
             (distinct_in b.1.body (is_file next es each (get_or above k 0) b.0 b.1 b.2).body) b.3,
       )
@@ -45,7 +46,8 @@ module _ (fsid next : ℕ) (es : List (ℕ × File)) (each : AreFiles next es) (
   pub path_up : ((n : ℕ) (f : File) → IsAt es 0 n f → n ≡ 1)
       → ((k n : ℕ) (f : File) → IsAt es k n f → 0 < k → 0 < get_or names k 0)
       → (steps k n : ℕ) (f : File) → IsAt es k n f → climbed above steps k ≡ 0
-      → (p : List (List ℕ)) × (c : ℕ) × (path_at (places (files_listed fsid next es)) p ≡ Some (n, c))
+      → (p : List (List ℕ)) × (c : ℕ)
+      × (path_at (directory_entries (files_listed fsid next es)) p ≡ Some (n, c))
   path_up first named zero k n f at h =
       ([], 0, ap (λ m. Some (m, 0)) (sym (first n f (subst (λ j. IsAt es j n f) h at))))
   path_up first named (suc steps) k n f at h = ⊎_elim
@@ -54,7 +56,7 @@ module _ (fsid next : ℕ) (es : List (ℕ × File)) (each : AreFiles next es) (
       let p = path_up first named steps (get_or above k 0) b.0 b.1 b.2 h in (
         p.0 ++ b.3.0 ∷ [],
         b.3.1,
-        step_last (places (files_listed fsid next es)) p.0 b.3.0 b.0 p.1 p.2
+        step_last (directory_entries (files_listed fsid next es)) p.0 b.3.0 b.0 p.1 p.2
             ∙ b.3.2,
       ))
       (λ none. let here : k ≡ 0 = omega arith in
@@ -132,10 +134,11 @@ module _ (fsid next : ℕ) (es : List (ℕ × File)) (each : AreFiles next es)
         counts.unnamed 0 1 root_place.0 at (names_are 0 1 root_place.0 at ∙ tree.root)
 
     at_root : (p : List (List ℕ)) (k n c : ℕ) (f : File) → IsAt es k n f
-        → path_at (places (files_listed fsid next es)) p ≡ Some (n, c) → p ≡ []
+        → path_at (directory_entries (files_listed fsid next es)) p ≡ Some (n, c) → p ≡ []
         → climbed above (length p) k ≡ 0
     at_root p k n c f at h e =
-        let root : n ≡ 1 = one_number n c 1 0 (sym h ∙ ap (path_at (places (files_listed fsid next es))) e) in
+        let root : n ≡ 1 = one_number n c 1 0 (sym h
+        ∙ ap (path_at (directory_entries (files_listed fsid next es))) e) in
         ap (λ (q : List (List ℕ)). climbed above (length q) k) e
         ∙ one_place fsid next es each.rising k 0 1 f root_place.0
         (subst (λ m. IsAt es k m f) root at) root_place.1
@@ -143,7 +146,8 @@ module _ (fsid next : ℕ) (es : List (ℕ × File)) (each : AreFiles next es)
     -- a directory's place leads up in as many steps as its path has names
     climbs : (m : ℕ) (p : List (List ℕ)) (k n c : ℕ) (f : File) → length p ≤ m → IsAt es k n f
         → IsDirectory (files_listed fsid next es) n
-        → path_at (places (files_listed fsid next es)) p ≡ Some (n, c) → climbed above (length p) k ≡ 0
+        → path_at (directory_entries (files_listed fsid next es)) p ≡ Some (n, c)
+        → climbed above (length p) k ≡ 0
     climbs zero p k n c f le at is h = ⊎_elim
         (λ e. at_root p k n c f at h e)
         (λ l. absurd (omega (arith, le, ap length l.2, length-append l.0 (l.1 ∷ []))))
@@ -152,8 +156,8 @@ module _ (fsid next : ℕ) (es : List (ℕ × File)) (each : AreFiles next es)
         (λ e. at_root p k n c f at h e)
         (λ l.
         let s =
-        last_step (places (files_listed fsid next es)) (1, 0) l.0 l.1 n c
-        (sym (ap (path_at (places (files_listed fsid next es))) l.2) ∙ h) in
+        last_step (directory_entries (files_listed fsid next es)) (1, 0) l.0 l.1 n c
+        (sym (ap (path_at (directory_entries (files_listed fsid next es))) l.2) ∙ h) in
         let later : 0 < k = ⊎_elim
         (λ lt. lt)
         (λ none.
@@ -163,7 +167,7 @@ module _ (fsid next : ℕ) (es : List (ℕ × File)) (each : AreFiles next es)
         (s.3 ∙ ap (λ m. Some (m, c)) root)))
         (cases_lt 0 k) in
         let b = named_in fsid next es each names above counts k n f at (later_named k n f at later) in
-        let same = own.one_place (files_listed fsid next es) tree n s.0 b.0 c b.3.1 l.1 b.3.0 is s.3 b.3.2 in
+        let same = own.one_entry (files_listed fsid next es) tree n s.0 b.0 c b.3.1 l.1 b.3.0 is s.3 b.3.2 in
         let long : length p ≡ suc (length l.0) = ap length l.2 ∙ length_last l.0 l.1 in
         let up =
         climbs m l.0 (get_or above k 0) b.0 s.1 b.1 (omega (arith, le, long)) b.2

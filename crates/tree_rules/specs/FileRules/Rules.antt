@@ -6,7 +6,7 @@ use Rattle.std.specs.FinMap as finite
 use Rattle.nfs_items.specs.Terms.{FileNumber}
 use Rattle.nfs_laws.specs.fs_model.Maxima.{max_name}
 use Rattle.nfs_laws.specs.fs_model.Names.{is_name}
-use Rattle.nfs_laws.specs.fs_model.Listing.{DirEntry, entry_name, entry_number}
+use Rattle.nfs_laws.specs.fs_model.Listing.{NamedEntry, entry_name, entry_number}
 use Rattle.nfs_laws.specs.fs_model.Files.{File, Files, names_in, listing_in, is_directory}
 use Rattle.nfs_laws.specs.fs_model.Trees.{IsFile}
 use Rattle.tree_rules.specs.FileRules.Climbs.{climbed}
@@ -29,7 +29,7 @@ abbrev pub numbers_of : {X : Type 0} → List (FileNumber × X) → List FileNum
 numbers_of es = map (λ e. e.0) es
 
 -- each name is one, and within its limit
-abbrev pub AreNames : List DirEntry → Type 0
+abbrev pub AreNames : List NamedEntry → Type 0
 AreNames entries = All (λ e. IsTrue (is_name (entry_name e)) × (length (entry_name e) ≤ max_name)) entries
 
 -- what can be said of each file by itself, and that the numbers rise
@@ -57,7 +57,7 @@ pub record AreNamesCounted (es : List (FileNumber × File)) (names above : List 
       → slice_index above k ≡ 0
 
 -- whether a place may have so many names: the root, which is a directory, none; another directory one; a file
--- or link at least one
+-- or symbolic link at least one
 abbrev pub may_have : ℕ → Bool → ℕ → Bool
 may_have place directory names =
     if directory then (if place == 0 then names == 0 else names == 1)

@@ -76,7 +76,8 @@ pub fn answer_premises_are_possible()
     ensures asked { (secret : List ℕ) →
         stage_of (own (alone secret) 5 (asked_event secret)) ≡ Wanted 1 1 }
     ensures part { (s : OpenSegment) →
-        s.node ≡ 5 → s.first ≡ 1 → s.opening ≡ zeros → s.entries.now ≡ readings → GivesPart its_log 1 1 (Ok s) }
+        s.node ≡ 5 → s.first ≡ 1 → s.opening ≡ zeros → s.entries.now ≡ readings →
+        GivesPart its_log 1 1 (Ok s) }
     ensures place { (secret : List ℕ) → IsOfPlace its_log 1 (signed_end secret) }
     ensures signed { (secret : List ℕ) → IsSignedBy (client secret) (signed_end secret) }
 {

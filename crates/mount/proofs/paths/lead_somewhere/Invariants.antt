@@ -1,6 +1,6 @@
 use Rattle.std.proofs.Common.{◌≡◌, ◌==◌, length, drop}
 use Rattle.std.specs.List.{slice_split}
-use Rattle.file_tree.specs.fs_model.Files.{places}
+use Rattle.file_tree.specs.fs_model.Files.{directory_entries}
 use Rattle.mount.specs.Paths.{slash}
 use Rattle.mount.proofs.Walked.{lead_on}
 use Rattle.mount.proofs.paths.lead_somewhere.Given as goal
@@ -9,7 +9,7 @@ abbrev pub invariant-loop-name : goal.invariant-loop-name
 invariant-loop-name l = record {
   can : (goal.iterator-loop-name).can_next l.name-iterator;
   finite : (goal.iterator-loop-name).is_finite l.name-iterator;
-  leads : lead_on (places l.tree) l.dir (drop (length l.yielded)
+  leads : lead_on (directory_entries l.tree) l.dir (drop (length l.yielded)
       (slice_split (λ byte. byte == slash) l.names))
-      ≡ lead_on (places l.tree) 1 (slice_split (λ byte. byte == slash) l.names);
+      ≡ lead_on (directory_entries l.tree) 1 (slice_split (λ byte. byte == slash) l.names);
 }

@@ -4,8 +4,8 @@ use Rattle.std.specs.Prelude.{nat_lt, codes, if◌then◌else◌}
 use Rattle.std.specs.Option.{is_some}
 use Rattle.std.proofs.lemmas.Bool.{le-ltb}
 use Rattle.nfs_items.specs.declared.stat.Stat.TheVariants.{Acces, NoEnt}
-use Rattle.file_tree.specs.fs_model.Listing.{Place, entry_at}
-use Rattle.file_tree.specs.fs_model.Files.{File, listing_in, places}
+use Rattle.file_tree.specs.fs_model.Listing.{DirectoryEntry, entry_at}
+use Rattle.file_tree.specs.fs_model.Files.{File, listing_in, directory_entries}
 use Rattle.file_tree.specs.fs_model.Paths.{walk}
 use Rattle.file_tree.specs.nfs_spec.Opening.{opening_root, opening_hello, opening_files}
 use Rattle.file_tree.proofs.nfs_spec.OpeningFiles.{root_there, hello_there}
@@ -16,7 +16,7 @@ use Rattle.mount.specs.Machines.{m}
 use Rattle.mount.proofs.worked.mounts_come_out.Goals as goal
 
 -- what MNT answers by what it found
-refused : Option Place → MountAnswer × Mounts
+refused : Option DirectoryEntry → MountAnswer × Mounts
 refused found = (Mounted (Err (if is_some found then Acces else NoEnt)), [])
 
 -- a name in the root is looked up among its entries
@@ -33,7 +33,7 @@ through_hello : (name : List ℕ) → mount_at (opening_files 1) [] m (Some (cod
 unfolding refused
 through_hello name =
     ap (λ (o : Option File). refused
-    (option_and_then (λ next. walk (places (opening_files 1)) next (name ∷ []))
+    (option_and_then (λ next. walk (directory_entries (opening_files 1)) next (name ∷ []))
     (option_and_then (λ f. entry_at (listing_in f.body) (codes "hello")) o))) (root_there 1)
     ∙ ap (λ (o : Option File). refused (option_and_then (λ next. Some next)
     (option_and_then (λ f. entry_at (listing_in f.body) name) o))) (hello_there 1)

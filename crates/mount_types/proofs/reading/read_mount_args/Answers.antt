@@ -32,5 +32,6 @@ pub returns-clause-bounds : goal.returns-clause-bounds
 returns-clause-bounds c =
     let given : GivesCall c.args.procedure c.args.bytes.now c.read_arguments.result
     c.read_arguments.new.reader = rw (← c.new.ensures) c.read_arguments.ensures in
-    programs.given_is_bounded mount_program call_of _ c.args.bytes.now HasBounds value_bounded c.read_arguments.result
+    programs.given_is_bounded mount_program call_of _ c.args.bytes.now HasBounds value_bounded
+    c.read_arguments.result
     c.read_arguments.new.reader (λ i. omega (arith, c.type_inv.bytes i)) given

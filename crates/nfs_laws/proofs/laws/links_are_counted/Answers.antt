@@ -39,7 +39,8 @@ pub returns-clause-directory : goal.returns-clause-directory
 returns-clause-directory c w n a is e =
     let t = attributes_ok w n a e in
     nlink w n a t ∙ two_and w n t.file.body (kind_of w n t.file t.there is)
-    ∙ ap (λ (o : Option File). 2 + subdirectories w (option_map_or (λ f. listing_in f.body) o (record { next = 0; entries = [] }))) (sym t.there)
+    ∙ ap (λ (o : Option File). 2 + subdirectories w
+    (option_map_or (λ f. listing_in f.body) o (record { next = 0; entries = [] }))) (sym t.there)
 
 -- one name at least, of what is no directory
 least : (w : Files) (n k : ℕ) (b : Body) → k ≤ 2 → (is_directory b ≡ false → k ≤ names_of w n)
@@ -58,12 +59,15 @@ pub returns-clause-some : goal.returns-clause-some
 returns-clause-some c w n a tree e =
     let t = attributes_ok w n a e in
     let there : is_some (file_at w n) ≡ true = ap (λ (o : Option File). is_some o) t.there in
-    let other : is_directory t.file.body ≡ false → n ≡ 1 → ⊥ = λ not is. true_not_false (sym (kind_of w n t.file t.there (root_kind w n is tree.tree.root)) ∙ not) in
-    let more : 1 ≤ nlink_of w n t.file.body = least w n 1 t.file.body (omega arith) (λ not. tree.named n (other not) there) in
+    let other : is_directory t.file.body ≡ false → n ≡ 1 → ⊥ =
+    λ not is. true_not_false (sym (kind_of w n t.file t.there (root_kind w n is tree.tree.root)) ∙ not) in
+    let more : 1 ≤ nlink_of w n t.file.body =
+    least w n 1 t.file.body (omega arith) (λ not. tree.named n (other not) there) in
     omega (arith, more, nlink w n a t)
 
 pub returns-clause-two : goal.returns-clause-two
 returns-clause-two c w n dir other k b x y a p q differ e =
     let t = attributes_ok w n a e in
-    let more : 2 ≤ nlink_of w n t.file.body = least w n 2 t.file.body (omega arith) (λ _. has_two w n dir other k b x y p q differ) in
+    let more : 2 ≤ nlink_of w n t.file.body =
+    least w n 2 t.file.body (omega arith) (λ _. has_two w n dir other k b x y p q differ) in
     omega (arith, more, nlink w n a t)

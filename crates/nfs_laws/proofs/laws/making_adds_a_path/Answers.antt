@@ -7,16 +7,19 @@ use Rattle.nfs_laws.proofs.laws.making_adds_a_path.Goals as goal
 
 pub returns-clause-create : goal.returns-clause-create
 returns-clause-create c w after who now dir name a number tree time is bound h =
-    create_adds now time w tree who dir name bound a is number after (create_ok w who now dir name a number after h)
+    create_adds now time w tree who dir name bound a is number after
+    (create_ok w who now dir name a number after h)
 
 pub returns-clause-make_dir : goal.returns-clause-make_dir
 returns-clause-make_dir c w after who now dir name a number tree time is bound h =
-    make_adds now time w tree who dir name bound (new_directory who now a) refl (directory_fits who now time a is) number after
+    make_adds now time w tree who dir name bound (new_directory who now a) refl
+    (directory_fits who now time a is) number after
     (make_dir_ok w who now dir name a number after h)
 
 pub returns-clause-symlink : goal.returns-clause-symlink
 returns-clause-symlink c w after who now dir name target number tree time bound short h =
-    make_adds now time w tree who dir name bound (new_link who now target) refl (link_fits who now time target short) number after
+    make_adds now time w tree who dir name bound (new_link who now target) refl
+    (link_fits who now time target short) number after
     (symlink_ok w who now dir name target number after h)
 
 pub returns-clause-link : goal.returns-clause-link

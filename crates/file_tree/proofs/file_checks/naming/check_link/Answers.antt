@@ -2,7 +2,7 @@ use Rattle.std.proofs.Common.{sym}
 use Rattle.std.proofs.lemmas.Result.{err_from_is_err_and}
 use Rattle.nfs_spec.specs.nfs_items.CallerOf.{caller_of}
 use Rattle.inode_table.specs.inodes.Inodes.{file_in}
-use Rattle.file_tree.proofs.OfFileChecks.Places.{link_refused, link_decided}
+use Rattle.file_tree.proofs.OfFileChecks.FreeNames.{link_refused, link_decided}
 use Rattle.file_tree.proofs.file_checks.naming.check_link.Goals as goal
 
 pub returns-in_err-listing : goal.returns-in_err-listing

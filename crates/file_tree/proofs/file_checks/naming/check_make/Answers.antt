@@ -1,7 +1,7 @@
 use Rattle.std.proofs.Common.{sym}
 use Rattle.std.proofs.lemmas.Result.{err_from_is_err_and}
 use Rattle.nfs_spec.specs.nfs_items.CallerOf.{caller_of}
-use Rattle.file_tree.proofs.OfFileChecks.Places.{make_refused, make_decided}
+use Rattle.file_tree.proofs.OfFileChecks.FreeNames.{make_refused, make_decided}
 use Rattle.file_tree.proofs.file_checks.naming.check_make.Goals as goal
 
 pub returns-in_err-listing : goal.returns-in_err-listing

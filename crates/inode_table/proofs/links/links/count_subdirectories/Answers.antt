@@ -3,7 +3,7 @@ use Rattle.std.proofs.Common.{add-zero, sym, ap, ◌∙◌}
 use Rattle.std.specs.Prelude.{count_by}
 use Rattle.std.proofs.lemmas.List.{take_all}
 use Rattle.std.proofs.lemmas.List.Sums.{sum_by_more}
-use Rattle.fs_model.specs.Listing.{DirEntry}
+use Rattle.fs_model.specs.Listing.{NamedEntry}
 use Rattle.nfs_counts.specs.nfs_spec.FileAttributes.{is_directory_at}
 use Rattle.tree_rules.specs.inodes.Inodes.{files_of}
 use Rattle.inode_table.proofs.links.links.count_subdirectories.Goals.{then-is_directory_at}
@@ -30,10 +30,10 @@ loop-at-preserved c =
       counted = λ fsid next.
           let fs = files_of fsid next c.args.inodes.now in
           counts ∙ ap (λ m. m + cond c.is_directory_at.result 1 0) (c.loop-at.invariant.counted fsid next)
-          ∙ ap (λ b. count_by (λ (e : DirEntry). is_directory_at fs e.1.0) (take c.loop-at.at entries)
+          ∙ ap (λ b. count_by (λ (e : NamedEntry). is_directory_at fs e.1.0) (take c.loop-at.at entries)
           + cond b 1 0) (c.is_directory_at.ensures fsid next
           ∙ ap (is_directory_at fs) (sym (c.number_in.ensures ([], (0, 0)))))
-          ∙ sym (sum_by_more (λ (e : DirEntry). cond (is_directory_at fs e.1.0) 1 0) entries c.loop-at.at
+          ∙ sym (sum_by_more (λ (e : NamedEntry). cond (is_directory_at fs e.1.0) 1 0) entries c.loop-at.at
           ([], (0, 0)) inside);
       few =
           one_at_most c.if-is_directory_at.count c.loop-at.count c.loop-at.at c.is_directory_at.result counts

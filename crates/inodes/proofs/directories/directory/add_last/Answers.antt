@@ -14,7 +14,11 @@ none_of f (Some x) h = absurd (cc)
 
 pub returns-clause-ok : goal.returns-clause-ok
 returns-clause-ok c =
-    let none = none_of (λ (e : Entry). (e.number, e.cookie)) (lookup (λ k. pointwise nat_eq c.args.name.items k.items) c.args.entries.now.entries)
-    (sym (lookup-shown (λ k. k.items) (λ (e : Entry). (e.number, e.cookie)) (pointwise nat_eq c.args.name.items) c.args.entries.now.entries) ∙ c.requires) in
-    ap entries_of (c.in_ok-insert.ensures.entries ∙ insert_entry-new _ c.args.entries.now c.args.name c.args.entry none)
-    ∙ map-append (λ e. (e.0.items, (e.1.number, e.1.cookie))) c.args.entries.now.entries ((c.args.name, c.args.entry) ∷ [])
+    let none = none_of (λ (e : Entry). (e.number, e.cookie))
+    (lookup (λ k. pointwise nat_eq c.args.name.items k.items) c.args.entries.now.entries)
+    (sym (lookup-shown (λ k. k.items) (λ (e : Entry). (e.number, e.cookie))
+    (pointwise nat_eq c.args.name.items) c.args.entries.now.entries) ∙ c.requires) in
+    ap entries_of (c.in_ok-insert.ensures.entries
+    ∙ insert_entry-new _ c.args.entries.now c.args.name c.args.entry none)
+    ∙ map-append (λ e. (e.0.items, (e.1.number, e.1.cookie))) c.args.entries.now.entries
+    ((c.args.name, c.args.entry) ∷ [])

@@ -7,8 +7,10 @@ pub returns-clause-anew : goal.returns-clause-anew
 returns-clause-anew c w requests tree bounded = anew w requests tree bounded
 
 pub returns-clause-number : goal.returns-clause-number
-returns-clause-number c w requests n tree bounded given none = none_since w (files_after w requests) n (anew w requests tree bounded) given none
+returns-clause-number c w requests n tree bounded given none =
+    none_since w (files_after w requests) n (anew w requests tree bounded) given none
 
 pub returns-clause-cookie : goal.returns-clause-cookie
 returns-clause-cookie c w requests n k b name tree bounded is given at =
-    ⊎_elim (λ h. h) (λ late. absurd (omega (arith, late, given))) ((anew w requests tree bounded).entries n name k b is at)
+    ⊎_elim (λ h. h) (λ late. absurd (omega (arith, late, given)))
+    ((anew w requests tree bounded).entries n name k b is at)

@@ -5,4 +5,5 @@ pub returns-clause-front : goal.returns-clause-front
 returns-clause-front c fs who now dir es tree lists counts = gives_front fs who now dir es tree lists counts
 
 pub returns-clause-whole : goal.returns-clause-whole
-returns-clause-whole c fs who now dir es tree lists counts count eof = gives_whole fs who now dir es tree lists counts count eof
+returns-clause-whole c fs who now dir es tree lists counts count eof =
+    gives_whole fs who now dir es tree lists counts count eof

@@ -14,10 +14,12 @@ pub returns-clause-create : goal.returns-clause-create
 returns-clause-create c w after who now dir name a number h = create_ok w who now dir name a number after h
 
 pub returns-clause-make_dir : goal.returns-clause-make_dir
-returns-clause-make_dir c w after who now dir name a number h = make_dir_ok w who now dir name a number after h
+returns-clause-make_dir c w after who now dir name a number h =
+    make_dir_ok w who now dir name a number after h
 
 pub returns-clause-symlink : goal.returns-clause-symlink
-returns-clause-symlink c w after who now dir name target number h = symlink_ok w who now dir name target number after h
+returns-clause-symlink c w after who now dir name target number h =
+    symlink_ok w who now dir name target number after h
 
 pub returns-clause-link : goal.returns-clause-link
 returns-clause-link c w after who now from dir name h = link_ok w who now from dir name after h
@@ -29,4 +31,5 @@ pub returns-clause-remove_dir : goal.returns-clause-remove_dir
 returns-clause-remove_dir c w after who now dir name h = remove_dir_ok w who now dir name after h
 
 pub returns-clause-rename : goal.returns-clause-rename
-returns-clause-rename c w after who now from to from_name to_name h = rename_ok w who now from from_name to to_name after h
+returns-clause-rename c w after who now from to from_name to_name h =
+    rename_ok w who now from from_name to to_name after h

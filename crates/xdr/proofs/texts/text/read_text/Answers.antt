@@ -6,13 +6,19 @@ use Rattle.xdr.specs.Texts.TextFault.{is_no_text}
 use Rattle.xdr.proofs.OfTexts.WholeTexts.{text_found, text_only}
 use Rattle.xdr.proofs.texts.text.read_text.Goals as goal
 
-no_memory : {X : Type 0} (P : X → Type 0) (r : Result X TextFault) → MatchResult r P (λ e. is_no_text e ≡ false) → MatchResult r P (λ e. e ≡ NoMemory)
+no_memory : {X : Type 0} (P : X → Type 0) (r : Result X TextFault)
+    → MatchResult r P (λ e. is_no_text e ≡ false) → MatchResult r P (λ e. e ≡ NoMemory)
 no_memory P (Ok x) h = h
 no_memory P (Err NoMemory) h = refl
 no_memory P (Err NotAText) h = absurd cc
 
 pub returns-clause-found : goal.returns-clause-found
-returns-clause-found g c = text_found is_no_text g.T.FromText.text g.T.FromText.value c.args.bytes.now c.text_of.result (λ i. omega (arith, c.type_inv.bytes i)) c.text_of.ensures
+returns-clause-found g c =
+    text_found is_no_text g.T.FromText.text g.T.FromText.value c.args.bytes.now c.text_of.result
+    (λ i. omega (arith, c.type_inv.bytes i)) c.text_of.ensures
 
 pub returns-clause-only : goal.returns-clause-only
-returns-clause-only g c v h = no_memory _ c.text_of.result (text_only is_no_text g.T.FromText.text g.T.FromText.value c.args.bytes.now c.text_of.result (λ i. omega (arith, c.type_inv.bytes i)) c.text_of.ensures v h)
+returns-clause-only g c v h =
+    no_memory _ c.text_of.result
+    (text_only is_no_text g.T.FromText.text g.T.FromText.value c.args.bytes.now c.text_of.result
+    (λ i. omega (arith, c.type_inv.bytes i)) c.text_of.ensures v h)

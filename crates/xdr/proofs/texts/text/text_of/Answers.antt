@@ -9,18 +9,26 @@ returns-in-Err-Fault g c =
 
 pub returns-then-not-is_empty : goal.returns-then-not-is_empty
 returns-then-not-is_empty g c =
-    let more : (length c.read_front.new.reader == 0) ≡ false = rw (← c.rest.ensures) (sym c.is_empty.ensures ∙ c.if-not-is_empty.true) in
-    text_more g.T.FromText.text c.args.bytes.now (g.T.FromText.value c.in-Ok.value) c.read_front.new.reader (rw (← c.new-reader.ensures) c.in-Ok.ensures) more
+    let more : (length c.read_front.new.reader == 0) ≡ false =
+    rw (← c.rest.ensures) (sym c.is_empty.ensures ∙ c.if-not-is_empty.true) in
+    text_more g.T.FromText.text c.args.bytes.now (g.T.FromText.value c.in-Ok.value) c.read_front.new.reader
+    (rw (← c.new-reader.ensures) c.in-Ok.ensures) more
 
 pub returns-then-not-has_text : goal.returns-then-not-has_text
 returns-then-not-has_text g c =
-    let end : (length c.read_front.new.reader == 0) ≡ true = rw (← c.rest.ensures) (sym c.is_empty.ensures ∙ c.if-not-is_empty.false) in
-    let fails : g.T.FromText.text.test (g.T.FromText.value c.in-Ok.value) ≡ false = sym c.has_text.ensures ∙ c.if-not-has_text.true in
-    text_end g.T.FromText.text c.args.bytes.now (g.T.FromText.value c.in-Ok.value) c.read_front.new.reader (rw (← c.new-reader.ensures) c.in-Ok.ensures) end ∙ rw fails refl
+    let end : (length c.read_front.new.reader == 0) ≡ true =
+    rw (← c.rest.ensures) (sym c.is_empty.ensures ∙ c.if-not-is_empty.false) in
+    let fails : g.T.FromText.text.test (g.T.FromText.value c.in-Ok.value) ≡ false =
+    sym c.has_text.ensures ∙ c.if-not-has_text.true in
+    text_end g.T.FromText.text c.args.bytes.now (g.T.FromText.value c.in-Ok.value) c.read_front.new.reader
+    (rw (← c.new-reader.ensures) c.in-Ok.ensures) end ∙ rw fails refl
 
 -- a text that was read to its end and passes its test
 pub returns : goal.returns
 returns g c =
-    let end : (length c.read_front.new.reader == 0) ≡ true = rw (← c.rest.ensures) (sym c.is_empty.ensures ∙ c.if-not-is_empty.false) in
-    let passes : g.T.FromText.text.test (g.T.FromText.value c.in-Ok.value) ≡ true = sym c.has_text.ensures ∙ c.if-not-has_text.false in
-    text_end g.T.FromText.text c.args.bytes.now (g.T.FromText.value c.in-Ok.value) c.read_front.new.reader (rw (← c.new-reader.ensures) c.in-Ok.ensures) end ∙ rw passes refl
+    let end : (length c.read_front.new.reader == 0) ≡ true =
+    rw (← c.rest.ensures) (sym c.is_empty.ensures ∙ c.if-not-is_empty.false) in
+    let passes : g.T.FromText.text.test (g.T.FromText.value c.in-Ok.value) ≡ true =
+    sym c.has_text.ensures ∙ c.if-not-has_text.false in
+    text_end g.T.FromText.text c.args.bytes.now (g.T.FromText.value c.in-Ok.value) c.read_front.new.reader
+    (rw (← c.new-reader.ensures) c.in-Ok.ensures) end ∙ rw passes refl

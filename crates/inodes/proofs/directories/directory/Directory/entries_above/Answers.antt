@@ -14,9 +14,17 @@ returns c =
     let es = c.as_slice-entries.result in
     let inside : es ≡ c.self.inside.entries.entries = c.as_slice-entries.ensures.entries in
     let rising = subst (λ l. IsRising 3 (entries_of l) c.self.inside.next) (sym inside) c.self.invariant in
-    let parts = IsPartitionedBy-leb (λ e. e.1.cookie) es c.args.cookie (in_order (λ e. (e.0.items, (e.1.number, e.1.cookie))) 3 es c.self.inside.next rising) in
-    let point = c.partition_point-first.ensures.partitioned (λ e. leb e.1.cookie c.args.cookie) (always_returns_same _ _ _ (λ a r f k. search (rules, of_calls))) parts in
+    let parts = IsPartitionedBy-leb (λ e. e.1.cookie) es c.args.cookie
+    (in_order (λ e. (e.0.items, (e.1.number, e.1.cookie))) 3 es c.self.inside.next rising) in
+    let point = c.partition_point-first.ensures.partitioned (λ e. leb e.1.cookie c.args.cookie)
+    (always_returns_same _ _ _ (λ a r f k. search (rules, of_calls))) parts in
     ap (λ l. map page_entry (entries_of l)) c.split_at.ensures.back
-    ∙ after_point (λ e. (e.0.items, (e.1.number, e.1.cookie))) c.args.cookie c.partition_point-first.result es point
+    ∙ after_point (λ e. (
+      e.0.items,
+      (
+        e.1.number,
+        e.1.cookie,
+      ),
+    )) c.args.cookie c.partition_point-first.result es point
     ∙ ap (λ l. above c.args.cookie (map page_entry (entries_of l))) inside
     ∙ ap (λ l. above c.args.cookie (map page_entry l.entries)) c.self.view_is

@@ -8,5 +8,6 @@ use Rattle.inodes.proofs.directories.directory.Directory.find.Goals as goal
 pub returns : goal.returns
 returns c =
     ap (option_map (λ e. (e.number, e.cookie))) (c.copied.ensures ∙ c.get.ensures.value)
-    ∙ sym (lookup-shown (λ k. k.items) (λ e. (e.number, e.cookie)) (pointwise nat_eq c.args.name.now) c.self.inside.entries.entries)
+    ∙ sym (lookup-shown (λ k. k.items) (λ e. (e.number, e.cookie))
+    (pointwise nat_eq c.args.name.now) c.self.inside.entries.entries)
     ∙ ap (λ l. entry_at l c.args.name.now) c.self.view_is

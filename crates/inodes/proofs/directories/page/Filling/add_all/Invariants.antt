@@ -7,4 +7,5 @@ use Rattle.inodes.proofs.directories.page.Filling.add_all.Given as goal
 -- what would become of the page with all is what becomes of it with those that are left
 abbrev pub invariant-loop-name : goal.invariant-loop-name
 invariant-loop-name l =
-    page_with l.self (map page_entry (entries_of l.name-iterator)) ≡ page_with l.fn.self (map page_entry (entries_of l.fn.entries))
+    page_with l.self (map page_entry (entries_of l.name-iterator))
+    ≡ page_with l.fn.self (map page_entry (entries_of l.fn.entries))

@@ -8,8 +8,8 @@ use Rattle.nfs_spec.specs.fs_model.Files.{Files}
 use Rattle.nfs_spec.specs.ProcedureChecks.{◌>>=◌, dir_of, check_edit, check_free}
 
 -- what it lists: Dir, Edit, and EXIST where the name is taken
-abbrev pub free_place : Files → Caller → FileNumber → Name → Result Listing Stat
-free_place fs who dir name = do
+abbrev pub free_name : Files → Caller → FileNumber → Name → Result Listing Stat
+free_name fs who dir name = do
   d ← dir_of fs dir
   _ ← check_edit who d name
   _ ← check_free d name
