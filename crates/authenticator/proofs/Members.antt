@@ -30,25 +30,35 @@ pub counted : {E : Type 0} (ms : List Member) (old first new : List ℕ) (r : Re
     → Adds (texts ms) first r new → Adds (spelling roster_item (roster_value ms)) old r new
 counted ms old first new (Ok x) e h =
     let same : length (roster_value ms) ≡ length ms = length-map ms member_value in
-    rw (same, ← members_text ms) (h ∙ ap (λ a. a ++ texts ms) e ∙ append_assoc old (number_spelling 4 (length ms)) (texts ms))
-counted ms old first new (Err x) e h = (number_spelling 4 (length ms) ++ h.0, h.1 ∙ ap (λ a. a ++ h.0) e ∙ append_assoc old (number_spelling 4 (length ms)) h.0)
+    rw (same, ← members_text ms)
+    (h ∙ ap (λ a. a ++ texts ms) e ∙ append_assoc old (number_spelling 4 (length ms)) (texts ms))
+counted ms old first new (Err x) e h = (
+  number_spelling 4 (length ms) ++ h.0,
+  h.1 ∙ ap (λ a. a ++ h.0) e ∙ append_assoc old (number_spelling 4 (length ms)) h.0,
+)
 
 -- the member that is found has the number
 pub member_node : (ms : List Member) (node : ℕ) (m : Member) → member_of ms node ≡ Some m → m.node ≡ node
 member_node [] node m e = absurd cc
 member_node (x ∷ ms) node m e = by_test (x.node == node) refl e (member_node ms node m)
   where
-    by_test : (b : Bool) → (x.node == node) ≡ b → cond b (Some x) (member_of ms node) ≡ Some m → (member_of ms node ≡ Some m → m.node ≡ node) → m.node ≡ node
-    by_test true h e rest = let same : x ≡ m = cc in sym (ap (λ (y : Member). y.node) same) ∙ eqb-true x.node node h
+    by_test : (b : Bool) → (x.node == node) ≡ b → cond b (Some x) (member_of ms node) ≡ Some m
+        → (member_of ms node ≡ Some m → m.node ≡ node) → m.node ≡ node
+    by_test true h e rest = let same : x ≡ m = cc in
+        sym (ap (λ (y : Member). y.node) same) ∙ eqb-true x.node node h
     by_test false h e rest = rest e
 
 -- members without a fault rise
-pub no_fault_rises : (low : ℕ) (ms : List Member) → first_fault low ms ≡ None → IsTrue (rises_above low (roster_value ms))
+pub no_fault_rises : (low : ℕ) (ms : List Member) → first_fault low ms ≡ None
+    → IsTrue (rises_above low (roster_value ms))
 no_fault_rises low [] e = refl
-no_fault_rises low (m ∷ ms) e = by_tests (is_node m.node) (is_height m.height) (nat_lt low m.node) (first_fault m.node ms) e (no_fault_rises m.node ms)
+no_fault_rises low (m ∷ ms) e =
+    by_tests (is_node m.node) (is_height m.height) (nat_lt low m.node) (first_fault m.node ms) e
+    (no_fault_rises m.node ms)
   where
     by_tests : (node height above : Bool) (later : Option RosterFault) {rising : Bool}
-        → first_of (cond node (cond height (cond above None (Some NotRising)) (Some BadHeight)) (Some BadNumber)) later ≡ None
+        → first_of (cond node (cond height (cond above None (Some NotRising)) (Some BadHeight))
+        (Some BadNumber)) later ≡ None
         → (later ≡ None → IsTrue rising) → IsTrue (above && rising)
     by_tests true true true later e rest = rest e
     by_tests true true false later e rest = absurd cc
@@ -56,13 +66,18 @@ no_fault_rises low (m ∷ ms) e = by_tests (is_node m.node) (is_height m.height)
     by_tests false height above later e rest = absurd cc
 
 -- members that fit and rise have no fault
-pub rising_no_fault : (low : ℕ) (ms : List Member) → EachFits ms → IsTrue (rises_above low (roster_value ms)) → first_fault low ms ≡ None
+pub rising_no_fault : (low : ℕ) (ms : List Member) → EachFits ms → IsTrue (rises_above low (roster_value ms))
+    → first_fault low ms ≡ None
 rising_no_fault low [] fit rise = refl
-rising_no_fault low (m ∷ ms) fit rise = by_tests (is_node m.node) (is_height m.height) (nat_lt low m.node) fit.0.0.1 fit.0.1.1.1.1 rise (rising_no_fault m.node ms fit.1)
+rising_no_fault low (m ∷ ms) fit rise =
+    by_tests (is_node m.node) (is_height m.height) (nat_lt low m.node) fit.0.0.1 fit.0.1.1.1.1 rise
+    (rising_no_fault m.node ms fit.1)
   where
-    by_tests : (node height above : Bool) {later : Option RosterFault} {rising : Bool} → IsTrue node → IsTrue height → IsTrue (above && rising)
+    by_tests : (node height above : Bool) {later : Option RosterFault} {rising : Bool} → IsTrue node
+        → IsTrue height → IsTrue (above && rising)
         → (IsTrue rising → later ≡ None)
-        → first_of (cond node (cond height (cond above None (Some NotRising)) (Some BadHeight)) (Some BadNumber)) later ≡ None
+        → first_of (cond node (cond height (cond above None (Some NotRising)) (Some BadHeight))
+        (Some BadNumber)) later ≡ None
     by_tests true true true n h r rest = rest r
     by_tests true true false n h r rest = absurd cc
     by_tests true false above n h r rest = absurd cc

@@ -88,4 +88,5 @@ signed_by_member ms a m e h = ap (λ (o : Option Member). is_signed_by o a) e �
 pub unsigned_by_member : (ms : List Member) (a : Authenticator) (m : Member) → member_of ms a.node ≡ Some m
     → ¬ IsSignedBy m a → is_signed_in ms a ≡ false
 unsigned_by_member ms a m e h =
-    ap (λ (o : Option Member). is_signed_by o a) e ∙ is_false (is_signed_by (Some m) a) (λ s. h (signed_by_of (Some m) a s))
+    ap (λ (o : Option Member). is_signed_by o a) e
+    ∙ is_false (is_signed_by (Some m) a) (λ s. h (signed_by_of (Some m) a s))

@@ -98,7 +98,8 @@ module _ (w : Files) (who : Caller) (dir k : ℕ) where
   in_file (Some f) h = let b = in_body f f.body h in (ap (λ t. Some t) b.0, b.1)
 
   -- what `..` gives is where each path to the directory came from
-  pub leads_back : IsFileTree w → number_at_name w who dir dot_dot ≡ Ok k → LeadsBack (directory_entries w) dir k
+  pub leads_back : IsFileTree w → number_at_name w who dir dot_dot ≡ Ok k
+      → LeadsBack (directory_entries w) dir k
   leads_back tree h path name cookie at =
       let d = in_file (file_at w dir) h in
       ap (option_map (λ e. e.0)) (parent_path w tree dir cookie d.0 path name at).1 ∙ ap (λ n. Some n) d.1

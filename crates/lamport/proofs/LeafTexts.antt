@@ -66,27 +66,33 @@ shown_front_more key digest n = end_to_end_more (λ place. secret key place (dig
 
 -- a place adds the hash of the other value
 pub other_front_more : (key : LeafKey) (digest : List ℕ) (n : ℕ)
-    → other_front key digest (n + 1) ≡ other_front key digest n ++ public_hash key n (not (digest_bit digest n))
+    → other_front key digest (n + 1)
+    ≡ other_front key digest n ++ public_hash key n (not (digest_bit digest n))
 unfolding other_front
-other_front_more key digest n = end_to_end_more (λ place. public_hash key place (not (digest_bit digest place))) n
+other_front_more key digest n =
+    end_to_end_more (λ place. public_hash key place (not (digest_bit digest place))) n
 
 -- all places are what the definition says
-pub shown_front_all : (key : LeafKey) (digest : List ℕ) → shown_secrets key digest ≡ shown_front key digest PLACES
+pub shown_front_all : (key : LeafKey) (digest : List ℕ)
+    → shown_secrets key digest ≡ shown_front key digest PLACES
 unfolding shown_secrets shown_front
 shown_front_all key digest = refl
 
 -- all places are what the definition says
-pub other_front_all : (key : LeafKey) (digest : List ℕ) → other_hashes key digest ≡ other_front key digest PLACES
+pub other_front_all : (key : LeafKey) (digest : List ℕ)
+    → other_hashes key digest ≡ other_front key digest PLACES
 unfolding other_hashes other_front
 other_front_all key digest = refl
 
 -- the two hashes of a place in the order of the text
 pub shown_pair : (digest shown other : List ℕ) (n : ℕ)
     → shown_hash digest shown other n false ++ shown_hash digest shown other n true
-    ≡ cond (digest_bit digest n) (piece other n ++ sha256 (piece shown n)) (sha256 (piece shown n) ++ piece other n)
+    ≡ cond (digest_bit digest n) (piece other n ++ sha256 (piece shown n))
+    (sha256 (piece shown n) ++ piece other n)
 unfolding shown_hash
 shown_pair digest shown other n = by_bit (digest_bit digest n) (sha256 (piece shown n)) (piece other n)
   where
-    by_bit : (b : Bool) (own beside : List ℕ) → cond b beside own ++ cond b own beside ≡ cond b (beside ++ own) (own ++ beside)
+    by_bit : (b : Bool) (own beside : List ℕ)
+        → cond b beside own ++ cond b own beside ≡ cond b (beside ++ own) (own ++ beside)
     by_bit true own beside = refl
     by_bit false own beside = refl

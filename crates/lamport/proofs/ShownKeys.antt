@@ -14,13 +14,16 @@ use Rattle.lamport.specs.Lamport.{leaf_hash, shown_hash, shown_secrets, other_ha
 use Rattle.lamport.specs.declared.key.TheConstants.{PLACES, TEXT_SIZE}
 
 -- n pieces of 32 bytes
-pub length-end_to_end : (f : ℕ → List ℕ) (n : ℕ) → ((i : ℕ) → length (f i) ≡ 32) → length (end_to_end f n) ≡ 32 * n
+pub length-end_to_end : (f : ℕ → List ℕ) (n : ℕ) → ((i : ℕ) → length (f i) ≡ 32)
+    → length (end_to_end f n) ≡ 32 * n
 unfolding end_to_end
 length-end_to_end f zero each = refl
-length-end_to_end f (suc n) each = omega (arith, length-append (end_to_end f n) (f n), each n, length-end_to_end f n each)
+length-end_to_end f (suc n) each =
+    omega (arith, length-append (end_to_end f n) (f n), each n, length-end_to_end f n each)
 
 -- texts are equal where their pieces are
-pub end_to_end_same : (f g : ℕ → List ℕ) (n : ℕ) → ((i : ℕ) → i < n → f i ≡ g i) → end_to_end f n ≡ end_to_end g n
+pub end_to_end_same : (f g : ℕ → List ℕ) (n : ℕ) → ((i : ℕ) → i < n → f i ≡ g i)
+    → end_to_end f n ≡ end_to_end g n
 unfolding end_to_end
 end_to_end_same f g zero same = refl
 end_to_end_same f g (suc n) same =
@@ -41,7 +44,8 @@ unfolding piece
 last_piece xs ys i e h = rw (← e, drop-append_seam, ← h, take-length) refl
 
 -- each piece is what was put there
-pub piece-end_to_end : (f : ℕ → List ℕ) (n i : ℕ) → ((j : ℕ) → length (f j) ≡ 32) → i < n → piece (end_to_end f n) i ≡ f i
+pub piece-end_to_end : (f : ℕ → List ℕ) (n i : ℕ) → ((j : ℕ) → length (f j) ≡ 32) → i < n
+    → piece (end_to_end f n) i ≡ f i
 unfolding end_to_end
 piece-end_to_end f zero i each h = absurd (omega arith)
 piece-end_to_end f (suc n) i each h =
@@ -64,20 +68,24 @@ length-public_hash key place bit = length-sha256 _
 -- a key's signature has a secret for each place
 pub length-shown_secrets : (key : LeafKey) (digest : List ℕ) → length (shown_secrets key digest) ≡ TEXT_SIZE
 unfolding shown_secrets
-length-shown_secrets key digest = length-end_to_end _ PLACES (λ place. length-secret key place (digest_bit digest place))
+length-shown_secrets key digest =
+    length-end_to_end _ PLACES (λ place. length-secret key place (digest_bit digest place))
 
 -- and a hash beside each
 pub length-other_hashes : (key : LeafKey) (digest : List ℕ) → length (other_hashes key digest) ≡ TEXT_SIZE
 unfolding other_hashes
-length-other_hashes key digest = length-end_to_end _ PLACES (λ place. length-public_hash key place (not (digest_bit digest place)))
+length-other_hashes key digest =
+    length-end_to_end _ PLACES (λ place. length-public_hash key place (not (digest_bit digest place)))
 
 -- what a key signs shows its own public hashes
 pub key_shows : (key : LeafKey) (digest : List ℕ)
     → Shows digest (shown_secrets key digest) (other_hashes key digest) (public_hash key)
 unfolding shown_secrets other_hashes public_hash
 key_shows key digest = record {
-  secrets = λ place h. ap sha256 (piece-end_to_end _ PLACES place (λ i. length-secret key i (digest_bit digest i)) h);
-  others = λ place h. piece-end_to_end _ PLACES place (λ i. length-public_hash key i (not (digest_bit digest i))) h;
+  secrets = λ place h. ap sha256
+      (piece-end_to_end _ PLACES place (λ i. length-secret key i (digest_bit digest i)) h);
+  others = λ place h. piece-end_to_end _ PLACES place
+      (λ i. length-public_hash key i (not (digest_bit digest i))) h;
 }
 
 -- the hash that a signature gives for the digest's own bit

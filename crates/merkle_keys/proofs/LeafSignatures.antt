@@ -19,7 +19,8 @@ leaf_signature_signs master height leaf digest low within =
     let other = other_hashes (leaf_key master leaf) digest in
     let shows_own = key_shows (leaf_key master leaf) digest in
     let own = one_leaf_hash digest shown other _ _ (signature_shows digest shown other) shows_own in
-    let start : leaf_hash (shown_hash digest shown other) ≡ tree_hash master 0 leaf = tree_hash_of_leaf master leaf _ own in
+    let start : leaf_hash (shown_hash digest shown other) ≡ tree_hash master 0 leaf =
+    tree_hash_of_leaf master leaf _ own in
     let whole : 0 + height ≡ height = omega arith in
     let up = path_ends_in_root master height 0 leaf within in
     record {
@@ -30,7 +31,8 @@ leaf_signature_signs master height leaf digest low within =
     }
 
 -- a signature of these parts is the leaf's
-pub signature_of_parts : (master : List ℕ) (height leaf : ℕ) (digest shown other : List ℕ) (path : List (List ℕ))
+pub signature_of_parts : (master : List ℕ) (height leaf : ℕ) (digest shown other : List ℕ)
+    (path : List (List ℕ))
     → shown ≡ shown_secrets (leaf_key master leaf) digest → other ≡ other_hashes (leaf_key master leaf) digest
     → path ≡ authentication_path master 0 leaf height
     → (let made : SignatureParts = record { leaf = leaf; shown = shown; other = other; path = path } in

@@ -12,7 +12,8 @@ use Rattle.merkle_keys.specs.Tree.{tree_hash, sibling, authentication_path, pare
 
 -- over an even place and its sibling
 even_parent_hash : (master : List ℕ) (level place : ℕ) → place % 2 ≡ 0
-    → parent_hash place (tree_hash master level place) (tree_hash master level (sibling place)) ≡ tree_hash master (suc level) (place / 2)
+    → parent_hash place (tree_hash master level place) (tree_hash master level (sibling place))
+    ≡ tree_hash master (suc level) (place / 2)
 unfolding parent_hash sibling tree_hash
 even_parent_hash master level place even =
     let half : 2 * (place / 2) ≡ place = omega arith in
@@ -20,7 +21,8 @@ even_parent_hash master level place even =
 
 -- over an odd place and its sibling
 odd_parent_hash : (master : List ℕ) (level place : ℕ) → place % 2 ≡ 1
-    → parent_hash place (tree_hash master level place) (tree_hash master level (sibling place)) ≡ tree_hash master (suc level) (place / 2)
+    → parent_hash place (tree_hash master level place) (tree_hash master level (sibling place))
+    ≡ tree_hash master (suc level) (place / 2)
 unfolding parent_hash sibling tree_hash
 odd_parent_hash master level place odd =
     let left : 2 * (place / 2) ≡ place - 1 = omega arith in
@@ -29,18 +31,21 @@ odd_parent_hash master level place odd =
 
 -- the parent's hash is the tree's, a level up and half as far
 parent_hash-tree_hash : (master : List ℕ) (level place : ℕ)
-    → parent_hash place (tree_hash master level place) (tree_hash master level (sibling place)) ≡ tree_hash master (suc level) (place / 2)
+    → parent_hash place (tree_hash master level place) (tree_hash master level (sibling place))
+    ≡ tree_hash master (suc level) (place / 2)
 parent_hash-tree_hash master level place =
     let own = tree_hash master level place in
     let other = tree_hash master level (sibling place) in
-    elim (cases_lt (place % 2) 1) as (λ _. parent_hash place own other ≡ tree_hash master (suc level) (place / 2)) [
+    elim (cases_lt (place % 2) 1) as (λ _. parent_hash place own other
+    ≡ tree_hash master (suc level) (place / 2)) [
       | inl low ↦ even_parent_hash master level place (omega arith)
       | inr high ↦ odd_parent_hash master level place (omega arith)
     ]
 
 -- a place's authentication path leads to the root
 pub path_ends_in_root : (master : List ℕ) (levels level place : ℕ) → place < 2 ^ levels
-    → path_end place (tree_hash master level place) (authentication_path master level place levels) ≡ tree_hash master (level + levels) 0
+    → path_end place (tree_hash master level place) (authentication_path master level place levels)
+    ≡ tree_hash master (level + levels) 0
 unfolding path_end authentication_path
 path_ends_in_root master zero level place low =
     let first : place ≡ 0 = omega arith in
@@ -53,7 +58,8 @@ path_ends_in_root master (suc levels) level place low =
     let own = tree_hash master level place in
     let over = parent_hash place own (tree_hash master level (sibling place)) in
     let above = authentication_path master (suc level) (place / 2) levels in
-    let step : path_end place own (authentication_path master level place (suc levels)) ≡ path_end (place / 2) over above = refl in
+    let step : path_end place own (authentication_path master level place (suc levels))
+    ≡ path_end (place / 2) over above = refl in
     let up = ap (λ hash. path_end (place / 2) hash above) (parent_hash-tree_hash master level place) in
     rw same (step ∙ up ∙ path_ends_in_root master levels (suc level) (place / 2) half)
 
@@ -62,7 +68,8 @@ pub length-authentication_path : (master : List ℕ) (levels level place : ℕ)
     → length (authentication_path master level place levels) ≡ levels
 unfolding authentication_path
 length-authentication_path master zero level place = refl
-length-authentication_path master (suc levels) level place = ap suc (length-authentication_path master levels (suc level) (place / 2))
+length-authentication_path master (suc levels) level place =
+    ap suc (length-authentication_path master levels (suc level) (place / 2))
 
 -- one step up a path in a list
 pub path_end_more : (above : List (List ℕ)) (i place : ℕ) (own : List ℕ) → i < length above
@@ -79,7 +86,8 @@ path_end_none above i place own h = rw (drop_of_length-le above h) refl
 
 -- one step of an authentication path: a front and the rest make the whole, and so do the front with the
 -- next hash
-pub authentication_path_more : (master : List ℕ) (front whole : List (List ℕ)) (level place height : ℕ) (x : List ℕ)
+pub authentication_path_more : (master : List ℕ) (front whole : List (List ℕ)) (level place height : ℕ)
+    (x : List ℕ)
     → level < height → front ++ authentication_path master level place (height - level) ≡ whole
     → x ≡ tree_hash master level (sibling place)
     → (front ++ x ∷ []) ++ authentication_path master (level + 1) (place / 2) (height - (level + 1)) ≡ whole
@@ -105,6 +113,7 @@ above_level level height h =
     rw k (pow-succ' 2 (height - (level + 1)))
 
 -- no levels, no hashes
-pub authentication_path_none : (master : List ℕ) (level place : ℕ) → authentication_path master level place 0 ≡ []
+pub authentication_path_none : (master : List ℕ) (level place : ℕ)
+    → authentication_path master level place 0 ≡ []
 unfolding authentication_path
 authentication_path_none master level place = refl

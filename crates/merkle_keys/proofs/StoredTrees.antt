@@ -22,7 +22,8 @@ pub no_leaves : (master : List ℕ) → HoldsLeaves master 0 []
 no_leaves master = record { count = refl; each = λ k h. absurd (omega arith) }
 
 -- what is read below the end is read after one more
-below_end : (xs : List (List ℕ)) (x : List ℕ) (k : ℕ) → k < length xs → get_or (xs ++ x ∷ []) k [] ≡ get_or xs k []
+below_end : (xs : List (List ℕ)) (x : List ℕ) (k : ℕ) → k < length xs
+    → get_or (xs ++ x ∷ []) k [] ≡ get_or xs k []
 below_end xs x k h = get_or_append_left xs (x ∷ []) [] k h
 
 -- what was added is read at the end
@@ -62,7 +63,8 @@ more_inner master leaves n xs x few so_far e = record {
   over = λ j h.
       let left = below_end xs x (2 * j) (omega (arith, so_far.count)) in
       let right = below_end xs x (2 * j + 1) (omega (arith, so_far.count)) in
-      let Over = λ (at : List (List ℕ)). get_or at (leaves + j) [] ≡ inner_hash (get_or xs (2 * j) []) (get_or xs (2 * j + 1) []) in
+      let Over = λ (at : List (List ℕ)). get_or at (leaves + j) []
+      ≡ inner_hash (get_or xs (2 * j) []) (get_or xs (2 * j + 1) []) in
       rw (left, right) (elim (cases_lt j n) as (λ _. Over (xs ++ x ∷ [])) [
         | inl before ↦ below_end xs x (leaves + j) (omega (arith, so_far.count)) ∙ so_far.over j before
         | inr after ↦ let last : j ≡ n = omega arith in rw last (at_end xs x (leaves + n) so_far.count ∙ e)
@@ -104,7 +106,8 @@ pub root_at : (master : List ℕ) (hashes : List (List ℕ)) (height : ℕ)
 unfolding root
 root_at master hashes height tree =
     let some : 1 ≤ 2 ^ height = one-le-pow height 2 (omega arith) in
-    tree_hash_at master hashes height tree height 0 0 (length hashes - 1) (omega arith) (omega (arith, tree.count)) (omega arith)
+    tree_hash_at master hashes height tree height 0 0 (length hashes - 1) (omega arith)
+    (omega (arith, tree.count)) (omega arith)
 
 -- a level's hash at a place, where the level begins at the index `first`
 pub level_hash_at : (master : List ℕ) (hashes : List (List ℕ)) (height : ℕ)

@@ -21,4 +21,5 @@ body_says_words (bodies.AuthError stat) = simp append-nil
 
 -- of a whole reply
 pub says_words : (r : Reply) → reply_text r ≡ numbers_text (reply_words r)
-says_words r = ap (λ (t : List ℕ). number_spelling 4 r.xid ++ (number_spelling 4 1 ++ t)) (body_says_words r.body)
+says_words r =
+    ap (λ (t : List ℕ). number_spelling 4 r.xid ++ (number_spelling 4 1 ++ t)) (body_says_words r.body)

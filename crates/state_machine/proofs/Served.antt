@@ -22,7 +22,8 @@ same_node_answered node (Server w stage) time body own = after_record w time bod
 same_node_answered node (Client clock) time body own = tt
 
 -- and so is one that tried to
-pub same_node_tried : {A E : Type 0} (node : ℕ) (m n : Machine) (time : Timeval) (body : List ℕ) (r : Result A E)
+pub same_node_tried : {A E : Type 0} (node : ℕ) (m n : Machine) (time : Timeval) (body : List ℕ)
+    (r : Result A E)
     → OnOk r (n ≡ having_answered m time body) → OnErr r (n ≡ m) → IsOf node m → IsOf node n
 same_node_tried node m n time body (Ok x) ok err own =
     subst (IsOf node) (sym ok) (same_node_answered node m time body own)
@@ -63,7 +64,8 @@ module _ (s : State) (m : ReceivedMessage) where
           → having_acknowledged (record t { machine = having_answered t.machine time body }) seq
           ≡ having_served s m time body
       served_without_place time body =
-          ap {A = State} (λ u. having_acknowledged (record u { machine = having_answered u.machine time body }) seq) place.1
+          ap {A = State} (λ u. having_acknowledged
+          (record u { machine = having_answered u.machine time body }) seq) place.1
           ∙ (λ i. record (having_served s m time body) { sends = without_place i })
 
       -- the room and the message taken out again leave the state

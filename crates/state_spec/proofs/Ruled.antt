@@ -131,7 +131,8 @@ module _ (w : World) (stage : Stage) (fits : Fits (rest_item file_item 1)
     clock = rules.clock;
     seconds = seconds;
     mounts =
-        are_mounts w.mounts (few_mounts w stage fits) (short_hosts w stage fits) rules.directories rules.mounts;
+        are_mounts w.mounts (few_mounts w stage fits)
+        (short_hosts w stage fits) rules.directories rules.mounts;
   }
 
 -- ---- to the rules

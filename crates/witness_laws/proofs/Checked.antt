@@ -51,11 +51,13 @@ pub record IsGiven (ms : List Member) (m : Member) (c : ClosedParts) : Type 0 wh
   -- it is closed under the roster
   pub closed : IsClosed ms c.segment
 
+-- what a step brings was checked under the node's key and roster
 abbrev pub IsCheckedStep : List Member → Member → Step → Type 0
 IsCheckedStep ms m (Learn a) = IsLearned ms m a
 IsCheckedStep ms m (Answer c) = IsGiven ms m c
 IsCheckedStep ms m _ = Unit {0}
 
+-- so of each step
 abbrev pub AreChecked : List Member → Member → Past → Type 0
 AreChecked ms m [] = Unit {0}
 AreChecked ms m (p ∷ past) = IsCheckedStep ms m p.0 × AreChecked ms m past
@@ -81,7 +83,8 @@ member_is x y h =
     let b = and_parts (kind_number x.kind == kind_number y.kind) _ a.1 in
     let c = and_parts _ (x.height == y.height) b.1 in
     let node : x.node ≡ y.node = eqb-true x.node y.node a.0 in
-    let kind : x.kind ≡ y.kind = kind_same x.kind y.kind (eqb-true (kind_number x.kind) (kind_number y.kind) b.0) in
+    let kind : x.kind ≡ y.kind = kind_same x.kind y.kind
+    (eqb-true (kind_number x.kind) (kind_number y.kind) b.0) in
     let root : x.root ≡ y.root = same_list x.root y.root c.0 in
     let height : x.height ≡ y.height = eqb-true x.height y.height c.1 in
     ap₂ (λ n k. make n k x.root x.height) node kind ∙ ap₂ (λ r t. make y.node y.kind r t) root height
@@ -105,7 +108,8 @@ signed_by m key a h signed =
     subst (λ r. IsSignedUnder (record { root = r; height = m.height }) a) (sym root)
     (subst (λ t. IsSignedUnder (record { root = key.root; height = t }) a) (sym height) signed)
 
-in_roster : (ms : List Member) (m : Member) (a : Authenticator) → member_of ms a.node ≡ Some m → IsSignedBy m a
+in_roster : (ms : List Member) (m : Member) (a : Authenticator) → member_of ms a.node ≡ Some m
+    → IsSignedBy m a
     → IsSignedIn ms a
 in_roster ms m a is signed = subst (λ x. IsSomeAnd x (λ n. IsSignedBy n a)) (sym is) signed
 
@@ -128,7 +132,8 @@ module _ (ms : List Member) (o : OwnStep) where
   learn_at a key (Some m) is h text signed = by (is_key_of m key) refl h
     where
       by : (b : Bool) → is_key_of m key ≡ b
-          → ◌≡◌ {A = Result OwnStep Refusal} (cond b (Ok (record { member = m; step = Learn a })) (Err BadSignature)) (Ok o)
+          → ◌≡◌ {A = Result OwnStep Refusal}
+          (cond b (Ok (record { member = m; step = Learn a })) (Err BadSignature)) (Ok o)
           → IsCheckedOwn ms o
       by true e h =
           to_own ms o m (Learn a)
@@ -146,7 +151,8 @@ module _ (ms : List Member) (o : OwnStep) where
   answer_at c (Some m) is h closed = by (same_roster c.roster ms) refl h
     where
       by : (b : Bool) → same_roster c.roster ms ≡ b
-          → ◌≡◌ {A = Result OwnStep Refusal} (cond b (Ok (record { member = m; step = Answer c })) (Err BadSignature)) (Ok o)
+          → ◌≡◌ {A = Result OwnStep Refusal}
+          (cond b (Ok (record { member = m; step = Answer c })) (Err BadSignature)) (Ok o)
           → IsCheckedOwn ms o
       by true e h =
           let roster : c.roster ≡ ms = roster_is c.roster ms e in
@@ -172,7 +178,8 @@ module _ (ms : List Member) (o : OwnStep) where
   key_at (Some m) key step all h = by (is_key_of m key) h
     where
       by : (b : Bool)
-          → ◌≡◌ {A = Result OwnStep Refusal} (cond b (Ok (record { member = m; step = step })) (Err BadSignature)) (Ok o)
+          → ◌≡◌ {A = Result OwnStep Refusal}
+          (cond b (Ok (record { member = m; step = step })) (Err BadSignature)) (Ok o)
           → IsCheckedOwn ms o
       by true h = to_own ms o m step (all m) h
       by false h = absurd (cc)
@@ -184,7 +191,8 @@ module _ (ms : List Member) (o : OwnStep) where
   sent_at (Some m) (Some n) key step all h = by (is_key_of m key) h
     where
       by : (b : Bool)
-          → ◌≡◌ {A = Result OwnStep Refusal} (cond b (Ok (record { member = n; step = step })) (Err BadSignature)) (Ok o)
+          → ◌≡◌ {A = Result OwnStep Refusal}
+          (cond b (Ok (record { member = n; step = step })) (Err BadSignature)) (Ok o)
           → IsCheckedOwn ms o
       by true h = to_own ms o n step (all n) h
       by false h = absurd (cc)
@@ -221,8 +229,10 @@ module _ (ms : List Member) (o : OwnStep) where
   delivered_at : (bytes : List ℕ) (d : Delivery) → delivered_step ms d ≡ Ok o → IsTaken ms bytes d
       → IsCheckedOwn ms o
   delivered_at bytes (packets.Learn a) h taken = learned_bytes bytes a (member_of ms a.node) refl h taken
-  delivered_at bytes (packets.SendChallenge e) h taken = other_at (member_of ms e.to) (SendChallenge e) (λ m. tt) h
-  delivered_at bytes (packets.Answer s) h taken = answered_bytes bytes s (member_of ms s.closing.node) refl h taken
+  delivered_at bytes (packets.SendChallenge e) h taken =
+      other_at (member_of ms e.to) (SendChallenge e) (λ m. tt) h
+  delivered_at bytes (packets.Answer s) h taken =
+      answered_bytes bytes s (member_of ms s.closing.node) refl h taken
   delivered_at bytes (packets.AckIn a) h taken = other_at (member_of ms a.by) (AckIn a) (λ m. tt) h
 
   judged_at : (bytes : List ℕ) (r : Result Delivery checks.Refusal) → IsBytes bytes → judged ms bytes ≡ r

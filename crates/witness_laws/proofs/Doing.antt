@@ -67,7 +67,8 @@ module _ (ms : List Member) (m : Member) (past : Past) where
   learns a true y z = Notes a refl (record { notes = refl; accepts = refl; files = refl; stage = refl })
   learns a false true z = Nothing (record { notes = refl; accepts = refl; files = refl; stage = refl })
   learns a false false true = Nothing (record { notes = refl; accepts = refl; files = refl; stage = refl })
-  learns a false false false = Notes a refl (record { notes = refl; accepts = refl; files = refl; stage = refl })
+  learns a false false false =
+      Notes a refl (record { notes = refl; accepts = refl; files = refl; stage = refl })
 
   answered : (c : ClosedParts) (first last : ℕ) (b : Bool) → stage_of past ≡ Wanted first last
       → ((c.segment.first == first) && (c.segment.closing.number == last)) ≡ b
@@ -76,7 +77,8 @@ module _ (ms : List Member) (m : Member) (past : Past) where
       let both = and_parts (c.segment.first == first) (c.segment.closing.number == last) e in
       let one : c.segment.first ≡ first = eqb-true c.segment.first first both.0 in
       let other : c.segment.closing.number ≡ last = eqb-true c.segment.closing.number last both.1 in
-      Accepts c refl (is ∙ (ap (λ n. Wanted n last) (sym one) ∙ ap (λ n. Wanted c.segment.first n) (sym other)))
+      Accepts c refl (is ∙ (ap (λ n. Wanted n last) (sym one)
+      ∙ ap (λ n. Wanted c.segment.first n) (sym other)))
       (record { notes = refl; accepts = refl; files = refl; stage = refl })
   answered c first last false is e =
       Nothing (record { notes = refl; accepts = refl; files = refl; stage = refl })
@@ -109,12 +111,15 @@ module _ (ms : List Member) (m : Member) (past : Past) where
       → ((a : Authenticator) → IsAmong a learned → IsAmong a (kept ms m past))
       → AllByRecursion (λ a. (end_of ms m past).number < a.number) learned
       → Doing ms m past (Audit, ask_reply exposed (end_of ms m past).number waiting learned)
-  asks true waiting learned within all = Nothing (record { notes = refl; accepts = refl; files = refl; stage = refl })
-  asks false waiting [] within all = Nothing (record { notes = refl; accepts = refl; files = refl; stage = refl })
+  asks true waiting learned within all =
+      Nothing (record { notes = refl; accepts = refl; files = refl; stage = refl })
+  asks false waiting [] within all =
+      Nothing (record { notes = refl; accepts = refl; files = refl; stage = refl })
   asks false waiting (a ∷ learned) within all =
       let end = (end_of ms m past).number in
       let last = last_in_reach end (a ∷ learned) in
-      asked (last == 0) (nat_lt MAX_AUDITED last) (nat_lt MAX_OUTBOX (waiting + (last - end))) (end + 1) last refl
+      asked (last == 0) (nat_lt MAX_AUDITED last) (nat_lt MAX_OUTBOX (waiting + (last - end)))
+      (end + 1) last refl
       (in_reach (kept ms m past) end (a ∷ learned) within all) refl
 
   audits : (s : Stage) → Doing ms m past (Audit, audit_reply ms m past s)
@@ -131,7 +136,8 @@ module _ (ms : List Member) (m : Member) (past : Past) where
 
   begins : (s : Stage) → stage_of past ≡ s → Doing ms m past (Begin, begin_reply ms m past s)
   begins NoAudit is = Nothing (record { notes = refl; accepts = refl; files = refl; stage = refl })
-  begins (Wanted first last) is = Nothing (record { notes = refl; accepts = refl; files = refl; stage = refl })
+  begins (Wanted first last) is =
+      Nothing (record { notes = refl; accepts = refl; files = refl; stage = refl })
   begins (Given c) is = begun c (is_exposed ms m past) is
   begins (Out c) is = Nothing (record { notes = refl; accepts = refl; files = refl; stage = refl })
 
@@ -144,7 +150,11 @@ module _ (ms : List Member) (m : Member) (past : Past) where
   out_is j (Out c) is h = is ∙ ap (λ (x : JobParts). Out x.segment) (some_same (job_of ms m past c) j h)
 
   files : (d : DoneParts) (b : Bool) (o : Option JobParts) → (b ≡ true → job_out ms m past ≡ Some d.job)
-      → Doing ms m past (File d, back_reply b o Filed (FileRefused refusals.WrongJob d) (FileRefused refusals.NoJob d))
+      → Doing ms m past (
+        File d,
+        back_reply b o Filed (FileRefused refusals.WrongJob d)
+            (FileRefused refusals.NoJob d),
+      )
   files d b None h = Nothing (record { notes = refl; accepts = refl; files = refl; stage = refl })
   files d true (Some j) h =
       Files d.job (out_is d.job (stage_of past) refl (h refl))

@@ -95,7 +95,8 @@ pub fork_at : (n : ℕ) (x y : List ℕ) (pairs : List Pair) → x ≢ y → IsA
 fork_at n x y [] h i = absurd i
 fork_at n x y (q ∷ pairs) h (inl e) =
     or_left (differ (n, x) q) (is_fork (n, x) pairs)
-    (subst (λ r. differ (n, x) r ≡ true) e (and_from (n == n) (not (is_same x y)) (eq-eqb n n refl) (is_other x y h)))
+    (subst (λ r. differ (n, x) r ≡ true) e
+    (and_from (n == n) (not (is_same x y)) (eq-eqb n n refl) (is_other x y h)))
 fork_at n x y (q ∷ pairs) h (inr i) =
     or_right (differ (n, x) q) (is_fork (n, x) pairs) (fork_at n x y pairs h i)
 
@@ -104,7 +105,8 @@ fork_of : (pairs : List Pair) (n : ℕ) (x y : List ℕ) → IsAmong (n, x) pair
 fork_of [] n x y i j h = absurd i
 fork_of (p ∷ pairs) n x y (inl e) (inl f) h = absurd (h (ap (λ (q : Pair). q.1) (e ∙ sym f)))
 fork_of (p ∷ pairs) n x y (inl e) (inr j) h =
-    or_left (is_fork p pairs) (has_fork pairs) (subst (λ q. is_fork q pairs ≡ true) e (fork_at n x y pairs h j))
+    or_left (is_fork p pairs) (has_fork pairs)
+    (subst (λ q. is_fork q pairs ≡ true) e (fork_at n x y pairs h j))
 fork_of (p ∷ pairs) n x y (inr i) (inl f) h =
     or_left (is_fork p pairs) (has_fork pairs)
     (subst (λ q. is_fork q pairs ≡ true) f (fork_at n y x pairs (λ e. h (sym e)) i))
@@ -149,14 +151,16 @@ file_of ms m (p ∷ past) h =
     by (inr g) rest = inr (rest g)
 
 -- the test finds the fault of a segment that was filed and isn't honest
-pub of_file : (ms : List Member) (m : Member) (past : Past) → HasFaultyFile ms m past → has_fault ms m past ≡ true
+pub of_file : (ms : List Member) (m : Member) (past : Past) → HasFaultyFile ms m past
+    → has_fault ms m past ≡ true
 of_file ms m [] h = absurd h
 of_file ms m (p ∷ past) (inl f) =
     or_left (finds_fault ms (end_of ms m past).state (filed p.0 p.1)) (has_fault ms m past)
     (ap (finds_fault ms (end_of ms m past).state) f.filed
     ∙ fault_of ms (end_of ms m past).state f.job.segment.segment f.none)
 of_file ms m (p ∷ past) (inr g) =
-    or_right (finds_fault ms (end_of ms m past).state (filed p.0 p.1)) (has_fault ms m past) (of_file ms m past g)
+    or_right (finds_fault ms (end_of ms m past).state (filed p.0 p.1)) (has_fault ms m past)
+    (of_file ms m past g)
 
 -- ---- the indication
 
@@ -178,7 +182,8 @@ is_exposed_told ms m past h = ap (λ b. cond b Exposed (without_evidence (open_c
 -- a node that is Exposed showed two hashes at a number, or a segment was filed that isn't honest
 pub exposed_why : (ms : List Member) (m : Member) (past : Past) → indication ms m past ≡ Exposed
     → HasTwoHashes (shown ms m past) ⊎ HasFaultyFile ms m past
-exposed_why ms m past h = by (or_cases (has_fork (shown ms m past)) (has_fault ms m past) (exposed_is ms m past h))
+exposed_why ms m past h =
+    by (or_cases (has_fork (shown ms m past)) (has_fault ms m past) (exposed_is ms m past h))
   where
     by : (has_fork (shown ms m past) ≡ true) ⊎ (has_fault ms m past ≡ true)
         → HasTwoHashes (shown ms m past) ⊎ HasFaultyFile ms m past
@@ -227,7 +232,8 @@ exposed_on : (ms : List Member) (m : Member) (p : Step × Reply) (past : Past) �
     → is_exposed ms m (p ∷ past) ≡ true
 exposed_on ms m p past h = by (or_cases (has_fork (shown ms m past)) (has_fault ms m past) h)
   where
-    by : (has_fork (shown ms m past) ≡ true) ⊎ (has_fault ms m past ≡ true) → is_exposed ms m (p ∷ past) ≡ true
+    by : (has_fork (shown ms m past) ≡ true) ⊎ (has_fault ms m past ≡ true)
+        → is_exposed ms m (p ∷ past) ≡ true
     by (inl f) =
         or_left (has_fork (shown ms m (p ∷ past))) (has_fault ms m (p ∷ past))
         (fork_stays (pairs_noted (is_exposed ms m past) (noted p.0 p.1))

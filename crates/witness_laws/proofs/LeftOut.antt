@@ -95,7 +95,9 @@ early_delivered ms (packets.Answer s) = early_step (member_of ms s.closing.node)
 early_delivered ms (packets.AckIn a) = early_step (member_of ms a.by) _
 
 early_judged : (ms : List Member) (d : Delivery) (a b c : Bool)
-    → IsEarly (judged_step ms (cond a (cond b (cond c (Ok d) (Err checking.BadSignature)) (Err checking.UnknownNode)) (Err checking.Garbage)))
+    → IsEarly (judged_step ms
+    (cond a (cond b (cond c (Ok d) (Err checking.BadSignature)) (Err checking.UnknownNode))
+    (Err checking.Garbage)))
 early_judged ms d true true true = early_delivered ms d
 early_judged ms d true true false = refl
 early_judged ms d true false c = refl
@@ -103,7 +105,8 @@ early_judged ms d false b c = refl
 
 early_option : (ms : List Member) (d : Option Delivery) → IsEarly (judged_step ms (judged_option ms d))
 early_option ms None = refl
-early_option ms (Some d) = early_judged ms d (may_be d) (is_of_members ms d) (is_signed_in ms (delivery_shows d))
+early_option ms (Some d) =
+    early_judged ms d (may_be d) (is_of_members ms d) (is_signed_in ms (delivery_shows d))
 
 early_bytes : (ms : List Member) (bytes : List ℕ) → IsEarly (judged_step ms (judged ms bytes))
 unfolding judged
@@ -129,7 +132,10 @@ left_out ms e refusal w =
     let low : is_early refusal ≡ true = subst IsEarly w (early ms e) in
     let both = and_parts (nat_le 1 (refusal_number refusal)) (nat_le (refusal_number refusal) 3) low in
     record {
-      reply = λ history reply. (subst (OwesTo ms history e reply) w, subst (OwesTo ms history e reply) (sym w));
+      reply = λ history reply. (
+        subst (OwesTo ms history e reply) w,
+        subst (OwesTo ms history e reply) (sym w),
+      );
       some = leb-true 1 (refusal_number refusal) both.0;
       few = leb-true (refusal_number refusal) 3 both.1;
       changes = λ history reply. no_change ms history e reply (λ node. none_own ms node e reply refusal w);
@@ -148,7 +154,8 @@ not_same a b h = by (a == b) refl
 pub taken : (ms : List Member) (history : History) (e : Event) (r : Reply) (o : OwnStep) → whose ms e ≡ Ok o
     → IsOwed ms history e r → IsTaken ms history e r o
 taken ms history e r o w owed =
-    let here : Owes ms o.member (own ms o.member.node history) o.step r = subst (OwesTo ms history e r) w owed in
+    let here : Owes ms o.member (own ms o.member.node history) o.step r =
+    subst (OwesTo ms history e r) w owed in
     let good : is_good r ≡ true = owed_good ms o.member (own ms o.member.node history) o.step r here in
     let same : (o.member.node == o.member.node) ≡ true = eq-eqb o.member.node o.member.node refl in
     record {

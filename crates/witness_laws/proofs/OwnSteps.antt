@@ -80,8 +80,10 @@ pub of_member : (ms : List Member) (e : Event) (o : OwnStep) → whose ms e ≡ 
     → member_of ms o.member.node ≡ Some o.member
 of_member ms (events.Deliver bytes) o h = of_judged ms (judged ms bytes) o h
 of_member ms (events.Learn a key) o h = at_member ms a.node o (of_signed _ key _ o h)
-of_member ms (events.SendChallenge e key) o h = at_member ms e.to o (of_sent (member_of ms e.from) _ key _ o h)
-of_member ms (events.Answer c) o h = at_member ms c.segment.closing.node o (of_closed _ (same_roster c.roster ms) _ o h)
+of_member ms (events.SendChallenge e key) o h =
+    at_member ms e.to o (of_sent (member_of ms e.from) _ key _ o h)
+of_member ms (events.Answer c) o h =
+    at_member ms c.segment.closing.node o (of_closed _ (same_roster c.roster ms) _ o h)
 of_member ms (events.AckIn a key) o h = at_member ms a.by o (of_signed _ key _ o h)
 of_member ms (events.Audit node) o h = at_member ms node o (of_step _ _ o h)
 of_member ms (events.Begin node) o h = at_member ms node o (of_step _ _ o h)

@@ -55,7 +55,8 @@ module _ (all : List Authenticator) (end : ℕ) where
       ]
 
   all_reached : (n : ℕ) (learned : List Authenticator) → Reached all end n
-      → ((a : Authenticator) → IsAmong a learned → IsAmong a all) → AllByRecursion (λ a. end < a.number) learned
+      → ((a : Authenticator) → IsAmong a learned → IsAmong a all)
+      → AllByRecursion (λ a. end < a.number) learned
       → Reached all end (fold max n (filter (λ k. nat_le k (end + MAX_ASKED)) (map (λ a. a.number) learned)))
   all_reached n [] h within behind = h
   all_reached n (a ∷ learned) h within behind =
@@ -76,8 +77,8 @@ module _ (all : List Authenticator) (end : ℕ) where
           )))
       by false e rest more = more n h
 
-  -- The greatest number in reach after an end, if there is one, ends an audit that is in reach, and is that of
-  -- one of these.
+  -- The greatest number in reach after an end, if there is one, ends an audit that is in reach, and is that
+  -- of one of these.
   pub in_reach : (learned : List Authenticator) → ((a : Authenticator) → IsAmong a learned → IsAmong a all)
       → AllByRecursion (λ a. end < a.number) learned → (last_in_reach end learned == 0) ≡ false
       → IsInReach (end + 1) (last_in_reach end learned) × IsNumberOf all (last_in_reach end learned)
@@ -90,7 +91,8 @@ module _ (all : List Authenticator) (end : ℕ) where
 after_end : (end : ℕ) (xs : List Authenticator)
     → AllByRecursion (λ a. end < a.number) (filter (λ a. nat_lt end a.number) xs)
 after_end end [] = tt
-after_end end (a ∷ xs) = by (nat_lt end a.number) refl (filter (λ b. nat_lt end b.number) xs) (after_end end xs)
+after_end end (a ∷ xs) =
+    by (nat_lt end a.number) refl (filter (λ b. nat_lt end b.number) xs) (after_end end xs)
   where
     by : (c : Bool) → nat_lt end a.number ≡ c → (rest : List Authenticator)
         → AllByRecursion (λ b. end < b.number) rest

@@ -72,7 +72,8 @@ good_tests false false false first last = refl
 
 good_up_to : (end waiting last : ℕ) → is_good (ask_up_to end waiting last) ≡ true
 good_up_to end waiting last =
-    good_tests (last == 0) (nat_lt MAX_AUDITED last) (nat_lt MAX_OUTBOX (waiting + (last - end))) (end + 1) last
+    good_tests (last == 0) (nat_lt MAX_AUDITED last) (nat_lt MAX_OUTBOX (waiting + (last - end)))
+    (end + 1) last
 
 good_ask : (exposed : Bool) (end waiting : ℕ) (learned : List Authenticator)
     → is_good (ask_reply exposed end waiting learned) ≡ true
@@ -105,7 +106,8 @@ good_forward : (waiting : List Authenticator) → is_good (forward_reply waiting
 good_forward [] = refl
 good_forward (a ∷ rest) = refl
 
-good_question : (ms : List Member) (m : Member) (past : Past) (q : Question) → is_good (ask ms m past q) ≡ true
+good_question : (ms : List Member) (m : Member) (past : Past) (q : Question)
+    → is_good (ask ms m past q) ≡ true
 good_question ms m past ItsIndication = refl
 good_question ms m past ItsChallenges = refl
 good_question ms m past ItsEvidence = refl
@@ -136,8 +138,12 @@ good_reply b ms m past (AckIn a) =
     either (is_open (acked_message a) (open_challenges past)) Closed (Refused refusals.NotAsked) refl refl
 good_reply b ms m past Audit = good_audit ms m past (stage_of past)
 good_reply b ms m past Begin = good_begin ms m past (stage_of past)
-good_reply b ms m past (File d) = good_back b (job_out ms m past) Filed (FileRefused refusals.WrongJob d) (FileRefused refusals.NoJob d) refl refl refl
-good_reply b ms m past (PutBack j) = good_back b (job_out ms m past) Returned (PutBackRefused refusals.WrongJob j) (PutBackRefused refusals.NoJob j) refl refl refl
+good_reply b ms m past (File d) =
+    good_back b (job_out ms m past) Filed (FileRefused refusals.WrongJob d)
+    (FileRefused refusals.NoJob d) refl refl refl
+good_reply b ms m past (PutBack j) =
+    good_back b (job_out ms m past) Returned (PutBackRefused refusals.WrongJob j)
+    (PutBackRefused refusals.NoJob j) refl refl refl
 good_reply b ms m past Forward = good_forward (outbox ms m past)
 good_reply b ms m past (Ask q) = good_question ms m past q
 

@@ -35,8 +35,10 @@ parent_is_directory w tree n is =
     let r = tree.tree.reached n is in
     ⊎_elim
     (λ e. subst (IsDirectory w)
-    (sym (root_parent w n (one_number n r.1 1 0 (sym r.2 ∙ ap (path_at (directory_entries w)) e)))) tree.tree.root)
+    (sym (root_parent w n (one_number n r.1 1 0
+    (sym r.2 ∙ ap (path_at (directory_entries w)) e)))) tree.tree.root)
     (λ l.
-    let s = last_step (directory_entries w) (1, 0) l.0 l.1 n r.1 (sym (ap (path_at (directory_entries w)) l.2) ∙ r.2) in
+    let s = last_step (directory_entries w) (1, 0) l.0 l.1 n r.1
+    (sym (ap (path_at (directory_entries w)) l.2) ∙ r.2) in
     subst (IsDirectory w) (sym (tree.tree.up s.0 l.1 n r.1 s.3 is)) (tree.tree.lists s.0 l.1 n r.1 s.3))
     (last_name r.0)

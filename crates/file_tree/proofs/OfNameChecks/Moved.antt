@@ -12,7 +12,8 @@ use Rattle.nfs_spec.specs.nfs_items.declared.stat.Stat.{Stat}
 use Rattle.nfs_spec.specs.nfs_items.declared.stat.Stat.TheVariants as stats
 use Rattle.nfs_spec.specs.fs_model.Names.{is_name}
 use Rattle.nfs_spec.specs.fs_model.Listing.{Listing, entry_at}
-use Rattle.nfs_spec.specs.fs_model.Files.{File, Files, file_at, is_directory, IsDirectory, listing, directory_entries}
+use Rattle.nfs_spec.specs.fs_model.Files.{File, Files, file_at, is_directory, IsDirectory, listing}
+use Rattle.nfs_spec.specs.fs_model.Files.{directory_entries}
 use Rattle.nfs_spec.proofs.fs_model.Walks.{some_same}
 use Rattle.nfs_spec.specs.ProcedureChecks.{◌>>=◌, file_of, dir_of, check, check_cookie, check_edit, number_at}
 use Rattle.nfs_spec.specs.Procedures.{is_above, check_target, move_entry, rename}

@@ -15,5 +15,6 @@ pub passed : (old new : Option (List ℕ)) (ahead : List ℕ) (amount : ℕ)
 passed None new ahead amount front fits drops = tt
 passed (Some xs) new ahead amount front fits drops =
     let same : take amount xs ≡ take amount ahead =
-    ap (take amount) (starts_with_rest xs ahead front) ∙ take-append-le amount ahead (drop (length ahead) xs) fits in
+    ap (take amount) (starts_with_rest xs ahead front)
+    ∙ take-append-le amount ahead (drop (length ahead) xs) fits in
     rw (drops fits) (rw (← same) (sym (take-append-drop amount xs)))

@@ -11,7 +11,8 @@ use Rattle.std.specs.FinMap as finite
 use Rattle.state_spec.specs.State.{ReceivedMessage, received_cmp}
 
 module _ {K X : Type 0} {R : K → K → Ordering} (o : IsTotalOrder R) (same : finite.IsAntisymmetric R) where
-  taken_at : (m : finite.FinMap R X) (k q : K) (v : X) (b : Bool) → eq_by_cmp R q k ≡ b → finite.get m k ≡ None
+  taken_at : (m : finite.FinMap R X) (k q : K) (v : X) (b : Bool) → eq_by_cmp R q k ≡ b
+      → finite.get m k ≡ None
       → cond b None (cond b (Some v) (finite.get m q)) ≡ finite.get m q
   taken_at m k q v true is none = sym none ∙ finite.get_tied o m q k ((Equal-is (R q k)).0 is)
   taken_at m k q v false is none = refl

@@ -255,31 +255,37 @@ module _ {K : Type 0} (R : K → K → Ordering) (P : K → Type 0) where
   pub all_with : (ks : List K) (k : K) → AllByRecursion P ks → P k → AllByRecursion P (insert_key R ks k)
   all_with [] k all one = (one, tt)
   all_with (x ∷ xs) k all one =
-      elim (R k x) as (λ (o : Ordering). AllByRecursion P (match_ordering o (k ∷ x ∷ xs) (x ∷ xs) (x ∷ insert_key R xs k))) [
+      elim (R k x) as (λ (o : Ordering). AllByRecursion P
+      (match_ordering o (k ∷ x ∷ xs) (x ∷ xs) (x ∷ insert_key R xs k))) [
         | Less ↦ (one, all)
         | Equal ↦ all
         | Greater ↦ (all.0, all_with xs k all.1 one)
       ]
 
 module _ {K X : Type 0} (P : K × X → Type 0) where
-  -- what holds of each entry and of one more, and goes over to its value under another key, holds of all of them
-  pub all_with_entry : (R : K → K → Ordering) (es : List (K × X)) (k : K) (v : X) → AllByRecursion P es → P (k, v)
+  -- what holds of each entry and of one more, and goes over to its value under another key, holds of all of
+  -- them
+  pub all_with_entry : (R : K → K → Ordering) (es : List (K × X)) (k : K) (v : X) → AllByRecursion P es
+      → P (k, v)
       → ((e : K × X) → P e → P (e.0, v)) → AllByRecursion P (insert_entry R es k v)
   all_with_entry R [] k v all one other = (one, tt)
   all_with_entry R (e ∷ es) k v all one other =
-      elim (R k e.0) as (λ (o : Ordering). AllByRecursion P (match_ordering o ((k, v) ∷ e ∷ es) ((e.0, v) ∷ es) (e ∷ insert_entry R es k v))) [
+      elim (R k e.0) as (λ (o : Ordering). AllByRecursion P
+      (match_ordering o ((k, v) ∷ e ∷ es) ((e.0, v) ∷ es) (e ∷ insert_entry R es k v))) [
         | Less ↦ (one, all)
         | Equal ↦ (other e all.0, all.1)
         | Greater ↦ (all.0, all_with_entry R es k v all.1 one other)
       ]
 
   -- what holds of each entry holds of those that are left
-  pub all_without : (test : K → Bool) (es : List (K × X)) → AllByRecursion P es → AllByRecursion P (remove_entry test es)
+  pub all_without : (test : K → Bool) (es : List (K × X)) → AllByRecursion P es
+      → AllByRecursion P (remove_entry test es)
   all_without test [] all = tt
-  all_without test (e ∷ es) all = elim (test e.0) as (λ b. AllByRecursion P (cond b es (e ∷ remove_entry test es))) [
-    | true ↦ all.1
-    | false ↦ (all.0, all_without test es all.1)
-  ]
+  all_without test (e ∷ es) all =
+      elim (test e.0) as (λ b. AllByRecursion P (cond b es (e ∷ remove_entry test es))) [
+        | true ↦ all.1
+        | false ↦ (all.0, all_without test es all.1)
+      ]
 
 -- what holds of each key holds of those that are left
 pub all_without_key : {K : Type 0} (P : K → Type 0) (test : K → Bool) (ks : List K) → AllByRecursion P ks

@@ -99,7 +99,8 @@ module _ (secret : List ℕ) where
   }
 
   -- a replay of it finds the state after the reading
-  pub replayed : Sound state_read [] ≡ segment_verdict (alone secret) (opening_client 5) (signed_segment secret)
+  pub replayed : Sound state_read []
+      ≡ segment_verdict (alone secret) (opening_client 5) (signed_segment secret)
   unfolding step
   replayed = refl
 
@@ -107,7 +108,8 @@ module _ (secret : List ℕ) where
 
   key_is : is_key_of (client secret) (client_key secret) ≡ true
   key_is =
-      and_from (is_same (root secret 1) (root secret 1)) (1 == 1) (list_same (root secret 1) (root secret 1) refl)
+      and_from (is_same (root secret 1) (root secret 1)) (1 == 1)
+      (list_same (root secret 1) (root secret 1) refl)
       refl
 
   -- an authenticator of the client is its step
@@ -180,7 +182,8 @@ module _ (secret : List ℕ) where
 
 -- the two texts of the log have two digests, as they are worked out
 two_digests : sha256 (chain_text zeros (link_of 1 (Clock 1 0))) ≡ sha256 (content (Clock 1 0)) → ⊥
-unfolding first_words schedule rounds compress sha.hash_after digest_bytes sha256 chain_text zeros content number_spelling
+unfolding first_words schedule rounds compress sha.hash_after digest_bytes sha256 chain_text zeros content
+    number_spelling
 two_digests e = absurd (omega (arith, ap (λ xs. slice_index xs 0) e))
 
 -- so no two of them have one
@@ -200,7 +203,8 @@ in_parts t (x ∷ xs) ys (inl e) = inl (inl e)
 in_parts t (x ∷ xs) ys (inr i) = elim (in_parts t xs ys i) [ inl a ↦ inl (inr a) | inr b ↦ inr b ]
 
 -- the texts of the segment are the log's
-within : (t : List ℕ) → IsIn t (log_texts readings ++ (log_texts readings ++ [])) → IsIn t (log_texts readings)
+within : (t : List ℕ) → IsIn t (log_texts readings ++ (log_texts readings ++ []))
+    → IsIn t (log_texts readings)
 within t i =
     elim (in_parts t (log_texts readings) (log_texts readings ++ []) i) [
       | inl a ↦ a

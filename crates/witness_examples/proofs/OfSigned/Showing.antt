@@ -50,7 +50,13 @@ module _ (secret other : List ℕ) where
         omega arith,
         (
           (omega arith, refl),
-          (refl, ((omega arith, omega arith), signature_fits other 0 (signed_digest 6 1 sent_hash) (omega arith))),
+          (
+            refl,
+            (
+              (omega arith, omega arith),
+              signature_fits other 0 (signed_digest 6 1 sent_hash) (omega arith),
+            ),
+          ),
         ),
       ),
     ),
@@ -78,7 +84,11 @@ module _ (secret other : List ℕ) where
                 refl,
                 (
                   length-sha256 (7 ∷ []),
-                  (digest_length, signature_fits secret 0 (signed_digest 5 1 (received_hash other)) (omega arith)),
+                  (
+                    digest_length,
+                    signature_fits secret 0 (signed_digest 5 1 (received_hash other))
+                        (omega arith),
+                  ),
                 ),
               ),
             ),
@@ -97,7 +107,8 @@ module _ (secret other : List ℕ) where
       (Err BadSignature)) (key_is (sender other) refl)
 
   -- the acknowledgement, too, is the client's step
-  pub acknowledged_whose : whose (both secret other) (events.AckIn (acknowledged secret other) (client_key secret))
+  pub acknowledged_whose : whose (both secret other)
+      (events.AckIn (acknowledged secret other) (client_key secret))
       ≡ Ok (record { member = client secret; step = AckIn (acknowledged secret other) })
   acknowledged_whose =
       ap (λ b. cond b (Ok (record { member = client secret; step = AckIn (acknowledged secret other) }))
@@ -113,7 +124,8 @@ module _ (secret other : List ℕ) where
   own_acknowledged = ap₂ (λ w (x : Past). own_step 5 w Closed ++ x) acknowledged_whose own_challenged
 
 -- a reply that is owed after a member's own steps is owed after the history that has them
-pub owed_to : (ms : List Member) (m : Member) (history : History) (past : Past) (e : Event) (step : Step) (reply : Reply)
+pub owed_to : (ms : List Member) (m : Member) (history : History) (past : Past) (e : Event) (step : Step)
+    (reply : Reply)
     → own ms m.node history ≡ past → whose ms e ≡ Ok (record { member = m; step = step })
     → Owes ms m past step reply → IsOwed ms history e reply
 owed_to ms m history past e step reply same its h =

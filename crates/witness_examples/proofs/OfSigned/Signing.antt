@@ -36,4 +36,5 @@ signature_fits secret leaf digest low =
 -- It is signed under the root.
 pub leaf_signs : (secret : List ℕ) (leaf : ℕ) (digest : List ℕ) → leaf < 2
     → Signed (root secret 1) 1 digest (signature_of secret 1 leaf digest)
-leaf_signs secret leaf digest low = leaf_signature_signs secret 1 leaf digest (omega arith) (omega (arith, low))
+leaf_signs secret leaf digest low =
+    leaf_signature_signs secret 1 leaf digest (omega arith) (omega (arith, low))

@@ -52,7 +52,8 @@ message_same : (x y : Message) → x ≡ y → same_message x y ≡ true
 message_same x y e =
     ap (same_message x) (sym e)
     ∙ and_from (x.from == x.from) ((x.seq == x.seq) && is_same x.hash x.hash) (eq-eqb x.from x.from refl)
-    (and_from (x.seq == x.seq) (is_same x.hash x.hash) (eq-eqb x.seq x.seq refl) (list_same x.hash x.hash refl))
+    (and_from (x.seq == x.seq) (is_same x.hash x.hash) (eq-eqb x.seq x.seq refl)
+    (list_same x.hash x.hash refl))
 
 open_of : (message : Message) (e : Envelope) (xs : List Challenge) → IsAmong (SendOf e) xs
     → message ≡ envelope_message e → is_open message xs ≡ true
@@ -92,7 +93,8 @@ only_reply ms m history e step good w none told reply =
       decides = (λ h. absurd (true≢false (sym h)), λ h. absurd (none h));
       told = told;
     } in (
-      λ h. one_reply ms m (own ms m.node history) step reply good (subst (OwesTo ms history e reply) w h) here,
+      λ h. one_reply ms m (own ms m.node history) step reply good
+          (subst (OwesTo ms history e reply) w h) here,
       λ same. subst (OwesTo ms history e reply) (sym w)
           (subst (Owes ms m (own ms m.node history) step) (sym same) here),
     )
@@ -116,7 +118,8 @@ module _ (ms : List Member) (m : Member) (history : History) (is : member_of ms 
 
   answer_closes : (c : ClosedParts) → whose ms (events.Answer c) ≡ Ok (record { member = m; step = Answer c })
       → (first last : ℕ)
-      → ¬ IsAmong (AuditOf first last) (open_challenges (own ms m.node ((events.Answer c, Accepted) ∷ history)))
+      → ¬ IsAmong (AuditOf first last)
+      (open_challenges (own ms m.node ((events.Answer c, Accepted) ∷ history)))
   answer_closes c w first last i =
       let one = its_own ms m.node (events.Answer c) Accepted (record { member = m; step = Answer c }) w
       (eq-eqb m.node m.node refl) refl in
@@ -136,7 +139,8 @@ module _ (ms : List Member) (m : Member) (history : History) (is : member_of ms 
       record {
         closed = record {
           ends = (closed_at_its_last log first last s part.0 part.2 closing).1 place;
-          signed = subst (λ x. IsSomeAnd x (λ n. IsSignedBy n closing)) (sym (ap (member_of ms) here ∙ is)) signed;
+          signed = subst (λ x. IsSomeAnd x (λ n. IsSignedBy n closing))
+              (sym (ap (member_of ms) here ∙ is)) signed;
         };
         its = its;
         reply = only_reply ms m history (events.Answer c) (Answer c) Accepted its (λ h. h)

@@ -58,7 +58,8 @@ last_there : (before : ℕ) (opening : List ℕ) (links : List Link) (n : ℕ) �
 last_there before opening [] n are h =
     let same : n ≡ before = omega (arith, h) in inl (ap (λ (k : ℕ). (k, opening)) same)
 last_there before opening (l ∷ links) n are h =
-    inr (last_there l.number (hash_after opening l) links n (subst (λ k. AreNumbered (k + 1) links) (sym are.0) are.1)
+    inr (last_there l.number (hash_after opening l) links n
+    (subst (λ k. AreNumbered (k + 1) links) (sym are.0) are.1)
     (omega (arith, h, are.0)))
 
 -- ---- what is audited
@@ -112,13 +113,15 @@ is_joined ms m past c e a next good =
           ∙ (ap (λ h. last_hash h (links_from s.first s.entries)) opening ∙ sym good.closed.ends.hash);
       each = each_joined front s.entries a.each good.text.0.1.1.1.0.2;
       places = places_joined 1 zeros front s.entries
-          ∙ (ap (λ k. placed 1 zeros front ++ placed k (last_hash zeros (links_from 1 front)) s.entries) (sym place)
+          ∙ (ap (λ k. placed 1 zeros front ++ placed k (last_hash zeros (links_from 1 front)) s.entries)
+          (sym place)
           ∙ ap (λ h. placed 1 zeros front ++ placed s.first h s.entries) opening);
     }
 
 -- its last pair was shown
 last_shown : (ms : List Member) (m : Member) (past : Past) (c : ClosedParts) → IsNext ms m past c
-    → IsGoodSegment ms m c.segment → IsAmong (c.segment.closing.number, c.segment.closing.hash) (shown ms m past)
+    → IsGoodSegment ms m c.segment
+    → IsAmong (c.segment.closing.number, c.segment.closing.hash) (shown ms m past)
 last_shown ms m past c next good =
     let s = c.segment in
     let some = first_some ms m s good in
@@ -169,7 +172,10 @@ module _ (ms : List Member) (m : Member) (past : Past) (p : Step × Reply) where
       (ap (λ x. audited ms m past ++ x) none ∙ append-nil (audited ms m past))
       (record {
         count = a.count;
-        there = shown_stays ((end_of ms m past).number, last_hash zeros (links_from 1 (audited ms m past))) a.there;
+        there = shown_stays (
+          (end_of ms m past).number,
+          last_hash zeros (links_from 1 (audited ms m past)),
+        ) a.there;
         each = a.each;
         states = a.states;
         honest = a.honest;
@@ -192,13 +198,18 @@ module _ (ms : List Member) (m : Member) (past : Past) (p : Step × Reply) where
       ∙ ap (λ x. audited ms m past ++ sound_entries s.entries x) v)
       (record {
         count = k.count;
-        there = shown_stays (s.closing.number, last_hash zeros (links_from 1 (audited ms m past ++ s.entries)))
+        there = shown_stays (
+          s.closing.number,
+          last_hash zeros
+              (links_from 1 (audited ms m past ++ s.entries)),
+        )
             (subst (λ h. IsAmong (s.closing.number, h) (shown ms m past)) (sym k.hash)
             (last_shown ms m past j.segment next good));
         each = k.each;
         states = a.states ++ run.states;
         honest = subst (λ ps. Honest ms (opening_of m) ps (a.states ++ run.states)) (sym k.places)
-            (joined ms (opening_of m) (placed 1 zeros (audited ms m past)) (placed_in s) a.states run.states a.honest
+            (joined ms (opening_of m) (placed 1 zeros (audited ms m past))
+            (placed_in s) a.states run.states a.honest
             (subst (λ x. Honest ms x (placed_in s) run.states) (sym a.last) run.honest));
         last = last_joined (opening_of m) a.states run.states
             ∙ (ap (λ x. last_state x run.states) a.last ∙ run.last);
@@ -226,7 +237,8 @@ fault_behind ms o s ps qs ts fault number honest last v =
     })
 
 -- A segment in which a replay finds a fault after the end, with all that was audited, is a charge.
-pub replay_charge : (ms : List Member) (m : Member) (past : Past) (j : JobParts) (fault : ReplayFault) (number : ℕ)
+pub replay_charge : (ms : List Member) (m : Member) (past : Past) (j : JobParts) (fault : ReplayFault)
+    (number : ℕ)
     → member_of ms m.node ≡ Some m → is_exposed ms m past ≡ false → IsAudited ms m past
     → IsNext ms m past j.segment → IsGoodSegment ms m j.segment.segment
     → verdict_on ms (end_of ms m past).state j ≡ Fault fault number
@@ -251,7 +263,8 @@ replay_charge ms m past j fault number is e a next good v =
         fault = fault;
         number = number;
         found = ap (verdict_of ms (opening_of m)) k.places
-            ∙ fault_behind ms (opening_of m) (end_of ms m past).state (placed 1 zeros (audited ms m past)) (placed_in s)
+            ∙ fault_behind ms (opening_of m) (end_of ms m past).state (placed 1 zeros (audited ms m past))
+            (placed_in s)
             a.states fault number a.honest a.last v;
       };
       text = (
@@ -264,7 +277,11 @@ replay_charge ms m past j fault number is e a next good v =
             (
               zeros-length,
               (
-                (omega (arith, values, k.count, next.last), omega (arith, values, k.count, next.last), k.each),
+                (
+                  omega (arith, values, k.count, next.last),
+                  omega (arith, values, k.count, next.last),
+                  k.each,
+                ),
                 good.text.0.1.1.1.1,
               ),
             ),

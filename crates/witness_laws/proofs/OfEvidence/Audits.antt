@@ -33,7 +33,8 @@ pub record IsGoodSegment (ms : List Member) (m : Member) (s : SegmentParts) : Ty
   pub node : s.closing.node ≡ m.node
 
 -- a segment that a checked answer gives is one of the node's, closed, with a text
-pub good_given : (ms : List Member) (m : Member) (c : ClosedParts) → IsGiven ms m c → IsGoodSegment ms m c.segment
+pub good_given : (ms : List Member) (m : Member) (c : ClosedParts) → IsGiven ms m c
+    → IsGoodSegment ms m c.segment
 good_given ms m c given = record { text = given.text; closed = given.closed; node = given.node }
 
 -- a number lies in an accepted segment
@@ -56,6 +57,7 @@ pub record IsNext (ms : List Member) (m : Member) (past : Past) (c : ClosedParts
   -- its last number is one that may be audited
   pub last : c.segment.closing.number ≤ MAX_AUDITED
 
+-- an audit is of the part that follows the end
 abbrev pub IsAt : List Member → Member → Past → Stage → Type 0
 IsAt ms m past NoAudit = Unit {0}
 IsAt ms m past (Wanted first last) = (first ≡ (end_of ms m past).number + 1) × (last ≤ MAX_AUDITED)
@@ -86,7 +88,8 @@ module _ (ms : List Member) (m : Member) (past : Past) (p : Step × Reply) where
   end_stays h = ap (end_after ms (end_of ms m past)) h
 
   -- what was accepted stays so
-  pub accepted_stays : (s : SegmentParts) → IsAmong s (all_accepted past) → IsAmong s (all_accepted (p ∷ past))
+  pub accepted_stays : (s : SegmentParts) → IsAmong s (all_accepted past)
+      → IsAmong s (all_accepted (p ∷ past))
   accepted_stays s i = by (accepted p.0 p.1)
     where
       by : (o : Option ClosedParts) → IsAmong s (segment_of o ++ all_accepted past)
@@ -187,14 +190,16 @@ module _ (ms : List Member) (m : Member) (past : Past) (p : Step × Reply) where
       let good : IsGoodSegment ms m c = (k.segments c next.among).good in
       let same : (end_of ms m (p ∷ past)).number ≡ c.closing.number =
       ap (λ (e : End). e.number) (moved_to j (Sound t found) is did.files) in
-      let more : (end_of ms m past).number ≤ c.closing.number = omega (arith, next.first, good.closed.ends.number) in
+      let more : (end_of ms m past).number ≤ c.closing.number =
+      omega (arith, next.first, good.closed.ends.number) in
       record {
         stage = subst (IsAt ms m (p ∷ past)) (sym did.stage) tt;
         segments = λ s i.
             let b = k.segments s (same_accepted s did.accepts i) in
             record { good = b.good; first = omega (arith, b.first, more, same) };
         held = λ n low high.
-            by n (nat_lt (end_of ms m past).number n) refl low (omega (arith, high, same)) (omega (arith, next.first));
+            by n (nat_lt (end_of ms m past).number n) refl low (omega (arith, high, same))
+            (omega (arith, next.first));
       }
     where
       by : (n : ℕ) (b : Bool) → nat_lt (end_of ms m past).number n ≡ b → 1 ≤ n
@@ -206,7 +211,8 @@ module _ (ms : List Member) (m : Member) (past : Past) (p : Step × Reply) where
         from = omega (arith, first, ltb-true (end_of ms m past).number n e);
         to = high;
       }
-      by n false e low high first = held_stays n (k.held n low (omega (arith, ltb-false (end_of ms m past).number n e)))
+      by n false e low high first =
+          held_stays n (k.held n low (omega (arith, ltb-false (end_of ms m past).number n e)))
 
   -- ---- all steps
 

@@ -117,7 +117,8 @@ has_hash before opening (l ∷ links) n are low high =
     (subst (λ k. AreNumbered (k + 1) links) (sym are.0) are.1) more less)
   where
     by : (b : Bool) → nat_lt before n ≡ b
-        → (l.number ≤ n → n ≤ l.number + length links → HasHash (pairs l.number (hash_after opening l) links) n)
+        → (l.number ≤ n → n ≤ l.number + length links
+        → HasHash (pairs l.number (hash_after opening l) links) n)
         → HasHash (pairs before opening (l ∷ links)) n
     by false e next =
         let same : n ≡ before = omega (arith, low, ltb-false before n e) in
@@ -175,7 +176,8 @@ module _ (ms : List Member) (m : Member) where
   noted_step past p a (Nothing did) h = let no : None ≡ Some a = sym did.notes ∙ h in absurd (cc)
   noted_step past p a (Notes b is did) h = is ∙ ap (λ x. Learn x) (some_same (sym did.notes ∙ h))
   noted_step past p a (Accepts c is wanted did) h = let no : None ≡ Some a = sym did.notes ∙ h in absurd (cc)
-  noted_step past p a (Asks first last is few did) h = let no : None ≡ Some a = sym did.notes ∙ h in absurd (cc)
+  noted_step past p a (Asks first last is few did) h = let no : None ≡ Some a = sym did.notes ∙ h in
+      absurd (cc)
   noted_step past p a (Begins c is did) h = let no : None ≡ Some a = sym did.notes ∙ h in absurd (cc)
   noted_step past p a (Files j is did) h = let no : None ≡ Some a = sym did.notes ∙ h in absurd (cc)
   noted_step past p a (PutsBack c is did) h = let no : None ≡ Some a = sym did.notes ∙ h in absurd (cc)
@@ -226,6 +228,7 @@ module _ (ms : List Member) (m : Member) where
 
   -- ---- where it is shown
 
+  -- a pair that was shown is the first pair, of an authenticator that was noted, or of an accepted segment
   pub data Source (past : Past) (n : ℕ) (x : List ℕ) : Type 0 where
     AtFirst : ◌≡◌ {A = Pair} (n, x) first_pair → Source past n x
     OfNoted : (a : Authenticator) → IsAmong a (noted_before ms m past) → ◌≡◌ {A = Pair} (n, x) (pair_of a)
@@ -233,7 +236,8 @@ module _ (ms : List Member) (m : Member) where
     OfAccepted : (s : SegmentParts) → IsAmong s (all_accepted past) → IsAmong (n, x) (segment_pairs s)
         → Source past n x
 
-  sourced : (past : Past) (n : ℕ) (x : List ℕ) → is_exposed ms m past ≡ false → IsAmong (n, x) (shown ms m past)
+  sourced : (past : Past) (n : ℕ) (x : List ℕ) → is_exposed ms m past ≡ false
+      → IsAmong (n, x) (shown ms m past)
       → Source past n x
   sourced [] n x e (inl same) = AtFirst same
   sourced [] n x e (inr i) = absurd i
@@ -246,7 +250,8 @@ module _ (ms : List Member) (m : Member) where
       older : Source past n x → Source (p ∷ past) n x
       older (AtFirst same) = AtFirst same
       older (OfNoted a i same) =
-          OfNoted a (on_right a (unless_exposed (is_exposed ms m (p ∷ past)) (noted p.0 p.1)) (noted_before ms m past) i)
+          OfNoted a (on_right a (unless_exposed (is_exposed ms m (p ∷ past)) (noted p.0 p.1))
+          (noted_before ms m past) i)
           same
       older (OfAccepted s i j) =
           OfAccepted s (on_right s (segment_of (accepted p.0 p.1)) (all_accepted past) i) j
@@ -266,7 +271,8 @@ module _ (ms : List Member) (m : Member) where
           → Source (p ∷ past) n x
       by_accepted None h i = absurd i
       by_accepted (Some c) h i =
-          OfAccepted c.segment (subst (λ o. IsAmong c.segment (segment_of o ++ all_accepted past)) (sym h) (inl refl)) i
+          OfAccepted c.segment (subst (λ o. IsAmong c.segment (segment_of o ++ all_accepted past)) (sym h)
+          (inl refl)) i
 
       by : IsAmong (n, x) (pairs_noted (is_exposed ms m past) (noted p.0 p.1))
           ⊎ IsAmong (n, x) (pairs_accepted (accepted p.0 p.1) ++ shown ms m past)
@@ -366,14 +372,16 @@ module _ (ms : List Member) (m : Member) (past : Past) (n : ℕ) (x : List ℕ) 
       one_shown ms m past e n has.hash x (accepted_shown ms m past s (n, has.hash) f.0 has.there) i in
       record {
         showing = segment_showing s;
-        is = ap (λ o. or_segment o (segment_holding n (all_accepted past))) none ∙ ap (λ o. or_segment None o) is;
+        is = ap (λ o. or_segment o (segment_holding n (all_accepted past))) none
+            ∙ ap (λ o. or_segment None o) is;
         ps = segment_pairs s;
         good = good_segment ms m s good;
         there = subst (λ y. IsAmong (n, y) (segment_pairs s)) hash has.there;
       }
 
   -- where none is kept at the number, a segment holds it
-  held : Stand ms m past → 1 ≤ n → find at_number (kept ms m past) ≡ None → Source ms m past n x → IsHeld past n
+  held : Stand ms m past → 1 ≤ n → find at_number (kept ms m past) ≡ None → Source ms m past n x
+      → IsHeld past n
   held stand some none (AtFirst same) =
       let zero_is : n ≡ 0 = ap (λ (q : Pair). q.0) same in absurd (omega (arith, some, zero_is))
   held stand some none (OfNoted a i same) = by (nat_lt (end_of ms m past).number a.number) refl
@@ -382,11 +390,17 @@ module _ (ms : List Member) (m : Member) (past : Past) (n : ℕ) (x : List ℕ) 
       number = ap (λ (q : Pair). q.0) same
 
       by : (b : Bool) → nat_lt (end_of ms m past).number a.number ≡ b → IsHeld past n
-      by false e = stand.held n some (omega (arith, ap (λ (q : Pair). q.0) same, ltb-false (end_of ms m past).number a.number e))
+      by false e =
+          stand.held n some (omega (
+            arith,
+            ap (λ (q : Pair). q.0) same,
+            ltb-false (end_of ms m past).number a.number e,
+          ))
       by true e =
           absurd (true≢false (sym (eq-eqb a.number n (sym (ap (λ (q : Pair). q.0) same)))
           ∙ not_found at_number (kept ms m past) a none
-          (passing (λ (b : Authenticator). nat_lt (end_of ms m past).number b.number) (noted_before ms m past) a i e)))
+          (passing (λ (b : Authenticator). nat_lt (end_of ms m past).number b.number)
+          (noted_before ms m past) a i e)))
   held stand some none (OfAccepted s i j) = by (nat_lt n s.first) refl
     where
       by : (b : Bool) → nat_lt n s.first ≡ b → IsHeld past n
@@ -430,7 +444,8 @@ module _ (ms : List Member) (m : Member) (past : Past) (n : ℕ) (x : List ℕ) 
       → find at_number (kept ms m past) ≡ o → IsShownBefore ms m past n x
   by_number (Some a) owed checked stand e some i is = by_kept a owed checked e i is
   by_number None owed checked stand e some i is =
-      by_held (find holds (all_accepted past)) stand e i is (held stand some is (sourced ms m past n x e i)) refl
+      by_held (find holds (all_accepted past)) stand e i is
+      (held stand some is (sourced ms m past n x e i)) refl
 
   -- Each pair that was shown, but that at 0, is shown by what is kept.
   pub shown_before : AreOwed ms m past → AreChecked ms m past → Stand ms m past → is_exposed ms m past ≡ false

@@ -98,10 +98,18 @@ first_is (q ∷ new) old n h = by (is_fork q old) refl h (λ k. first_is new old
         }
     by false e h rest =
         let g = rest h in
-        record { one = g.one; other = g.other; one_new = inr g.one_new; other_old = g.other_old; differs = g.differs }
+        record {
+          one = g.one;
+          other = g.other;
+          one_new = inr g.one_new;
+          other_old = g.other_old;
+          differs =
+              g.differs;
+        }
 
 -- where there is no first one there is none
-none_first : (new old : List Pair) (q : Pair) → first_fork new old ≡ None → IsAmong q new → is_fork q old ≡ false
+none_first : (new old : List Pair) (q : Pair) → first_fork new old ≡ None → IsAmong q new
+    → is_fork q old ≡ false
 none_first [] old q h i = absurd i
 none_first (p ∷ new) old q h i = by (is_fork p old) refl h i (λ k j. none_first new old q k j)
   where
@@ -251,13 +259,15 @@ module _ (ms : List Member) (m : Member) (past : Past) (p : Step × Reply) (owed
   not_faulty h = true≢false (sym (or_right (has_fork (shown ms m past)) (has_fault ms m past) h) ∙ e)
 
   -- where no new pair forks, no number has two hashes
-  none_exposes : (new : ShowingParts) (ps : List Pair) → ShowsNew new ps → first_fork ps (shown ms m past) ≡ None
+  none_exposes : (new : ShowingParts) (ps : List Pair) → ShowsNew new ps
+      → first_fork ps (shown ms m past) ≡ None
       → is_exposed ms m (p ∷ past) ≡ true → ⊥
   none_exposes new ps s none h = by (exposed_why ms m (p ∷ past) (is_exposed_told ms m (p ∷ past) h))
     where
       apart : (n : ℕ) (x y : List ℕ) → x ≢ y → IsAmong (n, x) ps → IsAmong (n, y) (shown ms m past) → ⊥
       apart n x y d i j =
-          true≢false (sym (fork_at n x y (shown ms m past) d j) ∙ none_first ps (shown ms m past) (n, x) none i)
+          true≢false (sym (fork_at n x y (shown ms m past) d j)
+          ∙ none_first ps (shown ms m past) (n, x) none i)
 
       two : (n : ℕ) (x y : List ℕ) → x ≢ y → IsAmong (n, x) ps ⊎ IsAmong (n, x) (shown ms m past)
           → IsAmong (n, y) ps ⊎ IsAmong (n, y) (shown ms m past) → ⊥
@@ -269,19 +279,23 @@ module _ (ms : List Member) (m : Member) (past : Past) (p : Step × Reply) (owed
       by : HasTwoHashes (shown ms m (p ∷ past)) ⊎ HasFaultyFile ms m (p ∷ past) → ⊥
       by (inl g) =
           two g.number g.one g.other g.differ
-          (split (g.number, g.one) ps (shown ms m past) (subst (IsAmong (g.number, g.one)) s.shown_is g.one_shown))
-          (split (g.number, g.other) ps (shown ms m past) (subst (IsAmong (g.number, g.other)) s.shown_is g.other_shown))
+          (split (g.number, g.one) ps (shown ms m past)
+          (subst (IsAmong (g.number, g.one)) s.shown_is g.one_shown))
+          (split (g.number, g.other) ps (shown ms m past)
+          (subst (IsAmong (g.number, g.other)) s.shown_is g.other_shown))
       by (inr g) = not_faulty (sym s.fault_is ∙ of_file ms m (p ∷ past) g)
 
   -- where one forks, it has
-  fork_exposes : (new : ShowingParts) (ps : List Pair) (n : ℕ) → ShowsNew new ps → Forks ps (shown ms m past) n
+  fork_exposes : (new : ShowingParts) (ps : List Pair) (n : ℕ) → ShowsNew new ps
+      → Forks ps (shown ms m past) n
       → is_exposed ms m (p ∷ past) ≡ true
   fork_exposes new ps n s f =
       let two : HasTwoHashes (shown ms m (p ∷ past)) = record {
         number = n;
         one = f.one;
         other = f.other;
-        one_shown = subst (IsAmong (n, f.one)) (sym s.shown_is) (on_left (n, f.one) ps (shown ms m past) f.one_new);
+        one_shown = subst (IsAmong (n, f.one)) (sym s.shown_is)
+            (on_left (n, f.one) ps (shown ms m past) f.one_new);
         other_shown = subst (IsAmong (n, f.other)) (sym s.shown_is)
             (on_right (n, f.other) ps (shown ms m past) f.other_old);
         differ = f.differs;
@@ -337,7 +351,8 @@ module _ (ms : List Member) (m : Member) (past : Past) (p : Step × Reply) (owed
   shows_nothing : (to : Stage) → Did past p None None None to → Charging ms m past p
   shows_nothing to did =
       Uncharged (charge_by None None None did.notes did.accepts did.files)
-      (ap₂ (λ ps b. has_fork ps || b) (shown_by None None did.notes did.accepts) (fault_by None did.files) ∙ e)
+      (ap₂ (λ ps b. has_fork ps || b) (shown_by None None did.notes did.accepts) (fault_by None did.files)
+      ∙ e)
 
   -- a replay's verdict
   files : (j : JobParts) (v : Verdict) → Did past p None None (Some j) NoAudit
@@ -385,4 +400,5 @@ module _ (ms : List Member) (m : Member) (past : Past) (p : Step × Reply) (owed
   charging (Begins d is did) c faulty = shows_nothing (Out d) did
   charging (PutsBack d is did) c faulty = shows_nothing (Given d) did
   charging (Files j is did) c faulty =
-      files j (verdict_on ms (end_of ms m past).state j) did refl (λ fault number h. faulty j fault number is h)
+      files j (verdict_on ms (end_of ms m past).state j) did refl
+      (λ fault number h. faulty j fault number is h)

@@ -44,7 +44,8 @@ module _ (ms : List Member) (m : Member) (past : Past) (p : Step × Reply) where
   evidence_by b g is charge =
       ap (λ x. cond x (evidence ms m past)
       (option_map (λ g. record { node = m.node; charge = g }) (new_charge ms m past p.0 p.1))) is
-      ∙ ap (λ x. cond b (evidence ms m past) (option_map (λ g. record { node = m.node; charge = g }) x)) charge
+      ∙ ap (λ x. cond b (evidence ms m past)
+      (option_map (λ g. record { node = m.node; charge = g }) x)) charge
 
   -- what is filed is the segment that is out
   next_filed : (j : JobParts) → Stand ms m past → stage_of past ≡ Out j.segment → IsNext ms m past j.segment
@@ -55,7 +56,8 @@ module _ (ms : List Member) (m : Member) (past : Past) (p : Step × Reply) where
   good_filed j stand next = (stand.segments j.segment.segment next.among).good
 
   -- a File finds no fault where the node isn't exposed after it
-  no_fault : (j : JobParts) (v : Verdict) → filed p.0 p.1 ≡ Some j → verdict_on ms (end_of ms m past).state j ≡ v
+  no_fault : (j : JobParts) (v : Verdict) → filed p.0 p.1 ≡ Some j
+      → verdict_on ms (end_of ms m past).state j ≡ v
       → is_exposed ms m (p ∷ past) ≡ false → Stand ms m past → stage_of past ≡ Out j.segment
       → is_exposed ms m past ≡ false → IsAudited ms m past → IsAudited ms m (p ∷ past)
   no_fault j (Sound t found) is v e stand out was a =
@@ -65,7 +67,8 @@ module _ (ms : List Member) (m : Member) (past : Past) (p : Step × Reply) where
       let faulty : has_fault ms m (p ∷ past) ≡ true =
       ap (λ x. finds_fault ms (end_of ms m past).state x || has_fault ms m past) is
       ∙ ap (λ x. is_fault x || has_fault ms m past) v in
-      absurd (true≢false (sym (or_right (has_fork (shown ms m (p ∷ past))) (has_fault ms m (p ∷ past)) faulty) ∙ e))
+      absurd (true≢false (sym (or_right (has_fork (shown ms m (p ∷ past))) (has_fault ms m (p ∷ past)) faulty)
+      ∙ e))
 
   unfiled : filed p.0 p.1 ≡ None → IsAudited ms m past → IsAudited ms m (p ∷ past)
   unfiled h a =
@@ -91,7 +94,8 @@ module _ (ms : List Member) (m : Member) (past : Past) (p : Step × Reply) where
   told_on : member_of ms m.node ≡ Some m → AreOwed ms m (p ∷ past) → AreChecked ms m (p ∷ past)
       → Told ms m past → Told ms m (p ∷ past)
   told_on member owed checked (With g is e good) =
-      With g (evidence_by true (new_charge ms m past p.0 p.1) e refl ∙ is) (exposed_further ms m (p ∷ []) past e) good
+      With g (evidence_by true (new_charge ms m past p.0 p.1) e refl ∙ is)
+      (exposed_further ms m (p ∷ []) past e) good
   told_on member owed checked (Without none was a) =
       let stand = stands ms m past owed.1 checked.1 in
       let d = doing ms m past p.0 p.1 owed.0 in

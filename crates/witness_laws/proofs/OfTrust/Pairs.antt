@@ -31,7 +31,8 @@ module _ (log : List Entry) (one : OneHashAtANumber) where
       (no_fork_at p qs i (λ r j. all r (inr j)))
 
   -- pairs that are all of one log have no fork
-  pub no_fork : (ps : List Pair) → ((q : Pair) → IsAmong q ps → IsAmong q (log_pairs log)) → has_fork ps ≡ false
+  pub no_fork : (ps : List Pair) → ((q : Pair) → IsAmong q ps → IsAmong q (log_pairs log))
+      → has_fork ps ≡ false
   no_fork [] all = refl
   no_fork (p ∷ ps) all =
       or_from (is_fork p ps) (has_fork ps) (no_fork_at p ps (all p (inl refl)) (λ r j. all r (inr j)))

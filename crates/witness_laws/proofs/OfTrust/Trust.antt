@@ -55,12 +55,14 @@ at_place : (b : ℕ) (h : List ℕ) (xs ys : List Entry)
     → IsAmong (b + length xs, last_hash h (links_from (b + 1) xs)) (pairs b h (links_from (b + 1) (xs ++ ys)))
 at_place b h [] ys =
     let same : b ≡ b + 0 = omega arith in
-    subst (λ n. IsAmong (n, h) (pairs b h (links_from (b + 1) ys))) same (head_among b h (links_from (b + 1) ys))
+    subst (λ n. IsAmong (n, h) (pairs b h (links_from (b + 1) ys))) same
+    (head_among b h (links_from (b + 1) ys))
 at_place b h (x ∷ xs) ys =
     let same : (b + 1) + length xs ≡ b + length (x ∷ xs) = omega arith in
     let next : List ℕ = hash_after h (link_of (b + 1) x) in
     inr (subst
-    (λ n. IsAmong (n, last_hash next (links_from (b + 1 + 1) xs)) (pairs (b + 1) next (links_from (b + 1 + 1) (xs ++ ys))))
+    (λ n. IsAmong (n, last_hash next (links_from (b + 1 + 1) xs))
+    (pairs (b + 1) next (links_from (b + 1 + 1) (xs ++ ys))))
     same (at_place (b + 1) next xs ys))
 
 -- a segment that has a text has one as audited entries too
@@ -107,6 +109,7 @@ module _ (ms : List Member) (m : Member) (log : List Entry) (one : OneHashAtANum
     -- its opening hash is that of the end
     pub opening : IsAmong (end.number, c.segment.opening) (log_pairs log)
 
+  -- an audit is of the part that follows the end, and what was given for it is of the log
   abbrev pub StageFits : End → Stage → Type 0
   StageFits end NoAudit = Unit {0}
   StageFits end (Wanted first last) = first ≡ end.number + 1
@@ -126,7 +129,8 @@ module _ (ms : List Member) (m : Member) (log : List Entry) (one : OneHashAtANum
 
   -- ---- what is shown
 
-  noted_in : (b : Bool) (a : Authenticator) → IsAmong (pair_of a) (log_pairs log) → InLog (pairs_noted b (Some a))
+  noted_in : (b : Bool) (a : Authenticator) → IsAmong (pair_of a) (log_pairs log)
+      → InLog (pairs_noted b (Some a))
   noted_in true a i q j = absurd j
   noted_in false a i q (inl e) = subst (λ r. IsAmong r (log_pairs log)) (sym e) i
   noted_in false a i q (inr j) = absurd j
@@ -160,10 +164,12 @@ module _ (ms : List Member) (m : Member) (log : List Entry) (one : OneHashAtANum
       → InLog (pairs_noted (is_exposed ms m past) learned) → InLog (pairs_accepted answer)
       → StageFits (end_of ms m past) to → Trusted past → Trusted (p ∷ past)
   unfiled past p learned answer to did h k fits g =
-      let same : end_of ms m past ≡ end_of ms m (p ∷ past) = sym (ap (end_after ms (end_of ms m past)) did.files) in
+      let same : end_of ms m past ≡ end_of ms m (p ∷ past) =
+      sym (ap (end_after ms (end_of ms m past)) did.files) in
       record {
         shown_in = shown_on past p learned answer did.notes did.accepts h k g.shown_in;
-        no_fault = ap (λ j. finds_fault ms (end_of ms m past).state j || has_fault ms m past) did.files ∙ g.no_fault;
+        no_fault = ap (λ j. finds_fault ms (end_of ms m past).state j || has_fault ms m past) did.files
+            ∙ g.no_fault;
         reached = subst Reached same g.reached;
         stage = subst (λ e. StageFits e (stage_of (p ∷ past))) same
             (subst (StageFits (end_of ms m past)) (sym did.stage) fits);
@@ -171,7 +177,8 @@ module _ (ms : List Member) (m : Member) (log : List Entry) (one : OneHashAtANum
 
   -- ---- a segment is accepted
 
-  next_in : (end : End) (c : ClosedParts) → IsGiven ms m c → IsAmong (pair_of c.segment.closing) (log_pairs log)
+  next_in : (end : End) (c : ClosedParts) → IsGiven ms m c
+      → IsAmong (pair_of c.segment.closing) (log_pairs log)
       → Within (segment_texts c.segment) all → c.segment.first ≡ end.number + 1
       → IsNextIn end c × InLog (segment_pairs c.segment)
   next_in end c given i within first =
@@ -188,7 +195,8 @@ module _ (ms : List Member) (m : Member) (log : List Entry) (one : OneHashAtANum
           part = segment_is_part ms log c.segment is fits some given.closed i apart;
           opening = subst (λ n. IsAmong (n, c.segment.opening) (log_pairs log)) place
               (in_log (c.segment.first - 1, c.segment.opening)
-              (head_among (c.segment.first - 1) c.segment.opening (links_from c.segment.first c.segment.entries)));
+              (head_among (c.segment.first - 1) c.segment.opening
+              (links_from c.segment.first c.segment.entries)));
         },
         in_log,
       )
@@ -228,7 +236,8 @@ module _ (ms : List Member) (m : Member) (log : List Entry) (one : OneHashAtANum
       (subst (λ n. Honest ms end.state (placed n (log_hash r.before) r.rest) r.states) number r.honest)) in
       let parts = split ms end.state (placed_in s)
       (placed (s.first + length es) (last_hash s.opening (links_from s.first es)) next.part.rest) r.states
-      (subst (λ ps. Honest ms end.state ps r.states) (places_joined s.first s.opening es next.part.rest) honest) in
+      (subst (λ ps. Honest ms end.state ps r.states)
+      (places_joined s.first s.opening es next.part.rest) honest) in
       let behind : log_hash (r.before ++ es) ≡ last_hash s.opening (links_from s.first es) =
       last_hash-parts zeros 1 r.before es s.first (omega (arith, number))
       ∙ ap (λ h. last_hash h (links_from s.first es)) hash in
@@ -256,7 +265,8 @@ module _ (ms : List Member) (m : Member) (log : List Entry) (one : OneHashAtANum
   files_on past p j out did g =
       let end : End = end_of ms m past in
       let f = file_sound end j.segment (subst (StageFits end) out g.stage) g.reached in
-      let moved : end_of ms m (p ∷ past) ≡ record { number = j.segment.segment.closing.number; state = f.state } =
+      let moved : end_of ms m (p ∷ past)
+      ≡ record { number = j.segment.segment.closing.number; state = f.state } =
       ap (end_after ms end) did.files ∙ ap (moved_by end j.segment.segment.closing.number) f.sound in
       record {
         shown_in = shown_on past p None None did.notes did.accepts nothing_in nothing_in g.shown_in;
@@ -289,9 +299,11 @@ module _ (ms : List Member) (m : Member) (log : List Entry) (one : OneHashAtANum
   one_step past p (Asks first last at few did) checked unforged within g =
       unfiled past p None None (Wanted first last) did nothing_in nothing_in at g
   one_step past p (Begins c at did) checked unforged within g =
-      unfiled past p None None (Out c) did nothing_in nothing_in (subst (StageFits (end_of ms m past)) at g.stage) g
+      unfiled past p None None (Out c) did nothing_in nothing_in
+      (subst (StageFits (end_of ms m past)) at g.stage) g
   one_step past p (PutsBack c at did) checked unforged within g =
-      unfiled past p None None (Given c) did nothing_in nothing_in (subst (StageFits (end_of ms m past)) at g.stage) g
+      unfiled past p None None (Given c) did nothing_in nothing_in
+      (subst (StageFits (end_of ms m past)) at g.stage) g
   one_step past p (Files j at did) checked unforged within g = files_on past p j at did g
 
   all_parts : {A : Type 0} (P : A → Type 0) (xs ys : List A) → AllByRecursion P (xs ++ ys)

@@ -5,7 +5,15 @@ use Rattle.gateway.proofs.GatewayTurns.{leaves_off_answering}
 use Rattle.gateway.proofs.serve.serve_records.Goals as goal
 
 pub loop-k-init : goal.loop-k-init
-loop-k-init g c = record { is_served = served_nothing _ _ _ _; fresh = c.requires.fresh; reads_same = refl; writes_same = refl; may_still = λ e h. h }
+loop-k-init g c =
+    record {
+      is_served = served_nothing _ _ _ _;
+      fresh = c.requires.fresh;
+      reads_same = refl;
+      writes_same =
+          refl;
+      may_still = λ e h. h;
+    }
 
 pub returns-in_err-record-clause-part : goal.returns-in_err-record-clause-part
 returns-in_err-record-clause-part g c =
@@ -16,8 +24,10 @@ pub loop-k-preserved : goal.loop-k-preserved
 loop-k-preserved g c =
     let found = rw c.in-Some.is at c.in_ok-record.ensures.found in
     record {
-      is_served = serves_one _ _ _ _ _ _ _ _ _ _ _ _ _ _ _ _ c.loop-k.invariant.is_served (record { is_record = found.1; taken = found.2 }) c.now.ensures.reading c.now.ensures.rest
-          (rw c.deref.ensures.value at c.in_ok-answer.ensures.moves) (rw c.deref.ensures.value at c.in_ok-answer.ensures.text);
+      is_served = serves_one _ _ _ _ _ _ _ _ _ _ _ _ _ _ _ _ c.loop-k.invariant.is_served
+          (record { is_record = found.1; taken = found.2 }) c.now.ensures.reading c.now.ensures.rest
+          (rw c.deref.ensures.value at c.in_ok-answer.ensures.moves)
+          (rw c.deref.ensures.value at c.in_ok-answer.ensures.text);
       fresh = rw c.loop-k.invariant.fresh at c.in_ok-record.ensures.failed;
       reads_same = c.in_ok-record.ensures.kept ∙ c.loop-k.invariant.reads_same;
       writes_same = c.in_ok-answer.ensures.kept ∙ c.loop-k.invariant.writes_same;
@@ -26,19 +36,31 @@ loop-k-preserved g c =
 
 pub returns-in_err-answer-clause-part : goal.returns-in_err-answer-clause-part
 returns-in_err-answer-clause-part g c =
-    let p = err_from_is_err_and c.from_residual-in_err-answer.result c.from_residual-in_err-answer.ensures.1 in
+    let p = err_from_is_err_and c.from_residual-in_err-answer.result
+    c.from_residual-in_err-answer.ensures.1 in
     let found = rw c.in-Some.is at c.in_ok-record.ensures.found in
     let device = rw c.deref.ensures.value at c.in_err-answer.ensures.device in
-    let fails = fails_by c.in_err-answer.field-0.0 (g.L.Link.world c.loop-k.link) (g.L.Link.world c.answer.new.link) c.now.result c.in-Some.record.items
-    (g.W.Write.contents c.loop-k.writer.inner) (g.W.Write.contents c.answer.new.writer.inner) (ap (λ w. g.W.Write.contents w.inner)) c.in_err-answer.ensures.link (λ d. device (ap Err d)) in
-    rw (p.1) (part_answering _ _ _ _ _ _ _ _ _ _ _ _ _ _ _ _ c.loop-k.invariant.is_served (record { is_record = found.1; taken = found.2 }) c.now.ensures.reading c.now.ensures.rest _ fails)
+    let fails = fails_by c.in_err-answer.field-0.0 (g.L.Link.world c.loop-k.link)
+    (g.L.Link.world c.answer.new.link) c.now.result c.in-Some.record.items
+    (g.W.Write.contents c.loop-k.writer.inner) (g.W.Write.contents c.answer.new.writer.inner)
+    (ap (λ w. g.W.Write.contents w.inner)) c.in_err-answer.ensures.link (λ d. device (ap Err d)) in
+    rw (p.1) (part_answering _ _ _ _ _ _ _ _ _ _ _ _ _ _ _ _ c.loop-k.invariant.is_served
+    (record { is_record = found.1; taken = found.2 }) c.now.ensures.reading c.now.ensures.rest _ fails)
 
 pub returns-in_err-answer-clause-taken : goal.returns-in_err-answer-clause-taken
 returns-in_err-answer-clause-taken g c =
-    let p = err_from_is_err_and c.from_residual-in_err-answer.result c.from_residual-in_err-answer.ensures.1 in
+    let p = err_from_is_err_and c.from_residual-in_err-answer.result
+    c.from_residual-in_err-answer.ensures.1 in
     let found = rw c.in-Some.is at c.in_ok-record.ensures.found in
     let failed = rw c.loop-k.invariant.fresh at c.in_ok-record.ensures.failed in
     let device = rw c.deref.ensures.value at c.in_err-answer.ensures.device in
-    let fails = fails_by c.in_err-answer.field-0.0 (g.L.Link.world c.loop-k.link) (g.L.Link.world c.answer.new.link) c.now.result c.in-Some.record.items
-    (g.W.Write.contents c.loop-k.writer.inner) (g.W.Write.contents c.answer.new.writer.inner) (ap (λ w. g.W.Write.contents w.inner)) c.in_err-answer.ensures.link (λ d. device (ap Err d)) in
-    rw (p.1, p.2) (leaves_off_answering _ _ _ _ _ _ _ _ _ _ _ _ _ _ _ _ c.loop-k.invariant.is_served (record { is_record = found.1; taken = found.2 }) c.now.ensures.reading c.now.ensures.rest _ _ failed fails)
+    let fails = fails_by c.in_err-answer.field-0.0 (g.L.Link.world c.loop-k.link)
+    (g.L.Link.world c.answer.new.link) c.now.result c.in-Some.record.items
+    (g.W.Write.contents c.loop-k.writer.inner) (g.W.Write.contents c.answer.new.writer.inner)
+    (ap (λ w. g.W.Write.contents w.inner)) c.in_err-answer.ensures.link (λ d. device (ap Err d)) in
+    rw (p.1, p.2) (leaves_off_answering _ _ _ _ _ _ _ _ _ _ _ _ _ _ _ _ c.loop-k.invariant.is_served
+    (record {
+      is_record = found.1;
+      taken =
+          found.2;
+    }) c.now.ensures.reading c.now.ensures.rest _ _ failed fails)

@@ -5,4 +5,5 @@ pub returns-clause-shown : goal.returns-clause-shown
 returns-clause-shown c = signature_shows
 
 pub returns-clause-one : goal.returns-clause-one
-returns-clause-one c digest shown other hash h = one_leaf_hash digest shown other _ _ h (signature_shows digest shown other)
+returns-clause-one c digest shown other hash h =
+    one_leaf_hash digest shown other _ _ h (signature_shows digest shown other)

@@ -9,8 +9,10 @@ use Rattle.merkle_keys.proofs.text.read_path.Goals as goal
 pub returns-in_err-read_hash-clause-text : goal.returns-in_err-read_hash-clause-text
 returns-in_err-read_hash-clause-text c =
     let few : c.in_ok-count.count ≤ MAX_HEIGHT = omega arith in
-    let p = err_from_is_err_and c.from_residual-in_err-read_hash.result c.from_residual-in_err-read_hash.ensures.1 in
-    rw (p.1, p.2, array_at (fixed 32) MAX_HEIGHT c.in_ok-count.count _ _ c.in_ok-count.ensures few) (fails_unless _ _ _ _ _ _ _ c.loop-test.true c.in_err-read_hash.ensures.0 c.loop.invariant.text)
+    let p = err_from_is_err_and c.from_residual-in_err-read_hash.result
+    c.from_residual-in_err-read_hash.ensures.1 in
+    rw (p.1, p.2, array_at (fixed 32) MAX_HEIGHT c.in_ok-count.count _ _ c.in_ok-count.ensures few)
+    (fails_unless _ _ _ _ _ _ _ c.loop-test.true c.in_err-read_hash.ensures.0 c.loop.invariant.text)
 
 pub loop-init : goal.loop-init
 loop-init c = record {
@@ -21,11 +23,14 @@ loop-init c = record {
 pub loop-preserved : goal.loop-preserved
 loop-preserved c = record {
   count = rw c.in_ok-push.ensures.items (simp length-append (omega (arith, c.loop.invariant.count)));
-  text = rw c.in_ok-push.ensures.items (goes_on _ _ _ _ _ _ _ _ c.loop-test.true c.in_ok-read_hash.ensures c.loop.invariant.text);
+  text = rw c.in_ok-push.ensures.items
+      (goes_on _ _ _ _ _ _ _ _ c.loop-test.true c.in_ok-read_hash.ensures c.loop.invariant.text);
 }
 
 pub returns-clause-text : goal.returns-clause-text
 returns-clause-text c =
     let few : c.in_ok-count.count ≤ MAX_HEIGHT = omega arith in
-    let whole = array_at (fixed 32) MAX_HEIGHT c.in_ok-count.count c.args.reader.now c.u32.new.self c.in_ok-count.ensures few in
+    let whole = array_at
+    (fixed 32) MAX_HEIGHT c.in_ok-count.count c.args.reader.now c.u32.new.self c.in_ok-count.ensures
+    few in
     rw whole (ends _ _ _ _ _ _ c.loop-test.false c.loop.invariant.text)

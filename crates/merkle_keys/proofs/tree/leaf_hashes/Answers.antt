@@ -6,4 +6,5 @@ loop-leaf-init c = rw c.in_ok-hashes.ensures.items (no_leaves _)
 
 pub loop-leaf-preserved : goal.loop-leaf-preserved
 loop-leaf-preserved c =
-    rw c.in_ok-push.ensures.items (more_leaves _ _ _ _ c.loop-leaf.invariant (tree_hash_of_leaf _ _ _ c.leaf_hash.ensures))
+    rw c.in_ok-push.ensures.items
+    (more_leaves _ _ _ _ c.loop-leaf.invariant (tree_hash_of_leaf _ _ _ c.leaf_hash.ensures))

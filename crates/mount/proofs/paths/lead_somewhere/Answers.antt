@@ -19,7 +19,8 @@ loop-name-preserved c =
       can = search rules;
       finite = tt;
       leads =
-          ap (λ (k : ℕ). lead_on (directory_entries c.args.tree.now) c.in-Some-number_after.number (drop k parts))
+          ap (λ (k : ℕ). lead_on (directory_entries c.args.tree.now) c.in-Some-number_after.number
+          (drop k parts))
           (length_push c.loop-name.yielded c.in-Some.name)
           ∙ sym (leads_from (directory_entries c.args.tree.now) parts
           (length c.loop-name.yielded) c.loop-name.dir c.in-Some.name.now turn.0 turn.1
@@ -47,5 +48,6 @@ returns c =
     YieldsList-end (YieldsList-from_slice_split _ (λ byte. byte == slash) c.args.names.now (cc) (cc) refl
     (λ x b q k. search (rules, tests))) c.loop-name.yielded _ c.loop-name.yielded_by _ _ c.in-None.is
     c.next.ensures.steps in
-    sym (leads_to_end (directory_entries c.args.tree.now) parts (length c.loop-name.yielded) c.loop-name.dir (sym end.1))
+    sym (leads_to_end (directory_entries c.args.tree.now) parts (length c.loop-name.yielded) c.loop-name.dir
+    (sym end.1))
     ∙ c.loop-name.invariant.leads

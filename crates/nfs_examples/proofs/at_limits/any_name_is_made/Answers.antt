@@ -16,12 +16,24 @@ returns-clause-any c name named other =
       name_other name hello other,
       file_of_list 4 ((3, empty_file) ∷ (1, opening_root) ∷ (2, opening_hello) ∷ []) 1,
       name_other name hello other,
-      file_of_list 4 ((1, root_with name 3) ∷ (3, empty_file) ∷ (1, opening_root) ∷ (2, opening_hello) ∷ []) 1,
+      file_of_list 4 ((1, root_with name 3) ∷ (3, empty_file) ∷ (1, opening_root) ∷ (2, opening_hello)
+          ∷ []) 1,
       room_of 4 (with_file_named name),
     ) refl
 
 pub returns-clause-x : goal.returns-clause-x
-returns-clause-x c = rw (root_there 1, made_is epoch 3 ((1, opening_root) ∷ (2, opening_hello) ∷ []) 1 x empty_file opening_root with_x refl refl, room_of 4 with_x) refl
+returns-clause-x c =
+    rw (
+      root_there 1,
+      made_is epoch 3 ((1, opening_root) ∷ (2, opening_hello)
+          ∷ []) 1 x empty_file opening_root with_x refl refl,
+      room_of 4 with_x,
+    ) refl
 
 pub returns-clause-y : goal.returns-clause-y
-returns-clause-y c = rw (file_of_list 4 with_x 1, made_is epoch 4 with_x 1 y empty_file (root_of 5 ((x, (3, 4)) ∷ [])) with_three refl refl, room_of 5 with_three) refl
+returns-clause-y c =
+    rw (
+      file_of_list 4 with_x 1,
+      made_is epoch 4 with_x 1 y empty_file (root_of 5 ((x, (3, 4)) ∷ [])) with_three refl refl,
+      room_of 5 with_three,
+    ) refl

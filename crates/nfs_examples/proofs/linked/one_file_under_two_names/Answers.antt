@@ -13,7 +13,13 @@ unfolding number_in handle_of
 handle_three = refl
 
 pub returns-clause-create : goal.returns-clause-create
-returns-clause-create c = rw (root_there 1, made_is epoch 3 ((1, opening_root) ∷ (2, opening_hello) ∷ []) 1 f empty_file opening_root with_f refl refl, room_of 4 with_f) refl
+returns-clause-create c =
+    rw (
+      root_there 1,
+      made_is epoch 3 ((1, opening_root) ∷ (2, opening_hello)
+          ∷ []) 1 f empty_file opening_root with_f refl refl,
+      room_of 4 with_f,
+    ) refl
 
 pub returns-clause-link : goal.returns-clause-link
 returns-clause-link c =
@@ -33,7 +39,8 @@ returns-clause-remove c =
       file_of_list 4 with_f_and_g 1,
       file_of_list 4 with_f_and_g 3,
       entries_of 4 ((1, root_of 6 ((g, (3, 5)) ∷ [])) ∷ with_f_and_g),
-      marked_is epoch 4 ((1, root_of 6 ((g, (3, 5)) ∷ [])) ∷ with_f_and_g) 3 1 empty_file (root_of 6 ((g, (3, 5)) ∷ [])) with_g refl refl refl,
+      marked_is epoch 4 ((1, root_of 6 ((g, (3, 5)) ∷ [])) ∷ with_f_and_g) 3 1 empty_file
+          (root_of 6 ((g, (3, 5)) ∷ [])) with_g refl refl refl,
     ) refl
 
 pub returns-clause-one : goal.returns-clause-one
@@ -52,4 +59,9 @@ pub returns-clause-stale : goal.returns-clause-stale
 returns-clause-stale c = rw (handle_three, file_of_list 4 with_neither 3) refl
 
 pub returns-clause-again : goal.returns-clause-again
-returns-clause-again c = rw (file_of_list 4 with_neither 1, made_is epoch 4 with_neither 1 f empty_file (root_of 6 []) with_f_again refl refl, room_of 5 with_f_again) refl
+returns-clause-again c =
+    rw (
+      file_of_list 4 with_neither 1,
+      made_is epoch 4 with_neither 1 f empty_file (root_of 6 []) with_f_again refl refl,
+      room_of 5 with_f_again,
+    ) refl

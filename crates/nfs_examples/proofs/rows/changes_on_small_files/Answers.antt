@@ -11,7 +11,12 @@ use Rattle.nfs_examples.proofs.Computed.{file_of_list, room_of, entries_of}
 use Rattle.nfs_examples.proofs.rows.changes_on_small_files.Goals as goal
 
 pub returns-clause-cut : goal.returns-clause-cut
-returns-clause-cut c = rw (hello_there 1, room_of 3 ((2, first_file 420 (Regular [])) ∷ (1, opening_root) ∷ (2, opening_hello) ∷ [])) refl
+returns-clause-cut c =
+    rw (
+      hello_there 1,
+      room_of 3 ((2, first_file 420 (Regular [])) ∷ (1, opening_root) ∷ (2, opening_hello)
+          ∷ []),
+    ) refl
 
 pub returns-clause-free : goal.returns-clause-free
 returns-clause-free c =
@@ -25,7 +30,8 @@ returns-clause-make_dir c =
     rw (
       root_there 1,
       file_of_list 4 ((3, empty_directory) ∷ (1, opening_root) ∷ (2, opening_hello) ∷ []) 1,
-      file_of_list 4 ((1, root_with a 3) ∷ (3, empty_directory) ∷ (1, opening_root) ∷ (2, opening_hello) ∷ []) 1,
+      file_of_list 4 ((1, root_with a 3) ∷ (3, empty_directory) ∷ (1, opening_root) ∷ (2, opening_hello)
+          ∷ []) 1,
       room_of 4 with_directory,
     ) refl
 
@@ -41,7 +47,8 @@ returns-clause-link c =
       hello_there 1,
       root_there 1,
       file_of_list 3 ((2, opening_hello) ∷ (1, opening_root) ∷ (2, opening_hello) ∷ []) 1,
-      file_of_list 3 ((1, root_with a 2) ∷ (2, opening_hello) ∷ (1, opening_root) ∷ (2, opening_hello) ∷ []) 1,
+      file_of_list 3 ((1, root_with a 2) ∷ (2, opening_hello) ∷ (1, opening_root) ∷ (2, opening_hello)
+          ∷ []) 1,
       room_of 3 with_link,
     ) refl
 
@@ -64,14 +71,17 @@ all_moved =
       file_of_list 4 ((1, root_between) ∷ with_directory) 1,
       file_of_list 4 ((1, root_renamed) ∷ (1, root_between) ∷ with_directory) 3,
       file_of_list 4 ((3, empty_directory) ∷ (1, root_renamed) ∷ (1, root_between) ∷ with_directory) 1,
-      file_of_list 4 ((1, root_renamed) ∷ (3, empty_directory) ∷ (1, root_renamed) ∷ (1, root_between) ∷ with_directory) 1,
+      file_of_list 4 ((1, root_renamed) ∷ (3, empty_directory) ∷ (1, root_renamed) ∷ (1, root_between)
+          ∷ with_directory) 1,
     ) refl
 
 pub returns-clause-rename : goal.returns-clause-rename
-returns-clause-rename c = rw (file_of_list 4 with_directory 1, file_of_list 4 with_directory 3, not_above, all_moved) refl
+returns-clause-rename c =
+    rw (file_of_list 4 with_directory 1, file_of_list 4 with_directory 3, not_above, all_moved) refl
 
 pub returns-clause-inside : goal.returns-clause-inside
-returns-clause-inside c = rw (file_of_list 4 with_directory 1, file_of_list 4 with_directory 3, above_itself) refl
+returns-clause-inside c =
+    rw (file_of_list 4 with_directory 1, file_of_list 4 with_directory 3, above_itself) refl
 
 pub returns-clause-remove : goal.returns-clause-remove
 returns-clause-remove c =

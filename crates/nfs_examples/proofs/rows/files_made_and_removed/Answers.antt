@@ -26,7 +26,12 @@ returns-clause-create c =
     ) refl
 
 pub returns-clause-create_over : goal.returns-clause-create_over
-returns-clause-create_over c = rw (root_there 1, hello_there 1, room_of 3 ((2, empty_file) ∷ (1, opening_root) ∷ (2, opening_hello) ∷ [])) refl
+returns-clause-create_over c =
+    rw (
+      root_there 1,
+      hello_there 1,
+      room_of 3 ((2, empty_file) ∷ (1, opening_root) ∷ (2, opening_hello) ∷ []),
+    ) refl
 
 pub returns-clause-exists : goal.returns-clause-exists
 returns-clause-exists c = rw (file_of_list 4 with_directory 1, file_of_list 4 with_directory 3) refl
@@ -44,12 +49,15 @@ pub returns-clause-target : goal.returns-clause-target
 returns-clause-target c = rw (file_of_list 4 (with_made link_to_t) 3) refl
 
 -- the directory that was made is gone
-emptied : touch epoch (without_file (files_from 4 ((1, root_between) ∷ with_directory)) 3) 1 ≡ files_from 4 ((1, root_between) ∷ (2, opening_hello) ∷ [])
+emptied : touch epoch (without_file (files_from 4 ((1, root_between) ∷ with_directory)) 3) 1
+    ≡ files_from 4 ((1, root_between) ∷ (2, opening_hello) ∷ [])
 emptied =
     rw (
       without_in 3 ((1, root_between) ∷ with_directory),
-      file_of_list 4 ((1, root_between) ∷ (1, root_with a 3) ∷ (1, root_with a 3) ∷ (1, opening_root) ∷ (2, opening_hello) ∷ []) 1,
-    ) (same_files 4 ((1, root_between) ∷ (1, root_between) ∷ (1, root_with a 3) ∷ (1, root_with a 3) ∷ (1, opening_root) ∷ (2, opening_hello) ∷ []) ((1, root_between) ∷ (2, opening_hello) ∷ []) refl)
+      file_of_list 4 ((1, root_between) ∷ (1, root_with a 3) ∷ (1, root_with a 3) ∷ (1, opening_root)
+          ∷ (2, opening_hello) ∷ []) 1,
+    ) (same_files 4 ((1, root_between) ∷ (1, root_between) ∷ (1, root_with a 3) ∷ (1, root_with a 3)
+    ∷ (1, opening_root) ∷ (2, opening_hello) ∷ []) ((1, root_between) ∷ (2, opening_hello) ∷ []) refl)
 
 pub returns-clause-remove_dir : goal.returns-clause-remove_dir
 returns-clause-remove_dir c =
@@ -64,12 +72,15 @@ pub returns-clause-left : goal.returns-clause-left
 returns-clause-left c = rw (file_of_list 4 ((1, root_between) ∷ (2, opening_hello) ∷ []) 1) refl
 
 -- the file whose last name is removed is gone
-removed : touch epoch (without_file (files_from 3 ((1, root_emptied) ∷ (1, opening_root) ∷ (2, opening_hello) ∷ [])) 2) 1 ≡ files_from 3 ((1, root_emptied) ∷ [])
+removed : touch epoch (without_file (files_from 3
+    ((1, root_emptied) ∷ (1, opening_root) ∷ (2, opening_hello) ∷ [])) 2) 1
+    ≡ files_from 3 ((1, root_emptied) ∷ [])
 removed =
     rw (
       without_in 2 ((1, root_emptied) ∷ (1, opening_root) ∷ (2, opening_hello) ∷ []),
       file_of_list 3 ((1, root_emptied) ∷ (1, opening_root) ∷ []) 1,
-    ) (same_files 3 ((1, root_emptied) ∷ (1, root_emptied) ∷ (1, opening_root) ∷ []) ((1, root_emptied) ∷ []) refl)
+    ) (same_files 3 ((1, root_emptied) ∷ (1, root_emptied) ∷ (1, opening_root) ∷ [])
+    ((1, root_emptied) ∷ []) refl)
 
 pub returns-clause-remove : goal.returns-clause-remove
 returns-clause-remove c =

@@ -40,7 +40,12 @@ pub returns-clause-old : goal.returns-clause-old
 returns-clause-old _ = rw (file_of_list 6 with_nested_renamed 1) refl
 
 pub returns-clause-root : goal.returns-clause-root
-returns-clause-root _ = rw (file_of_list 6 with_nested_renamed 1, file_of_list 6 with_nested_renamed 2, file_of_list 6 with_nested_renamed 3) refl
+returns-clause-root _ =
+    rw (
+      file_of_list 6 with_nested_renamed 1,
+      file_of_list 6 with_nested_renamed 2,
+      file_of_list 6 with_nested_renamed 3,
+    ) refl
 
 counted : file_count (files_from 6 with_nested) ≡ 5
 counted = finite.len-entries (files_from 6 with_nested).files ∙ ap length (entries_of 6 with_nested)
@@ -49,10 +54,12 @@ not_above : is_above (files_from 6 with_nested) 3 1 ≡ false
 not_above = ap (λ k. climbs_to k (files_from 6 with_nested) 3 1) counted
 
 counted_renamed : file_count (files_from 6 with_nested_renamed) ≡ 5
-counted_renamed = finite.len-entries (files_from 6 with_nested_renamed).files ∙ ap length (entries_of 6 with_nested_renamed)
+counted_renamed =
+    finite.len-entries (files_from 6 with_nested_renamed).files ∙ ap length (entries_of 6 with_nested_renamed)
 
 above : is_above (files_from 6 with_nested_renamed) 3 4 ≡ true
-above = ap (λ k. climbs_to k (files_from 6 with_nested_renamed) 3 4) counted_renamed ∙ rw (entries_of 6 with_nested_renamed) refl
+above = ap (λ k. climbs_to k (files_from 6 with_nested_renamed) 3 4) counted_renamed
+    ∙ rw (entries_of 6 with_nested_renamed) refl
 
 all_moved : move_entry epoch (files_from 6 with_nested) 3 1 a 1 d None ≡ files_from 6 with_nested_renamed
 all_moved =
@@ -61,11 +68,19 @@ all_moved =
       file_of_list 6 ((1, root_between) ∷ with_nested) 1,
       file_of_list 6 ((1, root_renamed) ∷ (1, root_between) ∷ with_nested) 3,
       file_of_list 6 ((3, directory_of b 4) ∷ (1, root_renamed) ∷ (1, root_between) ∷ with_nested) 1,
-      file_of_list 6 ((1, root_renamed) ∷ (3, directory_of b 4) ∷ (1, root_renamed) ∷ (1, root_between) ∷ with_nested) 1,
+      file_of_list 6 ((1, root_renamed) ∷ (3, directory_of b 4) ∷ (1, root_renamed) ∷ (1, root_between)
+          ∷ with_nested) 1,
     ) refl
 
 pub returns-clause-rename : goal.returns-clause-rename
-returns-clause-rename _ = rw (file_of_list 6 with_nested 1, file_of_list 6 with_nested 3, not_above, all_moved) refl
+returns-clause-rename _ =
+    rw (file_of_list 6 with_nested 1, file_of_list 6 with_nested 3, not_above, all_moved) refl
 
 pub returns-clause-inside : goal.returns-clause-inside
-returns-clause-inside _ = rw (file_of_list 6 with_nested_renamed 1, file_of_list 6 with_nested_renamed 4, file_of_list 6 with_nested_renamed 3, above) refl
+returns-clause-inside _ =
+    rw (
+      file_of_list 6 with_nested_renamed 1,
+      file_of_list 6 with_nested_renamed 4,
+      file_of_list 6 with_nested_renamed 3,
+      above,
+    ) refl

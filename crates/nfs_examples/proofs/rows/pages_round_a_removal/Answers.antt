@@ -14,14 +14,17 @@ pub returns-clause-rest : goal.returns-clause-rest
 returns-clause-rest c = rw (file_of_list 5 with_two 1) refl
 
 pub returns-clause-names : goal.returns-clause-names
-returns-clause-names c = rw (entries_of 3 ((1, root_between) ∷ (2, opening_hello) ∷ (1, root_between) ∷ with_link)) refl
+returns-clause-names c =
+    rw (entries_of 3 ((1, root_between) ∷ (2, opening_hello) ∷ (1, root_between) ∷ with_link)) refl
 
-removed : touch epoch (without_file (files_from 5 ((1, root_of_two) ∷ with_three)) 2) 1 ≡ files_from 5 with_two
+removed : touch epoch (without_file (files_from 5 ((1, root_of_two) ∷ with_three)) 2) 1
+    ≡ files_from 5 with_two
 removed =
     rw (
       without_in 2 ((1, root_of_two) ∷ with_three),
       file_of_list 5 ((1, root_of_two) ∷ (1, root_of_three) ∷ (3, empty_file) ∷ (4, empty_file) ∷ []) 1,
-    ) (same_files 5 ((1, root_of_two) ∷ (1, root_of_two) ∷ (1, root_of_three) ∷ (3, empty_file) ∷ (4, empty_file) ∷ []) with_two refl)
+    ) (same_files 5 ((1, root_of_two) ∷ (1, root_of_two) ∷ (1, root_of_three) ∷ (3, empty_file)
+    ∷ (4, empty_file) ∷ []) with_two refl)
 
 pub returns-clause-remove : goal.returns-clause-remove
 returns-clause-remove c =

@@ -4,23 +4,27 @@ use Rattle.rpc_streams.proofs.stream.serve_at_hand.Goals as goal
 
 pub pass-requires : goal.pass-requires
 pass-requires g c =
-    rw (c.taken.ensures, ← c.at_hand.ensures.bytes) (within c.write_front-written.result c.fill-filled.ensures.batch)
+    rw (c.taken.ensures, ← c.at_hand.ensures.bytes)
+    (within c.write_front-written.result c.fill-filled.ensures.batch)
 
 pub returns-then-written-len-clause-stops : goal.returns-then-written-len-clause-stops
 returns-then-written-len-clause-stops g c =
     let taken = rw (c.taken.ensures, ← c.at_hand.ensures.bytes) at c.pass.ensures.taken in
     let written = rw c.deref.ensures.value at c.write_front-written.ensures.text in
-    part_of_batch _ _ _ _ c.write_front-written.result c.fill-filled.ensures.batch (search rules) taken written
+    part_of_batch _ _ _ _ c.write_front-written.result c.fill-filled.ensures.batch
+    (search rules) taken written
 
 pub returns-then-is_err-clause-stops : goal.returns-then-is_err-clause-stops
 returns-then-is_err-clause-stops g c =
     let taken = rw (c.taken.ensures, ← c.at_hand.ensures.bytes) at c.pass.ensures.taken in
     let written = rw c.deref.ensures.value at c.write_front-written.ensures.text in
-    refused_after (whole_batch _ _ _ _ c.write_front-written.result c.fill-filled.ensures.batch (search rules) taken written)
+    refused_after (whole_batch _ _ _ _ c.write_front-written.result c.fill-filled.ensures.batch
+    (search rules) taken written)
 
 pub returns-clause-answers : goal.returns-clause-answers
 returns-clause-answers g c =
     let taken = rw (c.taken.ensures, ← c.at_hand.ensures.bytes) at c.pass.ensures.taken in
     let written = rw c.deref.ensures.value at c.write_front-written.ensures.text in
     let count : c.len-2.result ≡ length c.fill-filled.new.self.ends.items = search rules in
-    rw count (whole_batch _ _ _ _ c.write_front-written.result c.fill-filled.ensures.batch (search rules) taken written)
+    rw count (whole_batch _ _ _ _ c.write_front-written.result c.fill-filled.ensures.batch
+    (search rules) taken written)

@@ -8,4 +8,5 @@ returns-clause-owed c = λ ms m history is h. own_owed ms m is history h
 pub returns-clause-alone : goal.returns-clause-alone
 returns-clause-alone c = λ ms m one two is h k same.
     says_same ms m one two
-    (same_replies ms m (own ms m.node one) (own ms m.node two) (own_owed ms m is one h) (own_owed ms m is two k) same)
+    (same_replies ms m (own ms m.node one) (own ms m.node two) (own_owed ms m is one h)
+    (own_owed ms m is two k) same)

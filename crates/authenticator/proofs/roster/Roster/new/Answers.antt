@@ -13,8 +13,11 @@ invariant_of-result c =
 
 pub returns-in-Some-clause-exact : goal.returns-in-Some-clause-exact
 returns-in-Some-clause-exact c =
-    let some = rw c.deref.ensures.value at c.in-Some.ensures.fault in
-    (λ e. absurd cc, λ whole. let none = rising_no_fault 0 c.args.members.items whole.0.2 whole.1 in absurd cc)
+    let some = rw c.deref.ensures.value at c.in-Some.ensures.fault in (
+      λ e. absurd cc,
+      λ whole. let none = rising_no_fault 0 c.args.members.items whole.0.2 whole.1 in
+          absurd cc,
+    )
 
 pub returns-in-None-clause-exact : goal.returns-in-None-clause-exact
 returns-in-None-clause-exact c = (λ _. invariant_of-result c, λ _. refl)

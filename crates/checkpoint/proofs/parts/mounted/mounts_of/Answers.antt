@@ -9,7 +9,8 @@ use Rattle.checkpoint.proofs.parts.mounted.mounts_of.Goals as goal
 -- after the last part all mounts are taken, each of the root and no two the same
 pub returns : goal.returns
 returns c =
-    let all = c.loop-part.invariant ∙ ap mounts_given (take_all c.loop-part.part-index c.args.parts.now c.loop-part-test.false) in (
+    let all = c.loop-part.invariant
+    ∙ ap mounts_given (take_all c.loop-part.part-index c.args.parts.now c.loop-part-test.false) in (
       all,
       subst MountsAreOfTheRoot all (are_of_the_root c.loop-part.mounts c.are_mounts.ensures),
       subst MountsDiffer all (are_different c.loop-part.mounts c.are_mounts.ensures),
@@ -17,4 +18,5 @@ returns c =
 
 pub returns-then-not-branch : goal.returns-then-not-branch
 returns-then-not-branch c =
-    refused_one c.args.parts.now c.loop-part.part-index _ c.loop-part-test.true c.loop-part.mounts c.loop-part.invariant (sym c.in_ok-take.ensures.taken ∙ c.if-not-branch.true)
+    refused_one c.args.parts.now c.loop-part.part-index _ c.loop-part-test.true c.loop-part.mounts
+    c.loop-part.invariant (sym c.in_ok-take.ensures.taken ∙ c.if-not-branch.true)

@@ -21,7 +21,11 @@ loop-place-preserved c =
       shown = rw (shown_front_more, ← so_far.shown, ← c.shown_secret.ensures) c.add_32.ensures.items;
       shown_len = omega (arith, c.add_32.ensures.len, so_far.shown_len);
       shown_room = omega (arith, c.add_32.ensures.capacity, so_far.shown_room);
-      other = rw (other_front_more, ← so_far.other, ← c.other_hash.ensures) c.add_32-in-loop-place.ensures.items;
+      other = rw (
+        other_front_more,
+        ← so_far.other,
+        ← c.other_hash.ensures,
+      ) c.add_32-in-loop-place.ensures.items;
       other_len = omega (arith, c.add_32-in-loop-place.ensures.len, so_far.other_len);
       other_room = omega (arith, c.add_32-in-loop-place.ensures.capacity, so_far.other_room);
     }

@@ -4,4 +4,5 @@ use Rattle.merkle_keys.proofs.signer.Signer.root.Goals as goal
 
 -- the root is the last hash of a whole tree
 pub returns : goal.returns
-returns c = rw (← c.self.view_is) (c.last_hash.ensures ∙ rw c.deref.ensures.value (root_at _ _ _ c.self.invariant.tree))
+returns c = rw (← c.self.view_is)
+    (c.last_hash.ensures ∙ rw c.deref.ensures.value (root_at _ _ _ c.self.invariant.tree))

@@ -12,8 +12,11 @@ returns-then-bytes-lt4-clause-none c = λ _. too_few _ c.if-bytes-lt4.true
 
 pub returns-then-not-mark-clause-none : goal.returns-then-not-mark-clause-none
 returns-then-not-mark-clause-none c =
-    let cut : c.args.bytes.now ≡ c.split_at.result.0.now ++ c.split_at.result.1.now = rw (c.split_at.ensures.front, c.split_at.ensures.back) (sym (take-append-drop 4 c.args.bytes.now)) in
-    let other : (c.mark_of-mark.result.is_last ≡ false) ⊎ ((MAX_RECORD < c.mark_of-mark.result.len) ⊎ (length c.split_at.result.1.now < c.mark_of-mark.result.len)) =
+    let cut : c.args.bytes.now ≡ c.split_at.result.0.now ++ c.split_at.result.1.now =
+    rw (c.split_at.ensures.front, c.split_at.ensures.back) (sym (take-append-drop 4 c.args.bytes.now)) in
+    let other : (c.mark_of-mark.result.is_last ≡ false)
+    ⊎ ((MAX_RECORD < c.mark_of-mark.result.len)
+    ⊎ (length c.split_at.result.1.now < c.mark_of-mark.result.len)) =
     elim c.then-not-mark.branch [
       | then-not-mark-via-then-not-mark w ↦ inl (search (rules, w.if-not-mark.true))
       | then-not-mark-via-else-not-mark+then-len-gt-MAX_RECORD w ↦ inr (inl w.if-len-gt-MAX_RECORD.true)
@@ -23,6 +26,7 @@ returns-then-not-mark-clause-none c =
 
 pub returns-clause-found : goal.returns-clause-found
 returns-clause-found c =
-    let cut : c.args.bytes.now ≡ c.split_at.result.0.now ++ c.split_at.result.1.now = rw (c.split_at.ensures.front, c.split_at.ensures.back) (sym (take-append-drop 4 c.args.bytes.now)) in
+    let cut : c.args.bytes.now ≡ c.split_at.result.0.now ++ c.split_at.result.1.now =
+    rw (c.split_at.ensures.front, c.split_at.ensures.back) (sym (take-append-drop 4 c.args.bytes.now)) in
     let last : c.mark_of-mark.result.is_last ≡ true = search (rules, c.if-not-mark.false) in
     in_front _ _ _ _ _ cut c.mark_of-mark.ensures.text last c.if-len-gt-MAX_RECORD.false c.if-len-rest.false

@@ -3,7 +3,10 @@ use Rattle.std.specs.Io.KnownBytes.{Consumes}
 use Rattle.rpc.proofs.records.record.fill.Given as goal
 
 abbrev pub invariant-loop-at : goal.invariant-loop-at
-invariant-loop-at g l = (l.at ≤ length l.buf) × (l.reader.count ≡ l.initial.reader.count) × Consumes (g.R.Read.remaining l.initial.reader.inner) (g.R.Read.remaining l.reader.inner) (take l.at l.buf)
+invariant-loop-at g l =
+    (l.at ≤ length l.buf) × (l.reader.count ≡ l.initial.reader.count)
+    × Consumes (g.R.Read.remaining l.initial.reader.inner) (g.R.Read.remaining l.reader.inner)
+    (take l.at l.buf)
 
 abbrev pub decreases-loop-at : goal.decreases-loop-at
 decreases-loop-at g l = length l.initial.buf - l.at

@@ -14,13 +14,21 @@ returns-clause-piece g c =
     let size : length text ≡ start = search rules in
     let sized : vec_len c.args.joined.now ≡ start = search rules in
     let filled : length c.fill.new.buf ≡ c.args.len = search rules in
-    let resized : c.resize.new.self.items ≡ take (start + c.args.len) text ++ replicate ((start + c.args.len) - vec_len c.args.joined.now) 0 = rw c.unwrap.ensures at c.resize.ensures.items in
-    let whole : c.deref_mut.result.now ≡ text ++ zeros = c.deref_mut.ensures.value ∙ resized ∙ text_grown text start c.args.len (vec_len c.args.joined.now) size sized in
-    let zeros_are : length zeros ≡ length c.fill.new.buf = omega (arith, length-replicate {A = ℕ} c.args.len 0) in
+    let resized : c.resize.new.self.items
+    ≡ take (start + c.args.len) text ++ replicate ((start + c.args.len) - vec_len c.args.joined.now) 0 =
+    rw c.unwrap.ensures at c.resize.ensures.items in
+    let whole : c.deref_mut.result.now ≡ text ++ zeros =
+    c.deref_mut.ensures.value ∙ resized
+    ∙ text_grown text start c.args.len (vec_len c.args.joined.now) size sized in
+    let zeros_are : length zeros ≡ length c.fill.new.buf =
+    omega (arith, length-replicate {A = ℕ} c.args.len 0) in
     let sum : c.resize.new.self.len ≡ start + length c.fill.new.buf = search (rules, filled) in
-    let all : take c.in-Ok.n c.fill.new.buf ≡ c.fill.new.buf = take_all c.in-Ok.n c.fill.new.buf (omega (arith, c.if-n-len.false)) in (
+    let all : take c.in-Ok.n c.fill.new.buf ≡ c.fill.new.buf =
+    take_all c.in-Ok.n c.fill.new.buf (omega (arith, c.if-n-len.false)) in (
       c.fill.new.buf,
-      text_filled text zeros c.deref_mut.result.now c.fill.new.buf start c.resize.new.self.len _ size whole zeros_are sum,
+      text_filled text zeros c.deref_mut.result.now c.fill.new.buf start c.resize.new.self.len _ size whole
+          zeros_are sum,
       filled,
-      subst (Consumes (g.R.Read.remaining c.args.reader.now.inner) (g.R.Read.remaining c.fill.new.reader.inner)) all c.in-Ok.ensures.bytes,
+      subst (Consumes (g.R.Read.remaining c.args.reader.now.inner)
+          (g.R.Read.remaining c.fill.new.reader.inner)) all c.in-Ok.ensures.bytes,
     )

@@ -6,5 +6,6 @@ use Rattle.rpc.specs.declared.records.record.TheConstants.{MAX_RECORD}
 
 abbrev pub invariant-loop-count : goal.invariant-loop-count
 invariant-loop-count g l =
-    Progress l.joined.items l.count (g.R.Read.remaining l.initial.reader.inner) (g.R.Read.remaining l.reader.inner)
+    Progress l.joined.items l.count (g.R.Read.remaining l.initial.reader.inner)
+    (g.R.Read.remaining l.reader.inner)
     × (l.reader.count ≡ l.initial.reader.count) × (MAX_RECORD ≤ vec_capacity l.joined)

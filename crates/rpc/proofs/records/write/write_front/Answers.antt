@@ -8,5 +8,6 @@ pub loop-at-preserved : goal.loop-at-preserved
 loop-at-preserved g c = (
   search rules,
   search rules,
-  subst (Appends _ _) (sym (take-behind c.loop-at.at c.in-Ok.n c.args.bytes.now)) (Appends-trans _ _ _ _ _ c.loop-at.invariant.2 c.in-Ok.ensures.bytes),
+  subst (Appends _ _) (sym (take-behind c.loop-at.at c.in-Ok.n c.args.bytes.now))
+      (Appends-trans _ _ _ _ _ c.loop-at.invariant.2 c.in-Ok.ensures.bytes),
 )

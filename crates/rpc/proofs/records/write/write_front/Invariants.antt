@@ -5,7 +5,8 @@ use Rattle.rpc.proofs.records.write.write_front.Given as goal
 abbrev pub invariant-loop-at : goal.invariant-loop-at
 invariant-loop-at g l =
     (l.at ≤ length l.bytes) × (l.writer.count ≡ l.initial.writer.count)
-    × Appends (g.W.Write.contents l.initial.writer.inner) (g.W.Write.contents l.writer.inner) (take l.at l.bytes)
+    × Appends (g.W.Write.contents l.initial.writer.inner) (g.W.Write.contents l.writer.inner)
+    (take l.at l.bytes)
 
 abbrev pub decreases-loop-at : goal.decreases-loop-at
 decreases-loop-at g l = length l.bytes - l.at

@@ -8,7 +8,8 @@ use Rattle.service.proofs.service.Service.answer_into.Goals.{in-Ok+in_ok-reply_t
 pub returns-clause-reply : goal.returns-clause-reply
 returns-clause-reply c = elim c.match-read_call.branch [
   | in-Ok+in_ok-reply_to-in-Ok w ↦
-      rw (w.is_owed-is, w.out-is, ← c.self.view_is) ((call_replied _ c.args.time c.args.bytes.now c.read_call.result
+      rw (w.is_owed-is, w.out-is, ← c.self.view_is)
+      ((call_replied _ c.args.time c.args.bytes.now c.read_call.result
       c.read_call.ensures.exact w.in-Ok.call
       c.args.out.now.items w.reply_to.new.out.items (world_of w.reply_to.new.tree c.later-now.result
       w.reply_to.new.mounts) w.in-Ok.is
@@ -16,7 +17,8 @@ returns-clause-reply c = elim c.match-read_call.branch [
       (ap (λ t. world_of c.self.inside.tree t c.self.inside.mounts) c.later-now.ensures)
       w.in_ok-reply_to-in-Ok.ensures.text w.in_ok-reply_to-in-Ok.ensures.world).0)
   | in-Err w ↦
-      rw (w.is_owed-is, w.out-is, ← c.self.view_is) ((fault_replied _ c.args.time c.args.bytes.now c.read_call.result
+      rw (w.is_owed-is, w.out-is, ← c.self.view_is)
+      ((fault_replied _ c.args.time c.args.bytes.now c.read_call.result
       c.read_call.ensures.exact w.in-Err.field-0 w.in-Err.is c.args.out.now.items).0)
 ]
 

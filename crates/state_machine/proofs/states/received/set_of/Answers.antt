@@ -9,7 +9,11 @@ use Rattle.state_machine.proofs.states.received.set_of.Goals as goal
 
 pub loop-message-preserved : goal.loop-message-preserved
 loop-message-preserved c = (
-  c.in_ok-insert.ensures.keys ∙ ap (λ ks. insert_key received_cmp ks c.message-item.result) c.loop-message.invariant.0
-      ∙ next_put received_total c.args.messages.now c.loop-message.message-index c.message-item.result c.loop-message-test.true c.message-item.is c.requires,
-  subst (AllByRecursion ReceivedFits) (sym c.in_ok-insert.ensures.keys) (all_with received_cmp ReceivedFits c.loop-message.set.keys c.message-item.result c.loop-message.invariant.1 c.is_bounded.ensures),
+  c.in_ok-insert.ensures.keys
+      ∙ ap (λ ks. insert_key received_cmp ks c.message-item.result) c.loop-message.invariant.0
+      ∙ next_put received_total c.args.messages.now c.loop-message.message-index c.message-item.result
+      c.loop-message-test.true c.message-item.is c.requires,
+  subst (AllByRecursion ReceivedFits) (sym c.in_ok-insert.ensures.keys)
+      (all_with received_cmp ReceivedFits c.loop-message.set.keys c.message-item.result
+      c.loop-message.invariant.1 c.is_bounded.ensures),
 )

@@ -34,7 +34,8 @@ pub returns-clause-history : goal.returns-clause-history
 returns-clause-history c = λ secret.
     let steps = c.a_signed_log_is_audited.ensures in (
       tt,
-      inl (owed secret (filed_event secret) (filed_step secret) (events.Ask 5 ItsIndication) (Ask ItsIndication)
+      inl (owed secret (filed_event secret) (filed_step secret) (events.Ask 5 ItsIndication)
+          (Ask ItsIndication)
           (Told Trusted) (own_filed secret) refl (steps.trusted secret)),
       (
         (closed_is secret, replayed secret),
@@ -56,7 +57,8 @@ returns-clause-history c = λ secret.
               (
                 learned_is secret,
                 inl (owed secret [] [] (events.Learn (signed_end secret) (client_key secret))
-                    (Learn (signed_end secret)) Noted refl (learned_whose secret 0 1 read_hash) (steps.learned secret)),
+                    (Learn (signed_end secret)) Noted refl (learned_whose secret 0 1 read_hash)
+                    (steps.learned secret)),
                 tt,
               ),
             ),

@@ -15,12 +15,14 @@ returns-clause-history c = λ secret other.
     let steps = c.signed_acknowledgements_close.ensures in (
       acknowledged_is secret other,
       inl (owed_to (both secret other) (client secret) (challenged_event other) (challenged_step other)
-          (events.AckIn (acknowledged secret other) (client_key secret)) (AckIn (acknowledged secret other)) Closed
+          (events.AckIn (acknowledged secret other) (client_key secret))
+          (AckIn (acknowledged secret other)) Closed
           (own_challenged secret other) (acknowledged_whose secret other) (steps.closed secret other)),
       (
         message_is secret other,
         inl (owed_to (both secret other) (client secret) [] []
-            (events.SendChallenge (message other) (client_key other)) (SendChallenge (message other)) Opened refl
+            (events.SendChallenge (message other) (client_key other))
+            (SendChallenge (message other)) Opened refl
             (message_whose secret other) (steps.opened secret other)),
         tt,
       ),

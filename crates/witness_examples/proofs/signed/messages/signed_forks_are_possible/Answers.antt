@@ -17,7 +17,8 @@ returns-clause-history c = λ secret.
           (own_one secret) (learned_whose secret 1 1 twos) (steps.second secret)),
       (
         signed_event secret 0 1 ones (omega arith) (omega arith) refl,
-        inl (owed_to (alone secret) (client secret) [] [] (events.Learn (signed secret 0 1 ones) (client_key secret))
+        inl (owed_to (alone secret) (client secret) [] []
+            (events.Learn (signed secret 0 1 ones) (client_key secret))
             (Learn (signed secret 0 1 ones)) Noted refl (learned_whose secret 0 1 ones) (steps.first secret)),
         tt,
       ),

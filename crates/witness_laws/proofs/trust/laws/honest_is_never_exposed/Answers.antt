@@ -21,4 +21,5 @@ returns c = λ ms m history log s member h is honest unforged unlike told.
     ∙ not_exposed ms m log
     (λ l n a b i j. one_hash 0 zeros (links_from 1 l) n a b (entries_numbered 1 l) i j) is
     (log_texts log ++ texts) unlike (left (log_texts log) texts) past honest.states honest.honest
-    (own_owed ms m member history h) (own_checked ms m member history h) unforged (right (log_texts log) texts))
+    (own_owed ms m member history h) (own_checked ms m member history h) unforged
+    (right (log_texts log) texts))

@@ -13,6 +13,10 @@ use Rattle.state_machine.proofs.states.received.Received.are_bounded.Goals as go
 pub returns : goal.returns
 returns c =
     let inside = c.self.inside.messages.keys in
-    let seen : keys c.args.self.now ≡ inside = ap keys (sym c.self.view_is) ∙ keys_of_set received_cmp inside c.self.invariant.rising in
-    subst (λ (ks : List ReceivedMessage). Fits (array max_received received_item) (map received_value ks)) (sym seen)
-    (fits_counted received_item received_value {E = Unit {0}} max_received inside (Ok tt) (omega arith) c.self.invariant.few (all_mapped received_value (Fits received_item) inside c.self.invariant.bounded))
+    let seen : keys c.args.self.now ≡ inside = ap keys (sym c.self.view_is)
+    ∙ keys_of_set received_cmp inside c.self.invariant.rising in
+    subst (λ (ks : List ReceivedMessage). Fits (array max_received received_item) (map received_value ks))
+    (sym seen)
+    (fits_counted received_item received_value {E = Unit {0}} max_received inside (Ok tt)
+    (omega arith) c.self.invariant.few
+    (all_mapped received_value (Fits received_item) inside c.self.invariant.bounded))

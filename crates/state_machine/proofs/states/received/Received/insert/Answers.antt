@@ -19,7 +19,9 @@ invariant_of-self-2 c =
           one_within c.in_ok-insert.field-0 (length c.self.inside.messages.keys) _ MAX_RECEIVED
           c.in_ok-insert.ensures.len below;
       rising = c.in_ok-insert.ensures.ordered;
-      bounded = subst (AllByRecursion ReceivedFits) (sym c.in_ok-insert.ensures.keys) (all_with received_cmp ReceivedFits c.self.inside.messages.keys c.args.message c.self.invariant.bounded c.is_bounded.ensures);
+      bounded = subst (AllByRecursion ReceivedFits) (sym c.in_ok-insert.ensures.keys)
+          (all_with received_cmp ReceivedFits c.self.inside.messages.keys c.args.message
+          c.self.invariant.bounded c.is_bounded.ensures);
     }
 
 pub returns-clause-ok : goal.returns-clause-ok

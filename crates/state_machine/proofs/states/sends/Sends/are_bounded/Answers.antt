@@ -15,7 +15,9 @@ use Rattle.state_machine.proofs.states.sends.Sends.are_bounded.Goals as goal
 pub returns : goal.returns
 returns c =
     let inside = c.self.inside.messages.entries in
-    let seen : entries c.args.self.now ≡ inside = ap entries (sym c.self.view_is) ∙ entries_of_map nat_cmp inside c.self.invariant.rising in
+    let seen : entries c.args.self.now ≡ inside =
+    ap entries (sym c.self.view_is) ∙ entries_of_map nat_cmp inside c.self.invariant.rising in
     let few : length inside ≤ max_sends = omega (arith, length-keys_of inside, c.self.invariant.few) in
     subst (λ (es : List (ℕ × SentMessage)). Fits (array max_sends sent_item) (map sent_value es)) (sym seen)
-    (fits_counted sent_item sent_value {E = Unit {0}} max_sends inside (Ok tt) (omega arith) few (all_mapped sent_value (Fits sent_item) inside c.self.invariant.bounded))
+    (fits_counted sent_item sent_value {E = Unit {0}} max_sends inside (Ok tt) (omega arith) few
+    (all_mapped sent_value (Fits sent_item) inside c.self.invariant.bounded))

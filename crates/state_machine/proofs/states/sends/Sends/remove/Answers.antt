@@ -18,8 +18,10 @@ invariant_of-self c = record {
   few =
       let old = c.self.inside.messages.entries in
       let new = c.remove.new.self.entries in
-      let less = less_within (is_some c.remove.result) (length old) (length new) (length old) c.remove.ensures.len (omega arith) in
+      let less = less_within (is_some c.remove.result) (length old) (length new)
+      (length old) c.remove.ensures.len (omega arith) in
       omega (arith, less, length-keys_of new, length-keys_of old, c.self.invariant.few);
   rising = c.remove.ensures.ordered;
-  bounded = subst (AllByRecursion SentFits) (sym c.remove.ensures.entries) (all_without SentFits _ c.self.inside.messages.entries c.self.invariant.bounded);
+  bounded = subst (AllByRecursion SentFits) (sym c.remove.ensures.entries)
+      (all_without SentFits _ c.self.inside.messages.entries c.self.invariant.bounded);
 }
