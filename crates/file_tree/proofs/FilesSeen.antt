@@ -24,7 +24,7 @@ named_in : (w : Files) (who : Caller) (n : ℕ) (name : List ℕ) (f : File) (b 
     >>= (λ l. if may_search who f then ok_or stats.NoEnt
     (number_in_listing n (parent_in b) l name) else Err stats.Acces))
 named_in w who n name f (code.Regular bytes) kept = refl
-named_in w who n name f (code.Link target) kept = refl
+named_in w who n name f (code.Symlink target) kept = refl
 named_in w who n name f (code.Directory parent l) kept =
     ap (λ above. if may_search who f then ok_or stats.NoEnt
     (number_in_listing n above l name) else Err stats.Acces) (sym kept)

@@ -64,7 +64,7 @@ module _ (t : Inside) (whole : IsWhole t) (n : ℕ) {inode : Inode}
       where
         by : (b : stored.Body) → inode.body ≡ b → KeepsParent b (parent_of (files_in t) n)
         by (code.Regular bytes) e = tt
-        by (code.Link target) e = tt
+        by (code.Symlink target) e = tt
         by (code.Directory parent l) e =
             sym (ap (λ (o : Option Inode). option_map_or (λ i. parent_in i.body) o 1) at ∙ ap parent_in e)
             ∙ whole.counted.parents n (ap (option_map (λ f. is_directory f.body)) there

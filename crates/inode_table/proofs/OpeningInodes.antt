@@ -31,7 +31,7 @@ total count es = sum_by count (map (λ e. e.1) es)
 -- the directory above that is kept, where it is the root's
 kept_parent : (b : stored.Body) → KeepsParent b 1 → parent_in b ≡ 1
 kept_parent (code.Regular bytes) e = refl
-kept_parent (code.Link target) e = refl
+kept_parent (code.Symlink target) e = refl
 kept_parent (code.Directory parent l) e = e
 
 module _ (fsid : ℕ) (root hello : Inode) (root_file : file_in root ≡ opening_root)

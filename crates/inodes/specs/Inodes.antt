@@ -17,7 +17,7 @@ use Rattle.inodes.specs.declared.inode.TheConstants.{BLOCK_SIZE}
 -- what an inode holds, as callers see it
 abbrev pub body_in : stored.Body → Body
 body_in (code.Regular bytes) = Regular bytes.items
-body_in (code.Link target) = Symlink target.items
+body_in (code.Symlink target) = Symlink target.items
 body_in (code.Directory parent listing) = Directory listing
 
 -- an inode as callers see it
@@ -47,7 +47,7 @@ files_of fsid next inodes = record {
 -- the directory above, as kept with a directory
 abbrev pub parent_in : stored.Body → ℕ
 parent_in (code.Regular bytes) = 1
-parent_in (code.Link target) = 1
+parent_in (code.Symlink target) = 1
 parent_in (code.Directory parent listing) = parent
 
 -- the file of a number
@@ -65,7 +65,7 @@ above_at inodes n = option_map_or (λ inode. parent_in inode.body) (inode_at ino
 -- a directory keeps the number of the one above
 abbrev pub KeepsParent : stored.Body → ℕ → Type 0
 KeepsParent (code.Regular bytes) above = Unit {0}
-KeepsParent (code.Link target) above = Unit {0}
+KeepsParent (code.Symlink target) above = Unit {0}
 KeepsParent (code.Directory parent listing) above = parent ≡ above
 
 -- an inode's attributes (RFC 1094, section 2.3.5), with the nlink that it keeps

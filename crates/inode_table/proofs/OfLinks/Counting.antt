@@ -20,7 +20,7 @@ use Rattle.inode_table.specs.Links.Linked.{AreLinked}
 kept_parent : (b : stored.Body) (number : ℕ) → is_directory (body_in b) ≡ true → KeepsParent b number
     → parent_in b ≡ number
 kept_parent (code.Regular bytes) number is h = absurd (tf is)
-kept_parent (code.Link target) number is h = absurd (tf is)
+kept_parent (code.Symlink target) number is h = absurd (tf is)
 kept_parent (code.Directory parent l) number is h = h
 
 module _ (fsid next : ℕ) (inodes : List (ℕ × Inode)) where

@@ -84,7 +84,7 @@ plain_links fs n (Directory l) links plain is = absurd (tf (sym plain))
 pub keeps_parent : (b : stored.Body) (number : ℕ) → (is_directory (body_in b) ≡ true → parent_in b ≡ number)
     → KeepsParent b number
 keeps_parent (code.Regular bytes) number h = tt
-keeps_parent (code.Link target) number h = tt
+keeps_parent (code.Symlink target) number h = tt
 keeps_parent (code.Directory parent l) number h = h refl
 
 -- ---- one file after the other
