@@ -1,0 +1,1 @@
+"""A verifier of evidence that was written from docs/CHECKING.md and docs/FORMATS.md alone."""
