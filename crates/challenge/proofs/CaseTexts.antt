@@ -1,5 +1,5 @@
 -- Texts of cases: the members of a roster, and after them the text of evidence.
--- Serves: last_case.
+-- Serves: case_of.
 use Rattle.std.proofs.Common.{◌≡◌, ℕ, Bool, true, false, cond, List, [], ◌∷◌, Ok, Err, Option, Some, None, refl, ◌∙◌}
 use Rattle.std.specs.Prelude.{IfSome}
 use Rattle.std.specs.Bool.{OnTrue}

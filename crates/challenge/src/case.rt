@@ -13,7 +13,7 @@ ghost use Rattle.challenge.specs.declared.fault.EvidenceFault.TheVariants.{NoMem
 use crate::evidence::Evidence;
 use crate::fault::EvidenceFault;
 use crate::items::{are_bytes, take_members};
-use crate::read::last_evidence;
+use crate::read::evidence_of;
 use crate::source::Source;
 use authenticator::Roster;
 use std::alloc::{AllocError, Global};
@@ -38,11 +38,11 @@ pub fn read_case(alloc: Global, bytes: Vec<u8>) -> Result<Case, EvidenceFault>
         MatchResult result (λ c. case_value c ≡ v) (λ e. e ≡ NoMemory) }
 {
     are_bytes(&bytes);
-    last_case(alloc, Source::new(bytes))
+    case_of(alloc, Source::new(bytes))
 }
 
-/// The case whose text all bytes are that are left.
-fn last_case(alloc: Global, mut source: Source) -> Result<Case, EvidenceFault>
+/// The case whose text is what is left of the bytes, to their end.
+fn case_of(alloc: Global, mut source: Source) -> Result<Case, EvidenceFault>
     ensures { GivesText is_garbage case_text case_value source result }
 {
     are_bytes(source.rest());
@@ -50,7 +50,7 @@ fn last_case(alloc: Global, mut source: Source) -> Result<Case, EvidenceFault>
     let Ok(roster) = Roster::new(members) else {
         return Err(EvidenceFault::Garbage);
     };
-    let evidence = last_evidence(alloc, source)?;
+    let evidence = evidence_of(alloc, source)?;
     Ok(Case { roster, evidence })
 }
 

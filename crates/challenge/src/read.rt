@@ -33,12 +33,12 @@ pub fn read_evidence(alloc: Global, bytes: Vec<u8>) -> Result<Evidence, Evidence
         MatchResult result (λ e. evidence_value e ≡ v) (λ e. e ≡ NoMemory) }
 {
     are_bytes(&bytes);
-    last_evidence(alloc, Source::new(bytes))
+    evidence_of(alloc, Source::new(bytes))
 }
 
-/// The evidence whose text all bytes are that are left.
+/// The evidence whose text is what is left of the bytes, to their end.
 #[tactic(auto, unfolding(xdr::specs::Texts::Text::text_at))]
-pub(crate) fn last_evidence(alloc: Global, mut source: Source) -> Result<Evidence, EvidenceFault>
+pub(crate) fn evidence_of(alloc: Global, mut source: Source) -> Result<Evidence, EvidenceFault>
     ensures { GivesText is_garbage evidence_text evidence_value source result }
 {
     let evidence = take_evidence(alloc, &mut source)?;

@@ -25,23 +25,23 @@ returns-in-Regular-clause-text c =
     (1, (attributes_value (file_in c.args.inode.now), bytes))) c.args.out.now.items c.add_regular.result
     c.add_regular.new.out.items) c.deref.ensures.value c.add_regular.ensures.text)
 
-pub returns-in-Link-clause-fits : goal.returns-in-Link-clause-fits
-returns-in-Link-clause-fits c =
+pub returns-in-Symlink-clause-fits : goal.returns-in-Symlink-clause-fits
+returns-in-Symlink-clause-fits c =
     subst (λ (b : stored.Body). OnOk c.add_symlink.result
     (Fits (choice is_file_kind kind_item) (kind_value (file_in c.args.inode.now) (body_in b))))
-    (sym c.in-Link.is)
+    (sym c.in-Symlink.is)
     (subst (λ (bytes : List ℕ). OnOk c.add_symlink.result
     (Fits (choice is_file_kind kind_item) (5, (attributes_value (file_in c.args.inode.now), bytes))))
-    c.deref-in-Link.ensures.value c.add_symlink.ensures.fits)
+    c.deref-in-Symlink.ensures.value c.add_symlink.ensures.fits)
 
-pub returns-in-Link-clause-text : goal.returns-in-Link-clause-text
-returns-in-Link-clause-text c =
+pub returns-in-Symlink-clause-text : goal.returns-in-Symlink-clause-text
+returns-in-Symlink-clause-text c =
     subst (λ (b : stored.Body). Adds (spelling (choice is_file_kind kind_item)
     (kind_value (file_in c.args.inode.now) (body_in b))) c.args.out.now.items c.add_symlink.result
-    c.add_symlink.new.out.items) (sym c.in-Link.is)
+    c.add_symlink.new.out.items) (sym c.in-Symlink.is)
     (subst (λ (bytes : List ℕ). Adds (spelling (choice is_file_kind kind_item)
     (5, (attributes_value (file_in c.args.inode.now), bytes))) c.args.out.now.items c.add_symlink.result
-    c.add_symlink.new.out.items) c.deref-in-Link.ensures.value c.add_symlink.ensures.text)
+    c.add_symlink.new.out.items) c.deref-in-Symlink.ensures.value c.add_symlink.ensures.text)
 
 pub returns-in-Directory-clause-fits : goal.returns-in-Directory-clause-fits
 returns-in-Directory-clause-fits c =

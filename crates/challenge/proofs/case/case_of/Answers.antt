@@ -3,7 +3,7 @@ use Rattle.std.proofs.lemmas.Result.{err_from_is_err_and}
 use Rattle.evidence_showings.specs.evidence_spec.Evidence.{evidence_value}
 use Rattle.challenge.specs.FaultNumbers.{is_garbage}
 use Rattle.challenge.proofs.CaseTexts.{no_members_no_case, no_roster_no_case, no_evidence_no_case, is_case}
-use Rattle.challenge.proofs.case.last_case.Goals as goal
+use Rattle.challenge.proofs.case.case_of.Goals as goal
 
 pub returns-in_err-members : goal.returns-in_err-members
 returns-in_err-members c =
