@@ -131,7 +131,7 @@ check_subject() {
             least_refused 2 replay
             ;;
         evidence)
-            least_refused 9 read_case take_case write_case evidence_text read_evidence of_authenticator from_start \
+            least_refused 9 read_case write_case evidence_text read_evidence of_authenticator from_start \
                 check_evidence
             ;;
     esac

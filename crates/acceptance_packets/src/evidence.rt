@@ -96,7 +96,7 @@ fn finds(alloc: Global, roster: &Roster, evidence: &Evidence, finding: &Finding)
 }
 
 /// Whether this is found in evidence that is read from a text.
-fn finds_in_text(alloc: Global, roster: &Roster, text: &[u8], finding: &Finding) -> bool {
+fn finds_in_text(alloc: Global, roster: &Roster, text: Vec<u8>, finding: &Finding) -> bool {
     match read_evidence(alloc, text) {
         Ok(evidence) => finds(alloc, roster, &evidence, finding),
         Err(_) => false,
@@ -104,7 +104,7 @@ fn finds_in_text(alloc: Global, roster: &Roster, text: &[u8], finding: &Finding)
 }
 
 /// Whether this is found in a case that is read from a text.
-fn finds_in_case(alloc: Global, text: &[u8], finding: &Finding) -> bool {
+fn finds_in_case(alloc: Global, text: Vec<u8>, finding: &Finding) -> bool {
     match read_case(alloc, text) {
         Ok(Case { roster, evidence }) => finds(alloc, &roster, &evidence, finding),
         Err(_) => false,
@@ -114,11 +114,11 @@ fn finds_in_case(alloc: Global, text: &[u8], finding: &Finding) -> bool {
 /// Whether this is found in evidence that is written and read back.
 fn finds_again(alloc: Global, roster: &Roster, evidence: &Evidence, finding: &Finding) -> bool {
     let in_text = match evidence.evidence_text(alloc) {
-        Ok(text) => finds_in_text(alloc, roster, &text, finding),
+        Ok(text) => finds_in_text(alloc, roster, text, finding),
         Err(_) => false,
     };
     let in_case = match case_text(alloc, roster, evidence) {
-        Some(text) => finds_in_case(alloc, &text, finding),
+        Some(text) => finds_in_case(alloc, text, finding),
         None => false,
     };
     in_text && in_case
@@ -190,7 +190,7 @@ fn is_not_signed(alloc: Global, made: &Made) -> bool {
                 *last ^= 1;
             }
             let finding = Finding::NotAccepted(NotAccepted::NotSigned);
-            finds_in_text(alloc, &made.roster, &text, &finding)
+            finds_in_text(alloc, &made.roster, text, &finding)
         }
         Err(_) => false,
     }
@@ -203,22 +203,26 @@ enum Kind {
     Case,
 }
 
-/// Why bytes aren't read.
-fn fault(alloc: Global, kind: Kind, bytes: &[u8]) -> Option<EvidenceFault> {
-    match kind {
+/// Whether a copy of bytes is garbage.
+fn is_garbage(alloc: Global, kind: Kind, bytes: &[u8]) -> bool {
+    let Ok(bytes) = Vec::from_slice(alloc, bytes) else {
+        return false;
+    };
+    let fault = match kind {
         Kind::Evidence => read_evidence(alloc, bytes).err(),
         Kind::Case => read_case(alloc, bytes).err(),
-    }
+    };
+    fault == Some(EvidenceFault::Garbage)
 }
 
 /// Whether a text is garbage that is cut at any length, or has a byte more.
 fn is_garbage_changed(alloc: Global, kind: Kind, mut text: Vec<u8>) -> bool {
     for len in 0..text.len() {
-        if fault(alloc, kind, &text[..len]) != Some(EvidenceFault::Garbage) {
+        if !is_garbage(alloc, kind, &text[..len]) {
             return false;
         }
     }
-    text.push(0).is_ok() && fault(alloc, kind, &text) == Some(EvidenceFault::Garbage)
+    text.push(0).is_ok() && is_garbage(alloc, kind, &text)
 }
 
 /// Whether evidence of two hashes isn't signed with its text's last bit changed.

@@ -1,5 +1,6 @@
-pub mod OfCaseFiles
+pub mod Suffixes
 pub mod Entries
 pub mod Found
 pub mod CaseTexts
+pub mod Texts
 pub mod OneFinding

@@ -1,8 +1,8 @@
 pub use Rattle.evidence_showings.specs.evidence_spec as evidence_spec
-pub mod CaseFiles
 pub mod FaultNumbers
 pub mod Audited
 pub mod Charges
 pub mod Findings
 pub mod Cases
 pub mod Readings
+pub mod Taking

@@ -1,19 +1,23 @@
 //! Cases: a roster and evidence, as a file has them.
 
-ghost use Rattle.std.specs.Prelude.{IfOk, IsTrue};
-ghost use Rattle.xdr.specs.Item.{Fits, spelling};
+ghost use Rattle.std.specs.Prelude.{◌≡◌, IfOk, IsTrue, MatchResult};
+ghost use Rattle.xdr.specs.Item.{Fits, Value, spelling};
 ghost use Rattle.xdr.specs.Writing.{Adds, Writes};
 ghost use Rattle.xdr.specs.Texts.Text.{GivesText, IsText};
 ghost use Rattle.evidence_showings.specs.evidence_spec.Evidence.{evidence_value};
 ghost use Rattle.authenticator.specs.Roster.{roster_value};
 ghost use Rattle.challenge.specs.Cases.{case_item, case_text, case_value};
 ghost use Rattle.challenge.specs.FaultNumbers.{is_garbage};
+ghost use Rattle.challenge.specs.declared.fault.EvidenceFault.TheVariants.{NoMemory};
 
 use crate::evidence::Evidence;
 use crate::fault::EvidenceFault;
-use authenticator::{MAX_MEMBERS, Member, Roster};
+use crate::items::{are_bytes, take_members};
+use crate::read::evidence_of;
+use crate::source::Source;
+use authenticator::Roster;
 use std::alloc::{AllocError, Global};
-use xdr::{FromXdr, ReadFault, Reader, all_or_nothing, read_array};
+use xdr::all_or_nothing;
 
 /// A roster, and evidence against one of its members.
 #[derive(Drop)]
@@ -24,44 +28,30 @@ pub struct Case {
     pub evidence: Evidence,
 }
 
-impl From<ReadFault> for EvidenceFault {
-    ghost use Rattle.std.specs.Prelude.{◌≡◌};
-    ghost use Rattle.challenge.specs.Readings.{fault_of};
-
-    ghost from_gives = { λ e f. f ≡ fault_of e };
-
-    fn from(error: ReadFault) -> EvidenceFault {
-        match error {
-            ReadFault::NoMemory => EvidenceFault::NoMemory,
-            ReadFault::Fault(_) => EvidenceFault::Garbage,
-        }
-    }
+/// The case whose text the bytes are, a roster's text with that of evidence after it. The bytes are given up,
+/// as to `read_evidence`. `Garbage` comes exactly where they are the text of none, `NoMemory` only where a
+/// growth was refused.
+pub fn read_case(alloc: Global, bytes: Vec<u8>) -> Result<Case, EvidenceFault>
+    ensures exact { GivesText is_garbage case_text case_value bytes.items result }
+    ensures found { IfOk result (λ c. IsText case_text (case_value c) bytes.items) }
+    ensures only { (v : Value case_text.item) → IsText case_text v bytes.items →
+        MatchResult result (λ c. case_value c ≡ v) (λ e. e ≡ NoMemory) }
+{
+    are_bytes(&bytes);
+    case_of(alloc, Source::new(bytes))
 }
 
-/// The case whose text the bytes are, a roster's text with that of evidence after it. `Garbage` comes
-/// exactly where they are the text of none, `NoMemory` only where a growth was refused.
-pub fn read_case(alloc: Global, bytes: &[u8]) -> Result<Case, EvidenceFault>
-    ensures exact { GivesText is_garbage case_text case_value bytes.now result }
-    ensures found { IfOk result (λ c. IsText case_text (case_value c) bytes.now) }
+/// The case whose text is what is left of the bytes, to their end.
+fn case_of(alloc: Global, mut source: Source) -> Result<Case, EvidenceFault>
+    ensures { GivesText is_garbage case_text case_value source result }
 {
-    case_of(alloc, bytes)
-}
-
-/// As `read_case`, with the exact clause alone.
-#[tactic(auto, unfolding(xdr::specs::Texts::Text::text_at))]
-fn case_of(alloc: Global, bytes: &[u8]) -> Result<Case, EvidenceFault>
-    ensures { GivesText is_garbage case_text case_value bytes.now result }
-{
-    let mut reader = Reader::new(bytes);
-    let members: Vec<Member> = read_array(alloc, &mut reader, MAX_MEMBERS)?;
-    let evidence = Evidence::read(alloc, &mut reader)?;
-    if !reader.rest().is_empty() {
+    are_bytes(source.rest());
+    let members = take_members(alloc, &mut source)?;
+    let Ok(roster) = Roster::new(members) else {
         return Err(EvidenceFault::Garbage);
-    }
-    match Roster::new(members) {
-        Ok(roster) => Ok(Case { roster, evidence }),
-        Err(_) => Err(EvidenceFault::Garbage),
-    }
+    };
+    let evidence = evidence_of(alloc, source)?;
+    Ok(Case { roster, evidence })
 }
 
 /// Appends the text of a case. Where memory was refused the bytes are as they were.

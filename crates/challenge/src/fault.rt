@@ -1,6 +1,7 @@
 //! Why bytes are no evidence.
 
 use thiserror::Error;
+use xdr::ReadFault;
 
 /// Why evidence, or a file with it, could not be read.
 #[derive(Clone, Copy, Debug, PartialEq, Eq, Error)]
@@ -11,6 +12,20 @@ pub enum EvidenceFault {
     /// A growth was refused.
     #[error("out of memory")]
     NoMemory,
+}
+
+impl From<ReadFault> for EvidenceFault {
+    ghost use Rattle.std.specs.Prelude.{◌≡◌};
+    ghost use Rattle.challenge.specs.Readings.{fault_of};
+
+    ghost from_gives = { λ e f. f ≡ fault_of e };
+
+    fn from(error: ReadFault) -> EvidenceFault {
+        match error {
+            ReadFault::NoMemory => EvidenceFault::NoMemory,
+            ReadFault::Fault(_) => EvidenceFault::Garbage,
+        }
+    }
 }
 
 impl EvidenceFault {

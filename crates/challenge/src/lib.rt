@@ -3,14 +3,15 @@
 
 mod audited;
 mod case;
-pub mod case_files;
 mod challenge;
 mod check;
 mod evidence;
 mod fault;
 mod find;
 mod finding;
+mod items;
 mod read;
+mod source;
 mod write;
 
 pub use audited::AuditedLog;
@@ -22,5 +23,5 @@ pub use evidence_showings as evidence_showings_code;
 pub use fault::EvidenceFault;
 pub use find::{examine, one_finding};
 pub use finding::{Finding, NotAccepted};
-pub use read::{read_evidence, read_fork};
+pub use read::read_evidence;
 pub use replay as replay_code;

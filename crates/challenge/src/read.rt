@@ -1,137 +1,89 @@
 //! Evidence from its text (RFC 4506).
 
-ghost use Rattle.std.specs.Prelude.{◌≡◌, IfOk, MatchResult, option_map};
-ghost use Rattle.xdr.specs.Item.{Value, choice, optional};
+ghost use Rattle.std.specs.Prelude.{◌≡◌, IfOk, MatchResult};
+ghost use Rattle.xdr.specs.Item.{Value, choice};
 ghost use Rattle.xdr.specs.Reading.{GivesUnless};
 ghost use Rattle.xdr.specs.ReadFault.{xdr_fault};
 ghost use Rattle.xdr.specs.Texts.Text.{GivesText, IsText};
-ghost use Rattle.evidence_showings.specs.evidence_spec.Showing.{showing_item, showing_value};
-ghost use Rattle.evidence_showings.specs.evidence_spec.Evidence.{audited_item, audited_value, evidence_item};
-ghost use Rattle.evidence_showings.specs.evidence_spec.Evidence.{evidence_value};
-ghost use Rattle.evidence_showings.specs.evidence_spec.Evidence.{evidence_text, fork_item, fork_value};
+ghost use Rattle.evidence_showings.specs.evidence_spec.Evidence.{audited_item, audited_value};
 ghost use Rattle.evidence_showings.specs.evidence_spec.Evidence.{charge_item, charge_value, is_charge};
+ghost use Rattle.evidence_showings.specs.evidence_spec.Evidence.{evidence_item, evidence_text};
+ghost use Rattle.evidence_showings.specs.evidence_spec.Evidence.{evidence_value};
+ghost use Rattle.challenge.specs.Charges.{charge_in};
 ghost use Rattle.challenge.specs.FaultNumbers.{is_garbage};
-ghost use Rattle.challenge.specs.Charges.{charge_in, fork_in};
 ghost use Rattle.challenge.specs.declared.fault.EvidenceFault.TheVariants.{NoMemory};
 
 use crate::audited::AuditedLog;
-use crate::evidence::{Charge, Evidence, Fork};
+use crate::evidence::{Charge, Evidence};
 use crate::fault::EvidenceFault;
-use authenticator::{Authenticator, Number};
-use evidence_showings::Showing;
-use evidence_showings::evidence_spec_code::MAX_AUDITED;
+use crate::items::{
+    are_bytes, take_authenticator, take_entries, take_fork, take_hash, take_number, take_word,
+};
+use crate::source::Source;
 use std::alloc::Global;
-use xdr::texts::{FromText, TextFault, read_text};
-use xdr::{FromXdr, ReadFault, Reader, XdrFault, put_back_on_err, read_array};
+use xdr::{ReadFault, XdrFault};
 
-/// The evidence whose text the bytes are. `Garbage` comes exactly where they are the text of none, `NoMemory`
-/// only where a growth was refused. Nothing is reserved by a count alone.
-pub fn read_evidence(alloc: Global, bytes: &[u8]) -> Result<Evidence, EvidenceFault>
-    ensures exact { GivesText is_garbage evidence_text evidence_value bytes.now result }
-    ensures found { IfOk result (λ e. IsText evidence_text (evidence_value e) bytes.now) }
-    ensures only { (v : Value evidence_text.item) → IsText evidence_text v bytes.now →
+/// The evidence whose text the bytes are. The bytes are given up, and back to memory while they are read, so
+/// that a log's entries stand beside a small part of their text. `Garbage` comes exactly where the bytes are
+/// the text of none, `NoMemory` only where a growth was refused. Nothing is reserved by a count alone.
+pub fn read_evidence(alloc: Global, bytes: Vec<u8>) -> Result<Evidence, EvidenceFault>
+    ensures exact { GivesText is_garbage evidence_text evidence_value bytes.items result }
+    ensures found { IfOk result (λ e. IsText evidence_text (evidence_value e) bytes.items) }
+    ensures only { (v : Value evidence_text.item) → IsText evidence_text v bytes.items →
         MatchResult result (λ e. evidence_value e ≡ v) (λ e. e ≡ NoMemory) }
 {
-    match read_text(alloc, bytes) {
-        Ok(evidence) => Ok(evidence),
-        Err(TextFault::NoMemory) => Err(EvidenceFault::NoMemory),
-        Err(TextFault::NotAText) => Err(EvidenceFault::Garbage),
-    }
+    are_bytes(&bytes);
+    evidence_of(alloc, Source::new(bytes))
 }
 
-impl<'a> FromXdr<'a> for Evidence {
-    ghost item = { evidence_item };
-
-    ghost value = { evidence_value };
-
-    fn read(alloc: Global, reader: &mut Reader<'a>) -> Result<Evidence, ReadFault> {
-        let start = reader.rest();
-        let read = read_parts(alloc, reader);
-        put_back_on_err(reader, start, read)
-    }
-}
-
-impl<'a> FromText<'a> for Evidence {
-    ghost text = { evidence_text };
-
-    ghost value = { evidence_value };
-
-    fn read_front(alloc: Global, reader: &mut Reader<'a>) -> Result<Evidence, ReadFault> {
-        Evidence::read(alloc, reader)
-    }
-
-    fn has_text(&self) -> bool {
-        true
-    }
-}
-
-fn read_parts<'a>(alloc: Global, reader: &mut Reader<'a>) -> Result<Evidence, ReadFault>
-    ensures { GivesUnless xdr_fault evidence_item evidence_value reader.old result reader.new }
+/// The evidence whose text is what is left of the bytes, to their end.
+#[tactic(auto, unfolding(xdr::specs::Texts::Text::text_at))]
+pub(crate) fn evidence_of(alloc: Global, mut source: Source) -> Result<Evidence, EvidenceFault>
+    ensures { GivesText is_garbage evidence_text evidence_value source result }
 {
-    let node = reader.u32()?;
-    let charge = read_charge(alloc, reader)?;
+    let evidence = take_evidence(alloc, &mut source)?;
+    if !source.rest().is_empty() {
+        return Err(EvidenceFault::Garbage);
+    }
+    Ok(evidence)
+}
+
+/// Takes evidence.
+fn take_evidence(alloc: Global, source: &mut Source) -> Result<Evidence, ReadFault>
+    ensures { GivesUnless xdr_fault evidence_item evidence_value source.old result source.new }
+{
+    let node = take_word(alloc, source)?;
+    let charge = take_charge(alloc, source)?;
     Ok(Evidence::new(node, charge))
 }
 
-fn read_charge<'a>(alloc: Global, reader: &mut Reader<'a>) -> Result<Charge, ReadFault>
+/// Takes what is shown against a node.
+fn take_charge(alloc: Global, source: &mut Source) -> Result<Charge, ReadFault>
     ensures { GivesUnless xdr_fault (choice is_charge charge_item) (λ g. charge_value (charge_in g))
-        reader.old result reader.new }
+        source.old result source.new }
 {
-    match reader.u32()? {
+    match take_word(alloc, source)? {
         1 => {
-            let fork = read_fork(alloc, reader)?;
+            let fork = take_fork(alloc, source)?;
             Ok(Charge::Fork(fork))
         }
         2 => {
-            let log = AuditedLog::read(alloc, reader)?;
+            let log = take_log(alloc, source)?;
             Ok(Charge::Replay(log))
         }
         _ => Err(ReadFault::Fault(XdrFault::BadEnum)),
     }
 }
 
-/// A fork from the front of bytes. After an `Err` the reader may stand within it.
-pub fn read_fork<'a>(alloc: Global, reader: &mut Reader<'a>) -> Result<Fork, ReadFault>
-    ensures { GivesUnless xdr_fault fork_item (λ f. fork_value (fork_in f)) reader.old result reader.new }
+/// Takes a log.
+fn take_log(alloc: Global, source: &mut Source) -> Result<AuditedLog, ReadFault>
+    ensures { GivesUnless xdr_fault audited_item audited_value source.old result source.new }
 {
-    let at = Number::read(alloc, reader)?;
-    let a = Showing::read(alloc, reader)?;
-    let b = read_second(alloc, reader)?;
-    Ok(Fork { at, a, b })
-}
-
-#[tactic(auto, unfolding(xdr::specs::Reading::optional_at))]
-fn read_second<'a>(alloc: Global, reader: &mut Reader<'a>) -> Result<Option<Showing>, ReadFault>
-    ensures { GivesUnless xdr_fault (optional showing_item) (λ b. option_map showing_value b)
-        reader.old result reader.new }
-{
-    if !reader.bool()? {
-        return Ok(None);
-    }
-    let showing = Showing::read(alloc, reader)?;
-    Ok(Some(showing))
-}
-
-impl<'a> FromXdr<'a> for AuditedLog {
-    ghost item = { audited_item };
-
-    ghost value = { audited_value };
-
-    fn read(alloc: Global, reader: &mut Reader<'a>) -> Result<AuditedLog, ReadFault> {
-        let start = reader.rest();
-        let read = read_log(alloc, reader);
-        put_back_on_err(reader, start, read)
-    }
-}
-
-fn read_log<'a>(alloc: Global, reader: &mut Reader<'a>) -> Result<AuditedLog, ReadFault>
-    ensures { GivesUnless xdr_fault audited_item audited_value reader.old result reader.new }
-{
-    let start = reader.rest();
-    let node = reader.u32()?;
-    let first = Number::read(alloc, reader)?;
-    let opening = *reader.fixed::<32>()?;
-    let entries = read_array(alloc, reader, MAX_AUDITED)?;
-    let closing = Authenticator::read(alloc, reader)?;
-    Ok(AuditedLog::of_front(start, reader.rest(), node, first, opening, entries, closing))
+    are_bytes(source.rest());
+    let node = take_word(alloc, source)?;
+    let first = take_number(alloc, source)?;
+    let opening = take_hash(source)?;
+    let entries = take_entries(alloc, source)?;
+    let closing = take_authenticator(alloc, source)?;
+    Ok(AuditedLog::of_parts(node, first, opening, entries, closing))
 }

@@ -8,8 +8,7 @@ ghost use Rattle.console.specs.Checking.{line_of, IsExplained, WritesExplained, 
 ghost use Rattle.console.specs.declared.checking.CheckFault.TheVariants.{NoMemory, Device};
 
 use crate::explain::{NO_CASE, explanation};
-use challenge::case_files::take_case;
-use challenge::{Case, EvidenceFault, check_evidence};
+use challenge::{Case, EvidenceFault, check_evidence, read_case};
 use rpc::records::{Counting, write_bytes};
 use std::alloc::{AllocError, Global};
 use std::io::{Read, Write};
@@ -54,7 +53,7 @@ impl From<AllocError> for CheckFault {
 pub fn judge(alloc: Global, bytes: Vec<u8>) -> Result<Judgement, AllocError>
     ensures { IfOk result (λ judgement. Judges bytes.items judgement) }
 {
-    match take_case(alloc, bytes) {
+    match read_case(alloc, bytes) {
         Ok(case) => judge_case(alloc, &case),
         Err(EvidenceFault::Garbage) => Ok(Judgement::NoEvidence),
         Err(EvidenceFault::NoMemory) => Err(AllocError),
@@ -169,7 +168,7 @@ pub fn check_and_explain<R: Read, W: Write>(
 fn explained(alloc: Global, bytes: Vec<u8>) -> Result<(Judgement, String), AllocError>
     ensures { IfOk result (λ x. Judges bytes.items x.0 × IsExplained x.0 (string_bytes x.1)) }
 {
-    match take_case(alloc, bytes) {
+    match read_case(alloc, bytes) {
         Ok(case) => {
             let judgement = judge_case(alloc, &case)?;
             let more = explanation(alloc, &case)?;

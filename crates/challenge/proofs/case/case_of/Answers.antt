@@ -1,12 +1,25 @@
-use Rattle.std.proofs.Common.{◌≡◌, true, false, [], arith, ◌∙◌, sym}
+use Rattle.std.proofs.Common.{◌≡◌, true, false, refl}
+use Rattle.std.proofs.lemmas.Result.{err_from_is_err_and}
 use Rattle.evidence_showings.specs.evidence_spec.Evidence.{evidence_value}
-use Rattle.challenge.proofs.CaseTexts.{no_bytes, no_roster_no_case}
+use Rattle.challenge.specs.FaultNumbers.{is_garbage}
+use Rattle.challenge.proofs.CaseTexts.{no_members_no_case, no_roster_no_case, no_evidence_no_case, is_case}
 use Rattle.challenge.proofs.case.case_of.Goals as goal
 
-pub returns-in-Err : goal.returns-in-Err
-returns-in-Err c =
-    let none : c.read.new.reader ≡ [] = sym c.rest.ensures ∙ no_bytes c.rest.result.now c.if-not-is_empty.ensures in
-    no_roster_no_case c.args.bytes.now c.read_array.new.reader c.in_ok-members.members.items (evidence_value c.in_ok-evidence.evidence) (λ i. omega (arith, c.type_inv.bytes i))
-    (rw c.new-reader.ensures at c.in_ok-members.ensures)
-    (rw none at c.in_ok-evidence.ensures)
-    (λ roster. let sound : false ≡ true = c.in-Err.ensures.exact.1 roster in absurd cc)
+pub returns-in_err-members : goal.returns-in_err-members
+returns-in_err-members c =
+    let p = err_from_is_err_and c.from_residual.result c.from_residual.ensures.1 in
+    rw (p.1, p.2) (no_members_no_case c.args.source c.in_err-members.field-0.0 c.in_err-members.ensures)
+
+pub returns-in_default : goal.returns-in_default
+returns-in_default c =
+    no_roster_no_case c.args.source c.take_members.new.source c.in_ok-members.members.items (rw c.rest.ensures at c.are_bytes.ensures) c.in_ok-members.ensures
+    (λ roster. let sound : false ≡ true = c.in_default.ensures.exact.1 roster in absurd cc)
+
+pub returns-in_err-evidence : goal.returns-in_err-evidence
+returns-in_err-evidence c =
+    let p = err_from_is_err_and c.from_residual-in_err-evidence.result c.from_residual-in_err-evidence.ensures.1 in
+    rw (p.1, p.2) (no_evidence_no_case c.args.source c.take_members.new.source c.in_ok-members.members.items (is_garbage c.in_err-evidence.field-0.0) c.in_ok-members.ensures c.in_err-evidence.ensures)
+
+pub returns : goal.returns
+returns c =
+    rw c.in-Ok.ensures.members (is_case c.args.source c.take_members.new.source c.in_ok-members.members.items (evidence_value c.in_ok-evidence.evidence) (c.in-Ok.ensures.exact.0 refl) c.in_ok-members.ensures c.in_ok-evidence.ensures)

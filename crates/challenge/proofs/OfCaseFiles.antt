@@ -1,2 +1,0 @@
--- Lemmas on what is left of bytes after an item was read. Serves: `case_files`.
-pub mod Suffixes

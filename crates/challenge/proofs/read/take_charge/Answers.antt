@@ -1,0 +1,25 @@
+use Rattle.std.proofs.Common.{refl}
+use Rattle.std.proofs.lemmas.Result.{err_from_is_err_and}
+use Rattle.xdr.specs.ReadFault.{xdr_fault}
+use Rattle.xdr.specs.ArraysAndUnions.{choice_ok, choice_err_unless}
+use Rattle.evidence_showings.specs.evidence_spec.Evidence.{audited_value, fork_value, charge_item, is_charge}
+use Rattle.challenge.specs.Charges.{fork_in}
+use Rattle.challenge.proofs.read.take_charge.Goals as goal
+
+pub returns-in_err-fork-in-1 : goal.returns-in_err-fork-in-1
+returns-in_err-fork-in-1 c =
+    let p = err_from_is_err_and c.from_residual-in_err-fork-in-1.result c.from_residual-in_err-fork-in-1.ensures.1 in
+    rw (p.1, p.2) (choice_err_unless is_charge charge_item c.args.source.now 1 c.take_word.new.source (xdr_fault c.in_err-fork-in-1.field-0.0) (rw c.in-1.is at c.in_ok-take_word.ensures) refl c.in_err-fork-in-1.ensures)
+
+pub returns-in_ok-fork-in-1 : goal.returns-in_ok-fork-in-1
+returns-in_ok-fork-in-1 c =
+    choice_ok is_charge charge_item c.args.source.now 1 c.take_word.new.source (fork_value (fork_in c.in_ok-fork-in-1.fork)) c.take_fork.new.source (rw c.in-1.is at c.in_ok-take_word.ensures) refl c.in_ok-fork-in-1.ensures
+
+pub returns-in_err-log-in-2 : goal.returns-in_err-log-in-2
+returns-in_err-log-in-2 c =
+    let p = err_from_is_err_and c.from_residual-in_err-log-in-2.result c.from_residual-in_err-log-in-2.ensures.1 in
+    rw (p.1, p.2) (choice_err_unless is_charge charge_item c.args.source.now 2 c.take_word.new.source (xdr_fault c.in_err-log-in-2.field-0.0) (rw c.in-2.is at c.in_ok-take_word.ensures) refl c.in_err-log-in-2.ensures)
+
+pub returns-in_ok-log-in-2 : goal.returns-in_ok-log-in-2
+returns-in_ok-log-in-2 c =
+    choice_ok is_charge charge_item c.args.source.now 2 c.take_word.new.source (audited_value c.in_ok-log-in-2.log) c.take_log.new.source (rw c.in-2.is at c.in_ok-take_word.ensures) refl c.in_ok-log-in-2.ensures
