@@ -1,0 +1,1 @@
+"""A generator of files of evidence, each with the verdict that is intended."""
