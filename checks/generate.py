@@ -1,10 +1,11 @@
 #!/usr/bin/env python3
-"""Makes files of evidence of many kinds, each with the verdict that it is meant to have, and sees that the second verifier
-and the program `nfsacc check` both give it: the node that is exposed, and of a replay the fault and its entry's number.
+"""Makes files of evidence of many kinds, each with the verdict that it is meant to have, and sees that the
+second verifier and the program `nfsacc check` both give it: the node that is exposed, and of a replay the
+fault and its entry's number.
 
 usage: checks/generate.py PROGRAM COUNT SEED [KIND..]    of all kinds, or of these alone
-       checks/generate.py --show INDEX SEED [KIND..]     writes the bytes of one of these files to standard output
-       checks/generate.py --stored FOLDER                makes the files that checks/evidence keeps of this generator
+       checks/generate.py --show INDEX SEED [KIND..]     writes one of these files to standard output
+       checks/generate.py --stored FOLDER                makes the files that checks/evidence keeps of it
 """
 
 import os

@@ -1,6 +1,7 @@
 #!/usr/bin/env python3
-"""A second verifier: says of a file of evidence what `nfsacc check FILE` says, `exposed N` (status 0) or `no evidence`
-(status 1). It was written from docs/CHECKING.md and docs/FORMATS.md, by somebody who hadn't read the crates.
+"""A second verifier: says of a file of evidence what `nfsacc check FILE` says, `exposed N` (status 0) or
+`no evidence` (status 1). It was written from the pages of docs, CHECKING.md and FORMATS.md
+above all, by somebody who hadn't read the crates.
 
 usage: checks/verify.py FILE
 """

@@ -1,8 +1,9 @@
 #!/usr/bin/env bash
-# Two programs judge the same evidence: `nfsacc check`, and checks/verify.py, which was written from docs/CHECKING.md and
-# docs/FORMATS.md by somebody who hadn't read the crates. The files are those of checks/evidence, each with its verdict, and
-# COUNT made ones (200 where none is said), of which the generator knows what each must give. PROGRAM is an nfsacc that is
-# built already; without one those are tried that the gate left in crates/nfsacc/out.
+# Two programs judge the same evidence: `nfsacc check`, and checks/verify.py, which was written from
+# the pages of docs by somebody who hadn't read the crates. The files are those of
+# checks/evidence, each with its verdict, and COUNT made ones (200 where none is said), of which the generator
+# knows what each must give. PROGRAM is an nfsacc that is built already; without one those are tried that the
+# gate left in crates/nfsacc/out.
 # usage: checks/verify.sh [COUNT [PROGRAM]]
 set -euo pipefail
 cd "$(dirname "$0")/.."
@@ -55,7 +56,10 @@ check_stored() {
         done
         stored=$((stored + 1))
     done < <(verdicts)
-    [ "$stored" -eq "$(ls "$cases"/*.evidence | wc -l)" ] || { echo "a file of $cases has no verdict" >&2; exit 1; }
+    if [ "$stored" -ne "$(ls "$cases"/*.evidence | wc -l)" ]; then
+        echo "a file of $cases has no verdict" >&2
+        exit 1
+    fi
 }
 
 # The generator's files are made again, byte for byte.

@@ -9,8 +9,8 @@ from verifier.xdr import array, opaque, word
 GREATEST = 0xffffffff
 NAMES = [b'a', b'b', b'c', b'd', b'e', b'hello', b'`\n', b'\xff\xfe\x80', b'it\'s "$(x)" \\', b'n' * 255]
 ODD_NAMES = [b'', b'.', b'..', b'a/b', b'x\0y', b'n' * 256]
-USERS = [(0, 0, [])] * 4 + [(0, 5, [7]), (1000, 100, []), (1001, 100, [200, 7]), (1002, 200, [100]), (65534, 65534, []),
-         (GREATEST, GREATEST, list(range(16)))]
+USERS = [(0, 0, [])] * 4 + [(0, 5, [7]), (1000, 100, []), (1001, 100, [200, 7]), (1002, 200, [100]),
+                               (65534, 65534, []), (GREATEST, GREATEST, list(range(16)))]
 MACHINES = [b'm', b'host.example', b'', b'\x07`\n', b'x' * 255]
 MODES = [0o777] * 6 + [0o755, 0o700, 0o644, 0o600, 0o111, 0o444, 0, 0o7777, 0xffff, 0x1ffff, GREATEST]
 OWNERS = [0, 5, 7, 100, 200, 1000, 1001, 1002, 65534]
@@ -19,8 +19,8 @@ TIMES = [(0, 0), (7, 999999), (7, 1000000), (GREATEST - 1, GREATEST), (GREATEST,
 LENGTHS = [0, 1, 5, 100, 512, 513, 2000, 8192]
 OFFSETS = [0, 0, 0, 1, 6, 511, 600, 9000, 1040384, 1048575, 1048576, GREATEST]
 COUNTS = [0, 1, 15, 16, 19, 20, 39, 40, 60, 64, 100, 500, 8191, 8192, GREATEST]
-PATHS = [b'/', b'/', b'///', b'', b'a', b'/a', b'/a/b', b'/hello', b'//a//', b'/.', b'/..', b'/hello/x', b'/a/../b',
-         b'/' + b'p' * 1023, b'/' * 1025]
+PATHS = [b'/', b'/', b'///', b'', b'a', b'/a', b'/a/b', b'/hello', b'//a//', b'/.', b'/..', b'/hello/x',
+         b'/a/../b', b'/' + b'p' * 1023, b'/' * 1025]
 PROCEDURES = [1, 2, 2, 4, 5, 6, 6, 8, 8, 9, 9, 9, 10, 11, 11, 12, 13, 14, 14, 14, 15, 16, 16, 17]
 
 
@@ -37,16 +37,17 @@ class Caller:
         if among and self.random.random() < 0.93:
             return files.handle(self.random.choice(among))
         number = self.random.choice([0, 1, 2, files.next_number, GREATEST, *files.files])
-        odd = [files.handle(number), word(files.node % 64 + 1, number) + bytes(24), word(files.node, number) + bytes(23) + b'\1',
-               self.random.randbytes(32)]
+        odd = [files.handle(number), word(files.node % 64 + 1, number) + bytes(24),
+               word(files.node, number) + bytes(23) + b'\1', self.random.randbytes(32)]
         return self.random.choice(odd)
 
     def directory(self) -> bytes:
         return self.handle((2,)) if self.random.random() < 0.95 else self.handle()
 
     def name(self) -> bytes:
-        return opaque(self.random.choice(NAMES[:6] if self.random.random() < 0.6 else NAMES) if self.random.random() < 0.9
-                      else self.random.choice(ODD_NAMES))
+        if self.random.random() < 0.1:
+            return opaque(self.random.choice(ODD_NAMES))
+        return opaque(self.random.choice(NAMES[:6] if self.random.random() < 0.6 else NAMES))
 
     def operands(self) -> bytes:
         """A directory and a name, which is often one of its own."""
@@ -81,7 +82,8 @@ class Caller:
         if procedure == 12:
             return self.handle((1, 5)) + self.operands()
         if procedure == 13:
-            return self.operands() + opaque(pick([b'', b'hello', b'/a/b', b't' * 1024, b'\0\n'])) + self.sattr()
+            target = opaque(pick([b'', b'hello', b'/a/b', b't' * 1024, b'\0\n']))
+            return self.operands() + target + self.sattr()
         if procedure == 16:
             return self.directory() + word(pick([0, 0, 0, 1, 2, 3, 4, 5, GREATEST]), pick(COUNTS))
         return self.operands() if procedure in (4, 10, 15) else b''
@@ -94,18 +96,22 @@ class Caller:
     def auth_sys(self, machine: bytes | None = None) -> bytes:
         uid, gid, gids = self.random.choice(USERS)
         machine = self.random.choice(MACHINES) if machine is None else machine
-        return word(AUTH_SYS) + opaque(word(0) + opaque(machine) + word(uid, gid) + array([word(each) for each in gids]))
+        groups = array([word(each) for each in gids])
+        return word(AUTH_SYS) + opaque(word(0) + opaque(machine) + word(uid, gid) + groups)
 
     def odd_credential(self) -> bytes:
         parms = word(0) + opaque(b'm') + word(0, 0)
         return self.random.choice([
             word(AUTH_NONE) + opaque(b'ignored'), word(2) + opaque(b''), word(GREATEST) + opaque(bytes(400)),
-            word(AUTH_SYS) + opaque(b''), word(AUTH_SYS) + opaque(parms), word(AUTH_SYS) + opaque(parms + word(0) + word(0)),
-            word(AUTH_SYS) + opaque(parms + array([word(1)] * 17)), word(0) + opaque(bytes(401)), word(0, 1) + b'abcd'])
+            word(AUTH_SYS) + opaque(b''), word(AUTH_SYS) + opaque(parms),
+            word(AUTH_SYS) + opaque(parms + word(0) + word(0)),
+            word(AUTH_SYS) + opaque(parms + array([word(1)] * 17)),
+            word(0) + opaque(bytes(401)), word(0, 1) + b'abcd'])
 
     def header(self, program: int, version: int, procedure: int, credential: bytes) -> bytes:
         verifier = self.random.choice([word(0, 0), word(0, 0), word(7) + opaque(b'any')])
-        return word(self.random.getrandbits(32), CALL, RPC_VERSION, program, version, procedure) + credential + verifier
+        xid = self.random.getrandbits(32)
+        return word(xid, CALL, RPC_VERSION, program, version, procedure) + credential + verifier
 
     def nfs(self, procedure: int | None = None) -> bytes:
         procedure = self.random.choice(PROCEDURES) if procedure is None else procedure
@@ -120,16 +126,20 @@ class Caller:
         """A call with something unusual in its header, its arguments or its end."""
         random, good = self.random, self.nfs()
         procedure = random.choice([0, 3, 7, 18, GREATEST])
-        program, version = random.choice([(NFS, 1), (NFS, 3), (MOUNT, 2), (100000, 2), (NFS + 1, 2), (GREATEST, 0)])
+        program, version = random.choice([(NFS, 1), (NFS, 3), (MOUNT, 2), (100000, 2), (NFS + 1, 2),
+                                          (GREATEST, 0)])
         padded = self.header(NFS, 2, 4, self.credential()) + self.handle((2,)) + word(1) + b'aaaa'
         return random.choice([
-            b'', good[:random.randrange(12)], good[:random.randrange(len(good))], good + b'\0', good + b'more',
-            word(1, 1, 2) + good[12:], word(1, 0, random.choice([0, 1, 3, GREATEST])), word(1, 0, 3) + good[12:],
+            b'', good[:random.randrange(12)], good[:random.randrange(len(good))],
+            good + b'\0', good + b'more', word(1, 1, 2) + good[12:],
+            word(1, 0, random.choice([0, 1, 3, GREATEST])), word(1, 0, 3) + good[12:],
             self.header(NFS, 2, procedure, self.credential()), self.header(MOUNT, 1, 6, self.credential()),
             self.header(program, version, 1, self.credential()), padded, padded,
-            self.header(NFS, 2, 0, self.odd_credential()), self.header(MOUNT, 1, 1, self.odd_credential()) + opaque(b'/'),
+            self.header(NFS, 2, 0, self.odd_credential()),
+            self.header(MOUNT, 1, 1, self.odd_credential()) + opaque(b'/'),
             self.header(NFS, 2, 1, self.odd_credential()) + self.handle(),
-            self.header(MOUNT, 1, random.choice([1, 3, 4]), word(0, 0)) + random.choice([b'', b'x', opaque(b'/')])])
+            self.header(MOUNT, 1, random.choice([1, 3, 4]), word(0, 0))
+            + random.choice([b'', b'x', opaque(b'/')])])
 
     def call(self) -> bytes:
         return self.random.choices([self.nfs, self.mount, self.odd], [80, 8, 12])[0]()

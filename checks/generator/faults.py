@@ -1,4 +1,4 @@
-"""For each fault the entries that have it: each function brings a log to where the fault can be, and gives the entry."""
+"""The entries that have each fault: a function brings a log to where it can be, and gives the entry."""
 
 from dataclasses import replace
 

@@ -4,18 +4,17 @@ from dataclasses import dataclass, replace
 from random import Random
 
 from verifier.evidence import MAX_ENTRIES, MAX_LINKS, Fork, Replay, Showing, chain
-from verifier.keys import CLIENT, MAX_MEMBERS, SERVER, ZEROS, Authenticator, Member, digest
-from verifier.log import CHECK, CLOCK, SEND, Clock, Send
+from verifier.keys import CLIENT, MAX_MEMBERS, SERVER, ZEROS, Member, digest
+from verifier.log import ACK, CHECK, CLOCK, RECV, SEND, Clock, Send
 from verifier.nfs import ROOT
 from verifier.replay import Fault
-from verifier.rpc import AUTH_SYS
+from verifier.rpc import AUTH_SYS, MOUNT, NFS
 from verifier.xdr import opaque, word
 
 from .calls import Caller
 from .faults import FAULTS, any_entry, changed_signature, flipped
 from .logs import Cast, Log
-from .signer import Signer
-from .texts import authenticator_text, entry_text, evidence_text, roster_text
+from .texts import authenticator_text, evidence_text, roster_text
 
 GREATEST_PLACE = 2**64 - 2
 Kind = int | None
@@ -89,7 +88,8 @@ def wrong_closing(random: Random) -> Case:
     number, last = closing.number, closing.hash
     closing = random.choice([
         replace(closing, number=number + 1), replace(closing, node=member.node),
-        replace(closing, hash=flipped(log, last)), replace(closing, signature=changed_signature(log, closing.signature)),
+        replace(closing, hash=flipped(log, last)),
+        replace(closing, signature=changed_signature(log, closing.signature)),
         log.cast.stranger.sign(number, last, node=log.signer.node), log.cast.stranger.sign(number, last),
         member.sign(number, last), log.cast.stranger.sign(number, last, node=member.node)])
     return Case(file_of(log.cast, log.signer.node, replace(charge, closing=closing)))
@@ -138,26 +138,29 @@ def other_key(random: Random) -> Case:
     roster = log.cast.roster()
     member = roster[log.signer.node]
     height = random.choice([each for each in range(1, 17) if each != member.height])
-    roster[member.node] = random.choice([replace(member, root=flipped(log, member.root)), replace(member, height=height),
-                                         replace(member, root=log.cast.members[1].tree.root())])
+    roster[member.node] = random.choice([
+        replace(member, root=flipped(log, member.root)), replace(member, height=height),
+        replace(member, root=log.cast.members[1].tree.root())])
     return Case(file_of(log.cast, log.signer.node, log.replay(), list(roster.values())))
 
 
 def other_members(random: Random) -> Case:
-    """An honest log under a roster without one of those who sent a message: it is exposed under this roster."""
+    """An honest log under a roster without one of those who sent a message, which exposes it."""
     log = honest_log(random, CLIENT, 8, kept=6)
     log.append(log.message(b'by one whom the roster lacks'))
     sender = log.entries[-1].sender
-    number = next(number for number, entry in enumerate(log.entries, start=1) if getattr(entry, 'sender', None) == sender)
-    acked = [number for number, entry in enumerate(log.entries, start=1) if entry.kind == 3 and entry.to == sender]
-    fault = min([(number, Fault.BAD_RECEIVE), *((at, Fault.BAD_ACK) for at in acked)])
+    numbered = list(enumerate(log.entries, start=1))
+    unsigned = [(at, Fault.BAD_RECEIVE) for at, entry in numbered
+                if entry.kind == RECV and entry.sender == sender]
+    unsigned += [(at, Fault.BAD_ACK) for at, entry in numbered if entry.kind == ACK and entry.to == sender]
+    number, fault = min(unsigned)
     members = [member for member in log.cast.roster().values() if member.node != sender]
     node = log.signer.node
-    return Case(file_of(log.cast, node, log.replay(), members), node, (fault[1], fault[0]))
+    return Case(file_of(log.cast, node, log.replay(), members), node, (fault, number))
 
 
 def other_kind(random: Random) -> Case:
-    """A client's log, which begins with CLOCK, under a roster that calls it a server; or a server's as a client's."""
+    """A client's log, which begins with CLOCK, under a roster that calls it a server; or the other way."""
     kind = random.choice([SERVER, CLIENT])
     log = Log(Cast(random, kind, least_height=3))
     caller = Caller(random, log.state.world)
@@ -174,7 +177,7 @@ def other_kind(random: Random) -> Case:
 
 
 def long_clocks(random: Random) -> Case:
-    """A client's log of nothing but CLOCK: as many as evidence has at most, or one more; honest, or back at the end."""
+    """A client's log of CLOCKs, as many as evidence has at most or one more; perhaps back at the end."""
     log = Log(Cast(random, CLIENT))
     count = random.choice([MAX_ENTRIES, MAX_ENTRIES + 1])
     for at in range(count - 1):
@@ -186,13 +189,13 @@ def long_clocks(random: Random) -> Case:
 
 # Calls of which a reader may be in doubt.
 
-def call_as(log: Log, program: int, version: int, procedure: int, arguments: bytes, machine: bytes = b'm') -> bytes:
+def call_as(program: int, version: int, procedure: int, arguments: bytes, machine: bytes = b'm') -> bytes:
     credential = word(AUTH_SYS) + opaque(word(0) + opaque(machine) + word(0, 0, 0))
     return word(7, 0, 2, program, version, procedure) + credential + word(0, 0) + arguments
 
 
-def nfs_as_user_0(log: Log, procedure: int, arguments: bytes) -> bytes:
-    return call_as(log, 100003, 2, procedure, arguments)
+def nfs_as_user_0(procedure: int, arguments: bytes) -> bytes:
+    return call_as(NFS, 2, procedure, arguments)
 
 
 def ended(log: Log, random: Random) -> Case:
@@ -209,7 +212,7 @@ def full_disk(random: Random) -> Case:
     root, ignored = log.state.world.files.handle(ROOT), word(*[2**32 - 1] * 3)
     for at in range(17):
         arguments = root + opaque(b'big%d' % at) + ignored + word(1048576) + word(*[2**32 - 1] * 4)
-        log.exchange(nfs_as_user_0(log, 9, arguments))
+        log.exchange(nfs_as_user_0(9, arguments))
     for at in range(random.randint(1, 8)):
         log.exchange(Caller(random, log.state.world).nfs(random.choice([2, 8, 9, 13, 14, 17])))
     log.append(log.check())
@@ -220,8 +223,8 @@ def many_mounts(random: Random) -> Case:
     """As many mounts as a server has at most, and then one more."""
     log = Log(Cast(random, SERVER, least_height=6))
     for at in range(42):
-        log.exchange(call_as(log, 100005, 1, 1, opaque(b'/'), b'machine %d' % (at % 41)))
-    log.exchange(call_as(log, 100005, 1, 2, b''))
+        log.exchange(call_as(MOUNT, 1, 1, opaque(b'/'), b'machine %d' % (at % 41)))
+    log.exchange(call_as(MOUNT, 1, 2, b''))
     log.append(log.check())
     return ended(log, random)
 
@@ -230,8 +233,8 @@ def long_write(random: Random) -> Case:
     """WRITEs of 8,192 bytes, and a READ of them."""
     log = Log(Cast(random, SERVER, least_height=3))
     handle, data = log.state.world.files.handle(2), random.randbytes(8192)
-    log.exchange(nfs_as_user_0(log, 8, handle + word(0, random.choice([0, 3, 100000]), 0) + opaque(data)))
-    log.exchange(nfs_as_user_0(log, 6, handle + word(random.choice([0, 3, 6]), 8192, 0)))
+    log.exchange(nfs_as_user_0(8, handle + word(0, random.choice([0, 3, 100000]), 0) + opaque(data)))
+    log.exchange(nfs_as_user_0(6, handle + word(random.choice([0, 3, 6]), 8192, 0)))
     log.append(log.check())
     return ended(log, random)
 
@@ -240,9 +243,9 @@ def odd_name(random: Random) -> Case:
     """A file whose name has a back quote, a line feed and bytes that are no characters."""
     log = Log(Cast(random, SERVER, least_height=3))
     root, name = log.state.world.files.handle(ROOT), random.choice([b'`\n', b'\xff`\n\x80', b'a`b\nc\x1b[0m'])
-    log.exchange(nfs_as_user_0(log, 9, root + opaque(name) + word(*[2**32 - 1] * 8)))
-    log.exchange(nfs_as_user_0(log, 4, root + opaque(name)))
-    log.exchange(nfs_as_user_0(log, 16, root + word(0, 8192)))
+    log.exchange(nfs_as_user_0(9, root + opaque(name) + word(*[2**32 - 1] * 8)))
+    log.exchange(nfs_as_user_0(4, root + opaque(name)))
+    log.exchange(nfs_as_user_0(16, root + word(0, 8192)))
     log.append(log.check())
     return ended(log, random)
 
@@ -251,8 +254,8 @@ def other_handle(random: Random) -> Case:
     """A call with the handle of another server's file."""
     log = Log(Cast(random, SERVER, least_height=3))
     other = word(log.signer.node % 64 + 1, ROOT) + bytes(24)
-    log.exchange(nfs_as_user_0(log, random.choice([1, 5, 17]), other))
-    log.exchange(nfs_as_user_0(log, 4, other + opaque(b'hello')))
+    log.exchange(nfs_as_user_0(random.choice([1, 5, 17]), other))
+    log.exchange(nfs_as_user_0(4, other + opaque(b'hello')))
     return ended(log, random)
 
 
@@ -333,14 +336,15 @@ def open_showing(random: Random) -> Case:
     hashes = chain(opening, 1, links)
     good = Showing(node, 1, opening, links, signer.sign(2, hashes[-1]))
     other, stranger = log.cast.members[1].node, log.cast.stranger
-    zero = chain(opening, 0, links)
+    zero, changed_one = chain(opening, 0, links), changed_signature(log, good.closing.signature)
     bad = random.choice([
         replace(good, first=0, closing=log.cast.members[1].sign(1, zero[-1], node=node)),
         replace(good, first=2), replace(good, first=2**64 - 1), replace(good, node=other),
         replace(good, closing=replace(good.closing, node=other)), replace(good, links=links[:1]),
         replace(good, links=links[::-1]), replace(good, links=[(CHECK, links[0][1]), links[1]]),
-        replace(good, opening=flipped(log, opening)), replace(good, closing=stranger.sign(2, hashes[-1], node=node)),
-        replace(good, closing=replace(good.closing, signature=changed_signature(log, good.closing.signature)))])
+        replace(good, opening=flipped(log, opening)),
+        replace(good, closing=stranger.sign(2, hashes[-1], node=node)),
+        replace(good, closing=replace(good.closing, signature=changed_one))])
     second = Showing(node, 3, ZEROS, [], signer.sign(2, ZEROS))
     return fork_case(log, 2, random.choice([[bad, second], [second, bad], [bad]]), False)
 
@@ -388,14 +392,16 @@ def any_evidence(random: Random) -> tuple[Log, Fork | Replay]:
     first, second, _ = two_logs(random)
     at = len(second.entries)
     second_at = min(at, len(first.entries))
-    showings = [showing_of(first, 1, len(first.entries)), showing_of(second, random.randint(1, second_at + 1), at)]
+    showings = [showing_of(first, 1, len(first.entries)),
+                showing_of(second, random.randint(1, second_at + 1), at)]
     return first, Fork(second_at, showings)
 
 
 def cut(random: Random) -> Case:
     log, charge = any_evidence(random)
     data = file_of(log.cast, log.signer.node, charge)
-    at = random.choice([random.randrange(len(data)), random.randrange(200), len(data) - random.randint(1, 40)])
+    length = len(data)
+    at = random.choice([random.randrange(length), random.randrange(200), length - random.randint(1, 40)])
     return Case(data[:at])
 
 
@@ -407,8 +413,8 @@ def changed(random: Random) -> Case:
     start = len(roster_text(members))
     root = 4 + 44 * [member.node for member in members].index(log.signer.node) + 8
     skipped = range(start + 8, start + 16) if isinstance(charge, Fork) else range(0)
-    places = [random.randrange(start, len(data)), random.randrange(start, start + 200), random.randrange(root, root + 32),
-              random.randrange(len(data) - 300, len(data))]
+    places = [random.randrange(start, len(data)), random.randrange(start, start + 200),
+              random.randrange(root, root + 32), random.randrange(len(data) - 300, len(data))]
     at = random.choice([place for place in places if place not in skipped])
     return Case(data[:at] + bytes([data[at] ^ 1 << random.randrange(8)]) + data[at + 1:])
 
@@ -445,29 +451,29 @@ def long_roster(random: Random) -> Case:
 
 
 def no_text(random: Random) -> Case:
-    """Words that have no such value: kinds, a charge, a flag, places of all ones, lengths above their bounds."""
-    log, (fault, number) = with_fault(random, Fault.BAD_RECEIVE)
-    node, charge, other = log.signer.node, log.replay(), log.cast.members[1].node
+    """Words that have no such value: kinds, a charge, a flag, places of all ones, counts above bounds."""
+    log, _ = with_fault(random, Fault.BAD_RECEIVE)
+    node, charge = log.signer.node, log.replay()
     start = len(roster_text(list(log.cast.roster().values())))
     good = file_of(log.cast, node, charge)
     entries_at = start + 4 + 4 + 4 + 8 + 32
     ones = b'\xff' * 8
-    entry = log.entries[0] if len(log.entries) > 1 else None
-    claim = log.signer.sign(1, ZEROS)
+    opening = ZEROS[:-1] + b'\1'
+    claim = log.signer.sign(0, opening)
+    fork, signed = good[:start + 4] + word(1), word(0) + authenticator_text(claim)
     choices = [
         good[:start + 4] + word(random.choice([0, 3])) + good[start + 8:],
         good[:start + 12] + ones + good[start + 20:],
         good[:entries_at] + word(MAX_ENTRIES + 1) + good[entries_at + 4:],
         good[:entries_at + 4] + word(random.choice([0, 6, 2**32 - 1])) + good[entries_at + 8:],
-        good[:start + 4] + word(1) + bytes(8) + word(node) + bytes(8) + ZEROS + word(0) + authenticator_text(claim) + word(2),
-        good[:start + 4] + word(1) + ones + word(node) + bytes(7) + b'\1' + ZEROS[:-1] + b'\1' + word(0)
-        + authenticator_text(claim) + word(0),
+        fork + bytes(8) + word(node) + bytes(8) + ZEROS + signed + word(2),
+        fork + ones + word(node) + bytes(7) + b'\1' + opening + signed + word(0),
     ]
     return Case(random.choice(choices))
 
 
 def long_body(random: Random) -> Case:
-    """A body of 12,288 bytes, and one that is longer; padding that isn't zero; numbers of places that are all ones."""
+    """A body of 12,288 bytes, or a longer one; perhaps padding that isn't zero."""
     log = Log(Cast(random, CLIENT))
     node, to = log.signer.node, log.cast.members[1].node
     length = random.choice([12285, 12288, 12289, 20000])

@@ -1,4 +1,4 @@
-"""The small files that are kept in checks/evidence beside those of the program: of what readers were in doubt about."""
+"""The small files that checks/evidence keeps of this generator: what readers were in doubt about."""
 
 from dataclasses import replace
 from random import Random
@@ -78,14 +78,14 @@ def first_0() -> bytes:
 def other_handle() -> bytes:
     """GETATTR with the handle of server 2's root, which is STALE at server 1."""
     log = Log(Pair(SERVER))
-    log.exchange(nfs_as_user_0(log, 1, word(2, ROOT) + bytes(24)))
+    log.exchange(nfs_as_user_0(1, word(2, ROOT) + bytes(24)))
     return replay_of(log)
 
 
 def odd_name() -> bytes:
     """LOOKUP of a back quote and a line feed, to which OK is answered where NOENT is owed."""
     log = Log(Pair(SERVER))
-    log.append(log.message(nfs_as_user_0(log, 4, log.state.world.files.handle(ROOT) + opaque(b'`\n'))))
+    log.append(log.message(nfs_as_user_0(4, log.state.world.files.handle(ROOT) + opaque(b'`\n'))))
     log.append(log.clock())
     owed = log.state.owed
     log.append(replace(owed, body=owed.body[:-4] + word(0)), honest=False)
@@ -96,9 +96,10 @@ def long_write() -> bytes:
     """A WRITE of 8,192 bytes, and the state after it."""
     log = Log(Pair(SERVER))
     arguments = log.state.world.files.handle(2) + word(0, 0, 0) + opaque(log.random.randbytes(8192))
-    log.exchange(nfs_as_user_0(log, 8, arguments))
+    log.exchange(nfs_as_user_0(8, arguments))
     log.append(log.check())
     return replay_of(log)
 
 
-STORED = [client_clock, check_after_ack, wrong_check_after_ack, second_ack, first_0, other_handle, odd_name, long_write]
+STORED = [client_clock, check_after_ack, wrong_check_after_ack, second_ack, first_0, other_handle, odd_name,
+          long_write]

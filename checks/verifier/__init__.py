@@ -1,1 +1,1 @@
-"""A verifier of evidence that was written from docs/CHECKING.md and docs/FORMATS.md alone."""
+"""A verifier of evidence that was written from the pages of docs."""

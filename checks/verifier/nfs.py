@@ -19,6 +19,7 @@ MAX_ENTRIES = 16384
 MAX_BLOCKS = 32768
 BLOCK = 512
 ROOT = 1
+MAX_NUMBER = 0xffffffff
 IGNORED = 0xffffffff
 READ, WRITE, SEARCH = 4, 2, 1
 
@@ -46,7 +47,7 @@ class Caller:
 
 @dataclass
 class File:
-    """`data` is a regular file's bytes or a symbolic link's target; a directory has entries and the next cookie."""
+    """`data` is a file's bytes or a symbolic link's target; a directory has entries and the next cookie."""
     kind: int
     mode: int
     uid: int
@@ -158,11 +159,12 @@ class Files:
                 + word(blocks_of(file.size()), self.node, number, *file.atime, *file.mtime, *file.ctime))
 
     def check_room(self, files: int = 0, blocks: int = 0, directory: File | None = None):
-        """NOSPC where a limit would be passed by so many files and blocks more, and by an entry more of a directory."""
+        """NOSPC where so many files and blocks more, and an entry more of a directory, would pass a limit."""
         entries = sum(len(file.entries) for file in self.files.values()) + (directory is not None)
         cookie = directory.next_cookie + 1 if directory else 0
         if (len(self.files) + files > MAX_FILES or entries > MAX_ENTRIES
-                or self.blocks_used() + blocks > MAX_BLOCKS or max(self.next_number + files, cookie) > IGNORED):
+                or self.blocks_used() + blocks > MAX_BLOCKS
+                or max(self.next_number + files, cookie) > MAX_NUMBER):
             raise Refused(NOSPC)
 
     def add_entry(self, directory: File, name: bytes, number: int, now: Time):
@@ -206,8 +208,9 @@ class Call:
     def sattr(self) -> Attributes:
         mode, uid, gid, size = (self.args.word() for _ in range(4))
         atime, mtime = ((self.args.word(), self.args.word()) for _ in range(2))
-        return Attributes(None if mode in (IGNORED, 0xffff) else mode & 0o7777, given(uid), given(gid), given(size),
-                          self.time_given(atime), self.time_given(mtime))
+        kept_mode = None if mode in (IGNORED, 0xffff) else mode & 0o7777
+        return Attributes(kept_mode, given(uid), given(gid), given(size), self.time_given(atime),
+                          self.time_given(mtime))
 
     def time_given(self, time: Time) -> Time | None:
         if time[0] == IGNORED:
@@ -404,7 +407,7 @@ def rename(call: Call) -> bytes:
     check(not is_at_or_above(fs, number, fs.number_in(to_handle)), ACCES)
     if new in target.entries:
         check_replaced(fs.files[number], fs.files[entry_of(target, new)])
-    check(target.next_cookie < IGNORED, NOSPC)
+    check(target.next_cookie < MAX_NUMBER, NOSPC)
     if new in target.entries:
         fs.take_name(target, new, call.now)
     del source.entries[old]
@@ -493,8 +496,8 @@ def statfs(call: Call) -> bytes:
     return word(OK, MAX_DATA, BLOCK, MAX_BLOCKS, free, free)
 
 
-PROCEDURES = [null, getattr_, setattr_, null, lookup, readlink, read, null, write, create, remove, rename, link,
-              symlink, mkdir, rmdir, readdir, statfs]
+PROCEDURES = [null, getattr_, setattr_, null, lookup, readlink, read, null, write, create, remove, rename,
+              link, symlink, mkdir, rmdir, readdir, statfs]
 
 
 def perform(number: int, call: Call) -> bytes:

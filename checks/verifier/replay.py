@@ -4,7 +4,8 @@ from dataclasses import dataclass, field
 from enum import IntEnum
 
 from .keys import SERVER, Authenticator, Roster, digest, is_signed
-from .log import ACK, CHECK, CLOCK, RECV, SEND, Ack, Clock, Entry, Recv, Send, hash_after, message_hash, recv_content
+from .log import (ACK, CHECK, CLOCK, RECV, SEND, Ack, Clock, Entry, Recv, Send, hash_after, message_hash,
+                  recv_content)
 from .mount import World
 from .nfs import DIRECTORY, File, Files, Time
 from .rpc import reply_to
@@ -34,7 +35,7 @@ class Sent:
 
 @dataclass
 class State:
-    """The state of a node. A server has a world, and `heard` a message (RECV) or owes a reply (SEND), or is idle."""
+    """The state of a node. A server has a world, and it `heard` a RECV, owes a SEND, or is idle."""
     node: int
     kind: int
     world: World
@@ -52,8 +53,9 @@ class State:
         received = [word(sender) + hyper(seq) + at for sender, seq, at in sorted(self.received)]
         sent = [hyper(number) + word(message.to) + message.prev + message.body_hash
                 for number, message in sorted(self.sent.items())]
-        text = word(STATE_VERSION, self.node, self.kind, *self.clock) + array(received) + array(sent) + word(0)
-        return digest(text + (world_text(self.world) if self.kind == SERVER else b''))
+        head = word(STATE_VERSION, self.node, self.kind, *self.clock)
+        world = world_text(self.world) if self.kind == SERVER else b''
+        return digest(head + array(received) + array(sent) + word(0) + world)
 
 
 def opening_state(node: int, kind: int) -> State:
@@ -145,7 +147,8 @@ def read_clock(state: State, entry: Clock):
         state.heard = None
 
 
-def first_fault(roster: Roster, node: int, entries: list[Entry], hashes: list[bytes]) -> tuple[Fault, int] | None:
+def first_fault(roster: Roster, node: int, entries: list[Entry],
+                hashes: list[bytes]) -> tuple[Fault, int] | None:
     """The first entry with a fault, by its number; `hashes` has the hash before each entry."""
     state = opening_state(node, roster[node].kind)
     for number, (entry, before) in enumerate(zip(entries, hashes), start=1):

@@ -6,7 +6,7 @@ class Undecodable(Exception):
 
 
 class Reader:
-    """Takes items from the front of some bytes. Every call raises Undecodable where no such item stands there."""
+    """Takes items from the front of some bytes. Each call raises Undecodable where no such item stands."""
 
     def __init__(self, data: bytes):
         self.data = data
