@@ -1,6 +1,6 @@
 #!/usr/bin/env bash
 # Two programs judge the same evidence: `nfsacc check`, and checks/verify.py, which was written from
-# the pages of docs by somebody who hadn't read the crates. The files are those of
+# the pages of docs alone, without a look into the crates. The files are those of
 # checks/evidence, each with its verdict, and COUNT made ones (200 where none is said), of which the generator
 # knows what each must give. PROGRAM is an nfsacc that is built already; without one those are tried that the
 # gate left in crates/nfsacc/out.
