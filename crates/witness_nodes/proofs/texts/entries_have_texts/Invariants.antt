@@ -1,5 +1,5 @@
 use Rattle.std.proofs.Common.{take}
-use Rattle.secure_log.proofs.Entries.{EachFits}
+use Rattle.secure_log.specs.Segment.{EachFits}
 use Rattle.witness_nodes.proofs.texts.entries_have_texts.Given as goal
 
 abbrev pub invariant-loop-entry : goal.invariant-loop-entry
