@@ -121,7 +121,7 @@ done
 mkdir "$files/made"
 scratch_crate evidence_files "$cases/main.rt.txt" anyhow challenge evidence_showings secure_log authenticator merkle_keys
 trap 'rm -rf "$files" "$work"' EXIT
-rt try -- "$files/made" > "$work/log" 2>&1 || { cat "$work/log" >&2; exit 1; }
+rt try --steps 1 --seconds 300 -- "$files/made" > "$work/log" 2>&1 || { cat "$work/log" >&2; exit 1; }
 for name in "$files"/made/*; do
     cmp "$name" "$cases/${name##*/}.evidence"
 done
