@@ -7,7 +7,7 @@ use std::alloc::{AllocError, Global};
 use std::fmt;
 use std::fmt::Display;
 
-/// The program number of NFS (RFC 1094, section 2.1).
+/// The program number of NFS (RFC 1094, section 2.2).
 const NFS: u32 = 100_003;
 
 /// What a message says, if it is a call: of NFS the procedure and what it is asked of.

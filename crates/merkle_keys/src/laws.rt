@@ -7,7 +7,7 @@ ghost use Rattle.merkle_keys.specs.declared.signature.TheConstants.{MAX_HEIGHT};
 ghost use Rattle.merkle_keys.specs.Signing.{SignatureParts, Signed, LeadsFrom, signature_of};
 
 /// Take any public hashes that a signature of a digest shows: a secret with the public hash of each bit's
-/// place and value, and sibling it the public hash of the other value. The digest is signed exactly where
+/// place and value, and beside it the public hash of the other value. The digest is signed exactly where
 /// the path leads from the hash of the leaf with these public hashes to the root.
 pub fn signed_under_the_key_shown()
     ensures { (root : List ℕ) (height : ℕ) (digest : List ℕ) (signature : SignatureParts)

@@ -31,7 +31,7 @@ pub(crate) fn inner_hash(left: &[u8; 32], right: &[u8; 32]) -> [u8; 32]
     text.finalize()
 }
 
-/// The place that shares its parent_hash with this one.
+/// The place that shares its parent with this one.
 #[tactic(auto, unfolding(crate::specs::Tree::sibling))]
 pub(crate) fn sibling(place: usize) -> usize
     requires { place < 2 ^ MAX_HEIGHT }

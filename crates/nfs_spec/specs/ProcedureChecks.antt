@@ -40,7 +40,8 @@ listing_or e (Directory l) = Ok l
 
 -- ---- permission
 
--- the class's bits, as a factor of the bits of others: the owner's, the group's or those of others
+-- where the caller's class has its three bits, the owner's, the group's or those of others: what the bits of
+-- others are multiplied by
 abbrev pub class_of : Caller → File → ℕ
 class_of who f =
     if who.uid == f.uid then 0o100
@@ -73,25 +74,25 @@ may_write who f = owns who f || permits who f 2
 abbrev pub check : Bool → Stat → Result (Unit {0}) Stat
 check b e = if b then Ok tt else Err e
 
--- a number within a limit
+-- a file's size in bytes is at most 1,048,576, else FBIG
 abbrev pub check_size : ℕ → Result (Unit {0}) Stat
 check_size size = check (nat_le size max_file_size) stats.FBig
 
--- Room
+-- the files as they would be are within the server's limits on files, entries and blocks, else NOSPC
 abbrev pub check_room : Files → Result (Unit {0}) Stat
 check_room fs = check (has_room fs) stats.NoSpc
 
--- Room for a cookie: NOSPC where a directory would give one above the greatest
+-- a directory's next cookie isn't above the greatest, else NOSPC
 abbrev pub check_cookie : Listing → Result (Unit {0}) Stat
 check_cookie l = check (nat_le l.next max_number) stats.NoSpc
 
--- the bytes of a regular file: ISDIR, NXIO
+-- the bytes of a regular file; ISDIR of a directory, NXIO of a symbolic link
 abbrev pub bytes_of : Body → Result (List ℕ) Stat
 bytes_of (Regular bytes) = Ok bytes
 bytes_of (Symlink target) = Err stats.NxIo
 bytes_of (Directory l) = Err stats.IsDir
 
--- the target of a symbolic link: NXIO
+-- the target of a symbolic link; NXIO of any other file
 abbrev pub target_of : Body → Result (List ℕ) Stat
 target_of (Regular bytes) = Err stats.NxIo
 target_of (Symlink target) = Ok target

@@ -28,7 +28,8 @@ use Rattle.nfs_spec.specs.Changes.{check_resize, apply_fields, new_file, unlink}
 use Rattle.nfs_types.specs.Calls.{Page}
 use Rattle.nfs_spec.specs.Readdir.{dir_entries, page_of}
 
--- SETATTR (section 2.2.3)
+-- SETATTR (section 2.2.3): STALE; PERM as to mode, times, uid and gid; as to a size ISDIR, NXIO, ACCES, FBIG
+-- and NOSPC
 abbrev pub set_attributes : Files → Caller → Timeval → FileNumber → GivenFields → Effect (Unit {0})
 set_attributes fs who now n a = do
   f ← file_of fs n
@@ -38,13 +39,14 @@ set_attributes fs who now n a = do
   _ ← if is_some a.size then check_room after else Ok tt
   Ok (tt, after)
 
--- READLINK (section 2.2.6)
+-- READLINK (section 2.2.6): STALE, NXIO
 abbrev pub read_link : Files → FileNumber → Result (List ℕ) Stat
 read_link fs n = do
   f ← file_of fs n
   target_of f.body
 
--- READ (section 2.2.7): at most count and MAXDATA bytes from the offset, none past the end
+-- READ (section 2.2.7): STALE, ISDIR, NXIO, ACCES; at most count and MAXDATA bytes from the offset, none past
+-- the end
 abbrev pub read : Files → Caller → FileNumber → ℕ → ℕ → Result (Fattr × List ℕ) Stat
 read fs who n offset count = do
   f ← file_of fs n
@@ -57,7 +59,7 @@ abbrev pub with_bytes_written : Timeval → ℕ → List ℕ → List ℕ → Fi
 with_bytes_written now offset new old f =
     with_mtime now (record f { body = Regular (with_bytes_at offset new old) })
 
--- WRITE (section 2.2.9): of no bytes, nothing changes
+-- WRITE (section 2.2.9): STALE, ISDIR, NXIO, ACCES, FBIG, NOSPC; of no bytes, nothing changes
 abbrev pub write : Files → Caller → Timeval → FileNumber → ℕ → List ℕ → Effect (Unit {0})
 write fs who now n offset new = do
   f ← file_of fs n
@@ -87,7 +89,7 @@ create_over fs who now a n = do
   after ← set_attributes fs who now n a
   Ok (n, after.1)
 
--- CREATE of a new name: write permission in the directory, else ACCES; FBIG; Room; mode or 0644
+-- CREATE of a new name: write permission in the directory, else ACCES; FBIG, NOSPC; mode or 0644
 abbrev pub create_new : Files → Caller → Timeval → NumberedDir → Name → GivenFields → Effect FileNumber
 create_new fs who now d name a = do
   _ ← check (may_write who d.file) stats.Acces
@@ -97,7 +99,7 @@ create_new fs who now d name a = do
   _ ← check_room after
   Ok (fs.next, after)
 
--- CREATE (section 2.2.10)
+-- CREATE (section 2.2.10): STALE, NOTDIR, ACCES; then as to the name that is there, or the new one
 abbrev pub create : Files → Caller → Timeval → FileNumber → Name → GivenFields → Effect FileNumber
 create fs who now dir name a = do
   d ← dir_of fs dir
@@ -106,7 +108,7 @@ create fs who now dir name a = do
   option_map_or (λ e. create_over fs who now a (file_number e)) (entry_at d.listing name)
       (create_new fs who now d name a)
 
--- a new file that needs Edit, a free name and Room
+-- a new file under a free name: STALE, NOTDIR, ACCES, EXIST, NOSPC
 abbrev pub make : Files → Caller → Timeval → FileNumber → Name → File → Effect FileNumber
 make fs who now dir name f = do
   d ← dir_of fs dir
@@ -126,7 +128,7 @@ abbrev pub symlink : Files → Caller → Timeval → FileNumber → Name → Li
 symlink fs who now dir name target =
     make fs who now dir name (new_file who now no_fields 0o777 (Symlink target))
 
--- LINK (section 2.2.13)
+-- LINK (section 2.2.13): of the file STALE, ISDIR; of the directory STALE, NOTDIR, ACCES, EXIST, NOSPC
 abbrev pub link : Files → Caller → Timeval → FileNumber → FileNumber → Name → Effect (Unit {0})
 link fs who now from dir name = do
   f ← file_of fs from
@@ -138,7 +140,7 @@ link fs who now from dir name = do
   _ ← check_room after
   Ok (tt, after)
 
--- REMOVE (section 2.2.11)
+-- REMOVE (section 2.2.11): STALE, NOTDIR, ACCES, NOENT, ISDIR
 abbrev pub remove : Files → Caller → Timeval → FileNumber → Name → Effect (Unit {0})
 remove fs who now dir name = do
   d ← dir_of fs dir
@@ -148,7 +150,7 @@ remove fs who now dir name = do
   _ ← check (not (is_directory f.body)) stats.IsDir
   Ok (tt, touch now (unlink now fs dir name n) dir)
 
--- RMDIR (section 2.2.16)
+-- RMDIR (section 2.2.16): STALE, NOTDIR, ACCES, NOENT, NOTDIR, NOTEMPTY
 abbrev pub remove_dir : Files → Caller → Timeval → FileNumber → Name → Effect (Unit {0})
 remove_dir fs who now dir name = do
   d ← dir_of fs dir
@@ -168,8 +170,8 @@ climbs_to (suc k) fs upper dir = (upper == dir) || climbs_to k fs upper (parent_
 abbrev pub is_above : Files → FileNumber → FileNumber → Bool
 is_above fs upper dir = climbs_to (file_count fs) fs upper dir
 
--- what stands at the new name goes as it may: a directory over another kind is NOTDIR, another kind over a
--- directory ISDIR, and a directory that is not empty NOTEMPTY
+-- whether what stands at the new name may be replaced: a directory over another kind is NOTDIR, another kind
+-- over a directory ISDIR, and a directory that is not empty NOTEMPTY
 abbrev pub check_target : Files → File → Option FileNumber → Result (Unit {0}) Stat
 check_target fs f None = Ok tt
 check_target fs f (Some n) = do
@@ -191,7 +193,8 @@ move_entry now fs n from from_name to to_name target =
     let moved = with_name left to to_name n in
     touch now (touch now (touch_ctime now moved n) from) to
 
--- RENAME (section 2.2.12); where the target is the same file, nothing changes
+-- RENAME (section 2.2.12): of either directory STALE, NOTDIR, ACCES; NOENT; where the target is the same file,
+-- nothing changes; ACCES into itself; NOTDIR, ISDIR, NOTEMPTY of the target; NOSPC for a cookie
 abbrev pub rename : Files → Caller → Timeval → FileNumber → Name → FileNumber → Name → Effect (Unit {0})
 rename fs who now from from_name to to_name = do
   d ← dir_of fs from
@@ -208,14 +211,14 @@ rename fs who now from from_name to to_name = do
     _ ← check_cookie e.listing
     Ok (tt, after)
 
--- READDIR (section 2.2.17)
+-- READDIR (section 2.2.17): STALE, NOTDIR, ACCES
 abbrev pub read_dir : Files → Caller → FileNumber → Cookie → ℕ → Result Page Stat
 read_dir fs who n cookie count = do
   d ← dir_of fs n
   _ ← check (may_read who d.file) stats.Acces
   Ok (page_of cookie count (dir_entries fs n d.listing))
 
--- STATFS (section 2.2.18): free is what regular files leave
+-- STATFS (section 2.2.18): STALE; free is what regular files leave
 abbrev pub stat_fs : Files → FileNumber → Result FsStats Stat
 stat_fs fs n = do
   f ← file_of fs n

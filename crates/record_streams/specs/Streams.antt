@@ -1,6 +1,6 @@
--- What is taken of a stream of records and written for them, whatever is owed. Two parameters say what is:
--- `owed` is the text owed to a list of records; `Leaves` is what holds besides once the records of its first
--- list are answered, and those of its second are taken and not answered.
+-- What is taken from a stream of records and written for them, whatever is owed. Two parameters say what is:
+-- `owed` is the text owed to a list of records; `Leaves` is what else holds once the records of its first
+-- list have been answered, and those of its second taken and not answered.
 use Rattle.std.specs.Prelude.{◌≡◌, ◌<◌, ℕ, List, [], ◌∷◌, ◌++◌, length, Option, IfSome}
 use Rattle.std.specs.Io.KnownBytes.{Appends, Consumes}
 use Rattle.rpc.specs.Records.Record.{IsUnfinished}

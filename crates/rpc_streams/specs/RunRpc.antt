@@ -13,7 +13,6 @@ time_of k = record { seconds = min k (2 ^ 32 - 1); microseconds = 0 }
 abbrev pub text_owed : List (List ℕ) → List ℕ
 text_owed records = replies_owed (opening_world 1) (with_times time_of 1 records)
 
--- What holds besides of records that were answered or not: nothing is said, since the server ends with the
--- loop.
+-- What else holds of records that were answered or not: nothing, since the server ends with the loop.
 abbrev pub SaysNothing : (answered unanswered : List (List ℕ)) → Type 0
 SaysNothing answered unanswered = ⊤

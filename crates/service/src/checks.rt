@@ -13,13 +13,13 @@ use nfs_items::{Who, read_credential};
 use nfs_types::{NfsArgs, NfsProcedure, read_args};
 use rpc::{AuthStat, Header, OpaqueAuth, ReplyBody};
 
-/// The program number of NFS (RFC 1094, appendix A).
+/// The program number of NFS (RFC 1094, section 2.2).
 pub const NFS_PROGRAM: u32 = 100003;
 
 /// The version of NFS that is served.
 pub const NFS_VERSION: u32 = 2;
 
-/// The program number of MOUNT (RFC 1094, appendix A.4).
+/// The program number of MOUNT (RFC 1094, appendix A.5).
 pub const MOUNT_PROGRAM: u32 = 100005;
 
 /// The version of MOUNT that is served.

@@ -19,7 +19,7 @@ pub trait Ahead: Read {
         ensures bytes { result.now ≡ ahead self.now }
         ensures front { IfSome (Self.remaining self.now) (λ left. StartsWith left result.now) };
 
-    /// Passes over the first of these bytes, so many of them.
+    /// Passes over the first `amount` of these bytes.
     fn pass(&mut self, amount: usize)
         requires { amount ≤ length (ahead self.old) }
         ensures { Consumes (Self.remaining self.old) (Self.remaining self.new)

@@ -63,7 +63,7 @@ impl<T> Counting<T> {
 }
 
 impl<R: Ahead> Counting<R> {
-    /// Passes over the first bytes that the reader has at hand, so many of them.
+    /// Passes over the first `amount` bytes that the reader has at hand.
     pub fn pass(&mut self, amount: usize)
         requires { amount ≤ length (R.ahead self.old.inner) }
         ensures taken { Consumes (R.remaining self.old.inner) (R.remaining self.new.inner)

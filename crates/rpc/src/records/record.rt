@@ -290,7 +290,7 @@ impl<R: Ahead + Drop> RecordReader<R> {
         self.reader.get_ref().at_hand()
     }
 
-    /// Passes over the first bytes at hand, so many of them: whole records, where another is to be read.
+    /// Passes over the first `amount` bytes at hand: whole records, where another is to be read.
     pub fn pass(&mut self, amount: usize)
         requires { amount ≤ length (R.ahead self.old.reader.inner) }
         ensures taken { Consumes (R.remaining self.old.reader.inner) (R.remaining self.new.reader.inner)
