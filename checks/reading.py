@@ -28,7 +28,13 @@ fields and, unless the row names it, its invariant; a trait by its ghost members
 one file stand together, so where two files cite each other either may come first. Lines are counted without
 comments and blank lines. The laws below a row are proved of definitions in its list: those that cite the most of
 them, where what the contracts cite themselves counts most, and five at most. Where a law says what you would
-have looked for in a definition, you may read it in place of the definition's text.
+have looked for in a definition, you may read it in place of the definition's text; what else its statement
+cites stands beside it.
+
+The words of the kit that a row's definitions use, beyond those of its prelude (lists, numbers, options), stand
+below its table with their modules; the kit documents them. The words of the field that comments use in a sense of
+our own are in [WORDS.md](WORDS.md). What this profile chooses where a standard leaves room, or departs from it, is
+in [DECISIONS.md](DECISIONS.md) and, for the procedures of NFS and MOUNT, in [CHECKING.md](CHECKING.md).
 """
 
 
@@ -46,6 +52,16 @@ class Definition:
     def cites(self):
         found = (self.scope.look_up(token, self.imports) for token in tokens(self.text, self.scope.is_code))
         return {each: None for each in found if isinstance(each, Definition) and each is not self}
+
+    @functools.cached_property
+    def kit_words(self):
+        """The words of the kit's modules that it uses, each with its module, but for those of the prelude."""
+        found = set()
+        for head, *_ in tokens(self.text, self.scope.is_code):
+            path = self.imports.get(operator(head)) or self.scope.imports.get(operator(head)) or ()
+            if path[:1] == ("Rattle",) and not (CRATES / path[1]).is_dir() and "Prelude" not in path:
+                found.add((".".join(path[1:-1]).replace(".specs", ""), path[-1]))
+        return found
 
 
 class Function(Definition):
@@ -331,6 +347,14 @@ def laws_for(needed, starts, laws):
     return [law for law, _ in sorted(fitting, key=rank)[:LAWS]]
 
 
+def kit_words(definitions):
+    """The words of the kit that definitions use, by module."""
+    modules = {}
+    for module, word in sorted(set().union(*(each.kit_words for each in definitions))):
+        modules.setdefault(module, []).append(f"`{word}`")
+    return "; ".join(f"{', '.join(words)} ({module})" for module, words in modules.items())
+
+
 def shown(scope):
     return str(scope.path.relative_to(CRATES))
 
@@ -346,12 +370,15 @@ def page():
         for scope, definitions in by_file(needed, crates):
             names = ", ".join(f"`{each.name}`" for each in definitions)
             parts.append(f"| `{shown(scope)}` | {names} | {sum(each.lines for each in definitions)} |")
+        if words := kit_words([*starts, *needed]):
+            parts.append(f"\nOf the kit: {words}.")
         chosen = laws_for(needed, starts, laws)
         if chosen:
-            parts.append("\n| Law | File in `crates/` | What it says |\n|---|---|---|")
+            parts.append("\n| Law | File in `crates/` | What it says | Cites besides |\n|---|---|---|---|")
         for law in chosen:
             says = re.split(r"(?<=\.)\s", law.doc, maxsplit=1)[0]
-            parts.append(f"| `{law.name}` | `{shown(law.scope)}` | {says} |")
+            besides = ", ".join(f"`{each.name}`" for each in closure([law]) if each not in needed)
+            parts.append(f"| `{law.name}` | `{shown(law.scope)}` | {says} | {besides} |")
         parts.append("")
     return "\n".join(parts).rstrip("\n") + "\n"
 
