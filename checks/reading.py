@@ -12,6 +12,7 @@ ROOT = pathlib.Path(__file__).resolve().parent.parent
 CRATES = ROOT / "crates"
 PAGE = ROOT / "docs" / "READING.md"
 LAWS = 5
+SHOWN = 8
 
 INTRO = """# What to read before you believe a row
 
@@ -377,7 +378,9 @@ def page():
             parts.append("\n| Law | File in `crates/` | What it says | Cites besides |\n|---|---|---|---|")
         for law in chosen:
             says = re.split(r"(?<=\.)\s", law.doc, maxsplit=1)[0]
-            besides = ", ".join(f"`{each.name}`" for each in closure([law]) if each not in needed)
+            more = [each.name for each in closure([law]) if each not in needed]
+            besides = ", ".join(f"`{name}`" for name in more[:SHOWN])
+            besides += f" and {len(more) - SHOWN} more" if len(more) > SHOWN else ""
             parts.append(f"| `{law.name}` | `{shown(law.scope)}` | {says} | {besides} |")
         parts.append("")
     return "\n".join(parts).rstrip("\n") + "\n"
