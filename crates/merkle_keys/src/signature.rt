@@ -62,6 +62,31 @@ impl Signature {
             path,
         })
     }
+
+    /// Whether another signature is the same: of the same leaf, with the same secrets, hashes and path. It
+    /// compares bytes, and takes no memory.
+    pub fn is_same(&self, other: &Signature) -> bool
+        ensures { IsTrue result ↔ (self.now ≡ other.now) }
+    {
+        self.leaf == other.leaf
+            && is_same_path(&self.path, &other.path)
+            && is_same_text(&self.shown, &other.shown)
+            && is_same_text(&self.other, &other.other)
+    }
+}
+
+/// Whether two texts are the same.
+fn is_same_text(one: &[u8], other: &[u8]) -> bool
+    ensures { IsTrue result ↔ (one.now ≡ other.now) }
+{
+    one == other
+}
+
+/// Whether two paths are the same.
+fn is_same_path(one: &[[u8; 32]], other: &[[u8; 32]]) -> bool
+    ensures { IsTrue result ↔ (one.now ≡ other.now) }
+{
+    one == other
 }
 
 /// Whether a signature of the digest was made under this root of this height. Any root and height may be

@@ -76,6 +76,13 @@ impl Signature {
         all_or_nothing(out, start, written)
     }
 
+    /// It has a text, as its type keeps it: does nothing, and tells a caller's proof.
+    pub fn fits(&self)
+        ensures { Fits signature_item (signature_value self.now) }
+    {
+        parts_fit(self.leaf, &self.shown, &self.other, &self.path);
+    }
+
     /// The digest of the text, which isn't written for that. Takes no memory.
     #[tactic(auto, unfolding(xdr::specs::Item::number_spelling))]
     pub fn text_digest(&self) -> [u8; 32]
@@ -108,6 +115,16 @@ fn hash_each(path: &[[u8; 32]], text: &mut Sha256)
     for hash in path {
         text.update(hash);
     }
+}
+
+/// Parts of these lengths have a text: does nothing, and tells a caller's proof.
+fn parts_fit(leaf: u32, shown: &[u8], other: &[u8], path: &[[u8; 32]])
+    requires shown { length shown.now ≡ TEXT_SIZE }
+    requires other { length other.now ≡ TEXT_SIZE }
+    requires path { length path.now ≤ MAX_HEIGHT }
+    ensures { Fits signature_item (leaf, (shown.now, (other.now, path.now))) }
+{
+    let _levels = path.len();
 }
 
 fn add_fields(
