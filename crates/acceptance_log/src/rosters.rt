@@ -77,10 +77,10 @@ fn text_of(alloc: Global, roster: &Roster) -> Option<Vec<u8>> {
     }
 }
 
-/// Whether a roster equals another one's copy.
-fn equals_copy(alloc: Global, roster: &Roster, other: &Roster) -> bool {
+/// Whether a roster is the same as another one's copy.
+fn is_same_as_copy(alloc: Global, roster: &Roster, other: &Roster) -> bool {
     match other.try_clone(alloc) {
-        Ok(copy) => roster.equals(&copy),
+        Ok(copy) => roster.is_same(&copy),
         Err(_) => false,
     }
 }
@@ -88,7 +88,7 @@ fn equals_copy(alloc: Global, roster: &Roster, other: &Roster) -> bool {
 /// Whether a text is a roster's.
 fn is_of(alloc: Global, text: &[u8], roster: &Roster) -> bool {
     match Roster::read(alloc, text) {
-        Ok(again) => equals_copy(alloc, &again, roster),
+        Ok(again) => is_same_as_copy(alloc, &again, roster),
         Err(_) => false,
     }
 }

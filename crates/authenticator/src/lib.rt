@@ -3,6 +3,7 @@
 
 mod authenticator;
 mod checked;
+mod hash;
 pub mod laws;
 mod member;
 mod number;
@@ -11,6 +12,7 @@ mod roster;
 
 pub use authenticator::{Authenticator, is_signed, is_signed_by, signed_digest};
 pub use checked::{Checked, Signs, check};
+pub use hash::is_same_hash;
 pub use member::{Kind, MAX_NODE, Member};
 pub use merkle_keys as merkle_keys_code;
 pub use number::Number;

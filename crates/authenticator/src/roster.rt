@@ -109,7 +109,7 @@ fn first_fault(members: &[Member]) -> Option<RosterFault>
 }
 
 /// Whether two members are the same in every field.
-fn is_same(own: &Member, other: &Member) -> bool
+pub(crate) fn is_same_member(own: &Member, other: &Member) -> bool
     ensures { IsTrue result ↔ (own.now ≡ other.now) }
 {
     own == other
@@ -123,7 +123,7 @@ fn same_members(own: &[Member], others: &[Member]) -> bool
         return false;
     }
     for place in 0..own.len() {
-        if !is_same(&own[place], &others[place]) {
+        if !is_same_member(&own[place], &others[place]) {
             return false;
         }
     }
@@ -181,8 +181,8 @@ impl Roster {
         Ok(Roster { members })
     }
 
-    /// Whether another roster has the same members.
-    pub fn equals(&self, other: &Roster) -> bool
+    /// Whether another roster has the same members, in every field. Takes no memory.
+    pub fn is_same(&self, other: &Roster) -> bool
         ensures { IsTrue result ↔ (self.now ≡ other.now) }
     {
         same_members(&self.members, &other.members)

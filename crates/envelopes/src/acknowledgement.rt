@@ -1,10 +1,10 @@
 //! Acknowledgements.
 
 ghost use Rattle.std.specs.Prelude.{◌≡◌, IfOk};
-ghost use Rattle.envelopes.specs.Acknowledgement.{ack_in, ack_shows, acked_message};
+ghost use Rattle.envelopes.specs.Acknowledgement.{ack_in, ack_item, ack_shows, ack_value, acked_message};
 
 use crate::message::Message;
-use secure_log::authenticator_code::{Authenticator, Number, Signs};
+use secure_log::authenticator_code::{Authenticator, Number, Signs, is_same_hash};
 use secure_log::log_entries::{Receipt, SignatureText, message_hash, receipt_hash};
 use std::alloc::{AllocError, Global};
 
@@ -115,7 +115,50 @@ impl Ack {
 impl Signs for Ack {
     ghost shows = { ack_shows };
 
+    ghost item = { ack_item };
+
+    ghost said = { ack_value };
+
     fn signer(&self) -> u32 {
         self.by
+    }
+
+    fn fits(&self) {
+        let _by = self.by;
+        self.number.fits();
+        let _prev = self.prev;
+        let _from = self.from;
+        self.seq.fits();
+        let _sender_prev = self.sender_prev;
+        let _body_hash = self.body_hash;
+        let _signature_hash = self.signature_hash;
+        self.signature.signature().fits();
+    }
+
+    fn is_same(&self, other: &Ack) -> bool {
+        self.by == other.by
+            && self.number == other.number
+            && is_same_hash(&self.prev, &other.prev)
+            && self.from == other.from
+            && self.seq == other.seq
+            && is_same_hash(&self.sender_prev, &other.sender_prev)
+            && is_same_hash(&self.body_hash, &other.body_hash)
+            && is_same_hash(&self.signature_hash, &other.signature_hash)
+            && self.signature.is_same(&other.signature)
+    }
+
+    fn try_clone(&self, alloc: Global) -> Result<Ack, AllocError> {
+        let signature = self.signature.try_clone(alloc)?;
+        Ok(Ack {
+            by: self.by,
+            number: self.number,
+            prev: self.prev,
+            from: self.from,
+            seq: self.seq,
+            sender_prev: self.sender_prev,
+            body_hash: self.body_hash,
+            signature_hash: self.signature_hash,
+            signature,
+        })
     }
 }

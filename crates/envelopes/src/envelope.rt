@@ -1,11 +1,13 @@
 //! Envelopes.
 
 ghost use Rattle.std.specs.Prelude.{◌≡◌};
-ghost use Rattle.envelopes.specs.Envelope.{envelope_in, envelope_message, envelope_shows};
+ghost use Rattle.envelopes.specs.Envelope.{envelope_in, envelope_item, envelope_message, envelope_shows};
+ghost use Rattle.envelopes.specs.Envelope.{envelope_value};
 
 use crate::message::Message;
-use secure_log::authenticator_code::{Number, Signs};
+use secure_log::authenticator_code::{Number, Signs, is_same_hash};
 use secure_log::log_entries::{Body, SignatureText, message_hash};
+use std::alloc::{AllocError, Global};
 
 /// A message from one node to another, with its sender's signature of the SEND that it logged for it. Nothing
 /// is checked of it: `check_envelope` makes a `Checked` value of one that a member signed.
@@ -72,7 +74,42 @@ impl Envelope {
 impl Signs for Envelope {
     ghost shows = { envelope_shows };
 
+    ghost item = { envelope_item };
+
+    ghost said = { envelope_value };
+
     fn signer(&self) -> u32 {
         self.from
+    }
+
+    fn fits(&self) {
+        let _from = self.from;
+        let _to = self.to;
+        self.seq.fits();
+        let _prev = self.prev;
+        let _body = self.body.bytes();
+        self.signature.signature().fits();
+    }
+
+    fn is_same(&self, other: &Envelope) -> bool {
+        self.from == other.from
+            && self.to == other.to
+            && self.seq == other.seq
+            && is_same_hash(&self.prev, &other.prev)
+            && self.body.is_same(&other.body)
+            && self.signature.is_same(&other.signature)
+    }
+
+    fn try_clone(&self, alloc: Global) -> Result<Envelope, AllocError> {
+        let body = self.body.try_clone(alloc)?;
+        let signature = self.signature.try_clone(alloc)?;
+        Ok(Envelope {
+            from: self.from,
+            to: self.to,
+            seq: self.seq,
+            prev: self.prev,
+            body,
+            signature,
+        })
     }
 }
