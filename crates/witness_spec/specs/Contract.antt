@@ -75,8 +75,8 @@ pub record AreBooks (ms : List Member) (books : List BookParts) : Type 0 where
 
 -- ---- a step
 
--- A step leads from old books to new ones, with a reply. After every history that the old books stand for, the
--- event may be handed in, the reply is the one that is owed, or NoMemory where a step may answer that
+-- A step leads from old books to new ones, with a reply. After every history that the old books stand for,
+-- the event may be handed in, the reply is the one that is owed, or NoMemory where a step may answer that
 -- (IsWanting), and the new books stand for the history with this event.
 abbrev pub StepsTo : List Member → (old : List BookParts) → Event → Reply → (new : List BookParts) → Type 0
 StepsTo ms old event reply new =

@@ -67,8 +67,8 @@ RunsAreHistories =
     → RunsTo ms (opening_books ms) events replies new
     → IsHistory ms (joined events replies []) × Stands ms new (joined events replies [])
 
--- Two runs from the opening books, with the same steps of a member and in the same order, have the same replies
--- to these, whatever else they hold, and the witness says the same of the member.
+-- Two runs from the opening books, with the same steps of a member and in the same order, have the same
+-- replies to these, whatever else they hold, and the witness says the same of the member.
 abbrev pub RunsThatAgree : Type 0
 RunsThatAgree =
     (ms : List Member) (m : Member) (one two : List BookParts) (events more : List Event)
