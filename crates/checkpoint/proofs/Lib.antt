@@ -5,3 +5,4 @@ pub mod Fronted
 pub mod MountedHosts
 pub mod OneText
 pub mod PartStates
+pub mod SharedStates

@@ -6,3 +6,4 @@ pub mod Parts
 pub mod Fronts
 pub mod PartWorlds
 pub mod ErrorNumbers
+pub mod SharedStates

@@ -6,11 +6,13 @@ mod front;
 mod mounts;
 pub mod parts;
 mod read;
+mod shared;
 mod text;
 pub mod trees;
 
 pub use digest::state_digest;
 pub use read::{StateFault, read_state};
+pub use shared::SharedState;
 pub use state_machine as state_machine_code;
 pub use state_spec as state_spec_code;
 pub use text::state_text;
