@@ -1,8 +1,8 @@
 -- How a replay goes through entries: what it found so far, and the verdict on the rest.
--- Serves: replay_entries, replay, replay_outcome.
+-- Serves: run, replay_entries, replay.
 use Rattle.std.proofs.Common.{◌≡◌, ℕ, suc, ◌+◌, ◌<◌, ◌≤◌, List, [], ◌∷◌, ◌++◌, length, drop, get_or}
 use Rattle.std.proofs.Common.{Ok, Err, IfOk}
-use Rattle.std.proofs.Common.{Option, Some, None, Result, refl, sym, ap, ap₂, subst, ◌∙◌, arith}
+use Rattle.std.proofs.Common.{Option, Some, None, Result, refl, sym, ap, subst, ◌∙◌, arith}
 use Rattle.std.specs.FinMap as finite
 use Rattle.authenticator.specs.declared.member.Member.{Member}
 use Rattle.authenticator.specs.declared.authenticator.Authenticator.{Authenticator}
@@ -71,11 +71,6 @@ after_more [] None (Fault fault number) = refl
 after_more [] (Some a) v = refl
 after_more (b ∷ shown) more v = ap (behind (Some b)) (after_more shown more v)
 
--- nothing is found where nothing was
-after_none : (v : Verdict) → behind None v ≡ v
-after_none (Sound s found) = refl
-after_none (Fault fault number) = refl
-
 -- at the end all is found
 pub all_found : (shown : List Authenticator) (s : State) → after_all shown (Sound s []) ≡ Sound s shown
 all_found [] s = refl
@@ -143,16 +138,15 @@ rest_of entries index e inside is =
 
 module _ (ms : List Member) (start : State) (first : ℕ) (opening : List ℕ) (entries : List Entry) where
   -- before the first entry nothing is found
-  pub begins : (shown : List Authenticator) (number : ℕ) → shown ≡ [] → number ≡ first
+  pub begins : (number : ℕ) → number ≡ first
       → finite.len start.received + length entries ≤ MAX_RECEIVED
       → finite.len start.sends + length entries ≤ MAX_SENDS
-      → IsRun ms start first opening entries start shown number opening 0
-  begins shown number none same received sends = record {
+      → IsRun ms start first opening entries start [] number opening 0
+  begins number same received sends = record {
     counted = omega (arith, same);
     received = received;
     sends = sends;
-    verdict =
-        ap₂ (λ n xs. after_all xs (verdict_of ms start (placed n opening entries))) (sym same) (sym none);
+    verdict = ap (λ n. verdict_of ms start (placed n opening entries)) (sym same);
   }
 
   module _ (s : State) (shown : List Authenticator) (number : ℕ) (before : List ℕ) (index : ℕ)
@@ -197,10 +191,10 @@ module _ (ms : List Member) (start : State) (first : ℕ) (opening : List ℕ) (
 
       -- after it the run goes on
       pub goes_on : StepsTake → (t : State) → step ms s (place number before e) ≡ Ok t
-          → (found : List Authenticator) → found ≡ shown ++ with_shown (shown_by s e) []
           → (after : List ℕ) → after ≡ hash_after before (link_of number e)
-          → IsRun ms start first opening entries t found (number + 1) after (index + 1)
-      goes_on law t h found more after hash = record {
+          → IsRun ms start first opening entries t (shown ++ with_shown (shown_by s e) []) (number + 1) after
+          (index + 1)
+      goes_on law t h after hash = record {
         counted = let counted = run.counted in omega (arith, counted);
         received =
             let few = subst (λ (es : List Entry). finite.len s.received + length es ≤ MAX_RECEIVED) rest
@@ -216,8 +210,8 @@ module _ (ms : List Member) (start : State) (first : ℕ) (opening : List ℕ) (
             here
             ∙ ap (after_all shown) (first_step ms s at later ∙ ap (verdict_after ms s at later) h)
             ∙ sym (after_more shown (shown_by s e) (verdict_of ms t later))
-            ∙ ap₂ (λ xs b. after_all xs (verdict_of ms t (placed (number + 1) b (drop (index + 1) entries))))
-            (sym more) (sym hash);
+            ∙ ap (λ b. after_all (shown ++ with_shown (shown_by s e) [])
+            (verdict_of ms t (placed (number + 1) b (drop (index + 1) entries)))) (sym hash);
       }
 
     -- after the last entry all is found
@@ -230,10 +224,14 @@ module _ (ms : List Member) (start : State) (first : ℕ) (opening : List ℕ) (
 -- ---- the verdict on all
 
 -- a verdict is Sound as the law says
+pub sound_by : (ms : List Member) (s : State) (ps : List Placed)
+    → IsSoundWhereHonest ms s ps (verdict_of ms s ps) → (v : Verdict) → verdict_of ms s ps ≡ v
+    → IsSoundWhereHonest ms s ps v
+sound_by ms s ps law v e = subst (IsSoundWhereHonest ms s ps) e law
+
 pub sound_as : {E : Type 0} (ms : List Member) (s : State) (ps : List Placed)
     → IsSoundWhereHonest ms s ps (verdict_of ms s ps) → (v : Verdict) → v ≡ verdict_of ms s ps
     → (r : Result memory.Verdict E)
     → IfOk r (λ x. verdict_in x ≡ v) → IfOk r (λ x. IsSoundWhereHonest ms s ps (verdict_in x))
-sound_as ms s ps law v e (Ok x) h =
-    subst (IsSoundWhereHonest ms s ps) (sym (h ∙ e)) law
+sound_as ms s ps law v e (Ok x) h = sound_by ms s ps law (verdict_in x) (sym (h ∙ e))
 sound_as ms s ps law v e (Err x) h = tt

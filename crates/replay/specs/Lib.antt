@@ -1,4 +1,6 @@
 pub use Rattle.replay_spec.specs as replay_spec
 pub mod Faults
-pub mod Answers
+pub mod Steps
+pub mod Kinds
+pub mod Endings
 pub mod Verdicts

@@ -4,10 +4,12 @@
 
 mod copy;
 mod fault;
+mod kept;
 mod machine;
 mod messages;
 mod opening;
 mod outcome;
+mod run;
 mod shown;
 mod steps;
 mod take;
@@ -15,7 +17,7 @@ mod turns;
 mod verdict;
 
 pub use fault::ReplayFault;
-pub use machine::{FreeMachine, Machine, ServerMachine};
+pub use machine::{Clients, FreeMachine, KindMachine, Machine, NodeKind, ServerMachine, Servers};
 pub use opening::opening_state;
 pub use outcome::{Outcome, replay_outcome};
 pub use steps::{StepFault, step};

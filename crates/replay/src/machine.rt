@@ -1,40 +1,42 @@
 //! Reference machines of nodes.
 
-ghost use Rattle.std.specs.Prelude.{◌≡◌, ◌<◌, ℕ, List, Result, IfOk};
+ghost use Rattle.std.specs.Prelude.{◌≡◌, ◌<◌, ℕ, List, IfOk};
 ghost use Rattle.std.specs.FinMap.{len};
-ghost use Rattle.authenticator.specs.declared.member.Member.{Member};
 ghost use Rattle.checkpoint.specs.state_machine.declared.states.received.TheConstants.{MAX_RECEIVED};
 ghost use Rattle.checkpoint.specs.state_machine.declared.states.sends.TheConstants.{MAX_SENDS};
+ghost use Rattle.checkpoint.specs.state_machine.Machines.{machine_in};
 ghost use Rattle.checkpoint.specs.state_spec.State.{State};
 ghost use Rattle.checkpoint.specs.state_spec.StateText.{IsStateText};
-ghost use Rattle.replay_spec.specs.Placed.{Placed, place};
-ghost use Rattle.replay_spec.specs.Stepping.{ReplayFault};
-ghost use Rattle.replay_spec.specs.Stepping as stepping;
-ghost use Rattle.replay.specs.Answers.{Answers, IsClient, IsServer};
+ghost use Rattle.replay_spec.specs.Placed.{place};
+ghost use Rattle.replay.specs.Steps.{Steps};
+ghost use Rattle.replay.specs.Kinds.{kind_of};
 
 use crate::steps::{StepFault, step};
-use authenticator::{Number, Roster};
-use checkpoint::state_machine_code::State;
+use authenticator::{Kind, Number, Roster};
+use checkpoint::state_machine_code::{self, State};
 use checkpoint::state_spec_code::laws as state_laws;
 use checkpoint::state_text;
 use secure_log::log_entries::Entry;
 use std::alloc::{AllocError, Global};
-use std::marker::Model;
+use std::marker::{Model, PhantomData};
 
-/// A node's reference machine: what it answers to an entry is a function of its state and the entry, and
-/// equal texts mean equal states.
+/// A node's reference machine, by which replays go (PeerReview, SOSP 2007, section 5.4): what it answers to
+/// an entry is a function of its state and the entry, and equal texts mean equal states.
 pub trait Machine: Drop {
     /// The state that it is in.
     ghost state: { Self → State };
 
-    /// What an entry at its place gives after a state: the state after it, or its fault.
-    ghost gives: { List Member → State → Placed → Result State ReplayFault };
+    /// The state that it is in.
+    fn state(&self) -> &State
+        ensures { result.now ≡ state self.now };
 
-    /// Bytes are a state's text.
-    ghost HasText: { State → List ℕ → Type 0 };
+    /// Its state alone.
+    fn into_state(self) -> State
+        ensures { result ≡ state self };
 
     /// Takes an entry of the log of its node, a member of this roster, at a number and after the hash
-    /// `before`: after a refusal its state is as it was.
+    /// `before`. `Fault` comes exactly where the entry may not stand there, with the first fault that it has;
+    /// `NoMemory` only where a growth was refused. After either its state is as it was.
     fn step(
         &mut self,
         alloc: Global,
@@ -45,103 +47,74 @@ pub trait Machine: Drop {
     ) -> Result<(), StepFault>
         requires few_received { len (state self.old).received < MAX_RECEIVED }
         requires few_sends { len (state self.old).sends < MAX_SENDS }
-        ensures { Answers (gives roster.now (state self.old) (place number before.now entry.now))
-            (state self.old) result (state self.new) };
+        ensures { Steps roster.now (state self.old) (place number before.now entry.now) result
+            (state self.new) };
 
-    /// The text of its state.
+    /// The text of its state. `AllocError` comes only where a growth was refused.
     fn text(&self, alloc: Global) -> Result<Vec<u8>, AllocError>
-        ensures { IfOk result (λ bytes. HasText (state self.now) bytes.items) };
+        ensures { IfOk result (λ bytes. IsStateText (state self.now) bytes.items) };
 
     /// Equal texts mean equal states: does nothing, and tells a caller's proof.
     fn a_text_has_one_state()
-        ensures { (s t : State) (bytes : List ℕ) → HasText s bytes → HasText t bytes → s ≡ t };
+        ensures { (s t : State) (bytes : List ℕ) → IsStateText s bytes → IsStateText t bytes → s ≡ t };
+}
+
+/// The kind of a machine's node.
+pub(crate) fn kind_of(machine: &state_machine_code::Machine) -> Kind
+    ensures { result ≡ kind_of (machine_in machine.now) }
+{
+    match machine {
+        state_machine_code::Machine::Server(_, _) => Kind::Server,
+        state_machine_code::Machine::Client(_) => Kind::Client,
+    }
+}
+
+/// A kind of nodes, as a type, which stands for a kind of member.
+pub trait NodeKind {
+    ghost use Rattle.authenticator.specs.declared.member.Kind.{Kind};
+
+    /// The kind as which a roster lists such a node.
+    ghost kind: { Kind };
+}
+
+/// The kind of nodes that serve files.
+#[derive(Clone, Copy, Debug)]
+pub struct Servers;
+
+/// The kind of nodes that call a server.
+#[derive(Clone, Copy, Debug)]
+pub struct Clients;
+
+impl NodeKind for Servers {
+    ghost use Rattle.authenticator.specs.declared.member.Kind.TheVariants as kinds;
+
+    ghost kind = { kinds.Server };
+}
+
+impl NodeKind for Clients {
+    ghost use Rattle.authenticator.specs.declared.member.Kind.TheVariants as kinds;
+
+    ghost kind = { kinds.Client };
+}
+
+/// The machine of nodes of one kind, which it keeps.
+#[derive(Drop)]
+pub struct KindMachine<K: NodeKind> {
+    state: State,
+    kind: PhantomData<K>,
 }
 
 /// A server's machine: its messages are the replies that it owes.
-#[derive(Drop)]
-pub struct ServerMachine {
-    state: State,
-}
-
-impl Model for ServerMachine {
-    ghost use Rattle.checkpoint.specs.state_spec.Codes.{state_code};
-    ghost use Rattle.checkpoint.specs.state_spec.State.{State};
-    ghost use Rattle.replay.specs.Answers.{IsServer};
-
-    ghost Value = { State };
-
-    ghost coded = { state_code };
-
-    ghost view = { λ m. m.state };
-
-    ghost invariant = { λ m. IsServer m.state.machine };
-}
-
-impl ServerMachine {
-    /// The machine in a server's state.
-    pub fn new(state: State) -> ServerMachine
-        requires { IsServer state.machine }
-        ensures { result ≡ state }
-    {
-        ServerMachine { state }
-    }
-
-    /// Its state.
-    pub fn state(&self) -> &State
-        ensures state { result.now ≡ self.now }
-        ensures kind { IsServer self.now.machine }
-    {
-        &self.state
-    }
-
-    /// Its state alone.
-    pub fn into_state(self) -> State
-        ensures { result ≡ self }
-    {
-        self.state
-    }
-}
-
-impl Machine for ServerMachine {
-    ghost use Rattle.checkpoint.specs.state_spec.StateText.{IsStateText};
-    ghost use Rattle.replay_spec.specs.Stepping as stepping;
-
-    ghost state = { λ m. m };
-
-    ghost gives = { stepping.step };
-
-    ghost HasText = { IsStateText };
-
-    fn step(
-        &mut self,
-        alloc: Global,
-        roster: &Roster,
-        number: Number,
-        before: &[u8; 32],
-        entry: &Entry,
-    ) -> Result<(), StepFault> {
-        step(&mut self.state, alloc, roster, number, before, entry)
-    }
-
-    fn text(&self, alloc: Global) -> Result<Vec<u8>, AllocError> {
-        state_text(alloc, &self.state)
-    }
-
-    fn a_text_has_one_state() {
-        state_laws::a_text_has_one_state();
-    }
-}
+pub type ServerMachine = KindMachine<Servers>;
 
 /// A client's machine: it may send any message and read its clock at any time.
-#[derive(Drop)]
-pub struct FreeMachine {
-    state: State,
-}
+pub type FreeMachine = KindMachine<Clients>;
 
-impl Model for FreeMachine {
+impl<K: NodeKind> Model for KindMachine<K> {
+    ghost use Rattle.std.specs.Prelude.{◌≡◌};
     ghost use Rattle.checkpoint.specs.state_spec.Codes.{state_code};
     ghost use Rattle.checkpoint.specs.state_spec.State.{State};
-    ghost use Rattle.replay.specs.Answers.{IsClient};
+    ghost use Rattle.replay.specs.Kinds.{kind_of};
 
     ghost Value = { State };
 
@@ -149,43 +122,40 @@ impl Model for FreeMachine {
 
     ghost view = { λ m. m.state };
 
-    ghost invariant = { λ m. IsClient m.state.machine };
+    ghost invariant = { λ m. kind_of m.state.machine ≡ K.kind };
 }
 
-impl FreeMachine {
-    /// The machine in a client's state.
-    pub fn new(state: State) -> FreeMachine
-        requires { IsClient state.machine }
+impl<K: NodeKind> KindMachine<K> {
+    /// The machine in a state of a node of this kind.
+    pub fn new(state: State) -> KindMachine<K>
+        requires { kind_of state.machine ≡ K.kind }
         ensures { result ≡ state }
     {
-        FreeMachine { state }
+        KindMachine {
+            state,
+            kind: PhantomData,
+        }
     }
 
-    /// Its state.
+    /// Its state, which is one of its kind.
     pub fn state(&self) -> &State
         ensures state { result.now ≡ self.now }
-        ensures kind { IsClient self.now.machine }
+        ensures kind { kind_of self.now.machine ≡ K.kind }
     {
         &self.state
     }
-
-    /// Its state alone.
-    pub fn into_state(self) -> State
-        ensures { result ≡ self }
-    {
-        self.state
-    }
 }
 
-impl Machine for FreeMachine {
-    ghost use Rattle.checkpoint.specs.state_spec.StateText.{IsStateText};
-    ghost use Rattle.replay_spec.specs.Stepping as stepping;
-
+impl<K: NodeKind> Machine for KindMachine<K> {
     ghost state = { λ m. m };
 
-    ghost gives = { stepping.step };
+    fn state(&self) -> &State {
+        &self.state
+    }
 
-    ghost HasText = { IsStateText };
+    fn into_state(self) -> State {
+        self.state
+    }
 
     fn step(
         &mut self,

@@ -9,11 +9,11 @@ ghost use Rattle.replay_spec.specs.Replay.{verdict_of};
 ghost use Rattle.replay.specs.Verdicts.{IsOutcome};
 
 use crate::fault::ReplayFault;
-use crate::steps::{StepFault, step};
+use crate::kept::NoneKept;
+use crate::run::{Ending, ending_of};
 use authenticator::{Number, Roster};
 use checkpoint::state_machine_code::State;
-use replay_spec::laws::steps_as_it_takes;
-use secure_log::log_entries::{Entry, entry_hash};
+use secure_log::log_entries::Entry;
 use std::alloc::{AllocError, Global};
 
 /// Where a replay of entries ends.
@@ -42,19 +42,8 @@ pub fn replay_outcome(
     ensures { IfOk result (λ outcome. IsOutcome outcome
         (verdict_of roster.now start (placed first opening.now entries.now))) }
 {
-    steps_as_it_takes();
-    let mut state = start;
-    let mut number = first.get();
-    let mut before = *opening;
-    for entry in entries {
-        let place = Number::new(number);
-        match step(&mut state, alloc, roster, place, &before, entry) {
-            Ok(()) => {}
-            Err(StepFault::NoMemory) => return Err(AllocError),
-            Err(StepFault::Fault(fault)) => return Ok(Outcome::Fault(fault, place)),
-        }
-        before = entry_hash(&before, number, entry);
-        number += 1;
+    match ending_of(alloc, roster, start, NoneKept, first, opening, entries)? {
+        Ending::Sound(state, NoneKept) => Ok(Outcome::Sound(state)),
+        Ending::Fault(fault, number) => Ok(Outcome::Fault(fault, number)),
     }
-    Ok(Outcome::Sound(state))
 }

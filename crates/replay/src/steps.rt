@@ -8,7 +8,7 @@ ghost use Rattle.checkpoint.specs.state_machine.declared.states.sends.TheConstan
 ghost use Rattle.replay_spec.specs.Placed.{place};
 ghost use Rattle.replay_spec.specs.Stepping.{fault_of};
 ghost use Rattle.replay.specs.Faults.{fault_in};
-ghost use Rattle.replay.specs.Answers.{Steps};
+ghost use Rattle.replay.specs.Steps.{Steps};
 ghost use Rattle.replay.specs.declared.steps.StepFault.TheVariants.{NoMemory};
 
 use crate::fault::ReplayFault;

@@ -1,24 +1,21 @@
 //! What a replay of a segment finds.
 
-ghost use Rattle.std.specs.Prelude.{◌≡◌, ◌+◌, ◌≤◌, ◌<◌, ◌^◌, ◌-◌, ◌++◌, [], IfOk, OnOk, length};
+ghost use Rattle.std.specs.Prelude.{◌≡◌, ◌+◌, ◌≤◌, ◌<◌, ◌^◌, IfOk, length};
 ghost use Rattle.std.specs.FinMap.{len};
 ghost use Rattle.checkpoint.specs.state_machine.declared.states.received.TheConstants.{MAX_RECEIVED};
 ghost use Rattle.checkpoint.specs.state_machine.declared.states.sends.TheConstants.{MAX_SENDS};
-ghost use Rattle.replay_spec.specs.Placed.{place, placed, placed_in};
-ghost use Rattle.replay_spec.specs.Stepping.{shown_by};
-ghost use Rattle.replay_spec.specs.Replay.{segment_verdict, verdict_of, with_shown};
-ghost use Rattle.replay.specs.Answers.{Steps};
+ghost use Rattle.replay_spec.specs.Placed.{placed, placed_in};
+ghost use Rattle.replay_spec.specs.Replay.{segment_verdict, verdict_of};
 ghost use Rattle.replay.specs.Verdicts.{IsSoundWhereHonest, verdict_in};
 
 use crate::copy::copy_of;
 use crate::fault::ReplayFault;
-use crate::shown::shown_by;
-use crate::steps::{StepFault, step};
+use crate::run::{Ending, ending_of};
 use authenticator::{Authenticator, Number, Roster};
 use checkpoint::state_machine_code::State;
-use replay_spec::laws::{sound_exactly_if, steps_as_it_takes};
+use replay_spec::laws::sound_exactly_if;
 use secure_log::ClosedSegment;
-use secure_log::log_entries::{Entry, entry_hash};
+use secure_log::log_entries::Entry;
 use std::alloc::{AllocError, Global};
 
 /// What a replay of a segment finds.
@@ -78,63 +75,9 @@ pub fn replay_entries(
         (placed first opening.now entries.now) (verdict_in verdict)) }
 {
     sound_exactly_if();
-    first_verdict(alloc, roster, start, first, opening, entries)
-}
-
-/// The verdict on entries: each is taken up to the first that has a fault.
-fn first_verdict(
-    alloc: Global,
-    roster: &Roster,
-    start: State,
-    first: Number,
-    opening: &[u8; 32],
-    entries: &[Entry],
-) -> Result<Verdict, AllocError>
-    requires numbers { first + length entries.now < 2 ^ 64 }
-    requires few_received { len start.received + length entries.now ≤ MAX_RECEIVED }
-    requires few_sends { len start.sends + length entries.now ≤ MAX_SENDS }
-    ensures { IfOk result (λ verdict. verdict_in verdict
-        ≡ verdict_of roster.now start (placed first opening.now entries.now)) }
-{
-    steps_as_it_takes();
-    let mut state = start;
-    let mut found = Vec::new(alloc);
-    let mut number = first.get();
-    let mut before = *opening;
-    for entry in entries {
-        let place = Number::new(number);
-        match replay_entry(alloc, roster, &mut state, &mut found, place, &before, entry) {
-            Ok(()) => {}
-            Err(StepFault::NoMemory) => return Err(AllocError),
-            Err(StepFault::Fault(fault)) => return Ok(Verdict::Fault(fault, place)),
-        }
-        before = entry_hash(&before, number, entry);
-        number += 1;
+    let found = Vec::new(alloc);
+    match ending_of(alloc, roster, start, found, first, opening, entries)? {
+        Ending::Sound(state, found) => Ok(Verdict::Sound(state, found)),
+        Ending::Fault(fault, number) => Ok(Verdict::Fault(fault, number)),
     }
-    Ok(Verdict::Sound(state, found))
-}
-
-/// The state takes an entry, and what that shows is found.
-fn replay_entry(
-    alloc: Global,
-    roster: &Roster,
-    state: &mut State,
-    found: &mut Vec<Authenticator>,
-    number: Number,
-    before: &[u8; 32],
-    entry: &Entry,
-) -> Result<(), StepFault>
-    requires few_received { len state.old.received < MAX_RECEIVED }
-    requires few_sends { len state.old.sends < MAX_SENDS }
-    ensures step { Steps roster.now state.old (place number before.now entry.now) result state.new }
-    ensures found { OnOk result
-        (found.new.items ≡ found.old.items ++ with_shown (shown_by state.old entry.now) []) }
-{
-    let shown = shown_by(alloc, state, entry)?;
-    found.reserve(1)?;
-    step(state, alloc, roster, number, before, entry)?;
-    if let Some(authenticator) = shown {
-        found.push(authenticator).unwrap();
-    }
-    Ok(())
 }

@@ -1,13 +1,23 @@
-use Rattle.std.proofs.Common.{refl}
+use Rattle.std.proofs.Common.{ap, sym, ◌∙◌}
 use Rattle.replay_spec.specs.Placed.{placed}
-use Rattle.replay_spec.specs.Replay.{verdict_of}
-use Rattle.replay.proofs.Runs.{sound_as}
+use Rattle.replay_spec.specs.Replay.{Sound, Fault}
+use Rattle.replay.specs.Faults.{fault_in}
+use Rattle.replay.proofs.Runs.{sound_by}
 use Rattle.replay.proofs.verdict.replay_entries.Goals as goal
 
-pub returns-clause-sound : goal.returns-clause-sound
-returns-clause-sound c =
+pub returns-in-Sound-clause-sound : goal.returns-in-Sound-clause-sound
+returns-in-Sound-clause-sound c =
     let ms = c.args.roster.now in
     let s = c.args.start in
     let ps = placed c.args.first c.args.opening.now c.args.entries.now in
-    sound_as ms s ps (λ t shown. c.sound_exactly_if.ensures ms s t ps shown) (verdict_of ms s ps) refl
-    c.first_verdict.result c.first_verdict.ensures
+    let ends = rw c.in-Sound.is at c.in_ok-state.ensures in
+    sound_by ms s ps (λ t shown. c.sound_exactly_if.ensures ms s t ps shown)
+    (Sound c.in-Sound.state c.in-Sound.found.items) (ends.1 ∙ ap (Sound c.in-Sound.state) (sym ends.2))
+
+pub returns-in-Fault-clause-sound : goal.returns-in-Fault-clause-sound
+returns-in-Fault-clause-sound c =
+    let ms = c.args.roster.now in
+    let s = c.args.start in
+    let ps = placed c.args.first c.args.opening.now c.args.entries.now in
+    sound_by ms s ps (λ t shown. c.sound_exactly_if.ensures ms s t ps shown)
+    (Fault (fault_in c.in-Fault.fault) c.in-Fault.number) (rw c.in-Fault.is at c.in_ok-state.ensures)

@@ -1,0 +1,16 @@
+-- What a step of a machine answers, and what it leaves.
+use Rattle.std.specs.Prelude.{◌≡◌, List, Result, Ok, Err}
+use Rattle.authenticator.specs.declared.member.Member.{Member}
+use Rattle.checkpoint.specs.state_spec.State.{State}
+use Rattle.replay_spec.specs.Placed.{Placed}
+use Rattle.replay_spec.specs.Stepping.{step}
+use Rattle.replay.specs.Faults.{fault_in}
+use Rattle.replay.specs.declared.steps.StepFault.{StepFault}
+use Rattle.replay.specs.declared.steps.StepFault.TheVariants.{NoMemory, Fault}
+
+-- A step from a state answers as the reference machine does: it leaves the state after the entry, or names the
+-- entry's fault and leaves the state before. That it leaves where memory is refused, too.
+abbrev pub Steps : {A : Type 0} → List Member → State → Placed → Result A StepFault → State → Type 0
+Steps ms s p (Ok done) t = step ms s p ≡ Ok t
+Steps ms s p (Err NoMemory) t = t ≡ s
+Steps ms s p (Err (Fault fault)) t = (step ms s p ≡ Err (fault_in fault)) × (t ≡ s)
