@@ -1,3 +1,4 @@
 pub mod Books
 pub mod Replying
 pub mod Going
+pub mod Fitting
