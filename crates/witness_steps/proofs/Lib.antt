@@ -7,3 +7,4 @@ pub mod Known
 pub mod Learned
 pub mod Accepted
 pub mod Filed
+pub mod Steps
