@@ -1,10 +1,8 @@
 -- The book after a segment that was accepted.
 -- Serves: all laws here.
-use Rattle.std.proofs.Common.{◌≡◌, ◌⊎◌, inl, inr, ℕ, ◌+◌, ◌<◌, ◌≤◌, Bool, true, false, cond, List, [], ◌∷◌, ◌++◌}
-use Rattle.std.proofs.Common.{filter, length, append-nil, append_assoc, Option, Some, None, refl, sym, ap, ap₂, subst}
+use Rattle.std.proofs.Common.{◌≡◌, ◌⊎◌, inl, inr, ◌+◌, ◌≤◌, List, [], ◌∷◌, ◌++◌}
+use Rattle.std.proofs.Common.{length, append-nil, Option, Some, None, refl, sym, ap, subst}
 use Rattle.std.proofs.Common.{◌∙◌, arith}
-use Rattle.std.specs.Prelude.{is_some}
-use Rattle.authenticator.specs.declared.authenticator.Authenticator.{Authenticator}
 use Rattle.authenticator.specs.declared.member.Member.{Member}
 use Rattle.secure_log.specs.Segment.{SegmentParts, ClosedParts, segment_pairs}
 use Rattle.evidence_spec.specs.Showing.{IsAmong, segment_showing}
@@ -12,19 +10,19 @@ use Rattle.evidence_spec.specs.Evidence.{EvidenceParts}
 use Rattle.witness_spec.specs.Replies.{Accepted}
 use Rattle.witness_spec.specs.Steps.{Answer, Past}
 use Rattle.witness_spec.specs.Pairs.{Pair, pair_of}
-use Rattle.witness_spec.specs.Standing.{shown, is_exposed, open_after, Stage, Wanted, Given, audited, forwards}
+use Rattle.witness_spec.specs.Standing.{shown, open_after, Stage, Wanted, audited, forwards}
 use Rattle.witness_spec.specs.Exposing.{evidence}
 use Rattle.witness_spec.specs.Histories.{HoldSame}
-use Rattle.witness_steps.specs.Books.{Book, exposed, exposing_pairs, book_shown, book_audited}
+use Rattle.witness_steps.specs.Books.{Book, exposed, book_shown}
 use Rattle.witness_steps.specs.Going.{first_evidence, fork_evidence, evidence_accepted, after_answer}
-use Rattle.witness_steps.specs.Fitting.{oldest_first, IsWhole, IsMore, AreTiles, FitsTogether}
+use Rattle.witness_steps.specs.Fitting.{IsWhole, IsMore, FitsTogether}
 use Rattle.witness_laws.proofs.Checked.{IsGiven}
 use Rattle.witness_laws.proofs.OfEvidence.Audits.{good_given}
 use Rattle.witness_laws.proofs.OfEvidence.Before.{first_some}
-use Rattle.witness_steps.proofs.Lists.{split, on_left, on_right}
+use Rattle.witness_steps.proofs.Lists.{split, on_left}
 use Rattle.witness_steps.proofs.Kept.{showing_of, fork_shows, same_past, same_through, add_segment, add_exposing}
 use Rattle.witness_steps.proofs.Segments.{closes, audited_are}
-use Rattle.witness_steps.proofs.Quiet.{Exposure, Hidden, Open, unsent, found_stays}
+use Rattle.witness_steps.proofs.Quiet.{Exposure, unsent, found_stays}
 use Rattle.witness_steps.proofs.Known.{Known, first_same, fork_same}
 
 -- a segment that was checked is whole

@@ -1,10 +1,10 @@
 -- The book after a segment with its verdict was filed.
 -- Serves: all laws here.
-use Rattle.std.proofs.Common.{◌≡◌, ◌⊎◌, inl, inr, ℕ, ◌+◌, ◌<◌, ◌≤◌, Bool, true, false, cond, nat_lt, List, [], ◌∷◌}
-use Rattle.std.proofs.Common.{◌++◌, filter, flat_map, length, length-append, append-nil, append_assoc, Option, Some, None}
+use Rattle.std.proofs.Common.{◌≡◌, inl, inr, ℕ, ◌≤◌, Bool, true, false, cond, nat_lt, List, [], ◌∷◌}
+use Rattle.std.proofs.Common.{◌++◌, filter, flat_map, length-append, append-nil, Option, Some, None}
 use Rattle.std.proofs.Common.{refl, sym, ap, ap₂, subst, ◌∙◌, arith}
-use Rattle.std.specs.Prelude.{is_some, option_map, drop, map}
-use Rattle.std.proofs.lemmas.Bool.{true≢false, ltb-true, ltb-false, lt-ltb}
+use Rattle.std.specs.Prelude.{is_some, option_map, map}
+use Rattle.std.proofs.lemmas.Bool.{ltb-true, ltb-false}
 use Rattle.std.proofs.lemmas.Grind.{flat_map-append}
 use Rattle.std.proofs.lemmas.List.{drop-append-le}
 use Rattle.authenticator.specs.declared.authenticator.Authenticator.{Authenticator}
@@ -18,9 +18,9 @@ use Rattle.evidence_spec.specs.Evidence.{Charge, Replay, EvidenceParts}
 use Rattle.witness_spec.specs.Events.{DoneParts}
 use Rattle.witness_spec.specs.Replies.{Filed}
 use Rattle.witness_spec.specs.Steps.{File, Past}
-use Rattle.witness_spec.specs.Pairs.{Pair, pair_of, first_pair}
+use Rattle.witness_spec.specs.Pairs.{pair_of, first_pair}
 use Rattle.witness_spec.specs.Standing.{End, end_of, moved_by, verdict_on, sound_entries, audited, shown, noted_before}
-use Rattle.witness_spec.specs.Standing.{kept, Stage, Out, sound_found, all_found, forwards, outbox}
+use Rattle.witness_spec.specs.Standing.{kept, Out, sound_found, all_found, forwards}
 use Rattle.witness_spec.specs.Exposing.{replay_of, evidence}
 use Rattle.witness_spec.specs.Histories.{HoldSame}
 use Rattle.witness_steps.specs.Books.{Book, exposed, exposing_pairs, book_shown, book_audited}
@@ -114,9 +114,10 @@ module _ (ms : List Member) (m : Member) (past : Past) (b : Book) (d : DoneParts
   fewer : HoldSame
       (showing_of b.evidence (filter (λ (a : Authenticator). nat_lt s.closing.number a.number) b.learned) b.segments)
       (showing_of b.evidence b.learned b.segments)
-  fewer p =
-      (λ i. shows b.evidence b.learned b.segments p (to (shower b.evidence less b.segments p i)),
-      λ i. shows b.evidence less b.segments p (from (shower b.evidence b.learned b.segments p i)))
+  fewer p = (
+    λ i. shows b.evidence b.learned b.segments p (to (shower b.evidence less b.segments p i)),
+    λ i. shows b.evidence less b.segments p (from (shower b.evidence b.learned b.segments p i)),
+  )
     where
       less : List Authenticator
       less = filter (λ (a : Authenticator). nat_lt s.closing.number a.number) b.learned

@@ -4,7 +4,6 @@ use Rattle.std.proofs.Common.{◌≡◌, ◌≢◌, ◌⊎◌, inl, inr, ℕ, Bo
 use Rattle.std.proofs.Common.{filter, flat_map, Option, Some, None, refl, sym, ap, subst, ◌∙◌}
 use Rattle.std.specs.Prelude.{option_map, option_and_then}
 use Rattle.std.specs.List.{AllByRecursion}
-use Rattle.std.proofs.lemmas.Bool.{true≢false}
 use Rattle.authenticator.specs.declared.authenticator.Authenticator.{Authenticator}
 use Rattle.secure_log.specs.Segment.{SegmentParts, segment_pairs}
 use Rattle.evidence_spec.specs.Showing.{ShowingParts, IsAmong}
@@ -13,7 +12,7 @@ use Rattle.witness_spec.specs.Pairs.{Pair, pair_of, first_pair, first_fork}
 use Rattle.witness_spec.specs.Exposing.{fork_of, showing_before}
 use Rattle.witness_spec.specs.Histories.{HoldSame}
 use Rattle.witness_steps.specs.Books.{Book, exposing_pairs, book_shown}
-use Rattle.witness_steps.specs.Going.{evidence_of, first_evidence, fork_evidence}
+use Rattle.witness_steps.specs.Going.{evidence_of, fork_evidence}
 use Rattle.witness_steps.specs.Fitting.{NumbersDiffer}
 use Rattle.witness_steps.proofs.Lists.{split, on_left, on_right, IsImage, image, mapped, IsWithin, within}
 use Rattle.witness_steps.proofs.Lists.{of_within, filtered}
@@ -33,9 +32,10 @@ all_by P (x ∷ xs) each = (each x (inl refl), all_by P xs (λ y i. each y (inr 
 pub differ_more : (xs : List Authenticator) (a : Authenticator) → NumbersDiffer xs
     → ((c : Authenticator) → IsAmong c xs → c.number ≢ a.number) → NumbersDiffer (xs ++ a ∷ [])
 differ_more [] a d other = (tt, tt)
-differ_more (x ∷ xs) a d other =
-    (all_by (λ c. x.number ≢ c.number) (xs ++ a ∷ []) (λ c i. by c (split c xs (a ∷ []) i)),
-    differ_more xs a d.1 (λ c i. other c (inr i)))
+differ_more (x ∷ xs) a d other = (
+  all_by (λ c. x.number ≢ c.number) (xs ++ a ∷ []) (λ c i. by c (split c xs (a ∷ []) i)),
+  differ_more xs a d.1 (λ c i. other c (inr i)),
+)
   where
     by : (c : Authenticator) → IsAmong c xs ⊎ IsAmong c (a ∷ []) → x.number ≢ c.number
     by c (inl i) = all_of (λ y. x.number ≢ y.number) xs c d.0 i
@@ -49,9 +49,11 @@ differ_filter test [] d = tt
 differ_filter test (x ∷ xs) d = by (test x) (differ_filter test xs d.1)
   where
     by : (b : Bool) → NumbersDiffer (filter test xs) → NumbersDiffer (cond b (x ∷ filter test xs) (filter test xs))
-    by true rest =
-        (all_by (λ c. x.number ≢ c.number) (filter test xs)
-        (λ c i. all_of (λ y. x.number ≢ y.number) xs c d.0 (filtered test xs c i).0), rest)
+    by true rest = (
+      all_by (λ c. x.number ≢ c.number) (filter test xs)
+          (λ c i. all_of (λ y. x.number ≢ y.number) xs c d.0 (filtered test xs c i).0),
+      rest,
+    )
     by false rest = rest
 
 -- two with one number are one
@@ -238,9 +240,10 @@ module _ (e : Option EvidenceParts) (l : List Authenticator) (ss : List SegmentP
 -- evidence that shows a pair
 pub add_exposing : (e : EvidenceParts) (q : Pair) (l : List Authenticator) (ss : List SegmentParts)
     → exposing_pairs (Some e) ≡ q ∷ [] → HoldSame (showing_of (Some e) l ss) (q ∷ showing_of None l ss)
-add_exposing e q l ss is p =
-    (λ i. to (subst (λ xs. IsAmong p (first_pair ∷ (xs ++ rest))) is i),
-    λ i. subst (λ xs. IsAmong p (first_pair ∷ (xs ++ rest))) (sym is) (from i))
+add_exposing e q l ss is p = (
+  λ i. to (subst (λ xs. IsAmong p (first_pair ∷ (xs ++ rest))) is i),
+  λ i. subst (λ xs. IsAmong p (first_pair ∷ (xs ++ rest))) (sym is) (from i),
+)
   where
     rest : List Pair
     rest = map pair_of l ++ flat_map segment_pairs ss

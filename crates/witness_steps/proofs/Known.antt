@@ -1,23 +1,23 @@
 -- A book that is known to be that of a member's own steps: its forks are those that are owed.
 -- Serves: all laws here.
-use Rattle.std.proofs.Common.{◌≡◌, ◌⊎◌, inl, inr, ℕ, ◌≤◌, Bool, true, false, cond, ◌==◌, ◌&&◌, ◌||◌, nat_le, List, []}
+use Rattle.std.proofs.Common.{◌≡◌, ℕ, ◌≤◌, true, cond, ◌==◌, ◌&&◌, nat_le, List, []}
 use Rattle.std.proofs.Common.{◌∷◌, find, length, Option, Some, None, refl, sym, ap, ap₂, subst, ◌∙◌, eqb-true}
 use Rattle.std.specs.Prelude.{is_some, option_map, option_and_then}
 use Rattle.std.proofs.lemmas.Bool.{and_parts, leb-true}
 use Rattle.authenticator.specs.declared.authenticator.Authenticator.{Authenticator}
 use Rattle.authenticator.specs.declared.member.Member.{Member}
 use Rattle.secure_log.specs.Segment.{SegmentParts}
-use Rattle.evidence_spec.specs.Showing.{ShowingParts, IsAmong}
+use Rattle.evidence_spec.specs.Showing.{ShowingParts}
 use Rattle.evidence_spec.specs.Evidence.{Charge, Fork, EvidenceParts}
 use Rattle.witness_spec.specs.Steps.{Past}
-use Rattle.witness_spec.specs.Pairs.{Pair, differ, is_fork, first_fork}
+use Rattle.witness_spec.specs.Pairs.{Pair, differ, first_fork}
 use Rattle.witness_spec.specs.Standing.{shown, is_exposed, kept, all_accepted, Stage, NoAudit, Wanted, Given, Out}
 use Rattle.witness_spec.specs.Standing.{stage_of, audited, all_found, forwards}
 use Rattle.witness_spec.specs.Exposing.{segment_holding, or_segment, fork_of, new_fork, evidence}
 use Rattle.witness_spec.specs.Histories.{HoldSame}
 use Rattle.witness_steps.specs.Books.{Book, exposed, book_shown, book_audited}
-use Rattle.witness_steps.specs.Going.{evidence_of, first_evidence, fork_evidence}
-use Rattle.witness_steps.specs.Fitting.{oldest_first, FitsTogether, IsBookOf}
+use Rattle.witness_steps.specs.Going.{first_evidence, fork_evidence}
+use Rattle.witness_steps.specs.Fitting.{FitsTogether, IsBookOf}
 use Rattle.witness_steps.proofs.Lists.{any_same, find_same, oldest_holds}
 use Rattle.witness_steps.proofs.Kept.{differ_one}
 use Rattle.witness_steps.proofs.Segments.{tile_one, tiled}

@@ -1,6 +1,6 @@
 -- The book after an authenticator that was learned.
 -- Serves: all laws here.
-use Rattle.std.proofs.Common.{◌==◌, eq-eqb, ◌≡◌, ◌≢◌, ◌⊎◌, ◌↔◌, inl, inr, ℕ, ◌+◌, ◌<◌, ◌≤◌, Bool, true, false, cond, not, nat_lt}
+use Rattle.std.proofs.Common.{◌==◌, eq-eqb, ◌≡◌, ◌≢◌, ◌⊎◌, inl, inr, ℕ, ◌+◌, ◌<◌, ◌≤◌, Bool, true, false, cond, nat_lt}
 use Rattle.std.proofs.Common.{List, [], ◌∷◌, ◌++◌, filter, length, append-nil, Option, Some, None, refl, sym, ap, ap₂, subst, ◌∙◌, arith}
 use Rattle.std.specs.Prelude.{is_some}
 use Rattle.std.proofs.lemmas.Bool.{and_from, true≢false, ltb-true, ltb-false, lt-ltb}
@@ -8,24 +8,24 @@ use Rattle.authenticator.specs.declared.authenticator.Authenticator.{Authenticat
 use Rattle.authenticator.specs.declared.member.Member.{Member}
 use Rattle.authenticator.specs.Signing.{is_same}
 use Rattle.authenticator.proofs.Signed.{list_same}
-use Rattle.secure_log.specs.Segment.{SegmentParts, segment_pairs}
+use Rattle.secure_log.specs.Segment.{segment_pairs}
 use Rattle.evidence_spec.specs.Showing.{IsAmong, authenticator_showing}
 use Rattle.evidence_spec.specs.Evidence.{EvidenceParts}
 use Rattle.witness_spec.specs.Replies.{Noted}
 use Rattle.witness_spec.specs.Steps.{Learn, Past}
-use Rattle.witness_spec.specs.Pairs.{Pair, pair_of, first_pair, same_pair, is_shown}
+use Rattle.witness_spec.specs.Pairs.{pair_of, first_pair, same_pair, is_shown}
 use Rattle.witness_spec.specs.Standing.{End, end_of, pairs_noted, shown, is_exposed, unless_exposed, noted_before, kept}
 use Rattle.witness_spec.specs.Standing.{Stage, NoAudit, Wanted, Given, Out, audited, forwards}
 use Rattle.witness_spec.specs.Exposing.{evidence}
 use Rattle.witness_spec.specs.Histories.{HoldSame}
-use Rattle.witness_steps.specs.Books.{Book, exposed, exposing_pairs, book_shown}
+use Rattle.witness_steps.specs.Books.{Book, exposed, book_shown}
 use Rattle.witness_steps.specs.Going.{first_evidence, learned_unless, fork_evidence, evidence_noted, after_learn}
-use Rattle.witness_steps.specs.Fitting.{oldest_first, FitsTogether, IsFaulty, IsMore, AreTiles, AgreesAt, IsBookOf}
+use Rattle.witness_steps.specs.Fitting.{oldest_first, FitsTogether, IsMore, AreTiles, AgreesAt}
 use Rattle.witness_steps.specs.Fitting.{NumbersDiffer}
 use Rattle.witness_laws.proofs.OfEvidence.Before.{one_shown}
-use Rattle.witness_steps.proofs.Lists.{split, on_left, on_right, passed}
-use Rattle.witness_steps.proofs.Kept.{differ_more, showing_of, Shower, AtFirst, Exposing, Learned, Segment}
-use Rattle.witness_steps.proofs.Kept.{shower, shows, fork_shows, same_after, same_through, add_learned}
+use Rattle.witness_steps.proofs.Lists.{split, on_right, passed}
+use Rattle.witness_steps.proofs.Kept.{differ_more, showing_of, Learned, Segment}
+use Rattle.witness_steps.proofs.Kept.{shows, fork_shows, same_after, same_through, add_learned}
 use Rattle.witness_steps.proofs.Kept.{add_exposing}
 use Rattle.witness_steps.proofs.Segments.{hash_at, held, more_exposed}
 use Rattle.witness_steps.proofs.Quiet.{Exposure, Hidden, Open, unsent, found_stays}
@@ -81,9 +81,11 @@ module _ (b : Book) (a : Authenticator) (fits : FitsTogether b) (is : IsNew b a)
         where
           by_rest : (t : AreTiles b) → IsMore b.end.number (exposed b) (Out c) t.more
               → IsAmong c.segment b.segments × (c.segment.first ≡ b.end.number + 1)
-          by_rest t r =
-              (subst (IsAmong c.segment) (sym (t.are ∙ ap (λ l. t.audited ++ l) r.is))
-              (on_right c.segment t.audited (c.segment ∷ []) (inl refl)), r.follows.first)
+          by_rest t r = (
+            subst (IsAmong c.segment) (sym (t.are ∙ ap (λ l. t.audited ++ l) r.is))
+                (on_right c.segment t.audited (c.segment ∷ []) (inl refl)),
+            r.follows.first,
+          )
 
       by : (x : Authenticator) → x.number ≤ c.segment.closing.number
           → IsAmong x b.learned ⊎ IsAmong x (a ∷ []) → IsAmong (pair_of x) (segment_pairs c.segment)

@@ -8,3 +8,5 @@ pub mod Learned
 pub mod Accepted
 pub mod Filed
 pub mod Steps
+pub mod Histories
+pub mod Standing

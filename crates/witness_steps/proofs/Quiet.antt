@@ -1,13 +1,12 @@
 -- Steps that leave what was shown and learned: the book after them is that of the steps.
 -- Serves: all laws here.
-use Rattle.std.proofs.Common.{◌≡◌, ◌+◌, Bool, true, false, cond, List, [], ◌∷◌, ◌++◌, drop, filter, Option, Some}
+use Rattle.std.proofs.Common.{◌≡◌, ◌+◌, true, false, cond, List, ◌∷◌, ◌++◌, drop, filter, Option, Some}
 use Rattle.std.proofs.Common.{None, fold, nat_lt, refl, sym, ap, ap₂, subst, ◌∙◌, arith, append-nil}
 use Rattle.std.specs.Prelude.{option_map, is_some}
 use Rattle.std.proofs.lemmas.List.{drop-drop}
 use Rattle.std.proofs.lemmas.List.Sums.{sum_by_from}
 use Rattle.authenticator.specs.declared.authenticator.Authenticator.{Authenticator}
 use Rattle.authenticator.specs.declared.member.Member.{Member}
-use Rattle.secure_log.specs.Segment.{SegmentParts, ClosedParts}
 use Rattle.envelopes.specs.declared.envelope.Envelope.{Envelope}
 use Rattle.envelopes.specs.declared.acknowledgement.Ack.{Ack}
 use Rattle.evidence_spec.specs.Evidence.{EvidenceParts}
@@ -16,7 +15,7 @@ use Rattle.witness_spec.specs.Replies.{Reply, Opened, Closed, Asked, Job, Return
 use Rattle.witness_spec.specs.Steps.{Step, SendChallenge, AckIn, Audit, Begin, PutBack, Forward, Ask, Past}
 use Rattle.witness_spec.specs.Done.{noted, accepted, begun, filed, forwarded}
 use Rattle.witness_spec.specs.Histories.{HoldSame}
-use Rattle.witness_spec.specs.Standing.{End, Stage, end_of, end_after, pairs_noted, pairs_accepted}
+use Rattle.witness_spec.specs.Standing.{End, end_of, end_after, pairs_noted, pairs_accepted}
 use Rattle.witness_spec.specs.Standing.{shown, is_exposed, unless_exposed, noted_before, kept}
 use Rattle.witness_spec.specs.Standing.{segment_of, all_accepted, stage_after, stage_of, begins, open_after}
 use Rattle.witness_spec.specs.Standing.{open_challenges, found_filed, all_found, forwards, outbox}
@@ -127,8 +126,15 @@ module _ (ms : List Member) (m : Member) (past : Past) where
     shown = of.shown;
   }
   having_challenged e r b x of =
-      quiet (SendChallenge e, r) b (record { notes = refl; accepts = refl; files = refl; begins = refl;
-      forwards = refl; stage = refl; challenges = refl }) x of
+      quiet (SendChallenge e, r) b (record {
+        notes = refl;
+        accepts = refl;
+        files = refl;
+        begins = refl;
+        forwards = refl;
+        stage = refl;
+        challenges = refl;
+      }) x of
 
   -- after an acknowledgement
   pub having_acked : (a : Ack) (r : Reply) (b : Book) → Exposure ms m past → IsBookOf ms m past b
@@ -146,8 +152,15 @@ module _ (ms : List Member) (m : Member) (past : Past) where
     shown = of.shown;
   }
   having_acked a r b x of =
-      quiet (AckIn a, r) b (record { notes = refl; accepts = refl; files = refl; begins = refl;
-      forwards = refl; stage = refl; challenges = refl }) x of
+      quiet (AckIn a, r) b (record {
+        notes = refl;
+        accepts = refl;
+        files = refl;
+        begins = refl;
+        forwards = refl;
+        stage = refl;
+        challenges = refl;
+      }) x of
 
   -- ---- audits and jobs
 
@@ -167,8 +180,15 @@ module _ (ms : List Member) (m : Member) (past : Past) where
     shown = of.shown;
   }
   having_asked r b x of =
-      quiet (Audit, r) b (record { notes = refl; accepts = refl; files = refl; begins = refl;
-      forwards = refl; stage = refl; challenges = refl }) x of
+      quiet (Audit, r) b (record {
+        notes = refl;
+        accepts = refl;
+        files = refl;
+        begins = refl;
+        forwards = refl;
+        stage = refl;
+        challenges = refl;
+      }) x of
 
   -- after a job began
   pub having_begun : (r : Reply) (b : Book) → Exposure ms m past → IsBookOf ms m past b
@@ -187,8 +207,15 @@ module _ (ms : List Member) (m : Member) (past : Past) where
     shown = of.shown;
   }
   having_begun r b x of =
-      quiet (Begin, r) b (record { notes = refl; accepts = refl; files = refl; begins = refl;
-      forwards = refl; stage = refl; challenges = refl }) x of
+      quiet (Begin, r) b (record {
+        notes = refl;
+        accepts = refl;
+        files = refl;
+        begins = refl;
+        forwards = refl;
+        stage = refl;
+        challenges = refl;
+      }) x of
 
   -- after a job that was put back
   pub having_put_back : (j : JobParts) (r : Reply) (b : Book) → Exposure ms m past → IsBookOf ms m past b
@@ -206,8 +233,15 @@ module _ (ms : List Member) (m : Member) (past : Past) where
     shown = of.shown;
   }
   having_put_back j r b x of =
-      quiet (PutBack j, r) b (record { notes = refl; accepts = refl; files = refl; begins = refl;
-      forwards = refl; stage = refl; challenges = refl }) x of
+      quiet (PutBack j, r) b (record {
+        notes = refl;
+        accepts = refl;
+        files = refl;
+        begins = refl;
+        forwards = refl;
+        stage = refl;
+        challenges = refl;
+      }) x of
 
   -- ---- what is asked for
 
@@ -231,12 +265,26 @@ module _ (ms : List Member) (m : Member) (past : Past) where
     shown = of.shown;
   }
   having_forwarded r b x of =
-      quiet (Forward, r) b (record { notes = refl; accepts = refl; files = refl; begins = refl;
-      forwards = refl; stage = refl; challenges = refl }) x of
+      quiet (Forward, r) b (record {
+        notes = refl;
+        accepts = refl;
+        files = refl;
+        begins = refl;
+        forwards = refl;
+        stage = refl;
+        challenges = refl;
+      }) x of
 
   -- after a question
   pub having_told : (q : Question) (r : Reply) (b : Book) → Exposure ms m past → IsBookOf ms m past b
       → IsBookOf ms m ((Ask q, r) ∷ past) b
   having_told q r b x of =
-      quiet (Ask q, r) b (record { notes = refl; accepts = refl; files = refl; begins = refl;
-      forwards = refl; stage = refl; challenges = refl }) x of
+      quiet (Ask q, r) b (record {
+        notes = refl;
+        accepts = refl;
+        files = refl;
+        begins = refl;
+        forwards = refl;
+        stage = refl;
+        challenges = refl;
+      }) x of

@@ -1,24 +1,22 @@
 -- The book of a member after its own steps replies what is owed.
 -- Serves: all laws here.
 use Rattle.std.proofs.Common.{◌≡◌, ◌↔◌, ℕ, ◌+◌, Bool, true, false, cond, not, ◌&&◌, nat_lt, nat_le, List, []}
-use Rattle.std.proofs.Common.{◌∷◌, ◌++◌, map, filter, fold, max, length, Option, Some, None, Decides, refl, sym, ap}
-use Rattle.std.proofs.Common.{ap₂, subst, ◌∙◌}
-use Rattle.std.specs.Prelude.{is_some}
+use Rattle.std.proofs.Common.{◌∷◌, ◌++◌, map, filter, fold, max, length, Some, refl, sym, ap}
+use Rattle.std.proofs.Common.{◌∙◌}
 use Rattle.authenticator.specs.declared.authenticator.Authenticator.{Authenticator}
 use Rattle.authenticator.specs.declared.member.Member.{Member}
 use Rattle.secure_log.specs.Segment.{ClosedParts}
 use Rattle.envelopes.specs.Acknowledgement.{acked_message}
-use Rattle.witness_spec.specs.Refusals.{LearnedFull, NothingToAudit, Busy, NoJob, WrongJob}
+use Rattle.witness_spec.specs.Refusals.{LearnedFull, NothingToAudit, NoJob, WrongJob}
 use Rattle.witness_spec.specs.Events.{JobParts, Question, ItsIndication, ItsChallenges, ItsEvidence}
 use Rattle.witness_spec.specs.Replies.{Reply, Noted, Already, Job, Filed, Returned, Told, OpenList, EvidenceIs}
 use Rattle.witness_spec.specs.Replies.{Refused, FileRefused, PutBackRefused, Exposed}
 use Rattle.witness_spec.specs.Steps.{Step, Learn, SendChallenge, Answer, AckIn, Audit, Begin, File, PutBack}
 use Rattle.witness_spec.specs.Steps.{Forward, Ask, Past}
 use Rattle.witness_spec.specs.Limits.{MAX_LEARNED, MAX_ASKED}
-use Rattle.witness_spec.specs.Pairs.{Pair, pair_of, same_pair, differ, is_shown, is_fork}
+use Rattle.witness_spec.specs.Pairs.{pair_of, same_pair, differ, is_shown, is_fork}
 use Rattle.witness_spec.specs.Standing.{End, Stage, NoAudit, Wanted, Given, Out, end_of, shown, is_exposed, kept}
 use Rattle.witness_spec.specs.Standing.{stage_of, begins, out_at, open_challenges, without_evidence, outbox}
-use Rattle.witness_spec.specs.Exposing.{evidence}
 use Rattle.witness_spec.specs.Owing as owing
 use Rattle.witness_spec.specs.Owing.{Owes, ask_reply, ask_up_to, last_in_reach, answer_reply, back_reply}
 use Rattle.witness_spec.specs.Owing.{challenge_reply, ack_reply, forward_reply, reply_told}
@@ -62,7 +60,7 @@ module _ (ms : List Member) (m : Member) (past : Past) (b : Book) (of : IsBookOf
       let count : length b.learned ≡ length (kept ms m past) =
       ap length of.learned ∙ length_oldest (kept ms m past) in
       let room : owing.has_no_room ms m past a ≡ not (is_fork (pair_of a) (book_shown b))
-          && (nat_lt b.end.number a.number && nat_le MAX_LEARNED (length b.learned)) =
+      && (nat_lt b.end.number a.number && nat_le MAX_LEARNED (length b.learned)) =
       ap (λ x. not x && (nat_lt (end_of ms m past).number a.number
       && nat_le MAX_LEARNED (length (kept ms m past)))) (sym fork)
       ∙ (ap (λ (e : End). not (is_fork (pair_of a) (book_shown b)) && (nat_lt e.number a.number

@@ -1,10 +1,9 @@
 -- Places in segments, and segments that follow on one another.
 -- Serves: all laws here.
-use Rattle.std.proofs.Common.{◌≡◌, ◌⊎◌, inl, inr, ℕ, ◌+◌, ◌-◌, ◌<◌, ◌≤◌, Bool, true, false, cond, nat_lt, nat_le}
+use Rattle.std.proofs.Common.{◌≡◌, inl, inr, ℕ, ◌+◌, ◌-◌, ◌<◌, ◌≤◌, Bool, true, false, cond, nat_lt, nat_le}
 use Rattle.std.proofs.Common.{List, [], ◌∷◌, ◌++◌, length, filter, flat_map, refl, sym, ap, ap₂, subst, ◌∙◌, arith}
 use Rattle.std.proofs.Common.{append-nil}
 use Rattle.std.proofs.lemmas.Bool.{ltb-true, ltb-false, le-leb, leb-true}
-use Rattle.std.proofs.lemmas.Grind.{flat_map-append}
 use Rattle.std.proofs.lemmas.List.Elements.{filter-append}
 use Rattle.secure_log.specs.declared.log_entries.entry.Entry.{Entry}
 use Rattle.secure_log.specs.LogEntries.Chain.{pairs, hash_after, last_hash, link_of, links_from}
@@ -13,8 +12,8 @@ use Rattle.evidence_spec.specs.Showing.{IsAmong}
 use Rattle.witness_spec.specs.Pairs.{Pair, pair_of}
 use Rattle.witness_spec.specs.Standing.{Stage, NoAudit, Wanted, Given, Out}
 use Rattle.witness_steps.specs.Books.{Book, exposed, is_audited, book_audited}
-use Rattle.witness_steps.specs.Fitting.{IsWhole, Tile, Follows, IsOne, IsFaulty, IsMore, AreTiles}
-use Rattle.witness_steps.proofs.Lists.{split, on_left}
+use Rattle.witness_steps.specs.Fitting.{IsWhole, Tile, Follows, IsOne, IsMore, AreTiles}
+use Rattle.witness_steps.proofs.Lists.{on_left}
 
 -- ---- places
 

@@ -1,7 +1,7 @@
 -- What is known of a book stays known after each step that gets the reply that is owed to it.
 -- Serves: all laws here.
 use Rattle.std.proofs.Common.{◌≡◌, ◌⊎◌, inl, inr, ℕ, ◌+◌, ◌-◌, ◌<◌, ◌≤◌, Bool, true, false, cond, ◌==◌, ◌&&◌, nat_lt}
-use Rattle.std.proofs.Common.{List, [], ◌∷◌, ◌++◌, drop, length, length-drop, append-nil, Option, Some, None, fold, refl, sym}
+use Rattle.std.proofs.Common.{List, [], ◌∷◌, ◌++◌, length, length-drop, append-nil, Option, Some, None, fold, refl, sym}
 use Rattle.std.proofs.Common.{ap, ap₂, subst, ◌∙◌, arith, eqb-true}
 use Rattle.std.specs.Prelude.{is_some}
 use Rattle.std.specs.List.{AllByRecursion}
@@ -15,22 +15,22 @@ use Rattle.envelopes.specs.declared.acknowledgement.Ack.{Ack}
 use Rattle.state_spec.specs.State.{State}
 use Rattle.replay_spec.specs.Replay.{segment_verdict}
 use Rattle.evidence_spec.specs.Showing.{IsAmong}
-use Rattle.witness_spec.specs.Refusals.{Refusal, NotAsked, TooFar, BookFull, OutboxFull, LearnedFull, NothingToAudit}
+use Rattle.witness_spec.specs.Refusals.{NotAsked, TooFar, BookFull, OutboxFull, LearnedFull, NothingToAudit}
 use Rattle.witness_spec.specs.Events.{JobParts, DoneParts, Question}
 use Rattle.witness_spec.specs.Replies.{Reply, Noted, Already, Opened, Accepted, Closed, Asked, Job, Filed, Returned}
-use Rattle.witness_spec.specs.Replies.{Forwarded, Empty, Refused, Challenge}
+use Rattle.witness_spec.specs.Replies.{Forwarded, Refused, Challenge}
 use Rattle.witness_spec.specs.Steps.{Step, Learn, SendChallenge, Answer, AckIn, Audit, Begin, File, PutBack}
 use Rattle.witness_spec.specs.Steps.{Forward, Ask, Past}
 use Rattle.witness_spec.specs.Limits.{MAX_AUDITED, MAX_OUTBOX}
-use Rattle.witness_spec.specs.Pairs.{Pair, pair_of, is_shown}
+use Rattle.witness_spec.specs.Pairs.{pair_of, is_shown}
 use Rattle.witness_spec.specs.Done as did
 use Rattle.witness_spec.specs.Done.{forwarded}
 use Rattle.witness_spec.specs.Standing.{End, end_of, entries_filed, audited, shown, is_exposed, Stage, NoAudit, Wanted}
-use Rattle.witness_spec.specs.Standing.{Given, Out, stage_of, all_found, forwards, outbox, verdict_on}
+use Rattle.witness_spec.specs.Standing.{Given, Out, all_found, forwards, outbox}
 use Rattle.witness_spec.specs.Owing.{has_no_room, answer_reply, last_in_reach, ask_up_to, ask_reply, back_reply}
 use Rattle.witness_spec.specs.Owing.{forward_reply, Owes}
-use Rattle.witness_steps.specs.Books.{Book, exposed, book_shown, job_of, job_out_at, job_out}
-use Rattle.witness_steps.specs.Replying.{book_reply, reply_to_audit, reply_to_begin, BookOwes}
+use Rattle.witness_steps.specs.Books.{Book, exposed, job_of, job_out_at, job_out}
+use Rattle.witness_steps.specs.Replying.{reply_to_audit, reply_to_begin, BookOwes}
 use Rattle.witness_steps.specs.Going.{after_learn, after_send_challenge, after_answer, after_ack, after_audit}
 use Rattle.witness_steps.specs.Going.{after_begin, after_file, after_put_back, after_forward, book_after}
 use Rattle.witness_steps.specs.Fitting.{IsMore, IsFaulty, AgreesAt, FitsTogether}
@@ -40,7 +40,7 @@ use Rattle.witness_laws.proofs.OfEvidence.Before.{one_shown}
 use Rattle.witness_steps.proofs.Lists.{on_right}
 use Rattle.witness_steps.proofs.Kept.{shows, Learned, Segment}
 use Rattle.witness_steps.proofs.Segments.{hash_at}
-use Rattle.witness_steps.proofs.Quiet.{Exposure, Hidden, Open, DoesNothing, quiet, found_stays, having_challenged}
+use Rattle.witness_steps.proofs.Quiet.{Exposure, DoesNothing, quiet, found_stays, having_challenged}
 use Rattle.witness_steps.proofs.Quiet.{having_acked, having_asked, having_begun, having_put_back, having_forwarded}
 use Rattle.witness_steps.proofs.Replies.{owes_same}
 use Rattle.witness_steps.proofs.Known.{Known, RosterAt, exposed_same}
@@ -258,8 +258,15 @@ module _ (ms : List Member) (m : Member) (past : Past) (b : Book) (k : Known ms 
     roster = k.roster;
   }
   challenged e r x =
-      known_quiet (SendChallenge e, r) (record { notes = refl; accepts = refl; files = refl; begins = refl;
-      forwards = refl; stage = refl; challenges = refl }) x
+      known_quiet (SendChallenge e, r) (record {
+        notes = refl;
+        accepts = refl;
+        files = refl;
+        begins = refl;
+        forwards = refl;
+        stage = refl;
+        challenges = refl;
+      }) x
 
   acked : (a : Ack) (r : Reply) → Exposure ms m ((AckIn a, r) ∷ past)
       → Known ms m ((AckIn a, r) ∷ past) (after_ack b a r)
@@ -272,13 +279,27 @@ module _ (ms : List Member) (m : Member) (past : Past) (b : Book) (k : Known ms 
     roster = k.roster;
   }
   acked a r x =
-      known_quiet (AckIn a, r) (record { notes = refl; accepts = refl; files = refl; begins = refl;
-      forwards = refl; stage = refl; challenges = refl }) x
+      known_quiet (AckIn a, r) (record {
+        notes = refl;
+        accepts = refl;
+        files = refl;
+        begins = refl;
+        forwards = refl;
+        stage = refl;
+        challenges = refl;
+      }) x
 
   told : (q : Question) (r : Reply) → Exposure ms m ((Ask q, r) ∷ past) → Known ms m ((Ask q, r) ∷ past) b
   told q r x =
-      known_quiet (Ask q, r) (record { notes = refl; accepts = refl; files = refl; begins = refl;
-      forwards = refl; stage = refl; challenges = refl }) x
+      known_quiet (Ask q, r) (record {
+        notes = refl;
+        accepts = refl;
+        files = refl;
+        begins = refl;
+        forwards = refl;
+        stage = refl;
+        challenges = refl;
+      }) x
 
   -- ---- what is forwarded
 
@@ -303,8 +324,15 @@ module _ (ms : List Member) (m : Member) (past : Past) (b : Book) (k : Known ms 
     roster = k.roster;
   }
   forwarded_one r h x =
-      known_quiet (Forward, r) (record { notes = refl; accepts = refl; files = refl; begins = refl;
-      forwards = refl; stage = refl; challenges = refl }) x
+      known_quiet (Forward, r) (record {
+        notes = refl;
+        accepts = refl;
+        files = refl;
+        begins = refl;
+        forwards = refl;
+        stage = refl;
+        challenges = refl;
+      }) x
 
   -- ---- audits and jobs
 
@@ -327,8 +355,15 @@ module _ (ms : List Member) (m : Member) (past : Past) (b : Book) (k : Known ms 
       by a (inl e) = (e, a.first_is, a.order)
       by a (inr f) = absurd (true≢false (sym f.exposed ∙ a.hidden))
   asked r h x =
-      known_quiet (Audit, r) (record { notes = refl; accepts = refl; files = refl; begins = refl;
-      forwards = refl; stage = refl; challenges = refl }) x
+      known_quiet (Audit, r) (record {
+        notes = refl;
+        accepts = refl;
+        files = refl;
+        begins = refl;
+        forwards = refl;
+        stage = refl;
+        challenges = refl;
+      }) x
 
   -- what is kept agrees with a segment that was accepted, where the node isn't exposed
   agreeing : (c : ClosedParts) → b.stage ≡ Given c → exposed b ≡ false → AgreesAt (Out c) b.learned
@@ -363,8 +398,15 @@ module _ (ms : List Member) (m : Member) (past : Past) (b : Book) (k : Known ms 
         roster = subst (RosterAt ms) (sym k.of.stage ∙ g.given) k.roster;
       }
   begun_one r h x =
-      known_quiet (Begin, r) (record { notes = refl; accepts = refl; files = refl; begins = refl;
-      forwards = refl; stage = refl; challenges = refl }) x
+      known_quiet (Begin, r) (record {
+        notes = refl;
+        accepts = refl;
+        files = refl;
+        begins = refl;
+        forwards = refl;
+        stage = refl;
+        challenges = refl;
+      }) x
 
   put_back : (j : JobParts) (r : Reply) → (r ≡ Returned → job_out b ≡ Some j)
       → Exposure ms m ((PutBack j, r) ∷ past) → Known ms m ((PutBack j, r) ∷ past) (after_put_back b j r)
@@ -380,8 +422,15 @@ module _ (ms : List Member) (m : Member) (past : Past) (b : Book) (k : Known ms 
         roster = subst (RosterAt ms) (sym k.of.stage ∙ o.at) k.roster;
       }
   put_back j r h x =
-      known_quiet (PutBack j, r) (record { notes = refl; accepts = refl; files = refl; begins = refl;
-      forwards = refl; stage = refl; challenges = refl }) x
+      known_quiet (PutBack j, r) (record {
+        notes = refl;
+        accepts = refl;
+        files = refl;
+        begins = refl;
+        forwards = refl;
+        stage = refl;
+        challenges = refl;
+      }) x
 
   -- ---- what is handed in, and what is filed
 
@@ -401,15 +450,29 @@ module _ (ms : List Member) (m : Member) (past : Past) (b : Book) (k : Known ms 
       (unshown a (is_exposed ms m past) (is_shown (pair_of a) (shown ms m past)) (has_no_room ms m past a) refl refl h)
       x
   noted a r h x =
-      known_quiet (Learn a, r) (record { notes = refl; accepts = refl; files = refl; begins = refl;
-      forwards = refl; stage = refl; challenges = refl }) x
+      known_quiet (Learn a, r) (record {
+        notes = refl;
+        accepts = refl;
+        files = refl;
+        begins = refl;
+        forwards = refl;
+        stage = refl;
+        challenges = refl;
+      }) x
 
   accepted : (c : ClosedParts) (r : Reply) → r ≡ answer_reply b.stage c → IsCheckedStep ms m (Answer c)
       → Exposure ms m ((Answer c, r) ∷ past) → Known ms m ((Answer c, r) ∷ past) (after_answer b c r)
   accepted c Accepted h given x = accepted_known ms m past b c k given (was_wanted b.stage c h) x
   accepted c r h given x =
-      known_quiet (Answer c, r) (record { notes = refl; accepts = refl; files = refl; begins = refl;
-      forwards = refl; stage = refl; challenges = refl }) x
+      known_quiet (Answer c, r) (record {
+        notes = refl;
+        accepts = refl;
+        files = refl;
+        begins = refl;
+        forwards = refl;
+        stage = refl;
+        challenges = refl;
+      }) x
 
   filed : (d : DoneParts) (r : Reply) → (r ≡ Filed → job_out b ≡ Some d.job) → IsDoneStep (File d)
       → Exposure ms m ((File d, r) ∷ past) → Known ms m ((File d, r) ∷ past) (after_file b d r)
@@ -421,8 +484,15 @@ module _ (ms : List Member) (m : Member) (past : Past) (b : Book) (k : Known ms 
       filed_known ms m past b d k o.at
       (sym (done ∙ ap₂ (λ (ns : List Member) (s : State). segment_verdict ns s d.job.segment.segment) roster state)) x
   filed d r h done x =
-      known_quiet (File d, r) (record { notes = refl; accepts = refl; files = refl; begins = refl;
-      forwards = refl; stage = refl; challenges = refl }) x
+      known_quiet (File d, r) (record {
+        notes = refl;
+        accepts = refl;
+        files = refl;
+        begins = refl;
+        forwards = refl;
+        stage = refl;
+        challenges = refl;
+      }) x
 
   -- ---- all steps
 

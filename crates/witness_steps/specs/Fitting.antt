@@ -7,7 +7,7 @@ use Rattle.secure_log.specs.Segment.{SegmentParts, segment_pairs}
 use Rattle.evidence_spec.specs.Showing.{IsAmong}
 use Rattle.witness_spec.specs.Steps.{Past}
 use Rattle.witness_spec.specs.Pairs.{pair_of}
-use Rattle.witness_spec.specs.Standing.{end_of, audited, shown, kept, all_accepted, Stage, NoAudit, Wanted}
+use Rattle.witness_spec.specs.Standing.{end_of, shown, kept, all_accepted, Stage, NoAudit, Wanted}
 use Rattle.witness_spec.specs.Standing.{Given, Out, stage_of, begins, open_challenges, outbox}
 use Rattle.witness_spec.specs.Exposing.{evidence}
 use Rattle.witness_spec.specs.Histories.{HoldSame}

@@ -158,6 +158,6 @@ book_after b Forward reply = after_forward b reply
 book_after b (Ask question) reply = b
 
 -- the book of a member after its own steps
-abbrev pub book_of : Member → Past → Book
-book_of m [] = book_opening m
-book_of m (p ∷ past) = book_after (book_of m past) p.0 p.1
+abbrev pub book_after_steps : Member → Past → Book
+book_after_steps m [] = book_opening m
+book_after_steps m (p ∷ past) = book_after (book_after_steps m past) p.0 p.1

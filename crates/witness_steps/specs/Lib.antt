@@ -2,3 +2,4 @@ pub mod Books
 pub mod Replying
 pub mod Going
 pub mod Fitting
+pub mod Laws

@@ -1,5 +1,5 @@
 -- What is replied to a step by the book alone. Refusals are tried in the order in which they stand.
-use Rattle.std.specs.Prelude.{◌≡◌, ◌+◌, Bool, not, ◌&&◌, nat_lt, nat_le, length, Option, Some}
+use Rattle.std.specs.Prelude.{◌≡◌, ◌+◌, Bool, not, ◌&&◌, nat_lt, nat_le, length, Some}
 use Rattle.std.specs.Prelude.{Decides, if◌then◌else◌}
 use Rattle.authenticator.specs.declared.authenticator.Authenticator.{Authenticator}
 use Rattle.secure_log.specs.Segment.{ClosedParts}

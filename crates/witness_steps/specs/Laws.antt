@@ -1,0 +1,55 @@
+-- What holds of books. Each is the contract of a function here.
+use Rattle.std.specs.Prelude.{◌≡◌, ◌↔◌, List, map, Some}
+use Rattle.authenticator.specs.Roster.{IsRoster, member_of}
+use Rattle.authenticator.specs.declared.member.Member.{Member}
+use Rattle.witness_spec.specs.Replies.{Reply}
+use Rattle.witness_spec.specs.Steps.{Step}
+use Rattle.witness_spec.specs.Standing.{audited, indication}
+use Rattle.witness_spec.specs.Owing.{Owes}
+use Rattle.witness_spec.specs.Histories.{History, own, IsHistory, Stands}
+use Rattle.witness_steps.specs.Books.{book_audited, book_indication, parts_of}
+use Rattle.witness_steps.specs.Replying.{BookOwes}
+use Rattle.witness_steps.specs.Going.{book_after_steps}
+use Rattle.witness_steps.specs.Fitting.{FitsTogether, IsBookOf}
+
+-- A member's book after its own steps of a history replies to each step what is owed after that history, and
+-- nothing else.
+abbrev pub BooksOweTheSame : Type 0
+BooksOweTheSame =
+    (ms : List Member) (m : Member) (history : History) (step : Step) (reply : Reply)
+    → member_of ms m.node ≡ Some m → IsHistory ms history
+    → Owes ms m (own ms m.node history) step reply ↔ BookOwes (book_after_steps m (own ms m.node history)) step reply
+
+-- It holds what the steps say.
+abbrev pub BooksAreOfTheirSteps : Type 0
+BooksAreOfTheirSteps =
+    (ms : List Member) (m : Member) (history : History)
+    → member_of ms m.node ≡ Some m → IsHistory ms history
+    → IsBookOf ms m (own ms m.node history) (book_after_steps m (own ms m.node history))
+
+-- Its parts fit together.
+abbrev pub BooksFitTogether : Type 0
+BooksFitTogether =
+    (ms : List Member) (m : Member) (history : History)
+    → member_of ms m.node ≡ Some m → IsHistory ms history
+    → FitsTogether (book_after_steps m (own ms m.node history))
+
+-- It tells the indication that is told of the node: so there is evidence exactly where the node is Exposed.
+abbrev pub BooksTellTheSame : Type 0
+BooksTellTheSame =
+    (ms : List Member) (m : Member) (history : History)
+    → member_of ms m.node ≡ Some m → IsHistory ms history
+    → book_indication (book_after_steps m (own ms m.node history)) ≡ indication ms m (own ms m.node history)
+
+-- The entries of its audited segments are those that were audited.
+abbrev pub BooksHaveTheAudited : Type 0
+BooksHaveTheAudited =
+    (ms : List Member) (m : Member) (history : History)
+    → member_of ms m.node ≡ Some m → IsHistory ms history
+    → book_audited (book_after_steps m (own ms m.node history)) ≡ audited ms m (own ms m.node history)
+
+-- The books of all members stand for the history.
+abbrev pub BooksStand : Type 0
+BooksStand =
+    (ms : List Member) (history : History) → IsRoster ms → IsHistory ms history
+    → Stands ms (map (λ m. parts_of (book_after_steps m (own ms m.node history))) ms) history
