@@ -10,7 +10,7 @@ use Rattle.evidence_spec.specs.Evidence.{EvidenceParts}
 use Rattle.witness_spec.specs.Replies.{Accepted}
 use Rattle.witness_spec.specs.Steps.{Answer, Past}
 use Rattle.witness_spec.specs.Pairs.{Pair, pair_of}
-use Rattle.witness_spec.specs.Standing.{shown, open_after, Stage, Wanted, audited, forwards}
+use Rattle.witness_spec.specs.Standing.{shown, all_accepted, open_after, Stage, Wanted, audited, forwards}
 use Rattle.witness_spec.specs.Exposing.{evidence}
 use Rattle.witness_spec.specs.Histories.{HoldSame}
 use Rattle.witness_steps.specs.Books.{Book, exposed, book_shown}
@@ -19,7 +19,7 @@ use Rattle.witness_steps.specs.Fitting.{IsWhole, IsMore, FitsTogether}
 use Rattle.witness_laws.proofs.Checked.{IsGiven}
 use Rattle.witness_laws.proofs.OfEvidence.Audits.{good_given}
 use Rattle.witness_laws.proofs.OfEvidence.Before.{first_some}
-use Rattle.witness_steps.proofs.Lists.{split, on_left}
+use Rattle.witness_steps.proofs.Lists.{split, on_left, same_more}
 use Rattle.witness_steps.proofs.Kept.{showing_of, fork_shows, same_past, same_through, add_segment, add_exposing}
 use Rattle.witness_steps.proofs.Segments.{closes, audited_are}
 use Rattle.witness_steps.proofs.Quiet.{Exposure, unsent, found_stays}
@@ -65,7 +65,7 @@ module _ (ms : List Member) (m : Member) (past : Past) (b : Book) (c : ClosedPar
       same_through (with_it b.evidence) (segment_pairs c.segment ++ book_shown b)
       (segment_pairs c.segment ++ shown ms m past)
       (add_segment b.evidence b.learned b.segments c.segment)
-      (same_past (segment_pairs c.segment) (book_shown b) (shown ms m past) k.of.shown)
+      (same_past (segment_pairs c.segment) (book_shown b) (shown ms m past) k.of.stands.pairs)
 
   -- where there is evidence now, it shows the segment's closing besides
   newer : (e : EvidenceParts) → b.evidence ≡ None → evidence_accepted b c.segment ≡ Some e → IsWhole c.segment
@@ -156,17 +156,20 @@ module _ (ms : List Member) (m : Member) (past : Past) (b : Book) (c : ClosedPar
       record {
         of = record {
           node = k.of.node;
-          end = k.of.end;
+          stands = record {
+          end = k.of.stands.end;
           stage = refl;
-          begun = k.of.begun;
-          learned = k.of.learned;
-          segments = ap (λ l. l ++ c.segment ∷ []) k.of.segments;
-          challenges = ap (λ xs. open_after xs (Answer c) Accepted) k.of.challenges;
+          begun = k.of.stands.begun;
+          learned = k.of.stands.learned;
+          segments = same_more c.segment b.segments (all_accepted past) k.of.stands.segments;
+          challenges = ap (λ xs. open_after xs (Answer c) Accepted) k.of.stands.challenges;
           outbox = unsent ms m past (Answer c, Accepted) b refl refl k.of;
           evidence = accepted_evidence;
-          shown = showing whole;
+          pairs = showing whole;
+          };
         };
         fits = f;
+        kept_differ = k.kept_differ;
         exposure = x;
         audited = audited_are after f.tiles ∙ (sym (audited_are b k.fits.tiles) ∙ (k.audited
             ∙ sym (append-nil (audited ms m past))));

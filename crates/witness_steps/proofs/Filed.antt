@@ -26,8 +26,8 @@ use Rattle.witness_spec.specs.Histories.{HoldSame}
 use Rattle.witness_steps.specs.Books.{Book, exposed, exposing_pairs, book_shown, book_audited}
 use Rattle.witness_steps.specs.Going.{evidence_of, first_evidence, verdict_charge, evidence_filed, learned_above}
 use Rattle.witness_steps.specs.Going.{having_filed, after_file}
-use Rattle.witness_steps.specs.Fitting.{oldest_first, IsOne, IsMore, AgreesAt, FitsTogether}
-use Rattle.witness_steps.proofs.Lists.{filtered, passing, filter_oldest, on_right}
+use Rattle.witness_steps.specs.Fitting.{NumbersDiffer, IsOne, IsMore, AgreesAt, FitsTogether}
+use Rattle.witness_steps.proofs.Lists.{filtered, passing, same_filter, on_right}
 use Rattle.witness_steps.proofs.Kept.{differ_filter, showing_of, Shower, AtFirst, Exposing, Learned, Segment, shower}
 use Rattle.witness_steps.proofs.Kept.{shows, same_through}
 use Rattle.witness_steps.proofs.Segments.{tile_more, audited_are}
@@ -153,29 +153,44 @@ module _ (ms : List Member) (m : Member) (past : Past) (b : Book) (d : DoneParts
           same_through
           (showing_of b.evidence (filter (λ (a : Authenticator). nat_lt s.closing.number a.number) b.learned)
           b.segments)
-          (showing_of b.evidence b.learned b.segments) (shown ms m past) fewer k.of.shown
-      by (Fault fault number) = k.of.shown
+          (showing_of b.evidence b.learned b.segments) (shown ms m past) fewer k.of.stands.pairs
+      by (Fault fault number) = k.of.stands.pairs
 
   -- ---- what is kept
 
-  kept_same : (v : Verdict) → found_by ≡ v
-      → learned_above s v b.learned ≡ oldest_first (kept ms m ((File d, Filed) ∷ past))
-  kept_same v is =
-      by v ∙ ap (λ (w : Verdict). oldest_first (filter (λ (a : Authenticator).
-      nat_lt (moved_by (end_of ms m past) s.closing.number w).number a.number) (noted_before ms m past))) (sym is)
-    where
-      low : (end_of ms m past).number ≤ s.closing.number
-      low = subst (λ (e : End). e.number ≤ s.closing.number) k.of.end (omega (arith, one.follows.some))
+  low : (end_of ms m past).number ≤ s.closing.number
+  low = subst (λ (e : End). e.number ≤ s.closing.number) k.of.stands.end (omega (arith, one.follows.some))
 
-      by : (v : Verdict) → learned_above s v b.learned
-          ≡ oldest_first (filter (λ (a : Authenticator).
-          nat_lt (moved_by (end_of ms m past) s.closing.number v).number a.number) (noted_before ms m past))
+  -- what is kept after a verdict
+  abbrev kept_by : Verdict → List Authenticator
+  kept_by v =
+      filter (λ (a : Authenticator). nat_lt (moved_by (end_of ms m past) s.closing.number v).number a.number)
+      (noted_before ms m past)
+
+  kept_is : (v : Verdict) → found_by ≡ v → kept ms m ((File d, Filed) ∷ past) ≡ kept_by v
+  kept_is v is = ap (λ w. kept_by w) is
+
+  kept_same : (v : Verdict) → found_by ≡ v
+      → HoldSame (learned_above s v b.learned) (kept ms m ((File d, Filed) ∷ past))
+  kept_same v is = subst (HoldSame (learned_above s v b.learned)) (sym (kept_is v is)) (by v)
+    where
+      by : (v : Verdict) → HoldSame (learned_above s v b.learned) (kept_by v)
       by (Sound t found) =
-          ap (λ l. filter (λ (a : Authenticator). nat_lt s.closing.number a.number) l) k.of.learned
-          ∙ (filter_oldest (λ (a : Authenticator). nat_lt s.closing.number a.number) (kept ms m past)
-          ∙ ap (λ l. oldest_first l)
-          (still_above (end_of ms m past).number s.closing.number (noted_before ms m past) low))
-      by (Fault fault number) = k.of.learned
+          subst (HoldSame (filter (λ (a : Authenticator). nat_lt s.closing.number a.number) b.learned))
+          (still_above (end_of ms m past).number s.closing.number (noted_before ms m past) low)
+          (same_filter (λ (a : Authenticator). nat_lt s.closing.number a.number) b.learned (kept ms m past)
+          k.of.stands.learned)
+      by (Fault fault number) = k.of.stands.learned
+
+  kept_numbers : (v : Verdict) → found_by ≡ v → NumbersDiffer (kept ms m ((File d, Filed) ∷ past))
+  kept_numbers v is = subst NumbersDiffer (sym (kept_is v is)) (by v)
+    where
+      by : (v : Verdict) → NumbersDiffer (kept_by v)
+      by (Sound t found) =
+          subst NumbersDiffer
+          (still_above (end_of ms m past).number s.closing.number (noted_before ms m past) low)
+          (differ_filter (λ (a : Authenticator). nat_lt s.closing.number a.number) (kept ms m past) k.kept_differ)
+      by (Fault fault number) = k.kept_differ
 
   -- ---- its parts
 
@@ -232,18 +247,21 @@ module _ (ms : List Member) (m : Member) (past : Past) (b : Book) (d : DoneParts
   known_by v is x = record {
     of = record {
       node = k.of.node;
-      end = ap₂ (λ (e : End) (w : Verdict). moved_by e s.closing.number w) k.of.end (sym is);
+      stands = record {
+      end = ap₂ (λ (e : End) (w : Verdict). moved_by e s.closing.number w) k.of.stands.end (sym is);
       stage = refl;
-      begun = k.of.begun;
+      begun = k.of.stands.begun;
       learned = kept_same v is;
-      segments = k.of.segments;
-      challenges = k.of.challenges;
-      outbox = ap₂ (λ (xs ys : List Authenticator). xs ++ ys) k.of.outbox (ap sound_found (sym is))
+      segments = k.of.stands.segments;
+      challenges = k.of.stands.challenges;
+      outbox = ap₂ (λ (xs ys : List Authenticator). xs ++ ys) k.of.stands.outbox (ap sound_found (sym is))
           ∙ sym (drop-append-le (forwards past) (all_found ms m past) (sound_found found_by) k.sent);
       evidence = evidence_same v is;
-      shown = shown_same v;
+      pairs = shown_same v;
+      };
     };
     fits = fits v;
+    kept_differ = kept_numbers v is;
     exposure = x;
     audited = audited_same v is;
     sent = omega (arith, k.sent, length-append (all_found ms m past) (sound_found found_by));

@@ -124,15 +124,17 @@ at_first : (ms : List Member) (m : Member) → Known ms m [] (book_opening m)
 at_first ms m = record {
   of = record {
     node = refl;
+    stands = record {
     end = refl;
     stage = refl;
     begun = refl;
-    learned = refl;
-    segments = refl;
+    learned = λ a. (λ i. i, λ i. i);
+    segments = λ s. (λ i. i, λ i. i);
     challenges = refl;
     outbox = refl;
     evidence = refl;
-    shown = λ p. (λ i. i, λ i. i);
+    pairs = λ p. (λ i. i, λ i. i);
+    };
   };
   fits = record {
     above = λ a i. absurd i;
@@ -141,6 +143,7 @@ at_first ms m = record {
     tiles = record { audited = []; more = []; are = refl; tile = refl; rest = inl refl };
     agrees = tt;
   };
+  kept_differ = tt;
   exposure = Hidden refl refl;
   audited = refl;
   sent = omega arith;

@@ -1,6 +1,6 @@
 -- Learned authenticators whose numbers differ, and what a book shows of them and of its segments.
 -- Serves: all laws here.
-use Rattle.std.proofs.Common.{◌≡◌, ◌≢◌, ◌⊎◌, inl, inr, ℕ, Bool, true, false, cond, ◌==◌, List, [], ◌∷◌, ◌++◌, map}
+use Rattle.std.proofs.Common.{◌≤◌, length, length-append, arith, ◌≡◌, ◌≢◌, ◌⊎◌, inl, inr, ℕ, Bool, true, false, cond, ◌==◌, List, [], ◌∷◌, ◌++◌, map}
 use Rattle.std.proofs.Common.{filter, flat_map, Option, Some, None, refl, sym, ap, subst, ◌∙◌}
 use Rattle.std.specs.Prelude.{option_map, option_and_then}
 use Rattle.std.specs.List.{AllByRecursion}
@@ -14,7 +14,7 @@ use Rattle.witness_spec.specs.Histories.{HoldSame}
 use Rattle.witness_steps.specs.Books.{Book, exposing_pairs, book_shown}
 use Rattle.witness_steps.specs.Going.{evidence_of, fork_evidence}
 use Rattle.witness_steps.specs.Fitting.{NumbersDiffer}
-use Rattle.witness_steps.proofs.Lists.{split, on_left, on_right, IsImage, image, mapped, IsWithin, within}
+use Rattle.witness_steps.proofs.Lists.{cut, split, on_left, on_right, IsImage, image, mapped, IsWithin, within}
 use Rattle.witness_steps.proofs.Lists.{of_within, filtered}
 
 -- ---- numbers that differ
@@ -24,7 +24,8 @@ all_of P [] x all i = absurd i
 all_of P (y ∷ xs) x all (inl e) = subst P (sym e) all.0
 all_of P (y ∷ xs) x all (inr i) = all_of P xs x all.1 i
 
-all_by : {A : Type 0} (P : A → Type 0) (xs : List A) → ((x : A) → IsAmong x xs → P x) → AllByRecursion P xs
+-- what each of them has, all have
+pub all_by : {A : Type 0} (P : A → Type 0) (xs : List A) → ((x : A) → IsAmong x xs → P x) → AllByRecursion P xs
 all_by P [] each = tt
 all_by P (x ∷ xs) each = (each x (inl refl), all_by P xs (λ y i. each y (inr i)))
 
@@ -257,3 +258,32 @@ add_exposing e q l ss is p = (
     from (inl h) = inr (inl h)
     from (inr (inl h)) = inl h
     from (inr (inr i)) = inr (inr i)
+
+-- ---- how many they are
+
+uncut : (x : Authenticator) (xs before rest : List Authenticator) → NumbersDiffer (x ∷ xs)
+    → ((a : Authenticator) → IsAmong a (x ∷ xs) → IsAmong a (before ++ x ∷ rest))
+    → (a : Authenticator) → IsAmong a xs → IsAmong a (before ++ rest)
+uncut x xs before rest d within a i = by (split a before (x ∷ rest) (within a (inr i)))
+  where
+    by : IsAmong a before ⊎ IsAmong a (x ∷ rest) → IsAmong a (before ++ rest)
+    by (inl j) = on_left a before rest j
+    by (inr (inl e)) =
+        absurd (all_of (λ c. x.number ≢ c.number) xs a d.0 i (sym (ap (λ (c : Authenticator). c.number) e)))
+    by (inr (inr j)) = on_right a before rest j
+
+-- those whose numbers differ are no more than those among which they are
+no_more : (xs ys : List Authenticator) → NumbersDiffer xs → ((a : Authenticator) → IsAmong a xs → IsAmong a ys)
+    → length xs ≤ length ys
+no_more [] ys d within = omega arith
+no_more (x ∷ xs) ys d within =
+    let c = cut x ys (within x (inl refl)) in
+    let rest = no_more xs (c.before ++ c.rest) d.1
+    (uncut x xs c.before c.rest d (λ a i. subst (IsAmong a) c.is (within a i))) in
+    omega (arith, rest, length-append c.before c.rest, ap length c.is, length-append c.before (x ∷ c.rest))
+
+-- as many, where they hold the same
+pub as_many : (xs ys : List Authenticator) → NumbersDiffer xs → NumbersDiffer ys → HoldSame xs ys
+    → length xs ≡ length ys
+as_many xs ys d f same =
+    omega (arith, no_more xs ys d (λ a. (same a).0), no_more ys xs f (λ a. (same a).1))

@@ -1,6 +1,6 @@
 -- A book that is known to be that of a member's own steps: its forks are those that are owed.
 -- Serves: all laws here.
-use Rattle.std.proofs.Common.{◌≡◌, ℕ, ◌≤◌, true, cond, ◌==◌, ◌&&◌, nat_le, List, []}
+use Rattle.std.proofs.Common.{◌↔◌, ◌≡◌, ℕ, ◌≤◌, true, cond, ◌==◌, ◌&&◌, nat_le, List, []}
 use Rattle.std.proofs.Common.{◌∷◌, find, length, Option, Some, None, refl, sym, ap, ap₂, subst, ◌∙◌, eqb-true}
 use Rattle.std.specs.Prelude.{is_some, option_map, option_and_then}
 use Rattle.std.proofs.lemmas.Bool.{and_parts, leb-true}
@@ -9,7 +9,11 @@ use Rattle.authenticator.specs.declared.member.Member.{Member}
 use Rattle.secure_log.specs.Segment.{SegmentParts}
 use Rattle.evidence_spec.specs.Showing.{ShowingParts}
 use Rattle.evidence_spec.specs.Evidence.{Charge, Fork, EvidenceParts}
-use Rattle.witness_spec.specs.Steps.{Past}
+use Rattle.witness_spec.specs.Replies.{Reply}
+use Rattle.witness_spec.specs.Steps.{Step, Past}
+use Rattle.witness_spec.specs.Owing.{Owes}
+use Rattle.witness_steps.specs.Replying.{BookOwes}
+use Rattle.witness_steps.proofs.Replies.{owes_same}
 use Rattle.witness_spec.specs.Pairs.{Pair, differ, first_fork}
 use Rattle.witness_spec.specs.Standing.{shown, is_exposed, kept, all_accepted, Stage, NoAudit, Wanted, Given, Out}
 use Rattle.witness_spec.specs.Standing.{stage_of, audited, all_found, forwards}
@@ -17,9 +21,9 @@ use Rattle.witness_spec.specs.Exposing.{segment_holding, or_segment, fork_of, ne
 use Rattle.witness_spec.specs.Histories.{HoldSame}
 use Rattle.witness_steps.specs.Books.{Book, exposed, book_shown, book_audited}
 use Rattle.witness_steps.specs.Going.{first_evidence, fork_evidence}
-use Rattle.witness_steps.specs.Fitting.{FitsTogether, IsBookOf}
-use Rattle.witness_steps.proofs.Lists.{any_same, find_same, oldest_holds}
-use Rattle.witness_steps.proofs.Kept.{differ_one}
+use Rattle.witness_steps.specs.Fitting.{NumbersDiffer, FitsTogether, IsBookOf}
+use Rattle.witness_steps.proofs.Lists.{any_same, find_same}
+use Rattle.witness_steps.proofs.Kept.{differ_one, as_many}
 use Rattle.witness_steps.proofs.Segments.{tile_one, tiled}
 use Rattle.witness_steps.proofs.Quiet.{Exposure, Hidden, Open}
 
@@ -36,6 +40,8 @@ pub record Known (ms : List Member) (m : Member) (past : Past) (b : Book) : Type
   pub of : IsBookOf ms m past b
   -- its parts fit together
   pub fits : FitsTogether b
+  -- the numbers of what the steps keep differ
+  pub kept_differ : NumbersDiffer (kept ms m past)
   -- the node is exposed where there is evidence
   pub exposure : Exposure ms m past
   -- its audited segments have the audited entries
@@ -52,17 +58,17 @@ charged n g = record { node = n; charge = g }
 module _ (ms : List Member) (m : Member) (past : Past) (b : Book) where
   -- the book has evidence where the node is exposed
   pub exposed_same : IsBookOf ms m past b → Exposure ms m past → exposed b ≡ is_exposed ms m past
-  exposed_same of (Hidden none is) = ap (λ o. is_some o) (of.evidence ∙ none) ∙ sym is
-  exposed_same of (Open e some is) = ap (λ o. is_some o) (of.evidence ∙ some) ∙ sym is
+  exposed_same of (Hidden none is) = ap (λ o. is_some o) (of.stands.evidence ∙ none) ∙ sym is
+  exposed_same of (Open e some is) = ap (λ o. is_some o) (of.stands.evidence ∙ some) ∙ sym is
 
   -- the first evidence stays
   pub first_same : IsBookOf ms m past b → Exposure ms m past → (n k : Option EvidenceParts) → n ≡ k
       → first_evidence b.evidence n ≡ cond (is_exposed ms m past) (evidence ms m past) k
   first_same of (Hidden none is) n k e =
-      ap (λ o. first_evidence o n) (of.evidence ∙ none)
+      ap (λ o. first_evidence o n) (of.stands.evidence ∙ none)
       ∙ (e ∙ ap (λ x. cond x (evidence ms m past) k) (sym is))
   first_same of (Open e some is) n k h =
-      ap (λ o. first_evidence o n) (of.evidence ∙ some)
+      ap (λ o. first_evidence o n) (of.stands.evidence ∙ some)
       ∙ (sym some ∙ ap (λ x. cond x (evidence ms m past) k) (sym is))
 
   -- ---- forks
@@ -72,17 +78,10 @@ module _ (ms : List Member) (m : Member) (past : Past) (b : Book) where
   first_forks (p ∷ new) xs ys same =
       ap₂ (λ x r. cond x (Some p.0) r) (any_same (λ q. differ p q) xs ys same) (first_forks new xs ys same)
 
-  learned_same : IsBookOf ms m past b → HoldSame b.learned (kept ms m past)
-  learned_same of = subst (λ l. HoldSame l (kept ms m past)) (sym of.learned) (oldest_holds (kept ms m past))
-
-  segments_same : IsBookOf ms m past b → HoldSame b.segments (all_accepted past)
-  segments_same of =
-      subst (λ l. HoldSame l (all_accepted past)) (sym of.segments) (oldest_holds (all_accepted past))
-
   found_learned : IsBookOf ms m past b → FitsTogether b → (n : ℕ)
       → find (λ (a : Authenticator). a.number == n) b.learned ≡ find (λ a. a.number == n) (kept ms m past)
   found_learned of fits n =
-      find_same (λ (a : Authenticator). a.number == n) b.learned (kept ms m past) (learned_same of)
+      find_same (λ (a : Authenticator). a.number == n) b.learned (kept ms m past) of.stands.learned
       (λ x y i j e f. differ_one b.learned x y fits.differ i j
       (eqb-true x.number n e ∙ sym (eqb-true y.number n f)))
 
@@ -91,7 +90,7 @@ module _ (ms : List Member) (m : Member) (past : Past) (b : Book) where
   found_segment of fits n =
       let t = tiled b fits.tiles in
       find_same (λ (s : SegmentParts). nat_le s.first n && nat_le n s.closing.number) b.segments (all_accepted past)
-      (segments_same of)
+      of.stands.segments
       (λ x y i j e f. tile_one 1 b.segments t.next n t.tile x y i j (bounds x e) (bounds y f))
     where
       bounds : (s : SegmentParts) → (nat_le s.first n && nat_le n s.closing.number) ≡ true
@@ -121,6 +120,13 @@ module _ (ms : List Member) (m : Member) (past : Past) (b : Book) where
       (option_and_then (fork_of b.learned b.segments new) (first_fork ps (book_shown b)))) of.node
       ∙ ap (option_map (λ (g : Charge). charged m.node g))
       (ap (option_and_then (fork_of b.learned b.segments new))
-      (first_forks ps (book_shown b) (shown ms m past) of.shown)
+      (first_forks ps (book_shown b) (shown ms m past) of.stands.pairs)
       ∙ then_same (fork_of b.learned b.segments new) (fork_of (kept ms m past) (all_accepted past) new)
       (forks_same of fits new) (first_fork ps (shown ms m past)))
+
+-- What is known of a book tells what it owes: what is owed after the steps.
+pub owes_known : (ms : List Member) (m : Member) (past : Past) (b : Book) → Known ms m past b → (step : Step)
+    (reply : Reply) → Owes ms m past step reply ↔ BookOwes b step reply
+owes_known ms m past b k step reply =
+    owes_same ms m past b k.of (exposed_same ms m past b k.of k.exposure)
+    (as_many b.learned (kept ms m past) k.fits.differ k.kept_differ k.of.stands.learned) step reply

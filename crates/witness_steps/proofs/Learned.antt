@@ -20,10 +20,11 @@ use Rattle.witness_spec.specs.Exposing.{evidence}
 use Rattle.witness_spec.specs.Histories.{HoldSame}
 use Rattle.witness_steps.specs.Books.{Book, exposed, book_shown}
 use Rattle.witness_steps.specs.Going.{first_evidence, learned_unless, fork_evidence, evidence_noted, after_learn}
-use Rattle.witness_steps.specs.Fitting.{oldest_first, FitsTogether, IsMore, AreTiles, AgreesAt}
+use Rattle.witness_steps.specs.Fitting.{FitsTogether, IsMore, AreTiles, AgreesAt}
 use Rattle.witness_steps.specs.Fitting.{NumbersDiffer}
 use Rattle.witness_laws.proofs.OfEvidence.Before.{one_shown}
-use Rattle.witness_steps.proofs.Lists.{split, on_right, passed}
+use Rattle.witness_steps.proofs.Lists.{split, on_right, passed, same_more}
+use Rattle.witness_steps.proofs.Kept.{all_by}
 use Rattle.witness_steps.proofs.Kept.{differ_more, showing_of, Learned, Segment}
 use Rattle.witness_steps.proofs.Kept.{shows, fork_shows, same_after, same_through, add_learned}
 use Rattle.witness_steps.proofs.Kept.{add_exposing}
@@ -163,23 +164,27 @@ module _ (ms : List Member) (m : Member) (past : Past) (b : Book) (a : Authentic
   abbrev after : Book
   after = record b { learned = l; evidence = evidence_noted b a }
 
-  known_by : l ≡ oldest_first (kept ms m ((Learn a, Noted) ∷ past))
+  known_by : HoldSame l (kept ms m ((Learn a, Noted) ∷ past))
+      → NumbersDiffer (kept ms m ((Learn a, Noted) ∷ past))
       → HoldSame (book_shown after) (shown ms m ((Learn a, Noted) ∷ past))
       → FitsTogether after → Exposure ms m ((Learn a, Noted) ∷ past) → Known ms m ((Learn a, Noted) ∷ past) after
-  known_by keeps showing fits x = record {
+  known_by keeps differ showing fits x = record {
     of = record {
       node = k.of.node;
-      end = k.of.end;
-      stage = k.of.stage;
-      begun = k.of.begun;
+      stands = record {
+      end = k.of.stands.end;
+      stage = k.of.stands.stage;
+      begun = k.of.stands.begun;
       learned = keeps;
-      segments = k.of.segments;
-      challenges = k.of.challenges;
+      segments = k.of.stands.segments;
+      challenges = k.of.stands.challenges;
       outbox = unsent ms m past (Learn a, Noted) b refl refl k.of;
       evidence = noted_evidence;
-      shown = showing;
+      pairs = showing;
+      };
     };
     fits = fits;
+    kept_differ = differ;
     exposure = x;
     audited = k.audited ∙ sym (append-nil (audited ms m past));
     sent = subst (λ xs. forwards past ≤ length xs) (sym (found_stays ms m past (Learn a, Noted) refl)) k.sent;
@@ -202,6 +207,12 @@ module _ (ms : List Member) (m : Member) (past : Past) (b : Book) (a : Authentic
       ∙ ap (λ x. cond x (a ∷ kept ms m past) (kept ms m past))
       (lt-ltb (end_of ms m past).number a.number above)
 
+  keeps_old : l ≡ b.learned → is_exposed ms m ((Learn a, Noted) ∷ past) ≡ true
+      → HoldSame l (kept ms m ((Learn a, Noted) ∷ past))
+  keeps_old same is =
+      subst (λ xs. HoldSame xs (kept ms m ((Learn a, Noted) ∷ past))) (sym same)
+      (subst (HoldSame b.learned) (sym (kept_exposed is)) k.of.stands.learned)
+
   shown_by : (x : Bool) → is_exposed ms m past ≡ x
       → shown ms m ((Learn a, Noted) ∷ past) ≡ pairs_noted x (Some a) ++ shown ms m past
   shown_by x is = ap (λ x. pairs_noted x (Some a) ++ shown ms m past) is
@@ -210,10 +221,10 @@ module _ (ms : List Member) (m : Member) (past : Past) (b : Book) (a : Authentic
   was_exposed : (e : EvidenceParts) → b.evidence ≡ Some e → is_exposed ms m past ≡ true
       → Exposure ms m ((Learn a, Noted) ∷ past) → Known ms m ((Learn a, Noted) ∷ past) after
   was_exposed e some is x =
-      known_by (same ∙ (k.of.learned ∙ ap oldest_first (sym (kept_exposed (still x)))))
+      known_by (keeps_old same (still x)) (subst NumbersDiffer (sym (kept_exposed (still x))) k.kept_differ)
       (subst (HoldSame (book_shown after)) (sym (shown_by true is))
       (subst (λ ps. HoldSame ps (shown ms m past))
-      (sym (ap₂ (λ o xs. showing_of o xs b.segments) (now ∙ sym some) same)) k.of.shown))
+      (sym (ap₂ (λ o xs. showing_of o xs b.segments) (now ∙ sym some) same)) k.of.stands.pairs))
       (fits_exposed b a k.fits l (evidence_noted b a) same (λ h. ap (λ o. is_some o) now)) x
     where
       now : evidence_noted b a ≡ Some e
@@ -232,7 +243,7 @@ module _ (ms : List Member) (m : Member) (past : Past) (b : Book) (a : Authentic
       → evidence ms m ((Learn a, Noted) ∷ past) ≡ Some e → is_exposed ms m ((Learn a, Noted) ∷ past) ≡ true
       → Known ms m ((Learn a, Noted) ∷ past) after
   exposes e none is some now =
-      known_by (same ∙ (k.of.learned ∙ ap oldest_first (sym (kept_exposed now))))
+      known_by (keeps_old same now) (subst NumbersDiffer (sym (kept_exposed now)) k.kept_differ)
       (subst (HoldSame (book_shown after)) (sym (shown_by false is))
       (subst (λ ps. HoldSame ps (pair_of a ∷ shown ms m past))
       (sym (ap₂ (λ o xs. showing_of o xs b.segments) there same))
@@ -241,7 +252,7 @@ module _ (ms : List Member) (m : Member) (past : Past) (b : Book) (a : Authentic
       (add_exposing e (pair_of a) b.learned b.segments
       (fork_shows b (authenticator_showing a) (pair_of a ∷ []) e fork))
       (same_after (pair_of a) (showing_of None b.learned b.segments) (shown ms m past)
-      (subst (λ o. HoldSame (showing_of o b.learned b.segments) (shown ms m past)) none k.of.shown)))))
+      (subst (λ o. HoldSame (showing_of o b.learned b.segments) (shown ms m past)) none k.of.stands.pairs)))))
       (fits_exposed b a k.fits l (evidence_noted b a) same (λ h. ap (λ o. is_some o) there))
       (Open e some now)
     where
@@ -261,16 +272,19 @@ module _ (ms : List Member) (m : Member) (past : Past) (b : Book) (a : Authentic
       → evidence ms m ((Learn a, Noted) ∷ past) ≡ None → is_exposed ms m ((Learn a, Noted) ∷ past) ≡ false
       → is_shown (pair_of a) (shown ms m past) ≡ false → Known ms m ((Learn a, Noted) ∷ past) after
   stays_hidden none is some now unshown =
-      known_by (same ∙ (ap (λ xs. xs ++ a ∷ []) k.of.learned
-      ∙ ap oldest_first (sym (kept_hidden now (subst (λ (e : End). e.number < a.number) k.of.end
-      (new_above b a k.fits fresh))))))
+      known_by
+      (subst (λ xs. HoldSame xs (kept ms m ((Learn a, Noted) ∷ past))) (sym same)
+      (subst (HoldSame (b.learned ++ a ∷ [])) (sym its_kept)
+      (same_more a b.learned (kept ms m past) k.of.stands.learned)))
+      (subst NumbersDiffer (sym its_kept)
+      (all_by (λ c. a.number ≢ c.number) (kept ms m past) (λ c i. other c i), k.kept_differ))
       (subst (HoldSame (book_shown after)) (sym (shown_by false is))
       (subst (λ ps. HoldSame ps (pair_of a ∷ shown ms m past))
       (sym (ap₂ (λ o xs. showing_of o xs b.segments) (there ∙ sym none) same))
       (same_through (showing_of b.evidence (b.learned ++ a ∷ []) b.segments) (pair_of a ∷ book_shown b)
       (pair_of a ∷ shown ms m past)
       (add_learned b.evidence b.learned b.segments a)
-      (same_after (pair_of a) (book_shown b) (shown ms m past) k.of.shown))))
+      (same_after (pair_of a) (book_shown b) (shown ms m past) k.of.stands.pairs))))
       (fits_learned b a k.fits l (evidence_noted b a) same (there ∙ sym none) fresh)
       (Hidden some now)
     where
@@ -291,13 +305,25 @@ module _ (ms : List Member) (m : Member) (past : Past) (b : Book) (a : Authentic
       fresh = record {
         new = λ i.
             true≢false (sym (passed (λ q. same_pair (pair_of a) q) (shown ms m past) (pair_of a)
-            ((k.of.shown (pair_of a)).0 i)
+            ((k.of.stands.pairs (pair_of a)).0 i)
             (and_from (a.number == a.number) (is_same a.hash a.hash) (eq-eqb a.number a.number refl)
             (list_same a.hash a.hash refl))) ∙ unshown);
         one = λ x i.
             one_shown ms m ((Learn a, Noted) ∷ past) now a.number x a.hash
-            (later x ((k.of.shown (a.number, x)).0 i)) its;
+            (later x ((k.of.stands.pairs (a.number, x)).0 i)) its;
       }
+
+      its_kept : kept ms m ((Learn a, Noted) ∷ past) ≡ a ∷ kept ms m past
+      its_kept =
+          kept_hidden now (subst (λ (e : End). e.number < a.number) k.of.stands.end
+          (new_above b a k.fits fresh))
+
+      other : (c : Authenticator) → IsAmong c (kept ms m past) → a.number ≢ c.number
+      other c i same =
+          none_there b a k.fits fresh c.hash
+          (subst (λ n. IsAmong (n, c.hash) (book_shown b)) (sym same)
+          (shows b.evidence b.learned b.segments (pair_of c)
+          (Learned c ((k.of.stands.learned c).1 i) refl)))
 
   -- What is known after an authenticator that was noted.
   pub noted_known : (is_exposed ms m past ≡ false → is_shown (pair_of a) (shown ms m past) ≡ false)
@@ -306,6 +332,6 @@ module _ (ms : List Member) (m : Member) (past : Past) (b : Book) (a : Authentic
     where
       by : Exposure ms m past → Exposure ms m ((Learn a, Noted) ∷ past)
           → Known ms m ((Learn a, Noted) ∷ past) (after_learn b a Noted)
-      by (Open e some is) y = was_exposed e (k.of.evidence ∙ some) is y
-      by (Hidden none is) (Open e some now) = exposes e (k.of.evidence ∙ none) is some now
-      by (Hidden none is) (Hidden gone now) = stays_hidden (k.of.evidence ∙ none) is gone now (unshown is)
+      by (Open e some is) y = was_exposed e (k.of.stands.evidence ∙ some) is y
+      by (Hidden none is) (Open e some now) = exposes e (k.of.stands.evidence ∙ none) is some now
+      by (Hidden none is) (Hidden gone now) = stays_hidden (k.of.stands.evidence ∙ none) is gone now (unshown is)

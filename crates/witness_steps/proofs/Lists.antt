@@ -1,17 +1,13 @@
 -- Lists: what is among them, what is found in them, and lists the other way round.
 -- Serves: all laws here.
-use Rattle.std.proofs.Common.{◌≡◌, ◌⊎◌, ◌↔◌, inl, inr, ℕ, ◌≤◌, Bool, true, false, cond, max, List, [], ◌∷◌}
+use Rattle.std.proofs.Common.{◌≡◌, ◌⊎◌, ◌↔◌, inl, inr, ℕ, ◌≤◌, Bool, true, false, cond, nat_le, max, List, [], ◌∷◌}
 use Rattle.std.proofs.Common.{◌++◌, map, filter, find, length, flat_map, fold, Option, Some, None, refl, sym, ap}
 use Rattle.std.proofs.Common.{subst, ◌∙◌, arith, length-append, append-nil}
 use Rattle.std.specs.List.{list_any}
 use Rattle.std.proofs.Math.Nat.{le-max_left, le-max_right, max-le}
-use Rattle.std.proofs.lemmas.Bool.{or_cases, or_left, or_right, true≢false}
-use Rattle.std.proofs.lemmas.List.{map-append}
-use Rattle.std.proofs.lemmas.List.Elements.{filter-append}
-use Rattle.std.proofs.lemmas.List.Sums.{fold-append}
+use Rattle.std.proofs.lemmas.Bool.{or_cases, or_left, or_right, true≢false, leb-true, leb-false}
 use Rattle.evidence_spec.specs.Showing.{IsAmong}
 use Rattle.witness_spec.specs.Histories.{HoldSame}
-use Rattle.witness_steps.specs.Fitting.{oldest_first}
 
 -- ---- what is among lists
 
@@ -199,68 +195,100 @@ find_same {A} test xs ys same one = by (find test xs) (find test ys) refl refl
         let s = found test ys y f in
         ap (λ z. Some z) (one x y r.0 ((same y).1 s.0) r.1 s.1)
 
--- ---- lists with the oldest first
+-- ---- lists that hold the same
 
--- it is as long
-pub length_oldest : {A : Type 0} (xs : List A) → length (oldest_first xs) ≡ length xs
-length_oldest [] = refl
-length_oldest (x ∷ xs) = omega (arith, length-append (oldest_first xs) (x ∷ []), length_oldest xs)
-
--- it holds what the list holds
-pub oldest_holds : {A : Type 0} (xs : List A) → HoldSame (oldest_first xs) xs
-oldest_holds [] x = (λ i. i, λ i. i)
-oldest_holds (z ∷ xs) x =
-    (λ i. to (oldest_holds xs x) (split x (oldest_first xs) (z ∷ []) i), λ i. from (oldest_holds xs x) i)
+-- so do what is made of each
+pub same_map : {A B : Type 0} (f : A → B) (xs ys : List A) → HoldSame xs ys → HoldSame (map f xs) (map f ys)
+same_map {A} f xs ys same y = (λ i. by xs ys (λ x. (same x).0) i, λ i. by ys xs (λ x. (same x).1) i)
   where
-    to : IsAmong x (oldest_first xs) ↔ IsAmong x xs → IsAmong x (oldest_first xs) ⊎ IsAmong x (z ∷ [])
-        → IsAmong x (z ∷ xs)
-    to rest (inl j) = inr (rest.0 j)
-    to rest (inr (inl e)) = inl e
-    to rest (inr (inr j)) = absurd j
+    by : (xs ys : List A) → ((x : A) → IsAmong x xs → IsAmong x ys) → IsAmong y (map f xs)
+        → IsAmong y (map f ys)
+    by xs ys within i =
+        let r = image f xs y i in
+        subst (λ z. IsAmong z (map f ys)) (sym r.is) (mapped f ys r.of (within r.of r.among))
 
-    from : IsAmong x (oldest_first xs) ↔ IsAmong x xs → IsAmong x (z ∷ xs) → IsAmong x (oldest_first xs ++ z ∷ [])
-    from rest (inl e) = on_right x (oldest_first xs) (z ∷ []) (inl e)
-    from rest (inr i) = on_left x (oldest_first xs) (z ∷ []) (rest.1 i)
-
--- a filter leaves the order
-pub filter_oldest : {A : Type 0} (test : A → Bool) (xs : List A)
-    → filter test (oldest_first xs) ≡ oldest_first (filter test xs)
-filter_oldest test [] = refl
-filter_oldest {A} test (x ∷ xs) =
-    filter-append test (oldest_first xs) (x ∷ [])
-    ∙ (ap (λ ys. ys ++ filter test (x ∷ [])) (filter_oldest test xs) ∙ by (test x))
+-- so do those that pass a test
+pub same_filter : {A : Type 0} (test : A → Bool) (xs ys : List A) → HoldSame xs ys
+    → HoldSame (filter test xs) (filter test ys)
+same_filter {A} test xs ys same y = (λ i. by xs ys (λ x. (same x).0) i, λ i. by ys xs (λ x. (same x).1) i)
   where
-    by : (b : Bool) → oldest_first (filter test xs) ++ cond b (x ∷ []) []
-        ≡ oldest_first (cond b (x ∷ filter test xs) (filter test xs))
-    by true = refl
-    by false = append-nil (oldest_first (filter test xs))
+    by : (xs ys : List A) → ((x : A) → IsAmong x xs → IsAmong x ys) → IsAmong y (filter test xs)
+        → IsAmong y (filter test ys)
+    by xs ys within i = let r = filtered test xs y i in passing test ys y (within y r.0) r.1
 
--- what is made of each leaves the order
-pub map_oldest : {A B : Type 0} (f : A → B) (xs : List A) → map f (oldest_first xs) ≡ oldest_first (map f xs)
-map_oldest f [] = refl
-map_oldest f (x ∷ xs) =
-    map-append f (oldest_first xs) (x ∷ []) ∙ ap (λ ys. ys ++ f x ∷ []) (map_oldest f xs)
+-- so they do with one more, whether it stands first or last
+pub same_more : {A : Type 0} (x : A) (xs ys : List A) → HoldSame xs ys → HoldSame (xs ++ x ∷ []) (x ∷ ys)
+same_more x xs ys same y = (λ i. to (split y xs (x ∷ []) i), from)
+  where
+    to : IsAmong y xs ⊎ IsAmong y (x ∷ []) → IsAmong y (x ∷ ys)
+    to (inl i) = inr ((same y).0 i)
+    to (inr (inl e)) = inl e
+    to (inr (inr i)) = absurd i
 
-swap_le : (n x y : ℕ) → max (max n x) y ≤ max (max n y) x
-swap_le n x y =
-    let a = le-max_left (max n y) x in
-    let b = le-max_right (max n y) x in
-    let c = le-max_left n y in
-    let d = le-max_right n y in
-    max-le {a = max n x} {b = y} {k = max (max n y) x}
-    (max-le {a = n} {b = x} {k = max (max n y) x} (omega (arith, a, c)) (omega (arith, b)))
-    (omega (arith, a, d))
+    from : IsAmong y (x ∷ ys) → IsAmong y (xs ++ x ∷ [])
+    from (inl e) = on_right y xs (x ∷ []) (inl e)
+    from (inr i) = on_left y xs (x ∷ []) ((same y).1 i)
 
-swapped : (n x y : ℕ) → max (max n x) y ≡ max (max n y) x
-swapped n x y = omega (arith, swap_le n x y, swap_le n y x)
+-- ---- the greatest of them
 
-later_max : (n x : ℕ) (xs : List ℕ) → fold max (max n x) xs ≡ max (fold max n xs) x
-later_max n x [] = refl
-later_max n x (y ∷ ys) = ap (λ k. fold max k ys) (swapped n x y) ∙ later_max (max n y) x ys
+max_from : (n : ℕ) (xs : List ℕ) → n ≤ fold max n xs
+max_from n [] = omega arith
+max_from n (x ∷ xs) = omega (arith, le-max_left n x, max_from (max n x) xs)
 
--- the greatest of them is the same
-pub max_oldest : (n : ℕ) (xs : List ℕ) → fold max n (oldest_first xs) ≡ fold max n xs
-max_oldest n [] = refl
-max_oldest n (x ∷ xs) =
-    fold-append max n (oldest_first xs) (x ∷ [])
-    ∙ (ap (λ k. max k x) (max_oldest n xs) ∙ sym (later_max n x xs))
+max_bound : (n x : ℕ) (xs : List ℕ) → IsAmong x xs → x ≤ fold max n xs
+max_bound n x [] i = absurd i
+max_bound n x (y ∷ xs) (inl e) = omega (arith, e, le-max_right n y, max_from (max n y) xs)
+max_bound n x (y ∷ xs) (inr i) = max_bound (max n y) x xs i
+
+max_one : (a b : ℕ) → (max a b ≡ a) ⊎ (max a b ≡ b)
+max_one a b = by (nat_le a b) refl
+  where
+    by : (c : Bool) → nat_le a b ≡ c → (max a b ≡ a) ⊎ (max a b ≡ b)
+    by true e =
+        let le : a ≤ b = leb-true a b e in
+        let same : b ≤ b = omega arith in
+        inr (omega (arith, le-max_right a b, max-le {a = a} {b = b} {k = b} le same))
+    by false e =
+        let le : b ≤ a = omega (arith, leb-false a b e) in
+        let same : a ≤ a = omega arith in
+        inl (omega (arith, le-max_left a b, max-le {a = a} {b = b} {k = a} same le))
+
+max_is : (n : ℕ) (xs : List ℕ) → (fold max n xs ≡ n) ⊎ IsAmong (fold max n xs) xs
+max_is n [] = inl refl
+max_is n (x ∷ xs) = by (max_is (max n x) xs) (max_one n x)
+  where
+    by : (fold max (max n x) xs ≡ max n x) ⊎ IsAmong (fold max (max n x) xs) xs
+        → (max n x ≡ n) ⊎ (max n x ≡ x)
+        → (fold max n (x ∷ xs) ≡ n) ⊎ IsAmong (fold max n (x ∷ xs)) (x ∷ xs)
+    by (inr i) o = inr (inr i)
+    by (inl e) (inl f) = inl (e ∙ f)
+    by (inl e) (inr f) = inr (inl (e ∙ f))
+
+max_le : (xs ys : List ℕ) → ((x : ℕ) → IsAmong x xs → IsAmong x ys) → fold max 0 xs ≤ fold max 0 ys
+max_le xs ys within =
+    elim (max_is 0 xs) [
+      | inl e ↦ omega (arith, e)
+      | inr i ↦ max_bound 0 (fold max 0 xs) ys (within (fold max 0 xs) i)
+    ]
+
+-- it is the same where they hold the same
+pub max_same : (xs ys : List ℕ) → HoldSame xs ys → fold max 0 xs ≡ fold max 0 ys
+max_same xs ys same = omega (arith, max_le xs ys (λ x. (same x).0), max_le ys xs (λ x. (same x).1))
+
+-- ---- how many they are
+
+-- a list in two parts, between which one stands
+pub record IsCut {A : Type 0} (x : A) (ys : List A) : Type 0 where
+  -- the part before it
+  pub before : List A
+  -- the part after it
+  pub rest : List A
+  -- it stands between
+  pub is : ys ≡ before ++ x ∷ rest
+
+-- what is among a list cuts it
+pub cut : {A : Type 0} (x : A) (ys : List A) → IsAmong x ys → IsCut x ys
+cut x [] i = absurd i
+cut x (y ∷ ys) (inl e) = record { before = []; rest = ys; is = ap (λ z. z ∷ ys) (sym e) }
+cut x (y ∷ ys) (inr i) =
+    let r = cut x ys i in record { before = y ∷ r.before; rest = r.rest; is = ap (λ l. y ∷ l) r.is }

@@ -23,7 +23,7 @@ use Rattle.witness_spec.specs.Exposing.{charge_of, evidence}
 use Rattle.witness_steps.specs.Books.{Book, book_shown}
 use Rattle.witness_steps.specs.Going.{after_send_challenge, after_ack, after_audit, after_begin, after_put_back}
 use Rattle.witness_steps.specs.Going.{after_forward}
-use Rattle.witness_steps.specs.Fitting.{oldest_first, IsBookOf}
+use Rattle.witness_steps.specs.Fitting.{IsBookOf}
 
 -- whether a node is exposed, with its evidence
 pub data Exposure (ms : List Member) (m : Member) (past : Past) : Type 0 where
@@ -67,6 +67,14 @@ module _ (ms : List Member) (m : Member) (past : Past) where
       ap (λ o. all_found ms m past ++ found_filed ms (end_of ms m past).state o) f
       ∙ append-nil (all_found ms m past)
 
+  -- a step that notes and files nothing leaves what is kept
+  pub kept_stays : (p : Step × Reply) → noted p.0 p.1 ≡ None → filed p.0 p.1 ≡ None
+      → kept ms m (p ∷ past) ≡ kept ms m past
+  kept_stays p n f =
+      ap₂ (λ (e : End) (xs : List Authenticator). filter (λ a. nat_lt e.number a.number) xs)
+      (ap (end_after ms (end_of ms m past)) f)
+      (ap (λ o. unless_exposed (is_exposed ms m (p ∷ past)) o ++ noted_before ms m past) n)
+
   -- ---- a step that does nothing
 
   -- the book stays
@@ -74,10 +82,7 @@ module _ (ms : List Member) (m : Member) (past : Past) where
       → IsBookOf ms m (p ∷ past) b
   quiet p b did x of =
       let end : end_of ms m (p ∷ past) ≡ end_of ms m past = ap (end_after ms (end_of ms m past)) did.files in
-      let before : noted_before ms m (p ∷ past) ≡ noted_before ms m past =
-      ap (λ o. unless_exposed (is_exposed ms m (p ∷ past)) o ++ noted_before ms m past) did.notes in
-      let keeps : kept ms m (p ∷ past) ≡ kept ms m past =
-      ap₂ (λ (e : End) (xs : List Authenticator). filter (λ a. nat_lt e.number a.number) xs) end before in
+      let keeps : kept ms m (p ∷ past) ≡ kept ms m past = kept_stays p did.notes did.files in
       let all : all_accepted (p ∷ past) ≡ all_accepted past =
       ap (λ o. segment_of o ++ all_accepted past) did.accepts in
       let showing : shown ms m (p ∷ past) ≡ shown ms m past =
@@ -91,22 +96,24 @@ module _ (ms : List Member) (m : Member) (past : Past) where
       (0 + cond (is_some o) 1 0) past) did.forwards in
       record {
         node = of.node;
-        end = of.end ∙ sym end;
-        stage = of.stage ∙ sym did.stage;
-        begun = of.begun ∙ sym count;
-        learned = of.learned ∙ ap oldest_first (sym keeps);
-        segments = of.segments ∙ ap oldest_first (sym all);
-        challenges = of.challenges ∙ sym did.challenges;
-        outbox = of.outbox ∙ sym (ap₂ (λ n (xs : List Authenticator). drop n xs) sent (found_stays p did.files));
-        evidence = of.evidence ∙ sym (evidence_stays p x did.notes did.accepts did.files);
-        shown = subst (λ ps. HoldSame (book_shown b) ps) (sym showing) of.shown;
+        stands = record {
+        end = of.stands.end ∙ sym end;
+        stage = of.stands.stage ∙ sym did.stage;
+        begun = of.stands.begun ∙ sym count;
+        learned = subst (λ l. HoldSame b.learned l) (sym keeps) of.stands.learned;
+        segments = subst (λ l. HoldSame b.segments l) (sym all) of.stands.segments;
+        challenges = of.stands.challenges ∙ sym did.challenges;
+        outbox = of.stands.outbox ∙ sym (ap₂ (λ n (xs : List Authenticator). drop n xs) sent (found_stays p did.files));
+        evidence = of.stands.evidence ∙ sym (evidence_stays p x did.notes did.accepts did.files);
+        pairs = subst (λ ps. HoldSame (book_shown b) ps) (sym showing) of.stands.pairs;
+        };
       }
 
   -- the outbox of before, where nothing was forwarded or filed
   pub unsent : (p : Step × Reply) (b : Book) → forwards (p ∷ past) ≡ forwards past → filed p.0 p.1 ≡ None
       → IsBookOf ms m past b → b.outbox ≡ outbox ms m (p ∷ past)
   unsent p b sent f of =
-      of.outbox ∙ sym (ap₂ (λ n (xs : List Authenticator). drop n xs) sent (found_stays p f))
+      of.stands.outbox ∙ sym (ap₂ (λ n (xs : List Authenticator). drop n xs) sent (found_stays p f))
 
   -- ---- challenges
 
@@ -115,15 +122,17 @@ module _ (ms : List Member) (m : Member) (past : Past) where
       → IsBookOf ms m ((SendChallenge e, r) ∷ past) (after_send_challenge b e r)
   having_challenged e Opened b x of = record {
     node = of.node;
-    end = of.end;
-    stage = of.stage;
-    begun = of.begun;
-    learned = of.learned;
-    segments = of.segments;
-    challenges = ap (λ xs. open_after xs (SendChallenge e) Opened) of.challenges;
+    stands = record {
+    end = of.stands.end;
+    stage = of.stands.stage;
+    begun = of.stands.begun;
+    learned = of.stands.learned;
+    segments = of.stands.segments;
+    challenges = ap (λ xs. open_after xs (SendChallenge e) Opened) of.stands.challenges;
     outbox = unsent (SendChallenge e, Opened) b refl refl of;
-    evidence = of.evidence ∙ sym (evidence_stays (SendChallenge e, Opened) x refl refl refl);
-    shown = of.shown;
+    evidence = of.stands.evidence ∙ sym (evidence_stays (SendChallenge e, Opened) x refl refl refl);
+    pairs = of.stands.pairs;
+    };
   }
   having_challenged e r b x of =
       quiet (SendChallenge e, r) b (record {
@@ -141,15 +150,17 @@ module _ (ms : List Member) (m : Member) (past : Past) where
       → IsBookOf ms m ((AckIn a, r) ∷ past) (after_ack b a r)
   having_acked a Closed b x of = record {
     node = of.node;
-    end = of.end;
-    stage = of.stage;
-    begun = of.begun;
-    learned = of.learned;
-    segments = of.segments;
-    challenges = ap (λ xs. open_after xs (AckIn a) Closed) of.challenges;
+    stands = record {
+    end = of.stands.end;
+    stage = of.stands.stage;
+    begun = of.stands.begun;
+    learned = of.stands.learned;
+    segments = of.stands.segments;
+    challenges = ap (λ xs. open_after xs (AckIn a) Closed) of.stands.challenges;
     outbox = unsent (AckIn a, Closed) b refl refl of;
-    evidence = of.evidence ∙ sym (evidence_stays (AckIn a, Closed) x refl refl refl);
-    shown = of.shown;
+    evidence = of.stands.evidence ∙ sym (evidence_stays (AckIn a, Closed) x refl refl refl);
+    pairs = of.stands.pairs;
+    };
   }
   having_acked a r b x of =
       quiet (AckIn a, r) b (record {
@@ -169,15 +180,17 @@ module _ (ms : List Member) (m : Member) (past : Past) where
       → IsBookOf ms m ((Audit, r) ∷ past) (after_audit b r)
   having_asked (Asked first last) b x of = record {
     node = of.node;
-    end = of.end;
+    stands = record {
+    end = of.stands.end;
     stage = refl;
-    begun = of.begun;
-    learned = of.learned;
-    segments = of.segments;
-    challenges = ap (λ xs. open_after xs Audit (Asked first last)) of.challenges;
+    begun = of.stands.begun;
+    learned = of.stands.learned;
+    segments = of.stands.segments;
+    challenges = ap (λ xs. open_after xs Audit (Asked first last)) of.stands.challenges;
     outbox = unsent (Audit, Asked first last) b refl refl of;
-    evidence = of.evidence ∙ sym (evidence_stays (Audit, Asked first last) x refl refl refl);
-    shown = of.shown;
+    evidence = of.stands.evidence ∙ sym (evidence_stays (Audit, Asked first last) x refl refl refl);
+    pairs = of.stands.pairs;
+    };
   }
   having_asked r b x of =
       quiet (Audit, r) b (record {
@@ -195,16 +208,18 @@ module _ (ms : List Member) (m : Member) (past : Past) where
       → IsBookOf ms m ((Begin, r) ∷ past) (after_begin b r)
   having_begun (Job j) b x of = record {
     node = of.node;
-    end = of.end;
+    stands = record {
+    end = of.stands.end;
     stage = refl;
-    begun = ap (λ n. n + 1) of.begun
+    begun = ap (λ n. n + 1) of.stands.begun
         ∙ omega (arith, sum_by_from (λ (q : Step × Reply). cond (is_some (begun q.0 q.1)) 1 0) 1 past);
-    learned = of.learned;
-    segments = of.segments;
-    challenges = of.challenges;
+    learned = of.stands.learned;
+    segments = of.stands.segments;
+    challenges = of.stands.challenges;
     outbox = unsent (Begin, Job j) b refl refl of;
-    evidence = of.evidence ∙ sym (evidence_stays (Begin, Job j) x refl refl refl);
-    shown = of.shown;
+    evidence = of.stands.evidence ∙ sym (evidence_stays (Begin, Job j) x refl refl refl);
+    pairs = of.stands.pairs;
+    };
   }
   having_begun r b x of =
       quiet (Begin, r) b (record {
@@ -222,15 +237,17 @@ module _ (ms : List Member) (m : Member) (past : Past) where
       → IsBookOf ms m ((PutBack j, r) ∷ past) (after_put_back b j r)
   having_put_back j Returned b x of = record {
     node = of.node;
-    end = of.end;
+    stands = record {
+    end = of.stands.end;
     stage = refl;
-    begun = of.begun;
-    learned = of.learned;
-    segments = of.segments;
-    challenges = of.challenges;
+    begun = of.stands.begun;
+    learned = of.stands.learned;
+    segments = of.stands.segments;
+    challenges = of.stands.challenges;
     outbox = unsent (PutBack j, Returned) b refl refl of;
-    evidence = of.evidence ∙ sym (evidence_stays (PutBack j, Returned) x refl refl refl);
-    shown = of.shown;
+    evidence = of.stands.evidence ∙ sym (evidence_stays (PutBack j, Returned) x refl refl refl);
+    pairs = of.stands.pairs;
+    };
   }
   having_put_back j r b x of =
       quiet (PutBack j, r) b (record {
@@ -250,19 +267,21 @@ module _ (ms : List Member) (m : Member) (past : Past) where
       → IsBookOf ms m ((Forward, r) ∷ past) (after_forward b r)
   having_forwarded (Forwarded a) b x of = record {
     node = of.node;
-    end = of.end;
-    stage = of.stage;
-    begun = of.begun;
-    learned = of.learned;
-    segments = of.segments;
-    challenges = of.challenges;
-    outbox = ap (λ (xs : List Authenticator). drop 1 xs) of.outbox
+    stands = record {
+    end = of.stands.end;
+    stage = of.stands.stage;
+    begun = of.stands.begun;
+    learned = of.stands.learned;
+    segments = of.stands.segments;
+    challenges = of.stands.challenges;
+    outbox = ap (λ (xs : List Authenticator). drop 1 xs) of.stands.outbox
         ∙ (drop-drop 1 (forwards past) (all_found ms m past)
         ∙ ap₂ (λ n (xs : List Authenticator). drop n xs)
         (omega (arith, sum_by_from (λ (q : Step × Reply). cond (is_some (forwarded q.0 q.1)) 1 0) 1 past))
         (sym (found_stays (Forward, Forwarded a) refl)));
-    evidence = of.evidence ∙ sym (evidence_stays (Forward, Forwarded a) x refl refl refl);
-    shown = of.shown;
+    evidence = of.stands.evidence ∙ sym (evidence_stays (Forward, Forwarded a) x refl refl refl);
+    pairs = of.stands.pairs;
+    };
   }
   having_forwarded r b x of =
       quiet (Forward, r) b (record {

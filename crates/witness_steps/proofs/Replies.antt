@@ -1,7 +1,7 @@
 -- The book of a member after its own steps replies what is owed.
 -- Serves: all laws here.
 use Rattle.std.proofs.Common.{◌≡◌, ◌↔◌, ℕ, ◌+◌, Bool, true, false, cond, not, ◌&&◌, nat_lt, nat_le, List, []}
-use Rattle.std.proofs.Common.{◌∷◌, ◌++◌, map, filter, fold, max, length, Some, refl, sym, ap}
+use Rattle.std.proofs.Common.{◌∷◌, map, filter, length, Some, refl, sym, ap, inl}
 use Rattle.std.proofs.Common.{◌∙◌}
 use Rattle.authenticator.specs.declared.authenticator.Authenticator.{Authenticator}
 use Rattle.authenticator.specs.declared.member.Member.{Member}
@@ -20,51 +20,49 @@ use Rattle.witness_spec.specs.Standing.{stage_of, begins, out_at, open_challenge
 use Rattle.witness_spec.specs.Owing as owing
 use Rattle.witness_spec.specs.Owing.{Owes, ask_reply, ask_up_to, last_in_reach, answer_reply, back_reply}
 use Rattle.witness_spec.specs.Owing.{challenge_reply, ack_reply, forward_reply, reply_told}
+use Rattle.witness_spec.specs.Histories.{HoldSame}
 use Rattle.witness_steps.specs.Books.{Book, exposed, book_shown, job_out_at, job_out}
 use Rattle.witness_steps.specs.Books as books
 use Rattle.witness_steps.specs.Replying.{book_reply, reply_to_audit, reply_to_begin, IsOut, BookOwes}
-use Rattle.witness_steps.specs.Fitting.{oldest_first, IsBookOf}
-use Rattle.witness_steps.proofs.Lists.{any_same, length_oldest, filter_oldest, map_oldest, max_oldest}
+use Rattle.witness_steps.specs.Fitting.{IsBookOf}
+use Rattle.witness_steps.proofs.Lists.{any_same, same_map, same_filter, max_same}
 
 -- ---- an audit asks for the same, in whatever order the learned stand
 
-reach_oldest : (end : ℕ) (xs : List Authenticator) → last_in_reach end (oldest_first xs) ≡ last_in_reach end xs
-reach_oldest end xs =
-    ap (λ ns. fold max 0 (filter (λ n. nat_le n (end + MAX_ASKED)) ns)) (map_oldest (λ a. a.number) xs)
-    ∙ (ap (λ ns. fold max 0 ns) (filter_oldest (λ n. nat_le n (end + MAX_ASKED)) (map (λ a. a.number) xs))
-    ∙ max_oldest 0 (filter (λ n. nat_le n (end + MAX_ASKED)) (map (λ a. a.number) xs)))
+reach_same : (end : ℕ) (xs ys : List Authenticator) → HoldSame xs ys
+    → last_in_reach end xs ≡ last_in_reach end ys
+reach_same end xs ys same =
+    max_same (filter (λ n. nat_le n (end + MAX_ASKED)) (map (λ a. a.number) xs))
+    (filter (λ n. nat_le n (end + MAX_ASKED)) (map (λ a. a.number) ys))
+    (same_filter (λ n. nat_le n (end + MAX_ASKED)) (map (λ (a : Authenticator). a.number) xs)
+    (map (λ a. a.number) ys) (same_map (λ (a : Authenticator). a.number) xs ys same))
 
-ask_some : (end waiting : ℕ) (xs : List Authenticator) (a : Authenticator)
-    → ask_reply false end waiting (xs ++ a ∷ []) ≡ ask_up_to end waiting (last_in_reach end (xs ++ a ∷ []))
-ask_some end waiting [] a = refl
-ask_some end waiting (x ∷ xs) a = refl
-
-ask_oldest : (is : Bool) (end waiting : ℕ) (xs : List Authenticator)
-    → ask_reply is end waiting (oldest_first xs) ≡ ask_reply is end waiting xs
-ask_oldest true end waiting xs = refl
-ask_oldest false end waiting [] = refl
-ask_oldest false end waiting (a ∷ xs) =
-    ask_some end waiting (oldest_first xs) a ∙ ap (ask_up_to end waiting) (reach_oldest end (a ∷ xs))
+ask_same : (is : Bool) (end waiting : ℕ) (xs ys : List Authenticator) → HoldSame xs ys
+    → ask_reply is end waiting xs ≡ ask_reply is end waiting ys
+ask_same true end waiting xs ys same = refl
+ask_same false end waiting [] [] same = refl
+ask_same false end waiting [] (y ∷ ys) same = absurd ((same y).1 (inl refl))
+ask_same false end waiting (x ∷ xs) [] same = absurd ((same x).0 (inl refl))
+ask_same false end waiting (x ∷ xs) (y ∷ ys) same =
+    ap (ask_up_to end waiting) (reach_same end (x ∷ xs) (y ∷ ys) same)
 
 make : ℕ → ℕ → End → ClosedParts → JobParts
 make node number end c = record { node = node; number = number; state = end.state; segment = c }
 
 module _ (ms : List Member) (m : Member) (past : Past) (b : Book) (of : IsBookOf ms m past b)
-    (is : exposed b ≡ is_exposed ms m past) where
+    (is : exposed b ≡ is_exposed ms m past) (count : length b.learned ≡ length (kept ms m past)) where
   -- ---- each event
 
   learns : (a : Authenticator) → owing.learn_reply ms m past a ≡ book_reply false b (Learn a)
   learns a =
-      let there = any_same (λ q. same_pair (pair_of a) q) (book_shown b) (shown ms m past) of.shown in
-      let fork = any_same (λ q. differ (pair_of a) q) (book_shown b) (shown ms m past) of.shown in
-      let count : length b.learned ≡ length (kept ms m past) =
-      ap length of.learned ∙ length_oldest (kept ms m past) in
+      let there = any_same (λ q. same_pair (pair_of a) q) (book_shown b) (shown ms m past) of.stands.pairs in
+      let fork = any_same (λ q. differ (pair_of a) q) (book_shown b) (shown ms m past) of.stands.pairs in
       let room : owing.has_no_room ms m past a ≡ not (is_fork (pair_of a) (book_shown b))
       && (nat_lt b.end.number a.number && nat_le MAX_LEARNED (length b.learned)) =
       ap (λ x. not x && (nat_lt (end_of ms m past).number a.number
       && nat_le MAX_LEARNED (length (kept ms m past)))) (sym fork)
       ∙ (ap (λ (e : End). not (is_fork (pair_of a) (book_shown b)) && (nat_lt e.number a.number
-      && nat_le MAX_LEARNED (length (kept ms m past)))) (sym of.end)
+      && nat_le MAX_LEARNED (length (kept ms m past)))) (sym of.stands.end)
       ∙ ap (λ n. not (is_fork (pair_of a) (book_shown b)) && (nat_lt b.end.number a.number
       && nat_le MAX_LEARNED n)) (sym count)) in
       ap (λ x. cond x Noted (cond (is_shown (pair_of a) (shown ms m past)) Already
@@ -77,12 +75,11 @@ module _ (ms : List Member) (m : Member) (past : Past) (b : Book) (of : IsBookOf
   asks : ask_reply (is_exposed ms m past) (end_of ms m past).number (length (outbox ms m past)) (kept ms m past)
       ≡ ask_reply (exposed b) b.end.number (length b.outbox) b.learned
   asks =
-      sym (ap (ask_reply (exposed b) b.end.number (length b.outbox)) of.learned
-      ∙ (ask_oldest (exposed b) b.end.number (length b.outbox) (kept ms m past)
+      sym (ask_same (exposed b) b.end.number (length b.outbox) b.learned (kept ms m past) of.stands.learned
       ∙ (ap (λ x. ask_reply x b.end.number (length b.outbox) (kept ms m past)) is
-      ∙ (ap (λ (e : End). ask_reply (is_exposed ms m past) e.number (length b.outbox) (kept ms m past)) of.end
+      ∙ (ap (λ (e : End). ask_reply (is_exposed ms m past) e.number (length b.outbox) (kept ms m past)) of.stands.end
       ∙ ap (λ (xs : List Authenticator). ask_reply (is_exposed ms m past) (end_of ms m past).number (length xs)
-      (kept ms m past)) of.outbox))))
+      (kept ms m past)) of.stands.outbox)))
 
   audits : (s : Stage) → owing.audit_reply ms m past s ≡ reply_to_audit b s
   audits NoAudit = asks
@@ -94,11 +91,11 @@ module _ (ms : List Member) (m : Member) (past : Past) (b : Book) (of : IsBookOf
   same_job : (n k : ℕ) (c : ClosedParts) → n ≡ k → make b.node n b.end c ≡ make m.node k (end_of ms m past) c
   same_job n k c e =
       ap (λ x. make x n b.end c) of.node
-      ∙ (ap (λ x. make m.node x b.end c) e ∙ ap (λ x. make m.node k x c) of.end)
+      ∙ (ap (λ x. make m.node x b.end c) e ∙ ap (λ x. make m.node k x c) of.stands.end)
 
   begun_job : (c : ClosedParts) → owing.next_job ms m past c ≡ books.job_of b (b.begun + 1) c
   unfolding make
-  begun_job c = sym (same_job (b.begun + 1) (begins past + 1) c (ap (λ n. n + 1) of.begun))
+  begun_job c = sym (same_job (b.begun + 1) (begins past + 1) c (ap (λ n. n + 1) of.stands.begun))
 
   begins_by : (s : Stage) → owing.begin_reply ms m past s ≡ reply_to_begin b s
   begins_by NoAudit = refl
@@ -113,34 +110,34 @@ module _ (ms : List Member) (m : Member) (past : Past) (b : Book) (of : IsBookOf
   out_by NoAudit = refl
   out_by (Wanted first last) = refl
   out_by (Given c) = refl
-  out_by (Out c) = ap (λ j. Some j) (same_job b.begun (begins past) c of.begun)
+  out_by (Out c) = ap (λ j. Some j) (same_job b.begun (begins past) c of.stands.begun)
 
   -- the job that is out is the same
   pub same_out : job_out b ≡ out_at ms m past (stage_of past)
-  same_out = out_by b.stage ∙ ap (out_at ms m past) of.stage
+  same_out = out_by b.stage ∙ ap (out_at ms m past) of.stands.stage
 
   asked : (q : Question) → owing.ask ms m past q ≡ book_reply false b (Ask q)
   asked ItsIndication =
       ap (λ x. Told (cond x Exposed (without_evidence (open_challenges past)))) (sym is)
-      ∙ ap (λ xs. Told (cond (exposed b) Exposed (without_evidence xs))) (sym of.challenges)
-  asked ItsChallenges = ap (λ xs. OpenList xs) (sym of.challenges)
-  asked ItsEvidence = ap (λ e. EvidenceIs e) (sym of.evidence)
+      ∙ ap (λ xs. Told (cond (exposed b) Exposed (without_evidence xs))) (sym of.stands.challenges)
+  asked ItsChallenges = ap (λ xs. OpenList xs) (sym of.stands.challenges)
+  asked ItsEvidence = ap (λ e. EvidenceIs e) (sym of.stands.evidence)
 
   -- ---- all events
 
   -- What is told of a step is what the book replies.
   pub same_told : (o : Bool) (step : Step) → reply_told o ms m past step ≡ book_reply o b step
   same_told o (Learn a) = learns a
-  same_told o (SendChallenge e) = ap (λ xs. challenge_reply xs e) (sym of.challenges)
-  same_told o (Answer c) = ap (λ s. answer_reply s c) (sym of.stage)
-  same_told o (AckIn a) = ap (λ xs. ack_reply xs (acked_message a)) (sym of.challenges)
-  same_told o Audit = ap (owing.audit_reply ms m past) (sym of.stage) ∙ audits b.stage
-  same_told o Begin = ap (owing.begin_reply ms m past) (sym of.stage) ∙ begins_by b.stage
+  same_told o (SendChallenge e) = ap (λ xs. challenge_reply xs e) (sym of.stands.challenges)
+  same_told o (Answer c) = ap (λ s. answer_reply s c) (sym of.stands.stage)
+  same_told o (AckIn a) = ap (λ xs. ack_reply xs (acked_message a)) (sym of.stands.challenges)
+  same_told o Audit = ap (owing.audit_reply ms m past) (sym of.stands.stage) ∙ audits b.stage
+  same_told o Begin = ap (owing.begin_reply ms m past) (sym of.stands.stage) ∙ begins_by b.stage
   same_told o (File d) =
       ap (λ j. back_reply o j Filed (FileRefused WrongJob d) (FileRefused NoJob d)) (sym same_out)
   same_told o (PutBack j) =
       ap (λ k. back_reply o k Returned (PutBackRefused WrongJob j) (PutBackRefused NoJob j)) (sym same_out)
-  same_told o Forward = ap forward_reply (sym of.outbox)
+  same_told o Forward = ap forward_reply (sym of.stands.outbox)
   same_told o (Ask q) = asked q
 
   -- Whether the job that comes back is the one that is out is the same question.

@@ -11,33 +11,16 @@ use Rattle.witness_spec.specs.Histories.{History, own, IsHistory, HoldSame, Stan
 use Rattle.witness_steps.specs.Books.{Book, book_indication, parts_of}
 use Rattle.witness_steps.specs.Going.{book_after_steps}
 use Rattle.witness_steps.specs.Fitting.{IsBookOf}
-use Rattle.witness_steps.proofs.Lists.{oldest_holds}
 use Rattle.witness_steps.proofs.Known.{Known, exposed_same}
 use Rattle.witness_steps.proofs.Histories.{own_known, its_member}
 
--- a book of own steps stands for them
-pub book_stands : (ms : List Member) (m : Member) (past : Past) (b : Book) → IsBookOf ms m past b
-    → StandsFor ms m past (parts_of b)
-book_stands ms m past b of = record {
-  end = of.end;
-  stage = of.stage;
-  begun = of.begun;
-  pairs = of.shown;
-  learned = subst (λ l. HoldSame l (kept ms m past)) (sym of.learned) (oldest_holds (kept ms m past));
-  challenges = of.challenges;
-  outbox = of.outbox;
-  segments = subst (λ l. HoldSame l (all_accepted past)) (sym of.segments) (oldest_holds (all_accepted past));
-  evidence = of.evidence;
-}
-
--- so do those of some members of a roster
+-- the books of some members of a roster stand
 stand_each : (ms : List Member) (history : History) (members : List Member) → IsHistory ms history
     → ((m : Member) → IsAmong m members → member_of ms m.node ≡ Some m)
     → StandEach ms history members (map (λ m. parts_of (book_after_steps m (own ms m.node history))) members)
 stand_each ms history [] h is = tt
 stand_each ms history (m ∷ members) h is = (
-  book_stands ms m (own ms m.node history) (book_after_steps m (own ms m.node history))
-      (own_known ms m history (is m (inl refl)) h).of,
+  (own_known ms m history (is m (inl refl)) h).of.stands,
   stand_each ms history members h (λ n i. is n (inr i)),
 )
 
@@ -51,4 +34,4 @@ pub same_indication : (ms : List Member) (m : Member) (past : Past) (b : Book) �
     → book_indication b ≡ indication ms m past
 same_indication ms m past b k =
     ap (λ x. cond x Exposed (without_evidence b.challenges)) (exposed_same ms m past b k.of k.exposure)
-    ∙ ap (λ xs. cond (is_exposed ms m past) Exposed (without_evidence xs)) k.of.challenges
+    ∙ ap (λ xs. cond (is_exposed ms m past) Exposed (without_evidence xs)) k.of.stands.challenges

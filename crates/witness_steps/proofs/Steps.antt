@@ -33,7 +33,7 @@ use Rattle.witness_steps.specs.Books.{Book, exposed, job_of, job_out_at, job_out
 use Rattle.witness_steps.specs.Replying.{reply_to_audit, reply_to_begin, BookOwes}
 use Rattle.witness_steps.specs.Going.{after_learn, after_send_challenge, after_answer, after_ack, after_audit}
 use Rattle.witness_steps.specs.Going.{after_begin, after_file, after_put_back, after_forward, book_after}
-use Rattle.witness_steps.specs.Fitting.{IsMore, IsFaulty, AgreesAt, FitsTogether}
+use Rattle.witness_steps.specs.Fitting.{NumbersDiffer, IsMore, IsFaulty, AgreesAt, FitsTogether}
 use Rattle.witness_laws.proofs.Checked.{IsCheckedStep}
 use Rattle.witness_laws.proofs.Reach.{in_reach}
 use Rattle.witness_laws.proofs.OfEvidence.Before.{one_shown}
@@ -41,9 +41,9 @@ use Rattle.witness_steps.proofs.Lists.{on_right}
 use Rattle.witness_steps.proofs.Kept.{shows, Learned, Segment}
 use Rattle.witness_steps.proofs.Segments.{hash_at}
 use Rattle.witness_steps.proofs.Quiet.{Exposure, DoesNothing, quiet, found_stays, having_challenged}
+use Rattle.witness_steps.proofs.Quiet.{kept_stays}
 use Rattle.witness_steps.proofs.Quiet.{having_acked, having_asked, having_begun, having_put_back, having_forwarded}
-use Rattle.witness_steps.proofs.Replies.{owes_same}
-use Rattle.witness_steps.proofs.Known.{Known, RosterAt, exposed_same}
+use Rattle.witness_steps.proofs.Known.{Known, RosterAt, exposed_same, owes_known}
 use Rattle.witness_steps.proofs.Learned.{noted_known}
 use Rattle.witness_steps.proofs.Accepted.{accepted_known}
 use Rattle.witness_steps.proofs.Filed.{filed_known}
@@ -229,6 +229,7 @@ module _ (ms : List Member) (m : Member) (past : Past) (b : Book) (k : Known ms 
   known_quiet p did x = record {
     of = quiet ms m past p b did k.exposure k.of;
     fits = k.fits;
+    kept_differ = subst NumbersDiffer (sym (kept_stays ms m past p did.notes did.files)) k.kept_differ;
     exposure = x;
     audited = k.audited ∙ sym (ap (λ o. audited ms m past ++ entries_filed ms (end_of ms m past).state o) did.files
         ∙ append-nil (audited ms m past));
@@ -252,6 +253,7 @@ module _ (ms : List Member) (m : Member) (past : Past) (b : Book) (k : Known ms 
   challenged e Opened x = record {
     of = having_challenged ms m past e Opened b k.exposure k.of;
     fits = fits_with b _ _ k.fits;
+    kept_differ = k.kept_differ;
     exposure = x;
     audited = k.audited ∙ unaudited;
     sent = unfound (SendChallenge e, Opened) refl;
@@ -273,6 +275,7 @@ module _ (ms : List Member) (m : Member) (past : Past) (b : Book) (k : Known ms 
   acked a Closed x = record {
     of = having_acked ms m past a Closed b k.exposure k.of;
     fits = fits_with b _ _ k.fits;
+    kept_differ = k.kept_differ;
     exposure = x;
     audited = k.audited ∙ unaudited;
     sent = unfound (AckIn a, Closed) refl;
@@ -312,11 +315,12 @@ module _ (ms : List Member) (m : Member) (past : Past) (b : Book) (k : Known ms 
   forwarded_one (Forwarded a) h x = record {
     of = having_forwarded ms m past (Forwarded a) b k.exposure k.of;
     fits = fits_with b _ _ k.fits;
+    kept_differ = k.kept_differ;
     exposure = x;
     audited = k.audited ∙ unaudited;
     sent = omega (
       arith,
-      some_left (outbox ms m past) a (h ∙ ap forward_reply k.of.outbox),
+      some_left (outbox ms m past) a (h ∙ ap forward_reply k.of.stands.outbox),
       length-drop (forwards past) (all_found ms m past),
       sum_by_from (λ (q : Step × Reply). cond (is_some (forwarded q.0 q.1)) 1 0) 1 past,
       ap length (found_stays ms m past (Forward, Forwarded a) refl),
@@ -344,6 +348,7 @@ module _ (ms : List Member) (m : Member) (past : Past) (b : Book) (k : Known ms 
         of = having_asked ms m past (Asked first last) b k.exposure k.of;
         fits = fits_at b (Wanted first last) b.begun _ k.fits
             (by a (subst (λ s. IsMore b.end.number (exposed b) s k.fits.tiles.more) a.none k.fits.tiles.rest)) tt;
+        kept_differ = k.kept_differ;
         exposure = x;
         audited = k.audited ∙ unaudited;
         sent = unfound (Audit, Asked first last) refl;
@@ -375,9 +380,9 @@ module _ (ms : List Member) (m : Member) (past : Past) (b : Book) (k : Known ms 
       (on_right c.segment k.fits.tiles.audited (c.segment ∷ []) (inl refl)) in
       let p = hash_at c.segment a.number (k.fits.whole c.segment among)
       (omega (arith, one.follows.first, k.fits.above a i)) le in
-      let its = (k.of.shown (pair_of a)).0
+      let its = (k.of.stands.pairs (pair_of a)).0
       (shows b.evidence b.learned b.segments (pair_of a) (Learned a i refl)) in
-      let there = (k.of.shown (a.number, p.hash)).0
+      let there = (k.of.stands.pairs (a.number, p.hash)).0
       (shows b.evidence b.learned b.segments (a.number, p.hash) (Segment c.segment among p.there)) in
       let same : p.hash ≡ a.hash = one_shown ms m past (sym (exposed_same ms m past b k.of k.exposure) ∙ hidden)
       a.number p.hash a.hash there its in
@@ -392,10 +397,11 @@ module _ (ms : List Member) (m : Member) (past : Past) (b : Book) (k : Known ms 
         fits = fits_at b (Out j.segment) (b.begun + 1) b.challenges k.fits
             (subst (λ s. IsMore b.end.number (exposed b) s k.fits.tiles.more) g.given k.fits.tiles.rest)
             (agreeing j.segment g.given g.hidden);
+        kept_differ = k.kept_differ;
         exposure = x;
         audited = k.audited ∙ unaudited;
         sent = unfound (Begin, Job j) refl;
-        roster = subst (RosterAt ms) (sym k.of.stage ∙ g.given) k.roster;
+        roster = subst (RosterAt ms) (sym k.of.stands.stage ∙ g.given) k.roster;
       }
   begun_one r h x =
       known_quiet (Begin, r) (record {
@@ -416,10 +422,11 @@ module _ (ms : List Member) (m : Member) (past : Past) (b : Book) (k : Known ms 
         of = having_put_back ms m past j Returned b k.exposure k.of;
         fits = fits_at b (Given j.segment) b.begun b.challenges k.fits
             (subst (λ s. IsMore b.end.number (exposed b) s k.fits.tiles.more) o.at k.fits.tiles.rest) tt;
+        kept_differ = k.kept_differ;
         exposure = x;
         audited = k.audited ∙ unaudited;
         sent = unfound (PutBack j, Returned) refl;
-        roster = subst (RosterAt ms) (sym k.of.stage ∙ o.at) k.roster;
+        roster = subst (RosterAt ms) (sym k.of.stands.stage ∙ o.at) k.roster;
       }
   put_back j r h x =
       known_quiet (PutBack j, r) (record {
@@ -478,9 +485,9 @@ module _ (ms : List Member) (m : Member) (past : Past) (b : Book) (k : Known ms 
       → Exposure ms m ((File d, r) ∷ past) → Known ms m ((File d, r) ∷ past) (after_file b d r)
   filed d Filed h done x =
       let o = out_of b d.job (h refl) in
-      let roster : d.job.segment.roster ≡ ms = subst (RosterAt ms) (sym k.of.stage ∙ o.at) k.roster in
+      let roster : d.job.segment.roster ≡ ms = subst (RosterAt ms) (sym k.of.stands.stage ∙ o.at) k.roster in
       let state : d.job.state ≡ (end_of ms m past).state =
-      o.state ∙ ap (λ (e : End). e.state) k.of.end in
+      o.state ∙ ap (λ (e : End). e.state) k.of.stands.end in
       filed_known ms m past b d k o.at
       (sym (done ∙ ap₂ (λ (ns : List Member) (s : State). segment_verdict ns s d.job.segment.segment) roster state)) x
   filed d r h done x =
@@ -510,7 +517,7 @@ module _ (ms : List Member) (m : Member) (past : Past) (b : Book) (k : Known ms 
   pub known_on : (step : Step) (r : Reply) → Owes ms m past step r → IsCheckedStep ms m step → IsDoneStep step
       → Exposure ms m ((step, r) ∷ past) → Known ms m ((step, r) ∷ past) (book_after b step r)
   known_on step r owed checked done x =
-      by step owed ((owes_same ms m past b k.of (exposed_same ms m past b k.of k.exposure) step r).0 owed)
+      by step owed ((owes_known ms m past b k step r).0 owed)
       checked done x
     where
       by : (step : Step) → Owes ms m past step r → BookOwes b step r → IsCheckedStep ms m step → IsDoneStep step

@@ -10,15 +10,10 @@ use Rattle.witness_spec.specs.Pairs.{pair_of}
 use Rattle.witness_spec.specs.Standing.{end_of, shown, kept, all_accepted, Stage, NoAudit, Wanted}
 use Rattle.witness_spec.specs.Standing.{Given, Out, stage_of, begins, open_challenges, outbox}
 use Rattle.witness_spec.specs.Exposing.{evidence}
-use Rattle.witness_spec.specs.Histories.{HoldSame}
-use Rattle.witness_steps.specs.Books.{Book, exposed, book_shown}
+use Rattle.witness_spec.specs.Histories.{StandsFor}
+use Rattle.witness_steps.specs.Books.{Book, exposed, parts_of}
 
 -- ---- what is kept
-
--- a list whose newest stands first, the other way round
-abbrev pub oldest_first : {A : Type 0} → List A → List A
-oldest_first [] = []
-oldest_first (x ∷ xs) = oldest_first xs ++ x ∷ []
 
 -- No two of these have one number.
 abbrev pub NumbersDiffer : List Authenticator → Type 0
@@ -112,17 +107,9 @@ pub record FitsTogether (b : Book) : Type 0 where
 
 -- ---- whose book it is
 
--- A book is that of a member after these own steps.
+-- A book is that of a member after these own steps: it is of that node, and holds what the steps say.
 pub record IsBookOf (ms : List Member) (m : Member) (past : Past) (b : Book) : Type 0 where
-  -- its parts are what the steps say
+  -- it is the member's
   pub node : b.node ≡ m.node
-  pub end : b.end ≡ end_of ms m past
-  pub stage : b.stage ≡ stage_of past
-  pub begun : b.begun ≡ begins past
-  pub learned : b.learned ≡ oldest_first (kept ms m past)
-  pub segments : b.segments ≡ oldest_first (all_accepted past)
-  pub challenges : b.challenges ≡ open_challenges past
-  pub outbox : b.outbox ≡ outbox ms m past
-  pub evidence : b.evidence ≡ evidence ms m past
-  -- it shows what was shown
-  pub shown : HoldSame (book_shown b) (shown ms m past)
+  -- it holds what the steps say
+  pub stands : StandsFor ms m past (parts_of b)
