@@ -158,6 +158,13 @@ known ms m (p ∷ past) is owed checked done =
     known_on ms m past (book_after_steps m past) (known ms m past is owed.1 checked.1 done.1) p.0 p.1 owed.0
     checked.0 done.0 (exposure_of ms m (p ∷ past) (told ms m (p ∷ past) is owed checked))
 
+-- whether a member is exposed after a history
+pub exposed_or_not : (ms : List Member) (m : Member) (history : History) → member_of ms m.node ≡ Some m
+    → IsHistory ms history → Exposure ms m (own ms m.node history)
+exposed_or_not ms m history is h =
+    exposure_of ms m (own ms m.node history)
+    (told ms m (own ms m.node history) is (own_owed ms m is history h) (own_checked ms m is history h))
+
 -- after a member's own steps of a history
 pub own_known : (ms : List Member) (m : Member) (history : History) → member_of ms m.node ≡ Some m
     → IsHistory ms history → Known ms m (own ms m.node history) (book_after_steps m (own ms m.node history))

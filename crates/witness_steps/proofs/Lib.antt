@@ -10,3 +10,4 @@ pub mod Filed
 pub mod Steps
 pub mod Histories
 pub mod Standing
+pub mod AnyBook

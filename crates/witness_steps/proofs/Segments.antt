@@ -1,6 +1,6 @@
 -- Places in segments, and segments that follow on one another.
 -- Serves: all laws here.
-use Rattle.std.proofs.Common.{◌≡◌, inl, inr, ℕ, ◌+◌, ◌-◌, ◌<◌, ◌≤◌, Bool, true, false, cond, nat_lt, nat_le}
+use Rattle.std.proofs.Common.{◌≡◌, ◌⊎◌, inl, inr, ℕ, ◌+◌, ◌-◌, ◌<◌, ◌≤◌, Bool, true, false, cond, nat_lt, nat_le}
 use Rattle.std.proofs.Common.{List, [], ◌∷◌, ◌++◌, length, filter, flat_map, refl, sym, ap, ap₂, subst, ◌∙◌, arith}
 use Rattle.std.proofs.Common.{append-nil}
 use Rattle.std.proofs.lemmas.Bool.{ltb-true, ltb-false, le-leb, leb-true}
@@ -11,6 +11,7 @@ use Rattle.secure_log.specs.Segment.{SegmentParts, segment_pairs}
 use Rattle.evidence_spec.specs.Showing.{IsAmong}
 use Rattle.witness_spec.specs.Pairs.{Pair, pair_of}
 use Rattle.witness_spec.specs.Standing.{Stage, NoAudit, Wanted, Given, Out}
+use Rattle.witness_spec.specs.Histories.{HoldSame}
 use Rattle.witness_steps.specs.Books.{Book, exposed, is_audited, book_audited}
 use Rattle.witness_steps.specs.Fitting.{IsWhole, Tile, Follows, IsOne, IsMore, AreTiles}
 use Rattle.witness_steps.proofs.Lists.{on_left}
@@ -248,3 +249,35 @@ more_exposed end x y NoAudit more then (inr f) =
 more_exposed end x y (Wanted first last) more then r = r
 more_exposed end x y (Given c) more then r = r
 more_exposed end x y (Out c) more then r = r
+
+-- ---- one row of tiles
+
+head_first : (first : ℕ) (x : SegmentParts) (ss : List SegmentParts) (next : ℕ) → Tile first (x ∷ ss) next
+    → (x.first ≤ first) × (first ≤ x.closing.number)
+head_first first x ss next t = (omega (arith, t.0), t.1)
+
+rest_within : (first : ℕ) (x : SegmentParts) (xs ys : List SegmentParts) (n : ℕ) → Tile first (x ∷ xs) n
+    → ((s : SegmentParts) → IsAmong s (x ∷ xs) → IsAmong s (x ∷ ys))
+    → (s : SegmentParts) → IsAmong s xs → IsAmong s ys
+rest_within first x xs ys n t within s i = by (within s (inr i))
+  where
+    by : (s ≡ x) ⊎ IsAmong s ys → IsAmong s ys
+    by (inr j) = j
+    by (inl e) =
+        let a : s.first ≡ x.first = ap (λ (y : SegmentParts). y.first) e in
+        absurd (omega (arith, a, t.0, t.1, (tile_between (x.closing.number + 1) xs n s t.2 i).0))
+
+-- segments that hold the same, and both follow on one another from one number on, are the same
+pub tiles_same : (first : ℕ) (xs ys : List SegmentParts) (n k : ℕ) → Tile first xs n → Tile first ys k
+    → HoldSame xs ys → xs ≡ ys
+tiles_same first [] [] n k t u same = refl
+tiles_same first [] (y ∷ ys) n k t u same = absurd ((same y).1 (inl refl))
+tiles_same first (x ∷ xs) [] n k t u same = absurd ((same x).0 (inl refl))
+tiles_same first (x ∷ xs) (y ∷ ys) n k t u same =
+    let is : y ≡ x = tile_one first (x ∷ xs) n first t y x ((same y).1 (inl refl)) (inl refl)
+    (head_first first y ys k u) (head_first first x xs n t) in
+    let v : Tile first (x ∷ ys) k = subst (λ z. Tile first (z ∷ ys) k) is u in
+    let both : HoldSame (x ∷ xs) (x ∷ ys) = subst (λ z. HoldSame (x ∷ xs) (z ∷ ys)) is same in
+    ap₂ (λ (z : SegmentParts) (zs : List SegmentParts). z ∷ zs) (sym is)
+    (tiles_same (x.closing.number + 1) xs ys n k t.2 v.2
+    (λ s. (rest_within first x xs ys n t (λ z. (both z).0) s, rest_within first x ys xs k v (λ z. (both z).1) s)))

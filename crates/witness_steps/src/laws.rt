@@ -2,6 +2,7 @@
 
 ghost use Rattle.witness_steps.specs.Laws.{BooksOweTheSame, BooksAreOfTheirSteps, BooksFitTogether};
 ghost use Rattle.witness_steps.specs.Laws.{BooksTellTheSame, BooksHaveTheAudited, BooksStand};
+ghost use Rattle.witness_steps.specs.Laws.{AnyBookOwesTheSame, AnyBookGoesOn};
 
 /// A member's book after its own steps of a history replies to each further step what is owed to it after that
 /// history, and nothing else; it tells the indication that is told of the node.
@@ -22,4 +23,12 @@ pub fn books_stand()
 pub fn parts_fit_together()
     ensures fit { BooksFitTogether }
     ensures audited { BooksHaveTheAudited }
+{}
+
+/// Any book whose parts fit together replies, after every history for which it stands as a member's book, what
+/// is owed; and with each event that is the member's step, and that reply, it goes on: the parts of the book
+/// after it fit together, and it stands for the longer history.
+pub fn any_book_goes_on()
+    ensures owes { AnyBookOwesTheSame }
+    ensures goes_on { AnyBookGoesOn }
 {}
