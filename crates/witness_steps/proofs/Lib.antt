@@ -1,0 +1,13 @@
+pub mod Lists
+pub mod Replies
+pub mod Quiet
+pub mod Segments
+pub mod Kept
+pub mod Known
+pub mod Learned
+pub mod Accepted
+pub mod Filed
+pub mod Steps
+pub mod Histories
+pub mod Standing
+pub mod AnyBook

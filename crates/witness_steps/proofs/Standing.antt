@@ -1,0 +1,37 @@
+-- The books of all members stand for a history, and each tells the indication.
+-- Serves: books_reply_what_is_owed, books_stand.
+use Rattle.std.proofs.Common.{◌≡◌, inl, inr, cond, List, [], ◌∷◌, map, Some, refl, sym, ap, subst, ◌∙◌}
+use Rattle.authenticator.specs.Roster.{IsRoster, member_of}
+use Rattle.authenticator.specs.declared.member.Member.{Member}
+use Rattle.evidence_spec.specs.Showing.{IsAmong}
+use Rattle.witness_spec.specs.Replies.{Exposed}
+use Rattle.witness_spec.specs.Steps.{Past}
+use Rattle.witness_spec.specs.Standing.{is_exposed, without_evidence, indication, kept, all_accepted}
+use Rattle.witness_spec.specs.Histories.{History, own, IsHistory, HoldSame, StandsFor, StandEach, Stands}
+use Rattle.witness_steps.specs.Books.{Book, book_indication, parts_of}
+use Rattle.witness_steps.specs.Going.{book_after_steps}
+use Rattle.witness_steps.specs.Fitting.{IsBookOf}
+use Rattle.witness_steps.proofs.Known.{Known, exposed_same}
+use Rattle.witness_steps.proofs.Histories.{own_known, its_member}
+
+-- the books of some members of a roster stand
+stand_each : (ms : List Member) (history : History) (members : List Member) → IsHistory ms history
+    → ((m : Member) → IsAmong m members → member_of ms m.node ≡ Some m)
+    → StandEach ms history members (map (λ m. parts_of (book_after_steps m (own ms m.node history))) members)
+stand_each ms history [] h is = tt
+stand_each ms history (m ∷ members) h is = (
+  (own_known ms m history (is m (inl refl)) h).of.stands,
+  stand_each ms history members h (λ n i. is n (inr i)),
+)
+
+-- and of all
+pub stand : (ms : List Member) (history : History) → IsRoster ms → IsHistory ms history
+    → Stands ms (map (λ m. parts_of (book_after_steps m (own ms m.node history))) ms) history
+stand ms history roster h = stand_each ms history ms h (λ m i. its_member 0 ms m roster.1 i)
+
+-- what is known of a book tells its indication
+pub same_indication : (ms : List Member) (m : Member) (past : Past) (b : Book) → Known ms m past b
+    → book_indication b ≡ indication ms m past
+same_indication ms m past b k =
+    ap (λ x. cond x Exposed (without_evidence b.challenges)) (exposed_same ms m past b k.of k.exposure)
+    ∙ ap (λ xs. cond (is_exposed ms m past) Exposed (without_evidence xs)) k.of.stands.challenges

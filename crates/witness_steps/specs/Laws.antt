@@ -1,0 +1,87 @@
+-- What holds of books. Each is the contract of a function here.
+use Rattle.std.specs.Prelude.{◌≡◌, ◌↔◌, List, ◌∷◌, map, Some, Ok}
+use Rattle.authenticator.specs.Roster.{IsRoster, member_of}
+use Rattle.authenticator.specs.declared.member.Member.{Member}
+use Rattle.witness_spec.specs.Events.{Event, IsEvent}
+use Rattle.witness_spec.specs.Replies.{Reply}
+use Rattle.witness_spec.specs.Steps.{Step}
+use Rattle.witness_spec.specs.Whose.{whose}
+use Rattle.witness_spec.specs.Standing.{audited, indication}
+use Rattle.witness_spec.specs.Owing.{Owes}
+use Rattle.witness_spec.specs.Histories.{History, own, IsHistory, Stands}
+use Rattle.witness_steps.specs.Books.{Book, book_audited, book_indication, parts_of}
+use Rattle.witness_steps.specs.Replying.{BookOwes}
+use Rattle.witness_steps.specs.Going.{book_after, book_after_steps}
+use Rattle.witness_steps.specs.Fitting.{FitsTogether, IsBookOf}
+
+-- A member's book after its own steps of a history replies to each step what is owed after that history, and
+-- nothing else.
+abbrev pub BooksOweTheSame : Type 0
+BooksOweTheSame =
+    (ms : List Member) (m : Member) (history : History) (step : Step) (reply : Reply)
+    → member_of ms m.node ≡ Some m → IsHistory ms history
+    → Owes ms m (own ms m.node history) step reply ↔ BookOwes (book_after_steps m (own ms m.node history)) step reply
+
+-- It holds what the steps say.
+abbrev pub BooksAreOfTheirSteps : Type 0
+BooksAreOfTheirSteps =
+    (ms : List Member) (m : Member) (history : History)
+    → member_of ms m.node ≡ Some m → IsHistory ms history
+    → IsBookOf ms m (own ms m.node history) (book_after_steps m (own ms m.node history))
+
+-- Its parts fit together.
+abbrev pub BooksFitTogether : Type 0
+BooksFitTogether =
+    (ms : List Member) (m : Member) (history : History)
+    → member_of ms m.node ≡ Some m → IsHistory ms history
+    → FitsTogether (book_after_steps m (own ms m.node history))
+
+-- It tells the indication that is told of the node: so there is evidence exactly where the node is Exposed.
+abbrev pub BooksTellTheSame : Type 0
+BooksTellTheSame =
+    (ms : List Member) (m : Member) (history : History)
+    → member_of ms m.node ≡ Some m → IsHistory ms history
+    → book_indication (book_after_steps m (own ms m.node history)) ≡ indication ms m (own ms m.node history)
+
+-- The entries of its audited segments are those that were audited.
+abbrev pub BooksHaveTheAudited : Type 0
+BooksHaveTheAudited =
+    (ms : List Member) (m : Member) (history : History)
+    → member_of ms m.node ≡ Some m → IsHistory ms history
+    → book_audited (book_after_steps m (own ms m.node history)) ≡ audited ms m (own ms m.node history)
+
+-- The books of all members stand for the history.
+abbrev pub BooksStand : Type 0
+BooksStand =
+    (ms : List Member) (history : History) → IsRoster ms → IsHistory ms history
+    → Stands ms (map (λ m. parts_of (book_after_steps m (own ms m.node history))) ms) history
+
+-- ---- any book
+
+-- A book goes on with a member's step: the event with its reply makes the history longer, and the book after
+-- it fits together and is that of the member's own steps of the longer history.
+pub record GoesOn (ms : List Member) (m : Member) (history : History) (event : Event) (step : Step) (reply : Reply)
+    (b : Book) : Type 0 where
+  -- the history is longer
+  pub is : IsHistory ms ((event, reply) ∷ history)
+  -- the parts fit together
+  pub fits : FitsTogether (book_after b step reply)
+  -- the book is of the steps
+  pub of : IsBookOf ms m (own ms m.node ((event, reply) ∷ history)) (book_after b step reply)
+
+-- Any book that fits together owes, after every history for which it stands as the member's, what is owed.
+abbrev pub AnyBookOwesTheSame : Type 0
+AnyBookOwesTheSame =
+    (ms : List Member) (m : Member) (history : History) (b : Book) (step : Step) (reply : Reply)
+    → member_of ms m.node ≡ Some m → IsHistory ms history
+    → FitsTogether b → IsBookOf ms m (own ms m.node history) b
+    → Owes ms m (own ms m.node history) step reply ↔ BookOwes b step reply
+
+-- With an event that may be handed in and is the member's step, and the reply that the book owes, it goes on.
+abbrev pub AnyBookGoesOn : Type 0
+AnyBookGoesOn =
+    (ms : List Member) (m : Member) (history : History) (b : Book) (event : Event) (step : Step) (reply : Reply)
+    → member_of ms m.node ≡ Some m → IsHistory ms history
+    → FitsTogether b → IsBookOf ms m (own ms m.node history) b
+    → IsEvent event → whose ms event ≡ Ok (record { member = m; step = step }) → BookOwes b step reply
+    → GoesOn ms m history event step reply b

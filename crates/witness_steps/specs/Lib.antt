@@ -1,0 +1,5 @@
+pub mod Books
+pub mod Replying
+pub mod Going
+pub mod Fitting
+pub mod Laws

@@ -1,0 +1,34 @@
+//! A book that goes on from step to step by plain equations is what a witness may say of its node.
+
+ghost use Rattle.witness_steps.specs.Laws.{BooksOweTheSame, BooksAreOfTheirSteps, BooksFitTogether};
+ghost use Rattle.witness_steps.specs.Laws.{BooksTellTheSame, BooksHaveTheAudited, BooksStand};
+ghost use Rattle.witness_steps.specs.Laws.{AnyBookOwesTheSame, AnyBookGoesOn};
+
+/// A member's book after its own steps of a history replies to each further step what is owed to it after that
+/// history, and nothing else; it tells the indication that is told of the node.
+pub fn books_reply_what_is_owed()
+    ensures owes { BooksOweTheSame }
+    ensures tells { BooksTellTheSame }
+{}
+
+/// It holds what these steps say, and the books of all members of a roster stand for the history.
+pub fn books_stand()
+    ensures one { BooksAreOfTheirSteps }
+    ensures all { BooksStand }
+{}
+
+/// Its parts fit together: what is kept lies above the end, and its numbers differ; the accepted segments hold
+/// each number from 1 to the end, and one more segment at most was accepted; and the audited entries are those
+/// of the segments up to the end.
+pub fn parts_fit_together()
+    ensures fit { BooksFitTogether }
+    ensures audited { BooksHaveTheAudited }
+{}
+
+/// Any book whose parts fit together replies, after every history for which it stands as a member's book, what
+/// is owed; and with each event that is the member's step, and that reply, it goes on: the parts of the book
+/// after it fit together, and it stands for the longer history.
+pub fn any_book_goes_on()
+    ensures owes { AnyBookOwesTheSame }
+    ensures goes_on { AnyBookGoesOn }
+{}

@@ -1,0 +1,4 @@
+//! What a book of one node replies and holds, by the book alone: laws that this is what a witness may say.
+#![tactic(auto)]
+
+pub mod laws;
