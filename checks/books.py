@@ -1,0 +1,637 @@
+#!/usr/bin/env python3
+"""What one node's book replies and holds, step by step, beside what the definitions say of all steps.
+
+The definitions of `witness_spec` (functions of a node's own steps) and the equations of `witness_steps` (a book, and the
+book after a step) are written out here a second time, over plain values: a hash is a word, a replay is sound where no
+entry is marked as bad. Random steps are made, and after each the reply and all parts are compared. The limits are small,
+so that every refusal of a node's own step is reached; then errors are planted in the equations, and each must be seen.
+
+    checks/books.py [HISTORIES]     prints how many steps were compared, which replies came, and what was planted
+"""
+import random
+import sys
+import zlib
+from collections import Counter, namedtuple
+from functools import lru_cache
+
+LEARNED, CHALLENGES, ASKED, AUDITED, OUTBOX = 3, 2, 3, 8, 4
+NODE = 1
+ZEROS = 0
+
+Authenticator = namedtuple('Authenticator', 'number hash')
+Segment = namedtuple('Segment', 'first opening entries closing')
+Job = namedtuple('Job', 'node number state segment')
+Done = namedtuple('Done', 'job verdict')
+Entry = namedtuple('Entry', 'kind word')
+State = namedtuple('State', 'number hash')
+Book = namedtuple('Book', 'end state stage begun learned segments challenges outbox evidence')
+START = State(0, ZEROS)
+OPENING = Book(0, START, ('none',), 0, (), (), (), (), None)
+
+
+def refused(number):
+    return ('refused', number)
+
+
+def link(before, entry):
+    return zlib.crc32(repr((before, entry)).encode()) & 0xffff | 1
+
+
+def pair_of(a):
+    return (a.number, a.hash)
+
+
+def segment_pairs(s):
+    pairs, hash_ = [(s.first - 1, s.opening)], s.opening
+    for place, entry in enumerate(s.entries):
+        hash_ = link(hash_, entry)
+        pairs.append((s.first + place, hash_))
+    return pairs
+
+
+def verdict_on(state, s):
+    """Sound, with the state after it and what it shows of others, or a fault."""
+    if s.first != state.number + 1 or s.opening != state.hash or any(e.kind == 'bad' for e in s.entries):
+        return ('fault',)
+    found = tuple(('other', e.word, s.first + place) for place, e in enumerate(s.entries) if e.kind == 'recv')
+    return ('sound', State(s.closing.number, s.closing.hash), found)
+
+
+# ---- the definitions: functions of own steps, a linked list with the newest first, (step, reply, earlier steps)
+
+memo = lru_cache(None)
+
+
+def noted(step, reply):
+    return step[1] if step[0] == 'learn' and reply == 'noted' else None
+
+
+def accepted(step, reply):
+    return step[1] if step[0] == 'answer' and reply == 'accepted' else None
+
+
+def filed(step, reply):
+    return step[1].job if step[0] == 'file' and reply == 'filed' else None
+
+
+def begun(step, reply):
+    return step[0] == 'begin' and reply[0] == 'job'
+
+
+def forwarded(step, reply):
+    return step[0] == 'forward' and reply[0] == 'forwarded'
+
+
+@memo
+def end_of(past):
+    """The last number that was audited, and the state there."""
+    if past is None:
+        return 0, START
+    step, reply, rest = past
+    job, end = filed(step, reply), end_of(rest)
+    if job is None:
+        return end
+    verdict = verdict_on(end[1], job.segment)
+    return (job.segment.closing.number, verdict[1]) if verdict[0] == 'sound' else end
+
+
+@memo
+def verdict_filed(past):
+    """The verdict of the newest step, if it filed a job."""
+    job = filed(past[0], past[1])
+    return None if job is None else verdict_on(end_of(past[2])[1], job.segment)
+
+
+@memo
+def has_fault(past):
+    return past is not None and ((verdict_filed(past) or ('',))[0] == 'fault' or has_fault(past[2]))
+
+
+@memo
+def audited(past):
+    if past is None:
+        return ()
+    sound = (verdict_filed(past) or ('',))[0] == 'sound'
+    return audited(past[2]) + (filed(past[0], past[1]).segment.entries if sound else ())
+
+
+@memo
+def all_found(past):
+    if past is None:
+        return ()
+    verdict = verdict_filed(past)
+    return all_found(past[2]) + (verdict[2] if verdict and verdict[0] == 'sound' else ())
+
+
+def is_fork(pair, pairs):
+    return any(pair[0] == other[0] and pair[1] != other[1] for other in pairs)
+
+
+def has_fork(pairs):
+    return any(is_fork(pair, pairs[place + 1:]) for place, pair in enumerate(pairs))
+
+
+@memo
+def shown(past):
+    if past is None:
+        return ((0, ZEROS),)
+    step, reply, rest = past
+    a, c = noted(step, reply), accepted(step, reply)
+    new = () if a is None or is_exposed(rest) else (pair_of(a),)
+    return new + (tuple(segment_pairs(c)) if c else ()) + shown(rest)
+
+
+@memo
+def is_exposed(past):
+    return has_fork(shown(past)) or has_fault(past)
+
+
+@memo
+def noted_before(past):
+    if past is None:
+        return ()
+    a = noted(past[0], past[1])
+    return (() if a is None or is_exposed(past) else (a,)) + noted_before(past[2])
+
+
+def kept(past):
+    return tuple(a for a in noted_before(past) if end_of(past)[0] < a.number)
+
+
+@memo
+def all_accepted(past):
+    if past is None:
+        return ()
+    c = accepted(past[0], past[1])
+    return ((c,) if c else ()) + all_accepted(past[2])
+
+
+@memo
+def stage_of(past):
+    if past is None:
+        return ('none',)
+    step, reply, rest = past
+    if step[0] == 'audit' and reply[0] == 'asked':
+        return ('wanted', reply[1], reply[2])
+    if accepted(step, reply):
+        return ('given', step[1])
+    if begun(step, reply):
+        return ('out', reply[1].segment)
+    if step[0] == 'putback' and reply == 'returned':
+        return ('given', step[1].segment)
+    return ('none',) if filed(step, reply) else stage_of(rest)
+
+
+@memo
+def begins(past):
+    return 0 if past is None else begins(past[2]) + begun(past[0], past[1])
+
+
+@memo
+def forwards(past):
+    return 0 if past is None else forwards(past[2]) + forwarded(past[0], past[1])
+
+
+def outbox(past):
+    return all_found(past)[forwards(past):]
+
+
+def job_out(past):
+    stage = stage_of(past)
+    return Job(NODE, begins(past), end_of(past)[1], stage[1]) if stage[0] == 'out' else None
+
+
+def is_answered(s, challenge):
+    return challenge[0] == 'audit' or any(e.kind == 'recv' and e.word == challenge[1] for e in s.entries)
+
+
+@memo
+def open_challenges(past):
+    if past is None:
+        return ()
+    step, reply, rest = past
+    old = open_challenges(rest)
+    if step[0] == 'audit' and reply[0] == 'asked':
+        return old + (('audit', reply[1], reply[2]),)
+    if step[0] == 'send' and reply == 'opened':
+        return old + (('message', step[1]),)
+    if accepted(step, reply):
+        return tuple(x for x in old if not is_answered(step[1], x))
+    if step[0] == 'ack' and reply == 'closed':
+        return tuple(x for x in old if x != ('message', step[1]))
+    return old
+
+
+def first_fork(new, pairs):
+    return next((pair[0] for pair in new if is_fork(pair, pairs)), None)
+
+
+def fork_of(learned, segments, new, number):
+    """The fork that a new showing makes at a number, if it makes one."""
+    if number is None:
+        return None
+    if number == 0:
+        return ('fork', 0, new, None)
+    old = next((a for a in learned if a.number == number), None)
+    if old is None:
+        old = next((s for s in segments if s.first <= number <= s.closing.number), None)
+    return None if old is None else ('fork', number, old, new)
+
+
+@memo
+def evidence(past):
+    if past is None:
+        return None
+    step, reply, rest = past
+    if is_exposed(rest):
+        return evidence(rest)
+    a, c, job = noted(step, reply), accepted(step, reply), filed(step, reply)
+    if a or c:
+        new = [pair_of(a)] if a else segment_pairs(c)
+        return fork_of(kept(rest), all_accepted(rest), a or c, first_fork(new, shown(rest)))
+    if job and verdict_filed(past)[0] == 'fault':
+        return ('replay', Segment(1, ZEROS, audited(rest) + job.segment.entries, job.segment.closing))
+    return None
+
+
+def indication(past):
+    return 'exposed' if is_exposed(past) else 'suspected' if open_challenges(past) else 'trusted'
+
+
+def last_in_reach(end, learned):
+    return max((a.number for a in learned if a.number <= end + ASKED), default=0)
+
+
+def ask_up_to(end, waiting, last):
+    if last == 0:
+        return refused(7)
+    if AUDITED < last:
+        return refused(13)
+    return refused(6) if OUTBOX < waiting + last - end else ('asked', end + 1, last)
+
+
+def learn_reply(past, a):
+    pairs = shown(past)
+    if is_exposed(past):
+        return 'noted'
+    if pair_of(a) in pairs:
+        return 'already'
+    full = end_of(past)[0] < a.number and LEARNED <= len(kept(past))
+    return refused(4) if full and not is_fork(pair_of(a), pairs) else 'noted'
+
+
+def challenge_reply(challenges, word):
+    if ('message', word) in challenges:
+        return 'already'
+    return refused(5) if CHALLENGES <= sum(x[0] == 'message' for x in challenges) else 'opened'
+
+
+def answer_reply(stage, s):
+    return 'accepted' if stage == ('wanted', s.first, s.closing.number) else refused(10)
+
+
+def audit_reply(past):
+    if stage_of(past)[0] != 'none':
+        return refused(9)
+    if is_exposed(past) or not kept(past):
+        return refused(8)
+    end = end_of(past)[0]
+    return ask_up_to(end, len(outbox(past)), last_in_reach(end, kept(past)))
+
+
+def begin_reply(past):
+    stage = stage_of(past)
+    if stage[0] == 'out':
+        return refused(9)
+    if stage[0] != 'given' or is_exposed(past):
+        return refused(8)
+    return ('job', Job(NODE, begins(past) + 1, end_of(past)[1], stage[1]))
+
+
+def back_reply(out, job, good):
+    return refused(11) if out is None else good if out == job else refused(12)
+
+
+def owed(past, step):
+    """The reply that is owed to a step."""
+    kind = step[0]
+    if kind == 'learn':
+        return learn_reply(past, step[1])
+    if kind == 'send':
+        return challenge_reply(open_challenges(past), step[1])
+    if kind == 'answer':
+        return answer_reply(stage_of(past), step[1])
+    if kind == 'ack':
+        return 'closed' if ('message', step[1]) in open_challenges(past) else refused(10)
+    if kind == 'audit':
+        return audit_reply(past)
+    if kind == 'begin':
+        return begin_reply(past)
+    if kind == 'file':
+        return back_reply(job_out(past), step[1].job, 'filed')
+    if kind == 'putback':
+        return back_reply(job_out(past), step[1], 'returned')
+    if kind == 'forward':
+        return ('forwarded', outbox(past)[0]) if outbox(past) else 'empty'
+    return {'indication': indication, 'challenges': open_challenges, 'evidence': evidence}[step[1]](past)
+
+
+# ---- the equations: a book, its lists with the oldest first
+
+ERRORS = [
+    'what exposed the node is not shown', 'forks are sought among learned alone', 'openings are not shown',
+    "a job's number is ignored", "a job's state is ignored", 'an exposed book says Already',
+    'a fork is refused where it is full', 'an audit counts as a message', 'a job of an exposed node begins',
+    'the last evidence stays', 'an exposed book keeps', 'an answer closes the audit alone', 'jobs are not counted',
+    'what lies below the end stays',
+]
+planted = None
+
+
+def has(error):
+    return planted == error
+
+
+def exposing_pairs(found):
+    if found is None or found[0] == 'replay' or has('what exposed the node is not shown'):
+        return []
+    newer = found[2] if found[3] is None else found[3]
+    return [pair_of(newer.closing if isinstance(newer, Segment) else newer)]
+
+
+def book_shown(b):
+    pairs = [(0, ZEROS)] + exposing_pairs(b.evidence) + [pair_of(a) for a in b.learned]
+    if has('forks are sought among learned alone'):
+        return pairs
+    for s in b.segments:
+        pairs += segment_pairs(s)[1:] if has('openings are not shown') else segment_pairs(s)
+    return pairs
+
+
+def book_job(b):
+    return Job(NODE, b.begun, b.state, b.stage[1]) if b.stage[0] == 'out' else None
+
+
+def book_audited(b):
+    return tuple(e for s in b.segments if s.closing.number <= b.end for e in s.entries)
+
+
+def as_compared(job):
+    if job is not None and has("a job's number is ignored"):
+        return job._replace(number=0)
+    if job is not None and has("a job's state is ignored"):
+        return job._replace(state=START)
+    return job
+
+
+def reply_to_learn(b, a):
+    pairs = book_shown(b)
+    if b.evidence is not None and not has('an exposed book says Already'):
+        return 'noted'
+    if pair_of(a) in pairs:
+        return 'already'
+    full = b.end < a.number and LEARNED <= len(b.learned)
+    return refused(4) if full and (has('a fork is refused where it is full') or not is_fork(pair_of(a), pairs)) else 'noted'
+
+
+def reply_to_send(b, word):
+    if has('an audit counts as a message') and CHALLENGES <= len(b.challenges):
+        return refused(5)
+    return challenge_reply(b.challenges, word)
+
+
+def reply_to_audit(b):
+    if b.stage[0] != 'none':
+        return refused(9)
+    if b.evidence is not None or not b.learned:
+        return refused(8)
+    return ask_up_to(b.end, len(b.outbox), last_in_reach(b.end, b.learned))
+
+
+def reply_to_begin(b):
+    if b.stage[0] == 'out':
+        return refused(9)
+    if b.stage[0] != 'given' or b.evidence is not None and not has('a job of an exposed node begins'):
+        return refused(8)
+    return ('job', Job(NODE, b.begun + 1, b.state, b.stage[1]))
+
+
+def reply_to_ask(b, question):
+    if question == 'indication':
+        return 'exposed' if b.evidence is not None else 'suspected' if b.challenges else 'trusted'
+    return b.challenges if question == 'challenges' else b.evidence
+
+
+def book_reply(b, step):
+    """What the book replies to a step."""
+    kind = step[0]
+    if kind == 'learn':
+        return reply_to_learn(b, step[1])
+    if kind == 'send':
+        return reply_to_send(b, step[1])
+    if kind == 'answer':
+        return answer_reply(b.stage, step[1])
+    if kind == 'ack':
+        return 'closed' if ('message', step[1]) in b.challenges else refused(10)
+    if kind == 'audit':
+        return reply_to_audit(b)
+    if kind == 'begin':
+        return reply_to_begin(b)
+    if kind == 'file':
+        return back_reply(as_compared(book_job(b)), as_compared(step[1].job), 'filed')
+    if kind == 'putback':
+        return back_reply(as_compared(book_job(b)), as_compared(step[1]), 'returned')
+    if kind == 'forward':
+        return ('forwarded', b.outbox[0]) if b.outbox else 'empty'
+    return reply_to_ask(b, step[1])
+
+
+def first_evidence(old, new):
+    return new if old is None or has('the last evidence stays') else old
+
+
+def fork_evidence(b, showing, pairs):
+    return first_evidence(b.evidence, fork_of(b.learned, b.segments, showing, first_fork(pairs, book_shown(b))))
+
+
+def after_learn(b, a):
+    found = fork_evidence(b, a, [pair_of(a)])
+    keeps = found is None or has('an exposed book keeps')
+    return b._replace(learned=b.learned + ((a,) if keeps else ()), evidence=found)
+
+
+def after_answer(b, s):
+    audits = has('an answer closes the audit alone')
+    left = tuple(x for x in b.challenges if not (x[0] == 'audit' if audits else is_answered(s, x)))
+    found = fork_evidence(b, s, segment_pairs(s))
+    return b._replace(stage=('given', s), segments=b.segments + (s,), challenges=left, evidence=found)
+
+
+def having_filed(b, s, verdict):
+    if verdict[0] == 'fault':
+        charge = ('replay', Segment(1, ZEROS, book_audited(b) + s.entries, s.closing))
+        return b._replace(stage=('none',), evidence=first_evidence(b.evidence, charge))
+    above = tuple(a for a in b.learned if s.closing.number < a.number or has('what lies below the end stays'))
+    moved = b._replace(end=s.closing.number, state=verdict[1], stage=('none',))
+    return moved._replace(learned=above, outbox=b.outbox + verdict[2], evidence=first_evidence(b.evidence, None))
+
+
+def book_after(b, step, reply):
+    """What the book holds after a step with its reply."""
+    kind = step[0]
+    if kind == 'learn' and reply == 'noted':
+        return after_learn(b, step[1])
+    if kind == 'send' and reply == 'opened':
+        return b._replace(challenges=b.challenges + (('message', step[1]),))
+    if kind == 'answer' and reply == 'accepted':
+        return after_answer(b, step[1])
+    if kind == 'ack' and reply == 'closed':
+        return b._replace(challenges=tuple(x for x in b.challenges if x != ('message', step[1])))
+    if kind == 'audit' and reply[0] == 'asked':
+        return b._replace(stage=('wanted',) + reply[1:], challenges=b.challenges + (('audit',) + reply[1:],))
+    if kind == 'begin' and reply[0] == 'job':
+        return b._replace(stage=('out', reply[1].segment), begun=b.begun + (not has('jobs are not counted')))
+    if kind == 'file' and reply == 'filed':
+        return having_filed(b, step[1].job.segment, step[1].verdict)
+    if kind == 'putback' and reply == 'returned':
+        return b._replace(stage=('given', step[1].segment))
+    if kind == 'forward' and reply[0] == 'forwarded':
+        return b._replace(outbox=b.outbox[1:])
+    return b
+
+
+# ---- random steps
+
+def grown(rng, start, length, bad):
+    """A log: its first hash, then entries with the hash after each."""
+    log = [(None, start)]
+    for _ in range(length):
+        entry = Entry(rng.choices(['send', 'recv', 'clock', 'bad'], [3, 4, 3, bad])[0], rng.randrange(4))
+        log.append((entry, link(log[-1][1], entry)))
+    return log
+
+
+def made_logs(rng):
+    """The log of a history, one that forks from it, and one that begins with another hash."""
+    log, cut = grown(rng, ZEROS, 14, .1), rng.randrange(1, 10)
+    return [log, log[:cut] + grown(rng, log[cut - 1][1], 15 - cut, 1)[1:], grown(rng, 1, 14, 1)]
+
+
+def segment_of(log, first, last):
+    entries = tuple(entry for entry, _ in log[first:last + 1])
+    return Segment(first, log[first - 1][1], entries, Authenticator(last, log[last][1]))
+
+
+def some_job(rng, past, log, old):
+    """The job that is out, or another."""
+    job = job_out(past)
+    if job is None or rng.random() < .15:
+        job = rng.choice(old) if old else Job(NODE, 1, START, segment_of(log, 1, 2))
+        if rng.random() < .3:
+            job = job._replace(state=State(9, 9))
+        if rng.random() < .3:
+            job = job._replace(number=job.number + 1)
+    return job
+
+
+KINDS = {'learn': 9, 'send': 3, 'answer': 6, 'ack': 2, 'audit': 5, 'begin': 5, 'file': 6, 'putback': 1, 'forward': 2, 'ask': 1}
+
+
+def next_step(rng, past, logs, old):
+    log = logs[0] if rng.random() < .93 else rng.choice(logs)
+    kind = rng.choices(list(KINDS), list(KINDS.values()))[0]
+    end, stage = end_of(past)[0], stage_of(past)
+    if kind == 'learn':
+        number = rng.randrange(min(end + 6, len(log))) if rng.random() < .5 else min(len(log) - 1, end + 1 + rng.randrange(5))
+        return kind, Authenticator(number, log[number][1] if rng.random() < .985 else 7)
+    if kind in ('send', 'ack'):
+        return kind, rng.randrange(4)
+    if kind == 'answer':
+        some = sorted((1 + rng.randrange(8), 1 + rng.randrange(8)))
+        first, last = stage[1:] if stage[0] == 'wanted' and rng.random() < .9 else some
+        return kind, segment_of(log, first, last)
+    if kind == 'putback':
+        return kind, some_job(rng, past, log, old)
+    if kind == 'file':
+        job = some_job(rng, past, log, old)
+        return kind, Done(job, verdict_on(job.state, job.segment))
+    return (kind, rng.choice(['indication', 'challenges', 'evidence'])) if kind == 'ask' else (kind,)
+
+
+# ---- both beside each other
+
+def agree(past, b):
+    """The book holds what the steps say."""
+    return (
+        (b.end, b.state) == end_of(past) and b.stage == stage_of(past) and b.begun == begins(past)
+        and b.learned == kept(past)[::-1] and b.segments == all_accepted(past)[::-1]
+        and b.challenges == open_challenges(past) and b.outbox == outbox(past) and b.evidence == evidence(past)
+        and set(book_shown(b)) == set(shown(past)) and (b.evidence is not None) == is_exposed(past)
+        and book_audited(b) == audited(past)
+    )
+
+
+def name_of(step, reply):
+    if isinstance(reply, tuple) and reply and reply[0] == 'refused':
+        return f'{step[0]}: refused {reply[1]}'
+    return f'{step[0]}: {reply}' if isinstance(reply, str) else f'{step[0]}: with a value'
+
+
+def walk(rng, seen, most):
+    """One history: gives the number of its steps, and the first in which book and definitions differ."""
+    logs, past, book, old = made_logs(rng), None, OPENING, []
+    for count in range(1, rng.randrange(2, most)):
+        step = next_step(rng, past, logs, old)
+        reply = owed(past, step)
+        seen[name_of(step, reply)] += 1
+        if is_exposed(past):
+            seen[f'{step[0]} in an exposed book'] += 1
+        if book_reply(book, step) != reply:
+            return count, step
+        book, past = book_after(book, step, reply), (step, reply, past)
+        if begun(step, reply):
+            old.append(reply[1])
+        if not agree(past, book):
+            return count, step
+    return count, None
+
+
+MEMOS = [
+    end_of, verdict_filed, has_fault, audited, all_found, shown, is_exposed, noted_before, all_accepted, stage_of,
+    begins, forwards, open_challenges, evidence,
+]
+
+
+def compare(seed, histories, seen):
+    """Gives the steps that were compared, and the first that differs."""
+    rng, steps = random.Random(seed), 0
+    for _ in range(histories):
+        for function in MEMOS:
+            function.cache_clear()
+        count, wrong = walk(rng, seen, 90)
+        steps += count
+        if wrong:
+            return steps, wrong
+    return steps, None
+
+
+def main(histories):
+    global planted
+    seen = Counter()
+    steps, wrong = compare(1, histories, seen)
+    print(f'{steps} steps:', 'none differs' if wrong is None else f'this one differs: {wrong}')
+    for name in sorted(seen):
+        print(f'{seen[name]:8} {name}')
+    good = wrong is None
+    for planted in ERRORS:
+        steps, wrong = compare(2, 1000, Counter())
+        print(f'planted: {planted}:', 'NOT SEEN' if wrong is None else f'seen after {steps} steps')
+        good = good and wrong is not None
+    missing = [n for n in range(4, 14) if not any(name.endswith(f'refused {n}') for name in seen)]
+    if missing:
+        print('not reached: refusals', *missing)
+    return 0 if good and not missing else 1
+
+
+if __name__ == '__main__':
+    sys.exit(main(int(sys.argv[1]) if len(sys.argv) > 1 else 500))
