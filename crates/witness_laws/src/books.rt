@@ -9,6 +9,7 @@ ghost use Rattle.witness_spec.specs.ContractLaws.{JournalsExactlyIf, OpeningJour
 ghost use Rattle.witness_spec.specs.ContractLaws.{NotedStepsKeepJournals, LeftOutLeavesBooks};
 ghost use Rattle.witness_spec.specs.ContractLaws.{WantLeavesBooks, OutOfMemoryLeavesBooks, OneBookIsEnough};
 ghost use Rattle.witness_spec.specs.ContractLaws.{BookOfOwnStepsAlone, EachBookStands, BooksTell};
+ghost use Rattle.witness_spec.specs.ContractLaws.{BooksTellTheSame};
 
 /// The opening books stand for the history of nothing; and for every history there are books that stand.
 pub fn books_can_stand()
@@ -24,8 +25,9 @@ pub fn steps_keep_books()
 {}
 
 /// Steps in turn are a run: all replies together are owed, and the books after them stand for the history
-/// with all events. From the opening books on, that is a history of these events alone. Two such runs in
-/// which a member's steps agree have the same replies to these, and the witness says the same of the member.
+/// with all events. From the opening books on, that is a history of these events alone. Two runs answer
+/// alike where a member's steps agree in all that was handed in: the replies to these are the same, and the
+/// witness says the same of the member.
 pub fn runs_are_histories()
     ensures steps { StepsAreARun }
     ensures none { NothingIsARun }
@@ -59,7 +61,9 @@ pub fn one_book_is_enough()
     ensures each { EachBookStands }
 {}
 
-/// To a question about a member, what its book tells is owed, and nothing else.
+/// To a question about a member, what its book tells is owed, and nothing else. Books tell the same of a
+/// member after histories in which its steps agree.
 pub fn books_tell()
-    ensures { BooksTell }
+    ensures owed { BooksTell }
+    ensures same { BooksTellTheSame }
 {}

@@ -67,17 +67,19 @@ RunsAreHistories =
     → RunsTo ms (opening_books ms) events replies new
     → IsHistory ms (joined events replies []) × Stands ms new (joined events replies [])
 
--- Two runs from the opening books, with the same steps of a member and in the same order, have the same
--- replies to these, whatever else they hold, and the witness says the same of the member.
+-- Two runs, each from books that stand for a history, answer alike where a member's steps in all that was
+-- handed in are the same and in the same order, whatever else there is: the replies to these are the same,
+-- and the witness says the same of the member.
 abbrev pub RunsThatAgree : Type 0
 RunsThatAgree =
-    (ms : List Member) (m : Member) (one two : List BookParts) (events more : List Event)
-    (replies other : List Reply)
+    (ms : List Member) (m : Member) (old first new last : List BookParts) (history earlier : History)
+    (events more : List Event) (replies others : List Reply)
     → member_of ms m.node ≡ Some m
-    → RunsTo ms (opening_books ms) events replies one → RunsTo ms (opening_books ms) more other two
-    → map (λ p. p.0) (own ms m.node (joined events replies []))
-    ≡ map (λ p. p.0) (own ms m.node (joined more other []))
-    → SaysSame ms m (joined events replies []) (joined more other [])
+    → IsHistory ms history → Stands ms old history → IsHistory ms earlier → Stands ms first earlier
+    → RunsTo ms old events replies new → RunsTo ms first more others last
+    → map (λ p. p.0) (own ms m.node (joined events replies history))
+    ≡ map (λ p. p.0) (own ms m.node (joined more others earlier))
+    → SaysSame ms m (joined events replies history) (joined more others earlier)
 
 -- ---- journals
 
@@ -163,3 +165,13 @@ BooksTell =
     → member_of ms m.node ≡ Some m → IsHistory ms history → Stands ms books history
     → book_in ms books m.node ≡ Some b
     → IsOwed ms history (events.Ask m.node question) reply ↔ (reply ≡ told_by b question)
+
+-- After histories in which a member's own steps are the same and in the same order, books tell the same of
+-- it.
+abbrev pub BooksTellTheSame : Type 0
+BooksTellTheSame =
+    (ms : List Member) (m : Member) (one two : History) (b other : BookParts) (question : Question)
+    → member_of ms m.node ≡ Some m → IsHistory ms one → IsHistory ms two
+    → map (λ p. p.0) (own ms m.node one) ≡ map (λ p. p.0) (own ms m.node two)
+    → StandsFor ms m (own ms m.node one) b → StandsFor ms m (own ms m.node two) other
+    → told_by b question ≡ told_by other question

@@ -88,15 +88,18 @@ pub from_opening : (ms : List Member) (new : List BookParts) (es : List Event) (
     → IsHistory ms (joined es rs []) × Stands ms new (joined es rs [])
 from_opening ms new es rs run = run.keeps [] tt (opening_stand ms)
 
--- two such runs with the same steps of a member say the same of it
-pub agree : (ms : List Member) (m : Member) (one two : List BookParts) (es fs : List Event)
-    (rs qs : List Reply) → member_of ms m.node ≡ Some m
-    → RunsTo ms (opening_books ms) es rs one → RunsTo ms (opening_books ms) fs qs two
-    → map (λ p. p.0) (own ms m.node (joined es rs [])) ≡ map (λ p. p.0) (own ms m.node (joined fs qs []))
-    → SaysSame ms m (joined es rs []) (joined fs qs [])
-agree ms m one two es fs rs qs is run other same =
-    let h = (from_opening ms one es rs run).0 in
-    let k = (from_opening ms two fs qs other).0 in
-    says_same ms m (joined es rs []) (joined fs qs [])
-    (same_replies ms m (own ms m.node (joined es rs [])) (own ms m.node (joined fs qs []))
-    (own_owed ms m is (joined es rs []) h) (own_owed ms m is (joined fs qs []) k) same)
+-- two runs with the same steps of a member say the same of it
+pub agree : (ms : List Member) (m : Member) (old first new last : List BookParts) (history earlier : History)
+    (es fs : List Event) (rs qs : List Reply) → member_of ms m.node ≡ Some m
+    → IsHistory ms history → Stands ms old history → IsHistory ms earlier → Stands ms first earlier
+    → RunsTo ms old es rs new → RunsTo ms first fs qs last
+    → map (λ p. p.0) (own ms m.node (joined es rs history))
+    ≡ map (λ p. p.0) (own ms m.node (joined fs qs earlier))
+    → SaysSame ms m (joined es rs history) (joined fs qs earlier)
+agree ms m old first new last history earlier es fs rs qs is g stand h stands run other same =
+    let one = joined es rs history in
+    let two = joined fs qs earlier in
+    says_same ms m one two
+    (same_replies ms m (own ms m.node one) (own ms m.node two)
+    (own_owed ms m is one (run.keeps history g stand).0)
+    (own_owed ms m is two (other.keeps earlier h stands).0) same)

@@ -161,8 +161,8 @@ module _ (ms : List Member) (m : Member) (history : History) (e : Event) (r : Re
             (cond t (new ∷ books) (b ∷ with_book members m.node new books))
         by true same at rest =
             let it : n ≡ m = some_same at in
-            let low_enough : m.node ≤ n.node =
-            let same_node : m.node ≡ n.node = sym (eqb-true n.node m.node same) in omega (arith, same_node) in (
+            let same_node : m.node ≡ n.node = sym (eqb-true n.node m.node same) in
+            let low_enough : m.node ≤ n.node = omega (arith, same_node) in (
               subst (λ x. StandsFor ms x (own ms x.node ((e, r) ∷ history)) new) (sym it) k,
               after_it n.node members books low_enough
                   (and_parts (nat_lt low n.node) (rises_above n.node (roster_value members)) rise).1 h.1,

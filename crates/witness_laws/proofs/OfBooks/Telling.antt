@@ -48,12 +48,33 @@ book_tells ms m b history q reply is h s =
     (tells ms m past b q (told ms m past is (own_owed ms m is history h) (own_checked ms m is history h)) s)
     reply
 
--- after histories with the same own steps of a member, the same book stands
+-- after histories with the same steps of a member, its own steps are the same with their replies
+same_own : (ms : List Member) (m : Member) (one two : History) → member_of ms m.node ≡ Some m
+    → IsHistory ms one → IsHistory ms two
+    → map (λ p. p.0) (own ms m.node one) ≡ map (λ p. p.0) (own ms m.node two)
+    → own ms m.node one ≡ own ms m.node two
+same_own ms m one two is h k same =
+    same_replies ms m (own ms m.node one) (own ms m.node two) (own_owed ms m is one h)
+    (own_owed ms m is two k) same
+
+-- after such histories the same book stands
 pub same_book : (ms : List Member) (m : Member) (one two : History) (b : BookParts)
     → member_of ms m.node ≡ Some m → IsHistory ms one → IsHistory ms two
     → map (λ p. p.0) (own ms m.node one) ≡ map (λ p. p.0) (own ms m.node two)
     → StandsFor ms m (own ms m.node one) b ↔ StandsFor ms m (own ms m.node two) b
 same_book ms m one two b is h k same =
-    let e = same_replies ms m (own ms m.node one) (own ms m.node two) (own_owed ms m is one h)
-    (own_owed ms m is two k) same in
+    let e = same_own ms m one two is h k same in
     (subst (λ x. StandsFor ms m x b) e, subst (λ x. StandsFor ms m x b) (sym e))
+
+-- and books tell the same
+pub tell_same : (ms : List Member) (m : Member) (one two : History) (b other : BookParts) (q : Question)
+    → member_of ms m.node ≡ Some m → IsHistory ms one → IsHistory ms two
+    → map (λ p. p.0) (own ms m.node one) ≡ map (λ p. p.0) (own ms m.node two)
+    → StandsFor ms m (own ms m.node one) b → StandsFor ms m (own ms m.node two) other
+    → told_by b q ≡ told_by other q
+tell_same ms m one two b other q is h k same s t =
+    tells ms m (own ms m.node one) b q
+    (told ms m (own ms m.node one) is (own_owed ms m is one h) (own_checked ms m is one h)) s
+    ∙ (ap (λ x. ask ms m x q) (same_own ms m one two is h k same)
+    ∙ sym (tells ms m (own ms m.node two) other q
+    (told ms m (own ms m.node two) is (own_owed ms m is two k) (own_checked ms m is two k)) t))
