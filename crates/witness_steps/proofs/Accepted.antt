@@ -138,6 +138,7 @@ module _ (ms : List Member) (m : Member) (past : Past) (b : Book) (c : ClosedPar
       rest = record { is = refl; follows = record { first = w.first; some = omega (arith, w.first, w.some) } };
     };
     agrees = tt;
+    sends = k.fits.sends;
   }
     where
       by : (s : SegmentParts) → IsAmong s b.segments ⊎ IsAmong s (c.segment ∷ []) → IsWhole s

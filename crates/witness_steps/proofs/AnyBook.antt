@@ -1,7 +1,7 @@
 -- Any book that fits together and stands for a member's own steps goes on as they do.
 -- Serves: books_go_on.
-use Rattle.std.proofs.Common.{◌≡◌, ◌↔◌, inl, inr, ℕ, Bool, true, false, List, ◌∷◌, filter, flat_map, Some, Ok, refl}
-use Rattle.std.proofs.Common.{sym, ap, ap₂, subst, ◌∙◌}
+use Rattle.std.proofs.Common.{◌≡◌, ◌↔◌, inl, List, ◌∷◌, filter, flat_map, Some, Ok}
+use Rattle.std.proofs.Common.{sym, ap₂, subst, ◌∙◌}
 use Rattle.authenticator.specs.Roster.{member_of}
 use Rattle.authenticator.specs.declared.member.Member.{Member}
 use Rattle.secure_log.specs.Segment.{SegmentParts}
@@ -9,7 +9,7 @@ use Rattle.witness_spec.specs.Events.{Event, IsEvent}
 use Rattle.witness_spec.specs.Replies.{Reply}
 use Rattle.witness_spec.specs.Steps.{Step, Past}
 use Rattle.witness_spec.specs.Whose.{whose}
-use Rattle.witness_spec.specs.Standing.{End, all_accepted}
+use Rattle.witness_spec.specs.Standing.{End}
 use Rattle.witness_spec.specs.Owing.{Owes}
 use Rattle.witness_spec.specs.Histories.{History, own, OwesTo, IsHistory, HoldSame}
 use Rattle.witness_laws.proofs.Checked.{checked_event}

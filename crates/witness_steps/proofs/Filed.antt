@@ -1,6 +1,6 @@
 -- The book after a segment with its verdict was filed.
 -- Serves: all laws here.
-use Rattle.std.proofs.Common.{◌≡◌, inl, inr, ℕ, ◌≤◌, Bool, true, false, cond, nat_lt, List, [], ◌∷◌}
+use Rattle.std.proofs.Common.{◌+◌, length, ◌≡◌, inl, inr, ℕ, ◌≤◌, Bool, true, false, cond, nat_lt, List, [], ◌∷◌}
 use Rattle.std.proofs.Common.{◌++◌, filter, flat_map, length-append, append-nil, Option, Some, None}
 use Rattle.std.proofs.Common.{refl, sym, ap, ap₂, subst, ◌∙◌, arith}
 use Rattle.std.specs.Prelude.{is_some, option_map, map}
@@ -12,7 +12,12 @@ use Rattle.authenticator.specs.declared.member.Member.{Member}
 use Rattle.secure_log.specs.declared.log_entries.entry.Entry.{Entry}
 use Rattle.secure_log.specs.LogEntries.Chain.{zeros}
 use Rattle.secure_log.specs.Segment.{SegmentParts, segment_pairs}
+use Rattle.state_spec.specs.State.{State}
+use Rattle.replay_spec.specs.Placed.{placed_in}
 use Rattle.replay_spec.specs.Replay.{Verdict, Sound, Fault}
+use Rattle.replay_spec.specs.LogLaws.Laws.{SendsLieBelow}
+use Rattle.replay_spec.proofs.Runs.{is_sound}
+use Rattle.replay_spec.proofs.OfLogLaws.Counts.{lie_below}
 use Rattle.evidence_spec.specs.Showing.{IsAmong}
 use Rattle.evidence_spec.specs.Evidence.{Charge, Replay, EvidenceParts}
 use Rattle.witness_spec.specs.Events.{DoneParts}
@@ -194,8 +199,19 @@ module _ (ms : List Member) (m : Member) (past : Past) (b : Book) (d : DoneParts
 
   -- ---- its parts
 
-  fits : (v : Verdict) → FitsTogether (having_filed b s v)
-  fits (Sound t found) = record {
+  sends : (t : State) (found : List Authenticator) → found_by ≡ Sound t found
+      → SendsLieBelow t (s.closing.number + 1)
+  sends t found is =
+      let r = is_sound ms (end_of ms m past).state (placed_in s) t found is in
+      let below : SendsLieBelow (end_of ms m past).state s.first =
+      subst (SendsLieBelow (end_of ms m past).state) (sym one.follows.first)
+      (subst (λ (e : End). SendsLieBelow e.state (b.end.number + 1)) k.of.stands.end k.fits.sends) in
+      subst (SendsLieBelow t) (sym (k.fits.whole s among).count)
+      (subst (λ x. SendsLieBelow x (s.first + length s.entries)) r.last
+      (lie_below ms (end_of ms m past).state s.first s.opening s.entries r.states below r.honest))
+
+  fits : (v : Verdict) → found_by ≡ v → FitsTogether (having_filed b s v)
+  fits (Sound t found) is = record {
     above = λ a i.
         ltb-true s.closing.number a.number
         (filtered (λ (c : Authenticator). nat_lt s.closing.number c.number) b.learned a i).1;
@@ -210,8 +226,9 @@ module _ (ms : List Member) (m : Member) (past : Past) (b : Book) (d : DoneParts
       rest = inl refl;
     };
     agrees = tt;
+    sends = sends t found is;
   }
-  fits (Fault fault number) = record {
+  fits (Fault fault number) is = record {
     above = k.fits.above;
     differ = k.fits.differ;
     whole = k.fits.whole;
@@ -223,24 +240,26 @@ module _ (ms : List Member) (m : Member) (past : Past) (b : Book) (d : DoneParts
       rest = inr (record { exposed = some_evidence b.evidence _; segment = s; one = one });
     };
     agrees = tt;
+    sends = k.fits.sends;
   }
 
   audited_same : (v : Verdict) → found_by ≡ v
       → book_audited (having_filed b s v) ≡ audited ms m ((File d, Filed) ∷ past)
   unfolding fits
   audited_same v is =
-      audited_are (having_filed b s v) (fits v).tiles
-      ∙ (by v ∙ ap (λ w. audited ms m past ++ sound_entries s.entries w) (sym is))
+      audited_are (having_filed b s v) (fits v is).tiles
+      ∙ (by v is ∙ ap (λ w. audited ms m past ++ sound_entries s.entries w) (sym is))
     where
       old : flat_map (λ (x : SegmentParts). x.entries) k.fits.tiles.audited ≡ audited ms m past
       old = sym (audited_are b k.fits.tiles) ∙ k.audited
 
-      by : (v : Verdict) → flat_map (λ (x : SegmentParts). x.entries) (fits v).tiles.audited
+      by : (v : Verdict) (is : found_by ≡ v)
+          → flat_map (λ (x : SegmentParts). x.entries) (fits v is).tiles.audited
           ≡ audited ms m past ++ sound_entries s.entries v
-      by (Sound t found) =
+      by (Sound t found) is =
           flat_map-append (λ (x : SegmentParts). x.entries) k.fits.tiles.audited (s ∷ [])
           ∙ ap₂ (λ (x y : List Entry). x ++ y) old (append-nil s.entries)
-      by (Fault fault number) = old ∙ sym (append-nil (audited ms m past))
+      by (Fault fault number) is = old ∙ sym (append-nil (audited ms m past))
 
   known_by : (v : Verdict) → found_by ≡ v → Exposure ms m ((File d, Filed) ∷ past)
       → Known ms m ((File d, Filed) ∷ past) (having_filed b s v)
@@ -260,7 +279,7 @@ module _ (ms : List Member) (m : Member) (past : Past) (b : Book) (d : DoneParts
       pairs = shown_same v;
       };
     };
-    fits = fits v;
+    fits = fits v is;
     kept_differ = kept_numbers v is;
     exposure = x;
     audited = audited_same v is;

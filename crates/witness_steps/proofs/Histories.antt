@@ -2,14 +2,20 @@
 -- Serves: all laws here.
 use Rattle.std.proofs.Common.{◌≡◌, inl, inr, ℕ, Bool, true, false, cond, ◌==◌, List, [], ◌∷◌, ◌++◌, Option}
 use Rattle.std.proofs.Common.{Some, None, Result, Ok, Err, refl, sym, ap, subst, ◌∙◌, arith, eqb-true, eq-eqb}
-use Rattle.std.specs.Prelude.{◌<◌, IsTrue, nat_lt}
-use Rattle.std.proofs.lemmas.Bool.{and_parts, ltb-true, lt-ltb}
+use Rattle.std.specs.FinMap as finite
+use Rattle.std.specs.Ordering.{nat_cmp}
+use Rattle.std.specs.Prelude.{is_some, ◌<◌, IsTrue, nat_lt}
+use Rattle.std.proofs.lemmas.Bool.{and_parts, ltb-true, lt-ltb, true≢false}
 use Rattle.authenticator.specs.Roster.{member_of, roster_value, rises_above}
+use Rattle.authenticator.specs.declared.member.Kind.{Kind}
+use Rattle.authenticator.specs.declared.member.Kind.TheVariants as kinds
 use Rattle.authenticator.specs.declared.member.Member.{Member}
 use Rattle.authenticator.specs.declared.refusal.Refusal as checks
 use Rattle.packets.specs.Packet.{Delivery}
 use Rattle.packets.specs.Packet as packets
 use Rattle.packets.specs.Judging.{judged}
+use Rattle.replay_spec.specs.Opening.{opening_by}
+use Rattle.replay_spec.specs.LogLaws.Laws.{SendsLieBelow}
 use Rattle.evidence_spec.specs.Showing.{IsAmong}
 use Rattle.witness_spec.specs.Refusals.{Refusal, BadSignature}
 use Rattle.witness_spec.specs.Events.{PublicKey, Event, IsEvent}
@@ -120,6 +126,10 @@ exposure_of : (ms : List Member) (m : Member) (past : Past) → Told ms m past �
 exposure_of ms m past (Without none is audited) = Hidden none is
 exposure_of ms m past (With g some is good) = Open (record { node = m.node; charge = g }) some is
 
+no_sends : (kind : Kind) (node : ℕ) → SendsLieBelow (opening_by kind node) 1
+no_sends kinds.Server node = λ k h. absurd (true≢false (sym h ∙ ap is_some (finite.get-empty nat_cmp k)))
+no_sends kinds.Client node = λ k h. absurd (true≢false (sym h ∙ ap is_some (finite.get-empty nat_cmp k)))
+
 at_first : (ms : List Member) (m : Member) → Known ms m [] (book_opening m)
 at_first ms m = record {
   of = record {
@@ -142,6 +152,7 @@ at_first ms m = record {
     whole = λ s i. absurd i;
     tiles = record { audited = []; more = []; are = refl; tile = refl; rest = inl refl };
     agrees = tt;
+    sends = no_sends m.kind m.node;
   };
   kept_differ = tt;
   exposure = Hidden refl refl;

@@ -1,7 +1,7 @@
 -- A book that is known to be that of a member's own steps: its forks are those that are owed.
 -- Serves: all laws here.
 use Rattle.std.proofs.Common.{◌↔◌, ◌≡◌, ℕ, ◌≤◌, true, cond, ◌==◌, ◌&&◌, nat_le, List, []}
-use Rattle.std.proofs.Common.{◌∷◌, find, length, Option, Some, None, refl, sym, ap, ap₂, subst, ◌∙◌, eqb-true}
+use Rattle.std.proofs.Common.{◌∷◌, find, length, Option, Some, None, refl, sym, ap, ap₂, ◌∙◌, eqb-true}
 use Rattle.std.specs.Prelude.{is_some, option_map, option_and_then}
 use Rattle.std.proofs.lemmas.Bool.{and_parts, leb-true}
 use Rattle.authenticator.specs.declared.authenticator.Authenticator.{Authenticator}

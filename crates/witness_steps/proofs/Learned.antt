@@ -118,6 +118,7 @@ module _ (b : Book) (a : Authenticator) (fits : FitsTogether b) where
       rest = more_exposed b.end.number (exposed b) (is_some e) b.stage fits.tiles.more then fits.tiles.rest;
     };
     agrees = subst (AgreesAt b.stage) (sym same) fits.agrees;
+    sends = fits.sends;
   }
 
   -- where a new one is kept
@@ -135,6 +136,7 @@ module _ (b : Book) (a : Authenticator) (fits : FitsTogether b) where
       rest = subst (λ o. IsMore b.end.number (is_some o) b.stage fits.tiles.more) (sym none) fits.tiles.rest;
     };
     agrees = subst (AgreesAt b.stage) (sym same) (new_agrees b a fits is b.stage refl fits.agrees);
+    sends = fits.sends;
   }
     where
       above : (x : Authenticator) → IsAmong x b.learned ⊎ IsAmong x (a ∷ []) → b.end.number < x.number

@@ -73,6 +73,7 @@ fits_with b c o f = record {
     rest = f.tiles.rest;
   };
   agrees = f.agrees;
+  sends = f.sends;
 }
 
 -- those of a book whose audit changes
@@ -91,6 +92,7 @@ fits_at b s n c f rest agrees = record {
     rest = rest;
   };
   agrees = agrees;
+  sends = f.sends;
 }
 
 -- ---- what a reply tells of the book

@@ -6,10 +6,10 @@ use Rattle.witness_spec.specs.Events.{Event, IsEvent}
 use Rattle.witness_spec.specs.Replies.{Reply}
 use Rattle.witness_spec.specs.Steps.{Step}
 use Rattle.witness_spec.specs.Whose.{whose}
-use Rattle.witness_spec.specs.Standing.{audited, indication}
+use Rattle.witness_spec.specs.Standing.{audited, is_exposed, indication}
 use Rattle.witness_spec.specs.Owing.{Owes}
 use Rattle.witness_spec.specs.Histories.{History, own, IsHistory, Stands}
-use Rattle.witness_steps.specs.Books.{Book, book_audited, book_indication, parts_of}
+use Rattle.witness_steps.specs.Books.{Book, exposed, book_audited, book_indication, parts_of}
 use Rattle.witness_steps.specs.Replying.{BookOwes}
 use Rattle.witness_steps.specs.Going.{book_after, book_after_steps}
 use Rattle.witness_steps.specs.Fitting.{FitsTogether, IsBookOf}
@@ -36,7 +36,14 @@ BooksFitTogether =
     → member_of ms m.node ≡ Some m → IsHistory ms history
     → FitsTogether (book_after_steps m (own ms m.node history))
 
--- It tells the indication that is told of the node: so there is evidence exactly where the node is Exposed.
+-- It has evidence exactly if the node is exposed.
+abbrev pub BooksHaveEvidenceIfExposed : Type 0
+BooksHaveEvidenceIfExposed =
+    (ms : List Member) (m : Member) (history : History)
+    → member_of ms m.node ≡ Some m → IsHistory ms history
+    → exposed (book_after_steps m (own ms m.node history)) ≡ is_exposed ms m (own ms m.node history)
+
+-- It tells the indication that is told of the node.
 abbrev pub BooksTellTheSame : Type 0
 BooksTellTheSame =
     (ms : List Member) (m : Member) (history : History)

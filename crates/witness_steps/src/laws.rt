@@ -2,13 +2,15 @@
 
 ghost use Rattle.witness_steps.specs.Laws.{BooksOweTheSame, BooksAreOfTheirSteps, BooksFitTogether};
 ghost use Rattle.witness_steps.specs.Laws.{BooksTellTheSame, BooksHaveTheAudited, BooksStand};
-ghost use Rattle.witness_steps.specs.Laws.{AnyBookOwesTheSame, AnyBookGoesOn};
+ghost use Rattle.witness_steps.specs.Laws.{BooksHaveEvidenceIfExposed, AnyBookOwesTheSame, AnyBookGoesOn};
 
 /// A member's book after its own steps of a history replies to each further step what is owed to it after that
-/// history, and nothing else; it tells the indication that is told of the node.
+/// history, and nothing else; it tells the indication that is told of the node, and has evidence exactly if the
+/// node is exposed.
 pub fn books_reply_what_is_owed()
     ensures owes { BooksOweTheSame }
     ensures tells { BooksTellTheSame }
+    ensures evidence { BooksHaveEvidenceIfExposed }
 {}
 
 /// It holds what these steps say, and the books of all members of a roster stand for the history.
@@ -18,8 +20,8 @@ pub fn books_stand()
 {}
 
 /// Its parts fit together: what is kept lies above the end, and its numbers differ; the accepted segments hold
-/// each number from 1 to the end, and one more segment at most was accepted; and the audited entries are those
-/// of the segments up to the end.
+/// each number from 1 to the end, and one more segment at most was accepted; the messages in the end's state have
+/// numbers up to the end; and the audited entries are those of the segments up to the end.
 pub fn parts_fit_together()
     ensures fit { BooksFitTogether }
     ensures audited { BooksHaveTheAudited }
