@@ -61,7 +61,8 @@ module _ (ms : List Member) (m : Member) (history : History) (b : Book) (is : me
       (own_known ms m history is h) fits of
 
   -- it owes what is owed after the history
-  pub any_owes : (step : Step) (reply : Reply) → Owes ms m (own ms m.node history) step reply ↔ BookOwes b step reply
+  pub any_owes : (step : Step) (reply : Reply)
+      → Owes ms m (own ms m.node history) step reply ↔ BookOwes b step reply
   any_owes step reply = owes_known ms m (own ms m.node history) b any_known step reply
 
   -- it goes on with each event that is the member's step

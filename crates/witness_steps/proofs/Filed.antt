@@ -1,6 +1,7 @@
 -- The book after a segment with its verdict was filed.
 -- Serves: all laws here.
-use Rattle.std.proofs.Common.{◌+◌, length, ◌≡◌, inl, inr, ℕ, ◌≤◌, Bool, true, false, cond, nat_lt, List, [], ◌∷◌}
+use Rattle.std.proofs.Common.{◌+◌, length, ◌≡◌, inl, inr, ℕ, ◌≤◌, Bool, true, false, cond, nat_lt, List, []}
+use Rattle.std.proofs.Common.{◌∷◌}
 use Rattle.std.proofs.Common.{◌++◌, filter, flat_map, length-append, append-nil, Option, Some, None}
 use Rattle.std.proofs.Common.{refl, sym, ap, ap₂, subst, ◌∙◌, arith}
 use Rattle.std.specs.Prelude.{is_some, option_map, map}
@@ -24,16 +25,19 @@ use Rattle.witness_spec.specs.Events.{DoneParts}
 use Rattle.witness_spec.specs.Replies.{Filed}
 use Rattle.witness_spec.specs.Steps.{File, Past}
 use Rattle.witness_spec.specs.Pairs.{pair_of, first_pair}
-use Rattle.witness_spec.specs.Standing.{End, end_of, moved_by, verdict_on, sound_entries, audited, shown, noted_before}
+use Rattle.witness_spec.specs.Standing.{End, end_of, moved_by, verdict_on, sound_entries, audited, shown}
+use Rattle.witness_spec.specs.Standing.{noted_before}
 use Rattle.witness_spec.specs.Standing.{kept, Out, sound_found, all_found, forwards}
 use Rattle.witness_spec.specs.Exposing.{replay_of, evidence}
 use Rattle.witness_spec.specs.Histories.{HoldSame}
 use Rattle.witness_steps.specs.Books.{Book, exposed, exposing_pairs, book_shown, book_audited}
-use Rattle.witness_steps.specs.Going.{evidence_of, first_evidence, verdict_charge, evidence_filed, learned_above}
+use Rattle.witness_steps.specs.Going.{evidence_of, first_evidence, verdict_charge, evidence_filed}
+use Rattle.witness_steps.specs.Going.{learned_above}
 use Rattle.witness_steps.specs.Going.{having_filed, after_file}
 use Rattle.witness_steps.specs.Fitting.{NumbersDiffer, IsOne, IsMore, AgreesAt, FitsTogether}
 use Rattle.witness_steps.proofs.Lists.{filtered, passing, same_filter, on_right}
-use Rattle.witness_steps.proofs.Kept.{differ_filter, showing_of, Shower, AtFirst, Exposing, Learned, Segment, shower}
+use Rattle.witness_steps.proofs.Kept.{differ_filter, showing_of, Shower, AtFirst, Exposing, Learned, Segment}
+use Rattle.witness_steps.proofs.Kept.{shower}
 use Rattle.witness_steps.proofs.Kept.{shows, same_through}
 use Rattle.witness_steps.proofs.Segments.{tile_more, audited_are}
 use Rattle.witness_steps.proofs.Quiet.{Exposure}
@@ -92,13 +96,15 @@ module _ (ms : List Member) (m : Member) (past : Past) (b : Book) (d : DoneParts
   charge_same (Fault fault number) = ap₂ (λ n es. Some (Replay (whole n es))) k.of.node k.audited
     where
       whole : ℕ → List Entry → SegmentParts
-      whole n es = record { node = n; first = 1; opening = zeros; entries = es ++ s.entries; closing = s.closing }
+      whole n es =
+          record { node = n; first = 1; opening = zeros; entries = es ++ s.entries; closing = s.closing }
 
   evidence_same : (v : Verdict) → found_by ≡ v → evidence_filed b s v ≡ evidence ms m ((File d, Filed) ∷ past)
   evidence_same v is =
       first_same ms m past b k.of k.exposure (evidence_of b (verdict_charge b s v)) _
       (ap (λ n. option_map (λ (g : Charge). charged n g) (verdict_charge b s v)) k.of.node
-      ∙ ap (option_map (λ (g : Charge). charged m.node g)) (charge_same v ∙ ap (replay_of ms m past s) (sym is)))
+      ∙ ap (option_map (λ (g : Charge). charged m.node g))
+      (charge_same v ∙ ap (replay_of ms m past s) (sym is)))
 
   -- a replay shows no pair of its own
   shows_none : (v : Verdict) → exposing_pairs (evidence_filed b s v) ≡ exposing_pairs b.evidence
@@ -117,7 +123,8 @@ module _ (ms : List Member) (m : Member) (past : Past) (b : Book) (d : DoneParts
   -- ---- what is shown
 
   fewer : HoldSame
-      (showing_of b.evidence (filter (λ (a : Authenticator). nat_lt s.closing.number a.number) b.learned) b.segments)
+      (showing_of b.evidence
+      (filter (λ (a : Authenticator). nat_lt s.closing.number a.number) b.learned) b.segments)
       (showing_of b.evidence b.learned b.segments)
   fewer p = (
     λ i. shows b.evidence b.learned b.segments p (to (shower b.evidence less b.segments p i)),
@@ -153,7 +160,8 @@ module _ (ms : List Member) (m : Member) (past : Past) (b : Book) (d : DoneParts
       subst (λ ps. HoldSame (first_pair ∷ (ps ++ (map pair_of (learned_above s v b.learned)
       ++ flat_map segment_pairs b.segments))) (shown ms m past)) (sym (shows_none v)) (by v)
     where
-      by : (v : Verdict) → HoldSame (showing_of b.evidence (learned_above s v b.learned) b.segments) (shown ms m past)
+      by : (v : Verdict)
+          → HoldSame (showing_of b.evidence (learned_above s v b.learned) b.segments) (shown ms m past)
       by (Sound t found) =
           same_through
           (showing_of b.evidence (filter (λ (a : Authenticator). nat_lt s.closing.number a.number) b.learned)
@@ -194,7 +202,8 @@ module _ (ms : List Member) (m : Member) (past : Past) (b : Book) (d : DoneParts
       by (Sound t found) =
           subst NumbersDiffer
           (still_above (end_of ms m past).number s.closing.number (noted_before ms m past) low)
-          (differ_filter (λ (a : Authenticator). nat_lt s.closing.number a.number) (kept ms m past) k.kept_differ)
+          (differ_filter (λ (a : Authenticator). nat_lt s.closing.number a.number)
+          (kept ms m past) k.kept_differ)
       by (Fault fault number) = k.kept_differ
 
   -- ---- its parts
@@ -267,16 +276,16 @@ module _ (ms : List Member) (m : Member) (past : Past) (b : Book) (d : DoneParts
     of = record {
       node = k.of.node;
       stands = record {
-      end = ap₂ (λ (e : End) (w : Verdict). moved_by e s.closing.number w) k.of.stands.end (sym is);
-      stage = refl;
-      begun = k.of.stands.begun;
-      learned = kept_same v is;
-      segments = k.of.stands.segments;
-      challenges = k.of.stands.challenges;
-      outbox = ap₂ (λ (xs ys : List Authenticator). xs ++ ys) k.of.stands.outbox (ap sound_found (sym is))
-          ∙ sym (drop-append-le (forwards past) (all_found ms m past) (sound_found found_by) k.sent);
-      evidence = evidence_same v is;
-      pairs = shown_same v;
+        end = ap₂ (λ (e : End) (w : Verdict). moved_by e s.closing.number w) k.of.stands.end (sym is);
+        stage = refl;
+        begun = k.of.stands.begun;
+        learned = kept_same v is;
+        segments = k.of.stands.segments;
+        challenges = k.of.stands.challenges;
+        outbox = ap₂ (λ (xs ys : List Authenticator). xs ++ ys) k.of.stands.outbox (ap sound_found (sym is))
+            ∙ sym (drop-append-le (forwards past) (all_found ms m past) (sound_found found_by) k.sent);
+        evidence = evidence_same v is;
+        pairs = shown_same v;
       };
     };
     fits = fits v is;

@@ -21,7 +21,8 @@ use Rattle.witness_spec.specs.Refusals.{Refusal, BadSignature}
 use Rattle.witness_spec.specs.Events.{PublicKey, Event, IsEvent}
 use Rattle.witness_spec.specs.Events as events
 use Rattle.witness_spec.specs.Replies.{Reply, is_want_of_memory}
-use Rattle.witness_spec.specs.Steps.{Step, Learn, SendChallenge, Answer, AckIn, Audit, Begin, File, PutBack, Forward}
+use Rattle.witness_spec.specs.Steps.{Step, Learn, SendChallenge, Answer, AckIn, Audit, Begin, File, PutBack}
+use Rattle.witness_spec.specs.Steps.{Forward}
 use Rattle.witness_spec.specs.Steps.{Ask, OwnStep, Past}
 use Rattle.witness_spec.specs.Whose.{step_of, is_key_of, same_roster, signed_step, sent_step, closed_step}
 use Rattle.witness_spec.specs.Whose.{delivered_step, judged_step, whose}
@@ -53,7 +54,8 @@ module _ (o : OwnStep) where
   by_step (Some m) step done h = same_step m step done h
 
   by_key : (b : Bool) (m : Member) (step : Step) → IsDoneStep step
-      → ◌≡◌ {A = Result OwnStep Refusal} (cond b (Ok (record { member = m; step = step })) (Err BadSignature)) (Ok o)
+      → ◌≡◌ {A = Result OwnStep Refusal} (cond b (Ok (record { member = m; step = step })) (Err BadSignature))
+      (Ok o)
       → IsDoneStep o.step
   by_key true m step done h = same_step m step done h
   by_key false m step done h = absurd (cc)
@@ -69,7 +71,8 @@ module _ (o : OwnStep) where
   by_sent (Some m) None key step done h = absurd (cc)
   by_sent (Some m) (Some n) key step done h = by_key (is_key_of m key) n step done h
 
-  by_closed : (x : Option Member) (same : Bool) (step : Step) → IsDoneStep step → closed_step x same step ≡ Ok o
+  by_closed : (x : Option Member) (same : Bool) (step : Step) → IsDoneStep step
+      → closed_step x same step ≡ Ok o
       → IsDoneStep o.step
   by_closed None same step done h = absurd (cc)
   by_closed (Some m) same step done h = by_key same m step done h
@@ -81,7 +84,8 @@ module _ (o : OwnStep) where
       by_step (member_of ms s.closing.node) (Answer (record { segment = s; roster = ms })) tt h
   by_delivery ms (packets.AckIn a) h = by_step (member_of ms a.by) (AckIn a) tt h
 
-  by_judged : (ms : List Member) (r : Result Delivery checks.Refusal) → judged_step ms r ≡ Ok o → IsDoneStep o.step
+  by_judged : (ms : List Member) (r : Result Delivery checks.Refusal) → judged_step ms r ≡ Ok o
+      → IsDoneStep o.step
   by_judged ms (Ok d) h = by_delivery ms d h
   by_judged ms (Err refusal) h = absurd (cc)
 
@@ -135,15 +139,15 @@ at_first ms m = record {
   of = record {
     node = refl;
     stands = record {
-    end = refl;
-    stage = refl;
-    begun = refl;
-    learned = λ a. (λ i. i, λ i. i);
-    segments = λ s. (λ i. i, λ i. i);
-    challenges = refl;
-    outbox = refl;
-    evidence = refl;
-    pairs = λ p. (λ i. i, λ i. i);
+      end = refl;
+      stage = refl;
+      begun = refl;
+      learned = λ a. (λ i. i, λ i. i);
+      segments = λ s. (λ i. i, λ i. i);
+      challenges = refl;
+      outbox = refl;
+      evidence = refl;
+      pairs = λ p. (λ i. i, λ i. i);
     };
   };
   fits = record {

@@ -22,7 +22,7 @@ NumbersDiffer (a ∷ rest) = AllByRecursion (λ c. a.number ≢ c.number) rest �
 
 -- ---- accepted segments
 
--- A segment begins at 1 or later, has a place for each number up to that of its closing, and ends in its pair.
+-- A segment begins at 1 or later, has a place for each number up to its closing's, and ends in its pair.
 pub record IsWhole (s : SegmentParts) : Type 0 where
   -- its first number is at least 1
   pub some : 0 < s.first

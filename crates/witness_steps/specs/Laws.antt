@@ -20,7 +20,8 @@ abbrev pub BooksOweTheSame : Type 0
 BooksOweTheSame =
     (ms : List Member) (m : Member) (history : History) (step : Step) (reply : Reply)
     → member_of ms m.node ≡ Some m → IsHistory ms history
-    → Owes ms m (own ms m.node history) step reply ↔ BookOwes (book_after_steps m (own ms m.node history)) step reply
+    → Owes ms m (own ms m.node history) step reply
+    ↔ BookOwes (book_after_steps m (own ms m.node history)) step reply
 
 -- It holds what the steps say.
 abbrev pub BooksAreOfTheirSteps : Type 0
@@ -67,7 +68,8 @@ BooksStand =
 
 -- A book goes on with a member's step: the event with its reply makes the history longer, and the book after
 -- it fits together and is that of the member's own steps of the longer history.
-pub record GoesOn (ms : List Member) (m : Member) (history : History) (event : Event) (step : Step) (reply : Reply)
+pub record GoesOn (ms : List Member) (m : Member) (history : History) (event : Event) (step : Step)
+    (reply : Reply)
     (b : Book) : Type 0 where
   -- the history is longer
   pub is : IsHistory ms ((event, reply) ∷ history)
@@ -87,7 +89,8 @@ AnyBookOwesTheSame =
 -- With an event that may be handed in and is the member's step, and the reply that the book owes, it goes on.
 abbrev pub AnyBookGoesOn : Type 0
 AnyBookGoesOn =
-    (ms : List Member) (m : Member) (history : History) (b : Book) (event : Event) (step : Step) (reply : Reply)
+    (ms : List Member) (m : Member) (history : History) (b : Book) (event : Event) (step : Step)
+    (reply : Reply)
     → member_of ms m.node ≡ Some m → IsHistory ms history
     → FitsTogether b → IsBookOf ms m (own ms m.node history) b
     → IsEvent event → whose ms event ≡ Ok (record { member = m; step = step }) → BookOwes b step reply
