@@ -34,12 +34,19 @@ pub data Exposure (ms : List Member) (m : Member) (past : Past) : Type 0 where
 
 -- what a step didn't do
 pub record DoesNothing (past : Past) (p : Step × Reply) : Type 0 where
+  -- it noted nothing
   pub notes : noted p.0 p.1 ≡ None
+  -- it accepted nothing
   pub accepts : accepted p.0 p.1 ≡ None
+  -- it filed nothing
   pub files : filed p.0 p.1 ≡ None
+  -- it began no job
   pub begins : begun p.0 p.1 ≡ None
+  -- it forwarded nothing
   pub forwards : forwarded p.0 p.1 ≡ None
+  -- the audit stays
   pub stage : stage_after (stage_of past) p.0 p.1 ≡ stage_of past
+  -- so do the challenges
   pub challenges : open_after (open_challenges past) p.0 p.1 ≡ open_challenges past
 
 module _ (ms : List Member) (m : Member) (past : Past) where
