@@ -1,5 +1,5 @@
 -- A hash has 32 bytes, and so isn't one of another length.
--- Serves: by_an_answer, of_a_segment.
+-- Serves: by_an_answer, of_a_segment, of_an_opening, up_to_the_end.
 use Rattle.std.proofs.Common.{◌≡◌, ℕ, false, List, [], ◌∷◌, length, ap, arith}
 use Rattle.sha2.proofs.Facts256.{length-sha256}
 use Rattle.authenticator.proofs.Signed.{is_false, same_list}

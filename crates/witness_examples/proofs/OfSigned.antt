@@ -2,3 +2,4 @@
 pub mod Signing
 pub mod Auditing
 pub mod Showing
+pub mod Booking

@@ -1,5 +1,5 @@
 -- The reply that is told is owed.
--- Serves: by_an_answer, of_a_segment, after_as_many_as_are_kept; the laws of `limits`.
+-- Serves: rows, forks and `exposed`; the laws of `limits`.
 use Rattle.std.proofs.Common.{◌≡◌, false, List, sym}
 use Rattle.std.proofs.lemmas.Bool.{true≢false}
 use Rattle.authenticator.specs.declared.member.Member.{Member}

@@ -3,12 +3,17 @@ use Rattle.std.specs.Prelude.{ℕ, ◌∷◌, [], List, Option}
 use Rattle.secure_log.specs.LogEntries.Chain.{zeros, links_from, last_hash}
 use Rattle.secure_log.specs.declared.log_entries.entry.Entry.{Entry}
 use Rattle.secure_log.specs.declared.log_entries.entry.Entry.TheVariants.{Clock}
-use Rattle.secure_log.specs.Segment.{SegmentParts}
+use Rattle.secure_log.specs.Segment.{SegmentParts, ClosedParts}
+use Rattle.state_spec.specs.State.{State, opening_client}
+use Rattle.state_machine.specs.Steps.{having_read}
+use Rattle.replay_spec.specs.Replay.{Sound}
 use Rattle.witness_spec.specs.evidence_spec.Showing.{ShowingParts}
 use Rattle.witness_spec.specs.evidence_spec.Evidence.{Fork, EvidenceParts}
-use Rattle.witness_spec.specs.Replies.{Noted, Accepted, Asked}
-use Rattle.witness_spec.specs.Steps.{Learn, Answer, Audit, Past}
+use Rattle.witness_spec.specs.Events.{JobParts}
+use Rattle.witness_spec.specs.Replies.{Noted, Accepted, Asked, Job, Filed}
+use Rattle.witness_spec.specs.Steps.{Learn, Answer, Audit, Begin, File, Past}
 use Rattle.witness_examples.specs.Worked.{learned, one_hash, other_hash, closed, filed_two, learned_to}
+use Rattle.witness_examples.specs.Worked.{state_read}
 
 -- that a number has two hashes
 abbrev pub forked : (at : ℕ) (a : ShowingParts) (b : Option ShowingParts) → EvidenceParts
@@ -57,3 +62,57 @@ audited_forked = (Learn (learned 1 one_hash), Noted) ∷ filed_two
 -- another hash at a number of 256 that are kept
 abbrev pub full_forked : Past
 full_forked = (Learn (learned 3 other_hash), Noted) ∷ learned_to 256
+
+-- ---- after an audit
+
+-- a reading after the one that was audited
+abbrev pub later_readings : List Entry
+later_readings = Clock 2 0 ∷ []
+
+-- a segment of it, whose opening isn't the hash at the end
+abbrev pub later_segment : SegmentParts
+later_segment = record {
+  node = 5;
+  first = 2;
+  opening = one_hash;
+  entries = later_readings;
+  closing = learned 2 (last_hash one_hash (links_from 2 later_readings));
+}
+
+-- with a roster
+abbrev pub later_closed : ClosedParts
+later_closed = record { segment = later_segment; roster = [] }
+
+-- it is asked for
+abbrev pub later_wanted : Past
+later_wanted = (Audit, Asked 2 2) ∷ (Learn later_segment.closing, Noted) ∷ filed_two
+
+-- and given
+abbrev pub opening_forked : Past
+opening_forked = (Answer later_closed, Accepted) ∷ later_wanted
+
+-- the state after two readings
+abbrev pub state_two : State
+state_two = having_read state_read (record { seconds = 2; microseconds = 0 })
+
+-- the job of both readings
+abbrev pub two_job : JobParts
+two_job = record {
+  node = 5;
+  number = 1;
+  state = opening_client 5;
+  segment = record { segment = two_segment; roster = [] };
+}
+
+-- it is filed Sound, so the end is 2
+abbrev pub two_filed : Past
+two_filed =
+    (File (record { job = two_job; verdict = Sound state_two [] }), Filed) ∷ (Begin, Job two_job) ∷ two_given
+
+-- another hash below the end
+abbrev pub below_forked : Past
+below_forked = (Learn (learned 1 one_hash), Noted) ∷ two_filed
+
+-- another hash at the end
+abbrev pub end_forked : Past
+end_forked = (Learn (learned 2 one_hash), Noted) ∷ two_filed

@@ -1,16 +1,19 @@
 //! Two hashes at one number, wherever each comes from.
 
-ghost use Rattle.std.specs.Prelude.{◌≢◌, [], Some, None};
+ghost use Rattle.std.specs.Prelude.{◌≡◌, ◌≢◌, [], Some, None};
 ghost use Rattle.witness_spec.specs.evidence_spec.Showing.{authenticator_showing, segment_showing};
 ghost use Rattle.witness_spec.specs.Events.{ItsIndication, ItsEvidence};
 ghost use Rattle.witness_spec.specs.Replies.{Noted, Already, Accepted, Told, EvidenceIs, Exposed};
 ghost use Rattle.witness_spec.specs.Steps.{Learn, Answer, Ask};
+ghost use Rattle.witness_spec.specs.Standing.{kept};
 ghost use Rattle.witness_examples.specs.Worked.{five, learned, one_hash, other_hash, read_hash, segment};
 ghost use Rattle.witness_examples.specs.Worked.{closed};
 ghost use Rattle.witness_examples.specs.Worked.{filed_two, learned_to};
 ghost use Rattle.witness_examples.specs.Forks.{forked, zero_forked, answer_wanted, answer_forked};
 ghost use Rattle.witness_examples.specs.Forks.{two_segment};
 ghost use Rattle.witness_examples.specs.Forks.{two_given, segment_forked, audited_forked, full_forked};
+ghost use Rattle.witness_examples.specs.Forks.{later_segment, later_closed, later_wanted, opening_forked};
+ghost use Rattle.witness_examples.specs.Forks.{two_filed, below_forked, end_forked};
 ghost use Rattle.witness_examples.specs.Reaching.{Reaches};
 
 /// At number 0 every log has 32 zero bytes: an authenticator of another hash there exposes, by itself.
@@ -46,6 +49,33 @@ pub fn of_a_segment()
     ensures later { Reaches [] five audited_forked (Ask ItsEvidence)
         (EvidenceIs (Some (forked 1 (segment_showing segment)
         (Some (authenticator_showing (learned 1 one_hash)))))) }
+{}
+
+/// After an audit up to 1 a segment from 2 on is accepted whose opening isn't the hash at 1: the node is
+/// Exposed, by both segments.
+#[tactic(auto, using(crate::proofs::Hashes::short_last, crate::proofs::Hashes::short_first))]
+pub fn of_an_opening()
+    ensures accepted { Reaches [] five later_wanted (Answer later_closed) Accepted }
+    ensures exposed { Reaches [] five opening_forked (Ask ItsIndication) (Told Exposed) }
+    ensures evidence { Reaches [] five opening_forked (Ask ItsEvidence)
+        (EvidenceIs (Some (forked 1 (segment_showing segment) (Some (segment_showing later_segment))))) }
+{}
+
+/// After an audit up to 2 an authenticator of another hash below the end, or at it, is Noted and exposes, by
+/// the segment and the authenticator, and isn't kept; one of the hash that was audited is there already.
+#[tactic(auto, using(crate::proofs::Hashes::short_last, crate::proofs::Hashes::short_first))]
+pub fn up_to_the_end()
+    ensures same { Reaches [] five two_filed (Learn (learned 1 read_hash)) Already }
+    ensures below { Reaches [] five two_filed (Learn (learned 1 one_hash)) Noted }
+    ensures exposed { Reaches [] five below_forked (Ask ItsIndication) (Told Exposed) }
+    ensures evidence { Reaches [] five below_forked (Ask ItsEvidence)
+        (EvidenceIs (Some (forked 1 (segment_showing two_segment)
+        (Some (authenticator_showing (learned 1 one_hash)))))) }
+    ensures unkept { kept [] five below_forked ≡ [] }
+    ensures at { Reaches [] five two_filed (Learn (learned 2 one_hash)) Noted }
+    ensures at_evidence { Reaches [] five end_forked (Ask ItsEvidence)
+        (EvidenceIs (Some (forked 2 (segment_showing two_segment)
+        (Some (authenticator_showing (learned 2 one_hash)))))) }
 {}
 
 /// After 256 authenticators that are kept another hash at a number of theirs is Noted, and exposes; from

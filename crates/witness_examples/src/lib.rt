@@ -2,6 +2,7 @@
 #![tactic(auto)]
 
 pub mod delivered;
+pub mod exposed;
 pub mod forks;
 pub mod limits;
 pub mod refusals;

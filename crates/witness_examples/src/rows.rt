@@ -12,7 +12,7 @@ ghost use Rattle.witness_spec.specs.Events.{ItsIndication, ItsChallenges, ItsEvi
 ghost use Rattle.witness_spec.specs.Replies.{Noted, Already, Opened, Accepted, Closed, Asked, Job, Filed};
 ghost use Rattle.witness_spec.specs.Replies.{Returned};
 ghost use Rattle.witness_spec.specs.Replies.{Forwarded, Empty, Told, OpenList, EvidenceIs, Refused};
-ghost use Rattle.witness_spec.specs.Replies.{FileRefused, SendOf};
+ghost use Rattle.witness_spec.specs.Replies.{FileRefused, AuditOf, SendOf};
 ghost use Rattle.witness_spec.specs.Replies.{Trusted, Suspected, Exposed};
 ghost use Rattle.witness_spec.specs.Steps.{Learn, SendChallenge, Answer, AckIn, Audit, Begin, File, PutBack};
 ghost use Rattle.witness_spec.specs.Steps.{Forward, Ask, Past};
@@ -25,6 +25,7 @@ ghost use Rattle.witness_examples.specs.Worked.{learned_two, fork_at_three, read
 ghost use Rattle.witness_examples.specs.Worked.{given, job, done, out_one, put_back, out_two, filed_two};
 ghost use Rattle.witness_examples.specs.Worked.{state_read, no_out, no_done, no_filed, fault_at_one};
 ghost use Rattle.witness_examples.specs.Worked.{some_events};
+ghost use Rattle.witness_examples.specs.Answered.{received_closed, both_wanted, one_answered};
 ghost use Rattle.witness_examples.specs.Reaching.{Reaches};
 
 /// An authenticator is learned twice: Noted, Already. Another hash at its number: Noted, and the node is
@@ -54,6 +55,16 @@ pub fn acknowledgements_close()
     ensures trusted { (e : Envelope) (a : Ack) → acked_message a ≡ envelope_message e →
         Reaches [] five ((AckIn a, Closed) ∷ (SendChallenge e, Opened) ∷ [])
         (Ask ItsIndication) (Told Trusted) }
+{}
+
+/// A node is challenged with two messages, and its log is asked for. The segment that it gives has the RECV
+/// of the first: that closes the audit and the challenge with the first message. The second stays open.
+pub fn answers_close_challenges()
+    ensures opened { Reaches [] five both_wanted (Ask ItsChallenges)
+        (OpenList (SendOf (sent 1) ∷ SendOf (sent 2) ∷ AuditOf 1 1 ∷ [])) }
+    ensures accepted { Reaches [] five both_wanted (Answer received_closed) Accepted }
+    ensures left { Reaches [] five one_answered (Ask ItsChallenges) (OpenList (SendOf (sent 2) ∷ [])) }
+    ensures suspected { Reaches [] five one_answered (Ask ItsIndication) (Told Suspected) }
 {}
 
 /// An audit asks up to what was learned, and the segment is accepted: the node is Suspected in between.

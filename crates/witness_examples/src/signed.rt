@@ -1,4 +1,5 @@
 //! Histories of values that are really signed.
 
 pub mod audits;
+pub mod books;
 pub mod messages;

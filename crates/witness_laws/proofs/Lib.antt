@@ -1,5 +1,6 @@
 pub use Rattle.witness_spec.proofs.evidence_spec as evidence_spec
 pub mod OfAnswers
+pub mod OfBooks
 pub mod OfTrust
 pub mod OfEvidence
 pub mod Replied

@@ -1,2 +1,3 @@
 -- Lemmas on answers to challenges. Serves: `answers`.
 pub mod Answering
+pub mod Closing

@@ -2,6 +2,7 @@
 #![tactic(auto)]
 
 pub mod answers;
+pub mod books;
 pub mod evidence;
 pub mod laws;
 pub mod trust;

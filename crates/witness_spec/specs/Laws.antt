@@ -1,20 +1,25 @@
 -- What holds of what a witness says. Each is the contract of a function in `witness_laws`.
 use Rattle.std.specs.Prelude.{◌≡◌, ◌≢◌, ◌⊎◌, ◌↔◌, ℕ, ◌≤◌, IsTrue, List, [], ◌∷◌, ◌++◌, map}
 use Rattle.std.specs.Prelude.{Some, Ok, Err, IsSome}
+use Rattle.sha2.specs.Sha256.{sha256}
 use Rattle.xdr.specs.Item.{Fits}
+use Rattle.merkle_keys.specs.Signing.{SignatureParts}
 use Rattle.authenticator.specs.Roster.{IsRoster, member_of}
 use Rattle.authenticator.specs.Signed.{IsSignedBy}
 use Rattle.authenticator.specs.declared.authenticator.Authenticator.{Authenticator}
 use Rattle.authenticator.specs.declared.member.Member.{Member}
 use Rattle.secure_log.specs.declared.log_entries.entry.Entry.{Entry}
+use Rattle.secure_log.specs.declared.log_entries.entry.Entry.TheVariants as entries
+use Rattle.secure_log.specs.LogEntries.Messages.{message_hash}
 use Rattle.secure_log.specs.Log.{LogParts, IsOfPlace}
 use Rattle.secure_log.specs.Part.{GivesPart, with_closing}
-use Rattle.secure_log.specs.Segment.{ClosedParts, IsClosed}
+use Rattle.secure_log.specs.Segment.{SegmentParts, ClosedParts, IsClosed}
 use Rattle.secure_log.specs.declared.open.OpenSegment.{OpenSegment}
 use Rattle.envelopes.specs.Envelope.{envelope_message}
 use Rattle.envelopes.specs.Acknowledgement.{acked_message}
 use Rattle.envelopes.specs.declared.envelope.Envelope.{Envelope}
 use Rattle.envelopes.specs.declared.acknowledgement.Ack.{Ack}
+use Rattle.envelopes.specs.declared.message.Message.{Message}
 use Rattle.state_spec.specs.State.{State}
 use Rattle.evidence_spec.specs.replay_spec.Opening.{opening_of}
 use Rattle.evidence_spec.specs.replay_spec.Placed.{placed_in}
@@ -252,3 +257,33 @@ AcksClose =
     → member_of ms m.node ≡ Some m → IsTrue (is_key_of m key) → a.by ≡ m.node
     → IsAmong (SendOf e) (open_challenges (own ms m.node history)) → acked_message a ≡ envelope_message e
     → ClosesChallenge ms m history a key
+
+-- A segment has the RECV of a message in its node's log.
+pub record HasRecv (s : SegmentParts) (message : Message) : Type 0 where
+  pub from : ℕ
+  pub seq : ℕ
+  pub prev : List ℕ
+  pub body : List ℕ
+  pub signature : SignatureParts
+  pub among : IsAmong (entries.Recv from seq prev body signature) s.entries
+  pub is : message ≡ record { from = from; seq = seq; hash = message_hash s.node seq prev (sha256 body) }
+
+-- After a segment that was accepted no audit is open; nor is a challenge with a message whose RECV it has.
+-- All other challenges with messages stay open, and none is new.
+pub record ClosesWhatItAnswers (ms : List Member) (m : Member) (history : History) (c : ClosedParts)
+    : Type 0 where
+  pub audits : (first last : ℕ)
+      → let after : History = (events.Answer c, Accepted) ∷ history in
+      ¬ IsAmong (AuditOf first last) (open_challenges (own ms m.node after))
+  pub sends : (e : Envelope)
+      → let after : History = (events.Answer c, Accepted) ∷ history in
+      IsAmong (SendOf e) (open_challenges (own ms m.node after))
+      ↔ (IsAmong (SendOf e) (open_challenges (own ms m.node history))
+      × ¬ HasRecv c.segment (envelope_message e))
+
+-- A node's segment that is accepted closes the audit, and each challenge with a message whose RECV it has.
+abbrev pub AnswersCloseChallenges : Type 0
+AnswersCloseChallenges =
+    (ms : List Member) (m : Member) (history : History) (c : ClosedParts)
+    → whose ms (events.Answer c) ≡ Ok (record { member = m; step = Answer c })
+    → ClosesWhatItAnswers ms m history c

@@ -13,4 +13,6 @@ pub mod Exposing
 pub mod Owing
 pub mod Histories
 pub mod Premises
+pub mod Contract
 pub mod Laws
+pub mod ContractLaws

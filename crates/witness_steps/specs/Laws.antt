@@ -45,8 +45,8 @@ BooksHaveEvidenceIfExposed =
     → exposed (book_after_steps m (own ms m.node history)) ≡ is_exposed ms m (own ms m.node history)
 
 -- It tells the indication that is told of the node.
-abbrev pub BooksTellTheSame : Type 0
-BooksTellTheSame =
+abbrev pub BooksTellTheIndication : Type 0
+BooksTellTheIndication =
     (ms : List Member) (m : Member) (history : History)
     → member_of ms m.node ≡ Some m → IsHistory ms history
     → book_indication (book_after_steps m (own ms m.node history)) ≡ indication ms m (own ms m.node history)

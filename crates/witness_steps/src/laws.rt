@@ -1,7 +1,7 @@
 //! A book that goes on from step to step by plain equations is what a witness may say of its node.
 
 ghost use Rattle.witness_steps.specs.Laws.{BooksOweTheSame, BooksAreOfTheirSteps, BooksFitTogether};
-ghost use Rattle.witness_steps.specs.Laws.{BooksTellTheSame, BooksHaveTheAudited, BooksStand};
+ghost use Rattle.witness_steps.specs.Laws.{BooksTellTheIndication, BooksHaveTheAudited, BooksStand};
 ghost use Rattle.witness_steps.specs.Laws.{BooksHaveEvidenceIfExposed, AnyBookOwesTheSame, AnyBookGoesOn};
 
 /// A member's book after its own steps of a history replies to each further step what is owed to it after that
@@ -9,7 +9,7 @@ ghost use Rattle.witness_steps.specs.Laws.{BooksHaveEvidenceIfExposed, AnyBookOw
 /// node is exposed.
 pub fn books_reply_what_is_owed()
     ensures owes { BooksOweTheSame }
-    ensures tells { BooksTellTheSame }
+    ensures tells { BooksTellTheIndication }
     ensures evidence { BooksHaveEvidenceIfExposed }
 {}
 

@@ -1,5 +1,5 @@
 -- Answers are their node's steps, and close what is open.
--- Serves: answers_are_accepted, acknowledgements_close.
+-- Serves: answers_are_accepted, acknowledgements_close, answers_close_challenges.
 use Rattle.std.proofs.Common.{◌≡◌, ◌↔◌, inl, inr, ℕ, Bool, true, false, cond, not, ◌==◌, ◌&&◌}
 use Rattle.std.proofs.Common.{List, [], ◌∷◌, ◌++◌, filter, Some, IsSomeAnd, Ok, Err}
 use Rattle.std.proofs.Common.{refl, sym, ap, ap₂, subst, ◌∙◌, eq-eqb}
@@ -38,7 +38,7 @@ use Rattle.witness_laws.proofs.OwnSteps.{its_own}
 -- ---- lists
 
 -- what is left of a list passes the test
-passes : {A : Type 0} (test : A → Bool) (x : A) (xs : List A) → IsAmong x (filter test xs) → test x ≡ true
+pub passes : {A : Type 0} (test : A → Bool) (x : A) (xs : List A) → IsAmong x (filter test xs) → test x ≡ true
 passes test x [] i = absurd i
 passes test x (y ∷ ys) i = by (test y) refl i (λ j. passes test x ys j)
   where
@@ -48,7 +48,8 @@ passes test x (y ∷ ys) i = by (test y) refl i (λ j. passes test x ys j)
     by true e (inr j) rest = rest j
     by false e j rest = rest j
 
-message_same : (x y : Message) → x ≡ y → same_message x y ≡ true
+-- a message is the same as itself
+pub message_same : (x y : Message) → x ≡ y → same_message x y ≡ true
 message_same x y e =
     ap (same_message x) (sym e)
     ∙ and_from (x.from == x.from) ((x.seq == x.seq) && is_same x.hash x.hash) (eq-eqb x.from x.from refl)
@@ -83,7 +84,7 @@ roster_self (m ∷ ms) = and_from (same_member m m) (same_roster ms ms) (member_
 -- ---- the reply
 
 -- a step that brings no job back has this reply and no other
-only_reply : (ms : List Member) (m : Member) (history : History) (e : Event) (step : Step) (good : Reply)
+pub only_reply : (ms : List Member) (m : Member) (history : History) (e : Event) (step : Step) (good : Reply)
     → whose ms e ≡ Ok (record { member = m; step = step }) → (IsOut ms m (own ms m.node history) step → ⊥)
     → good ≡ reply_told false ms m (own ms m.node history) step
     → (reply : Reply) → IsOwed ms history e reply ↔ (reply ≡ good)

@@ -1,0 +1,181 @@
+-- A segment that was accepted closes the audit and each challenge with a message whose RECV it has.
+-- Serves: answers_close_challenges.
+use Rattle.std.proofs.Common.{◌≡◌, inl, inr, ℕ, Bool, true, false, cond, not, ◌==◌, ◌&&◌, ◌||◌, List}
+use Rattle.std.proofs.Common.{[], ◌∷◌, ◌++◌, filter, Ok, refl, sym, ap, ap₂, subst, ◌∙◌, eq-eqb, eqb-true}
+use Rattle.std.specs.List.{list_any}
+use Rattle.std.proofs.lemmas.Bool.{and_parts, or_left, or_right, true≢false}
+use Rattle.authenticator.specs.declared.member.Member.{Member}
+use Rattle.authenticator.specs.Signing.{is_same}
+use Rattle.authenticator.proofs.Signed.{same_list}
+use Rattle.secure_log.specs.declared.log_entries.entry.Entry.{Entry}
+use Rattle.secure_log.specs.declared.log_entries.entry.Entry.TheVariants as entries
+use Rattle.secure_log.specs.Segment.{SegmentParts, ClosedParts}
+use Rattle.envelopes.specs.Envelope.{envelope_message}
+use Rattle.envelopes.specs.declared.envelope.Envelope.{Envelope}
+use Rattle.envelopes.specs.declared.message.Message.{Message}
+use Rattle.witness_spec.specs.evidence_spec.Showing.{IsAmong}
+use Rattle.witness_spec.specs.Events as events
+use Rattle.witness_spec.specs.Replies.{Accepted, Challenge, AuditOf, SendOf}
+use Rattle.witness_spec.specs.Steps.{Answer}
+use Rattle.witness_spec.specs.Whose.{whose}
+use Rattle.witness_spec.specs.Standing.{same_message, is_recv_of, is_answered, open_challenges}
+use Rattle.witness_spec.specs.Histories.{History, own}
+use Rattle.witness_spec.specs.Laws.{HasRecv, ClosesWhatItAnswers}
+use Rattle.witness_laws.proofs.OwnSteps.{its_own}
+use Rattle.witness_laws.proofs.OfAnswers.Answering.{passes, message_same}
+
+-- ---- lists
+
+-- what is left of a list was in it
+was_among : {A : Type 0} (test : A → Bool) (x : A) (xs : List A) → IsAmong x (filter test xs) → IsAmong x xs
+was_among test x [] i = absurd i
+was_among test x (y ∷ ys) i = by (test y) i (λ j. was_among test x ys j)
+  where
+    by : (b : Bool) → IsAmong x (cond b (y ∷ filter test ys) (filter test ys))
+        → (IsAmong x (filter test ys) → IsAmong x ys) → IsAmong x (y ∷ ys)
+    by true (inl same) rest = inl same
+    by true (inr j) rest = inr (rest j)
+    by false j rest = inr (rest j)
+
+-- what passes the test is left
+is_left : {A : Type 0} (test : A → Bool) (x : A) (xs : List A) → test x ≡ true → IsAmong x xs
+    → IsAmong x (filter test xs)
+is_left test x [] pass i = absurd i
+is_left test x (y ∷ ys) pass i = by (test y) refl i (λ j. is_left test x ys pass j)
+  where
+    by : (b : Bool) → test y ≡ b → IsAmong x (y ∷ ys) → (IsAmong x ys → IsAmong x (filter test ys))
+        → IsAmong x (cond b (y ∷ filter test ys) (filter test ys))
+    by true e (inl same) rest = inl same
+    by true e (inr j) rest = inr (rest j)
+    by false e (inl same) rest = absurd (true≢false (sym pass ∙ (ap test same ∙ e)))
+    by false e (inr j) rest = rest j
+
+-- ---- messages
+
+-- messages that pass the test of being the same are
+same_is : (x y : Message) → same_message x y ≡ true → x ≡ y
+same_is x y h =
+    let one = and_parts (x.from == y.from) ((x.seq == y.seq) && is_same x.hash y.hash) h in
+    let two = and_parts (x.seq == y.seq) (is_same x.hash y.hash) one.1 in
+    ap (λ n. record x { from = n }) (eqb-true x.from y.from one.0)
+    ∙ ap₂ (λ n h. record y { seq = n; hash = h }) (eqb-true x.seq y.seq two.0)
+    (same_list x.hash y.hash two.1)
+
+module _ (s : SegmentParts) (message : Message) where
+  -- the segment with other entries
+  abbrev with_entries : List Entry → SegmentParts
+  with_entries es = record s { entries = es }
+
+  -- a RECV further on is one of the segment
+  further : (x : Entry) (es : List Entry) → HasRecv (with_entries es) message
+      → HasRecv (with_entries (x ∷ es)) message
+  further x es r = record {
+    from = r.from;
+    seq = r.seq;
+    prev = r.prev;
+    body = r.body;
+    signature = r.signature;
+    among = inr r.among;
+    is = r.is;
+  }
+
+  -- an entry that passes the test is a RECV of the message
+  found_here : (x : Entry) (es : List Entry) → is_recv_of s.node message x ≡ true
+      → HasRecv (with_entries (x ∷ es)) message
+  found_here (entries.Send to body) es h = absurd (true≢false (sym h))
+  found_here (entries.Recv from seq prev body signature) es h = record {
+    from = from;
+    seq = seq;
+    prev = prev;
+    body = body;
+    signature = signature;
+    among = inl refl;
+    is = same_is message _ h;
+  }
+  found_here (entries.Ack to seq mine number prev signature) es h = absurd (true≢false (sym h))
+  found_here (entries.Clock seconds microseconds) es h = absurd (true≢false (sym h))
+  found_here (entries.Check digest) es h = absurd (true≢false (sym h))
+
+  -- where the test finds one, there is one
+  found : (es : List Entry) → list_any (is_recv_of s.node message) es ≡ true
+      → HasRecv (with_entries es) message
+  found [] h = absurd (true≢false (sym h))
+  found (x ∷ es) h = by (is_recv_of s.node message x) refl h (found es)
+    where
+      by : (b : Bool) → is_recv_of s.node message x ≡ b
+          → (b || list_any (is_recv_of s.node message) es) ≡ true
+          → (list_any (is_recv_of s.node message) es ≡ true → HasRecv (with_entries es) message)
+          → HasRecv (with_entries (x ∷ es)) message
+      by true e h rest = found_here x es e
+      by false e h rest = further x es (rest h)
+
+  -- and where there is one, the test finds it
+  finds : (x : Entry) (es : List Entry) → is_recv_of s.node message x ≡ true → IsAmong x es
+      → list_any (is_recv_of s.node message) es ≡ true
+  finds x [] h i = absurd i
+  finds x (y ∷ es) h (inl same) =
+      or_left (is_recv_of s.node message y) (list_any (is_recv_of s.node message) es)
+      (ap (is_recv_of s.node message) (sym same) ∙ h)
+  finds x (y ∷ es) h (inr i) =
+      or_right (is_recv_of s.node message y) (list_any (is_recv_of s.node message) es) (finds x es h i)
+
+  -- a RECV of the message is found
+  answered : HasRecv s message → list_any (is_recv_of s.node message) s.entries ≡ true
+  answered r =
+      finds (entries.Recv r.from r.seq r.prev r.body r.signature) s.entries
+      (message_same message _ r.is) r.among
+
+-- ---- challenges
+
+not_true : (b : Bool) → not b ≡ true → b ≡ true → ⊥
+not_true true h e = true≢false (sym h)
+not_true false h e = true≢false (sym e)
+
+true_not : (b : Bool) → ¬ (b ≡ true) → not b ≡ true
+true_not true h = absurd (h refl)
+true_not false h = refl
+
+module _ (ms : List Member) (m : Member) (history : History) (c : ClosedParts)
+    (its : whose ms (events.Answer c) ≡ Ok (record { member = m; step = Answer c })) where
+  -- what is open before the answer
+  abbrev before : List Challenge
+  before = open_challenges (own ms m.node history)
+
+  -- what is open after it
+  after_is : open_challenges (own ms m.node ((events.Answer c, Accepted) ∷ history))
+      ≡ filter (λ x. not (is_answered c.segment x)) before
+  after_is = ap (λ x. open_challenges (x ++ own ms m.node history))
+      (its_own ms m.node (events.Answer c) Accepted (record { member = m; step = Answer c }) its
+      (eq-eqb m.node m.node refl) refl)
+
+  no_audit : (first last : ℕ)
+      → ¬ IsAmong (AuditOf first last)
+      (open_challenges (own ms m.node ((events.Answer c, Accepted) ∷ history)))
+  no_audit first last i =
+      true≢false (sym (passes (λ x. not (is_answered c.segment x)) (AuditOf first last) before
+      (subst (IsAmong (AuditOf first last)) after_is i)))
+
+  -- a challenge that is open after it was open before, and its message isn't answered
+  still_open : (e : Envelope)
+      → IsAmong (SendOf e) (open_challenges (own ms m.node ((events.Answer c, Accepted) ∷ history)))
+      → IsAmong (SendOf e) before × ¬ HasRecv c.segment (envelope_message e)
+  still_open e i =
+      let left : IsAmong (SendOf e) (filter (λ x. not (is_answered c.segment x)) before) =
+      subst (IsAmong (SendOf e)) after_is i in (
+        was_among (λ x. not (is_answered c.segment x)) (SendOf e) before left,
+        λ r. not_true (is_answered c.segment (SendOf e))
+            (passes (λ x. not (is_answered c.segment x)) (SendOf e) before left)
+            (answered c.segment (envelope_message e) r),
+      )
+
+  stays_open : (e : Envelope) → IsAmong (SendOf e) before × ¬ HasRecv c.segment (envelope_message e)
+      → IsAmong (SendOf e) (open_challenges (own ms m.node ((events.Answer c, Accepted) ∷ history)))
+  stays_open e h =
+      subst (IsAmong (SendOf e)) (sym after_is)
+      (is_left (λ x. not (is_answered c.segment x)) (SendOf e) before
+      (true_not (is_answered c.segment (SendOf e))
+      (λ t. h.1 (found c.segment (envelope_message e) c.segment.entries t))) h.0)
+
+  -- a segment that was accepted closes the audit, and the challenges whose RECV it has, and no others
+  pub closes : ClosesWhatItAnswers ms m history c
+  closes = record { audits = no_audit; sends = λ e. (still_open e, stays_open e) }

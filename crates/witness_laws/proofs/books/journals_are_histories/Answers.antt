@@ -1,0 +1,14 @@
+use Rattle.witness_laws.proofs.OfBooks.Journals.{journals, opening_journal, noted_step, journal_after}
+use Rattle.witness_laws.proofs.books.journals_are_histories.Goals as goal
+
+pub returns-clause-exactly : goal.returns-clause-exactly
+returns-clause-exactly c = journals
+
+pub returns-clause-opening : goal.returns-clause-opening
+returns-clause-opening c = opening_journal
+
+pub returns-clause-noted : goal.returns-clause-noted
+returns-clause-noted c = noted_step
+
+pub returns-clause-kept : goal.returns-clause-kept
+returns-clause-kept c = journal_after
