@@ -11,10 +11,10 @@ use Rattle.witness_spec.specs.Steps.{Step, Past}
 use Rattle.witness_spec.specs.Whose.{whose}
 use Rattle.witness_spec.specs.Standing.{End}
 use Rattle.witness_spec.specs.Owing.{Owes}
-use Rattle.witness_spec.specs.Histories.{History, own, OwesTo, IsHistory, HoldSame}
+use Rattle.witness_spec.specs.Histories.{History, own, OwesTo, IsHistory, HoldSame, StandsFor}
 use Rattle.witness_laws.proofs.Checked.{checked_event}
 use Rattle.witness_laws.proofs.LeftOut.{taken}
-use Rattle.witness_steps.specs.Books.{Book, is_audited, book_audited}
+use Rattle.witness_steps.specs.Books.{Book, is_audited, book_audited, parts_of}
 use Rattle.witness_steps.specs.Replying.{BookOwes}
 use Rattle.witness_steps.specs.Going.{book_after, book_after_steps}
 use Rattle.witness_steps.specs.Fitting.{FitsTogether, IsBookOf}
@@ -93,3 +93,18 @@ module _ (ms : List Member) (m : Member) (history : History) (b : Book) (is : me
           (checked_event ms (record { member = m; step = step }) event w e)
           (done_event (record { member = m; step = step }) ms event w e)
           (subst (Exposure ms m) steps (exposed_or_not ms m ((event, reply) ∷ history) is longer))
+
+  -- its own step makes its own steps longer
+  pub any_stands : (event : Event) (step : Step) (reply : Reply) → IsEvent event
+      → whose ms event ≡ Ok (record { member = m; step = step }) → BookOwes b step reply
+      → Owes ms m (own ms m.node history) step reply
+      × StandsFor ms m ((step, reply) ∷ own ms m.node history) (parts_of (book_after b step reply))
+  any_stands event step reply e w owes =
+      let owed : Owes ms m (own ms m.node history) step reply = (any_owes step reply).1 owes in
+      let steps : own ms m.node ((event, reply) ∷ history) ≡ (step, reply) ∷ own ms m.node history =
+      (taken ms history event reply (record { member = m; step = step }) w
+      (subst (OwesTo ms history event reply) (sym w) owed)).own_step in (
+        owed,
+        subst (λ past. StandsFor ms m past (parts_of (book_after b step reply))) steps
+            (any_goes_on event step reply e w owes).of.stands,
+      )

@@ -134,7 +134,8 @@ no_sends : (kind : Kind) (node : ℕ) → SendsLieBelow (opening_by kind node) 1
 no_sends kinds.Server node = λ k h. absurd (true≢false (sym h ∙ ap is_some (finite.get-empty nat_cmp k)))
 no_sends kinds.Client node = λ k h. absurd (true≢false (sym h ∙ ap is_some (finite.get-empty nat_cmp k)))
 
-at_first : (ms : List Member) (m : Member) → Known ms m [] (book_opening m)
+-- at first the member's opening book is known
+pub at_first : (ms : List Member) (m : Member) → Known ms m [] (book_opening m)
 at_first ms m = record {
   of = record {
     node = refl;

@@ -9,7 +9,8 @@ use Rattle.witness_spec.specs.Whose.{whose}
 use Rattle.witness_spec.specs.Standing.{audited, is_exposed, indication}
 use Rattle.witness_spec.specs.Owing.{Owes}
 use Rattle.witness_spec.specs.Histories.{History, own, IsHistory, Stands}
-use Rattle.witness_steps.specs.Books.{Book, exposed, book_audited, book_indication, parts_of}
+use Rattle.witness_spec.specs.Contract.{BookStepsTo, opening_book}
+use Rattle.witness_steps.specs.Books.{Book, book_opening, exposed, book_audited, book_indication, parts_of}
 use Rattle.witness_steps.specs.Replying.{BookOwes}
 use Rattle.witness_steps.specs.Going.{book_after, book_after_steps}
 use Rattle.witness_steps.specs.Fitting.{FitsTogether, IsBookOf}
@@ -95,3 +96,16 @@ AnyBookGoesOn =
     → FitsTogether b → IsBookOf ms m (own ms m.node history) b
     → IsEvent event → whose ms event ≡ Ok (record { member = m; step = step }) → BookOwes b step reply
     → GoesOn ms m history event step reply b
+
+-- Such a step keeps the contract of a book, whatever the history for which the book stood.
+abbrev pub AnyBookKeepsItsContract : Type 0
+AnyBookKeepsItsContract =
+    (ms : List Member) (m : Member) (b : Book) (event : Event) (step : Step) (reply : Reply)
+    → member_of ms m.node ≡ Some m → FitsTogether b → b.node ≡ m.node
+    → IsEvent event → whose ms event ≡ Ok (record { member = m; step = step }) → BookOwes b step reply
+    → BookStepsTo ms m (parts_of b) step reply (parts_of (book_after b step reply))
+
+-- A book that goes on from a member's opening book stands, as the opening book of the contract does.
+abbrev pub OpeningsStand : Type 0
+OpeningsStand =
+    (m : Member) → (parts_of (book_opening m) ≡ opening_book m) × FitsTogether (book_opening m)

@@ -3,6 +3,7 @@
 ghost use Rattle.witness_steps.specs.Laws.{BooksOweTheSame, BooksAreOfTheirSteps, BooksFitTogether};
 ghost use Rattle.witness_steps.specs.Laws.{BooksTellTheIndication, BooksHaveTheAudited, BooksStand};
 ghost use Rattle.witness_steps.specs.Laws.{BooksHaveEvidenceIfExposed, AnyBookOwesTheSame, AnyBookGoesOn};
+ghost use Rattle.witness_steps.specs.Laws.{AnyBookKeepsItsContract, OpeningsStand};
 
 /// A member's book after its own steps of a history replies to each further step what is owed to it after that
 /// history, and nothing else; it tells the indication that is told of the node, and has evidence exactly if the
@@ -33,4 +34,12 @@ pub fn parts_fit_together()
 pub fn any_book_goes_on()
     ensures owes { AnyBookOwesTheSame }
     ensures goes_on { AnyBookGoesOn }
+{}
+
+/// So a step by these equations keeps the contract of a member's book, whatever the history was: it is a step
+/// of all books, as `witness_laws::books` has it. A member's opening book is that of the contract, and fits
+/// together.
+pub fn equations_keep_the_contract()
+    ensures step { AnyBookKeepsItsContract }
+    ensures opening { OpeningsStand }
 {}
