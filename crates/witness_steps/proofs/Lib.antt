@@ -11,3 +11,4 @@ pub mod Steps
 pub mod Histories
 pub mod Standing
 pub mod AnyBook
+pub mod AllBooks

@@ -9,11 +9,12 @@ use Rattle.witness_spec.specs.Whose.{whose}
 use Rattle.witness_spec.specs.Standing.{audited, is_exposed, indication}
 use Rattle.witness_spec.specs.Owing.{Owes}
 use Rattle.witness_spec.specs.Histories.{History, own, IsHistory, Stands}
-use Rattle.witness_spec.specs.Contract.{BookStepsTo, opening_book}
+use Rattle.witness_spec.specs.Contract.{StepsTo, BookStepsTo, opening_book}
 use Rattle.witness_steps.specs.Books.{Book, book_opening, exposed, book_audited, book_indication, parts_of}
 use Rattle.witness_steps.specs.Replying.{BookOwes}
 use Rattle.witness_steps.specs.Going.{book_after, book_after_steps}
 use Rattle.witness_steps.specs.Fitting.{FitsTogether, IsBookOf}
+use Rattle.witness_steps.specs.Together.{book_at, with_book_at, AreKept}
 
 -- A member's book after its own steps of a history replies to each step what is owed after that history, and
 -- nothing else.
@@ -109,3 +110,22 @@ AnyBookKeepsItsContract =
 abbrev pub OpeningsStand : Type 0
 OpeningsStand =
     (m : Member) → (parts_of (book_opening m) ≡ opening_book m) × FitsTogether (book_opening m)
+
+-- ---- the books of all members
+
+-- The opening books of a roster's members are kept.
+abbrev pub OpeningBooksAreKept : Type 0
+OpeningBooksAreKept = (ms : List Member) → AreKept ms (map book_opening ms)
+
+-- Where an event is a member's step, and the reply is the one that its book owes, the books with that one gone
+-- on keep the contract of all books, and are kept.
+abbrev pub KeptBooksStep : Type 0
+KeptBooksStep =
+    (ms : List Member) (m : Member) (books : List Book) (b : Book) (event : Event) (step : Step)
+    (reply : Reply)
+    → IsRoster ms → AreKept ms books
+    → IsEvent event → whose ms event ≡ Ok (record { member = m; step = step })
+    → book_at ms books m.node ≡ Some b → BookOwes b step reply
+    → StepsTo ms (map parts_of books) event reply
+    (map parts_of (with_book_at ms m.node (book_after b step reply) books))
+    × AreKept ms (with_book_at ms m.node (book_after b step reply) books)

@@ -3,7 +3,8 @@
 ghost use Rattle.witness_steps.specs.Laws.{BooksOweTheSame, BooksAreOfTheirSteps, BooksFitTogether};
 ghost use Rattle.witness_steps.specs.Laws.{BooksTellTheIndication, BooksHaveTheAudited, BooksStand};
 ghost use Rattle.witness_steps.specs.Laws.{BooksHaveEvidenceIfExposed, AnyBookOwesTheSame, AnyBookGoesOn};
-ghost use Rattle.witness_steps.specs.Laws.{AnyBookKeepsItsContract, OpeningsStand};
+ghost use Rattle.witness_steps.specs.Laws.{AnyBookKeepsItsContract, OpeningsStand, OpeningBooksAreKept};
+ghost use Rattle.witness_steps.specs.Laws.{KeptBooksStep};
 
 /// A member's book after its own steps of a history replies to each further step what is owed to it after that
 /// history, and nothing else; it tells the indication that is told of the node, and has evidence exactly if the
@@ -42,4 +43,11 @@ pub fn any_book_goes_on()
 pub fn equations_keep_the_contract()
     ensures step { AnyBookKeepsItsContract }
     ensures opening { OpeningsStand }
+{}
+
+/// The opening books of all members are kept; and where an event is a member's step, and the reply is the one
+/// that this member's book owes, the books with that one gone on keep the contract of all books, and are kept.
+pub fn kept_books_step()
+    ensures opening { OpeningBooksAreKept }
+    ensures step { KeptBooksStep }
 {}
