@@ -1,5 +1,5 @@
 -- The books of all members go on where one of them does.
--- Serves: kept_books_step.
+-- Serves: kept_books_step, look_ups_tell.
 use Rattle.std.proofs.Common.{◌≡◌, ℕ, Bool, true, false, cond, ◌==◌, List, [], ◌∷◌, map, Option, Some, Ok}
 use Rattle.std.proofs.Common.{refl, sym, ap, subst, ◌∙◌, eqb-true}
 use Rattle.std.specs.Prelude.{option_map}
@@ -9,7 +9,7 @@ use Rattle.witness_spec.specs.Events.{Event, IsEvent}
 use Rattle.witness_spec.specs.Replies.{Reply}
 use Rattle.witness_spec.specs.Steps.{Step}
 use Rattle.witness_spec.specs.Whose.{whose}
-use Rattle.witness_spec.specs.Histories.{StandEach}
+use Rattle.witness_spec.specs.Histories.{own, StandEach}
 use Rattle.witness_spec.specs.Contract.{book_in, with_book, StepsTo, BookStepsTo}
 use Rattle.witness_laws.proofs.OwnSteps.{of_member}
 use Rattle.witness_laws.proofs.OfBooks.Standing.{found_stands, one_book}
@@ -19,8 +19,10 @@ use Rattle.witness_steps.specs.Replying.{BookOwes}
 use Rattle.witness_steps.specs.Going.{book_after}
 use Rattle.witness_steps.specs.Fitting.{FitsTogether}
 use Rattle.witness_steps.specs.Laws.{GoesOn}
+use Rattle.witness_steps.specs.LookUps.{HasOneHash}
 use Rattle.witness_steps.specs.Together.{book_at, with_book_at, FitEach, AreKept}
-use Rattle.witness_steps.proofs.Histories.{at_first}
+use Rattle.witness_steps.proofs.Histories.{at_first, exposed_or_not}
+use Rattle.witness_steps.proofs.LookUps.{one_hash}
 use Rattle.witness_steps.proofs.AnyBook.{any_goes_on, any_stands}
 
 -- ---- one among them
@@ -140,3 +142,20 @@ stand_first ms (m ∷ members) = ((at_first ms m).of.stands, stand_first ms memb
 -- the opening books are kept
 pub first_kept : (ms : List Member) → AreKept ms (map book_opening ms)
 first_kept ms = record { fit = fit_first ms; are = record { history = []; is = tt; stands = stand_first ms ms } }
+
+-- ---- what they show
+
+-- a book that is kept shows one hash at each number, where the node isn't exposed
+pub kept_one_hash : (ms : List Member) (m : Member) (books : List Book) (b : Book) → AreKept ms books
+    → member_of ms m.node ≡ Some m → book_at ms books m.node ≡ Some b → HasOneHash b
+kept_one_hash ms m books b kept is there =
+    let history = kept.are.history in
+    let its = fit_at ms books m.node b kept.fit there in
+    let parts : book_in ms (map parts_of books) m.node ≡ Some (parts_of b) =
+    in_same ms books m.node ∙ ap (option_map parts_of) there in
+    one_hash ms m (own ms m.node history) b
+    (record {
+      node = its.0;
+      stands = found_stands ms m history (map parts_of books) (parts_of b) is kept.are.stands parts;
+    })
+    (exposed_or_not ms m history is kept.are.is)

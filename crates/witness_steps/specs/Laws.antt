@@ -1,5 +1,5 @@
 -- What holds of books. Each is the contract of a function here.
-use Rattle.std.specs.Prelude.{◌≡◌, ◌↔◌, List, ◌∷◌, map, Some, Ok}
+use Rattle.std.specs.Prelude.{◌≡◌, ◌↔◌, ℕ, false, List, ◌∷◌, map, Some, Ok}
 use Rattle.authenticator.specs.Roster.{IsRoster, member_of}
 use Rattle.authenticator.specs.declared.member.Member.{Member}
 use Rattle.witness_spec.specs.Events.{Event, IsEvent}
@@ -10,10 +10,12 @@ use Rattle.witness_spec.specs.Standing.{audited, is_exposed, indication}
 use Rattle.witness_spec.specs.Owing.{Owes}
 use Rattle.witness_spec.specs.Histories.{History, own, IsHistory, Stands}
 use Rattle.witness_spec.specs.Contract.{StepsTo, BookStepsTo, opening_book}
-use Rattle.witness_steps.specs.Books.{Book, book_opening, exposed, book_audited, book_indication, parts_of}
+use Rattle.witness_spec.specs.Pairs.{is_shown, is_fork}
+use Rattle.witness_steps.specs.Books.{book_shown, Book, book_opening, exposed, book_audited, book_indication, parts_of}
 use Rattle.witness_steps.specs.Replying.{BookOwes}
 use Rattle.witness_steps.specs.Going.{book_after, book_after_steps}
 use Rattle.witness_steps.specs.Fitting.{FitsTogether, IsBookOf}
+use Rattle.witness_steps.specs.LookUps.{hash_shown, is_hash, is_other_hash, HasOneHash}
 use Rattle.witness_steps.specs.Together.{book_at, with_book_at, AreKept}
 
 -- A member's book after its own steps of a history replies to each step what is owed after that history, and
@@ -129,3 +131,19 @@ KeptBooksStep =
     → StepsTo ms (map parts_of books) event reply
     (map parts_of (with_book_at ms m.node (book_after b step reply) books))
     × AreKept ms (with_book_at ms m.node (book_after b step reply) books)
+
+-- ---- what a book looks up
+
+-- A book that is kept, of a member whose node isn't exposed, shows one hash at each number.
+abbrev pub KeptBooksHaveOneHash : Type 0
+KeptBooksHaveOneHash =
+    (ms : List Member) (m : Member) (books : List Book) (b : Book)
+    → AreKept ms books → member_of ms m.node ≡ Some m → book_at ms books m.node ≡ Some b → HasOneHash b
+
+-- What such a book looks up at a number tells whether a pair was shown, and whether another hash is there.
+abbrev pub LookUpsTell : Type 0
+LookUpsTell =
+    (b : Book) (number : ℕ) (x : List ℕ)
+    → FitsTogether b → HasOneHash b → exposed b ≡ false
+    → (is_shown (number, x) (book_shown b) ≡ is_hash x (hash_shown b number))
+    × (is_fork (number, x) (book_shown b) ≡ is_other_hash x (hash_shown b number))

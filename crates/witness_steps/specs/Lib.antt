@@ -3,4 +3,5 @@ pub mod Replying
 pub mod Going
 pub mod Fitting
 pub mod Together
+pub mod LookUps
 pub mod Laws

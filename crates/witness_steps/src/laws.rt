@@ -4,7 +4,7 @@ ghost use Rattle.witness_steps.specs.Laws.{BooksOweTheSame, BooksAreOfTheirSteps
 ghost use Rattle.witness_steps.specs.Laws.{BooksTellTheIndication, BooksHaveTheAudited, BooksStand};
 ghost use Rattle.witness_steps.specs.Laws.{BooksHaveEvidenceIfExposed, AnyBookOwesTheSame, AnyBookGoesOn};
 ghost use Rattle.witness_steps.specs.Laws.{AnyBookKeepsItsContract, OpeningsStand, OpeningBooksAreKept};
-ghost use Rattle.witness_steps.specs.Laws.{KeptBooksStep};
+ghost use Rattle.witness_steps.specs.Laws.{KeptBooksStep, KeptBooksHaveOneHash, LookUpsTell};
 
 /// A member's book after its own steps of a history replies to each further step what is owed to it after that
 /// history, and nothing else; it tells the indication that is told of the node, and has evidence exactly if the
@@ -50,4 +50,12 @@ pub fn equations_keep_the_contract()
 pub fn kept_books_step()
     ensures opening { OpeningBooksAreKept }
     ensures step { KeptBooksStep }
+{}
+
+/// Where a node isn't exposed, its book shows one hash at each number, and what it looks up there tells whether
+/// a pair was shown and whether it makes a fork: zeros at 0, else the hash in the accepted segment that holds the
+/// number, else that of what is kept there.
+pub fn look_ups_tell()
+    ensures one { KeptBooksHaveOneHash }
+    ensures tell { LookUpsTell }
 {}
