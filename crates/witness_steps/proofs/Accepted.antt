@@ -20,7 +20,8 @@ use Rattle.witness_laws.proofs.Checked.{IsGiven}
 use Rattle.witness_laws.proofs.OfEvidence.Audits.{good_given}
 use Rattle.witness_laws.proofs.OfEvidence.Before.{first_some}
 use Rattle.witness_steps.proofs.Lists.{split, on_left, same_more}
-use Rattle.witness_steps.proofs.Kept.{showing_of, fork_shows, same_past, same_through, add_segment, add_exposing}
+use Rattle.witness_steps.proofs.Kept.{showing_of, fork_shows, same_past, same_through, add_segment}
+use Rattle.witness_steps.proofs.Kept.{add_exposing}
 use Rattle.witness_steps.proofs.Segments.{closes, audited_are}
 use Rattle.witness_steps.proofs.Quiet.{Exposure, unsent, found_stays}
 use Rattle.witness_steps.proofs.Known.{Known, first_same, fork_same}
@@ -44,7 +45,8 @@ absorb p xs there q = (λ i. by i, λ i. inr i)
     by (inl e) = subst (λ r. IsAmong r xs) (sym e) there
     by (inr i) = i
 
-module _ (ms : List Member) (m : Member) (past : Past) (b : Book) (c : ClosedParts) (k : Known ms m past b) where
+module _ (ms : List Member) (m : Member) (past : Past) (b : Book) (c : ClosedParts)
+    (k : Known ms m past b) where
   -- the evidence after it
   accepted_evidence : evidence_accepted b c.segment ≡ evidence ms m ((Answer c, Accepted) ∷ past)
   accepted_evidence =
@@ -87,7 +89,8 @@ module _ (ms : List Member) (m : Member) (past : Past) (b : Book) (c : ClosedPar
 
       fork : fork_evidence b (segment_showing c.segment) (segment_pairs c.segment) ≡ Some e
       fork =
-          sym (ap (λ o. first_evidence o (fork_evidence b (segment_showing c.segment) (segment_pairs c.segment)))
+          sym (ap (λ o. first_evidence o
+          (fork_evidence b (segment_showing c.segment) (segment_pairs c.segment)))
           none) ∙ now
 
   showing : IsWhole c.segment
@@ -120,7 +123,8 @@ module _ (ms : List Member) (m : Member) (past : Past) (b : Book) (c : ClosedPar
 
   wanted : (s : Stage) → s ≡ Wanted c.segment.first c.segment.closing.number → b.stage ≡ s → IsWanted
   wanted s is same =
-      let r : IsMore b.end.number (exposed b) (Wanted c.segment.first c.segment.closing.number) k.fits.tiles.more =
+      let r : IsMore b.end.number (exposed b)
+      (Wanted c.segment.first c.segment.closing.number) k.fits.tiles.more =
       subst (λ t. IsMore b.end.number (exposed b) t k.fits.tiles.more) (same ∙ is) k.fits.tiles.rest in
       record { none = r.0; first = r.1; some = r.2 }
 
@@ -135,9 +139,13 @@ module _ (ms : List Member) (m : Member) (past : Past) (b : Book) (c : ClosedPar
       are = ap (λ l. l ++ c.segment ∷ []) (k.fits.tiles.are ∙ (ap (λ l. k.fits.tiles.audited ++ l) w.none
           ∙ append-nil k.fits.tiles.audited));
       tile = k.fits.tiles.tile;
-      rest = record { is = refl; follows = record { first = w.first; some = omega (arith, w.first, w.some) } };
+      rest = record {
+        is = refl;
+        follows = record { first = w.first; some = omega (arith, w.first, w.some) };
+      };
     };
     agrees = tt;
+    sends = k.fits.sends;
   }
     where
       by : (s : SegmentParts) → IsAmong s b.segments ⊎ IsAmong s (c.segment ∷ []) → IsWhole s
@@ -157,15 +165,15 @@ module _ (ms : List Member) (m : Member) (past : Past) (b : Book) (c : ClosedPar
         of = record {
           node = k.of.node;
           stands = record {
-          end = k.of.stands.end;
-          stage = refl;
-          begun = k.of.stands.begun;
-          learned = k.of.stands.learned;
-          segments = same_more c.segment b.segments (all_accepted past) k.of.stands.segments;
-          challenges = ap (λ xs. open_after xs (Answer c) Accepted) k.of.stands.challenges;
-          outbox = unsent ms m past (Answer c, Accepted) b refl refl k.of;
-          evidence = accepted_evidence;
-          pairs = showing whole;
+            end = k.of.stands.end;
+            stage = refl;
+            begun = k.of.stands.begun;
+            learned = k.of.stands.learned;
+            segments = same_more c.segment b.segments (all_accepted past) k.of.stands.segments;
+            challenges = ap (λ xs. open_after xs (Answer c) Accepted) k.of.stands.challenges;
+            outbox = unsent ms m past (Answer c, Accepted) b refl refl k.of;
+            evidence = accepted_evidence;
+            pairs = showing whole;
           };
         };
         fits = f;
@@ -173,6 +181,7 @@ module _ (ms : List Member) (m : Member) (past : Past) (b : Book) (c : ClosedPar
         exposure = x;
         audited = audited_are after f.tiles ∙ (sym (audited_are b k.fits.tiles) ∙ (k.audited
             ∙ sym (append-nil (audited ms m past))));
-        sent = subst (λ xs. forwards past ≤ length xs) (sym (found_stays ms m past (Answer c, Accepted) refl)) k.sent;
+        sent = subst (λ xs. forwards past ≤ length xs)
+            (sym (found_stays ms m past (Answer c, Accepted) refl)) k.sent;
         roster = given.roster;
       }

@@ -1,7 +1,7 @@
 -- Any book that fits together and stands for a member's own steps goes on as they do.
 -- Serves: books_go_on.
-use Rattle.std.proofs.Common.{◌≡◌, ◌↔◌, inl, inr, ℕ, Bool, true, false, List, ◌∷◌, filter, flat_map, Some, Ok, refl}
-use Rattle.std.proofs.Common.{sym, ap, ap₂, subst, ◌∙◌}
+use Rattle.std.proofs.Common.{◌≡◌, ◌↔◌, inl, List, ◌∷◌, filter, flat_map, Some, Ok}
+use Rattle.std.proofs.Common.{sym, ap₂, subst, ◌∙◌}
 use Rattle.authenticator.specs.Roster.{member_of}
 use Rattle.authenticator.specs.declared.member.Member.{Member}
 use Rattle.secure_log.specs.Segment.{SegmentParts}
@@ -9,12 +9,12 @@ use Rattle.witness_spec.specs.Events.{Event, IsEvent}
 use Rattle.witness_spec.specs.Replies.{Reply}
 use Rattle.witness_spec.specs.Steps.{Step, Past}
 use Rattle.witness_spec.specs.Whose.{whose}
-use Rattle.witness_spec.specs.Standing.{End, all_accepted}
+use Rattle.witness_spec.specs.Standing.{End}
 use Rattle.witness_spec.specs.Owing.{Owes}
-use Rattle.witness_spec.specs.Histories.{History, own, OwesTo, IsHistory, HoldSame}
+use Rattle.witness_spec.specs.Histories.{History, own, OwesTo, IsHistory, HoldSame, StandsFor}
 use Rattle.witness_laws.proofs.Checked.{checked_event}
 use Rattle.witness_laws.proofs.LeftOut.{taken}
-use Rattle.witness_steps.specs.Books.{Book, is_audited, book_audited}
+use Rattle.witness_steps.specs.Books.{Book, is_audited, book_audited, parts_of}
 use Rattle.witness_steps.specs.Replying.{BookOwes}
 use Rattle.witness_steps.specs.Going.{book_after, book_after_steps}
 use Rattle.witness_steps.specs.Fitting.{FitsTogether, IsBookOf}
@@ -61,7 +61,8 @@ module _ (ms : List Member) (m : Member) (history : History) (b : Book) (is : me
       (own_known ms m history is h) fits of
 
   -- it owes what is owed after the history
-  pub any_owes : (step : Step) (reply : Reply) → Owes ms m (own ms m.node history) step reply ↔ BookOwes b step reply
+  pub any_owes : (step : Step) (reply : Reply)
+      → Owes ms m (own ms m.node history) step reply ↔ BookOwes b step reply
   any_owes step reply = owes_known ms m (own ms m.node history) b any_known step reply
 
   -- it goes on with each event that is the member's step
@@ -92,3 +93,18 @@ module _ (ms : List Member) (m : Member) (history : History) (b : Book) (is : me
           (checked_event ms (record { member = m; step = step }) event w e)
           (done_event (record { member = m; step = step }) ms event w e)
           (subst (Exposure ms m) steps (exposed_or_not ms m ((event, reply) ∷ history) is longer))
+
+  -- its own step makes its own steps longer
+  pub any_stands : (event : Event) (step : Step) (reply : Reply) → IsEvent event
+      → whose ms event ≡ Ok (record { member = m; step = step }) → BookOwes b step reply
+      → Owes ms m (own ms m.node history) step reply
+      × StandsFor ms m ((step, reply) ∷ own ms m.node history) (parts_of (book_after b step reply))
+  any_stands event step reply e w owes =
+      let owed : Owes ms m (own ms m.node history) step reply = (any_owes step reply).1 owes in
+      let steps : own ms m.node ((event, reply) ∷ history) ≡ (step, reply) ∷ own ms m.node history =
+      (taken ms history event reply (record { member = m; step = step }) w
+      (subst (OwesTo ms history event reply) (sym w) owed)).own_step in (
+        owed,
+        subst (λ past. StandsFor ms m past (parts_of (book_after b step reply))) steps
+            (any_goes_on event step reply e w owes).of.stands,
+      )

@@ -1,6 +1,7 @@
 -- The book after a segment with its verdict was filed.
 -- Serves: all laws here.
-use Rattle.std.proofs.Common.{◌≡◌, inl, inr, ℕ, ◌≤◌, Bool, true, false, cond, nat_lt, List, [], ◌∷◌}
+use Rattle.std.proofs.Common.{◌+◌, length, ◌≡◌, inl, inr, ℕ, ◌≤◌, Bool, true, false, cond, nat_lt, List, []}
+use Rattle.std.proofs.Common.{◌∷◌}
 use Rattle.std.proofs.Common.{◌++◌, filter, flat_map, length-append, append-nil, Option, Some, None}
 use Rattle.std.proofs.Common.{refl, sym, ap, ap₂, subst, ◌∙◌, arith}
 use Rattle.std.specs.Prelude.{is_some, option_map, map}
@@ -12,23 +13,31 @@ use Rattle.authenticator.specs.declared.member.Member.{Member}
 use Rattle.secure_log.specs.declared.log_entries.entry.Entry.{Entry}
 use Rattle.secure_log.specs.LogEntries.Chain.{zeros}
 use Rattle.secure_log.specs.Segment.{SegmentParts, segment_pairs}
+use Rattle.state_spec.specs.State.{State}
+use Rattle.replay_spec.specs.Placed.{placed_in}
 use Rattle.replay_spec.specs.Replay.{Verdict, Sound, Fault}
+use Rattle.replay_spec.specs.LogLaws.Laws.{SendsLieBelow}
+use Rattle.replay_spec.proofs.Runs.{is_sound}
+use Rattle.replay_spec.proofs.OfLogLaws.Counts.{lie_below}
 use Rattle.evidence_spec.specs.Showing.{IsAmong}
 use Rattle.evidence_spec.specs.Evidence.{Charge, Replay, EvidenceParts}
 use Rattle.witness_spec.specs.Events.{DoneParts}
 use Rattle.witness_spec.specs.Replies.{Filed}
 use Rattle.witness_spec.specs.Steps.{File, Past}
 use Rattle.witness_spec.specs.Pairs.{pair_of, first_pair}
-use Rattle.witness_spec.specs.Standing.{End, end_of, moved_by, verdict_on, sound_entries, audited, shown, noted_before}
+use Rattle.witness_spec.specs.Standing.{End, end_of, moved_by, verdict_on, sound_entries, audited, shown}
+use Rattle.witness_spec.specs.Standing.{noted_before}
 use Rattle.witness_spec.specs.Standing.{kept, Out, sound_found, all_found, forwards}
 use Rattle.witness_spec.specs.Exposing.{replay_of, evidence}
 use Rattle.witness_spec.specs.Histories.{HoldSame}
 use Rattle.witness_steps.specs.Books.{Book, exposed, exposing_pairs, book_shown, book_audited}
-use Rattle.witness_steps.specs.Going.{evidence_of, first_evidence, verdict_charge, evidence_filed, learned_above}
+use Rattle.witness_steps.specs.Going.{evidence_of, first_evidence, verdict_charge, evidence_filed}
+use Rattle.witness_steps.specs.Going.{learned_above}
 use Rattle.witness_steps.specs.Going.{having_filed, after_file}
 use Rattle.witness_steps.specs.Fitting.{NumbersDiffer, IsOne, IsMore, AgreesAt, FitsTogether}
 use Rattle.witness_steps.proofs.Lists.{filtered, passing, same_filter, on_right}
-use Rattle.witness_steps.proofs.Kept.{differ_filter, showing_of, Shower, AtFirst, Exposing, Learned, Segment, shower}
+use Rattle.witness_steps.proofs.Kept.{differ_filter, showing_of, Shower, AtFirst, Exposing, Learned, Segment}
+use Rattle.witness_steps.proofs.Kept.{shower}
 use Rattle.witness_steps.proofs.Kept.{shows, same_through}
 use Rattle.witness_steps.proofs.Segments.{tile_more, audited_are}
 use Rattle.witness_steps.proofs.Quiet.{Exposure}
@@ -87,13 +96,15 @@ module _ (ms : List Member) (m : Member) (past : Past) (b : Book) (d : DoneParts
   charge_same (Fault fault number) = ap₂ (λ n es. Some (Replay (whole n es))) k.of.node k.audited
     where
       whole : ℕ → List Entry → SegmentParts
-      whole n es = record { node = n; first = 1; opening = zeros; entries = es ++ s.entries; closing = s.closing }
+      whole n es =
+          record { node = n; first = 1; opening = zeros; entries = es ++ s.entries; closing = s.closing }
 
   evidence_same : (v : Verdict) → found_by ≡ v → evidence_filed b s v ≡ evidence ms m ((File d, Filed) ∷ past)
   evidence_same v is =
       first_same ms m past b k.of k.exposure (evidence_of b (verdict_charge b s v)) _
       (ap (λ n. option_map (λ (g : Charge). charged n g) (verdict_charge b s v)) k.of.node
-      ∙ ap (option_map (λ (g : Charge). charged m.node g)) (charge_same v ∙ ap (replay_of ms m past s) (sym is)))
+      ∙ ap (option_map (λ (g : Charge). charged m.node g))
+      (charge_same v ∙ ap (replay_of ms m past s) (sym is)))
 
   -- a replay shows no pair of its own
   shows_none : (v : Verdict) → exposing_pairs (evidence_filed b s v) ≡ exposing_pairs b.evidence
@@ -112,7 +123,8 @@ module _ (ms : List Member) (m : Member) (past : Past) (b : Book) (d : DoneParts
   -- ---- what is shown
 
   fewer : HoldSame
-      (showing_of b.evidence (filter (λ (a : Authenticator). nat_lt s.closing.number a.number) b.learned) b.segments)
+      (showing_of b.evidence
+      (filter (λ (a : Authenticator). nat_lt s.closing.number a.number) b.learned) b.segments)
       (showing_of b.evidence b.learned b.segments)
   fewer p = (
     λ i. shows b.evidence b.learned b.segments p (to (shower b.evidence less b.segments p i)),
@@ -148,7 +160,8 @@ module _ (ms : List Member) (m : Member) (past : Past) (b : Book) (d : DoneParts
       subst (λ ps. HoldSame (first_pair ∷ (ps ++ (map pair_of (learned_above s v b.learned)
       ++ flat_map segment_pairs b.segments))) (shown ms m past)) (sym (shows_none v)) (by v)
     where
-      by : (v : Verdict) → HoldSame (showing_of b.evidence (learned_above s v b.learned) b.segments) (shown ms m past)
+      by : (v : Verdict)
+          → HoldSame (showing_of b.evidence (learned_above s v b.learned) b.segments) (shown ms m past)
       by (Sound t found) =
           same_through
           (showing_of b.evidence (filter (λ (a : Authenticator). nat_lt s.closing.number a.number) b.learned)
@@ -189,13 +202,25 @@ module _ (ms : List Member) (m : Member) (past : Past) (b : Book) (d : DoneParts
       by (Sound t found) =
           subst NumbersDiffer
           (still_above (end_of ms m past).number s.closing.number (noted_before ms m past) low)
-          (differ_filter (λ (a : Authenticator). nat_lt s.closing.number a.number) (kept ms m past) k.kept_differ)
+          (differ_filter (λ (a : Authenticator). nat_lt s.closing.number a.number)
+          (kept ms m past) k.kept_differ)
       by (Fault fault number) = k.kept_differ
 
   -- ---- its parts
 
-  fits : (v : Verdict) → FitsTogether (having_filed b s v)
-  fits (Sound t found) = record {
+  sends : (t : State) (found : List Authenticator) → found_by ≡ Sound t found
+      → SendsLieBelow t (s.closing.number + 1)
+  sends t found is =
+      let r = is_sound ms (end_of ms m past).state (placed_in s) t found is in
+      let below : SendsLieBelow (end_of ms m past).state s.first =
+      subst (SendsLieBelow (end_of ms m past).state) (sym one.follows.first)
+      (subst (λ (e : End). SendsLieBelow e.state (b.end.number + 1)) k.of.stands.end k.fits.sends) in
+      subst (SendsLieBelow t) (sym (k.fits.whole s among).count)
+      (subst (λ x. SendsLieBelow x (s.first + length s.entries)) r.last
+      (lie_below ms (end_of ms m past).state s.first s.opening s.entries r.states below r.honest))
+
+  fits : (v : Verdict) → found_by ≡ v → FitsTogether (having_filed b s v)
+  fits (Sound t found) is = record {
     above = λ a i.
         ltb-true s.closing.number a.number
         (filtered (λ (c : Authenticator). nat_lt s.closing.number c.number) b.learned a i).1;
@@ -210,8 +235,9 @@ module _ (ms : List Member) (m : Member) (past : Past) (b : Book) (d : DoneParts
       rest = inl refl;
     };
     agrees = tt;
+    sends = sends t found is;
   }
-  fits (Fault fault number) = record {
+  fits (Fault fault number) is = record {
     above = k.fits.above;
     differ = k.fits.differ;
     whole = k.fits.whole;
@@ -223,24 +249,26 @@ module _ (ms : List Member) (m : Member) (past : Past) (b : Book) (d : DoneParts
       rest = inr (record { exposed = some_evidence b.evidence _; segment = s; one = one });
     };
     agrees = tt;
+    sends = k.fits.sends;
   }
 
   audited_same : (v : Verdict) → found_by ≡ v
       → book_audited (having_filed b s v) ≡ audited ms m ((File d, Filed) ∷ past)
   unfolding fits
   audited_same v is =
-      audited_are (having_filed b s v) (fits v).tiles
-      ∙ (by v ∙ ap (λ w. audited ms m past ++ sound_entries s.entries w) (sym is))
+      audited_are (having_filed b s v) (fits v is).tiles
+      ∙ (by v is ∙ ap (λ w. audited ms m past ++ sound_entries s.entries w) (sym is))
     where
       old : flat_map (λ (x : SegmentParts). x.entries) k.fits.tiles.audited ≡ audited ms m past
       old = sym (audited_are b k.fits.tiles) ∙ k.audited
 
-      by : (v : Verdict) → flat_map (λ (x : SegmentParts). x.entries) (fits v).tiles.audited
+      by : (v : Verdict) (is : found_by ≡ v)
+          → flat_map (λ (x : SegmentParts). x.entries) (fits v is).tiles.audited
           ≡ audited ms m past ++ sound_entries s.entries v
-      by (Sound t found) =
+      by (Sound t found) is =
           flat_map-append (λ (x : SegmentParts). x.entries) k.fits.tiles.audited (s ∷ [])
           ∙ ap₂ (λ (x y : List Entry). x ++ y) old (append-nil s.entries)
-      by (Fault fault number) = old ∙ sym (append-nil (audited ms m past))
+      by (Fault fault number) is = old ∙ sym (append-nil (audited ms m past))
 
   known_by : (v : Verdict) → found_by ≡ v → Exposure ms m ((File d, Filed) ∷ past)
       → Known ms m ((File d, Filed) ∷ past) (having_filed b s v)
@@ -248,19 +276,19 @@ module _ (ms : List Member) (m : Member) (past : Past) (b : Book) (d : DoneParts
     of = record {
       node = k.of.node;
       stands = record {
-      end = ap₂ (λ (e : End) (w : Verdict). moved_by e s.closing.number w) k.of.stands.end (sym is);
-      stage = refl;
-      begun = k.of.stands.begun;
-      learned = kept_same v is;
-      segments = k.of.stands.segments;
-      challenges = k.of.stands.challenges;
-      outbox = ap₂ (λ (xs ys : List Authenticator). xs ++ ys) k.of.stands.outbox (ap sound_found (sym is))
-          ∙ sym (drop-append-le (forwards past) (all_found ms m past) (sound_found found_by) k.sent);
-      evidence = evidence_same v is;
-      pairs = shown_same v;
+        end = ap₂ (λ (e : End) (w : Verdict). moved_by e s.closing.number w) k.of.stands.end (sym is);
+        stage = refl;
+        begun = k.of.stands.begun;
+        learned = kept_same v is;
+        segments = k.of.stands.segments;
+        challenges = k.of.stands.challenges;
+        outbox = ap₂ (λ (xs ys : List Authenticator). xs ++ ys) k.of.stands.outbox (ap sound_found (sym is))
+            ∙ sym (drop-append-le (forwards past) (all_found ms m past) (sound_found found_by) k.sent);
+        evidence = evidence_same v is;
+        pairs = shown_same v;
       };
     };
-    fits = fits v;
+    fits = fits v is;
     kept_differ = kept_numbers v is;
     exposure = x;
     audited = audited_same v is;

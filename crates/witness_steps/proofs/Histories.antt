@@ -2,20 +2,27 @@
 -- Serves: all laws here.
 use Rattle.std.proofs.Common.{◌≡◌, inl, inr, ℕ, Bool, true, false, cond, ◌==◌, List, [], ◌∷◌, ◌++◌, Option}
 use Rattle.std.proofs.Common.{Some, None, Result, Ok, Err, refl, sym, ap, subst, ◌∙◌, arith, eqb-true, eq-eqb}
-use Rattle.std.specs.Prelude.{◌<◌, IsTrue, nat_lt}
-use Rattle.std.proofs.lemmas.Bool.{and_parts, ltb-true, lt-ltb}
+use Rattle.std.specs.FinMap as finite
+use Rattle.std.specs.Ordering.{nat_cmp}
+use Rattle.std.specs.Prelude.{is_some, ◌<◌, IsTrue, nat_lt}
+use Rattle.std.proofs.lemmas.Bool.{and_parts, ltb-true, lt-ltb, true≢false}
 use Rattle.authenticator.specs.Roster.{member_of, roster_value, rises_above}
+use Rattle.authenticator.specs.declared.member.Kind.{Kind}
+use Rattle.authenticator.specs.declared.member.Kind.TheVariants as kinds
 use Rattle.authenticator.specs.declared.member.Member.{Member}
 use Rattle.authenticator.specs.declared.refusal.Refusal as checks
 use Rattle.packets.specs.Packet.{Delivery}
 use Rattle.packets.specs.Packet as packets
 use Rattle.packets.specs.Judging.{judged}
+use Rattle.replay_spec.specs.Opening.{opening_by}
+use Rattle.replay_spec.specs.LogLaws.Laws.{SendsLieBelow}
 use Rattle.evidence_spec.specs.Showing.{IsAmong}
 use Rattle.witness_spec.specs.Refusals.{Refusal, BadSignature}
 use Rattle.witness_spec.specs.Events.{PublicKey, Event, IsEvent}
 use Rattle.witness_spec.specs.Events as events
 use Rattle.witness_spec.specs.Replies.{Reply, is_want_of_memory}
-use Rattle.witness_spec.specs.Steps.{Step, Learn, SendChallenge, Answer, AckIn, Audit, Begin, File, PutBack, Forward}
+use Rattle.witness_spec.specs.Steps.{Step, Learn, SendChallenge, Answer, AckIn, Audit, Begin, File, PutBack}
+use Rattle.witness_spec.specs.Steps.{Forward}
 use Rattle.witness_spec.specs.Steps.{Ask, OwnStep, Past}
 use Rattle.witness_spec.specs.Whose.{step_of, is_key_of, same_roster, signed_step, sent_step, closed_step}
 use Rattle.witness_spec.specs.Whose.{delivered_step, judged_step, whose}
@@ -47,7 +54,8 @@ module _ (o : OwnStep) where
   by_step (Some m) step done h = same_step m step done h
 
   by_key : (b : Bool) (m : Member) (step : Step) → IsDoneStep step
-      → ◌≡◌ {A = Result OwnStep Refusal} (cond b (Ok (record { member = m; step = step })) (Err BadSignature)) (Ok o)
+      → ◌≡◌ {A = Result OwnStep Refusal} (cond b (Ok (record { member = m; step = step })) (Err BadSignature))
+      (Ok o)
       → IsDoneStep o.step
   by_key true m step done h = same_step m step done h
   by_key false m step done h = absurd (cc)
@@ -63,7 +71,8 @@ module _ (o : OwnStep) where
   by_sent (Some m) None key step done h = absurd (cc)
   by_sent (Some m) (Some n) key step done h = by_key (is_key_of m key) n step done h
 
-  by_closed : (x : Option Member) (same : Bool) (step : Step) → IsDoneStep step → closed_step x same step ≡ Ok o
+  by_closed : (x : Option Member) (same : Bool) (step : Step) → IsDoneStep step
+      → closed_step x same step ≡ Ok o
       → IsDoneStep o.step
   by_closed None same step done h = absurd (cc)
   by_closed (Some m) same step done h = by_key same m step done h
@@ -75,7 +84,8 @@ module _ (o : OwnStep) where
       by_step (member_of ms s.closing.node) (Answer (record { segment = s; roster = ms })) tt h
   by_delivery ms (packets.AckIn a) h = by_step (member_of ms a.by) (AckIn a) tt h
 
-  by_judged : (ms : List Member) (r : Result Delivery checks.Refusal) → judged_step ms r ≡ Ok o → IsDoneStep o.step
+  by_judged : (ms : List Member) (r : Result Delivery checks.Refusal) → judged_step ms r ≡ Ok o
+      → IsDoneStep o.step
   by_judged ms (Ok d) h = by_delivery ms d h
   by_judged ms (Err refusal) h = absurd (cc)
 
@@ -120,20 +130,25 @@ exposure_of : (ms : List Member) (m : Member) (past : Past) → Told ms m past �
 exposure_of ms m past (Without none is audited) = Hidden none is
 exposure_of ms m past (With g some is good) = Open (record { node = m.node; charge = g }) some is
 
-at_first : (ms : List Member) (m : Member) → Known ms m [] (book_opening m)
+no_sends : (kind : Kind) (node : ℕ) → SendsLieBelow (opening_by kind node) 1
+no_sends kinds.Server node = λ k h. absurd (true≢false (sym h ∙ ap is_some (finite.get-empty nat_cmp k)))
+no_sends kinds.Client node = λ k h. absurd (true≢false (sym h ∙ ap is_some (finite.get-empty nat_cmp k)))
+
+-- at first the member's opening book is known
+pub at_first : (ms : List Member) (m : Member) → Known ms m [] (book_opening m)
 at_first ms m = record {
   of = record {
     node = refl;
     stands = record {
-    end = refl;
-    stage = refl;
-    begun = refl;
-    learned = λ a. (λ i. i, λ i. i);
-    segments = λ s. (λ i. i, λ i. i);
-    challenges = refl;
-    outbox = refl;
-    evidence = refl;
-    pairs = λ p. (λ i. i, λ i. i);
+      end = refl;
+      stage = refl;
+      begun = refl;
+      learned = λ a. (λ i. i, λ i. i);
+      segments = λ s. (λ i. i, λ i. i);
+      challenges = refl;
+      outbox = refl;
+      evidence = refl;
+      pairs = λ p. (λ i. i, λ i. i);
     };
   };
   fits = record {
@@ -142,6 +157,7 @@ at_first ms m = record {
     whole = λ s i. absurd i;
     tiles = record { audited = []; more = []; are = refl; tile = refl; rest = inl refl };
     agrees = tt;
+    sends = no_sends m.kind m.node;
   };
   kept_differ = tt;
   exposure = Hidden refl refl;

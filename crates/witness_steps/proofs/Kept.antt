@@ -1,6 +1,7 @@
 -- Learned authenticators whose numbers differ, and what a book shows of them and of its segments.
 -- Serves: all laws here.
-use Rattle.std.proofs.Common.{◌≤◌, length, length-append, arith, ◌≡◌, ◌≢◌, ◌⊎◌, inl, inr, ℕ, Bool, true, false, cond, ◌==◌, List, [], ◌∷◌, ◌++◌, map}
+use Rattle.std.proofs.Common.{◌≤◌, length, length-append, arith, ◌≡◌, ◌≢◌, ◌⊎◌, inl, inr, ℕ, Bool, true}
+use Rattle.std.proofs.Common.{false, cond, ◌==◌, List, [], ◌∷◌, ◌++◌, map}
 use Rattle.std.proofs.Common.{filter, flat_map, Option, Some, None, refl, sym, ap, subst, ◌∙◌}
 use Rattle.std.specs.Prelude.{option_map, option_and_then}
 use Rattle.std.specs.List.{AllByRecursion}
@@ -14,7 +15,8 @@ use Rattle.witness_spec.specs.Histories.{HoldSame}
 use Rattle.witness_steps.specs.Books.{Book, exposing_pairs, book_shown}
 use Rattle.witness_steps.specs.Going.{evidence_of, fork_evidence}
 use Rattle.witness_steps.specs.Fitting.{NumbersDiffer}
-use Rattle.witness_steps.proofs.Lists.{cut, split, on_left, on_right, IsImage, image, mapped, IsWithin, within}
+use Rattle.witness_steps.proofs.Lists.{cut, split, on_left, on_right, IsImage, image, mapped, IsWithin}
+use Rattle.witness_steps.proofs.Lists.{within}
 use Rattle.witness_steps.proofs.Lists.{of_within, filtered}
 
 -- ---- numbers that differ
@@ -25,7 +27,8 @@ all_of P (y ∷ xs) x all (inl e) = subst P (sym e) all.0
 all_of P (y ∷ xs) x all (inr i) = all_of P xs x all.1 i
 
 -- what each of them has, all have
-pub all_by : {A : Type 0} (P : A → Type 0) (xs : List A) → ((x : A) → IsAmong x xs → P x) → AllByRecursion P xs
+pub all_by : {A : Type 0} (P : A → Type 0) (xs : List A) → ((x : A) → IsAmong x xs → P x)
+    → AllByRecursion P xs
 all_by P [] each = tt
 all_by P (x ∷ xs) each = (each x (inl refl), all_by P xs (λ y i. each y (inr i)))
 
@@ -49,7 +52,8 @@ pub differ_filter : (test : Authenticator → Bool) (xs : List Authenticator) �
 differ_filter test [] d = tt
 differ_filter test (x ∷ xs) d = by (test x) (differ_filter test xs d.1)
   where
-    by : (b : Bool) → NumbersDiffer (filter test xs) → NumbersDiffer (cond b (x ∷ filter test xs) (filter test xs))
+    by : (b : Bool) → NumbersDiffer (filter test xs)
+        → NumbersDiffer (cond b (x ∷ filter test xs) (filter test xs))
     by true rest = (
       all_by (λ c. x.number ≢ c.number) (filter test xs)
           (λ c i. all_of (λ y. x.number ≢ y.number) xs c d.0 (filtered test xs c i).0),
@@ -58,7 +62,8 @@ differ_filter test (x ∷ xs) d = by (test x) (differ_filter test xs d.1)
     by false rest = rest
 
 -- two with one number are one
-pub differ_one : (xs : List Authenticator) (x y : Authenticator) → NumbersDiffer xs → IsAmong x xs → IsAmong y xs
+pub differ_one : (xs : List Authenticator) (x y : Authenticator) → NumbersDiffer xs → IsAmong x xs
+    → IsAmong y xs
     → x.number ≡ y.number → x ≡ y
 differ_one [] x y d i j same = absurd i
 differ_one (z ∷ xs) x y d (inl e) (inl f) same = e ∙ sym f
@@ -78,14 +83,17 @@ showing_of e learned segments =
     first_pair ∷ (exposing_pairs e ++ (map pair_of learned ++ flat_map segment_pairs segments))
 
 -- where a pair is shown
-pub data Shower (e : Option EvidenceParts) (learned : List Authenticator) (segments : List SegmentParts) (p : Pair)
+pub data Shower (e : Option EvidenceParts) (learned : List Authenticator) (segments : List SegmentParts)
+    (p : Pair)
     : Type 0 where
   AtFirst : p ≡ first_pair → Shower e learned segments p
   Exposing : IsAmong p (exposing_pairs e) → Shower e learned segments p
   Learned : (a : Authenticator) → IsAmong a learned → p ≡ pair_of a → Shower e learned segments p
-  Segment : (s : SegmentParts) → IsAmong s segments → IsAmong p (segment_pairs s) → Shower e learned segments p
+  Segment : (s : SegmentParts) → IsAmong s segments → IsAmong p (segment_pairs s)
+      → Shower e learned segments p
 
-module _ (e : Option EvidenceParts) (learned : List Authenticator) (segments : List SegmentParts) (p : Pair) where
+module _ (e : Option EvidenceParts) (learned : List Authenticator) (segments : List SegmentParts)
+    (p : Pair) where
   -- where it is
   pub shower : IsAmong p (showing_of e learned segments) → Shower e learned segments p
   shower (inl same) = AtFirst same
@@ -110,7 +118,8 @@ module _ (e : Option EvidenceParts) (learned : List Authenticator) (segments : L
   -- so it is shown
   pub shows : Shower e learned segments p → IsAmong p (showing_of e learned segments)
   shows (AtFirst same) = inl same
-  shows (Exposing i) = inr (on_left p (exposing_pairs e) (map pair_of learned ++ flat_map segment_pairs segments) i)
+  shows (Exposing i) =
+      inr (on_left p (exposing_pairs e) (map pair_of learned ++ flat_map segment_pairs segments) i)
   shows (Learned a i same) =
       inr (on_right p (exposing_pairs e) (map pair_of learned ++ flat_map segment_pairs segments)
       (on_left p (map pair_of learned) (flat_map segment_pairs segments)
@@ -130,7 +139,8 @@ fork_shows b new ps e h = by_number (first_fork ps (book_shown b)) refl
     some_same : {A : Type 0} {x y : A} → ◌≡◌ {A = Option A} (Some x) (Some y) → x ≡ y
     some_same h = cc
 
-    of_charge : (c : Charge) → exposing_pairs (Some (record { node = b.node; charge = c })) ≡ pair_of new.closing ∷ []
+    of_charge : (c : Charge)
+        → exposing_pairs (Some (record { node = b.node; charge = c })) ≡ pair_of new.closing ∷ []
         → evidence_of b (Some c) ≡ Some e → exposing_pairs (Some e) ≡ pair_of new.closing ∷ []
     of_charge c is k = sym (ap (λ (f : EvidenceParts). exposing_pairs (Some f)) (some_same k)) ∙ is
 
@@ -142,7 +152,8 @@ fork_shows b new ps e h = by_number (first_fork ps (book_shown b)) refl
 
     by_zero : (n : ℕ) (z : Bool)
         → evidence_of b (cond z (Some (Fork (record { at = 0; a = new; b = None })))
-        (option_map (λ old. Fork (record { at = n; a = old; b = Some new })) (showing_before b.learned b.segments n)))
+        (option_map (λ old. Fork (record { at = n; a = old; b = Some new }))
+        (showing_before b.learned b.segments n)))
         ≡ Some e
         → exposing_pairs (Some e) ≡ pair_of new.closing ∷ []
     by_zero n true k = of_charge (Fork (record { at = 0; a = new; b = None })) refl k
@@ -155,7 +166,9 @@ fork_shows b new ps e h = by_number (first_fork ps (book_shown b)) refl
 
     by_number : (o : Option ℕ) → first_fork ps (book_shown b) ≡ o
         → exposing_pairs (Some e) ≡ pair_of new.closing ∷ []
-    by_number o is = by_fork o (ap (λ x. evidence_of b (option_and_then (fork_of b.learned b.segments new) x)) (sym is) ∙ h)
+    by_number o is =
+        by_fork o
+        (ap (λ x. evidence_of b (option_and_then (fork_of b.learned b.segments new) x)) (sym is) ∙ h)
 
 -- ---- one shown more
 
@@ -273,7 +286,8 @@ uncut x xs before rest d within a i = by (split a before (x ∷ rest) (within a 
     by (inr (inr j)) = on_right a before rest j
 
 -- those whose numbers differ are no more than those among which they are
-no_more : (xs ys : List Authenticator) → NumbersDiffer xs → ((a : Authenticator) → IsAmong a xs → IsAmong a ys)
+no_more : (xs ys : List Authenticator) → NumbersDiffer xs
+    → ((a : Authenticator) → IsAmong a xs → IsAmong a ys)
     → length xs ≤ length ys
 no_more [] ys d within = omega arith
 no_more (x ∷ xs) ys d within =

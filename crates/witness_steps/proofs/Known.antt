@@ -1,7 +1,7 @@
 -- A book that is known to be that of a member's own steps: its forks are those that are owed.
 -- Serves: all laws here.
 use Rattle.std.proofs.Common.{◌↔◌, ◌≡◌, ℕ, ◌≤◌, true, cond, ◌==◌, ◌&&◌, nat_le, List, []}
-use Rattle.std.proofs.Common.{◌∷◌, find, length, Option, Some, None, refl, sym, ap, ap₂, subst, ◌∙◌, eqb-true}
+use Rattle.std.proofs.Common.{◌∷◌, find, length, Option, Some, None, refl, sym, ap, ap₂, ◌∙◌, eqb-true}
 use Rattle.std.specs.Prelude.{is_some, option_map, option_and_then}
 use Rattle.std.proofs.lemmas.Bool.{and_parts, leb-true}
 use Rattle.authenticator.specs.declared.authenticator.Authenticator.{Authenticator}
@@ -15,7 +15,8 @@ use Rattle.witness_spec.specs.Owing.{Owes}
 use Rattle.witness_steps.specs.Replying.{BookOwes}
 use Rattle.witness_steps.proofs.Replies.{owes_same}
 use Rattle.witness_spec.specs.Pairs.{Pair, differ, first_fork}
-use Rattle.witness_spec.specs.Standing.{shown, is_exposed, kept, all_accepted, Stage, NoAudit, Wanted, Given, Out}
+use Rattle.witness_spec.specs.Standing.{shown, is_exposed, kept, all_accepted, Stage, NoAudit, Wanted, Given}
+use Rattle.witness_spec.specs.Standing.{Out}
 use Rattle.witness_spec.specs.Standing.{stage_of, audited, all_found, forwards}
 use Rattle.witness_spec.specs.Exposing.{segment_holding, or_segment, fork_of, new_fork, evidence}
 use Rattle.witness_spec.specs.Histories.{HoldSame}
@@ -89,7 +90,8 @@ module _ (ms : List Member) (m : Member) (past : Past) (b : Book) where
       → segment_holding n b.segments ≡ segment_holding n (all_accepted past)
   found_segment of fits n =
       let t = tiled b fits.tiles in
-      find_same (λ (s : SegmentParts). nat_le s.first n && nat_le n s.closing.number) b.segments (all_accepted past)
+      find_same (λ (s : SegmentParts). nat_le s.first n && nat_le n s.closing.number) b.segments
+      (all_accepted past)
       of.stands.segments
       (λ x y i j e f. tile_one 1 b.segments t.next n t.tile x y i j (bounds x e) (bounds y f))
     where

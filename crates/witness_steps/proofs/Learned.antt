@@ -1,7 +1,9 @@
 -- The book after an authenticator that was learned.
 -- Serves: all laws here.
-use Rattle.std.proofs.Common.{◌==◌, eq-eqb, ◌≡◌, ◌≢◌, ◌⊎◌, inl, inr, ℕ, ◌+◌, ◌<◌, ◌≤◌, Bool, true, false, cond, nat_lt}
-use Rattle.std.proofs.Common.{List, [], ◌∷◌, ◌++◌, filter, length, append-nil, Option, Some, None, refl, sym, ap, ap₂, subst, ◌∙◌, arith}
+use Rattle.std.proofs.Common.{◌==◌, eq-eqb, ◌≡◌, ◌≢◌, ◌⊎◌, inl, inr, ℕ, ◌+◌, ◌<◌, ◌≤◌, Bool, true, false}
+use Rattle.std.proofs.Common.{cond, nat_lt}
+use Rattle.std.proofs.Common.{List, [], ◌∷◌, ◌++◌, filter, length, append-nil, Option, Some, None, refl, sym}
+use Rattle.std.proofs.Common.{ap, ap₂, subst, ◌∙◌, arith}
 use Rattle.std.specs.Prelude.{is_some}
 use Rattle.std.proofs.lemmas.Bool.{and_from, true≢false, ltb-true, ltb-false, lt-ltb}
 use Rattle.authenticator.specs.declared.authenticator.Authenticator.{Authenticator}
@@ -14,12 +16,14 @@ use Rattle.evidence_spec.specs.Evidence.{EvidenceParts}
 use Rattle.witness_spec.specs.Replies.{Noted}
 use Rattle.witness_spec.specs.Steps.{Learn, Past}
 use Rattle.witness_spec.specs.Pairs.{pair_of, first_pair, same_pair, is_shown}
-use Rattle.witness_spec.specs.Standing.{End, end_of, pairs_noted, shown, is_exposed, unless_exposed, noted_before, kept}
+use Rattle.witness_spec.specs.Standing.{End, end_of, pairs_noted, shown, is_exposed, unless_exposed}
+use Rattle.witness_spec.specs.Standing.{noted_before, kept}
 use Rattle.witness_spec.specs.Standing.{Stage, NoAudit, Wanted, Given, Out, audited, forwards}
 use Rattle.witness_spec.specs.Exposing.{evidence}
 use Rattle.witness_spec.specs.Histories.{HoldSame}
 use Rattle.witness_steps.specs.Books.{Book, exposed, book_shown}
-use Rattle.witness_steps.specs.Going.{first_evidence, learned_unless, fork_evidence, evidence_noted, after_learn}
+use Rattle.witness_steps.specs.Going.{first_evidence, learned_unless, fork_evidence, evidence_noted}
+use Rattle.witness_steps.specs.Going.{after_learn}
 use Rattle.witness_steps.specs.Fitting.{FitsTogether, IsMore, AreTiles, AgreesAt}
 use Rattle.witness_steps.specs.Fitting.{NumbersDiffer}
 use Rattle.witness_laws.proofs.OfEvidence.Before.{one_shown}
@@ -78,7 +82,9 @@ module _ (b : Book) (a : Authenticator) (fits : FitsTogether b) (is : IsNew b a)
   new_agrees (Out c) e old = λ x i le. by x le (split x b.learned (a ∷ []) i)
     where
       there : IsAmong c.segment b.segments × (c.segment.first ≡ b.end.number + 1)
-      there = by_rest fits.tiles (subst (λ t. IsMore b.end.number (exposed b) t fits.tiles.more) (sym e) fits.tiles.rest)
+      there =
+          by_rest fits.tiles
+          (subst (λ t. IsMore b.end.number (exposed b) t fits.tiles.more) (sym e) fits.tiles.rest)
         where
           by_rest : (t : AreTiles b) → IsMore b.end.number (exposed b) (Out c) t.more
               → IsAmong c.segment b.segments × (c.segment.first ≡ b.end.number + 1)
@@ -118,6 +124,7 @@ module _ (b : Book) (a : Authenticator) (fits : FitsTogether b) where
       rest = more_exposed b.end.number (exposed b) (is_some e) b.stage fits.tiles.more then fits.tiles.rest;
     };
     agrees = subst (AgreesAt b.stage) (sym same) fits.agrees;
+    sends = fits.sends;
   }
 
   -- where a new one is kept
@@ -135,11 +142,13 @@ module _ (b : Book) (a : Authenticator) (fits : FitsTogether b) where
       rest = subst (λ o. IsMore b.end.number (is_some o) b.stage fits.tiles.more) (sym none) fits.tiles.rest;
     };
     agrees = subst (AgreesAt b.stage) (sym same) (new_agrees b a fits is b.stage refl fits.agrees);
+    sends = fits.sends;
   }
     where
       above : (x : Authenticator) → IsAmong x b.learned ⊎ IsAmong x (a ∷ []) → b.end.number < x.number
       above x (inl i) = fits.above x i
-      above x (inr (inl e)) = subst (λ (y : Authenticator). b.end.number < y.number) (sym e) (new_above b a fits is)
+      above x (inr (inl e)) =
+          subst (λ (y : Authenticator). b.end.number < y.number) (sym e) (new_above b a fits is)
       above x (inr (inr i)) = absurd i
 
       other : (c : Authenticator) → IsAmong c b.learned → c.number ≢ a.number
@@ -150,7 +159,8 @@ module _ (b : Book) (a : Authenticator) (fits : FitsTogether b) where
 
 -- ---- what is known after it
 
-module _ (ms : List Member) (m : Member) (past : Past) (b : Book) (a : Authenticator) (k : Known ms m past b) where
+module _ (ms : List Member) (m : Member) (past : Past) (b : Book) (a : Authenticator)
+    (k : Known ms m past b) where
   -- the evidence after it
   noted_evidence : evidence_noted b a ≡ evidence ms m ((Learn a, Noted) ∷ past)
   noted_evidence =
@@ -167,20 +177,21 @@ module _ (ms : List Member) (m : Member) (past : Past) (b : Book) (a : Authentic
   known_by : HoldSame l (kept ms m ((Learn a, Noted) ∷ past))
       → NumbersDiffer (kept ms m ((Learn a, Noted) ∷ past))
       → HoldSame (book_shown after) (shown ms m ((Learn a, Noted) ∷ past))
-      → FitsTogether after → Exposure ms m ((Learn a, Noted) ∷ past) → Known ms m ((Learn a, Noted) ∷ past) after
+      → FitsTogether after → Exposure ms m ((Learn a, Noted) ∷ past)
+      → Known ms m ((Learn a, Noted) ∷ past) after
   known_by keeps differ showing fits x = record {
     of = record {
       node = k.of.node;
       stands = record {
-      end = k.of.stands.end;
-      stage = k.of.stands.stage;
-      begun = k.of.stands.begun;
-      learned = keeps;
-      segments = k.of.stands.segments;
-      challenges = k.of.stands.challenges;
-      outbox = unsent ms m past (Learn a, Noted) b refl refl k.of;
-      evidence = noted_evidence;
-      pairs = showing;
+        end = k.of.stands.end;
+        stage = k.of.stands.stage;
+        begun = k.of.stands.begun;
+        learned = keeps;
+        segments = k.of.stands.segments;
+        challenges = k.of.stands.challenges;
+        outbox = unsent ms m past (Learn a, Noted) b refl refl k.of;
+        evidence = noted_evidence;
+        pairs = showing;
       };
     };
     fits = fits;
@@ -236,7 +247,8 @@ module _ (ms : List Member) (m : Member) (past : Past) (b : Book) (a : Authentic
       still : Exposure ms m ((Learn a, Noted) ∷ past) → is_exposed ms m ((Learn a, Noted) ∷ past) ≡ true
       still (Open f more is) = is
       still (Hidden none is) =
-          let no : ◌≡◌ {A = Option EvidenceParts} (Some e) None = sym now ∙ (noted_evidence ∙ none) in absurd (cc)
+          let no : ◌≡◌ {A = Option EvidenceParts} (Some e) None = sym now ∙ (noted_evidence ∙ none) in
+          absurd (cc)
 
   -- it exposes the node
   exposes : (e : EvidenceParts) → b.evidence ≡ None → is_exposed ms m past ≡ false
@@ -334,4 +346,5 @@ module _ (ms : List Member) (m : Member) (past : Past) (b : Book) (a : Authentic
           → Known ms m ((Learn a, Noted) ∷ past) (after_learn b a Noted)
       by (Open e some is) y = was_exposed e (k.of.stands.evidence ∙ some) is y
       by (Hidden none is) (Open e some now) = exposes e (k.of.stands.evidence ∙ none) is some now
-      by (Hidden none is) (Hidden gone now) = stays_hidden (k.of.stands.evidence ∙ none) is gone now (unshown is)
+      by (Hidden none is) (Hidden gone now) =
+          stays_hidden (k.of.stands.evidence ∙ none) is gone now (unshown is)

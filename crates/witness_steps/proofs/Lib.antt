@@ -11,3 +11,5 @@ pub mod Steps
 pub mod Histories
 pub mod Standing
 pub mod AnyBook
+pub mod LookUps
+pub mod AllBooks

@@ -1,8 +1,8 @@
 -- Lists: what is among them, what is found in them, and lists the other way round.
 -- Serves: all laws here.
-use Rattle.std.proofs.Common.{◌≡◌, ◌⊎◌, ◌↔◌, inl, inr, ℕ, ◌≤◌, Bool, true, false, cond, nat_le, max, List, [], ◌∷◌}
-use Rattle.std.proofs.Common.{◌++◌, map, filter, find, length, flat_map, fold, Option, Some, None, refl, sym, ap}
-use Rattle.std.proofs.Common.{subst, ◌∙◌, arith, length-append, append-nil}
+use Rattle.std.proofs.Common.{◌≡◌, ◌⊎◌, inl, inr, ℕ, ◌≤◌, Bool, true, false, cond, nat_le, max, List, [], ◌∷◌}
+use Rattle.std.proofs.Common.{◌++◌, map, filter, find, flat_map, fold, Option, Some, None, refl, sym, ap}
+use Rattle.std.proofs.Common.{subst, ◌∙◌, arith}
 use Rattle.std.specs.List.{list_any}
 use Rattle.std.proofs.Math.Nat.{le-max_left, le-max_right, max-le}
 use Rattle.std.proofs.lemmas.Bool.{or_cases, or_left, or_right, true≢false, leb-true, leb-false}

@@ -21,7 +21,8 @@ use Rattle.witness_spec.specs.Standing.{segment_of, all_accepted, stage_after, s
 use Rattle.witness_spec.specs.Standing.{open_challenges, found_filed, all_found, forwards, outbox}
 use Rattle.witness_spec.specs.Exposing.{charge_of, evidence}
 use Rattle.witness_steps.specs.Books.{Book, book_shown}
-use Rattle.witness_steps.specs.Going.{after_send_challenge, after_ack, after_audit, after_begin, after_put_back}
+use Rattle.witness_steps.specs.Going.{after_send_challenge, after_ack, after_audit, after_begin}
+use Rattle.witness_steps.specs.Going.{after_put_back}
 use Rattle.witness_steps.specs.Going.{after_forward}
 use Rattle.witness_steps.specs.Fitting.{IsBookOf}
 
@@ -33,12 +34,19 @@ pub data Exposure (ms : List Member) (m : Member) (past : Past) : Type 0 where
 
 -- what a step didn't do
 pub record DoesNothing (past : Past) (p : Step × Reply) : Type 0 where
+  -- it noted nothing
   pub notes : noted p.0 p.1 ≡ None
+  -- it accepted nothing
   pub accepts : accepted p.0 p.1 ≡ None
+  -- it filed nothing
   pub files : filed p.0 p.1 ≡ None
+  -- it began no job
   pub begins : begun p.0 p.1 ≡ None
+  -- it forwarded nothing
   pub forwards : forwarded p.0 p.1 ≡ None
+  -- the audit stays
   pub stage : stage_after (stage_of past) p.0 p.1 ≡ stage_of past
+  -- so do the challenges
   pub challenges : open_after (open_challenges past) p.0 p.1 ≡ open_challenges past
 
 module _ (ms : List Member) (m : Member) (past : Past) where
@@ -55,14 +63,16 @@ module _ (ms : List Member) (m : Member) (past : Past) where
   evidence_stays p x n a f =
       stays (evidence ms m (p ∷ past)) x
       (ap (λ o. cond (is_exposed ms m past) (evidence ms m past) (option_map
-      (λ g. record { node = m.node; charge = g }) (charge_of ms m past o (accepted p.0 p.1) (filed p.0 p.1)))) n
+      (λ g. record { node = m.node; charge = g })
+      (charge_of ms m past o (accepted p.0 p.1) (filed p.0 p.1)))) n
       ∙ (ap (λ o. cond (is_exposed ms m past) (evidence ms m past) (option_map
       (λ g. record { node = m.node; charge = g }) (charge_of ms m past None o (filed p.0 p.1)))) a
       ∙ ap (λ o. cond (is_exposed ms m past) (evidence ms m past) (option_map
       (λ g. record { node = m.node; charge = g }) (charge_of ms m past None None o))) f))
 
   -- a step that files nothing leaves what was found
-  pub found_stays : (p : Step × Reply) → filed p.0 p.1 ≡ None → all_found ms m (p ∷ past) ≡ all_found ms m past
+  pub found_stays : (p : Step × Reply) → filed p.0 p.1 ≡ None
+      → all_found ms m (p ∷ past) ≡ all_found ms m past
   found_stays p f =
       ap (λ o. all_found ms m past ++ found_filed ms (end_of ms m past).state o) f
       ∙ append-nil (all_found ms m past)
@@ -97,15 +107,16 @@ module _ (ms : List Member) (m : Member) (past : Past) where
       record {
         node = of.node;
         stands = record {
-        end = of.stands.end ∙ sym end;
-        stage = of.stands.stage ∙ sym did.stage;
-        begun = of.stands.begun ∙ sym count;
-        learned = subst (λ l. HoldSame b.learned l) (sym keeps) of.stands.learned;
-        segments = subst (λ l. HoldSame b.segments l) (sym all) of.stands.segments;
-        challenges = of.stands.challenges ∙ sym did.challenges;
-        outbox = of.stands.outbox ∙ sym (ap₂ (λ n (xs : List Authenticator). drop n xs) sent (found_stays p did.files));
-        evidence = of.stands.evidence ∙ sym (evidence_stays p x did.notes did.accepts did.files);
-        pairs = subst (λ ps. HoldSame (book_shown b) ps) (sym showing) of.stands.pairs;
+          end = of.stands.end ∙ sym end;
+          stage = of.stands.stage ∙ sym did.stage;
+          begun = of.stands.begun ∙ sym count;
+          learned = subst (λ l. HoldSame b.learned l) (sym keeps) of.stands.learned;
+          segments = subst (λ l. HoldSame b.segments l) (sym all) of.stands.segments;
+          challenges = of.stands.challenges ∙ sym did.challenges;
+          outbox = of.stands.outbox
+              ∙ sym (ap₂ (λ n (xs : List Authenticator). drop n xs) sent (found_stays p did.files));
+          evidence = of.stands.evidence ∙ sym (evidence_stays p x did.notes did.accepts did.files);
+          pairs = subst (λ ps. HoldSame (book_shown b) ps) (sym showing) of.stands.pairs;
         };
       }
 
@@ -123,15 +134,15 @@ module _ (ms : List Member) (m : Member) (past : Past) where
   having_challenged e Opened b x of = record {
     node = of.node;
     stands = record {
-    end = of.stands.end;
-    stage = of.stands.stage;
-    begun = of.stands.begun;
-    learned = of.stands.learned;
-    segments = of.stands.segments;
-    challenges = ap (λ xs. open_after xs (SendChallenge e) Opened) of.stands.challenges;
-    outbox = unsent (SendChallenge e, Opened) b refl refl of;
-    evidence = of.stands.evidence ∙ sym (evidence_stays (SendChallenge e, Opened) x refl refl refl);
-    pairs = of.stands.pairs;
+      end = of.stands.end;
+      stage = of.stands.stage;
+      begun = of.stands.begun;
+      learned = of.stands.learned;
+      segments = of.stands.segments;
+      challenges = ap (λ xs. open_after xs (SendChallenge e) Opened) of.stands.challenges;
+      outbox = unsent (SendChallenge e, Opened) b refl refl of;
+      evidence = of.stands.evidence ∙ sym (evidence_stays (SendChallenge e, Opened) x refl refl refl);
+      pairs = of.stands.pairs;
     };
   }
   having_challenged e r b x of =
@@ -151,15 +162,15 @@ module _ (ms : List Member) (m : Member) (past : Past) where
   having_acked a Closed b x of = record {
     node = of.node;
     stands = record {
-    end = of.stands.end;
-    stage = of.stands.stage;
-    begun = of.stands.begun;
-    learned = of.stands.learned;
-    segments = of.stands.segments;
-    challenges = ap (λ xs. open_after xs (AckIn a) Closed) of.stands.challenges;
-    outbox = unsent (AckIn a, Closed) b refl refl of;
-    evidence = of.stands.evidence ∙ sym (evidence_stays (AckIn a, Closed) x refl refl refl);
-    pairs = of.stands.pairs;
+      end = of.stands.end;
+      stage = of.stands.stage;
+      begun = of.stands.begun;
+      learned = of.stands.learned;
+      segments = of.stands.segments;
+      challenges = ap (λ xs. open_after xs (AckIn a) Closed) of.stands.challenges;
+      outbox = unsent (AckIn a, Closed) b refl refl of;
+      evidence = of.stands.evidence ∙ sym (evidence_stays (AckIn a, Closed) x refl refl refl);
+      pairs = of.stands.pairs;
     };
   }
   having_acked a r b x of =
@@ -181,15 +192,15 @@ module _ (ms : List Member) (m : Member) (past : Past) where
   having_asked (Asked first last) b x of = record {
     node = of.node;
     stands = record {
-    end = of.stands.end;
-    stage = refl;
-    begun = of.stands.begun;
-    learned = of.stands.learned;
-    segments = of.stands.segments;
-    challenges = ap (λ xs. open_after xs Audit (Asked first last)) of.stands.challenges;
-    outbox = unsent (Audit, Asked first last) b refl refl of;
-    evidence = of.stands.evidence ∙ sym (evidence_stays (Audit, Asked first last) x refl refl refl);
-    pairs = of.stands.pairs;
+      end = of.stands.end;
+      stage = refl;
+      begun = of.stands.begun;
+      learned = of.stands.learned;
+      segments = of.stands.segments;
+      challenges = ap (λ xs. open_after xs Audit (Asked first last)) of.stands.challenges;
+      outbox = unsent (Audit, Asked first last) b refl refl of;
+      evidence = of.stands.evidence ∙ sym (evidence_stays (Audit, Asked first last) x refl refl refl);
+      pairs = of.stands.pairs;
     };
   }
   having_asked r b x of =
@@ -209,16 +220,16 @@ module _ (ms : List Member) (m : Member) (past : Past) where
   having_begun (Job j) b x of = record {
     node = of.node;
     stands = record {
-    end = of.stands.end;
-    stage = refl;
-    begun = ap (λ n. n + 1) of.stands.begun
-        ∙ omega (arith, sum_by_from (λ (q : Step × Reply). cond (is_some (begun q.0 q.1)) 1 0) 1 past);
-    learned = of.stands.learned;
-    segments = of.stands.segments;
-    challenges = of.stands.challenges;
-    outbox = unsent (Begin, Job j) b refl refl of;
-    evidence = of.stands.evidence ∙ sym (evidence_stays (Begin, Job j) x refl refl refl);
-    pairs = of.stands.pairs;
+      end = of.stands.end;
+      stage = refl;
+      begun = ap (λ n. n + 1) of.stands.begun
+          ∙ omega (arith, sum_by_from (λ (q : Step × Reply). cond (is_some (begun q.0 q.1)) 1 0) 1 past);
+      learned = of.stands.learned;
+      segments = of.stands.segments;
+      challenges = of.stands.challenges;
+      outbox = unsent (Begin, Job j) b refl refl of;
+      evidence = of.stands.evidence ∙ sym (evidence_stays (Begin, Job j) x refl refl refl);
+      pairs = of.stands.pairs;
     };
   }
   having_begun r b x of =
@@ -238,15 +249,15 @@ module _ (ms : List Member) (m : Member) (past : Past) where
   having_put_back j Returned b x of = record {
     node = of.node;
     stands = record {
-    end = of.stands.end;
-    stage = refl;
-    begun = of.stands.begun;
-    learned = of.stands.learned;
-    segments = of.stands.segments;
-    challenges = of.stands.challenges;
-    outbox = unsent (PutBack j, Returned) b refl refl of;
-    evidence = of.stands.evidence ∙ sym (evidence_stays (PutBack j, Returned) x refl refl refl);
-    pairs = of.stands.pairs;
+      end = of.stands.end;
+      stage = refl;
+      begun = of.stands.begun;
+      learned = of.stands.learned;
+      segments = of.stands.segments;
+      challenges = of.stands.challenges;
+      outbox = unsent (PutBack j, Returned) b refl refl of;
+      evidence = of.stands.evidence ∙ sym (evidence_stays (PutBack j, Returned) x refl refl refl);
+      pairs = of.stands.pairs;
     };
   }
   having_put_back j r b x of =
@@ -268,19 +279,19 @@ module _ (ms : List Member) (m : Member) (past : Past) where
   having_forwarded (Forwarded a) b x of = record {
     node = of.node;
     stands = record {
-    end = of.stands.end;
-    stage = of.stands.stage;
-    begun = of.stands.begun;
-    learned = of.stands.learned;
-    segments = of.stands.segments;
-    challenges = of.stands.challenges;
-    outbox = ap (λ (xs : List Authenticator). drop 1 xs) of.stands.outbox
-        ∙ (drop-drop 1 (forwards past) (all_found ms m past)
-        ∙ ap₂ (λ n (xs : List Authenticator). drop n xs)
-        (omega (arith, sum_by_from (λ (q : Step × Reply). cond (is_some (forwarded q.0 q.1)) 1 0) 1 past))
-        (sym (found_stays (Forward, Forwarded a) refl)));
-    evidence = of.stands.evidence ∙ sym (evidence_stays (Forward, Forwarded a) x refl refl refl);
-    pairs = of.stands.pairs;
+      end = of.stands.end;
+      stage = of.stands.stage;
+      begun = of.stands.begun;
+      learned = of.stands.learned;
+      segments = of.stands.segments;
+      challenges = of.stands.challenges;
+      outbox = ap (λ (xs : List Authenticator). drop 1 xs) of.stands.outbox
+          ∙ (drop-drop 1 (forwards past) (all_found ms m past)
+          ∙ ap₂ (λ n (xs : List Authenticator). drop n xs)
+          (omega (arith, sum_by_from (λ (q : Step × Reply). cond (is_some (forwarded q.0 q.1)) 1 0) 1 past))
+          (sym (found_stays (Forward, Forwarded a) refl)));
+      evidence = of.stands.evidence ∙ sym (evidence_stays (Forward, Forwarded a) x refl refl refl);
+      pairs = of.stands.pairs;
     };
   }
   having_forwarded r b x of =

@@ -9,13 +9,15 @@ use Rattle.secure_log.specs.Segment.{ClosedParts}
 use Rattle.envelopes.specs.Acknowledgement.{acked_message}
 use Rattle.witness_spec.specs.Refusals.{LearnedFull, NothingToAudit, NoJob, WrongJob}
 use Rattle.witness_spec.specs.Events.{JobParts, Question, ItsIndication, ItsChallenges, ItsEvidence}
-use Rattle.witness_spec.specs.Replies.{Reply, Noted, Already, Job, Filed, Returned, Told, OpenList, EvidenceIs}
+use Rattle.witness_spec.specs.Replies.{Reply, Noted, Already, Job, Filed, Returned, Told, OpenList}
+use Rattle.witness_spec.specs.Replies.{EvidenceIs}
 use Rattle.witness_spec.specs.Replies.{Refused, FileRefused, PutBackRefused, Exposed}
 use Rattle.witness_spec.specs.Steps.{Step, Learn, SendChallenge, Answer, AckIn, Audit, Begin, File, PutBack}
 use Rattle.witness_spec.specs.Steps.{Forward, Ask, Past}
 use Rattle.witness_spec.specs.Limits.{MAX_LEARNED, MAX_ASKED}
 use Rattle.witness_spec.specs.Pairs.{pair_of, same_pair, differ, is_shown, is_fork}
-use Rattle.witness_spec.specs.Standing.{End, Stage, NoAudit, Wanted, Given, Out, end_of, shown, is_exposed, kept}
+use Rattle.witness_spec.specs.Standing.{End, Stage, NoAudit, Wanted, Given, Out, end_of, shown, is_exposed}
+use Rattle.witness_spec.specs.Standing.{kept}
 use Rattle.witness_spec.specs.Standing.{stage_of, begins, out_at, open_challenges, without_evidence, outbox}
 use Rattle.witness_spec.specs.Owing as owing
 use Rattle.witness_spec.specs.Owing.{Owes, ask_reply, ask_up_to, last_in_reach, answer_reply, back_reply}
@@ -72,13 +74,16 @@ module _ (ms : List Member) (m : Member) (past : Past) (b : Book) (of : IsBookOf
       ∙ ap (λ x. cond (exposed b) Noted (cond (is_shown (pair_of a) (book_shown b)) Already
       (cond x (Refused LearnedFull) Noted))) room)
 
-  asks : ask_reply (is_exposed ms m past) (end_of ms m past).number (length (outbox ms m past)) (kept ms m past)
+  asks : ask_reply (is_exposed ms m past) (end_of ms m past).number (length (outbox ms m past))
+      (kept ms m past)
       ≡ ask_reply (exposed b) b.end.number (length b.outbox) b.learned
   asks =
       sym (ask_same (exposed b) b.end.number (length b.outbox) b.learned (kept ms m past) of.stands.learned
       ∙ (ap (λ x. ask_reply x b.end.number (length b.outbox) (kept ms m past)) is
-      ∙ (ap (λ (e : End). ask_reply (is_exposed ms m past) e.number (length b.outbox) (kept ms m past)) of.stands.end
-      ∙ ap (λ (xs : List Authenticator). ask_reply (is_exposed ms m past) (end_of ms m past).number (length xs)
+      ∙ (ap (λ (e : End). ask_reply (is_exposed ms m past) e.number (length b.outbox)
+      (kept ms m past)) of.stands.end
+      ∙ ap (λ (xs : List Authenticator). ask_reply (is_exposed ms m past) (end_of ms m past).number
+      (length xs)
       (kept ms m past)) of.stands.outbox)))
 
   audits : (s : Stage) → owing.audit_reply ms m past s ≡ reply_to_audit b s

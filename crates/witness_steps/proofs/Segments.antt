@@ -1,7 +1,9 @@
 -- Places in segments, and segments that follow on one another.
 -- Serves: all laws here.
-use Rattle.std.proofs.Common.{◌≡◌, ◌⊎◌, inl, inr, ℕ, ◌+◌, ◌-◌, ◌<◌, ◌≤◌, Bool, true, false, cond, nat_lt, nat_le}
-use Rattle.std.proofs.Common.{List, [], ◌∷◌, ◌++◌, length, filter, flat_map, refl, sym, ap, ap₂, subst, ◌∙◌, arith}
+use Rattle.std.proofs.Common.{◌≡◌, ◌⊎◌, inl, inr, ℕ, ◌+◌, ◌-◌, ◌<◌, ◌≤◌, Bool, true, false, cond, nat_lt}
+use Rattle.std.proofs.Common.{nat_le}
+use Rattle.std.proofs.Common.{List, [], ◌∷◌, ◌++◌, length, filter, flat_map, refl, sym, ap, ap₂, subst, ◌∙◌}
+use Rattle.std.proofs.Common.{arith}
 use Rattle.std.proofs.Common.{append-nil}
 use Rattle.std.proofs.lemmas.Bool.{ltb-true, ltb-false, le-leb, leb-true}
 use Rattle.std.proofs.lemmas.List.Elements.{filter-append}
@@ -163,12 +165,16 @@ all_tiled end x s done more t rest = by s rest
   where
     none : more ≡ [] → IsTiled (done ++ more)
     none e =
-        record { next = end + 1; tile = subst (λ l. Tile 1 l (end + 1)) (sym (ap (λ l. done ++ l) e ∙ append-nil done)) t }
+        record {
+          next = end + 1;
+          tile = subst (λ l. Tile 1 l (end + 1)) (sym (ap (λ l. done ++ l) e ∙ append-nil done)) t;
+        }
 
     one : (c : SegmentParts) → IsOne end c more → IsTiled (done ++ more)
     one c o = record {
       next = c.closing.number + 1;
-      tile = subst (λ l. Tile 1 (done ++ l) (c.closing.number + 1)) (sym o.is) (tile_more 1 done end c t o.follows);
+      tile = subst (λ l. Tile 1 (done ++ l) (c.closing.number + 1)) (sym o.is)
+          (tile_more 1 done end c t o.follows);
     }
 
     by : (s : Stage) → IsMore end x s more → IsTiled (done ++ more)
@@ -220,7 +226,8 @@ past_end end x s more rest = by s rest
     one : (c : SegmentParts) → IsOne end c more → filter (λ s. is_audited end s) more ≡ []
     one c o =
         ap (λ l. filter (λ s. is_audited end s) l) o.is
-        ∙ ap (λ b. cond b (c ∷ []) []) (not_le c.closing.number (nat_le c.closing.number end) refl o.follows.some)
+        ∙ ap (λ b. cond b (c ∷ []) [])
+        (not_le c.closing.number (nat_le c.closing.number end) refl o.follows.some)
 
     by : (s : Stage) → IsMore end x s more → filter (λ s. is_audited end s) more ≡ []
     by NoAudit (inl e) = none e
@@ -230,7 +237,8 @@ past_end end x s more rest = by s rest
     by (Out c) r = one c.segment r
 
 -- a book's audited entries are those of its audited segments
-pub audited_are : (b : Book) (t : AreTiles b) → book_audited b ≡ flat_map (λ (s : SegmentParts). s.entries) t.audited
+pub audited_are : (b : Book) (t : AreTiles b)
+    → book_audited b ≡ flat_map (λ (s : SegmentParts). s.entries) t.audited
 audited_are b t =
     let test = λ (s : SegmentParts). is_audited b.end.number s in
     ap (λ l. flat_map (λ (s : SegmentParts). s.entries) (filter test l)) t.are
@@ -280,4 +288,7 @@ tiles_same first (x ∷ xs) (y ∷ ys) n k t u same =
     let both : HoldSame (x ∷ xs) (x ∷ ys) = subst (λ z. HoldSame (x ∷ xs) (z ∷ ys)) is same in
     ap₂ (λ (z : SegmentParts) (zs : List SegmentParts). z ∷ zs) (sym is)
     (tiles_same (x.closing.number + 1) xs ys n k t.2 v.2
-    (λ s. (rest_within first x xs ys n t (λ z. (both z).0) s, rest_within first x ys xs k v (λ z. (both z).1) s)))
+    (λ s. (
+      rest_within first x xs ys n t (λ z. (both z).0) s,
+      rest_within first x ys xs k v (λ z. (both z).1) s,
+    )))

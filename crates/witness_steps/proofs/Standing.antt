@@ -1,16 +1,15 @@
 -- The books of all members stand for a history, and each tells the indication.
 -- Serves: books_reply_what_is_owed, books_stand.
-use Rattle.std.proofs.Common.{◌≡◌, inl, inr, cond, List, [], ◌∷◌, map, Some, refl, sym, ap, subst, ◌∙◌}
+use Rattle.std.proofs.Common.{◌≡◌, inl, inr, cond, List, [], ◌∷◌, map, Some, refl, ap, ◌∙◌}
 use Rattle.authenticator.specs.Roster.{IsRoster, member_of}
 use Rattle.authenticator.specs.declared.member.Member.{Member}
 use Rattle.evidence_spec.specs.Showing.{IsAmong}
 use Rattle.witness_spec.specs.Replies.{Exposed}
 use Rattle.witness_spec.specs.Steps.{Past}
-use Rattle.witness_spec.specs.Standing.{is_exposed, without_evidence, indication, kept, all_accepted}
-use Rattle.witness_spec.specs.Histories.{History, own, IsHistory, HoldSame, StandsFor, StandEach, Stands}
+use Rattle.witness_spec.specs.Standing.{is_exposed, without_evidence, indication}
+use Rattle.witness_spec.specs.Histories.{History, own, IsHistory, StandEach, Stands}
 use Rattle.witness_steps.specs.Books.{Book, book_indication, parts_of}
 use Rattle.witness_steps.specs.Going.{book_after_steps}
-use Rattle.witness_steps.specs.Fitting.{IsBookOf}
 use Rattle.witness_steps.proofs.Known.{Known, exposed_same}
 use Rattle.witness_steps.proofs.Histories.{own_known, its_member}
 

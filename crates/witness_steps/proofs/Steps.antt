@@ -1,7 +1,9 @@
 -- What is known of a book stays known after each step that gets the reply that is owed to it.
 -- Serves: all laws here.
-use Rattle.std.proofs.Common.{◌≡◌, ◌⊎◌, inl, inr, ℕ, ◌+◌, ◌-◌, ◌<◌, ◌≤◌, Bool, true, false, cond, ◌==◌, ◌&&◌, nat_lt}
-use Rattle.std.proofs.Common.{List, [], ◌∷◌, ◌++◌, length, length-drop, append-nil, Option, Some, None, fold, refl, sym}
+use Rattle.std.proofs.Common.{◌≡◌, ◌⊎◌, inl, inr, ℕ, ◌+◌, ◌-◌, ◌<◌, ◌≤◌, Bool, true, false, cond, ◌==◌, ◌&&◌}
+use Rattle.std.proofs.Common.{nat_lt}
+use Rattle.std.proofs.Common.{List, [], ◌∷◌, ◌++◌, length, length-drop, append-nil, Option, Some, None, fold}
+use Rattle.std.proofs.Common.{refl, sym}
 use Rattle.std.proofs.Common.{ap, ap₂, subst, ◌∙◌, arith, eqb-true}
 use Rattle.std.specs.Prelude.{is_some}
 use Rattle.std.specs.List.{AllByRecursion}
@@ -17,7 +19,8 @@ use Rattle.replay_spec.specs.Replay.{segment_verdict}
 use Rattle.evidence_spec.specs.Showing.{IsAmong}
 use Rattle.witness_spec.specs.Refusals.{NotAsked, TooFar, BookFull, OutboxFull, LearnedFull, NothingToAudit}
 use Rattle.witness_spec.specs.Events.{JobParts, DoneParts, Question}
-use Rattle.witness_spec.specs.Replies.{Reply, Noted, Already, Opened, Accepted, Closed, Asked, Job, Filed, Returned}
+use Rattle.witness_spec.specs.Replies.{Reply, Noted, Already, Opened, Accepted, Closed, Asked, Job, Filed}
+use Rattle.witness_spec.specs.Replies.{Returned}
 use Rattle.witness_spec.specs.Replies.{Forwarded, Refused, Challenge}
 use Rattle.witness_spec.specs.Steps.{Step, Learn, SendChallenge, Answer, AckIn, Audit, Begin, File, PutBack}
 use Rattle.witness_spec.specs.Steps.{Forward, Ask, Past}
@@ -25,9 +28,11 @@ use Rattle.witness_spec.specs.Limits.{MAX_AUDITED, MAX_OUTBOX}
 use Rattle.witness_spec.specs.Pairs.{pair_of, is_shown}
 use Rattle.witness_spec.specs.Done as did
 use Rattle.witness_spec.specs.Done.{forwarded}
-use Rattle.witness_spec.specs.Standing.{End, end_of, entries_filed, audited, shown, is_exposed, Stage, NoAudit, Wanted}
+use Rattle.witness_spec.specs.Standing.{End, end_of, entries_filed, audited, shown, is_exposed, Stage}
+use Rattle.witness_spec.specs.Standing.{NoAudit, Wanted}
 use Rattle.witness_spec.specs.Standing.{Given, Out, all_found, forwards, outbox}
-use Rattle.witness_spec.specs.Owing.{has_no_room, answer_reply, last_in_reach, ask_up_to, ask_reply, back_reply}
+use Rattle.witness_spec.specs.Owing.{has_no_room, answer_reply, last_in_reach, ask_up_to, ask_reply}
+use Rattle.witness_spec.specs.Owing.{back_reply}
 use Rattle.witness_spec.specs.Owing.{forward_reply, Owes}
 use Rattle.witness_steps.specs.Books.{Book, exposed, job_of, job_out_at, job_out}
 use Rattle.witness_steps.specs.Replying.{reply_to_audit, reply_to_begin, BookOwes}
@@ -42,7 +47,8 @@ use Rattle.witness_steps.proofs.Kept.{shows, Learned, Segment}
 use Rattle.witness_steps.proofs.Segments.{hash_at}
 use Rattle.witness_steps.proofs.Quiet.{Exposure, DoesNothing, quiet, found_stays, having_challenged}
 use Rattle.witness_steps.proofs.Quiet.{kept_stays}
-use Rattle.witness_steps.proofs.Quiet.{having_acked, having_asked, having_begun, having_put_back, having_forwarded}
+use Rattle.witness_steps.proofs.Quiet.{having_acked, having_asked, having_begun, having_put_back}
+use Rattle.witness_steps.proofs.Quiet.{having_forwarded}
 use Rattle.witness_steps.proofs.Known.{Known, RosterAt, exposed_same, owes_known}
 use Rattle.witness_steps.proofs.Learned.{noted_known}
 use Rattle.witness_steps.proofs.Accepted.{accepted_known}
@@ -73,6 +79,7 @@ fits_with b c o f = record {
     rest = f.tiles.rest;
   };
   agrees = f.agrees;
+  sends = f.sends;
 }
 
 -- those of a book whose audit changes
@@ -91,6 +98,7 @@ fits_at b s n c f rest agrees = record {
     rest = rest;
   };
   agrees = agrees;
+  sends = f.sends;
 }
 
 -- ---- what a reply tells of the book
@@ -110,10 +118,12 @@ all_by : (end : ℕ) (xs : List Authenticator) → ((a : Authenticator) → IsAm
 all_by end [] each = tt
 all_by end (x ∷ xs) each = (each x (inl refl), all_by end xs (λ a i. each a (inr i)))
 
-asks : (b : Book) (first last : ℕ) → FitsTogether b → Asked first last ≡ reply_to_audit b b.stage → Asks b first last
+asks : (b : Book) (first last : ℕ) → FitsTogether b → Asked first last ≡ reply_to_audit b b.stage
+    → Asks b first last
 asks b first last fits told = by b.stage refl (told)
   where
-    upto : (x y z : Bool) → (last_in_reach b.end.number b.learned == 0) ≡ x → b.stage ≡ NoAudit → exposed b ≡ false
+    upto : (x y z : Bool) → (last_in_reach b.end.number b.learned == 0) ≡ x → b.stage ≡ NoAudit
+        → exposed b ≡ false
         → Asked first last ≡ cond x (Refused TooFar) (cond y (Refused BookFull) (cond z (Refused OutboxFull)
         (Asked (b.end.number + 1) (last_in_reach b.end.number b.learned))))
         → Asks b first last
@@ -136,15 +146,18 @@ asks b first last fits told = by b.stage refl (told)
     by_learned true l e is none h = absurd (cc)
     by_learned false [] e is none h = absurd (cc)
     by_learned false (a ∷ l) e is none h =
-        upto (last_in_reach b.end.number b.learned == 0) (nat_lt MAX_AUDITED (last_in_reach b.end.number b.learned))
-        (nat_lt MAX_OUTBOX (length b.outbox + (last_in_reach b.end.number b.learned - b.end.number))) refl none is
+        upto (last_in_reach b.end.number b.learned == 0)
+        (nat_lt MAX_AUDITED (last_in_reach b.end.number b.learned))
+        (nat_lt MAX_OUTBOX
+        (length b.outbox + (last_in_reach b.end.number b.learned - b.end.number))) refl none is
         (h ∙ ap (λ xs. ask_up_to b.end.number (length b.outbox) (last_in_reach b.end.number xs)) (sym e))
 
     by : (s : Stage) → b.stage ≡ s → Asked first last ≡ reply_to_audit b b.stage → Asks b first last
     by NoAudit is h =
         by_learned (exposed b) b.learned refl refl is (h ∙ ap (reply_to_audit b) is)
     by (Wanted f l) is h =
-        let no : Asked first last ≡ reply_to_audit b (Wanted f l) = h ∙ ap (reply_to_audit b) is in absurd (cc)
+        let no : Asked first last ≡ reply_to_audit b (Wanted f l) = h ∙ ap (reply_to_audit b) is in
+        absurd (cc)
     by (Given c) is h =
         let no : Asked first last ≡ reply_to_audit b (Given c) = h ∙ ap (reply_to_audit b) is in absurd (cc)
     by (Out c) is h =
@@ -215,7 +228,8 @@ was_wanted (Wanted f l) c h =
         (sym (eqb-true c.segment.closing.number l both.1))
 
 -- what comes back is the job that is out
-returned_is : (x : Bool) (o : Option JobParts) (good wrong none : Reply) → (good ≡ wrong → ⊥) → (good ≡ none → ⊥)
+returned_is : (x : Bool) (o : Option JobParts) (good wrong none : Reply) → (good ≡ wrong → ⊥)
+    → (good ≡ none → ⊥)
     → good ≡ back_reply x o good wrong none → x ≡ true
 returned_is x None good wrong none f g h = absurd (g h)
 returned_is true (Some j) good wrong none f g h = refl
@@ -231,7 +245,8 @@ module _ (ms : List Member) (m : Member) (past : Past) (b : Book) (k : Known ms 
     fits = k.fits;
     kept_differ = subst NumbersDiffer (sym (kept_stays ms m past p did.notes did.files)) k.kept_differ;
     exposure = x;
-    audited = k.audited ∙ sym (ap (λ o. audited ms m past ++ entries_filed ms (end_of ms m past).state o) did.files
+    audited =
+        k.audited ∙ sym (ap (λ o. audited ms m past ++ entries_filed ms (end_of ms m past).state o) did.files
         ∙ append-nil (audited ms m past));
     sent = omega (arith, k.sent, sent, ap length (found_stays ms m past p did.files));
     roster = subst (RosterAt ms) (sym did.stage) k.roster;
@@ -347,7 +362,8 @@ module _ (ms : List Member) (m : Member) (past : Past) (b : Book) (k : Known ms 
       record {
         of = having_asked ms m past (Asked first last) b k.exposure k.of;
         fits = fits_at b (Wanted first last) b.begun _ k.fits
-            (by a (subst (λ s. IsMore b.end.number (exposed b) s k.fits.tiles.more) a.none k.fits.tiles.rest)) tt;
+            (by a (subst (λ s. IsMore b.end.number (exposed b) s k.fits.tiles.more) a.none
+            k.fits.tiles.rest)) tt;
         kept_differ = k.kept_differ;
         exposure = x;
         audited = k.audited ∙ unaudited;
@@ -384,7 +400,8 @@ module _ (ms : List Member) (m : Member) (past : Past) (b : Book) (k : Known ms 
       (shows b.evidence b.learned b.segments (pair_of a) (Learned a i refl)) in
       let there = (k.of.stands.pairs (a.number, p.hash)).0
       (shows b.evidence b.learned b.segments (a.number, p.hash) (Segment c.segment among p.there)) in
-      let same : p.hash ≡ a.hash = one_shown ms m past (sym (exposed_same ms m past b k.of k.exposure) ∙ hidden)
+      let same : p.hash ≡ a.hash =
+      one_shown ms m past (sym (exposed_same ms m past b k.of k.exposure) ∙ hidden)
       a.number p.hash a.hash there its in
       subst (λ x. IsAmong (a.number, x) (segment_pairs c.segment)) same p.there
 
@@ -441,7 +458,8 @@ module _ (ms : List Member) (m : Member) (past : Past) (b : Book) (k : Known ms 
 
   -- ---- what is handed in, and what is filed
 
-  unshown : (a : Authenticator) (x y z : Bool) → is_exposed ms m past ≡ x → is_shown (pair_of a) (shown ms m past) ≡ y
+  unshown : (a : Authenticator) (x y z : Bool) → is_exposed ms m past ≡ x
+      → is_shown (pair_of a) (shown ms m past) ≡ y
       → Noted ≡ cond x Noted (cond y Already (cond z (Refused LearnedFull) Noted))
       → is_exposed ms m past ≡ false → is_shown (pair_of a) (shown ms m past) ≡ false
   unshown a true y z is e h hidden = absurd (true≢false (sym is ∙ hidden))
@@ -454,7 +472,8 @@ module _ (ms : List Member) (m : Member) (past : Past) (b : Book) (k : Known ms 
       → Exposure ms m ((Learn a, r) ∷ past) → Known ms m ((Learn a, r) ∷ past) (after_learn b a r)
   noted a Noted h x =
       noted_known ms m past b a k
-      (unshown a (is_exposed ms m past) (is_shown (pair_of a) (shown ms m past)) (has_no_room ms m past a) refl refl h)
+      (unshown a (is_exposed ms m past) (is_shown (pair_of a) (shown ms m past))
+      (has_no_room ms m past a) refl refl h)
       x
   noted a r h x =
       known_quiet (Learn a, r) (record {
@@ -489,7 +508,8 @@ module _ (ms : List Member) (m : Member) (past : Past) (b : Book) (k : Known ms 
       let state : d.job.state ≡ (end_of ms m past).state =
       o.state ∙ ap (λ (e : End). e.state) k.of.stands.end in
       filed_known ms m past b d k o.at
-      (sym (done ∙ ap₂ (λ (ns : List Member) (s : State). segment_verdict ns s d.job.segment.segment) roster state)) x
+      (sym (done
+      ∙ ap₂ (λ (ns : List Member) (s : State). segment_verdict ns s d.job.segment.segment) roster state)) x
   filed d r h done x =
       known_quiet (File d, r) (record {
         notes = refl;
@@ -520,7 +540,8 @@ module _ (ms : List Member) (m : Member) (past : Past) (b : Book) (k : Known ms 
       by step owed ((owes_known ms m past b k step r).0 owed)
       checked done x
     where
-      by : (step : Step) → Owes ms m past step r → BookOwes b step r → IsCheckedStep ms m step → IsDoneStep step
+      by : (step : Step) → Owes ms m past step r → BookOwes b step r → IsCheckedStep ms m step
+          → IsDoneStep step
           → Exposure ms m ((step, r) ∷ past) → Known ms m ((step, r) ∷ past) (book_after b step r)
       by (Learn a) owed o checked done x = noted a r owed.told x
       by (SendChallenge e) owed o checked done x = challenged e r x

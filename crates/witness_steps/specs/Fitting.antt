@@ -4,12 +4,12 @@ use Rattle.std.specs.List.{AllByRecursion}
 use Rattle.authenticator.specs.declared.authenticator.Authenticator.{Authenticator}
 use Rattle.authenticator.specs.declared.member.Member.{Member}
 use Rattle.secure_log.specs.Segment.{SegmentParts, segment_pairs}
+use Rattle.replay_spec.specs.LogLaws.Laws.{SendsLieBelow}
 use Rattle.evidence_spec.specs.Showing.{IsAmong}
 use Rattle.witness_spec.specs.Steps.{Past}
 use Rattle.witness_spec.specs.Pairs.{pair_of}
-use Rattle.witness_spec.specs.Standing.{end_of, shown, kept, all_accepted, Stage, NoAudit, Wanted}
-use Rattle.witness_spec.specs.Standing.{Given, Out, stage_of, begins, open_challenges, outbox}
-use Rattle.witness_spec.specs.Exposing.{evidence}
+use Rattle.witness_spec.specs.Standing.{Stage, NoAudit, Wanted}
+use Rattle.witness_spec.specs.Standing.{Given, Out}
 use Rattle.witness_spec.specs.Histories.{StandsFor}
 use Rattle.witness_steps.specs.Books.{Book, exposed, parts_of}
 
@@ -22,7 +22,7 @@ NumbersDiffer (a ∷ rest) = AllByRecursion (λ c. a.number ≢ c.number) rest �
 
 -- ---- accepted segments
 
--- A segment begins at 1 or later, has a place for each number up to that of its closing, and ends in its pair.
+-- A segment begins at 1 or later, has a place for each number up to its closing's, and ends in its pair.
 pub record IsWhole (s : SegmentParts) : Type 0 where
   -- its first number is at least 1
   pub some : 0 < s.first
@@ -104,6 +104,8 @@ pub record FitsTogether (b : Book) : Type 0 where
   pub tiles : AreTiles b
   -- what is kept agrees with the segment that is out
   pub agrees : AgreesAt b.stage b.learned
+  -- the messages that were sent and have no acknowledgement in the end's state have numbers up to the end
+  pub sends : SendsLieBelow b.end.state (b.end.number + 1)
 
 -- ---- whose book it is
 

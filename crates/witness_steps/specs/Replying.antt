@@ -7,8 +7,10 @@ use Rattle.envelopes.specs.Acknowledgement.{acked_message}
 use Rattle.envelopes.specs.declared.envelope.Envelope.{Envelope}
 use Rattle.envelopes.specs.declared.acknowledgement.Ack.{Ack}
 use Rattle.witness_spec.specs.Refusals.{LearnedFull, NothingToAudit, Busy, NoJob, WrongJob}
-use Rattle.witness_spec.specs.Events.{JobParts, DoneParts, Question, ItsIndication, ItsChallenges, ItsEvidence}
-use Rattle.witness_spec.specs.Replies.{Reply, Noted, Already, Job, Filed, Returned, Told, OpenList, EvidenceIs}
+use Rattle.witness_spec.specs.Events.{JobParts, DoneParts, Question, ItsIndication, ItsChallenges}
+use Rattle.witness_spec.specs.Events.{ItsEvidence}
+use Rattle.witness_spec.specs.Replies.{Reply, Noted, Already, Job, Filed, Returned, Told, OpenList}
+use Rattle.witness_spec.specs.Replies.{EvidenceIs}
 use Rattle.witness_spec.specs.Replies.{Refused, FileRefused, PutBackRefused}
 use Rattle.witness_spec.specs.Steps.{Step, Learn, SendChallenge, Answer, AckIn, Audit, Begin, File, PutBack}
 use Rattle.witness_spec.specs.Steps.{Forward, Ask}

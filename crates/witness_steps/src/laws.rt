@@ -1,14 +1,18 @@
 //! A book that goes on from step to step by plain equations is what a witness may say of its node.
 
 ghost use Rattle.witness_steps.specs.Laws.{BooksOweTheSame, BooksAreOfTheirSteps, BooksFitTogether};
-ghost use Rattle.witness_steps.specs.Laws.{BooksTellTheSame, BooksHaveTheAudited, BooksStand};
-ghost use Rattle.witness_steps.specs.Laws.{AnyBookOwesTheSame, AnyBookGoesOn};
+ghost use Rattle.witness_steps.specs.Laws.{BooksTellTheIndication, BooksHaveTheAudited, BooksStand};
+ghost use Rattle.witness_steps.specs.Laws.{BooksHaveEvidenceIfExposed, AnyBookOwesTheSame, AnyBookGoesOn};
+ghost use Rattle.witness_steps.specs.Laws.{AnyBookKeepsItsContract, OpeningsStand, OpeningBooksAreKept};
+ghost use Rattle.witness_steps.specs.Laws.{KeptBooksStep, KeptBooksHaveOneHash, LookUpsTell};
 
 /// A member's book after its own steps of a history replies to each further step what is owed to it after that
-/// history, and nothing else; it tells the indication that is told of the node.
+/// history, and nothing else; it tells the indication that is told of the node, and has evidence exactly if the
+/// node is exposed.
 pub fn books_reply_what_is_owed()
     ensures owes { BooksOweTheSame }
-    ensures tells { BooksTellTheSame }
+    ensures tells { BooksTellTheIndication }
+    ensures evidence { BooksHaveEvidenceIfExposed }
 {}
 
 /// It holds what these steps say, and the books of all members of a roster stand for the history.
@@ -18,8 +22,8 @@ pub fn books_stand()
 {}
 
 /// Its parts fit together: what is kept lies above the end, and its numbers differ; the accepted segments hold
-/// each number from 1 to the end, and one more segment at most was accepted; and the audited entries are those
-/// of the segments up to the end.
+/// each number from 1 to the end, and one more segment at most was accepted; the messages in the end's state have
+/// numbers up to the end; and the audited entries are those of the segments up to the end.
 pub fn parts_fit_together()
     ensures fit { BooksFitTogether }
     ensures audited { BooksHaveTheAudited }
@@ -31,4 +35,27 @@ pub fn parts_fit_together()
 pub fn any_book_goes_on()
     ensures owes { AnyBookOwesTheSame }
     ensures goes_on { AnyBookGoesOn }
+{}
+
+/// So a step by these equations keeps the contract of a member's book, whatever the history was: it is a step
+/// of all books, as `witness_laws::books` has it. A member's opening book is that of the contract, and fits
+/// together.
+pub fn equations_keep_the_contract()
+    ensures step { AnyBookKeepsItsContract }
+    ensures opening { OpeningsStand }
+{}
+
+/// The opening books of all members are kept; and where an event is a member's step, and the reply is the one
+/// that this member's book owes, the books with that one gone on keep the contract of all books, and are kept.
+pub fn kept_books_step()
+    ensures opening { OpeningBooksAreKept }
+    ensures step { KeptBooksStep }
+{}
+
+/// Where a node isn't exposed, its book shows one hash at each number, and what it looks up there tells whether
+/// a pair was shown and whether it makes a fork: zeros at 0, else the hash in the accepted segment that holds the
+/// number, else that of what is kept there.
+pub fn look_ups_tell()
+    ensures one { KeptBooksHaveOneHash }
+    ensures tell { LookUpsTell }
 {}

@@ -1,0 +1,11 @@
+use Rattle.witness_steps.proofs.AllBooks.{all_step, all_kept, first_kept}
+use Rattle.witness_steps.proofs.laws.kept_books_step.Goals as goal
+
+pub returns-clause-opening : goal.returns-clause-opening
+returns-clause-opening c = first_kept
+
+pub returns-clause-step : goal.returns-clause-step
+returns-clause-step c = λ ms m books b event step reply roster kept e w there owes. (
+  all_step ms m books b event step reply roster kept e w there owes,
+  all_kept ms m books b event step reply roster kept e w there owes,
+)
