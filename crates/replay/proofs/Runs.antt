@@ -223,12 +223,13 @@ module _ (ms : List Member) (start : State) (first : ℕ) (opening : List ℕ) (
 
 -- ---- the verdict on all
 
--- a verdict is Sound as the law says
+-- a verdict that is that on entries is Sound as the law says
 pub sound_by : (ms : List Member) (s : State) (ps : List Placed)
     → IsSoundWhereHonest ms s ps (verdict_of ms s ps) → (v : Verdict) → verdict_of ms s ps ≡ v
     → IsSoundWhereHonest ms s ps v
 sound_by ms s ps law v e = subst (IsSoundWhereHonest ms s ps) e law
 
+-- so is the one that a call gives, if it gives one
 pub sound_as : {E : Type 0} (ms : List Member) (s : State) (ps : List Placed)
     → IsSoundWhereHonest ms s ps (verdict_of ms s ps) → (v : Verdict) → v ≡ verdict_of ms s ps
     → (r : Result memory.Verdict E)
