@@ -37,13 +37,13 @@ fn two_hashes(alloc: Global, signer: &mut Signer) -> Option<Evidence> {
     let at = Number::new(5);
     let a = shown(alloc, signer, 5, [1; 32])?;
     let b = shown(alloc, signer, 5, [2; 32])?;
-    Some(Evidence::new(2, Charge::Fork(Fork { at, a, b: Some(b) })))
+    Evidence::new(2, Charge::Fork(Fork { at, a, b: Some(b) }))
 }
 
 fn at_zero(alloc: Global, signer: &mut Signer, hash: [u8; 32]) -> Option<Evidence> {
     let at = Number::new(0);
     let a = shown(alloc, signer, 0, hash)?;
-    Some(Evidence::new(2, Charge::Fork(Fork { at, a, b: None })))
+    Evidence::new(2, Charge::Fork(Fork { at, a, b: None }))
 }
 
 fn clock(alloc: Global, signer: &mut Signer, microseconds: u32) -> Option<Evidence> {
@@ -59,7 +59,7 @@ fn clock(alloc: Global, signer: &mut Signer, microseconds: u32) -> Option<Eviden
         return None;
     }
     match AuditedLog::from_start(alloc, 2, entries, &closing) {
-        Ok(log) => Some(Evidence::new(2, Charge::Replay(log))),
+        Ok(log) => Evidence::new(2, Charge::Replay(log)),
         Err(_) => None,
     }
 }
@@ -260,4 +260,83 @@ fn changed_evidence_is_refused(rt: HostRuntime) {
     assert!(rt; is_last_bit_signed(rt.alloc()));
     assert!(rt; is_evidence_refused(rt.alloc()));
     assert!(rt; is_case_refused(rt.alloc()));
+}
+
+/// Where a log's first number ends, where the count of its entries begins, and where a reading of the clock
+/// ends, in the text of evidence.
+const FIRST_END: usize = 20;
+
+const COUNT: usize = 52;
+
+const READ: usize = 68;
+
+/// The text of evidence whose log begins at another number below 256.
+fn begins_at(alloc: Global, text: &[u8], first: u8) -> Option<Vec<u8>> {
+    let mut text = Vec::from_slice(alloc, text).ok()?;
+    if text.len() < FIRST_END {
+        return None;
+    }
+    text[FIRST_END - 1] = first;
+    Some(text)
+}
+
+/// The text of evidence whose log has no entry, where it had a reading of the clock.
+fn without_entry(alloc: Global, text: &[u8]) -> Option<Vec<u8>> {
+    if text.len() < READ {
+        return None;
+    }
+    let mut out = Vec::from_slice(alloc, &text[..COUNT]).ok()?;
+    out.extend_from_slice(&[0; 4]).ok()?;
+    out.extend_from_slice(&text[READ..]).ok()?;
+    Some(out)
+}
+
+/// Whether a log's text is garbage where it begins at 0 and where it has no entry.
+fn is_whole_log_read(alloc: Global, roster: &Roster, text: &[u8]) -> bool {
+    let not_from_start = Finding::NotAccepted(NotAccepted::NotFromStart);
+    let at_two = match begins_at(alloc, text, 2) {
+        Some(text) => finds_in_text(alloc, roster, text, &not_from_start),
+        None => false,
+    };
+    let at_zero = match begins_at(alloc, text, 0) {
+        Some(text) => is_garbage(alloc, Kind::Evidence, &text),
+        None => false,
+    };
+    let empty = match without_entry(alloc, text) {
+        Some(text) => is_garbage(alloc, Kind::Evidence, &text),
+        None => false,
+    };
+    at_two && at_zero && empty
+}
+
+/// Whether evidence is made of a log without entries, or memory is refused.
+fn is_empty_log_made(alloc: Global) -> bool {
+    match made_of(alloc, Content::Clock(1_000_000)) {
+        Some(made) => match made.evidence.charge() {
+            Charge::Replay(log) => match AuditedLog::from_start(
+                alloc,
+                2,
+                Vec::new(alloc),
+                log.closing(),
+            ) {
+                Ok(log) => Evidence::new(2, Charge::Replay(log)).is_some(),
+                Err(_) => true,
+            },
+            Charge::Fork(_) => true,
+        },
+        None => true,
+    }
+}
+
+#[test]
+fn logs_have_entries(rt: HostRuntime) {
+    let is_read = match made_of(rt.alloc(), Content::Clock(1_000_000)) {
+        Some(made) => match made.evidence.evidence_text(rt.alloc()) {
+            Ok(text) => is_whole_log_read(rt.alloc(), &made.roster, &text),
+            Err(_) => false,
+        },
+        None => false,
+    };
+    assert!(rt; is_read);
+    assert!(rt; !is_empty_log_made(rt.alloc()));
 }

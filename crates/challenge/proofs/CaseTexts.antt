@@ -30,7 +30,12 @@ case_at bytes rest ms e = by_evidence (read_at evidence_item rest) refl
   where
     by_evidence : (r : Read (Value evidence_item)) → read_at evidence_item rest ≡ r
         → text_at case_text bytes ≡ with_members ms (text_at evidence_text rest)
-    by_evidence (Ok (v, [])) f = rw (e, f) refl
+    by_evidence (Ok (v, [])) f = by_test (evidence_text.test v) refl
+      where
+        by_test : (b : Bool) → evidence_text.test v ≡ b
+            → text_at case_text bytes ≡ with_members ms (text_at evidence_text rest)
+        by_test true h = rw (e, f, h) refl
+        by_test false h = rw (e, f, h) refl
     by_evidence (Ok (v, x ∷ xs)) f = rw (e, f) refl
     by_evidence (Err d) f = rw (e, f) refl
 

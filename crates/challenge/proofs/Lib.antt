@@ -1,5 +1,4 @@
 pub mod Suffixes
-pub mod Entries
 pub mod Found
 pub mod CaseTexts
 pub mod Texts

@@ -1,8 +1,9 @@
 -- A case: a roster and evidence against one of its members, as a file has them.
+use Rattle.std.specs.Prelude.{◌&&◌}
 use Rattle.xdr.specs.Item.{Item, Value, pair}
 use Rattle.xdr.specs.Texts.Text.{Text}
 use Rattle.authenticator.specs.Roster.{roster_item, roster_value, rises_above}
-use Rattle.evidence_showings.specs.evidence_spec.Evidence.{evidence_item, evidence_value}
+use Rattle.evidence_showings.specs.evidence_spec.Evidence.{evidence_item, evidence_text, evidence_value}
 use Rattle.challenge.specs.declared.case.Case.{Case}
 
 -- a case in a text (RFC 4506): the roster, and after it the evidence
@@ -13,6 +14,6 @@ case_item = pair roster_item evidence_item
 abbrev pub case_value : Case → Value case_item
 case_value c = (roster_value c.roster, evidence_value c.evidence)
 
--- Its text: the members' numbers rise, and nothing may follow.
+-- Its text: the members' numbers rise, evidence passes its own test, and nothing may follow.
 abbrev pub case_text : Text
-case_text = record { item = case_item; test = λ v. rises_above 0 v.0 }
+case_text = record { item = case_item; test = λ v. evidence_text.test v.1 && rises_above 0 v.0 }

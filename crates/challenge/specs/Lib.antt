@@ -1,6 +1,5 @@
 pub use Rattle.evidence_showings.specs.evidence_spec as evidence_spec
 pub mod FaultNumbers
-pub mod Audited
 pub mod Charges
 pub mod Findings
 pub mod Cases

@@ -12,10 +12,11 @@ ghost use Rattle.challenge.specs.declared.fault.EvidenceFault.TheVariants.{NoMem
 
 use crate::evidence::Evidence;
 use crate::fault::EvidenceFault;
-use crate::items::{are_bytes, take_members};
+use crate::items::take_members;
 use crate::read::evidence_of;
 use crate::source::Source;
 use authenticator::Roster;
+use secure_log::are_bytes;
 use std::alloc::{AllocError, Global};
 use xdr::all_or_nothing;
 
@@ -57,7 +58,7 @@ fn case_of(alloc: Global, mut source: Source) -> Result<Case, EvidenceFault>
 /// Appends the text of a case. Where memory was refused the bytes are as they were.
 pub fn write_case(roster: &Roster, evidence: &Evidence, out: &mut Vec<u8>) -> Result<(), AllocError>
     ensures fits { Fits case_item (roster_value roster.now, evidence_value evidence.now) }
-    ensures rising { IsTrue (case_text.test (roster_value roster.now, evidence_value evidence.now)) }
+    ensures passes { IsTrue (case_text.test (roster_value roster.now, evidence_value evidence.now)) }
     ensures text { Writes case_item (roster_value roster.now, evidence_value evidence.now)
         out.old.items result out.new.items }
 {
@@ -68,7 +69,7 @@ pub fn write_case(roster: &Roster, evidence: &Evidence, out: &mut Vec<u8>) -> Re
 
 fn add_case(roster: &Roster, evidence: &Evidence, out: &mut Vec<u8>) -> Result<(), AllocError>
     ensures fits { Fits case_item (roster_value roster.now, evidence_value evidence.now) }
-    ensures rising { IsTrue (case_text.test (roster_value roster.now, evidence_value evidence.now)) }
+    ensures passes { IsTrue (case_text.test (roster_value roster.now, evidence_value evidence.now)) }
     ensures text { Adds (spelling case_item (roster_value roster.now, evidence_value evidence.now))
         out.old.items result out.new.items }
 {

@@ -7,12 +7,12 @@ ghost use Rattle.challenge.specs.Findings.{Finds, FindsInFork, FindsInLog, LogLa
 ghost use Rattle.challenge.specs.Findings.{IsAudited, IsClosedOf, IsFromStart, OneFinding};
 ghost use Rattle.challenge.specs.Findings.{finding_in, is_accepted};
 
-use crate::audited::AuditedLog;
-use crate::evidence::{Charge, Evidence, Fork};
+use crate::evidence::{AuditedLog, Charge, Evidence, Fork};
 use crate::finding::{Finding, NotAccepted};
 use authenticator::{Member, Number, Roster, is_signed_by};
 use evidence_showings::{Showing, is_signed_in};
 use replay::{Outcome, opening_state, replay_outcome};
+use secure_log::chain_fits;
 use std::alloc::{AllocError, Global};
 
 /// What is found in evidence under a roster: with what it is accepted, or the first that it lacks. Closings
@@ -150,7 +150,7 @@ fn audited_member(roster: &Roster, node: u32, log: &AuditedLog) -> Result<Member
     if !is_from_start(log) {
         return Err(NotAccepted::NotFromStart);
     }
-    if !log.ends() {
+    if !chain_fits(log) {
         return Err(NotAccepted::NotClosed);
     }
     let Some(member) = roster.member(log.closing().node) else {
@@ -166,7 +166,7 @@ fn audited_member(roster: &Roster, node: u32, log: &AuditedLog) -> Result<Member
 fn is_from_start(log: &AuditedLog) -> bool
     ensures { IsTrue result ↔ IsFromStart log.now }
 {
-    log.first().get() == 1 && is_zeros(log.opening())
+    log.first().get() == 1 && is_zeros(&log.opening())
 }
 
 /// What a replay of a member's closed log finds, from the state that the member begins with.
@@ -182,7 +182,8 @@ fn replay_finding(
 {
     let start = opening_state(alloc, member)?;
     let first = log.first();
-    let outcome = replay_outcome(alloc, roster, start, first, log.opening(), log.entries())?;
+    let opening = log.opening();
+    let outcome = replay_outcome(alloc, roster, start, first, &opening, log.entries())?;
     Ok(finding_in(outcome))
 }
 

@@ -1,7 +1,7 @@
 //! The items of evidence and of cases, taken from the front of what is left of their bytes.
 
 ghost use Rattle.std.specs.Prelude.{map, option_map};
-ghost use Rattle.xdr.specs.Item.{IsBytes, array, fixed, optional, word};
+ghost use Rattle.xdr.specs.Item.{array, fixed, optional, word};
 ghost use Rattle.xdr.specs.Reading.{GivesUnless};
 ghost use Rattle.xdr.specs.ReadFault.{xdr_fault};
 ghost use Rattle.authenticator.specs.Roster.{roster_item, roster_value};
@@ -21,13 +21,6 @@ use evidence_showings::evidence_spec_code::MAX_AUDITED;
 use secure_log::log_entries::Entry;
 use std::alloc::Global;
 use xdr::{FromXdr, ReadFault, Reader, XdrFault, read_array};
-
-/// Bytes are bytes: does nothing, and tells a caller's proof.
-pub(crate) fn are_bytes(bytes: &[u8])
-    ensures { IsBytes bytes.now }
-{
-    let _len = bytes.len();
-}
 
 /// The item in front of some bytes, and how many are left after it.
 fn front<'a, T: FromXdr<'a>>(alloc: Global, bytes: &'a [u8]) -> Result<(T, usize), ReadFault>

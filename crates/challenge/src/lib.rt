@@ -1,7 +1,6 @@
 //! Challenges to nodes, and evidence against them: its text, and whether it is accepted.
 #![tactic(auto)]
 
-mod audited;
 mod case;
 mod challenge;
 mod check;
@@ -14,11 +13,10 @@ mod read;
 mod source;
 mod write;
 
-pub use audited::AuditedLog;
 pub use case::{Case, read_case, write_case};
 pub use challenge::Challenge;
 pub use check::check_evidence;
-pub use evidence::{Charge, Evidence, Fork};
+pub use evidence::{AuditedLog, Charge, Evidence, Fork};
 pub use evidence_showings as evidence_showings_code;
 pub use fault::EvidenceFault;
 pub use find::{examine, one_finding};

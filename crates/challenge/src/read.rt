@@ -5,7 +5,8 @@ ghost use Rattle.xdr.specs.Item.{Value, choice};
 ghost use Rattle.xdr.specs.Reading.{GivesUnless};
 ghost use Rattle.xdr.specs.ReadFault.{xdr_fault};
 ghost use Rattle.xdr.specs.Texts.Text.{GivesText, IsText};
-ghost use Rattle.evidence_showings.specs.evidence_spec.Evidence.{audited_item, audited_value};
+ghost use Rattle.secure_log.specs.Segment.{bounded_item, segment_value};
+ghost use Rattle.evidence_showings.specs.evidence_spec.Evidence.{MAX_AUDITED};
 ghost use Rattle.evidence_showings.specs.evidence_spec.Evidence.{charge_item, charge_value, is_charge};
 ghost use Rattle.evidence_showings.specs.evidence_spec.Evidence.{evidence_item, evidence_text};
 ghost use Rattle.evidence_showings.specs.evidence_spec.Evidence.{evidence_value};
@@ -13,13 +14,13 @@ ghost use Rattle.challenge.specs.Charges.{charge_in};
 ghost use Rattle.challenge.specs.FaultNumbers.{is_garbage};
 ghost use Rattle.challenge.specs.declared.fault.EvidenceFault.TheVariants.{NoMemory};
 
-use crate::audited::AuditedLog;
-use crate::evidence::{Charge, Evidence};
+use crate::evidence::{AuditedLog, Charge, Evidence};
 use crate::fault::EvidenceFault;
 use crate::items::{
-    are_bytes, take_authenticator, take_entries, take_fork, take_hash, take_number, take_word,
+    take_authenticator, take_entries, take_fork, take_hash, take_number, take_word,
 };
 use crate::source::Source;
+use secure_log::are_bytes;
 use std::alloc::Global;
 use xdr::{ReadFault, XdrFault};
 
@@ -41,20 +42,24 @@ pub fn read_evidence(alloc: Global, bytes: Vec<u8>) -> Result<Evidence, Evidence
 pub(crate) fn evidence_of(alloc: Global, mut source: Source) -> Result<Evidence, EvidenceFault>
     ensures { GivesText is_garbage evidence_text evidence_value source result }
 {
-    let evidence = take_evidence(alloc, &mut source)?;
+    let (node, charge) = take_parts(alloc, &mut source)?;
     if !source.rest().is_empty() {
         return Err(EvidenceFault::Garbage);
     }
-    Ok(evidence)
+    match Evidence::new(node, charge) {
+        Some(evidence) => Ok(evidence),
+        None => Err(EvidenceFault::Garbage),
+    }
 }
 
-/// Takes evidence.
-fn take_evidence(alloc: Global, source: &mut Source) -> Result<Evidence, ReadFault>
-    ensures { GivesUnless xdr_fault evidence_item evidence_value source.old result source.new }
+/// Takes the parts of evidence, of which a log may be empty or begin at 0.
+fn take_parts(alloc: Global, source: &mut Source) -> Result<(u32, Charge), ReadFault>
+    ensures { GivesUnless xdr_fault evidence_item (λ x. (x.0, charge_value (charge_in x.1)))
+        source.old result source.new }
 {
     let node = take_word(alloc, source)?;
     let charge = take_charge(alloc, source)?;
-    Ok(Evidence::new(node, charge))
+    Ok((node, charge))
 }
 
 /// Takes what is shown against a node.
@@ -77,7 +82,8 @@ fn take_charge(alloc: Global, source: &mut Source) -> Result<Charge, ReadFault>
 
 /// Takes a log.
 fn take_log(alloc: Global, source: &mut Source) -> Result<AuditedLog, ReadFault>
-    ensures { GivesUnless xdr_fault audited_item audited_value source.old result source.new }
+    ensures { GivesUnless xdr_fault (bounded_item MAX_AUDITED) segment_value
+        source.old result source.new }
 {
     are_bytes(source.rest());
     let node = take_word(alloc, source)?;
@@ -85,5 +91,5 @@ fn take_log(alloc: Global, source: &mut Source) -> Result<AuditedLog, ReadFault>
     let opening = take_hash(source)?;
     let entries = take_entries(alloc, source)?;
     let closing = take_authenticator(alloc, source)?;
-    Ok(AuditedLog::of_parts(node, first, opening, entries, closing))
+    Ok(AuditedLog::new(node, first, opening, entries, closing))
 }

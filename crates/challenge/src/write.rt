@@ -1,22 +1,18 @@
 //! Evidence as a text (RFC 4506).
 
-ghost use Rattle.std.specs.Prelude.{◌≤◌, IfOk, length, map, option_map};
-ghost use Rattle.std.specs.List.{flat_map};
-ghost use Rattle.xdr.specs.Item.{array, choice, optional, spelling};
+ghost use Rattle.std.specs.Prelude.{IfOk, option_map};
+ghost use Rattle.xdr.specs.Item.{choice, optional, spelling};
 ghost use Rattle.xdr.specs.Writing.{Adds, Writes};
 ghost use Rattle.xdr.specs.Texts.Text.{IsText};
-ghost use Rattle.secure_log.specs.LogEntries.Entry.{entry_item, entry_value};
+ghost use Rattle.secure_log.specs.Segment.{segment_value};
 ghost use Rattle.evidence_showings.specs.evidence_spec.Showing.{showing_item, showing_value};
-ghost use Rattle.evidence_showings.specs.evidence_spec.Evidence.{MAX_AUDITED, audited_value, evidence_item};
-ghost use Rattle.evidence_showings.specs.evidence_spec.Evidence.{evidence_value};
+ghost use Rattle.evidence_showings.specs.evidence_spec.Evidence.{evidence_item, evidence_value};
 ghost use Rattle.evidence_showings.specs.evidence_spec.Evidence.{evidence_text, fork_value};
 ghost use Rattle.evidence_showings.specs.evidence_spec.Evidence.{charge_item, charge_value, is_charge};
 ghost use Rattle.challenge.specs.Charges.{charge_in, fork_in};
 
-use crate::audited::AuditedLog;
-use crate::evidence::{Charge, Evidence, Fork};
+use crate::evidence::{AuditedLog, Charge, Evidence, Fork};
 use evidence_showings::Showing;
-use secure_log::log_entries::Entry;
 use std::alloc::{AllocError, Global};
 use xdr::{Writer, all_or_nothing};
 
@@ -82,32 +78,9 @@ fn add_second(second: &Option<Showing>, out: &mut Vec<u8>) -> Result<(), AllocEr
 }
 
 fn add_replay(log: &AuditedLog, out: &mut Vec<u8>) -> Result<(), AllocError>
-    ensures { Adds (spelling (choice is_charge charge_item) (2, audited_value log.now))
+    ensures { Adds (spelling (choice is_charge charge_item) (2, segment_value log.now))
         out.old.items result out.new.items }
 {
     out.put_u32(2)?;
-    out.put_u32(log.node())?;
-    log.first().write(out)?;
-    out.put_fixed(log.opening())?;
-    add_entries(log.entries(), out)?;
-    log.closing().write(out)
-}
-
-fn add_entries(entries: &[Entry], out: &mut Vec<u8>) -> Result<(), AllocError>
-    requires { length entries.now ≤ MAX_AUDITED }
-    ensures { Adds (spelling (array MAX_AUDITED entry_item) (map entry_value entries.now))
-        out.old.items result out.new.items }
-{
-    out.put_u32(entries.len() as u32)?;
-    add_each(entries, out)
-}
-
-fn add_each(entries: &[Entry], out: &mut Vec<u8>) -> Result<(), AllocError>
-    ensures { Adds (flat_map (λ e. spelling entry_item (entry_value e)) entries.now)
-        out.old.items result out.new.items }
-{
-    for entry in entries {
-        entry.write(out)?;
-    }
-    Ok(())
+    log.write(out)
 }

@@ -9,7 +9,7 @@ mod read;
 mod showing;
 mod write;
 
-pub use closing::{copy_of, is_signed_in};
+pub use closing::is_signed_in;
 pub use evidence_spec as evidence_spec_code;
 pub use kind::EntryKind;
 pub use link::ShownLink;

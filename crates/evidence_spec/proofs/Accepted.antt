@@ -11,22 +11,22 @@ use Rattle.authenticator.specs.Roster.{member_of}
 use Rattle.authenticator.specs.Signed.{IsSignedBy, IsSignedIn}
 use Rattle.authenticator.proofs.Members.{member_node}
 use Rattle.secure_log.specs.declared.log_entries.entry.Entry.{Entry}
-use Rattle.secure_log.specs.LogEntries.Chain.{zeros, hash_after, link_of, links_from, NoCollision}
+use Rattle.secure_log.specs.LogEntries.Chain.{zeros, hash_after, link_of, links_from, NoCollision, IsAmong}
 use Rattle.secure_log.specs.Log.{log_pairs}
-use Rattle.secure_log.specs.Segment.{SegmentParts}
+use Rattle.secure_log.specs.Segment.{SegmentParts, FitsWithin}
 use Rattle.replay_spec.specs.state_spec.State.{State}
 use Rattle.replay_spec.specs.Placed.{Placed, placed}
 use Rattle.replay_spec.specs.Replay.{Honest, last_state, found, Sound, verdict_of}
 use Rattle.replay_spec.specs.Opening.{opening_of}
-use Rattle.evidence_spec.specs.Showing.{ShowingParts, IsClosedShowing, IsAmong, Shows, showing_item}
+use Rattle.evidence_spec.specs.Showing.{ShowingParts, IsClosedShowing, Shows, showing_item}
 use Rattle.evidence_spec.specs.Showing.{showing_value}
-use Rattle.evidence_spec.specs.Evidence.{Charge, Fork, Replay, audited_item, audited_value}
+use Rattle.evidence_spec.specs.Evidence.{MAX_AUDITED, Charge, Fork, Replay}
 use Rattle.evidence_spec.specs.Evidence.{evidence_item, charge_value, AcceptsFork, AcceptsReplay}
 use Rattle.evidence_spec.specs.Evidence.{AcceptsCharge}
 use Rattle.evidence_spec.specs.Proving.{IsLog, log_texts, showing_texts, option_texts, IsUnforged}
 use Rattle.evidence_spec.specs.Proving.{option_closings, Withstands, Proves}
 use Rattle.evidence_spec.specs.Laws.{IsPartOf}
-use Rattle.evidence_spec.proofs.Texts.{Within, fewer, left, right, both}
+use Rattle.secure_log.proofs.OfLogEntries.FewerTexts.{Within, fewer, left, right, both}
 use Rattle.evidence_spec.proofs.Places.{entries_numbered, one_hash}
 use Rattle.evidence_spec.proofs.Shown.{showing_in_log, segment_is_part}
 
@@ -61,7 +61,7 @@ from_first log s part first = (part.rest, part.whole ∙ ap (λ es. es ++ (s.ent
     none (e ∷ es) n = absurd (omega (arith, n))
 
 module _ (ms : List Member) (member : Member) (node : ℕ) (same : member.node ≡ node) (log : List Entry) where
-  replay_stands : SoundWhereHonest ms → (s : SegmentParts) → Fits audited_item (audited_value s)
+  replay_stands : SoundWhereHonest ms → (s : SegmentParts) → FitsWithin MAX_AUDITED s
       → AcceptsReplay ms node s → member_of ms node ≡ Some member → Withstands ms member (Replay s) log → ⊥
   replay_stands sound s fits a there w =
       let shown : IsAmong (s.closing.number, s.closing.hash) (log_pairs log) =

@@ -14,7 +14,7 @@ use Rattle.secure_log.specs.declared.log_entries.entry.Entry.TheVariants.{Send, 
 use Rattle.secure_log.specs.LogEntries.Entry.{is_kind, kind_number, entry_value, content}
 use Rattle.secure_log.specs.LogEntries.Chain.{last_hash, links_from, link_of, pairs}
 use Rattle.secure_log.specs.declared.segment.TheConstants.{MAX_ENTRIES}
-use Rattle.secure_log.specs.Segment.{SegmentParts, IsClosed, segment_item, segment_value, segment_pairs}
+use Rattle.secure_log.specs.Segment.{SegmentParts, IsClosed, FitsWithin, segment_pairs}
 use Rattle.evidence_spec.specs.Showing.{numbered, link_item, link_value, shown_link, authenticator_showing}
 use Rattle.evidence_spec.specs.Showing.{segment_showing}
 use Rattle.evidence_spec.specs.Laws.{ShowsPairs}
@@ -59,7 +59,7 @@ links_fit [] = tt
 links_fit (e ∷ es) = ((kind_fits e, length-sha256 (content e)), links_fit es)
 
 -- a closed segment, as a showing without its entries, shows all its pairs
-pub own_pairs : (ms : List Member) (s : SegmentParts) → Fits segment_item (segment_value s) → 0 < s.first
+pub own_pairs : (ms : List Member) (s : SegmentParts) → FitsWithin MAX_ENTRIES s → 0 < s.first
     → IsClosed ms s → ShowsPairs ms (segment_showing s) (segment_pairs s)
 own_pairs ms s fits some closed =
     let links = map shown_link s.entries in

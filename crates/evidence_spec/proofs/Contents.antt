@@ -15,7 +15,7 @@ use Rattle.secure_log.specs.LogEntries.Entry.{entry_item, entry_value, content}
 use Rattle.secure_log.specs.LogEntries.Chain.{NoCollision}
 use Rattle.evidence_spec.specs.Proving.{signature_text, entry_texts}
 use Rattle.evidence_spec.specs.Laws.{SameContent}
-use Rattle.evidence_spec.proofs.Texts.{Within}
+use Rattle.secure_log.proofs.OfLogEntries.FewerTexts.{Within}
 
 -- values with one spelling are one
 one_value : (a : Item) (v w : Value a) → Fits a v → Fits a w → spelling a v ≡ spelling a w → v ≡ w

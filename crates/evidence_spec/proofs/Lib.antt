@@ -1,5 +1,4 @@
 pub use Rattle.replay_spec.proofs as replay_spec
-pub mod Texts
 pub mod Places
 pub mod Chained
 pub mod Contents

@@ -8,7 +8,7 @@ use Rattle.authenticator.specs.declared.member.Member.{Member}
 use Rattle.authenticator.specs.Roster.{member_of}
 use Rattle.authenticator.specs.Signed.{IsSignedIn}
 use Rattle.secure_log.specs.declared.log_entries.entry.Entry.{Entry}
-use Rattle.secure_log.specs.LogEntries.Chain.{IsIn, NoCollision}
+use Rattle.secure_log.specs.LogEntries.Chain.{NoCollision, IsAmong}
 use Rattle.replay_spec.specs.state_spec.State.{State}
 use Rattle.replay_spec.specs.Opening.{opening_of}
 use Rattle.replay_spec.specs.HonestLogs.{IsHonestLog}
@@ -16,13 +16,14 @@ use Rattle.evidence_spec.specs.Showing.{authenticator_showing}
 use Rattle.evidence_spec.specs.Evidence.{ForkParts, Fork, EvidenceParts}
 use Rattle.evidence_spec.specs.Proving.{IsLog, log_texts, charge_texts, closings, option_texts}
 use Rattle.evidence_spec.specs.Proving.{option_closings, IsUnforged, Withstands, Proves}
-use Rattle.evidence_spec.proofs.Texts.{fewer, both}
+use Rattle.secure_log.proofs.OfLogEntries.FewerTexts.{fewer, both}
 
 -- evidence whose texts are all those of an honest log, with no signature forged against it, proves nothing
 pub own_texts : (ms : List Member) (member : Member) (e : EvidenceParts) (log : List Entry) (s : State)
     → member_of ms e.node ≡ Some member → IsLog log → IsHonestLog ms (opening_of member) log s
     → AllByRecursion (IsUnforged ms member.node log) (closings e.charge)
-    → ((t : List ℕ) → IsIn t (charge_texts e.charge) → IsIn t (log_texts log)) → NoCollision (log_texts log)
+    → ((t : List ℕ) → IsAmong t (charge_texts e.charge) → IsAmong t (log_texts log))
+    → NoCollision (log_texts log)
     → ¬ Proves ms e
 own_texts ms member e log s there is honest unforged own unlike = λ p.
     let both_some : Some p.member ≡ Some member = sym p.is_member ∙ there in
@@ -39,7 +40,8 @@ own_texts ms member e log s there is honest unforged own unlike = λ p.
 
 -- ---- authenticators that aren't signed
 
-no_texts : (b : Option Authenticator) (t : List ℕ) → IsIn t (option_texts (option_map authenticator_showing b)) → ⊥
+no_texts : (b : Option Authenticator) (t : List ℕ)
+    → IsAmong t (option_texts (option_map authenticator_showing b)) → ⊥
 no_texts None t i = i
 no_texts (Some a) t i = i
 

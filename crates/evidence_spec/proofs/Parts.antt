@@ -7,9 +7,9 @@ use Rattle.std.specs.List.{AllByRecursion, flat_map}
 use Rattle.xdr.specs.Item.{Fits}
 use Rattle.secure_log.specs.declared.log_entries.entry.Entry.{Entry}
 use Rattle.secure_log.specs.LogEntries.Entry.{entry_item, entry_value}
-use Rattle.secure_log.specs.LogEntries.Chain.{Link, link_of, links_from, IsIn, NoCollision}
+use Rattle.secure_log.specs.LogEntries.Chain.{Link, link_of, links_from, NoCollision, IsAmong}
 use Rattle.evidence_spec.specs.Proving.{entry_texts}
-use Rattle.evidence_spec.proofs.Texts.{Within, left, right}
+use Rattle.secure_log.proofs.OfLogEntries.FewerTexts.{Within, left, right}
 use Rattle.evidence_spec.proofs.Places.{all_front, length-links}
 use Rattle.evidence_spec.proofs.Contents.{one_entry}
 
@@ -91,7 +91,7 @@ middle_texts xs ys zs t i =
     let ws = flat_map entry_texts zs in
     let same : flat_map entry_texts (xs ++ (ys ++ zs)) ≡ us ++ (vs ++ ws) =
     flat_map-append entry_texts xs (ys ++ zs) ∙ ap (λ ts. us ++ ts) (flat_map-append entry_texts ys zs) in
-    subst (λ ts. IsIn t ts) (sym same) (right us (vs ++ ws) t (left vs ws t i))
+    subst (λ ts. IsAmong t ts) (sym same) (right us (vs ++ ws) t (left vs ws t i))
 
 -- ---- entries in a log
 

@@ -4,8 +4,8 @@ use Rattle.std.proofs.Common.{◌≡◌, ℕ, suc, ◌+◌, List, [], ◌∷◌,
 use Rattle.std.proofs.Common.{subst, ◌∙◌, arith}
 use Rattle.std.specs.List.{AllByRecursion}
 use Rattle.secure_log.specs.declared.log_entries.entry.Entry.{Entry}
-use Rattle.secure_log.specs.LogEntries.Chain.{Link, hash_after, last_hash, pairs, links_from}
-use Rattle.evidence_spec.specs.Showing.{ShownLink, numbered, IsAmong}
+use Rattle.secure_log.specs.LogEntries.Chain.{Link, hash_after, last_hash, pairs, links_from, IsAmong}
+use Rattle.evidence_spec.specs.Showing.{ShownLink, numbered}
 
 -- links are numbered one after the other, from `first` on
 abbrev pub AreNumbered : (first : ℕ) → List Link → Type 0

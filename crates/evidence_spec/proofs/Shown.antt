@@ -9,16 +9,17 @@ use Rattle.authenticator.specs.Numbers.{is_number}
 use Rattle.authenticator.specs.declared.member.Member.{Member}
 use Rattle.secure_log.specs.declared.log_entries.entry.Entry.{Entry}
 use Rattle.secure_log.specs.LogEntries.Chain.{IsLink, IsChain, zeros, links_from, chain_texts, NoCollision}
+use Rattle.secure_log.specs.LogEntries.Chain.{IsAmong}
 use Rattle.secure_log.proofs.OfLogEntries.Chains.{links-are-links}
 use Rattle.secure_log.specs.Log.{log_pairs}
-use Rattle.secure_log.specs.Segment.{SegmentParts, IsClosed, segment_pairs}
+use Rattle.secure_log.specs.Segment.{SegmentParts, IsClosed, FitsWithin, segment_pairs}
 use Rattle.secure_log.proofs.Places.{is_chain}
-use Rattle.evidence_spec.specs.Showing.{ShownLink, ShowingParts, IsClosedShowing, IsAmong, Shows, link_item}
+use Rattle.evidence_spec.specs.Showing.{ShownLink, ShowingParts, IsClosedShowing, Shows, link_item}
 use Rattle.evidence_spec.specs.Showing.{link_value, showing_item, showing_value, numbered}
-use Rattle.evidence_spec.specs.Evidence.{audited_item, audited_value}
+use Rattle.evidence_spec.specs.Evidence.{MAX_AUDITED}
 use Rattle.evidence_spec.specs.Proving.{IsLog, entry_texts, log_texts, segment_texts, showing_texts}
 use Rattle.evidence_spec.specs.Laws.{IsPartOf}
-use Rattle.evidence_spec.proofs.Texts.{Within, fewer, left, right, both}
+use Rattle.secure_log.proofs.OfLogEntries.FewerTexts.{Within, fewer, left, right, both}
 use Rattle.evidence_spec.proofs.Places.{entries_numbered, shown_numbered, length-numbered, length-links}
 use Rattle.evidence_spec.proofs.Chained.{IsPartOfChain, zeros-length, ends_in_log, shown_in_log}
 use Rattle.evidence_spec.proofs.Parts.{each_of_values, entries_in_log}
@@ -65,7 +66,7 @@ module _ (ms : List Member) (log : List Entry) (s : ShowingParts) where
 -- ---- segments
 
 module _ (ms : List Member) (log : List Entry) (s : SegmentParts) (is : IsLog log)
-    (fits : Fits audited_item (audited_value s)) (some : 1 ≤ s.first) (closed : IsClosed ms s)
+    (fits : FitsWithin MAX_AUDITED s) (some : 1 ≤ s.first) (closed : IsClosed ms s)
     (i : IsAmong (s.closing.number, s.closing.hash) (log_pairs log))
     (unlike : NoCollision (log_texts log ++ segment_texts s)) where
   segment_part : IsPartOfChain (links_from 1 log) s.first s.opening (links_from s.first s.entries)

@@ -1,15 +1,13 @@
 -- Evidence against a node: that it keeps two logs, or that its log isn't honest; and what is accepted.
-use Rattle.std.specs.Prelude.{◌≡◌, ◌≢◌, ℕ, Bool, true, ◌==◌, ◌||◌, if◌then◌else◌, List, map}
+use Rattle.std.specs.Prelude.{◌≡◌, ◌≢◌, ℕ, Bool, true, false, ◌==◌, ◌||◌, if◌then◌else◌, List}
 use Rattle.std.specs.Prelude.{Option, Some, None, option_map}
-use Rattle.xdr.specs.Item.{Item, Value, word, fixed, pair, array, choice, optional}
+use Rattle.xdr.specs.Item.{Item, Value, word, pair, choice, optional}
 use Rattle.xdr.specs.Texts.Text.{Text}
 use Rattle.authenticator.specs.declared.member.Member.{Member}
 use Rattle.authenticator.specs.Roster.{member_of}
 use Rattle.authenticator.specs.Numbers.{number_item}
-use Rattle.authenticator.specs.Signed.{authenticator_item, authenticator_value}
 use Rattle.secure_log.specs.LogEntries.Chain.{zeros}
-use Rattle.secure_log.specs.LogEntries.Entry.{entry_item, entry_value}
-use Rattle.secure_log.specs.Segment.{SegmentParts, IsClosed}
+use Rattle.secure_log.specs.Segment.{SegmentParts, IsClosed, bounded_item, segment_value, is_whole}
 use Rattle.replay_spec.specs.Placed.{placed_in}
 use Rattle.replay_spec.specs.Stepping.{ReplayFault}
 use Rattle.replay_spec.specs.Replay.{Fault, verdict_of}
@@ -49,22 +47,13 @@ fork_item = pair number_item (pair showing_item (optional showing_item))
 abbrev pub fork_value : ForkParts → Value fork_item
 fork_value f = (f.at, (showing_value f.a, option_map showing_value f.b))
 
--- a segment of at most MAX_AUDITED entries
-abbrev pub audited_item : Item
-audited_item =
-    pair word (pair number_item (pair (fixed 32) (pair (array MAX_AUDITED entry_item) authenticator_item)))
-
--- a segment, as its text's value
-abbrev pub audited_value : SegmentParts → Value audited_item
-audited_value s = (s.node, (s.first, (s.opening, (map entry_value s.entries, authenticator_value s.closing))))
-
 -- the charges' numbers: a fork 1, a replay 2
 abbrev pub is_charge : ℕ → Bool
 is_charge n = (n == 1) || (n == 2)
 
--- what stands after a charge's number
+-- what stands after a charge's number: a fork, or a segment of at most MAX_AUDITED entries
 abbrev pub charge_item : ℕ → Item
-charge_item n = if n == 1 then fork_item else audited_item
+charge_item n = if n == 1 then fork_item else bounded_item MAX_AUDITED
 
 -- evidence in a text: the node, and the charge
 abbrev pub evidence_item : Item
@@ -73,15 +62,25 @@ evidence_item = pair word (choice is_charge charge_item)
 -- a charge, as its text's value
 abbrev pub charge_value : Charge → Value (choice is_charge charge_item)
 charge_value (Fork f) = (1, fork_value f)
-charge_value (Replay s) = (2, audited_value s)
+charge_value (Replay s) = (2, segment_value s)
 
 -- evidence, as its text's value
 abbrev pub evidence_value : EvidenceParts → Value evidence_item
 evidence_value e = (e.node, charge_value e.charge)
 
--- its text, after which nothing may follow
+-- what stands after a charge's number is a fork, or a segment that is whole, as each segment's text asks
+abbrev pub is_whole_after : (is_fork : Bool)
+    → Value (if is_fork then fork_item else bounded_item MAX_AUDITED) → Bool
+is_whole_after true v = true
+is_whole_after false v = is_whole v
+
+-- so of a charge
+abbrev pub is_whole_charge : Value (choice is_charge charge_item) → Bool
+is_whole_charge v = is_whole_after (v.0 == 1) v.1
+
+-- its text: a replay's segment is whole, and nothing may follow
 abbrev pub evidence_text : Text
-evidence_text = record { item = evidence_item; test = λ _. true }
+evidence_text = record { item = evidence_item; test = λ v. is_whole_charge v.1 }
 
 -- ---- what is accepted
 

@@ -9,20 +9,21 @@ use Rattle.authenticator.specs.declared.member.Kind.TheVariants.{Client}
 use Rattle.authenticator.specs.declared.authenticator.Authenticator.{Authenticator}
 use Rattle.authenticator.specs.Roster.{member_of}
 use Rattle.authenticator.specs.Signed.{IsSignedIn, authenticator_item, authenticator_value}
-use Rattle.secure_log.specs.LogEntries.Chain.{zeros, IsIn, NoCollision}
+use Rattle.secure_log.specs.LogEntries.Chain.{zeros, NoCollision, IsAmong}
 use Rattle.secure_log.specs.LogEntries.Entry.{entry_item, entry_value, kind_number, content}
 use Rattle.secure_log.specs.declared.log_entries.entry.Entry.{Entry}
 use Rattle.secure_log.specs.declared.log_entries.entry.Entry.TheVariants.{Clock}
 use Rattle.secure_log.specs.Log.{log_hash, log_pairs}
-use Rattle.secure_log.specs.Segment.{SegmentParts, IsClosed, segment_item, segment_value, segment_pairs}
+use Rattle.secure_log.specs.Segment.{SegmentParts, IsClosed, FitsWithin, segment_pairs}
+use Rattle.secure_log.specs.declared.segment.TheConstants.{MAX_ENTRIES}
 use Rattle.replay_spec.specs.state_spec.State.{State}
 use Rattle.replay_spec.specs.Opening.{opening_of}
 use Rattle.replay_spec.specs.HonestLogs.{IsHonestLog}
-use Rattle.evidence_spec.specs.Showing.{ShowingParts, IsClosedShowing, IsAmong, Shows}
+use Rattle.evidence_spec.specs.Showing.{ShowingParts, IsClosedShowing, Shows}
 use Rattle.evidence_spec.specs.Showing.{showing_item, showing_value, showing_pairs}
 use Rattle.evidence_spec.specs.Showing.{authenticator_showing, segment_showing}
 use Rattle.evidence_spec.specs.Evidence.{ForkParts, Fork, Replay, EvidenceParts}
-use Rattle.evidence_spec.specs.Evidence.{evidence_item, evidence_value, audited_item, audited_value, Accepts}
+use Rattle.evidence_spec.specs.Evidence.{MAX_AUDITED, evidence_item, evidence_value, Accepts}
 use Rattle.evidence_spec.specs.Proving.{IsLog, log_texts, segment_texts, showing_texts, entry_texts}
 use Rattle.evidence_spec.specs.Proving.{charge_texts, closings, IsUnforged, Proves}
 
@@ -52,7 +53,7 @@ pub record IsPartOf (log : List Entry) (s : SegmentParts) : Type 0 where
 abbrev pub SegmentIsOfTheLog : Type 0
 SegmentIsOfTheLog =
     (ms : List Member) (log : List Entry) (s : SegmentParts)
-    → IsLog log → Fits audited_item (audited_value s) → 1 ≤ s.first → IsClosed ms s
+    → IsLog log → FitsWithin MAX_AUDITED s → 1 ≤ s.first → IsClosed ms s
     → IsAmong (s.closing.number, s.closing.hash) (log_pairs log)
     → NoCollision (log_texts log ++ segment_texts s)
     → IsPartOf log s × ((number : ℕ) (hash : List ℕ)
@@ -93,7 +94,7 @@ AuthenticatorsShowOnePair =
 -- A closed segment's links show its pairs.
 abbrev pub SegmentsShowTheirPairs : Type 0
 SegmentsShowTheirPairs =
-    (ms : List Member) (s : SegmentParts) → Fits segment_item (segment_value s) → 0 < s.first → IsClosed ms s
+    (ms : List Member) (s : SegmentParts) → FitsWithin MAX_ENTRIES s → 0 < s.first → IsClosed ms s
     → ShowsPairs ms (segment_showing s) (segment_pairs s)
 
 -- ---- what proves nothing
@@ -105,7 +106,8 @@ OwnTextsProveNothing =
     (ms : List Member) (member : Member) (e : EvidenceParts) (log : List Entry) (s : State)
     → member_of ms e.node ≡ Some member → IsLog log → IsHonestLog ms (opening_of member) log s
     → AllByRecursion (IsUnforged ms member.node log) (closings e.charge)
-    → ((t : List ℕ) → IsIn t (charge_texts e.charge) → IsIn t (log_texts log)) → NoCollision (log_texts log)
+    → ((t : List ℕ) → IsAmong t (charge_texts e.charge) → IsAmong t (log_texts log))
+    → NoCollision (log_texts log)
     → ¬ Proves ms e
 
 -- Authenticators that aren't signed prove nothing, whatever they show: the log without entries stands against

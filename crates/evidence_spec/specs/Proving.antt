@@ -11,13 +11,13 @@ use Rattle.authenticator.specs.Signed.{IsSignedIn}
 use Rattle.secure_log.specs.declared.log_entries.entry.Entry.{Entry}
 use Rattle.secure_log.specs.declared.log_entries.entry.Entry.TheVariants.{Send, Recv, Ack, Clock, Check}
 use Rattle.secure_log.specs.LogEntries.Entry.{entry_item, entry_value, content}
-use Rattle.secure_log.specs.LogEntries.Chain.{zeros, links_from, chain_texts, NoCollision}
+use Rattle.secure_log.specs.LogEntries.Chain.{zeros, links_from, chain_texts, NoCollision, IsAmong}
 use Rattle.secure_log.specs.Log.{log_pairs}
 use Rattle.secure_log.specs.Segment.{SegmentParts}
 use Rattle.replay_spec.specs.state_spec.State.{State}
 use Rattle.replay_spec.specs.Opening.{opening_of}
 use Rattle.replay_spec.specs.HonestLogs.{IsHonestLog}
-use Rattle.evidence_spec.specs.Showing.{ShowingParts, IsAmong, numbered}
+use Rattle.evidence_spec.specs.Showing.{ShowingParts, numbered}
 use Rattle.evidence_spec.specs.Evidence.{Charge, Fork, Replay, EvidenceParts}
 
 -- Entries are those of a log: each has a text, and their numbers are of 64 bits.

@@ -8,8 +8,8 @@ use Rattle.std.specs.Prelude.{◌<◌, Decides, length}
 use Rattle.std.specs.List.{AllByRecursion}
 use Rattle.authenticator.specs.declared.authenticator.Authenticator.{Authenticator}
 use Rattle.authenticator.specs.declared.member.Member.{Member}
+use Rattle.secure_log.specs.LogEntries.Chain.{IsAmong}
 use Rattle.secure_log.specs.Segment.{ClosedParts}
-use Rattle.witness_spec.specs.evidence_spec.Showing.{IsAmong}
 use Rattle.witness_spec.specs.Refusals as refusals
 use Rattle.witness_spec.specs.Events.{JobParts, DoneParts}
 use Rattle.witness_spec.specs.Replies.{Reply, Noted, Already, Accepted, Asked, Job, Filed, Returned, Refused}

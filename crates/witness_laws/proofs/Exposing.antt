@@ -11,8 +11,8 @@ use Rattle.witness_spec.specs.replay_spec.Placed.{placed_in}
 use Rattle.witness_spec.specs.replay_spec.Replay.{Honest, Verdict, Sound, Fault, segment_verdict}
 use Rattle.authenticator.proofs.Signed.{same_list, list_same}
 use Rattle.witness_spec.proofs.replay_spec.Runs.{sound, is_sound}
+use Rattle.secure_log.specs.LogEntries.Chain.{IsAmong}
 use Rattle.secure_log.specs.Segment.{SegmentParts}
-use Rattle.witness_spec.specs.evidence_spec.Showing.{IsAmong}
 use Rattle.witness_spec.specs.Events.{JobParts}
 use Rattle.witness_spec.specs.Replies.{Reply, Challenge, Suspected, Exposed}
 use Rattle.witness_spec.specs.Steps.{Step, Past}

@@ -5,9 +5,9 @@ use Rattle.std.proofs.Common.{nat_lt, max, List, [], ◌∷◌, map, filter, ref
 use Rattle.std.specs.List.{AllByRecursion, fold}
 use Rattle.std.proofs.Math.Nat.{le-max_left, le-max_right, max-le}
 use Rattle.std.proofs.lemmas.Bool.{leb-true, leb-false, ltb-true, true≢false}
+use Rattle.secure_log.specs.LogEntries.Chain.{IsAmong}
 use Rattle.authenticator.specs.declared.authenticator.Authenticator.{Authenticator}
 use Rattle.authenticator.specs.declared.member.Member.{Member}
-use Rattle.witness_spec.specs.evidence_spec.Showing.{IsAmong}
 use Rattle.witness_spec.specs.Limits.{MAX_ASKED}
 use Rattle.witness_spec.specs.Steps.{Past}
 use Rattle.witness_spec.specs.Standing.{end_of, kept, noted_before}

@@ -1,6 +1,7 @@
 -- The acknowledgement of a received message closes the challenge with it.
 -- Serves: acknowledgements_of_nodes_close.
 use Rattle.std.proofs.Common.{◌≡◌, ℕ, List, Option, Some, None, IsSomeAnd, refl, sym, ap, ◌∙◌}
+use Rattle.secure_log.specs.LogEntries.Chain.{IsAmong}
 use Rattle.authenticator.specs.Roster.{member_of}
 use Rattle.authenticator.specs.Signed.{IsSignedBy}
 use Rattle.authenticator.specs.declared.member.Member.{Member}
@@ -14,7 +15,6 @@ use Rattle.commitment.specs.Senders.LookUps.{ack_at, authenticator_at}
 use Rattle.commitment.specs.Received.{IsReceiptAt}
 use Rattle.node_logs.specs.Steps.Nodes.{NodeParts, log_of, sender_of}
 use Rattle.node_logs.specs.Nodes.{IsMemberOf}
-use Rattle.witness_laws.specs.evidence_spec.Showing.{IsAmong}
 use Rattle.witness_laws.specs.witness_spec.Events as events
 use Rattle.witness_laws.specs.witness_spec.Replies.{SendOf}
 use Rattle.witness_laws.specs.witness_spec.Standing.{open_challenges}

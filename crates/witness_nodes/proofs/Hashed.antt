@@ -4,10 +4,10 @@ use Rattle.std.proofs.Common.{◌≡◌, inl, inr, ℕ, ◌+◌, List, [], ◌�
 use Rattle.std.proofs.Common.{arith}
 use Rattle.std.specs.Prelude.{flat_map}
 use Rattle.secure_log.specs.declared.log_entries.entry.Entry.{Entry}
-use Rattle.secure_log.specs.LogEntries.Chain.{IsIn, chain_texts, hash_after, last_hash, link_of, links_from}
-use Rattle.secure_log.specs.LogEntries.Chain.{zeros}
+use Rattle.secure_log.specs.LogEntries.Chain.{chain_texts, hash_after, last_hash, link_of, links_from}
+use Rattle.secure_log.specs.LogEntries.Chain.{zeros, IsAmong}
 use Rattle.secure_log.specs.Log.{log_hash}
-use Rattle.witness_laws.proofs.evidence_spec.Texts.{Within, left, right, both}
+use Rattle.secure_log.proofs.OfLogEntries.FewerTexts.{Within, left, right, both}
 use Rattle.witness_laws.specs.evidence_spec.Proving.{entry_texts, hashed_texts, log_texts}
 
 chain_begins : (h : List ℕ) (first : ℕ) (xs ys : List Entry)
@@ -22,7 +22,7 @@ chain_after : (h : List ℕ) (first : ℕ) (xs ys : List Entry) (next : ℕ) →
     (chain_texts h (links_from first (xs ++ ys)))
 chain_after h first [] ys next at t i =
     let same : next ≡ first = omega (arith, at) in
-    subst (λ n. IsIn t (chain_texts h (links_from n ys))) same i
+    subst (λ n. IsAmong t (chain_texts h (links_from n ys))) same i
 chain_after h first (x ∷ xs) ys next at t i =
     inr (chain_after (hash_after h (link_of first x)) (first + 1) xs ys next (omega (arith, at)) t i)
 

@@ -6,14 +6,13 @@ use Rattle.std.specs.List.{AllByRecursion}
 use Rattle.authenticator.specs.declared.authenticator.Authenticator.{Authenticator}
 use Rattle.authenticator.specs.declared.member.Member.{Member}
 use Rattle.secure_log.specs.declared.log_entries.entry.Entry.{Entry}
-use Rattle.secure_log.specs.LogEntries.Chain.{NoCollision}
+use Rattle.secure_log.specs.LogEntries.Chain.{NoCollision, IsAmong}
 use Rattle.secure_log.specs.Log.{log_hash, log_pairs}
 use Rattle.secure_log.specs.Segment.{SegmentParts}
 use Rattle.commitment.specs.Senders.Sender.{SenderParts, IsSender}
 use Rattle.commitment.specs.Senders.LookUps.{IsAuthenticatorAt, authenticator_at}
 use Rattle.node_logs.specs.Steps.Nodes.{NodeParts, log_of, sender_of}
-use Rattle.witness_laws.proofs.evidence_spec.Texts.{Within, fewer, both}
-use Rattle.witness_laws.specs.evidence_spec.Showing.{IsAmong}
+use Rattle.secure_log.proofs.OfLogEntries.FewerTexts.{Within, fewer, both}
 use Rattle.witness_laws.specs.evidence_spec.Proving.{IsUnforged, hashed_texts, log_texts, segment_texts}
 use Rattle.witness_laws.specs.witness_spec.Steps.{Step, Learn, SendChallenge, Answer, AckIn, Audit, Begin}
 use Rattle.witness_laws.specs.witness_spec.Steps.{File, PutBack}

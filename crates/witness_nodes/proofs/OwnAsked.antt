@@ -9,12 +9,12 @@ use Rattle.std.specs.List.{AllByRecursion}
 use Rattle.std.proofs.lemmas.Bool.{true≢false}
 use Rattle.authenticator.specs.declared.authenticator.Authenticator.{Authenticator}
 use Rattle.authenticator.specs.declared.member.Member.{Member}
+use Rattle.secure_log.specs.LogEntries.Chain.{IsAmong}
 use Rattle.secure_log.specs.declared.log_entries.entry.Entry.{Entry}
 use Rattle.commitment.specs.Signings.Signings.{Signing, is_signed_entry}
 use Rattle.commitment.specs.Senders.Sender.{SenderParts, IsSender, IsSigningAt, signed_at}
 use Rattle.commitment.specs.Senders.LookUps.{authenticator_of}
 use Rattle.node_logs.specs.Steps.Nodes.{NodeParts, sender_of}
-use Rattle.witness_laws.specs.evidence_spec.Showing.{IsAmong}
 use Rattle.witness_laws.specs.witness_spec.Replies.{Reply}
 use Rattle.witness_laws.specs.witness_spec.Steps.{Step, Learn, Past}
 use Rattle.witness_laws.specs.witness_spec.Standing.{Stage, NoAudit, Wanted, Given, Out, stage_of, kept}

@@ -5,8 +5,8 @@ use Rattle.std.specs.Prelude.{◌↔◌}
 use Rattle.authenticator.specs.declared.authenticator.Authenticator.{Authenticator}
 use Rattle.secure_log.specs.declared.log_entries.entry.Entry.{Entry}
 use Rattle.secure_log.specs.LogEntries.Chain.{Link, StandsIn, hash_after, link_of, links_from, pairs, zeros}
+use Rattle.secure_log.specs.LogEntries.Chain.{IsAmong}
 use Rattle.secure_log.specs.Log.{LogParts, IsOfPlace, hash_at, log_pairs}
-use Rattle.witness_laws.specs.evidence_spec.Showing.{IsAmong}
 
 in_middle : {A : Type 0} (x : A) (xs ys : List A) → IsAmong x (xs ++ x ∷ ys)
 in_middle x [] ys = inl refl

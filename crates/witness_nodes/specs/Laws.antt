@@ -6,7 +6,7 @@ use Rattle.xdr.specs.Texts.Text.{IsText}
 use Rattle.authenticator.specs.Roster.{IsRoster, member_of}
 use Rattle.authenticator.specs.Signed.{IsSignedBy}
 use Rattle.authenticator.specs.declared.member.Member.{Member}
-use Rattle.secure_log.specs.LogEntries.Chain.{NoCollision}
+use Rattle.secure_log.specs.LogEntries.Chain.{NoCollision, IsAmong}
 use Rattle.secure_log.specs.Segment.{SegmentParts, segment_text, segment_value}
 use Rattle.envelopes.specs.Envelope.{envelope_message}
 use Rattle.envelopes.specs.Acknowledgement.{ack_shows, ack_text, ack_value}
@@ -28,7 +28,6 @@ use Rattle.node_logs.specs.Hearing.{Hears}
 use Rattle.node_logs.specs.Sending.{TakesEnvelope}
 use Rattle.node_logs.specs.declared.outcome.Heard.{Heard}
 use Rattle.node_logs.specs.declared.outcome.Heard.TheVariants.{New, Repeat}
-use Rattle.witness_laws.specs.evidence_spec.Showing.{IsAmong}
 use Rattle.witness_laws.specs.evidence_spec.Proving.{log_texts}
 use Rattle.witness_laws.specs.witness_spec.Events.{PublicKey, Event, IsEvent}
 use Rattle.witness_laws.specs.witness_spec.Events as events

@@ -4,6 +4,7 @@ use Rattle.authenticator.specs.declared.authenticator.Authenticator.{Authenticat
 use Rattle.authenticator.specs.declared.member.Kind.{Kind}
 use Rattle.authenticator.specs.declared.member.Kind.TheVariants as kinds
 use Rattle.authenticator.specs.declared.member.Member.{Member}
+use Rattle.secure_log.specs.LogEntries.Chain.{IsAmong}
 use Rattle.secure_log.specs.declared.log_entries.entry.Entry.{Entry}
 use Rattle.secure_log.specs.Log.{log_pairs}
 use Rattle.secure_log.specs.Part.{with_closing}
@@ -16,7 +17,6 @@ use Rattle.node_logs.specs.Steps.Nodes.{NodeParts, sender_of}
 use Rattle.node_logs.specs.Nodes.{IsMemberOf}
 use Rattle.node_logs.specs.Challenges.{AnswersChallenge}
 use Rattle.node_logs.specs.replay_spec.Opening.{opening_of}
-use Rattle.witness_laws.specs.evidence_spec.Showing.{IsAmong}
 use Rattle.witness_laws.specs.evidence_spec.Proving.{IsLog}
 use Rattle.witness_laws.specs.witness_spec.Steps.{Step, Learn, Answer}
 

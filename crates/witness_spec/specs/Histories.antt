@@ -4,8 +4,8 @@ use Rattle.std.specs.Prelude.{◌≡◌, ◌⊎◌, ◌↔◌, ℕ, ◌==◌, Li
 use Rattle.std.specs.Prelude.{Option, Result, Ok, Err, if◌then◌else◌}
 use Rattle.authenticator.specs.declared.authenticator.Authenticator.{Authenticator}
 use Rattle.authenticator.specs.declared.member.Member.{Member}
+use Rattle.secure_log.specs.LogEntries.Chain.{IsAmong}
 use Rattle.secure_log.specs.Segment.{SegmentParts}
-use Rattle.evidence_spec.specs.Showing.{IsAmong}
 use Rattle.evidence_spec.specs.Evidence.{EvidenceParts}
 use Rattle.witness_spec.specs.Refusals.{Refusal, NoMemory}
 use Rattle.witness_spec.specs.Events.{Event, Question, ItsIndication, ItsChallenges, ItsEvidence, IsEvent}

@@ -6,6 +6,7 @@ use Rattle.authenticator.specs.Roster.{IsRoster, member_of}
 use Rattle.authenticator.specs.Signed.{IsSignedBy}
 use Rattle.authenticator.specs.declared.authenticator.Authenticator.{Authenticator}
 use Rattle.authenticator.specs.declared.member.Member.{Member}
+use Rattle.secure_log.specs.LogEntries.Chain.{IsAmong}
 use Rattle.secure_log.specs.declared.log_entries.entry.Entry.{Entry}
 use Rattle.secure_log.specs.Log.{LogParts, IsOfPlace}
 use Rattle.secure_log.specs.Part.{GivesPart, with_closing}
@@ -20,7 +21,6 @@ use Rattle.evidence_spec.specs.replay_spec.Opening.{opening_of}
 use Rattle.evidence_spec.specs.replay_spec.Placed.{placed_in}
 use Rattle.evidence_spec.specs.replay_spec.Replay.{Honest}
 use Rattle.evidence_spec.specs.replay_spec.HonestLogs.{IsHonestLog}
-use Rattle.evidence_spec.specs.Showing.{IsAmong}
 use Rattle.evidence_spec.specs.Evidence.{EvidenceParts, evidence_item, evidence_value, Accepts}
 use Rattle.evidence_spec.specs.Proving.{IsLog, Proves}
 use Rattle.witness_spec.specs.Refusals.{Refusal, refusal_number}

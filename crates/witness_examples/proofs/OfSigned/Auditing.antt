@@ -15,7 +15,7 @@ use Rattle.authenticator.proofs.Signed.{list_same}
 use Rattle.secure_log.specs.declared.log_entries.entry.Entry.{Entry}
 use Rattle.secure_log.specs.declared.log_entries.entry.Entry.TheVariants.{Clock}
 use Rattle.secure_log.specs.LogEntries.Entry.{content}
-use Rattle.secure_log.specs.LogEntries.Chain.{IsIn, NoCollision, chain_text, hash_after, link_of, zeros}
+use Rattle.secure_log.specs.LogEntries.Chain.{NoCollision, chain_text, hash_after, link_of, zeros, IsAmong}
 use Rattle.secure_log.specs.Part.{GivesPart}
 use Rattle.secure_log.specs.declared.open.OpenSegment.{OpenSegment}
 use Rattle.replay_spec.specs.Opening.{opening_of}
@@ -197,14 +197,14 @@ reading_texts s t (inr (inl a)) (inr (inr j)) e = absurd j
 reading_texts s t (inr (inr i)) j e = absurd i
 
 -- what is in two lists of texts is in one of them
-in_parts : (t : List ℕ) (xs ys : List (List ℕ)) → IsIn t (xs ++ ys) → IsIn t xs ⊎ IsIn t ys
+in_parts : (t : List ℕ) (xs ys : List (List ℕ)) → IsAmong t (xs ++ ys) → IsAmong t xs ⊎ IsAmong t ys
 in_parts t [] ys i = inr i
 in_parts t (x ∷ xs) ys (inl e) = inl (inl e)
 in_parts t (x ∷ xs) ys (inr i) = elim (in_parts t xs ys i) [ inl a ↦ inl (inr a) | inr b ↦ inr b ]
 
 -- the texts of the segment are the log's
-within : (t : List ℕ) → IsIn t (log_texts readings ++ (log_texts readings ++ []))
-    → IsIn t (log_texts readings)
+within : (t : List ℕ) → IsAmong t (log_texts readings ++ (log_texts readings ++ []))
+    → IsAmong t (log_texts readings)
 within t i =
     elim (in_parts t (log_texts readings) (log_texts readings ++ []) i) [
       | inl a ↦ a

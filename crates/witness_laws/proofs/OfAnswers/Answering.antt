@@ -8,6 +8,7 @@ use Rattle.authenticator.specs.Roster.{member_of, kind_number}
 use Rattle.authenticator.specs.Signed.{IsSignedBy}
 use Rattle.authenticator.specs.declared.authenticator.Authenticator.{Authenticator}
 use Rattle.authenticator.specs.declared.member.Member.{Member}
+use Rattle.secure_log.specs.LogEntries.Chain.{IsAmong}
 use Rattle.secure_log.specs.Log.{LogParts, IsOfPlace}
 use Rattle.secure_log.specs.Part.{GivesPart}
 use Rattle.secure_log.specs.Segment.{ClosedParts}
@@ -20,7 +21,6 @@ use Rattle.envelopes.specs.declared.acknowledgement.Ack.{Ack}
 use Rattle.envelopes.specs.declared.message.Message.{Message}
 use Rattle.authenticator.specs.Signing.{is_same}
 use Rattle.authenticator.proofs.Signed.{list_same}
-use Rattle.witness_spec.specs.evidence_spec.Showing.{IsAmong}
 use Rattle.witness_spec.specs.Refusals.{NotAsked, BadSignature}
 use Rattle.witness_spec.specs.Events.{PublicKey, Event}
 use Rattle.witness_spec.specs.Events as events

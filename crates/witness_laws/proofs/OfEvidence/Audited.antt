@@ -12,7 +12,7 @@ use Rattle.authenticator.specs.declared.authenticator.Authenticator.{Authenticat
 use Rattle.authenticator.specs.declared.member.Member.{Member}
 use Rattle.secure_log.specs.declared.log_entries.entry.Entry.{Entry}
 use Rattle.secure_log.specs.LogEntries.Entry.{entry_item, entry_value}
-use Rattle.secure_log.specs.LogEntries.Chain.{Link, zeros, pairs, hash_after, last_hash, links_from}
+use Rattle.secure_log.specs.LogEntries.Chain.{Link, zeros, pairs, hash_after, last_hash, links_from, IsAmong}
 use Rattle.secure_log.proofs.OfLogEntries.Pairs.{last_hash-parts}
 use Rattle.secure_log.specs.Segment.{SegmentParts, ClosedParts, segment_pairs}
 use Rattle.state_spec.specs.State.{State}
@@ -22,7 +22,6 @@ use Rattle.witness_spec.specs.replay_spec.Stepping.{ReplayFault, step}
 use Rattle.witness_spec.specs.replay_spec.Replay.{Sound, Fault, Honest, last_state, verdict_of}
 use Rattle.witness_spec.proofs.replay_spec.Places.{places_joined}
 use Rattle.witness_spec.proofs.replay_spec.Runs.{is_sound, first_fault, is_fault, joined, last_joined}
-use Rattle.witness_spec.specs.evidence_spec.Showing.{IsAmong}
 use Rattle.witness_spec.specs.evidence_spec.Evidence.{Replay}
 use Rattle.witness_spec.proofs.evidence_spec.Chained.{zeros-length}
 use Rattle.witness_spec.proofs.evidence_spec.Places.{AreNumbered, entries_numbered, length-links}

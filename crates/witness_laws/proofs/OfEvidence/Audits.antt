@@ -5,9 +5,9 @@ use Rattle.std.proofs.Common.{◌≡◌, ◌⊎◌, inl, inr, ℕ, ◌+◌, ◌�
 use Rattle.std.proofs.Common.{Option, Some, None, refl, sym, ap, subst, ◌∙◌, arith}
 use Rattle.std.proofs.lemmas.Bool.{ltb-true, ltb-false}
 use Rattle.authenticator.specs.declared.member.Member.{Member}
+use Rattle.secure_log.specs.LogEntries.Chain.{IsAmong}
 use Rattle.secure_log.specs.Segment.{SegmentParts, ClosedParts, HasText, IsClosed}
 use Rattle.witness_spec.specs.replay_spec.Replay.{Verdict, Sound, Fault}
-use Rattle.witness_spec.specs.evidence_spec.Showing.{IsAmong}
 use Rattle.witness_spec.specs.Events.{JobParts}
 use Rattle.witness_spec.specs.Replies.{Reply}
 use Rattle.witness_spec.specs.Steps.{Step, Past}

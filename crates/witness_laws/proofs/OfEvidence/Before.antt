@@ -10,11 +10,11 @@ use Rattle.std.proofs.lemmas.Bool.{and_parts, and_from, true≢false, ltb-true, 
 use Rattle.authenticator.specs.declared.authenticator.Authenticator.{Authenticator}
 use Rattle.authenticator.specs.declared.member.Member.{Member}
 use Rattle.secure_log.specs.LogEntries.Entry.{entry_value}
-use Rattle.secure_log.specs.LogEntries.Chain.{Link, pairs, hash_after, links_from}
+use Rattle.secure_log.specs.LogEntries.Chain.{Link, pairs, hash_after, links_from, IsAmong}
 use Rattle.secure_log.specs.Segment.{SegmentParts, ClosedParts, segment_pairs}
 use Rattle.authenticator.specs.Signing.{is_same}
 use Rattle.authenticator.proofs.Signed.{same_list, list_same, is_false}
-use Rattle.witness_spec.specs.evidence_spec.Showing.{ShowingParts, IsAmong}
+use Rattle.witness_spec.specs.evidence_spec.Showing.{ShowingParts}
 use Rattle.witness_spec.specs.evidence_spec.Showing.{authenticator_showing, segment_showing}
 use Rattle.witness_spec.specs.evidence_spec.Laws.{ShowsPairs}
 use Rattle.witness_spec.proofs.evidence_spec.Closed.{one_pair, own_pairs}

@@ -10,13 +10,13 @@ use Rattle.xdr.specs.Item.{Fits, choice}
 use Rattle.authenticator.specs.Numbers.{number_item}
 use Rattle.authenticator.specs.declared.authenticator.Authenticator.{Authenticator}
 use Rattle.authenticator.specs.declared.member.Member.{Member}
-use Rattle.secure_log.specs.LogEntries.Chain.{zeros, links_from}
+use Rattle.secure_log.specs.LogEntries.Chain.{zeros, links_from, IsAmong}
 use Rattle.secure_log.specs.Segment.{SegmentParts, ClosedParts, segment_pairs}
 use Rattle.authenticator.specs.Signing.{is_same}
 use Rattle.witness_spec.specs.replay_spec.Replay.{Verdict, Sound, Fault}
 use Rattle.witness_spec.specs.replay_spec.Stepping.{ReplayFault}
 use Rattle.authenticator.proofs.Signed.{is_false, list_same}
-use Rattle.witness_spec.specs.evidence_spec.Showing.{ShowingParts, IsAmong, authenticator_showing}
+use Rattle.witness_spec.specs.evidence_spec.Showing.{ShowingParts, authenticator_showing}
 use Rattle.witness_spec.specs.evidence_spec.Showing.{segment_showing}
 use Rattle.witness_spec.specs.evidence_spec.Evidence.{Charge, Fork, Replay, AcceptsCharge, is_charge}
 use Rattle.witness_spec.specs.evidence_spec.Evidence.{charge_item, charge_value}

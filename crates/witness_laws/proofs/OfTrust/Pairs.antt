@@ -4,10 +4,10 @@ use Rattle.std.proofs.Common.{◌≡◌, ◌⊎◌, inl, inr, Bool, true, false,
 use Rattle.std.proofs.Common.{◌++◌, refl, sym, ap, subst, eqb-true}
 use Rattle.std.proofs.lemmas.Bool.{or_from}
 use Rattle.authenticator.proofs.Signed.{list_same}
+use Rattle.secure_log.specs.LogEntries.Chain.{IsAmong}
 use Rattle.secure_log.specs.declared.log_entries.entry.Entry.{Entry}
 use Rattle.secure_log.specs.Log.{log_pairs}
 use Rattle.witness_spec.specs.evidence_spec.Laws.{OneHashAtANumber}
-use Rattle.witness_spec.specs.evidence_spec.Showing.{IsAmong}
 use Rattle.authenticator.specs.Signing.{is_same}
 use Rattle.witness_spec.specs.Pairs.{Pair, differ, is_fork, has_fork}
 

@@ -6,26 +6,24 @@ use Rattle.std.proofs.Common.{◌++◌, length, Option, Some, None, refl, sym, a
 use Rattle.std.proofs.Common.{length-append, arith}
 use Rattle.std.specs.List.{AllByRecursion, flat_map}
 use Rattle.std.proofs.lemmas.Bool.{and_parts, or_from, ltb-true}
-use Rattle.xdr.specs.Item.{Fits}
 use Rattle.authenticator.specs.declared.authenticator.Authenticator.{Authenticator}
 use Rattle.authenticator.specs.declared.member.Member.{Member}
 use Rattle.secure_log.specs.LogEntries.Chain.{Link, hash_after, link_of, links_from, last_hash, pairs, zeros}
-use Rattle.secure_log.specs.LogEntries.Chain.{NoCollision}
+use Rattle.secure_log.specs.LogEntries.Chain.{NoCollision, IsAmong}
 use Rattle.secure_log.specs.declared.log_entries.entry.Entry.{Entry}
 use Rattle.secure_log.proofs.OfLogEntries.Pairs.{last_hash-parts}
 use Rattle.secure_log.specs.Log.{log_hash, log_pairs}
-use Rattle.secure_log.specs.Segment.{SegmentParts, ClosedParts, HasText, segment_pairs}
+use Rattle.secure_log.specs.Segment.{SegmentParts, ClosedParts, FitsWithin, HasText, segment_pairs}
 use Rattle.witness_spec.proofs.replay_spec.Runs.{sound}
 use Rattle.witness_spec.proofs.replay_spec.Places.{places_joined}
 use Rattle.witness_spec.specs.evidence_spec.Laws.{OneHashAtANumber, IsPartOf}
 use Rattle.witness_spec.proofs.evidence_spec.Shown.{segment_in_log, segment_is_part}
-use Rattle.witness_spec.proofs.evidence_spec.Texts.{Within, fewer, left, right, both}
+use Rattle.secure_log.proofs.OfLogEntries.FewerTexts.{Within, fewer, left, right, both}
 use Rattle.state_spec.specs.State.{State}
 use Rattle.witness_spec.specs.replay_spec.Opening.{opening_of}
 use Rattle.witness_spec.specs.replay_spec.Placed.{placed, placed_in}
 use Rattle.witness_spec.specs.replay_spec.Replay.{Honest, Sound, last_state, found, segment_verdict}
-use Rattle.witness_spec.specs.evidence_spec.Showing.{IsAmong}
-use Rattle.witness_spec.specs.evidence_spec.Evidence.{audited_item, audited_value}
+use Rattle.witness_spec.specs.evidence_spec.Evidence.{MAX_AUDITED}
 use Rattle.witness_spec.specs.evidence_spec.Proving.{IsLog, IsUnforged, log_texts, segment_texts}
 use Rattle.witness_spec.specs.Events.{JobParts}
 use Rattle.witness_spec.specs.Replies.{Reply}
@@ -66,7 +64,7 @@ at_place b h (x ∷ xs) ys =
     same (at_place (b + 1) next xs ys))
 
 -- a segment that has a text has one as audited entries too
-audited_fits : (s : SegmentParts) → HasText s → Fits audited_item (audited_value s)
+audited_fits : (s : SegmentParts) → HasText s → FitsWithin MAX_AUDITED s
 audited_fits s t =
     let f = t.0 in
     (f.0, (f.1.0, (f.1.1.0, ((f.1.1.1.0.0, omega (arith, f.1.1.1.0.1), f.1.1.1.0.2), f.1.1.1.1))))

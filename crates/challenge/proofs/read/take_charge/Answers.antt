@@ -2,7 +2,8 @@ use Rattle.std.proofs.Common.{refl}
 use Rattle.std.proofs.lemmas.Result.{err_from_is_err_and}
 use Rattle.xdr.specs.ReadFault.{xdr_fault}
 use Rattle.xdr.specs.ArraysAndUnions.{choice_ok, choice_err_unless}
-use Rattle.evidence_showings.specs.evidence_spec.Evidence.{audited_value, fork_value, charge_item, is_charge}
+use Rattle.secure_log.specs.Segment.{segment_value}
+use Rattle.evidence_showings.specs.evidence_spec.Evidence.{fork_value, charge_item, is_charge}
 use Rattle.challenge.specs.Charges.{fork_in}
 use Rattle.challenge.proofs.read.take_charge.Goals as goal
 
@@ -22,4 +23,4 @@ returns-in_err-log-in-2 c =
 
 pub returns-in_ok-log-in-2 : goal.returns-in_ok-log-in-2
 returns-in_ok-log-in-2 c =
-    choice_ok is_charge charge_item c.args.source.now 2 c.take_word.new.source (audited_value c.in_ok-log-in-2.log) c.take_log.new.source (rw c.in-2.is at c.in_ok-take_word.ensures) refl c.in_ok-log-in-2.ensures
+    choice_ok is_charge charge_item c.args.source.now 2 c.take_word.new.source (segment_value c.in_ok-log-in-2.log) c.take_log.new.source (rw c.in-2.is at c.in_ok-take_word.ensures) refl c.in_ok-log-in-2.ensures

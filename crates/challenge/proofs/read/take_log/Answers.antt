@@ -1,15 +1,17 @@
-use Rattle.std.proofs.Common.{◌≡◌, Ok, map, rules}
+use Rattle.std.proofs.Common.{◌≡◌, Ok, map, rules, arith}
 use Rattle.xdr.specs.Item.{Value}
 use Rattle.xdr.specs.Reading.{read_at}
-use Rattle.xdr.proofs.Exact.{takes}
 use Rattle.authenticator.specs.Signed.{authenticator_value}
 use Rattle.secure_log.specs.LogEntries.Entry.{entry_value}
-use Rattle.evidence_showings.specs.evidence_spec.Evidence.{audited_item}
+use Rattle.secure_log.specs.Segment.{bounded_item}
+use Rattle.secure_log.proofs.Entries.{read_fits}
+use Rattle.evidence_showings.specs.evidence_spec.Evidence.{MAX_AUDITED}
 use Rattle.challenge.proofs.read.take_log.Goals as goal
 
-pub of_parts-requires : goal.of_parts-requires
-of_parts-requires c =
-    let v : Value audited_item = (
+-- what was taken has spellings
+pub new-requires : goal.new-requires
+new-requires c =
+    let v : Value (bounded_item MAX_AUDITED) = (
       c.in_ok-node.node,
       (
         c.in_ok-first.first,
@@ -19,5 +21,5 @@ of_parts-requires c =
         ),
       ),
     ) in
-    let whole : read_at audited_item c.args.source.now ≡ Ok (v, c.take_authenticator.new.source) = search rules in
-    (takes audited_item c.args.source.now (v, c.take_authenticator.new.source) (rw c.rest.ensures at c.are_bytes.ensures) whole).1
+    let whole : read_at (bounded_item MAX_AUDITED) c.args.source.now ≡ Ok (v, c.take_authenticator.new.source) = search rules in
+    (omega arith, read_fits MAX_AUDITED c.args.source.now c.take_authenticator.new.source _ (rw c.rest.ensures at c.are_bytes.ensures) whole)

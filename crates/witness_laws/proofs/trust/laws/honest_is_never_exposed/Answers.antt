@@ -1,7 +1,7 @@
 use Rattle.std.proofs.Common.{flat_map, ◌++◌, sym, ◌∙◌}
 use Rattle.std.proofs.lemmas.Bool.{true≢false}
 use Rattle.witness_spec.proofs.evidence_spec.Places.{one_hash, entries_numbered}
-use Rattle.witness_spec.proofs.evidence_spec.Texts.{left, right}
+use Rattle.secure_log.proofs.OfLogEntries.FewerTexts.{left, right}
 use Rattle.secure_log.specs.LogEntries.Chain.{zeros, links_from}
 use Rattle.witness_spec.specs.evidence_spec.Proving.{log_texts}
 use Rattle.witness_spec.specs.Histories.{own}
