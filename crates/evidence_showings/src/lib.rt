@@ -3,6 +3,7 @@
 
 mod chain;
 mod closing;
+mod copies;
 mod kind;
 mod link;
 mod read;
