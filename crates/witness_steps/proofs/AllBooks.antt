@@ -46,7 +46,8 @@ with_same (m ∷ ms) node new [] = refl
 with_same (m ∷ ms) node new (b ∷ books) = by (m.node == node) (with_same ms node new books)
   where
     by : (x : Bool)
-        → with_book ms node (parts_of new) (map parts_of books) ≡ map parts_of (with_book_at ms node new books)
+        → with_book ms node (parts_of new) (map parts_of books)
+        ≡ map parts_of (with_book_at ms node new books)
         → cond x (parts_of new ∷ map parts_of books)
         (parts_of b ∷ with_book ms node (parts_of new) (map parts_of books))
         ≡ map parts_of (cond x (new ∷ books) (b ∷ with_book_at ms node new books))
@@ -65,10 +66,13 @@ fit_at (m ∷ ms) (c ∷ books) node b fit h = by (m.node == node) refl h (λ k.
   where
     by : (x : Bool) → (m.node == node) ≡ x
         → ◌≡◌ {A = Option Book} (cond x (Some c) (book_at ms books node)) (Some b)
-        → (book_at ms books node ≡ Some b → (b.node ≡ node) × FitsTogether b) → (b.node ≡ node) × FitsTogether b
+        → (book_at ms books node ≡ Some b → (b.node ≡ node) × FitsTogether b)
+        → (b.node ≡ node) × FitsTogether b
     by true e k rest =
-        let same : c ≡ b = some_same k in
-        (sym (ap (λ (d : Book). d.node) same) ∙ (fit.0 ∙ eqb-true m.node node e), subst FitsTogether same fit.1)
+        let same : c ≡ b = some_same k in (
+          sym (ap (λ (d : Book). d.node) same) ∙ (fit.0 ∙ eqb-true m.node node e),
+          subst FitsTogether same fit.1,
+        )
     by false e k rest = rest k
 
 -- with another of that number that fits, all fit
@@ -101,7 +105,8 @@ module _ (ms : List Member) (m : Member) (books : List Book) (b : Book) (event :
 
   one_steps : BookStepsTo ms m (parts_of b) step reply (parts_of (book_after b step reply))
   one_steps history h stands =
-      any_stands ms m history b is h its.1 (record { node = its.0; stands = stands }) event step reply e w owes
+      any_stands ms m history b is h its.1 (record { node = its.0; stands = stands }) event step reply e w
+      owes
 
   -- the step is one of all books
   pub all_step : StepsTo ms (map parts_of books) event reply
@@ -117,7 +122,8 @@ module _ (ms : List Member) (m : Member) (books : List Book) (b : Book) (event :
       any_goes_on ms m kept.are.history b is kept.are.is its.1
       (record {
         node = its.0;
-        stands = found_stands ms m kept.are.history (map parts_of books) (parts_of b) is kept.are.stands its_parts;
+        stands = found_stands ms m kept.are.history (map parts_of books) (parts_of b) is kept.are.stands
+            its_parts;
       })
       event step reply e w owes
 
@@ -141,7 +147,10 @@ stand_first ms (m ∷ members) = ((at_first ms m).of.stands, stand_first ms memb
 
 -- the opening books are kept
 pub first_kept : (ms : List Member) → AreKept ms (map book_opening ms)
-first_kept ms = record { fit = fit_first ms; are = record { history = []; is = tt; stands = stand_first ms ms } }
+first_kept ms = record {
+  fit = fit_first ms;
+  are = record { history = []; is = tt; stands = stand_first ms ms };
+}
 
 -- ---- what they show
 

@@ -1,8 +1,8 @@
 -- What a book looks up tells whether a pair was shown, and whether another hash is at its number.
 -- Serves: look_ups_tell.
-use Rattle.std.proofs.Common.{◌≡◌, inl, inr, ℕ, ◌+◌, ◌-◌, ◌≤◌, Bool, true, false, cond, not, ◌==◌, ◌&&◌, nat_le}
-use Rattle.std.proofs.Common.{List, [], ◌∷◌, find, length, Option, Some, None, refl, sym, ap, ap₂, subst, ◌∙◌, arith}
-use Rattle.std.proofs.Common.{eqb-true, eq-eqb}
+use Rattle.std.proofs.Common.{◌≡◌, inl, inr, ℕ, ◌+◌, ◌-◌, ◌≤◌, Bool, true, false, cond, not, ◌==◌, ◌&&◌}
+use Rattle.std.proofs.Common.{nat_le, List, [], ◌∷◌, find, length, Option, Some, None, refl, sym, ap, ap₂}
+use Rattle.std.proofs.Common.{subst, ◌∙◌, arith, eqb-true, eq-eqb}
 use Rattle.std.specs.Prelude.{is_some, option_map}
 use Rattle.std.proofs.lemmas.Bool.{and_parts, and_from, true≢false, le-leb, leb-true, leb-false}
 use Rattle.authenticator.specs.declared.authenticator.Authenticator.{Authenticator}
@@ -82,7 +82,8 @@ module _ (b : Book) (fits : FitsTogether b) (n : ℕ) where
 
   -- ---- what is looked up was shown
 
-  held_there : (o : Option SegmentParts) (y : List ℕ) → segment_holding n b.segments ≡ o → hash_held o b n ≡ Some y
+  held_there : (o : Option SegmentParts) (y : List ℕ) → segment_holding n b.segments ≡ o
+      → hash_held o b n ≡ Some y
       → IsAmong (n, y) (book_shown b)
   held_there (Some s) y e h =
       shows b.evidence b.learned b.segments (n, y)
@@ -156,11 +157,16 @@ module _ (b : Book) (fits : FitsTogether b) (n : ℕ) where
               true≢false (sym (eq-eqb a.number n (sym same))
               ∙ not_found (λ (c : Authenticator). c.number == n) b.learned a f i)
 
-      in_segment : (s : SegmentParts) → IsAmong s b.segments → IsAmong (n, x) (segment_pairs s) → IsHeldIn b.segments n
+      in_segment : (s : SegmentParts) → IsAmong s b.segments → IsAmong (n, x) (segment_pairs s)
+          → IsHeldIn b.segments n
       in_segment s j there =
           let t = tiled b fits.tiles in
           tile_holds 1 b.segments t.next n t.tile (at_least n some)
-          (omega (arith, not_past s n x (fits.whole s j) there, (tile_between 1 b.segments t.next s t.tile j).1))
+          (omega (
+            arith,
+            not_past s n x (fits.whole s j) there,
+            (tile_between 1 b.segments t.next s t.tile j).1,
+          ))
         where
           at_least : (m : ℕ) → (m == 0) ≡ false → 1 ≤ m
           at_least m e = by_zero (nat_le 1 m) refl
@@ -198,14 +204,16 @@ module _ (b : Book) (fits : FitsTogether b) (n : ℕ) where
     shown_by_look_up =
         same_truth (is_shown (n, x) (book_shown b)) (is_hash x (hash_shown b n)) (λ h. to h) (λ h. from h)
       where
-        to_by : IsAmong (n, x) (book_shown b) → (o : Option (List ℕ)) → hash_shown b n ≡ o → is_hash x o ≡ true
+        to_by : IsAmong (n, x) (book_shown b) → (o : Option (List ℕ)) → hash_shown b n ≡ o
+            → is_hash x o ≡ true
         to_by i None e = absurd (unlooked x hidden e i)
         to_by i (Some y) e = list_same x y (one hidden n x y i (looked y e))
 
         to : is_shown (n, x) (book_shown b) ≡ true → is_hash x (hash_shown b n) ≡ true
         to h =
             let r = passer (λ q. same_pair (n, x) q) (book_shown b) h in
-            to_by (subst (λ q. IsAmong q (book_shown b)) (of_same r.one r.passes) r.among) (hash_shown b n) refl
+            to_by (subst (λ q. IsAmong q (book_shown b)) (of_same r.one r.passes) r.among) (hash_shown b n)
+            refl
 
         from_by : (o : Option (List ℕ)) → hash_shown b n ≡ o → is_hash x o ≡ true
             → is_shown (n, x) (book_shown b) ≡ true
@@ -220,10 +228,11 @@ module _ (b : Book) (fits : FitsTogether b) (n : ℕ) where
     -- whether another hash is at its number
     pub fork_by_look_up : is_fork (n, x) (book_shown b) ≡ is_other_hash x (hash_shown b n)
     fork_by_look_up =
-        same_truth (is_fork (n, x) (book_shown b)) (is_other_hash x (hash_shown b n)) (λ h. to h) (λ h. from h)
+        same_truth (is_fork (n, x) (book_shown b)) (is_other_hash x (hash_shown b n)) (λ h. to h)
+        (λ h. from h)
       where
-        to_by : (z : List ℕ) → IsAmong (n, z) (book_shown b) → not (is_same x z) ≡ true → (o : Option (List ℕ))
-            → hash_shown b n ≡ o → is_other_hash x o ≡ true
+        to_by : (z : List ℕ) → IsAmong (n, z) (book_shown b) → not (is_same x z) ≡ true
+            → (o : Option (List ℕ)) → hash_shown b n ≡ o → is_other_hash x o ≡ true
         to_by z i d None e = absurd (unlooked z hidden e i)
         to_by z i d (Some y) e = subst (λ w. not (is_same x w) ≡ true) (one hidden n z y i (looked y e)) d
 
@@ -232,8 +241,8 @@ module _ (b : Book) (fits : FitsTogether b) (n : ℕ) where
             let r = passer (λ q. differ (n, x) q) (book_shown b) h in
             let both = and_parts (n == r.one.0) (not (is_same x r.one.1)) r.passes in
             to_by r.one.1
-            (subst (λ a. IsAmong (a, r.one.1) (book_shown b)) (sym (eqb-true n r.one.0 both.0)) r.among) both.1
-            (hash_shown b n) refl
+            (subst (λ a. IsAmong (a, r.one.1) (book_shown b)) (sym (eqb-true n r.one.0 both.0)) r.among)
+            both.1 (hash_shown b n) refl
 
         from_by : (o : Option (List ℕ)) → hash_shown b n ≡ o → is_other_hash x o ≡ true
             → is_fork (n, x) (book_shown b) ≡ true

@@ -11,7 +11,8 @@ use Rattle.witness_spec.specs.Owing.{Owes}
 use Rattle.witness_spec.specs.Histories.{History, own, IsHistory, Stands}
 use Rattle.witness_spec.specs.Contract.{StepsTo, BookStepsTo, opening_book}
 use Rattle.witness_spec.specs.Pairs.{is_shown, is_fork}
-use Rattle.witness_steps.specs.Books.{book_shown, Book, book_opening, exposed, book_audited, book_indication, parts_of}
+use Rattle.witness_steps.specs.Books.{Book, book_opening, exposed, book_shown, book_audited}
+use Rattle.witness_steps.specs.Books.{book_indication, parts_of}
 use Rattle.witness_steps.specs.Replying.{BookOwes}
 use Rattle.witness_steps.specs.Going.{book_after, book_after_steps}
 use Rattle.witness_steps.specs.Fitting.{FitsTogether, IsBookOf}
@@ -119,8 +120,8 @@ OpeningsStand =
 abbrev pub OpeningBooksAreKept : Type 0
 OpeningBooksAreKept = (ms : List Member) → AreKept ms (map book_opening ms)
 
--- Where an event is a member's step, and the reply is the one that its book owes, the books with that one gone
--- on keep the contract of all books, and are kept.
+-- Where an event is a member's step, and the reply is the one that its book owes, the books with that one
+-- gone on keep the contract of all books, and are kept.
 abbrev pub KeptBooksStep : Type 0
 KeptBooksStep =
     (ms : List Member) (m : Member) (books : List Book) (b : Book) (event : Event) (step : Step)

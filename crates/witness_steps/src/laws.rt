@@ -6,9 +6,9 @@ ghost use Rattle.witness_steps.specs.Laws.{BooksHaveEvidenceIfExposed, AnyBookOw
 ghost use Rattle.witness_steps.specs.Laws.{AnyBookKeepsItsContract, OpeningsStand, OpeningBooksAreKept};
 ghost use Rattle.witness_steps.specs.Laws.{KeptBooksStep, KeptBooksHaveOneHash, LookUpsTell};
 
-/// A member's book after its own steps of a history replies to each further step what is owed to it after that
-/// history, and nothing else; it tells the indication that is told of the node, and has evidence exactly if the
-/// node is exposed.
+/// A member's book after its own steps of a history replies to each further step what is owed to it after
+/// that history, and nothing else; it tells the indication that is told of the node, and has evidence exactly
+/// if the node is exposed.
 pub fn books_reply_what_is_owed()
     ensures owes { BooksOweTheSame }
     ensures tells { BooksTellTheIndication }
@@ -21,17 +21,17 @@ pub fn books_stand()
     ensures all { BooksStand }
 {}
 
-/// Its parts fit together: what is kept lies above the end, and its numbers differ; the accepted segments hold
-/// each number from 1 to the end, and one more segment at most was accepted; the messages in the end's state have
-/// numbers up to the end; and the audited entries are those of the segments up to the end.
+/// Its parts fit together: what is kept lies above the end, and its numbers differ; the accepted segments
+/// hold each number from 1 to the end, and one more segment at most was accepted; the messages in the end's
+/// state have numbers up to the end; and the audited entries are those of the segments up to the end.
 pub fn parts_fit_together()
     ensures fit { BooksFitTogether }
     ensures audited { BooksHaveTheAudited }
 {}
 
-/// Any book whose parts fit together replies, after every history for which it stands as a member's book, what
-/// is owed; and with each event that is the member's step, and that reply, it goes on: the parts of the book
-/// after it fit together, and it stands for the longer history.
+/// Any book whose parts fit together replies, after every history for which it stands as a member's book,
+/// what is owed; and with each event that is the member's step, and that reply, it goes on: the parts of the
+/// book after it fit together, and it stands for the longer history.
 pub fn any_book_goes_on()
     ensures owes { AnyBookOwesTheSame }
     ensures goes_on { AnyBookGoesOn }
@@ -45,16 +45,17 @@ pub fn equations_keep_the_contract()
     ensures opening { OpeningsStand }
 {}
 
-/// The opening books of all members are kept; and where an event is a member's step, and the reply is the one
-/// that this member's book owes, the books with that one gone on keep the contract of all books, and are kept.
+/// The opening books of all members are kept; and where an event is a member's step, and the reply is the
+/// one that this member's book owes, the books with that one gone on keep the contract of all books, and are
+/// kept.
 pub fn kept_books_step()
     ensures opening { OpeningBooksAreKept }
     ensures step { KeptBooksStep }
 {}
 
-/// Where a node isn't exposed, its book shows one hash at each number, and what it looks up there tells whether
-/// a pair was shown and whether it makes a fork: zeros at 0, else the hash in the accepted segment that holds the
-/// number, else that of what is kept there.
+/// Where a node isn't exposed, its book shows one hash at each number, and what it looks up there tells
+/// whether a pair was shown and whether it makes a fork: zeros at 0, else the hash in the accepted segment
+/// that holds the number, else that of what is kept there.
 pub fn look_ups_tell()
     ensures one { KeptBooksHaveOneHash }
     ensures tell { LookUpsTell }
