@@ -1,7 +1,8 @@
 //! Replays that were done.
 
 ghost use Rattle.std.specs.Prelude.{◌≡◌, ◌↔◌, IfOk, IsTrue};
-ghost use Rattle.node_book.specs.Jobs.{job_verdict, verdict_told};
+ghost use Rattle.witness_spec.specs.Events.{File, IsEvent};
+ghost use Rattle.node_book.specs.Jobs.{done_parts, job_verdict, verdict_told};
 
 use crate::plain::PlainJob;
 use crate::verdict::JobVerdict;
@@ -112,10 +113,12 @@ impl ReplayDone {
         self.plain.verdict()
     }
 
-    /// Its plain words.
+    /// Its plain words. It may be filed: its segment has a text and is closed, and its verdict is the replay.
     pub fn plain(&self) -> &PlainDone
-        ensures { result.now ≡ self.now }
+        ensures plain { result.now ≡ self.now }
+        ensures event { IsEvent (File (done_parts self.now)) }
     {
+        let _segment = self.plain.job().segment();
         &self.plain
     }
 

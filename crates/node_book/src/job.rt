@@ -1,6 +1,7 @@
 //! Replays to be done.
 
 ghost use Rattle.std.specs.Prelude.{◌≡◌};
+ghost use Rattle.witness_spec.specs.Events.{IsEvent, PutBack};
 ghost use Rattle.node_book.specs.Backs.{job_in};
 ghost use Rattle.node_book.specs.Jobs.{HasRoom};
 
@@ -56,11 +57,13 @@ impl ReplayJob {
         self.plain.node()
     }
 
-    /// Its plain words.
+    /// Its plain words. It may be put back: its segment has a text and is closed.
     pub fn plain(&self) -> &PlainJob
         ensures plain { result.now ≡ self.now }
+        ensures event { IsEvent (PutBack self.now) }
         ensures room { HasRoom self.now }
     {
+        let _segment = self.plain.segment();
         &self.plain
     }
 
