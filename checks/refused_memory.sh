@@ -115,7 +115,7 @@ check_subject() {
         state) least_refused 2 read_state state_text state_digest ;;
         calls)
             gave_the_same
-            least_refused 4 send hear receive take_ack checkpoint answer_challenge
+            least_refused 4 send receive take_ack take_reply checkpoint answer_challenge
             ;;
         streams) least_refused 4 serve_stream ;;
         steps)

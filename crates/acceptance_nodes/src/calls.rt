@@ -7,7 +7,7 @@ use authenticator::Number;
 use commitment::{Received, Refusal};
 use nfs_items::Time;
 use nodes::gateway_code::links::{Link, LinkFault};
-use nodes::node_logs_code::{AckTaken, Heard, NodeLog, Receipt};
+use nodes::node_logs_code::{AckTaken, NodeLog, Receipt};
 use nodes::{ClientNode, Direct, ServerNode};
 use secure_log::log_entries::{Body, Entry};
 use secure_log::{SegmentFault, check_segment};
@@ -22,12 +22,14 @@ fn receipt() -> Receipt {
 }
 
 /// What a server makes of a text at so many seconds.
-fn hears(alloc: Global, server: &mut ServerNode, seconds: u32, text: &[u8]) -> Option<Heard> {
+fn received(
+    alloc: Global,
+    server: &mut ServerNode,
+    seconds: u32,
+    text: &[u8],
+) -> Option<Received<Receipt>> {
     match Time::new(seconds, 0) {
-        Some(time) => match server.receive(alloc, time, text) {
-            Ok(heard) => Some(heard),
-            Err(_) => None,
-        },
+        Some(time) => server.receive(alloc, time, text).ok(),
         None => None,
     }
 }
@@ -52,14 +54,14 @@ fn acknowledges(alloc: Global, node: &NodeLog, ack: &[u8]) -> bool {
 
 /// Whether a call that comes again changes nothing, and has the same acknowledgement.
 fn is_repeated(alloc: Global, server: &mut ServerNode, text: &[u8], ack: &[u8]) -> bool {
-    hears(alloc, server, 2, text) == Some(Heard::Repeat(receipt()))
+    received(alloc, server, 2, text) == Some(Received::Repeat(receipt()))
         && is_after_call(server.node(), 6, 1)
         && acknowledges(alloc, server.node(), ack)
 }
 
 /// Whether a call is logged, and logged once, by two of eight keys.
-fn is_heard_once(alloc: Global, server: &mut ServerNode, text: &[u8]) -> bool {
-    let is_new = hears(alloc, server, 1, text) == Some(Heard::New(receipt()))
+fn is_received_once(alloc: Global, server: &mut ServerNode, text: &[u8]) -> bool {
+    let is_new = received(alloc, server, 1, text) == Some(Received::New(receipt()))
         && is_after_call(server.node(), 6, 1);
     match ack_text(alloc, server.node(), 1) {
         Some(ack) => is_new && is_repeated(alloc, server, text, &ack),
@@ -67,10 +69,10 @@ fn is_heard_once(alloc: Global, server: &mut ServerNode, text: &[u8]) -> bool {
     }
 }
 
-/// Whether the envelope of a call of 40 bytes has 16,580 bytes, and is heard once.
+/// Whether the envelope of a call of 40 bytes has 16,580 bytes, and is received once.
 fn is_called_once(alloc: Global, client: &mut ClientNode, server: &mut ServerNode) -> bool {
     match called(alloc, client) {
-        Some(text) => text.len() == 16_580 && is_heard_once(alloc, server, &text),
+        Some(text) => text.len() == 16_580 && is_received_once(alloc, server, &text),
         None => false,
     }
 }

@@ -10,6 +10,6 @@ mod refusal;
 pub mod senders;
 pub mod signings;
 
-pub use outcome::Received;
+pub use outcome::{Prepared, Received};
 pub use receiver::Receiver;
 pub use refusal::Refusal;

@@ -1,30 +1,22 @@
 //! What became of an envelope.
 
 use authenticator::Number;
+use envelopes::Envelope;
 
-/// What became of an envelope that wasn't refused. `Receiver::sender` gives the acknowledgement that is due
-/// by the number.
+/// What became of an envelope that wasn't refused: of one that a receiver logs, the number of its RECV, by
+/// which `Receiver::sender` gives the acknowledgement that is due; of one that a server answers, the numbers of
+/// both.
 #[derive(Clone, Copy, Debug, PartialEq, Eq)]
-pub enum Received {
-    /// It was logged, and the RECV has this number.
-    New(Number),
-    /// Its message was received before, and the earlier RECV has this number.
-    Repeat(Number),
+pub enum Received<T> {
+    /// It was logged.
+    New(T),
+    /// Its message was received before, and nothing was logged: this came of it then.
+    Repeat(T),
 }
 
-impl Received {
+impl<T> Received<T> {
     ghost use Rattle.std.specs.Prelude.{◌≡◌};
-    ghost use Rattle.commitment.specs.Outcomes.{is_new, receipt_number};
-
-    /// The number of the RECV.
-    pub fn number(&self) -> Number
-        ensures { result ≡ receipt_number self.now }
-    {
-        match self {
-            Received::New(number) => *number,
-            Received::Repeat(number) => *number,
-        }
-    }
+    ghost use Rattle.commitment.specs.Outcomes.{is_new};
 
     /// Whether it was logged just now.
     pub fn is_new(&self) -> bool
@@ -35,4 +27,29 @@ impl Received {
             Received::Repeat(_) => false,
         }
     }
+}
+
+impl Received<Number> {
+    ghost use Rattle.std.specs.Prelude.{◌≡◌};
+    ghost use Rattle.commitment.specs.Outcomes.{receipt_number};
+
+    /// The number of the RECV.
+    pub fn number(&self) -> Number
+        ensures { result ≡ receipt_number self.now }
+    {
+        match self {
+            Received::New(number) => *number,
+            Received::Repeat(number) => *number,
+        }
+    }
+}
+
+/// What `Receiver::prepare_receipt` made of an envelope that wasn't refused.
+#[derive(Drop)]
+pub enum Prepared {
+    /// This envelope is new: keys are left for it and memory is reserved, so that `Receiver::log_receipt` can
+    /// log it.
+    New(Envelope),
+    /// Its message was received before, and the RECV has this number.
+    Repeat(Number),
 }

@@ -12,28 +12,28 @@ use Rattle.gateway.specs.declared.links.fault.LinkFault.TheVariants.{KeysUsedUp,
 use Rattle.nodes.specs.Exchanges.Reaching.{AckReaches, Reaches, ServerReceipt}
 use Rattle.nodes.specs.Exchanges.Exchanges.{IsAsked, IsHeard, IsJoined, having_called}
 use Rattle.nodes.proofs.OfExchanges.Called.{IsSentBy, call_acknowledged}
-use Rattle.nodes.specs.Delivery.{HearsNew, TakesAwaited}
+use Rattle.nodes.specs.Delivery.{ReceivesNew, TakesAwaited}
 use Rattle.nodes.specs.Faults.{Asks, heard, sent}
 
--- the server doesn't hear it
+-- the server doesn't receive it
 pub asks_err : (c s : NodeParts) (time : Timeval) (body : List ℕ) (c1 s1 : NodeParts) (number : ℕ) (fault : LinkFault)
     → (h : IsSentBy c s body c1 number)
-    → ((e : Envelope) → Reaches c1 kinds.Client number s e → HearsNew s time e (Err fault) s1)
+    → ((e : Envelope) → Reaches c1 kinds.Client number s e → ReceivesNew s time e (Err fault) s1)
     → Asks c s time body (Err fault) c1 s1
-asks_err c s time body c1 s1 number fault h hears = by fault (hears h.envelope h.reaches)
+asks_err c s time body c1 s1 number fault h receives = by fault (receives h.envelope h.reaches)
   where
-    by : (f : LinkFault) → HearsNew s time h.envelope (Err f) s1 → Asks c s time body (Err f) c1 s1
+    by : (f : LinkFault) → ReceivesNew s time h.envelope (Err f) s1 → Asks c s time body (Err f) c1 s1
     by KeysUsedUp x = inr (h.left, x.0, h.is, x.1)
     by NoMemory x = sent h.left h.is x
     by Failed x = absurd x
 
--- it hears it
+-- it receives it
 pub is_heard : (c s : NodeParts) (time : Timeval) (body : List ℕ) (c1 s1 : NodeParts) (number : ℕ) (r : ServerReceipt)
     → IsSentBy c s body c1 number
-    → ((e : Envelope) → Reaches c1 kinds.Client number s e → HearsNew s time e (Ok r) s1) → IsHeard c s time body r s1
-is_heard c s time body c1 s1 number r h hears =
-    let x = hears h.envelope h.reaches in
-    record { left = h.left; envelope = h.envelope; call = h.call; server_left = x.0; hears = x.1 }
+    → ((e : Envelope) → Reaches c1 kinds.Client number s e → ReceivesNew s time e (Ok r) s1) → IsHeard c s time body r s1
+is_heard c s time body c1 s1 number r h receives =
+    let x = receives h.envelope h.reaches in
+    record { left = h.left; envelope = h.envelope; call = h.call; server_left = x.0; receives = x.1 }
 
 -- and the client takes its acknowledgement, or is refused memory
 pub asks_answered : (c s : NodeParts) (time : Timeval) (body : List ℕ) (c1 s1 c2 : NodeParts) (number : ℕ) (r : ServerReceipt)
@@ -43,7 +43,7 @@ pub asks_answered : (c s : NodeParts) (time : Timeval) (body : List ℕ) (c1 s1 
     → (a : Ack) × (AckReaches s1 kinds.Server r.ack (having_called c s body) a
     × TakesAwaited (having_called c s body) a answer c2)
 asks_answered c s time body c1 s1 c2 number r answer joined h done is takes =
-    let x = call_acknowledged c s s1 body done.envelope time r joined done.call done.hears is in
+    let x = call_acknowledged c s s1 body done.envelope time r joined done.call done.receives is in
     let there : AckReaches s1 kinds.Server r.ack c1 x.0 =
     subst (λ (n : NodeParts). AckReaches s1 kinds.Server r.ack n x.0) (sym h.is) x.1 in
     (x.0, (x.1, subst (λ (n : NodeParts). TakesAwaited n x.0 answer c2) h.is (takes x.0 there)))

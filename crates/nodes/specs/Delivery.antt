@@ -10,7 +10,7 @@ use Rattle.commitment.specs.declared.refusal.Refusal.TheVariants as refusals
 use Rattle.nfs_items.specs.Timeval.{Timeval}
 use Rattle.node_logs.specs.Steps.Nodes.{NodeParts}
 use Rattle.node_logs.specs.Nodes.{LacksKeys}
-use Rattle.node_logs.specs.Hearing.{HearsEnvelope}
+use Rattle.node_logs.specs.Receiving.{ReceivesEnvelope}
 use Rattle.node_logs.specs.Steps.Logging.{with_receipt, with_send}
 use Rattle.node_logs.specs.AckTaking.{with_ack}
 use Rattle.nodes.specs.Exchanges.Reaching.{ServerReceipt}
@@ -39,12 +39,12 @@ SendsBody c to body (Err KeysUsedUp) c' = LacksKeys 1 c × (c' ≡ c)
 SendsBody c to body (Err NoMemory) c' = c' ≡ c
 SendsBody c to body (Err Failed) c' = ⊥
 
--- A server hears an envelope that is new to it: KeysUsedUp only where fewer than two keys are left.
-abbrev pub HearsNew : NodeParts → Timeval → Envelope → Result ServerReceipt LinkFault → NodeParts → Type 0
-HearsNew s time e (Ok r) s' = (¬ LacksKeys 2 s) × HearsEnvelope s time e r s'
-HearsNew s time e (Err KeysUsedUp) s' = LacksKeys 2 s × (s' ≡ s)
-HearsNew s time e (Err NoMemory) s' = s' ≡ s
-HearsNew s time e (Err Failed) s' = ⊥
+-- A server receives an envelope that is new to it: KeysUsedUp only where fewer than two keys are left.
+abbrev pub ReceivesNew : NodeParts → Timeval → Envelope → Result ServerReceipt LinkFault → NodeParts → Type 0
+ReceivesNew s time e (Ok r) s' = (¬ LacksKeys 2 s) × ReceivesEnvelope s time e r s'
+ReceivesNew s time e (Err KeysUsedUp) s' = LacksKeys 2 s × (s' ≡ s)
+ReceivesNew s time e (Err NoMemory) s' = s' ≡ s
+ReceivesNew s time e (Err Failed) s' = ⊥
 
 -- A client receives an envelope that is new to it: KeysUsedUp only where no key is left.
 abbrev pub TakesNew : NodeParts → Envelope → Result (Unit {0}) LinkFault → NodeParts → Type 0

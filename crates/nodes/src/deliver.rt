@@ -13,7 +13,7 @@ ghost use Rattle.commitment.specs.Senders.Sender.{IsSender};
 ghost use Rattle.node_logs.specs.Steps.Nodes.{receiver_of, sender_of};
 ghost use Rattle.gateway.specs.declared.links.fault.LinkFault.TheVariants.{Failed};
 ghost use Rattle.nodes.specs.Exchanges.Reaching.{AckReaches, Reaches, ack_told};
-ghost use Rattle.nodes.specs.Delivery.{CopiesBody, HearsNew, SendsBody, TakesAwaited};
+ghost use Rattle.nodes.specs.Delivery.{CopiesBody, ReceivesNew, SendsBody, TakesAwaited};
 ghost use Rattle.nodes.specs.Delivery.{TakesNew, WritesText, fault_of};
 
 use crate::client::ClientNode;
@@ -22,7 +22,7 @@ use authenticator::Number;
 use commitment::{Received, Refusal};
 use gateway::links::LinkFault;
 use nfs_items::Time;
-use node_logs::{AckTaken, Heard, NodeLog, Receipt};
+use node_logs::{AckTaken, NodeLog, Receipt};
 use secure_log::log_entries::Body;
 use std::alloc::Global;
 
@@ -110,27 +110,27 @@ pub(crate) fn body_of(node: &NodeLog, number: Number, alloc: Global) -> Result<V
     }
 }
 
-/// The server hears an envelope's text that is new to it.
-fn hear(
+/// The server receives an envelope's text that is new to it.
+fn receive(
     server: &mut ServerNode,
     alloc: Global,
     time: Time,
     text: &[u8],
 ) -> Result<Receipt, LinkFault>
-    ensures hears { (e : Envelope) → Finds (receiver_of server.old) text.now e None →
-        HearsNew server.old time e result server.new }
+    ensures receives { (e : Envelope) → Finds (receiver_of server.old) text.now e None →
+        ReceivesNew server.old time e result server.new }
     ensures sender { IsSender (sender_of server.new) }
 {
-    let heard = server.receive(alloc, time, text);
+    let received = server.receive(alloc, time, text);
     server.node().is_honest();
-    match heard {
-        Ok(Heard::New(receipt)) => Ok(receipt),
-        Ok(Heard::Repeat(_)) => Err(LinkFault::Failed),
+    match received {
+        Ok(Received::New(receipt)) => Ok(receipt),
+        Ok(Received::Repeat(_)) => Err(LinkFault::Failed),
         Err(refusal) => Err(fault_of(refusal)),
     }
 }
 
-/// The client receives a reply's text that is new to it.
+/// The client takes a reply's text that is new to it.
 fn take_reply(client: &mut ClientNode, alloc: Global, text: &[u8]) -> Result<(), LinkFault>
     ensures takes { (e : Envelope) → Finds (receiver_of client.old) text.now e None →
         TakesNew client.old e result client.new }
@@ -165,12 +165,12 @@ pub(crate) fn deliver_call(
     alloc: Global,
     time: Time,
 ) -> Result<Receipt, LinkFault>
-    ensures hears { (e : Envelope) → Reaches client.now kinds.Client number server.old e →
-        HearsNew server.old time e result server.new }
+    ensures receives { (e : Envelope) → Reaches client.now kinds.Client number server.old e →
+        ReceivesNew server.old time e result server.new }
     ensures sender { OnOk result (IsSender (sender_of server.new)) }
 {
     write_envelope(client.node(), number, text)?;
-    hear(server, alloc, time, text)
+    receive(server, alloc, time, text)
 }
 
 /// Hands the envelope of the server's SEND with a number to the client.

@@ -21,14 +21,12 @@ use Rattle.nfs_items.specs.Timeval.{Timeval}
 use Rattle.service.specs.Replies.{reply_owed}
 use Rattle.node_logs.specs.replay_spec.LogLaws.HonestServers.{heard_entries}
 use Rattle.node_logs.specs.Steps.Nodes.{NodeParts, log_of}
-use Rattle.node_logs.specs.Hearing.{Hears, HearsEnvelope}
-use Rattle.node_logs.specs.Steps.Serving.{having_heard, reading_at}
-use Rattle.node_logs.specs.Sending.{TakesEnvelope}
+use Rattle.node_logs.specs.Receiving.{Receives, ReceivesEnvelope}
+use Rattle.node_logs.specs.Steps.Serving.{with_served, reading_at}
+use Rattle.node_logs.specs.Sending.{TakesReply}
 use Rattle.node_logs.specs.Steps.Logging.{with_receipt}
-use Rattle.node_logs.specs.declared.outcome.Heard.{Heard}
-use Rattle.node_logs.specs.declared.outcome.Heard.TheVariants as heard
 use Rattle.node_logs.specs.declared.outcome.Receipt.{Receipt}
-use Rattle.witness_nodes.specs.Laws.{heard_number}
+use Rattle.witness_nodes.specs.Laws.{call_number}
 
 -- what tells that a message that is found stands there
 abbrev pub Stands : Type 0
@@ -68,42 +66,42 @@ heard_is : (e : Envelope) (time : Timeval) (o : Option (List ℕ))
 heard_is e time None = refl
 heard_is e time (Some reply) = refl
 
-new_heard : (n n' : NodeParts) (time : Timeval) (e : Envelope) (r : Receipt) → e.to ≡ n.node
-    → HearsEnvelope n time e r n' → IsReceiptAt (log_of n') (envelope_message e) r.ack
-new_heard n n' time e r to h =
+new_call : (n n' : NodeParts) (time : Timeval) (e : Envelope) (r : Receipt) → e.to ≡ n.node
+    → ReceivesEnvelope n time e r n' → IsReceiptAt (log_of n') (envelope_message e) r.ack
+new_call n n' time e r to h =
     let reading : Timeval = reading_at n time in
     let o : Option (List ℕ) = reply_owed h.world reading e.body in
-    let after : NodeParts = having_heard n h.world e reading in
+    let after : NodeParts = with_served n h.world e reading in
     let there = recv_at (log_of after) n.entries (behind e reading o) e to
     (ap (λ (es : List Entry). n.entries ++ es) (heard_is e reading o)) in
     subst (IsReceiptAt (log_of n') (envelope_message e)) (sym (ap (λ (x : Receipt). x.ack) h.receipt))
-    (subst (λ (x : NodeParts). IsReceiptAt (log_of x) (envelope_message e) (length n.entries + 1)) (sym h.heard) there)
+    (subst (λ (x : NodeParts). IsReceiptAt (log_of x) (envelope_message e) (length n.entries + 1)) (sym h.served) there)
 
--- What a server heard, now or before, stands in its log at the number that it gives.
-pub heard_logged : Stands → (n n' : NodeParts) (time : Timeval) (bytes : List ℕ) (e : Envelope) (h : Heard)
-    → Hears n time bytes (Ok h) n' → IsTextOf bytes e
-    → IsReceiptAt (log_of n') (envelope_message e) (heard_number h)
-heard_logged stands n n' time bytes e (heard.New r) h text =
+-- What a server received, now or before, stands in its log at the number that it gives.
+pub call_logged : Stands → (n n' : NodeParts) (time : Timeval) (bytes : List ℕ) (e : Envelope) (h : Received Receipt)
+    → Receives n time bytes (Ok h) n' → IsTextOf bytes e
+    → IsReceiptAt (log_of n') (envelope_message e) (call_number h)
+call_logged stands n n' time bytes e (received.New r) h text =
     let same : h.0 ≡ e = one_envelope bytes h.0 e h.1.0.opened.0.text text in
     subst (λ x. IsReceiptAt (log_of n') (envelope_message x) r.ack) same
-    (new_heard n n' time h.0 r h.1.0.opened.0.receiver h.1.2)
-heard_logged stands n n' time bytes e (heard.Repeat r) h text =
+    (new_call n n' time h.0 r h.1.0.opened.0.receiver h.1.2)
+call_logged stands n n' time bytes e (received.Repeat r) h text =
     let same : h.0 ≡ e = one_envelope bytes h.0 e h.1.0.opened.0.text text in
     subst (λ x. IsReceiptAt (log_of n') (envelope_message x) r.ack) same
     (subst (λ (x : NodeParts). IsReceiptAt (log_of x) (envelope_message h.0) r.ack) (sym h.1.2)
     (stands (log_of n) (envelope_message h.0) r.ack h.1.0.found))
 
 -- The same of a client.
-pub received_logged : Stands → (n n' : NodeParts) (bytes : List ℕ) (e : Envelope) (r : Received)
-    → TakesEnvelope n bytes (Ok r) n' → IsTextOf bytes e
+pub reply_logged : Stands → (n n' : NodeParts) (bytes : List ℕ) (e : Envelope) (r : Received ℕ)
+    → TakesReply n bytes (Ok r) n' → IsTextOf bytes e
     → IsReceiptAt (log_of n') (envelope_message e) (receipt_number r)
-received_logged stands n n' bytes e (received.New number) h text =
+reply_logged stands n n' bytes e (received.New number) h text =
     let same : h.0 ≡ e = one_envelope bytes h.0 e h.1.0.opened.0.text text in
     let there = recv_at (log_of (with_receipt n h.0)) n.entries [] h.0 h.1.0.opened.0.receiver refl in
     subst (λ x. IsReceiptAt (log_of n') (envelope_message x) number) same
     (subst (IsReceiptAt (log_of n') (envelope_message h.0)) (sym h.1.3)
     (subst (λ (x : NodeParts). IsReceiptAt (log_of x) (envelope_message h.0) (length n.entries + 1)) (sym h.1.2) there))
-received_logged stands n n' bytes e (received.Repeat number) h text =
+reply_logged stands n n' bytes e (received.Repeat number) h text =
     let same : h.0 ≡ e = one_envelope bytes h.0 e h.1.0.opened.0.text text in
     subst (λ x. IsReceiptAt (log_of n') (envelope_message x) number) same
     (subst (λ (x : NodeParts). IsReceiptAt (log_of x) (envelope_message h.0) number) (sym h.1.1)

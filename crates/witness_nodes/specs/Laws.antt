@@ -24,10 +24,10 @@ use Rattle.nfs_items.specs.Timeval.{Timeval}
 use Rattle.node_logs.specs.Steps.Nodes.{NodeParts, log_of, sender_of}
 use Rattle.node_logs.specs.Nodes.{IsMemberOf}
 use Rattle.node_logs.specs.Challenges.{AnswersChallenge, RefusesChallenge}
-use Rattle.node_logs.specs.Hearing.{Hears}
-use Rattle.node_logs.specs.Sending.{TakesEnvelope}
-use Rattle.node_logs.specs.declared.outcome.Heard.{Heard}
-use Rattle.node_logs.specs.declared.outcome.Heard.TheVariants.{New, Repeat}
+use Rattle.node_logs.specs.Receiving.{Receives}
+use Rattle.node_logs.specs.Sending.{TakesReply}
+use Rattle.commitment.specs.declared.outcome.Received.TheVariants.{New, Repeat}
+use Rattle.node_logs.specs.declared.outcome.Receipt.{Receipt}
 use Rattle.witness_laws.specs.evidence_spec.Proving.{log_texts}
 use Rattle.witness_laws.specs.witness_spec.Events.{PublicKey, Event, IsEvent}
 use Rattle.witness_laws.specs.witness_spec.Events as events
@@ -141,41 +141,41 @@ AcksOfNodesClose =
 
 -- ---- what is received
 
--- the number of the RECV of a message that a server heard
-abbrev pub heard_number : Heard → ℕ
-heard_number (New r) = r.ack
-heard_number (Repeat r) = r.ack
+-- the number of the RECV of a message that a server received
+abbrev pub call_number : Received Receipt → ℕ
+call_number (New r) = r.ack
+call_number (Repeat r) = r.ack
 
--- The RECV of the message that a server heard, now or before, stands in its log at the number that it gives.
-abbrev pub HeardIsLogged : Type 0
-HeardIsLogged =
-    (n n' : NodeParts) (time : Timeval) (bytes : List ℕ) (e : Envelope) (h : Heard)
-    → Hears n time bytes (Ok h) n' → IsTextOf bytes e
-    → IsReceiptAt (log_of n') (envelope_message e) (heard_number h)
+-- The RECV of the message that a server received, now or before, stands in its log at the number that it gives.
+abbrev pub ReceivedCallsAreLogged : Type 0
+ReceivedCallsAreLogged =
+    (n n' : NodeParts) (time : Timeval) (bytes : List ℕ) (e : Envelope) (h : Received Receipt)
+    → Receives n time bytes (Ok h) n' → IsTextOf bytes e
+    → IsReceiptAt (log_of n') (envelope_message e) (call_number h)
 
--- The same of what a client receives.
-abbrev pub ReceivedIsLogged : Type 0
-ReceivedIsLogged =
-    (n n' : NodeParts) (bytes : List ℕ) (e : Envelope) (r : Received)
-    → TakesEnvelope n bytes (Ok r) n' → IsTextOf bytes e
+-- The same of a reply that a client takes.
+abbrev pub TakenRepliesAreLogged : Type 0
+TakenRepliesAreLogged =
+    (n n' : NodeParts) (bytes : List ℕ) (e : Envelope) (r : Received ℕ)
+    → TakesReply n bytes (Ok r) n' → IsTextOf bytes e
     → IsReceiptAt (log_of n') (envelope_message e) (receipt_number r)
 
 -- So the acknowledgement that a node gives of the envelope of an open challenge closes it: that of a server,
 -- and that of a client.
-abbrev pub HeardChallengesClose : Type 0
-HeardChallengesClose =
+abbrev pub ReceivedCallsClose : Type 0
+ReceivedCallsClose =
     (ms : List Member) (m : Member) (history : History)
-    (n n' : NodeParts) (time : Timeval) (bytes : List ℕ) (e : Envelope) (h : Heard)
+    (n n' : NodeParts) (time : Timeval) (bytes : List ℕ) (e : Envelope) (h : Received Receipt)
     → member_of ms m.node ≡ Some m → m.node ≡ n'.node → IsMemberOf n' m → IsSender (sender_of n')
     → IsTextOf bytes e → IsAmong (SendOf e) (open_challenges (own ms m.node history))
-    → Hears n time bytes (Ok h) n'
-    → AckCloses ms m history n' (heard_number h)
+    → Receives n time bytes (Ok h) n'
+    → AckCloses ms m history n' (call_number h)
 
-abbrev pub ReceivedChallengesClose : Type 0
-ReceivedChallengesClose =
+abbrev pub TakenRepliesClose : Type 0
+TakenRepliesClose =
     (ms : List Member) (m : Member) (history : History)
-    (n n' : NodeParts) (bytes : List ℕ) (e : Envelope) (r : Received)
+    (n n' : NodeParts) (bytes : List ℕ) (e : Envelope) (r : Received ℕ)
     → member_of ms m.node ≡ Some m → m.node ≡ n'.node → IsMemberOf n' m → IsSender (sender_of n')
     → IsTextOf bytes e → IsAmong (SendOf e) (open_challenges (own ms m.node history))
-    → TakesEnvelope n bytes (Ok r) n'
+    → TakesReply n bytes (Ok r) n'
     → AckCloses ms m history n' (receipt_number r)

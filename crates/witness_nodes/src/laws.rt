@@ -3,8 +3,8 @@
 ghost use Rattle.witness_nodes.specs.Logs.{KeepsALog};
 ghost use Rattle.witness_nodes.specs.Laws.{IsNeverExposed, OwnWordsNeverExpose, OwnWordsCanBeAnswered};
 ghost use Rattle.witness_nodes.specs.Laws.{AskedCanBeAnswered, AnswersOfNodesAreAccepted, AcksOfNodesClose};
-ghost use Rattle.witness_nodes.specs.Laws.{HeardIsLogged, ReceivedIsLogged};
-ghost use Rattle.witness_nodes.specs.Laws.{HeardChallengesClose, ReceivedChallengesClose};
+ghost use Rattle.witness_nodes.specs.Laws.{ReceivedCallsAreLogged, TakenRepliesAreLogged};
+ghost use Rattle.witness_nodes.specs.Laws.{ReceivedCallsClose, TakenRepliesClose};
 
 use crate::texts::entries_have_texts;
 use commitment::laws::{
@@ -86,8 +86,8 @@ pub fn acknowledgements_of_nodes_close()
 
 /// The RECV of a message that a node received, now or before, stands in its log at the number that it gives.
 pub fn what_is_received_is_logged()
-    ensures heard { HeardIsLogged }
-    ensures received { ReceivedIsLogged }
+    ensures calls { ReceivedCallsAreLogged }
+    ensures replies { TakenRepliesAreLogged }
 {
     each_received_message_is_acknowledged();
 }
@@ -95,8 +95,8 @@ pub fn what_is_received_is_logged()
 /// So the acknowledgement that a node gives of the envelope of an open challenge closes it, of a message that
 /// is new to it and of one that it received before.
 pub fn received_challenges_close()
-    ensures heard { HeardChallengesClose }
-    ensures received { ReceivedChallengesClose }
+    ensures calls { ReceivedCallsClose }
+    ensures replies { TakenRepliesClose }
 {
     what_is_received_is_logged();
     acknowledgements_of_nodes_close();

@@ -20,7 +20,7 @@ use Rattle.gateway.specs.service.Replies.{reply_owed, world_after}
 use Rattle.state_spec.specs.State.{State, Idle, Machine, Server, clock_in}
 use Rattle.node_logs.specs.replay_spec.LogLaws.HonestServers.{heard_entries, with_reply}
 use Rattle.node_logs.specs.Steps.Nodes.{NodeParts, sender_of}
-use Rattle.node_logs.specs.Hearing.{HearsEnvelope, receipt_from}
+use Rattle.node_logs.specs.Receiving.{ReceivesEnvelope, receipt_from}
 use Rattle.node_logs.specs.Steps.Serving.{reading_at}
 use Rattle.node_logs.specs.Steps.Logging.{with_receipt}
 use Rattle.node_logs.specs.AckTaking.{ack_entry}
@@ -95,7 +95,7 @@ machine_stays s k h to (Some reply) = refl
 
 -- It answered what is owed.
 pub served_by : (s t : NodeParts) (time : Timeval) (body : List ℕ) (e : Envelope) (r : Receipt)
-    → e.body ≡ body → (h : HearsEnvelope s time e r t)
+    → e.body ≡ body → (h : ReceivesEnvelope s time e r t)
     → IsServed s time body (reply_owed h.world (reading_at s time) e.body) t
 served_by s t time body e r says h =
     let w = h.world in
@@ -107,7 +107,7 @@ served_by s t time body e r says h =
       owed =
           ap (λ (x : Timeval). reply_owed w x e.body) reading ∙ same_reply w time e.body ∙ ap (reply_owed w time) says;
       after =
-          ap (λ (x : NodeParts). x.state.machine) h.heard
+          ap (λ (x : NodeParts). x.state.machine) h.served
           ∙ machine_stays
           (heard_by s w e (reading_at s time) None).state _ _ e.from (reply_owed w (reading_at s time) e.body)
           ∙ ap (λ (x : Timeval). Server (world_after w x e.body) Idle) reading
@@ -152,25 +152,25 @@ server_long es e time o =
 pub asked_joined : (c s c1 t : NodeParts) (time : Timeval) (body : List ℕ) (r : Receipt) → IsJoined c s
     → IsAsked c s time body r c1 t → IsJoined c1 t
 asked_joined c s c1 t time body r joined asked =
-    let h = asked.heard.hears in
+    let h = asked.heard.receives in
     let e = asked.heard.envelope in
     let o = reply_owed h.world (reading_at s time) e.body in
     let client : c1.node ≡ c.node = ap (λ (n : NodeParts). n.node) asked.taken in
-    let server : t.node ≡ s.node = ap (λ (n : NodeParts). n.node) h.heard in
+    let server : t.node ≡ s.node = ap (λ (n : NodeParts). n.node) h.served in
     let long = client_long c s c1 t time body r asked in
     let numbered = asked.heard.call.numbered in
     let longer : length s.entries ≤ length t.entries =
-    subst (λ (n : NodeParts). length s.entries ≤ length n.entries) (sym h.heard)
+    subst (λ (n : NodeParts). length s.entries ≤ length n.entries) (sym h.served)
     (server_long s.entries e (reading_at s time) o) in
     record {
       two = λ same. joined.two (sym client ∙ same ∙ server);
-      client = subst (λ (ms : List Member). IsListed ms kinds.Client c1) (sym (ap (λ (n : NodeParts). n.roster) h.heard))
+      client = subst (λ (ms : List Member). IsListed ms kinds.Client c1) (sym (ap (λ (n : NodeParts). n.roster) h.served))
           (listed_stays s.roster kinds.Client c c1 client (ap (λ (n : NodeParts). n.signer.master) asked.taken)
           (ap (λ (n : NodeParts). n.signer.height) asked.taken) joined.client);
       server = subst (λ (ms : List Member). IsListed ms kinds.Server t) (sym (ap (λ (n : NodeParts). n.roster) asked.taken))
-          (listed_stays c.roster kinds.Server s t server (ap (λ (n : NodeParts). n.signer.master) h.heard)
-          (ap (λ (n : NodeParts). n.signer.height) h.heard) joined.server);
-      heard = subst (λ (n : NodeParts). ReceivesUpTo (length c1.entries) n.entries) (sym h.heard)
+          (listed_stays c.roster kinds.Server s t server (ap (λ (n : NodeParts). n.signer.master) h.served)
+          (ap (λ (n : NodeParts). n.signer.height) h.served) joined.server);
+      heard = subst (λ (n : NodeParts). ReceivesUpTo (length c1.entries) n.entries) (sym h.served)
           (server_up_to (length c1.entries) s.entries e (reading_at s time) o (omega (arith, long, numbered))
           (up_to_more (length c.entries) (length c1.entries) s.entries (omega (arith, long)) joined.heard));
       received = client_up_to c s c1 t time body r (length t.entries) asked
@@ -192,7 +192,7 @@ three es a b = omega (arith, length-append es (a ∷ b ∷ []))
 -- what is ready of a reply that the server logged
 reply_ready : (c s c1 t : NodeParts) (time : Timeval) (body : List ℕ) (r : Receipt) (number : ℕ) (reply : List ℕ)
     → IsJoined c s → (asked : IsAsked c s time body r c1 t) → IsSender (sender_of t) → number ≡ length s.entries + 1 + 2
-    → t ≡ heard_by s asked.heard.hears.world asked.heard.envelope (reading_at s time) (Some reply)
+    → t ≡ heard_by s asked.heard.receives.world asked.heard.envelope (reading_at s time) (Some reply)
     → (ready : IsReplyReady c1 t number) × (ready.envelope.body ≡ reply)
 reply_ready c s c1 t time body r number reply joined asked is at heard_it =
     let e = asked.heard.envelope in
@@ -235,7 +235,7 @@ reply_ready c s c1 t time body r number reply joined asked is at heard_it =
         client = joined1.client;
         awaited = subst (λ (n : NodeParts). IsSome (finite.get n.state.sends number)) (sym heard_it)
             (subst (λ (j : ℕ). IsSome (finite.get
-            (heard_by s asked.heard.hears.world e reading (Some reply)).state.sends j)) sent
+            (heard_by s asked.heard.receives.world e reading (Some reply)).state.sends j)) sent
             (sent_there s.state.sends (length s.entries + 1 + 1 + 1) _));
       },
       k.says,
@@ -245,28 +245,28 @@ reply_ready c s c1 t time body r number reply joined asked is at heard_it =
 pub reply_due : (c s c1 t : NodeParts) (time : Timeval) (body : List ℕ) (r : Receipt) (number : ℕ) → IsJoined c s
     → IsAsked c s time body r c1 t → IsSender (sender_of t) → r.reply ≡ Some number → IsDue c1 s t time body number
 reply_due c s c1 t time body r number joined asked is owed =
-    by (reply_owed asked.heard.hears.world (reading_at s time) asked.heard.envelope.body) refl
+    by (reply_owed asked.heard.receives.world (reading_at s time) asked.heard.envelope.body) refl
   where
     serves : IsServed s time body
-        (reply_owed asked.heard.hears.world (reading_at s time) asked.heard.envelope.body) t
-    serves = served_by s t time body asked.heard.envelope r asked.heard.call.says asked.heard.hears
+        (reply_owed asked.heard.receives.world (reading_at s time) asked.heard.envelope.body) t
+    serves = served_by s t time body asked.heard.envelope r asked.heard.call.says asked.heard.receives
 
     by : (o : Option (List ℕ))
-        → reply_owed asked.heard.hears.world (reading_at s time) asked.heard.envelope.body ≡ o
+        → reply_owed asked.heard.receives.world (reading_at s time) asked.heard.envelope.body ≡ o
         → IsDue c1 s t time body number
     by None x =
         let none : r.reply ≡ None =
-        ap (λ (y : Receipt). y.reply) asked.heard.hears.receipt
+        ap (λ (y : Receipt). y.reply) asked.heard.receives.receipt
         ∙ ap (λ (o : Option (List ℕ)). (receipt_from (length s.entries + 1) o).reply) x in
         absurd (cc)
     by (Some reply) x =
         let some : r.reply ≡ Some (length s.entries + 1 + 2) =
-        ap (λ (y : Receipt). y.reply) asked.heard.hears.receipt
+        ap (λ (y : Receipt). y.reply) asked.heard.receives.receipt
         ∙ ap (λ (o : Option (List ℕ)). (receipt_from (length s.entries + 1) o).reply) x in
         let at : number ≡ length s.entries + 1 + 2 = some_same (sym owed ∙ some) in
-        let heard_it : t ≡ heard_by s asked.heard.hears.world asked.heard.envelope (reading_at s time) (Some reply) =
-        asked.heard.hears.heard
-        ∙ ap (heard_by s asked.heard.hears.world asked.heard.envelope (reading_at s time)) x in
+        let heard_it : t ≡ heard_by s asked.heard.receives.world asked.heard.envelope (reading_at s time) (Some reply) =
+        asked.heard.receives.served
+        ∙ ap (heard_by s asked.heard.receives.world asked.heard.envelope (reading_at s time)) x in
         let y = reply_ready c s c1 t time body r number reply joined asked is at heard_it in
         record {
           ready = y.0;
@@ -279,17 +279,17 @@ reply_due c s c1 t time body r number joined asked is owed =
 pub none_due : (c s c1 t : NodeParts) (time : Timeval) (body : List ℕ) (r : Receipt)
     → IsAsked c s time body r c1 t → r.reply ≡ None → IsServed s time body None t
 none_due c s c1 t time body r asked none =
-    by (reply_owed asked.heard.hears.world (reading_at s time) asked.heard.envelope.body) refl
+    by (reply_owed asked.heard.receives.world (reading_at s time) asked.heard.envelope.body) refl
   where
     by : (o : Option (List ℕ))
-        → reply_owed asked.heard.hears.world (reading_at s time) asked.heard.envelope.body ≡ o
+        → reply_owed asked.heard.receives.world (reading_at s time) asked.heard.envelope.body ≡ o
         → IsServed s time body None t
     by None x =
         subst (λ (o : Option (List ℕ)). IsServed s time body o t) x
-        (served_by s t time body asked.heard.envelope r asked.heard.call.says asked.heard.hears)
+        (served_by s t time body asked.heard.envelope r asked.heard.call.says asked.heard.receives)
     by (Some reply) x =
         let some : r.reply ≡ Some (length s.entries + 1 + 2) =
-        ap (λ (y : Receipt). y.reply) asked.heard.hears.receipt
+        ap (λ (y : Receipt). y.reply) asked.heard.receives.receipt
         ∙ ap (λ (o : Option (List ℕ)). (receipt_from (length s.entries + 1) o).reply) x in
         absurd (cc)
 

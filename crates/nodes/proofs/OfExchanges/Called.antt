@@ -28,7 +28,7 @@ use Rattle.node_logs.specs.replay_spec.Steps.{received_message}
 use Rattle.node_logs.specs.replay_spec.LogLaws.HonestServers.{heard_entries, hash_before_reply, with_reply}
 use Rattle.node_logs.specs.Steps.Nodes.{NodeParts, sender_of}
 use Rattle.node_logs.specs.Nodes.{LacksKeys}
-use Rattle.node_logs.specs.Hearing.{HearsEnvelope}
+use Rattle.node_logs.specs.Receiving.{ReceivesEnvelope}
 use Rattle.node_logs.specs.Steps.Serving.{keys_for, reading_at}
 use Rattle.node_logs.specs.Steps.Logging.{with_send}
 use Rattle.node_logs.specs.declared.outcome.Receipt.{Receipt}
@@ -166,15 +166,15 @@ recv_first e time (Some reply) = (Clock time.seconds time.microseconds ∷ Send 
 
 -- The acknowledgement of a call reaches the client.
 pub call_acknowledged : (c s t : NodeParts) (body : List ℕ) (e : Envelope) (time : Timeval) (r : Receipt) → IsJoined c s
-    → IsCall c s body e → HearsEnvelope s time e r t → IsSender (sender_of t)
+    → IsCall c s body e → ReceivesEnvelope s time e r t → IsSender (sender_of t)
     → (a : Ack) × AckReaches t kinds.Server r.ack (having_called c s body) a
-call_acknowledged c s t body e time r joined call hears is =
+call_acknowledged c s t body e time r joined call receives is =
     let reading = reading_at s time in
-    let o = reply_owed hears.world reading e.body in
+    let o = reply_owed receives.world reading e.body in
     let first = recv_first e reading o in
     let log : t.entries ≡ s.entries ++ Recv e.from e.seq e.prev e.body e.signature ∷ first.0 =
-    ap (λ (x : NodeParts). x.entries) hears.heard ∙ ap (λ (es : List Entry). s.entries ++ es) first.1 in
-    let node : t.node ≡ s.node = ap (λ (x : NodeParts). x.node) hears.heard in
+    ap (λ (x : NodeParts). x.entries) receives.served ∙ ap (λ (es : List Entry). s.entries ++ es) first.1 in
+    let node : t.node ≡ s.node = ap (λ (x : NodeParts). x.node) receives.served in
     let x = ack_shown (sender_of t) s.entries first.0 e.from e.seq e.prev e.body e.signature is log in
     let a = x.0 in
     let h = x.1 in
@@ -190,11 +190,11 @@ call_acknowledged c s t body e time r joined call hears is =
     } in (
       a,
       record {
-        ack = ap (ack_at (sender_of t)) (ap (λ (x : Receipt). x.ack) hears.receipt) ∙ h.there;
+        ack = ap (ack_at (sender_of t)) (ap (λ (x : Receipt). x.ack) receives.receipt) ∙ h.there;
         fits = subst (λ (o : Option Envelope). IsSomeAnd o (FitsEnvelope a))
             (sym (ap (envelope_at (sender_of c1)) seq ∙ call.shown)) fits;
         listed = listed_stays c.roster kinds.Server s t node
-            (ap (λ (x : NodeParts). x.signer.master) hears.heard) (ap (λ (x : NodeParts). x.signer.height) hears.heard)
+            (ap (λ (x : NodeParts). x.signer.master) receives.served) (ap (λ (x : NodeParts). x.signer.height) receives.served)
             joined.server;
         awaited = subst (λ (k : ℕ). IsSome (finite.get c1.state.sends k)) (sym seq)
             (sent_there c.state.sends (length c.entries + 1) _);

@@ -25,10 +25,10 @@ use Rattle.commitment.proofs.OfSenders.Meanings.{ack_law, authenticator_law, env
 use Rattle.nfs_items.specs.Timeval.{Timeval}
 use Rattle.node_logs.specs.Steps.Nodes.{NodeParts, receiver_of, sender_of}
 use Rattle.node_logs.specs.Nodes.{LacksKeys}
-use Rattle.node_logs.specs.Hearing.{Hears, HearsEnvelope}
+use Rattle.node_logs.specs.Receiving.{Receives, ReceivesEnvelope}
 use Rattle.node_logs.specs.AckTaking.{TakesAck, with_ack}
-use Rattle.node_logs.specs.declared.outcome.Heard.{Heard}
-use Rattle.node_logs.specs.declared.outcome.Heard.TheVariants.{New}
+use Rattle.commitment.specs.declared.outcome.Received.{Received}
+use Rattle.commitment.specs.declared.outcome.Received.TheVariants.{New}
 use Rattle.node_logs.specs.declared.outcome.AckTaken.{AckTaken}
 use Rattle.node_logs.specs.declared.outcome.AckTaken.TheVariants.{Logged, Already}
 use Rattle.node_logs.specs.declared.outcome.Receipt.{Receipt}
@@ -94,17 +94,17 @@ call_found a n b kind number e bytes text node is written same h =
     found a b kind number e bytes (subst (λ (x : NodeParts). IsSender (sender_of x)) node is) h
     (subst (IsText envelope_text (envelope_value e)) (sym same) (written e shown))
 
--- What a server hears by it.
-pub heard_as : (n n' : NodeParts) (time : Timeval) (bytes : List ℕ) (e : Envelope) (r : Receipt) (h : Heard)
-    → Finds (receiver_of n) bytes e None → h ≡ New r → Hears n time bytes (Ok h) n'
-    → (LacksKeys 2 n → ⊥) × HearsEnvelope n time e r n'
-heard_as n n' time bytes e r h f is hears =
-    by (subst (λ (x : Heard). Hears n time bytes (Ok x) n') is hears)
+-- What a server receives by it.
+pub received_as : (n n' : NodeParts) (time : Timeval) (bytes : List ℕ) (e : Envelope) (r : Receipt) (h : Received Receipt)
+    → Finds (receiver_of n) bytes e None → h ≡ New r → Receives n time bytes (Ok h) n'
+    → (LacksKeys 2 n → ⊥) × ReceivesEnvelope n time e r n'
+received_as n n' time bytes e r h f is receives =
+    by (subst (λ (x : Received Receipt). Receives n time bytes (Ok x) n') is receives)
   where
-    by : Hears n time bytes (Ok (New r)) n' → (LacksKeys 2 n → ⊥) × HearsEnvelope n time e r n'
+    by : Receives n time bytes (Ok (New r)) n' → (LacksKeys 2 n → ⊥) × ReceivesEnvelope n time e r n'
     by x =
         let same : x.0 ≡ e = one_envelope bytes x.0 e x.1.0.opened.0.text f.opened.0.text in
-        (x.1.1, subst (λ (y : Envelope). HearsEnvelope n time y r n') same x.1.2)
+        (x.1.1, subst (λ (y : Envelope). ReceivesEnvelope n time y r n') same x.1.2)
 
 -- ---- acknowledgements
 

@@ -12,7 +12,7 @@ use Rattle.gateway.specs.service.Replies.{reply_owed, world_after}
 use Rattle.state_spec.specs.State.{Idle, Server}
 use Rattle.node_logs.specs.Steps.Nodes.{NodeParts, sender_of}
 use Rattle.node_logs.specs.Nodes.{LacksKeys}
-use Rattle.node_logs.specs.Hearing.{HearsEnvelope}
+use Rattle.node_logs.specs.Receiving.{ReceivesEnvelope}
 use Rattle.node_logs.specs.Steps.Logging.{with_receipt, with_send}
 use Rattle.node_logs.specs.AckTaking.{with_ack}
 use Rattle.node_logs.specs.declared.outcome.Receipt.{Receipt}
@@ -52,14 +52,14 @@ pub record IsCall (c s : NodeParts) (body : List ℕ) (e : Envelope) : Type 0 wh
   pub numbered : e.seq ≡ length c.entries + 1
   pub says : e.body ≡ body
 
--- The client sent a body, and the server heard it.
+-- The client sent a body, and the server received it.
 pub record IsHeard (c s : NodeParts) (time : Timeval) (body : List ℕ) (r : Receipt) (s' : NodeParts)
     : Type 0 where
   pub left : ¬ LacksKeys 1 c
   pub envelope : Envelope
   pub call : IsCall c s body envelope
   pub server_left : ¬ LacksKeys 2 s
-  pub hears : HearsEnvelope s time envelope r s'
+  pub receives : ReceivesEnvelope s time envelope r s'
 
 -- And the client took the server's acknowledgement.
 pub record IsAsked (c s : NodeParts) (time : Timeval) (body : List ℕ) (r : Receipt) (c' s' : NodeParts)

@@ -12,7 +12,7 @@ use Rattle.commitment.specs.Receiver.{Finds}
 use Rattle.commitment.specs.Senders.Sender.{IsSender}
 use Rattle.nfs_items.specs.Timeval.{Timeval}
 use Rattle.node_logs.specs.Steps.Nodes.{NodeParts, receiver_of, sender_of}
-use Rattle.node_logs.specs.Hearing.{HearsEnvelope}
+use Rattle.node_logs.specs.Receiving.{ReceivesEnvelope}
 use Rattle.node_logs.specs.declared.outcome.Receipt.{Receipt}
 use Rattle.nodes.specs.Exchanges.Exchanges.{IsAsked, IsCall, IsJoined, IsOwed, IsReplied, IsServed, MayJoin}
 use Rattle.nodes.specs.Exchanges.Exchanges.{having_called}
@@ -42,7 +42,7 @@ pub record IsAccepted (n : NodeParts) (a : Ack) : Type 0 where
 abbrev pub AcksAreAccepted : Type 0
 AcksAreAccepted =
     (c s t : NodeParts) (body : List ℕ) (e : Envelope) (time : Timeval) (r : Receipt) (a : Ack) → IsJoined c s
-    → IsCall c s body e → HearsEnvelope s time e r t → IsSender (sender_of t)
+    → IsCall c s body e → ReceivesEnvelope s time e r t → IsSender (sender_of t)
     → ack_at (sender_of t) r.ack ≡ Some a → IsAccepted (having_called c s body) a
 
 -- ---- what an exchange gives

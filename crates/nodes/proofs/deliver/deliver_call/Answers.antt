@@ -1,8 +1,8 @@
 use Rattle.nodes.proofs.OfExchanges.Reached.{call_found}
 use Rattle.nodes.proofs.deliver.deliver_call.Goals as goal
 
-pub returns-clause-hears : goal.returns-clause-hears
-returns-clause-hears c e h =
-    c.hear.ensures.hears e
+pub returns-clause-receives : goal.returns-clause-receives
+returns-clause-receives c e h =
+    c.receive.ensures.receives e
     (call_found c.args.client.now c.node.result.now c.args.server.now _ c.args.number e _ _ c.node.ensures.node
     c.in_ok-write_envelope.ensures.sender c.in_ok-write_envelope.ensures.written c.deref.ensures.value h)

@@ -17,8 +17,8 @@ returns-clause-calls g = λ c s body bytes e joined is call text.
     (subst (λ (f : Envelope). Reaches (having_called c s body) kinds.Client (length c.entries + 1) s f) same x.1.1) text
 
 pub returns-clause-acks : goal.returns-clause-acks
-returns-clause-acks g = λ c s t body e time r a joined call hears is made.
-    let x = call_acknowledged c s t body e time r joined call hears is in
+returns-clause-acks g = λ c s t body e time r a joined call receives is made.
+    let x = call_acknowledged c s t body e time r joined call receives is in
     let same : x.0 ≡ a = some_same (sym x.1.ack ∙ made) in
     let reaches = subst (λ (k : Ack). AckReaches t kinds.Server r.ack (having_called c s body) k) same x.1 in
     record {
