@@ -5,7 +5,8 @@ use Rattle.std.proofs.Common.{length, append-nil, Option, Some, None, refl, sym,
 use Rattle.std.proofs.Common.{◌∙◌, arith}
 use Rattle.authenticator.specs.declared.member.Member.{Member}
 use Rattle.secure_log.specs.Segment.{SegmentParts, ClosedParts, segment_pairs}
-use Rattle.evidence_spec.specs.Showing.{IsAmong, segment_showing}
+use Rattle.secure_log.specs.LogEntries.Chain.{IsAmong}
+use Rattle.evidence_spec.specs.Showing.{segment_showing}
 use Rattle.evidence_spec.specs.Evidence.{EvidenceParts}
 use Rattle.witness_spec.specs.Replies.{Accepted}
 use Rattle.witness_spec.specs.Steps.{Answer, Past}

@@ -19,7 +19,7 @@ use Rattle.replay_spec.specs.Replay.{Verdict, Sound, Fault}
 use Rattle.replay_spec.specs.LogLaws.Laws.{SendsLieBelow}
 use Rattle.replay_spec.proofs.Runs.{is_sound}
 use Rattle.replay_spec.proofs.OfLogLaws.Counts.{lie_below}
-use Rattle.evidence_spec.specs.Showing.{IsAmong}
+use Rattle.secure_log.specs.LogEntries.Chain.{IsAmong}
 use Rattle.evidence_spec.specs.Evidence.{Charge, Replay, EvidenceParts}
 use Rattle.witness_spec.specs.Events.{DoneParts}
 use Rattle.witness_spec.specs.Replies.{Filed}

@@ -16,7 +16,7 @@ use Rattle.packets.specs.Packet as packets
 use Rattle.packets.specs.Judging.{judged}
 use Rattle.replay_spec.specs.Opening.{opening_by}
 use Rattle.replay_spec.specs.LogLaws.Laws.{SendsLieBelow}
-use Rattle.evidence_spec.specs.Showing.{IsAmong}
+use Rattle.secure_log.specs.LogEntries.Chain.{IsAmong}
 use Rattle.witness_spec.specs.Refusals.{Refusal, BadSignature}
 use Rattle.witness_spec.specs.Events.{PublicKey, Event, IsEvent}
 use Rattle.witness_spec.specs.Events as events

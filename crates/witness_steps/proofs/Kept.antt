@@ -7,7 +7,8 @@ use Rattle.std.specs.Prelude.{option_map, option_and_then}
 use Rattle.std.specs.List.{AllByRecursion}
 use Rattle.authenticator.specs.declared.authenticator.Authenticator.{Authenticator}
 use Rattle.secure_log.specs.Segment.{SegmentParts, segment_pairs}
-use Rattle.evidence_spec.specs.Showing.{ShowingParts, IsAmong}
+use Rattle.secure_log.specs.LogEntries.Chain.{IsAmong}
+use Rattle.evidence_spec.specs.Showing.{ShowingParts}
 use Rattle.evidence_spec.specs.Evidence.{Charge, Fork, EvidenceParts}
 use Rattle.witness_spec.specs.Pairs.{Pair, pair_of, first_pair, first_fork}
 use Rattle.witness_spec.specs.Exposing.{fork_of, showing_before}

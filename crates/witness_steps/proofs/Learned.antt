@@ -11,7 +11,8 @@ use Rattle.authenticator.specs.declared.member.Member.{Member}
 use Rattle.authenticator.specs.Signing.{is_same}
 use Rattle.authenticator.proofs.Signed.{list_same}
 use Rattle.secure_log.specs.Segment.{segment_pairs}
-use Rattle.evidence_spec.specs.Showing.{IsAmong, authenticator_showing}
+use Rattle.secure_log.specs.LogEntries.Chain.{IsAmong}
+use Rattle.evidence_spec.specs.Showing.{authenticator_showing}
 use Rattle.evidence_spec.specs.Evidence.{EvidenceParts}
 use Rattle.witness_spec.specs.Replies.{Noted}
 use Rattle.witness_spec.specs.Steps.{Learn, Past}

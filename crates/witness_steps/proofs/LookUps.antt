@@ -12,7 +12,7 @@ use Rattle.authenticator.proofs.Signed.{same_list, list_same}
 use Rattle.secure_log.specs.declared.log_entries.entry.Entry.{Entry}
 use Rattle.secure_log.specs.LogEntries.Chain.{zeros, pairs, hash_after, link_of, links_from}
 use Rattle.secure_log.specs.Segment.{SegmentParts, segment_pairs}
-use Rattle.evidence_spec.specs.Showing.{IsAmong}
+use Rattle.secure_log.specs.LogEntries.Chain.{IsAmong}
 use Rattle.evidence_spec.specs.Evidence.{EvidenceParts}
 use Rattle.witness_spec.specs.Steps.{Past}
 use Rattle.witness_spec.specs.Pairs.{Pair, same_pair, differ, is_shown, is_fork}

@@ -3,7 +3,7 @@
 use Rattle.std.proofs.Common.{◌≡◌, inl, inr, cond, List, [], ◌∷◌, map, Some, refl, ap, ◌∙◌}
 use Rattle.authenticator.specs.Roster.{IsRoster, member_of}
 use Rattle.authenticator.specs.declared.member.Member.{Member}
-use Rattle.evidence_spec.specs.Showing.{IsAmong}
+use Rattle.secure_log.specs.LogEntries.Chain.{IsAmong}
 use Rattle.witness_spec.specs.Replies.{Exposed}
 use Rattle.witness_spec.specs.Steps.{Past}
 use Rattle.witness_spec.specs.Standing.{is_exposed, without_evidence, indication}

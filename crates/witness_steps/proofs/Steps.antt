@@ -16,7 +16,7 @@ use Rattle.envelopes.specs.declared.envelope.Envelope.{Envelope}
 use Rattle.envelopes.specs.declared.acknowledgement.Ack.{Ack}
 use Rattle.state_spec.specs.State.{State}
 use Rattle.replay_spec.specs.Replay.{segment_verdict}
-use Rattle.evidence_spec.specs.Showing.{IsAmong}
+use Rattle.secure_log.specs.LogEntries.Chain.{IsAmong}
 use Rattle.witness_spec.specs.Refusals.{NotAsked, TooFar, BookFull, OutboxFull, LearnedFull, NothingToAudit}
 use Rattle.witness_spec.specs.Events.{JobParts, DoneParts, Question}
 use Rattle.witness_spec.specs.Replies.{Reply, Noted, Already, Opened, Accepted, Closed, Asked, Job, Filed}

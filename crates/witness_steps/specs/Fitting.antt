@@ -5,7 +5,7 @@ use Rattle.authenticator.specs.declared.authenticator.Authenticator.{Authenticat
 use Rattle.authenticator.specs.declared.member.Member.{Member}
 use Rattle.secure_log.specs.Segment.{SegmentParts, segment_pairs}
 use Rattle.replay_spec.specs.LogLaws.Laws.{SendsLieBelow}
-use Rattle.evidence_spec.specs.Showing.{IsAmong}
+use Rattle.secure_log.specs.LogEntries.Chain.{IsAmong}
 use Rattle.witness_spec.specs.Steps.{Past}
 use Rattle.witness_spec.specs.Pairs.{pair_of}
 use Rattle.witness_spec.specs.Standing.{Stage, NoAudit, Wanted}

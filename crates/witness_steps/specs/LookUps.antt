@@ -4,7 +4,7 @@ use Rattle.std.specs.Prelude.{if◌then◌else◌}
 use Rattle.authenticator.specs.Signing.{is_same}
 use Rattle.secure_log.specs.LogEntries.Chain.{zeros}
 use Rattle.secure_log.specs.Segment.{SegmentParts, segment_pairs}
-use Rattle.evidence_spec.specs.Showing.{IsAmong}
+use Rattle.secure_log.specs.LogEntries.Chain.{IsAmong}
 use Rattle.witness_spec.specs.Pairs.{Pair}
 use Rattle.witness_spec.specs.Exposing.{segment_holding}
 use Rattle.witness_steps.specs.Books.{Book, exposed, book_shown}

@@ -5,7 +5,7 @@ use Rattle.authenticator.specs.declared.member.Member.{Member}
 use Rattle.authenticator.proofs.Signed.{list_same}
 use Rattle.secure_log.specs.LogEntries.Chain.{zeros}
 use Rattle.replay_spec.specs.Stepping.{step}
-use Rattle.witness_spec.specs.evidence_spec.Showing.{IsAmong}
+use Rattle.secure_log.specs.LogEntries.Chain.{IsAmong}
 use Rattle.witness_spec.specs.Replies.{Opened, Closed, SendOf}
 use Rattle.witness_spec.specs.Steps.{Past}
 use Rattle.witness_spec.specs.Histories.{History, own, own_step, HoldSame, StandsFor, Stands}

@@ -13,7 +13,7 @@ use Rattle.secure_log.specs.Segment.{SegmentParts, ClosedParts}
 use Rattle.envelopes.specs.Envelope.{envelope_message}
 use Rattle.envelopes.specs.declared.envelope.Envelope.{Envelope}
 use Rattle.envelopes.specs.declared.message.Message.{Message}
-use Rattle.witness_spec.specs.evidence_spec.Showing.{IsAmong}
+use Rattle.secure_log.specs.LogEntries.Chain.{IsAmong}
 use Rattle.witness_spec.specs.Events as events
 use Rattle.witness_spec.specs.Replies.{Accepted, Challenge, AuditOf, SendOf}
 use Rattle.witness_spec.specs.Steps.{Answer}
