@@ -13,3 +13,4 @@ pub mod Standing
 pub mod AnyBook
 pub mod LookUps
 pub mod AllBooks
+pub mod Limits

@@ -7,7 +7,7 @@ use Rattle.std.proofs.Common.{refl, sym}
 use Rattle.std.proofs.Common.{ap, ap₂, subst, ◌∙◌, arith, eqb-true}
 use Rattle.std.specs.Prelude.{is_some}
 use Rattle.std.specs.List.{AllByRecursion}
-use Rattle.std.proofs.lemmas.Bool.{and_parts, true≢false}
+use Rattle.std.proofs.lemmas.Bool.{and_parts, true≢false, ltb-false}
 use Rattle.std.proofs.lemmas.List.Sums.{sum_by_from}
 use Rattle.authenticator.specs.declared.authenticator.Authenticator.{Authenticator}
 use Rattle.authenticator.specs.declared.member.Member.{Member}
@@ -104,11 +104,19 @@ fits_at b s n c f rest agrees = record {
 -- ---- what a reply tells of the book
 
 -- an audit that asks: there was none, the node isn't exposed, and the numbers follow on the end
-record Asks (b : Book) (first last : ℕ) : Type 0 where
-  none : b.stage ≡ NoAudit
-  hidden : exposed b ≡ false
-  first_is : first ≡ b.end.number + 1
-  order : first ≤ last
+pub record Asks (b : Book) (first last : ℕ) : Type 0 where
+  -- there was no audit
+  pub none : b.stage ≡ NoAudit
+  -- the node isn't exposed
+  pub hidden : exposed b ≡ false
+  -- it begins after the end
+  pub first_is : first ≡ b.end.number + 1
+  -- the numbers are in order
+  pub order : first ≤ last
+  -- so many entries may be audited
+  pub few : last ≤ MAX_AUDITED
+  -- what it finds has room
+  pub room : length b.outbox + (last - b.end.number) ≤ MAX_OUTBOX
 
 asked_same : (f l k n : ℕ) → Asked f l ≡ Asked k n → (f ≡ k) × (l ≡ n)
 asked_same f l k n h = (cc, cc)
@@ -118,19 +126,22 @@ all_by : (end : ℕ) (xs : List Authenticator) → ((a : Authenticator) → IsAm
 all_by end [] each = tt
 all_by end (x ∷ xs) each = (each x (inl refl), all_by end xs (λ a i. each a (inr i)))
 
-asks : (b : Book) (first last : ℕ) → FitsTogether b → Asked first last ≡ reply_to_audit b b.stage
+-- what a reply that asks tells of the book
+pub asks : (b : Book) (first last : ℕ) → FitsTogether b → Asked first last ≡ reply_to_audit b b.stage
     → Asks b first last
 asks b first last fits told = by b.stage refl (told)
   where
-    upto : (x y z : Bool) → (last_in_reach b.end.number b.learned == 0) ≡ x → b.stage ≡ NoAudit
-        → exposed b ≡ false
+    upto : (x y z : Bool) → (last_in_reach b.end.number b.learned == 0) ≡ x
+        → nat_lt MAX_AUDITED (last_in_reach b.end.number b.learned) ≡ y
+        → nat_lt MAX_OUTBOX (length b.outbox + (last_in_reach b.end.number b.learned - b.end.number)) ≡ z
+        → b.stage ≡ NoAudit → exposed b ≡ false
         → Asked first last ≡ cond x (Refused TooFar) (cond y (Refused BookFull) (cond z (Refused OutboxFull)
         (Asked (b.end.number + 1) (last_in_reach b.end.number b.learned))))
         → Asks b first last
-    upto true y z e none hidden h = absurd (cc)
-    upto false true z e none hidden h = absurd (cc)
-    upto false false true e none hidden h = absurd (cc)
-    upto false false false e none hidden h =
+    upto true y z e f g none hidden h = absurd (cc)
+    upto false true z e f g none hidden h = absurd (cc)
+    upto false false true e f g none hidden h = absurd (cc)
+    upto false false false e f g none hidden h =
         let same = asked_same first last (b.end.number + 1) (last_in_reach b.end.number b.learned) h in
         let reach = in_reach b.learned b.end.number b.learned (λ a i. i)
         (all_by b.end.number b.learned fits.above) e in
@@ -139,6 +150,13 @@ asks b first last fits told = by b.stage refl (told)
           hidden = hidden;
           first_is = same.0;
           order = omega (arith, same.0, same.1, reach.0.order);
+          few = omega (arith, same.1, ltb-false MAX_AUDITED (last_in_reach b.end.number b.learned) f);
+          room = omega (
+            arith,
+            same.1,
+            ltb-false MAX_OUTBOX
+                (length b.outbox + (last_in_reach b.end.number b.learned - b.end.number)) g,
+          );
         }
 
     by_learned : (x : Bool) (l : List Authenticator) → b.learned ≡ l → exposed b ≡ x → b.stage ≡ NoAudit
@@ -149,7 +167,7 @@ asks b first last fits told = by b.stage refl (told)
         upto (last_in_reach b.end.number b.learned == 0)
         (nat_lt MAX_AUDITED (last_in_reach b.end.number b.learned))
         (nat_lt MAX_OUTBOX
-        (length b.outbox + (last_in_reach b.end.number b.learned - b.end.number))) refl none is
+        (length b.outbox + (last_in_reach b.end.number b.learned - b.end.number))) refl refl refl none is
         (h ∙ ap (λ xs. ask_up_to b.end.number (length b.outbox) (last_in_reach b.end.number xs)) (sym e))
 
     by : (s : Stage) → b.stage ≡ s → Asked first last ≡ reply_to_audit b b.stage → Asks b first last
@@ -164,11 +182,14 @@ asks b first last fits told = by b.stage refl (told)
         let no : Asked first last ≡ reply_to_audit b (Out c) = h ∙ ap (reply_to_audit b) is in absurd (cc)
 
 -- a job that begins: it is of the segment that was given, and the node isn't exposed
-record Begins (b : Book) (j : JobParts) : Type 0 where
-  given : b.stage ≡ Given j.segment
-  hidden : exposed b ≡ false
+pub record Begins (b : Book) (j : JobParts) : Type 0 where
+  -- its segment was given
+  pub given : b.stage ≡ Given j.segment
+  -- the node isn't exposed
+  pub hidden : exposed b ≡ false
 
-begins : (b : Book) (j : JobParts) → Job j ≡ reply_to_begin b b.stage → Begins b j
+-- what a reply that begins a job tells of the book
+pub begins : (b : Book) (j : JobParts) → Job j ≡ reply_to_begin b b.stage → Begins b j
 begins b j told = by b.stage refl
   where
     job_same : (k : JobParts) → Job j ≡ Job k → j ≡ k
@@ -191,11 +212,14 @@ begins b j told = by b.stage refl
     by (Out c) is = let no : Job j ≡ reply_to_begin b (Out c) = told ∙ ap (reply_to_begin b) is in absurd (cc)
 
 -- the job that is out is of the segment that is, and begins from the end's state
-record IsOutOf (b : Book) (j : JobParts) : Type 0 where
-  at : b.stage ≡ Out j.segment
-  state : j.state ≡ b.end.state
+pub record IsOutOf (b : Book) (j : JobParts) : Type 0 where
+  -- its segment is out
+  pub at : b.stage ≡ Out j.segment
+  -- its state is the end's
+  pub state : j.state ≡ b.end.state
 
-out_of : (b : Book) (j : JobParts) → job_out b ≡ Some j → IsOutOf b j
+-- what it tells of the book that a job is out
+pub out_of : (b : Book) (j : JobParts) → job_out b ≡ Some j → IsOutOf b j
 out_of b j h = by b.stage refl
   where
     by : (s : Stage) → b.stage ≡ s → IsOutOf b j
@@ -210,7 +234,7 @@ out_of b j h = by b.stage refl
         }
 
 -- an answer that is accepted is what was asked for
-was_wanted : (s : Stage) (c : ClosedParts) → Accepted ≡ answer_reply s c
+pub was_wanted : (s : Stage) (c : ClosedParts) → Accepted ≡ answer_reply s c
     → s ≡ Wanted c.segment.first c.segment.closing.number
 was_wanted NoAudit c h = absurd (cc)
 was_wanted (Given d) c h = absurd (cc)
@@ -228,7 +252,7 @@ was_wanted (Wanted f l) c h =
         (sym (eqb-true c.segment.closing.number l both.1))
 
 -- what comes back is the job that is out
-returned_is : (x : Bool) (o : Option JobParts) (good wrong none : Reply) → (good ≡ wrong → ⊥)
+pub returned_is : (x : Bool) (o : Option JobParts) (good wrong none : Reply) → (good ≡ wrong → ⊥)
     → (good ≡ none → ⊥)
     → good ≡ back_reply x o good wrong none → x ≡ true
 returned_is x None good wrong none f g h = absurd (g h)

@@ -17,6 +17,7 @@ use Rattle.witness_steps.specs.Replying.{BookOwes}
 use Rattle.witness_steps.specs.Going.{book_after, book_after_steps}
 use Rattle.witness_steps.specs.Fitting.{FitsTogether, IsBookOf}
 use Rattle.witness_steps.specs.LookUps.{hash_shown, is_hash, is_other_hash, HasOneHash}
+use Rattle.witness_steps.specs.Keeping.{KeepsLimits}
 use Rattle.witness_steps.specs.Together.{book_at, with_book_at, AreKept}
 
 -- A member's book after its own steps of a history replies to each step what is owed after that history, and
@@ -148,3 +149,22 @@ LookUpsTell =
     → FitsTogether b → HasOneHash b → exposed b ≡ false
     → (is_shown (number, x) (book_shown b) ≡ is_hash x (hash_shown b number))
     × (is_fork (number, x) (book_shown b) ≡ is_other_hash x (hash_shown b number))
+
+-- ---- limits
+
+-- A member's book after its own steps of a history keeps its limits.
+abbrev pub BooksKeepLimits : Type 0
+BooksKeepLimits =
+    (ms : List Member) (m : Member) (history : History)
+    → member_of ms m.node ≡ Some m → IsHistory ms history
+    → KeepsLimits (book_after_steps m (own ms m.node history))
+
+-- So does any book that fits together, stands for them and keeps its limits, with each further step.
+abbrev pub AnyBookKeepsLimits : Type 0
+AnyBookKeepsLimits =
+    (ms : List Member) (m : Member) (history : History) (b : Book) (event : Event) (step : Step)
+    (reply : Reply)
+    → member_of ms m.node ≡ Some m → IsHistory ms history
+    → FitsTogether b → IsBookOf ms m (own ms m.node history) b → KeepsLimits b
+    → IsEvent event → whose ms event ≡ Ok (record { member = m; step = step }) → BookOwes b step reply
+    → KeepsLimits (book_after b step reply)

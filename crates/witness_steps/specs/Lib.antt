@@ -4,4 +4,5 @@ pub mod Going
 pub mod Fitting
 pub mod Together
 pub mod LookUps
+pub mod Keeping
 pub mod Laws

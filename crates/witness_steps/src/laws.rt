@@ -5,6 +5,7 @@ ghost use Rattle.witness_steps.specs.Laws.{BooksTellTheIndication, BooksHaveTheA
 ghost use Rattle.witness_steps.specs.Laws.{BooksHaveEvidenceIfExposed, AnyBookOwesTheSame, AnyBookGoesOn};
 ghost use Rattle.witness_steps.specs.Laws.{AnyBookKeepsItsContract, OpeningsStand, OpeningBooksAreKept};
 ghost use Rattle.witness_steps.specs.Laws.{KeptBooksStep, KeptBooksHaveOneHash, LookUpsTell};
+ghost use Rattle.witness_steps.specs.Laws.{BooksKeepLimits, AnyBookKeepsLimits};
 
 /// A member's book after its own steps of a history replies to each further step what is owed to it after
 /// that history, and nothing else; it tells the indication that is told of the node, and has evidence exactly
@@ -59,4 +60,12 @@ pub fn kept_books_step()
 pub fn look_ups_tell()
     ensures one { KeptBooksHaveOneHash }
     ensures tell { LookUpsTell }
+{}
+
+/// A book keeps its limits over every history, and with each step: at most `MAX_LEARNED` authenticators,
+/// `MAX_CHALLENGES` open challenges with messages and `MAX_AUDITED` audited entries, those of the open audit
+/// among them; and the outbox, at most `MAX_OUTBOX`, has room for what the audit can find.
+pub fn limits_are_kept()
+    ensures own { BooksKeepLimits }
+    ensures any { AnyBookKeepsLimits }
 {}
