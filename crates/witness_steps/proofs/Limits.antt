@@ -20,7 +20,8 @@ use Rattle.replay_spec.specs.Placed.{Placed, placed, placed_in}
 use Rattle.replay_spec.specs.Stepping.{shown_by}
 use Rattle.replay_spec.specs.Replay.{found, with_shown, Verdict, Sound, Fault, segment_verdict}
 use Rattle.replay_spec.proofs.Runs.{is_sound}
-use Rattle.evidence_spec.specs.Showing.{IsAmong, authenticator_showing}
+use Rattle.secure_log.specs.LogEntries.Chain.{IsAmong}
+use Rattle.evidence_spec.specs.Showing.{authenticator_showing}
 use Rattle.evidence_spec.specs.Evidence.{EvidenceParts}
 use Rattle.authenticator.specs.Roster.{member_of}
 use Rattle.witness_spec.specs.Events.{Event, IsEvent}
