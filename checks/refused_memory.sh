@@ -17,7 +17,7 @@ declare -rA MOST=(
     [evidence]=124
 )
 declare -rA MADE=(
-    [replies]=0 [files]=0 [keys]=0 [log]=1 [state]=1 [calls]=11 [streams]=15 [steps]=113 [entries]=120 [segments]=148
+    [replies]=0 [files]=0 [keys]=0 [log]=1 [state]=1 [calls]=11 [streams]=15 [steps]=113 [entries]=120 [segments]=149
     [evidence]=1
 )
 readonly CASE=$PWD/checks/evidence/wrong_checkpoint.evidence

@@ -21,16 +21,17 @@ fn receipt() -> Receipt {
     }
 }
 
-/// What a server makes of a text at so many seconds.
-fn received(
+/// Whether a server answers a text so, at so many seconds.
+fn receives(
     alloc: Global,
     server: &mut ServerNode,
     seconds: u32,
     text: &[u8],
-) -> Option<Received<Receipt>> {
+    answer: Received<Receipt>,
+) -> bool {
     match Time::new(seconds, 0) {
-        Some(time) => server.receive(alloc, time, text).ok(),
-        None => None,
+        Some(time) => server.receive(alloc, time, text) == Ok(answer),
+        None => false,
     }
 }
 
@@ -54,14 +55,14 @@ fn acknowledges(alloc: Global, node: &NodeLog, ack: &[u8]) -> bool {
 
 /// Whether a call that comes again changes nothing, and has the same acknowledgement.
 fn is_repeated(alloc: Global, server: &mut ServerNode, text: &[u8], ack: &[u8]) -> bool {
-    received(alloc, server, 2, text) == Some(Received::Repeat(receipt()))
+    receives(alloc, server, 2, text, Received::Repeat(receipt()))
         && is_after_call(server.node(), 6, 1)
         && acknowledges(alloc, server.node(), ack)
 }
 
 /// Whether a call is logged, and logged once, by two of eight keys.
 fn is_received_once(alloc: Global, server: &mut ServerNode, text: &[u8]) -> bool {
-    let is_new = received(alloc, server, 1, text) == Some(Received::New(receipt()))
+    let is_new = receives(alloc, server, 1, text, Received::New(receipt()))
         && is_after_call(server.node(), 6, 1);
     match ack_text(alloc, server.node(), 1) {
         Some(ack) => is_new && is_repeated(alloc, server, text, &ack),
