@@ -131,8 +131,9 @@ check_subject() {
             least_refused 2 replay
             ;;
         evidence)
-            least_refused 9 read_case write_case evidence_text read_evidence of_authenticator from_start \
-                check_evidence
+            least_refused 9 read_case write_case evidence_text read_evidence check_evidence
+            # These two copy a signature, and write no text of it.
+            least_refused 6 of_authenticator from_start
             ;;
     esac
 }
