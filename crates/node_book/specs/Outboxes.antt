@@ -1,5 +1,6 @@
 -- What an outbox in memory says.
-use Rattle.std.specs.Prelude.{List, drop, flat_map}
+use Rattle.std.specs.Prelude.{◌<◌, List, drop, flat_map, length}
+use Rattle.std.specs.Vec.{vec_capacity}
 use Rattle.std.specs.Global.{Vec}
 use Rattle.std.specs.Arc.{arc_value}
 use Rattle.authenticator.specs.declared.authenticator.Authenticator.{Authenticator}
@@ -8,3 +9,7 @@ use Rattle.node_book.specs.declared.outbox.Outbox.{Outbox}
 -- what is to be forwarded, the oldest first
 abbrev pub outbox_in : Outbox → List Authenticator
 outbox_in o = drop o.taken (flat_map (λ share. (arc_value {X = Vec Authenticator} share).items) o.shares.items)
+
+-- there is room for one share more
+abbrev pub HasPlace : Outbox → Type 0
+HasPlace o = length o.shares.items < vec_capacity o.shares

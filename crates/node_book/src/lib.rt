@@ -2,6 +2,9 @@
 #![tactic(auto)]
 
 mod book;
+mod carry;
+mod challenges;
+mod decided;
 mod done;
 mod event;
 mod job;
