@@ -8,3 +8,5 @@ pub mod Rows
 pub mod Stepping
 pub mod BookCodes
 pub mod Deciding
+pub mod Looking
+pub mod Shares

@@ -1,8 +1,8 @@
 -- What an outbox in memory says.
-use Rattle.std.specs.Prelude.{◌<◌, List, drop, flat_map, length}
-use Rattle.std.specs.Vec.{vec_capacity}
+use Rattle.std.specs.Prelude.{◌<◌, ◌^◌, List, drop, flat_map}
 use Rattle.std.specs.Global.{Vec}
 use Rattle.std.specs.Arc.{arc_value}
+use Rattle.std.specs.VecDeque.{deque_len, deque_capacity}
 use Rattle.authenticator.specs.declared.authenticator.Authenticator.{Authenticator}
 use Rattle.node_book.specs.declared.outbox.Outbox.{Outbox}
 
@@ -10,6 +10,7 @@ use Rattle.node_book.specs.declared.outbox.Outbox.{Outbox}
 abbrev pub outbox_in : Outbox → List Authenticator
 outbox_in o = drop o.taken (flat_map (λ share. (arc_value {X = Vec Authenticator} share).items) o.shares.items)
 
--- there is room for one share more
-abbrev pub HasPlace : Outbox → Type 0
-HasPlace o = length o.shares.items < vec_capacity o.shares
+-- There is room for one share more: memory for it, and a count of all authenticators that fits a machine word.
+pub record HasPlace (o : Outbox) : Type 0 where
+  pub place : deque_len o.shares < deque_capacity o.shares
+  pub few : o.waiting < 2 ^ 63
