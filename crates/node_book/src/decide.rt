@@ -34,6 +34,7 @@ use envelopes::{Ack, Envelope};
 use evidence_spec::MAX_AUDITED;
 use secure_log::MAX_ENTRIES;
 use std::alloc::{AllocError, Global};
+use std::cmp::max;
 use std::sync::Arc;
 
 /// The most authenticators that are kept of a node.
@@ -302,6 +303,7 @@ fn shared(alloc: Global, evidence: Option<Evidence>) -> Result<Option<Arc<Eviden
 }
 
 /// The greatest number among those that an audit after the end can reach; 0 if there is none.
+#[tactic(auto, using(crate::proofs::Reaching::reach_more))]
 fn last_in_reach(end: u64, learned: &[Authenticator]) -> u64
     requires { end ≤ limits.MAX_AUDITED }
     ensures { result ≡ owing.last_in_reach end learned.now }
@@ -310,8 +312,8 @@ fn last_in_reach(end: u64, learned: &[Authenticator]) -> u64
     let mut last = 0;
     for authenticator in learned {
         let number = authenticator.number.get();
-        if number <= reach && last < number {
-            last = number;
+        if number <= reach {
+            last = max(last, number);
         }
     }
     last
