@@ -9,6 +9,7 @@ mod job;
 mod outbox;
 mod plain;
 mod refusal;
+mod replayed;
 mod reply;
 mod rows;
 mod segment;
