@@ -1,3 +1,5 @@
 pub mod Faulted
 pub mod Mapped
 pub mod Reaching
+pub mod Taken
+pub mod Shown

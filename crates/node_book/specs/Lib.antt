@@ -3,6 +3,7 @@ pub mod Jobs
 pub mod Backs
 pub mod Events
 pub mod Replies
+pub mod Shares
 pub mod Outboxes
 pub mod Rows
 pub mod Stepping

@@ -16,7 +16,7 @@ items_of share = (arc_value {X = Vec Authenticator} share).items
 
 -- those of all shares, in order
 abbrev pub all_items : List Share → List Authenticator
-all_items shares = flat_map (λ share. (arc_value {X = Vec Authenticator} share).items) shares
+all_items shares = flat_map items_of shares
 
 -- a share has an authenticator
 abbrev pub is_filled : Share → Bool

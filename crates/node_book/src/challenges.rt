@@ -15,7 +15,6 @@ use secure_log::log_entries::{Entry, message_hash};
 use std::alloc::{AllocError, Global};
 
 /// Whether a send challenge with this message is open. Takes no memory.
-#[tactic(auto, using(crate::proofs::Mapped::list_any_map))]
 pub(crate) fn is_open(message: &Message, challenges: &[Challenge]) -> bool
     ensures { result ≡ is_open message.now (map challenge_in challenges.now) }
 {
@@ -150,7 +149,10 @@ fn is_recv_of(node: u32, message: &Message, entry: &Entry) -> bool
         } => {
             message.from == *from
                 && message.seq == seq.get()
-                && is_same(&message.hash, &message_hash(node, *seq, prev, &body.digest()))
+                && is_same(
+                    &message.hash,
+                    &message_hash(node, *seq, prev, &body.digest()),
+                )
         }
         Entry::Send { .. } | Entry::Ack { .. } | Entry::Clock { .. } | Entry::Check { .. } => false,
     }

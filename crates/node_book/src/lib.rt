@@ -4,8 +4,8 @@
 mod book;
 mod carry;
 mod challenges;
-mod decided;
 mod decide;
+mod decided;
 mod done;
 mod event;
 mod forks;

@@ -12,7 +12,8 @@ use std::sync::Arc;
 const MOST_WAITING: usize = usize::MAX / 2;
 
 /// Authenticators of other nodes that are to be forwarded, the oldest first: those that replays found, shared
-/// with the verdicts, how many of the first share's were taken, and how many wait in all.
+/// with the verdicts; how many of the first share's were taken; and how many wait in all. No share is empty,
+/// and the first isn't used up.
 #[derive(Drop)]
 pub(crate) struct Outbox {
     pub shares: VecDeque<Arc<Vec<Authenticator>>>,
@@ -66,8 +67,8 @@ impl Outbox {
         self.shares.reserve(1)
     }
 
-    /// Adds what a replay found, after all others. There is room for it: takes no memory. An empty share is let
-    /// go at once.
+    /// Adds what a replay found, after all others. There is room for it, so it takes no memory. An empty
+    /// share is let go at once.
     pub fn add(&mut self, found: Arc<Vec<Authenticator>>)
         requires { HasPlace self.old }
         ensures { outbox_in self.new ≡ outbox_in self.old ++ (arc_value found).items }
@@ -79,7 +80,8 @@ impl Outbox {
         }
     }
 
-    /// The oldest authenticator was forwarded, if there is one. A share of which all were goes. Takes no memory.
+    /// The oldest authenticator, if there is one, isn't to be forwarded any more. A share of which all were
+    /// taken goes. Takes no memory.
     pub fn drop_first(&mut self)
         ensures { outbox_in self.new ≡ drop 1 (outbox_in self.old) }
     {

@@ -11,8 +11,9 @@ use secure_log::log_entries::Entry;
 use std::alloc::{AllocError, Global};
 
 /// Evidence that a node's log isn't honest: the log from its start, of the entries of the first `before`
-/// segments and of the faulty one, which closes it. Memory is that of one copy of these entries, of which each
-/// is also written once, into memory that is used again. `AllocError` comes only where a growth was refused.
+/// segments and of the faulty one, which closes it. Memory is that of one copy of these entries, reserved
+/// once; each is also written once, into memory that is used again. `AllocError` comes only where a growth
+/// was refused.
 pub(crate) fn replayed_evidence(
     alloc: Global,
     node: u32,
@@ -33,7 +34,6 @@ pub(crate) fn replayed_evidence(
 }
 
 /// Copies of the entries of segments and of another after them, in memory that is reserved once.
-#[tactic(auto, using(crate::proofs::Mapped::flat_map_map))]
 fn entries_shown(
     alloc: Global,
     segments: &[SharedSegment],
@@ -54,7 +54,6 @@ fn entries_shown(
 }
 
 /// How many entries segments have in all.
-#[tactic(auto, using(crate::proofs::Mapped::flat_map_map))]
 fn count_entries(segments: &[SharedSegment]) -> usize
     requires { length (entries_of (segments_in segments.now)) ≤ MAX_AUDITED }
     ensures { result ≡ length (entries_of (segments_in segments.now)) }
