@@ -4,6 +4,7 @@
 mod book;
 mod done;
 mod event;
+mod forks;
 mod job;
 mod looking;
 mod outbox;
