@@ -3,3 +3,5 @@ pub mod Mapped
 pub mod Reaching
 pub mod Taken
 pub mod Shown
+pub mod Searches
+pub mod LookUps

@@ -10,4 +10,3 @@ pub mod Stepping
 pub mod BookCodes
 pub mod Deciding
 pub mod Looking
-pub mod Shares

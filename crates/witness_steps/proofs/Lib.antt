@@ -14,3 +14,4 @@ pub mod AnyBook
 pub mod LookUps
 pub mod AllBooks
 pub mod Limits
+pub mod Answers

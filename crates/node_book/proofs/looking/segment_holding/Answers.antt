@@ -1,5 +1,4 @@
-use Rattle.std.proofs.Common.{◌≡◌, ◌<◌, ◌≤◌, length, get_or, Option, Some, sym, ap, subst, ◌∙◌, arith}
-use Rattle.secure_log.specs.Segment.{SegmentParts}
+use Rattle.std.proofs.Common.{◌≡◌, ◌<◌, ◌≤◌, length, get_or, Some, sym, ap, ◌∙◌, arith}
 use Rattle.node_book.specs.Rows.{segments_in}
 use Rattle.node_book.specs.Looking.{count_ended}
 use Rattle.node_book.proofs.Searches.{holds_at, holds_none}
