@@ -5,6 +5,7 @@ mod book;
 mod done;
 mod event;
 mod job;
+mod notes;
 mod outbox;
 mod plain;
 mod refusal;
