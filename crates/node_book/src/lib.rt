@@ -2,6 +2,7 @@
 #![tactic(auto)]
 
 mod book;
+mod challenges_copied;
 mod done;
 mod event;
 mod job;
