@@ -103,6 +103,13 @@ fn has_key(own: &Member, other: &Member) -> bool
     is_same_hash(&own.root, &other.root) && own.height == other.height
 }
 
+/// Whether two rosters are one in every word.
+fn is_same_roster(own: &Roster, other: &Roster) -> bool
+    ensures { result ≡ same_roster own.now other.now }
+{
+    own.is_same(other)
+}
+
 /// The member with this number, else `UnknownNode`.
 fn named(roster: &Roster, node: u32) -> Result<Member, Refusal>
     ensures { OwnerIs (step_of (member_of roster.now node)) result }
@@ -142,12 +149,13 @@ fn closer(roster: &Roster, node: u32, under: &Roster) -> Result<Member, Refusal>
 {
     match roster.member(node) {
         None => Err(Refusal::UnknownNode),
-        Some(member) if under.is_same(roster) => Ok(member),
+        Some(member) if is_same_roster(under, roster) => Ok(member),
         Some(_) => Err(Refusal::BadSignature),
     }
 }
 
 /// An authenticator is a step of who signs it.
+#[tactic(auto, using(crate::proofs::Routes::given_goes))]
 fn learned(roster: &Roster, checked: Checked<Authenticator>) -> Routed
     ensures { GoesTo roster.now (Learn checked.value (key_of checked.member)) result }
 {
@@ -156,6 +164,7 @@ fn learned(roster: &Roster, checked: Checked<Authenticator>) -> Routed
 }
 
 /// An envelope is a step of its receiver.
+#[tactic(auto, using(crate::proofs::Routes::given_goes))]
 fn challenged(roster: &Roster, checked: Checked<Envelope>) -> Routed
     ensures { GoesTo roster.now (SendChallenge checked.value (key_of checked.member)) result }
 {
@@ -165,6 +174,7 @@ fn challenged(roster: &Roster, checked: Checked<Envelope>) -> Routed
 }
 
 /// A segment is a step of who closes it.
+#[tactic(auto, using(crate::proofs::Routes::given_goes))]
 fn answered(roster: &Roster, segment: SharedSegment) -> Routed
     ensures { GoesTo roster.now (Answer segment) result }
 {
@@ -174,6 +184,7 @@ fn answered(roster: &Roster, segment: SharedSegment) -> Routed
 }
 
 /// An acknowledgement is a step of who signs it.
+#[tactic(auto, using(crate::proofs::Routes::given_goes))]
 fn acknowledged(roster: &Roster, checked: Checked<Ack>) -> Routed
     ensures { GoesTo roster.now (AckIn checked.value (key_of checked.member)) result }
 {
