@@ -30,6 +30,7 @@ pub(crate) enum Routed {
 /// where a node that the event is of is no member, else `BadSignature` where it was checked under another key
 /// or roster, or isn't signed; `Garbage` where bytes are no packet. `NoMemory` comes only where a growth was
 /// refused, of bytes alone. A job or a done value that is refused comes back with the reply.
+#[tactic(auto, using(crate::proofs::Routes::given_goes))]
 pub(crate) fn route(alloc: Global, roster: &Roster, event: Event) -> Routed
     ensures { RoutesTo roster.now event result }
 {
@@ -193,6 +194,7 @@ fn acknowledged(roster: &Roster, checked: Checked<Ack>) -> Routed
 }
 
 /// Bytes are the step that they deliver.
+#[tactic(auto, using(crate::proofs::Routes::delivery_goes, crate::proofs::Routes::refusal_goes))]
 fn delivered(alloc: Global, roster: &Roster, bytes: &[u8]) -> Routed
     ensures { GoesTo roster.now (Deliver bytes.now) result }
 {
@@ -203,6 +205,7 @@ fn delivered(alloc: Global, roster: &Roster, bytes: &[u8]) -> Routed
 }
 
 /// What a packet that was checked under this roster delivers.
+#[tactic(auto, using(crate::proofs::Routes::given_delivers))]
 fn delivered_step(alloc: Global, roster: &Roster, packet: Packet) -> Routed
     requires { IsUnder roster.now packet }
     ensures { DeliversTo roster.now (delivery_in packet) result }
