@@ -29,7 +29,8 @@ use Rattle.witness_books.specs.declared.route.Routed.TheVariants as r
 use Rattle.witness_books.specs.Routing.{OwnerIs, IsGivenTo, IsDelivered, DeliversTo, IsStepOf}
 use Rattle.witness_books.specs.Routing.{IsNobodys, GoesTo, RoutesTo}
 
-module _ (owed : steps.Step → Result OwnStep refusals.Refusal) (owner : Result Member Refusal) (step : Step) where
+module _ (owed : steps.Step → Result OwnStep refusals.Refusal) (owner : Result Member Refusal)
+    (step : Step) where
   -- a step that is given to its owner goes where the event does
   pub given_goes : (ms : List Member) (event : spec.Event) (routed : Routed) → OwnerIs owed owner
       → IsGivenTo owner step routed → whose ms event ≡ owed (step_in step)
@@ -85,7 +86,8 @@ pub named_routes : (ms : List Member) (node of_node : ℕ) (owner : Result Membe
     → whose ms (event_in e) ≡ step_of (member_of ms of_node) (step_in step)
     → ((f : refusals.Refusal) → replies.refused (event_in e) f ≡ step_refused (step_in step) f)
     → (StepMayWant (step_in step) → MayWant (event_in e)) → RoutesTo ms event routed
-named_routes ms node of_node owner step event e routed is_event is owned given same whose_is refused_as wants_as =
+named_routes ms node of_node owner step event e routed is_event is owned given same whose_is refused_as
+    wants_as =
     let there : whose ms (event_in e) ≡ step_of (member_of ms node) (step_in step) =
     whose_is ∙ ap (λ (n : ℕ). step_of (member_of ms n) (step_in step)) (sym same) in
     let goes : GoesTo ms (event_in e) routed =

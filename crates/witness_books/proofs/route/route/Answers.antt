@@ -22,7 +22,8 @@ returns-in-File c =
 pub returns-in-PutBack : goal.returns-in-PutBack
 returns-in-PutBack c =
     named_routes _ _ _ _ (s.PutBack c.in-PutBack.job) _ (e.PutBack c.in-PutBack.job) _ c.is_event.ensures
-    c.in-PutBack.is c.named-in-PutBack.ensures c.give-in-PutBack.ensures c.node-in-PutBack.ensures refl (λ f. refl) (λ w. w)
+    c.in-PutBack.is c.named-in-PutBack.ensures c.give-in-PutBack.ensures c.node-in-PutBack.ensures refl
+    (λ f. refl) (λ w. w)
 
 pub returns-in-Forward : goal.returns-in-Forward
 returns-in-Forward c =
