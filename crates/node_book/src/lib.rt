@@ -12,6 +12,7 @@ mod plain;
 mod refusal;
 mod reply;
 mod rows;
+mod same_events;
 mod segment;
 mod step;
 mod verdict;
