@@ -13,6 +13,7 @@ mod refusal;
 mod reply;
 mod rows;
 mod same_events;
+mod same_replies;
 mod segment;
 mod step;
 mod verdict;
