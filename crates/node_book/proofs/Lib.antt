@@ -5,3 +5,4 @@ pub mod Taken
 pub mod Shown
 pub mod Searches
 pub mod LookUps
+pub mod SameReplies
