@@ -4,7 +4,6 @@
 mod book;
 mod carry;
 mod challenges;
-mod challenges_copied;
 mod decide;
 mod decided;
 mod done;
