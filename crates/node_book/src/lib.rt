@@ -20,6 +20,7 @@ mod replayed;
 mod reply;
 mod room;
 mod rows;
+mod same_challenges;
 mod same_events;
 mod same_replies;
 mod segment;

@@ -7,7 +7,7 @@ ghost use Rattle.witness_spec.specs.Replies.{PutBackRefused, Refused, Told};
 ghost use Rattle.node_book.specs.Jobs.{done_parts};
 ghost use Rattle.node_book.specs.Replies.{challenge_in, indication_in, refusal_in, reply_in};
 
-use crate::challenges_copied::are_same_challenges;
+use crate::same_challenges::are_same_challenges;
 use crate::done::PlainDone;
 use crate::plain::PlainJob;
 use crate::refusal::Refusal;
