@@ -13,7 +13,6 @@ ghost use Rattle.witness_steps.specs.Fitting.{FitsTogether};
 ghost use Rattle.witness_steps.specs.Going.{evidence_of, fork_evidence};
 ghost use Rattle.witness_steps.specs.LookUps.{is_other_hash};
 ghost use Rattle.witness_steps.specs.Ready.{IsReady};
-ghost use Rattle.challenge.specs.Charges.{fork_in};
 ghost use Rattle.node_book.specs.Rows.{book_in};
 
 use crate::looking::{ShownHash, learned_at, segment_holding};
