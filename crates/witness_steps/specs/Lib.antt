@@ -7,3 +7,4 @@ pub mod LookUps
 pub mod Keeping
 pub mod Laws
 pub mod Ready
+pub mod ReadyLaws
