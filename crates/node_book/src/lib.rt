@@ -2,9 +2,11 @@
 #![tactic(auto)]
 
 mod book;
+mod challenges_copied;
 mod done;
 mod event;
 mod job;
+mod notes;
 mod outbox;
 mod plain;
 mod refusal;
