@@ -12,6 +12,8 @@ mod plain;
 mod refusal;
 mod reply;
 mod rows;
+mod same_events;
+mod same_replies;
 mod segment;
 mod step;
 mod verdict;
