@@ -15,3 +15,5 @@ pub mod LookUps
 pub mod AllBooks
 pub mod Limits
 pub mod Answers
+pub mod Few
+pub mod Ready

@@ -8,3 +8,4 @@ pub mod Answers
 pub mod Keeping
 pub mod Laws
 pub mod Ready
+pub mod ReadyLaws
