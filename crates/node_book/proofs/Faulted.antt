@@ -79,14 +79,14 @@ pub faulted_shows : (b : Book) (c : ClosedParts) → FitsTogether b → KeepsLim
 faulted_shows b c fits limits out =
     let p = split b c fits out in
     let among : (s : SegmentParts) → IsAmong s p.tiles.audited → IsWhole s =
-      λ s i. fits.whole s (subst (IsAmong s) (sym p.tiles.are) (on_left s p.tiles.audited p.tiles.more i)) in
+    λ s i. fits.whole s (subst (IsAmong s) (sym p.tiles.are) (on_left s p.tiles.audited p.tiles.more i)) in
     let mine : IsWhole c.segment = fits.whole c.segment
-      (subst (IsAmong c.segment) (sym p.tiles.are) (on_right c.segment p.tiles.audited p.tiles.more
-      (subst (IsAmong c.segment) (sym p.one.is) (inl refl)))) in
+    (subst (IsAmong c.segment) (sym p.tiles.are) (on_right c.segment p.tiles.audited p.tiles.more
+    (subst (IsAmong c.segment) (sym p.one.is) (inl refl)))) in
     let count = tile_entries 1 (b.end.number + 1) p.tiles.audited p.tiles.tile among in
     let front = ap (λ (l : List SegmentParts). length (entries_of l)) (front_is b c.segment p) in
     let last : c.segment.closing.number ≤ MAX_AUDITED =
-      subst (λ x. audit_last b.end.number x ≤ MAX_AUDITED) out limits.last in
+    subst (λ x. audit_last b.end.number x ≤ MAX_AUDITED) out limits.last in
     record {
       among = omega arith;
       some = omega (arith, mine.count, p.one.follows.first, p.one.follows.some);

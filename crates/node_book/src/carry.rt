@@ -132,7 +132,8 @@ impl Rows {
         match asking {
             Asking::Asked(first, last) => {
                 self.stage = Stage::Wanted(first, last);
-                self.challenges.push_reserved(Challenge::Audit { first, last });
+                self.challenges
+                    .push_reserved(Challenge::Audit { first, last });
                 ReplyOf::Asked { first, last }
             }
             Asking::Refused(refusal) => ReplyOf::Refused(refusal),
@@ -225,18 +226,13 @@ impl Rows {
     }
 
     /// The end moves to that of a segment that was found sound.
-    fn move_end(
-        &mut self,
-        end: u64,
-        state: SharedState,
-        found: Arc<Vec<Authenticator>>,
-    )
+    fn move_end(&mut self, end: u64, state: SharedState, found: Arc<Vec<Authenticator>>)
         requires room { HasPlace self.old.outbox }
         ensures after { book_in self.new ≡ record (book_in self.old) {
-            end = record { number = end; state = state };
-            stage = standing.NoAudit;
-            learned = filter (λ a. nat_lt end a.number) self.old.learned.items;
-            outbox = outbox_in self.old.outbox ++ (arc_value found).items;
+          end = record { number = end; state = state };
+          stage = standing.NoAudit;
+          learned = filter (λ a. nat_lt end a.number) self.old.learned.items;
+          outbox = outbox_in self.old.outbox ++ (arc_value found).items;
         } }
         ensures segments { self.new.segments ≡ self.old.segments }
         ensures exposure { self.new.exposure ≡ self.old.exposure }
@@ -254,10 +250,10 @@ impl Rows {
         requires out { stage_in self.old.stage ≡ standing.Out segment }
         requires keeps { KeepsExposure (segments_in self.old.segments.items) self.old.exposure }
         ensures after { book_in self.new ≡ record (book_in self.old) {
-            evidence = first_evidence (book_in self.old).evidence (Some (record {
-              node = self.old.node;
-              charge = charges.Replay (audited_with (book_in self.old) segment.segment);
-            }));
+          evidence = first_evidence (book_in self.old).evidence (Some (record {
+            node = self.old.node;
+            charge = charges.Replay (audited_with (book_in self.old) segment.segment);
+          }));
         } }
         ensures keeps { KeepsExposure (segments_in self.new.segments.items) self.new.exposure }
     {
@@ -288,7 +284,7 @@ impl Rows {
     fn expose(&mut self, evidence: Option<Arc<Evidence>>)
         requires keeps { KeepsExposure (segments_in self.old.segments.items) self.old.exposure }
         ensures after { book_in self.new ≡ record (book_in self.old) {
-            evidence = first_evidence (book_in self.old).evidence (option_map arc_value evidence);
+          evidence = first_evidence (book_in self.old).evidence (option_map arc_value evidence);
         } }
         ensures segments { self.new.segments ≡ self.old.segments }
         ensures keeps { KeepsExposure (segments_in self.new.segments.items) self.new.exposure }

@@ -244,8 +244,13 @@ impl Rows {
             Exposure::Nothing => Ok(None),
             Exposure::Fork(evidence) => Ok(Some(Arc::try_clone(evidence)?)),
             Exposure::Replay(before, faulty) => {
-                let evidence =
-                    replayed_evidence(alloc, self.node, &self.segments, *before, faulty)?;
+                let evidence = replayed_evidence(
+                    alloc,
+                    self.node,
+                    &self.segments,
+                    *before,
+                    faulty,
+                )?;
                 shared(alloc, Some(evidence))
             }
         }

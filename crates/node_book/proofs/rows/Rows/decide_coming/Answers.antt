@@ -7,8 +7,10 @@ use Rattle.node_book.proofs.rows.Rows.decide_coming.Goals as goal
 -- the job that is out has another word
 pub returns-else-is_job : goal.returns-else-is_job
 returns-else-is_job c =
-    let b = book_in c.args.self.now in
-    (job_of b b.begun c.in-Out.segment, (
-      ap (λ s. job_out_at b (stage_in s)) c.in-Out.is,
-      λ same. true≢false (sym (c.is_job.ensures.1 same) ∙ c.if-is_job.false),
-    ))
+    let b = book_in c.args.self.now in (
+      job_of b b.begun c.in-Out.segment,
+      (
+        ap (λ s. job_out_at b (stage_in s)) c.in-Out.is,
+        λ same. true≢false (sym (c.is_job.ensures.1 same) ∙ c.if-is_job.false),
+      ),
+    )

@@ -10,7 +10,7 @@ returns-in-Nothing-clause-after c =
     let b = book_in c.args.self.now in
     let none : b.evidence ≡ None = ap (λ e. evidence_in b.node b.segments e) c.in-Nothing.is in
     let is : c.all_but_one-before.result ≡ length b.segments - 1 =
-      c.all_but_one-before.ensures ∙ ap (λ l. length (segments_in l) - 1) c.deref.ensures.value in
+    c.all_but_one-before.ensures ∙ ap (λ l. length (segments_in l) - 1) c.deref.ensures.value in
     ap (λ e. record b { evidence = e })
     (sym (exposed_by b c.args.segment c.all_but_one-before.result c.requires.ready.fits c.requires.out none is))
 
@@ -19,6 +19,6 @@ pub returns-in-Nothing-clause-keeps : goal.returns-in-Nothing-clause-keeps
 returns-in-Nothing-clause-keeps c =
     let b = book_in c.args.self.now in
     let is : c.all_but_one-before.result ≡ length b.segments - 1 =
-      c.all_but_one-before.ensures ∙ ap (λ l. length (segments_in l) - 1) c.deref.ensures.value in
+    c.all_but_one-before.ensures ∙ ap (λ l. length (segments_in l) - 1) c.deref.ensures.value in
     subst (λ n. ShowsLog b.segments n c.args.segment.segment) (sym is)
     (faulted_shows b c.args.segment c.requires.ready.fits c.requires.ready.limits c.requires.out)
