@@ -1,3 +1,4 @@
 pub mod Routing
 pub mod Books
 pub mod Places
+pub mod Notes

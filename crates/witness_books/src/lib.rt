@@ -2,6 +2,10 @@
 #![tactic(auto)]
 
 mod books;
+mod note;
 mod route;
+mod runs;
 
 pub use books::Books;
+pub use note::Note;
+pub use runs::run;
