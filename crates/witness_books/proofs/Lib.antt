@@ -4,3 +4,4 @@ pub mod Places
 pub mod Stepping
 pub mod Running
 pub mod Noting
+pub mod Witnessed

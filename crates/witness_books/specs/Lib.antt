@@ -2,3 +2,4 @@ pub mod Routing
 pub mod Books
 pub mod Places
 pub mod Notes
+pub mod Witnessed

@@ -2,6 +2,7 @@
 #![tactic(auto)]
 
 mod books;
+pub mod laws;
 mod note;
 mod route;
 mod runs;

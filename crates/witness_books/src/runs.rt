@@ -5,6 +5,7 @@ ghost use Rattle.witness_spec.specs.Contract.{RunsTo};
 ghost use Rattle.node_book.specs.Events.{event_in};
 ghost use Rattle.node_book.specs.Replies.{reply_in};
 ghost use Rattle.witness_books.specs.Books.{parts_in};
+ghost use Rattle.witness_books.specs.Witnessed.{AreOpening, IsWitnessed};
 
 use crate::books::Books;
 use node_book::{Event, Reply};
@@ -14,14 +15,18 @@ use witness_laws::books::runs_are_histories;
 /// Hands these events to the books, one after the other, the oldest first, and gives their replies in the
 /// same order: each event is a step of its own, from the books that the one before left. Room for all replies
 /// is taken first: where that was refused all events come back, and no step was made. An event for which
-/// memory runs out later is answered so (`Books::step`), and those after it are steps all the same.
+/// memory runs out later is answered so (`Books::step`), and those after it are steps all the same. From the
+/// books before any step, the events with their replies are a history, and the books stand for it.
 pub fn run(alloc: Global, books: &mut Books, events: Vec<Event>) -> Result<Vec<Reply>, Vec<Event>>
     ensures roster { books.new.roster ≡ books.old.roster }
     ensures runs { IfOk result (λ replies. RunsTo books.old.roster (parts_in books.old)
         (map event_in events.items) (map reply_in replies.items) (parts_in books.new)) }
+    ensures witnessed { IfOk result (λ replies. AreOpening books.old → IsWitnessed books.old.roster
+        (map event_in events.items) (map reply_in replies.items) books.new) }
     ensures back { IfErr result (λ e. e ≡ events) }
     ensures stays { OnErr result (books.new ≡ books.old) }
 {
+    runs_are_histories();
     match Vec::with_capacity(alloc, events.len()) {
         Ok(replies) => Ok(run_all(alloc, books, events, replies)),
         Err(AllocError) => Err(events),
