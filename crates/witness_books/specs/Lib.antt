@@ -4,3 +4,4 @@ pub mod Places
 pub mod Notes
 pub mod Witnessed
 pub mod Headline
+pub mod Given

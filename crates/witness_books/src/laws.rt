@@ -1,5 +1,7 @@
 //! What holds of any two witnesses of one roster.
 
+ghost use Rattle.witness_books.specs.Given.{AcksAreTaken, AnswersAreTaken, StepsKeepHeadline};
+ghost use Rattle.witness_books.specs.Given.{WhatIsOwedIsGiven};
 ghost use Rattle.witness_books.specs.Headline.{RunsKeepHeadline};
 ghost use Rattle.witness_books.specs.Witnessed.{WitnessesAgree};
 
@@ -32,3 +34,21 @@ pub fn runs_keep_the_headline()
     evidence_where_exposed();
     evidence_proves();
 }
+
+/// So does a step, as a run of one event.
+pub fn steps_keep_the_headline()
+    ensures { StepsKeepHeadline }
+{
+    runs_are_histories();
+    runs_keep_the_headline();
+}
+
+/// Where one reply alone is owed to an event, a step of books that stand for the history gives it, or memory
+/// ran out. So the answer of a node to the audit that is open is accepted, and its acknowledgement of a message
+/// that it is challenged with closes the challenge: the laws of `witness_nodes` say that a node's own calls
+/// give such answers.
+pub fn what_is_owed_is_given()
+    ensures given { WhatIsOwedIsGiven }
+    ensures answers { AnswersAreTaken }
+    ensures acks { AcksAreTaken }
+{}
