@@ -10,9 +10,9 @@ use witness_laws::evidence::laws::{evidence_proves, evidence_where_exposed};
 use witness_laws::laws::exposed_exactly_if;
 use witness_laws::trust::laws::honest_is_never_exposed;
 
-/// Two witnesses of one roster, from their first events on, agree on a member where its steps, in all that was
-/// handed to each, are the same and in the same order: the replies to these are the same, and both say the
-/// same of the member, whatever else was handed to one of them.
+/// Two witnesses of one roster, from their first events on, agree on a member where its steps, in all that
+/// was handed to each, are the same and in the same order: the replies to these are the same, and both say
+/// the same of the member, whatever else was handed to one of them.
 pub fn witnesses_agree()
     ensures { WitnessesAgree }
 {
