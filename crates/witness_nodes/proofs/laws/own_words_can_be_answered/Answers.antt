@@ -10,5 +10,6 @@ returns c = λ w history first last fault member h all stage refused.
     c.what_is_asked_can_be_answered.ensures w history n first last fault member h stage
     c.is_honest.ensures.signed
     (asked_is_signed c.each_send_and_recv_is_signed.ensures.signed
-    c.each_send_and_recv_is_signed.ensures.unsigned n w (own_of w history) first last (own_owed w member history h) all stage)
+    c.each_send_and_recv_is_signed.ensures.unsigned n w (own_of w history) first last
+    (own_owed w member history h) all stage)
     refused
