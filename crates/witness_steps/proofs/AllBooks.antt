@@ -17,7 +17,7 @@ use Rattle.witness_laws.proofs.OfBooks.Runs.{books_after}
 use Rattle.witness_steps.specs.Books.{Book, book_opening, parts_of}
 use Rattle.witness_steps.specs.Replying.{BookOwes}
 use Rattle.witness_steps.specs.Going.{book_after}
-use Rattle.witness_steps.specs.Fitting.{FitsTogether}
+use Rattle.witness_steps.specs.Fitting.{FitsTogether, IsBookOf}
 use Rattle.witness_steps.specs.Laws.{GoesOn}
 use Rattle.witness_steps.specs.LookUps.{HasOneHash}
 use Rattle.witness_steps.specs.Together.{book_at, with_book_at, FitEach, AreKept}
@@ -58,7 +58,7 @@ some_same : {x y : Book} → ◌≡◌ {A = Option Book} (Some x) (Some y) → x
 some_same h = cc
 
 -- the book of a number is of it, and fits together
-fit_at : (ms : List Member) (books : List Book) (node : ℕ) (b : Book) → FitEach ms books
+pub fit_at : (ms : List Member) (books : List Book) (node : ℕ) (b : Book) → FitEach ms books
     → book_at ms books node ≡ Some b → (b.node ≡ node) × FitsTogether b
 fit_at [] books node b fit h = absurd (cc)
 fit_at (m ∷ ms) [] node b fit h = absurd fit
@@ -94,10 +94,12 @@ module _ (ms : List Member) (m : Member) (books : List Book) (b : Book) (event :
     (reply : Reply) (roster : IsRoster ms) (kept : AreKept ms books) (e : IsEvent event)
     (w : whose ms event ≡ Ok (record { member = m; step = step })) (there : book_at ms books m.node ≡ Some b)
     (owes : BookOwes b step reply) where
-  is : member_of ms m.node ≡ Some m
+  -- it is a member's step
+  pub is : member_of ms m.node ≡ Some m
   is = of_member ms event (record { member = m; step = step }) w
 
-  its : (b.node ≡ m.node) × FitsTogether b
+  -- the member's book is of its number, and fits together
+  pub its : (b.node ≡ m.node) × FitsTogether b
   its = fit_at ms books m.node b kept.fit there
 
   its_parts : book_in ms (map parts_of books) m.node ≡ Some (parts_of b)
@@ -117,15 +119,16 @@ module _ (ms : List Member) (m : Member) (books : List Book) (b : Book) (event :
       (one_book ms m (map parts_of books) (parts_of b) (parts_of (book_after b step reply)) event step reply
       roster e w its_parts one_steps)
 
+  -- the member's book is that of its own steps
+  pub its_book : IsBookOf ms m (own ms m.node kept.are.history) b
+  its_book = record {
+    node = its.0;
+    stands = found_stands ms m kept.are.history (map parts_of books) (parts_of b) is kept.are.stands
+        its_parts;
+  }
+
   goes_on : GoesOn ms m kept.are.history event step reply b
-  goes_on =
-      any_goes_on ms m kept.are.history b is kept.are.is its.1
-      (record {
-        node = its.0;
-        stands = found_stands ms m kept.are.history (map parts_of books) (parts_of b) is kept.are.stands
-            its_parts;
-      })
-      event step reply e w owes
+  goes_on = any_goes_on ms m kept.are.history b is kept.are.is its.1 its_book event step reply e w owes
 
   -- and they are kept after it
   pub all_kept : AreKept ms (with_book_at ms m.node (book_after b step reply) books)

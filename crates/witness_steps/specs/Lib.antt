@@ -6,3 +6,5 @@ pub mod Together
 pub mod LookUps
 pub mod Keeping
 pub mod Laws
+pub mod Ready
+pub mod ReadyLaws

@@ -6,6 +6,7 @@ ghost use Rattle.witness_steps.specs.Laws.{BooksHaveEvidenceIfExposed, AnyBookOw
 ghost use Rattle.witness_steps.specs.Laws.{AnyBookKeepsItsContract, OpeningsStand, OpeningBooksAreKept};
 ghost use Rattle.witness_steps.specs.Laws.{KeptBooksStep, KeptBooksHaveOneHash, LookUpsTell};
 ghost use Rattle.witness_steps.specs.Laws.{BooksKeepLimits, AnyBookKeepsLimits};
+ghost use Rattle.witness_steps.specs.ReadyLaws.{OpeningBooksAreReady, ReadyBooksStep, ReadyBooksAreReady};
 
 /// A member's book after its own steps of a history replies to each further step what is owed to it after
 /// that history, and nothing else; it tells the indication that is told of the node, and has evidence exactly
@@ -68,4 +69,14 @@ pub fn look_ups_tell()
 pub fn limits_are_kept()
     ensures own { BooksKeepLimits }
     ensures any { AnyBookKeepsLimits }
+{}
+
+/// The opening books of all members can make their steps: each fits together, shows one hash at each number
+/// unless its node is exposed, keeps its limits, and has a state that knows no more messages of either kind
+/// than entries were audited. Where an event is a member's step, and the reply is the one that this member's
+/// book owes, the books with that one gone on keep the contract of all books, and can make their steps again.
+pub fn books_are_ready()
+    ensures opening { OpeningBooksAreReady }
+    ensures step { ReadyBooksStep }
+    ensures ready { ReadyBooksAreReady }
 {}
