@@ -7,3 +7,4 @@ pub mod Outboxes
 pub mod Rows
 pub mod Stepping
 pub mod BookCodes
+pub mod Looking

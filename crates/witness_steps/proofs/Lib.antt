@@ -16,3 +16,4 @@ pub mod AllBooks
 pub mod Limits
 pub mod Few
 pub mod Ready
+pub mod Answers

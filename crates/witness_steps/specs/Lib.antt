@@ -4,6 +4,7 @@ pub mod Going
 pub mod Fitting
 pub mod Together
 pub mod LookUps
+pub mod Answers
 pub mod Keeping
 pub mod Laws
 pub mod Ready

@@ -5,6 +5,7 @@ ghost use Rattle.witness_steps.specs.Laws.{BooksTellTheIndication, BooksHaveTheA
 ghost use Rattle.witness_steps.specs.Laws.{BooksHaveEvidenceIfExposed, AnyBookOwesTheSame, AnyBookGoesOn};
 ghost use Rattle.witness_steps.specs.Laws.{AnyBookKeepsItsContract, OpeningsStand, OpeningBooksAreKept};
 ghost use Rattle.witness_steps.specs.Laws.{KeptBooksStep, KeptBooksHaveOneHash, LookUpsTell};
+ghost use Rattle.witness_steps.specs.Laws.{SegmentsLookUp, AnAnswerLooksUp};
 ghost use Rattle.witness_steps.specs.Laws.{BooksKeepLimits, AnyBookKeepsLimits};
 ghost use Rattle.witness_steps.specs.ReadyLaws.{OpeningBooksAreReady, ReadyBooksStep, ReadyBooksAreReady};
 
@@ -61,6 +62,15 @@ pub fn kept_books_step()
 pub fn look_ups_tell()
     ensures one { KeptBooksHaveOneHash }
     ensures tell { LookUpsTell }
+{}
+
+/// The hash of a segment at a number is that of the first of its pairs that has the number. Where a segment
+/// that was asked for makes the first fork with what a book shows, few look-ups tell: at the end's number,
+/// where its opening is another hash than the book's there, else at the least number of a learned
+/// authenticator at which the segment shows another hash.
+pub fn answers_look_up()
+    ensures segment { SegmentsLookUp }
+    ensures fork { AnAnswerLooksUp }
 {}
 
 /// A book keeps its limits over every history, and with each step: at most `MAX_LEARNED` authenticators,
