@@ -74,6 +74,14 @@ impl Evidence {
         Some(Evidence { node, charge })
     }
 
+    /// Evidence of a charge that has a text.
+    pub(crate) fn of_whole(node: u32, charge: Charge) -> Evidence
+        requires { IsTrue (is_whole_charge (charge_value (charge_in charge))) }
+        ensures { result ≡ record { node = node; charge = charge_in charge } }
+    {
+        Evidence { node, charge }
+    }
+
     /// The node.
     pub fn node(&self) -> u32
         ensures { result ≡ self.now.node }

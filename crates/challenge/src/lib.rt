@@ -4,6 +4,7 @@
 mod case;
 mod challenge;
 mod check;
+mod copies;
 mod evidence;
 mod fault;
 mod find;

@@ -1,0 +1,3 @@
+pub mod SameReplies
+pub mod Searches
+pub mod LookUps

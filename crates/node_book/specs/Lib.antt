@@ -1,3 +1,10 @@
 pub mod Codes
 pub mod Jobs
 pub mod Backs
+pub mod Events
+pub mod Replies
+pub mod Outboxes
+pub mod Rows
+pub mod Stepping
+pub mod BookCodes
+pub mod Looking

@@ -1,15 +1,33 @@
 //! A member's book at a witness: so far its jobs, the replays that are to be done and were done.
 #![tactic(auto)]
 
+mod book;
+mod challenges_copied;
 mod done;
+mod event;
+mod forks;
 mod job;
+mod looking;
+mod notes;
+mod outbox;
 mod plain;
+mod refusal;
+mod reply;
+mod rows;
+mod same_events;
+mod same_replies;
 mod segment;
+mod step;
 mod verdict;
 
+pub use book::Book;
 pub use checkpoint::SharedState;
 pub use done::{PlainDone, ReplayDone};
+pub use event::{Event, EventOf, PlainEvent, Question};
 pub use job::{Back, ReplayJob};
 pub use plain::PlainJob;
+pub use refusal::Refusal;
+pub use reply::{Indication, PlainReply, Reply, ReplyOf};
 pub use segment::SharedSegment;
+pub use step::Step;
 pub use verdict::JobVerdict;

@@ -18,7 +18,7 @@ use Rattle.witness_laws.proofs.OfBooks.Runs.{books_after}
 use Rattle.witness_steps.specs.Books.{Book, book_opening, parts_of}
 use Rattle.witness_steps.specs.Replying.{BookOwes}
 use Rattle.witness_steps.specs.Going.{book_after}
-use Rattle.witness_steps.specs.Fitting.{FitsTogether}
+use Rattle.witness_steps.specs.Fitting.{FitsTogether, IsBookOf}
 use Rattle.witness_steps.specs.Laws.{GoesOn}
 use Rattle.witness_steps.specs.LookUps.{HasOneHash}
 use Rattle.witness_steps.specs.Together.{book_at, with_book_at, FitEach, AreKept}
@@ -59,7 +59,7 @@ some_same : {x y : Book} → ◌≡◌ {A = Option Book} (Some x) (Some y) → x
 some_same h = cc
 
 -- the book of a number is of it, and fits together
-fit_at : (ms : List Member) (books : List Book) (node : ℕ) (b : Book) → FitEach ms books
+pub fit_at : (ms : List Member) (books : List Book) (node : ℕ) (b : Book) → FitEach ms books
     → book_at ms books node ≡ Some b → (b.node ≡ node) × FitsTogether b
 fit_at [] books node b fit h = absurd (cc)
 fit_at (m ∷ ms) [] node b fit h = absurd fit
@@ -96,10 +96,12 @@ module _ (w : Watched) (books : List Book) (b : Book) (event : Event) (step : St
     (told : whose w.roster event ≡ Ok (record { member = w.member; step = step }))
     (there : book_at w.roster books w.member.node ≡ Some b)
     (owes : BookOwes b step reply) where
-  is : IsInRoster w
+  -- it is a member's step
+  pub is : IsInRoster w
   is = of_member w.roster event (record { member = w.member; step = step }) told
 
-  its : (b.node ≡ w.member.node) × FitsTogether b
+  -- the member's book is of its number, and fits together
+  pub its : (b.node ≡ w.member.node) × FitsTogether b
   its = fit_at w.roster books w.member.node b kept.fit there
 
   its_parts : book_in w.roster (map parts_of books) w.member.node ≡ Some (parts_of b)
@@ -119,15 +121,16 @@ module _ (w : Watched) (books : List Book) (b : Book) (event : Event) (step : St
       (one_book w (map parts_of books) (parts_of b) (parts_of (book_after b step reply)) event step reply
       roster e told its_parts one_steps)
 
+  -- the member's book is that of its own steps
+  pub its_book : IsBookOf w (own_of w kept.are.history) b
+  its_book = record {
+    node = its.0;
+    stands = found_stands w kept.are.history (map parts_of books) (parts_of b) is kept.are.stands
+        its_parts;
+  }
+
   goes_on : GoesOn w kept.are.history event step reply b
-  goes_on =
-      any_goes_on w kept.are.history b is kept.are.is its.1
-      (record {
-        node = its.0;
-        stands = found_stands w kept.are.history (map parts_of books) (parts_of b) is kept.are.stands
-            its_parts;
-      })
-      event step reply e told owes
+  goes_on = any_goes_on w kept.are.history b is kept.are.is its.1 its_book event step reply e told owes
 
   -- and they are kept after it
   pub all_kept : AreKept w.roster (with_book_at w.roster w.member.node (book_after b step reply) books)

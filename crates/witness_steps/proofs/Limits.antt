@@ -371,7 +371,8 @@ few_found step done d is =
     found_bound d.job.segment.roster d.job.state d.job.segment.segment d.verdict
     (sym (subst IsDoneStep is done))
 
-first_limits : (m : Member) → KeepsLimits (book_opening m)
+-- at first it keeps them
+pub first_limits : (m : Member) → KeepsLimits (book_opening m)
 first_limits m = record {
   learned = omega arith;
   challenges = omega arith;

@@ -1,23 +1,26 @@
 -- What holds of books. Each is the contract of a function here.
-use Rattle.std.specs.Prelude.{◌≡◌, ◌↔◌, ℕ, false, List, ◌∷◌, map, Some, Ok}
+use Rattle.std.specs.Prelude.{◌≡◌, ◌↔◌, ℕ, ◌<◌, false, List, ◌∷◌, map, Some, Ok}
 use Rattle.authenticator.specs.Roster.{IsRoster}
 use Rattle.authenticator.specs.declared.member.Member.{Member}
+use Rattle.secure_log.specs.Segment.{SegmentParts, segment_pairs}
+use Rattle.secure_log.specs.SegmentHashes.{segment_hash_at}
 use Rattle.witness_spec.specs.Events.{Event, IsEvent}
 use Rattle.witness_spec.specs.Replies.{Reply}
 use Rattle.witness_spec.specs.Watched.{Watched, IsInRoster}
 use Rattle.witness_spec.specs.Steps.{Step}
 use Rattle.witness_spec.specs.Whose.{whose}
-use Rattle.witness_spec.specs.Standing.{audited, is_exposed, indication}
+use Rattle.witness_spec.specs.Standing.{audited, is_exposed, indication, Wanted}
 use Rattle.witness_spec.specs.Owing.{Owes}
 use Rattle.witness_spec.specs.Histories.{History, own, IsHistory, Stands, own_of}
 use Rattle.witness_spec.specs.Contract.{StepsTo, BookStepsTo, opening_book}
-use Rattle.witness_spec.specs.Pairs.{is_shown, is_fork}
+use Rattle.witness_spec.specs.Pairs.{is_shown, is_fork, first_fork}
 use Rattle.witness_steps.specs.Books.{Book, book_opening, exposed, book_shown, book_audited}
 use Rattle.witness_steps.specs.Books.{book_indication, parts_of}
 use Rattle.witness_steps.specs.Replying.{BookOwes}
 use Rattle.witness_steps.specs.Going.{book_after, book_after_steps}
 use Rattle.witness_steps.specs.Fitting.{FitsTogether, IsBookOf}
-use Rattle.witness_steps.specs.LookUps.{hash_shown, is_hash, is_other_hash, HasOneHash}
+use Rattle.witness_steps.specs.LookUps.{hash_shown, hash_among, is_hash, is_other_hash, HasOneHash}
+use Rattle.witness_steps.specs.Answers.{answer_fork}
 use Rattle.witness_steps.specs.Keeping.{KeepsLimits}
 use Rattle.witness_steps.specs.Together.{book_at, with_book_at, AreKept}
 
@@ -152,6 +155,20 @@ LookUpsTell =
     → FitsTogether b → HasOneHash b → exposed b ≡ false
     → (is_shown (number, x) (book_shown b) ≡ is_hash x (hash_shown b number))
     × (is_fork (number, x) (book_shown b) ≡ is_other_hash x (hash_shown b number))
+
+-- The hash of a segment at a number is looked up among its pairs.
+abbrev pub SegmentsLookUp : Type 0
+SegmentsLookUp =
+    (s : SegmentParts) (number : ℕ) → 0 < s.first
+    → segment_hash_at s number ≡ hash_among number (segment_pairs s)
+
+-- Where a segment that follows on the end, from the first number that was asked for on, makes the first fork
+-- with what such a book shows is looked up: at its opening, and at each learned authenticator.
+abbrev pub AnAnswerLooksUp : Type 0
+AnAnswerLooksUp =
+    (b : Book) (s : SegmentParts) (last : ℕ)
+    → FitsTogether b → HasOneHash b → exposed b ≡ false → b.stage ≡ Wanted s.first last
+    → first_fork (segment_pairs s) (book_shown b) ≡ answer_fork b s
 
 -- ---- limits
 

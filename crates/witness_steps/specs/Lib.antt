@@ -4,5 +4,8 @@ pub mod Going
 pub mod Fitting
 pub mod Together
 pub mod LookUps
+pub mod Answers
 pub mod Keeping
 pub mod Laws
+pub mod Ready
+pub mod ReadyLaws

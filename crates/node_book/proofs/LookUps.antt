@@ -1,0 +1,78 @@
+-- What a book's look-up at a number tells.
+-- Serves: Rows::hash_shown, Rows::knows.
+use Rattle.std.proofs.Common.{◌≡◌, ℕ, Bool, true, false, cond, not, ◌==◌, List, find, Some, None, refl}
+use Rattle.std.proofs.Common.{sym, ap, ◌∙◌}
+use Rattle.std.specs.Prelude.{option_map}
+use Rattle.authenticator.specs.declared.authenticator.Authenticator.{Authenticator}
+use Rattle.authenticator.specs.Signing.{is_same}
+use Rattle.authenticator.proofs.Signed.{same_list, list_same}
+use Rattle.secure_log.specs.LogEntries.Chain.{zeros}
+use Rattle.secure_log.specs.Segment.{SegmentParts}
+use Rattle.secure_log.specs.SegmentHashes.{segment_hash_at}
+use Rattle.witness_spec.specs.Exposing.{segment_holding}
+use Rattle.witness_spec.specs.Pairs.{is_shown, is_fork}
+use Rattle.witness_steps.specs.Books.{Book, exposed, book_shown}
+use Rattle.witness_steps.specs.Fitting.{FitsTogether}
+use Rattle.witness_steps.specs.LookUps.{hash_held, hash_shown, is_hash, is_other_hash}
+use Rattle.witness_steps.specs.Ready.{IsReady}
+use Rattle.witness_steps.proofs.Lists.{found}
+use Rattle.witness_steps.proofs.Segments.{tiled}
+use Rattle.witness_steps.proofs.LookUps.{shown_by_look_up, fork_by_look_up}
+use Rattle.witness_steps.proofs.Answers.{segment_looked_up}
+use Rattle.node_book.specs.Looking.{FollowOn}
+
+-- a book's accepted segments follow on one another
+pub follow_on : (b : Book) → FitsTogether b → FollowOn b.segments
+follow_on b fits = let t = tiled b fits.tiles in record { next = t.next; tile = t.tile }
+
+past_zero : (b : Book) (n : ℕ) → (n == 0) ≡ false
+    → hash_held (segment_holding n b.segments) b n ≡ hash_shown b n
+past_zero b n some =
+    sym (ap (λ z. cond z (Some zeros) (hash_held (segment_holding n b.segments) b n)) some)
+
+-- what a segment that holds a number has there is what the book shows
+pub held_in : (b : Book) (n : ℕ) (s : SegmentParts) → FitsTogether b → (n == 0) ≡ false
+    → segment_holding n b.segments ≡ Some s → segment_hash_at s n ≡ hash_shown b n
+held_in b n s fits some e =
+    segment_looked_up s n (fits.whole s (found _ b.segments s e).0).some
+    ∙ sym (ap (λ o. hash_held o b n) e) ∙ past_zero b n some
+
+-- where no segment holds it, a learned authenticator's hash is
+pub held_out : (b : Book) (n : ℕ) → (n == 0) ≡ false → segment_holding n b.segments ≡ None
+    → option_map (λ (a : Authenticator). a.hash) (find (λ (a : Authenticator). a.number == n) b.learned)
+    ≡ hash_shown b n
+held_out b n some e = sym (ap (λ o. hash_held o b n) e) ∙ past_zero b n some
+
+-- another hash isn't the same
+not_same : (x y : List ℕ) → (x ≡ y → ⊥) → is_same x y ≡ false
+not_same x y other = by (is_same x y) refl
+  where
+    by : (b : Bool) → is_same x y ≡ b → b ≡ false
+    by false e = refl
+    by true e = absurd (other (same_list x y e))
+
+module _ (b : Book) (ready : IsReady b) (hidden : exposed b ≡ false) (n : ℕ) (x : List ℕ) where
+  was_shown : is_shown (n, x) (book_shown b) ≡ is_hash x (hash_shown b n)
+  was_shown = shown_by_look_up b ready.fits n ready.one hidden x
+
+  forks : is_fork (n, x) (book_shown b) ≡ is_other_hash x (hash_shown b n)
+  forks = fork_by_look_up b ready.fits n ready.one hidden x
+
+  -- nothing is shown there
+  pub nothing_there : None ≡ hash_shown b n
+      → (is_shown (n, x) (book_shown b) ≡ false) × (is_fork (n, x) (book_shown b) ≡ false)
+  nothing_there e = (was_shown ∙ ap (is_hash x) (sym e), forks ∙ ap (is_other_hash x) (sym e))
+
+  -- the same hash is
+  pub same_there : (y : List ℕ) → Some y ≡ hash_shown b n → x ≡ y
+      → (is_shown (n, x) (book_shown b) ≡ true) × (is_fork (n, x) (book_shown b) ≡ false)
+  same_there y e same =
+      let is = list_same x y same in
+      (was_shown ∙ ap (is_hash x) (sym e) ∙ is, forks ∙ ap (is_other_hash x) (sym e) ∙ ap not is)
+
+  -- another hash is
+  pub other_there : (y : List ℕ) → Some y ≡ hash_shown b n → (x ≡ y → ⊥)
+      → (is_shown (n, x) (book_shown b) ≡ false) × (is_fork (n, x) (book_shown b) ≡ true)
+  other_there y e other =
+      let is = not_same x y other in
+      (was_shown ∙ ap (is_hash x) (sym e) ∙ is, forks ∙ ap (is_other_hash x) (sym e) ∙ ap not is)

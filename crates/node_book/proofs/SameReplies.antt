@@ -1,0 +1,67 @@
+-- Refusals with the same number are the same, and so are challenges that say the same.
+-- Serves: is_same of replies.
+use Rattle.std.proofs.Common.{◌≡◌, ℕ, ◌==◌, List, [], ◌∷◌, map, refl, sym, ap, ap₂, ◌∙◌}
+use Rattle.std.specs.Prelude.{if◌then◌else◌}
+use Rattle.witness_spec.specs.Refusals.{Refusal, UnknownNode, Garbage, BadSignature, LearnedFull}
+use Rattle.witness_spec.specs.Refusals.{ChallengesFull, OutboxFull, TooFar, NothingToAudit, Busy, NotAsked}
+use Rattle.witness_spec.specs.Refusals.{NoJob, WrongJob, BookFull, NoMemory, refusal_number}
+use Rattle.challenge.specs.declared.challenge.Challenge.{Challenge}
+use Rattle.challenge.specs.declared.challenge.Challenge.TheVariants as challenges
+use Rattle.node_book.specs.Replies.{challenge_in}
+
+-- the refusal with this number
+refusal_with : ℕ → Refusal
+refusal_with n =
+    if n == 1 then UnknownNode
+    else if n == 2 then Garbage
+    else if n == 3 then BadSignature
+    else if n == 4 then LearnedFull
+    else if n == 5 then ChallengesFull
+    else if n == 6 then OutboxFull
+    else if n == 7 then TooFar
+    else if n == 8 then NothingToAudit
+    else if n == 9 then Busy
+    else if n == 10 then NotAsked
+    else if n == 11 then NoJob
+    else if n == 12 then WrongJob
+    else if n == 13 then BookFull
+    else NoMemory
+
+-- a refusal is the one with its number
+with_number : (f : Refusal) → refusal_with (refusal_number f) ≡ f
+unfolding refusal_with
+with_number UnknownNode = refl
+with_number Garbage = refl
+with_number BadSignature = refl
+with_number LearnedFull = refl
+with_number ChallengesFull = refl
+with_number OutboxFull = refl
+with_number TooFar = refl
+with_number NothingToAudit = refl
+with_number Busy = refl
+with_number NotAsked = refl
+with_number NoJob = refl
+with_number WrongJob = refl
+with_number BookFull = refl
+with_number NoMemory = refl
+
+-- refusals with the same number are the same
+pub refusal_of_number : (f g : Refusal) → refusal_number f ≡ refusal_number g → f ≡ g
+refusal_of_number f g h = sym (with_number f) ∙ ap refusal_with h ∙ with_number g
+
+-- challenges that say the same are the same
+challenge_same : (c d : Challenge) → challenge_in c ≡ challenge_in d → c ≡ d
+challenge_same (challenges.Audit first last) (challenges.Audit from to) h = cc
+challenge_same (challenges.Audit first last) (challenges.Send e) h = cc
+challenge_same (challenges.Send e) (challenges.Audit first last) h = cc
+challenge_same (challenges.Send e) (challenges.Send f) h = cc
+
+-- lists of challenges that say the same are the same
+pub challenges_same : (cs ds : List Challenge) → map challenge_in cs ≡ map challenge_in ds → cs ≡ ds
+challenges_same [] [] h = refl
+challenges_same [] (d ∷ ds) h = cc
+challenges_same (c ∷ cs) [] h = cc
+challenges_same (c ∷ cs) (d ∷ ds) h =
+    let heads : challenge_in c ≡ challenge_in d = cc in
+    let tails : map challenge_in cs ≡ map challenge_in ds = cc in
+    ap₂ (λ (x : Challenge) (xs : List Challenge). x ∷ xs) (challenge_same c d heads) (challenges_same cs ds tails)

@@ -1,0 +1,130 @@
+-- The code of a book, by which a proof tells books apart.
+use Rattle.std.specs.Prelude.{◌≡◌, ℕ, List, Option, refl}
+use Rattle.std.specs.Coded.{Coded, code_by, coded×, coded⊎, coded_ℕ, coded_list, coded_option}
+use Rattle.std.proofs.Common.{inl, inr, ◌⊎◌}
+use Rattle.authenticator.specs.declared.authenticator.Authenticator.{Authenticator}
+use Rattle.authenticator.specs.contracts.authenticator.Authenticator as authenticators
+use Rattle.secure_log.specs.declared.log_entries.entry.Entry.{Entry}
+use Rattle.secure_log.specs.contracts.log_entries.entry.Entry as entries
+use Rattle.secure_log.specs.Segment.{SegmentParts, ClosedParts}
+use Rattle.envelopes.specs.declared.envelope.Envelope.{Envelope}
+use Rattle.envelopes.specs.contracts.envelope.Envelope as envelopes
+use Rattle.evidence_spec.specs.Evidence.{EvidenceParts}
+use Rattle.challenge.specs.contracts.evidence.Evidence as evidences
+use Rattle.checkpoint.specs.state_spec.State.{State}
+use Rattle.checkpoint.specs.state_spec.Codes.{state_code}
+use Rattle.witness_spec.specs.Replies.{Challenge, AuditOf, SendOf}
+use Rattle.witness_spec.specs.Standing.{End, Stage, NoAudit, Wanted, Given, Out}
+use Rattle.witness_steps.specs.Books.{Book}
+use Rattle.node_book.specs.Codes.{closed_code}
+
+-- of an authenticator
+abbrev pub authenticator_code : Coded Authenticator
+authenticator_code = authenticators.the_row.coded
+
+-- of a segment
+abbrev pub segment_code : Coded SegmentParts
+segment_code =
+    code_by (ℕ × (ℕ × (List ℕ × (List Entry × Authenticator))))
+    (coded× coded_ℕ (coded× coded_ℕ (coded× (coded_list coded_ℕ)
+    (coded× (coded_list entries.the_row.coded) authenticator_code))))
+    (λ s. (s.node, (s.first, (s.opening, (s.entries, s.closing)))))
+    (λ p. record { node = p.0; first = p.1.0; opening = p.1.1.0; entries = p.1.1.1.0; closing = p.1.1.1.1 })
+    (λ _. refl)
+
+-- what a challenge is made of, without names: two numbers, or an envelope
+abbrev pub ChallengeParts : Type 0
+ChallengeParts = (ℕ × ℕ) ⊎ Envelope
+
+-- the parts of a challenge
+abbrev pub challenge_parts : Challenge → ChallengeParts
+challenge_parts (AuditOf first last) = inl (first, last)
+challenge_parts (SendOf e) = inr e
+
+-- the challenge of these parts
+abbrev pub challenge_of_parts : ChallengeParts → Challenge
+challenge_of_parts (inl p) = AuditOf p.0 p.1
+challenge_of_parts (inr e) = SendOf e
+
+-- a challenge is that of its parts
+pub challenge_parts_back : (c : Challenge) → challenge_of_parts (challenge_parts c) ≡ c
+challenge_parts_back (AuditOf first last) = refl
+challenge_parts_back (SendOf e) = refl
+
+-- of a challenge
+abbrev pub challenge_code : Coded Challenge
+challenge_code =
+    code_by ChallengeParts (coded⊎ (coded× coded_ℕ coded_ℕ) envelopes.the_row.coded)
+    challenge_parts challenge_of_parts challenge_parts_back
+
+-- what a stage is made of, without names: nothing, two numbers, or a segment for each of the two others
+abbrev pub StageParts : Type 0
+StageParts = ℕ ⊎ ((ℕ × ℕ) ⊎ (ClosedParts ⊎ ClosedParts))
+
+-- the parts of a stage
+abbrev pub stage_parts : Stage → StageParts
+stage_parts NoAudit = inl 0
+stage_parts (Wanted first last) = inr (inl (first, last))
+stage_parts (Given c) = inr (inr (inl c))
+stage_parts (Out c) = inr (inr (inr c))
+
+-- the stage of these parts
+abbrev pub stage_of_parts : StageParts → Stage
+stage_of_parts (inl n) = NoAudit
+stage_of_parts (inr (inl p)) = Wanted p.0 p.1
+stage_of_parts (inr (inr (inl c))) = Given c
+stage_of_parts (inr (inr (inr c))) = Out c
+
+-- a stage is that of its parts
+pub stage_parts_back : (s : Stage) → stage_of_parts (stage_parts s) ≡ s
+stage_parts_back NoAudit = refl
+stage_parts_back (Wanted first last) = refl
+stage_parts_back (Given c) = refl
+stage_parts_back (Out c) = refl
+
+-- of a stage
+abbrev pub stage_code : Coded Stage
+stage_code =
+    code_by StageParts
+    (coded⊎ coded_ℕ (coded⊎ (coded× coded_ℕ coded_ℕ) (coded⊎ closed_code closed_code)))
+    stage_parts stage_of_parts stage_parts_back
+
+-- of an end
+abbrev pub end_code : Coded End
+end_code =
+    code_by (ℕ × State) (coded× coded_ℕ state_code)
+    (λ e. (e.number, e.state)) (λ p. record { number = p.0; state = p.1 }) (λ _. refl)
+
+-- of authenticators
+abbrev pub authenticators_code : Coded (List Authenticator)
+authenticators_code = coded_list authenticator_code
+
+-- of a book's lists
+abbrev pub ListParts : Type 0
+ListParts = List Authenticator × (List SegmentParts × (List Challenge × List Authenticator))
+
+-- of a book's lists
+abbrev pub lists_code : Coded ListParts
+lists_code =
+    coded× authenticators_code (coded× (coded_list segment_code)
+    (coded× (coded_list challenge_code) authenticators_code))
+
+-- of a book
+abbrev pub book_code : Coded Book
+book_code =
+    code_by (ℕ × (End × (Stage × (ℕ × (ListParts × Option EvidenceParts)))))
+    (coded× coded_ℕ (coded× end_code (coded× stage_code (coded× coded_ℕ
+    (coded× lists_code (coded_option evidences.the_row.coded))))))
+    (λ b. (b.node, (b.end, (b.stage, (b.begun,
+    ((b.learned, (b.segments, (b.challenges, b.outbox))), b.evidence))))))
+    (λ p. record {
+      node = p.0;
+      end = p.1.0;
+      stage = p.1.1.0;
+      begun = p.1.1.1.0;
+      learned = p.1.1.1.1.0.0;
+      segments = p.1.1.1.1.0.1.0;
+      challenges = p.1.1.1.1.0.1.1.0;
+      outbox = p.1.1.1.1.0.1.1.1;
+      evidence = p.1.1.1.1.1;
+    }) (λ _. refl)

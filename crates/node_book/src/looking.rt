@@ -1,0 +1,124 @@
+//! What a book looks up.
+
+ghost use Rattle.std.specs.Prelude.{◌≡◌, ◌==◌, ◌<◌, ◌≤◌, nat_lt, length, find, option_map, false};
+ghost use Rattle.witness_spec.specs.Exposing.{segment_holding};
+ghost use Rattle.witness_spec.specs.Pairs.{pair_of, is_shown, is_fork};
+ghost use Rattle.witness_steps.specs.Books.{book_shown, exposed};
+ghost use Rattle.witness_steps.specs.Fitting.{FitsTogether};
+ghost use Rattle.witness_steps.specs.LookUps.{hash_shown};
+ghost use Rattle.witness_steps.specs.Ready.{IsReady};
+ghost use Rattle.node_book.specs.Rows.{book_in, segments_in};
+ghost use Rattle.node_book.specs.Looking.{FollowOn, count_ended, is_another, is_the_same};
+
+use crate::rows::Rows;
+use crate::segment::SharedSegment;
+use authenticator::{Authenticator, is_same_hash};
+
+/// What a book shows at an authenticator's number: its hash, another one, or nothing.
+#[derive(Clone, Copy)]
+pub(crate) enum ShownHash {
+    Same,
+    Another,
+    Nothing,
+}
+
+impl Rows {
+    /// The hash that the book shows at a number: zeros at 0, else that in the accepted segment that holds the
+    /// number, else that of the learned authenticator with the number. It looks at the logarithm of how many
+    /// segments there are, or besides at each learned authenticator; nothing is hashed, and no memory taken.
+    #[tactic(auto, unfolding(secure_log::specs::LogEntries::Chain::zeros))]
+    pub(crate) fn hash_shown(&self, number: u64) -> Option<[u8; 32]>
+        requires { FitsTogether (book_in self.now) }
+        ensures { result ≡ hash_shown (book_in self.now) number }
+    {
+        if number == 0 {
+            return Some([0; 32]);
+        }
+        match segment_holding(&self.segments, number) {
+            Some(segment) => segment.closed().hash_at(number),
+            None => learned_hash(&self.learned, number),
+        }
+    }
+
+    /// What the book shows at an authenticator's number, by one look-up.
+    pub(crate) fn knows(&self, authenticator: &Authenticator) -> ShownHash
+        requires ready { IsReady (book_in self.now) }
+        requires hidden { exposed (book_in self.now) ≡ false }
+        ensures same { is_shown (pair_of authenticator.now) (book_shown (book_in self.now))
+            ≡ is_the_same result }
+        ensures another { is_fork (pair_of authenticator.now) (book_shown (book_in self.now))
+            ≡ is_another result }
+    {
+        let Some(hash) = self.hash_shown(authenticator.number.get()) else {
+            return ShownHash::Nothing;
+        };
+        if is_same_hash(&authenticator.hash, &hash) {
+            ShownHash::Same
+        } else {
+            ShownHash::Another
+        }
+    }
+}
+
+/// How many segments, which follow on one another, end before a number. It looks at the logarithm of how many
+/// they are.
+fn count_ended(segments: &[SharedSegment], number: u64) -> usize
+    requires { FollowOn (segments_in segments.now) }
+    ensures count { result ≡ count_ended number (segments_in segments.now) }
+    ensures few { result ≤ length segments.now }
+{
+    let mut low = 0;
+    let mut high = segments.len();
+    while low < high {
+        let middle = low + (high - low) / 2;
+        if is_ended(segments, middle, number) {
+            low = middle + 1;
+        } else {
+            high = middle;
+        }
+    }
+    low
+}
+
+/// Whether one of these segments, the one at this index, ends before a number.
+fn is_ended(segments: &[SharedSegment], index: usize, number: u64) -> bool
+    requires on { FollowOn (segments_in segments.now) }
+    requires there { index < length segments.now }
+    ensures { result ≡ nat_lt index (count_ended number (segments_in segments.now)) }
+{
+    segments[index].closed().segment().closing().number.get() < number
+}
+
+/// The segment that holds a number from 1 on, of some that follow on one another.
+pub(crate) fn segment_holding(segments: &[SharedSegment], number: u64) -> Option<&SharedSegment>
+    requires on { FollowOn (segments_in segments.now) }
+    requires some { 0 < number }
+    ensures { option_map (λ s. s.now.segment) result ≡ segment_holding number (segments_in segments.now) }
+{
+    let count = count_ended(segments, number);
+    if count < segments.len() {
+        Some(&segments[count])
+    } else {
+        None
+    }
+}
+
+/// The authenticator with a number, of some.
+pub(crate) fn learned_at(learned: &[Authenticator], number: u64) -> Option<&Authenticator>
+    ensures { option_map (λ a. a.now) result ≡ find (λ a. a.number == number) learned.now }
+{
+    for authenticator in learned {
+        if authenticator.number.get() == number {
+            return Some(authenticator);
+        }
+    }
+    None
+}
+
+/// The hash of the authenticator with a number, of some.
+fn learned_hash(learned: &[Authenticator], number: u64) -> Option<[u8; 32]>
+    ensures { result ≡ option_map (λ a. a.hash) (find (λ a. a.number == number) learned.now) }
+{
+    let authenticator = learned_at(learned, number)?;
+    Some(authenticator.hash)
+}

@@ -1,0 +1,91 @@
+//! Why a witness refuses what it is handed.
+
+ghost use Rattle.std.specs.Prelude.{◌≡◌};
+ghost use Rattle.witness_spec.specs.Refusals.{refusal_number, refusal_of};
+ghost use Rattle.node_book.specs.Replies.{refusal_in};
+
+use authenticator::Refusal as CheckRefusal;
+use thiserror::Error;
+
+/// Why a witness refuses an event. Refusals are tried in the order that each event names.
+#[derive(Clone, Copy, Debug, PartialEq, Eq, Error)]
+pub enum Refusal {
+    /// A node that it is of isn't in the roster.
+    #[error("unknown node")]
+    UnknownNode,
+    /// The bytes spell nothing that may be handed over.
+    #[error("garbage")]
+    Garbage,
+    /// It isn't signed by the member that it names, or was checked under another key or roster.
+    #[error("bad signature")]
+    BadSignature,
+    /// As many authenticators are kept as may be, 256.
+    #[error("as many authenticators are kept as may be")]
+    LearnedFull,
+    /// As many challenges with messages are open as may be, 16.
+    #[error("as many challenges are open as may be")]
+    ChallengesFull,
+    /// What the audit could find has no room in the outbox.
+    #[error("the outbox has no room")]
+    OutboxFull,
+    /// No learned number is near enough: among the next 4,096 after the end.
+    #[error("no learned number is near enough")]
+    TooFar,
+    /// There is nothing to audit.
+    #[error("there is nothing to audit")]
+    NothingToAudit,
+    /// An audit or a job is under way.
+    #[error("an audit is under way")]
+    Busy,
+    /// That wasn't asked.
+    #[error("that was not asked")]
+    NotAsked,
+    /// No job is out.
+    #[error("no job is out")]
+    NoJob,
+    /// It isn't the job that is out.
+    #[error("it is not the job that is out")]
+    WrongJob,
+    /// As many entries are audited as may be, 65,536.
+    #[error("as many entries are audited as may be")]
+    BookFull,
+    /// A growth was refused.
+    #[error("out of memory")]
+    NoMemory,
+}
+
+impl Refusal {
+    /// The number that programs print, from 1 to 14.
+    pub fn number(self) -> u32
+        ensures { result ≡ refusal_number (refusal_in self) }
+    {
+        match self {
+            Refusal::UnknownNode => 1,
+            Refusal::Garbage => 2,
+            Refusal::BadSignature => 3,
+            Refusal::LearnedFull => 4,
+            Refusal::ChallengesFull => 5,
+            Refusal::OutboxFull => 6,
+            Refusal::TooFar => 7,
+            Refusal::NothingToAudit => 8,
+            Refusal::Busy => 9,
+            Refusal::NotAsked => 10,
+            Refusal::NoJob => 11,
+            Refusal::WrongJob => 12,
+            Refusal::BookFull => 13,
+            Refusal::NoMemory => 14,
+        }
+    }
+
+    /// What a check of bytes answers, as a witness says it.
+    pub fn of_check(refusal: CheckRefusal) -> Refusal
+        ensures { refusal_in result ≡ refusal_of refusal }
+    {
+        match refusal {
+            CheckRefusal::UnknownNode => Refusal::UnknownNode,
+            CheckRefusal::Garbage => Refusal::Garbage,
+            CheckRefusal::BadSignature => Refusal::BadSignature,
+            CheckRefusal::NoMemory => Refusal::NoMemory,
+        }
+    }
+}

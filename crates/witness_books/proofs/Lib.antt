@@ -1,0 +1,4 @@
+pub mod Rosters
+pub mod Routes
+pub mod Places
+pub mod Stepping

@@ -1,0 +1,128 @@
+-- A member's book is at the member's place.
+-- Serves: step_of.
+use Rattle.std.proofs.Common.{◌≡◌, ℕ, suc, ◌+◌, ◌<◌, Bool, true, false, cond, ◌==◌, List, [], ◌∷◌, length}
+use Rattle.std.proofs.Common.{Option, Some, None, get_or, set, IsSome, refl, sym, ap, subst, ◌∙◌, arith}
+use Rattle.authenticator.specs.Roster.{member_of}
+use Rattle.authenticator.specs.declared.member.Member.{Member}
+use Rattle.witness_steps.specs.Books.{Book}
+use Rattle.witness_steps.specs.Together.{book_at, with_book_at, FitEach}
+use Rattle.witness_steps.specs.Ready.{IsReady, AreReady}
+use Rattle.witness_steps.specs.ReadyLaws.{ReadyBooksAreReady}
+use Rattle.witness_books.specs.Places.{place_from, OneDoes}
+
+some_same : {x y : ℕ} → ◌≡◌ {A = Option ℕ} (Some x) (Some y) → x ≡ y
+some_same h = cc
+
+-- The book of a number is so many places after the first.
+pub record IsAt (first : ℕ) (ms : List Member) (node : ℕ) (books : List Book) (place : ℕ) : Type 0 where
+  -- so many
+  pub steps : ℕ
+  -- it is there
+  pub is : place ≡ first + steps
+  -- it is a place
+  pub inside : steps < length books
+  -- the book there
+  pub there : (d : Book) → book_at ms books node ≡ Some (get_or books steps d)
+  -- another there
+  pub with : (new : Book) → with_book_at ms node new books ≡ set books steps new
+
+-- the place of a member is that of its book
+pub is_at : (first : ℕ) (ms : List Member) (node : ℕ) (books : List Book) (place : ℕ) → FitEach ms books
+    → place_from first ms node ≡ Some place → IsAt first ms node books place
+is_at first [] node books place fit h = absurd (cc)
+is_at first (m ∷ ms) node [] place fit h = absurd fit
+is_at first (m ∷ ms) node (b ∷ books) place fit h =
+    by (m.node == node) refl h (λ k. is_at (first + 1) ms node books place fit.2 k)
+  where
+    by : (x : Bool) → (m.node == node) ≡ x
+        → ◌≡◌ {A = Option ℕ} (cond x (Some first) (place_from (first + 1) ms node)) (Some place)
+        → (place_from (first + 1) ms node ≡ Some place → IsAt (first + 1) ms node books place)
+        → IsAt first (m ∷ ms) node (b ∷ books) place
+    by true e k rest =
+        let same : first ≡ place = some_same k in
+        record {
+          steps = 0;
+          is = omega (arith, same);
+          inside = omega arith;
+          there = λ d. ap (λ x. cond x (Some b) (book_at ms books node)) e;
+          with = λ new. ap (λ x. cond x (new ∷ books) (b ∷ with_book_at ms node new books)) e;
+        }
+    by false e k rest =
+        let r = rest k in
+        let is = r.is in
+        let inside = r.inside in
+        record {
+          steps = suc r.steps;
+          is = omega (arith, is);
+          inside = omega (arith, inside);
+          there = λ d. ap (λ x. cond x (Some b) (book_at ms books node)) e ∙ r.there d;
+          with = λ new.
+              ap (λ x. cond x (new ∷ books) (b ∷ with_book_at ms node new books)) e
+              ∙ ap (λ l. b ∷ l) (r.with new);
+        }
+
+-- a member has a place
+pub has_place : (first : ℕ) (ms : List Member) (node : ℕ) (m : Member) → member_of ms node ≡ Some m
+    → (place : ℕ) × (place_from first ms node ≡ Some place)
+has_place first [] node m h = absurd (cc)
+has_place first (n ∷ ms) node m h = by (n.node == node) refl h (λ k. has_place (first + 1) ms node m k)
+  where
+    by : (x : Bool) → (n.node == node) ≡ x → ◌≡◌ {A = Option Member} (cond x (Some n) (member_of ms node)) (Some m)
+        → (member_of ms node ≡ Some m → (place : ℕ) × (place_from (first + 1) ms node ≡ Some place))
+        → (place : ℕ) × (place_from first (n ∷ ms) node ≡ Some place)
+    by true e k rest = (first, ap (λ x. cond x (Some first) (place_from (first + 1) ms node)) e)
+    by false e k rest =
+        let r = rest k in (r.0, ap (λ x. cond x (Some first) (place_from (first + 1) ms node)) e ∙ r.1)
+
+-- ---- in the books that can make their steps
+
+-- The book of a number is at a place.
+pub record IsHere (ms : List Member) (node : ℕ) (books : List Book) (place : ℕ) : Type 0 where
+  -- it is a place
+  pub inside : place < length books
+  -- the book there
+  pub there : (d : Book) → book_at ms books node ≡ Some (get_or books place d)
+  -- another there
+  pub with : (new : Book) → with_book_at ms node new books ≡ set books place new
+
+-- where the place was found
+pub is_here : (ms all : List Member) (node : ℕ) (books : List Book) (found : Option ℕ) (place : ℕ)
+    → AreReady ms books → all ≡ ms → found ≡ place_from 0 all node → found ≡ Some place
+    → IsHere ms node books place
+is_here ms all node books found place ready same is h =
+    let r =
+    is_at 0 ms node books place ready.kept.fit
+    (sym (is ∙ ap (λ l. place_from 0 l node) same) ∙ h) in
+    let at = r.is in
+    let steps : r.steps ≡ place = omega (arith, at) in
+    record {
+      inside = subst (λ n. n < length books) steps r.inside;
+      there = λ d. subst (λ n. book_at ms books node ≡ Some (get_or books n d)) steps (r.there d);
+      with = λ new. subst (λ n. with_book_at ms node new books ≡ set books n new) steps (r.with new);
+    }
+
+-- a member's place is found
+pub is_found : (ms all : List Member) (m : Member) (found : Option ℕ) → member_of ms m.node ≡ Some m → all ≡ ms
+    → found ≡ place_from 0 all m.node → IsSome found
+is_found ms all m found member same is =
+    let r = has_place 0 ms m.node m member in
+    subst IsSome (sym (is ∙ ap (λ l. place_from 0 l m.node) same ∙ r.1)) refl
+
+-- what the book at the place did, the member's did
+pub here_does : (ms : List Member) (node : ℕ) (books : List Book) (place : ℕ) (b after : Book)
+    (Does : Book → Book → Type 0) → IsHere ms node books place → b ≡ get_or books place b → Does b after
+    → OneDoes ms node books Does (set books place after)
+here_does ms node books place b after Does here is does = record {
+  book = b;
+  there = here.there b ∙ ap (λ x. Some x) (sym is);
+  after = after;
+  does = does;
+  are = sym (here.with after);
+}
+
+-- it can make a step
+pub here_ready : ReadyBooksAreReady → (ms : List Member) (m : Member) (books : List Book) (place : ℕ) (b : Book)
+    → AreReady ms books → member_of ms m.node ≡ Some m → IsHere ms m.node books place
+    → b ≡ get_or books place b → IsReady b
+here_ready law ms m books place b ready member here is =
+    law ms m books b ready member (here.there b ∙ ap (λ x. Some x) (sym is))

@@ -1,0 +1,99 @@
+-- A step of a member's book is one of all books.
+-- Serves: Books::step.
+use Rattle.std.proofs.Common.{◌≡◌, ◌⊎◌, inl, inr, ℕ, Bool, true, false, cond, ◌==◌, List, [], ◌∷◌, map}
+use Rattle.std.proofs.Common.{Option, Some, refl, sym, ap, subst, ◌∙◌}
+use Rattle.authenticator.specs.Roster.{IsRoster, member_of}
+use Rattle.authenticator.specs.declared.member.Member.{Member}
+use Rattle.witness_spec.specs.Refusals.{NoMemory}
+use Rattle.witness_spec.specs.Events.{Event, IsEvent}
+use Rattle.witness_spec.specs.Replies.{Reply}
+use Rattle.witness_spec.specs.Steps as steps
+use Rattle.witness_spec.specs.Histories.{IsWanting}
+use Rattle.witness_spec.specs.Contract.{StepsTo}
+use Rattle.witness_spec.specs.ContractLaws.{LeftOutLeavesBooks, WantLeavesBooks}
+use Rattle.witness_laws.proofs.OwnSteps.{of_member}
+use Rattle.witness_steps.specs.Books.{Book, parts_of}
+use Rattle.witness_steps.specs.Together.{book_at, with_book_at}
+use Rattle.witness_steps.specs.Ready.{AreReady}
+use Rattle.witness_steps.specs.ReadyLaws.{ReadyBooksStep}
+use Rattle.node_book.specs.Stepping.{StepMayWant, IsStep, RanOut, Steps}
+use Rattle.witness_books.specs.Routing.{IsStepOf, IsNobodys}
+use Rattle.witness_books.specs.Places.{OneDoes}
+
+some_same : {x y : Book} → ◌≡◌ {A = Option Book} (Some x) (Some y) → x ≡ y
+some_same h = cc
+
+-- with the book that is there, nothing changes
+pub with_same : (ms : List Member) (node : ℕ) (books : List Book) (b : Book) → book_at ms books node ≡ Some b
+    → with_book_at ms node b books ≡ books
+with_same [] node books b h = refl
+with_same (m ∷ ms) node [] b h = refl
+with_same (m ∷ ms) node (c ∷ books) b h = by (m.node == node) h (λ k. with_same ms node books b k)
+  where
+    by : (x : Bool) → ◌≡◌ {A = Option Book} (cond x (Some c) (book_at ms books node)) (Some b)
+        → (book_at ms books node ≡ Some b → with_book_at ms node b books ≡ books)
+        → cond x (b ∷ books) (c ∷ with_book_at ms node b books) ≡ c ∷ books
+    by true k rest = ap (λ z. z ∷ books) (sym (some_same k))
+    by false k rest = ap (λ l. c ∷ l) (rest k)
+
+-- Books lead to others by a step, and these can make their steps.
+pub record Goes (ms : List Member) (old : List Book) (event : Event) (reply : Reply) (new : List Book)
+    : Type 0 where
+  -- they lead to them
+  pub steps : StepsTo ms (map parts_of old) event reply (map parts_of new)
+  -- these can make their steps
+  pub ready : AreReady ms new
+
+-- an event's step is its member's
+pub its_member : (ms : List Member) (event : Event) (m : Member) (step : steps.Step)
+    → IsStepOf ms event m step → member_of ms m.node ≡ Some m
+its_member ms event m step of = of_member ms event (record { member = m; step = step }) of.whose_is
+
+-- the step that a member's book made
+pub made_goes : ReadyBooksStep → (ms : List Member) (m : Member) (old new : List Book) (book after : Book)
+    (event : Event) (step : steps.Step) (reply : Reply) → IsRoster ms → AreReady ms old → IsEvent event
+    → IsStepOf ms event m step → book_at ms old m.node ≡ Some book → IsStep book step reply after
+    → new ≡ with_book_at ms m.node after old → Goes ms old event reply new
+made_goes law ms m old new book after event step reply roster ready is of there made are =
+    let both = law ms m old book event step reply roster ready is of.whose_is there made.owes in
+    subst (Goes ms old event reply)
+    (sym (are ∙ ap (λ b. with_book_at ms m.node b old) made.after))
+    (record { steps = both.0; ready = both.1 })
+
+-- the step for which memory ran out
+ran_out_goes : WantLeavesBooks → (ms : List Member) (m : Member) (old new : List Book) (book after : Book)
+    (event : Event) (step : steps.Step) (reply : Reply) → AreReady ms old → IsEvent event
+    → IsStepOf ms event m step → book_at ms old m.node ≡ Some book → StepMayWant step
+    → RanOut book step reply after → new ≡ with_book_at ms m.node after old → Goes ms old event reply new
+ran_out_goes law ms m old new book after event step reply ready is of there may out are =
+    subst (Goes ms old event reply)
+    (sym (are ∙ ap (λ b. with_book_at ms m.node b old) out.stays ∙ with_same ms m.node old book there))
+    (record {
+      steps = law ms (map parts_of old) event reply is
+          (record { may = of.wants_as may; is = out.refused ∙ sym (of.refused_as NoMemory) });
+      ready = ready;
+    })
+
+-- a member's step is one of all books
+pub step_goes : ReadyBooksStep → WantLeavesBooks → (ms : List Member) (m : Member) (old new : List Book)
+    (event : Event) (step : steps.Step) (reply : Reply) → IsRoster ms → AreReady ms old → IsEvent event
+    → IsStepOf ms event m step → OneDoes ms m.node old (λ b after. Steps b step reply after) new
+    → Goes ms old event reply new
+step_goes law want ms m old new event step reply roster ready is of one = by one.does
+  where
+    by : Steps one.book step reply one.after → Goes ms old event reply new
+    by (inl made) =
+        made_goes law ms m old new one.book one.after event step reply roster ready is of one.there made one.are
+    by (inr out) =
+        ran_out_goes want ms m old new one.book one.after event step reply ready is of one.there out.0 out.1
+        one.are
+
+-- what is refused before it is a step leaves the books
+pub refused_steps : LeftOutLeavesBooks → WantLeavesBooks → (ms : List Member) (books : List Book) (event : Event)
+    (reply : Reply) → IsEvent event → IsNobodys ms event reply ⊎ IsWanting event reply
+    → StepsTo ms (map parts_of books) event reply (map parts_of books)
+refused_steps out want ms books event reply is (inl nobodys) =
+    subst (λ r. StepsTo ms (map parts_of books) event r (map parts_of books)) (sym nobodys.is)
+    (out ms (map parts_of books) event nobodys.why is nobodys.whose_is)
+refused_steps out want ms books event reply is (inr wants) =
+    want ms (map parts_of books) event reply is wants

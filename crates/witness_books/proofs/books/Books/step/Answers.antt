@@ -1,0 +1,30 @@
+use Rattle.std.proofs.Common.{List, map, subst}
+use Rattle.witness_spec.specs.Contract.{StepsTo}
+use Rattle.witness_steps.specs.Books.{parts_of}
+use Rattle.node_book.specs.Events.{event_in, step_in}
+use Rattle.node_book.specs.Replies.{reply_in}
+use Rattle.witness_books.specs.Books.{BooksParts, parts_in}
+use Rattle.witness_books.proofs.Stepping.{Goes, its_member, step_goes}
+use Rattle.witness_books.proofs.books.Books.step.Goals as goal
+
+pub step_of-requires-clause-member : goal.step_of-requires-clause-member
+step_of-requires-clause-member c =
+    its_member c.self.inside.roster (event_in c.args.event) c.in-Step.member (step_in c.in-Step.step)
+    c.in-Step.ensures.goes
+
+pub invariant_of-self : goal.invariant_of-self
+invariant_of-self c =
+    let goes = step_goes c.books_are_ready.ensures.step c.what_leaves_books.ensures.want c.self.inside.roster
+    c.in-Step.member c.self.inside.books.items c.step_of.new.books.items (event_in c.args.event)
+    (step_in c.in-Step.step) (reply_in c.step_of.result) c.self.invariant.roster c.self.invariant.ready
+    c.route.ensures.is_event c.in-Step.ensures.goes c.step_of.ensures in
+    record { roster = c.self.invariant.roster; ready = goes.ready }
+
+pub returns-in-Step-clause-steps : goal.returns-in-Step-clause-steps
+returns-in-Step-clause-steps c =
+    let goes = step_goes c.books_are_ready.ensures.step c.what_leaves_books.ensures.want c.self.inside.roster
+    c.in-Step.member c.self.inside.books.items c.step_of.new.books.items (event_in c.args.event)
+    (step_in c.in-Step.step) (reply_in c.step_of.result) c.self.invariant.roster c.self.invariant.ready
+    c.route.ensures.is_event c.in-Step.ensures.goes c.step_of.ensures in
+    subst (λ (b : BooksParts). StepsTo b.roster (parts_in b) (event_in c.args.event) (reply_in c.step_of.result)
+    (map parts_of c.step_of.new.books.items)) c.self.view_is goes.steps

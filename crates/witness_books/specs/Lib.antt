@@ -1,0 +1,3 @@
+pub mod Routing
+pub mod Books
+pub mod Places

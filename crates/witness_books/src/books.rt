@@ -1,0 +1,135 @@
+//! The books of all members.
+
+ghost use Rattle.std.specs.Prelude.{◌≡◌, IfErr, IfOk, OnErr, List, Some, map};
+ghost use Rattle.authenticator.specs.Roster.{IsRoster, member_of};
+ghost use Rattle.witness_spec.specs.Contract.{RunsTo, StepsTo};
+ghost use Rattle.witness_steps.specs.Books.{book_opening};
+ghost use Rattle.witness_steps.specs.Ready.{AreReady};
+ghost use Rattle.node_book.specs.Events.{event_in, step_in};
+ghost use Rattle.node_book.specs.Replies.{reply_in};
+ghost use Rattle.node_book.specs.Stepping.{Steps};
+ghost use Rattle.witness_books.specs.Books.{parts_in};
+ghost use Rattle.witness_books.specs.Places.{OneDoes, place_from};
+
+use crate::route::{Routed, route};
+use authenticator::{Member, Roster};
+use node_book::{Book, Event, Reply, Step};
+use std::alloc::{AllocError, AllocFailed, Global};
+use std::marker::Model;
+use witness_laws::books::{runs_are_histories, what_leaves_books};
+use witness_steps::laws::books_are_ready;
+
+/// What a witness keeps of the members of a roster (PeerReview, SOSP 2007): a book of each.
+#[derive(Drop)]
+pub struct Books {
+    roster: Roster,
+    books: Vec<Book>,
+}
+
+impl Model for Books {
+    ghost use Rattle.witness_books.specs.Books.{AreBooks, BooksParts, books_code};
+
+    ghost Value = { BooksParts };
+
+    ghost coded = { books_code };
+
+    ghost view = { λ b. record { roster = b.roster; books = b.books.items } };
+
+    ghost invariant = { λ b. AreBooks (record { roster = b.roster; books = b.books.items }) };
+}
+
+impl Books {
+    /// The books of a roster's members before any step. Where a growth was refused the roster comes back.
+    pub fn new(alloc: Global, roster: Roster) -> Result<Books, AllocFailed<Roster>>
+        ensures roster { IfOk result (λ b. b.roster ≡ roster) }
+        ensures books { IfOk result (λ b. b.books ≡ map book_opening roster) }
+        ensures back { IfErr result (λ e. e.value ≡ roster) }
+    {
+        match opening_books(alloc, &roster) {
+            Ok(books) => {
+                books_are_ready();
+                Ok(Books { roster, books })
+            }
+            Err(AllocError) => Err(AllocFailed { value: roster }),
+        }
+    }
+
+    /// The roster whose members have these books.
+    pub fn roster(&self) -> &Roster
+        ensures { result.now ≡ self.now.roster }
+    {
+        &self.roster
+    }
+
+    /// One event, with its reply. An event that is nobody's step is refused: `UnknownNode` where a node that it
+    /// is of is no member, else `BadSignature` where it was checked under another key or roster, or isn't
+    /// signed; `Garbage` where bytes are no packet. A member's step is refused as its book owes. `NoMemory`
+    /// comes only where a growth was refused, and never where a job is put back or an indication is asked for.
+    /// What is refused changes nothing: a job or a done value comes back with the refusal.
+    pub fn step(&mut self, alloc: Global, event: Event) -> Reply
+        ensures roster { self.new.roster ≡ self.old.roster }
+        ensures steps { StepsTo self.old.roster (parts_in self.old) (event_in event) (reply_in result)
+            (parts_in self.new) }
+    {
+        books_are_ready();
+        what_leaves_books();
+        match route(alloc, &self.roster, event) {
+            Routed::Refused(reply) => reply,
+            Routed::Step(member, step) => {
+                step_of(alloc, &self.roster, &mut self.books, &member, step)
+            }
+        }
+    }
+}
+
+/// The books of a roster's members before any step. `AllocError` comes only where a growth was refused.
+fn opening_books(alloc: Global, roster: &Roster) -> Result<Vec<Book>, AllocError>
+    ensures books { IfOk result (λ b. b.items ≡ map book_opening roster.now) }
+    ensures roster { IfOk result (λ _. IsRoster roster.now) }
+{
+    // A roster's text says that its members' numbers rise.
+    let mut text = Vec::new(alloc);
+    roster.write(&mut text)?;
+    opening_each(alloc, roster.members())
+}
+
+/// The books of members before any step. `AllocError` comes only where a growth was refused.
+fn opening_each(alloc: Global, members: &[Member]) -> Result<Vec<Book>, AllocError>
+    ensures { IfOk result (λ b. b.items ≡ map book_opening members.now) }
+{
+    let mut books = Vec::with_capacity(alloc, members.len())?;
+    for member in members {
+        books.push(Book::opening(alloc, member)?)?;
+    }
+    Ok(books)
+}
+
+/// The place of the member with this number.
+fn place_of(members: &[Member], node: u32) -> Option<usize>
+    ensures { result ≡ place_from 0 members.now node }
+{
+    for place in 0..members.len() {
+        if members[place].node == node {
+            return Some(place);
+        }
+    }
+    None
+}
+
+/// A member's book makes its step.
+fn step_of(
+    alloc: Global,
+    roster: &Roster,
+    books: &mut Vec<Book>,
+    member: &Member,
+    step: Step,
+) -> Reply
+    requires ready { AreReady roster.now books.old.items }
+    requires member { member_of roster.now member.now.node ≡ Some member.now }
+    ensures { OneDoes roster.now member.now.node books.old.items
+        (λ old new. Steps old (step_in step) (reply_in result) new) books.new.items }
+{
+    books_are_ready();
+    let place = place_of(roster.members(), member.node).unwrap();
+    books[place].step(alloc, step)
+}
