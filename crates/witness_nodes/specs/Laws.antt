@@ -68,8 +68,7 @@ OwnWordsNeverExpose n =
 
 -- Bytes that are handed in are the same step as an event: the same replies are owed to both, and after both
 -- the node's own steps are the same.
-pub record IsSameStep (w : Watched) (history : History) (bytes : List ℕ) (event : Event)
-    : Type 0 where
+pub record IsSameStep (w : Watched) (history : History) (bytes : List ℕ) (event : Event) : Type 0 where
   pub bound : IsEvent (events.Deliver bytes)
   pub step : whose w.roster (events.Deliver bytes) ≡ whose w.roster event
   pub owed : (reply : Reply)
@@ -81,8 +80,7 @@ pub record IsSameStep (w : Watched) (history : History) (bytes : List ℕ) (even
 
 -- The bytes are the text of a segment that may be handed in, that answers the audit which is open and is
 -- accepted for it; and so are they as a packet, after its number.
-pub record IsAcceptedAnswer (w : Watched) (history : History) (bytes : List ℕ)
-    : Type 0 where
+pub record IsAcceptedAnswer (w : Watched) (history : History) (bytes : List ℕ) : Type 0 where
   pub segment : SegmentParts
   pub text : IsText segment_text (segment_value segment) bytes
   pub event : IsEvent (events.Answer (record { segment = segment; roster = w.roster }))
@@ -94,8 +92,7 @@ pub record IsAcceptedAnswer (w : Watched) (history : History) (bytes : List ℕ)
 -- only where memory runs out.
 abbrev pub AskedCanBeAnswered : Type 0
 AskedCanBeAnswered =
-    (w : Watched) (history : History) (n : NodeParts) (first last : ℕ)
-    (fault : SegmentFault)
+    (w : Watched) (history : History) (n : NodeParts) (first last : ℕ) (fault : SegmentFault)
     → IsInRoster w → IsHistory w.roster history
     → stage_of (own_of w history) ≡ Wanted first last
     → IsSender (sender_of n) → IsSome (signed_at (sender_of n) last)
@@ -122,8 +119,7 @@ AnswersOfNodesAreAccepted =
 
 -- The acknowledgement that the RECV with a number makes closes a challenge, handed in with the node's key, or
 -- as a packet after its number.
-pub record AckCloses (w : Watched) (history : History) (n : NodeParts) (number : ℕ)
-    : Type 0 where
+pub record AckCloses (w : Watched) (history : History) (n : NodeParts) (number : ℕ) : Type 0 where
   pub ack : Ack
   pub is : ack_at (sender_of n) number ≡ Some ack
   pub signed : IsSignedBy w.member (ack_shows ack)
@@ -176,8 +172,7 @@ ReceivedCallsClose =
 
 abbrev pub TakenRepliesClose : Type 0
 TakenRepliesClose =
-    (w : Watched) (history : History)
-    (n n' : NodeParts) (bytes : List ℕ) (e : Envelope) (r : Received ℕ)
+    (w : Watched) (history : History) (n n' : NodeParts) (bytes : List ℕ) (e : Envelope) (r : Received ℕ)
     → IsInRoster w → w.member.node ≡ n'.node → IsMemberOf n' w.member → IsSender (sender_of n')
     → IsTextOf bytes e → IsAmong (SendOf e) (open_challenges (own_of w history))
     → TakesReply n bytes (Ok r) n'

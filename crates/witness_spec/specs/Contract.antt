@@ -15,7 +15,7 @@ use Rattle.witness_spec.specs.Standing.{end_of, shown, kept, NoAudit, stage_of, 
 use Rattle.witness_spec.specs.Standing.{without_evidence, outbox, all_accepted}
 use Rattle.witness_spec.specs.Exposing.{evidence}
 use Rattle.witness_spec.specs.Owing.{Owes}
-use Rattle.witness_spec.specs.Histories.{History, own, IsOwed, IsHistory, BookParts, StandsFor, Stands}
+use Rattle.witness_spec.specs.Histories.{History, IsOwed, IsHistory, BookParts, StandsFor, Stands}
 use Rattle.witness_spec.specs.Histories.{own_of}
 
 -- ---- books
@@ -54,7 +54,7 @@ book_of w past = record {
 
 -- what a history says, as books
 abbrev pub books_of : List Member → History → List BookParts
-books_of ms history = map (λ m. book_of (watched ms m) (own ms m.node history)) ms
+books_of ms history = map (λ m. book_of (watched ms m) (own_of (watched ms m) history)) ms
 
 -- the book of the member with a number
 abbrev pub book_in : List Member → List BookParts → (node : ℕ) → Option BookParts

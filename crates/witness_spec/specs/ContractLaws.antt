@@ -135,8 +135,7 @@ OutOfMemoryLeavesBooks =
 -- A step of a member's book is a step of all books: the others stay as they are.
 abbrev pub OneBookIsEnough : Type 0
 OneBookIsEnough =
-    (w : Watched) (books : List BookParts) (old new : BookParts) (event : Event)
-    (step : Step) (reply : Reply)
+    (w : Watched) (books : List BookParts) (old new : BookParts) (event : Event) (step : Step) (reply : Reply)
     → IsRoster w.roster → IsEvent event
     → whose w.roster event ≡ Ok (record { member = w.member; step = step })
     → book_in w.roster books w.member.node ≡ Some old → BookStepsTo w old step reply new

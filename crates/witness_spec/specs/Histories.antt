@@ -49,7 +49,8 @@ own_of w history = own w.roster w.member.node history
 -- the reply that is owed to an event: by event and roster alone where it is nobody's step
 abbrev pub OwesTo : List Member → History → Event → Reply → Result OwnStep Refusal → Type 0
 OwesTo ms history event reply (Err refusal) = reply ≡ refused event refusal
-OwesTo ms history event reply (Ok o) = Owes (watched ms o.member) (own ms o.member.node history) o.step reply
+OwesTo ms history event reply (Ok o) =
+    Owes (watched ms o.member) (own_of (watched ms o.member) history) o.step reply
 
 -- the reply is the one that is owed to the event, whose step it is told by the roster
 abbrev pub IsOwed : List Member → History → Event → Reply → Type 0
@@ -114,7 +115,7 @@ StandEach ms history [] [] = Unit {0}
 StandEach ms history [] (b ∷ books) = ⊥
 StandEach ms history (m ∷ members) [] = ⊥
 StandEach ms history (m ∷ members) (b ∷ books) =
-    StandsFor (watched ms m) (own ms m.node history) b × StandEach ms history members books
+    StandsFor (watched ms m) (own_of (watched ms m) history) b × StandEach ms history members books
 
 -- The books of a roster stand for a history.
 abbrev pub Stands : List Member → List BookParts → History → Type 0

@@ -244,8 +244,7 @@ AnswersAreAccepted =
 
 -- The acknowledgement by a node of a message that it is challenged with is the node's step, it closes the
 -- challenge, and after it none of that message is open.
-pub record ClosesChallenge (w : Watched) (history : History) (a : Ack) (key : PublicKey)
-    : Type 0 where
+pub record ClosesChallenge (w : Watched) (history : History) (a : Ack) (key : PublicKey) : Type 0 where
   pub its : whose w.roster (events.AckIn a key) ≡ Ok (record { member = w.member; step = AckIn a })
   pub reply : (reply : Reply) → IsOwed w.roster history (events.AckIn a key) reply ↔ (reply ≡ Closed)
   pub closes : (e : Envelope) → envelope_message e ≡ acked_message a
@@ -272,8 +271,7 @@ pub record HasRecv (s : SegmentParts) (message : Message) : Type 0 where
 
 -- After a segment that was accepted no audit is open; nor is a challenge with a message whose RECV it has.
 -- All other challenges with messages stay open, and none is new.
-pub record ClosesWhatItAnswers (w : Watched) (history : History) (c : ClosedParts)
-    : Type 0 where
+pub record ClosesWhatItAnswers (w : Watched) (history : History) (c : ClosedParts) : Type 0 where
   pub audits : (first last : ℕ)
       → let after : History = (events.Answer c, Accepted) ∷ history in
       ¬ IsAmong (AuditOf first last) (open_challenges (own_of w after))

@@ -78,8 +78,7 @@ BooksStand =
 
 -- A book goes on with a member's step: the event with its reply makes the history longer, and the book after
 -- it fits together and is that of the member's own steps of the longer history.
-pub record GoesOn (w : Watched) (history : History) (event : Event) (step : Step)
-    (reply : Reply)
+pub record GoesOn (w : Watched) (history : History) (event : Event) (step : Step) (reply : Reply)
     (b : Book) : Type 0 where
   -- the history is longer
   pub is : IsHistory w.roster ((event, reply) ∷ history)
@@ -99,8 +98,7 @@ AnyBookOwesTheSame =
 -- With an event that may be handed in and is the member's step, and the reply that the book owes, it goes on.
 abbrev pub AnyBookGoesOn : Type 0
 AnyBookGoesOn =
-    (w : Watched) (history : History) (b : Book) (event : Event) (step : Step)
-    (reply : Reply)
+    (w : Watched) (history : History) (b : Book) (event : Event) (step : Step) (reply : Reply)
     → IsInRoster w → IsHistory w.roster history
     → FitsTogether b → IsBookOf w (own_of w history) b
     → IsEvent event → whose w.roster event ≡ Ok (record { member = w.member; step = step })
@@ -131,8 +129,7 @@ OpeningBooksAreKept = (ms : List Member) → AreKept ms (map book_opening ms)
 -- gone on keep the contract of all books, and are kept.
 abbrev pub KeptBooksStep : Type 0
 KeptBooksStep =
-    (w : Watched) (books : List Book) (b : Book) (event : Event) (step : Step)
-    (reply : Reply)
+    (w : Watched) (books : List Book) (b : Book) (event : Event) (step : Step) (reply : Reply)
     → IsRoster w.roster → AreKept w.roster books
     → IsEvent event → whose w.roster event ≡ Ok (record { member = w.member; step = step })
     → book_at w.roster books w.member.node ≡ Some b → BookOwes b step reply
@@ -182,8 +179,7 @@ BooksKeepLimits =
 -- So does any book that fits together, stands for them and keeps its limits, with each further step.
 abbrev pub AnyBookKeepsLimits : Type 0
 AnyBookKeepsLimits =
-    (w : Watched) (history : History) (b : Book) (event : Event) (step : Step)
-    (reply : Reply)
+    (w : Watched) (history : History) (b : Book) (event : Event) (step : Step) (reply : Reply)
     → IsInRoster w → IsHistory w.roster history
     → FitsTogether b → IsBookOf w (own_of w history) b → KeepsLimits b
     → IsEvent event → whose w.roster event ≡ Ok (record { member = w.member; step = step })

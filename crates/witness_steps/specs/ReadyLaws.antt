@@ -22,8 +22,7 @@ OpeningBooksAreReady = (ms : List Member) → AreReady ms (map book_opening ms)
 -- gone on keep the contract of all books, and can make their steps again.
 abbrev pub ReadyBooksStep : Type 0
 ReadyBooksStep =
-    (w : Watched) (books : List Book) (b : Book) (event : Event) (step : Step)
-    (reply : Reply)
+    (w : Watched) (books : List Book) (b : Book) (event : Event) (step : Step) (reply : Reply)
     → IsRoster w.roster → AreReady w.roster books
     → IsEvent event → whose w.roster event ≡ Ok (record { member = w.member; step = step })
     → book_at w.roster books w.member.node ≡ Some b → BookOwes b step reply
