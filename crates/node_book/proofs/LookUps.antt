@@ -1,24 +1,28 @@
 -- What a book's look-up at a number tells.
--- Serves: Rows::hash_shown, Rows::knows.
+-- Serves: Rows::hash_shown, Rows::knows, Rows::showing_before, Rows::fork_by_segment.
 use Rattle.std.proofs.Common.{◌≡◌, ℕ, Bool, true, false, cond, not, ◌==◌, List, find, Some, None, refl}
-use Rattle.std.proofs.Common.{sym, ap, ◌∙◌}
-use Rattle.std.specs.Prelude.{option_map}
+use Rattle.std.proofs.Common.{Option, sym, ap, ◌∙◌}
+use Rattle.std.specs.Prelude.{option_map, option_and_then}
 use Rattle.authenticator.specs.declared.authenticator.Authenticator.{Authenticator}
 use Rattle.authenticator.specs.Signing.{is_same}
 use Rattle.authenticator.proofs.Signed.{same_list, list_same}
 use Rattle.secure_log.specs.LogEntries.Chain.{zeros}
-use Rattle.secure_log.specs.Segment.{SegmentParts}
+use Rattle.secure_log.specs.Segment.{SegmentParts, segment_pairs}
 use Rattle.secure_log.specs.SegmentHashes.{segment_hash_at}
-use Rattle.witness_spec.specs.Exposing.{segment_holding}
+use Rattle.evidence_spec.specs.Showing.{segment_showing}
+use Rattle.witness_spec.specs.Exposing.{segment_holding, fork_of}
 use Rattle.witness_spec.specs.Pairs.{is_shown, is_fork}
+use Rattle.witness_spec.specs.Standing.{Wanted}
+use Rattle.witness_steps.specs.Answers.{answer_fork}
 use Rattle.witness_steps.specs.Books.{Book, exposed, book_shown}
 use Rattle.witness_steps.specs.Fitting.{FitsTogether}
+use Rattle.witness_steps.specs.Going.{evidence_of, fork_evidence}
 use Rattle.witness_steps.specs.LookUps.{hash_held, hash_shown, is_hash, is_other_hash}
 use Rattle.witness_steps.specs.Ready.{IsReady}
 use Rattle.witness_steps.proofs.Lists.{found}
 use Rattle.witness_steps.proofs.Segments.{tiled}
 use Rattle.witness_steps.proofs.LookUps.{shown_by_look_up, fork_by_look_up}
-use Rattle.witness_steps.proofs.Answers.{segment_looked_up}
+use Rattle.witness_steps.proofs.Answers.{segment_looked_up, answer_looked_up}
 use Rattle.node_book.specs.Looking.{FollowOn}
 
 -- a book's accepted segments follow on one another
@@ -76,3 +80,12 @@ module _ (b : Book) (ready : IsReady b) (hidden : exposed b ≡ false) (n : ℕ)
   other_there y e other =
       let is = not_same x y other in
       (was_shown ∙ ap (is_hash x) (sym e) ∙ is, forks ∙ ap (is_other_hash x) (sym e) ∙ ap not is)
+
+-- what a segment brings for which a book asked is a fork at the number that is looked up
+pub fork_of_answer : (b : Book) (s : SegmentParts) (last : ℕ) (o : Option ℕ)
+    → IsReady b → exposed b ≡ false → b.stage ≡ Wanted s.first last → o ≡ answer_fork b s
+    → fork_evidence b (segment_showing s) (segment_pairs s)
+    ≡ evidence_of b (option_and_then (fork_of b.learned b.segments (segment_showing s)) o)
+fork_of_answer b s last o ready hidden asked e =
+    ap (λ n. evidence_of b (option_and_then (fork_of b.learned b.segments (segment_showing s)) n))
+    (answer_looked_up b s last ready.fits ready.one hidden asked ∙ sym e)

@@ -13,7 +13,6 @@ ghost use Rattle.witness_steps.specs.Fitting.{FitsTogether};
 ghost use Rattle.witness_steps.specs.Going.{evidence_of, fork_evidence};
 ghost use Rattle.witness_steps.specs.LookUps.{is_other_hash};
 ghost use Rattle.witness_steps.specs.Ready.{IsReady};
-ghost use Rattle.challenge.specs.Charges.{fork_in};
 ghost use Rattle.node_book.specs.Rows.{book_in};
 
 use crate::looking::{ShownHash, learned_at, segment_holding};
@@ -27,8 +26,8 @@ use std::alloc::{AllocError, Global};
 
 impl Rows {
     /// The evidence that an authenticator brings: a fork, where the book shows another hash at its number. It
-    /// costs one look-up; where there is a fork, copies of the authenticator and of what showed the other hash
-    /// are made. `AllocError` comes only where a growth was refused.
+    /// costs one look-up; where there is a fork, what showed either hash is copied. `AllocError` comes only
+    /// where a growth was refused.
     pub(crate) fn fork_by_authenticator(
         &self,
         alloc: Global,
@@ -49,9 +48,9 @@ impl Rows {
     }
 
     /// The evidence that a segment brings for which the book asked: a fork, at the least number at which the
-    /// book shows another hash. It costs one look-up of the end's number and one in the segment for each
-    /// learned authenticator; where there is a fork, what the segment shows and a copy of what showed the other
-    /// hash are made. `AllocError` comes only where a growth was refused.
+    /// book shows another hash. It costs one look-up of the end's number, and one in the segment for each
+    /// learned authenticator; where there is a fork, what showed either hash is copied. `AllocError` comes
+    /// only where a growth was refused.
     pub(crate) fn fork_by_segment(
         &self,
         alloc: Global,
