@@ -2,18 +2,18 @@
 use Rattle.std.specs.Prelude.{◌≡◌, ◌↔◌, ℕ, ◌<◌, false, List, ◌∷◌, map, Some, Ok}
 use Rattle.authenticator.specs.Roster.{IsRoster}
 use Rattle.authenticator.specs.declared.member.Member.{Member}
-use Rattle.secure_log.specs.Segment.{SegmentParts, segment_pairs}
+use Rattle.secure_log.specs.Segment.{SegmentParts}
 use Rattle.secure_log.specs.SegmentHashes.{segment_hash_at}
 use Rattle.witness_spec.specs.Events.{Event, IsEvent}
 use Rattle.witness_spec.specs.Replies.{Reply}
-use Rattle.witness_spec.specs.Watched.{Watched, IsInRoster}
+use Rattle.witness_spec.specs.Watched.{Watched, watched, IsInRoster}
 use Rattle.witness_spec.specs.Steps.{Step}
 use Rattle.witness_spec.specs.Whose.{whose}
 use Rattle.witness_spec.specs.Standing.{audited, is_exposed, indication, Wanted}
 use Rattle.witness_spec.specs.Owing.{Owes}
-use Rattle.witness_spec.specs.Histories.{History, own, IsHistory, Stands, own_of}
+use Rattle.witness_spec.specs.Histories.{History, IsHistory, Stands, own_of}
 use Rattle.witness_spec.specs.Contract.{StepsTo, BookStepsTo, opening_book}
-use Rattle.witness_spec.specs.Pairs.{is_shown, is_fork, first_fork}
+use Rattle.witness_spec.specs.Pairs.{is_shown, is_fork, first_fork, first_of, marks_of}
 use Rattle.witness_steps.specs.Books.{Book, book_opening, exposed, book_shown, book_audited}
 use Rattle.witness_steps.specs.Books.{book_indication, parts_of}
 use Rattle.witness_steps.specs.Replying.{BookOwes}
@@ -72,7 +72,7 @@ BooksHaveTheAudited =
 abbrev pub BooksStand : Type 0
 BooksStand =
     (ms : List Member) (history : History) → IsRoster ms → IsHistory ms history
-    → Stands ms (map (λ m. parts_of (book_after_steps m (own ms m.node history))) ms) history
+    → Stands ms (map (λ m. parts_of (book_after_steps m (own_of (watched ms m) history))) ms) history
 
 -- ---- any book
 
@@ -156,16 +156,16 @@ LookUpsTell =
 -- The hash of a segment at a number is looked up among its pairs.
 abbrev pub SegmentsLookUp : Type 0
 SegmentsLookUp =
-    (s : SegmentParts) (number : ℕ) → 0 < s.first
-    → segment_hash_at s number ≡ hash_among number (segment_pairs s)
+    (s : SegmentParts) (number : ℕ) → 0 < first_of s
+    → segment_hash_at s number ≡ hash_among number (marks_of s)
 
 -- Where a segment that follows on the end, from the first number that was asked for on, makes the first fork
 -- with what such a book shows is looked up: at its opening, and at each learned authenticator.
 abbrev pub AnAnswerLooksUp : Type 0
 AnAnswerLooksUp =
     (b : Book) (s : SegmentParts) (last : ℕ)
-    → FitsTogether b → HasOneHash b → exposed b ≡ false → b.stage ≡ Wanted s.first last
-    → first_fork (segment_pairs s) (book_shown b) ≡ answer_fork b s
+    → FitsTogether b → HasOneHash b → exposed b ≡ false → b.stage ≡ Wanted (first_of s) last
+    → first_fork (marks_of s) (book_shown b) ≡ answer_fork b s
 
 -- ---- limits
 
