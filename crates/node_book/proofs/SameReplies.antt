@@ -64,4 +64,5 @@ challenges_same (c ∷ cs) [] h = cc
 challenges_same (c ∷ cs) (d ∷ ds) h =
     let heads : challenge_in c ≡ challenge_in d = cc in
     let tails : map challenge_in cs ≡ map challenge_in ds = cc in
-    ap₂ (λ (x : Challenge) (xs : List Challenge). x ∷ xs) (challenge_same c d heads) (challenges_same cs ds tails)
+    ap₂ (λ (x : Challenge) (xs : List Challenge). x ∷ xs) (challenge_same c d heads)
+    (challenges_same cs ds tails)

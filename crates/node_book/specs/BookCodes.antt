@@ -115,8 +115,19 @@ book_code =
     code_by (ℕ × (End × (Stage × (ℕ × (ListParts × Option EvidenceParts)))))
     (coded× coded_ℕ (coded× end_code (coded× stage_code (coded× coded_ℕ
     (coded× lists_code (coded_option evidences.the_row.coded))))))
-    (λ b. (b.node, (b.end, (b.stage, (b.begun,
-    ((b.learned, (b.segments, (b.challenges, b.outbox))), b.evidence))))))
+    (λ b. (
+      b.node,
+      (
+        b.end,
+        (
+          b.stage,
+          (
+            b.begun,
+            ((b.learned, (b.segments, (b.challenges, b.outbox))), b.evidence),
+          ),
+        ),
+      ),
+    ))
     (λ p. record {
       node = p.0;
       end = p.1.0;

@@ -3,8 +3,10 @@ pub mod Jobs
 pub mod Backs
 pub mod Events
 pub mod Replies
+pub mod Shares
 pub mod Outboxes
 pub mod Rows
 pub mod Stepping
 pub mod BookCodes
+pub mod Deciding
 pub mod Looking

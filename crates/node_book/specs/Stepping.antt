@@ -14,6 +14,8 @@ use Rattle.node_book.specs.declared.step.Step.{Step}
 
 -- A step may run out of memory: neither that an indication is asked for does, nor that a job is put back.
 abbrev pub StepMayWant : steps.Step → Type 0
+StepMayWant (steps.PutBack j) = ⊥
+StepMayWant (steps.Ask ItsIndication) = ⊥
 StepMayWant _ = Unit {0}
 
 -- a step is refused: a job or a done value comes back with the refusal
@@ -49,4 +51,5 @@ abbrev pub NotedSteps : (old : Book) → steps.Step → ReplyOf JobParts JobPart
     → Option (ReplyOf JobParts JobParts × ReplyOf JobParts JobParts) → (new : Book) → Type 0
 NotedSteps old step reply None new = RanOut old step (reply_in reply) new
 NotedSteps old step reply (Some notes) new =
-    (notes.0 ≡ reply) × (notes.1 ≡ reply) × IsStep old step (reply_in reply) new
+    (reply_in notes.0 ≡ reply_in reply) × (reply_in notes.1 ≡ reply_in reply)
+    × IsStep old step (reply_in reply) new

@@ -4,15 +4,20 @@ ghost use Rattle.std.specs.Prelude.{◌≡◌, IfOk};
 ghost use Rattle.witness_steps.specs.Books.{book_opening};
 ghost use Rattle.witness_steps.specs.Ready.{IsReady};
 ghost use Rattle.node_book.specs.Events.{step_in};
-ghost use Rattle.node_book.specs.Replies.{reply_in};
+ghost use Rattle.node_book.specs.Replies.{refusal_in, reply_in};
+ghost use Rattle.node_book.specs.Deciding.{reply_of};
 ghost use Rattle.node_book.specs.Stepping.{NotedSteps, Steps, step_refused};
-ghost use Rattle.node_book.specs.Replies.{refusal_in};
 
+use crate::decided::Decided;
+use crate::noted::note_of;
+use crate::outbox::Outbox;
 use crate::refusal::Refusal;
 use crate::reply::{PlainReply, Reply, ReplyOf};
-use crate::rows::Rows;
+use crate::rows::{Exposure, Rows, Stage};
 use crate::step::Step;
 use authenticator::Member;
+use checkpoint::SharedState;
+use replay::opening_state;
 use std::alloc::{AllocError, Global};
 use std::marker::Model;
 
@@ -57,30 +62,77 @@ impl Step {
 }
 
 impl Book {
-    /// A member's book before its first step. `AllocError` comes only where a growth was refused.
-    pub fn opening(_alloc: Global, _member: &Member) -> Result<Book, AllocError>
-        ensures { IfOk result (λ b. b ≡ book_opening _member.now) }
+    /// A member's book before its first step: nothing is known of the node but the state that it begins with.
+    /// Takes memory for that state's text; `AllocError` comes only where a growth was refused.
+    pub fn opening(alloc: Global, member: &Member) -> Result<Book, AllocError>
+        ensures { IfOk result (λ b. b ≡ book_opening member.now) }
     {
-        Err(AllocError)
+        let state = SharedState::new(alloc, &opening_state(alloc, member)?)?;
+        let rows = Rows {
+            node: member.node,
+            end: 0,
+            state,
+            stage: Stage::NoAudit,
+            begun: 0,
+            learned: Vec::new(alloc),
+            segments: Vec::new(alloc),
+            challenges: Vec::new(alloc),
+            outbox: Outbox::new(alloc),
+            exposure: Exposure::Nothing,
+        };
+        Ok(Book { rows })
     }
 
-    /// One step.
-    pub fn step(&mut self, _alloc: Global, step: Step) -> Reply
+    /// The node whose book it is.
+    pub fn node(&self) -> u32
+        ensures { result ≡ self.now.node }
+    {
+        self.rows.node
+    }
+
+    /// One step: the reply is the one that the book owes, and the book goes on with it. Where memory was
+    /// refused the reply is `NoMemory`, a job or a done value comes back, and the book is as before; a job that
+    /// is put back and a question for the indication take none. So is the book after any other refusal.
+    pub fn step(&mut self, alloc: Global, step: Step) -> Reply
         requires { IsReady self.old }
         ensures { Steps self.old (step_in step) (reply_in result) self.new }
     {
-        step.refuse(Refusal::NoMemory)
+        match self.rows.prepare(alloc, &step) {
+            Ok(decided) => self.rows.carry_out(step, decided),
+            Err(AllocError) => step.refuse(Refusal::NoMemory),
+        }
     }
 
-    /// One step, with two notes of its reply, made before anything changes.
+    /// One step, with two notes of its reply, made before anything changes. There are none where memory was
+    /// refused, for the step or for the notes: the reply is `NoMemory`, and the book is as before.
     pub fn noted_step(
         &mut self,
-        _alloc: Global,
+        alloc: Global,
         step: Step,
     ) -> (Reply, Option<(PlainReply, PlainReply)>)
         requires { IsReady self.old }
         ensures { NotedSteps self.old (step_in step) result.0 result.1 self.new }
     {
-        (step.refuse(Refusal::NoMemory), None)
+        let Ok(decided) = self.rows.prepare(alloc, &step) else {
+            return (step.refuse(Refusal::NoMemory), None);
+        };
+        match two_notes(alloc, &step, &decided) {
+            Ok(notes) => (self.rows.carry_out(step, decided), Some(notes)),
+            Err(AllocError) => (step.refuse(Refusal::NoMemory), None),
+        }
     }
+}
+
+/// Two notes of the reply to a step of which this was decided.
+fn two_notes(
+    alloc: Global,
+    step: &Step,
+    decided: &Decided,
+) -> Result<(PlainReply, PlainReply), AllocError>
+    ensures { IfOk result (λ notes. (reply_in notes.0 ≡ reply_in (reply_of step.now decided.now))
+        × (reply_in notes.1 ≡ reply_in (reply_of step.now decided.now))) }
+{
+    let first = note_of(alloc, step, decided)?;
+    let second = note_of(alloc, step, decided)?;
+    Ok((first, second))
 }

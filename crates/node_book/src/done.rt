@@ -55,6 +55,15 @@ impl PlainDone {
         &self.verdict
     }
 
+    /// The job, and the verdict.
+    pub(crate) fn into_parts(self) -> (PlainJob, JobVerdict)
+        ensures job { result.0 ≡ self }
+        ensures verdict { verdict_told result.1 ≡ job_verdict self }
+    {
+        let PlainDone { job, verdict } = self;
+        (job, verdict)
+    }
+
     /// Whether another is of the same job, and so has the same verdict. It compares bytes, and takes no memory.
     pub fn is_same(&self, other: &PlainDone) -> bool
         ensures { IsTrue result ↔ (self.now ≡ other.now) }
@@ -120,6 +129,14 @@ impl ReplayDone {
     {
         let _segment = self.plain.job().segment();
         &self.plain
+    }
+
+    /// Its plain words alone.
+    pub(crate) fn into_plain(self) -> PlainDone
+        ensures { result ≡ self }
+    {
+        let ReplayDone { plain } = self;
+        plain
     }
 
     /// Spends the done value, which is then filed nowhere: its book's job stays out.

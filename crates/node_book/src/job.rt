@@ -83,6 +83,14 @@ impl ReplayJob {
         }
     }
 
+    /// Its plain words alone.
+    pub(crate) fn into_plain(self) -> PlainJob
+        ensures { result ≡ self }
+    {
+        let ReplayJob { plain } = self;
+        plain
+    }
+
     /// Spends the job without a replay: in its book it stays out.
     pub fn discard(self) {
         let ReplayJob { plain: _ } = self;

@@ -2,18 +2,25 @@
 #![tactic(auto)]
 
 mod book;
-mod challenges_copied;
+mod carry;
+mod challenges;
+mod decide;
+mod decided;
 mod done;
 mod event;
 mod forks;
 mod job;
 mod looking;
+mod noted;
 mod notes;
 mod outbox;
 mod plain;
 mod refusal;
+mod replayed;
 mod reply;
+mod room;
 mod rows;
+mod same_challenges;
 mod same_events;
 mod same_replies;
 mod segment;

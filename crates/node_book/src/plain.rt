@@ -83,6 +83,19 @@ impl PlainJob {
         &self.segment
     }
 
+    /// The segment alone.
+    pub(crate) fn into_segment(self) -> SharedSegment
+        ensures { result ≡ self.segment }
+    {
+        let PlainJob {
+            node: _,
+            number: _,
+            state: _,
+            segment,
+        } = self;
+        segment
+    }
+
     /// Whether another is the same job: node, number, state and segment, with its roster, are. It compares
     /// bytes, and takes no memory.
     pub fn is_same(&self, other: &PlainJob) -> bool

@@ -14,8 +14,8 @@ use authenticator::{Authenticator, Checked, Member, Signs, is_same_hash};
 use envelopes::{Ack, Envelope};
 
 impl EventOf<PlainJob, PlainDone> {
-    /// Whether another says the same event: of the same kind, and the same in every part. Of a checked value it
-    /// compares the value and the key that it was checked under. It compares bytes, and takes no memory.
+    /// Whether another says the same event: of the same kind, and the same in every part. Of a checked value
+    /// it compares the value and the key that it was checked under. It compares bytes, and takes no memory.
     pub fn is_same(&self, other: &PlainEvent) -> bool
         ensures { IsTrue result ↔ (event_in self.now ≡ event_in other.now) }
     {

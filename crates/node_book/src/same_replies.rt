@@ -7,11 +7,11 @@ ghost use Rattle.witness_spec.specs.Replies.{PutBackRefused, Refused, Told};
 ghost use Rattle.node_book.specs.Jobs.{done_parts};
 ghost use Rattle.node_book.specs.Replies.{challenge_in, indication_in, refusal_in, reply_in};
 
-use crate::challenges_copied::are_same_challenges;
 use crate::done::PlainDone;
 use crate::plain::PlainJob;
 use crate::refusal::Refusal;
 use crate::reply::{Indication, PlainReply, ReplyOf};
+use crate::same_challenges::are_same_challenges;
 use authenticator::{Authenticator, Number, Signs};
 use challenge::{Challenge, Evidence};
 use std::sync::Arc;

@@ -16,12 +16,10 @@ use Rattle.witness_spec.specs.Steps.{OwnStep}
 use Rattle.witness_spec.specs.Steps as steps
 use Rattle.witness_spec.specs.Whose.{step_of, delivered_step, judged_step, whose}
 use Rattle.witness_spec.specs.Histories.{MayWant, IsWanting}
-use Rattle.node_book.specs.Events.{event_in, step_in, question_in}
+use Rattle.node_book.specs.Events.{event_in, step_in}
 use Rattle.node_book.specs.Replies.{refusal_in}
 use Rattle.node_book.specs.Stepping.{StepMayWant, step_refused}
 use Rattle.node_book.specs.declared.event.EventOf.{EventOf}
-use Rattle.node_book.specs.declared.event.Question.{Question}
-use Rattle.node_book.specs.declared.event.Question.TheVariants as q
 use Rattle.node_book.specs.declared.refusal.Refusal.{Refusal}
 use Rattle.node_book.specs.declared.step.Step.{Step}
 use Rattle.witness_books.specs.declared.route.Routed.{Routed}
@@ -71,13 +69,6 @@ module _ (owed : steps.Step → Result OwnStep refusals.Refusal) (owner : Result
         whose_is = whose_is ∙ there (step_in step);
         is = given.1.1 ∙ sym (refused_as (refusal_in given.0));
       })
-
--- what is asked may want memory where the step may
-pub asked_wants : (node : ℕ) (question : Question) → StepMayWant (steps.Ask (question_in question))
-    → MayWant (spec.Ask node (question_in question))
-asked_wants node q.Indication w = w
-asked_wants node q.Challenges w = tt
-asked_wants node q.Evidence w = tt
 
 -- a step that is given to a node's member goes where the event does, of which the node is
 pub named_routes : (ms : List Member) (node of_node : ℕ) (owner : Result Member Refusal) (step : Step)

@@ -66,11 +66,10 @@ takes_in ms s g t shown is =
     let recvs = count_most is_recv g.entries in
     let sent = count_most is_send g.entries in
     record {
-      received =
-          subst (λ (u : State). finite.len u.received ≤ finite.len s.received + length g.entries) r.last
-          (omega (arith, received, recvs));
-      sends = subst (λ (u : State). finite.len u.sends ≤ finite.len s.sends + length g.entries) r.last
-          (omega (arith, sends, sent));
+      received = subst (λ (u : State). finite.len u.received ≤ finite.len s.received + length g.entries)
+          r.last (omega (arith, received, recvs));
+      sends = subst (λ (u : State). finite.len u.sends ≤ finite.len s.sends + length g.entries)
+          r.last (omega (arith, sends, sent));
     }
 
 -- ---- each step

@@ -14,6 +14,6 @@ pub mod AnyBook
 pub mod LookUps
 pub mod AllBooks
 pub mod Limits
+pub mod Answers
 pub mod Few
 pub mod Ready
-pub mod Answers

@@ -1,8 +1,22 @@
-use Rattle.std.proofs.Common.{refl}
+use Rattle.std.proofs.Common.{ℕ, refl}
+use Rattle.witness_spec.specs.Events as spec
+use Rattle.witness_spec.specs.Steps as steps
+use Rattle.witness_spec.specs.Histories.{MayWant}
+use Rattle.node_book.specs.Events.{question_in}
+use Rattle.node_book.specs.Stepping.{StepMayWant}
 use Rattle.node_book.specs.declared.event.EventOf.TheVariants as e
+use Rattle.node_book.specs.declared.event.Question.{Question}
+use Rattle.node_book.specs.declared.event.Question.TheVariants as q
 use Rattle.node_book.specs.declared.step.Step.TheVariants as s
-use Rattle.witness_books.proofs.Routes.{named_routes, asked_wants}
+use Rattle.witness_books.proofs.Routes.{named_routes}
 use Rattle.witness_books.proofs.route.route.Goals as goal
+
+-- what is asked may want memory where the step may
+asked_wants : (node : ℕ) (question : Question) → StepMayWant (steps.Ask (question_in question))
+    → MayWant (spec.Ask node (question_in question))
+asked_wants node q.Indication w = w
+asked_wants node q.Challenges w = tt
+asked_wants node q.Evidence w = tt
 
 pub returns-in-Audit : goal.returns-in-Audit
 returns-in-Audit c =

@@ -1,5 +1,5 @@
 use Rattle.std.proofs.Common.{◌≡◌, take}
-use Rattle.node_book.proofs.challenges_copied.copies_of_challenges.Given as goal
+use Rattle.node_book.proofs.challenges.copies_of.Given as goal
 
 abbrev pub invariant-loop-challenge : goal.invariant-loop-challenge
 invariant-loop-challenge l = l.copies.items ≡ take l.challenge-index l.challenges

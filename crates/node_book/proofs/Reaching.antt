@@ -1,0 +1,29 @@
+-- The greatest number that an audit can reach, where one more authenticator is looked at.
+-- Serves: audits.
+use Rattle.std.proofs.Common.{◌≡◌, ℕ, ◌+◌, Bool, true, false, cond, max, nat_le, List, [], ◌∷◌, ◌++◌, fold, map}
+use Rattle.std.proofs.Common.{filter, refl, ap, ◌∙◌}
+use Rattle.std.proofs.lemmas.List.{map-append}
+use Rattle.std.proofs.lemmas.List.Elements.{filter-append}
+use Rattle.std.proofs.lemmas.List.Sums.{fold-append}
+use Rattle.authenticator.specs.declared.authenticator.Authenticator.{Authenticator}
+use Rattle.witness_spec.specs.Limits.{MAX_ASKED}
+use Rattle.witness_spec.specs.Owing.{last_in_reach}
+
+-- one number more, after those that were looked at
+one_more : (most greatest n : ℕ) (b : Bool) → nat_le n most ≡ b
+    → fold max greatest (filter (λ k. nat_le k most) (n ∷ [])) ≡ cond b (max greatest n) greatest
+one_more most greatest n true e = ap (λ b. fold max greatest (cond b (n ∷ []) [])) e
+one_more most greatest n false e = ap (λ b. fold max greatest (cond b (n ∷ []) [])) e
+
+-- with one authenticator more it is that one's number, where this is in reach and greater
+pub reach_more : (end : ℕ) (xs : List Authenticator) (a : Authenticator)
+    → last_in_reach end (xs ++ a ∷ [])
+    ≡ cond (nat_le a.number (end + MAX_ASKED)) (max (last_in_reach end xs) a.number) (last_in_reach end xs)
+reach_more end xs a =
+    let most = end + MAX_ASKED in
+    let kept = λ (ns : List ℕ). filter (λ k. nat_le k most) ns in
+    ap (λ (ns : List ℕ). fold max 0 (kept ns)) (map-append (λ (x : Authenticator). x.number) xs (a ∷ []))
+    ∙ (ap (λ (ns : List ℕ). fold max 0 ns)
+    (filter-append (λ k. nat_le k most) (map (λ (x : Authenticator). x.number) xs) (a.number ∷ []))
+    ∙ (fold-append max 0 (kept (map (λ (x : Authenticator). x.number) xs)) (kept (a.number ∷ []))
+    ∙ one_more most (last_in_reach end xs) a.number (nat_le a.number most) refl))

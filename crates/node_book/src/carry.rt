@@ -1,0 +1,378 @@
+//! What was decided of a step is carried out: nothing here takes memory or is refused.
+
+ghost use Rattle.std.specs.Prelude.{◌≡◌, ◌<◌, ◌-◌, ◌++◌, length, filter, nat_lt, option_map, Some};
+ghost use Rattle.std.specs.Arc.{arc_value};
+ghost use Rattle.std.specs.Vec.{vec_capacity};
+ghost use Rattle.envelopes.specs.Acknowledgement.{acked_message};
+ghost use Rattle.witness_steps.specs.Ready.{IsReady};
+ghost use Rattle.witness_steps.specs.Going.{after_learn, after_send_challenge, after_answer, after_ack};
+ghost use Rattle.witness_steps.specs.Going.{after_audit, after_begin, after_file, after_put_back, after_forward};
+ghost use Rattle.witness_steps.specs.Going.{audited_with, book_after, first_evidence, having_filed};
+ghost use Rattle.evidence_spec.specs.Evidence as charges;
+ghost use Rattle.witness_spec.specs.Standing as standing;
+ghost use Rattle.node_book.specs.Jobs.{verdict_told};
+ghost use Rattle.node_book.specs.Deciding.{DecidesLearning, DecidesOpening, DecidesAccepting, DecidesAcked};
+ghost use Rattle.node_book.specs.Deciding.{DecidesAsking, DecidesBeginning, DecidesComing, DecidesForwarding};
+ghost use Rattle.node_book.specs.Deciding.{Decides, HasRoomFor, reply_of};
+ghost use Rattle.node_book.specs.Deciding.{reply_learning, reply_opening, reply_accepting, reply_acked};
+ghost use Rattle.node_book.specs.Deciding.{reply_asking, reply_beginning, reply_filing, reply_returning};
+ghost use Rattle.node_book.specs.Deciding.{reply_forwarding, reply_telling};
+ghost use Rattle.node_book.specs.Events.{step_in};
+ghost use Rattle.node_book.specs.Jobs.{done_parts};
+ghost use Rattle.node_book.specs.Outboxes.{HasPlace, outbox_in};
+ghost use Rattle.node_book.specs.Replies.{reply_in};
+ghost use Rattle.node_book.specs.Rows.{KeepsExposure, book_in, segments_in, stage_in};
+
+use crate::challenges::{close_answered, close_send};
+use crate::decided::{Accepting, Asking, Beginning, Coming, Decided, Learning, Opening, Telling};
+use crate::done::ReplayDone;
+use crate::job::ReplayJob;
+use crate::refusal::Refusal;
+use crate::reply::{Reply, ReplyOf};
+use crate::rows::{Exposure, Rows, Stage};
+use crate::segment::SharedSegment;
+use crate::step::Step;
+use crate::verdict::JobVerdict;
+use authenticator::Authenticator;
+use challenge::{Challenge, Evidence};
+use checkpoint::SharedState;
+use envelopes::{Ack, Envelope};
+use std::mem;
+use std::sync::Arc;
+
+impl Rows {
+    /// Learns an authenticator.
+    fn carry_learn(&mut self, authenticator: Authenticator, learning: Learning) -> Reply
+        requires decided { DecidesLearning (book_in self.old) authenticator learning }
+        requires room { length self.old.learned.items < vec_capacity self.old.learned }
+        requires keeps { KeepsExposure (segments_in self.old.segments.items) self.old.exposure }
+        ensures reply { result ≡ reply_learning learning }
+        ensures after { book_in self.new ≡ after_learn (book_in self.old) authenticator (reply_in result) }
+        ensures keeps { KeepsExposure (segments_in self.new.segments.items) self.new.exposure }
+    {
+        match learning {
+            Learning::Known => ReplyOf::Already,
+            Learning::Full => ReplyOf::Refused(Refusal::LearnedFull),
+            Learning::Ignored => ReplyOf::Noted,
+            Learning::Noted(None) => {
+                self.learned.push_reserved(authenticator);
+                ReplyOf::Noted
+            }
+            Learning::Noted(Some(evidence)) => {
+                self.exposure = Exposure::Fork(evidence);
+                ReplyOf::Noted
+            }
+        }
+    }
+
+    /// Opens a challenge with a message.
+    fn carry_send_challenge(&mut self, envelope: Envelope, opening: Opening) -> Reply
+        requires decided { DecidesOpening (book_in self.old) envelope opening }
+        requires room { length self.old.challenges.items < vec_capacity self.old.challenges }
+        requires keeps { KeepsExposure (segments_in self.old.segments.items) self.old.exposure }
+        ensures reply { result ≡ reply_opening opening }
+        ensures after { book_in self.new ≡ after_send_challenge (book_in self.old) envelope (reply_in result) }
+        ensures keeps { KeepsExposure (segments_in self.new.segments.items) self.new.exposure }
+    {
+        match opening {
+            Opening::Known => ReplyOf::Already,
+            Opening::Full => ReplyOf::Refused(Refusal::ChallengesFull),
+            Opening::Opened => {
+                self.challenges.push_reserved(Challenge::Send(envelope));
+                ReplyOf::Opened
+            }
+        }
+    }
+
+    /// Accepts a segment.
+    fn carry_answer(&mut self, segment: SharedSegment, accepting: Accepting) -> Reply
+        requires decided { DecidesAccepting (book_in self.old) segment accepting }
+        requires room { length self.old.segments.items < vec_capacity self.old.segments }
+        requires keeps { KeepsExposure (segments_in self.old.segments.items) self.old.exposure }
+        ensures reply { result ≡ reply_accepting accepting }
+        ensures after { book_in self.new ≡ after_answer (book_in self.old) segment (reply_in result) }
+        ensures keeps { KeepsExposure (segments_in self.new.segments.items) self.new.exposure }
+    {
+        match accepting {
+            Accepting::NotAsked => ReplyOf::Refused(Refusal::NotAsked),
+            Accepting::Accepted(share, evidence) => {
+                close_answered(&mut self.challenges, segment.closed().segment());
+                self.expose(evidence);
+                self.segments.push_reserved(segment);
+                self.stage = Stage::Given(share);
+                ReplyOf::Accepted
+            }
+        }
+    }
+
+    /// Closes the challenge that an acknowledgement answers.
+    fn carry_ack(&mut self, ack: Ack, is_open: bool) -> Reply
+        requires decided { DecidesAcked (book_in self.old) ack is_open }
+        requires keeps { KeepsExposure (segments_in self.old.segments.items) self.old.exposure }
+        ensures reply { result ≡ reply_acked is_open }
+        ensures after { book_in self.new ≡ after_ack (book_in self.old) ack (reply_in result) }
+        ensures keeps { KeepsExposure (segments_in self.new.segments.items) self.new.exposure }
+    {
+        if !is_open {
+            return ReplyOf::Refused(Refusal::NotAsked);
+        }
+        close_send(&mut self.challenges, &ack.message());
+        ReplyOf::Closed
+    }
+
+    /// Asks for a segment.
+    fn carry_audit(&mut self, asking: Asking) -> Reply
+        requires decided { DecidesAsking (book_in self.old) asking }
+        requires room { length self.old.challenges.items < vec_capacity self.old.challenges }
+        requires keeps { KeepsExposure (segments_in self.old.segments.items) self.old.exposure }
+        ensures reply { result ≡ reply_asking asking }
+        ensures after { book_in self.new ≡ after_audit (book_in self.old) (reply_in result) }
+        ensures keeps { KeepsExposure (segments_in self.new.segments.items) self.new.exposure }
+    {
+        match asking {
+            Asking::Asked(first, last) => {
+                self.stage = Stage::Wanted(first, last);
+                self.challenges
+                    .push_reserved(Challenge::Audit { first, last });
+                ReplyOf::Asked { first, last }
+            }
+            Asking::Refused(refusal) => ReplyOf::Refused(refusal),
+        }
+    }
+
+    /// Hands a job out.
+    fn carry_begin(&mut self, beginning: Beginning) -> Reply
+        requires ready { IsReady (book_in self.old) }
+        requires decided { DecidesBeginning (book_in self.old) beginning }
+        requires keeps { KeepsExposure (segments_in self.old.segments.items) self.old.exposure }
+        ensures reply { result ≡ reply_beginning beginning }
+        ensures after { book_in self.new ≡ after_begin (book_in self.old) (reply_in result) }
+        ensures keeps { KeepsExposure (segments_in self.new.segments.items) self.new.exposure }
+    {
+        match beginning {
+            Beginning::Begun(job) => {
+                match mem::replace(&mut self.stage, Stage::NoAudit) {
+                    Stage::Given(segment) => self.stage = Stage::Out(segment),
+                    stage => self.stage = stage,
+                }
+                self.begun = job.number();
+                ReplyOf::Job(ReplayJob::new(job))
+            }
+            Beginning::Refused(refusal) => ReplyOf::Refused(refusal),
+        }
+    }
+
+    /// Takes a job back.
+    fn carry_put_back(&mut self, job: ReplayJob, coming: Coming) -> Reply
+        requires decided { DecidesComing (book_in self.old) job coming }
+        requires keeps { KeepsExposure (segments_in self.old.segments.items) self.old.exposure }
+        ensures reply { result ≡ reply_returning job coming }
+        ensures after { book_in self.new ≡ after_put_back (book_in self.old) job (reply_in result) }
+        ensures keeps { KeepsExposure (segments_in self.new.segments.items) self.new.exposure }
+    {
+        match coming {
+            Coming::NoJob => ReplyOf::PutBackRefused(Refusal::NoJob, job),
+            Coming::Another => ReplyOf::PutBackRefused(Refusal::WrongJob, job),
+            Coming::IsOut => {
+                self.stage = Stage::Given(job.into_plain().into_segment());
+                ReplyOf::Returned
+            }
+        }
+    }
+
+    /// Files a done value.
+    fn carry_file(&mut self, done: ReplayDone, coming: Coming) -> Reply
+        requires ready { IsReady (book_in self.old) }
+        requires decided { DecidesComing (book_in self.old) done coming }
+        requires room { HasPlace self.old.outbox }
+        requires keeps { KeepsExposure (segments_in self.old.segments.items) self.old.exposure }
+        ensures reply { result ≡ reply_filing done coming }
+        ensures after { book_in self.new ≡
+            after_file (book_in self.old) (done_parts done) (reply_in result) }
+        ensures keeps { KeepsExposure (segments_in self.new.segments.items) self.new.exposure }
+    {
+        match coming {
+            Coming::NoJob => ReplyOf::FileRefused(Refusal::NoJob, done),
+            Coming::Another => ReplyOf::FileRefused(Refusal::WrongJob, done),
+            Coming::IsOut => {
+                let (job, verdict) = done.into_plain().into_parts();
+                self.file(job.into_segment(), verdict);
+                ReplyOf::Filed
+            }
+        }
+    }
+
+    /// Files the verdict on the segment that is out.
+    #[tactic(auto, using(crate::proofs::Faulted::sound_filed))]
+    fn file(&mut self, segment: SharedSegment, verdict: JobVerdict)
+        requires ready { IsReady (book_in self.old) }
+        requires out { stage_in self.old.stage ≡ standing.Out segment }
+        requires room { HasPlace self.old.outbox }
+        requires keeps { KeepsExposure (segments_in self.old.segments.items) self.old.exposure }
+        ensures after { book_in self.new ≡
+            having_filed (book_in self.old) segment.segment (verdict_told verdict) }
+        ensures keeps { KeepsExposure (segments_in self.new.segments.items) self.new.exposure }
+    {
+        match verdict {
+            JobVerdict::Sound(state, found) => {
+                let end = segment.closed().segment().closing().number.get();
+                self.move_end(end, state, found);
+            }
+            JobVerdict::Fault(_, _) => {
+                self.expose_by_replay(segment);
+                self.stage = Stage::NoAudit;
+            }
+        }
+    }
+
+    /// The end moves to that of a segment that was found sound.
+    fn move_end(&mut self, end: u64, state: SharedState, found: Arc<Vec<Authenticator>>)
+        requires room { HasPlace self.old.outbox }
+        ensures after { book_in self.new ≡ record (book_in self.old) {
+          end = record { number = end; state = state };
+          stage = standing.NoAudit;
+          learned = filter (λ a. nat_lt end a.number) self.old.learned.items;
+          outbox = outbox_in self.old.outbox ++ (arc_value found).items;
+        } }
+        ensures segments { self.new.segments ≡ self.old.segments }
+        ensures exposure { self.new.exposure ≡ self.old.exposure }
+    {
+        self.end = end;
+        self.state = state;
+        self.stage = Stage::NoAudit;
+        self.outbox.add(found);
+        keep_above(&mut self.learned, end);
+    }
+
+    /// A replay found a fault in the segment that is out. The first evidence stays.
+    fn expose_by_replay(&mut self, segment: SharedSegment)
+        requires ready { IsReady (book_in self.old) }
+        requires out { stage_in self.old.stage ≡ standing.Out segment }
+        requires keeps { KeepsExposure (segments_in self.old.segments.items) self.old.exposure }
+        ensures after { book_in self.new ≡ record (book_in self.old) {
+          evidence = first_evidence (book_in self.old).evidence (Some (record {
+            node = self.old.node;
+            charge = charges.Replay (audited_with (book_in self.old) segment.segment);
+          }));
+        } }
+        ensures keeps { KeepsExposure (segments_in self.new.segments.items) self.new.exposure }
+    {
+        if let Exposure::Nothing = self.exposure {
+            let before = all_but_one(&self.segments);
+            self.exposure = Exposure::Replay(before, segment);
+        }
+    }
+
+    /// Gives what is to be forwarded.
+    fn carry_forward(&mut self, forwarding: Option<Authenticator>) -> Reply
+        requires decided { DecidesForwarding (book_in self.old) forwarding }
+        requires keeps { KeepsExposure (segments_in self.old.segments.items) self.old.exposure }
+        ensures reply { result ≡ reply_forwarding forwarding }
+        ensures after { book_in self.new ≡ after_forward (book_in self.old) (reply_in result) }
+        ensures keeps { KeepsExposure (segments_in self.new.segments.items) self.new.exposure }
+    {
+        match forwarding {
+            Some(authenticator) => {
+                self.outbox.drop_first();
+                ReplyOf::Forwarded(authenticator)
+            }
+            None => ReplyOf::Empty,
+        }
+    }
+
+    /// Evidence of a fork exposes the node, if there is some. The first evidence stays.
+    fn expose(&mut self, evidence: Option<Arc<Evidence>>)
+        requires keeps { KeepsExposure (segments_in self.old.segments.items) self.old.exposure }
+        ensures after { book_in self.new ≡ record (book_in self.old) {
+          evidence = first_evidence (book_in self.old).evidence (option_map arc_value evidence);
+        } }
+        ensures segments { self.new.segments ≡ self.old.segments }
+        ensures keeps { KeepsExposure (segments_in self.new.segments.items) self.new.exposure }
+    {
+        if let Exposure::Nothing = self.exposure {
+            if let Some(evidence) = evidence {
+                self.exposure = Exposure::Fork(evidence);
+            }
+        }
+    }
+
+    /// Does what was decided of a step, and replies.
+    pub fn carry_out(&mut self, step: Step, decided: Decided) -> Reply
+        requires ready { IsReady (book_in self.old) }
+        requires decided { Decides (book_in self.old) step decided }
+        requires room { HasRoomFor self.old step }
+        requires keeps { KeepsExposure (segments_in self.old.segments.items) self.old.exposure }
+        ensures reply { result ≡ reply_of step decided }
+        ensures after { book_in self.new ≡ book_after (book_in self.old) (step_in step) (reply_in result) }
+        ensures keeps { KeepsExposure (segments_in self.new.segments.items) self.new.exposure }
+    {
+        // What was decided is always of the step's own kind.
+        match step {
+            Step::Learn(authenticator) => match decided {
+                Decided::Learn(d) => self.carry_learn(authenticator, d),
+                _ => unreachable!(),
+            },
+            Step::SendChallenge(envelope) => match decided {
+                Decided::SendChallenge(d) => self.carry_send_challenge(envelope, d),
+                _ => unreachable!(),
+            },
+            Step::Answer(segment) => match decided {
+                Decided::Answer(d) => self.carry_answer(segment, d),
+                _ => unreachable!(),
+            },
+            Step::AckIn(ack) => match decided {
+                Decided::AckIn(d) => self.carry_ack(ack, d),
+                _ => unreachable!(),
+            },
+            Step::Audit => match decided {
+                Decided::Audit(d) => self.carry_audit(d),
+                _ => unreachable!(),
+            },
+            Step::Begin => match decided {
+                Decided::Begin(d) => self.carry_begin(d),
+                _ => unreachable!(),
+            },
+            Step::File(done) => match decided {
+                Decided::File(d) => self.carry_file(done, d),
+                _ => unreachable!(),
+            },
+            Step::PutBack(job) => match decided {
+                Decided::PutBack(d) => self.carry_put_back(job, d),
+                _ => unreachable!(),
+            },
+            Step::Forward => match decided {
+                Decided::Forward(d) => self.carry_forward(d),
+                _ => unreachable!(),
+            },
+            Step::Ask(_) => match decided {
+                Decided::Ask(d) => told(d),
+                _ => unreachable!(),
+            },
+        }
+    }
+}
+
+/// What is told.
+fn told(telling: Telling) -> Reply
+    ensures { result ≡ reply_telling telling }
+{
+    match telling {
+        Telling::Told(indication) => ReplyOf::Told(indication),
+        Telling::OpenList(challenges) => ReplyOf::OpenList(challenges),
+        Telling::EvidenceIs(evidence) => ReplyOf::EvidenceIs(evidence),
+    }
+}
+
+/// How many stand before the last segment.
+fn all_but_one(segments: &[SharedSegment]) -> usize
+    ensures { result ≡ length (segments_in segments.now) - 1 }
+{
+    segments.len().saturating_sub(1)
+}
+
+/// Lets go of the authenticators with numbers up to the end.
+fn keep_above(learned: &mut Vec<Authenticator>, end: u64)
+    ensures { learned.new.items ≡ filter (λ a. nat_lt end a.number) learned.old.items }
+{
+    learned.retain(|authenticator| end < authenticator.number.get());
+}

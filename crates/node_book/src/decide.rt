@@ -1,0 +1,325 @@
+//! What a step is to do is decided: nothing changes here.
+
+ghost use Rattle.std.specs.Prelude.{◌≡◌, ◌↔◌, ◌+◌, ◌≤◌, ◌&&◌, nat_le, nat_lt, IfErr, IfOk, IsTrue, length, option_map};
+ghost use Rattle.std.specs.Arc.{arc_value};
+ghost use Rattle.witness_spec.specs.Limits as limits;
+ghost use Rattle.witness_spec.specs.Owing as owing;
+ghost use Rattle.witness_spec.specs.Owing.{ask_reply};
+ghost use Rattle.witness_spec.specs.Steps as steps;
+ghost use Rattle.witness_steps.specs.Books.{book_indication, exposed, job_of};
+ghost use Rattle.witness_steps.specs.Ready.{IsReady};
+ghost use Rattle.witness_steps.specs.Replying.{BookOwes};
+ghost use Rattle.node_book.specs.Deciding.{DecidesLearning, DecidesOpening, DecidesAccepting, DecidesAcked};
+ghost use Rattle.node_book.specs.Deciding.{DecidesAsking, DecidesBeginning, DecidesComing, DecidesForwarding};
+ghost use Rattle.node_book.specs.Deciding.{Decides, DecidesTelling, reply_asking, reply_of};
+ghost use Rattle.node_book.specs.Events.{question_in, step_in};
+ghost use Rattle.node_book.specs.Replies.{indication_in, reply_in};
+ghost use Rattle.node_book.specs.Rows.{KeepsExposure, book_in, segments_in};
+ghost use Rattle.node_book.specs.Stepping.{StepMayWant};
+
+use crate::challenges::{copies_of, count_sends, is_open};
+use crate::decided::{Accepting, Asking, Beginning, Coming, Decided, Learning, Opening, Telling};
+use crate::event::Question;
+use crate::looking::ShownHash;
+use crate::plain::PlainJob;
+use crate::refusal::Refusal;
+use crate::replayed::replayed_evidence;
+use crate::reply::Indication;
+use crate::rows::{Exposure, Rows, Stage};
+use crate::segment::SharedSegment;
+use crate::step::Step;
+use authenticator::{Authenticator, Number, Signs};
+use challenge::{Challenge, Evidence};
+use envelopes::{Ack, Envelope};
+use evidence_spec::MAX_AUDITED;
+use secure_log::MAX_ENTRIES;
+use std::alloc::{AllocError, Global};
+use std::cmp::max;
+use std::sync::Arc;
+
+/// The most authenticators that are kept of a node.
+pub const MAX_LEARNED: usize = 256;
+
+/// The most challenges with messages that are open to a node.
+pub const MAX_CHALLENGES: usize = 16;
+
+/// The most authenticators that wait to be forwarded.
+pub const MAX_OUTBOX: u64 = 4096;
+
+impl Rows {
+    /// Whether the node is exposed.
+    fn is_exposed(&self) -> bool
+        ensures { result ≡ exposed (book_in self.now) }
+    {
+        match &self.exposure {
+            Exposure::Nothing => false,
+            Exposure::Fork(_) | Exposure::Replay(_, _) => true,
+        }
+    }
+
+    /// Of an authenticator. A known pair comes before a lack of room.
+    fn decide_learn(
+        &self,
+        alloc: Global,
+        authenticator: &Authenticator,
+    ) -> Result<Learning, AllocError>
+        requires { IsReady (book_in self.now) }
+        ensures { IfOk result (DecidesLearning (book_in self.now) authenticator.now) }
+    {
+        if self.is_exposed() {
+            return Ok(Learning::Ignored);
+        }
+        match self.knows(authenticator) {
+            ShownHash::Same => Ok(Learning::Known),
+            ShownHash::Another => {
+                let evidence = self.fork_by_authenticator(alloc, authenticator)?;
+                Ok(Learning::Noted(shared(alloc, evidence)?))
+            }
+            ShownHash::Nothing if self.has_no_room(authenticator) => Ok(Learning::Full),
+            ShownHash::Nothing => Ok(Learning::Noted(None)),
+        }
+    }
+
+    /// Whether an authenticator lies above the end, and as many are kept as may be.
+    fn has_no_room(&self, authenticator: &Authenticator) -> bool
+        ensures { result ≡ (nat_lt self.now.end authenticator.now.number
+            && nat_le limits.MAX_LEARNED (length self.now.learned.items)) }
+    {
+        self.end < authenticator.number.get() && MAX_LEARNED <= self.learned.len()
+    }
+
+    /// Of a challenge with a message. An open one comes before a lack of room.
+    fn decide_send_challenge(&self, envelope: &Envelope) -> Opening
+        ensures { DecidesOpening (book_in self.now) envelope.now result }
+    {
+        if is_open(&envelope.message(), &self.challenges) {
+            return Opening::Known;
+        }
+        if MAX_CHALLENGES <= count_sends(&self.challenges) {
+            return Opening::Full;
+        }
+        Opening::Opened
+    }
+
+    /// Of a segment.
+    fn decide_answer(&self, alloc: Global, segment: &SharedSegment) -> Result<Accepting, AllocError>
+        requires { IsReady (book_in self.now) }
+        ensures { IfOk result (DecidesAccepting (book_in self.now) segment.now) }
+    {
+        let Stage::Wanted(first, last) = &self.stage else {
+            return Ok(Accepting::NotAsked);
+        };
+        let given = segment.closed().segment();
+        if given.first() != *first || given.closing().number != *last {
+            return Ok(Accepting::NotAsked);
+        }
+        let share = segment.try_clone()?;
+        if self.is_exposed() {
+            return Ok(Accepting::Accepted(share, None));
+        }
+        let evidence = self.fork_by_segment(alloc, segment)?;
+        Ok(Accepting::Accepted(share, shared(alloc, evidence)?))
+    }
+
+    /// Of an acknowledgement: whether its challenge is open.
+    fn decide_ack(&self, ack: &Ack) -> bool
+        ensures { DecidesAcked (book_in self.now) ack.now result }
+    {
+        is_open(&ack.message(), &self.challenges)
+    }
+
+    /// Of an audit.
+    fn decide_audit(&self) -> Asking
+        requires { IsReady (book_in self.now) }
+        ensures { DecidesAsking (book_in self.now) result }
+    {
+        match &self.stage {
+            Stage::NoAudit => self.decide_asking(),
+            Stage::Wanted(_, _) | Stage::Given(_) | Stage::Out(_) => Asking::Refused(Refusal::Busy),
+        }
+    }
+
+    /// Of an audit where none is under way.
+    fn decide_asking(&self) -> Asking
+        requires { IsReady (book_in self.now) }
+        ensures { reply_in (reply_asking result) ≡ ask_reply (exposed (book_in self.now)) self.now.end
+            (length (book_in self.now).outbox) self.now.learned.items }
+    {
+        if self.is_exposed() || self.learned.is_empty() {
+            return Asking::Refused(Refusal::NothingToAudit);
+        }
+        let last = last_in_reach(self.end, &self.learned);
+        if last == 0 {
+            return Asking::Refused(Refusal::TooFar);
+        }
+        if u64::from(MAX_AUDITED) < last {
+            return Asking::Refused(Refusal::BookFull);
+        }
+        if MAX_OUTBOX < self.outbox.len() as u64 + last.saturating_sub(self.end) {
+            return Asking::Refused(Refusal::OutboxFull);
+        }
+        Asking::Asked(Number::new(self.end + 1), Number::new(last))
+    }
+
+    /// Of a job that is to begin. `AllocError` comes only where owners can't be counted further, or after as
+    /// many jobs as 64 bits count.
+    fn decide_begin(&self) -> Result<Beginning, AllocError>
+        ensures { IfOk result (DecidesBeginning (book_in self.now)) }
+    {
+        match &self.stage {
+            Stage::Given(_) if self.is_exposed() => Ok(Beginning::Refused(Refusal::NothingToAudit)),
+            Stage::Given(segment) => Ok(Beginning::Begun(self.next_job(segment)?)),
+            Stage::Out(_) => Ok(Beginning::Refused(Refusal::Busy)),
+            Stage::NoAudit | Stage::Wanted(_, _) => {
+                Ok(Beginning::Refused(Refusal::NothingToAudit))
+            }
+        }
+    }
+
+    /// The next job, of a segment.
+    fn next_job(&self, segment: &SharedSegment) -> Result<PlainJob, AllocError>
+        ensures { IfOk result (λ j. j ≡ job_of (book_in self.now) (self.now.begun + 1) segment.now) }
+    {
+        let Some(number) = self.begun.checked_add(1) else {
+            return Err(AllocError);
+        };
+        let state = self.state.try_clone()?;
+        let segment = segment.try_clone()?;
+        Ok(PlainJob::new(self.node, number, state, segment))
+    }
+
+    /// Of a job that comes back: whether it is the one that is out. Takes no memory.
+    fn decide_coming(&self, job: &PlainJob) -> Coming
+        ensures { DecidesComing (book_in self.now) job.now result }
+    {
+        let Stage::Out(segment) = &self.stage else {
+            return Coming::NoJob;
+        };
+        if self.is_job(segment, job) {
+            Coming::IsOut
+        } else {
+            Coming::Another
+        }
+    }
+
+    /// Whether a job is that of a segment, with the last number. Takes no memory.
+    fn is_job(&self, segment: &SharedSegment, job: &PlainJob) -> bool
+        ensures { IsTrue result ↔ (job_of (book_in self.now) self.now.begun segment.now ≡ job.now) }
+    {
+        job.node() == self.node
+            && job.number() == self.begun
+            && job.state().is_same(&self.state)
+            && job.segment().is_same(segment)
+    }
+
+    /// Of what is to be forwarded: a copy of the oldest.
+    fn decide_forward(&self, alloc: Global) -> Result<Option<Authenticator>, AllocError>
+        ensures { IfOk result (DecidesForwarding (book_in self.now)) }
+    {
+        match self.outbox.first() {
+            Some(authenticator) => Ok(Some(authenticator.try_clone(alloc)?)),
+            None => Ok(None),
+        }
+    }
+
+    /// What is said of the node.
+    fn indication(&self) -> Indication
+        ensures { indication_in result ≡ book_indication (book_in self.now) }
+    {
+        if self.is_exposed() {
+            Indication::Exposed
+        } else if self.challenges.is_empty() {
+            Indication::Trusted
+        } else {
+            Indication::Suspected
+        }
+    }
+
+    /// The evidence against the node, if it is exposed: shared, or made of the accepted segments.
+    fn evidence(&self, alloc: Global) -> Result<Option<Arc<Evidence>>, AllocError>
+        requires { KeepsExposure (segments_in self.now.segments.items) self.now.exposure }
+        ensures { IfOk result (λ e. option_map arc_value e ≡ (book_in self.now).evidence) }
+    {
+        match &self.exposure {
+            Exposure::Nothing => Ok(None),
+            Exposure::Fork(evidence) => Ok(Some(Arc::try_clone(evidence)?)),
+            Exposure::Replay(before, faulty) => {
+                let evidence = replayed_evidence(
+                    alloc,
+                    self.node,
+                    &self.segments,
+                    *before,
+                    faulty,
+                )?;
+                shared(alloc, Some(evidence))
+            }
+        }
+    }
+
+    /// Of a question. That for the indication takes no memory.
+    fn decide_ask(&self, alloc: Global, question: Question) -> Result<Telling, AllocError>
+        requires { KeepsExposure (segments_in self.now.segments.items) self.now.exposure }
+        ensures ok { IfOk result (DecidesTelling (book_in self.now) question) }
+        ensures err { IfErr result (λ _. StepMayWant (steps.Ask (question_in question))) }
+    {
+        match question {
+            Question::Indication => Ok(Telling::Told(self.indication())),
+            Question::Challenges => Ok(Telling::OpenList(copies_of(alloc, &self.challenges)?)),
+            Question::Evidence => Ok(Telling::EvidenceIs(self.evidence(alloc)?)),
+        }
+    }
+
+    /// Of a step. `AllocError` comes only where memory was refused, and never for a job that is put back or a
+    /// question for the indication.
+    pub fn decide(&self, alloc: Global, step: &Step) -> Result<Decided, AllocError>
+        requires ready { IsReady (book_in self.now) }
+        requires keeps { KeepsExposure (segments_in self.now.segments.items) self.now.exposure }
+        ensures ok { IfOk result (Decides (book_in self.now) step.now) }
+        ensures owes { IfOk result
+            (λ d. BookOwes (book_in self.now) (step_in step.now) (reply_in (reply_of step.now d))) }
+        ensures err { IfErr result (λ _. StepMayWant (step_in step.now)) }
+    {
+        match step {
+            Step::Learn(a) => Ok(Decided::Learn(self.decide_learn(alloc, a)?)),
+            Step::SendChallenge(e) => Ok(Decided::SendChallenge(self.decide_send_challenge(e))),
+            Step::Answer(segment) => Ok(Decided::Answer(self.decide_answer(alloc, segment)?)),
+            Step::AckIn(ack) => Ok(Decided::AckIn(self.decide_ack(ack))),
+            Step::Audit => Ok(Decided::Audit(self.decide_audit())),
+            Step::Begin => Ok(Decided::Begin(self.decide_begin()?)),
+            Step::File(done) => Ok(Decided::File(self.decide_coming(done.plain().job()))),
+            Step::PutBack(job) => Ok(Decided::PutBack(self.decide_coming(job.plain()))),
+            Step::Forward => Ok(Decided::Forward(self.decide_forward(alloc)?)),
+            Step::Ask(question) => Ok(Decided::Ask(self.decide_ask(alloc, *question)?)),
+        }
+    }
+}
+
+/// Evidence to be shared, if there is some.
+fn shared(alloc: Global, evidence: Option<Evidence>) -> Result<Option<Arc<Evidence>>, AllocError>
+    ensures { IfOk result (λ e. option_map arc_value e ≡ evidence) }
+{
+    let Some(evidence) = evidence else {
+        return Ok(None);
+    };
+    match Arc::new(alloc, evidence) {
+        Ok(evidence) => Ok(Some(evidence)),
+        Err(_) => Err(AllocError),
+    }
+}
+
+/// The greatest number among those that an audit after the end can reach; 0 if there is none.
+#[tactic(auto, using(crate::proofs::Reaching::reach_more))]
+fn last_in_reach(end: u64, learned: &[Authenticator]) -> u64
+    requires { end ≤ limits.MAX_AUDITED }
+    ensures { result ≡ owing.last_in_reach end learned.now }
+{
+    let reach = end + u64::from(MAX_ENTRIES);
+    let mut last = 0;
+    for authenticator in learned {
+        let number = authenticator.number.get();
+        if number <= reach {
+            last = max(last, number);
+        }
+    }
+    last
+}
