@@ -105,7 +105,7 @@ noting_goes laws ms m old new event step reply notes roster ready is of one = by
           noted = laws.noted ms (map parts_of old) (map parts_of new) event (reply_in reply) enough
               goes.steps;
           ready = goes.ready;
-          say = record { enough = enough; is_one = ap reply_in made.0; is_two = ap reply_in made.1 };
+          say = record { enough = enough; is_one = made.0; is_two = made.1 };
         }
 
 -- ---- what is refused before it is a step
