@@ -14,8 +14,15 @@ ghost use Rattle.witness_spec.specs.Whose.{whose};
 ghost use Rattle.witness_spec.specs.Owing.{Owes};
 ghost use Rattle.witness_spec.specs.Histories.{MayWant, IsHistory};
 ghost use Rattle.envelopes.specs.declared.acknowledgement.Ack.{Ack};
-ghost use Rattle.witness_examples.specs.Worked.{five, node_five, second, its_key, other_key, higher_key,
-    learned};
+ghost use Rattle.witness_examples.specs.Worked.{
+  five,
+  node_five,
+  second,
+  its_key,
+  other_key,
+  higher_key,
+  learned,
+};
 ghost use Rattle.witness_examples.specs.Worked.{sent};
 ghost use Rattle.witness_examples.specs.Worked.{one_hash};
 ghost use Rattle.witness_examples.specs.Worked.{learned_two, closed, two_wanted, wanted, given, job, done};

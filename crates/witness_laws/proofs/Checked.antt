@@ -274,9 +274,11 @@ module _ (w : Watched) (is : IsInRoster w) where
           → AreChecked w (cond b ((o.step, r) ∷ []) [] ++ past)
       by true same =
           let member : o.member ≡ w.member =
-              member_same w e o is is_w (eqb-true o.member.node w.member.node same) in
-          (subst (λ n. IsCheckedStep (watched w.roster n) o.step) member
-          (checked_event w.roster o e is_w event), rest)
+          member_same w e o is is_w (eqb-true o.member.node w.member.node same) in (
+            subst (λ n. IsCheckedStep (watched w.roster n) o.step) member
+                (checked_event w.roster o e is_w event),
+            rest,
+          )
       by false differs = rest
 
   -- all values among a node's own steps of a history were checked

@@ -158,7 +158,7 @@ taken ms history e r o w owed =
     let here : Owes (watched ms o.member) (own ms o.member.node history) o.step r =
     subst (OwesTo ms history e r) w owed in
     let good : is_good r ≡ true =
-        owed_good (watched ms o.member) (own ms o.member.node history) o.step r here in
+    owed_good (watched ms o.member) (own ms o.member.node history) o.step r here in
     let same : (o.member.node == o.member.node) ≡ true = eq-eqb o.member.node o.member.node refl in
     record {
       own_step = ap (λ x. x ++ own ms o.member.node history)

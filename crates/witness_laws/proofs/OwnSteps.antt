@@ -147,7 +147,7 @@ module _ (w : Watched) (is : IsInRoster w) where
       → AreOwed w (own_of w ((e, r) ∷ history))
   its_owed e r history o true told same owed rest =
       let member : o.member ≡ w.member =
-          same_member w e o is told (eqb-true o.member.node w.member.node same) in
+      same_member w e o is told (eqb-true o.member.node w.member.node same) in
       let here : Owes w (own_of w history) o.step r =
       subst (λ x. Owes (watched w.roster x) (own w.roster x.node history) o.step r) member owed in
       with_one (e, r) history ((o.step, r) ∷ [])

@@ -29,13 +29,13 @@ answered accepted meant w history n first last bytes roster is node key stage h 
     let closing = h.answer.closing in
     let s = with_closing part closing in
     let closed : IsClosed w.roster s =
-        h.answer.closed w.roster w.member (ap (member_of w.roster) (sym node) ∙ is) key in
+    h.answer.closed w.roster w.member (ap (member_of w.roster) (sym node) ∙ is) key in
     let place : IsOfPlace (log_of n) last closing =
     (closed_at_its_last (log_of n) first last part h.places h.answer.of_log closing).0 closed.ends in
     let member : member_of w.roster closing.node ≡ Some w.member =
-        ap (member_of w.roster) (place.node ∙ sym node) ∙ is in
+    ap (member_of w.roster) (place.node ∙ sym node) ∙ is in
     let signed : IsSignedBy w.member closing =
-        subst (λ x. IsSomeAnd x (λ k. IsSignedBy k closing)) member closed.signed in
+    subst (λ x. IsSomeAnd x (λ k. IsSignedBy k closing)) member closed.signed in
     let good =
     accepted w history (log_of n) first last part closing roster is (sym node) stage
     (h.places, h.few, h.answer.of_log) place signed in

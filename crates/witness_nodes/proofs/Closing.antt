@@ -39,7 +39,7 @@ pub closing : AcksClose → JudgedAsMeant → OfItsLog → ShowsItsPlace
     → IsAmong (SendOf e) (open_challenges (own_of w history)) → AckCloses w history n number
 closing close meant of_log shows w history n number e is node key sender there opened =
     by (ack_at (sender_of n) number) refl
-        (acknowledged (sender_of n) (envelope_message e) number sender there)
+    (acknowledged (sender_of n) (envelope_message e) number sender there)
   where
     by : (o : Option Ack) → ack_at (sender_of n) number ≡ o
         → IsSomeAnd o (IsAckOf n.node (envelope_message e))
@@ -51,7 +51,7 @@ closing close meant of_log shows w history n number e is node key sender there o
         (shows (sender_of n) number a at)).signed w.member key.root
         key.height in
         let member : member_of w.roster a.by ≡ Some w.member =
-            ap (member_of w.roster) (k.by ∙ sym node) ∙ is in
+        ap (member_of w.roster) (k.by ∙ sym node) ∙ is in
         record {
           ack = a;
           is = at;

@@ -1,5 +1,5 @@
--- An audit asks up to a number that was learned; so where all that was learned is a node's own, the node signed
--- there.
+-- An audit asks up to a number that was learned; so where all that was learned is a node's own, the node
+-- signed there.
 -- Serves: own_words_can_be_answered.
 use Rattle.std.proofs.Common.{◌≡◌, inl, inr, ℕ, ◌+◌, Bool, true, false, cond, List, [], ◌∷◌, ◌++◌, length}
 use Rattle.std.proofs.Common.{filter, nat_lt}
@@ -108,7 +108,7 @@ module _ (each : SignsEach) (none : LeavesNone) (n : NodeParts) where
     noted_own [] owed all a i = absurd i
     noted_own (p ∷ past) owed all a i =
         elim (among_parts a (unless_exposed (is_exposed w (p ∷ past)) (noted p.0 p.1))
-            (noted_before w past) i) [
+        (noted_before w past) i) [
           | inl j ↦ here past p (is_exposed w (p ∷ past)) a (doing w past p.0 p.1 owed.0) all.0 j
           | inr j ↦ noted_own past owed.1 all.1 a j
         ]

@@ -66,7 +66,7 @@ same_step w history bytes event o bound its v = record {
   );
   own_steps = λ reply.
       ap (λ x. cond (is_want_of_memory reply) [] (own_step w.member.node x reply) ++ own_of w history)
-          (its ∙ sym v);
+      (its ∙ sym v);
 }
 
 -- The packet of a closed segment's text is the same step as the segment.

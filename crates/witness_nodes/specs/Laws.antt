@@ -145,7 +145,8 @@ abbrev pub call_number : Received Receipt → ℕ
 call_number (New r) = r.ack
 call_number (Repeat r) = r.ack
 
--- The RECV of the message that a server received, now or before, stands in its log at the number that it gives.
+-- The RECV of the message that a server received, now or before, stands in its log at the number that it
+-- gives.
 abbrev pub ReceivedCallsAreLogged : Type 0
 ReceivedCallsAreLogged =
     (n n' : NodeParts) (time : Timeval) (bytes : List ℕ) (e : Envelope) (h : Received Receipt)

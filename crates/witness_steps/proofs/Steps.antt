@@ -530,7 +530,7 @@ module _ (w : Watched) (past : Past) (b : Book) (k : Known w past b) where
   filed d Filed h done x =
       let o = out_of b d.job (h refl) in
       let roster : d.job.segment.roster ≡ w.roster =
-          subst (RosterAt w.roster) (sym k.of.stands.stage ∙ o.at) k.roster in
+      subst (RosterAt w.roster) (sym k.of.stands.stage ∙ o.at) k.roster in
       let state : d.job.state ≡ (end_of w past).state =
       o.state ∙ ap (λ (e : End). e.state) k.of.stands.end in
       filed_known w past b d k o.at

@@ -314,8 +314,13 @@ module _ (w : Watched) (past : Past) (h : ℕ → List ℕ) (end begun : ℕ) (s
 
       next : next_job w given c ≡ j
       next =
-          ap₂ (λ (b : ℕ) (e : End). record { node = w.member.node; number = b + 1; state = e.state; segment =
-              c })
+          ap₂ (λ (b : ℕ) (e : End). record {
+            node = w.member.node;
+            number = b + 1;
+            state = e.state;
+            segment =
+                c;
+          })
           begins_given
           q.at_end ∙ sym f.job
 
@@ -329,7 +334,7 @@ module _ (w : Watched) (past : Past) (h : ℕ → List ℕ) (end begun : ℕ) (s
       is_out : job_out w out ≡ Some j
       is_out =
           ap₂ (λ (b : ℕ) (e : End). Some
-              (record { node = w.member.node; number = b; state = e.state; segment = c }))
+          (record { node = w.member.node; number = b; state = e.state; segment = c }))
           begins_out
           q.at_end ∙ ap Some (sym f.job)
 

@@ -107,7 +107,7 @@ all_found = sender ∷ other_sender ∷ []
 pub quiet_audited : Quiet (watched clients five) both_audited both_at 2 1 state_both all_found
 quiet_audited =
     goes_on (watched clients five) [] both_at 0 0
-        (opening_client 5) [] at_first both_job both_at state_both all_found
+    (opening_client 5) [] at_first both_job both_at state_both all_found
     (record {
       job = refl;
       first = refl;

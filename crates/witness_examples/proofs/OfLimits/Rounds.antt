@@ -88,9 +88,9 @@ unfolding rounds
 one_more k few q =
     let end : ℕ = 4_096 * k in
     let next : Quiet (watched clients five) (rounds (suc k)) hash_at (end + 4_096) (k + 1)
-        (opening_client 5) [] =
+    (opening_client 5) [] =
     goes_on (watched clients five) (rounds k) hash_at end k (opening_client 5) [] q
-        (ticked_job (k + 1) end 4_096)
+    (ticked_job (k + 1) end 4_096)
     hash_at
     (opening_client 5) [] (record {
       job = refl;
@@ -107,8 +107,8 @@ one_more k few q =
     let last : end + 4_096 ≡ 4_096 * suc k = omega arith in
     let number : k + 1 ≡ suc k = omega arith in
     subst
-        (λ b. Quiet (watched clients five) (rounds (suc k)) hash_at (4_096 * suc k) b
-        (opening_client 5) []) number
+    (λ b. Quiet (watched clients five) (rounds (suc k)) hash_at (4_096 * suc k) b
+    (opening_client 5) []) number
     (subst
     (λ e. Quiet (watched clients five) (rounds (suc k)) hash_at e (k + 1) (opening_client 5) []) last next)
 
@@ -170,7 +170,7 @@ pub quiet_heard : (k : ℕ) → k < 16
 quiet_heard k few =
     let end : ℕ = 4_096 * k in
     goes_on (watched clients five) (rounds k) hash_at end k (opening_client 5) []
-        (quiet_rounds k (omega arith))
+    (quiet_rounds k (omega arith))
     (heard_job (k + 1) end) (heard_at end) state_heard (sender ∷ []) (record {
       job = refl;
       first = refl;

@@ -129,7 +129,7 @@ module _ (secret other : List ℕ) where
       (opening_book (sender other))
   senders history none =
       subst (λ x. StandsFor (watched (both secret other) (sender other)) x (opening_book (sender other)))
-          (sym none)
+      (sym none)
       (opening_stands (sender other))
 
   -- after the challenge

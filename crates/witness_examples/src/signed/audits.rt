@@ -35,7 +35,7 @@ pub fn a_signed_log_is_audited()
         Owes (watched (alone secret) (client secret)) (learned_step secret) Audit (Asked 1 1) }
     ensures accepted { (secret : List ℕ) →
         Owes (watched (alone secret) (client secret)) (asked_step secret)
-            (Answer (signed_closed secret)) Accepted }
+        (Answer (signed_closed secret)) Accepted }
     ensures begun { (secret : List ℕ) →
         Owes (watched (alone secret) (client secret)) (answered_step secret) Begin (Job (signed_job secret)) }
     ensures filed { (secret : List ℕ) →
@@ -65,7 +65,7 @@ pub fn honest_premises_are_possible()
         IsHonestLog (alone secret) (opening_of (client secret)) readings state_read }
     ensures unforged { (secret : List ℕ) →
         Unforged (watched (alone secret) (client secret)) readings
-            (own (alone secret) 5 (audited_events secret)) }
+        (own (alone secret) 5 (audited_events secret)) }
     ensures unlike { (secret : List ℕ) →
         NoCollisionWith readings (own (alone secret) 5 (audited_events secret)) }
 {

@@ -19,7 +19,7 @@ pub fn signed_forks_expose()
         Owes (watched (alone secret) (client secret)) [] (Learn (signed secret 0 1 ones)) Noted }
     ensures second { (secret : List ℕ) →
         Owes (watched (alone secret) (client secret)) (one_step secret)
-            (Learn (signed secret 1 1 twos)) Noted }
+        (Learn (signed secret 1 1 twos)) Noted }
     ensures exposed { (secret : List ℕ) →
         indication (watched (alone secret) (client secret)) (forked_steps secret) ≡ Exposed }
 {}

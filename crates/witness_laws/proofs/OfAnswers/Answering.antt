@@ -126,8 +126,8 @@ module _ (w : Watched) (history : History) (is : IsInRoster w) where
       (open_challenges (own_of w ((events.Answer c, Accepted) ∷ history)))
   answer_closes c told first last i =
       let one =
-          its_own w.roster w.member.node (events.Answer c) Accepted
-              (record { member = w.member; step = Answer c }) told
+      its_own w.roster w.member.node (events.Answer c) Accepted
+      (record { member = w.member; step = Answer c }) told
       (eq-eqb w.member.node w.member.node refl) refl in
       true≢false (sym (passes (λ x. not (is_answered c.segment x)) (AuditOf first last)
       (open_challenges (own_of w history))
@@ -168,8 +168,8 @@ module _ (w : Watched) (history : History) (is : IsInRoster w) where
       → ¬ IsAmong (SendOf e) (open_challenges (own_of w ((events.AckIn a key, Closed) ∷ history)))
   ack_closes a key told e same i =
       let one =
-          its_own w.roster w.member.node (events.AckIn a key) Closed
-              (record { member = w.member; step = AckIn a }) told
+      its_own w.roster w.member.node (events.AckIn a key) Closed
+      (record { member = w.member; step = AckIn a }) told
       (eq-eqb w.member.node w.member.node refl) refl in
       let left : not (is_send_of (acked_message a) (SendOf e)) ≡ true =
       passes (λ x. not (is_send_of (acked_message a) x)) (SendOf e) (open_challenges (own_of w history))

@@ -94,9 +94,14 @@ module _ (w : Watched) (history : History) where
           → (x : BookParts)
           × ((cond t (Some b) (book_in members books w.member.node) ≡ Some x)
           × StandsFor w (own_of w history) x)
-      by true e rest =
-          (b, (refl, subst (λ x. StandsFor (watched w.roster x) (own w.roster x.node history) b)
-          (some_same e) h.0))
+      by true e rest = (
+        b,
+        (
+          refl,
+          subst (λ x. StandsFor (watched w.roster x) (own w.roster x.node history) b)
+              (some_same e) h.0,
+        ),
+      )
       by false e rest = rest e h.1
 
   -- of books that stand, one is the member's, and stands for its own steps
@@ -139,7 +144,7 @@ module _ (w : Watched) (history : History) (e : Event) (r : Reply)
             by : (t : Bool) → (w.member.node == n.node) ≡ t → t ≡ false
             by true same =
                 let at : w.member.node ≡ n.node = eqb-true w.member.node n.node same in
-                    absurd (omega (arith, at, above))
+                absurd (omega (arith, at, above))
             by false same = refl
 
     step_each : (low : ℕ) (new : BookParts) (members : List Member) (books : List BookParts)
@@ -196,7 +201,7 @@ one_book w books old new e step r roster event told there steps history is stand
     let good = good_want r (owed_good w (own_of w history) step r g.0) in
     let its : own_of w ((e, r) ∷ history) ≡ (step, r) ∷ own_of w history =
     ap (λ x. x ++ own_of w history)
-        (its_own w.roster w.member.node e r o told (eq-eqb w.member.node w.member.node refl) good) in (
+    (its_own w.roster w.member.node e r o told (eq-eqb w.member.node w.member.node refl) good) in (
       (event, inl owed, is),
       step_each w history e r
           (λ node differs. ap (λ x. x ++ own w.roster node history)

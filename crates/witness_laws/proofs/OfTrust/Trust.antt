@@ -286,17 +286,17 @@ module _ (w : Watched) (log : List Entry) (one : OneHashAtANumber) (is : IsLog l
   one_step past p (Notes a same did) checked unforged within g =
       let learned : IsLearned w a = subst (IsCheckedStep w) same checked in
       let free =
-          subst
-              (λ s. AllByRecursion (IsUnforged w.roster w.member.node log)
-              (authenticators_in s)) same unforged in
+      subst
+      (λ s. AllByRecursion (IsUnforged w.roster w.member.node log)
+      (authenticators_in s)) same unforged in
       unfiled past p (Some a) None (stage_of past) did
       (noted_in (is_exposed w past) a (free.0 learned.node learned.signed)) nothing_in g.stage g
   one_step past p (Accepts c same wanted did) checked unforged within g =
       let given : IsGiven w c = subst (IsCheckedStep w) same checked in
       let free =
-          subst
-              (λ s. AllByRecursion (IsUnforged w.roster w.member.node log)
-              (authenticators_in s)) same unforged in
+      subst
+      (λ s. AllByRecursion (IsUnforged w.roster w.member.node log)
+      (authenticators_in s)) same unforged in
       let first : c.segment.first ≡ (end_of w past).number + 1 =
       subst (StageFits (end_of w past)) wanted g.stage in
       let next = next_in (end_of w past) c given (free.0 given.node given.closed.signed)

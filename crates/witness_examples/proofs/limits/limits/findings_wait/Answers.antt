@@ -42,5 +42,5 @@ returns-clause-empty c =
 pub returns-clause-room_again : goal.returns-clause-room_again
 returns-clause-room_again c =
     then_asked (watched clients five) forwarded_one (heard_at 0) 1 1 state_heard [] none_left
-        (learned 4_097 one_hash)
+    (learned 4_097 one_hash)
     (omega arith) (Asked 2 4_097) refl

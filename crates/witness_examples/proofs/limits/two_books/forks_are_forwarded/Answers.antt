@@ -23,12 +23,12 @@ returns-clause-two c = λ e. absurd (true≢false (sym (list_same other_sent_has
 pub returns-clause-found : goal.returns-clause-found
 returns-clause-found c =
     is_waiting (watched clients five) both_audited both_at 2 1 state_both
-        (sender ∷ other_sender ∷ []) quiet_audited
+    (sender ∷ other_sender ∷ []) quiet_audited
 
 pub returns-clause-first : goal.returns-clause-first
 returns-clause-first c =
     then_forward (watched clients five) both_audited both_at 2 1 state_both
-        (sender ∷ other_sender ∷ []) quiet_audited
+    (sender ∷ other_sender ∷ []) quiet_audited
 
 pub returns-clause-second : goal.returns-clause-second
 returns-clause-second c =

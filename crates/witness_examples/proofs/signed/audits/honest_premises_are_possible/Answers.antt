@@ -12,7 +12,7 @@ returns-clause-honest c = reading_honest
 pub returns-clause-unforged : goal.returns-clause-unforged
 returns-clause-unforged c = λ secret.
     subst (Unforged (watched (alone secret) (client secret)) readings) (sym (own_all secret))
-        (unforged secret)
+    (unforged secret)
 
 pub returns-clause-unlike : goal.returns-clause-unlike
 returns-clause-unlike c = λ secret. subst (NoCollisionWith readings) (sym (own_all secret)) (unlike secret)
