@@ -1,6 +1,6 @@
 -- A step of which notes are made.
 -- Serves: Books::step_noting.
-use Rattle.std.proofs.Common.{◌≡◌, ◌⊎◌, inl, inr, ℕ, true, false, List, map, Option, Some, None}
+use Rattle.std.proofs.Common.{◌≡◌, ◌⊎◌, inl, inr, false, List, map, Option, Some, None}
 use Rattle.std.proofs.Common.{refl, sym, ap, subst, ◌∙◌}
 use Rattle.authenticator.specs.Roster.{IsRoster}
 use Rattle.authenticator.specs.declared.member.Member.{Member}
@@ -11,7 +11,7 @@ use Rattle.witness_spec.specs.Replies.{Reply, refused, is_want_of_memory}
 use Rattle.witness_spec.specs.Steps as steps
 use Rattle.witness_spec.specs.Watched.{Watched, watched}
 use Rattle.witness_spec.specs.Histories.{own_of, IsWanting}
-use Rattle.witness_spec.specs.Contract.{StepsTo, IsOutOfMemory, IsNotedStep}
+use Rattle.witness_spec.specs.Contract.{IsNotedStep}
 use Rattle.witness_spec.specs.ContractLaws.{LeftOutLeavesBooks, WantLeavesBooks, OutOfMemoryLeavesBooks}
 use Rattle.witness_spec.specs.ContractLaws.{StepsAreNoted}
 use Rattle.witness_laws.proofs.Replied.{owed_good, good_want, want_refused}
@@ -23,7 +23,7 @@ use Rattle.witness_steps.specs.ReadyLaws.{ReadyBooksStep}
 use Rattle.witness_steps.proofs.AllBooks.{its, its_book}
 use Rattle.witness_steps.proofs.AnyBook.{any_owes}
 use Rattle.node_book.specs.Replies.{reply_in}
-use Rattle.node_book.specs.Stepping.{IsStep, RanOut, NotedSteps}
+use Rattle.node_book.specs.Stepping.{NotedSteps}
 use Rattle.node_book.specs.declared.reply.ReplyOf.{ReplyOf}
 use Rattle.witness_books.specs.Routing.{IsStepOf, IsNobodys}
 use Rattle.witness_books.specs.Places.{OneDoes}

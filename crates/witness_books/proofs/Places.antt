@@ -1,7 +1,7 @@
 -- A member's book is at the member's place.
 -- Serves: step_of.
 use Rattle.std.proofs.Common.{◌≡◌, ℕ, suc, ◌+◌, ◌<◌, Bool, true, false, cond, ◌==◌, List, [], ◌∷◌, length}
-use Rattle.std.proofs.Common.{Option, Some, None, get_or, set, IsSome, refl, sym, ap, subst, ◌∙◌, arith}
+use Rattle.std.proofs.Common.{Option, Some, get_or, set, IsSome, refl, sym, ap, subst, ◌∙◌, arith}
 use Rattle.authenticator.specs.Roster.{member_of}
 use Rattle.authenticator.specs.declared.member.Member.{Member}
 use Rattle.witness_spec.specs.Watched.{watched}
