@@ -6,6 +6,7 @@ use Rattle.envelopes.specs.declared.acknowledgement.Ack.{Ack}
 use Rattle.witness_spec.specs.Events.{Event, PublicKey}
 use Rattle.witness_spec.specs.Events as events
 use Rattle.witness_spec.specs.Replies.{Reply, Accepted, Closed}
+use Rattle.witness_spec.specs.Watched.{Watched}
 use Rattle.witness_spec.specs.Histories.{History, IsOwed, IsWanting, IsHistory, BookParts, Stands}
 use Rattle.witness_spec.specs.Contract.{StepsTo}
 use Rattle.witness_spec.specs.Laws.{AnswersAudit, ClosesChallenge}
@@ -23,19 +24,17 @@ WhatIsOwedIsGiven =
 -- So the answer of a node to the audit that is open is accepted.
 abbrev pub AnswersAreTaken : Type 0
 AnswersAreTaken =
-    (ms : List Member) (m : Member) (old new : List BookParts) (history : History) (c : ClosedParts)
-    (reply : Reply)
-    → IsHistory ms history → Stands ms old history → AnswersAudit ms m history c
-    → StepsTo ms old (events.Answer c) reply new
+    (w : Watched) (old new : List BookParts) (history : History) (c : ClosedParts) (reply : Reply)
+    → IsHistory w.roster history → Stands w.roster old history → AnswersAudit w history c
+    → StepsTo w.roster old (events.Answer c) reply new
     → (reply ≡ Accepted) ⊎ IsWanting (events.Answer c) reply
 
 -- And its acknowledgement of a message that it is challenged with closes the challenge.
 abbrev pub AcksAreTaken : Type 0
 AcksAreTaken =
-    (ms : List Member) (m : Member) (old new : List BookParts) (history : History) (a : Ack)
-    (key : PublicKey) (reply : Reply)
-    → IsHistory ms history → Stands ms old history → ClosesChallenge ms m history a key
-    → StepsTo ms old (events.AckIn a key) reply new
+    (w : Watched) (old new : List BookParts) (history : History) (a : Ack) (key : PublicKey) (reply : Reply)
+    → IsHistory w.roster history → Stands w.roster old history → ClosesChallenge w history a key
+    → StepsTo w.roster old (events.AckIn a key) reply new
     → (reply ≡ Closed) ⊎ IsWanting (events.AckIn a key) reply
 
 -- A step keeps the headline, as a run of one event.

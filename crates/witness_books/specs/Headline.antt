@@ -1,6 +1,5 @@
 -- What a witness's books say of each node, whatever the history was for which they stood.
 use Rattle.std.specs.Prelude.{◌≡◌, ◌≢◌, ◌↔◌, List, map, Some, IsSome}
-use Rattle.authenticator.specs.Roster.{member_of}
 use Rattle.authenticator.specs.declared.member.Member.{Member}
 use Rattle.secure_log.specs.declared.log_entries.entry.Entry.{Entry}
 use Rattle.state_spec.specs.State.{State}
@@ -12,7 +11,8 @@ use Rattle.witness_spec.specs.Events.{Event}
 use Rattle.witness_spec.specs.Replies.{Reply, Exposed}
 use Rattle.witness_spec.specs.Standing.{indication}
 use Rattle.witness_spec.specs.Exposing.{evidence}
-use Rattle.witness_spec.specs.Histories.{History, own, IsHistory, BookParts, Stands}
+use Rattle.witness_spec.specs.Watched.{Watched, watched, IsInRoster}
+use Rattle.witness_spec.specs.Histories.{History, own_of, IsHistory, BookParts, Stands}
 use Rattle.witness_spec.specs.Contract.{joined, RunsTo}
 use Rattle.witness_spec.specs.Laws.{SaysSame, HasFaultyFile, IsProof}
 use Rattle.witness_spec.specs.Premises.{Unforged, NoCollisionWith}
@@ -22,26 +22,25 @@ use Rattle.witness_spec.specs.Premises.{Unforged, NoCollisionWith}
 abbrev pub AgreesWithAll : List Member → History → Type 0
 AgreesWithAll ms after =
     (m : Member) (first last : List BookParts) (more : List Event) (others : List Reply) (earlier : History)
-    → member_of ms m.node ≡ Some m → IsHistory ms earlier → Stands ms first earlier
+    → let w : Watched = watched ms m in
+    IsInRoster w → IsHistory ms earlier → Stands ms first earlier
     → RunsTo ms first more others last
-    → map (λ p. p.0) (own ms m.node after) ≡ map (λ p. p.0) (own ms m.node (joined more others earlier))
-    → SaysSame ms m after (joined more others earlier)
+    → map (λ p. p.0) (own_of w after) ≡ map (λ p. p.0) (own_of w (joined more others earlier))
+    → SaysSame w after (joined more others earlier)
 
 -- What is said of one member after a history.
-pub record SaysOf (ms : List Member) (m : Member) (after : History) : Type 0 where
+pub record SaysOf (w : Watched) (after : History) : Type 0 where
   -- who keeps an honest log is never exposed, where nobody forged its signatures and no texts collide
   pub honest : (log : List Entry) (s : State)
-      → IsLog log → IsHonestLog ms (opening_of m) log s
-      → Unforged ms m log (own ms m.node after) → NoCollisionWith log (own ms m.node after)
-      → indication ms m (own ms m.node after) ≢ Exposed
+      → IsLog log → IsHonestLog w.roster (opening_of w.member) log s
+      → Unforged w log (own_of w after) → NoCollisionWith log (own_of w after)
+      → indication w (own_of w after) ≢ Exposed
   -- who differs in an audited log is exposed
-  pub differs : HasFaultyFile ms m (own ms m.node after)
-      → indication ms m (own ms m.node after) ≡ Exposed
+  pub differs : HasFaultyFile w (own_of w after) → indication w (own_of w after) ≡ Exposed
   -- there is evidence exactly where the member is exposed
-  pub shown : IsSome (evidence ms m (own ms m.node after))
-      ↔ (indication ms m (own ms m.node after) ≡ Exposed)
+  pub shown : IsSome (evidence w (own_of w after)) ↔ (indication w (own_of w after) ≡ Exposed)
   -- it has a text, is accepted, and proves that the member keeps no honest log
-  pub proves : (e : EvidenceParts) → evidence ms m (own ms m.node after) ≡ Some e → IsProof ms m e
+  pub proves : (e : EvidenceParts) → evidence w (own_of w after) ≡ Some e → IsProof w e
 
 -- The headline, of the history that a run leads to.
 pub record IsHeadline (ms : List Member) (new : List BookParts) (after : History) : Type 0 where
@@ -52,7 +51,7 @@ pub record IsHeadline (ms : List Member) (new : List BookParts) (after : History
   -- lists that agree on a node answer alike
   pub alone : AgreesWithAll ms after
   -- what is said of each member
-  pub says : (m : Member) → member_of ms m.node ≡ Some m → SaysOf ms m after
+  pub says : (m : Member) → IsInRoster (watched ms m) → SaysOf (watched ms m) after
 
 -- A run keeps the headline, from any books and whatever the history was for which they stood.
 abbrev pub KeepsHeadline : List Member → (old : List BookParts) → List Event → List Reply

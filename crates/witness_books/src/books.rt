@@ -13,8 +13,8 @@ ghost use Rattle.witness_books.specs.Headline.{KeepsHeadline};
 ghost use Rattle.witness_books.specs.Notes.{AreNotes, AreNotesOf};
 ghost use Rattle.witness_books.specs.Places.{OneDoes, place_from};
 
-use crate::note::{Note, event_twice, note_refusal};
 use crate::laws::steps_keep_the_headline;
+use crate::note::{Note, event_twice, note_refusal};
 use crate::route::{Routed, refuse_event, route};
 use authenticator::{Member, Roster};
 use node_book::{Book, Event, PlainReply, Refusal, Reply, Step};
