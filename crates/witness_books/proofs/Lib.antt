@@ -6,3 +6,4 @@ pub mod Running
 pub mod Noting
 pub mod Witnessed
 pub mod Given
+pub mod Refused

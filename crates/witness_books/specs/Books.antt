@@ -1,9 +1,11 @@
 -- What a witness's books say: those of all members of a roster.
-use Rattle.std.specs.Prelude.{List, map, refl}
+use Rattle.std.specs.Prelude.{Bool, true, false, List, map, refl}
 use Rattle.std.specs.Coded.{Coded, code_by, coded×, coded_list}
 use Rattle.authenticator.specs.Roster.{IsRoster}
 use Rattle.authenticator.specs.declared.member.Member.{Member}
 use Rattle.authenticator.specs.contracts.member.Member as members
+use Rattle.witness_spec.specs.Replies.{Reply}
+use Rattle.witness_spec.specs.Replies as replies
 use Rattle.witness_spec.specs.Histories.{BookParts}
 use Rattle.witness_steps.specs.Books.{Book, parts_of}
 use Rattle.witness_steps.specs.Ready.{AreReady}
@@ -26,8 +28,15 @@ books_code =
 abbrev pub parts_in : BooksParts → List BookParts
 parts_in b = map parts_of b.books
 
+-- The reply is a refusal.
+abbrev pub is_refusal : Reply → Bool
+is_refusal (replies.Refused refusal) = true
+is_refusal (replies.FileRefused refusal d) = true
+is_refusal (replies.PutBackRefused refusal j) = true
+is_refusal _ = false
+
 -- What the type of books keeps.
-pub record AreBooks (b : BooksParts) : Type 0 where
+pub record KeepsBooks (b : BooksParts) : Type 0 where
   -- the roster is one
   pub roster : IsRoster b.roster
   -- its members' books can make their steps

@@ -1,14 +1,14 @@
 //! The books of all members.
 
-ghost use Rattle.std.specs.Prelude.{◌≡◌, ◌∷◌, [], IfErr, IfOk, Some, map};
+ghost use Rattle.std.specs.Prelude.{◌≡◌, ◌∷◌, [], true, IfErr, IfOk, Some, map};
 ghost use Rattle.authenticator.specs.Roster.{IsRoster, member_of};
-ghost use Rattle.witness_spec.specs.Contract.{IsNotedStep, StepsTo};
+ghost use Rattle.witness_spec.specs.Contract.{AreBooks, IsNotedStep, StepsTo, opening_books};
 ghost use Rattle.witness_steps.specs.Books.{book_opening};
 ghost use Rattle.witness_steps.specs.Ready.{AreReady};
 ghost use Rattle.node_book.specs.Events.{event_in, step_in};
 ghost use Rattle.node_book.specs.Replies.{reply_in};
 ghost use Rattle.node_book.specs.Stepping.{NotedSteps, Steps};
-ghost use Rattle.witness_books.specs.Books.{parts_in};
+ghost use Rattle.witness_books.specs.Books.{is_refusal, parts_in};
 ghost use Rattle.witness_books.specs.Headline.{KeepsHeadline};
 ghost use Rattle.witness_books.specs.Notes.{AreNotes, AreNotesOf};
 ghost use Rattle.witness_books.specs.Places.{OneDoes, place_from};
@@ -31,7 +31,7 @@ pub struct Books {
 }
 
 impl Model for Books {
-    ghost use Rattle.witness_books.specs.Books.{AreBooks, BooksParts, books_code};
+    ghost use Rattle.witness_books.specs.Books.{BooksParts, KeepsBooks, books_code};
 
     ghost Value = { BooksParts };
 
@@ -39,17 +39,19 @@ impl Model for Books {
 
     ghost view = { λ b. record { roster = b.roster; books = b.books.items } };
 
-    ghost invariant = { λ b. AreBooks (record { roster = b.roster; books = b.books.items }) };
+    ghost invariant = { λ b. KeepsBooks (record { roster = b.roster; books = b.books.items }) };
 }
 
 impl Books {
     /// The books of a roster's members before any step. Where a growth was refused the roster comes back.
+    #[tactic(auto, using(crate::proofs::Refused::opening_are))]
     pub fn new(alloc: Global, roster: Roster) -> Result<Books, AllocFailed<Roster>>
         ensures roster { IfOk result (λ b. b.roster ≡ roster) }
         ensures books { IfOk result (λ b. b.books ≡ map book_opening roster) }
+        ensures opening { IfOk result (λ b. parts_in b ≡ opening_books roster) }
         ensures back { IfErr result (λ e. e.value ≡ roster) }
     {
-        match opening_books(alloc, &roster) {
+        match books_at_first(alloc, &roster) {
             Ok(books) => {
                 books_are_ready();
                 Ok(Books { roster, books })
@@ -65,6 +67,14 @@ impl Books {
         &self.roster
     }
 
+    /// They stand for a history, as their type keeps it: does nothing, and tells a caller's proof.
+    pub fn stand(&self)
+        ensures roster { IsRoster self.now.roster }
+        ensures stand { AreBooks self.now.roster (parts_in self.now) }
+    {
+        let _ = &self.roster;
+    }
+
     /// One event, with its reply. An event that is nobody's step is refused: `UnknownNode` where a node that
     /// it is of is no member, else `BadSignature` where it was checked under another key or roster, or isn't
     /// signed; `Garbage` where bytes are no packet. A member's step is refused as its book owes. `NoMemory`
@@ -76,6 +86,7 @@ impl Books {
             (parts_in self.new) }
         ensures headline { KeepsHeadline self.old.roster (parts_in self.old) (event_in event ∷ [])
             (reply_in result ∷ []) (parts_in self.new) }
+        ensures stays { is_refusal (reply_in result) ≡ true → self.new ≡ self.old }
     {
         steps_keep_the_headline();
         self.make_step(alloc, event)
@@ -86,6 +97,7 @@ impl Books {
         ensures roster { self.new.roster ≡ self.old.roster }
         ensures steps { StepsTo self.old.roster (parts_in self.old) (event_in event) (reply_in result)
             (parts_in self.new) }
+        ensures stays { is_refusal (reply_in result) ≡ true → self.new ≡ self.old }
     {
         books_are_ready();
         what_leaves_books();
@@ -152,7 +164,7 @@ impl Books {
 }
 
 /// The books of a roster's members before any step. `AllocError` comes only where a growth was refused.
-fn opening_books(alloc: Global, roster: &Roster) -> Result<Vec<Book>, AllocError>
+fn books_at_first(alloc: Global, roster: &Roster) -> Result<Vec<Book>, AllocError>
     ensures books { IfOk result (λ b. b.items ≡ map book_opening roster.now) }
     ensures roster { IfOk result (λ _. IsRoster roster.now) }
 {

@@ -1,9 +1,10 @@
-use Rattle.std.proofs.Common.{map, subst}
+use Rattle.std.proofs.Common.{List, map, ap, subst, ◌∙◌}
 use Rattle.witness_spec.specs.Contract.{StepsTo}
-use Rattle.witness_steps.specs.Books.{parts_of}
+use Rattle.witness_steps.specs.Books.{Book, parts_of}
 use Rattle.node_book.specs.Events.{event_in, step_in}
 use Rattle.node_book.specs.Replies.{reply_in}
 use Rattle.witness_books.specs.Books.{BooksParts, parts_in}
+use Rattle.witness_books.proofs.Refused.{all_stay}
 use Rattle.witness_books.proofs.Stepping.{its_member, step_goes}
 use Rattle.witness_books.proofs.books.Books.make_step.Goals as goal
 
@@ -28,3 +29,10 @@ returns-in-Step-clause-steps c =
     c.route.ensures.is_event c.in-Step.ensures.goes c.step_of.ensures in
     subst (λ (b : BooksParts). StepsTo b.roster (parts_in b) (event_in c.args.event)
     (reply_in c.step_of.result) (map parts_of c.step_of.new.books.items)) c.self.view_is goes.steps
+
+pub returns-in-Step-clause-stays : goal.returns-in-Step-clause-stays
+returns-in-Step-clause-stays c refused =
+    ap (λ (bs : List Book). record { roster = c.self.inside.roster; books = bs })
+    (all_stay c.self.inside.roster c.in-Step.member.node c.self.inside.books.items c.step_of.new.books.items
+    (step_in c.in-Step.step) (reply_in c.step_of.result) c.step_of.ensures refused)
+    ∙ c.self.view_is

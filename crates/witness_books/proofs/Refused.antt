@@ -1,0 +1,84 @@
+-- A refused step leaves the books; and books at first are those of the contract.
+-- Serves: Books::new, Books::step.
+use Rattle.std.proofs.Common.{◌≡◌, ◌⊎◌, inl, inr, ℕ, Bool, true, false, true≢false, List, [], ◌∷◌, map}
+use Rattle.std.proofs.Common.{refl, sym, ap, ap₂, ◌∙◌}
+use Rattle.authenticator.specs.declared.member.Member.{Member}
+use Rattle.witness_spec.specs.Contract.{opening_book, opening_books}
+use Rattle.witness_spec.specs.Replies.{Reply, Noted, Already, Opened, Accepted, Closed, Asked, Job, Filed}
+use Rattle.witness_spec.specs.Replies.{Returned, Forwarded, Empty, Told, OpenList, EvidenceIs}
+use Rattle.witness_spec.specs.Replies.{Refused, FileRefused, PutBackRefused}
+use Rattle.witness_spec.specs.Steps as steps
+use Rattle.witness_steps.specs.Books.{Book, book_opening, parts_of}
+use Rattle.witness_steps.specs.Going.{book_after}
+use Rattle.witness_steps.specs.Together.{with_book_at}
+use Rattle.node_book.specs.Stepping.{StepMayWant, IsStep, RanOut, Steps}
+use Rattle.witness_books.specs.Books.{is_refusal}
+use Rattle.witness_books.specs.Places.{OneDoes}
+use Rattle.witness_books.proofs.Stepping.{with_same}
+
+-- the books at first are those of the contract
+pub opening_are : (ms : List Member) → map parts_of (map book_opening ms) ≡ opening_books ms
+opening_are [] = refl
+opening_are (m ∷ ms) = ap (λ bs. opening_book m ∷ bs) (opening_are ms)
+
+-- a refused step leaves the book
+refused_stays : (b : Book) (step : steps.Step) (reply : Reply) → is_refusal reply ≡ true
+    → book_after b step reply ≡ b
+refused_stays b (steps.Learn a) (Refused f) is = refl
+refused_stays b (steps.Learn a) (FileRefused f x) is = refl
+refused_stays b (steps.Learn a) (PutBackRefused f x) is = refl
+refused_stays b (steps.SendChallenge e) (Refused f) is = refl
+refused_stays b (steps.SendChallenge e) (FileRefused f x) is = refl
+refused_stays b (steps.SendChallenge e) (PutBackRefused f x) is = refl
+refused_stays b (steps.Answer c) (Refused f) is = refl
+refused_stays b (steps.Answer c) (FileRefused f x) is = refl
+refused_stays b (steps.Answer c) (PutBackRefused f x) is = refl
+refused_stays b (steps.AckIn a) (Refused f) is = refl
+refused_stays b (steps.AckIn a) (FileRefused f x) is = refl
+refused_stays b (steps.AckIn a) (PutBackRefused f x) is = refl
+refused_stays b steps.Audit (Refused f) is = refl
+refused_stays b steps.Audit (FileRefused f x) is = refl
+refused_stays b steps.Audit (PutBackRefused f x) is = refl
+refused_stays b steps.Begin (Refused f) is = refl
+refused_stays b steps.Begin (FileRefused f x) is = refl
+refused_stays b steps.Begin (PutBackRefused f x) is = refl
+refused_stays b (steps.File d) (Refused f) is = refl
+refused_stays b (steps.File d) (FileRefused f x) is = refl
+refused_stays b (steps.File d) (PutBackRefused f x) is = refl
+refused_stays b (steps.PutBack j) (Refused f) is = refl
+refused_stays b (steps.PutBack j) (FileRefused f x) is = refl
+refused_stays b (steps.PutBack j) (PutBackRefused f x) is = refl
+refused_stays b steps.Forward (Refused f) is = refl
+refused_stays b steps.Forward (FileRefused f x) is = refl
+refused_stays b steps.Forward (PutBackRefused f x) is = refl
+refused_stays b (steps.Ask question) (Refused f) is = refl
+refused_stays b (steps.Ask question) (FileRefused f x) is = refl
+refused_stays b (steps.Ask question) (PutBackRefused f x) is = refl
+refused_stays b step Noted is = absurd (true≢false (sym is))
+refused_stays b step Already is = absurd (true≢false (sym is))
+refused_stays b step Opened is = absurd (true≢false (sym is))
+refused_stays b step Accepted is = absurd (true≢false (sym is))
+refused_stays b step Closed is = absurd (true≢false (sym is))
+refused_stays b step (Asked first last) is = absurd (true≢false (sym is))
+refused_stays b step (Job j) is = absurd (true≢false (sym is))
+refused_stays b step Filed is = absurd (true≢false (sym is))
+refused_stays b step Returned is = absurd (true≢false (sym is))
+refused_stays b step (Forwarded a) is = absurd (true≢false (sym is))
+refused_stays b step Empty is = absurd (true≢false (sym is))
+refused_stays b step (Told i) is = absurd (true≢false (sym is))
+refused_stays b step (OpenList cs) is = absurd (true≢false (sym is))
+refused_stays b step (EvidenceIs e) is = absurd (true≢false (sym is))
+
+-- so does a step for which memory ran out
+one_stays : (b after : Book) (step : steps.Step) (reply : Reply) → is_refusal reply ≡ true
+    → Steps b step reply after → after ≡ b
+one_stays b after step reply refused (inl made) = made.after ∙ refused_stays b step reply refused
+one_stays b after step reply refused (inr out) = out.1.stays
+
+-- where one book makes a refused step, all books stay
+pub all_stay : (ms : List Member) (node : ℕ) (old new : List Book) (step : steps.Step) (reply : Reply)
+    → OneDoes ms node old (λ b after. Steps b step reply after) new → is_refusal reply ≡ true → new ≡ old
+all_stay ms node old new step reply one refused =
+    one.are ∙ (ap (λ b. with_book_at ms node b old)
+    (one_stays one.book one.after step reply refused one.does)
+    ∙ with_same ms node old one.book one.there)
