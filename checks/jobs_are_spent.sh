@@ -1,0 +1,96 @@
+#!/usr/bin/env bash
+# A witness's jobs and done values are spent once. Programs that use one twice, that copy it, or that let one go, also
+# within an event, a reply or what comes back of a job, must not compile: each is refused at its line marked `refused:`,
+# by the words after the mark. A program that runs a job and discards what comes back must compile, so that nothing else
+# refuses the others.
+set -euo pipefail
+cd "$(dirname "$0")/.."
+. checks/scratch_crate.sh
+
+good=$(mktemp)
+cat > "$good" <<'END'
+//! Programs with jobs.
+#![tactic(auto)]
+
+use node_book::{Back, Event, Reply, ReplayDone, ReplayJob};
+use std::alloc::Global;
+
+pub fn runs_once(alloc: Global, job: ReplayJob) {
+    match job.run(alloc) {
+        Back::Done(done) => done.discard(),
+        Back::Job(job) => job.discard(),
+    }
+}
+END
+bad=$(mktemp)
+{
+    cat "$good"
+    cat <<'END'
+
+pub fn runs_twice(alloc: Global, job: ReplayJob) {
+    runs_once(alloc, job);
+    runs_once(alloc, job); // refused: use of moved value
+}
+
+pub fn copies(done: ReplayDone) -> (ReplayDone, ReplayDone) {
+    (done, done) // refused: use of moved value
+}
+END
+} > "$bad"
+ugly=$(mktemp)
+{
+    cat "$good"
+    cat <<'END'
+
+pub fn lets_a_job_go(job: ReplayJob) { // refused: error[linear-value-let-go]
+    let _ = job.node();
+}
+
+pub fn lets_a_done_value_go(done: ReplayDone) { // refused: error[linear-value-let-go]
+    let _ = done.node();
+}
+
+pub fn lets_what_comes_back_go(alloc: Global, job: ReplayJob) {
+    let _ = job.run(alloc); // refused: error[linear-value-let-go]
+}
+
+pub fn lets_an_event_go(_event: Event) {} // refused: error[linear-value-let-go]
+
+pub fn lets_a_reply_go(_reply: Reply) {} // refused: error[linear-value-let-go]
+END
+} > "$ugly"
+
+scratch_crate spent "$good" node_book
+mv src/main.rt src/lib.rt
+log=$work/log
+
+# Compiles the program of a file, with a test, without which there is nothing to compile.
+compiles() {
+    { cat "$1"; printf '\n#[test]\nfn compiles(_rt: HostRuntime) {}\n'; } > src/lib.rt
+    rt try --test > "$log" 2>&1
+}
+
+if ! compiles "$good"; then
+    echo "a program that runs a job once does not compile:" >&2
+    cat "$log" >&2
+    exit 1
+fi
+echo "compiles, as it must: a program that runs a job once"
+
+for program in "$bad" "$ugly"; do
+    if compiles "$program"; then
+        echo "compiles, and must not:" >&2
+        cat src/lib.rt >&2
+        exit 1
+    fi
+    grep -n 'refused: ' src/lib.rt | while IFS= read -r line; do
+        place=src/lib.rt:${line%%:*}:
+        words=${line##*refused: }
+        if ! grep -F "$place" "$log" | grep -qF "$words"; then
+            echo "$place not refused by '$words':" >&2
+            cat "$log" >&2
+            exit 1
+        fi
+        echo "refused, as it must be: ${line%% //*}"
+    done
+done
