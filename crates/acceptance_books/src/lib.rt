@@ -1,0 +1,19 @@
+//! Tests of the books of all members at a witness, step by step.
+#![tactic(auto)]
+
+#[cfg(test)]
+mod answers;
+#[cfg(test)]
+mod challenged;
+#[cfg(test)]
+mod forking;
+#[cfg(test)]
+mod jobs;
+#[cfg(test)]
+mod learned;
+#[cfg(test)]
+mod lying;
+#[cfg(test)]
+mod calls;
+#[cfg(test)]
+mod parties;
