@@ -67,7 +67,8 @@ pub has_place : (first : ℕ) (ms : List Member) (node : ℕ) (m : Member) → m
 has_place first [] node m h = absurd (cc)
 has_place first (n ∷ ms) node m h = by (n.node == node) refl h (λ k. has_place (first + 1) ms node m k)
   where
-    by : (x : Bool) → (n.node == node) ≡ x → ◌≡◌ {A = Option Member} (cond x (Some n) (member_of ms node)) (Some m)
+    by : (x : Bool) → (n.node == node) ≡ x
+        → ◌≡◌ {A = Option Member} (cond x (Some n) (member_of ms node)) (Some m)
         → (member_of ms node ≡ Some m → (place : ℕ) × (place_from (first + 1) ms node ≡ Some place))
         → (place : ℕ) × (place_from first (n ∷ ms) node ≡ Some place)
     by true e k rest = (first, ap (λ x. cond x (Some first) (place_from (first + 1) ms node)) e)
@@ -102,8 +103,8 @@ is_here ms all node books found place ready same is h =
     }
 
 -- a member's place is found
-pub is_found : (ms all : List Member) (m : Member) (found : Option ℕ) → member_of ms m.node ≡ Some m → all ≡ ms
-    → found ≡ place_from 0 all m.node → IsSome found
+pub is_found : (ms all : List Member) (m : Member) (found : Option ℕ) → member_of ms m.node ≡ Some m
+    → all ≡ ms → found ≡ place_from 0 all m.node → IsSome found
 is_found ms all m found member same is =
     let r = has_place 0 ms m.node m member in
     subst IsSome (sym (is ∙ ap (λ l. place_from 0 l m.node) same ∙ r.1)) refl
@@ -121,8 +122,8 @@ here_does ms node books place b after Does here is does = record {
 }
 
 -- it can make a step
-pub here_ready : ReadyBooksAreReady → (ms : List Member) (m : Member) (books : List Book) (place : ℕ) (b : Book)
-    → AreReady ms books → member_of ms m.node ≡ Some m → IsHere ms m.node books place
+pub here_ready : ReadyBooksAreReady → (ms : List Member) (m : Member) (books : List Book) (place : ℕ)
+    (b : Book) → AreReady ms books → member_of ms m.node ≡ Some m → IsHere ms m.node books place
     → b ≡ get_or books place b → IsReady b
 here_ready law ms m books place b ready member here is =
     law ms m books b ready member (here.there b ∙ ap (λ x. Some x) (sym is))

@@ -83,14 +83,15 @@ step_goes law want ms m old new event step reply roster ready is of one = by one
   where
     by : Steps one.book step reply one.after → Goes ms old event reply new
     by (inl made) =
-        made_goes law ms m old new one.book one.after event step reply roster ready is of one.there made one.are
+        made_goes law ms m old new one.book one.after event step reply roster ready is of one.there made
+        one.are
     by (inr out) =
         ran_out_goes want ms m old new one.book one.after event step reply ready is of one.there out.0 out.1
         one.are
 
 -- what is refused before it is a step leaves the books
-pub refused_steps : LeftOutLeavesBooks → WantLeavesBooks → (ms : List Member) (books : List Book) (event : Event)
-    (reply : Reply) → IsEvent event → IsNobodys ms event reply ⊎ IsWanting event reply
+pub refused_steps : LeftOutLeavesBooks → WantLeavesBooks → (ms : List Member) (books : List Book)
+    (event : Event) (reply : Reply) → IsEvent event → IsNobodys ms event reply ⊎ IsWanting event reply
     → StepsTo ms (map parts_of books) event reply (map parts_of books)
 refused_steps out want ms books event reply is (inl nobodys) =
     subst (λ r. StepsTo ms (map parts_of books) event r (map parts_of books)) (sym nobodys.is)

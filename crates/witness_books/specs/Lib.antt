@@ -1,3 +1,5 @@
 pub mod Routing
 pub mod Books
 pub mod Places
+pub mod Notes
+pub mod Witnessed

@@ -1,22 +1,24 @@
 //! The books of all members.
 
-ghost use Rattle.std.specs.Prelude.{◌≡◌, IfErr, IfOk, OnErr, List, Some, map};
+ghost use Rattle.std.specs.Prelude.{◌≡◌, IfErr, IfOk, Some, map};
 ghost use Rattle.authenticator.specs.Roster.{IsRoster, member_of};
-ghost use Rattle.witness_spec.specs.Contract.{RunsTo, StepsTo};
+ghost use Rattle.witness_spec.specs.Contract.{IsNotedStep, StepsTo};
 ghost use Rattle.witness_steps.specs.Books.{book_opening};
 ghost use Rattle.witness_steps.specs.Ready.{AreReady};
 ghost use Rattle.node_book.specs.Events.{event_in, step_in};
 ghost use Rattle.node_book.specs.Replies.{reply_in};
-ghost use Rattle.node_book.specs.Stepping.{Steps};
+ghost use Rattle.node_book.specs.Stepping.{NotedSteps, Steps};
 ghost use Rattle.witness_books.specs.Books.{parts_in};
+ghost use Rattle.witness_books.specs.Notes.{AreNotes, AreNotesOf};
 ghost use Rattle.witness_books.specs.Places.{OneDoes, place_from};
 
-use crate::route::{Routed, route};
+use crate::note::{Note, event_twice, note_refusal};
+use crate::route::{Routed, refuse_event, route};
 use authenticator::{Member, Roster};
-use node_book::{Book, Event, Reply, Step};
+use node_book::{Book, Event, PlainReply, Refusal, Reply, Step};
 use std::alloc::{AllocError, AllocFailed, Global};
 use std::marker::Model;
-use witness_laws::books::{runs_are_histories, what_leaves_books};
+use witness_laws::books::{journals_are_histories, what_leaves_books};
 use witness_steps::laws::books_are_ready;
 
 /// What a witness keeps of the members of a roster (PeerReview, SOSP 2007): a book of each.
@@ -61,10 +63,10 @@ impl Books {
         &self.roster
     }
 
-    /// One event, with its reply. An event that is nobody's step is refused: `UnknownNode` where a node that it
-    /// is of is no member, else `BadSignature` where it was checked under another key or roster, or isn't
+    /// One event, with its reply. An event that is nobody's step is refused: `UnknownNode` where a node that
+    /// it is of is no member, else `BadSignature` where it was checked under another key or roster, or isn't
     /// signed; `Garbage` where bytes are no packet. A member's step is refused as its book owes. `NoMemory`
-    /// comes only where a growth was refused, and never where a job is put back or an indication is asked for.
+    /// comes only where a growth was refused, never where a job is put back or an indication is asked for.
     /// What is refused changes nothing: a job or a done value comes back with the refusal.
     pub fn step(&mut self, alloc: Global, event: Event) -> Reply
         ensures roster { self.new.roster ≡ self.old.roster }
@@ -77,6 +79,59 @@ impl Books {
             Routed::Refused(reply) => reply,
             Routed::Step(member, step) => {
                 step_of(alloc, &self.roster, &mut self.books, &member, step)
+            }
+        }
+    }
+
+    /// One event, with its reply and two notes of both: one to keep, one to hand on. All notes are made
+    /// before anything changes: where a growth was refused for them, or owners can't be counted further, the
+    /// event is refused with `NoMemory`, whatever it is. There are no notes exactly where the reply is
+    /// `NoMemory`, and then nothing changed; any other reply is one that `step` owes, and refused as there.
+    pub fn noted_step(&mut self, alloc: Global, event: Event) -> (Reply, Option<(Note, Note)>)
+        ensures roster { self.new.roster ≡ self.old.roster }
+        ensures noted { IsNotedStep self.old.roster (parts_in self.old) (event_in event) (reply_in result.0)
+            (parts_in self.new) }
+        ensures notes { AreNotes (event_in event) (reply_in result.0) result.1 }
+    {
+        what_leaves_books();
+        let (one, two) = match event_twice(alloc, &event) {
+            Ok(events) => events,
+            Err(AllocError) => return (refuse_event(event, Refusal::NoMemory), None),
+        };
+        match self.step_noting(alloc, event) {
+            (reply, None) => (reply, None),
+            (reply, Some((first, second))) => {
+                let first = Note {
+                    event: one,
+                    reply: first,
+                };
+                let second = Note {
+                    event: two,
+                    reply: second,
+                };
+                (reply, Some((first, second)))
+            }
+        }
+    }
+
+    /// One event, with two notes of its reply, made before anything changes.
+    fn step_noting(
+        &mut self,
+        alloc: Global,
+        event: Event,
+    ) -> (Reply, Option<(PlainReply, PlainReply)>)
+        ensures roster { self.new.roster ≡ self.old.roster }
+        ensures noted { IsNotedStep self.old.roster (parts_in self.old) (event_in event) (reply_in result.0)
+            (parts_in self.new) }
+        ensures notes { AreNotesOf (reply_in result.0) result.1 }
+    {
+        books_are_ready();
+        what_leaves_books();
+        journals_are_histories();
+        match route(alloc, &self.roster, event) {
+            Routed::Refused(refusal) => note_refusal(alloc, refusal),
+            Routed::Step(member, step) => {
+                noted_step_of(alloc, &self.roster, &mut self.books, &member, step)
             }
         }
     }
@@ -132,4 +187,22 @@ fn step_of(
     books_are_ready();
     let place = place_of(roster.members(), member.node).unwrap();
     books[place].step(alloc, step)
+}
+
+/// A member's book makes its step, with two notes of its reply.
+fn noted_step_of(
+    alloc: Global,
+    roster: &Roster,
+    books: &mut Vec<Book>,
+    member: &Member,
+    step: Step,
+) -> (Reply, Option<(PlainReply, PlainReply)>)
+    requires ready { AreReady roster.now books.old.items }
+    requires member { member_of roster.now member.now.node ≡ Some member.now }
+    ensures { OneDoes roster.now member.now.node books.old.items
+        (λ old new. NotedSteps old (step_in step) result.0 result.1 new) books.new.items }
+{
+    books_are_ready();
+    let place = place_of(roster.members(), member.node).unwrap();
+    books[place].noted_step(alloc, step)
 }

@@ -2,6 +2,11 @@
 #![tactic(auto)]
 
 mod books;
+pub mod laws;
+mod note;
 mod route;
+mod runs;
 
 pub use books::Books;
+pub use note::Note;
+pub use runs::run;

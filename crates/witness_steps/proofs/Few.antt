@@ -19,7 +19,7 @@ use Rattle.replay_spec.specs.Replay.{Verdict, Sound, Fault, segment_verdict}
 use Rattle.replay_spec.proofs.Runs.{is_sound}
 use Rattle.replay_spec.proofs.OfLogLaws.Counts.{counted_on}
 use Rattle.witness_spec.specs.Refusals.{NoJob, WrongJob}
-use Rattle.witness_spec.specs.Events.{JobParts, DoneParts}
+use Rattle.witness_spec.specs.Events.{JobParts}
 use Rattle.witness_spec.specs.Replies.{Reply, Noted, Opened, Accepted, Closed, Asked, Job, Filed}
 use Rattle.witness_spec.specs.Replies.{Returned, Forwarded, FileRefused}
 use Rattle.witness_spec.specs.Steps.{Step, Learn, SendChallenge, Answer, AckIn, Audit, Begin, File, PutBack}
@@ -66,10 +66,10 @@ takes_in ms s g t shown is =
     let recvs = count_most is_recv g.entries in
     let sent = count_most is_send g.entries in
     record {
-      received = subst (λ (u : State). finite.len u.received ≤ finite.len s.received + length g.entries) r.last
-          (omega (arith, received, recvs));
-      sends = subst (λ (u : State). finite.len u.sends ≤ finite.len s.sends + length g.entries) r.last
-          (omega (arith, sends, sent));
+      received = subst (λ (u : State). finite.len u.received ≤ finite.len s.received + length g.entries)
+          r.last (omega (arith, received, recvs));
+      sends = subst (λ (u : State). finite.len u.sends ≤ finite.len s.sends + length g.entries)
+          r.last (omega (arith, sends, sent));
     }
 
 -- ---- each step

@@ -26,5 +26,5 @@ returns-in-Step-clause-steps c =
     c.in-Step.member c.self.inside.books.items c.step_of.new.books.items (event_in c.args.event)
     (step_in c.in-Step.step) (reply_in c.step_of.result) c.self.invariant.roster c.self.invariant.ready
     c.route.ensures.is_event c.in-Step.ensures.goes c.step_of.ensures in
-    subst (λ (b : BooksParts). StepsTo b.roster (parts_in b) (event_in c.args.event) (reply_in c.step_of.result)
-    (map parts_of c.step_of.new.books.items)) c.self.view_is goes.steps
+    subst (λ (b : BooksParts). StepsTo b.roster (parts_in b) (event_in c.args.event)
+    (reply_in c.step_of.result) (map parts_of c.step_of.new.books.items)) c.self.view_is goes.steps

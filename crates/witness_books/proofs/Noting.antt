@@ -1,0 +1,152 @@
+-- A step of which notes are made.
+-- Serves: Books::step_noting.
+use Rattle.std.proofs.Common.{◌≡◌, ◌⊎◌, inl, inr, ℕ, true, false, List, map, Option, Some, None}
+use Rattle.std.proofs.Common.{refl, sym, ap, subst, ◌∙◌}
+use Rattle.authenticator.specs.Roster.{IsRoster}
+use Rattle.authenticator.specs.declared.member.Member.{Member}
+use Rattle.witness_spec.specs.Refusals as refusals
+use Rattle.witness_spec.specs.Events.{JobParts, Event, IsEvent}
+use Rattle.witness_spec.specs.Events as events
+use Rattle.witness_spec.specs.Replies.{Reply, refused, is_want_of_memory}
+use Rattle.witness_spec.specs.Steps as steps
+use Rattle.witness_spec.specs.Histories.{own, IsWanting}
+use Rattle.witness_spec.specs.Contract.{StepsTo, IsOutOfMemory, IsNotedStep}
+use Rattle.witness_spec.specs.ContractLaws.{LeftOutLeavesBooks, WantLeavesBooks, OutOfMemoryLeavesBooks}
+use Rattle.witness_spec.specs.ContractLaws.{StepsAreNoted}
+use Rattle.witness_laws.proofs.Replied.{owed_good, good_want, want_refused}
+use Rattle.witness_steps.specs.Books.{Book, parts_of}
+use Rattle.witness_steps.specs.Replying.{BookOwes}
+use Rattle.witness_steps.specs.Together.{book_at, with_book_at}
+use Rattle.witness_steps.specs.Ready.{AreReady}
+use Rattle.witness_steps.specs.ReadyLaws.{ReadyBooksStep}
+use Rattle.witness_steps.proofs.AllBooks.{its, its_book}
+use Rattle.witness_steps.proofs.AnyBook.{any_owes}
+use Rattle.node_book.specs.Replies.{reply_in}
+use Rattle.node_book.specs.Stepping.{IsStep, RanOut, NotedSteps}
+use Rattle.node_book.specs.declared.reply.ReplyOf.{ReplyOf}
+use Rattle.witness_books.specs.Routing.{IsStepOf, IsNobodys}
+use Rattle.witness_books.specs.Places.{OneDoes}
+use Rattle.witness_books.specs.Notes.{for_memory, AreNotesOf, NotesRefusal}
+use Rattle.witness_books.proofs.Stepping.{with_same, made_goes, its_member, refused_steps}
+
+-- Notes of a reply, if there are some.
+abbrev pub Notes : Type 0
+Notes = Option (ReplyOf JobParts JobParts × ReplyOf JobParts JobParts)
+
+-- Books lead to others by a noted step, and these can make their steps.
+pub record GoesNoting (ms : List Member) (old : List Book) (event : Event) (reply : Reply) (notes : Notes)
+    (new : List Book) : Type 0 where
+  -- they lead to them
+  pub noted : IsNotedStep ms (map parts_of old) event reply (map parts_of new)
+  -- these can make their steps
+  pub ready : AreReady ms new
+  -- what the notes say
+  pub say : AreNotesOf reply notes
+
+-- ---- a member's step
+
+-- what a member's book owes doesn't say that memory ran out
+owed_enough : (ms : List Member) (m : Member) (old : List Book) (book : Book) (event : Event)
+    (step : steps.Step) (reply : Reply) → IsRoster ms → AreReady ms old → IsEvent event
+    → IsStepOf ms event m step → book_at ms old m.node ≡ Some book → BookOwes book step reply
+    → is_want_of_memory reply ≡ false
+owed_enough ms m old book event step reply roster ready is of there owes =
+    let history = ready.kept.are.history in
+    let fits = (its ms m old book event step reply roster ready.kept is of.whose_is there owes).1 in
+    let its_own = its_book ms m old book event step reply roster ready.kept is of.whose_is there owes in
+    good_want reply
+    (owed_good ms m (own ms m.node history) step reply
+    ((any_owes ms m history book (its_member ms event m step of) ready.kept.are.is fits its_own step reply).1
+    owes))
+
+-- the laws
+pub record Laws : Type 0 where
+  -- of steps
+  pub step : ReadyBooksStep
+  -- of steps that are noted
+  pub noted : StepsAreNoted
+  -- of want of memory
+  pub want : OutOfMemoryLeavesBooks
+
+-- the laws together
+pub laws_of : ReadyBooksStep → StepsAreNoted → OutOfMemoryLeavesBooks → Laws
+laws_of step noted want = record { step = step; noted = noted; want = want }
+
+-- a member's step with notes is one of all books
+pub noting_goes : Laws → (ms : List Member) (m : Member) (old new : List Book) (event : Event)
+    (step : steps.Step) (reply : ReplyOf JobParts JobParts) (notes : Notes) → IsRoster ms → AreReady ms old
+    → IsEvent event → IsStepOf ms event m step
+    → OneDoes ms m.node old (λ b after. NotedSteps b step reply notes after) new
+    → GoesNoting ms old event (reply_in reply) notes new
+noting_goes laws ms m old new event step reply notes roster ready is of one = by notes one.does
+  where
+    by : (notes : Notes) → NotedSteps one.book step reply notes one.after
+        → GoesNoting ms old event (reply_in reply) notes new
+    by None out =
+        let refusal : reply_in reply ≡ refused event refusals.NoMemory =
+        out.refused ∙ sym (of.refused_as refusals.NoMemory) in
+        let want : GoesNoting ms old event (reply_in reply) None old =
+        record {
+          noted = laws.want ms (map parts_of old) event (reply_in reply) refusal;
+          ready = ready;
+          say = ap is_want_of_memory refusal ∙ want_refused event;
+        } in
+        subst (GoesNoting ms old event (reply_in reply) None)
+        (sym (one.are ∙ ap (λ b. with_book_at ms m.node b old) out.stays
+        ∙ with_same ms m.node old one.book one.there)) want
+    by (Some pair) made =
+        let goes = made_goes laws.step ms m old new one.book one.after event step (reply_in reply) roster
+        ready is of one.there made.2 one.are in
+        let enough = owed_enough ms m old one.book event step (reply_in reply) roster ready is of
+        one.there made.2.owes in
+        record {
+          noted = laws.noted ms (map parts_of old) (map parts_of new) event (reply_in reply) enough
+              goes.steps;
+          ready = goes.ready;
+          say = record { enough = enough; is_one = ap reply_in made.0; is_two = ap reply_in made.1 };
+        }
+
+-- ---- what is refused before it is a step
+
+-- a refusal of an event becomes one as out of memory
+for_memory_of : (event : Event) (refusal : refusals.Refusal)
+    → for_memory (refused event refusal) ≡ refused event refusals.NoMemory
+for_memory_of (events.Deliver bytes) refusal = refl
+for_memory_of (events.Learn a key) refusal = refl
+for_memory_of (events.SendChallenge e key) refusal = refl
+for_memory_of (events.Answer c) refusal = refl
+for_memory_of (events.AckIn a key) refusal = refl
+for_memory_of (events.Audit node) refusal = refl
+for_memory_of (events.Begin node) refusal = refl
+for_memory_of (events.File d) refusal = refl
+for_memory_of (events.PutBack j) refusal = refl
+for_memory_of (events.Forward node) refusal = refl
+for_memory_of (events.Ask node question) refusal = refl
+
+-- so does what is refused before it is a step
+for_memory_is : (ms : List Member) (event : Event) (reply : Reply)
+    → IsNobodys ms event reply ⊎ IsWanting event reply → for_memory reply ≡ refused event refusals.NoMemory
+for_memory_is ms event reply (inl nobodys) = ap for_memory nobodys.is ∙ for_memory_of event nobodys.why
+for_memory_is ms event reply (inr wants) = ap for_memory wants.is ∙ for_memory_of event refusals.NoMemory
+
+-- a refusal with its notes leaves the books
+pub refusal_goes : Laws → LeftOutLeavesBooks → WantLeavesBooks → (ms : List Member) (books : List Book)
+    (event : Event) (refusal reply : Reply) (notes : Notes) → AreReady ms books → IsEvent event
+    → IsNobodys ms event refusal ⊎ IsWanting event refusal → NotesRefusal refusal reply notes
+    → GoesNoting ms books event reply notes books
+refusal_goes laws out want ms books event refusal reply None ready is why given =
+    let same : reply ≡ refused event refusals.NoMemory = given ∙ for_memory_is ms event refusal why in
+    record {
+      noted = laws.want ms (map parts_of books) event reply same;
+      ready = ready;
+      say = ap is_want_of_memory same ∙ want_refused event;
+    }
+refusal_goes laws out want ms books event refusal reply (Some notes) ready is why given =
+    let steps = refused_steps out want ms books event refusal is why in
+    let goes : GoesNoting ms books event refusal (Some notes) books =
+    record {
+      noted = laws.noted ms (map parts_of books) (map parts_of books) event refusal given.1.enough steps;
+      ready = ready;
+      say = given.1;
+    } in
+    subst (λ r. GoesNoting ms books event r (Some notes) books) (sym given.0) goes

@@ -1,0 +1,78 @@
+-- A run grows by a step at its end.
+-- Serves: run_all.
+use Rattle.std.proofs.Common.{◌≡◌, List, [], ◌∷◌, ◌++◌, map, refl, sym, ap, subst, ◌∙◌}
+use Rattle.std.proofs.lemmas.List.{append-nil, append_assoc, map-append}
+use Rattle.authenticator.specs.declared.member.Member.{Member}
+use Rattle.witness_spec.specs.Events.{JobParts}
+use Rattle.witness_spec.specs.Events as spec
+use Rattle.witness_spec.specs.Replies as answers
+use Rattle.witness_spec.specs.Histories.{BookParts}
+use Rattle.witness_spec.specs.Contract.{StepsTo, RunsTo}
+use Rattle.witness_spec.specs.ContractLaws.{NothingIsARun, OneStepMore}
+use Rattle.node_book.specs.Events.{event_in}
+use Rattle.node_book.specs.Replies.{reply_in}
+use Rattle.node_book.specs.declared.event.EventOf.{EventOf}
+use Rattle.node_book.specs.declared.reply.ReplyOf.{ReplyOf}
+use Rattle.witness_books.specs.Books.{BooksParts, parts_in}
+
+-- events as they are handed in
+abbrev pub Event : Type 0
+Event = EventOf JobParts JobParts
+
+-- replies as they are given
+abbrev pub Reply : Type 0
+Reply = ReplyOf JobParts JobParts
+
+-- Of all events the first ones have these replies, and the rest is still to come.
+pub record HasRun (old : BooksParts) (events rest : List Event) (replies : List Reply) (new : BooksParts)
+    : Type 0 where
+  -- the roster stays
+  pub roster : new.roster ≡ old.roster
+  -- those that have replies
+  pub done : List Event
+  -- with the rest they are all
+  pub all : events ≡ done ++ rest
+  -- they are a run
+  pub run : RunsTo old.roster (parts_in old) (map event_in done) (map reply_in replies) (parts_in new)
+
+-- before the first
+pub has_run_none : NothingIsARun → (old : BooksParts) (events rest : List Event) (replies : List Reply)
+    → rest ≡ events → replies ≡ [] → HasRun old events rest replies old
+has_run_none law old events rest replies all none = record {
+  roster = refl;
+  done = [];
+  all = sym all;
+  run = subst (λ (rs : List Reply). RunsTo old.roster (parts_in old) [] (map reply_in rs) (parts_in old))
+      (sym none) (law old.roster (parts_in old));
+}
+
+-- after one more
+pub has_run_more : OneStepMore → (old mid new : BooksParts) (events rest later : List Event)
+    (replies after : List Reply) (event : Event) (reply : Reply)
+    → HasRun old events rest replies mid → rest ≡ event ∷ later → after ≡ replies ++ reply ∷ []
+    → new.roster ≡ mid.roster
+    → StepsTo mid.roster (parts_in mid) (event_in event) (reply_in reply) (parts_in new)
+    → HasRun old events later after new
+has_run_more law old mid new events rest later replies after event reply was next grown roster step = record {
+  roster = roster ∙ was.roster;
+  done = was.done ++ event ∷ [];
+  all = was.all ∙ ap (λ l. was.done ++ l) next ∙ sym (append_assoc was.done (event ∷ []) later);
+  run = subst (λ (es : List spec.Event). RunsTo old.roster (parts_in old) es (map reply_in after)
+      (parts_in new))
+      (sym (map-append event_in was.done (event ∷ [])))
+      (subst (λ (rs : List answers.Reply). RunsTo old.roster (parts_in old)
+      (map event_in was.done ++ event_in event ∷ []) rs (parts_in new))
+      (sym (ap (map reply_in) grown ∙ map-append reply_in replies (reply ∷ [])))
+      (law old.roster (parts_in old) (parts_in mid) (parts_in new) (map event_in was.done)
+      (map reply_in replies) (event_in event) (reply_in reply) was.run
+      (subst (λ ms. StepsTo ms (parts_in mid) (event_in event) (reply_in reply) (parts_in new)) was.roster
+      step)));
+}
+
+-- after the last
+pub has_run_all : (old : BooksParts) (events rest : List Event) (replies : List Reply) (new : BooksParts)
+    → HasRun old events rest replies new → rest ≡ []
+    → RunsTo old.roster (parts_in old) (map event_in events) (map reply_in replies) (parts_in new)
+has_run_all old events rest replies new was none =
+    subst (λ (es : List Event). RunsTo old.roster (parts_in old) (map event_in es) (map reply_in replies)
+    (parts_in new)) (sym (was.all ∙ ap (λ l. was.done ++ l) none ∙ append-nil was.done)) was.run

@@ -1,0 +1,27 @@
+-- What a witness that began with nothing holds.
+-- Serves: run.
+use Rattle.std.proofs.Common.{◌≡◌, List, [], ◌∷◌, map, refl, sym, ap, subst, ◌∙◌}
+use Rattle.authenticator.specs.declared.member.Member.{Member}
+use Rattle.witness_spec.specs.Events.{Event}
+use Rattle.witness_spec.specs.Replies.{Reply}
+use Rattle.witness_spec.specs.Histories.{BookParts}
+use Rattle.witness_spec.specs.Contract.{opening_book, opening_books, RunsTo}
+use Rattle.witness_spec.specs.ContractLaws.{RunsAreHistories}
+use Rattle.witness_steps.specs.Books.{book_opening, parts_of}
+use Rattle.witness_books.specs.Books.{BooksParts, parts_in}
+use Rattle.witness_books.specs.Witnessed.{AreOpening, IsWitnessed}
+
+-- the opening books are those of the contract
+opening_same : (ms : List Member) → map parts_of (map book_opening ms) ≡ opening_books ms
+opening_same [] = refl
+opening_same (m ∷ ms) = ap (λ l. opening_book m ∷ l) (opening_same ms)
+
+-- a run from the opening books is witnessed
+pub is_witnessed : RunsAreHistories → (old new : BooksParts) (events : List Event) (replies : List Reply)
+    → RunsTo old.roster (parts_in old) events replies (parts_in new) → AreOpening old
+    → IsWitnessed old.roster events replies new
+is_witnessed law old new events replies run opening =
+    let both = law old.roster (parts_in new) events replies
+    (subst (λ (bs : List BookParts). RunsTo old.roster bs events replies (parts_in new))
+    (ap (map parts_of) opening ∙ opening_same old.roster) run) in
+    record { history = both.0; stands = both.1 }

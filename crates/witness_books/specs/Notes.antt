@@ -1,0 +1,53 @@
+-- What notes of a step say.
+use Rattle.std.specs.Prelude.{◌≡◌, true, false, Option, Some, None}
+use Rattle.witness_spec.specs.Events.{JobParts}
+use Rattle.witness_spec.specs.Events as spec
+use Rattle.witness_spec.specs.Refusals.{NoMemory}
+use Rattle.witness_spec.specs.Replies.{Reply, Refused, FileRefused, PutBackRefused, is_want_of_memory}
+use Rattle.node_book.specs.Events.{event_in}
+use Rattle.node_book.specs.Replies.{reply_in}
+use Rattle.node_book.specs.declared.reply.ReplyOf.{ReplyOf}
+use Rattle.witness_books.specs.declared.note.Note.{Note}
+
+-- ---- replies
+
+-- the refusal of the same event as out of memory
+abbrev pub for_memory : Reply → Reply
+for_memory (FileRefused refusal d) = FileRefused NoMemory d
+for_memory (PutBackRefused refusal j) = PutBackRefused NoMemory j
+for_memory _ = Refused NoMemory
+
+-- There are two notes of this reply, which doesn't say that memory ran out.
+pub record AreOf (reply : Reply) (one two : ReplyOf JobParts JobParts) : Type 0 where
+  -- it doesn't say so
+  pub enough : is_want_of_memory reply ≡ false
+  -- the first note says it
+  pub is_one : reply_in one ≡ reply
+  -- and the second
+  pub is_two : reply_in two ≡ reply
+
+-- There are notes of a reply, unless it says that memory ran out.
+abbrev pub AreNotesOf : Reply → Option (ReplyOf JobParts JobParts × ReplyOf JobParts JobParts) → Type 0
+AreNotesOf reply None = is_want_of_memory reply ≡ true
+AreNotesOf reply (Some notes) = AreOf reply notes.0 notes.1
+
+-- A refusal is given with notes of it; or as out of memory, without.
+abbrev pub NotesRefusal : (refusal reply : Reply)
+    → Option (ReplyOf JobParts JobParts × ReplyOf JobParts JobParts) → Type 0
+NotesRefusal refusal reply None = reply ≡ for_memory refusal
+NotesRefusal refusal reply (Some notes) = (reply ≡ refusal) × AreOf refusal notes.0 notes.1
+
+-- ---- events with their replies
+
+-- A note says this event and this reply.
+pub record IsNoteOf (event : spec.Event) (reply : Reply) (note : Note) : Type 0 where
+  -- the event
+  pub is_event : event_in note.event ≡ event
+  -- the reply
+  pub is_reply : reply_in note.reply ≡ reply
+
+-- There are two notes of an event with its reply; there are none exactly where memory ran out.
+abbrev pub AreNotes : (event : spec.Event) → Reply → Option (Note × Note) → Type 0
+AreNotes event reply None = is_want_of_memory reply ≡ true
+AreNotes event reply (Some notes) =
+    (is_want_of_memory reply ≡ false) × IsNoteOf event reply notes.0 × IsNoteOf event reply notes.1

@@ -1,0 +1,36 @@
+-- What a witness that began with nothing holds, and that two such witnesses agree.
+use Rattle.std.specs.Prelude.{◌≡◌, List, [], map, Some}
+use Rattle.authenticator.specs.Roster.{member_of}
+use Rattle.authenticator.specs.declared.member.Member.{Member}
+use Rattle.witness_spec.specs.Events.{Event}
+use Rattle.witness_spec.specs.Replies.{Reply}
+use Rattle.witness_spec.specs.Histories.{own, IsHistory, BookParts, Stands}
+use Rattle.witness_spec.specs.Contract.{opening_books, joined, RunsTo}
+use Rattle.witness_spec.specs.Laws.{SaysSame}
+use Rattle.witness_steps.specs.Books.{book_opening}
+use Rattle.witness_books.specs.Books.{BooksParts, parts_in}
+
+-- The books are those before any step.
+abbrev pub AreOpening : BooksParts → Type 0
+AreOpening b = b.books ≡ map book_opening b.roster
+
+-- Events with their replies are a history, and the books stand for it.
+pub record IsWitnessed (ms : List Member) (events : List Event) (replies : List Reply) (new : BooksParts)
+    : Type 0 where
+  -- they are a history
+  pub history : IsHistory ms (joined events replies [])
+  -- the books stand for it
+  pub stands : Stands ms (parts_in new) (joined events replies [])
+
+-- Two witnesses of one roster, from their first events on, agree on a member where its steps, in all that was
+-- handed to each, are the same and in the same order: the replies to these are the same, and both say the
+-- same of the member, whatever else was handed to one of them.
+abbrev pub WitnessesAgree : Type 0
+WitnessesAgree =
+    (ms : List Member) (m : Member) (new last : List BookParts) (events more : List Event)
+    (replies others : List Reply)
+    → member_of ms m.node ≡ Some m
+    → RunsTo ms (opening_books ms) events replies new → RunsTo ms (opening_books ms) more others last
+    → map (λ p. p.0) (own ms m.node (joined events replies []))
+    ≡ map (λ p. p.0) (own ms m.node (joined more others []))
+    → SaysSame ms m (joined events replies []) (joined more others [])

@@ -1,0 +1,57 @@
+//! Events one after the other.
+
+ghost use Rattle.std.specs.Prelude.{◌≡◌, ◌+◌, ◌≤◌, [], IfErr, IfOk, OnErr, map, vec_capacity, vec_len};
+ghost use Rattle.witness_spec.specs.Contract.{RunsTo};
+ghost use Rattle.node_book.specs.Events.{event_in};
+ghost use Rattle.node_book.specs.Replies.{reply_in};
+ghost use Rattle.witness_books.specs.Books.{parts_in};
+ghost use Rattle.witness_books.specs.Witnessed.{AreOpening, IsWitnessed};
+
+use crate::books::Books;
+use node_book::{Event, Reply};
+use std::alloc::{AllocError, Global};
+use witness_laws::books::runs_are_histories;
+
+/// Hands these events to the books, one after the other, the oldest first, and gives their replies in the
+/// same order: each event is a step of its own, from the books that the one before left. Room for all replies
+/// is taken first: where that was refused all events come back, and no step was made. An event for which
+/// memory runs out later is answered so (`Books::step`), and those after it are steps all the same. From the
+/// books before any step, the events with their replies are a history, and the books stand for it.
+pub fn run(alloc: Global, books: &mut Books, events: Vec<Event>) -> Result<Vec<Reply>, Vec<Event>>
+    ensures roster { books.new.roster ≡ books.old.roster }
+    ensures runs { IfOk result (λ replies. RunsTo books.old.roster (parts_in books.old)
+        (map event_in events.items) (map reply_in replies.items) (parts_in books.new)) }
+    ensures witnessed { IfOk result (λ replies. AreOpening books.old → IsWitnessed books.old.roster
+        (map event_in events.items) (map reply_in replies.items) books.new) }
+    ensures back { IfErr result (λ e. e ≡ events) }
+    ensures stays { OnErr result (books.new ≡ books.old) }
+{
+    runs_are_histories();
+    match Vec::with_capacity(alloc, events.len()) {
+        Ok(replies) => Ok(run_all(alloc, books, events, replies)),
+        Err(AllocError) => Err(events),
+    }
+}
+
+/// The replies to these events, put where there is room for them.
+fn run_all(
+    alloc: Global,
+    books: &mut Books,
+    events: Vec<Event>,
+    mut replies: Vec<Reply>,
+) -> Vec<Reply>
+    requires none { replies.items ≡ [] }
+    requires room { vec_len replies + vec_len events ≤ vec_capacity replies }
+    ensures roster { books.new.roster ≡ books.old.roster }
+    ensures runs { RunsTo books.old.roster (parts_in books.old) (map event_in events.items)
+        (map reply_in result.items) (parts_in books.new) }
+{
+    runs_are_histories();
+    let mut rest = events.into_iter();
+    'steps: while let Some(event) = rest.next() {
+        let reply = books.step(alloc, event);
+        replies.push_reserved(reply);
+    }
+    rest.destroy_empty();
+    replies
+}
