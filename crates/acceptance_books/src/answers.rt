@@ -2,11 +2,11 @@
 
 use authenticator::{Authenticator, check};
 use challenge::replay_code::ReplayFault;
+use envelopes::{check_ack, check_envelope};
 use node_book::{
     Back, Event, EventOf, Indication, JobVerdict, Question, Refusal, ReplayDone, ReplayJob, Reply,
     ReplyOf, SharedSegment,
 };
-use envelopes::{check_ack, check_envelope};
 use secure_log::check_segment;
 use std::alloc::Global;
 use witness_books::Books;

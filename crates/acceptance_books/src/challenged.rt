@@ -19,7 +19,12 @@ fn opens(alloc: Global, books: &mut Books, text: &[u8]) -> bool {
         && challenges(alloc, books, text, Answer::Opened)
         && challenges(alloc, books, text, Answer::Already)
         && tells(alloc, books, 1, Indication::Suspected)
-        && answers(alloc, books, EventOf::Ask(1, Question::Challenges), Answer::OpenList(1))
+        && answers(
+            alloc,
+            books,
+            EventOf::Ask(1, Question::Challenges),
+            Answer::OpenList(1),
+        )
 }
 
 /// The same of a new client's call and new books.
@@ -146,7 +151,12 @@ fn opens_16(alloc: Global, books: &mut Books, client: &mut Signer) -> bool {
     }
     let full = Answer::Refused(Refusal::ChallengesFull);
     challenges_at(alloc, books, client, 17, full)
-        && answers(alloc, books, EventOf::Ask(1, Question::Challenges), Answer::OpenList(16))
+        && answers(
+            alloc,
+            books,
+            EventOf::Ask(1, Question::Challenges),
+            Answer::OpenList(16),
+        )
 }
 
 /// The same of new keys and new books.

@@ -37,8 +37,13 @@ fn server_of_two(alloc: Global) -> Option<ServerNode> {
     let other = first_call(alloc, 2)?;
     match new_server(alloc) {
         Some(mut server) => {
-            let both = receives(alloc, &mut server, &one, 1) && receives(alloc, &mut server, &other, 4);
-            if both && is_of_two_calls(server.node()) { Some(server) } else { None }
+            let both = receives(alloc, &mut server, &one, 1)
+                && receives(alloc, &mut server, &other, 4);
+            if both && is_of_two_calls(server.node()) {
+                Some(server)
+            } else {
+                None
+            }
         }
         None => None,
     }

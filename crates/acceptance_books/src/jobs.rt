@@ -10,7 +10,10 @@ use witness_books::Books;
 
 /// Whether books are given the client's segment of one entry.
 fn is_given(alloc: Global, books: &mut Books, node: &NodeLog) -> bool {
-    match (authenticator_at(alloc, node, 1), node.answer_challenge(alloc, 1, 1)) {
+    match (
+        authenticator_at(alloc, node, 1),
+        node.answer_challenge(alloc, 1, 1),
+    ) {
         (Some(closing), Ok(text)) => {
             learns(alloc, books, &closing, Answer::Noted)
                 && answers(alloc, books, EventOf::Audit(2), Answer::Asked(1, 1))

@@ -4,6 +4,8 @@
 #[cfg(test)]
 mod answers;
 #[cfg(test)]
+mod calls;
+#[cfg(test)]
 mod challenged;
 #[cfg(test)]
 mod forking;
@@ -13,7 +15,5 @@ mod jobs;
 mod learned;
 #[cfg(test)]
 mod lying;
-#[cfg(test)]
-mod calls;
 #[cfg(test)]
 mod parties;

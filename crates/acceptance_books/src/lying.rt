@@ -10,17 +10,17 @@ use node_book::{EventOf, Indication, Question, ReplyOf};
 use secure_log::Log;
 use secure_log::log_entries::{Body, Entry, SignatureText, message_hash};
 use std::alloc::Global;
-use test_helpers::{of_text, signed};
+use test_helpers::{of_words, signed};
 use witness_books::Books;
 
 /// NULL with the transaction 1, and its reply with the lowest bit of the last byte changed.
-const CALL: &str = "1 0 2 186a3 2 0*5";
+const CALL: [u32; 10] = [1, 0, 2, 0x186a3, 2, 0, 0, 0, 0, 0];
 
-const REPLY: &str = "1 1 0*3 1";
+const REPLY: [u32; 6] = [1, 1, 0, 0, 0, 1];
 
 /// A body of these words.
-fn body(alloc: Global, text: &str) -> Option<Body> {
-    match of_text(alloc, text) {
+fn body(alloc: Global, words: &[u32]) -> Option<Body> {
+    match of_words(alloc, words) {
         Ok(bytes) if bytes.len() <= 40 => Some(Body::new(bytes)),
         _ => None,
     }
@@ -28,7 +28,7 @@ fn body(alloc: Global, text: &str) -> Option<Body> {
 
 /// The server's RECV of the call, the client's first message.
 fn received(alloc: Global, client: &mut Signer) -> Option<Entry> {
-    let body = body(alloc, CALL)?;
+    let body = body(alloc, &CALL)?;
     let seq = Number::new(1);
     let hash = message_hash(1, seq, &[0; 32], &body.digest());
     match client.sign(&signed_digest(2, seq, &hash)) {
@@ -45,7 +45,7 @@ fn received(alloc: Global, client: &mut Signer) -> Option<Entry> {
 
 /// The server's SEND of the changed reply.
 fn replied(alloc: Global) -> Option<Entry> {
-    match body(alloc, REPLY) {
+    match body(alloc, &REPLY) {
         Some(body) => Some(Entry::Send { to: 2, body }),
         None => None,
     }
