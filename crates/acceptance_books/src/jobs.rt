@@ -24,7 +24,7 @@ fn is_given(alloc: Global, books: &mut Books, node: &NodeLog) -> bool {
 }
 
 /// The client's books with a segment given.
-fn given_books(alloc: Global, node: &NodeLog) -> Option<Books> {
+pub fn given_books(alloc: Global, node: &NodeLog) -> Option<Books> {
     match new_books(alloc, 3) {
         Some(mut books) => {
             if is_given(alloc, &mut books, node) {
