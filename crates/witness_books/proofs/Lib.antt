@@ -5,3 +5,4 @@ pub mod Stepping
 pub mod Running
 pub mod Noting
 pub mod Witnessed
+pub mod Given

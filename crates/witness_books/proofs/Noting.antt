@@ -1,6 +1,6 @@
 -- A step of which notes are made.
 -- Serves: Books::step_noting.
-use Rattle.std.proofs.Common.{◌≡◌, ◌⊎◌, inl, inr, ℕ, true, false, List, map, Option, Some, None}
+use Rattle.std.proofs.Common.{◌≡◌, ◌⊎◌, inl, inr, false, List, map, Option, Some, None}
 use Rattle.std.proofs.Common.{refl, sym, ap, subst, ◌∙◌}
 use Rattle.authenticator.specs.Roster.{IsRoster}
 use Rattle.authenticator.specs.declared.member.Member.{Member}
@@ -9,8 +9,9 @@ use Rattle.witness_spec.specs.Events.{JobParts, Event, IsEvent}
 use Rattle.witness_spec.specs.Events as events
 use Rattle.witness_spec.specs.Replies.{Reply, refused, is_want_of_memory}
 use Rattle.witness_spec.specs.Steps as steps
-use Rattle.witness_spec.specs.Histories.{own, IsWanting}
-use Rattle.witness_spec.specs.Contract.{StepsTo, IsOutOfMemory, IsNotedStep}
+use Rattle.witness_spec.specs.Watched.{Watched, watched}
+use Rattle.witness_spec.specs.Histories.{own_of, IsWanting}
+use Rattle.witness_spec.specs.Contract.{IsNotedStep}
 use Rattle.witness_spec.specs.ContractLaws.{LeftOutLeavesBooks, WantLeavesBooks, OutOfMemoryLeavesBooks}
 use Rattle.witness_spec.specs.ContractLaws.{StepsAreNoted}
 use Rattle.witness_laws.proofs.Replied.{owed_good, good_want, want_refused}
@@ -22,7 +23,7 @@ use Rattle.witness_steps.specs.ReadyLaws.{ReadyBooksStep}
 use Rattle.witness_steps.proofs.AllBooks.{its, its_book}
 use Rattle.witness_steps.proofs.AnyBook.{any_owes}
 use Rattle.node_book.specs.Replies.{reply_in}
-use Rattle.node_book.specs.Stepping.{IsStep, RanOut, NotedSteps}
+use Rattle.node_book.specs.Stepping.{NotedSteps}
 use Rattle.node_book.specs.declared.reply.ReplyOf.{ReplyOf}
 use Rattle.witness_books.specs.Routing.{IsStepOf, IsNobodys}
 use Rattle.witness_books.specs.Places.{OneDoes}
@@ -51,12 +52,13 @@ owed_enough : (ms : List Member) (m : Member) (old : List Book) (book : Book) (e
     → IsStepOf ms event m step → book_at ms old m.node ≡ Some book → BookOwes book step reply
     → is_want_of_memory reply ≡ false
 owed_enough ms m old book event step reply roster ready is of there owes =
+    let w : Watched = watched ms m in
     let history = ready.kept.are.history in
-    let fits = (its ms m old book event step reply roster ready.kept is of.whose_is there owes).1 in
-    let its_own = its_book ms m old book event step reply roster ready.kept is of.whose_is there owes in
+    let fits = (its w old book event step reply roster ready.kept is of.whose_is there owes).1 in
+    let its_own = its_book w old book event step reply roster ready.kept is of.whose_is there owes in
     good_want reply
-    (owed_good ms m (own ms m.node history) step reply
-    ((any_owes ms m history book (its_member ms event m step of) ready.kept.are.is fits its_own step reply).1
+    (owed_good w (own_of w history) step reply
+    ((any_owes w history book (its_member ms event m step of) ready.kept.are.is fits its_own step reply).1
     owes))
 
 -- the laws
@@ -103,7 +105,7 @@ noting_goes laws ms m old new event step reply notes roster ready is of one = by
           noted = laws.noted ms (map parts_of old) (map parts_of new) event (reply_in reply) enough
               goes.steps;
           ready = goes.ready;
-          say = record { enough = enough; is_one = ap reply_in made.0; is_two = ap reply_in made.1 };
+          say = record { enough = enough; is_one = made.0; is_two = made.1 };
         }
 
 -- ---- what is refused before it is a step

@@ -1,9 +1,10 @@
 -- A member's book is at the member's place.
 -- Serves: step_of.
 use Rattle.std.proofs.Common.{◌≡◌, ℕ, suc, ◌+◌, ◌<◌, Bool, true, false, cond, ◌==◌, List, [], ◌∷◌, length}
-use Rattle.std.proofs.Common.{Option, Some, None, get_or, set, IsSome, refl, sym, ap, subst, ◌∙◌, arith}
+use Rattle.std.proofs.Common.{Option, Some, get_or, set, IsSome, refl, sym, ap, subst, ◌∙◌, arith}
 use Rattle.authenticator.specs.Roster.{member_of}
 use Rattle.authenticator.specs.declared.member.Member.{Member}
+use Rattle.witness_spec.specs.Watched.{watched}
 use Rattle.witness_steps.specs.Books.{Book}
 use Rattle.witness_steps.specs.Together.{book_at, with_book_at, FitEach}
 use Rattle.witness_steps.specs.Ready.{IsReady, AreReady}
@@ -126,4 +127,4 @@ pub here_ready : ReadyBooksAreReady → (ms : List Member) (m : Member) (books :
     (b : Book) → AreReady ms books → member_of ms m.node ≡ Some m → IsHere ms m.node books place
     → b ≡ get_or books place b → IsReady b
 here_ready law ms m books place b ready member here is =
-    law ms m books b ready member (here.there b ∙ ap (λ x. Some x) (sym is))
+    law (watched ms m) books b ready member (here.there b ∙ ap (λ x. Some x) (sym is))

@@ -2,11 +2,9 @@
 -- Serves: run_all.
 use Rattle.std.proofs.Common.{◌≡◌, List, [], ◌∷◌, ◌++◌, map, refl, sym, ap, subst, ◌∙◌}
 use Rattle.std.proofs.lemmas.List.{append-nil, append_assoc, map-append}
-use Rattle.authenticator.specs.declared.member.Member.{Member}
 use Rattle.witness_spec.specs.Events.{JobParts}
 use Rattle.witness_spec.specs.Events as spec
 use Rattle.witness_spec.specs.Replies as answers
-use Rattle.witness_spec.specs.Histories.{BookParts}
 use Rattle.witness_spec.specs.Contract.{StepsTo, RunsTo}
 use Rattle.witness_spec.specs.ContractLaws.{NothingIsARun, OneStepMore}
 use Rattle.node_book.specs.Events.{event_in}

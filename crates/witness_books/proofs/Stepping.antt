@@ -4,6 +4,7 @@ use Rattle.std.proofs.Common.{◌≡◌, ◌⊎◌, inl, inr, ℕ, Bool, true, f
 use Rattle.std.proofs.Common.{Option, Some, refl, sym, ap, subst, ◌∙◌}
 use Rattle.authenticator.specs.Roster.{IsRoster, member_of}
 use Rattle.authenticator.specs.declared.member.Member.{Member}
+use Rattle.witness_spec.specs.Watched.{watched}
 use Rattle.witness_spec.specs.Refusals.{NoMemory}
 use Rattle.witness_spec.specs.Events.{Event, IsEvent}
 use Rattle.witness_spec.specs.Replies.{Reply}
@@ -55,7 +56,7 @@ pub made_goes : ReadyBooksStep → (ms : List Member) (m : Member) (old new : Li
     → IsStepOf ms event m step → book_at ms old m.node ≡ Some book → IsStep book step reply after
     → new ≡ with_book_at ms m.node after old → Goes ms old event reply new
 made_goes law ms m old new book after event step reply roster ready is of there made are =
-    let both = law ms m old book event step reply roster ready is of.whose_is there made.owes in
+    let both = law (watched ms m) old book event step reply roster ready is of.whose_is there made.owes in
     subst (Goes ms old event reply)
     (sym (are ∙ ap (λ b. with_book_at ms m.node b old) made.after))
     (record { steps = both.0; ready = both.1 })

@@ -1,6 +1,6 @@
 -- What a witness that began with nothing holds.
 -- Serves: run.
-use Rattle.std.proofs.Common.{◌≡◌, List, [], ◌∷◌, map, refl, sym, ap, subst, ◌∙◌}
+use Rattle.std.proofs.Common.{◌≡◌, List, [], ◌∷◌, map, refl, ap, subst, ◌∙◌}
 use Rattle.authenticator.specs.declared.member.Member.{Member}
 use Rattle.witness_spec.specs.Events.{Event}
 use Rattle.witness_spec.specs.Replies.{Reply}

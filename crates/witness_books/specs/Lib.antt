@@ -3,3 +3,5 @@ pub mod Books
 pub mod Places
 pub mod Notes
 pub mod Witnessed
+pub mod Headline
+pub mod Given

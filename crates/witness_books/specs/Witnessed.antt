@@ -1,10 +1,10 @@
 -- What a witness that began with nothing holds, and that two such witnesses agree.
-use Rattle.std.specs.Prelude.{◌≡◌, List, [], map, Some}
-use Rattle.authenticator.specs.Roster.{member_of}
+use Rattle.std.specs.Prelude.{◌≡◌, List, [], map}
 use Rattle.authenticator.specs.declared.member.Member.{Member}
 use Rattle.witness_spec.specs.Events.{Event}
 use Rattle.witness_spec.specs.Replies.{Reply}
-use Rattle.witness_spec.specs.Histories.{own, IsHistory, BookParts, Stands}
+use Rattle.witness_spec.specs.Watched.{Watched, IsInRoster}
+use Rattle.witness_spec.specs.Histories.{own_of, IsHistory, BookParts, Stands}
 use Rattle.witness_spec.specs.Contract.{opening_books, joined, RunsTo}
 use Rattle.witness_spec.specs.Laws.{SaysSame}
 use Rattle.witness_steps.specs.Books.{book_opening}
@@ -27,10 +27,10 @@ pub record IsWitnessed (ms : List Member) (events : List Event) (replies : List 
 -- same of the member, whatever else was handed to one of them.
 abbrev pub WitnessesAgree : Type 0
 WitnessesAgree =
-    (ms : List Member) (m : Member) (new last : List BookParts) (events more : List Event)
-    (replies others : List Reply)
-    → member_of ms m.node ≡ Some m
-    → RunsTo ms (opening_books ms) events replies new → RunsTo ms (opening_books ms) more others last
-    → map (λ p. p.0) (own ms m.node (joined events replies []))
-    ≡ map (λ p. p.0) (own ms m.node (joined more others []))
-    → SaysSame ms m (joined events replies []) (joined more others [])
+    (w : Watched) (new last : List BookParts) (events more : List Event) (replies others : List Reply)
+    → IsInRoster w
+    → RunsTo w.roster (opening_books w.roster) events replies new
+    → RunsTo w.roster (opening_books w.roster) more others last
+    → map (λ p. p.0) (own_of w (joined events replies []))
+    ≡ map (λ p. p.0) (own_of w (joined more others []))
+    → SaysSame w (joined events replies []) (joined more others [])

@@ -1,6 +1,6 @@
 //! The books of all members.
 
-ghost use Rattle.std.specs.Prelude.{◌≡◌, IfErr, IfOk, Some, map};
+ghost use Rattle.std.specs.Prelude.{◌≡◌, ◌∷◌, [], IfErr, IfOk, Some, map};
 ghost use Rattle.authenticator.specs.Roster.{IsRoster, member_of};
 ghost use Rattle.witness_spec.specs.Contract.{IsNotedStep, StepsTo};
 ghost use Rattle.witness_steps.specs.Books.{book_opening};
@@ -9,9 +9,11 @@ ghost use Rattle.node_book.specs.Events.{event_in, step_in};
 ghost use Rattle.node_book.specs.Replies.{reply_in};
 ghost use Rattle.node_book.specs.Stepping.{NotedSteps, Steps};
 ghost use Rattle.witness_books.specs.Books.{parts_in};
+ghost use Rattle.witness_books.specs.Headline.{KeepsHeadline};
 ghost use Rattle.witness_books.specs.Notes.{AreNotes, AreNotesOf};
 ghost use Rattle.witness_books.specs.Places.{OneDoes, place_from};
 
+use crate::laws::steps_keep_the_headline;
 use crate::note::{Note, event_twice, note_refusal};
 use crate::route::{Routed, refuse_event, route};
 use authenticator::{Member, Roster};
@@ -69,6 +71,18 @@ impl Books {
     /// comes only where a growth was refused, never where a job is put back or an indication is asked for.
     /// What is refused changes nothing: a job or a done value comes back with the refusal.
     pub fn step(&mut self, alloc: Global, event: Event) -> Reply
+        ensures roster { self.new.roster ≡ self.old.roster }
+        ensures steps { StepsTo self.old.roster (parts_in self.old) (event_in event) (reply_in result)
+            (parts_in self.new) }
+        ensures headline { KeepsHeadline self.old.roster (parts_in self.old) (event_in event ∷ [])
+            (reply_in result ∷ []) (parts_in self.new) }
+    {
+        steps_keep_the_headline();
+        self.make_step(alloc, event)
+    }
+
+    /// One event, with its reply.
+    fn make_step(&mut self, alloc: Global, event: Event) -> Reply
         ensures roster { self.new.roster ≡ self.old.roster }
         ensures steps { StepsTo self.old.roster (parts_in self.old) (event_in event) (reply_in result)
             (parts_in self.new) }

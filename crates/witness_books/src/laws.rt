@@ -1,8 +1,14 @@
 //! What holds of any two witnesses of one roster.
 
+ghost use Rattle.witness_books.specs.Given.{AcksAreTaken, AnswersAreTaken, StepsKeepHeadline};
+ghost use Rattle.witness_books.specs.Given.{WhatIsOwedIsGiven};
+ghost use Rattle.witness_books.specs.Headline.{RunsKeepHeadline};
 ghost use Rattle.witness_books.specs.Witnessed.{WitnessesAgree};
 
 use witness_laws::books::{books_can_stand, runs_are_histories};
+use witness_laws::evidence::laws::{evidence_proves, evidence_where_exposed};
+use witness_laws::laws::exposed_exactly_if;
+use witness_laws::trust::laws::honest_is_never_exposed;
 
 /// Two witnesses of one roster, from their first events on, agree on a member where its steps, in all that
 /// was handed to each, are the same and in the same order: the replies to these are the same, and both say
@@ -13,3 +19,36 @@ pub fn witnesses_agree()
     books_can_stand();
     runs_are_histories();
 }
+
+/// A run keeps the headline, whatever the history was for which the books stood: each reply is the one that is
+/// owed by the node's own earlier steps, and the books hold what these say; lists of events that agree on a
+/// node answer alike; who keeps an honest log is never exposed, unless a signature is forged or two texts have
+/// one digest, and who differs in an audited log is; there is evidence exactly where a node is exposed, and it
+/// proves that.
+pub fn runs_keep_the_headline()
+    ensures { RunsKeepHeadline }
+{
+    runs_are_histories();
+    honest_is_never_exposed();
+    exposed_exactly_if();
+    evidence_where_exposed();
+    evidence_proves();
+}
+
+/// So does a step, as a run of one event.
+pub fn steps_keep_the_headline()
+    ensures { StepsKeepHeadline }
+{
+    runs_are_histories();
+    runs_keep_the_headline();
+}
+
+/// Where one reply alone is owed to an event, a step of books that stand for the history gives it, or memory
+/// ran out. So the answer of a node to the audit that is open is accepted, and its acknowledgement of a message
+/// that it is challenged with closes the challenge: the laws of `witness_nodes` say that a node's own calls
+/// give such answers.
+pub fn what_is_owed_is_given()
+    ensures given { WhatIsOwedIsGiven }
+    ensures answers { AnswersAreTaken }
+    ensures acks { AcksAreTaken }
+{}

@@ -5,9 +5,11 @@ ghost use Rattle.witness_spec.specs.Contract.{RunsTo};
 ghost use Rattle.node_book.specs.Events.{event_in};
 ghost use Rattle.node_book.specs.Replies.{reply_in};
 ghost use Rattle.witness_books.specs.Books.{parts_in};
+ghost use Rattle.witness_books.specs.Headline.{KeepsHeadline};
 ghost use Rattle.witness_books.specs.Witnessed.{AreOpening, IsWitnessed};
 
 use crate::books::Books;
+use crate::laws::runs_keep_the_headline;
 use node_book::{Event, Reply};
 use std::alloc::{AllocError, Global};
 use witness_laws::books::runs_are_histories;
@@ -21,12 +23,15 @@ pub fn run(alloc: Global, books: &mut Books, events: Vec<Event>) -> Result<Vec<R
     ensures roster { books.new.roster ≡ books.old.roster }
     ensures runs { IfOk result (λ replies. RunsTo books.old.roster (parts_in books.old)
         (map event_in events.items) (map reply_in replies.items) (parts_in books.new)) }
+    ensures headline { IfOk result (λ replies. KeepsHeadline books.old.roster (parts_in books.old)
+        (map event_in events.items) (map reply_in replies.items) (parts_in books.new)) }
     ensures witnessed { IfOk result (λ replies. AreOpening books.old → IsWitnessed books.old.roster
         (map event_in events.items) (map reply_in replies.items) books.new) }
     ensures back { IfErr result (λ e. e ≡ events) }
     ensures stays { OnErr result (books.new ≡ books.old) }
 {
     runs_are_histories();
+    runs_keep_the_headline();
     match Vec::with_capacity(alloc, events.len()) {
         Ok(replies) => Ok(run_all(alloc, books, events, replies)),
         Err(AllocError) => Err(events),

@@ -21,7 +21,7 @@ use Rattle.witness_spec.specs.evidence_spec.Evidence.{Charge, EvidenceParts}
 use Rattle.witness_spec.specs.evidence_spec.Showing.{authenticator_showing}
 use Rattle.secure_log.specs.Segment.{SegmentParts}
 use Rattle.witness_spec.specs.Steps.{Learn, Past}
-use Rattle.witness_examples.specs.Worked.{five, learned, one_hash, other_hash, learned_to}
+use Rattle.witness_examples.specs.Worked.{node_five, learned, one_hash, other_hash, learned_to}
 use Rattle.witness_examples.specs.Forks.{forked, full_forked}
 
 -- the pairs that they show, and they themselves
@@ -58,29 +58,29 @@ no_fork (suc n) =
     or_from (is_fork (suc n, one_hash) (pairs_to n)) (has_fork (pairs_to n))
     (no_fork_at (suc n) n (omega arith)) (no_fork n)
 
-no_fault : (n : ℕ) → has_fault [] five (learned_to n) ≡ false
+no_fault : (n : ℕ) → has_fault node_five (learned_to n) ≡ false
 no_fault zero = refl
 no_fault (suc n) = no_fault n
 
-shown_is : (n : ℕ) → shown [] five (learned_to n) ≡ pairs_to n
+shown_is : (n : ℕ) → shown node_five (learned_to n) ≡ pairs_to n
 unfolding pairs_to
 shown_is zero = refl
 shown_is (suc n) =
-    let none : is_exposed [] five (learned_to n) ≡ false =
-    or_from (has_fork (shown [] five (learned_to n))) (has_fault [] five (learned_to n))
+    let none : is_exposed node_five (learned_to n) ≡ false =
+    or_from (has_fork (shown node_five (learned_to n))) (has_fault node_five (learned_to n))
     (ap has_fork (shown_is n) ∙ no_fork n) (no_fault n) in
     ap₂ (λ b s. pairs_noted b (Some (learned (suc n) one_hash)) ++ ([] ++ s)) none (shown_is n)
 
-not_exposed : (n : ℕ) → is_exposed [] five (learned_to n) ≡ false
+not_exposed : (n : ℕ) → is_exposed node_five (learned_to n) ≡ false
 not_exposed n =
-    or_from (has_fork (shown [] five (learned_to n))) (has_fault [] five (learned_to n))
+    or_from (has_fork (shown node_five (learned_to n))) (has_fault node_five (learned_to n))
     (ap has_fork (shown_is n) ∙ no_fork n) (no_fault n)
 
-end_is : (n : ℕ) → (end_of [] five (learned_to n)).number ≡ 0
+end_is : (n : ℕ) → (end_of node_five (learned_to n)).number ≡ 0
 end_is zero = refl
 end_is (suc n) = end_is n
 
-noted_is : (n : ℕ) → noted_before [] five (learned_to n) ≡ list_to n
+noted_is : (n : ℕ) → noted_before node_five (learned_to n) ≡ list_to n
 unfolding list_to
 noted_is zero = refl
 noted_is (suc n) =
@@ -101,14 +101,14 @@ unfolding list_to
 length_list zero = refl
 length_list (suc n) = ap suc (length_list n)
 
-kept_count : (n : ℕ) → length (kept [] five (learned_to n)) ≡ n
+kept_count : (n : ℕ) → length (kept node_five (learned_to n)) ≡ n
 kept_count n =
     ap₂ (λ (e : ℕ) (s : List Authenticator). length (filter (λ a. nat_lt e a.number) s)) (end_is n)
     (noted_is n)
     ∙ (ap length (all_above n) ∙ length_list n)
 
-told_learn : (past : Past) (a : Authenticator) (r : Reply) → learn_reply [] five past a ≡ r
-    → Owes [] five past (Learn a) r
+told_learn : (past : Past) (a : Authenticator) (r : Reply) → learn_reply node_five past a ≡ r
+    → Owes node_five past (Learn a) r
 told_learn past a r e = record {
   is_out = false;
   decides = (λ h. absurd (true≢false (sym h)), λ h. absurd h);
@@ -123,51 +123,51 @@ told exposed shown_there fork above full =
 
 -- the next is refused where 256 are kept
 pub reply_is : (n : ℕ)
-    → learn_reply [] five (learned_to n) (learned (suc n) one_hash) ≡ cond (nat_le 256 n)
+    → learn_reply node_five (learned_to n) (learned (suc n) one_hash) ≡ cond (nat_le 256 n)
     (Refused LearnedFull) Noted
 reply_is n =
     let s = shown_is n in
     let p : Pair = (suc n, one_hash) in
-    let at_end : nat_lt (end_of [] five (learned_to n)).number (suc n) ≡ true =
+    let at_end : nat_lt (end_of node_five (learned_to n)).number (suc n) ≡ true =
     ap (λ e. nat_lt e (suc n)) (end_is n) ∙ lt-ltb 0 (suc n) (omega arith) in
-    ap₂ (λ a b. told a b (is_fork p (shown [] five (learned_to n)))
-    (nat_lt (end_of [] five (learned_to n)).number (suc n))
-    (nat_le 256 (length (kept [] five (learned_to n)))))
+    ap₂ (λ a b. told a b (is_fork p (shown node_five (learned_to n)))
+    (nat_lt (end_of node_five (learned_to n)).number (suc n))
+    (nat_le 256 (length (kept node_five (learned_to n)))))
     (not_exposed n) (ap (is_shown p) s ∙ not_shown (suc n) n (omega arith))
-    ∙ (ap₂ (λ a b. told false false a b (nat_le 256 (length (kept [] five (learned_to n)))))
+    ∙ (ap₂ (λ a b. told false false a b (nat_le 256 (length (kept node_five (learned_to n)))))
     (ap (is_fork p) s ∙ no_fork_at (suc n) n (omega arith)) at_end
     ∙ ap (λ k. told false false false true (nat_le 256 k)) (kept_count n))
 
-owed : (n : ℕ) (r : Reply) → learn_reply [] five (learned_to n) (learned (suc n) one_hash) ≡ r
-    → Owes [] five (learned_to n) (Learn (learned (suc n) one_hash)) r
+owed : (n : ℕ) (r : Reply) → learn_reply node_five (learned_to n) (learned (suc n) one_hash) ≡ r
+    → Owes node_five (learned_to n) (Learn (learned (suc n) one_hash)) r
 owed n r e = told_learn (learned_to n) (learned (suc n) one_hash) r e
 
 few : (n : ℕ) → n < 256 → nat_le 256 n ≡ false
 few n h = grind (arith, nat_tests)
 
 -- up to 256 each is noted
-pub each_noted : (n : ℕ) → n < 256 → Owes [] five (learned_to n) (Learn (learned (suc n) one_hash)) Noted
+pub each_noted : (n : ℕ) → n < 256 → Owes node_five (learned_to n) (Learn (learned (suc n) one_hash)) Noted
 each_noted n h = owed n Noted (reply_is n ∙ ap (λ b. cond b (Refused LearnedFull) Noted) (few n h))
 
 -- so each of so many has the reply that is owed to it
-pub each_owed : (n : ℕ) → n ≤ 256 → AreOwed [] five (learned_to n)
+pub each_owed : (n : ℕ) → n ≤ 256 → AreOwed node_five (learned_to n)
 each_owed zero low = tt
 each_owed (suc n) low = (each_noted n (omega arith), each_owed n (omega arith))
 
 -- and the next is refused
-pub full_refused : Owes [] five (learned_to 256) (Learn (learned 257 one_hash)) (Refused LearnedFull)
+pub full_refused : Owes node_five (learned_to 256) (Learn (learned 257 one_hash)) (Refused LearnedFull)
 full_refused = owed 256 (Refused LearnedFull) (reply_is 256)
 
 -- ---- a number of theirs
 
 abbrev above_end : Bool
-above_end = nat_lt (end_of [] five (learned_to 256)).number 3
+above_end = nat_lt (end_of node_five (learned_to 256)).number 3
 
 abbrev is_full : Bool
-is_full = nat_le 256 (length (kept [] five (learned_to 256)))
+is_full = nat_le 256 (length (kept node_five (learned_to 256)))
 
 -- one of them is there already
-pub there_already : Owes [] five (learned_to 256) (Learn (learned 3 one_hash)) Already
+pub there_already : Owes node_five (learned_to 256) (Learn (learned 3 one_hash)) Already
 unfolding pairs_to
 there_already =
     let p : Pair = (3, one_hash) in
@@ -175,7 +175,7 @@ there_already =
     (ap₂ (λ a s. told a (is_shown p s) (is_fork p s) above_end is_full) (not_exposed 256) (shown_is 256))
 
 -- another hash is noted
-pub fork_noted : Owes [] five (learned_to 256) (Learn (learned 3 other_hash)) Noted
+pub fork_noted : Owes node_five (learned_to 256) (Learn (learned 3 other_hash)) Noted
 unfolding pairs_to
 fork_noted =
     let p : Pair = (3, other_hash) in
@@ -183,16 +183,16 @@ fork_noted =
     (ap₂ (λ a s. told a (is_shown p s) (is_fork p s) above_end is_full) (not_exposed 256) (shown_is 256))
 
 -- and exposes
-pub fork_exposes : is_exposed [] five full_forked ≡ true
+pub fork_exposes : is_exposed node_five full_forked ≡ true
 unfolding pairs_to
 fork_exposes =
-    ap₂ (λ a s. has_fork (pairs_noted a (Some (learned 3 other_hash)) ++ ([] ++ s)) || has_fault [] five
+    ap₂ (λ a s. has_fork (pairs_noted a (Some (learned 3 other_hash)) ++ ([] ++ s)) || has_fault node_five
     full_forked)
     (not_exposed 256) (shown_is 256)
 
 -- whatever is learned of an exposed node is noted
-pub exposed_noted : (past : Past) (a : Authenticator) → is_exposed [] five past ≡ true
-    → Owes [] five past (Learn a) Noted
+pub exposed_noted : (past : Past) (a : Authenticator) → is_exposed node_five past ≡ true
+    → Owes node_five past (Learn a) Noted
 exposed_noted past a h = told_learn past a Noted (rw h refl)
 
 abbrev against : Option Charge → Option EvidenceParts
@@ -200,16 +200,16 @@ against o = option_map (λ g. record { node = 5; charge = g }) o
 
 -- the evidence, where the step exposes
 evidence_after : (past : Past) (a : Authenticator) (k : List Authenticator) (s : List Pair)
-    → is_exposed [] five past ≡ false → kept [] five past ≡ k → shown [] five past ≡ s
-    → evidence [] five ((Learn a, Noted) ∷ past)
+    → is_exposed node_five past ≡ false → kept node_five past ≡ k → shown node_five past ≡ s
+    → evidence node_five ((Learn a, Noted) ∷ past)
     ≡ against (option_and_then (fork_of k (all_accepted past) (authenticator_showing a))
     (first_fork (pair_of a ∷ []) s))
 evidence_after past a k s hidden is there =
-    ap (λ b. cond b (evidence [] five past) (against (new_charge [] five past (Learn a) Noted))) hidden
+    ap (λ b. cond b (evidence node_five past) (against (new_charge node_five past (Learn a) Noted))) hidden
     ∙ ap₂ (λ l ps. against (option_and_then (fork_of l (all_accepted past) (authenticator_showing a))
     (first_fork (pair_of a ∷ []) ps))) is there
 
-kept_is : kept [] five (learned_to 256) ≡ list_to 256
+kept_is : kept node_five (learned_to 256) ≡ list_to 256
 kept_is =
     ap₂ (λ (e : ℕ) (s : List Authenticator). filter (λ a. nat_lt e a.number) s) (end_is 256) (noted_is 256)
     ∙ all_above 256
@@ -226,7 +226,7 @@ unfolding pairs_to list_to
 worked_out segments = refl
 
 -- by the one that is kept there
-pub fork_evidence : evidence [] five full_forked ≡ Some two_at_three
+pub fork_evidence : evidence node_five full_forked ≡ Some two_at_three
 fork_evidence =
     evidence_after (learned_to 256) (learned 3 other_hash) (list_to 256) (pairs_to 256) (not_exposed 256)
     kept_is

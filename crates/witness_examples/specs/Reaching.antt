@@ -4,15 +4,16 @@ use Rattle.authenticator.specs.declared.member.Member.{Member}
 use Rattle.witness_spec.specs.Refusals.{Refusal}
 use Rattle.witness_spec.specs.Events.{Event}
 use Rattle.witness_spec.specs.Replies.{Reply, refused}
+use Rattle.witness_spec.specs.Watched.{Watched}
 use Rattle.witness_spec.specs.Steps.{Step, Past}
 use Rattle.witness_spec.specs.Owing.{Owes}
 use Rattle.witness_spec.specs.Histories.{History, IsOwed, AreOwed}
 
 -- From an empty book on, each of a node's own steps has the reply that is owed to it after the earlier ones;
 -- and after them all a step is owed this reply.
-pub record Reaches (ms : List Member) (m : Member) (past : Past) (step : Step) (reply : Reply) : Type 0 where
-  pub steps : AreOwed ms m past
-  pub next : Owes ms m past step reply
+pub record Reaches (w : Watched) (past : Past) (step : Step) (reply : Reply) : Type 0 where
+  pub steps : AreOwed w past
+  pub next : Owes w past step reply
 
 -- An event is owed this refusal after every history.
 abbrev pub IsRefused : List Member → Event → Refusal → Type 0

@@ -22,12 +22,17 @@ use Rattle.witness_spec.specs.Events.{PublicKey, JobParts, DoneParts, ItsIndicat
 use Rattle.witness_spec.specs.Events as events
 use Rattle.witness_spec.specs.Replies.{Noted, Opened, Accepted, Asked, Job, Filed, Returned}
 use Rattle.witness_spec.specs.Replies.{Told, Refused, Trusted}
+use Rattle.witness_spec.specs.Watched.{Watched, watched}
 use Rattle.witness_spec.specs.Histories.{History}
 use Rattle.witness_spec.specs.Steps.{Learn, SendChallenge, Answer, Audit, Begin, File, PutBack, Past}
 
--- the client that is watched
+-- a client
 abbrev pub five : Member
 five = record { node = 5; kind = Client; root = 5 ∷ []; height = 1 }
+
+-- its node, under a roster of nobody
+abbrev pub node_five : Watched
+node_five = watched [] five
 
 -- its key
 abbrev pub its_key : PublicKey

@@ -6,7 +6,7 @@ ghost use Rattle.witness_spec.specs.Events.{ItsIndication, ItsEvidence};
 ghost use Rattle.witness_spec.specs.Replies.{Noted, Already, Accepted, Told, EvidenceIs, Exposed};
 ghost use Rattle.witness_spec.specs.Steps.{Learn, Answer, Ask};
 ghost use Rattle.witness_spec.specs.Standing.{kept};
-ghost use Rattle.witness_examples.specs.Worked.{five, learned, one_hash, other_hash, read_hash, segment};
+ghost use Rattle.witness_examples.specs.Worked.{node_five, learned, one_hash, other_hash, read_hash, segment};
 ghost use Rattle.witness_examples.specs.Worked.{closed};
 ghost use Rattle.witness_examples.specs.Worked.{filed_two, learned_to};
 ghost use Rattle.witness_examples.specs.Forks.{forked, zero_forked, answer_wanted, answer_forked};
@@ -19,9 +19,9 @@ ghost use Rattle.witness_examples.specs.Reaching.{Reaches};
 /// At number 0 every log has 32 zero bytes: an authenticator of another hash there exposes, by itself.
 #[tactic(auto, unfolding(secure_log::specs::LogEntries::Chain::zeros))]
 pub fn at_zero()
-    ensures noted { Reaches [] five [] (Learn (learned 0 one_hash)) Noted }
-    ensures exposed { Reaches [] five zero_forked (Ask ItsIndication) (Told Exposed) }
-    ensures evidence { Reaches [] five zero_forked (Ask ItsEvidence)
+    ensures noted { Reaches node_five [] (Learn (learned 0 one_hash)) Noted }
+    ensures exposed { Reaches node_five zero_forked (Ask ItsIndication) (Told Exposed) }
+    ensures evidence { Reaches node_five zero_forked (Ask ItsEvidence)
         (EvidenceIs (Some (forked 0 (authenticator_showing (learned 0 one_hash)) None))) }
 {}
 
@@ -30,9 +30,9 @@ pub fn at_zero()
 #[tactic(auto, using(crate::proofs::Hashes::short_last, crate::proofs::Hashes::short_first))]
 pub fn by_an_answer()
     ensures unlike { one_hash ≢ read_hash }
-    ensures accepted { Reaches [] five answer_wanted (Answer closed) Accepted }
-    ensures exposed { Reaches [] five answer_forked (Ask ItsIndication) (Told Exposed) }
-    ensures evidence { Reaches [] five answer_forked (Ask ItsEvidence)
+    ensures accepted { Reaches node_five answer_wanted (Answer closed) Accepted }
+    ensures exposed { Reaches node_five answer_forked (Ask ItsIndication) (Told Exposed) }
+    ensures evidence { Reaches node_five answer_forked (Ask ItsEvidence)
         (EvidenceIs (Some (forked 1 (authenticator_showing (learned 1 one_hash))
         (Some (segment_showing segment))))) }
 {}
@@ -41,12 +41,12 @@ pub fn by_an_answer()
 /// and the authenticator, while the segment is given and after it was filed Sound.
 #[tactic(auto, using(crate::proofs::Hashes::short_last, crate::proofs::Hashes::short_first))]
 pub fn of_a_segment()
-    ensures noted { Reaches [] five two_given (Learn (learned 1 one_hash)) Noted }
-    ensures evidence { Reaches [] five segment_forked (Ask ItsEvidence)
+    ensures noted { Reaches node_five two_given (Learn (learned 1 one_hash)) Noted }
+    ensures evidence { Reaches node_five segment_forked (Ask ItsEvidence)
         (EvidenceIs (Some (forked 1 (segment_showing two_segment)
         (Some (authenticator_showing (learned 1 one_hash)))))) }
-    ensures exposed { Reaches [] five audited_forked (Ask ItsIndication) (Told Exposed) }
-    ensures later { Reaches [] five audited_forked (Ask ItsEvidence)
+    ensures exposed { Reaches node_five audited_forked (Ask ItsIndication) (Told Exposed) }
+    ensures later { Reaches node_five audited_forked (Ask ItsEvidence)
         (EvidenceIs (Some (forked 1 (segment_showing segment)
         (Some (authenticator_showing (learned 1 one_hash)))))) }
 {}
@@ -55,9 +55,9 @@ pub fn of_a_segment()
 /// Exposed, by both segments.
 #[tactic(auto, using(crate::proofs::Hashes::short_last, crate::proofs::Hashes::short_first))]
 pub fn of_an_opening()
-    ensures accepted { Reaches [] five later_wanted (Answer later_closed) Accepted }
-    ensures exposed { Reaches [] five opening_forked (Ask ItsIndication) (Told Exposed) }
-    ensures evidence { Reaches [] five opening_forked (Ask ItsEvidence)
+    ensures accepted { Reaches node_five later_wanted (Answer later_closed) Accepted }
+    ensures exposed { Reaches node_five opening_forked (Ask ItsIndication) (Told Exposed) }
+    ensures evidence { Reaches node_five opening_forked (Ask ItsEvidence)
         (EvidenceIs (Some (forked 1 (segment_showing segment) (Some (segment_showing later_segment))))) }
 {}
 
@@ -65,15 +65,15 @@ pub fn of_an_opening()
 /// the segment and the authenticator, and isn't kept; one of the hash that was audited is there already.
 #[tactic(auto, using(crate::proofs::Hashes::short_last, crate::proofs::Hashes::short_first))]
 pub fn up_to_the_end()
-    ensures same { Reaches [] five two_filed (Learn (learned 1 read_hash)) Already }
-    ensures below { Reaches [] five two_filed (Learn (learned 1 one_hash)) Noted }
-    ensures exposed { Reaches [] five below_forked (Ask ItsIndication) (Told Exposed) }
-    ensures evidence { Reaches [] five below_forked (Ask ItsEvidence)
+    ensures same { Reaches node_five two_filed (Learn (learned 1 read_hash)) Already }
+    ensures below { Reaches node_five two_filed (Learn (learned 1 one_hash)) Noted }
+    ensures exposed { Reaches node_five below_forked (Ask ItsIndication) (Told Exposed) }
+    ensures evidence { Reaches node_five below_forked (Ask ItsEvidence)
         (EvidenceIs (Some (forked 1 (segment_showing two_segment)
         (Some (authenticator_showing (learned 1 one_hash)))))) }
-    ensures unkept { kept [] five below_forked ≡ [] }
-    ensures at { Reaches [] five two_filed (Learn (learned 2 one_hash)) Noted }
-    ensures at_evidence { Reaches [] five end_forked (Ask ItsEvidence)
+    ensures unkept { kept node_five below_forked ≡ [] }
+    ensures at { Reaches node_five two_filed (Learn (learned 2 one_hash)) Noted }
+    ensures at_evidence { Reaches node_five end_forked (Ask ItsEvidence)
         (EvidenceIs (Some (forked 2 (segment_showing two_segment)
         (Some (authenticator_showing (learned 2 one_hash)))))) }
 {}
@@ -81,11 +81,11 @@ pub fn up_to_the_end()
 /// After 256 authenticators that are kept another hash at a number of theirs is Noted, and exposes; from
 /// then on every one is Noted. One of the 256 is there already.
 pub fn after_as_many_as_are_kept()
-    ensures already { Reaches [] five (learned_to 256) (Learn (learned 3 one_hash)) Already }
-    ensures noted { Reaches [] five (learned_to 256) (Learn (learned 3 other_hash)) Noted }
-    ensures exposed { Reaches [] five full_forked (Ask ItsIndication) (Told Exposed) }
-    ensures evidence { Reaches [] five full_forked (Ask ItsEvidence) (EvidenceIs (Some
+    ensures already { Reaches node_five (learned_to 256) (Learn (learned 3 one_hash)) Already }
+    ensures noted { Reaches node_five (learned_to 256) (Learn (learned 3 other_hash)) Noted }
+    ensures exposed { Reaches node_five full_forked (Ask ItsIndication) (Told Exposed) }
+    ensures evidence { Reaches node_five full_forked (Ask ItsEvidence) (EvidenceIs (Some
         (forked 3 (authenticator_showing (learned 3 one_hash))
         (Some (authenticator_showing (learned 3 other_hash)))))) }
-    ensures later { Reaches [] five full_forked (Learn (learned 257 one_hash)) Noted }
+    ensures later { Reaches node_five full_forked (Learn (learned 257 one_hash)) Noted }
 {}

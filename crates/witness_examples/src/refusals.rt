@@ -14,7 +14,16 @@ ghost use Rattle.witness_spec.specs.Whose.{whose};
 ghost use Rattle.witness_spec.specs.Owing.{Owes};
 ghost use Rattle.witness_spec.specs.Histories.{MayWant, IsHistory};
 ghost use Rattle.envelopes.specs.declared.acknowledgement.Ack.{Ack};
-ghost use Rattle.witness_examples.specs.Worked.{five, second, its_key, other_key, higher_key, learned, sent};
+ghost use Rattle.witness_examples.specs.Worked.{
+  five,
+  node_five,
+  second,
+  its_key,
+  other_key,
+  higher_key,
+  learned,
+};
+ghost use Rattle.witness_examples.specs.Worked.{sent};
 ghost use Rattle.witness_examples.specs.Worked.{one_hash};
 ghost use Rattle.witness_examples.specs.Worked.{learned_two, closed, two_wanted, wanted, given, job, done};
 ghost use Rattle.witness_examples.specs.Worked.{out_one};
@@ -59,78 +68,78 @@ pub fn other_keys_are_refused()
 /// Of authenticators with rising numbers 256 are noted, one after the other; the next is refused.
 pub fn as_many_as_are_kept()
     ensures noted { (n : ℕ) → n < 256 →
-        Owes [] five (learned_to n) (Learn (learned (suc n) one_hash)) Noted }
-    ensures full { Reaches [] five (learned_to 256) (Learn (learned 257 one_hash)) (Refused LearnedFull) }
+        Owes node_five (learned_to n) (Learn (learned (suc n) one_hash)) Noted }
+    ensures full { Reaches node_five (learned_to 256) (Learn (learned 257 one_hash)) (Refused LearnedFull) }
 {}
 
 /// Sixteen challenges are open: a seventeenth message is refused, one of the sixteen is there already.
 pub fn as_many_as_are_open()
-    ensures full { Reaches [] five (challenged 16) (SendChallenge (sent 17)) (Refused ChallengesFull) }
-    ensures already { Reaches [] five (challenged 16) (SendChallenge (sent 3)) Already }
+    ensures full { Reaches node_five (challenged 16) (SendChallenge (sent 17)) (Refused ChallengesFull) }
+    ensures already { Reaches node_five (challenged 16) (SendChallenge (sent 3)) Already }
 {}
 
 /// A segment that wasn't asked for: none was; another last number, or another first one; one was given; a job
 /// of it is out.
 #[tactic(auto, unfolding(replay_spec::specs::Stepping::step))]
 pub fn answers_not_asked()
-    ensures none { Reaches [] five [] (Answer closed) (Refused NotAsked) }
-    ensures last { Reaches [] five two_wanted (Answer closed) (Refused NotAsked) }
-    ensures first { Reaches [] five second_wanted (Answer closed) (Refused NotAsked) }
-    ensures given { Reaches [] five given (Answer closed) (Refused NotAsked) }
-    ensures out { Reaches [] five out_one (Answer closed) (Refused NotAsked) }
+    ensures none { Reaches node_five [] (Answer closed) (Refused NotAsked) }
+    ensures last { Reaches node_five two_wanted (Answer closed) (Refused NotAsked) }
+    ensures first { Reaches node_five second_wanted (Answer closed) (Refused NotAsked) }
+    ensures given { Reaches node_five given (Answer closed) (Refused NotAsked) }
+    ensures out { Reaches node_five out_one (Answer closed) (Refused NotAsked) }
 {}
 
 /// An acknowledgement of no open challenge: none is open; another message is.
 pub fn acknowledgements_not_asked()
-    ensures none { (a : Ack) → Reaches [] five [] (AckIn a) (Refused NotAsked) }
+    ensures none { (a : Ack) → Reaches node_five [] (AckIn a) (Refused NotAsked) }
     ensures other { (a : Ack) →
-        Reaches [] five (challenged 1) (AckIn (record a { seq = 2 })) (Refused NotAsked) }
+        Reaches node_five (challenged 1) (AckIn (record a { seq = 2 })) (Refused NotAsked) }
 {}
 
 /// An audit, where one is under way: a segment is asked for, or given, or a job of it is out; the node may be
 /// exposed. Where none is: nothing was learned, nothing above the end, or the node is exposed, by two hashes
 /// or by a fault.
 pub fn audits_refused()
-    ensures wanted { Reaches [] five wanted Audit (Refused Busy) }
-    ensures given { Reaches [] five given Audit (Refused Busy) }
-    ensures out { Reaches [] five out_one Audit (Refused Busy) }
-    ensures exposed_wanted { Reaches [] five exposed_wanted Audit (Refused Busy) }
-    ensures exposed_given { Reaches [] five exposed_given Audit (Refused Busy) }
-    ensures exposed_out { Reaches [] five exposed_out Audit (Refused Busy) }
-    ensures nothing { Reaches [] five [] Audit (Refused NothingToAudit) }
-    ensures audited { Reaches [] five filed_two Audit (Refused NothingToAudit) }
-    ensures two_hashes { Reaches [] five learned_two Audit (Refused NothingToAudit) }
-    ensures fault { Reaches [] five no_filed Audit (Refused NothingToAudit) }
+    ensures wanted { Reaches node_five wanted Audit (Refused Busy) }
+    ensures given { Reaches node_five given Audit (Refused Busy) }
+    ensures out { Reaches node_five out_one Audit (Refused Busy) }
+    ensures exposed_wanted { Reaches node_five exposed_wanted Audit (Refused Busy) }
+    ensures exposed_given { Reaches node_five exposed_given Audit (Refused Busy) }
+    ensures exposed_out { Reaches node_five exposed_out Audit (Refused Busy) }
+    ensures nothing { Reaches node_five [] Audit (Refused NothingToAudit) }
+    ensures audited { Reaches node_five filed_two Audit (Refused NothingToAudit) }
+    ensures two_hashes { Reaches node_five learned_two Audit (Refused NothingToAudit) }
+    ensures fault { Reaches node_five no_filed Audit (Refused NothingToAudit) }
 {}
 
 /// A job, where one is out, of an exposed node too. Where none is: no segment was asked for, or none given,
 /// or the node is exposed.
 pub fn begins_refused()
-    ensures out { Reaches [] five out_one Begin (Refused Busy) }
-    ensures exposed_out { Reaches [] five exposed_out Begin (Refused Busy) }
-    ensures none { Reaches [] five [] Begin (Refused NothingToAudit) }
-    ensures wanted { Reaches [] five wanted Begin (Refused NothingToAudit) }
-    ensures exposed { Reaches [] five exposed_given Begin (Refused NothingToAudit) }
+    ensures out { Reaches node_five out_one Begin (Refused Busy) }
+    ensures exposed_out { Reaches node_five exposed_out Begin (Refused Busy) }
+    ensures none { Reaches node_five [] Begin (Refused NothingToAudit) }
+    ensures wanted { Reaches node_five wanted Begin (Refused NothingToAudit) }
+    ensures exposed { Reaches node_five exposed_given Begin (Refused NothingToAudit) }
 {}
 
 /// A done value where no job is out; and where one is out, of another number, state or segment. It comes
 /// back.
 pub fn files_refused()
-    ensures none { Reaches [] five [] (File (done 1)) (FileRefused NoJob (done 1)) }
-    ensures given { Reaches [] five given (File (done 1)) (FileRefused NoJob (done 1)) }
-    ensures number { Reaches [] five out_two (File (done 1)) (FileRefused WrongJob (done 1)) }
-    ensures state { Reaches [] five out_one (File other_state) (FileRefused WrongJob other_state) }
-    ensures segment { Reaches [] five out_one (File other_segment) (FileRefused WrongJob other_segment) }
+    ensures none { Reaches node_five [] (File (done 1)) (FileRefused NoJob (done 1)) }
+    ensures given { Reaches node_five given (File (done 1)) (FileRefused NoJob (done 1)) }
+    ensures number { Reaches node_five out_two (File (done 1)) (FileRefused WrongJob (done 1)) }
+    ensures state { Reaches node_five out_one (File other_state) (FileRefused WrongJob other_state) }
+    ensures segment { Reaches node_five out_one (File other_segment) (FileRefused WrongJob other_segment) }
 {}
 
 /// A job that is put back, likewise.
 pub fn jobs_refused()
-    ensures none { Reaches [] five [] (PutBack (job 1)) (PutBackRefused NoJob (job 1)) }
-    ensures given { Reaches [] five given (PutBack (job 1)) (PutBackRefused NoJob (job 1)) }
-    ensures number { Reaches [] five out_two (PutBack (job 1)) (PutBackRefused WrongJob (job 1)) }
-    ensures state { Reaches [] five out_one (PutBack other_state.job)
+    ensures none { Reaches node_five [] (PutBack (job 1)) (PutBackRefused NoJob (job 1)) }
+    ensures given { Reaches node_five given (PutBack (job 1)) (PutBackRefused NoJob (job 1)) }
+    ensures number { Reaches node_five out_two (PutBack (job 1)) (PutBackRefused WrongJob (job 1)) }
+    ensures state { Reaches node_five out_one (PutBack other_state.job)
         (PutBackRefused WrongJob other_state.job) }
-    ensures segment { Reaches [] five out_one (PutBack other_segment.job)
+    ensures segment { Reaches node_five out_one (PutBack other_segment.job)
         (PutBackRefused WrongJob other_segment.job) }
 {}
 

@@ -24,46 +24,47 @@ use Rattle.witness_spec.specs.Refusals.{Refusal, BadSignature}
 use Rattle.witness_spec.specs.Events.{PublicKey, Event, IsSignedUnder, IsClosedUnder, IsEvent}
 use Rattle.witness_spec.specs.Events as events
 use Rattle.witness_spec.specs.Replies.{Reply, is_want_of_memory}
+use Rattle.witness_spec.specs.Watched.{Watched, watched, IsInRoster}
 use Rattle.witness_spec.specs.Steps.{Step, Learn, SendChallenge, Answer, AckIn, Audit, Begin, File, PutBack}
 use Rattle.witness_spec.specs.Steps.{Forward, Ask, OwnStep, Past}
 use Rattle.witness_spec.specs.Whose.{step_of, is_key_of, same_member, same_roster, signed_step, sent_step}
 use Rattle.witness_spec.specs.Whose.{closed_step, delivered_step, judged_step, whose}
-use Rattle.witness_spec.specs.Histories.{History, own_step, own, IsHistory}
+use Rattle.witness_spec.specs.Histories.{History, own_step, IsHistory, own_of}
 use Rattle.witness_laws.proofs.OwnSteps.{same_member as member_same}
 
 -- an authenticator of a node that it signed, with a text
-pub record IsLearned (ms : List Member) (m : Member) (a : Authenticator) : Type 0 where
+pub record IsLearned (w : Watched) (a : Authenticator) : Type 0 where
   -- it is of this node
-  pub node : a.node ≡ m.node
+  pub node : a.node ≡ w.member.node
   -- it has a text
   pub text : Fits authenticator_item (authenticator_value a)
   -- a member of the roster signed it
-  pub signed : IsSignedIn ms a
+  pub signed : IsSignedIn w.roster a
 
 -- a segment of a node that is closed under the roster, with a text
-pub record IsGiven (ms : List Member) (m : Member) (c : ClosedParts) : Type 0 where
+pub record IsGiven (w : Watched) (c : ClosedParts) : Type 0 where
   -- its closing authenticator is of this node
-  pub node : c.segment.closing.node ≡ m.node
+  pub node : c.segment.closing.node ≡ w.member.node
   -- the roster under which it was checked
-  pub roster : c.roster ≡ ms
+  pub roster : c.roster ≡ w.roster
   -- it has a text
   pub text : HasText c.segment
   -- it is closed under the roster
-  pub closed : IsClosed ms c.segment
+  pub closed : IsClosed w.roster c.segment
 
 -- what a step brings was checked under the node's key and roster
-abbrev pub IsCheckedStep : List Member → Member → Step → Type 0
-IsCheckedStep ms m (Learn a) = IsLearned ms m a
-IsCheckedStep ms m (Answer c) = IsGiven ms m c
-IsCheckedStep ms m _ = Unit {0}
+abbrev pub IsCheckedStep : Watched → Step → Type 0
+IsCheckedStep w (Learn a) = IsLearned w a
+IsCheckedStep w (Answer c) = IsGiven w c
+IsCheckedStep w _ = Unit {0}
 
 -- so of each step
-abbrev pub AreChecked : List Member → Member → Past → Type 0
-AreChecked ms m [] = Unit {0}
-AreChecked ms m (p ∷ past) = IsCheckedStep ms m p.0 × AreChecked ms m past
+abbrev pub AreChecked : Watched → Past → Type 0
+AreChecked w [] = Unit {0}
+AreChecked w (p ∷ past) = IsCheckedStep w p.0 × AreChecked w past
 
 abbrev IsCheckedOwn : List Member → OwnStep → Type 0
-IsCheckedOwn ms o = IsCheckedStep ms o.member o.step
+IsCheckedOwn ms o = IsCheckedStep (watched ms o.member) o.step
 
 -- ---- rosters and keys
 
@@ -108,10 +109,10 @@ signed_by m key a h signed =
     subst (λ r. IsSignedUnder (record { root = r; height = m.height }) a) (sym root)
     (subst (λ t. IsSignedUnder (record { root = key.root; height = t }) a) (sym height) signed)
 
-in_roster : (ms : List Member) (m : Member) (a : Authenticator) → member_of ms a.node ≡ Some m
-    → IsSignedBy m a
-    → IsSignedIn ms a
-in_roster ms m a is signed = subst (λ x. IsSomeAnd x (λ n. IsSignedBy n a)) (sym is) signed
+in_roster : (w : Watched) (a : Authenticator) → member_of w.roster a.node ≡ Some w.member
+    → IsSignedBy w.member a
+    → IsSignedIn w.roster a
+in_roster w a is signed = subst (λ x. IsSomeAnd x (λ n. IsSignedBy n a)) (sym is) signed
 
 -- ---- checked values
 
@@ -120,7 +121,7 @@ own_same : (o : OwnStep) (m : Member) (step : Step)
     → record { member = m; step = step } ≡ o
 own_same o m step h = cc
 
-to_own : (ms : List Member) (o : OwnStep) (m : Member) (step : Step) → IsCheckedStep ms m step
+to_own : (ms : List Member) (o : OwnStep) (m : Member) (step : Step) → IsCheckedStep (watched ms m) step
     → ◌≡◌ {A = Result OwnStep Refusal} (Ok (record { member = m; step = step })) (Ok o) → IsCheckedOwn ms o
 to_own ms o m step h e = subst (IsCheckedOwn ms) (own_same o m step e) h
 
@@ -140,7 +141,7 @@ module _ (ms : List Member) (o : OwnStep) where
           (record {
             node = sym (member_node ms a.node m is);
             text = text;
-            signed = in_roster ms m a is (signed_by m key a e signed);
+            signed = in_roster (watched ms m) a is (signed_by m key a e signed);
           })
           h
       by false e h = absurd (cc)
@@ -167,12 +168,13 @@ module _ (ms : List Member) (o : OwnStep) where
       by false e h = absurd (cc)
 
   -- steps that hold nothing of the kind
-  other_at : (x : Option Member) (step : Step) → ((m : Member) → IsCheckedStep ms m step)
+  other_at : (x : Option Member) (step : Step) → ((m : Member) → IsCheckedStep (watched ms m) step)
       → step_of x step ≡ Ok o → IsCheckedOwn ms o
   other_at None step all h = absurd (cc)
   other_at (Some m) step all h = to_own ms o m step (all m) h
 
-  key_at : (x : Option Member) (key : PublicKey) (step : Step) → ((m : Member) → IsCheckedStep ms m step)
+  key_at : (x : Option Member) (key : PublicKey) (step : Step)
+      → ((m : Member) → IsCheckedStep (watched ms m) step)
       → signed_step x key step ≡ Ok o → IsCheckedOwn ms o
   key_at None key step all h = absurd (cc)
   key_at (Some m) key step all h = by (is_key_of m key) h
@@ -184,7 +186,8 @@ module _ (ms : List Member) (o : OwnStep) where
       by true h = to_own ms o m step (all m) h
       by false h = absurd (cc)
 
-  sent_at : (x y : Option Member) (key : PublicKey) (step : Step) → ((m : Member) → IsCheckedStep ms m step)
+  sent_at : (x y : Option Member) (key : PublicKey) (step : Step)
+      → ((m : Member) → IsCheckedStep (watched ms m) step)
       → sent_step x y key step ≡ Ok o → IsCheckedOwn ms o
   sent_at None y key step all h = absurd (cc)
   sent_at (Some m) None key step all h = absurd (cc)
@@ -243,7 +246,7 @@ module _ (ms : List Member) (o : OwnStep) where
   -- ---- all events
 
   -- where an event that may be handed in is a step of somebody, what it holds was checked
-  pub checked_event : (e : Event) → whose ms e ≡ Ok o → IsEvent e → IsCheckedStep ms o.member o.step
+  pub checked_event : (e : Event) → whose ms e ≡ Ok o → IsEvent e → IsCheckedStep (watched ms o.member) o.step
   checked_event (events.Deliver bytes) h is = judged_at bytes (judged ms bytes) is refl h
   checked_event (events.Learn a key) h is = learn_at a key (member_of ms a.node) refl h is.0 is.1
   checked_event (events.SendChallenge e key) h is =
@@ -259,23 +262,28 @@ module _ (ms : List Member) (o : OwnStep) where
 
 -- ---- own steps
 
-module _ (ms : List Member) (m : Member) (is : member_of ms m.node ≡ Some m) where
-  one_checked : (e : Event) (r : Reply) (past : Past) (w : Result OwnStep Refusal) (want : Bool)
-      → whose ms e ≡ w → IsEvent e → AreChecked ms m past
-      → AreChecked ms m (cond want [] (own_step m.node w r) ++ past)
-  one_checked e r past w true is_w event rest = rest
+module _ (w : Watched) (is : IsInRoster w) where
+  one_checked : (e : Event) (r : Reply) (past : Past) (its : Result OwnStep Refusal) (want : Bool)
+      → whose w.roster e ≡ its → IsEvent e → AreChecked w past
+      → AreChecked w (cond want [] (own_step w.member.node its r) ++ past)
+  one_checked e r past its true is_w event rest = rest
   one_checked e r past (Err refusal) false is_w event rest = rest
-  one_checked e r past (Ok o) false is_w event rest = by (o.member.node == m.node) refl
+  one_checked e r past (Ok o) false is_w event rest = by (o.member.node == w.member.node) refl
     where
-      by : (b : Bool) → (o.member.node == m.node) ≡ b → AreChecked ms m (cond b ((o.step, r) ∷ []) [] ++ past)
+      by : (b : Bool) → (o.member.node == w.member.node) ≡ b
+          → AreChecked w (cond b ((o.step, r) ∷ []) [] ++ past)
       by true same =
-          let member : o.member ≡ m = member_same ms m e o is is_w (eqb-true o.member.node m.node same) in
-          (subst (λ n. IsCheckedStep ms n o.step) member (checked_event ms o e is_w event), rest)
+          let member : o.member ≡ w.member =
+          member_same w e o is is_w (eqb-true o.member.node w.member.node same) in (
+            subst (λ n. IsCheckedStep (watched w.roster n) o.step) member
+                (checked_event w.roster o e is_w event),
+            rest,
+          )
       by false differs = rest
 
   -- all values among a node's own steps of a history were checked
-  pub own_checked : (history : History) → IsHistory ms history → AreChecked ms m (own ms m.node history)
+  pub own_checked : (history : History) → IsHistory w.roster history → AreChecked w (own_of w history)
   own_checked [] h = tt
   own_checked (p ∷ history) h =
-      one_checked p.0 p.1 (own ms m.node history) (whose ms p.0) (is_want_of_memory p.1) refl h.0
+      one_checked p.0 p.1 (own_of w history) (whose w.roster p.0) (is_want_of_memory p.1) refl h.0
       (own_checked history h.2)

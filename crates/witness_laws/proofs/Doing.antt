@@ -7,13 +7,13 @@ use Rattle.std.proofs.lemmas.Bool.{and_parts, ltb-false}
 use Rattle.std.specs.Prelude.{◌<◌, Decides, length}
 use Rattle.std.specs.List.{AllByRecursion}
 use Rattle.authenticator.specs.declared.authenticator.Authenticator.{Authenticator}
-use Rattle.authenticator.specs.declared.member.Member.{Member}
 use Rattle.secure_log.specs.LogEntries.Chain.{IsAmong}
 use Rattle.secure_log.specs.Segment.{ClosedParts}
 use Rattle.witness_spec.specs.Refusals as refusals
 use Rattle.witness_spec.specs.Events.{JobParts, DoneParts}
 use Rattle.witness_spec.specs.Replies.{Reply, Noted, Already, Accepted, Asked, Job, Filed, Returned, Refused}
 use Rattle.witness_spec.specs.Replies.{FileRefused, PutBackRefused}
+use Rattle.witness_spec.specs.Watched.{Watched}
 use Rattle.witness_spec.specs.Steps.{Step, Learn, SendChallenge, Answer, AckIn, Audit, Begin, File, PutBack}
 use Rattle.witness_spec.specs.Steps.{Forward, Ask, Past}
 use Rattle.witness_spec.specs.evidence_spec.Evidence.{MAX_AUDITED}
@@ -41,29 +41,29 @@ pub record Did (past : Past) (p : Step × Reply) (learned : Option Authenticator
   pub stage : stage_after (stage_of past) p.0 p.1 ≡ to
 
 -- what a step with its reply did
-pub data Doing (ms : List Member) (m : Member) (past : Past) (p : Step × Reply) : Type 0 where
-  Nothing : Did past p None None None (stage_of past) → Doing ms m past p
+pub data Doing (w : Watched) (past : Past) (p : Step × Reply) : Type 0 where
+  Nothing : Did past p None None None (stage_of past) → Doing w past p
   Notes : (a : Authenticator) → p.0 ≡ Learn a → Did past p (Some a) None None (stage_of past)
-      → Doing ms m past p
+      → Doing w past p
   Accepts : (c : ClosedParts) → p.0 ≡ Answer c
       → stage_of past ≡ Wanted c.segment.first c.segment.closing.number
-      → Did past p None (Some c) None (Given c) → Doing ms m past p
-  Asks : (first last : ℕ) → first ≡ (end_of ms m past).number + 1
-      → (last ≤ MAX_AUDITED) × IsInReach first last × IsNumberOf (kept ms m past) last
-      → Did past p None None None (Wanted first last) → Doing ms m past p
+      → Did past p None (Some c) None (Given c) → Doing w past p
+  Asks : (first last : ℕ) → first ≡ (end_of w past).number + 1
+      → (last ≤ MAX_AUDITED) × IsInReach first last × IsNumberOf (kept w past) last
+      → Did past p None None None (Wanted first last) → Doing w past p
   Begins : (c : ClosedParts) → stage_of past ≡ Given c → Did past p None None None (Out c)
-      → Doing ms m past p
+      → Doing w past p
   Files : (j : JobParts) → stage_of past ≡ Out j.segment → Did past p None None (Some j) NoAudit
-      → Doing ms m past p
+      → Doing w past p
   PutsBack : (c : ClosedParts) → stage_of past ≡ Out c → Did past p None None None (Given c)
-      → Doing ms m past p
+      → Doing w past p
 
 some_same : (x y : JobParts) → ◌≡◌ {A = Option JobParts} (Some x) (Some y) → x ≡ y
 some_same x y h = cc
 
-module _ (ms : List Member) (m : Member) (past : Past) where
+module _ (w : Watched) (past : Past) where
   learns : (a : Authenticator) (x y z : Bool)
-      → Doing ms m past (Learn a, cond x Noted (cond y Already (cond z (Refused refusals.LearnedFull) Noted)))
+      → Doing w past (Learn a, cond x Noted (cond y Already (cond z (Refused refusals.LearnedFull) Noted)))
   learns a true y z = Notes a refl (record { notes = refl; accepts = refl; files = refl; stage = refl })
   learns a false true z = Nothing (record { notes = refl; accepts = refl; files = refl; stage = refl })
   learns a false false true = Nothing (record { notes = refl; accepts = refl; files = refl; stage = refl })
@@ -72,7 +72,7 @@ module _ (ms : List Member) (m : Member) (past : Past) where
 
   answered : (c : ClosedParts) (first last : ℕ) (b : Bool) → stage_of past ≡ Wanted first last
       → ((c.segment.first == first) && (c.segment.closing.number == last)) ≡ b
-      → Doing ms m past (Answer c, cond b Accepted (Refused refusals.NotAsked))
+      → Doing w past (Answer c, cond b Accepted (Refused refusals.NotAsked))
   answered c first last true is e =
       let both = and_parts (c.segment.first == first) (c.segment.closing.number == last) e in
       let one : c.segment.first ≡ first = eqb-true c.segment.first first both.0 in
@@ -83,16 +83,16 @@ module _ (ms : List Member) (m : Member) (past : Past) where
   answered c first last false is e =
       Nothing (record { notes = refl; accepts = refl; files = refl; stage = refl })
 
-  answers : (c : ClosedParts) (s : Stage) → stage_of past ≡ s → Doing ms m past (Answer c, answer_reply s c)
+  answers : (c : ClosedParts) (s : Stage) → stage_of past ≡ s → Doing w past (Answer c, answer_reply s c)
   answers c NoAudit is = Nothing (record { notes = refl; accepts = refl; files = refl; stage = refl })
   answers c (Wanted first last) is =
       answered c first last ((c.segment.first == first) && (c.segment.closing.number == last)) is refl
   answers c (Given d) is = Nothing (record { notes = refl; accepts = refl; files = refl; stage = refl })
   answers c (Out d) is = Nothing (record { notes = refl; accepts = refl; files = refl; stage = refl })
 
-  asked : (x y z : Bool) (first last : ℕ) → first ≡ (end_of ms m past).number + 1
-      → (x ≡ false → IsInReach first last × IsNumberOf (kept ms m past) last) → nat_lt MAX_AUDITED last ≡ y
-      → Doing ms m past (
+  asked : (x y z : Bool) (first last : ℕ) → first ≡ (end_of w past).number + 1
+      → (x ≡ false → IsInReach first last × IsNumberOf (kept w past) last) → nat_lt MAX_AUDITED last ≡ y
+      → Doing w past (
         Audit,
         cond x (Refused refusals.TooFar) (cond y (Refused refusals.BookFull)
             (cond z (Refused refusals.OutboxFull) (Asked first last))),
@@ -108,49 +108,49 @@ module _ (ms : List Member) (m : Member) (past : Past) where
       (record { notes = refl; accepts = refl; files = refl; stage = refl })
 
   asks : (exposed : Bool) (waiting : ℕ) (learned : List Authenticator)
-      → ((a : Authenticator) → IsAmong a learned → IsAmong a (kept ms m past))
-      → AllByRecursion (λ a. (end_of ms m past).number < a.number) learned
-      → Doing ms m past (Audit, ask_reply exposed (end_of ms m past).number waiting learned)
+      → ((a : Authenticator) → IsAmong a learned → IsAmong a (kept w past))
+      → AllByRecursion (λ a. (end_of w past).number < a.number) learned
+      → Doing w past (Audit, ask_reply exposed (end_of w past).number waiting learned)
   asks true waiting learned within all =
       Nothing (record { notes = refl; accepts = refl; files = refl; stage = refl })
   asks false waiting [] within all =
       Nothing (record { notes = refl; accepts = refl; files = refl; stage = refl })
   asks false waiting (a ∷ learned) within all =
-      let end = (end_of ms m past).number in
+      let end = (end_of w past).number in
       let last = last_in_reach end (a ∷ learned) in
       asked (last == 0) (nat_lt MAX_AUDITED last) (nat_lt MAX_OUTBOX (waiting + (last - end)))
       (end + 1) last refl
-      (in_reach (kept ms m past) end (a ∷ learned) within all) refl
+      (in_reach (kept w past) end (a ∷ learned) within all) refl
 
-  audits : (s : Stage) → Doing ms m past (Audit, audit_reply ms m past s)
-  audits NoAudit = asks (is_exposed ms m past) (length (outbox ms m past)) (kept ms m past) (λ a i. i)
-      (kept_after ms m past)
+  audits : (s : Stage) → Doing w past (Audit, audit_reply w past s)
+  audits NoAudit = asks (is_exposed w past) (length (outbox w past)) (kept w past) (λ a i. i)
+      (kept_after w past)
   audits (Wanted first last) = Nothing (record { notes = refl; accepts = refl; files = refl; stage = refl })
   audits (Given c) = Nothing (record { notes = refl; accepts = refl; files = refl; stage = refl })
   audits (Out c) = Nothing (record { notes = refl; accepts = refl; files = refl; stage = refl })
 
   begun : (c : ClosedParts) (b : Bool) → stage_of past ≡ Given c
-      → Doing ms m past (Begin, cond b (Refused refusals.NothingToAudit) (Job (next_job ms m past c)))
+      → Doing w past (Begin, cond b (Refused refusals.NothingToAudit) (Job (next_job w past c)))
   begun c true is = Nothing (record { notes = refl; accepts = refl; files = refl; stage = refl })
   begun c false is = Begins c is (record { notes = refl; accepts = refl; files = refl; stage = refl })
 
-  begins : (s : Stage) → stage_of past ≡ s → Doing ms m past (Begin, begin_reply ms m past s)
+  begins : (s : Stage) → stage_of past ≡ s → Doing w past (Begin, begin_reply w past s)
   begins NoAudit is = Nothing (record { notes = refl; accepts = refl; files = refl; stage = refl })
   begins (Wanted first last) is =
       Nothing (record { notes = refl; accepts = refl; files = refl; stage = refl })
-  begins (Given c) is = begun c (is_exposed ms m past) is
+  begins (Given c) is = begun c (is_exposed w past) is
   begins (Out c) is = Nothing (record { notes = refl; accepts = refl; files = refl; stage = refl })
 
   -- the job that is out is of the segment that is
-  out_is : (j : JobParts) (s : Stage) → stage_of past ≡ s → out_at ms m past s ≡ Some j
+  out_is : (j : JobParts) (s : Stage) → stage_of past ≡ s → out_at w past s ≡ Some j
       → stage_of past ≡ Out j.segment
   out_is j NoAudit is h = absurd (cc)
   out_is j (Wanted first last) is h = absurd (cc)
   out_is j (Given c) is h = absurd (cc)
-  out_is j (Out c) is h = is ∙ ap (λ (x : JobParts). Out x.segment) (some_same (job_of ms m past c) j h)
+  out_is j (Out c) is h = is ∙ ap (λ (x : JobParts). Out x.segment) (some_same (job_of w past c) j h)
 
-  files : (d : DoneParts) (b : Bool) (o : Option JobParts) → (b ≡ true → job_out ms m past ≡ Some d.job)
-      → Doing ms m past (
+  files : (d : DoneParts) (b : Bool) (o : Option JobParts) → (b ≡ true → job_out w past ≡ Some d.job)
+      → Doing w past (
         File d,
         back_reply b o Filed (FileRefused refusals.WrongJob d)
             (FileRefused refusals.NoJob d),
@@ -161,8 +161,8 @@ module _ (ms : List Member) (m : Member) (past : Past) where
       (record { notes = refl; accepts = refl; files = refl; stage = refl })
   files d false (Some j) h = Nothing (record { notes = refl; accepts = refl; files = refl; stage = refl })
 
-  puts_back : (j : JobParts) (b : Bool) (o : Option JobParts) → (b ≡ true → job_out ms m past ≡ Some j)
-      → Doing ms m past (
+  puts_back : (j : JobParts) (b : Bool) (o : Option JobParts) → (b ≡ true → job_out w past ≡ Some j)
+      → Doing w past (
         PutBack j,
         back_reply b o Returned (PutBackRefused refusals.WrongJob j)
             (PutBackRefused refusals.NoJob j),
@@ -173,21 +173,21 @@ module _ (ms : List Member) (m : Member) (past : Past) where
       (record { notes = refl; accepts = refl; files = refl; stage = refl })
   puts_back j false (Some k) h = Nothing (record { notes = refl; accepts = refl; files = refl; stage = refl })
 
-  told : (b : Bool) (step : Step) → Decides b (IsOut ms m past step)
-      → Doing ms m past (step, reply_told b ms m past step)
+  told : (b : Bool) (step : Step) → Decides b (IsOut w past step)
+      → Doing w past (step, reply_told b w past step)
   told b (Learn a) h =
-      learns a (is_exposed ms m past) (is_shown (pair_of a) (shown ms m past)) (has_no_room ms m past a)
+      learns a (is_exposed w past) (is_shown (pair_of a) (shown w past)) (has_no_room w past a)
   told b (SendChallenge e) h = Nothing (record { notes = refl; accepts = refl; files = refl; stage = refl })
   told b (Answer c) h = answers c (stage_of past) refl
   told b (AckIn a) h = Nothing (record { notes = refl; accepts = refl; files = refl; stage = refl })
   told b Audit h = audits (stage_of past)
   told b Begin h = begins (stage_of past) refl
-  told b (File d) h = files d b (job_out ms m past) h.0
-  told b (PutBack j) h = puts_back j b (job_out ms m past) h.0
+  told b (File d) h = files d b (job_out w past) h.0
+  told b (PutBack j) h = puts_back j b (job_out w past) h.0
   told b Forward h = Nothing (record { notes = refl; accepts = refl; files = refl; stage = refl })
   told b (Ask question) h = Nothing (record { notes = refl; accepts = refl; files = refl; stage = refl })
 
   -- What a step did, where its reply is owed.
-  pub doing : (step : Step) (reply : Reply) → Owes ms m past step reply → Doing ms m past (step, reply)
+  pub doing : (step : Step) (reply : Reply) → Owes w past step reply → Doing w past (step, reply)
   doing step reply g =
-      subst (λ r. Doing ms m past (step, r)) (sym g.told) (told g.is_out step g.decides)
+      subst (λ r. Doing w past (step, r)) (sym g.told) (told g.is_out step g.decides)

@@ -15,13 +15,14 @@ use Rattle.secure_log.specs.LogEntries.Chain.{IsAmong}
 use Rattle.secure_log.specs.Segment.{SegmentParts}
 use Rattle.witness_spec.specs.Events.{JobParts}
 use Rattle.witness_spec.specs.Replies.{Reply, Challenge, Suspected, Exposed}
+use Rattle.witness_spec.specs.Watched.{Watched}
 use Rattle.witness_spec.specs.Steps.{Step, Past}
 use Rattle.witness_spec.specs.Pairs.{Pair, differ, is_fork, has_fork}
 use Rattle.witness_spec.specs.Done.{noted, accepted, filed}
 use Rattle.witness_spec.specs.Standing.{end_of, is_fault, finds_fault, has_fault, pairs_noted, pairs_accepted}
 use Rattle.witness_spec.specs.Standing.{shown}
 use Rattle.witness_spec.specs.Standing.{is_exposed, open_challenges, without_evidence, indication}
-use Rattle.witness_spec.specs.Histories.{History, own_one, own}
+use Rattle.witness_spec.specs.Histories.{History, own_one, own, own_of}
 use Rattle.witness_spec.specs.Laws.{HasTwoHashes, IsFaultyFile, HasFaultyFile}
 
 -- ---- forks
@@ -130,37 +131,37 @@ fault_of ms s g h = by (segment_verdict ms s g) refl
     by (Sound t found) e = let k = is_sound ms s (placed_in g) t found e in absurd (h k.states k.honest)
     by (Fault fault number) e = refl
 
-faulty_of : (ms : List Member) (m : Member) (past : Past) (p : Step × Reply) (job : Option JobParts)
-    → filed p.0 p.1 ≡ job → finds_fault ms (end_of ms m past).state job ≡ true → IsFaultyFile ms m past p
-faulty_of ms m past p None is h = absurd (true≢false (sym h))
-faulty_of ms m past p (Some j) is h = record {
+faulty_of : (w : Watched) (past : Past) (p : Step × Reply) (job : Option JobParts)
+    → filed p.0 p.1 ≡ job → finds_fault w.roster (end_of w past).state job ≡ true → IsFaultyFile w past p
+faulty_of w past p None is h = absurd (true≢false (sym h))
+faulty_of w past p (Some j) is h = record {
   job = j;
   filed = is;
-  none = no_states ms (end_of ms m past).state j.segment.segment h;
+  none = no_states w.roster (end_of w past).state j.segment.segment h;
 }
 
-file_of : (ms : List Member) (m : Member) (past : Past) → has_fault ms m past ≡ true → HasFaultyFile ms m past
-file_of ms m [] h = absurd (true≢false (sym h))
-file_of ms m (p ∷ past) h =
-    by (or_cases (finds_fault ms (end_of ms m past).state (filed p.0 p.1)) (has_fault ms m past) h)
-    (λ g. file_of ms m past g)
+file_of : (w : Watched) (past : Past) → has_fault w past ≡ true → HasFaultyFile w past
+file_of w [] h = absurd (true≢false (sym h))
+file_of w (p ∷ past) h =
+    by (or_cases (finds_fault w.roster (end_of w past).state (filed p.0 p.1)) (has_fault w past) h)
+    (λ g. file_of w past g)
   where
-    by : (finds_fault ms (end_of ms m past).state (filed p.0 p.1) ≡ true) ⊎ (has_fault ms m past ≡ true)
-        → (has_fault ms m past ≡ true → HasFaultyFile ms m past) → HasFaultyFile ms m (p ∷ past)
-    by (inl f) rest = inl (faulty_of ms m past p (filed p.0 p.1) refl f)
+    by : (finds_fault w.roster (end_of w past).state (filed p.0 p.1) ≡ true) ⊎ (has_fault w past ≡ true)
+        → (has_fault w past ≡ true → HasFaultyFile w past) → HasFaultyFile w (p ∷ past)
+    by (inl f) rest = inl (faulty_of w past p (filed p.0 p.1) refl f)
     by (inr g) rest = inr (rest g)
 
 -- the test finds the fault of a segment that was filed and isn't honest
-pub of_file : (ms : List Member) (m : Member) (past : Past) → HasFaultyFile ms m past
-    → has_fault ms m past ≡ true
-of_file ms m [] h = absurd h
-of_file ms m (p ∷ past) (inl f) =
-    or_left (finds_fault ms (end_of ms m past).state (filed p.0 p.1)) (has_fault ms m past)
-    (ap (finds_fault ms (end_of ms m past).state) f.filed
-    ∙ fault_of ms (end_of ms m past).state f.job.segment.segment f.none)
-of_file ms m (p ∷ past) (inr g) =
-    or_right (finds_fault ms (end_of ms m past).state (filed p.0 p.1)) (has_fault ms m past)
-    (of_file ms m past g)
+pub of_file : (w : Watched) (past : Past) → HasFaultyFile w past
+    → has_fault w past ≡ true
+of_file w [] h = absurd h
+of_file w (p ∷ past) (inl f) =
+    or_left (finds_fault w.roster (end_of w past).state (filed p.0 p.1)) (has_fault w past)
+    (ap (finds_fault w.roster (end_of w past).state) f.filed
+    ∙ fault_of w.roster (end_of w past).state f.job.segment.segment f.none)
+of_file w (p ∷ past) (inr g) =
+    or_right (finds_fault w.roster (end_of w past).state (filed p.0 p.1)) (has_fault w past)
+    (of_file w past g)
 
 -- ---- the indication
 
@@ -170,36 +171,36 @@ told_exposed false [] h = absurd (cc)
 told_exposed false (x ∷ xs) h = absurd (cc)
 
 -- it is Exposed where the test says so
-pub exposed_is : (ms : List Member) (m : Member) (past : Past) → indication ms m past ≡ Exposed
-    → is_exposed ms m past ≡ true
-exposed_is ms m past h = told_exposed (is_exposed ms m past) (open_challenges past) h
+pub exposed_is : (w : Watched) (past : Past) → indication w past ≡ Exposed
+    → is_exposed w past ≡ true
+exposed_is w past h = told_exposed (is_exposed w past) (open_challenges past) h
 
 -- where the test says that a node is exposed, the indication is Exposed
-pub is_exposed_told : (ms : List Member) (m : Member) (past : Past) → is_exposed ms m past ≡ true
-    → indication ms m past ≡ Exposed
-is_exposed_told ms m past h = ap (λ b. cond b Exposed (without_evidence (open_challenges past))) h
+pub is_exposed_told : (w : Watched) (past : Past) → is_exposed w past ≡ true
+    → indication w past ≡ Exposed
+is_exposed_told w past h = ap (λ b. cond b Exposed (without_evidence (open_challenges past))) h
 
 -- a node that is Exposed showed two hashes at a number, or a segment was filed that isn't honest
-pub exposed_why : (ms : List Member) (m : Member) (past : Past) → indication ms m past ≡ Exposed
-    → HasTwoHashes (shown ms m past) ⊎ HasFaultyFile ms m past
-exposed_why ms m past h =
-    by (or_cases (has_fork (shown ms m past)) (has_fault ms m past) (exposed_is ms m past h))
+pub exposed_why : (w : Watched) (past : Past) → indication w past ≡ Exposed
+    → HasTwoHashes (shown w past) ⊎ HasFaultyFile w past
+exposed_why w past h =
+    by (or_cases (has_fork (shown w past)) (has_fault w past) (exposed_is w past h))
   where
-    by : (has_fork (shown ms m past) ≡ true) ⊎ (has_fault ms m past ≡ true)
-        → HasTwoHashes (shown ms m past) ⊎ HasFaultyFile ms m past
-    by (inl f) = inl (two_of (shown ms m past) f)
-    by (inr g) = inr (file_of ms m past g)
+    by : (has_fork (shown w past) ≡ true) ⊎ (has_fault w past ≡ true)
+        → HasTwoHashes (shown w past) ⊎ HasFaultyFile w past
+    by (inl f) = inl (two_of (shown w past) f)
+    by (inr g) = inr (file_of w past g)
 
 -- a node that showed two hashes at a number, or of which a segment was filed that isn't honest, is Exposed
-pub why_exposed : (ms : List Member) (m : Member) (past : Past)
-    → HasTwoHashes (shown ms m past) ⊎ HasFaultyFile ms m past → indication ms m past ≡ Exposed
-why_exposed ms m past (inl g) =
-    is_exposed_told ms m past
-    (or_left (has_fork (shown ms m past)) (has_fault ms m past)
-    (fork_of (shown ms m past) g.number g.one g.other g.one_shown g.other_shown g.differ))
-why_exposed ms m past (inr g) =
-    is_exposed_told ms m past
-    (or_right (has_fork (shown ms m past)) (has_fault ms m past) (of_file ms m past g))
+pub why_exposed : (w : Watched) (past : Past)
+    → HasTwoHashes (shown w past) ⊎ HasFaultyFile w past → indication w past ≡ Exposed
+why_exposed w past (inl g) =
+    is_exposed_told w past
+    (or_left (has_fork (shown w past)) (has_fault w past)
+    (fork_of (shown w past) g.number g.one g.other g.one_shown g.other_shown g.differ))
+why_exposed w past (inr g) =
+    is_exposed_told w past
+    (or_right (has_fork (shown w past)) (has_fault w past) (of_file w past g))
 
 suspected_of : (b : Bool) (xs : List Challenge) → cond b Exposed (without_evidence xs) ≡ Suspected
     → (cond b Exposed (without_evidence xs) ≢ Exposed) × (xs ≢ [])
@@ -215,11 +216,11 @@ of_suspected false [] h = absurd (h.1 refl)
 of_suspected false (x ∷ xs) h = refl
 
 -- a node that isn't Exposed is Suspected exactly where a challenge is open
-pub suspected : (ms : List Member) (m : Member) (past : Past)
-    → (indication ms m past ≡ Suspected) ↔ ((indication ms m past ≢ Exposed) × (open_challenges past ≢ []))
-suspected ms m past = (
-  suspected_of (is_exposed ms m past) (open_challenges past),
-  of_suspected (is_exposed ms m past) (open_challenges past),
+pub suspected : (w : Watched) (past : Past)
+    → (indication w past ≡ Suspected) ↔ ((indication w past ≢ Exposed) × (open_challenges past ≢ []))
+suspected w past = (
+  suspected_of (is_exposed w past) (open_challenges past),
+  of_suspected (is_exposed w past) (open_challenges past),
 )
 
 -- ---- it stays
@@ -228,26 +229,26 @@ fork_stays : (new old : List Pair) → has_fork old ≡ true → has_fork (new +
 fork_stays [] old h = h
 fork_stays (p ∷ new) old h = or_right (is_fork p (new ++ old)) (has_fork (new ++ old)) (fork_stays new old h)
 
-exposed_on : (ms : List Member) (m : Member) (p : Step × Reply) (past : Past) → is_exposed ms m past ≡ true
-    → is_exposed ms m (p ∷ past) ≡ true
-exposed_on ms m p past h = by (or_cases (has_fork (shown ms m past)) (has_fault ms m past) h)
+exposed_on : (w : Watched) (p : Step × Reply) (past : Past) → is_exposed w past ≡ true
+    → is_exposed w (p ∷ past) ≡ true
+exposed_on w p past h = by (or_cases (has_fork (shown w past)) (has_fault w past) h)
   where
-    by : (has_fork (shown ms m past) ≡ true) ⊎ (has_fault ms m past ≡ true)
-        → is_exposed ms m (p ∷ past) ≡ true
+    by : (has_fork (shown w past) ≡ true) ⊎ (has_fault w past ≡ true)
+        → is_exposed w (p ∷ past) ≡ true
     by (inl f) =
-        or_left (has_fork (shown ms m (p ∷ past))) (has_fault ms m (p ∷ past))
-        (fork_stays (pairs_noted (is_exposed ms m past) (noted p.0 p.1))
-        (pairs_accepted (accepted p.0 p.1) ++ shown ms m past)
-        (fork_stays (pairs_accepted (accepted p.0 p.1)) (shown ms m past) f))
+        or_left (has_fork (shown w (p ∷ past))) (has_fault w (p ∷ past))
+        (fork_stays (pairs_noted (is_exposed w past) (noted p.0 p.1))
+        (pairs_accepted (accepted p.0 p.1) ++ shown w past)
+        (fork_stays (pairs_accepted (accepted p.0 p.1)) (shown w past) f))
     by (inr g) =
-        or_right (has_fork (shown ms m (p ∷ past))) (has_fault ms m (p ∷ past))
-        (or_right (finds_fault ms (end_of ms m past).state (filed p.0 p.1)) (has_fault ms m past) g)
+        or_right (has_fork (shown w (p ∷ past))) (has_fault w (p ∷ past))
+        (or_right (finds_fault w.roster (end_of w past).state (filed p.0 p.1)) (has_fault w past) g)
 
 -- a node that was exposed is so after further steps
-pub exposed_further : (ms : List Member) (m : Member) (more past : Past) → is_exposed ms m past ≡ true
-    → is_exposed ms m (more ++ past) ≡ true
-exposed_further ms m [] past h = h
-exposed_further ms m (p ∷ more) past h = exposed_on ms m p (more ++ past) (exposed_further ms m more past h)
+pub exposed_further : (w : Watched) (more past : Past) → is_exposed w past ≡ true
+    → is_exposed w (more ++ past) ≡ true
+exposed_further w [] past h = h
+exposed_further w (p ∷ more) past h = exposed_on w p (more ++ past) (exposed_further w more past h)
 
 -- the own steps of two histories one after the other
 pub own_joined : (ms : List Member) (node : ℕ) (later earlier : History)
@@ -258,18 +259,18 @@ own_joined ms node (p ∷ later) earlier =
     ∙ sym (append_assoc (own_one ms node p) (own ms node later) (own ms node earlier))
 
 -- a node that was Exposed after a history is so after every longer one
-pub exposed_stays : (ms : List Member) (m : Member) (later earlier : History)
-    → indication ms m (own ms m.node earlier) ≡ Exposed
-    → indication ms m (own ms m.node (later ++ earlier)) ≡ Exposed
-exposed_stays ms m later earlier h =
-    is_exposed_told ms m (own ms m.node (later ++ earlier))
-    (ap (is_exposed ms m) (own_joined ms m.node later earlier)
-    ∙ exposed_further ms m (own ms m.node later) (own ms m.node earlier)
-    (exposed_is ms m (own ms m.node earlier) h))
+pub exposed_stays : (w : Watched) (later earlier : History)
+    → indication w (own_of w earlier) ≡ Exposed
+    → indication w (own_of w (later ++ earlier)) ≡ Exposed
+exposed_stays w later earlier h =
+    is_exposed_told w (own_of w (later ++ earlier))
+    (ap (is_exposed w) (own_joined w.roster w.member.node later earlier)
+    ∙ exposed_further w (own_of w later) (own_of w earlier)
+    (exposed_is w (own_of w earlier) h))
 
 -- a node of which a segment was filed that isn't honest is Exposed after every longer history
-pub fault_stays : (ms : List Member) (m : Member) (later earlier : History)
-    → HasFaultyFile ms m (own ms m.node earlier)
-    → indication ms m (own ms m.node (later ++ earlier)) ≡ Exposed
-fault_stays ms m later earlier h =
-    exposed_stays ms m later earlier (why_exposed ms m (own ms m.node earlier) (inr h))
+pub fault_stays : (w : Watched) (later earlier : History)
+    → HasFaultyFile w (own_of w earlier)
+    → indication w (own_of w (later ++ earlier)) ≡ Exposed
+fault_stays w later earlier h =
+    exposed_stays w later earlier (why_exposed w (own_of w earlier) (inr h))

@@ -15,6 +15,7 @@ use Rattle.witness_spec.specs.Refusals.{Refusal, refusal_number, BadSignature}
 use Rattle.witness_spec.specs.Events.{PublicKey, Event}
 use Rattle.witness_spec.specs.Events as events
 use Rattle.witness_spec.specs.Replies.{Reply, is_want_of_memory}
+use Rattle.witness_spec.specs.Watched.{watched}
 use Rattle.witness_spec.specs.Steps.{Step, OwnStep}
 use Rattle.witness_spec.specs.Whose.{step_of, is_key_of, same_roster, signed_step, sent_step, closed_step}
 use Rattle.witness_spec.specs.Whose.{delivered_step, judged_step, whose}
@@ -36,7 +37,7 @@ stand_on ms one two same [] [] h = tt
 stand_on ms one two same [] (b ∷ books) h = h
 stand_on ms one two same (m ∷ members) [] h = h
 stand_on ms one two same (m ∷ members) (b ∷ books) h = (
-  subst (λ x. StandsFor ms m x b) (sym (same m.node)) h.0,
+  subst (λ x. StandsFor (watched ms m) x b) (sym (same m.node)) h.0,
   stand_on ms one two same members books h.1,
 )
 
@@ -154,9 +155,10 @@ not_same a b h = by (a == b) refl
 pub taken : (ms : List Member) (history : History) (e : Event) (r : Reply) (o : OwnStep) → whose ms e ≡ Ok o
     → IsOwed ms history e r → IsTaken ms history e r o
 taken ms history e r o w owed =
-    let here : Owes ms o.member (own ms o.member.node history) o.step r =
+    let here : Owes (watched ms o.member) (own ms o.member.node history) o.step r =
     subst (OwesTo ms history e r) w owed in
-    let good : is_good r ≡ true = owed_good ms o.member (own ms o.member.node history) o.step r here in
+    let good : is_good r ≡ true =
+    owed_good (watched ms o.member) (own ms o.member.node history) o.step r here in
     let same : (o.member.node == o.member.node) ≡ true = eq-eqb o.member.node o.member.node refl in
     record {
       own_step = ap (λ x. x ++ own ms o.member.node history)

@@ -14,13 +14,14 @@ use Rattle.witness_spec.specs.Refusals.{Refusal}
 use Rattle.witness_spec.specs.Events.{PublicKey, Event}
 use Rattle.witness_spec.specs.Events as events
 use Rattle.witness_spec.specs.Replies.{Reply, is_want_of_memory}
+use Rattle.witness_spec.specs.Watched.{Watched, watched, IsInRoster}
 use Rattle.witness_spec.specs.Steps.{Step, OwnStep, Past}
 use Rattle.witness_spec.specs.Whose.{step_of, is_key_of, same_roster, signed_step, sent_step, closed_step}
 use Rattle.witness_spec.specs.Whose.{delivered_step, judged_step, whose}
 use Rattle.witness_spec.specs.Standing.{indication, open_challenges}
 use Rattle.witness_spec.specs.Exposing.{evidence}
 use Rattle.witness_spec.specs.Owing.{Owes}
-use Rattle.witness_spec.specs.Histories.{History, own_step, own_one, own, OwesTo, IsOwed, IsWanting}
+use Rattle.witness_spec.specs.Histories.{History, own_step, own_one, own, OwesTo, IsOwed, IsWanting, own_of}
 use Rattle.witness_spec.specs.Histories.{IsHistory}
 use Rattle.witness_spec.specs.Histories.{AreOwed}
 use Rattle.witness_spec.specs.Laws.{SaysSame}
@@ -96,10 +97,10 @@ some_same : (x y : Member) → ◌≡◌ {A = Option Member} (Some x) (Some y) �
 some_same x y h = cc
 
 -- the member with a number is one
-pub same_member : (ms : List Member) (m : Member) (e : Event) (o : OwnStep) → member_of ms m.node ≡ Some m
-    → whose ms e ≡ Ok o → o.member.node ≡ m.node → o.member ≡ m
-same_member ms m e o is w same =
-    some_same o.member m (sym (of_member ms e o w) ∙ (ap (member_of ms) same ∙ is))
+pub same_member : (w : Watched) (e : Event) (o : OwnStep) → IsInRoster w
+    → whose w.roster e ≡ Ok o → o.member.node ≡ w.member.node → o.member ≡ w.member
+same_member w e o is its same =
+    some_same o.member w.member (sym (of_member w.roster e o its) ∙ (ap (member_of w.roster) same ∙ is))
 
 -- ---- own steps are owed
 
@@ -134,77 +135,82 @@ its_own ms node e r o w same want =
     ap (λ b. cond b [] (own_step node (whose ms e) r)) want
     ∙ (ap (λ x. own_step node x r) w ∙ ap (λ b. cond b ((o.step, r) ∷ []) []) same)
 
-module _ (ms : List Member) (m : Member) (is : member_of ms m.node ≡ Some m) where
+module _ (w : Watched) (is : IsInRoster w) where
   -- with one event more
-  with_one : (p : Event × Reply) (history : History) (one : Past) → own_one ms m.node p ≡ one
-      → AreOwed ms m (one ++ own ms m.node history) → AreOwed ms m (own ms m.node (p ∷ history))
-  with_one p history one e h = subst (λ x. AreOwed ms m (x ++ own ms m.node history)) (sym e) h
+  with_one : (p : Event × Reply) (history : History) (one : Past) → own_one w.roster w.member.node p ≡ one
+      → AreOwed w (one ++ own_of w history) → AreOwed w (own_of w (p ∷ history))
+  with_one p history one e h = subst (λ x. AreOwed w (x ++ own_of w history)) (sym e) h
 
-  its_owed : (e : Event) (r : Reply) (history : History) (o : OwnStep) (b : Bool) → whose ms e ≡ Ok o
-      → (o.member.node == m.node) ≡ b → OwesTo ms history e r (Ok o) → AreOwed ms m (own ms m.node history)
-      → AreOwed ms m (own ms m.node ((e, r) ∷ history))
-  its_owed e r history o true w same owed rest =
-      let member : o.member ≡ m = same_member ms m e o is w (eqb-true o.member.node m.node same) in
-      let here : Owes ms m (own ms m.node history) o.step r =
-      subst (λ x. Owes ms x (own ms x.node history) o.step r) member owed in
+  its_owed : (e : Event) (r : Reply) (history : History) (o : OwnStep) (b : Bool) → whose w.roster e ≡ Ok o
+      → (o.member.node == w.member.node) ≡ b → OwesTo w.roster history e r (Ok o)
+      → AreOwed w (own_of w history)
+      → AreOwed w (own_of w ((e, r) ∷ history))
+  its_owed e r history o true told same owed rest =
+      let member : o.member ≡ w.member =
+      same_member w e o is told (eqb-true o.member.node w.member.node same) in
+      let here : Owes w (own_of w history) o.step r =
+      subst (λ x. Owes (watched w.roster x) (own w.roster x.node history) o.step r) member owed in
       with_one (e, r) history ((o.step, r) ∷ [])
-      (its_own ms m.node e r o w same (good_want r (owed_good ms m (own ms m.node history) o.step r here)))
+      (its_own w.roster w.member.node e r o told same
+      (good_want r (owed_good w (own_of w history) o.step r here)))
       (here, rest)
-  its_owed e r history o false w differs owed rest =
-      with_one (e, r) history [] (other_own ms m.node e r o w differs) rest
+  its_owed e r history o false told differs owed rest =
+      with_one (e, r) history [] (other_own w.roster w.member.node e r o told differs) rest
 
-  one_owed : (e : Event) (r : Reply) (history : History) (w : Result OwnStep Refusal) → whose ms e ≡ w
-      → OwesTo ms history e r w ⊎ IsWanting e r → AreOwed ms m (own ms m.node history)
-      → AreOwed ms m (own ms m.node ((e, r) ∷ history))
-  one_owed e r history w is_w (inr wanting) rest =
+  one_owed : (e : Event) (r : Reply) (history : History) (told : Result OwnStep Refusal)
+      → whose w.roster e ≡ told
+      → OwesTo w.roster history e r told ⊎ IsWanting e r → AreOwed w (own_of w history)
+      → AreOwed w (own_of w ((e, r) ∷ history))
+  one_owed e r history told is_w (inr wanting) rest =
       with_one (e, r) history []
-      (want_own ms m.node e r (ap is_want_of_memory wanting.is ∙ want_refused e)) rest
+      (want_own w.roster w.member.node e r (ap is_want_of_memory wanting.is ∙ want_refused e)) rest
   one_owed e r history (Err code) is_w (inl owed) rest =
-      with_one (e, r) history [] (none_own ms m.node e r code is_w) rest
+      with_one (e, r) history [] (none_own w.roster w.member.node e r code is_w) rest
   one_owed e r history (Ok o) is_w (inl owed) rest =
-      its_owed e r history o (o.member.node == m.node) is_w refl owed rest
+      its_owed e r history o (o.member.node == w.member.node) is_w refl owed rest
 
   -- a node's own steps in a history have the replies that are owed by its earlier ones
-  pub own_owed : (history : History) → IsHistory ms history → AreOwed ms m (own ms m.node history)
+  pub own_owed : (history : History) → IsHistory w.roster history → AreOwed w (own_of w history)
   own_owed [] h = tt
-  own_owed (p ∷ history) h = one_owed p.0 p.1 history (whose ms p.0) refl h.1 (own_owed history h.2)
+  own_owed (p ∷ history) h = one_owed p.0 p.1 history (whose w.roster p.0) refl h.1 (own_owed history h.2)
 
 -- ---- replies by steps
 
 -- own steps that are the same, with the replies that are owed, have the same replies
-pub same_replies : (ms : List Member) (m : Member) (one two : Past) → AreOwed ms m one → AreOwed ms m two
+pub same_replies : (w : Watched) (one two : Past) → AreOwed w one → AreOwed w two
     → map (λ p. p.0) one ≡ map (λ p. p.0) two → one ≡ two
-same_replies ms m [] [] g h e = refl
-same_replies ms m [] (q ∷ qs) g h e = absurd (cc)
-same_replies ms m (p ∷ ps) [] g h e = absurd (cc)
-same_replies ms m (p ∷ ps) (q ∷ qs) g h e =
+same_replies w [] [] g h e = refl
+same_replies w [] (q ∷ qs) g h e = absurd (cc)
+same_replies w (p ∷ ps) [] g h e = absurd (cc)
+same_replies w (p ∷ ps) (q ∷ qs) g h e =
     let heads : p.0 ≡ q.0 = cc in
     let tails : map (λ (x : Step × Reply). x.0) ps ≡ map (λ (x : Step × Reply). x.0) qs = cc in
-    let rest : ps ≡ qs = same_replies ms m ps qs g.1 h.1 tails in
-    let here : Owes ms m qs q.0 p.1 =
-    subst (λ s. Owes ms m qs s p.1) heads (subst (λ x. Owes ms m x p.0 p.1) rest g.0) in
-    let replies : p.1 ≡ q.1 = one_reply ms m qs q.0 p.1 q.1 here h.0 in
+    let rest : ps ≡ qs = same_replies w ps qs g.1 h.1 tails in
+    let here : Owes w qs q.0 p.1 =
+    subst (λ s. Owes w qs s p.1) heads (subst (λ x. Owes w x p.0 p.1) rest g.0) in
+    let replies : p.1 ≡ q.1 = one_reply w qs q.0 p.1 q.1 here h.0 in
     ap₂ (λ (x : Step × Reply) (xs : Past). x ∷ xs) (ap₂ (λ (x : Step) (y : Reply). (x, y)) heads replies) rest
 
 -- ---- all that is said
 
-next_same : (ms : List Member) (m : Member) (one two : History) → own ms m.node one ≡ own ms m.node two
-    → (event : Event) (step : Step) (reply : Reply) → whose ms event ≡ Ok (record { member = m; step = step })
-    → IsOwed ms one event reply → IsOwed ms two event reply
-next_same ms m one two same event step reply w h =
-    subst (OwesTo ms two event reply) (sym w)
-    (subst (λ x. Owes ms m x step reply) same (subst (OwesTo ms one event reply) w h))
+next_same : (w : Watched) (one two : History) → own_of w one ≡ own_of w two
+    → (event : Event) (step : Step) (reply : Reply)
+    → whose w.roster event ≡ Ok (record { member = w.member; step = step })
+    → IsOwed w.roster one event reply → IsOwed w.roster two event reply
+next_same w one two same event step reply its h =
+    subst (OwesTo w.roster two event reply) (sym its)
+    (subst (λ x. Owes w x step reply) same (subst (OwesTo w.roster one event reply) its h))
 
 -- after histories with the same own steps of a node, all that is said of it is the same
-pub says_same : (ms : List Member) (m : Member) (one two : History) → own ms m.node one ≡ own ms m.node two
-    → SaysSame ms m one two
-says_same ms m one two same = record {
+pub says_same : (w : Watched) (one two : History) → own_of w one ≡ own_of w two
+    → SaysSame w one two
+says_same w one two same = record {
   replies = same;
-  indications = ap (indication ms m) same;
+  indications = ap (indication w) same;
   challenges = ap open_challenges same;
-  evidences = ap (evidence ms m) same;
-  next = λ event step reply w. (
-    next_same ms m one two same event step reply w,
-    next_same ms m two one (sym same) event step reply w,
+  evidences = ap (evidence w) same;
+  next = λ event step reply its. (
+    next_same w one two same event step reply its,
+    next_same w two one (sym same) event step reply its,
   );
 }

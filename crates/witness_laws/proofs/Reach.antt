@@ -7,7 +7,7 @@ use Rattle.std.proofs.Math.Nat.{le-max_left, le-max_right, max-le}
 use Rattle.std.proofs.lemmas.Bool.{leb-true, leb-false, ltb-true, true≢false}
 use Rattle.secure_log.specs.LogEntries.Chain.{IsAmong}
 use Rattle.authenticator.specs.declared.authenticator.Authenticator.{Authenticator}
-use Rattle.authenticator.specs.declared.member.Member.{Member}
+use Rattle.witness_spec.specs.Watched.{Watched}
 use Rattle.witness_spec.specs.Limits.{MAX_ASKED}
 use Rattle.witness_spec.specs.Steps.{Past}
 use Rattle.witness_spec.specs.Standing.{end_of, kept, noted_before}
@@ -101,6 +101,6 @@ after_end end (a ∷ xs) =
     by false e rest more = more
 
 -- All that is kept lies after the end.
-pub kept_after : (ms : List Member) (m : Member) (past : Past)
-    → AllByRecursion (λ a. (end_of ms m past).number < a.number) (kept ms m past)
-kept_after ms m past = after_end (end_of ms m past).number (noted_before ms m past)
+pub kept_after : (w : Watched) (past : Past)
+    → AllByRecursion (λ a. (end_of w past).number < a.number) (kept w past)
+kept_after w past = after_end (end_of w past).number (noted_before w past)

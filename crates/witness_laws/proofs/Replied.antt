@@ -5,7 +5,6 @@ use Rattle.std.proofs.Common.{List, [], ◌∷◌, Option, Some, None}
 use Rattle.std.proofs.Common.{refl, sym, ap, ◌∙◌}
 use Rattle.std.specs.Bool.{one_answer}
 use Rattle.authenticator.specs.declared.authenticator.Authenticator.{Authenticator}
-use Rattle.authenticator.specs.declared.member.Member.{Member}
 use Rattle.secure_log.specs.Segment.{ClosedParts}
 use Rattle.witness_spec.specs.Refusals as refusals
 use Rattle.witness_spec.specs.Events.{Event, JobParts, Question, ItsIndication, ItsChallenges, ItsEvidence}
@@ -14,6 +13,7 @@ use Rattle.witness_spec.specs.Replies.{Reply, Noted, Already, Opened, Accepted, 
 use Rattle.witness_spec.specs.Replies.{Returned, Forwarded, Empty, Told, OpenList, EvidenceIs}
 use Rattle.witness_spec.specs.Replies.{Refused, FileRefused, PutBackRefused, refused, is_want}
 use Rattle.witness_spec.specs.Replies.{is_want_of_memory}
+use Rattle.witness_spec.specs.Watched.{Watched}
 use Rattle.witness_spec.specs.Steps.{Step, Learn, SendChallenge, Answer, AckIn, Audit, Begin, File, PutBack}
 use Rattle.witness_spec.specs.Steps.{Forward, Ask, Past}
 use Rattle.witness_spec.specs.Standing.{Stage, NoAudit, Wanted, Given, Out, stage_of, job_out}
@@ -31,11 +31,11 @@ use Rattle.envelopes.specs.Acknowledgement.{acked_message}
 -- ---- one reply
 
 -- two replies that are owed to one step are one
-pub one_reply : (ms : List Member) (m : Member) (past : Past) (step : Step) (one other : Reply)
-    → Owes ms m past step one → Owes ms m past step other → one ≡ other
-one_reply ms m past step one other g h =
+pub one_reply : (w : Watched) (past : Past) (step : Step) (one other : Reply)
+    → Owes w past step one → Owes w past step other → one ≡ other
+one_reply w past step one other g h =
     let same : g.is_out ≡ h.is_out = one_answer g.is_out h.is_out g.decides h.decides in
-    g.told ∙ (ap (λ b. reply_told b ms m past step) same ∙ sym h.told)
+    g.told ∙ (ap (λ b. reply_told b w past step) same ∙ sym h.told)
 
 -- ---- refusals of steps
 
@@ -81,20 +81,20 @@ good_ask true end waiting learned = refl
 good_ask false end waiting [] = refl
 good_ask false end waiting (a ∷ learned) = good_up_to end waiting (last_in_reach end (a ∷ learned))
 
-good_audit : (ms : List Member) (m : Member) (past : Past) (stage : Stage)
-    → is_good (audit_reply ms m past stage) ≡ true
-good_audit ms m past NoAudit = good_ask (is_exposed ms m past) _ _ (kept ms m past)
-good_audit ms m past (Wanted first last) = refl
-good_audit ms m past (Given c) = refl
-good_audit ms m past (Out c) = refl
+good_audit : (w : Watched) (past : Past) (stage : Stage)
+    → is_good (audit_reply w past stage) ≡ true
+good_audit w past NoAudit = good_ask (is_exposed w past) _ _ (kept w past)
+good_audit w past (Wanted first last) = refl
+good_audit w past (Given c) = refl
+good_audit w past (Out c) = refl
 
-good_begin : (ms : List Member) (m : Member) (past : Past) (stage : Stage)
-    → is_good (begin_reply ms m past stage) ≡ true
-good_begin ms m past NoAudit = refl
-good_begin ms m past (Wanted first last) = refl
-good_begin ms m past (Given c) =
-    either (is_exposed ms m past) (Refused refusals.NothingToAudit) (Job (next_job ms m past c)) refl refl
-good_begin ms m past (Out c) = refl
+good_begin : (w : Watched) (past : Past) (stage : Stage)
+    → is_good (begin_reply w past stage) ≡ true
+good_begin w past NoAudit = refl
+good_begin w past (Wanted first last) = refl
+good_begin w past (Given c) =
+    either (is_exposed w past) (Refused refusals.NothingToAudit) (Job (next_job w past c)) refl refl
+good_begin w past (Out c) = refl
 
 good_back : (b : Bool) (job : Option JobParts) (good wrong none : Reply) → is_good good ≡ true
     → is_good wrong ≡ true → is_good none ≡ true → is_good (back_reply b job good wrong none) ≡ true
@@ -106,11 +106,11 @@ good_forward : (waiting : List Authenticator) → is_good (forward_reply waiting
 good_forward [] = refl
 good_forward (a ∷ rest) = refl
 
-good_question : (ms : List Member) (m : Member) (past : Past) (q : Question)
-    → is_good (ask ms m past q) ≡ true
-good_question ms m past ItsIndication = refl
-good_question ms m past ItsChallenges = refl
-good_question ms m past ItsEvidence = refl
+good_question : (w : Watched) (past : Past) (q : Question)
+    → is_good (ask w past q) ≡ true
+good_question w past ItsIndication = refl
+good_question w past ItsChallenges = refl
+good_question w past ItsEvidence = refl
 
 good_learn : (a b c : Bool)
     → is_good (cond a Noted (cond b Already (cond c (Refused refusals.LearnedFull) Noted))) ≡ true
@@ -126,31 +126,31 @@ good_challenge false true = refl
 good_challenge false false = refl
 
 -- a reply that is told to a step is no refusal, or one with a number from 4 to 13
-pub good_reply : (b : Bool) (ms : List Member) (m : Member) (past : Past) (step : Step)
-    → is_good (reply_told b ms m past step) ≡ true
-good_reply b ms m past (Learn a) =
-    good_learn (is_exposed ms m past) (is_shown (pair_of a) (shown ms m past)) (has_no_room ms m past a)
-good_reply b ms m past (SendChallenge e) =
+pub good_reply : (b : Bool) (w : Watched) (past : Past) (step : Step)
+    → is_good (reply_told b w past step) ≡ true
+good_reply b w past (Learn a) =
+    good_learn (is_exposed w past) (is_shown (pair_of a) (shown w past)) (has_no_room w past a)
+good_reply b w past (SendChallenge e) =
     good_challenge (is_open (envelope_message e) (open_challenges past))
     (nat_le MAX_CHALLENGES (count_by is_send (open_challenges past)))
-good_reply b ms m past (Answer c) = good_answer (stage_of past) c
-good_reply b ms m past (AckIn a) =
+good_reply b w past (Answer c) = good_answer (stage_of past) c
+good_reply b w past (AckIn a) =
     either (is_open (acked_message a) (open_challenges past)) Closed (Refused refusals.NotAsked) refl refl
-good_reply b ms m past Audit = good_audit ms m past (stage_of past)
-good_reply b ms m past Begin = good_begin ms m past (stage_of past)
-good_reply b ms m past (File d) =
-    good_back b (job_out ms m past) Filed (FileRefused refusals.WrongJob d)
+good_reply b w past Audit = good_audit w past (stage_of past)
+good_reply b w past Begin = good_begin w past (stage_of past)
+good_reply b w past (File d) =
+    good_back b (job_out w past) Filed (FileRefused refusals.WrongJob d)
     (FileRefused refusals.NoJob d) refl refl refl
-good_reply b ms m past (PutBack j) =
-    good_back b (job_out ms m past) Returned (PutBackRefused refusals.WrongJob j)
+good_reply b w past (PutBack j) =
+    good_back b (job_out w past) Returned (PutBackRefused refusals.WrongJob j)
     (PutBackRefused refusals.NoJob j) refl refl refl
-good_reply b ms m past Forward = good_forward (outbox ms m past)
-good_reply b ms m past (Ask q) = good_question ms m past q
+good_reply b w past Forward = good_forward (outbox w past)
+good_reply b w past (Ask q) = good_question w past q
 
 -- the same of every reply that is owed to a step
-pub owed_good : (ms : List Member) (m : Member) (past : Past) (step : Step) (reply : Reply)
-    → Owes ms m past step reply → is_good reply ≡ true
-owed_good ms m past step reply g = ap is_good g.told ∙ good_reply g.is_out ms m past step
+pub owed_good : (w : Watched) (past : Past) (step : Step) (reply : Reply)
+    → Owes w past step reply → is_good reply ≡ true
+owed_good w past step reply g = ap is_good g.told ∙ good_reply g.is_out w past step
 
 -- ---- refusals of events
 

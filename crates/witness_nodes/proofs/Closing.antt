@@ -1,10 +1,9 @@
 -- The acknowledgement of a received message closes the challenge with it.
 -- Serves: acknowledgements_of_nodes_close.
-use Rattle.std.proofs.Common.{◌≡◌, ℕ, List, Option, Some, None, IsSomeAnd, refl, sym, ap, ◌∙◌}
+use Rattle.std.proofs.Common.{◌≡◌, ℕ, Option, Some, None, IsSomeAnd, refl, sym, ap, ◌∙◌}
 use Rattle.secure_log.specs.LogEntries.Chain.{IsAmong}
 use Rattle.authenticator.specs.Roster.{member_of}
 use Rattle.authenticator.specs.Signed.{IsSignedBy}
-use Rattle.authenticator.specs.declared.member.Member.{Member}
 use Rattle.envelopes.specs.Envelope.{envelope_message}
 use Rattle.envelopes.specs.Acknowledgement.{ack_shows}
 use Rattle.envelopes.specs.declared.envelope.Envelope.{Envelope}
@@ -17,8 +16,9 @@ use Rattle.node_logs.specs.Steps.Nodes.{NodeParts, log_of, sender_of}
 use Rattle.node_logs.specs.Nodes.{IsMemberOf}
 use Rattle.witness_laws.specs.witness_spec.Events as events
 use Rattle.witness_laws.specs.witness_spec.Replies.{SendOf}
+use Rattle.witness_laws.specs.witness_spec.Watched.{Watched, IsInRoster}
 use Rattle.witness_laws.specs.witness_spec.Standing.{open_challenges}
-use Rattle.witness_laws.specs.witness_spec.Histories.{History, own}
+use Rattle.witness_laws.specs.witness_spec.Histories.{History, own_of}
 use Rattle.witness_laws.specs.witness_spec.Laws.{AcksClose}
 use Rattle.witness_nodes.specs.Laws.{AckCloses}
 use Rattle.witness_nodes.proofs.Acknowledged.{IsAckOf, acknowledged}
@@ -33,27 +33,31 @@ ShowsItsPlace =
 
 -- Where a message's RECV stands in a node's log, its acknowledgement closes the challenge with the message.
 pub closing : AcksClose → JudgedAsMeant → OfItsLog → ShowsItsPlace
-    → (ms : List Member) (m : Member) (history : History) (n : NodeParts) (number : ℕ) (e : Envelope)
-    → member_of ms m.node ≡ Some m → m.node ≡ n.node → IsMemberOf n m → IsSender (sender_of n)
+    → (w : Watched) (history : History) (n : NodeParts) (number : ℕ) (e : Envelope)
+    → IsInRoster w → w.member.node ≡ n.node → IsMemberOf n w.member → IsSender (sender_of n)
     → IsReceiptAt (log_of n) (envelope_message e) number
-    → IsAmong (SendOf e) (open_challenges (own ms m.node history)) → AckCloses ms m history n number
-closing close meant of_log shows ms m history n number e is node key sender there opened =
-    by (ack_at (sender_of n) number) refl (acknowledged (sender_of n) (envelope_message e) number sender there)
+    → IsAmong (SendOf e) (open_challenges (own_of w history)) → AckCloses w history n number
+closing close meant of_log shows w history n number e is node key sender there opened =
+    by (ack_at (sender_of n) number) refl
+    (acknowledged (sender_of n) (envelope_message e) number sender there)
   where
-    by : (o : Option Ack) → ack_at (sender_of n) number ≡ o → IsSomeAnd o (IsAckOf n.node (envelope_message e))
-        → AckCloses ms m history n number
+    by : (o : Option Ack) → ack_at (sender_of n) number ≡ o
+        → IsSomeAnd o (IsAckOf n.node (envelope_message e))
+        → AckCloses w history n number
     by None at k = absurd k
     by (Some a) at k =
-        let signed : IsSignedBy m (ack_shows a) =
-        (of_log (sender_of n) number (ack_shows a) sender (shows (sender_of n) number a at)).signed m key.root
+        let signed : IsSignedBy w.member (ack_shows a) =
+        (of_log (sender_of n) number (ack_shows a) sender
+        (shows (sender_of n) number a at)).signed w.member key.root
         key.height in
-        let member : member_of ms a.by ≡ Some m = ap (member_of ms) (k.by ∙ sym node) ∙ is in
+        let member : member_of w.roster a.by ≡ Some w.member =
+        ap (member_of w.roster) (k.by ∙ sym node) ∙ is in
         record {
           ack = a;
           is = at;
           signed = signed;
-          closes = λ its key_is. close ms m history e a its is key_is (k.by ∙ sym node) opened k.of;
+          closes = λ its key_is. close w history e a its is key_is (k.by ∙ sym node) opened k.of;
           packet = λ its text key_is spelled bound.
-              ack_packet meant ms m history a (events.AckIn a its) text bound spelled member signed
-              (close ms m history e a its is key_is (k.by ∙ sym node) opened k.of).its;
+              ack_packet meant w history a (events.AckIn a its) text bound spelled member signed
+              (close w history e a its is key_is (k.by ∙ sym node) opened k.of).its;
         }

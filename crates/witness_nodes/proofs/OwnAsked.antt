@@ -1,5 +1,5 @@
--- An audit asks up to a number that was learned; so where all that was learned is a node's own, the node signed
--- there.
+-- An audit asks up to a number that was learned; so where all that was learned is a node's own, the node
+-- signed there.
 -- Serves: own_words_can_be_answered.
 use Rattle.std.proofs.Common.{◌≡◌, inl, inr, ℕ, ◌+◌, Bool, true, false, cond, List, [], ◌∷◌, ◌++◌, length}
 use Rattle.std.proofs.Common.{filter, nat_lt}
@@ -8,7 +8,6 @@ use Rattle.std.specs.Prelude.{IsSome, option_map}
 use Rattle.std.specs.List.{AllByRecursion}
 use Rattle.std.proofs.lemmas.Bool.{true≢false}
 use Rattle.authenticator.specs.declared.authenticator.Authenticator.{Authenticator}
-use Rattle.authenticator.specs.declared.member.Member.{Member}
 use Rattle.secure_log.specs.LogEntries.Chain.{IsAmong}
 use Rattle.secure_log.specs.declared.log_entries.entry.Entry.{Entry}
 use Rattle.commitment.specs.Signings.Signings.{Signing, is_signed_entry}
@@ -16,6 +15,7 @@ use Rattle.commitment.specs.Senders.Sender.{SenderParts, IsSender, IsSigningAt, 
 use Rattle.commitment.specs.Senders.LookUps.{authenticator_of}
 use Rattle.node_logs.specs.Steps.Nodes.{NodeParts, sender_of}
 use Rattle.witness_laws.specs.witness_spec.Replies.{Reply}
+use Rattle.witness_laws.specs.witness_spec.Watched.{Watched}
 use Rattle.witness_laws.specs.witness_spec.Steps.{Step, Learn, Past}
 use Rattle.witness_laws.specs.witness_spec.Standing.{Stage, NoAudit, Wanted, Given, Out, stage_of, kept}
 use Rattle.witness_laws.specs.witness_spec.Standing.{noted_before}
@@ -46,7 +46,8 @@ from_filter : (test : Authenticator → Bool) (x : Authenticator) (xs : List Aut
 from_filter test x [] i = absurd i
 from_filter test x (y ∷ ys) i = by (test y) (filter test ys) i (from_filter test x ys)
   where
-    by : (c : Bool) (rest : List Authenticator) → IsAmong x (cond c (y ∷ rest) rest) → (IsAmong x rest → IsAmong x ys)
+    by : (c : Bool) (rest : List Authenticator) → IsAmong x (cond c (y ∷ rest) rest)
+        → (IsAmong x rest → IsAmong x ys)
         → IsAmong x (y ∷ ys)
     by true rest (inl e) more = inl e
     by true rest (inr i) more = inr (more i)
@@ -79,9 +80,10 @@ module _ (each : SignsEach) (none : LeavesNone) (n : NodeParts) where
           subst (λ k. IsSome (signed_at (sender_of n) k)) same
           (still_signed h.number g_at.before (g_at.rest ++ h.went_on.rest) g.entry g_at.kind whole g_at.place)
 
-  module _ (ms : List Member) (m : Member) where
+  module _ (w : Watched) where
     -- a step noted only what it was to learn
-    here : (past : Past) (p : Step × Reply) (b : Bool) (a : Authenticator) → Doing ms m past p → ShowsItsOwn n p.0
+    here : (past : Past) (p : Step × Reply) (b : Bool) (a : Authenticator) → Doing w past p
+        → ShowsItsOwn n p.0
         → IsAmong a (unless_exposed b (noted p.0 p.1)) → ShowsItsOwn n (Learn a)
     here past p b a (Nothing did) mine i = absurd (subst (λ o. IsAmong a (unless_exposed b o)) did.notes i)
     here past p b a (Notes x is did) mine i =
@@ -95,16 +97,19 @@ module _ (each : SignsEach) (none : LeavesNone) (n : NodeParts) where
         absurd (subst (λ o. IsAmong a (unless_exposed b o)) did.notes i)
     here past p b a (Asks first last is few did) mine i =
         absurd (subst (λ o. IsAmong a (unless_exposed b o)) did.notes i)
-    here past p b a (Begins c is did) mine i = absurd (subst (λ o. IsAmong a (unless_exposed b o)) did.notes i)
+    here past p b a (Begins c is did) mine i =
+        absurd (subst (λ o. IsAmong a (unless_exposed b o)) did.notes i)
     here past p b a (Files j is did) mine i = absurd (subst (λ o. IsAmong a (unless_exposed b o)) did.notes i)
-    here past p b a (PutsBack c is did) mine i = absurd (subst (λ o. IsAmong a (unless_exposed b o)) did.notes i)
+    here past p b a (PutsBack c is did) mine i =
+        absurd (subst (λ o. IsAmong a (unless_exposed b o)) did.notes i)
 
-    noted_own : (past : Past) → AreOwed ms m past → AllByRecursion (λ p. ShowsItsOwn n p.0) past
-        → (a : Authenticator) → IsAmong a (noted_before ms m past) → ShowsItsOwn n (Learn a)
+    noted_own : (past : Past) → AreOwed w past → AllByRecursion (λ p. ShowsItsOwn n p.0) past
+        → (a : Authenticator) → IsAmong a (noted_before w past) → ShowsItsOwn n (Learn a)
     noted_own [] owed all a i = absurd i
     noted_own (p ∷ past) owed all a i =
-        elim (among_parts a (unless_exposed (is_exposed ms m (p ∷ past)) (noted p.0 p.1)) (noted_before ms m past) i) [
-          | inl j ↦ here past p (is_exposed ms m (p ∷ past)) a (doing ms m past p.0 p.1 owed.0) all.0 j
+        elim (among_parts a (unless_exposed (is_exposed w (p ∷ past)) (noted p.0 p.1))
+        (noted_before w past) i) [
+          | inl j ↦ here past p (is_exposed w (p ∷ past)) a (doing w past p.0 p.1 owed.0) all.0 j
           | inr j ↦ noted_own past owed.1 all.1 a j
         ]
 
@@ -115,8 +120,8 @@ module _ (each : SignsEach) (none : LeavesNone) (n : NodeParts) where
     StageIsSigned (Given c) = Unit {0}
     StageIsSigned (Out c) = Unit {0}
 
-    one_step : (past : Past) (p : Step × Reply) → Doing ms m past p
-        → ((a : Authenticator) → IsAmong a (kept ms m past) → IsSome (signed_at (sender_of n) a.number))
+    one_step : (past : Past) (p : Step × Reply) → Doing w past p
+        → ((a : Authenticator) → IsAmong a (kept w past) → IsSome (signed_at (sender_of n) a.number))
         → StageIsSigned (stage_of past) → StageIsSigned (stage_of (p ∷ past))
     one_step past p (Nothing did) signed k = subst StageIsSigned (sym did.stage) k
     one_step past p (Notes a is did) signed k = subst StageIsSigned (sym did.stage) k
@@ -128,17 +133,17 @@ module _ (each : SignsEach) (none : LeavesNone) (n : NodeParts) where
     one_step past p (Files j is did) signed k = subst StageIsSigned (sym did.stage) tt
     one_step past p (PutsBack c is did) signed k = subst StageIsSigned (sym did.stage) tt
 
-    signed_stage : (past : Past) → AreOwed ms m past → AllByRecursion (λ p. ShowsItsOwn n p.0) past
+    signed_stage : (past : Past) → AreOwed w past → AllByRecursion (λ p. ShowsItsOwn n p.0) past
         → StageIsSigned (stage_of past)
     signed_stage [] owed all = tt
     signed_stage (p ∷ past) owed all =
-        one_step past p (doing ms m past p.0 p.1 owed.0)
+        one_step past p (doing w past p.0 p.1 owed.0)
         (λ a i. signed_now a (noted_own past owed.1 all.1 a
-        (from_filter (λ x. nat_lt (end_of ms m past).number x.number) a (noted_before ms m past) i)))
+        (from_filter (λ x. nat_lt (end_of w past).number x.number) a (noted_before w past) i)))
         (signed_stage past owed.1 all.1)
 
     -- Where all that own steps show is the node's own, it signed at the last number that an audit asks for.
-    pub asked_is_signed : (past : Past) (first last : ℕ) → AreOwed ms m past
+    pub asked_is_signed : (past : Past) (first last : ℕ) → AreOwed w past
         → AllByRecursion (λ p. ShowsItsOwn n p.0) past → stage_of past ≡ Wanted first last
         → IsSome (signed_at (sender_of n) last)
     asked_is_signed past first last owed all stage = subst StageIsSigned stage (signed_stage past owed all)

@@ -3,7 +3,7 @@ use Rattle.std.specs.Prelude.{◌≡◌, ◌≢◌, ◌↔◌, ℕ, IsSome, IsTr
 use Rattle.std.specs.List.{AllByRecursion}
 use Rattle.xdr.specs.Item.{IsBytes, number_spelling}
 use Rattle.xdr.specs.Texts.Text.{IsText}
-use Rattle.authenticator.specs.Roster.{IsRoster, member_of}
+use Rattle.authenticator.specs.Roster.{IsRoster}
 use Rattle.authenticator.specs.Signed.{IsSignedBy}
 use Rattle.authenticator.specs.declared.member.Member.{Member}
 use Rattle.secure_log.specs.LogEntries.Chain.{NoCollision, IsAmong}
@@ -32,9 +32,10 @@ use Rattle.witness_laws.specs.evidence_spec.Proving.{log_texts}
 use Rattle.witness_laws.specs.witness_spec.Events.{PublicKey, Event, IsEvent}
 use Rattle.witness_laws.specs.witness_spec.Events as events
 use Rattle.witness_laws.specs.witness_spec.Replies.{Reply, SendOf, Exposed}
+use Rattle.witness_laws.specs.witness_spec.Watched.{Watched, watched, IsInRoster}
 use Rattle.witness_laws.specs.witness_spec.Whose.{is_key_of, whose}
 use Rattle.witness_laws.specs.witness_spec.Standing.{Wanted, stage_of, open_challenges, indication}
-use Rattle.witness_laws.specs.witness_spec.Histories.{History, own, IsOwed, IsHistory}
+use Rattle.witness_laws.specs.witness_spec.Histories.{History, IsOwed, IsHistory, own_of}
 use Rattle.witness_laws.specs.witness_spec.Premises.{Unforged, NoCollisionWith}
 use Rattle.witness_laws.specs.witness_spec.Laws.{AnswersAudit, ClosesChallenge}
 use Rattle.witness_nodes.specs.Logs.{IsListedAs, ShowsItsOwn}
@@ -46,55 +47,54 @@ use Rattle.witness_nodes.specs.Logs.{IsListedAs, ShowsItsOwn}
 abbrev pub IsNeverExposed : NodeParts → Type 0
 IsNeverExposed n =
     (m : Member) (history : History)
-    → IsListedAs n m → member_of n.roster m.node ≡ Some m → IsHistory n.roster history
-    → Unforged n.roster m n.entries (own n.roster m.node history)
-    → NoCollisionWith n.entries (own n.roster m.node history)
-    → indication n.roster m (own n.roster m.node history) ≢ Exposed
+    → let w : Watched = watched n.roster m in
+    IsListedAs n m → IsInRoster w → IsHistory n.roster history
+    → Unforged w n.entries (own_of w history)
+    → NoCollisionWith n.entries (own_of w history)
+    → indication w (own_of w history) ≢ Exposed
 
 -- Nor is it where all that a witness was shown of its log is what the node itself showed, and no two texts of
 -- that log have one digest. Nothing is supposed of signatures.
 abbrev pub OwnWordsNeverExpose : NodeParts → Type 0
 OwnWordsNeverExpose n =
     (m : Member) (history : History)
-    → IsListedAs n m → member_of n.roster m.node ≡ Some m → IsHistory n.roster history
-    → AllByRecursion (λ p. ShowsItsOwn n p.0) (own n.roster m.node history)
+    → let w : Watched = watched n.roster m in
+    IsListedAs n m → IsInRoster w → IsHistory n.roster history
+    → AllByRecursion (λ p. ShowsItsOwn n p.0) (own_of w history)
     → NoCollision (log_texts n.entries)
-    → indication n.roster m (own n.roster m.node history) ≢ Exposed
+    → indication w (own_of w history) ≢ Exposed
 
 -- ---- bytes
 
 -- Bytes that are handed in are the same step as an event: the same replies are owed to both, and after both
 -- the node's own steps are the same.
-pub record IsSameStep (ms : List Member) (m : Member) (history : History) (bytes : List ℕ) (event : Event)
-    : Type 0 where
+pub record IsSameStep (w : Watched) (history : History) (bytes : List ℕ) (event : Event) : Type 0 where
   pub bound : IsEvent (events.Deliver bytes)
-  pub step : whose ms (events.Deliver bytes) ≡ whose ms event
+  pub step : whose w.roster (events.Deliver bytes) ≡ whose w.roster event
   pub owed : (reply : Reply)
-      → IsOwed ms history (events.Deliver bytes) reply ↔ IsOwed ms history event reply
+      → IsOwed w.roster history (events.Deliver bytes) reply ↔ IsOwed w.roster history event reply
   pub own_steps : (reply : Reply)
-      → own ms m.node ((events.Deliver bytes, reply) ∷ history) ≡ own ms m.node ((event, reply) ∷ history)
+      → own_of w ((events.Deliver bytes, reply) ∷ history) ≡ own_of w ((event, reply) ∷ history)
 
 -- ---- who answers
 
 -- The bytes are the text of a segment that may be handed in, that answers the audit which is open and is
 -- accepted for it; and so are they as a packet, after its number.
-pub record IsAcceptedAnswer (ms : List Member) (m : Member) (history : History) (bytes : List ℕ)
-    : Type 0 where
+pub record IsAcceptedAnswer (w : Watched) (history : History) (bytes : List ℕ) : Type 0 where
   pub segment : SegmentParts
   pub text : IsText segment_text (segment_value segment) bytes
-  pub event : IsEvent (events.Answer (record { segment = segment; roster = ms }))
-  pub accepted : AnswersAudit ms m history (record { segment = segment; roster = ms })
-  pub packet : IsSameStep ms m history (number_spelling 4 3 ++ bytes)
-      (events.Answer (record { segment = segment; roster = ms }))
+  pub event : IsEvent (events.Answer (record { segment = segment; roster = w.roster }))
+  pub accepted : AnswersAudit w history (record { segment = segment; roster = w.roster })
+  pub packet : IsSameStep w history (number_spelling 4 3 ++ bytes)
+      (events.Answer (record { segment = segment; roster = w.roster }))
 
 -- Where an audit is open, a node that signed at the last number refuses the challenge with its numbers
 -- only where memory runs out.
 abbrev pub AskedCanBeAnswered : Type 0
 AskedCanBeAnswered =
-    (ms : List Member) (m : Member) (history : History) (n : NodeParts) (first last : ℕ)
-    (fault : SegmentFault)
-    → member_of ms m.node ≡ Some m → IsHistory ms history
-    → stage_of (own ms m.node history) ≡ Wanted first last
+    (w : Watched) (history : History) (n : NodeParts) (first last : ℕ) (fault : SegmentFault)
+    → IsInRoster w → IsHistory w.roster history
+    → stage_of (own_of w history) ≡ Wanted first last
     → IsSender (sender_of n) → IsSome (signed_at (sender_of n) last)
     → RefusesChallenge n first last fault → fault ≡ NoMemory
 
@@ -102,42 +102,41 @@ AskedCanBeAnswered =
 -- up to a number at which the node signed.
 abbrev pub OwnWordsCanBeAnswered : NodeParts → Type 0
 OwnWordsCanBeAnswered n =
-    (ms : List Member) (m : Member) (history : History) (first last : ℕ) (fault : SegmentFault)
-    → member_of ms m.node ≡ Some m → IsHistory ms history
-    → AllByRecursion (λ p. ShowsItsOwn n p.0) (own ms m.node history)
-    → stage_of (own ms m.node history) ≡ Wanted first last
+    (w : Watched) (history : History) (first last : ℕ) (fault : SegmentFault)
+    → IsInRoster w → IsHistory w.roster history
+    → AllByRecursion (λ p. ShowsItsOwn n p.0) (own_of w history)
+    → stage_of (own_of w history) ≡ Wanted first last
     → RefusesChallenge n first last fault → fault ≡ NoMemory
 
 -- What a node answers to the challenge with the numbers that an audit asked for is accepted, and closes it.
 abbrev pub AnswersOfNodesAreAccepted : Type 0
 AnswersOfNodesAreAccepted =
-    (ms : List Member) (m : Member) (history : History) (n : NodeParts) (first last : ℕ) (bytes : List ℕ)
-    → IsRoster ms → member_of ms m.node ≡ Some m → m.node ≡ n.node → IsMemberOf n m
-    → stage_of (own ms m.node history) ≡ Wanted first last
+    (w : Watched) (history : History) (n : NodeParts) (first last : ℕ) (bytes : List ℕ)
+    → IsRoster w.roster → IsInRoster w → w.member.node ≡ n.node → IsMemberOf n w.member
+    → stage_of (own_of w history) ≡ Wanted first last
     → AnswersChallenge n first last bytes → IsBytes bytes
-    → IsAcceptedAnswer ms m history bytes
+    → IsAcceptedAnswer w history bytes
 
 -- The acknowledgement that the RECV with a number makes closes a challenge, handed in with the node's key, or
 -- as a packet after its number.
-pub record AckCloses (ms : List Member) (m : Member) (history : History) (n : NodeParts) (number : ℕ)
-    : Type 0 where
+pub record AckCloses (w : Watched) (history : History) (n : NodeParts) (number : ℕ) : Type 0 where
   pub ack : Ack
   pub is : ack_at (sender_of n) number ≡ Some ack
-  pub signed : IsSignedBy m (ack_shows ack)
-  pub closes : (key : PublicKey) → IsTrue (is_key_of m key) → ClosesChallenge ms m history ack key
-  pub packet : (key : PublicKey) (text : List ℕ) → IsTrue (is_key_of m key)
+  pub signed : IsSignedBy w.member (ack_shows ack)
+  pub closes : (key : PublicKey) → IsTrue (is_key_of w.member key) → ClosesChallenge w history ack key
+  pub packet : (key : PublicKey) (text : List ℕ) → IsTrue (is_key_of w.member key)
       → IsText ack_text (ack_value ack) text → IsBytes text
-      → IsSameStep ms m history (number_spelling 4 4 ++ text) (events.AckIn ack key)
+      → IsSameStep w history (number_spelling 4 4 ++ text) (events.AckIn ack key)
 
 -- Where the RECV of a message stands in a node's log and the message is that of an open challenge, its
 -- acknowledgement closes the challenge.
 abbrev pub AcksOfNodesClose : Type 0
 AcksOfNodesClose =
-    (ms : List Member) (m : Member) (history : History) (n : NodeParts) (number : ℕ) (e : Envelope)
-    → member_of ms m.node ≡ Some m → m.node ≡ n.node → IsMemberOf n m → IsSender (sender_of n)
+    (w : Watched) (history : History) (n : NodeParts) (number : ℕ) (e : Envelope)
+    → IsInRoster w → w.member.node ≡ n.node → IsMemberOf n w.member → IsSender (sender_of n)
     → IsReceiptAt (log_of n) (envelope_message e) number
-    → IsAmong (SendOf e) (open_challenges (own ms m.node history))
-    → AckCloses ms m history n number
+    → IsAmong (SendOf e) (open_challenges (own_of w history))
+    → AckCloses w history n number
 
 -- ---- what is received
 
@@ -146,7 +145,8 @@ abbrev pub call_number : Received Receipt → ℕ
 call_number (New r) = r.ack
 call_number (Repeat r) = r.ack
 
--- The RECV of the message that a server received, now or before, stands in its log at the number that it gives.
+-- The RECV of the message that a server received, now or before, stands in its log at the number that it
+-- gives.
 abbrev pub ReceivedCallsAreLogged : Type 0
 ReceivedCallsAreLogged =
     (n n' : NodeParts) (time : Timeval) (bytes : List ℕ) (e : Envelope) (h : Received Receipt)
@@ -164,18 +164,17 @@ TakenRepliesAreLogged =
 -- and that of a client.
 abbrev pub ReceivedCallsClose : Type 0
 ReceivedCallsClose =
-    (ms : List Member) (m : Member) (history : History)
+    (w : Watched) (history : History)
     (n n' : NodeParts) (time : Timeval) (bytes : List ℕ) (e : Envelope) (h : Received Receipt)
-    → member_of ms m.node ≡ Some m → m.node ≡ n'.node → IsMemberOf n' m → IsSender (sender_of n')
-    → IsTextOf bytes e → IsAmong (SendOf e) (open_challenges (own ms m.node history))
+    → IsInRoster w → w.member.node ≡ n'.node → IsMemberOf n' w.member → IsSender (sender_of n')
+    → IsTextOf bytes e → IsAmong (SendOf e) (open_challenges (own_of w history))
     → Receives n time bytes (Ok h) n'
-    → AckCloses ms m history n' (call_number h)
+    → AckCloses w history n' (call_number h)
 
 abbrev pub TakenRepliesClose : Type 0
 TakenRepliesClose =
-    (ms : List Member) (m : Member) (history : History)
-    (n n' : NodeParts) (bytes : List ℕ) (e : Envelope) (r : Received ℕ)
-    → member_of ms m.node ≡ Some m → m.node ≡ n'.node → IsMemberOf n' m → IsSender (sender_of n')
-    → IsTextOf bytes e → IsAmong (SendOf e) (open_challenges (own ms m.node history))
+    (w : Watched) (history : History) (n n' : NodeParts) (bytes : List ℕ) (e : Envelope) (r : Received ℕ)
+    → IsInRoster w → w.member.node ≡ n'.node → IsMemberOf n' w.member → IsSender (sender_of n')
+    → IsTextOf bytes e → IsAmong (SendOf e) (open_challenges (own_of w history))
     → TakesReply n bytes (Ok r) n'
-    → AckCloses ms m history n' (receipt_number r)
+    → AckCloses w history n' (receipt_number r)

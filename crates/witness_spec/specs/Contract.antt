@@ -8,13 +8,15 @@ use Rattle.witness_spec.specs.Refusals.{NoMemory}
 use Rattle.witness_spec.specs.Events.{Event, IsEvent, Question, ItsIndication, ItsChallenges, ItsEvidence}
 use Rattle.witness_spec.specs.Replies.{Reply, Told, OpenList, EvidenceIs, refused, is_want_of_memory}
 use Rattle.witness_spec.specs.Replies.{Indication, Exposed}
+use Rattle.witness_spec.specs.Watched.{Watched, watched}
 use Rattle.witness_spec.specs.Steps.{Step, Past}
 use Rattle.witness_spec.specs.Pairs.{first_pair}
 use Rattle.witness_spec.specs.Standing.{end_of, shown, kept, NoAudit, stage_of, begins, open_challenges}
 use Rattle.witness_spec.specs.Standing.{without_evidence, outbox, all_accepted}
 use Rattle.witness_spec.specs.Exposing.{evidence}
 use Rattle.witness_spec.specs.Owing.{Owes}
-use Rattle.witness_spec.specs.Histories.{History, own, IsOwed, IsHistory, BookParts, StandsFor, Stands}
+use Rattle.witness_spec.specs.Histories.{History, IsOwed, IsHistory, BookParts, StandsFor, Stands}
+use Rattle.witness_spec.specs.Histories.{own_of}
 
 -- ---- books
 
@@ -37,22 +39,22 @@ abbrev pub opening_books : List Member → List BookParts
 opening_books ms = map opening_book ms
 
 -- what a member's own steps say, as a book, each list in their order
-abbrev pub book_of : List Member → Member → Past → BookParts
-book_of ms m past = record {
-  end = end_of ms m past;
+abbrev pub book_of : Watched → Past → BookParts
+book_of w past = record {
+  end = end_of w past;
   stage = stage_of past;
   begun = begins past;
-  pairs = shown ms m past;
-  learned = kept ms m past;
+  pairs = shown w past;
+  learned = kept w past;
   challenges = open_challenges past;
-  outbox = outbox ms m past;
+  outbox = outbox w past;
   segments = all_accepted past;
-  evidence = evidence ms m past;
+  evidence = evidence w past;
 }
 
 -- what a history says, as books
 abbrev pub books_of : List Member → History → List BookParts
-books_of ms history = map (λ m. book_of ms m (own ms m.node history)) ms
+books_of ms history = map (λ m. book_of (watched ms m) (own_of (watched ms m) history)) ms
 
 -- the book of the member with a number
 abbrev pub book_in : List Member → List BookParts → (node : ℕ) → Option BookParts
@@ -85,11 +87,11 @@ StepsTo ms old event reply new =
 
 -- The same of the book of the member whose step it is: the reply is the one that is owed to that step. It is
 -- a step of all books, since another member's step changes nothing here.
-abbrev pub BookStepsTo : List Member → Member → (old : BookParts) → Step → Reply → (new : BookParts) → Type 0
-BookStepsTo ms m old step reply new =
-    (history : History) → IsHistory ms history → StandsFor ms m (own ms m.node history) old
-    → Owes ms m (own ms m.node history) step reply
-    × StandsFor ms m ((step, reply) ∷ own ms m.node history) new
+abbrev pub BookStepsTo : Watched → (old : BookParts) → Step → Reply → (new : BookParts) → Type 0
+BookStepsTo w old step reply new =
+    (history : History) → IsHistory w.roster history → StandsFor w (own_of w history) old
+    → Owes w (own_of w history) step reply
+    × StandsFor w ((step, reply) ∷ own_of w history) new
 
 -- ---- a run
 

@@ -1,15 +1,16 @@
 -- What holds of books that keep their contract. Each is the contract of a function in `witness_laws::books`.
 use Rattle.std.specs.Prelude.{◌≡◌, ◌⊎◌, ◌↔◌, false, List, [], ◌∷◌, ◌++◌, map, Some, Ok, Err}
 use Rattle.std.specs.List.{AllByRecursion}
-use Rattle.authenticator.specs.Roster.{IsRoster, member_of}
+use Rattle.authenticator.specs.Roster.{IsRoster}
 use Rattle.authenticator.specs.declared.member.Member.{Member}
 use Rattle.witness_spec.specs.Refusals.{Refusal}
 use Rattle.witness_spec.specs.Events.{Event, Question, IsEvent}
 use Rattle.witness_spec.specs.Events as events
 use Rattle.witness_spec.specs.Replies.{Reply, refused, is_want_of_memory}
+use Rattle.witness_spec.specs.Watched.{Watched, IsInRoster}
 use Rattle.witness_spec.specs.Steps.{Step}
 use Rattle.witness_spec.specs.Whose.{whose}
-use Rattle.witness_spec.specs.Histories.{History, own, IsOwed, MayWant, IsWanting, IsHistory, BookParts}
+use Rattle.witness_spec.specs.Histories.{History, IsOwed, MayWant, IsWanting, IsHistory, BookParts, own_of}
 use Rattle.witness_spec.specs.Histories.{StandsFor, Stands}
 use Rattle.witness_spec.specs.Laws.{SaysSame}
 use Rattle.witness_spec.specs.Contract.{opening_books, books_of, book_in, with_book, AreBooks, StepsTo}
@@ -72,14 +73,15 @@ RunsAreHistories =
 -- and the witness says the same of the member.
 abbrev pub RunsThatAgree : Type 0
 RunsThatAgree =
-    (ms : List Member) (m : Member) (old first new last : List BookParts) (history earlier : History)
+    (w : Watched) (old first new last : List BookParts) (history earlier : History)
     (events more : List Event) (replies others : List Reply)
-    → member_of ms m.node ≡ Some m
-    → IsHistory ms history → Stands ms old history → IsHistory ms earlier → Stands ms first earlier
-    → RunsTo ms old events replies new → RunsTo ms first more others last
-    → map (λ p. p.0) (own ms m.node (joined events replies history))
-    ≡ map (λ p. p.0) (own ms m.node (joined more others earlier))
-    → SaysSame ms m (joined events replies history) (joined more others earlier)
+    → IsInRoster w
+    → IsHistory w.roster history → Stands w.roster old history
+    → IsHistory w.roster earlier → Stands w.roster first earlier
+    → RunsTo w.roster old events replies new → RunsTo w.roster first more others last
+    → map (λ p. p.0) (own_of w (joined events replies history))
+    ≡ map (λ p. p.0) (own_of w (joined more others earlier))
+    → SaysSame w (joined events replies history) (joined more others earlier)
 
 -- ---- journals
 
@@ -133,45 +135,45 @@ OutOfMemoryLeavesBooks =
 -- A step of a member's book is a step of all books: the others stay as they are.
 abbrev pub OneBookIsEnough : Type 0
 OneBookIsEnough =
-    (ms : List Member) (m : Member) (books : List BookParts) (old new : BookParts) (event : Event)
-    (step : Step) (reply : Reply)
-    → IsRoster ms → IsEvent event → whose ms event ≡ Ok (record { member = m; step = step })
-    → book_in ms books m.node ≡ Some old → BookStepsTo ms m old step reply new
-    → StepsTo ms books event reply (with_book ms m.node new books)
+    (w : Watched) (books : List BookParts) (old new : BookParts) (event : Event) (step : Step) (reply : Reply)
+    → IsRoster w.roster → IsEvent event
+    → whose w.roster event ≡ Ok (record { member = w.member; step = step })
+    → book_in w.roster books w.member.node ≡ Some old → BookStepsTo w old step reply new
+    → StepsTo w.roster books event reply (with_book w.roster w.member.node new books)
 
 -- After histories in which a member's own steps are the same and in the same order, whatever else they hold,
 -- the same book of that member stands.
 abbrev pub BookOfOwnStepsAlone : Type 0
 BookOfOwnStepsAlone =
-    (ms : List Member) (m : Member) (one two : History) (b : BookParts)
-    → member_of ms m.node ≡ Some m → IsHistory ms one → IsHistory ms two
-    → map (λ p. p.0) (own ms m.node one) ≡ map (λ p. p.0) (own ms m.node two)
-    → StandsFor ms m (own ms m.node one) b ↔ StandsFor ms m (own ms m.node two) b
+    (w : Watched) (one two : History) (b : BookParts)
+    → IsInRoster w → IsHistory w.roster one → IsHistory w.roster two
+    → map (λ p. p.0) (own_of w one) ≡ map (λ p. p.0) (own_of w two)
+    → StandsFor w (own_of w one) b ↔ StandsFor w (own_of w two) b
 
 -- The books that stand for a history have one for each member, that stands for the member's own steps.
 abbrev pub EachBookStands : Type 0
 EachBookStands =
-    (ms : List Member) (m : Member) (books : List BookParts) (history : History)
-    → member_of ms m.node ≡ Some m → Stands ms books history
-    → (b : BookParts) × ((book_in ms books m.node ≡ Some b) × StandsFor ms m (own ms m.node history) b)
+    (w : Watched) (books : List BookParts) (history : History)
+    → IsInRoster w → Stands w.roster books history
+    → (b : BookParts) × ((book_in w.roster books w.member.node ≡ Some b) × StandsFor w (own_of w history) b)
 
 -- ---- what books tell
 
 -- To a question about a member, what its book tells is owed, and nothing else.
 abbrev pub BooksTell : Type 0
 BooksTell =
-    (ms : List Member) (m : Member) (books : List BookParts) (b : BookParts) (history : History)
+    (w : Watched) (books : List BookParts) (b : BookParts) (history : History)
     (question : Question) (reply : Reply)
-    → member_of ms m.node ≡ Some m → IsHistory ms history → Stands ms books history
-    → book_in ms books m.node ≡ Some b
-    → IsOwed ms history (events.Ask m.node question) reply ↔ (reply ≡ told_by b question)
+    → IsInRoster w → IsHistory w.roster history → Stands w.roster books history
+    → book_in w.roster books w.member.node ≡ Some b
+    → IsOwed w.roster history (events.Ask w.member.node question) reply ↔ (reply ≡ told_by b question)
 
 -- After histories in which a member's own steps are the same and in the same order, books tell the same of
 -- it.
 abbrev pub BooksTellTheSame : Type 0
 BooksTellTheSame =
-    (ms : List Member) (m : Member) (one two : History) (b other : BookParts) (question : Question)
-    → member_of ms m.node ≡ Some m → IsHistory ms one → IsHistory ms two
-    → map (λ p. p.0) (own ms m.node one) ≡ map (λ p. p.0) (own ms m.node two)
-    → StandsFor ms m (own ms m.node one) b → StandsFor ms m (own ms m.node two) other
+    (w : Watched) (one two : History) (b other : BookParts) (question : Question)
+    → IsInRoster w → IsHistory w.roster one → IsHistory w.roster two
+    → map (λ p. p.0) (own_of w one) ≡ map (λ p. p.0) (own_of w two)
+    → StandsFor w (own_of w one) b → StandsFor w (own_of w two) other
     → told_by b question ≡ told_by other question

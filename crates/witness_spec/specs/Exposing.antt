@@ -2,16 +2,16 @@
 use Rattle.std.specs.Prelude.{ℕ, ◌==◌, ◌&&◌, nat_le, List, [], ◌∷◌, ◌++◌, find}
 use Rattle.std.specs.Prelude.{Option, Some, None, option_map, option_and_then, if◌then◌else◌}
 use Rattle.authenticator.specs.declared.authenticator.Authenticator.{Authenticator}
-use Rattle.authenticator.specs.declared.member.Member.{Member}
 use Rattle.secure_log.specs.LogEntries.Chain.{zeros}
-use Rattle.secure_log.specs.Segment.{SegmentParts, ClosedParts, segment_pairs}
+use Rattle.secure_log.specs.Segment.{SegmentParts, ClosedParts}
 use Rattle.evidence_spec.specs.replay_spec.Replay.{Verdict, Sound, Fault}
 use Rattle.evidence_spec.specs.Showing.{ShowingParts, authenticator_showing, segment_showing}
 use Rattle.evidence_spec.specs.Evidence.{Charge, Fork, Replay, EvidenceParts}
 use Rattle.witness_spec.specs.Events.{JobParts}
 use Rattle.witness_spec.specs.Replies.{Reply}
+use Rattle.witness_spec.specs.Watched.{Watched}
 use Rattle.witness_spec.specs.Steps.{Step, Past}
-use Rattle.witness_spec.specs.Pairs.{Pair, pair_of, first_fork}
+use Rattle.witness_spec.specs.Pairs.{Pair, pair_of, first_fork, number_of, first_of, last_of, marks_of}
 use Rattle.witness_spec.specs.Done.{noted, accepted, filed}
 use Rattle.witness_spec.specs.Standing.{end_of, audited, shown, is_exposed, kept, all_accepted, verdict_on}
 
@@ -20,7 +20,7 @@ use Rattle.witness_spec.specs.Standing.{end_of, audited, shown, is_exposed, kept
 -- the segment that holds a place, from its first number to its last
 abbrev pub segment_holding : (number : ℕ) → List SegmentParts → Option SegmentParts
 segment_holding number segments =
-    find (λ s. nat_le s.first number && nat_le number s.closing.number) segments
+    find (λ s. nat_le (first_of s) number && nat_le number (last_of s)) segments
 
 -- the showing of an authenticator, if there is one, else of a segment, if there is one
 abbrev pub or_segment : Option Authenticator → Option SegmentParts → Option ShowingParts
@@ -30,7 +30,7 @@ or_segment None segment = option_map segment_showing segment
 -- the learned authenticator that is kept at the number, else the accepted segment that holds the place
 abbrev pub showing_before : List Authenticator → List SegmentParts → (number : ℕ) → Option ShowingParts
 showing_before learned segments number =
-    or_segment (find (λ a. a.number == number) learned) (segment_holding number segments)
+    or_segment (find (λ a. number_of a == number) learned) (segment_holding number segments)
 
 -- ---- the evidence
 
@@ -44,43 +44,43 @@ fork_of learned segments new number =
     (showing_before learned segments number)
 
 -- the fork that a new showing makes with what a node showed, at the least number
-abbrev pub new_fork : List Member → Member → Past → ShowingParts → List Pair → Option Charge
-new_fork ms m past new pairs =
-    option_and_then (fork_of (kept ms m past) (all_accepted past) new) (first_fork pairs (shown ms m past))
+abbrev pub new_fork : Watched → Past → ShowingParts → List Pair → Option Charge
+new_fork w past new pairs =
+    option_and_then (fork_of (kept w past) (all_accepted past) new) (first_fork pairs (shown w past))
 
 -- all audited entries and those of a segment, with its closing
-abbrev pub audited_with : List Member → Member → Past → SegmentParts → SegmentParts
-audited_with ms m past s = record {
-  node = m.node;
+abbrev pub audited_with : Watched → Past → SegmentParts → SegmentParts
+audited_with w past s = record {
+  node = w.member.node;
   first = 1;
   opening = zeros;
-  entries = audited ms m past ++ s.entries;
+  entries = audited w past ++ s.entries;
   closing = s.closing;
 }
 
 -- what a replay's fault is shown by
-abbrev pub replay_of : List Member → Member → Past → SegmentParts → Verdict → Option Charge
-replay_of ms m past s (Sound t found) = None
-replay_of ms m past s (Fault fault number) = Some (Replay (audited_with ms m past s))
+abbrev pub replay_of : Watched → Past → SegmentParts → Verdict → Option Charge
+replay_of w past s (Sound t found) = None
+replay_of w past s (Fault fault number) = Some (Replay (audited_with w past s))
 
 -- the charge that follows from an authenticator noted, a segment accepted or a job filed, where there is one
-abbrev pub charge_of : List Member → Member → Past
+abbrev pub charge_of : Watched → Past
     → Option Authenticator → Option ClosedParts → Option JobParts → Option Charge
-charge_of ms m past (Some a) segment job = new_fork ms m past (authenticator_showing a) (pair_of a ∷ [])
-charge_of ms m past None (Some c) job =
-    new_fork ms m past (segment_showing c.segment) (segment_pairs c.segment)
-charge_of ms m past None None (Some j) =
-    replay_of ms m past j.segment.segment (verdict_on ms (end_of ms m past).state j)
-charge_of ms m past None None None = None
+charge_of w past (Some a) segment job = new_fork w past (authenticator_showing a) (pair_of a ∷ [])
+charge_of w past None (Some c) job =
+    new_fork w past (segment_showing c.segment) (marks_of c.segment)
+charge_of w past None None (Some j) =
+    replay_of w past j.segment.segment (verdict_on w.roster (end_of w past).state j)
+charge_of w past None None None = None
 
 -- what a step shows against the node
-abbrev pub new_charge : List Member → Member → Past → Step → Reply → Option Charge
-new_charge ms m past step reply =
-    charge_of ms m past (noted step reply) (accepted step reply) (filed step reply)
+abbrev pub new_charge : Watched → Past → Step → Reply → Option Charge
+new_charge w past step reply =
+    charge_of w past (noted step reply) (accepted step reply) (filed step reply)
 
 -- The evidence against the node, if it is exposed: the first that there was.
-abbrev pub evidence : List Member → Member → Past → Option EvidenceParts
-evidence ms m [] = None
-evidence ms m (p ∷ past) =
-    if is_exposed ms m past then evidence ms m past
-    else option_map (λ g. record { node = m.node; charge = g }) (new_charge ms m past p.0 p.1)
+abbrev pub evidence : Watched → Past → Option EvidenceParts
+evidence w [] = None
+evidence w (p ∷ past) =
+    if is_exposed w past then evidence w past
+    else option_map (λ g. record { node = w.member.node; charge = g }) (new_charge w past p.0 p.1)

@@ -11,6 +11,7 @@ use Rattle.witness_spec.specs.Refusals.{Refusal, NoMemory}
 use Rattle.witness_spec.specs.Events.{Event, Question, ItsIndication, ItsChallenges, ItsEvidence, IsEvent}
 use Rattle.witness_spec.specs.Events as events
 use Rattle.witness_spec.specs.Replies.{Reply, refused, is_want_of_memory, Challenge}
+use Rattle.witness_spec.specs.Watched.{Watched, watched}
 use Rattle.witness_spec.specs.Steps.{OwnStep, Past}
 use Rattle.witness_spec.specs.Whose.{whose}
 use Rattle.witness_spec.specs.Pairs.{Pair}
@@ -39,12 +40,17 @@ abbrev pub own : List Member → (node : ℕ) → History → Past
 own ms node [] = []
 own ms node (p ∷ history) = own_one ms node p ++ own ms node history
 
+-- the own steps of the node that is watched
+abbrev pub own_of : Watched → History → Past
+own_of w history = own w.roster w.member.node history
+
 -- ---- histories
 
 -- the reply that is owed to an event: by event and roster alone where it is nobody's step
 abbrev pub OwesTo : List Member → History → Event → Reply → Result OwnStep Refusal → Type 0
 OwesTo ms history event reply (Err refusal) = reply ≡ refused event refusal
-OwesTo ms history event reply (Ok o) = Owes ms o.member (own ms o.member.node history) o.step reply
+OwesTo ms history event reply (Ok o) =
+    Owes (watched ms o.member) (own_of (watched ms o.member) history) o.step reply
 
 -- the reply is the one that is owed to the event, whose step it is told by the roster
 abbrev pub IsOwed : List Member → History → Event → Reply → Type 0
@@ -69,9 +75,9 @@ IsHistory ms (p ∷ history) =
     IsEvent p.0 × (IsOwed ms history p.0 p.1 ⊎ IsWanting p.0 p.1) × IsHistory ms history
 
 -- the same of one node's own steps
-abbrev pub AreOwed : List Member → Member → Past → Type 0
-AreOwed ms m [] = Unit {0}
-AreOwed ms m (p ∷ past) = Owes ms m past p.0 p.1 × AreOwed ms m past
+abbrev pub AreOwed : Watched → Past → Type 0
+AreOwed w [] = Unit {0}
+AreOwed w (p ∷ past) = Owes w past p.0 p.1 × AreOwed w past
 
 -- ---- books
 
@@ -92,16 +98,16 @@ abbrev pub HoldSame : {A : Type 0} → List A → List A → Type 0
 HoldSame {A} xs ys = (x : A) → IsAmong x xs ↔ IsAmong x ys
 
 -- A book holds what a node's own steps say.
-pub record StandsFor (ms : List Member) (m : Member) (past : Past) (b : BookParts) : Type 0 where
-  pub end : b.end ≡ end_of ms m past
+pub record StandsFor (w : Watched) (past : Past) (b : BookParts) : Type 0 where
+  pub end : b.end ≡ end_of w past
   pub stage : b.stage ≡ stage_of past
   pub begun : b.begun ≡ begins past
-  pub pairs : HoldSame b.pairs (shown ms m past)
-  pub learned : HoldSame b.learned (kept ms m past)
+  pub pairs : HoldSame b.pairs (shown w past)
+  pub learned : HoldSame b.learned (kept w past)
   pub challenges : b.challenges ≡ open_challenges past
-  pub outbox : b.outbox ≡ outbox ms m past
+  pub outbox : b.outbox ≡ outbox w past
   pub segments : HoldSame b.segments (all_accepted past)
-  pub evidence : b.evidence ≡ evidence ms m past
+  pub evidence : b.evidence ≡ evidence w past
 
 -- There is a book for each of these members, that holds what the member's own steps in a history say.
 abbrev pub StandEach : List Member → History → List Member → List BookParts → Type 0
@@ -109,7 +115,7 @@ StandEach ms history [] [] = Unit {0}
 StandEach ms history [] (b ∷ books) = ⊥
 StandEach ms history (m ∷ members) [] = ⊥
 StandEach ms history (m ∷ members) (b ∷ books) =
-    StandsFor ms m (own ms m.node history) b × StandEach ms history members books
+    StandsFor (watched ms m) (own_of (watched ms m) history) b × StandEach ms history members books
 
 -- The books of a roster stand for a history.
 abbrev pub Stands : List Member → List BookParts → History → Type 0

@@ -4,7 +4,7 @@ use Rattle.std.specs.Prelude.{Some, Ok, Err, IsSome}
 use Rattle.sha2.specs.Sha256.{sha256}
 use Rattle.xdr.specs.Item.{Fits}
 use Rattle.merkle_keys.specs.Signing.{SignatureParts}
-use Rattle.authenticator.specs.Roster.{IsRoster, member_of}
+use Rattle.authenticator.specs.Roster.{IsRoster}
 use Rattle.authenticator.specs.Signed.{IsSignedBy}
 use Rattle.authenticator.specs.declared.authenticator.Authenticator.{Authenticator}
 use Rattle.authenticator.specs.declared.member.Member.{Member}
@@ -33,6 +33,7 @@ use Rattle.witness_spec.specs.Events.{PublicKey, JobParts, Event}
 use Rattle.witness_spec.specs.Events as events
 use Rattle.witness_spec.specs.Replies.{Reply, Accepted, Closed, refused}
 use Rattle.witness_spec.specs.Replies.{AuditOf, SendOf, Suspected, Exposed}
+use Rattle.witness_spec.specs.Watched.{Watched, IsInRoster}
 use Rattle.witness_spec.specs.Steps.{Step, Answer, AckIn, OwnStep, Past}
 use Rattle.witness_spec.specs.Whose.{is_key_of, whose}
 use Rattle.witness_spec.specs.Pairs.{Pair}
@@ -41,6 +42,7 @@ use Rattle.witness_spec.specs.Standing.{end_of, shown, Wanted, stage_of, open_ch
 use Rattle.witness_spec.specs.Exposing.{evidence}
 use Rattle.witness_spec.specs.Owing.{Owes}
 use Rattle.witness_spec.specs.Histories.{History, own, IsOwed, IsWanting, IsHistory, AreOwed, BookParts}
+use Rattle.witness_spec.specs.Histories.{own_of}
 use Rattle.witness_spec.specs.Histories.{Stands}
 use Rattle.witness_spec.specs.Premises.{Unforged, NoCollisionWith}
 
@@ -49,38 +51,38 @@ use Rattle.witness_spec.specs.Premises.{Unforged, NoCollisionWith}
 -- A step is owed one reply at most.
 abbrev pub OneReply : Type 0
 OneReply =
-    (ms : List Member) (m : Member) (past : Past) (step : Step) (one other : Reply)
-    → Owes ms m past step one → Owes ms m past step other → one ≡ other
+    (w : Watched) (past : Past) (step : Step) (one other : Reply)
+    → Owes w past step one → Owes w past step other → one ≡ other
 
 -- The own steps of a history have the replies that are owed by the earlier ones of that node alone.
 abbrev pub OwnStepsAreOwed : Type 0
 OwnStepsAreOwed =
-    (ms : List Member) (m : Member) (history : History)
-    → member_of ms m.node ≡ Some m → IsHistory ms history → AreOwed ms m (own ms m.node history)
+    (w : Watched) (history : History)
+    → IsInRoster w → IsHistory w.roster history → AreOwed w (own_of w history)
 
 -- ---- own steps alone
 
 -- What a witness says of a node after two histories is the same.
-pub record SaysSame (ms : List Member) (m : Member) (one two : History) : Type 0 where
+pub record SaysSame (w : Watched) (one two : History) : Type 0 where
   -- the steps with their replies
-  pub replies : own ms m.node one ≡ own ms m.node two
+  pub replies : own_of w one ≡ own_of w two
   -- what it tells
-  pub indications : indication ms m (own ms m.node one) ≡ indication ms m (own ms m.node two)
-  pub challenges : open_challenges (own ms m.node one) ≡ open_challenges (own ms m.node two)
-  pub evidences : evidence ms m (own ms m.node one) ≡ evidence ms m (own ms m.node two)
+  pub indications : indication w (own_of w one) ≡ indication w (own_of w two)
+  pub challenges : open_challenges (own_of w one) ≡ open_challenges (own_of w two)
+  pub evidences : evidence w (own_of w one) ≡ evidence w (own_of w two)
   -- what it owes to the next
   pub next : (event : Event) (step : Step) (reply : Reply)
-      → whose ms event ≡ Ok (record { member = m; step = step })
-      → IsOwed ms one event reply ↔ IsOwed ms two event reply
+      → whose w.roster event ≡ Ok (record { member = w.member; step = step })
+      → IsOwed w.roster one event reply ↔ IsOwed w.roster two event reply
 
 -- Histories in which a node's own steps are the same and in the same order, whatever their replies and
 -- whatever else they hold, have the same replies to these, and the witness says the same of the node.
 abbrev pub OwnStepsAlone : Type 0
 OwnStepsAlone =
-    (ms : List Member) (m : Member) (one two : History)
-    → member_of ms m.node ≡ Some m → IsHistory ms one → IsHistory ms two
-    → map (λ p. p.0) (own ms m.node one) ≡ map (λ p. p.0) (own ms m.node two)
-    → SaysSame ms m one two
+    (w : Watched) (one two : History)
+    → IsInRoster w → IsHistory w.roster one → IsHistory w.roster two
+    → map (λ p. p.0) (own_of w one) ≡ map (λ p. p.0) (own_of w two)
+    → SaysSame w one two
 
 -- ---- what is left out
 
@@ -141,42 +143,42 @@ pub record HasTwoHashes (pairs : List Pair) : Type 0 where
 
 -- A step was a File that was answered Filed, for a segment that no list of states makes honest after the
 -- state at the end.
-pub record IsFaultyFile (ms : List Member) (m : Member) (past : Past) (p : Step × Reply) : Type 0 where
+pub record IsFaultyFile (w : Watched) (past : Past) (p : Step × Reply) : Type 0 where
   pub job : JobParts
   pub filed : filed p.0 p.1 ≡ Some job
   pub none : (states : List State)
-      → ¬ Honest ms (end_of ms m past).state (placed_in job.segment.segment) states
+      → ¬ Honest w.roster (end_of w past).state (placed_in job.segment.segment) states
 
 -- one of the steps filed a segment with a fault
-abbrev pub HasFaultyFile : List Member → Member → Past → Type 0
-HasFaultyFile ms m [] = ⊥
-HasFaultyFile ms m (p ∷ past) = IsFaultyFile ms m past p ⊎ HasFaultyFile ms m past
+abbrev pub HasFaultyFile : Watched → Past → Type 0
+HasFaultyFile w [] = ⊥
+HasFaultyFile w (p ∷ past) = IsFaultyFile w past p ⊎ HasFaultyFile w past
 
 -- A node is Exposed exactly if a number has two hashes among what was shown, or such a File was filed.
 abbrev pub ExposedExactlyIf : Type 0
 ExposedExactlyIf =
-    (ms : List Member) (m : Member) (past : Past)
-    → (indication ms m past ≡ Exposed) ↔ (HasTwoHashes (shown ms m past) ⊎ HasFaultyFile ms m past)
+    (w : Watched) (past : Past)
+    → (indication w past ≡ Exposed) ↔ (HasTwoHashes (shown w past) ⊎ HasFaultyFile w past)
 
 -- Where it isn't Exposed, it is Suspected exactly if a challenge is open.
 abbrev pub SuspectedExactlyIf : Type 0
 SuspectedExactlyIf =
-    (ms : List Member) (m : Member) (past : Past)
-    → (indication ms m past ≡ Suspected) ↔ ((indication ms m past ≢ Exposed) × (open_challenges past ≢ []))
+    (w : Watched) (past : Past)
+    → (indication w past ≡ Suspected) ↔ ((indication w past ≢ Exposed) × (open_challenges past ≢ []))
 
 -- From such a File on the node is Exposed, whatever follows.
 abbrev pub FaultStays : Type 0
 FaultStays =
-    (ms : List Member) (m : Member) (later earlier : History)
-    → HasFaultyFile ms m (own ms m.node earlier)
-    → indication ms m (own ms m.node (later ++ earlier)) ≡ Exposed
+    (w : Watched) (later earlier : History)
+    → HasFaultyFile w (own_of w earlier)
+    → indication w (own_of w (later ++ earlier)) ≡ Exposed
 
 -- Whatever exposed it, it stays Exposed.
 abbrev pub ExposedStays : Type 0
 ExposedStays =
-    (ms : List Member) (m : Member) (later earlier : History)
-    → indication ms m (own ms m.node earlier) ≡ Exposed
-    → indication ms m (own ms m.node (later ++ earlier)) ≡ Exposed
+    (w : Watched) (later earlier : History)
+    → indication w (own_of w earlier) ≡ Exposed
+    → indication w (own_of w (later ++ earlier)) ≡ Exposed
 
 -- ---- who answered by the tree
 
@@ -184,46 +186,46 @@ ExposedStays =
 -- forged and no two texts have one digest.
 abbrev pub HonestIsNeverExposed : Type 0
 HonestIsNeverExposed =
-    (ms : List Member) (m : Member) (history : History) (log : List Entry) (s : State)
-    → member_of ms m.node ≡ Some m → IsHistory ms history
-    → IsLog log → IsHonestLog ms (opening_of m) log s
-    → Unforged ms m log (own ms m.node history) → NoCollisionWith log (own ms m.node history)
-    → indication ms m (own ms m.node history) ≢ Exposed
+    (w : Watched) (history : History) (log : List Entry) (s : State)
+    → IsInRoster w → IsHistory w.roster history
+    → IsLog log → IsHonestLog w.roster (opening_of w.member) log s
+    → Unforged w log (own_of w history) → NoCollisionWith log (own_of w history)
+    → indication w (own_of w history) ≢ Exposed
 
 -- ---- evidence
 
 -- Evidence is there exactly where the node is Exposed.
 abbrev pub EvidenceWhereExposed : Type 0
 EvidenceWhereExposed =
-    (ms : List Member) (m : Member) (history : History)
-    → member_of ms m.node ≡ Some m → IsHistory ms history
-    → IsSome (evidence ms m (own ms m.node history)) ↔ (indication ms m (own ms m.node history) ≡ Exposed)
+    (w : Watched) (history : History)
+    → IsInRoster w → IsHistory w.roster history
+    → IsSome (evidence w (own_of w history)) ↔ (indication w (own_of w history) ≡ Exposed)
 
 -- It is of the node, has a text, and is accepted; so it proves that the node has no honest log.
-pub record IsProof (ms : List Member) (m : Member) (e : EvidenceParts) : Type 0 where
-  pub node : e.node ≡ m.node
+pub record IsProof (w : Watched) (e : EvidenceParts) : Type 0 where
+  pub node : e.node ≡ w.member.node
   pub text : Fits evidence_item (evidence_value e)
-  pub accepted : Accepts ms e
-  pub proves : Proves ms e
+  pub accepted : Accepts w.roster e
+  pub proves : Proves w.roster e
 
 -- The evidence that a history gives against a member proves that it has no honest log.
 abbrev pub EvidenceProves : Type 0
 EvidenceProves =
-    (ms : List Member) (m : Member) (history : History) (e : EvidenceParts)
-    → member_of ms m.node ≡ Some m → IsHistory ms history
-    → evidence ms m (own ms m.node history) ≡ Some e → IsProof ms m e
+    (w : Watched) (history : History) (e : EvidenceParts)
+    → IsInRoster w → IsHistory w.roster history
+    → evidence w (own_of w history) ≡ Some e → IsProof w e
 
 -- ---- who answers
 
 -- A segment that was asked for is answered by that part of the node's log, closed by its signature there. The
 -- answer is the node's step, it is accepted, and after it no audit is open.
-pub record AnswersAudit (ms : List Member) (m : Member) (history : History) (c : ClosedParts) : Type 0 where
-  pub closed : IsClosed ms c.segment
-  pub its : whose ms (events.Answer c) ≡ Ok (record { member = m; step = Answer c })
-  pub reply : (reply : Reply) → IsOwed ms history (events.Answer c) reply ↔ (reply ≡ Accepted)
+pub record AnswersAudit (w : Watched) (history : History) (c : ClosedParts) : Type 0 where
+  pub closed : IsClosed w.roster c.segment
+  pub its : whose w.roster (events.Answer c) ≡ Ok (record { member = w.member; step = Answer c })
+  pub reply : (reply : Reply) → IsOwed w.roster history (events.Answer c) reply ↔ (reply ≡ Accepted)
   pub closes : (first last : ℕ)
       → let after : History = (events.Answer c, Accepted) ∷ history in
-      ¬ IsAmong (AuditOf first last) (open_challenges (own ms m.node after))
+      ¬ IsAmong (AuditOf first last) (open_challenges (own_of w after))
 
 -- a part of a log with its closing, under a roster
 abbrev pub answer_of : List Member → OpenSegment → Authenticator → ClosedParts
@@ -233,30 +235,29 @@ answer_of ms s closing = record { segment = with_closing s closing; roster = ms 
 -- audit.
 abbrev pub AnswersAreAccepted : Type 0
 AnswersAreAccepted =
-    (ms : List Member) (m : Member) (history : History) (log : LogParts) (first last : ℕ) (s : OpenSegment)
+    (w : Watched) (history : History) (log : LogParts) (first last : ℕ) (s : OpenSegment)
     (closing : Authenticator)
-    → IsRoster ms → member_of ms m.node ≡ Some m → log.node ≡ m.node
-    → stage_of (own ms m.node history) ≡ Wanted first last
-    → GivesPart log first last (Ok s) → IsOfPlace log last closing → IsSignedBy m closing
-    → AnswersAudit ms m history (answer_of ms s closing)
+    → IsRoster w.roster → IsInRoster w → log.node ≡ w.member.node
+    → stage_of (own_of w history) ≡ Wanted first last
+    → GivesPart log first last (Ok s) → IsOfPlace log last closing → IsSignedBy w.member closing
+    → AnswersAudit w history (answer_of w.roster s closing)
 
 -- The acknowledgement by a node of a message that it is challenged with is the node's step, it closes the
 -- challenge, and after it none of that message is open.
-pub record ClosesChallenge (ms : List Member) (m : Member) (history : History) (a : Ack) (key : PublicKey)
-    : Type 0 where
-  pub its : whose ms (events.AckIn a key) ≡ Ok (record { member = m; step = AckIn a })
-  pub reply : (reply : Reply) → IsOwed ms history (events.AckIn a key) reply ↔ (reply ≡ Closed)
+pub record ClosesChallenge (w : Watched) (history : History) (a : Ack) (key : PublicKey) : Type 0 where
+  pub its : whose w.roster (events.AckIn a key) ≡ Ok (record { member = w.member; step = AckIn a })
+  pub reply : (reply : Reply) → IsOwed w.roster history (events.AckIn a key) reply ↔ (reply ≡ Closed)
   pub closes : (e : Envelope) → envelope_message e ≡ acked_message a
       → let after : History = (events.AckIn a key, Closed) ∷ history in
-      ¬ IsAmong (SendOf e) (open_challenges (own ms m.node after))
+      ¬ IsAmong (SendOf e) (open_challenges (own_of w after))
 
 -- A node's acknowledgement of a message that it is challenged with closes the challenge.
 abbrev pub AcksClose : Type 0
 AcksClose =
-    (ms : List Member) (m : Member) (history : History) (e : Envelope) (a : Ack) (key : PublicKey)
-    → member_of ms m.node ≡ Some m → IsTrue (is_key_of m key) → a.by ≡ m.node
-    → IsAmong (SendOf e) (open_challenges (own ms m.node history)) → acked_message a ≡ envelope_message e
-    → ClosesChallenge ms m history a key
+    (w : Watched) (history : History) (e : Envelope) (a : Ack) (key : PublicKey)
+    → IsInRoster w → IsTrue (is_key_of w.member key) → a.by ≡ w.member.node
+    → IsAmong (SendOf e) (open_challenges (own_of w history)) → acked_message a ≡ envelope_message e
+    → ClosesChallenge w history a key
 
 -- A segment has the RECV of a message in its node's log.
 pub record HasRecv (s : SegmentParts) (message : Message) : Type 0 where
@@ -270,20 +271,19 @@ pub record HasRecv (s : SegmentParts) (message : Message) : Type 0 where
 
 -- After a segment that was accepted no audit is open; nor is a challenge with a message whose RECV it has.
 -- All other challenges with messages stay open, and none is new.
-pub record ClosesWhatItAnswers (ms : List Member) (m : Member) (history : History) (c : ClosedParts)
-    : Type 0 where
+pub record ClosesWhatItAnswers (w : Watched) (history : History) (c : ClosedParts) : Type 0 where
   pub audits : (first last : ℕ)
       → let after : History = (events.Answer c, Accepted) ∷ history in
-      ¬ IsAmong (AuditOf first last) (open_challenges (own ms m.node after))
+      ¬ IsAmong (AuditOf first last) (open_challenges (own_of w after))
   pub sends : (e : Envelope)
       → let after : History = (events.Answer c, Accepted) ∷ history in
-      IsAmong (SendOf e) (open_challenges (own ms m.node after))
-      ↔ (IsAmong (SendOf e) (open_challenges (own ms m.node history))
+      IsAmong (SendOf e) (open_challenges (own_of w after))
+      ↔ (IsAmong (SendOf e) (open_challenges (own_of w history))
       × ¬ HasRecv c.segment (envelope_message e))
 
 -- A node's segment that is accepted closes the audit, and each challenge with a message whose RECV it has.
 abbrev pub AnswersCloseChallenges : Type 0
 AnswersCloseChallenges =
-    (ms : List Member) (m : Member) (history : History) (c : ClosedParts)
-    → whose ms (events.Answer c) ≡ Ok (record { member = m; step = Answer c })
-    → ClosesWhatItAnswers ms m history c
+    (w : Watched) (history : History) (c : ClosedParts)
+    → whose w.roster (events.Answer c) ≡ Ok (record { member = w.member; step = Answer c })
+    → ClosesWhatItAnswers w history c

@@ -3,6 +3,7 @@ pub use Rattle.evidence_spec.specs.replay_spec as replay_spec
 pub mod Refusals
 pub mod Events
 pub mod Replies
+pub mod Watched
 pub mod Steps
 pub mod Whose
 pub mod Limits

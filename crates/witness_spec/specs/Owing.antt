@@ -5,7 +5,6 @@ use Rattle.std.specs.Prelude.{List, [], ◌∷◌, length, map, filter, fold, co
 use Rattle.std.specs.Prelude.{Decides, if◌then◌else◌}
 use Rattle.std.specs.List.{list_any}
 use Rattle.authenticator.specs.declared.authenticator.Authenticator.{Authenticator}
-use Rattle.authenticator.specs.declared.member.Member.{Member}
 use Rattle.secure_log.specs.Segment.{ClosedParts}
 use Rattle.envelopes.specs.Envelope.{envelope_message}
 use Rattle.envelopes.specs.Acknowledgement.{acked_message}
@@ -17,10 +16,11 @@ use Rattle.witness_spec.specs.Events.{JobParts, Question, ItsIndication, ItsChal
 use Rattle.witness_spec.specs.Replies.{Reply, Noted, Already, Opened, Accepted, Closed, Asked, Job, Filed}
 use Rattle.witness_spec.specs.Replies.{Returned, Forwarded, Empty, Told, OpenList, EvidenceIs}
 use Rattle.witness_spec.specs.Replies.{Refused, FileRefused, PutBackRefused, Challenge, AuditOf, SendOf}
+use Rattle.witness_spec.specs.Watched.{Watched}
 use Rattle.witness_spec.specs.Steps.{Step, Learn, SendChallenge, Answer, AckIn, Audit, Begin, File, PutBack}
 use Rattle.witness_spec.specs.Steps.{Forward, Ask, Past}
 use Rattle.witness_spec.specs.Limits.{MAX_LEARNED, MAX_CHALLENGES, MAX_ASKED, MAX_AUDITED, MAX_OUTBOX}
-use Rattle.witness_spec.specs.Pairs.{pair_of, is_shown, is_fork}
+use Rattle.witness_spec.specs.Pairs.{pair_of, is_shown, is_fork, number_of, first_of, last_of}
 use Rattle.witness_spec.specs.Standing.{end_of, shown, is_exposed, kept, Stage, NoAudit, Wanted, Given, Out}
 use Rattle.witness_spec.specs.Standing.{stage_of, begins, job_of, job_out, is_send_of, open_challenges}
 use Rattle.witness_spec.specs.Standing.{indication, outbox}
@@ -30,17 +30,17 @@ use Rattle.witness_spec.specs.Exposing.{evidence}
 
 -- An authenticator whose pair isn't shown and makes no fork is to be kept if it lies above the end; there may
 -- be no room for it.
-abbrev pub has_no_room : List Member → Member → Past → Authenticator → Bool
-has_no_room ms m past a =
-    not (is_fork (pair_of a) (shown ms m past))
-    && (nat_lt (end_of ms m past).number a.number && nat_le MAX_LEARNED (length (kept ms m past)))
+abbrev pub has_no_room : Watched → Past → Authenticator → Bool
+has_no_room w past a =
+    not (is_fork (pair_of a) (shown w past))
+    && (nat_lt (end_of w past).number (number_of a) && nat_le MAX_LEARNED (length (kept w past)))
 
 -- the reply to an authenticator that is learned
-abbrev pub learn_reply : List Member → Member → Past → Authenticator → Reply
-learn_reply ms m past a =
-    if is_exposed ms m past then Noted
-    else if is_shown (pair_of a) (shown ms m past) then Already
-    else if has_no_room ms m past a then Refused LearnedFull
+abbrev pub learn_reply : Watched → Past → Authenticator → Reply
+learn_reply w past a =
+    if is_exposed w past then Noted
+    else if is_shown (pair_of a) (shown w past) then Already
+    else if has_no_room w past a then Refused LearnedFull
     else Noted
 
 -- whether a challenge is with a message
@@ -63,7 +63,7 @@ challenge_reply challenges e =
 abbrev pub answer_reply : Stage → ClosedParts → Reply
 answer_reply NoAudit c = Refused NotAsked
 answer_reply (Wanted first last) c =
-    if (c.segment.first == first) && (c.segment.closing.number == last) then Accepted else Refused NotAsked
+    if (first_of c.segment == first) && (last_of c.segment == last) then Accepted else Refused NotAsked
 answer_reply (Given d) c = Refused NotAsked
 answer_reply (Out d) c = Refused NotAsked
 
@@ -76,7 +76,7 @@ ack_reply challenges message = if is_open message challenges then Closed else Re
 -- the greatest number among those that an audit after `end` can reach; 0 if there is none
 abbrev pub last_in_reach : (end : ℕ) → List Authenticator → ℕ
 last_in_reach end learned =
-    fold max 0 (filter (λ n. nat_le n (end + MAX_ASKED)) (map (λ a. a.number) learned))
+    fold max 0 (filter (λ n. nat_le n (end + MAX_ASKED)) (map (λ a. number_of a) learned))
 
 -- an audit up to a number
 abbrev pub ask_up_to : (end waiting last : ℕ) → Reply
@@ -93,24 +93,24 @@ ask_reply false end waiting [] = Refused NothingToAudit
 ask_reply false end waiting (a ∷ learned) = ask_up_to end waiting (last_in_reach end (a ∷ learned))
 
 -- the reply to an audit, by its stage
-abbrev pub audit_reply : List Member → Member → Past → Stage → Reply
-audit_reply ms m past NoAudit =
-    ask_reply (is_exposed ms m past) (end_of ms m past).number (length (outbox ms m past)) (kept ms m past)
-audit_reply ms m past (Wanted first last) = Refused Busy
-audit_reply ms m past (Given c) = Refused Busy
-audit_reply ms m past (Out c) = Refused Busy
+abbrev pub audit_reply : Watched → Past → Stage → Reply
+audit_reply w past NoAudit =
+    ask_reply (is_exposed w past) (end_of w past).number (length (outbox w past)) (kept w past)
+audit_reply w past (Wanted first last) = Refused Busy
+audit_reply w past (Given c) = Refused Busy
+audit_reply w past (Out c) = Refused Busy
 
 -- the job of a segment, with the number after the last
-abbrev pub next_job : List Member → Member → Past → ClosedParts → JobParts
-next_job ms m past c = record (job_of ms m past c) { number = begins past + 1 }
+abbrev pub next_job : Watched → Past → ClosedParts → JobParts
+next_job w past c = record (job_of w past c) { number = begins past + 1 }
 
 -- the reply where a job is to begin, by the stage
-abbrev pub begin_reply : List Member → Member → Past → Stage → Reply
-begin_reply ms m past NoAudit = Refused NothingToAudit
-begin_reply ms m past (Wanted first last) = Refused NothingToAudit
-begin_reply ms m past (Given c) =
-    if is_exposed ms m past then Refused NothingToAudit else Job (next_job ms m past c)
-begin_reply ms m past (Out c) = Refused Busy
+abbrev pub begin_reply : Watched → Past → Stage → Reply
+begin_reply w past NoAudit = Refused NothingToAudit
+begin_reply w past (Wanted first last) = Refused NothingToAudit
+begin_reply w past (Given c) =
+    if is_exposed w past then Refused NothingToAudit else Job (next_job w past c)
+begin_reply w past (Out c) = Refused Busy
 
 -- a job comes back: it is the one that is out, or another, or none is out
 abbrev pub back_reply : (is_out : Bool) → Option JobParts → (good wrong none : Reply) → Reply
@@ -126,37 +126,37 @@ forward_reply [] = Empty
 forward_reply (a ∷ rest) = Forwarded a
 
 -- what is told of a node
-abbrev pub ask : List Member → Member → Past → Question → Reply
-ask ms m past ItsIndication = Told (indication ms m past)
-ask ms m past ItsChallenges = OpenList (open_challenges past)
-ask ms m past ItsEvidence = EvidenceIs (evidence ms m past)
+abbrev pub ask : Watched → Past → Question → Reply
+ask w past ItsIndication = Told (indication w past)
+ask w past ItsChallenges = OpenList (open_challenges past)
+ask w past ItsEvidence = EvidenceIs (evidence w past)
 
 -- ---- all steps
 
 -- The reply, where it is told whether the job that comes back is the one that is out.
-abbrev pub reply_told : (is_out : Bool) → List Member → Member → Past → Step → Reply
-reply_told is_out ms m past (Learn a) = learn_reply ms m past a
-reply_told is_out ms m past (SendChallenge e) = challenge_reply (open_challenges past) e
-reply_told is_out ms m past (Answer c) = answer_reply (stage_of past) c
-reply_told is_out ms m past (AckIn a) = ack_reply (open_challenges past) (acked_message a)
-reply_told is_out ms m past Audit = audit_reply ms m past (stage_of past)
-reply_told is_out ms m past Begin = begin_reply ms m past (stage_of past)
-reply_told is_out ms m past (File d) =
-    back_reply is_out (job_out ms m past) Filed (FileRefused WrongJob d) (FileRefused NoJob d)
-reply_told is_out ms m past (PutBack j) =
-    back_reply is_out (job_out ms m past) Returned (PutBackRefused WrongJob j) (PutBackRefused NoJob j)
-reply_told is_out ms m past Forward = forward_reply (outbox ms m past)
-reply_told is_out ms m past (Ask question) = ask ms m past question
+abbrev pub reply_told : (is_out : Bool) → Watched → Past → Step → Reply
+reply_told is_out w past (Learn a) = learn_reply w past a
+reply_told is_out w past (SendChallenge e) = challenge_reply (open_challenges past) e
+reply_told is_out w past (Answer c) = answer_reply (stage_of past) c
+reply_told is_out w past (AckIn a) = ack_reply (open_challenges past) (acked_message a)
+reply_told is_out w past Audit = audit_reply w past (stage_of past)
+reply_told is_out w past Begin = begin_reply w past (stage_of past)
+reply_told is_out w past (File d) =
+    back_reply is_out (job_out w past) Filed (FileRefused WrongJob d) (FileRefused NoJob d)
+reply_told is_out w past (PutBack j) =
+    back_reply is_out (job_out w past) Returned (PutBackRefused WrongJob j) (PutBackRefused NoJob j)
+reply_told is_out w past Forward = forward_reply (outbox w past)
+reply_told is_out w past (Ask question) = ask w past question
 
 -- The job that comes back with a step is the one that is out: the same node, number, state and segment.
-abbrev pub IsOut : List Member → Member → Past → Step → Type 0
-IsOut ms m past (File d) = job_out ms m past ≡ Some d.job
-IsOut ms m past (PutBack j) = job_out ms m past ≡ Some j
-IsOut ms m past _ = ⊥
+abbrev pub IsOut : Watched → Past → Step → Type 0
+IsOut w past (File d) = job_out w past ≡ Some d.job
+IsOut w past (PutBack j) = job_out w past ≡ Some j
+IsOut w past _ = ⊥
 
 -- The reply that is owed. Whether two jobs are the same is no test that computes, since states hold whole
 -- trees of files; so the reply is a relation, told by a Bool that decides it. There is one reply at most.
-pub record Owes (ms : List Member) (m : Member) (past : Past) (step : Step) (reply : Reply) : Type 0 where
+pub record Owes (w : Watched) (past : Past) (step : Step) (reply : Reply) : Type 0 where
   pub is_out : Bool
-  pub decides : Decides is_out (IsOut ms m past step)
-  pub told : reply ≡ reply_told is_out ms m past step
+  pub decides : Decides is_out (IsOut w past step)
+  pub told : reply ≡ reply_told is_out w past step

@@ -5,14 +5,31 @@ use Rattle.std.specs.List.{list_any}
 use Rattle.secure_log.specs.LogEntries.Chain.{zeros}
 use Rattle.authenticator.specs.declared.authenticator.Authenticator.{Authenticator}
 use Rattle.authenticator.specs.Signing.{is_same}
+use Rattle.secure_log.specs.Segment.{SegmentParts, segment_pairs}
 
 -- a number and a hash
 abbrev pub Pair : Type 0
 Pair = ℕ × List ℕ
 
--- the pair of an authenticator
+-- the number at which an authenticator is
+abbrev pub number_of : Authenticator → ℕ
+number_of a = a.number
+
+-- the first number of a segment
+abbrev pub first_of : SegmentParts → ℕ
+first_of s = s.first
+
+-- the last number of a segment: that of its closing
+abbrev pub last_of : SegmentParts → ℕ
+last_of s = s.closing.number
+
+-- the pairs of number and mark that a segment shows; a mark is the hash there
+abbrev pub marks_of : SegmentParts → List Pair
+marks_of s = segment_pairs s
+
+-- the pair of an authenticator: its number and its hash
 abbrev pub pair_of : Authenticator → Pair
-pair_of a = (a.number, a.hash)
+pair_of a = (number_of a, a.hash)
 
 -- the pair before the first entry, which every log has
 abbrev pub first_pair : Pair

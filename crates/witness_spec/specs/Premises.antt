@@ -3,10 +3,10 @@
 use Rattle.std.specs.Prelude.{ℕ, List, [], ◌∷◌, ◌++◌, flat_map}
 use Rattle.std.specs.List.{AllByRecursion}
 use Rattle.authenticator.specs.declared.authenticator.Authenticator.{Authenticator}
-use Rattle.authenticator.specs.declared.member.Member.{Member}
 use Rattle.secure_log.specs.LogEntries.Chain.{NoCollision}
 use Rattle.secure_log.specs.declared.log_entries.entry.Entry.{Entry}
 use Rattle.evidence_spec.specs.Proving.{IsUnforged, log_texts, segment_texts}
+use Rattle.witness_spec.specs.Watched.{Watched}
 use Rattle.witness_spec.specs.Steps.{Step, Learn, Answer, Past}
 
 -- the authenticators that a step shows: one to be learned, or the closing of a segment
@@ -21,9 +21,9 @@ texts_in (Answer c) = segment_texts c.segment
 texts_in _ = []
 
 -- Each authenticator of a node among its own steps that is signed has its pair in the log.
-abbrev pub Unforged : List Member → Member → List Entry → Past → Type 0
-Unforged ms m log past =
-    AllByRecursion (IsUnforged ms m.node log) (flat_map (λ p. authenticators_in p.0) past)
+abbrev pub Unforged : Watched → List Entry → Past → Type 0
+Unforged w log past =
+    AllByRecursion (IsUnforged w.roster w.member.node log) (flat_map (λ p. authenticators_in p.0) past)
 
 -- No two texts have one digest, among those of the log and those of the segments among a node's own steps.
 abbrev pub NoCollisionWith : List Entry → Past → Type 0

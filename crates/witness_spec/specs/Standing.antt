@@ -1,5 +1,5 @@
--- What one node's own steps say of it. The steps are listed with their replies, the newest first; `m` is the
--- node's member of the roster `ms`.
+-- What one node's own steps say of it. The steps are listed with their replies, the newest first; `w`
+-- has the node's member and the roster.
 use Rattle.std.specs.Prelude.{ℕ, Bool, true, false, not, ◌&&◌, ◌||◌, ◌==◌, nat_lt, List, [], ◌∷◌, ◌++◌}
 use Rattle.std.specs.Prelude.{filter, drop, count_by, Option, Some, None, is_some}
 use Rattle.std.specs.Prelude.{if◌then◌else◌}
@@ -10,7 +10,7 @@ use Rattle.authenticator.specs.declared.member.Member.{Member}
 use Rattle.secure_log.specs.declared.log_entries.entry.Entry.{Entry}
 use Rattle.secure_log.specs.declared.log_entries.entry.Entry.TheVariants as entries
 use Rattle.secure_log.specs.LogEntries.Messages.{message_hash}
-use Rattle.secure_log.specs.Segment.{SegmentParts, ClosedParts, segment_pairs}
+use Rattle.secure_log.specs.Segment.{SegmentParts, ClosedParts}
 use Rattle.envelopes.specs.Envelope.{envelope_message}
 use Rattle.envelopes.specs.Acknowledgement.{acked_message}
 use Rattle.envelopes.specs.declared.message.Message.{Message}
@@ -22,9 +22,10 @@ use Rattle.witness_spec.specs.Events.{JobParts}
 use Rattle.witness_spec.specs.Replies.{Reply, Challenge, AuditOf, SendOf}
 use Rattle.witness_spec.specs.Replies.{Indication, Trusted, Suspected, Exposed}
 use Rattle.witness_spec.specs.Replies as replies
+use Rattle.witness_spec.specs.Watched.{Watched}
 use Rattle.witness_spec.specs.Steps.{Step, Past}
 use Rattle.witness_spec.specs.Steps as steps
-use Rattle.witness_spec.specs.Pairs.{Pair, pair_of, first_pair, has_fork}
+use Rattle.witness_spec.specs.Pairs.{Pair, pair_of, first_pair, has_fork, number_of, last_of, marks_of}
 use Rattle.witness_spec.specs.Done.{noted, accepted, begun, filed, forwarded}
 
 -- ---- what was audited
@@ -46,12 +47,12 @@ moved_by end last (Fault fault number) = end
 -- the end after a job that may have been filed
 abbrev pub end_after : List Member → End → Option JobParts → End
 end_after ms end None = end
-end_after ms end (Some j) = moved_by end j.segment.segment.closing.number (verdict_on ms end.state j)
+end_after ms end (Some j) = moved_by end (last_of j.segment.segment) (verdict_on ms end.state j)
 
 -- At first it is 0, with the state that the node begins with.
-abbrev pub end_of : List Member → Member → Past → End
-end_of ms m [] = record { number = 0; state = opening_of m }
-end_of ms m (p ∷ past) = end_after ms (end_of ms m past) (filed p.0 p.1)
+abbrev pub end_of : Watched → Past → End
+end_of w [] = record { number = 0; state = opening_of w.member }
+end_of w (p ∷ past) = end_after w.roster (end_of w past) (filed p.0 p.1)
 
 -- A verdict is a fault: no list of states makes the segment honest.
 abbrev pub is_fault : Verdict → Bool
@@ -64,10 +65,10 @@ finds_fault ms s None = false
 finds_fault ms s (Some j) = is_fault (verdict_on ms s j)
 
 -- some File was answered Filed for a segment that no list of states makes honest
-abbrev pub has_fault : List Member → Member → Past → Bool
-has_fault ms m [] = false
-has_fault ms m (p ∷ past) =
-    finds_fault ms (end_of ms m past).state (filed p.0 p.1) || has_fault ms m past
+abbrev pub has_fault : Watched → Past → Bool
+has_fault w [] = false
+has_fault w (p ∷ past) =
+    finds_fault w.roster (end_of w past).state (filed p.0 p.1) || has_fault w past
 
 -- the entries of a segment that is found sound
 abbrev pub sound_entries : List Entry → Verdict → List Entry
@@ -80,9 +81,9 @@ entries_filed ms s None = []
 entries_filed ms s (Some j) = sound_entries j.segment.segment.entries (verdict_on ms s j)
 
 -- all entries that were audited: those of the segments filed Sound, in order
-abbrev pub audited : List Member → Member → Past → List Entry
-audited ms m [] = []
-audited ms m (p ∷ past) = audited ms m past ++ entries_filed ms (end_of ms m past).state (filed p.0 p.1)
+abbrev pub audited : Watched → Past → List Entry
+audited w [] = []
+audited w (p ∷ past) = audited w past ++ entries_filed w.roster (end_of w past).state (filed p.0 p.1)
 
 -- ---- what was shown
 
@@ -95,19 +96,19 @@ pairs_noted false (Some a) = pair_of a ∷ []
 -- the pairs of a segment that was accepted
 abbrev pub pairs_accepted : Option ClosedParts → List Pair
 pairs_accepted None = []
-pairs_accepted (Some c) = segment_pairs c.segment
+pairs_accepted (Some c) = marks_of c.segment
 
 -- What was shown: the pair before the first entry, those of each segment that was accepted, and of each
 -- authenticator that was noted while the node wasn't yet exposed.
-abbrev pub shown : List Member → Member → Past → List Pair
-shown ms m [] = first_pair ∷ []
-shown ms m (p ∷ past) =
-    pairs_noted (has_fork (shown ms m past) || has_fault ms m past) (noted p.0 p.1)
-    ++ (pairs_accepted (accepted p.0 p.1) ++ shown ms m past)
+abbrev pub shown : Watched → Past → List Pair
+shown w [] = first_pair ∷ []
+shown w (p ∷ past) =
+    pairs_noted (has_fork (shown w past) || has_fault w past) (noted p.0 p.1)
+    ++ (pairs_accepted (accepted p.0 p.1) ++ shown w past)
 
 -- One number has two hashes among what was shown, or a segment was filed that isn't honest.
-abbrev pub is_exposed : List Member → Member → Past → Bool
-is_exposed ms m past = has_fork (shown ms m past) || has_fault ms m past
+abbrev pub is_exposed : Watched → Past → Bool
+is_exposed w past = has_fork (shown w past) || has_fault w past
 
 -- ---- what is kept
 
@@ -118,14 +119,14 @@ unless_exposed true (Some a) = []
 unless_exposed false (Some a) = a ∷ []
 
 -- those that were noted before the exposing step
-abbrev pub noted_before : List Member → Member → Past → List Authenticator
-noted_before ms m [] = []
-noted_before ms m (p ∷ past) =
-    unless_exposed (is_exposed ms m (p ∷ past)) (noted p.0 p.1) ++ noted_before ms m past
+abbrev pub noted_before : Watched → Past → List Authenticator
+noted_before w [] = []
+noted_before w (p ∷ past) =
+    unless_exposed (is_exposed w (p ∷ past)) (noted p.0 p.1) ++ noted_before w past
 
 -- of these, those with numbers above the end
-abbrev pub kept : List Member → Member → Past → List Authenticator
-kept ms m past = filter (λ a. nat_lt (end_of ms m past).number a.number) (noted_before ms m past)
+abbrev pub kept : Watched → Past → List Authenticator
+kept w past = filter (λ a. nat_lt (end_of w past).number (number_of a)) (noted_before w past)
 
 -- the segments that were accepted, the newest first
 abbrev pub segment_of : Option ClosedParts → List SegmentParts
@@ -165,20 +166,20 @@ abbrev pub begins : Past → ℕ
 begins past = count_by (λ p. is_some (begun p.0 p.1)) past
 
 -- The job of a segment: it has the number of the last Begin and the end's state.
-abbrev pub job_of : List Member → Member → Past → ClosedParts → JobParts
-job_of ms m past c =
-    record { node = m.node; number = begins past; state = (end_of ms m past).state; segment = c }
+abbrev pub job_of : Watched → Past → ClosedParts → JobParts
+job_of w past c =
+    record { node = w.member.node; number = begins past; state = (end_of w past).state; segment = c }
 
 -- the job that is out
-abbrev pub out_at : List Member → Member → Past → Stage → Option JobParts
-out_at ms m past NoAudit = None
-out_at ms m past (Wanted first last) = None
-out_at ms m past (Given c) = None
-out_at ms m past (Out c) = Some (job_of ms m past c)
+abbrev pub out_at : Watched → Past → Stage → Option JobParts
+out_at w past NoAudit = None
+out_at w past (Wanted first last) = None
+out_at w past (Given c) = None
+out_at w past (Out c) = Some (job_of w past c)
 
 -- the job that is out, if one is
-abbrev pub job_out : List Member → Member → Past → Option JobParts
-job_out ms m past = out_at ms m past (stage_of past)
+abbrev pub job_out : Watched → Past → Option JobParts
+job_out w past = out_at w past (stage_of past)
 
 -- ---- open challenges
 
@@ -224,9 +225,9 @@ without_evidence [] = Trusted
 without_evidence (x ∷ xs) = Suspected
 
 -- What is said of the node.
-abbrev pub indication : List Member → Member → Past → Indication
-indication ms m past =
-    if is_exposed ms m past then Exposed else without_evidence (open_challenges past)
+abbrev pub indication : Watched → Past → Indication
+indication w past =
+    if is_exposed w past then Exposed else without_evidence (open_challenges past)
 
 -- ---- the outbox
 
@@ -241,14 +242,14 @@ found_filed ms s None = []
 found_filed ms s (Some j) = sound_found (verdict_on ms s j)
 
 -- what the segments filed Sound show of other nodes' logs, in order
-abbrev pub all_found : List Member → Member → Past → List Authenticator
-all_found ms m [] = []
-all_found ms m (p ∷ past) = all_found ms m past ++ found_filed ms (end_of ms m past).state (filed p.0 p.1)
+abbrev pub all_found : Watched → Past → List Authenticator
+all_found w [] = []
+all_found w (p ∷ past) = all_found w past ++ found_filed w.roster (end_of w past).state (filed p.0 p.1)
 
 -- how many were forwarded
 abbrev pub forwards : Past → ℕ
 forwards past = count_by (λ p. is_some (forwarded p.0 p.1)) past
 
 -- what is still to be forwarded, the oldest first
-abbrev pub outbox : List Member → Member → Past → List Authenticator
-outbox ms m past = drop (forwards past) (all_found ms m past)
+abbrev pub outbox : Watched → Past → List Authenticator
+outbox w past = drop (forwards past) (all_found w past)

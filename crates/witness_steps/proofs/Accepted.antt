@@ -3,12 +3,12 @@
 use Rattle.std.proofs.Common.{◌≡◌, ◌⊎◌, inl, inr, ◌+◌, ◌≤◌, List, [], ◌∷◌, ◌++◌}
 use Rattle.std.proofs.Common.{length, append-nil, Option, Some, None, refl, sym, ap, subst}
 use Rattle.std.proofs.Common.{◌∙◌, arith}
-use Rattle.authenticator.specs.declared.member.Member.{Member}
 use Rattle.secure_log.specs.Segment.{SegmentParts, ClosedParts, segment_pairs}
 use Rattle.secure_log.specs.LogEntries.Chain.{IsAmong}
 use Rattle.evidence_spec.specs.Showing.{segment_showing}
 use Rattle.evidence_spec.specs.Evidence.{EvidenceParts}
 use Rattle.witness_spec.specs.Replies.{Accepted}
+use Rattle.witness_spec.specs.Watched.{Watched}
 use Rattle.witness_spec.specs.Steps.{Answer, Past}
 use Rattle.witness_spec.specs.Pairs.{Pair, pair_of}
 use Rattle.witness_spec.specs.Standing.{shown, all_accepted, open_after, Stage, Wanted, audited, forwards}
@@ -28,10 +28,10 @@ use Rattle.witness_steps.proofs.Quiet.{Exposure, unsent, found_stays}
 use Rattle.witness_steps.proofs.Known.{Known, first_same, fork_same}
 
 -- a segment that was checked is whole
-pub given_whole : (ms : List Member) (m : Member) (c : ClosedParts) → IsGiven ms m c → IsWhole c.segment
-given_whole ms m c given =
-    let good = good_given ms m c given in
-    let some = first_some ms m c.segment good in
+pub given_whole : (w : Watched) (c : ClosedParts) → IsGiven w c → IsWhole c.segment
+given_whole w c given =
+    let good = good_given w c given in
+    let some = first_some w c.segment good in
     record {
       some = some;
       count = good.closed.ends.number;
@@ -46,14 +46,14 @@ absorb p xs there q = (λ i. by i, λ i. inr i)
     by (inl e) = subst (λ r. IsAmong r xs) (sym e) there
     by (inr i) = i
 
-module _ (ms : List Member) (m : Member) (past : Past) (b : Book) (c : ClosedParts)
-    (k : Known ms m past b) where
+module _ (w : Watched) (past : Past) (b : Book) (c : ClosedParts)
+    (k : Known w past b) where
   -- the evidence after it
-  accepted_evidence : evidence_accepted b c.segment ≡ evidence ms m ((Answer c, Accepted) ∷ past)
+  accepted_evidence : evidence_accepted b c.segment ≡ evidence w ((Answer c, Accepted) ∷ past)
   accepted_evidence =
-      first_same ms m past b k.of k.exposure
+      first_same w past b k.of k.exposure
       (fork_evidence b (segment_showing c.segment) (segment_pairs c.segment))
-      _ (fork_same ms m past b k.of k.fits (segment_showing c.segment) (segment_pairs c.segment))
+      _ (fork_same w past b k.of k.fits (segment_showing c.segment) (segment_pairs c.segment))
 
   abbrev after : Book
   after = after_answer b c Accepted
@@ -63,30 +63,30 @@ module _ (ms : List Member) (m : Member) (past : Past) (b : Book) (c : ClosedPar
   abbrev with_it : Option EvidenceParts → List Pair
   with_it e = showing_of e b.learned (b.segments ++ c.segment ∷ [])
 
-  older : HoldSame (with_it b.evidence) (segment_pairs c.segment ++ shown ms m past)
+  older : HoldSame (with_it b.evidence) (segment_pairs c.segment ++ shown w past)
   older =
       same_through (with_it b.evidence) (segment_pairs c.segment ++ book_shown b)
-      (segment_pairs c.segment ++ shown ms m past)
+      (segment_pairs c.segment ++ shown w past)
       (add_segment b.evidence b.learned b.segments c.segment)
-      (same_past (segment_pairs c.segment) (book_shown b) (shown ms m past) k.of.stands.pairs)
+      (same_past (segment_pairs c.segment) (book_shown b) (shown w past) k.of.stands.pairs)
 
   -- where there is evidence now, it shows the segment's closing besides
   newer : (e : EvidenceParts) → b.evidence ≡ None → evidence_accepted b c.segment ≡ Some e → IsWhole c.segment
-      → HoldSame (with_it (Some e)) (segment_pairs c.segment ++ shown ms m past)
+      → HoldSame (with_it (Some e)) (segment_pairs c.segment ++ shown w past)
   newer e none now whole =
       same_through (with_it (Some e)) (pair_of c.segment.closing ∷ with_it None)
-      (segment_pairs c.segment ++ shown ms m past)
+      (segment_pairs c.segment ++ shown w past)
       (add_exposing e (pair_of c.segment.closing) b.learned (b.segments ++ c.segment ∷ [])
       (fork_shows b (segment_showing c.segment) (segment_pairs c.segment) e fork))
       (same_through (pair_of c.segment.closing ∷ with_it None) (with_it None)
-      (segment_pairs c.segment ++ shown ms m past)
+      (segment_pairs c.segment ++ shown w past)
       (absorb (pair_of c.segment.closing) (with_it None)
       ((before (pair_of c.segment.closing)).1
-      (on_left (pair_of c.segment.closing) (segment_pairs c.segment) (shown ms m past) whole.closes)))
+      (on_left (pair_of c.segment.closing) (segment_pairs c.segment) (shown w past) whole.closes)))
       before)
     where
-      before : HoldSame (with_it None) (segment_pairs c.segment ++ shown ms m past)
-      before = subst (λ o. HoldSame (with_it o) (segment_pairs c.segment ++ shown ms m past)) none older
+      before : HoldSame (with_it None) (segment_pairs c.segment ++ shown w past)
+      before = subst (λ o. HoldSame (with_it o) (segment_pairs c.segment ++ shown w past)) none older
 
       fork : fork_evidence b (segment_showing c.segment) (segment_pairs c.segment) ≡ Some e
       fork =
@@ -95,20 +95,20 @@ module _ (ms : List Member) (m : Member) (past : Past) (b : Book) (c : ClosedPar
           none) ∙ now
 
   showing : IsWhole c.segment
-      → HoldSame (with_it (evidence_accepted b c.segment)) (segment_pairs c.segment ++ shown ms m past)
+      → HoldSame (with_it (evidence_accepted b c.segment)) (segment_pairs c.segment ++ shown w past)
   showing whole = by b.evidence refl (evidence_accepted b c.segment) refl
     where
       by : (o : Option EvidenceParts) → b.evidence ≡ o → (n : Option EvidenceParts)
           → evidence_accepted b c.segment ≡ n
-          → HoldSame (with_it (evidence_accepted b c.segment)) (segment_pairs c.segment ++ shown ms m past)
+          → HoldSame (with_it (evidence_accepted b c.segment)) (segment_pairs c.segment ++ shown w past)
       by (Some e) was n now =
-          subst (λ x. HoldSame (with_it x) (segment_pairs c.segment ++ shown ms m past))
+          subst (λ x. HoldSame (with_it x) (segment_pairs c.segment ++ shown w past))
           (was ∙ sym (ap (λ x. first_evidence x
           (fork_evidence b (segment_showing c.segment) (segment_pairs c.segment))) was)) older
       by None was None now =
-          subst (λ x. HoldSame (with_it x) (segment_pairs c.segment ++ shown ms m past)) (was ∙ sym now) older
+          subst (λ x. HoldSame (with_it x) (segment_pairs c.segment ++ shown w past)) (was ∙ sym now) older
       by None was (Some e) now =
-          subst (λ x. HoldSame (with_it x) (segment_pairs c.segment ++ shown ms m past)) (sym now)
+          subst (λ x. HoldSame (with_it x) (segment_pairs c.segment ++ shown w past)) (sym now)
           (newer e was now whole)
 
   -- ---- its parts
@@ -130,19 +130,19 @@ module _ (ms : List Member) (m : Member) (past : Past) (b : Book) (c : ClosedPar
       record { none = r.0; first = r.1; some = r.2 }
 
   fits : IsWhole c.segment → IsWanted → FitsTogether after
-  fits whole w = record {
+  fits whole told = record {
     above = k.fits.above;
     differ = k.fits.differ;
     whole = λ s i. by s (split s b.segments (c.segment ∷ []) i);
     tiles = record {
       audited = k.fits.tiles.audited;
       more = c.segment ∷ [];
-      are = ap (λ l. l ++ c.segment ∷ []) (k.fits.tiles.are ∙ (ap (λ l. k.fits.tiles.audited ++ l) w.none
+      are = ap (λ l. l ++ c.segment ∷ []) (k.fits.tiles.are ∙ (ap (λ l. k.fits.tiles.audited ++ l) told.none
           ∙ append-nil k.fits.tiles.audited));
       tile = k.fits.tiles.tile;
       rest = record {
         is = refl;
-        follows = record { first = w.first; some = omega (arith, w.first, w.some) };
+        follows = record { first = told.first; some = omega (arith, told.first, told.some) };
       };
     };
     agrees = tt;
@@ -155,12 +155,12 @@ module _ (ms : List Member) (m : Member) (past : Past) (b : Book) (c : ClosedPar
       by s (inr (inr i)) = absurd i
 
   -- What is known after a segment that was accepted.
-  pub accepted_known : IsGiven ms m c → b.stage ≡ Wanted c.segment.first c.segment.closing.number
-      → Exposure ms m ((Answer c, Accepted) ∷ past)
-      → Known ms m ((Answer c, Accepted) ∷ past) (after_answer b c Accepted)
+  pub accepted_known : IsGiven w c → b.stage ≡ Wanted c.segment.first c.segment.closing.number
+      → Exposure w ((Answer c, Accepted) ∷ past)
+      → Known w ((Answer c, Accepted) ∷ past) (after_answer b c Accepted)
   unfolding fits
   accepted_known given is x =
-      let whole = given_whole ms m c given in
+      let whole = given_whole w c given in
       let f = fits whole (wanted (Wanted c.segment.first c.segment.closing.number) refl is) in
       record {
         of = record {
@@ -172,7 +172,7 @@ module _ (ms : List Member) (m : Member) (past : Past) (b : Book) (c : ClosedPar
             learned = k.of.stands.learned;
             segments = same_more c.segment b.segments (all_accepted past) k.of.stands.segments;
             challenges = ap (λ xs. open_after xs (Answer c) Accepted) k.of.stands.challenges;
-            outbox = unsent ms m past (Answer c, Accepted) b refl refl k.of;
+            outbox = unsent w past (Answer c, Accepted) b refl refl k.of;
             evidence = accepted_evidence;
             pairs = showing whole;
           };
@@ -181,8 +181,8 @@ module _ (ms : List Member) (m : Member) (past : Past) (b : Book) (c : ClosedPar
         kept_differ = k.kept_differ;
         exposure = x;
         audited = audited_are after f.tiles ∙ (sym (audited_are b k.fits.tiles) ∙ (k.audited
-            ∙ sym (append-nil (audited ms m past))));
+            ∙ sym (append-nil (audited w past))));
         sent = subst (λ xs. forwards past ≤ length xs)
-            (sym (found_stays ms m past (Answer c, Accepted) refl)) k.sent;
+            (sym (found_stays w past (Answer c, Accepted) refl)) k.sent;
         roster = given.roster;
       }

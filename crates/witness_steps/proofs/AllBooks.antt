@@ -3,13 +3,14 @@
 use Rattle.std.proofs.Common.{◌≡◌, ℕ, Bool, true, false, cond, ◌==◌, List, [], ◌∷◌, map, Option, Some, Ok}
 use Rattle.std.proofs.Common.{refl, sym, ap, subst, ◌∙◌, eqb-true}
 use Rattle.std.specs.Prelude.{option_map}
-use Rattle.authenticator.specs.Roster.{IsRoster, member_of}
+use Rattle.authenticator.specs.Roster.{IsRoster}
 use Rattle.authenticator.specs.declared.member.Member.{Member}
 use Rattle.witness_spec.specs.Events.{Event, IsEvent}
 use Rattle.witness_spec.specs.Replies.{Reply}
+use Rattle.witness_spec.specs.Watched.{Watched, watched, IsInRoster}
 use Rattle.witness_spec.specs.Steps.{Step}
 use Rattle.witness_spec.specs.Whose.{whose}
-use Rattle.witness_spec.specs.Histories.{own, StandEach}
+use Rattle.witness_spec.specs.Histories.{StandEach, own_of}
 use Rattle.witness_spec.specs.Contract.{book_in, with_book, StepsTo, BookStepsTo}
 use Rattle.witness_laws.proofs.OwnSteps.{of_member}
 use Rattle.witness_laws.proofs.OfBooks.Standing.{found_stands, one_book}
@@ -90,63 +91,66 @@ fit_with (m ∷ ms) node new (b ∷ books) fit same fits =
 
 -- ---- all of them
 
-module _ (ms : List Member) (m : Member) (books : List Book) (b : Book) (event : Event) (step : Step)
-    (reply : Reply) (roster : IsRoster ms) (kept : AreKept ms books) (e : IsEvent event)
-    (w : whose ms event ≡ Ok (record { member = m; step = step })) (there : book_at ms books m.node ≡ Some b)
+module _ (w : Watched) (books : List Book) (b : Book) (event : Event) (step : Step)
+    (reply : Reply) (roster : IsRoster w.roster) (kept : AreKept w.roster books) (e : IsEvent event)
+    (told : whose w.roster event ≡ Ok (record { member = w.member; step = step }))
+    (there : book_at w.roster books w.member.node ≡ Some b)
     (owes : BookOwes b step reply) where
   -- it is a member's step
-  pub is : member_of ms m.node ≡ Some m
-  is = of_member ms event (record { member = m; step = step }) w
+  pub is : IsInRoster w
+  is = of_member w.roster event (record { member = w.member; step = step }) told
 
   -- the member's book is of its number, and fits together
-  pub its : (b.node ≡ m.node) × FitsTogether b
-  its = fit_at ms books m.node b kept.fit there
+  pub its : (b.node ≡ w.member.node) × FitsTogether b
+  its = fit_at w.roster books w.member.node b kept.fit there
 
-  its_parts : book_in ms (map parts_of books) m.node ≡ Some (parts_of b)
-  its_parts = in_same ms books m.node ∙ ap (option_map parts_of) there
+  its_parts : book_in w.roster (map parts_of books) w.member.node ≡ Some (parts_of b)
+  its_parts = in_same w.roster books w.member.node ∙ ap (option_map parts_of) there
 
-  one_steps : BookStepsTo ms m (parts_of b) step reply (parts_of (book_after b step reply))
+  one_steps : BookStepsTo w (parts_of b) step reply (parts_of (book_after b step reply))
   one_steps history h stands =
-      any_stands ms m history b is h its.1 (record { node = its.0; stands = stands }) event step reply e w
+      any_stands w history b is h its.1 (record { node = its.0; stands = stands }) event step reply e told
       owes
 
   -- the step is one of all books
-  pub all_step : StepsTo ms (map parts_of books) event reply
-      (map parts_of (with_book_at ms m.node (book_after b step reply) books))
+  pub all_step : StepsTo w.roster (map parts_of books) event reply
+      (map parts_of (with_book_at w.roster w.member.node (book_after b step reply) books))
   all_step =
-      subst (StepsTo ms (map parts_of books) event reply)
-      (with_same ms m.node (book_after b step reply) books)
-      (one_book ms m (map parts_of books) (parts_of b) (parts_of (book_after b step reply)) event step reply
-      roster e w its_parts one_steps)
+      subst (StepsTo w.roster (map parts_of books) event reply)
+      (with_same w.roster w.member.node (book_after b step reply) books)
+      (one_book w (map parts_of books) (parts_of b) (parts_of (book_after b step reply)) event step reply
+      roster e told its_parts one_steps)
 
   -- the member's book is that of its own steps
-  pub its_book : IsBookOf ms m (own ms m.node kept.are.history) b
+  pub its_book : IsBookOf w (own_of w kept.are.history) b
   its_book = record {
     node = its.0;
-    stands = found_stands ms m kept.are.history (map parts_of books) (parts_of b) is kept.are.stands
+    stands = found_stands w kept.are.history (map parts_of books) (parts_of b) is kept.are.stands
         its_parts;
   }
 
-  goes_on : GoesOn ms m kept.are.history event step reply b
-  goes_on = any_goes_on ms m kept.are.history b is kept.are.is its.1 its_book event step reply e w owes
+  goes_on : GoesOn w kept.are.history event step reply b
+  goes_on = any_goes_on w kept.are.history b is kept.are.is its.1 its_book event step reply e told owes
 
   -- and they are kept after it
-  pub all_kept : AreKept ms (with_book_at ms m.node (book_after b step reply) books)
+  pub all_kept : AreKept w.roster (with_book_at w.roster w.member.node (book_after b step reply) books)
   all_kept = record {
-    fit = fit_with ms m.node (book_after b step reply) books kept.fit goes_on.of.node goes_on.fits;
-    are = books_after ms (map parts_of books)
-        (map parts_of (with_book_at ms m.node (book_after b step reply) books)) event reply kept.are all_step;
+    fit =
+        fit_with w.roster w.member.node (book_after b step reply) books kept.fit goes_on.of.node goes_on.fits;
+    are = books_after w.roster (map parts_of books)
+        (map parts_of
+        (with_book_at w.roster w.member.node (book_after b step reply) books)) event reply kept.are all_step;
   }
 
 -- ---- at first
 
 fit_first : (ms : List Member) → FitEach ms (map book_opening ms)
 fit_first [] = tt
-fit_first (m ∷ ms) = (refl, (at_first [] m).fits, fit_first ms)
+fit_first (m ∷ ms) = (refl, (at_first (watched [] m)).fits, fit_first ms)
 
 stand_first : (ms members : List Member) → StandEach ms [] members (map parts_of (map book_opening members))
 stand_first ms [] = tt
-stand_first ms (m ∷ members) = ((at_first ms m).of.stands, stand_first ms members)
+stand_first ms (m ∷ members) = ((at_first (watched ms m)).of.stands, stand_first ms members)
 
 -- the opening books are kept
 pub first_kept : (ms : List Member) → AreKept ms (map book_opening ms)
@@ -158,16 +162,16 @@ first_kept ms = record {
 -- ---- what they show
 
 -- a book that is kept shows one hash at each number, where the node isn't exposed
-pub kept_one_hash : (ms : List Member) (m : Member) (books : List Book) (b : Book) → AreKept ms books
-    → member_of ms m.node ≡ Some m → book_at ms books m.node ≡ Some b → HasOneHash b
-kept_one_hash ms m books b kept is there =
+pub kept_one_hash : (w : Watched) (books : List Book) (b : Book) → AreKept w.roster books
+    → IsInRoster w → book_at w.roster books w.member.node ≡ Some b → HasOneHash b
+kept_one_hash w books b kept is there =
     let history = kept.are.history in
-    let its = fit_at ms books m.node b kept.fit there in
-    let parts : book_in ms (map parts_of books) m.node ≡ Some (parts_of b) =
-    in_same ms books m.node ∙ ap (option_map parts_of) there in
-    one_hash ms m (own ms m.node history) b
+    let its = fit_at w.roster books w.member.node b kept.fit there in
+    let parts : book_in w.roster (map parts_of books) w.member.node ≡ Some (parts_of b) =
+    in_same w.roster books w.member.node ∙ ap (option_map parts_of) there in
+    one_hash w (own_of w history) b
     (record {
       node = its.0;
-      stands = found_stands ms m history (map parts_of books) (parts_of b) is kept.are.stands parts;
+      stands = found_stands w history (map parts_of books) (parts_of b) is kept.are.stands parts;
     })
-    (exposed_or_not ms m history is kept.are.is)
+    (exposed_or_not w history is kept.are.is)

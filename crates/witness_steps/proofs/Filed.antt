@@ -9,7 +9,6 @@ use Rattle.std.proofs.lemmas.Bool.{ltb-true, ltb-false}
 use Rattle.std.proofs.lemmas.Grind.{flat_map-append}
 use Rattle.std.proofs.lemmas.List.{drop-append-le}
 use Rattle.authenticator.specs.declared.authenticator.Authenticator.{Authenticator}
-use Rattle.authenticator.specs.declared.member.Member.{Member}
 use Rattle.secure_log.specs.declared.log_entries.entry.Entry.{Entry}
 use Rattle.secure_log.specs.LogEntries.Chain.{zeros}
 use Rattle.secure_log.specs.Segment.{SegmentParts, segment_pairs}
@@ -23,6 +22,7 @@ use Rattle.secure_log.specs.LogEntries.Chain.{IsAmong}
 use Rattle.evidence_spec.specs.Evidence.{Charge, Replay, EvidenceParts}
 use Rattle.witness_spec.specs.Events.{DoneParts}
 use Rattle.witness_spec.specs.Replies.{Filed}
+use Rattle.witness_spec.specs.Watched.{Watched}
 use Rattle.witness_spec.specs.Steps.{File, Past}
 use Rattle.witness_spec.specs.Pairs.{pair_of, first_pair}
 use Rattle.witness_spec.specs.Standing.{End, end_of, moved_by, verdict_on, sound_entries, audited, shown}
@@ -68,13 +68,13 @@ still_above end last (x ∷ xs) le =
         absurd (omega (arith, le, ltb-false end x.number e, ltb-true last x.number f))
     by false e false f h = h ∙ ap (λ y. cond y (x ∷ all) all) (sym f)
 
-module _ (ms : List Member) (m : Member) (past : Past) (b : Book) (d : DoneParts) (k : Known ms m past b)
+module _ (w : Watched) (past : Past) (b : Book) (d : DoneParts) (k : Known w past b)
     (out : b.stage ≡ Out d.job.segment) where
   abbrev s : SegmentParts
   s = d.job.segment.segment
 
   abbrev found_by : Verdict
-  found_by = verdict_on ms (end_of ms m past).state d.job
+  found_by = verdict_on w.roster (end_of w past).state d.job
 
   -- the segment is the one more that was accepted
   one : IsOne b.end.number s k.fits.tiles.more
@@ -91,7 +91,7 @@ module _ (ms : List Member) (m : Member) (past : Past) (b : Book) (d : DoneParts
 
   -- ---- evidence
 
-  charge_same : (v : Verdict) → verdict_charge b s v ≡ replay_of ms m past s v
+  charge_same : (v : Verdict) → verdict_charge b s v ≡ replay_of w past s v
   charge_same (Sound t found) = refl
   charge_same (Fault fault number) = ap₂ (λ n es. Some (Replay (whole n es))) k.of.node k.audited
     where
@@ -99,12 +99,12 @@ module _ (ms : List Member) (m : Member) (past : Past) (b : Book) (d : DoneParts
       whole n es =
           record { node = n; first = 1; opening = zeros; entries = es ++ s.entries; closing = s.closing }
 
-  evidence_same : (v : Verdict) → found_by ≡ v → evidence_filed b s v ≡ evidence ms m ((File d, Filed) ∷ past)
+  evidence_same : (v : Verdict) → found_by ≡ v → evidence_filed b s v ≡ evidence w ((File d, Filed) ∷ past)
   evidence_same v is =
-      first_same ms m past b k.of k.exposure (evidence_of b (verdict_charge b s v)) _
+      first_same w past b k.of k.exposure (evidence_of b (verdict_charge b s v)) _
       (ap (λ n. option_map (λ (g : Charge). charged n g) (verdict_charge b s v)) k.of.node
-      ∙ ap (option_map (λ (g : Charge). charged m.node g))
-      (charge_same v ∙ ap (replay_of ms m past s) (sym is)))
+      ∙ ap (option_map (λ (g : Charge). charged w.member.node g))
+      (charge_same v ∙ ap (replay_of w past s) (sym is)))
 
   -- a replay shows no pair of its own
   shows_none : (v : Verdict) → exposing_pairs (evidence_filed b s v) ≡ exposing_pairs b.evidence
@@ -155,55 +155,55 @@ module _ (ms : List Member) (m : Member) (past : Past) (b : Book) (d : DoneParts
       from (Learned a i same) = by a (nat_lt s.closing.number a.number) refl i same
       from (Segment t i j) = Segment t i j
 
-  shown_same : (v : Verdict) → HoldSame (book_shown (having_filed b s v)) (shown ms m past)
+  shown_same : (v : Verdict) → HoldSame (book_shown (having_filed b s v)) (shown w past)
   shown_same v =
       subst (λ ps. HoldSame (first_pair ∷ (ps ++ (map pair_of (learned_above s v b.learned)
-      ++ flat_map segment_pairs b.segments))) (shown ms m past)) (sym (shows_none v)) (by v)
+      ++ flat_map segment_pairs b.segments))) (shown w past)) (sym (shows_none v)) (by v)
     where
       by : (v : Verdict)
-          → HoldSame (showing_of b.evidence (learned_above s v b.learned) b.segments) (shown ms m past)
+          → HoldSame (showing_of b.evidence (learned_above s v b.learned) b.segments) (shown w past)
       by (Sound t found) =
           same_through
           (showing_of b.evidence (filter (λ (a : Authenticator). nat_lt s.closing.number a.number) b.learned)
           b.segments)
-          (showing_of b.evidence b.learned b.segments) (shown ms m past) fewer k.of.stands.pairs
+          (showing_of b.evidence b.learned b.segments) (shown w past) fewer k.of.stands.pairs
       by (Fault fault number) = k.of.stands.pairs
 
   -- ---- what is kept
 
-  low : (end_of ms m past).number ≤ s.closing.number
+  low : (end_of w past).number ≤ s.closing.number
   low = subst (λ (e : End). e.number ≤ s.closing.number) k.of.stands.end (omega (arith, one.follows.some))
 
   -- what is kept after a verdict
   abbrev kept_by : Verdict → List Authenticator
   kept_by v =
-      filter (λ (a : Authenticator). nat_lt (moved_by (end_of ms m past) s.closing.number v).number a.number)
-      (noted_before ms m past)
+      filter (λ (a : Authenticator). nat_lt (moved_by (end_of w past) s.closing.number v).number a.number)
+      (noted_before w past)
 
-  kept_is : (v : Verdict) → found_by ≡ v → kept ms m ((File d, Filed) ∷ past) ≡ kept_by v
-  kept_is v is = ap (λ w. kept_by w) is
+  kept_is : (v : Verdict) → found_by ≡ v → kept w ((File d, Filed) ∷ past) ≡ kept_by v
+  kept_is v is = ap (λ told. kept_by told) is
 
   kept_same : (v : Verdict) → found_by ≡ v
-      → HoldSame (learned_above s v b.learned) (kept ms m ((File d, Filed) ∷ past))
+      → HoldSame (learned_above s v b.learned) (kept w ((File d, Filed) ∷ past))
   kept_same v is = subst (HoldSame (learned_above s v b.learned)) (sym (kept_is v is)) (by v)
     where
       by : (v : Verdict) → HoldSame (learned_above s v b.learned) (kept_by v)
       by (Sound t found) =
           subst (HoldSame (filter (λ (a : Authenticator). nat_lt s.closing.number a.number) b.learned))
-          (still_above (end_of ms m past).number s.closing.number (noted_before ms m past) low)
-          (same_filter (λ (a : Authenticator). nat_lt s.closing.number a.number) b.learned (kept ms m past)
+          (still_above (end_of w past).number s.closing.number (noted_before w past) low)
+          (same_filter (λ (a : Authenticator). nat_lt s.closing.number a.number) b.learned (kept w past)
           k.of.stands.learned)
       by (Fault fault number) = k.of.stands.learned
 
-  kept_numbers : (v : Verdict) → found_by ≡ v → NumbersDiffer (kept ms m ((File d, Filed) ∷ past))
+  kept_numbers : (v : Verdict) → found_by ≡ v → NumbersDiffer (kept w ((File d, Filed) ∷ past))
   kept_numbers v is = subst NumbersDiffer (sym (kept_is v is)) (by v)
     where
       by : (v : Verdict) → NumbersDiffer (kept_by v)
       by (Sound t found) =
           subst NumbersDiffer
-          (still_above (end_of ms m past).number s.closing.number (noted_before ms m past) low)
+          (still_above (end_of w past).number s.closing.number (noted_before w past) low)
           (differ_filter (λ (a : Authenticator). nat_lt s.closing.number a.number)
-          (kept ms m past) k.kept_differ)
+          (kept w past) k.kept_differ)
       by (Fault fault number) = k.kept_differ
 
   -- ---- its parts
@@ -211,13 +211,13 @@ module _ (ms : List Member) (m : Member) (past : Past) (b : Book) (d : DoneParts
   sends : (t : State) (found : List Authenticator) → found_by ≡ Sound t found
       → SendsLieBelow t (s.closing.number + 1)
   sends t found is =
-      let r = is_sound ms (end_of ms m past).state (placed_in s) t found is in
-      let below : SendsLieBelow (end_of ms m past).state s.first =
-      subst (SendsLieBelow (end_of ms m past).state) (sym one.follows.first)
+      let r = is_sound w.roster (end_of w past).state (placed_in s) t found is in
+      let below : SendsLieBelow (end_of w past).state s.first =
+      subst (SendsLieBelow (end_of w past).state) (sym one.follows.first)
       (subst (λ (e : End). SendsLieBelow e.state (b.end.number + 1)) k.of.stands.end k.fits.sends) in
       subst (SendsLieBelow t) (sym (k.fits.whole s among).count)
       (subst (λ x. SendsLieBelow x (s.first + length s.entries)) r.last
-      (lie_below ms (end_of ms m past).state s.first s.opening s.entries r.states below r.honest))
+      (lie_below w.roster (end_of w past).state s.first s.opening s.entries r.states below r.honest))
 
   fits : (v : Verdict) → found_by ≡ v → FitsTogether (having_filed b s v)
   fits (Sound t found) is = record {
@@ -253,37 +253,37 @@ module _ (ms : List Member) (m : Member) (past : Past) (b : Book) (d : DoneParts
   }
 
   audited_same : (v : Verdict) → found_by ≡ v
-      → book_audited (having_filed b s v) ≡ audited ms m ((File d, Filed) ∷ past)
+      → book_audited (having_filed b s v) ≡ audited w ((File d, Filed) ∷ past)
   unfolding fits
   audited_same v is =
       audited_are (having_filed b s v) (fits v is).tiles
-      ∙ (by v is ∙ ap (λ w. audited ms m past ++ sound_entries s.entries w) (sym is))
+      ∙ (by v is ∙ ap (λ told. audited w past ++ sound_entries s.entries told) (sym is))
     where
-      old : flat_map (λ (x : SegmentParts). x.entries) k.fits.tiles.audited ≡ audited ms m past
+      old : flat_map (λ (x : SegmentParts). x.entries) k.fits.tiles.audited ≡ audited w past
       old = sym (audited_are b k.fits.tiles) ∙ k.audited
 
       by : (v : Verdict) (is : found_by ≡ v)
           → flat_map (λ (x : SegmentParts). x.entries) (fits v is).tiles.audited
-          ≡ audited ms m past ++ sound_entries s.entries v
+          ≡ audited w past ++ sound_entries s.entries v
       by (Sound t found) is =
           flat_map-append (λ (x : SegmentParts). x.entries) k.fits.tiles.audited (s ∷ [])
           ∙ ap₂ (λ (x y : List Entry). x ++ y) old (append-nil s.entries)
-      by (Fault fault number) is = old ∙ sym (append-nil (audited ms m past))
+      by (Fault fault number) is = old ∙ sym (append-nil (audited w past))
 
-  known_by : (v : Verdict) → found_by ≡ v → Exposure ms m ((File d, Filed) ∷ past)
-      → Known ms m ((File d, Filed) ∷ past) (having_filed b s v)
+  known_by : (v : Verdict) → found_by ≡ v → Exposure w ((File d, Filed) ∷ past)
+      → Known w ((File d, Filed) ∷ past) (having_filed b s v)
   known_by v is x = record {
     of = record {
       node = k.of.node;
       stands = record {
-        end = ap₂ (λ (e : End) (w : Verdict). moved_by e s.closing.number w) k.of.stands.end (sym is);
+        end = ap₂ (λ (e : End) (told : Verdict). moved_by e s.closing.number told) k.of.stands.end (sym is);
         stage = refl;
         begun = k.of.stands.begun;
         learned = kept_same v is;
         segments = k.of.stands.segments;
         challenges = k.of.stands.challenges;
         outbox = ap₂ (λ (xs ys : List Authenticator). xs ++ ys) k.of.stands.outbox (ap sound_found (sym is))
-            ∙ sym (drop-append-le (forwards past) (all_found ms m past) (sound_found found_by) k.sent);
+            ∙ sym (drop-append-le (forwards past) (all_found w past) (sound_found found_by) k.sent);
         evidence = evidence_same v is;
         pairs = shown_same v;
       };
@@ -292,11 +292,11 @@ module _ (ms : List Member) (m : Member) (past : Past) (b : Book) (d : DoneParts
     kept_differ = kept_numbers v is;
     exposure = x;
     audited = audited_same v is;
-    sent = omega (arith, k.sent, length-append (all_found ms m past) (sound_found found_by));
+    sent = omega (arith, k.sent, length-append (all_found w past) (sound_found found_by));
     roster = tt;
   }
 
   -- What is known after a job that was filed.
-  pub filed_known : found_by ≡ d.verdict → Exposure ms m ((File d, Filed) ∷ past)
-      → Known ms m ((File d, Filed) ∷ past) (after_file b d Filed)
+  pub filed_known : found_by ≡ d.verdict → Exposure w ((File d, Filed) ∷ past)
+      → Known w ((File d, Filed) ∷ past) (after_file b d Filed)
   filed_known is x = known_by d.verdict is x

@@ -21,12 +21,13 @@ use Rattle.witness_spec.specs.Refusals.{Refusal, BadSignature}
 use Rattle.witness_spec.specs.Events.{PublicKey, Event, IsEvent}
 use Rattle.witness_spec.specs.Events as events
 use Rattle.witness_spec.specs.Replies.{Reply, is_want_of_memory}
+use Rattle.witness_spec.specs.Watched.{Watched, IsInRoster}
 use Rattle.witness_spec.specs.Steps.{Step, Learn, SendChallenge, Answer, AckIn, Audit, Begin, File, PutBack}
 use Rattle.witness_spec.specs.Steps.{Forward}
 use Rattle.witness_spec.specs.Steps.{Ask, OwnStep, Past}
 use Rattle.witness_spec.specs.Whose.{step_of, is_key_of, same_roster, signed_step, sent_step, closed_step}
 use Rattle.witness_spec.specs.Whose.{delivered_step, judged_step, whose}
-use Rattle.witness_spec.specs.Histories.{History, own_step, own, IsHistory, AreOwed}
+use Rattle.witness_spec.specs.Histories.{History, own_step, own, IsHistory, AreOwed, own_of}
 use Rattle.witness_laws.proofs.OwnSteps.{own_owed}
 use Rattle.witness_laws.proofs.Checked.{AreChecked, own_checked}
 use Rattle.witness_laws.proofs.OfEvidence.Told.{Told, Without, With, told}
@@ -126,17 +127,17 @@ own_done ms node (p ∷ history) h =
 
 -- ---- what is known
 
-exposure_of : (ms : List Member) (m : Member) (past : Past) → Told ms m past → Exposure ms m past
-exposure_of ms m past (Without none is audited) = Hidden none is
-exposure_of ms m past (With g some is good) = Open (record { node = m.node; charge = g }) some is
+exposure_of : (w : Watched) (past : Past) → Told w past → Exposure w past
+exposure_of w past (Without none is audited) = Hidden none is
+exposure_of w past (With g some is good) = Open (record { node = w.member.node; charge = g }) some is
 
 no_sends : (kind : Kind) (node : ℕ) → SendsLieBelow (opening_by kind node) 1
 no_sends kinds.Server node = λ k h. absurd (true≢false (sym h ∙ ap is_some (finite.get-empty nat_cmp k)))
 no_sends kinds.Client node = λ k h. absurd (true≢false (sym h ∙ ap is_some (finite.get-empty nat_cmp k)))
 
 -- at first the member's opening book is known
-pub at_first : (ms : List Member) (m : Member) → Known ms m [] (book_opening m)
-at_first ms m = record {
+pub at_first : (w : Watched) → Known w [] (book_opening w.member)
+at_first w = record {
   of = record {
     node = refl;
     stands = record {
@@ -157,7 +158,7 @@ at_first ms m = record {
     whole = λ s i. absurd i;
     tiles = record { audited = []; more = []; are = refl; tile = refl; rest = inl refl };
     agrees = tt;
-    sends = no_sends m.kind m.node;
+    sends = no_sends w.member.kind w.member.node;
   };
   kept_differ = tt;
   exposure = Hidden refl refl;
@@ -167,26 +168,26 @@ at_first ms m = record {
 }
 
 -- after own steps with the replies that are owed, of values that were checked
-pub known : (ms : List Member) (m : Member) (past : Past) → member_of ms m.node ≡ Some m → AreOwed ms m past
-    → AreChecked ms m past → AreDone past → Known ms m past (book_after_steps m past)
-known ms m [] is owed checked done = at_first ms m
-known ms m (p ∷ past) is owed checked done =
-    known_on ms m past (book_after_steps m past) (known ms m past is owed.1 checked.1 done.1) p.0 p.1 owed.0
-    checked.0 done.0 (exposure_of ms m (p ∷ past) (told ms m (p ∷ past) is owed checked))
+pub known : (w : Watched) (past : Past) → IsInRoster w → AreOwed w past
+    → AreChecked w past → AreDone past → Known w past (book_after_steps w.member past)
+known w [] is owed checked done = at_first w
+known w (p ∷ past) is owed checked done =
+    known_on w past (book_after_steps w.member past) (known w past is owed.1 checked.1 done.1) p.0 p.1 owed.0
+    checked.0 done.0 (exposure_of w (p ∷ past) (told w (p ∷ past) is owed checked))
 
 -- whether a member is exposed after a history
-pub exposed_or_not : (ms : List Member) (m : Member) (history : History) → member_of ms m.node ≡ Some m
-    → IsHistory ms history → Exposure ms m (own ms m.node history)
-exposed_or_not ms m history is h =
-    exposure_of ms m (own ms m.node history)
-    (told ms m (own ms m.node history) is (own_owed ms m is history h) (own_checked ms m is history h))
+pub exposed_or_not : (w : Watched) (history : History) → IsInRoster w
+    → IsHistory w.roster history → Exposure w (own_of w history)
+exposed_or_not w history is h =
+    exposure_of w (own_of w history)
+    (told w (own_of w history) is (own_owed w is history h) (own_checked w is history h))
 
 -- after a member's own steps of a history
-pub own_known : (ms : List Member) (m : Member) (history : History) → member_of ms m.node ≡ Some m
-    → IsHistory ms history → Known ms m (own ms m.node history) (book_after_steps m (own ms m.node history))
-own_known ms m history is h =
-    known ms m (own ms m.node history) is (own_owed ms m is history h) (own_checked ms m is history h)
-    (own_done ms m.node history h)
+pub own_known : (w : Watched) (history : History) → IsInRoster w
+    → IsHistory w.roster history → Known w (own_of w history) (book_after_steps w.member (own_of w history))
+own_known w history is h =
+    known w (own_of w history) is (own_owed w is history h) (own_checked w is history h)
+    (own_done w.roster w.member.node history h)
 
 -- ---- members of a roster
 

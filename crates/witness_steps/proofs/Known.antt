@@ -10,6 +10,7 @@ use Rattle.secure_log.specs.Segment.{SegmentParts}
 use Rattle.evidence_spec.specs.Showing.{ShowingParts}
 use Rattle.evidence_spec.specs.Evidence.{Charge, Fork, EvidenceParts}
 use Rattle.witness_spec.specs.Replies.{Reply}
+use Rattle.witness_spec.specs.Watched.{Watched}
 use Rattle.witness_spec.specs.Steps.{Step, Past}
 use Rattle.witness_spec.specs.Owing.{Owes}
 use Rattle.witness_steps.specs.Replying.{BookOwes}
@@ -36,41 +37,41 @@ RosterAt ms (Given c) = c.roster ≡ ms
 RosterAt ms (Out c) = c.roster ≡ ms
 
 -- all that is known of a book after a member's own steps
-pub record Known (ms : List Member) (m : Member) (past : Past) (b : Book) : Type 0 where
+pub record Known (w : Watched) (past : Past) (b : Book) : Type 0 where
   -- it is the member's after these steps
-  pub of : IsBookOf ms m past b
+  pub of : IsBookOf w past b
   -- its parts fit together
   pub fits : FitsTogether b
   -- the numbers of what the steps keep differ
-  pub kept_differ : NumbersDiffer (kept ms m past)
+  pub kept_differ : NumbersDiffer (kept w past)
   -- the node is exposed where there is evidence
-  pub exposure : Exposure ms m past
+  pub exposure : Exposure w past
   -- its audited segments have the audited entries
-  pub audited : book_audited b ≡ audited ms m past
+  pub audited : book_audited b ≡ audited w past
   -- no more was forwarded than was found
-  pub sent : forwards past ≤ length (all_found ms m past)
+  pub sent : forwards past ≤ length (all_found w past)
   -- the audit's segment is closed under the roster
-  pub roster : RosterAt ms (stage_of past)
+  pub roster : RosterAt w.roster (stage_of past)
 
 -- the evidence that a charge against a node is
 abbrev pub charged : ℕ → Charge → EvidenceParts
 charged n g = record { node = n; charge = g }
 
-module _ (ms : List Member) (m : Member) (past : Past) (b : Book) where
+module _ (w : Watched) (past : Past) (b : Book) where
   -- the book has evidence where the node is exposed
-  pub exposed_same : IsBookOf ms m past b → Exposure ms m past → exposed b ≡ is_exposed ms m past
+  pub exposed_same : IsBookOf w past b → Exposure w past → exposed b ≡ is_exposed w past
   exposed_same of (Hidden none is) = ap (λ o. is_some o) (of.stands.evidence ∙ none) ∙ sym is
   exposed_same of (Open e some is) = ap (λ o. is_some o) (of.stands.evidence ∙ some) ∙ sym is
 
   -- the first evidence stays
-  pub first_same : IsBookOf ms m past b → Exposure ms m past → (n k : Option EvidenceParts) → n ≡ k
-      → first_evidence b.evidence n ≡ cond (is_exposed ms m past) (evidence ms m past) k
+  pub first_same : IsBookOf w past b → Exposure w past → (n k : Option EvidenceParts) → n ≡ k
+      → first_evidence b.evidence n ≡ cond (is_exposed w past) (evidence w past) k
   first_same of (Hidden none is) n k e =
       ap (λ o. first_evidence o n) (of.stands.evidence ∙ none)
-      ∙ (e ∙ ap (λ x. cond x (evidence ms m past) k) (sym is))
+      ∙ (e ∙ ap (λ x. cond x (evidence w past) k) (sym is))
   first_same of (Open e some is) n k h =
       ap (λ o. first_evidence o n) (of.stands.evidence ∙ some)
-      ∙ (sym some ∙ ap (λ x. cond x (evidence ms m past) k) (sym is))
+      ∙ (sym some ∙ ap (λ x. cond x (evidence w past) k) (sym is))
 
   -- ---- forks
 
@@ -79,14 +80,14 @@ module _ (ms : List Member) (m : Member) (past : Past) (b : Book) where
   first_forks (p ∷ new) xs ys same =
       ap₂ (λ x r. cond x (Some p.0) r) (any_same (λ q. differ p q) xs ys same) (first_forks new xs ys same)
 
-  found_learned : IsBookOf ms m past b → FitsTogether b → (n : ℕ)
-      → find (λ (a : Authenticator). a.number == n) b.learned ≡ find (λ a. a.number == n) (kept ms m past)
+  found_learned : IsBookOf w past b → FitsTogether b → (n : ℕ)
+      → find (λ (a : Authenticator). a.number == n) b.learned ≡ find (λ a. a.number == n) (kept w past)
   found_learned of fits n =
-      find_same (λ (a : Authenticator). a.number == n) b.learned (kept ms m past) of.stands.learned
+      find_same (λ (a : Authenticator). a.number == n) b.learned (kept w past) of.stands.learned
       (λ x y i j e f. differ_one b.learned x y fits.differ i j
       (eqb-true x.number n e ∙ sym (eqb-true y.number n f)))
 
-  found_segment : IsBookOf ms m past b → FitsTogether b → (n : ℕ)
+  found_segment : IsBookOf w past b → FitsTogether b → (n : ℕ)
       → segment_holding n b.segments ≡ segment_holding n (all_accepted past)
   found_segment of fits n =
       let t = tiled b fits.tiles in
@@ -101,8 +102,8 @@ module _ (ms : List Member) (m : Member) (past : Past) (b : Book) where
           let both = and_parts (nat_le s.first n) (nat_le n s.closing.number) e in
           (leb-true s.first n both.0, leb-true n s.closing.number both.1)
 
-  forks_same : IsBookOf ms m past b → FitsTogether b → (new : ShowingParts) (n : ℕ)
-      → fork_of b.learned b.segments new n ≡ fork_of (kept ms m past) (all_accepted past) new n
+  forks_same : IsBookOf w past b → FitsTogether b → (new : ShowingParts) (n : ℕ)
+      → fork_of b.learned b.segments new n ≡ fork_of (kept w past) (all_accepted past) new n
   forks_same of fits new n =
       ap (λ o. cond (n == 0) (Some (Fork (record { at = 0; a = new; b = None })))
       (option_map (λ old. Fork (record { at = n; a = old; b = Some new })) o))
@@ -114,21 +115,21 @@ module _ (ms : List Member) (m : Member) (past : Past) (b : Book) where
   then_same f g same (Some n) = same n
 
   -- a new showing makes the fork that is owed
-  pub fork_same : IsBookOf ms m past b → FitsTogether b → (new : ShowingParts) (ps : List Pair)
+  pub fork_same : IsBookOf w past b → FitsTogether b → (new : ShowingParts) (ps : List Pair)
       → fork_evidence b new ps
-      ≡ option_map (λ g. record { node = m.node; charge = g }) (new_fork ms m past new ps)
+      ≡ option_map (λ g. record { node = w.member.node; charge = g }) (new_fork w past new ps)
   fork_same of fits new ps =
       ap (λ n. option_map (λ (g : Charge). charged n g)
       (option_and_then (fork_of b.learned b.segments new) (first_fork ps (book_shown b)))) of.node
-      ∙ ap (option_map (λ (g : Charge). charged m.node g))
+      ∙ ap (option_map (λ (g : Charge). charged w.member.node g))
       (ap (option_and_then (fork_of b.learned b.segments new))
-      (first_forks ps (book_shown b) (shown ms m past) of.stands.pairs)
-      ∙ then_same (fork_of b.learned b.segments new) (fork_of (kept ms m past) (all_accepted past) new)
-      (forks_same of fits new) (first_fork ps (shown ms m past)))
+      (first_forks ps (book_shown b) (shown w past) of.stands.pairs)
+      ∙ then_same (fork_of b.learned b.segments new) (fork_of (kept w past) (all_accepted past) new)
+      (forks_same of fits new) (first_fork ps (shown w past)))
 
 -- What is known of a book tells what it owes: what is owed after the steps.
-pub owes_known : (ms : List Member) (m : Member) (past : Past) (b : Book) → Known ms m past b → (step : Step)
-    (reply : Reply) → Owes ms m past step reply ↔ BookOwes b step reply
-owes_known ms m past b k step reply =
-    owes_same ms m past b k.of (exposed_same ms m past b k.of k.exposure)
-    (as_many b.learned (kept ms m past) k.fits.differ k.kept_differ k.of.stands.learned) step reply
+pub owes_known : (w : Watched) (past : Past) (b : Book) → Known w past b → (step : Step)
+    (reply : Reply) → Owes w past step reply ↔ BookOwes b step reply
+owes_known w past b k step reply =
+    owes_same w past b k.of (exposed_same w past b k.of k.exposure)
+    (as_many b.learned (kept w past) k.fits.differ k.kept_differ k.of.stands.learned) step reply

@@ -7,7 +7,6 @@ use Rattle.std.proofs.Common.{ap, ap₂, subst, ◌∙◌, arith}
 use Rattle.std.specs.Prelude.{is_some}
 use Rattle.std.proofs.lemmas.Bool.{and_from, true≢false, ltb-true, ltb-false, lt-ltb}
 use Rattle.authenticator.specs.declared.authenticator.Authenticator.{Authenticator}
-use Rattle.authenticator.specs.declared.member.Member.{Member}
 use Rattle.authenticator.specs.Signing.{is_same}
 use Rattle.authenticator.proofs.Signed.{list_same}
 use Rattle.secure_log.specs.Segment.{segment_pairs}
@@ -15,6 +14,7 @@ use Rattle.secure_log.specs.LogEntries.Chain.{IsAmong}
 use Rattle.evidence_spec.specs.Showing.{authenticator_showing}
 use Rattle.evidence_spec.specs.Evidence.{EvidenceParts}
 use Rattle.witness_spec.specs.Replies.{Noted}
+use Rattle.witness_spec.specs.Watched.{Watched}
 use Rattle.witness_spec.specs.Steps.{Learn, Past}
 use Rattle.witness_spec.specs.Pairs.{pair_of, first_pair, same_pair, is_shown}
 use Rattle.witness_spec.specs.Standing.{End, end_of, pairs_noted, shown, is_exposed, unless_exposed}
@@ -160,14 +160,14 @@ module _ (b : Book) (a : Authenticator) (fits : FitsTogether b) where
 
 -- ---- what is known after it
 
-module _ (ms : List Member) (m : Member) (past : Past) (b : Book) (a : Authenticator)
-    (k : Known ms m past b) where
+module _ (w : Watched) (past : Past) (b : Book) (a : Authenticator)
+    (k : Known w past b) where
   -- the evidence after it
-  noted_evidence : evidence_noted b a ≡ evidence ms m ((Learn a, Noted) ∷ past)
+  noted_evidence : evidence_noted b a ≡ evidence w ((Learn a, Noted) ∷ past)
   noted_evidence =
-      first_same ms m past b k.of k.exposure
+      first_same w past b k.of k.exposure
       (fork_evidence b (authenticator_showing a) (pair_of a ∷ []))
-      _ (fork_same ms m past b k.of k.fits (authenticator_showing a) (pair_of a ∷ []))
+      _ (fork_same w past b k.of k.fits (authenticator_showing a) (pair_of a ∷ []))
 
   abbrev l : List Authenticator
   l = learned_unless (evidence_noted b a) b.learned a
@@ -175,11 +175,11 @@ module _ (ms : List Member) (m : Member) (past : Past) (b : Book) (a : Authentic
   abbrev after : Book
   after = record b { learned = l; evidence = evidence_noted b a }
 
-  known_by : HoldSame l (kept ms m ((Learn a, Noted) ∷ past))
-      → NumbersDiffer (kept ms m ((Learn a, Noted) ∷ past))
-      → HoldSame (book_shown after) (shown ms m ((Learn a, Noted) ∷ past))
-      → FitsTogether after → Exposure ms m ((Learn a, Noted) ∷ past)
-      → Known ms m ((Learn a, Noted) ∷ past) after
+  known_by : HoldSame l (kept w ((Learn a, Noted) ∷ past))
+      → NumbersDiffer (kept w ((Learn a, Noted) ∷ past))
+      → HoldSame (book_shown after) (shown w ((Learn a, Noted) ∷ past))
+      → FitsTogether after → Exposure w ((Learn a, Noted) ∷ past)
+      → Known w ((Learn a, Noted) ∷ past) after
   known_by keeps differ showing fits x = record {
     of = record {
       node = k.of.node;
@@ -190,7 +190,7 @@ module _ (ms : List Member) (m : Member) (past : Past) (b : Book) (a : Authentic
         learned = keeps;
         segments = k.of.stands.segments;
         challenges = k.of.stands.challenges;
-        outbox = unsent ms m past (Learn a, Noted) b refl refl k.of;
+        outbox = unsent w past (Learn a, Noted) b refl refl k.of;
         evidence = noted_evidence;
         pairs = showing;
       };
@@ -198,44 +198,44 @@ module _ (ms : List Member) (m : Member) (past : Past) (b : Book) (a : Authentic
     fits = fits;
     kept_differ = differ;
     exposure = x;
-    audited = k.audited ∙ sym (append-nil (audited ms m past));
-    sent = subst (λ xs. forwards past ≤ length xs) (sym (found_stays ms m past (Learn a, Noted) refl)) k.sent;
+    audited = k.audited ∙ sym (append-nil (audited w past));
+    sent = subst (λ xs. forwards past ≤ length xs) (sym (found_stays w past (Learn a, Noted) refl)) k.sent;
     roster = k.roster;
   }
 
   -- where there is evidence after it, nothing is kept of it
-  kept_exposed : is_exposed ms m ((Learn a, Noted) ∷ past) ≡ true
-      → kept ms m ((Learn a, Noted) ∷ past) ≡ kept ms m past
+  kept_exposed : is_exposed w ((Learn a, Noted) ∷ past) ≡ true
+      → kept w ((Learn a, Noted) ∷ past) ≡ kept w past
   kept_exposed is =
-      ap (λ x. filter (λ (c : Authenticator). nat_lt (end_of ms m past).number c.number)
-      (unless_exposed x (Some a) ++ noted_before ms m past)) is
+      ap (λ x. filter (λ (c : Authenticator). nat_lt (end_of w past).number c.number)
+      (unless_exposed x (Some a) ++ noted_before w past)) is
 
   -- where the node isn't exposed after it, it is kept
-  kept_hidden : is_exposed ms m ((Learn a, Noted) ∷ past) ≡ false → (end_of ms m past).number < a.number
-      → kept ms m ((Learn a, Noted) ∷ past) ≡ a ∷ kept ms m past
+  kept_hidden : is_exposed w ((Learn a, Noted) ∷ past) ≡ false → (end_of w past).number < a.number
+      → kept w ((Learn a, Noted) ∷ past) ≡ a ∷ kept w past
   kept_hidden is above =
-      ap (λ x. filter (λ (c : Authenticator). nat_lt (end_of ms m past).number c.number)
-      (unless_exposed x (Some a) ++ noted_before ms m past)) is
-      ∙ ap (λ x. cond x (a ∷ kept ms m past) (kept ms m past))
-      (lt-ltb (end_of ms m past).number a.number above)
+      ap (λ x. filter (λ (c : Authenticator). nat_lt (end_of w past).number c.number)
+      (unless_exposed x (Some a) ++ noted_before w past)) is
+      ∙ ap (λ x. cond x (a ∷ kept w past) (kept w past))
+      (lt-ltb (end_of w past).number a.number above)
 
-  keeps_old : l ≡ b.learned → is_exposed ms m ((Learn a, Noted) ∷ past) ≡ true
-      → HoldSame l (kept ms m ((Learn a, Noted) ∷ past))
+  keeps_old : l ≡ b.learned → is_exposed w ((Learn a, Noted) ∷ past) ≡ true
+      → HoldSame l (kept w ((Learn a, Noted) ∷ past))
   keeps_old same is =
-      subst (λ xs. HoldSame xs (kept ms m ((Learn a, Noted) ∷ past))) (sym same)
+      subst (λ xs. HoldSame xs (kept w ((Learn a, Noted) ∷ past))) (sym same)
       (subst (HoldSame b.learned) (sym (kept_exposed is)) k.of.stands.learned)
 
-  shown_by : (x : Bool) → is_exposed ms m past ≡ x
-      → shown ms m ((Learn a, Noted) ∷ past) ≡ pairs_noted x (Some a) ++ shown ms m past
-  shown_by x is = ap (λ x. pairs_noted x (Some a) ++ shown ms m past) is
+  shown_by : (x : Bool) → is_exposed w past ≡ x
+      → shown w ((Learn a, Noted) ∷ past) ≡ pairs_noted x (Some a) ++ shown w past
+  shown_by x is = ap (λ x. pairs_noted x (Some a) ++ shown w past) is
 
   -- it was exposed before
-  was_exposed : (e : EvidenceParts) → b.evidence ≡ Some e → is_exposed ms m past ≡ true
-      → Exposure ms m ((Learn a, Noted) ∷ past) → Known ms m ((Learn a, Noted) ∷ past) after
+  was_exposed : (e : EvidenceParts) → b.evidence ≡ Some e → is_exposed w past ≡ true
+      → Exposure w ((Learn a, Noted) ∷ past) → Known w ((Learn a, Noted) ∷ past) after
   was_exposed e some is x =
       known_by (keeps_old same (still x)) (subst NumbersDiffer (sym (kept_exposed (still x))) k.kept_differ)
       (subst (HoldSame (book_shown after)) (sym (shown_by true is))
-      (subst (λ ps. HoldSame ps (shown ms m past))
+      (subst (λ ps. HoldSame ps (shown w past))
       (sym (ap₂ (λ o xs. showing_of o xs b.segments) (now ∙ sym some) same)) k.of.stands.pairs))
       (fits_exposed b a k.fits l (evidence_noted b a) same (λ h. ap (λ o. is_some o) now)) x
     where
@@ -245,27 +245,27 @@ module _ (ms : List Member) (m : Member) (past : Past) (b : Book) (a : Authentic
       same : l ≡ b.learned
       same = ap (λ o. learned_unless o b.learned a) now
 
-      still : Exposure ms m ((Learn a, Noted) ∷ past) → is_exposed ms m ((Learn a, Noted) ∷ past) ≡ true
+      still : Exposure w ((Learn a, Noted) ∷ past) → is_exposed w ((Learn a, Noted) ∷ past) ≡ true
       still (Open f more is) = is
       still (Hidden none is) =
           let no : ◌≡◌ {A = Option EvidenceParts} (Some e) None = sym now ∙ (noted_evidence ∙ none) in
           absurd (cc)
 
   -- it exposes the node
-  exposes : (e : EvidenceParts) → b.evidence ≡ None → is_exposed ms m past ≡ false
-      → evidence ms m ((Learn a, Noted) ∷ past) ≡ Some e → is_exposed ms m ((Learn a, Noted) ∷ past) ≡ true
-      → Known ms m ((Learn a, Noted) ∷ past) after
+  exposes : (e : EvidenceParts) → b.evidence ≡ None → is_exposed w past ≡ false
+      → evidence w ((Learn a, Noted) ∷ past) ≡ Some e → is_exposed w ((Learn a, Noted) ∷ past) ≡ true
+      → Known w ((Learn a, Noted) ∷ past) after
   exposes e none is some now =
       known_by (keeps_old same now) (subst NumbersDiffer (sym (kept_exposed now)) k.kept_differ)
       (subst (HoldSame (book_shown after)) (sym (shown_by false is))
-      (subst (λ ps. HoldSame ps (pair_of a ∷ shown ms m past))
+      (subst (λ ps. HoldSame ps (pair_of a ∷ shown w past))
       (sym (ap₂ (λ o xs. showing_of o xs b.segments) there same))
       (same_through (showing_of (Some e) b.learned b.segments)
-      (pair_of a ∷ showing_of None b.learned b.segments) (pair_of a ∷ shown ms m past)
+      (pair_of a ∷ showing_of None b.learned b.segments) (pair_of a ∷ shown w past)
       (add_exposing e (pair_of a) b.learned b.segments
       (fork_shows b (authenticator_showing a) (pair_of a ∷ []) e fork))
-      (same_after (pair_of a) (showing_of None b.learned b.segments) (shown ms m past)
-      (subst (λ o. HoldSame (showing_of o b.learned b.segments) (shown ms m past)) none k.of.stands.pairs)))))
+      (same_after (pair_of a) (showing_of None b.learned b.segments) (shown w past)
+      (subst (λ o. HoldSame (showing_of o b.learned b.segments) (shown w past)) none k.of.stands.pairs)))))
       (fits_exposed b a k.fits l (evidence_noted b a) same (λ h. ap (λ o. is_some o) there))
       (Open e some now)
     where
@@ -281,23 +281,23 @@ module _ (ms : List Member) (m : Member) (past : Past) (b : Book) (a : Authentic
           ∙ there
 
   -- it is kept
-  stays_hidden : b.evidence ≡ None → is_exposed ms m past ≡ false
-      → evidence ms m ((Learn a, Noted) ∷ past) ≡ None → is_exposed ms m ((Learn a, Noted) ∷ past) ≡ false
-      → is_shown (pair_of a) (shown ms m past) ≡ false → Known ms m ((Learn a, Noted) ∷ past) after
+  stays_hidden : b.evidence ≡ None → is_exposed w past ≡ false
+      → evidence w ((Learn a, Noted) ∷ past) ≡ None → is_exposed w ((Learn a, Noted) ∷ past) ≡ false
+      → is_shown (pair_of a) (shown w past) ≡ false → Known w ((Learn a, Noted) ∷ past) after
   stays_hidden none is some now unshown =
       known_by
-      (subst (λ xs. HoldSame xs (kept ms m ((Learn a, Noted) ∷ past))) (sym same)
+      (subst (λ xs. HoldSame xs (kept w ((Learn a, Noted) ∷ past))) (sym same)
       (subst (HoldSame (b.learned ++ a ∷ [])) (sym its_kept)
-      (same_more a b.learned (kept ms m past) k.of.stands.learned)))
+      (same_more a b.learned (kept w past) k.of.stands.learned)))
       (subst NumbersDiffer (sym its_kept)
-      (all_by (λ c. a.number ≢ c.number) (kept ms m past) (λ c i. other c i), k.kept_differ))
+      (all_by (λ c. a.number ≢ c.number) (kept w past) (λ c i. other c i), k.kept_differ))
       (subst (HoldSame (book_shown after)) (sym (shown_by false is))
-      (subst (λ ps. HoldSame ps (pair_of a ∷ shown ms m past))
+      (subst (λ ps. HoldSame ps (pair_of a ∷ shown w past))
       (sym (ap₂ (λ o xs. showing_of o xs b.segments) (there ∙ sym none) same))
       (same_through (showing_of b.evidence (b.learned ++ a ∷ []) b.segments) (pair_of a ∷ book_shown b)
-      (pair_of a ∷ shown ms m past)
+      (pair_of a ∷ shown w past)
       (add_learned b.evidence b.learned b.segments a)
-      (same_after (pair_of a) (book_shown b) (shown ms m past) k.of.stands.pairs))))
+      (same_after (pair_of a) (book_shown b) (shown w past) k.of.stands.pairs))))
       (fits_learned b a k.fits l (evidence_noted b a) same (there ∙ sym none) fresh)
       (Hidden some now)
     where
@@ -307,31 +307,31 @@ module _ (ms : List Member) (m : Member) (past : Past) (b : Book) (a : Authentic
       same : l ≡ b.learned ++ a ∷ []
       same = ap (λ o. learned_unless o b.learned a) there
 
-      later : (x : List ℕ) → IsAmong (a.number, x) (shown ms m past)
-          → IsAmong (a.number, x) (shown ms m ((Learn a, Noted) ∷ past))
+      later : (x : List ℕ) → IsAmong (a.number, x) (shown w past)
+          → IsAmong (a.number, x) (shown w ((Learn a, Noted) ∷ past))
       later x i = subst (IsAmong (a.number, x)) (sym (shown_by false is)) (inr i)
 
-      its : IsAmong (pair_of a) (shown ms m ((Learn a, Noted) ∷ past))
+      its : IsAmong (pair_of a) (shown w ((Learn a, Noted) ∷ past))
       its = subst (IsAmong (pair_of a)) (sym (shown_by false is)) (inl refl)
 
       fresh : IsNew b a
       fresh = record {
         new = λ i.
-            true≢false (sym (passed (λ q. same_pair (pair_of a) q) (shown ms m past) (pair_of a)
+            true≢false (sym (passed (λ q. same_pair (pair_of a) q) (shown w past) (pair_of a)
             ((k.of.stands.pairs (pair_of a)).0 i)
             (and_from (a.number == a.number) (is_same a.hash a.hash) (eq-eqb a.number a.number refl)
             (list_same a.hash a.hash refl))) ∙ unshown);
         one = λ x i.
-            one_shown ms m ((Learn a, Noted) ∷ past) now a.number x a.hash
+            one_shown w ((Learn a, Noted) ∷ past) now a.number x a.hash
             (later x ((k.of.stands.pairs (a.number, x)).0 i)) its;
       }
 
-      its_kept : kept ms m ((Learn a, Noted) ∷ past) ≡ a ∷ kept ms m past
+      its_kept : kept w ((Learn a, Noted) ∷ past) ≡ a ∷ kept w past
       its_kept =
           kept_hidden now (subst (λ (e : End). e.number < a.number) k.of.stands.end
           (new_above b a k.fits fresh))
 
-      other : (c : Authenticator) → IsAmong c (kept ms m past) → a.number ≢ c.number
+      other : (c : Authenticator) → IsAmong c (kept w past) → a.number ≢ c.number
       other c i same =
           none_there b a k.fits fresh c.hash
           (subst (λ n. IsAmong (n, c.hash) (book_shown b)) (sym same)
@@ -339,12 +339,12 @@ module _ (ms : List Member) (m : Member) (past : Past) (b : Book) (a : Authentic
           (Learned c ((k.of.stands.learned c).1 i) refl)))
 
   -- What is known after an authenticator that was noted.
-  pub noted_known : (is_exposed ms m past ≡ false → is_shown (pair_of a) (shown ms m past) ≡ false)
-      → Exposure ms m ((Learn a, Noted) ∷ past) → Known ms m ((Learn a, Noted) ∷ past) (after_learn b a Noted)
+  pub noted_known : (is_exposed w past ≡ false → is_shown (pair_of a) (shown w past) ≡ false)
+      → Exposure w ((Learn a, Noted) ∷ past) → Known w ((Learn a, Noted) ∷ past) (after_learn b a Noted)
   noted_known unshown x = by k.exposure x
     where
-      by : Exposure ms m past → Exposure ms m ((Learn a, Noted) ∷ past)
-          → Known ms m ((Learn a, Noted) ∷ past) (after_learn b a Noted)
+      by : Exposure w past → Exposure w ((Learn a, Noted) ∷ past)
+          → Known w ((Learn a, Noted) ∷ past) (after_learn b a Noted)
       by (Open e some is) y = was_exposed e (k.of.stands.evidence ∙ some) is y
       by (Hidden none is) (Open e some now) = exposes e (k.of.stands.evidence ∙ none) is some now
       by (Hidden none is) (Hidden gone now) =

@@ -23,10 +23,10 @@ use Rattle.replay_spec.proofs.Runs.{is_sound}
 use Rattle.secure_log.specs.LogEntries.Chain.{IsAmong}
 use Rattle.evidence_spec.specs.Showing.{authenticator_showing}
 use Rattle.evidence_spec.specs.Evidence.{EvidenceParts}
-use Rattle.authenticator.specs.Roster.{member_of}
 use Rattle.witness_spec.specs.Events.{Event, IsEvent}
+use Rattle.witness_spec.specs.Watched.{Watched, IsInRoster}
 use Rattle.witness_spec.specs.Whose.{whose}
-use Rattle.witness_spec.specs.Histories.{History, own, IsHistory, AreOwed}
+use Rattle.witness_spec.specs.Histories.{History, IsHistory, AreOwed, own_of}
 use Rattle.witness_laws.proofs.OwnSteps.{own_owed}
 use Rattle.witness_laws.proofs.Checked.{AreChecked, own_checked}
 use Rattle.witness_spec.specs.Refusals.{ChallengesFull, LearnedFull, NoJob, WrongJob}
@@ -381,33 +381,34 @@ first_limits m = record {
   outbox = omega arith;
 }
 
-known_limits : (ms : List Member) (m : Member) (past : Past) → member_of ms m.node ≡ Some m
-    → AreOwed ms m past → AreChecked ms m past → AreDone past → KeepsLimits (book_after_steps m past)
-known_limits ms m [] is owed checked done = first_limits m
-known_limits ms m (p ∷ past) is owed checked done =
-    let k = known ms m past is owed.1 checked.1 done.1 in
-    let n = known ms m (p ∷ past) is owed checked done in
-    limits_on (book_after_steps m past) (known_limits ms m past is owed.1 checked.1 done.1) p.0 p.1 k.fits
-    ((owes_known ms m past (book_after_steps m past) k p.0 p.1).0 owed.0)
+known_limits : (w : Watched) (past : Past) → IsInRoster w
+    → AreOwed w past → AreChecked w past → AreDone past → KeepsLimits (book_after_steps w.member past)
+known_limits w [] is owed checked done = first_limits w.member
+known_limits w (p ∷ past) is owed checked done =
+    let k = known w past is owed.1 checked.1 done.1 in
+    let n = known w (p ∷ past) is owed checked done in
+    limits_on (book_after_steps w.member past) (known_limits w past is owed.1 checked.1 done.1) p.0 p.1 k.fits
+    ((owes_known w past (book_after_steps w.member past) k p.0 p.1).0 owed.0)
     (λ d same at. few_found p.0 done.0 d same) n.fits
-    (one_hash ms m (p ∷ past) (book_after_steps m (p ∷ past)) n.of n.exposure)
+    (one_hash w (p ∷ past) (book_after_steps w.member (p ∷ past)) n.of n.exposure)
 
 -- a member's book after its own steps of a history keeps its limits
-pub own_limits : (ms : List Member) (m : Member) (history : History) → member_of ms m.node ≡ Some m
-    → IsHistory ms history → KeepsLimits (book_after_steps m (own ms m.node history))
-own_limits ms m history is h =
-    known_limits ms m (own ms m.node history) is (own_owed ms m is history h) (own_checked ms m is history h)
-    (own_done ms m.node history h)
+pub own_limits : (w : Watched) (history : History) → IsInRoster w
+    → IsHistory w.roster history → KeepsLimits (book_after_steps w.member (own_of w history))
+own_limits w history is h =
+    known_limits w (own_of w history) is (own_owed w is history h) (own_checked w is history h)
+    (own_done w.roster w.member.node history h)
 
 -- so does any book that fits together and keeps them, with each further step
-pub any_limits : (ms : List Member) (m : Member) (history : History) (b : Book) (event : Event) (step : Step)
-    (reply : Reply) → member_of ms m.node ≡ Some m → IsHistory ms history → FitsTogether b
-    → IsBookOf ms m (own ms m.node history) b → KeepsLimits b → IsEvent event
-    → whose ms event ≡ Ok (record { member = m; step = step }) → BookOwes b step reply
+pub any_limits : (w : Watched) (history : History) (b : Book) (event : Event) (step : Step)
+    (reply : Reply) → IsInRoster w → IsHistory w.roster history → FitsTogether b
+    → IsBookOf w (own_of w history) b → KeepsLimits b → IsEvent event
+    → whose w.roster event ≡ Ok (record { member = w.member; step = step }) → BookOwes b step reply
     → KeepsLimits (book_after b step reply)
-any_limits ms m history b event step reply is h fits of lim e w owes =
-    let g = any_goes_on ms m history b is h fits of event step reply e w owes in
+any_limits w history b event step reply is h fits of lim e its owes =
+    let g = any_goes_on w history b is h fits of event step reply e its owes in
     limits_on b lim step reply fits owes
-    (λ d same at. few_found step (done_event (record { member = m; step = step }) ms event w e) d same) g.fits
-    (one_hash ms m (own ms m.node ((event, reply) ∷ history)) (book_after b step reply) g.of
-    (exposed_or_not ms m ((event, reply) ∷ history) is g.is))
+    (λ d same at. few_found step
+    (done_event (record { member = w.member; step = step }) w.roster event its e) d same) g.fits
+    (one_hash w (own_of w ((event, reply) ∷ history)) (book_after b step reply) g.of
+    (exposed_or_not w ((event, reply) ∷ history) is g.is))

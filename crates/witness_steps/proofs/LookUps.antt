@@ -6,7 +6,6 @@ use Rattle.std.proofs.Common.{subst, ◌∙◌, arith, eqb-true, eq-eqb}
 use Rattle.std.specs.Prelude.{is_some, option_map}
 use Rattle.std.proofs.lemmas.Bool.{and_parts, and_from, true≢false, le-leb, leb-true, leb-false}
 use Rattle.authenticator.specs.declared.authenticator.Authenticator.{Authenticator}
-use Rattle.authenticator.specs.declared.member.Member.{Member}
 use Rattle.authenticator.specs.Signing.{is_same}
 use Rattle.authenticator.proofs.Signed.{same_list, list_same}
 use Rattle.secure_log.specs.declared.log_entries.entry.Entry.{Entry}
@@ -14,6 +13,7 @@ use Rattle.secure_log.specs.LogEntries.Chain.{zeros, pairs, hash_after, link_of,
 use Rattle.secure_log.specs.Segment.{SegmentParts, segment_pairs}
 use Rattle.secure_log.specs.LogEntries.Chain.{IsAmong}
 use Rattle.evidence_spec.specs.Evidence.{EvidenceParts}
+use Rattle.witness_spec.specs.Watched.{Watched}
 use Rattle.witness_spec.specs.Steps.{Past}
 use Rattle.witness_spec.specs.Pairs.{Pair, same_pair, differ, is_shown, is_fork}
 use Rattle.witness_spec.specs.Exposing.{segment_holding}
@@ -257,8 +257,8 @@ module _ (b : Book) (fits : FitsTogether b) (n : ℕ) where
 -- ---- one hash
 
 -- a book of own steps shows one hash at each number, where the node isn't exposed
-pub one_hash : (ms : List Member) (m : Member) (past : Past) (b : Book) → IsBookOf ms m past b
-    → Exposure ms m past → HasOneHash b
-one_hash ms m past b of x hidden n y z i j =
-    one_shown ms m past (sym (exposed_same ms m past b of x) ∙ hidden) n y z ((of.stands.pairs (n, y)).0 i)
+pub one_hash : (w : Watched) (past : Past) (b : Book) → IsBookOf w past b
+    → Exposure w past → HasOneHash b
+one_hash w past b of x hidden n y z i j =
+    one_shown w past (sym (exposed_same w past b of x) ∙ hidden) n y z ((of.stands.pairs (n, y)).0 i)
     ((of.stands.pairs (n, z)).0 j)

@@ -6,12 +6,12 @@ use Rattle.std.specs.Prelude.{option_map, is_some}
 use Rattle.std.proofs.lemmas.List.{drop-drop}
 use Rattle.std.proofs.lemmas.List.Sums.{sum_by_from}
 use Rattle.authenticator.specs.declared.authenticator.Authenticator.{Authenticator}
-use Rattle.authenticator.specs.declared.member.Member.{Member}
 use Rattle.envelopes.specs.declared.envelope.Envelope.{Envelope}
 use Rattle.envelopes.specs.declared.acknowledgement.Ack.{Ack}
 use Rattle.evidence_spec.specs.Evidence.{EvidenceParts}
 use Rattle.witness_spec.specs.Events.{JobParts, Question}
 use Rattle.witness_spec.specs.Replies.{Reply, Opened, Closed, Asked, Job, Returned, Forwarded}
+use Rattle.witness_spec.specs.Watched.{Watched}
 use Rattle.witness_spec.specs.Steps.{Step, SendChallenge, AckIn, Audit, Begin, PutBack, Forward, Ask, Past}
 use Rattle.witness_spec.specs.Done.{noted, accepted, begun, filed, forwarded}
 use Rattle.witness_spec.specs.Histories.{HoldSame}
@@ -27,10 +27,10 @@ use Rattle.witness_steps.specs.Going.{after_forward}
 use Rattle.witness_steps.specs.Fitting.{IsBookOf}
 
 -- whether a node is exposed, with its evidence
-pub data Exposure (ms : List Member) (m : Member) (past : Past) : Type 0 where
-  Hidden : evidence ms m past ≡ None → is_exposed ms m past ≡ false → Exposure ms m past
-  Open : (e : EvidenceParts) → evidence ms m past ≡ Some e → is_exposed ms m past ≡ true
-      → Exposure ms m past
+pub data Exposure (w : Watched) (past : Past) : Type 0 where
+  Hidden : evidence w past ≡ None → is_exposed w past ≡ false → Exposure w past
+  Open : (e : EvidenceParts) → evidence w past ≡ Some e → is_exposed w past ≡ true
+      → Exposure w past
 
 -- what a step didn't do
 pub record DoesNothing (past : Past) (p : Step × Reply) : Type 0 where
@@ -49,54 +49,54 @@ pub record DoesNothing (past : Past) (p : Step × Reply) : Type 0 where
   -- so do the challenges
   pub challenges : open_after (open_challenges past) p.0 p.1 ≡ open_challenges past
 
-module _ (ms : List Member) (m : Member) (past : Past) where
+module _ (w : Watched) (past : Past) where
   -- ---- evidence
 
-  stays : (o : Option EvidenceParts) → Exposure ms m past
-      → o ≡ cond (is_exposed ms m past) (evidence ms m past) None → o ≡ evidence ms m past
-  stays o (Hidden none is) h = h ∙ (ap (λ b. cond b (evidence ms m past) None) is ∙ sym none)
-  stays o (Open e some is) h = h ∙ ap (λ b. cond b (evidence ms m past) None) is
+  stays : (o : Option EvidenceParts) → Exposure w past
+      → o ≡ cond (is_exposed w past) (evidence w past) None → o ≡ evidence w past
+  stays o (Hidden none is) h = h ∙ (ap (λ b. cond b (evidence w past) None) is ∙ sym none)
+  stays o (Open e some is) h = h ∙ ap (λ b. cond b (evidence w past) None) is
 
   -- a step that notes, accepts and files nothing leaves the evidence
-  pub evidence_stays : (p : Step × Reply) → Exposure ms m past → noted p.0 p.1 ≡ None
-      → accepted p.0 p.1 ≡ None → filed p.0 p.1 ≡ None → evidence ms m (p ∷ past) ≡ evidence ms m past
+  pub evidence_stays : (p : Step × Reply) → Exposure w past → noted p.0 p.1 ≡ None
+      → accepted p.0 p.1 ≡ None → filed p.0 p.1 ≡ None → evidence w (p ∷ past) ≡ evidence w past
   evidence_stays p x n a f =
-      stays (evidence ms m (p ∷ past)) x
-      (ap (λ o. cond (is_exposed ms m past) (evidence ms m past) (option_map
-      (λ g. record { node = m.node; charge = g })
-      (charge_of ms m past o (accepted p.0 p.1) (filed p.0 p.1)))) n
-      ∙ (ap (λ o. cond (is_exposed ms m past) (evidence ms m past) (option_map
-      (λ g. record { node = m.node; charge = g }) (charge_of ms m past None o (filed p.0 p.1)))) a
-      ∙ ap (λ o. cond (is_exposed ms m past) (evidence ms m past) (option_map
-      (λ g. record { node = m.node; charge = g }) (charge_of ms m past None None o))) f))
+      stays (evidence w (p ∷ past)) x
+      (ap (λ o. cond (is_exposed w past) (evidence w past) (option_map
+      (λ g. record { node = w.member.node; charge = g })
+      (charge_of w past o (accepted p.0 p.1) (filed p.0 p.1)))) n
+      ∙ (ap (λ o. cond (is_exposed w past) (evidence w past) (option_map
+      (λ g. record { node = w.member.node; charge = g }) (charge_of w past None o (filed p.0 p.1)))) a
+      ∙ ap (λ o. cond (is_exposed w past) (evidence w past) (option_map
+      (λ g. record { node = w.member.node; charge = g }) (charge_of w past None None o))) f))
 
   -- a step that files nothing leaves what was found
   pub found_stays : (p : Step × Reply) → filed p.0 p.1 ≡ None
-      → all_found ms m (p ∷ past) ≡ all_found ms m past
+      → all_found w (p ∷ past) ≡ all_found w past
   found_stays p f =
-      ap (λ o. all_found ms m past ++ found_filed ms (end_of ms m past).state o) f
-      ∙ append-nil (all_found ms m past)
+      ap (λ o. all_found w past ++ found_filed w.roster (end_of w past).state o) f
+      ∙ append-nil (all_found w past)
 
   -- a step that notes and files nothing leaves what is kept
   pub kept_stays : (p : Step × Reply) → noted p.0 p.1 ≡ None → filed p.0 p.1 ≡ None
-      → kept ms m (p ∷ past) ≡ kept ms m past
+      → kept w (p ∷ past) ≡ kept w past
   kept_stays p n f =
       ap₂ (λ (e : End) (xs : List Authenticator). filter (λ a. nat_lt e.number a.number) xs)
-      (ap (end_after ms (end_of ms m past)) f)
-      (ap (λ o. unless_exposed (is_exposed ms m (p ∷ past)) o ++ noted_before ms m past) n)
+      (ap (end_after w.roster (end_of w past)) f)
+      (ap (λ o. unless_exposed (is_exposed w (p ∷ past)) o ++ noted_before w past) n)
 
   -- ---- a step that does nothing
 
   -- the book stays
-  pub quiet : (p : Step × Reply) (b : Book) → DoesNothing past p → Exposure ms m past → IsBookOf ms m past b
-      → IsBookOf ms m (p ∷ past) b
+  pub quiet : (p : Step × Reply) (b : Book) → DoesNothing past p → Exposure w past → IsBookOf w past b
+      → IsBookOf w (p ∷ past) b
   quiet p b did x of =
-      let end : end_of ms m (p ∷ past) ≡ end_of ms m past = ap (end_after ms (end_of ms m past)) did.files in
-      let keeps : kept ms m (p ∷ past) ≡ kept ms m past = kept_stays p did.notes did.files in
+      let end : end_of w (p ∷ past) ≡ end_of w past = ap (end_after w.roster (end_of w past)) did.files in
+      let keeps : kept w (p ∷ past) ≡ kept w past = kept_stays p did.notes did.files in
       let all : all_accepted (p ∷ past) ≡ all_accepted past =
       ap (λ o. segment_of o ++ all_accepted past) did.accepts in
-      let showing : shown ms m (p ∷ past) ≡ shown ms m past =
-      ap₂ (λ n a. pairs_noted (is_exposed ms m past) n ++ (pairs_accepted a ++ shown ms m past)) did.notes
+      let showing : shown w (p ∷ past) ≡ shown w past =
+      ap₂ (λ n a. pairs_noted (is_exposed w past) n ++ (pairs_accepted a ++ shown w past)) did.notes
       did.accepts in
       let count : begins (p ∷ past) ≡ begins past =
       ap (λ o. fold (λ n (q : Step × Reply). n + cond (is_some (begun q.0 q.1)) 1 0)
@@ -122,15 +122,15 @@ module _ (ms : List Member) (m : Member) (past : Past) where
 
   -- the outbox of before, where nothing was forwarded or filed
   pub unsent : (p : Step × Reply) (b : Book) → forwards (p ∷ past) ≡ forwards past → filed p.0 p.1 ≡ None
-      → IsBookOf ms m past b → b.outbox ≡ outbox ms m (p ∷ past)
+      → IsBookOf w past b → b.outbox ≡ outbox w (p ∷ past)
   unsent p b sent f of =
       of.stands.outbox ∙ sym (ap₂ (λ n (xs : List Authenticator). drop n xs) sent (found_stays p f))
 
   -- ---- challenges
 
   -- after a challenge with a message
-  pub having_challenged : (e : Envelope) (r : Reply) (b : Book) → Exposure ms m past → IsBookOf ms m past b
-      → IsBookOf ms m ((SendChallenge e, r) ∷ past) (after_send_challenge b e r)
+  pub having_challenged : (e : Envelope) (r : Reply) (b : Book) → Exposure w past → IsBookOf w past b
+      → IsBookOf w ((SendChallenge e, r) ∷ past) (after_send_challenge b e r)
   having_challenged e Opened b x of = record {
     node = of.node;
     stands = record {
@@ -157,8 +157,8 @@ module _ (ms : List Member) (m : Member) (past : Past) where
       }) x of
 
   -- after an acknowledgement
-  pub having_acked : (a : Ack) (r : Reply) (b : Book) → Exposure ms m past → IsBookOf ms m past b
-      → IsBookOf ms m ((AckIn a, r) ∷ past) (after_ack b a r)
+  pub having_acked : (a : Ack) (r : Reply) (b : Book) → Exposure w past → IsBookOf w past b
+      → IsBookOf w ((AckIn a, r) ∷ past) (after_ack b a r)
   having_acked a Closed b x of = record {
     node = of.node;
     stands = record {
@@ -187,8 +187,8 @@ module _ (ms : List Member) (m : Member) (past : Past) where
   -- ---- audits and jobs
 
   -- after an audit
-  pub having_asked : (r : Reply) (b : Book) → Exposure ms m past → IsBookOf ms m past b
-      → IsBookOf ms m ((Audit, r) ∷ past) (after_audit b r)
+  pub having_asked : (r : Reply) (b : Book) → Exposure w past → IsBookOf w past b
+      → IsBookOf w ((Audit, r) ∷ past) (after_audit b r)
   having_asked (Asked first last) b x of = record {
     node = of.node;
     stands = record {
@@ -215,8 +215,8 @@ module _ (ms : List Member) (m : Member) (past : Past) where
       }) x of
 
   -- after a job began
-  pub having_begun : (r : Reply) (b : Book) → Exposure ms m past → IsBookOf ms m past b
-      → IsBookOf ms m ((Begin, r) ∷ past) (after_begin b r)
+  pub having_begun : (r : Reply) (b : Book) → Exposure w past → IsBookOf w past b
+      → IsBookOf w ((Begin, r) ∷ past) (after_begin b r)
   having_begun (Job j) b x of = record {
     node = of.node;
     stands = record {
@@ -244,8 +244,8 @@ module _ (ms : List Member) (m : Member) (past : Past) where
       }) x of
 
   -- after a job that was put back
-  pub having_put_back : (j : JobParts) (r : Reply) (b : Book) → Exposure ms m past → IsBookOf ms m past b
-      → IsBookOf ms m ((PutBack j, r) ∷ past) (after_put_back b j r)
+  pub having_put_back : (j : JobParts) (r : Reply) (b : Book) → Exposure w past → IsBookOf w past b
+      → IsBookOf w ((PutBack j, r) ∷ past) (after_put_back b j r)
   having_put_back j Returned b x of = record {
     node = of.node;
     stands = record {
@@ -274,8 +274,8 @@ module _ (ms : List Member) (m : Member) (past : Past) where
   -- ---- what is asked for
 
   -- after something was forwarded
-  pub having_forwarded : (r : Reply) (b : Book) → Exposure ms m past → IsBookOf ms m past b
-      → IsBookOf ms m ((Forward, r) ∷ past) (after_forward b r)
+  pub having_forwarded : (r : Reply) (b : Book) → Exposure w past → IsBookOf w past b
+      → IsBookOf w ((Forward, r) ∷ past) (after_forward b r)
   having_forwarded (Forwarded a) b x of = record {
     node = of.node;
     stands = record {
@@ -286,7 +286,7 @@ module _ (ms : List Member) (m : Member) (past : Past) where
       segments = of.stands.segments;
       challenges = of.stands.challenges;
       outbox = ap (λ (xs : List Authenticator). drop 1 xs) of.stands.outbox
-          ∙ (drop-drop 1 (forwards past) (all_found ms m past)
+          ∙ (drop-drop 1 (forwards past) (all_found w past)
           ∙ ap₂ (λ n (xs : List Authenticator). drop n xs)
           (omega (arith, sum_by_from (λ (q : Step × Reply). cond (is_some (forwarded q.0 q.1)) 1 0) 1 past))
           (sym (found_stays (Forward, Forwarded a) refl)));
@@ -306,8 +306,8 @@ module _ (ms : List Member) (m : Member) (past : Past) where
       }) x of
 
   -- after a question
-  pub having_told : (q : Question) (r : Reply) (b : Book) → Exposure ms m past → IsBookOf ms m past b
-      → IsBookOf ms m ((Ask q, r) ∷ past) b
+  pub having_told : (q : Question) (r : Reply) (b : Book) → Exposure w past → IsBookOf w past b
+      → IsBookOf w ((Ask q, r) ∷ past) b
   having_told q r b x of =
       quiet (Ask q, r) b (record {
         notes = refl;

@@ -3,10 +3,11 @@
 use Rattle.std.proofs.Common.{◌≡◌, ℕ, Bool, true, false, cond, ◌==◌, List, [], ◌∷◌, map, Option, Some, Ok}
 use Rattle.std.proofs.Common.{subst}
 use Rattle.std.specs.List.{AllByRecursion}
-use Rattle.authenticator.specs.Roster.{IsRoster, member_of}
+use Rattle.authenticator.specs.Roster.{IsRoster}
 use Rattle.authenticator.specs.declared.member.Member.{Member}
 use Rattle.witness_spec.specs.Events.{Event, IsEvent}
 use Rattle.witness_spec.specs.Replies.{Reply}
+use Rattle.witness_spec.specs.Watched.{Watched, IsInRoster}
 use Rattle.witness_spec.specs.Steps.{Step}
 use Rattle.witness_spec.specs.Whose.{whose}
 use Rattle.witness_steps.specs.Books.{Book, book_opening}
@@ -67,31 +68,33 @@ first_ready ms = record {
 }
 
 -- books that can make their steps can make them after one
-pub ready_on : (ms : List Member) (m : Member) (books : List Book) (b : Book) (event : Event) (step : Step)
-    (reply : Reply) → IsRoster ms → AreReady ms books → IsEvent event
-    → whose ms event ≡ Ok (record { member = m; step = step }) → book_at ms books m.node ≡ Some b
-    → BookOwes b step reply → AreReady ms (with_book_at ms m.node (book_after b step reply) books)
-ready_on ms m books b event step reply roster ready e w there owes =
-    let fits = (its ms m books b event step reply roster ready.kept e w there owes).1 in
-    let limits = all_at KeepsLimits ms books m.node b ready.limits there in
-    let few = all_at KnowsFew ms books m.node b ready.few there in
-    let done = done_event (record { member = m; step = step }) ms event w e in
+pub ready_on : (w : Watched) (books : List Book) (b : Book) (event : Event) (step : Step)
+    (reply : Reply) → IsRoster w.roster → AreReady w.roster books → IsEvent event
+    → whose w.roster event ≡ Ok (record { member = w.member; step = step })
+    → book_at w.roster books w.member.node ≡ Some b
+    → BookOwes b step reply
+    → AreReady w.roster (with_book_at w.roster w.member.node (book_after b step reply) books)
+ready_on w books b event step reply roster ready e told there owes =
+    let fits = (its w books b event step reply roster ready.kept e told there owes).1 in
+    let limits = all_at KeepsLimits w.roster books w.member.node b ready.limits there in
+    let few = all_at KnowsFew w.roster books w.member.node b ready.few there in
+    let done = done_event (record { member = w.member; step = step }) w.roster event told e in
     record {
-      kept = all_kept ms m books b event step reply roster ready.kept e w there owes;
-      limits = all_with KeepsLimits ms m.node (book_after b step reply) books ready.limits
-          (any_limits ms m ready.kept.are.history b event step reply
-          (is ms m books b event step reply roster ready.kept e w there owes) ready.kept.are.is fits
-          (its_book ms m books b event step reply roster ready.kept e w there owes) limits e w owes);
-      few = all_with KnowsFew ms m.node (book_after b step reply) books ready.few
+      kept = all_kept w books b event step reply roster ready.kept e told there owes;
+      limits = all_with KeepsLimits w.roster w.member.node (book_after b step reply) books ready.limits
+          (any_limits w ready.kept.are.history b event step reply
+          (is w books b event step reply roster ready.kept e told there owes) ready.kept.are.is fits
+          (its_book w books b event step reply roster ready.kept e told there owes) limits e told owes);
+      few = all_with KnowsFew w.roster w.member.node (book_after b step reply) books ready.few
           (few_on b few step reply fits owes done);
     }
 
 -- the book of each member can make a step
-pub ready_at : (ms : List Member) (m : Member) (books : List Book) (b : Book) → AreReady ms books
-    → member_of ms m.node ≡ Some m → book_at ms books m.node ≡ Some b → IsReady b
-ready_at ms m books b ready is there = record {
-  fits = (fit_at ms books m.node b ready.kept.fit there).1;
-  one = kept_one_hash ms m books b ready.kept is there;
-  limits = all_at KeepsLimits ms books m.node b ready.limits there;
-  few = all_at KnowsFew ms books m.node b ready.few there;
+pub ready_at : (w : Watched) (books : List Book) (b : Book) → AreReady w.roster books
+    → IsInRoster w → book_at w.roster books w.member.node ≡ Some b → IsReady b
+ready_at w books b ready is there = record {
+  fits = (fit_at w.roster books w.member.node b ready.kept.fit there).1;
+  one = kept_one_hash w books b ready.kept is there;
+  limits = all_at KeepsLimits w.roster books w.member.node b ready.limits there;
+  few = all_at KnowsFew w.roster books w.member.node b ready.few there;
 }

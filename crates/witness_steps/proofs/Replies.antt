@@ -4,7 +4,6 @@ use Rattle.std.proofs.Common.{◌≡◌, ◌↔◌, ℕ, ◌+◌, Bool, true, fa
 use Rattle.std.proofs.Common.{◌∷◌, map, filter, length, Some, refl, sym, ap, inl}
 use Rattle.std.proofs.Common.{◌∙◌}
 use Rattle.authenticator.specs.declared.authenticator.Authenticator.{Authenticator}
-use Rattle.authenticator.specs.declared.member.Member.{Member}
 use Rattle.secure_log.specs.Segment.{ClosedParts}
 use Rattle.envelopes.specs.Acknowledgement.{acked_message}
 use Rattle.witness_spec.specs.Refusals.{LearnedFull, NothingToAudit, NoJob, WrongJob}
@@ -12,6 +11,7 @@ use Rattle.witness_spec.specs.Events.{JobParts, Question, ItsIndication, ItsChal
 use Rattle.witness_spec.specs.Replies.{Reply, Noted, Already, Job, Filed, Returned, Told, OpenList}
 use Rattle.witness_spec.specs.Replies.{EvidenceIs}
 use Rattle.witness_spec.specs.Replies.{Refused, FileRefused, PutBackRefused, Exposed}
+use Rattle.witness_spec.specs.Watched.{Watched}
 use Rattle.witness_spec.specs.Steps.{Step, Learn, SendChallenge, Answer, AckIn, Audit, Begin, File, PutBack}
 use Rattle.witness_spec.specs.Steps.{Forward, Ask, Past}
 use Rattle.witness_spec.specs.Limits.{MAX_LEARNED, MAX_ASKED}
@@ -51,66 +51,67 @@ ask_same false end waiting (x ∷ xs) (y ∷ ys) same =
 make : ℕ → ℕ → End → ClosedParts → JobParts
 make node number end c = record { node = node; number = number; state = end.state; segment = c }
 
-module _ (ms : List Member) (m : Member) (past : Past) (b : Book) (of : IsBookOf ms m past b)
-    (is : exposed b ≡ is_exposed ms m past) (count : length b.learned ≡ length (kept ms m past)) where
+module _ (w : Watched) (past : Past) (b : Book) (of : IsBookOf w past b)
+    (is : exposed b ≡ is_exposed w past) (count : length b.learned ≡ length (kept w past)) where
   -- ---- each event
 
-  learns : (a : Authenticator) → owing.learn_reply ms m past a ≡ book_reply false b (Learn a)
+  learns : (a : Authenticator) → owing.learn_reply w past a ≡ book_reply false b (Learn a)
   learns a =
-      let there = any_same (λ q. same_pair (pair_of a) q) (book_shown b) (shown ms m past) of.stands.pairs in
-      let fork = any_same (λ q. differ (pair_of a) q) (book_shown b) (shown ms m past) of.stands.pairs in
-      let room : owing.has_no_room ms m past a ≡ not (is_fork (pair_of a) (book_shown b))
+      let there = any_same (λ q. same_pair (pair_of a) q) (book_shown b) (shown w past) of.stands.pairs in
+      let fork = any_same (λ q. differ (pair_of a) q) (book_shown b) (shown w past) of.stands.pairs in
+      let room : owing.has_no_room w past a ≡ not (is_fork (pair_of a) (book_shown b))
       && (nat_lt b.end.number a.number && nat_le MAX_LEARNED (length b.learned)) =
-      ap (λ x. not x && (nat_lt (end_of ms m past).number a.number
-      && nat_le MAX_LEARNED (length (kept ms m past)))) (sym fork)
+      ap (λ x. not x && (nat_lt (end_of w past).number a.number
+      && nat_le MAX_LEARNED (length (kept w past)))) (sym fork)
       ∙ (ap (λ (e : End). not (is_fork (pair_of a) (book_shown b)) && (nat_lt e.number a.number
-      && nat_le MAX_LEARNED (length (kept ms m past)))) (sym of.stands.end)
+      && nat_le MAX_LEARNED (length (kept w past)))) (sym of.stands.end)
       ∙ ap (λ n. not (is_fork (pair_of a) (book_shown b)) && (nat_lt b.end.number a.number
       && nat_le MAX_LEARNED n)) (sym count)) in
-      ap (λ x. cond x Noted (cond (is_shown (pair_of a) (shown ms m past)) Already
-      (cond (owing.has_no_room ms m past a) (Refused LearnedFull) Noted))) (sym is)
+      ap (λ x. cond x Noted (cond (is_shown (pair_of a) (shown w past)) Already
+      (cond (owing.has_no_room w past a) (Refused LearnedFull) Noted))) (sym is)
       ∙ (ap (λ x. cond (exposed b) Noted (cond x Already
-      (cond (owing.has_no_room ms m past a) (Refused LearnedFull) Noted))) (sym there)
+      (cond (owing.has_no_room w past a) (Refused LearnedFull) Noted))) (sym there)
       ∙ ap (λ x. cond (exposed b) Noted (cond (is_shown (pair_of a) (book_shown b)) Already
       (cond x (Refused LearnedFull) Noted))) room)
 
-  asks : ask_reply (is_exposed ms m past) (end_of ms m past).number (length (outbox ms m past))
-      (kept ms m past)
+  asks : ask_reply (is_exposed w past) (end_of w past).number (length (outbox w past))
+      (kept w past)
       ≡ ask_reply (exposed b) b.end.number (length b.outbox) b.learned
   asks =
-      sym (ask_same (exposed b) b.end.number (length b.outbox) b.learned (kept ms m past) of.stands.learned
-      ∙ (ap (λ x. ask_reply x b.end.number (length b.outbox) (kept ms m past)) is
-      ∙ (ap (λ (e : End). ask_reply (is_exposed ms m past) e.number (length b.outbox)
-      (kept ms m past)) of.stands.end
-      ∙ ap (λ (xs : List Authenticator). ask_reply (is_exposed ms m past) (end_of ms m past).number
+      sym (ask_same (exposed b) b.end.number (length b.outbox) b.learned (kept w past) of.stands.learned
+      ∙ (ap (λ x. ask_reply x b.end.number (length b.outbox) (kept w past)) is
+      ∙ (ap (λ (e : End). ask_reply (is_exposed w past) e.number (length b.outbox)
+      (kept w past)) of.stands.end
+      ∙ ap (λ (xs : List Authenticator). ask_reply (is_exposed w past) (end_of w past).number
       (length xs)
-      (kept ms m past)) of.stands.outbox)))
+      (kept w past)) of.stands.outbox)))
 
-  audits : (s : Stage) → owing.audit_reply ms m past s ≡ reply_to_audit b s
+  audits : (s : Stage) → owing.audit_reply w past s ≡ reply_to_audit b s
   audits NoAudit = asks
   audits (Wanted first last) = refl
   audits (Given c) = refl
   audits (Out c) = refl
 
   -- the job of a segment with a number
-  same_job : (n k : ℕ) (c : ClosedParts) → n ≡ k → make b.node n b.end c ≡ make m.node k (end_of ms m past) c
+  same_job : (n k : ℕ) (c : ClosedParts) → n ≡ k
+      → make b.node n b.end c ≡ make w.member.node k (end_of w past) c
   same_job n k c e =
       ap (λ x. make x n b.end c) of.node
-      ∙ (ap (λ x. make m.node x b.end c) e ∙ ap (λ x. make m.node k x c) of.stands.end)
+      ∙ (ap (λ x. make w.member.node x b.end c) e ∙ ap (λ x. make w.member.node k x c) of.stands.end)
 
-  begun_job : (c : ClosedParts) → owing.next_job ms m past c ≡ books.job_of b (b.begun + 1) c
+  begun_job : (c : ClosedParts) → owing.next_job w past c ≡ books.job_of b (b.begun + 1) c
   unfolding make
   begun_job c = sym (same_job (b.begun + 1) (begins past + 1) c (ap (λ n. n + 1) of.stands.begun))
 
-  begins_by : (s : Stage) → owing.begin_reply ms m past s ≡ reply_to_begin b s
+  begins_by : (s : Stage) → owing.begin_reply w past s ≡ reply_to_begin b s
   begins_by NoAudit = refl
   begins_by (Wanted first last) = refl
   begins_by (Given c) =
-      ap (λ x. cond x (Refused NothingToAudit) (Job (owing.next_job ms m past c))) (sym is)
+      ap (λ x. cond x (Refused NothingToAudit) (Job (owing.next_job w past c))) (sym is)
       ∙ ap (λ j. cond (exposed b) (Refused NothingToAudit) (Job j)) (begun_job c)
   begins_by (Out c) = refl
 
-  out_by : (s : Stage) → job_out_at b s ≡ out_at ms m past s
+  out_by : (s : Stage) → job_out_at b s ≡ out_at w past s
   unfolding make
   out_by NoAudit = refl
   out_by (Wanted first last) = refl
@@ -118,10 +119,10 @@ module _ (ms : List Member) (m : Member) (past : Past) (b : Book) (of : IsBookOf
   out_by (Out c) = ap (λ j. Some j) (same_job b.begun (begins past) c of.stands.begun)
 
   -- the job that is out is the same
-  pub same_out : job_out b ≡ out_at ms m past (stage_of past)
-  same_out = out_by b.stage ∙ ap (out_at ms m past) of.stands.stage
+  pub same_out : job_out b ≡ out_at w past (stage_of past)
+  same_out = out_by b.stage ∙ ap (out_at w past) of.stands.stage
 
-  asked : (q : Question) → owing.ask ms m past q ≡ book_reply false b (Ask q)
+  asked : (q : Question) → owing.ask w past q ≡ book_reply false b (Ask q)
   asked ItsIndication =
       ap (λ x. Told (cond x Exposed (without_evidence (open_challenges past)))) (sym is)
       ∙ ap (λ xs. Told (cond (exposed b) Exposed (without_evidence xs))) (sym of.stands.challenges)
@@ -131,13 +132,13 @@ module _ (ms : List Member) (m : Member) (past : Past) (b : Book) (of : IsBookOf
   -- ---- all events
 
   -- What is told of a step is what the book replies.
-  pub same_told : (o : Bool) (step : Step) → reply_told o ms m past step ≡ book_reply o b step
+  pub same_told : (o : Bool) (step : Step) → reply_told o w past step ≡ book_reply o b step
   same_told o (Learn a) = learns a
   same_told o (SendChallenge e) = ap (λ xs. challenge_reply xs e) (sym of.stands.challenges)
   same_told o (Answer c) = ap (λ s. answer_reply s c) (sym of.stands.stage)
   same_told o (AckIn a) = ap (λ xs. ack_reply xs (acked_message a)) (sym of.stands.challenges)
-  same_told o Audit = ap (owing.audit_reply ms m past) (sym of.stands.stage) ∙ audits b.stage
-  same_told o Begin = ap (owing.begin_reply ms m past) (sym of.stands.stage) ∙ begins_by b.stage
+  same_told o Audit = ap (owing.audit_reply w past) (sym of.stands.stage) ∙ audits b.stage
+  same_told o Begin = ap (owing.begin_reply w past) (sym of.stands.stage) ∙ begins_by b.stage
   same_told o (File d) =
       ap (λ j. back_reply o j Filed (FileRefused WrongJob d) (FileRefused NoJob d)) (sym same_out)
   same_told o (PutBack j) =
@@ -146,7 +147,7 @@ module _ (ms : List Member) (m : Member) (past : Past) (b : Book) (of : IsBookOf
   same_told o (Ask q) = asked q
 
   -- Whether the job that comes back is the one that is out is the same question.
-  pub same_is_out : (step : Step) → owing.IsOut ms m past step ↔ IsOut b step
+  pub same_is_out : (step : Step) → owing.IsOut w past step ↔ IsOut b step
   same_is_out (Learn a) = (λ h. h, λ h. h)
   same_is_out (SendChallenge e) = (λ h. h, λ h. h)
   same_is_out (Answer c) = (λ h. h, λ h. h)
@@ -159,7 +160,7 @@ module _ (ms : List Member) (m : Member) (past : Past) (b : Book) (of : IsBookOf
   same_is_out (Ask q) = (λ h. h, λ h. h)
 
   -- The book owes what is owed after the steps, and nothing else.
-  pub owes_same : (step : Step) (reply : Reply) → Owes ms m past step reply ↔ BookOwes b step reply
+  pub owes_same : (step : Step) (reply : Reply) → Owes w past step reply ↔ BookOwes b step reply
   owes_same step reply = (
     λ h. record {
       is_out = h.is_out;

@@ -5,6 +5,7 @@ use Rattle.authenticator.specs.Roster.{IsRoster, member_of}
 use Rattle.authenticator.specs.declared.member.Member.{Member}
 use Rattle.secure_log.specs.LogEntries.Chain.{IsAmong}
 use Rattle.witness_spec.specs.Replies.{Exposed}
+use Rattle.witness_spec.specs.Watched.{Watched, watched}
 use Rattle.witness_spec.specs.Steps.{Past}
 use Rattle.witness_spec.specs.Standing.{is_exposed, without_evidence, indication}
 use Rattle.witness_spec.specs.Histories.{History, own, IsHistory, StandEach, Stands}
@@ -19,7 +20,7 @@ stand_each : (ms : List Member) (history : History) (members : List Member) → 
     → StandEach ms history members (map (λ m. parts_of (book_after_steps m (own ms m.node history))) members)
 stand_each ms history [] h is = tt
 stand_each ms history (m ∷ members) h is = (
-  (own_known ms m history (is m (inl refl)) h).of.stands,
+  (own_known (watched ms m) history (is m (inl refl)) h).of.stands,
   stand_each ms history members h (λ n i. is n (inr i)),
 )
 
@@ -29,8 +30,8 @@ pub stand : (ms : List Member) (history : History) → IsRoster ms → IsHistory
 stand ms history roster h = stand_each ms history ms h (λ m i. its_member 0 ms m roster.1 i)
 
 -- what is known of a book tells its indication
-pub same_indication : (ms : List Member) (m : Member) (past : Past) (b : Book) → Known ms m past b
-    → book_indication b ≡ indication ms m past
-same_indication ms m past b k =
-    ap (λ x. cond x Exposed (without_evidence b.challenges)) (exposed_same ms m past b k.of k.exposure)
-    ∙ ap (λ xs. cond (is_exposed ms m past) Exposed (without_evidence xs)) k.of.stands.challenges
+pub same_indication : (w : Watched) (past : Past) (b : Book) → Known w past b
+    → book_indication b ≡ indication w past
+same_indication w past b k =
+    ap (λ x. cond x Exposed (without_evidence b.challenges)) (exposed_same w past b k.of k.exposure)
+    ∙ ap (λ xs. cond (is_exposed w past) Exposed (without_evidence xs)) k.of.stands.challenges

@@ -22,6 +22,7 @@ use Rattle.witness_spec.specs.Events.{JobParts, DoneParts, Question}
 use Rattle.witness_spec.specs.Replies.{Reply, Noted, Already, Opened, Accepted, Closed, Asked, Job, Filed}
 use Rattle.witness_spec.specs.Replies.{Returned}
 use Rattle.witness_spec.specs.Replies.{Forwarded, Refused, Challenge}
+use Rattle.witness_spec.specs.Watched.{Watched}
 use Rattle.witness_spec.specs.Steps.{Step, Learn, SendChallenge, Answer, AckIn, Audit, Begin, File, PutBack}
 use Rattle.witness_spec.specs.Steps.{Forward, Ask, Past}
 use Rattle.witness_spec.specs.Limits.{MAX_AUDITED, MAX_OUTBOX}
@@ -261,19 +262,19 @@ returned_is false (Some j) good wrong none f g h = absurd (f h)
 
 -- ---- each step
 
-module _ (ms : List Member) (m : Member) (past : Past) (b : Book) (k : Known ms m past b) where
+module _ (w : Watched) (past : Past) (b : Book) (k : Known w past b) where
   -- a step that does nothing
-  known_quiet : (p : Step × Reply) → DoesNothing past p → Exposure ms m (p ∷ past) → Known ms m (p ∷ past) b
+  known_quiet : (p : Step × Reply) → DoesNothing past p → Exposure w (p ∷ past) → Known w (p ∷ past) b
   known_quiet p did x = record {
-    of = quiet ms m past p b did k.exposure k.of;
+    of = quiet w past p b did k.exposure k.of;
     fits = k.fits;
-    kept_differ = subst NumbersDiffer (sym (kept_stays ms m past p did.notes did.files)) k.kept_differ;
+    kept_differ = subst NumbersDiffer (sym (kept_stays w past p did.notes did.files)) k.kept_differ;
     exposure = x;
     audited =
-        k.audited ∙ sym (ap (λ o. audited ms m past ++ entries_filed ms (end_of ms m past).state o) did.files
-        ∙ append-nil (audited ms m past));
-    sent = omega (arith, k.sent, sent, ap length (found_stays ms m past p did.files));
-    roster = subst (RosterAt ms) (sym did.stage) k.roster;
+        k.audited ∙ sym (ap (λ o. audited w past ++ entries_filed w.roster (end_of w past).state o) did.files
+        ∙ append-nil (audited w past));
+    sent = omega (arith, k.sent, sent, ap length (found_stays w past p did.files));
+    roster = subst (RosterAt w.roster) (sym did.stage) k.roster;
   }
     where
       sent : forwards (p ∷ past) ≡ forwards past
@@ -281,16 +282,16 @@ module _ (ms : List Member) (m : Member) (past : Past) (b : Book) (k : Known ms 
           (0 + cond (is_some o) 1 0) past) did.forwards
 
   -- a step that audits, finds and forwards nothing
-  unaudited : audited ms m past ≡ audited ms m past ++ []
-  unaudited = sym (append-nil (audited ms m past))
+  unaudited : audited w past ≡ audited w past ++ []
+  unaudited = sym (append-nil (audited w past))
 
-  unfound : (p : Step × Reply) → did.filed p.0 p.1 ≡ None → forwards past ≤ length (all_found ms m (p ∷ past))
-  unfound p f = omega (arith, k.sent, ap length (found_stays ms m past p f))
+  unfound : (p : Step × Reply) → did.filed p.0 p.1 ≡ None → forwards past ≤ length (all_found w (p ∷ past))
+  unfound p f = omega (arith, k.sent, ap length (found_stays w past p f))
 
-  challenged : (e : Envelope) (r : Reply) → Exposure ms m ((SendChallenge e, r) ∷ past)
-      → Known ms m ((SendChallenge e, r) ∷ past) (after_send_challenge b e r)
+  challenged : (e : Envelope) (r : Reply) → Exposure w ((SendChallenge e, r) ∷ past)
+      → Known w ((SendChallenge e, r) ∷ past) (after_send_challenge b e r)
   challenged e Opened x = record {
-    of = having_challenged ms m past e Opened b k.exposure k.of;
+    of = having_challenged w past e Opened b k.exposure k.of;
     fits = fits_with b _ _ k.fits;
     kept_differ = k.kept_differ;
     exposure = x;
@@ -309,10 +310,10 @@ module _ (ms : List Member) (m : Member) (past : Past) (b : Book) (k : Known ms 
         challenges = refl;
       }) x
 
-  acked : (a : Ack) (r : Reply) → Exposure ms m ((AckIn a, r) ∷ past)
-      → Known ms m ((AckIn a, r) ∷ past) (after_ack b a r)
+  acked : (a : Ack) (r : Reply) → Exposure w ((AckIn a, r) ∷ past)
+      → Known w ((AckIn a, r) ∷ past) (after_ack b a r)
   acked a Closed x = record {
-    of = having_acked ms m past a Closed b k.exposure k.of;
+    of = having_acked w past a Closed b k.exposure k.of;
     fits = fits_with b _ _ k.fits;
     kept_differ = k.kept_differ;
     exposure = x;
@@ -331,7 +332,7 @@ module _ (ms : List Member) (m : Member) (past : Past) (b : Book) (k : Known ms 
         challenges = refl;
       }) x
 
-  told : (q : Question) (r : Reply) → Exposure ms m ((Ask q, r) ∷ past) → Known ms m ((Ask q, r) ∷ past) b
+  told : (q : Question) (r : Reply) → Exposure w ((Ask q, r) ∷ past) → Known w ((Ask q, r) ∷ past) b
   told q r x =
       known_quiet (Ask q, r) (record {
         notes = refl;
@@ -349,20 +350,20 @@ module _ (ms : List Member) (m : Member) (past : Past) (b : Book) (k : Known ms 
   some_left [] a h = absurd (cc)
   some_left (c ∷ xs) a h = omega arith
 
-  forwarded_one : (r : Reply) → r ≡ forward_reply b.outbox → Exposure ms m ((Forward, r) ∷ past)
-      → Known ms m ((Forward, r) ∷ past) (after_forward b r)
+  forwarded_one : (r : Reply) → r ≡ forward_reply b.outbox → Exposure w ((Forward, r) ∷ past)
+      → Known w ((Forward, r) ∷ past) (after_forward b r)
   forwarded_one (Forwarded a) h x = record {
-    of = having_forwarded ms m past (Forwarded a) b k.exposure k.of;
+    of = having_forwarded w past (Forwarded a) b k.exposure k.of;
     fits = fits_with b _ _ k.fits;
     kept_differ = k.kept_differ;
     exposure = x;
     audited = k.audited ∙ unaudited;
     sent = omega (
       arith,
-      some_left (outbox ms m past) a (h ∙ ap forward_reply k.of.stands.outbox),
-      length-drop (forwards past) (all_found ms m past),
+      some_left (outbox w past) a (h ∙ ap forward_reply k.of.stands.outbox),
+      length-drop (forwards past) (all_found w past),
       sum_by_from (λ (q : Step × Reply). cond (is_some (forwarded q.0 q.1)) 1 0) 1 past,
-      ap length (found_stays ms m past (Forward, Forwarded a) refl),
+      ap length (found_stays w past (Forward, Forwarded a) refl),
     );
     roster = k.roster;
   }
@@ -379,12 +380,12 @@ module _ (ms : List Member) (m : Member) (past : Past) (b : Book) (k : Known ms 
 
   -- ---- audits and jobs
 
-  asked : (r : Reply) → r ≡ reply_to_audit b b.stage → Exposure ms m ((Audit, r) ∷ past)
-      → Known ms m ((Audit, r) ∷ past) (after_audit b r)
+  asked : (r : Reply) → r ≡ reply_to_audit b b.stage → Exposure w ((Audit, r) ∷ past)
+      → Known w ((Audit, r) ∷ past) (after_audit b r)
   asked (Asked first last) h x =
       let a = asks b first last k.fits h in
       record {
-        of = having_asked ms m past (Asked first last) b k.exposure k.of;
+        of = having_asked w past (Asked first last) b k.exposure k.of;
         fits = fits_at b (Wanted first last) b.begun _ k.fits
             (by a (subst (λ s. IsMore b.end.number (exposed b) s k.fits.tiles.more) a.none
             k.fits.tiles.rest)) tt;
@@ -425,16 +426,16 @@ module _ (ms : List Member) (m : Member) (past : Past) (b : Book) (k : Known ms 
       let there = (k.of.stands.pairs (a.number, p.hash)).0
       (shows b.evidence b.learned b.segments (a.number, p.hash) (Segment c.segment among p.there)) in
       let same : p.hash ≡ a.hash =
-      one_shown ms m past (sym (exposed_same ms m past b k.of k.exposure) ∙ hidden)
+      one_shown w past (sym (exposed_same w past b k.of k.exposure) ∙ hidden)
       a.number p.hash a.hash there its in
       subst (λ x. IsAmong (a.number, x) (segment_pairs c.segment)) same p.there
 
-  begun_one : (r : Reply) → r ≡ reply_to_begin b b.stage → Exposure ms m ((Begin, r) ∷ past)
-      → Known ms m ((Begin, r) ∷ past) (after_begin b r)
+  begun_one : (r : Reply) → r ≡ reply_to_begin b b.stage → Exposure w ((Begin, r) ∷ past)
+      → Known w ((Begin, r) ∷ past) (after_begin b r)
   begun_one (Job j) h x =
       let g = begins b j h in
       record {
-        of = having_begun ms m past (Job j) b k.exposure k.of;
+        of = having_begun w past (Job j) b k.exposure k.of;
         fits = fits_at b (Out j.segment) (b.begun + 1) b.challenges k.fits
             (subst (λ s. IsMore b.end.number (exposed b) s k.fits.tiles.more) g.given k.fits.tiles.rest)
             (agreeing j.segment g.given g.hidden);
@@ -442,7 +443,7 @@ module _ (ms : List Member) (m : Member) (past : Past) (b : Book) (k : Known ms 
         exposure = x;
         audited = k.audited ∙ unaudited;
         sent = unfound (Begin, Job j) refl;
-        roster = subst (RosterAt ms) (sym k.of.stands.stage ∙ g.given) k.roster;
+        roster = subst (RosterAt w.roster) (sym k.of.stands.stage ∙ g.given) k.roster;
       }
   begun_one r h x =
       known_quiet (Begin, r) (record {
@@ -456,18 +457,18 @@ module _ (ms : List Member) (m : Member) (past : Past) (b : Book) (k : Known ms 
       }) x
 
   put_back : (j : JobParts) (r : Reply) → (r ≡ Returned → job_out b ≡ Some j)
-      → Exposure ms m ((PutBack j, r) ∷ past) → Known ms m ((PutBack j, r) ∷ past) (after_put_back b j r)
+      → Exposure w ((PutBack j, r) ∷ past) → Known w ((PutBack j, r) ∷ past) (after_put_back b j r)
   put_back j Returned h x =
       let o = out_of b j (h refl) in
       record {
-        of = having_put_back ms m past j Returned b k.exposure k.of;
+        of = having_put_back w past j Returned b k.exposure k.of;
         fits = fits_at b (Given j.segment) b.begun b.challenges k.fits
             (subst (λ s. IsMore b.end.number (exposed b) s k.fits.tiles.more) o.at k.fits.tiles.rest) tt;
         kept_differ = k.kept_differ;
         exposure = x;
         audited = k.audited ∙ unaudited;
         sent = unfound (PutBack j, Returned) refl;
-        roster = subst (RosterAt ms) (sym k.of.stands.stage ∙ o.at) k.roster;
+        roster = subst (RosterAt w.roster) (sym k.of.stands.stage ∙ o.at) k.roster;
       }
   put_back j r h x =
       known_quiet (PutBack j, r) (record {
@@ -482,22 +483,22 @@ module _ (ms : List Member) (m : Member) (past : Past) (b : Book) (k : Known ms 
 
   -- ---- what is handed in, and what is filed
 
-  unshown : (a : Authenticator) (x y z : Bool) → is_exposed ms m past ≡ x
-      → is_shown (pair_of a) (shown ms m past) ≡ y
+  unshown : (a : Authenticator) (x y z : Bool) → is_exposed w past ≡ x
+      → is_shown (pair_of a) (shown w past) ≡ y
       → Noted ≡ cond x Noted (cond y Already (cond z (Refused LearnedFull) Noted))
-      → is_exposed ms m past ≡ false → is_shown (pair_of a) (shown ms m past) ≡ false
+      → is_exposed w past ≡ false → is_shown (pair_of a) (shown w past) ≡ false
   unshown a true y z is e h hidden = absurd (true≢false (sym is ∙ hidden))
   unshown a false true z is e h hidden = absurd (cc)
   unshown a false false z is e h hidden = e
 
   noted : (a : Authenticator) (r : Reply)
-      → r ≡ cond (is_exposed ms m past) Noted (cond (is_shown (pair_of a) (shown ms m past)) Already
-      (cond (has_no_room ms m past a) (Refused LearnedFull) Noted))
-      → Exposure ms m ((Learn a, r) ∷ past) → Known ms m ((Learn a, r) ∷ past) (after_learn b a r)
+      → r ≡ cond (is_exposed w past) Noted (cond (is_shown (pair_of a) (shown w past)) Already
+      (cond (has_no_room w past a) (Refused LearnedFull) Noted))
+      → Exposure w ((Learn a, r) ∷ past) → Known w ((Learn a, r) ∷ past) (after_learn b a r)
   noted a Noted h x =
-      noted_known ms m past b a k
-      (unshown a (is_exposed ms m past) (is_shown (pair_of a) (shown ms m past))
-      (has_no_room ms m past a) refl refl h)
+      noted_known w past b a k
+      (unshown a (is_exposed w past) (is_shown (pair_of a) (shown w past))
+      (has_no_room w past a) refl refl h)
       x
   noted a r h x =
       known_quiet (Learn a, r) (record {
@@ -510,9 +511,9 @@ module _ (ms : List Member) (m : Member) (past : Past) (b : Book) (k : Known ms 
         challenges = refl;
       }) x
 
-  accepted : (c : ClosedParts) (r : Reply) → r ≡ answer_reply b.stage c → IsCheckedStep ms m (Answer c)
-      → Exposure ms m ((Answer c, r) ∷ past) → Known ms m ((Answer c, r) ∷ past) (after_answer b c r)
-  accepted c Accepted h given x = accepted_known ms m past b c k given (was_wanted b.stage c h) x
+  accepted : (c : ClosedParts) (r : Reply) → r ≡ answer_reply b.stage c → IsCheckedStep w (Answer c)
+      → Exposure w ((Answer c, r) ∷ past) → Known w ((Answer c, r) ∷ past) (after_answer b c r)
+  accepted c Accepted h given x = accepted_known w past b c k given (was_wanted b.stage c h) x
   accepted c r h given x =
       known_quiet (Answer c, r) (record {
         notes = refl;
@@ -525,13 +526,14 @@ module _ (ms : List Member) (m : Member) (past : Past) (b : Book) (k : Known ms 
       }) x
 
   filed : (d : DoneParts) (r : Reply) → (r ≡ Filed → job_out b ≡ Some d.job) → IsDoneStep (File d)
-      → Exposure ms m ((File d, r) ∷ past) → Known ms m ((File d, r) ∷ past) (after_file b d r)
+      → Exposure w ((File d, r) ∷ past) → Known w ((File d, r) ∷ past) (after_file b d r)
   filed d Filed h done x =
       let o = out_of b d.job (h refl) in
-      let roster : d.job.segment.roster ≡ ms = subst (RosterAt ms) (sym k.of.stands.stage ∙ o.at) k.roster in
-      let state : d.job.state ≡ (end_of ms m past).state =
+      let roster : d.job.segment.roster ≡ w.roster =
+      subst (RosterAt w.roster) (sym k.of.stands.stage ∙ o.at) k.roster in
+      let state : d.job.state ≡ (end_of w past).state =
       o.state ∙ ap (λ (e : End). e.state) k.of.stands.end in
-      filed_known ms m past b d k o.at
+      filed_known w past b d k o.at
       (sym (done
       ∙ ap₂ (λ (ns : List Member) (s : State). segment_verdict ns s d.job.segment.segment) roster state)) x
   filed d r h done x =
@@ -558,15 +560,15 @@ module _ (ms : List Member) (m : Member) (past : Past) (b : Book) (k : Known ms 
       (sym e ∙ o.told))
 
   -- What is known stays known after a step that gets the reply that is owed to it.
-  pub known_on : (step : Step) (r : Reply) → Owes ms m past step r → IsCheckedStep ms m step → IsDoneStep step
-      → Exposure ms m ((step, r) ∷ past) → Known ms m ((step, r) ∷ past) (book_after b step r)
+  pub known_on : (step : Step) (r : Reply) → Owes w past step r → IsCheckedStep w step → IsDoneStep step
+      → Exposure w ((step, r) ∷ past) → Known w ((step, r) ∷ past) (book_after b step r)
   known_on step r owed checked done x =
-      by step owed ((owes_known ms m past b k step r).0 owed)
+      by step owed ((owes_known w past b k step r).0 owed)
       checked done x
     where
-      by : (step : Step) → Owes ms m past step r → BookOwes b step r → IsCheckedStep ms m step
+      by : (step : Step) → Owes w past step r → BookOwes b step r → IsCheckedStep w step
           → IsDoneStep step
-          → Exposure ms m ((step, r) ∷ past) → Known ms m ((step, r) ∷ past) (book_after b step r)
+          → Exposure w ((step, r) ∷ past) → Known w ((step, r) ∷ past) (book_after b step r)
       by (Learn a) owed o checked done x = noted a r owed.told x
       by (SendChallenge e) owed o checked done x = challenged e r x
       by (Answer c) owed o checked done x = accepted c r o.told checked x

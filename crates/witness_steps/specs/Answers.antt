@@ -5,10 +5,11 @@ use Rattle.secure_log.specs.Segment.{SegmentParts}
 use Rattle.secure_log.specs.SegmentHashes.{segment_hash_at}
 use Rattle.witness_steps.specs.Books.{Book}
 use Rattle.witness_steps.specs.LookUps.{hash_shown, is_other_hash}
+use Rattle.witness_spec.specs.Pairs.{number_of}
 
 -- a segment shows another hash at an authenticator's number
 abbrev pub shows_another : SegmentParts → Authenticator → Bool
-shows_another s a = is_other_hash a.hash (segment_hash_at s a.number)
+shows_another s a = is_other_hash a.hash (segment_hash_at s (number_of a))
 
 -- the lesser of a number that was found, if one was, and another one
 abbrev pub lesser : Option ℕ → ℕ → ℕ
@@ -17,7 +18,7 @@ lesser (Some m) n = if nat_lt n m then n else m
 
 -- the least number that was found, after one authenticator more
 abbrev pub least_with : SegmentParts → Option ℕ → Authenticator → Option ℕ
-least_with s least a = if shows_another s a then Some (lesser least a.number) else least
+least_with s least a = if shows_another s a then Some (lesser least (number_of a)) else least
 
 -- the least number of one that was found and those of authenticators at which a segment shows another hash
 abbrev pub least_from : SegmentParts → Option ℕ → List Authenticator → Option ℕ

@@ -4,13 +4,13 @@ use Rattle.std.specs.Prelude.{Option, Some, None, is_some, if◌then◌else◌}
 use Rattle.authenticator.specs.declared.authenticator.Authenticator.{Authenticator}
 use Rattle.authenticator.specs.declared.member.Member.{Member}
 use Rattle.secure_log.specs.declared.log_entries.entry.Entry.{Entry}
-use Rattle.secure_log.specs.Segment.{SegmentParts, ClosedParts, segment_pairs}
+use Rattle.secure_log.specs.Segment.{SegmentParts, ClosedParts}
 use Rattle.replay_spec.specs.Opening.{opening_of}
 use Rattle.evidence_spec.specs.Showing.{ShowingParts}
 use Rattle.evidence_spec.specs.Evidence.{Charge, Fork, Replay, EvidenceParts}
 use Rattle.witness_spec.specs.Events.{JobParts}
 use Rattle.witness_spec.specs.Replies.{Challenge, Indication, Exposed}
-use Rattle.witness_spec.specs.Pairs.{Pair, pair_of, first_pair}
+use Rattle.witness_spec.specs.Pairs.{Pair, pair_of, first_pair, last_of, marks_of}
 use Rattle.witness_spec.specs.Standing.{End, Stage, NoAudit, Wanted, Given, Out, without_evidence}
 use Rattle.witness_spec.specs.Histories.{BookParts}
 
@@ -74,11 +74,11 @@ exposing_pairs (Some e) = charged_pairs e.charge
 -- segments.
 abbrev pub book_shown : Book → List Pair
 book_shown b =
-    first_pair ∷ (exposing_pairs b.evidence ++ (map pair_of b.learned ++ flat_map segment_pairs b.segments))
+    first_pair ∷ (exposing_pairs b.evidence ++ (map pair_of b.learned ++ flat_map marks_of b.segments))
 
 -- a segment lies up to the end
 abbrev pub is_audited : (end : ℕ) → SegmentParts → Bool
-is_audited end s = nat_le s.closing.number end
+is_audited end s = nat_le (last_of s) end
 
 -- all entries that were audited, in order
 abbrev pub book_audited : Book → List Entry

@@ -2,12 +2,12 @@
 use Rattle.std.specs.Prelude.{◌≡◌, ◌≢◌, ◌⊎◌, ℕ, ◌+◌, ◌<◌, ◌≤◌, Bool, true, List, [], ◌∷◌, ◌++◌, length}
 use Rattle.std.specs.List.{AllByRecursion}
 use Rattle.authenticator.specs.declared.authenticator.Authenticator.{Authenticator}
-use Rattle.authenticator.specs.declared.member.Member.{Member}
-use Rattle.secure_log.specs.Segment.{SegmentParts, segment_pairs}
+use Rattle.secure_log.specs.Segment.{SegmentParts}
 use Rattle.replay_spec.specs.LogLaws.Laws.{SendsLieBelow}
 use Rattle.secure_log.specs.LogEntries.Chain.{IsAmong}
+use Rattle.witness_spec.specs.Watched.{Watched}
 use Rattle.witness_spec.specs.Steps.{Past}
-use Rattle.witness_spec.specs.Pairs.{pair_of}
+use Rattle.witness_spec.specs.Pairs.{pair_of, number_of, first_of, last_of, marks_of}
 use Rattle.witness_spec.specs.Standing.{Stage, NoAudit, Wanted}
 use Rattle.witness_spec.specs.Standing.{Given, Out}
 use Rattle.witness_spec.specs.Histories.{StandsFor}
@@ -18,31 +18,31 @@ use Rattle.witness_steps.specs.Books.{Book, exposed, parts_of}
 -- No two of these have one number.
 abbrev pub NumbersDiffer : List Authenticator → Type 0
 NumbersDiffer [] = Unit {0}
-NumbersDiffer (a ∷ rest) = AllByRecursion (λ c. a.number ≢ c.number) rest × NumbersDiffer rest
+NumbersDiffer (a ∷ rest) = AllByRecursion (λ c. number_of a ≢ number_of c) rest × NumbersDiffer rest
 
 -- ---- accepted segments
 
 -- A segment begins at 1 or later, has a place for each number up to its closing's, and ends in its pair.
 pub record IsWhole (s : SegmentParts) : Type 0 where
   -- its first number is at least 1
-  pub some : 0 < s.first
+  pub some : 0 < first_of s
   -- it has so many entries
-  pub count : s.closing.number + 1 ≡ s.first + length s.entries
+  pub count : last_of s + 1 ≡ first_of s + length s.entries
   -- it shows its closing's pair
-  pub closes : IsAmong (pair_of s.closing) (segment_pairs s)
+  pub closes : IsAmong (pair_of s.closing) (marks_of s)
 
 -- Segments follow on one another without a gap: from a first number up to that before the next.
 abbrev pub Tile : (first : ℕ) → List SegmentParts → (next : ℕ) → Type 0
 Tile first [] next = first ≡ next
 Tile first (s ∷ ss) next =
-    (s.first ≡ first) × (first ≤ s.closing.number) × Tile (s.closing.number + 1) ss next
+    (first_of s ≡ first) × (first ≤ last_of s) × Tile (last_of s + 1) ss next
 
 -- a segment follows on the end
 pub record Follows (end : ℕ) (s : SegmentParts) : Type 0 where
   -- its first number is the one after the end
-  pub first : s.first ≡ end + 1
+  pub first : first_of s ≡ end + 1
   -- it isn't empty
-  pub some : end < s.closing.number
+  pub some : end < last_of s
 
 -- one segment, that follows on the end
 pub record IsOne (end : ℕ) (s : SegmentParts) (more : List SegmentParts) : Type 0 where
@@ -89,13 +89,13 @@ AgreesAt NoAudit learned = Unit {0}
 AgreesAt (Wanted first last) learned = Unit {0}
 AgreesAt (Given c) learned = Unit {0}
 AgreesAt (Out c) learned =
-    (a : Authenticator) → IsAmong a learned → a.number ≤ c.segment.closing.number
-    → IsAmong (pair_of a) (segment_pairs c.segment)
+    (a : Authenticator) → IsAmong a learned → number_of a ≤ last_of c.segment
+    → IsAmong (pair_of a) (marks_of c.segment)
 
 -- The parts of a book fit together.
 pub record FitsTogether (b : Book) : Type 0 where
   -- what is kept lies above the end
-  pub above : (a : Authenticator) → IsAmong a b.learned → b.end.number < a.number
+  pub above : (a : Authenticator) → IsAmong a b.learned → b.end.number < number_of a
   -- its numbers differ
   pub differ : NumbersDiffer b.learned
   -- each accepted segment is whole
@@ -110,8 +110,8 @@ pub record FitsTogether (b : Book) : Type 0 where
 -- ---- whose book it is
 
 -- A book is that of a member after these own steps: it is of that node, and holds what the steps say.
-pub record IsBookOf (ms : List Member) (m : Member) (past : Past) (b : Book) : Type 0 where
+pub record IsBookOf (w : Watched) (past : Past) (b : Book) : Type 0 where
   -- it is the member's
-  pub node : b.node ≡ m.node
+  pub node : b.node ≡ w.member.node
   -- it holds what the steps say
-  pub stands : StandsFor ms m past (parts_of b)
+  pub stands : StandsFor w past (parts_of b)

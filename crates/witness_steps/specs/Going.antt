@@ -4,7 +4,7 @@ use Rattle.std.specs.Prelude.{Option, Some, None, option_map, option_and_then}
 use Rattle.authenticator.specs.declared.authenticator.Authenticator.{Authenticator}
 use Rattle.authenticator.specs.declared.member.Member.{Member}
 use Rattle.secure_log.specs.LogEntries.Chain.{zeros}
-use Rattle.secure_log.specs.Segment.{SegmentParts, ClosedParts, segment_pairs}
+use Rattle.secure_log.specs.Segment.{SegmentParts, ClosedParts}
 use Rattle.envelopes.specs.Acknowledgement.{acked_message}
 use Rattle.envelopes.specs.declared.envelope.Envelope.{Envelope}
 use Rattle.envelopes.specs.declared.acknowledgement.Ack.{Ack}
@@ -16,7 +16,7 @@ use Rattle.witness_spec.specs.Replies.{Reply, Noted, Opened, Accepted, Closed, A
 use Rattle.witness_spec.specs.Replies.{Forwarded, AuditOf, SendOf}
 use Rattle.witness_spec.specs.Steps.{Step, Learn, SendChallenge, Answer, AckIn, Audit, Begin, File, PutBack}
 use Rattle.witness_spec.specs.Steps.{Forward, Ask, Past}
-use Rattle.witness_spec.specs.Pairs.{Pair, pair_of, first_fork}
+use Rattle.witness_spec.specs.Pairs.{Pair, pair_of, first_fork, number_of, last_of, marks_of}
 use Rattle.witness_spec.specs.Standing.{moved_by, sound_found, is_answered, is_send_of}
 use Rattle.witness_spec.specs.Standing.{NoAudit, Wanted, Given, Out}
 use Rattle.witness_spec.specs.Exposing.{fork_of}
@@ -59,7 +59,7 @@ evidence_noted b a = first_evidence b.evidence (fork_evidence b (authenticator_s
 
 -- the evidence after a segment that was accepted
 abbrev pub evidence_accepted : Book → SegmentParts → Option EvidenceParts
-evidence_accepted b s = first_evidence b.evidence (fork_evidence b (segment_showing s) (segment_pairs s))
+evidence_accepted b s = first_evidence b.evidence (fork_evidence b (segment_showing s) (marks_of s))
 
 -- the evidence after a verdict that was filed
 abbrev pub evidence_filed : Book → SegmentParts → Verdict → Option EvidenceParts
@@ -74,7 +74,7 @@ learned_unless (Some e) learned a = learned
 
 -- Where a segment was sound, what lies above its last number stays.
 abbrev pub learned_above : SegmentParts → Verdict → List Authenticator → List Authenticator
-learned_above s (Sound t found) learned = filter (λ a. nat_lt s.closing.number a.number) learned
+learned_above s (Sound t found) learned = filter (λ a. nat_lt (last_of s) (number_of a)) learned
 learned_above s (Fault fault number) learned = learned
 
 -- ---- one function for each kind of event that changes a book
@@ -120,7 +120,7 @@ after_begin b _ = b
 -- after a segment with its verdict was filed
 abbrev pub having_filed : Book → SegmentParts → Verdict → Book
 having_filed b s v = record b {
-  end = moved_by b.end s.closing.number v;
+  end = moved_by b.end (last_of s) v;
   stage = NoAudit;
   learned = learned_above s v b.learned;
   outbox = b.outbox ++ sound_found v;

@@ -1,6 +1,7 @@
 -- How much a book keeps at most.
 use Rattle.std.specs.Prelude.{ℕ, ◌+◌, ◌-◌, ◌≤◌, length, count_by}
 use Rattle.witness_spec.specs.Limits.{MAX_LEARNED, MAX_CHALLENGES, MAX_AUDITED, MAX_OUTBOX}
+use Rattle.witness_spec.specs.Pairs.{last_of}
 use Rattle.witness_spec.specs.Standing.{Stage, NoAudit, Wanted, Given, Out}
 use Rattle.witness_spec.specs.Owing.{is_send}
 use Rattle.witness_steps.specs.Books.{Book}
@@ -9,8 +10,8 @@ use Rattle.witness_steps.specs.Books.{Book}
 abbrev pub audit_last : (end : ℕ) → Stage → ℕ
 audit_last end NoAudit = end
 audit_last end (Wanted first last) = last
-audit_last end (Given c) = c.segment.closing.number
-audit_last end (Out c) = c.segment.closing.number
+audit_last end (Given c) = last_of c.segment
+audit_last end (Out c) = last_of c.segment
 
 -- A book keeps no more than it may, and has room in the outbox for what the audit can find.
 pub record KeepsLimits (b : Book) : Type 0 where

@@ -3,9 +3,9 @@ use Rattle.std.specs.Prelude.{◌≡◌, ℕ, Bool, false, not, ◌==◌, List, 
 use Rattle.std.specs.Prelude.{if◌then◌else◌}
 use Rattle.authenticator.specs.Signing.{is_same}
 use Rattle.secure_log.specs.LogEntries.Chain.{zeros}
-use Rattle.secure_log.specs.Segment.{SegmentParts, segment_pairs}
+use Rattle.secure_log.specs.Segment.{SegmentParts}
 use Rattle.secure_log.specs.LogEntries.Chain.{IsAmong}
-use Rattle.witness_spec.specs.Pairs.{Pair}
+use Rattle.witness_spec.specs.Pairs.{Pair, number_of, marks_of}
 use Rattle.witness_spec.specs.Exposing.{segment_holding}
 use Rattle.witness_steps.specs.Books.{Book, exposed, book_shown}
 
@@ -15,8 +15,8 @@ hash_among number pairs = option_map (λ p. p.1) (find (λ p. p.0 == number) pai
 
 -- the hash at a number in the segment that holds it, if one does, else in what is kept
 abbrev pub hash_held : Option SegmentParts → Book → (number : ℕ) → Option (List ℕ)
-hash_held (Some s) b number = hash_among number (segment_pairs s)
-hash_held None b number = option_map (λ a. a.hash) (find (λ a. a.number == number) b.learned)
+hash_held (Some s) b number = hash_among number (marks_of s)
+hash_held None b number = option_map (λ a. a.hash) (find (λ a. number_of a == number) b.learned)
 
 -- the hash that a book shows at a number: zeros at 0
 abbrev pub hash_shown : Book → (number : ℕ) → Option (List ℕ)

@@ -1,9 +1,10 @@
 -- What holds of books that can make their steps. Each is the contract of a function in src/laws.rt.
 use Rattle.std.specs.Prelude.{◌≡◌, List, map, Some, Ok}
-use Rattle.authenticator.specs.Roster.{IsRoster, member_of}
+use Rattle.authenticator.specs.Roster.{IsRoster}
 use Rattle.authenticator.specs.declared.member.Member.{Member}
 use Rattle.witness_spec.specs.Events.{Event, IsEvent}
 use Rattle.witness_spec.specs.Replies.{Reply}
+use Rattle.witness_spec.specs.Watched.{Watched, IsInRoster}
 use Rattle.witness_spec.specs.Steps.{Step}
 use Rattle.witness_spec.specs.Whose.{whose}
 use Rattle.witness_spec.specs.Contract.{StepsTo}
@@ -21,17 +22,16 @@ OpeningBooksAreReady = (ms : List Member) → AreReady ms (map book_opening ms)
 -- gone on keep the contract of all books, and can make their steps again.
 abbrev pub ReadyBooksStep : Type 0
 ReadyBooksStep =
-    (ms : List Member) (m : Member) (books : List Book) (b : Book) (event : Event) (step : Step)
-    (reply : Reply)
-    → IsRoster ms → AreReady ms books
-    → IsEvent event → whose ms event ≡ Ok (record { member = m; step = step })
-    → book_at ms books m.node ≡ Some b → BookOwes b step reply
-    → StepsTo ms (map parts_of books) event reply
-    (map parts_of (with_book_at ms m.node (book_after b step reply) books))
-    × AreReady ms (with_book_at ms m.node (book_after b step reply) books)
+    (w : Watched) (books : List Book) (b : Book) (event : Event) (step : Step) (reply : Reply)
+    → IsRoster w.roster → AreReady w.roster books
+    → IsEvent event → whose w.roster event ≡ Ok (record { member = w.member; step = step })
+    → book_at w.roster books w.member.node ≡ Some b → BookOwes b step reply
+    → StepsTo w.roster (map parts_of books) event reply
+    (map parts_of (with_book_at w.roster w.member.node (book_after b step reply) books))
+    × AreReady w.roster (with_book_at w.roster w.member.node (book_after b step reply) books)
 
 -- The book of each member can make a step.
 abbrev pub ReadyBooksAreReady : Type 0
 ReadyBooksAreReady =
-    (ms : List Member) (m : Member) (books : List Book) (b : Book)
-    → AreReady ms books → member_of ms m.node ≡ Some m → book_at ms books m.node ≡ Some b → IsReady b
+    (w : Watched) (books : List Book) (b : Book)
+    → AreReady w.roster books → IsInRoster w → book_at w.roster books w.member.node ≡ Some b → IsReady b

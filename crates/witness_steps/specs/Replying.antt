@@ -15,7 +15,7 @@ use Rattle.witness_spec.specs.Replies.{Refused, FileRefused, PutBackRefused}
 use Rattle.witness_spec.specs.Steps.{Step, Learn, SendChallenge, Answer, AckIn, Audit, Begin, File, PutBack}
 use Rattle.witness_spec.specs.Steps.{Forward, Ask}
 use Rattle.witness_spec.specs.Limits.{MAX_LEARNED}
-use Rattle.witness_spec.specs.Pairs.{pair_of, is_shown, is_fork}
+use Rattle.witness_spec.specs.Pairs.{pair_of, is_shown, is_fork, number_of}
 use Rattle.witness_spec.specs.Standing.{Stage, NoAudit, Wanted, Given, Out}
 use Rattle.witness_spec.specs.Owing.{challenge_reply, answer_reply, ack_reply, ask_reply, back_reply}
 use Rattle.witness_spec.specs.Owing.{forward_reply}
@@ -27,7 +27,7 @@ use Rattle.witness_steps.specs.Books.{Book, exposed, book_shown, job_of, job_out
 abbrev pub has_no_room : Book → Authenticator → Bool
 has_no_room b a =
     not (is_fork (pair_of a) (book_shown b))
-    && (nat_lt b.end.number a.number && nat_le MAX_LEARNED (length b.learned))
+    && (nat_lt b.end.number (number_of a) && nat_le MAX_LEARNED (length b.learned))
 
 -- to an authenticator that is learned
 abbrev pub reply_to_learn : Book → Authenticator → Reply

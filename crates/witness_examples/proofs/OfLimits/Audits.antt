@@ -9,7 +9,6 @@ use Rattle.std.proofs.lemmas.Bool.{and_left, or_from}
 use Rattle.std.proofs.lemmas.Bool.Decides.{nat_tests}
 use Rattle.std.proofs.lemmas.List.Sums.{sum_by-cons}
 use Rattle.authenticator.specs.declared.authenticator.Authenticator.{Authenticator}
-use Rattle.authenticator.specs.declared.member.Member.{Member}
 use Rattle.authenticator.proofs.Signed.{list_same}
 use Rattle.secure_log.specs.Segment.{ClosedParts, segment_pairs}
 use Rattle.state_spec.specs.State.{State}
@@ -17,6 +16,7 @@ use Rattle.replay_spec.specs.Replay.{Sound}
 use Rattle.witness_spec.specs.Events.{JobParts, DoneParts}
 use Rattle.witness_spec.specs.Refusals.{WrongJob, NoJob}
 use Rattle.witness_spec.specs.Replies.{Reply, Noted, Accepted, Asked, Job, Filed, FileRefused, Forwarded}
+use Rattle.witness_spec.specs.Watched.{Watched}
 use Rattle.witness_spec.specs.Steps.{Learn, Answer, Audit, Begin, File, Forward, Past}
 use Rattle.authenticator.specs.Signing.{is_same}
 use Rattle.witness_spec.specs.Pairs.{Pair, pair_of, same_pair, differ, is_shown, is_fork, has_fork}
@@ -103,25 +103,25 @@ none_above end (a ∷ xs) h =
 
 -- Own steps with the replies owed to them: a node whose log has the hashes `h` was audited up to an end, with
 -- the state there; nothing is under way, and this was found and not yet forwarded.
-pub record Quiet (ms : List Member) (m : Member) (past : Past) (h : ℕ → List ℕ) (end begun : ℕ) (s : State)
+pub record Quiet (w : Watched) (past : Past) (h : ℕ → List ℕ) (end begun : ℕ) (s : State)
     (found : List Authenticator) : Type 0 where
   -- the replies are those owed
-  pub owed : AreOwed ms m past
+  pub owed : AreOwed w past
   -- the audit is at the end, with the state there
-  pub at_end : end_of ms m past ≡ record { number = end; state = s }
+  pub at_end : end_of w past ≡ record { number = end; state = s }
   -- no segment had a fault
-  pub sound : has_fault ms m past ≡ false
+  pub sound : has_fault w past ≡ false
   -- all pairs that were shown are of the log
-  pub on_log : OnLog h end (shown ms m past)
+  pub on_log : OnLog h end (shown w past)
   -- no authenticator that was learned is above the end
-  pub low : Low end (noted_before ms m past)
+  pub low : Low end (noted_before w past)
   -- no audit is under way
   pub free : stage_of past ≡ NoAudit
   -- so many audits have begun
   pub count : begins past ≡ begun
   -- however much is found later, after what was forwarded this stands first
   pub rest : (later : List Authenticator)
-      → drop (forwards past) (all_found ms m past ++ later) ≡ found ++ later
+      → drop (forwards past) (all_found w past ++ later) ≡ found ++ later
 
 -- a number above the end makes no fork
 new_pair : (h : ℕ → List ℕ) (end : ℕ) (p : Pair) (ps : List Pair) → end < p.0 → OnLog h end ps
@@ -134,32 +134,32 @@ new_pair h end p (q ∷ qs) above on =
 max_zero : (n : ℕ) → max 0 n ≡ n
 max_zero n = grind (arith, nat_tests)
 
-module _ (ms : List Member) (m : Member) (past : Past) (h : ℕ → List ℕ) (end begun : ℕ) (s : State)
-    (found : List Authenticator) (q : Quiet ms m past h end begun s found) where
+module _ (w : Watched) (past : Past) (h : ℕ → List ℕ) (end begun : ℕ) (s : State)
+    (found : List Authenticator) (q : Quiet w past h end begun s found) where
   -- it isn't exposed
-  pub hidden : is_exposed ms m past ≡ false
+  pub hidden : is_exposed w past ≡ false
   hidden =
-      or_from (has_fork (shown ms m past)) (has_fault ms m past) (no_fork h end (shown ms m past) q.on_log)
+      or_from (has_fork (shown w past)) (has_fault w past) (no_fork h end (shown w past) q.on_log)
       q.sound
 
-  kept_none : kept ms m past ≡ []
+  kept_none : kept w past ≡ []
   kept_none =
-      ap (λ (e : End). filter (λ a. nat_lt e.number a.number) (noted_before ms m past)) q.at_end
-      ∙ none_above end (noted_before ms m past) q.low
+      ap (λ (e : End). filter (λ a. nat_lt e.number a.number) (noted_before w past)) q.at_end
+      ∙ none_above end (noted_before w past) q.low
 
   module _ (a : Authenticator) (above : end < a.number) where
-    above_end : nat_lt (end_of ms m past).number a.number ≡ true
+    above_end : nat_lt (end_of w past).number a.number ≡ true
     above_end = ap (λ (e : End). nat_lt e.number a.number) q.at_end ∙ lt-ltb end a.number above
 
-    room : has_no_room ms m past a ≡ false
+    room : has_no_room w past a ≡ false
     room =
-        rw (new_pair h end (pair_of a) (shown ms m past) above q.on_log, above_end, kept_none) refl
+        rw (new_pair h end (pair_of a) (shown w past) above q.on_log, above_end, kept_none) refl
 
     -- it is noted
-    pub learned_new : Owes ms m past (Learn a) Noted
+    pub learned_new : Owes w past (Learn a) Noted
     learned_new =
-        told ms m past (Learn a) Noted (λ x. x)
-        (rw (hidden, not_there h end (pair_of a) (shown ms m past) above q.on_log, room) refl)
+        told w past (Learn a) Noted (λ x. x)
+        (rw (hidden, not_there h end (pair_of a) (shown w past) above q.on_log, room) refl)
 
     abbrev then_learned : Past
     then_learned = (Learn a, Noted) ∷ past
@@ -176,42 +176,42 @@ module _ (ms : List Member) (m : Member) (past : Past) (h : ℕ → List ℕ) (e
         let out : nat_le a.number end ≡ false = grind (arith, nat_tests) in
         sym (ap (λ b. cond b (h a.number) a.hash) out)
 
-    shown_is : shown ms m then_learned ≡ pair_of a ∷ shown ms m past
-    shown_is = ap (λ b. pairs_noted b (Some a) ++ ([] ++ shown ms m past)) hidden
+    shown_is : shown w then_learned ≡ pair_of a ∷ shown w past
+    shown_is = ap (λ b. pairs_noted b (Some a) ++ ([] ++ shown w past)) hidden
 
-    still_hidden : is_exposed ms m then_learned ≡ false
+    still_hidden : is_exposed w then_learned ≡ false
     still_hidden =
-        let on : OnLog with_it a.number (pair_of a ∷ shown ms m past) = (
+        let on : OnLog with_it a.number (pair_of a ∷ shown w past) = (
           omega arith,
           high_same,
-          grown h with_it end a.number (shown ms m past) low_same (omega arith)
+          grown h with_it end a.number (shown w past) low_same (omega arith)
               q.on_log,
         ) in
-        or_from (has_fork (shown ms m then_learned)) (has_fault ms m then_learned)
-        (ap has_fork shown_is ∙ no_fork with_it a.number (pair_of a ∷ shown ms m past) on) q.sound
+        or_from (has_fork (shown w then_learned)) (has_fault w then_learned)
+        (ap has_fork shown_is ∙ no_fork with_it a.number (pair_of a ∷ shown w past) on) q.sound
 
-    noted_is : noted_before ms m then_learned ≡ a ∷ noted_before ms m past
-    noted_is = ap (λ b. unless_exposed b (Some a) ++ noted_before ms m past) still_hidden
+    noted_is : noted_before w then_learned ≡ a ∷ noted_before w past
+    noted_is = ap (λ b. unless_exposed b (Some a) ++ noted_before w past) still_hidden
 
-    kept_is : kept ms m then_learned ≡ a ∷ []
+    kept_is : kept w then_learned ≡ a ∷ []
     kept_is =
-        let rest = filter (λ x. nat_lt end x.number) (noted_before ms m past) in
+        let rest = filter (λ x. nat_lt end x.number) (noted_before w past) in
         ap₂ (λ (e : End) xs. filter (λ x. nat_lt e.number x.number) xs) q.at_end noted_is
         ∙ (ap (λ b. cond b (a ∷ rest) rest) (lt-ltb end a.number above)
-        ∙ ap (λ xs. a ∷ xs) (none_above end (noted_before ms m past) q.low))
+        ∙ ap (λ xs. a ∷ xs) (none_above end (noted_before w past) q.low))
 
-    waiting : outbox ms m then_learned ≡ found
+    waiting : outbox w then_learned ≡ found
     waiting =
         let same : forwards then_learned ≡ forwards past = omega (arith, sum_by-cons) in
-        ap (λ k. drop k (all_found ms m past ++ [])) same ∙ (q.rest [] ∙ append-nil found)
+        ap (λ k. drop k (all_found w past ++ [])) same ∙ (q.rest [] ∙ append-nil found)
 
     -- what is then owed to an audit
-    pub audit_told : audit_reply ms m then_learned (stage_of then_learned)
+    pub audit_told : audit_reply w then_learned (stage_of then_learned)
         ≡ ask_up_to end (length found) (last_in_reach end (a ∷ []))
     audit_told =
-        let waits = outbox ms m then_learned in
-        let keeps = kept ms m then_learned in
-        ap (audit_reply ms m then_learned) q.free
+        let waits = outbox w then_learned in
+        let keeps = kept w then_learned in
+        ap (audit_reply w then_learned) q.free
         ∙ (ap₂ (λ b (e : End). ask_reply b e.number (length waits) keeps) still_hidden q.at_end
         ∙ ap₂ (λ (o k : List Authenticator). ask_reply false end (length o) k) waiting kept_is)
 
@@ -219,7 +219,7 @@ module _ (ms : List Member) (m : Member) (past : Past) (h : ℕ → List ℕ) (e
   -- it from the state there is sound.
   pub record Follows (j : JobParts) (k : ℕ → List ℕ) (t : State) (new : List Authenticator) : Type 0 where
     -- the job is the next one, of the node, from the state at the end
-    pub job : j ≡ record { node = m.node; number = begun + 1; state = s; segment = j.segment }
+    pub job : j ≡ record { node = w.member.node; number = begun + 1; state = s; segment = j.segment }
     -- the segment begins after the end
     pub first : j.segment.segment.first ≡ end + 1
     -- it closes above the end
@@ -237,7 +237,7 @@ module _ (ms : List Member) (m : Member) (past : Past) (h : ℕ → List ℕ) (e
     -- up to the end `k` has the hashes of `h`
     pub same : (n : ℕ) → n ≤ end → k n ≡ h n
     -- the verdict on it is sound, with this state and what it shows
-    pub verdict : verdict_on ms s j ≡ Sound t new
+    pub verdict : verdict_on w.roster s j ≡ Sound t new
 
   module _ (j : JobParts) (k : ℕ → List ℕ) (t : State) (new : List Authenticator) (f : Follows j k t new)
     where
@@ -283,55 +283,62 @@ module _ (ms : List Member) (m : Member) (past : Past) (h : ℕ → List ℕ) (e
           (arith, nat_tests, f.fits) in
           rw (some, few, fits, f.first) refl
 
-      audits : Owes ms m known Audit (Asked first a.number)
+      audits : Owes w known Audit (Asked first a.number)
       audits =
-          told ms m known Audit (Asked first a.number) (λ x. x)
+          told w known Audit (Asked first a.number) (λ x. x)
           (audit_told a f.above ∙ (ap (ask_up_to end (length found)) reached ∙ asked))
 
-      answers : Owes ms m wanted (Answer c) Accepted
+      answers : Owes w wanted (Answer c) Accepted
       answers =
-          told ms m wanted (Answer c) Accepted (λ x. x)
+          told w wanted (Answer c) Accepted (λ x. x)
           (rw (eq-eqb first first refl, eq-eqb a.number a.number refl) refl)
 
-      on_given : OnLog k a.number (shown ms m given)
+      on_given : OnLog k a.number (shown w given)
       on_given =
-          let known_pairs : OnLog k a.number (shown ms m known) =
+          let known_pairs : OnLog k a.number (shown w known) =
           subst (OnLog k a.number) (sym (shown_is a f.above)) (
             omega arith,
             f.closing,
-            grown h k end a.number (shown ms m past) f.same (omega (arith, f.above))
+            grown h k end a.number (shown w past) f.same (omega (arith, f.above))
                 q.on_log,
           ) in
-          both k a.number (segment_pairs j.segment.segment) (shown ms m known) f.pairs known_pairs
+          both k a.number (segment_pairs j.segment.segment) (shown w known) f.pairs known_pairs
 
-      given_hidden : is_exposed ms m given ≡ false
+      given_hidden : is_exposed w given ≡ false
       given_hidden =
-          or_from (has_fork (shown ms m given)) (has_fault ms m given)
-          (no_fork k a.number (shown ms m given) on_given) q.sound
+          or_from (has_fork (shown w given)) (has_fault w given)
+          (no_fork k a.number (shown w given) on_given) q.sound
 
       begins_given : begins given ≡ begun
       begins_given = omega (arith, sum_by-cons, q.count)
 
-      next : next_job ms m given c ≡ j
+      next : next_job w given c ≡ j
       next =
-          ap₂ (λ (b : ℕ) (e : End). record { node = m.node; number = b + 1; state = e.state; segment = c })
+          ap₂ (λ (b : ℕ) (e : End). record {
+            node = w.member.node;
+            number = b + 1;
+            state = e.state;
+            segment =
+                c;
+          })
           begins_given
           q.at_end ∙ sym f.job
 
-      begins_it : Owes ms m given Begin (Job j)
+      begins_it : Owes w given Begin (Job j)
       begins_it =
-          told ms m given Begin (Job j) (λ x. x) (rw given_hidden (ap Job next))
+          told w given Begin (Job j) (λ x. x) (rw given_hidden (ap Job next))
 
       begins_out : begins out ≡ begun + 1
       begins_out = omega (arith, sum_by-cons, q.count)
 
-      is_out : job_out ms m out ≡ Some j
+      is_out : job_out w out ≡ Some j
       is_out =
-          ap₂ (λ (b : ℕ) (e : End). Some (record { node = m.node; number = b; state = e.state; segment = c }))
+          ap₂ (λ (b : ℕ) (e : End). Some
+          (record { node = w.member.node; number = b; state = e.state; segment = c }))
           begins_out
           q.at_end ∙ ap Some (sym f.job)
 
-      files : Owes ms m out (File done) Filed
+      files : Owes w out (File done) Filed
       files = record {
         is_out = true;
         decides = (λ e. is_out, λ e. refl);
@@ -341,36 +348,36 @@ module _ (ms : List Member) (m : Member) (past : Past) (h : ℕ → List ℕ) (e
 
       -- ---- what stands after it
 
-      verdict_there : verdict_on ms (end_of ms m out).state j ≡ Sound t new
-      verdict_there = ap (λ (e : End). verdict_on ms e.state j) q.at_end ∙ f.verdict
+      verdict_there : verdict_on w.roster (end_of w out).state j ≡ Sound t new
+      verdict_there = ap (λ (e : End). verdict_on w.roster e.state j) q.at_end ∙ f.verdict
 
-      found_is : all_found ms m behind ≡ all_found ms m past ++ new
+      found_is : all_found w behind ≡ all_found w past ++ new
       found_is =
-          let before : all_found ms m out ≡ all_found ms m past =
-          append-nil (all_found ms m given) ∙ (append-nil (all_found ms m wanted)
-          ∙ (append-nil (all_found ms m known)
-          ∙ append-nil (all_found ms m past))) in
+          let before : all_found w out ≡ all_found w past =
+          append-nil (all_found w given) ∙ (append-nil (all_found w wanted)
+          ∙ (append-nil (all_found w known)
+          ∙ append-nil (all_found w past))) in
           ap₂ (λ xs v. xs ++ sound_found v) before verdict_there
 
       rest_is : (later : List Authenticator)
-          → drop (forwards behind) (all_found ms m behind ++ later) ≡ (found ++ new) ++ later
+          → drop (forwards behind) (all_found w behind ++ later) ≡ (found ++ new) ++ later
       rest_is later =
           let same : forwards behind ≡ forwards past = omega (arith, sum_by-cons) in
           ap₂ (λ k xs. drop k (xs ++ later)) same found_is
-          ∙ (ap (drop (forwards past)) (append_assoc (all_found ms m past) new later)
+          ∙ (ap (drop (forwards past)) (append_assoc (all_found w past) new later)
           ∙ (q.rest (new ++ later) ∙ sym (append_assoc found new later)))
 
-      noted_low : Low a.number (noted_before ms m known)
+      noted_low : Low a.number (noted_before w known)
       noted_low =
           subst (Low a.number) (sym (noted_is a f.above))
-          (omega arith, lower end a.number (noted_before ms m past) (omega (arith, f.above)) q.low)
+          (omega arith, lower end a.number (noted_before w past) (omega (arith, f.above)) q.low)
 
       -- the audit of such a segment is owed, and the same holds after it
-      pub goes_on : Quiet ms m behind k a.number (begun + 1) t (found ++ new)
+      pub goes_on : Quiet w behind k a.number (begun + 1) t (found ++ new)
       goes_on = record {
         owed = (files, (begins_it, (answers, (audits, (learned_new a f.above, q.owed)))));
         at_end = ap₂ (λ (e : End) v. moved_by e a.number v) q.at_end verdict_there;
-        sound = or_from (is_fault (verdict_on ms (end_of ms m out).state j)) (has_fault ms m out)
+        sound = or_from (is_fault (verdict_on w.roster (end_of w out).state j)) (has_fault w out)
             (ap is_fault verdict_there) q.sound;
         on_log = on_given;
         low = noted_low;
@@ -384,32 +391,32 @@ module _ (ms : List Member) (m : Member) (past : Past) (h : ℕ → List ℕ) (e
   -- an audit after one more authenticator is told this, and the steps before it are owed
   pub then_asked : (a : Authenticator) → end < a.number → (r : Reply)
       → ask_up_to end (length found) (last_in_reach end (a ∷ [])) ≡ r
-      → Reaches ms m ((Learn a, Noted) ∷ past) Audit r
+      → Reaches w ((Learn a, Noted) ∷ past) Audit r
   then_asked a above r e = record {
     steps = (learned_new a above, q.owed);
-    next = told ms m ((Learn a, Noted) ∷ past) Audit r (λ x. x) (audit_told a above ∙ e);
+    next = told w ((Learn a, Noted) ∷ past) Audit r (λ x. x) (audit_told a above ∙ e);
   }
 
   -- this waits in the outbox
-  pub is_waiting : outbox ms m past ≡ found
+  pub is_waiting : outbox w past ≡ found
   is_waiting =
-      ap (drop (forwards past)) (sym (append-nil (all_found ms m past))) ∙ (q.rest [] ∙ append-nil found)
+      ap (drop (forwards past)) (sym (append-nil (all_found w past))) ∙ (q.rest [] ∙ append-nil found)
 
   -- what is then owed to a Forward
-  pub then_forward : Reaches ms m past Forward (forward_reply found)
+  pub then_forward : Reaches w past Forward (forward_reply found)
   then_forward = record {
     steps = q.owed;
-    next = told ms m past Forward (forward_reply found) (λ x. x) (ap forward_reply is_waiting);
+    next = told w past Forward (forward_reply found) (λ x. x) (ap forward_reply is_waiting);
   }
 
 -- the oldest of what was found is forwarded
-pub forwarded : (ms : List Member) (m : Member) (past : Past) (h : ℕ → List ℕ) (end begun : ℕ) (s : State)
-    (a : Authenticator) (found : List Authenticator) → Quiet ms m past h end begun s (a ∷ found)
-    → Quiet ms m ((Forward, Forwarded a) ∷ past) h end begun s found
-forwarded ms m past h end begun s a found q =
+pub forwarded : (w : Watched) (past : Past) (h : ℕ → List ℕ) (end begun : ℕ) (s : State)
+    (a : Authenticator) (found : List Authenticator) → Quiet w past h end begun s (a ∷ found)
+    → Quiet w ((Forward, Forwarded a) ∷ past) h end begun s found
+forwarded w past h end begun s a found q =
     let more : forwards ((Forward, Forwarded a) ∷ past) ≡ suc (forwards past) = omega (arith, sum_by-cons) in
     record {
-      owed = ((then_forward ms m past h end begun s (a ∷ found) q).next, q.owed);
+      owed = ((then_forward w past h end begun s (a ∷ found) q).next, q.owed);
       at_end = q.at_end;
       sound = q.sound;
       on_log = q.on_log;
@@ -417,6 +424,6 @@ forwarded ms m past h end begun s a found q =
       free = q.free;
       count = omega (arith, sum_by-cons, q.count);
       rest = λ later.
-          ap₂ (λ k xs. drop k (xs ++ later)) more (append-nil (all_found ms m past))
-          ∙ drop_more (forwards past) (all_found ms m past ++ later) a (found ++ later) (q.rest later);
+          ap₂ (λ k xs. drop k (xs ++ later)) more (append-nil (all_found w past))
+          ∙ drop_more (forwards past) (all_found w past ++ later) a (found ++ later) (q.rest later);
     }

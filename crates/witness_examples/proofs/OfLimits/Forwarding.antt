@@ -21,6 +21,7 @@ use Rattle.replay_spec.specs.Stepping.{BadReceive, Repeated, ReplayFault, step, 
 use Rattle.state_spec.specs.State.{State, ReceivedMessage, received_cmp, is_received, opening_client}
 use Rattle.replay_spec.specs.Placed.{Placed, place}
 use Rattle.replay_spec.specs.Replay.{Verdict, Sound, Fault, behind, verdict_of}
+use Rattle.witness_spec.specs.Watched.{watched}
 use Rattle.witness_spec.specs.Standing.{verdict_on}
 use Rattle.witness_examples.specs.Worked.{five}
 use Rattle.witness_examples.specs.Limits.Audits.{its_secret, six, clients, sent_hash, sender, receipt}
@@ -87,7 +88,7 @@ both_sound =
     ap (then_found (opening_client 5) receipt (second ∷ []) 1) (receipt_step 1 zeros)
     ∙ ap (behind (Some sender)) (ap (then_found state_heard other_receipt [] 2) (other_step 2 first_hash))
 
-at_first : Quiet clients five [] both_at 0 0 (opening_client 5) []
+at_first : Quiet (watched clients five) [] both_at 0 0 (opening_client 5) []
 at_first = record {
   owed = tt;
   at_end = refl;
@@ -103,9 +104,10 @@ abbrev all_found : List Authenticator
 all_found = sender ∷ other_sender ∷ []
 
 -- both messages were audited, and nothing was forwarded yet
-pub quiet_audited : Quiet clients five both_audited both_at 2 1 state_both all_found
+pub quiet_audited : Quiet (watched clients five) both_audited both_at 2 1 state_both all_found
 quiet_audited =
-    goes_on clients five [] both_at 0 0 (opening_client 5) [] at_first both_job both_at state_both all_found
+    goes_on (watched clients five) [] both_at 0 0
+    (opening_client 5) [] at_first both_job both_at state_both all_found
     (record {
       job = refl;
       first = refl;
@@ -120,10 +122,10 @@ quiet_audited =
     })
 
 -- one of them was
-pub quiet_one : Quiet clients five one_forwarded both_at 2 1 state_both (other_sender ∷ [])
-quiet_one = forwarded clients five both_audited both_at 2 1 state_both sender (other_sender ∷ [])
+pub quiet_one : Quiet (watched clients five) one_forwarded both_at 2 1 state_both (other_sender ∷ [])
+quiet_one = forwarded (watched clients five) both_audited both_at 2 1 state_both sender (other_sender ∷ [])
     quiet_audited
 
 -- both were
-pub quiet_both : Quiet clients five both_forwarded both_at 2 1 state_both []
-quiet_both = forwarded clients five one_forwarded both_at 2 1 state_both other_sender [] quiet_one
+pub quiet_both : Quiet (watched clients five) both_forwarded both_at 2 1 state_both []
+quiet_both = forwarded (watched clients five) one_forwarded both_at 2 1 state_both other_sender [] quiet_one

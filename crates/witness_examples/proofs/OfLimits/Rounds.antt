@@ -17,6 +17,7 @@ use Rattle.replay_spec.specs.Stepping.{BadReceive, Repeated, ReplayFault, step, 
 use Rattle.state_spec.specs.State.{State, ReceivedMessage, received_cmp, is_received, opening_client}
 use Rattle.replay_spec.specs.Placed.{place, placed}
 use Rattle.replay_spec.specs.Replay.{Sound, Fault, behind, verdict_of}
+use Rattle.witness_spec.specs.Watched.{watched}
 use Rattle.witness_spec.specs.Standing.{verdict_on}
 use Rattle.witness_examples.specs.Worked.{five}
 use Rattle.witness_examples.specs.Limits.Audits.{tick, ticks, hash_at, ticked, ticked_job, its_secret, six}
@@ -67,7 +68,7 @@ ticked_sound number end size = ticks_sound size (end + 1) (hash_at end)
 
 -- after so many rounds the end is 4,096 for each, and nothing was found
 abbrev pub QuietRounds : ℕ → Type 0
-QuietRounds k = Quiet clients five (rounds k) hash_at (4_096 * k) k (opening_client 5) []
+QuietRounds k = Quiet (watched clients five) (rounds k) hash_at (4_096 * k) k (opening_client 5) []
 
 no_rounds : QuietRounds 0
 unfolding rounds hash_at
@@ -86,8 +87,10 @@ one_more : (k : ℕ) → k < 16 → QuietRounds k → QuietRounds (suc k)
 unfolding rounds
 one_more k few q =
     let end : ℕ = 4_096 * k in
-    let next : Quiet clients five (rounds (suc k)) hash_at (end + 4_096) (k + 1) (opening_client 5) [] =
-    goes_on clients five (rounds k) hash_at end k (opening_client 5) [] q (ticked_job (k + 1) end 4_096)
+    let next : Quiet (watched clients five) (rounds (suc k)) hash_at (end + 4_096) (k + 1)
+    (opening_client 5) [] =
+    goes_on (watched clients five) (rounds k) hash_at end k (opening_client 5) [] q
+    (ticked_job (k + 1) end 4_096)
     hash_at
     (opening_client 5) [] (record {
       job = refl;
@@ -103,8 +106,11 @@ one_more k few q =
     }) in
     let last : end + 4_096 ≡ 4_096 * suc k = omega arith in
     let number : k + 1 ≡ suc k = omega arith in
-    subst (λ b. Quiet clients five (rounds (suc k)) hash_at (4_096 * suc k) b (opening_client 5) []) number
-    (subst (λ e. Quiet clients five (rounds (suc k)) hash_at e (k + 1) (opening_client 5) []) last next)
+    subst
+    (λ b. Quiet (watched clients five) (rounds (suc k)) hash_at (4_096 * suc k) b
+    (opening_client 5) []) number
+    (subst
+    (λ e. Quiet (watched clients five) (rounds (suc k)) hash_at e (k + 1) (opening_client 5) []) last next)
 
 -- so many rounds, each of which is owed
 pub quiet_rounds : (k : ℕ) → k ≤ 16 → QuietRounds k
@@ -159,10 +165,12 @@ module _ (end : ℕ) where
 
 -- after so many rounds a message was received and audited
 pub quiet_heard : (k : ℕ) → k < 16
-    → Quiet clients five (heard k) (heard_at (4_096 * k)) (4_096 * k + 1) (k + 1) state_heard (sender ∷ [])
+    → Quiet (watched clients five) (heard k) (heard_at (4_096 * k)) (4_096 * k + 1) (k + 1) state_heard
+    (sender ∷ [])
 quiet_heard k few =
     let end : ℕ = 4_096 * k in
-    goes_on clients five (rounds k) hash_at end k (opening_client 5) [] (quiet_rounds k (omega arith))
+    goes_on (watched clients five) (rounds k) hash_at end k (opening_client 5) []
+    (quiet_rounds k (omega arith))
     (heard_job (k + 1) end) (heard_at end) state_heard (sender ∷ []) (record {
       job = refl;
       first = refl;

@@ -29,6 +29,7 @@ use Rattle.witness_spec.specs.Refusals.{BadSignature}
 use Rattle.witness_spec.specs.Events.{Event, ItsIndication, IsEvent, IsClosedUnder}
 use Rattle.witness_spec.specs.Events as events
 use Rattle.witness_spec.specs.Replies.{Reply, Noted, Asked, Accepted, Job, Filed, Told, Trusted}
+use Rattle.witness_spec.specs.Watched.{watched}
 use Rattle.witness_spec.specs.Steps.{Step, Learn, Audit, Answer, Begin, File, Ask, Past}
 use Rattle.witness_spec.specs.Whose.{is_key_of, same_roster, whose}
 use Rattle.witness_spec.specs.Owing.{Owes}
@@ -161,10 +162,10 @@ module _ (secret : List ℕ) where
   pub owed : (history : History) (past : Past) (e : Event) (step : Step) (reply : Reply)
       → own (alone secret) 5 history ≡ past
       → whose (alone secret) e ≡ Ok (record { member = client secret; step = step })
-      → Owes (alone secret) (client secret) past step reply → IsOwed (alone secret) history e reply
+      → Owes (watched (alone secret) (client secret)) past step reply → IsOwed (alone secret) history e reply
   owed history past e step reply same its h =
       subst (OwesTo (alone secret) history e reply) (sym its)
-      (subst (λ x. Owes (alone secret) (client secret) x step reply) (sym same) h)
+      (subst (λ x. Owes (watched (alone secret) (client secret)) x step reply) (sym same) h)
 
   -- ---- what the law on honest nodes supposes
 
@@ -177,7 +178,7 @@ module _ (secret : List ℕ) where
   }
 
   -- every signature among its steps is of the log's last place
-  pub unforged : Unforged (alone secret) (client secret) readings (audited_steps secret)
+  pub unforged : Unforged (watched (alone secret) (client secret)) readings (audited_steps secret)
   unforged = ((λ of signed. inr (inl refl)), ((λ of signed. inr (inl refl)), tt))
 
 -- the two texts of the log have two digests, as they are worked out

@@ -7,6 +7,7 @@ use Rattle.secure_log.specs.LogEntries.Chain.{zeros}
 use Rattle.replay_spec.specs.Stepping.{step}
 use Rattle.secure_log.specs.LogEntries.Chain.{IsAmong}
 use Rattle.witness_spec.specs.Replies.{Opened, Closed, SendOf}
+use Rattle.witness_spec.specs.Watched.{watched}
 use Rattle.witness_spec.specs.Steps.{Past}
 use Rattle.witness_spec.specs.Histories.{History, own, own_step, HoldSame, StandsFor, Stands}
 use Rattle.witness_spec.specs.Contract.{opening_book, opening_books}
@@ -53,7 +54,8 @@ turned a b c x = (turned_one a b c x, turned_one c b a x)
 -- ---- the books
 
 module _ (secret : List ℕ) where
-  audited_stands : StandsFor (alone secret) (client secret) (audited_steps secret) (audited_book secret)
+  audited_stands : StandsFor (watched (alone secret) (client secret)) (audited_steps secret)
+      (audited_book secret)
   unfolding step
   audited_stands = record {
     end = refl;
@@ -70,12 +72,14 @@ module _ (secret : List ℕ) where
   -- after the audit
   pub audited_stand : Stands (alone secret) (audited_book secret ∷ []) (audited_events secret)
   audited_stand = (
-    subst (λ x. StandsFor (alone secret) (client secret) x (audited_book secret)) (sym (own_all secret))
+    subst (λ x. StandsFor (watched (alone secret) (client secret)) x (audited_book secret))
+        (sym (own_all secret))
         audited_stands,
     tt,
   )
 
-  forked_stands : StandsFor (alone secret) (client secret) (forked_steps secret) (forked_book secret)
+  forked_stands : StandsFor (watched (alone secret) (client secret)) (forked_steps secret)
+      (forked_book secret)
   forked_stands = record {
     end = refl;
     stage = refl;
@@ -91,7 +95,8 @@ module _ (secret : List ℕ) where
   -- after the fork
   pub forked_stand : Stands (alone secret) (forked_book secret ∷ []) (forked_events secret)
   forked_stand = (
-    subst (λ x. StandsFor (alone secret) (client secret) x (forked_book secret)) (sym (own_forked secret))
+    subst (λ x. StandsFor (watched (alone secret) (client secret)) x (forked_book secret))
+        (sym (own_forked secret))
         forked_stands,
     tt,
   )
@@ -105,7 +110,7 @@ module _ (secret other : List ℕ) where
   none_acknowledged =
       ap₂ (λ w (x : Past). own_step 6 w Closed ++ x) (acknowledged_whose secret other) none_challenged
 
-  opening_stands : (m : Member) → StandsFor (both secret other) m [] (opening_book m)
+  opening_stands : (m : Member) → StandsFor (watched (both secret other) m) [] (opening_book m)
   opening_stands m = record {
     end = refl;
     stage = refl;
@@ -120,16 +125,17 @@ module _ (secret other : List ℕ) where
 
   -- the sender's book, where it has no own steps
   senders : (history : History) → own (both secret other) 6 history ≡ []
-      → StandsFor (both secret other) (sender other) (own (both secret other) 6 history)
+      → StandsFor (watched (both secret other) (sender other)) (own (both secret other) 6 history)
       (opening_book (sender other))
   senders history none =
-      subst (λ x. StandsFor (both secret other) (sender other) x (opening_book (sender other))) (sym none)
+      subst (λ x. StandsFor (watched (both secret other) (sender other)) x (opening_book (sender other)))
+      (sym none)
       (opening_stands (sender other))
 
   -- after the challenge
   pub challenged_stand : Stands (both secret other) (challenged_books secret other) (challenged_event other)
   challenged_stand =
-      let stands : StandsFor (both secret other) (client secret) (challenged_step other)
+      let stands : StandsFor (watched (both secret other) (client secret)) (challenged_step other)
       (record (opening_book (client secret)) { challenges = SendOf (message other) ∷ [] }) = record {
         end = refl;
         stage = refl;
@@ -141,13 +147,14 @@ module _ (secret other : List ℕ) where
         segments = same_held [];
         evidence = refl;
       } in (
-        subst (λ x. StandsFor (both secret other) (client secret) x
+        subst (λ x. StandsFor (watched (both secret other) (client secret)) x
             (record (opening_book (client secret)) { challenges = SendOf (message other) ∷ [] }))
             (sym (own_challenged secret other)) stands,
         (senders (challenged_event other) none_challenged, tt),
       )
 
-  acknowledged_stands : StandsFor (both secret other) (client secret) (acknowledged_steps secret other)
+  acknowledged_stands : StandsFor (watched (both secret other) (client secret))
+      (acknowledged_steps secret other)
       (opening_book (client secret))
   acknowledged_stands = record {
     end = refl;
@@ -165,7 +172,7 @@ module _ (secret other : List ℕ) where
   pub acknowledged_stand : Stands (both secret other) (opening_books (both secret other))
       (acknowledged_events secret other)
   acknowledged_stand = (
-    subst (λ x. StandsFor (both secret other) (client secret) x (opening_book (client secret)))
+    subst (λ x. StandsFor (watched (both secret other) (client secret)) x (opening_book (client secret)))
         (sym (own_acknowledged secret other)) acknowledged_stands,
     (senders (acknowledged_events secret other) none_acknowledged, tt),
   )

@@ -13,10 +13,11 @@ use Rattle.witness_spec.specs.Refusals.{BadSignature}
 use Rattle.witness_spec.specs.Events.{Event, IsEvent}
 use Rattle.witness_spec.specs.Events as events
 use Rattle.witness_spec.specs.Replies.{Reply, Noted, Opened, Closed}
+use Rattle.witness_spec.specs.Watched.{Watched}
 use Rattle.witness_spec.specs.Steps.{Step, SendChallenge, AckIn, Past}
 use Rattle.witness_spec.specs.Whose.{is_key_of, whose}
 use Rattle.witness_spec.specs.Owing.{Owes}
-use Rattle.witness_spec.specs.Histories.{History, OwesTo, IsOwed, own, own_step}
+use Rattle.witness_spec.specs.Histories.{History, OwesTo, IsOwed, own, own_step, own_of}
 use Rattle.witness_examples.specs.Signed.Audited.{client, client_key, alone}
 use Rattle.witness_examples.specs.Signed.Shown.{ones, twos, one_event, one_step, forked_events, forked_steps}
 use Rattle.witness_examples.specs.Signed.Shown.{both, sender, message, acknowledged, sent_hash}
@@ -124,9 +125,9 @@ module _ (secret other : List ℕ) where
   own_acknowledged = ap₂ (λ w (x : Past). own_step 5 w Closed ++ x) acknowledged_whose own_challenged
 
 -- a reply that is owed after a member's own steps is owed after the history that has them
-pub owed_to : (ms : List Member) (m : Member) (history : History) (past : Past) (e : Event) (step : Step)
+pub owed_to : (w : Watched) (history : History) (past : Past) (e : Event) (step : Step)
     (reply : Reply)
-    → own ms m.node history ≡ past → whose ms e ≡ Ok (record { member = m; step = step })
-    → Owes ms m past step reply → IsOwed ms history e reply
-owed_to ms m history past e step reply same its h =
-    subst (OwesTo ms history e reply) (sym its) (subst (λ x. Owes ms m x step reply) (sym same) h)
+    → own_of w history ≡ past → whose w.roster e ≡ Ok (record { member = w.member; step = step })
+    → Owes w past step reply → IsOwed w.roster history e reply
+owed_to w history past e step reply same its h =
+    subst (OwesTo w.roster history e reply) (sym its) (subst (λ x. Owes w x step reply) (sym same) h)

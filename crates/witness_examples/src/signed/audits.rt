@@ -12,6 +12,7 @@ ghost use Rattle.replay_spec.specs.HonestLogs.{IsHonestLog};
 ghost use Rattle.witness_spec.specs.evidence_spec.Proving.{IsLog};
 ghost use Rattle.witness_spec.specs.Events.{ItsIndication};
 ghost use Rattle.witness_spec.specs.Replies.{Noted, Asked, Accepted, Job, Filed, Told, Trusted};
+ghost use Rattle.witness_spec.specs.Watched.{watched};
 ghost use Rattle.witness_spec.specs.Steps.{Learn, Audit, Answer, Begin, File, Ask};
 ghost use Rattle.witness_spec.specs.Owing.{Owes};
 ghost use Rattle.witness_spec.specs.Standing.{Wanted, stage_of};
@@ -29,17 +30,18 @@ ghost use Rattle.witness_examples.specs.Signed.Audited.{audited_events, audited_
 #[tactic(auto, unfolding(replay_spec::specs::Stepping::step))]
 pub fn a_signed_log_is_audited()
     ensures learned { (secret : List ℕ) →
-        Owes (alone secret) (client secret) [] (Learn (signed_end secret)) Noted }
+        Owes (watched (alone secret) (client secret)) [] (Learn (signed_end secret)) Noted }
     ensures asked { (secret : List ℕ) →
-        Owes (alone secret) (client secret) (learned_step secret) Audit (Asked 1 1) }
+        Owes (watched (alone secret) (client secret)) (learned_step secret) Audit (Asked 1 1) }
     ensures accepted { (secret : List ℕ) →
-        Owes (alone secret) (client secret) (asked_step secret) (Answer (signed_closed secret)) Accepted }
+        Owes (watched (alone secret) (client secret)) (asked_step secret)
+        (Answer (signed_closed secret)) Accepted }
     ensures begun { (secret : List ℕ) →
-        Owes (alone secret) (client secret) (answered_step secret) Begin (Job (signed_job secret)) }
+        Owes (watched (alone secret) (client secret)) (answered_step secret) Begin (Job (signed_job secret)) }
     ensures filed { (secret : List ℕ) →
-        Owes (alone secret) (client secret) (begun_step secret) (File (signed_done secret)) Filed }
+        Owes (watched (alone secret) (client secret)) (begun_step secret) (File (signed_done secret)) Filed }
     ensures trusted { (secret : List ℕ) →
-        Owes (alone secret) (client secret) (filed_step secret) (Ask ItsIndication) (Told Trusted) }
+        Owes (watched (alone secret) (client secret)) (filed_step secret) (Ask ItsIndication) (Told Trusted) }
 {}
 
 /// These events, each with a value that is signed under the client's key or closed under the roster, and
@@ -62,7 +64,8 @@ pub fn honest_premises_are_possible()
     ensures honest { (secret : List ℕ) →
         IsHonestLog (alone secret) (opening_of (client secret)) readings state_read }
     ensures unforged { (secret : List ℕ) →
-        Unforged (alone secret) (client secret) readings (own (alone secret) 5 (audited_events secret)) }
+        Unforged (watched (alone secret) (client secret)) readings
+        (own (alone secret) 5 (audited_events secret)) }
     ensures unlike { (secret : List ℕ) →
         NoCollisionWith readings (own (alone secret) 5 (audited_events secret)) }
 {

@@ -3,6 +3,7 @@
 
 ghost use Rattle.std.specs.Prelude.{◌≡◌, ℕ, List, []};
 ghost use Rattle.witness_spec.specs.Replies.{Noted, Opened, Closed, Exposed};
+ghost use Rattle.witness_spec.specs.Watched.{watched};
 ghost use Rattle.witness_spec.specs.Steps.{Learn, SendChallenge, AckIn};
 ghost use Rattle.witness_spec.specs.Standing.{indication};
 ghost use Rattle.witness_spec.specs.Owing.{Owes};
@@ -15,11 +16,12 @@ ghost use Rattle.witness_examples.specs.Signed.Shown.{acknowledged_steps, acknow
 /// Two hashes at one number, each signed by the client, are noted, and the client is Exposed.
 pub fn signed_forks_expose()
     ensures first { (secret : List ℕ) →
-        Owes (alone secret) (client secret) [] (Learn (signed secret 0 1 ones)) Noted }
+        Owes (watched (alone secret) (client secret)) [] (Learn (signed secret 0 1 ones)) Noted }
     ensures second { (secret : List ℕ) →
-        Owes (alone secret) (client secret) (one_step secret) (Learn (signed secret 1 1 twos)) Noted }
+        Owes (watched (alone secret) (client secret)) (one_step secret)
+        (Learn (signed secret 1 1 twos)) Noted }
     ensures exposed { (secret : List ℕ) →
-        indication (alone secret) (client secret) (forked_steps secret) ≡ Exposed }
+        indication (watched (alone secret) (client secret)) (forked_steps secret) ≡ Exposed }
 {}
 
 /// These events, signed under the client's key, and their replies are a history.
@@ -35,9 +37,9 @@ pub fn signed_forks_are_possible()
 /// signed, closes the challenge.
 pub fn signed_acknowledgements_close()
     ensures opened { (secret other : List ℕ) →
-        Owes (both secret other) (client secret) [] (SendChallenge (message other)) Opened }
+        Owes (watched (both secret other) (client secret)) [] (SendChallenge (message other)) Opened }
     ensures closed { (secret other : List ℕ) →
-        Owes (both secret other) (client secret) (challenged_step other)
+        Owes (watched (both secret other) (client secret)) (challenged_step other)
         (AckIn (acknowledged secret other)) Closed }
 {}
 

@@ -1,7 +1,7 @@
 -- Answers are their node's steps, and close what is open.
 -- Serves: answers_are_accepted, acknowledgements_close, answers_close_challenges.
 use Rattle.std.proofs.Common.{◌≡◌, ◌↔◌, inl, inr, ℕ, Bool, true, false, cond, not, ◌==◌, ◌&&◌}
-use Rattle.std.proofs.Common.{List, [], ◌∷◌, ◌++◌, filter, Some, IsSomeAnd, Ok, Err}
+use Rattle.std.proofs.Common.{List, [], ◌∷◌, ◌++◌, filter, IsSomeAnd, Ok, Err}
 use Rattle.std.proofs.Common.{refl, sym, ap, ap₂, subst, ◌∙◌, eq-eqb}
 use Rattle.std.proofs.lemmas.Bool.{and_from, or_left, or_right, true≢false}
 use Rattle.authenticator.specs.Roster.{member_of, kind_number}
@@ -25,12 +25,13 @@ use Rattle.witness_spec.specs.Refusals.{NotAsked, BadSignature}
 use Rattle.witness_spec.specs.Events.{PublicKey, Event}
 use Rattle.witness_spec.specs.Events as events
 use Rattle.witness_spec.specs.Replies.{Reply, Accepted, Closed, Refused, Challenge, AuditOf, SendOf}
+use Rattle.witness_spec.specs.Watched.{Watched, IsInRoster}
 use Rattle.witness_spec.specs.Steps.{Step, Answer, AckIn}
 use Rattle.witness_spec.specs.Whose.{is_key_of, same_member, same_roster, signed_step, closed_step, whose}
 use Rattle.witness_spec.specs.Standing.{Stage, Wanted, stage_of, same_message, is_answered, is_send_of}
 use Rattle.witness_spec.specs.Standing.{open_challenges}
 use Rattle.witness_spec.specs.Owing.{reply_told, answer_reply, is_open, IsOut, Owes}
-use Rattle.witness_spec.specs.Histories.{History, own, OwesTo, IsOwed}
+use Rattle.witness_spec.specs.Histories.{History, OwesTo, IsOwed, own_of}
 use Rattle.witness_spec.specs.Laws.{AnswersAudit, answer_of, ClosesChallenge}
 use Rattle.witness_laws.proofs.Replied.{one_reply}
 use Rattle.witness_laws.proofs.OwnSteps.{its_own}
@@ -84,20 +85,21 @@ roster_self (m ∷ ms) = and_from (same_member m m) (same_roster ms ms) (member_
 -- ---- the reply
 
 -- a step that brings no job back has this reply and no other
-pub only_reply : (ms : List Member) (m : Member) (history : History) (e : Event) (step : Step) (good : Reply)
-    → whose ms e ≡ Ok (record { member = m; step = step }) → (IsOut ms m (own ms m.node history) step → ⊥)
-    → good ≡ reply_told false ms m (own ms m.node history) step
-    → (reply : Reply) → IsOwed ms history e reply ↔ (reply ≡ good)
-only_reply ms m history e step good w none told reply =
-    let here : Owes ms m (own ms m.node history) step good = record {
+pub only_reply : (w : Watched) (history : History) (e : Event) (step : Step) (good : Reply)
+    → whose w.roster e ≡ Ok (record { member = w.member; step = step })
+    → (IsOut w (own_of w history) step → ⊥)
+    → good ≡ reply_told false w (own_of w history) step
+    → (reply : Reply) → IsOwed w.roster history e reply ↔ (reply ≡ good)
+only_reply w history e step good its none told reply =
+    let here : Owes w (own_of w history) step good = record {
       is_out = false;
       decides = (λ h. absurd (true≢false (sym h)), λ h. absurd (none h));
       told = told;
     } in (
-      λ h. one_reply ms m (own ms m.node history) step reply good
-          (subst (OwesTo ms history e reply) w h) here,
-      λ same. subst (OwesTo ms history e reply) (sym w)
-          (subst (Owes ms m (own ms m.node history) step) (sym same) here),
+      λ h. one_reply w (own_of w history) step reply good
+          (subst (OwesTo w.roster history e reply) its h) here,
+      λ same. subst (OwesTo w.roster history e reply) (sym its)
+          (subst (Owes w (own_of w history) step) (sym same) here),
     )
 
 -- ---- answers
@@ -110,76 +112,82 @@ answer_told stage c first last is e f =
     (and_from (c.segment.first == first) (c.segment.closing.number == last)
     (eq-eqb c.segment.first first e) (eq-eqb c.segment.closing.number last f)))
 
-module _ (ms : List Member) (m : Member) (history : History) (is : member_of ms m.node ≡ Some m) where
-  answer_its : (c : ClosedParts) → c.roster ≡ ms → c.segment.closing.node ≡ m.node
-      → whose ms (events.Answer c) ≡ Ok (record { member = m; step = Answer c })
+module _ (w : Watched) (history : History) (is : IsInRoster w) where
+  answer_its : (c : ClosedParts) → c.roster ≡ w.roster → c.segment.closing.node ≡ w.member.node
+      → whose w.roster (events.Answer c) ≡ Ok (record { member = w.member; step = Answer c })
   answer_its c roster node =
-      ap₂ (λ x b. closed_step x b (Answer c)) (ap (member_of ms) node ∙ is)
-      (ap (λ r. same_roster r ms) roster ∙ roster_self ms)
+      ap₂ (λ x b. closed_step x b (Answer c)) (ap (member_of w.roster) node ∙ is)
+      (ap (λ r. same_roster r w.roster) roster ∙ roster_self w.roster)
 
-  answer_closes : (c : ClosedParts) → whose ms (events.Answer c) ≡ Ok (record { member = m; step = Answer c })
+  answer_closes : (c : ClosedParts)
+      → whose w.roster (events.Answer c) ≡ Ok (record { member = w.member; step = Answer c })
       → (first last : ℕ)
       → ¬ IsAmong (AuditOf first last)
-      (open_challenges (own ms m.node ((events.Answer c, Accepted) ∷ history)))
-  answer_closes c w first last i =
-      let one = its_own ms m.node (events.Answer c) Accepted (record { member = m; step = Answer c }) w
-      (eq-eqb m.node m.node refl) refl in
+      (open_challenges (own_of w ((events.Answer c, Accepted) ∷ history)))
+  answer_closes c told first last i =
+      let one =
+      its_own w.roster w.member.node (events.Answer c) Accepted
+      (record { member = w.member; step = Answer c }) told
+      (eq-eqb w.member.node w.member.node refl) refl in
       true≢false (sym (passes (λ x. not (is_answered c.segment x)) (AuditOf first last)
-      (open_challenges (own ms m.node history))
-      (subst (λ x. IsAmong (AuditOf first last) (open_challenges (x ++ own ms m.node history))) one i)))
+      (open_challenges (own_of w history))
+      (subst (λ x. IsAmong (AuditOf first last) (open_challenges (x ++ own_of w history))) one i)))
 
   -- the part of a log that an audit asked for, closed by the node's signature, answers the audit
   pub answers : (log : LogParts) (first last : ℕ) (s : OpenSegment) (closing : Authenticator)
-      → log.node ≡ m.node → stage_of (own ms m.node history) ≡ Wanted first last
-      → GivesPart log first last (Ok s) → IsOfPlace log last closing → IsSignedBy m closing
-      → AnswersAudit ms m history (answer_of ms s closing)
+      → log.node ≡ w.member.node → stage_of (own_of w history) ≡ Wanted first last
+      → GivesPart log first last (Ok s) → IsOfPlace log last closing → IsSignedBy w.member closing
+      → AnswersAudit w history (answer_of w.roster s closing)
   answers log first last s closing node stage part place signed =
-      let c : ClosedParts = answer_of ms s closing in
-      let here : closing.node ≡ m.node = place.node ∙ node in
+      let c : ClosedParts = answer_of w.roster s closing in
+      let here : closing.node ≡ w.member.node = place.node ∙ node in
       let its = answer_its c refl here in
       record {
         closed = record {
           ends = (closed_at_its_last log first last s part.0 part.2 closing).1 place;
           signed = subst (λ x. IsSomeAnd x (λ n. IsSignedBy n closing))
-              (sym (ap (member_of ms) here ∙ is)) signed;
+              (sym (ap (member_of w.roster) here ∙ is)) signed;
         };
         its = its;
-        reply = only_reply ms m history (events.Answer c) (Answer c) Accepted its (λ h. h)
-            (answer_told (stage_of (own ms m.node history)) c first last stage part.2.number place.number);
+        reply = only_reply w history (events.Answer c) (Answer c) Accepted its (λ h. h)
+            (answer_told (stage_of (own_of w history)) c first last stage part.2.number place.number);
         closes = answer_closes c its;
       }
 
   -- ---- acknowledgements
 
-  ack_its : (a : Ack) (key : PublicKey) → a.by ≡ m.node → is_key_of m key ≡ true
-      → whose ms (events.AckIn a key) ≡ Ok (record { member = m; step = AckIn a })
+  ack_its : (a : Ack) (key : PublicKey) → a.by ≡ w.member.node → is_key_of w.member key ≡ true
+      → whose w.roster (events.AckIn a key) ≡ Ok (record { member = w.member; step = AckIn a })
   ack_its a key by key_is =
-      ap (λ x. signed_step x key (AckIn a)) (ap (member_of ms) by ∙ is)
-      ∙ ap (λ b. cond b (Ok (record { member = m; step = AckIn a })) (Err BadSignature)) key_is
+      ap (λ x. signed_step x key (AckIn a)) (ap (member_of w.roster) by ∙ is)
+      ∙ ap (λ b. cond b (Ok (record { member = w.member; step = AckIn a })) (Err BadSignature)) key_is
 
   ack_closes : (a : Ack) (key : PublicKey)
-      → whose ms (events.AckIn a key) ≡ Ok (record { member = m; step = AckIn a })
+      → whose w.roster (events.AckIn a key) ≡ Ok (record { member = w.member; step = AckIn a })
       → (e : Envelope) → envelope_message e ≡ acked_message a
-      → ¬ IsAmong (SendOf e) (open_challenges (own ms m.node ((events.AckIn a key, Closed) ∷ history)))
-  ack_closes a key w e same i =
-      let one = its_own ms m.node (events.AckIn a key) Closed (record { member = m; step = AckIn a }) w
-      (eq-eqb m.node m.node refl) refl in
+      → ¬ IsAmong (SendOf e) (open_challenges (own_of w ((events.AckIn a key, Closed) ∷ history)))
+  ack_closes a key told e same i =
+      let one =
+      its_own w.roster w.member.node (events.AckIn a key) Closed
+      (record { member = w.member; step = AckIn a }) told
+      (eq-eqb w.member.node w.member.node refl) refl in
       let left : not (is_send_of (acked_message a) (SendOf e)) ≡ true =
-      passes (λ x. not (is_send_of (acked_message a) x)) (SendOf e) (open_challenges (own ms m.node history))
-      (subst (λ x. IsAmong (SendOf e) (open_challenges (x ++ own ms m.node history))) one i) in
+      passes (λ x. not (is_send_of (acked_message a) x)) (SendOf e) (open_challenges (own_of w history))
+      (subst (λ x. IsAmong (SendOf e) (open_challenges (x ++ own_of w history))) one i) in
       true≢false (sym left
       ∙ ap not (message_same (acked_message a) (envelope_message e) (sym same)))
 
   -- an acknowledgement by the node of a message that it is challenged with closes the challenge
-  pub acknowledges : (e : Envelope) (a : Ack) (key : PublicKey) → is_key_of m key ≡ true → a.by ≡ m.node
-      → IsAmong (SendOf e) (open_challenges (own ms m.node history)) → acked_message a ≡ envelope_message e
-      → ClosesChallenge ms m history a key
+  pub acknowledges : (e : Envelope) (a : Ack) (key : PublicKey) → is_key_of w.member key ≡ true
+      → a.by ≡ w.member.node
+      → IsAmong (SendOf e) (open_challenges (own_of w history)) → acked_message a ≡ envelope_message e
+      → ClosesChallenge w history a key
   acknowledges e a key key_is by there same =
       let its = ack_its a key by key_is in
       record {
         its = its;
-        reply = only_reply ms m history (events.AckIn a key) (AckIn a) Closed its (λ h. h)
+        reply = only_reply w history (events.AckIn a key) (AckIn a) Closed its (λ h. h)
             (sym (ap (λ b. cond b Closed (Refused NotAsked))
-            (open_of (acked_message a) e (open_challenges (own ms m.node history)) there same)));
+            (open_of (acked_message a) e (open_challenges (own_of w history)) there same)));
         closes = ack_closes a key its;
       }

@@ -4,7 +4,6 @@ use Rattle.std.proofs.Common.{◌≡◌, inl, inr, ℕ, Bool, true, false, cond,
 use Rattle.std.proofs.Common.{[], ◌∷◌, ◌++◌, filter, Ok, refl, sym, ap, ap₂, subst, ◌∙◌, eq-eqb, eqb-true}
 use Rattle.std.specs.List.{list_any}
 use Rattle.std.proofs.lemmas.Bool.{and_parts, or_left, or_right, true≢false}
-use Rattle.authenticator.specs.declared.member.Member.{Member}
 use Rattle.authenticator.specs.Signing.{is_same}
 use Rattle.authenticator.proofs.Signed.{same_list}
 use Rattle.secure_log.specs.declared.log_entries.entry.Entry.{Entry}
@@ -16,10 +15,11 @@ use Rattle.envelopes.specs.declared.message.Message.{Message}
 use Rattle.secure_log.specs.LogEntries.Chain.{IsAmong}
 use Rattle.witness_spec.specs.Events as events
 use Rattle.witness_spec.specs.Replies.{Accepted, Challenge, AuditOf, SendOf}
+use Rattle.witness_spec.specs.Watched.{Watched}
 use Rattle.witness_spec.specs.Steps.{Answer}
 use Rattle.witness_spec.specs.Whose.{whose}
 use Rattle.witness_spec.specs.Standing.{same_message, is_recv_of, is_answered, open_challenges}
-use Rattle.witness_spec.specs.Histories.{History, own}
+use Rattle.witness_spec.specs.Histories.{History, own_of}
 use Rattle.witness_spec.specs.Laws.{HasRecv, ClosesWhatItAnswers}
 use Rattle.witness_laws.proofs.OwnSteps.{its_own}
 use Rattle.witness_laws.proofs.OfAnswers.Answering.{passes, message_same}
@@ -135,29 +135,30 @@ true_not : (b : Bool) → ¬ (b ≡ true) → not b ≡ true
 true_not true h = absurd (h refl)
 true_not false h = refl
 
-module _ (ms : List Member) (m : Member) (history : History) (c : ClosedParts)
-    (its : whose ms (events.Answer c) ≡ Ok (record { member = m; step = Answer c })) where
+module _ (w : Watched) (history : History) (c : ClosedParts)
+    (its : whose w.roster (events.Answer c) ≡ Ok (record { member = w.member; step = Answer c })) where
   -- what is open before the answer
   abbrev before : List Challenge
-  before = open_challenges (own ms m.node history)
+  before = open_challenges (own_of w history)
 
   -- what is open after it
-  after_is : open_challenges (own ms m.node ((events.Answer c, Accepted) ∷ history))
+  after_is : open_challenges (own_of w ((events.Answer c, Accepted) ∷ history))
       ≡ filter (λ x. not (is_answered c.segment x)) before
-  after_is = ap (λ x. open_challenges (x ++ own ms m.node history))
-      (its_own ms m.node (events.Answer c) Accepted (record { member = m; step = Answer c }) its
-      (eq-eqb m.node m.node refl) refl)
+  after_is = ap (λ x. open_challenges (x ++ own_of w history))
+      (its_own w.roster w.member.node (events.Answer c) Accepted
+      (record { member = w.member; step = Answer c }) its
+      (eq-eqb w.member.node w.member.node refl) refl)
 
   no_audit : (first last : ℕ)
       → ¬ IsAmong (AuditOf first last)
-      (open_challenges (own ms m.node ((events.Answer c, Accepted) ∷ history)))
+      (open_challenges (own_of w ((events.Answer c, Accepted) ∷ history)))
   no_audit first last i =
       true≢false (sym (passes (λ x. not (is_answered c.segment x)) (AuditOf first last) before
       (subst (IsAmong (AuditOf first last)) after_is i)))
 
   -- a challenge that is open after it was open before, and its message isn't answered
   still_open : (e : Envelope)
-      → IsAmong (SendOf e) (open_challenges (own ms m.node ((events.Answer c, Accepted) ∷ history)))
+      → IsAmong (SendOf e) (open_challenges (own_of w ((events.Answer c, Accepted) ∷ history)))
       → IsAmong (SendOf e) before × ¬ HasRecv c.segment (envelope_message e)
   still_open e i =
       let left : IsAmong (SendOf e) (filter (λ x. not (is_answered c.segment x)) before) =
@@ -169,7 +170,7 @@ module _ (ms : List Member) (m : Member) (history : History) (c : ClosedParts)
       )
 
   stays_open : (e : Envelope) → IsAmong (SendOf e) before × ¬ HasRecv c.segment (envelope_message e)
-      → IsAmong (SendOf e) (open_challenges (own ms m.node ((events.Answer c, Accepted) ∷ history)))
+      → IsAmong (SendOf e) (open_challenges (own_of w ((events.Answer c, Accepted) ∷ history)))
   stays_open e h =
       subst (IsAmong (SendOf e)) (sym after_is)
       (is_left (λ x. not (is_answered c.segment x)) (SendOf e) before
@@ -177,5 +178,5 @@ module _ (ms : List Member) (m : Member) (history : History) (c : ClosedParts)
       (λ t. h.1 (found c.segment (envelope_message e) c.segment.entries t))) h.0)
 
   -- a segment that was accepted closes the audit, and the challenges whose RECV it has, and no others
-  pub closes : ClosesWhatItAnswers ms m history c
+  pub closes : ClosesWhatItAnswers w history c
   closes = record { audits = no_audit; sends = λ e. (still_open e, stays_open e) }

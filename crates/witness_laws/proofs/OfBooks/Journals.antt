@@ -10,6 +10,7 @@ use Rattle.witness_spec.specs.Refusals as refusals
 use Rattle.witness_spec.specs.Events.{Event, IsEvent}
 use Rattle.witness_spec.specs.Events as events
 use Rattle.witness_spec.specs.Replies.{Reply, refused, is_want, is_want_of_memory}
+use Rattle.witness_spec.specs.Watched.{watched}
 use Rattle.witness_spec.specs.Steps.{OwnStep}
 use Rattle.witness_spec.specs.Whose.{whose}
 use Rattle.witness_spec.specs.Histories.{History, own, OwesTo, IsOwed, IsWanting, IsHistory, BookParts}
@@ -57,7 +58,7 @@ module _ (ms : List Member) where
   owed_by history e r (Err refusal) w owed =
       ap is_want_of_memory owed ∙ (want_by e refusal ∙ early_want refusal (left_out ms e refusal w).few)
   owed_by history e r (Ok o) w owed =
-      good_want r (owed_good ms o.member (own ms o.member.node history) o.step r owed)
+      good_want r (owed_good (watched ms o.member) (own ms o.member.node history) o.step r owed)
 
   -- a reply that is owed doesn't say that memory ran out
   pub owed_no_want : (history : History) (e : Event) (r : Reply) → IsOwed ms history e r

@@ -1,14 +1,14 @@
 -- Steps in turn are a run.
 -- Serves: steps_keep_books, runs_are_histories.
 use Rattle.std.proofs.Common.{◌≡◌, ◌⊎◌, inl, inr, ◌+◌, false, List, [], ◌∷◌, ◌++◌, map, length}
-use Rattle.std.proofs.Common.{Some, refl, sym, ap, subst, ◌∙◌, arith}
+use Rattle.std.proofs.Common.{refl, sym, ap, subst, ◌∙◌, arith}
 use Rattle.std.proofs.lemmas.Bool.{true≢false}
 use Rattle.std.proofs.lemmas.List.{length-append}
-use Rattle.authenticator.specs.Roster.{member_of}
 use Rattle.authenticator.specs.declared.member.Member.{Member}
 use Rattle.witness_spec.specs.Events.{Event}
 use Rattle.witness_spec.specs.Replies.{Reply, is_want_of_memory}
-use Rattle.witness_spec.specs.Histories.{History, own, IsOwed, MayWant, IsWanting, IsHistory, BookParts}
+use Rattle.witness_spec.specs.Watched.{Watched, IsInRoster}
+use Rattle.witness_spec.specs.Histories.{History, IsOwed, MayWant, IsWanting, IsHistory, BookParts, own_of}
 use Rattle.witness_spec.specs.Histories.{Stands}
 use Rattle.witness_spec.specs.Laws.{SaysSame}
 use Rattle.witness_spec.specs.Contract.{opening_books, AreBooks, StepsTo, joined, RunsTo, StepsInTurn}
@@ -89,17 +89,18 @@ pub from_opening : (ms : List Member) (new : List BookParts) (es : List Event) (
 from_opening ms new es rs run = run.keeps [] tt (opening_stand ms)
 
 -- two runs with the same steps of a member say the same of it
-pub agree : (ms : List Member) (m : Member) (old first new last : List BookParts) (history earlier : History)
-    (es fs : List Event) (rs qs : List Reply) → member_of ms m.node ≡ Some m
-    → IsHistory ms history → Stands ms old history → IsHistory ms earlier → Stands ms first earlier
-    → RunsTo ms old es rs new → RunsTo ms first fs qs last
-    → map (λ p. p.0) (own ms m.node (joined es rs history))
-    ≡ map (λ p. p.0) (own ms m.node (joined fs qs earlier))
-    → SaysSame ms m (joined es rs history) (joined fs qs earlier)
-agree ms m old first new last history earlier es fs rs qs is g stand h stands run other same =
+pub agree : (w : Watched) (old first new last : List BookParts) (history earlier : History)
+    (es fs : List Event) (rs qs : List Reply) → IsInRoster w
+    → IsHistory w.roster history → Stands w.roster old history → IsHistory w.roster earlier
+    → Stands w.roster first earlier
+    → RunsTo w.roster old es rs new → RunsTo w.roster first fs qs last
+    → map (λ p. p.0) (own_of w (joined es rs history))
+    ≡ map (λ p. p.0) (own_of w (joined fs qs earlier))
+    → SaysSame w (joined es rs history) (joined fs qs earlier)
+agree w old first new last history earlier es fs rs qs is g stand h stands run other same =
     let one = joined es rs history in
     let two = joined fs qs earlier in
-    says_same ms m one two
-    (same_replies ms m (own ms m.node one) (own ms m.node two)
-    (own_owed ms m is one (run.keeps history g stand).0)
-    (own_owed ms m is two (other.keeps earlier h stands).0) same)
+    says_same w one two
+    (same_replies w (own_of w one) (own_of w two)
+    (own_owed w is one (run.keeps history g stand).0)
+    (own_owed w is two (other.keeps earlier h stands).0) same)

@@ -7,7 +7,6 @@ use Rattle.std.proofs.Common.{append_assoc, append-nil}
 use Rattle.std.specs.List.{AllByRecursion}
 use Rattle.std.proofs.lemmas.List.{length-map}
 use Rattle.xdr.specs.Item.{Fits}
-use Rattle.authenticator.specs.Roster.{member_of}
 use Rattle.authenticator.specs.declared.authenticator.Authenticator.{Authenticator}
 use Rattle.authenticator.specs.declared.member.Member.{Member}
 use Rattle.secure_log.specs.declared.log_entries.entry.Entry.{Entry}
@@ -27,6 +26,7 @@ use Rattle.witness_spec.proofs.evidence_spec.Chained.{zeros-length}
 use Rattle.witness_spec.proofs.evidence_spec.Places.{AreNumbered, entries_numbered, length-links}
 use Rattle.witness_spec.specs.Events.{JobParts}
 use Rattle.witness_spec.specs.Replies.{Reply}
+use Rattle.witness_spec.specs.Watched.{Watched, IsInRoster}
 use Rattle.witness_spec.specs.Steps.{Step, Past}
 use Rattle.witness_spec.specs.Pairs.{Pair}
 use Rattle.witness_spec.specs.Done.{noted, accepted, filed}
@@ -64,47 +64,47 @@ last_there before opening (l ∷ links) n are h =
 -- ---- what is audited
 
 -- all audited entries are an honest log up to the end, and its last pair was shown
-pub record IsAudited (ms : List Member) (m : Member) (past : Past) : Type 0 where
+pub record IsAudited (w : Watched) (past : Past) : Type 0 where
   -- as many entries were audited as the end says
-  pub count : length (audited ms m past) ≡ (end_of ms m past).number
+  pub count : length (audited w past) ≡ (end_of w past).number
   -- the pair after the last of them was shown
-  pub there : IsAmong ((end_of ms m past).number, last_hash zeros (links_from 1 (audited ms m past)))
-      (shown ms m past)
+  pub there : IsAmong ((end_of w past).number, last_hash zeros (links_from 1 (audited w past)))
+      (shown w past)
   -- each has a text
-  pub each : AllByRecursion (Fits entry_item) (map entry_value (audited ms m past))
+  pub each : AllByRecursion (Fits entry_item) (map entry_value (audited w past))
   -- the state after each entry
   pub states : List State
   -- the entries are honest from the state that the member begins with
-  pub honest : Honest ms (opening_of m) (placed 1 zeros (audited ms m past)) states
+  pub honest : Honest w.roster (opening_of w.member) (placed 1 zeros (audited w past)) states
   -- the last state is that of the end
-  pub last : last_state (opening_of m) states ≡ (end_of ms m past).state
+  pub last : last_state (opening_of w.member) states ≡ (end_of w past).state
 
 -- before any step nothing is audited, and the end is at 0, with the state that the node begins with
-pub none_audited : (ms : List Member) (m : Member) → IsAudited ms m []
-none_audited ms m =
-    record { count = refl; there = first_shown ms m []; each = tt; states = []; honest = tt; last = refl }
+pub none_audited : (w : Watched) → IsAudited w []
+none_audited w =
+    record { count = refl; there = first_shown w []; each = tt; states = []; honest = tt; last = refl }
 
 -- a segment after the audited entries, with them
-record IsJoined (ms : List Member) (m : Member) (past : Past) (s : SegmentParts) : Type 0 where
-  count : length (audited ms m past ++ s.entries) ≡ s.closing.number
-  hash : last_hash zeros (links_from 1 (audited ms m past ++ s.entries)) ≡ s.closing.hash
-  each : EachFits (audited ms m past ++ s.entries)
-  places : placed 1 zeros (audited ms m past ++ s.entries) ≡ placed 1 zeros (audited ms m past) ++ placed_in s
+record IsJoined (w : Watched) (past : Past) (s : SegmentParts) : Type 0 where
+  count : length (audited w past ++ s.entries) ≡ s.closing.number
+  hash : last_hash zeros (links_from 1 (audited w past ++ s.entries)) ≡ s.closing.hash
+  each : EachFits (audited w past ++ s.entries)
+  places : placed 1 zeros (audited w past ++ s.entries) ≡ placed 1 zeros (audited w past) ++ placed_in s
 
-is_joined : (ms : List Member) (m : Member) (past : Past) (c : ClosedParts) → is_exposed ms m past ≡ false
-    → IsAudited ms m past → IsNext ms m past c → IsGoodSegment ms m c.segment → IsJoined ms m past c.segment
-is_joined ms m past c e a next good =
+is_joined : (w : Watched) (past : Past) (c : ClosedParts) → is_exposed w past ≡ false
+    → IsAudited w past → IsNext w past c → IsGoodSegment w c.segment → IsJoined w past c.segment
+is_joined w past c e a next good =
     let s = c.segment in
-    let some = first_some ms m s good in
-    let front = audited ms m past in
-    let end = (end_of ms m past).number in
+    let some = first_some w s good in
+    let front = audited w past in
+    let end = (end_of w past).number in
     let before : s.first - 1 ≡ end = omega (arith, next.first, some) in
-    let opened : IsAmong (end, s.opening) (shown ms m past) =
-    subst (λ k. IsAmong (k, s.opening) (shown ms m past)) before
-    (accepted_shown ms m past s (s.first - 1, s.opening) next.among
+    let opened : IsAmong (end, s.opening) (shown w past) =
+    subst (λ k. IsAmong (k, s.opening) (shown w past)) before
+    (accepted_shown w past s (s.first - 1, s.opening) next.among
     (opening_there (s.first - 1) s.opening (links_from s.first s.entries))) in
     let opening : last_hash zeros (links_from 1 front) ≡ s.opening =
-    one_shown ms m past e end (last_hash zeros (links_from 1 front)) s.opening a.there opened in
+    one_shown w past e end (last_hash zeros (links_from 1 front)) s.opening a.there opened in
     let place : s.first ≡ 1 + length front = omega (arith, next.first, a.count) in
     record {
       count = omega (arith, length-append front s.entries, next.first, a.count, good.closed.ends.number);
@@ -118,41 +118,41 @@ is_joined ms m past c e a next good =
     }
 
 -- its last pair was shown
-last_shown : (ms : List Member) (m : Member) (past : Past) (c : ClosedParts) → IsNext ms m past c
-    → IsGoodSegment ms m c.segment
-    → IsAmong (c.segment.closing.number, c.segment.closing.hash) (shown ms m past)
-last_shown ms m past c next good =
+last_shown : (w : Watched) (past : Past) (c : ClosedParts) → IsNext w past c
+    → IsGoodSegment w c.segment
+    → IsAmong (c.segment.closing.number, c.segment.closing.hash) (shown w past)
+last_shown w past c next good =
     let s = c.segment in
-    let some = first_some ms m s good in
+    let some = first_some w s good in
     let back : s.first ≡ s.first - 1 + 1 = omega (arith, some) in
     let links = links_from s.first s.entries in
-    accepted_shown ms m past s (s.closing.number, s.closing.hash) next.among
+    accepted_shown w past s (s.closing.number, s.closing.hash) next.among
     (subst (λ h. IsAmong (s.closing.number, h) (segment_pairs s)) (sym good.closed.ends.hash)
     (last_there (s.first - 1) s.opening links s.closing.number
     (subst (λ k. AreNumbered k links) back (entries_numbered s.first s.entries))
     (omega (arith, good.closed.ends.number, some, length-links s.first s.entries))))
 
-module _ (ms : List Member) (m : Member) (past : Past) (p : Step × Reply) where
-  shown_stays : (q : Pair) → IsAmong q (shown ms m past) → IsAmong q (shown ms m (p ∷ past))
+module _ (w : Watched) (past : Past) (p : Step × Reply) where
+  shown_stays : (q : Pair) → IsAmong q (shown w past) → IsAmong q (shown w (p ∷ past))
   shown_stays q i =
-      on_right q (pairs_noted (is_exposed ms m past) (noted p.0 p.1))
-      (pairs_accepted (accepted p.0 p.1) ++ shown ms m past)
-      (on_right q (pairs_accepted (accepted p.0 p.1)) (shown ms m past) i)
+      on_right q (pairs_noted (is_exposed w past) (noted p.0 p.1))
+      (pairs_accepted (accepted p.0 p.1) ++ shown w past)
+      (on_right q (pairs_accepted (accepted p.0 p.1)) (shown w past) i)
 
   -- the invariant in words that a step changes
   record Are (number : ℕ) (state : State) (es : List Entry) : Type 0 where
     count : length es ≡ number
-    there : IsAmong (number, last_hash zeros (links_from 1 es)) (shown ms m (p ∷ past))
+    there : IsAmong (number, last_hash zeros (links_from 1 es)) (shown w (p ∷ past))
     each : EachFits es
     states : List State
-    honest : Honest ms (opening_of m) (placed 1 zeros es) states
-    last : last_state (opening_of m) states ≡ state
+    honest : Honest w.roster (opening_of w.member) (placed 1 zeros es) states
+    last : last_state (opening_of w.member) states ≡ state
 
-  from_are : (end : End) (es : List Entry) → end_of ms m (p ∷ past) ≡ end → audited ms m (p ∷ past) ≡ es
-      → Are end.number end.state es → IsAudited ms m (p ∷ past)
+  from_are : (end : End) (es : List Entry) → end_of w (p ∷ past) ≡ end → audited w (p ∷ past) ≡ es
+      → Are end.number end.state es → IsAudited w (p ∷ past)
   from_are end es is_end is_es a =
-      let b : Are (end_of ms m (p ∷ past)).number (end_of ms m (p ∷ past)).state (audited ms m (p ∷ past)) =
-      subst (λ (x : End). Are x.number x.state (audited ms m (p ∷ past))) (sym is_end)
+      let b : Are (end_of w (p ∷ past)).number (end_of w (p ∷ past)).state (audited w (p ∷ past)) =
+      subst (λ (x : End). Are x.number x.state (audited w (p ∷ past))) (sym is_end)
       (subst (Are end.number end.state) (sym is_es) a) in
       record {
         count = b.count;
@@ -164,16 +164,16 @@ module _ (ms : List Member) (m : Member) (past : Past) (p : Step × Reply) where
       }
 
   -- nothing new is audited
-  pub audited_stays : entries_filed ms (end_of ms m past).state (filed p.0 p.1) ≡ []
-      → end_of ms m (p ∷ past) ≡ end_of ms m past → IsAudited ms m past → IsAudited ms m (p ∷ past)
+  pub audited_stays : entries_filed w.roster (end_of w past).state (filed p.0 p.1) ≡ []
+      → end_of w (p ∷ past) ≡ end_of w past → IsAudited w past → IsAudited w (p ∷ past)
   audited_stays none is_end a =
-      from_are (end_of ms m past) (audited ms m past) is_end
-      (ap (λ x. audited ms m past ++ x) none ∙ append-nil (audited ms m past))
+      from_are (end_of w past) (audited w past) is_end
+      (ap (λ x. audited w past ++ x) none ∙ append-nil (audited w past))
       (record {
         count = a.count;
         there = shown_stays (
-          (end_of ms m past).number,
-          last_hash zeros (links_from 1 (audited ms m past)),
+          (end_of w past).number,
+          last_hash zeros (links_from 1 (audited w past)),
         ) a.there;
         each = a.each;
         states = a.states;
@@ -182,35 +182,36 @@ module _ (ms : List Member) (m : Member) (past : Past) (p : Step × Reply) where
       })
 
   -- a segment that was found sound is audited
-  pub audited_on : (j : JobParts) (t : State) (found : List Authenticator) → is_exposed ms m past ≡ false
-      → filed p.0 p.1 ≡ Some j → verdict_on ms (end_of ms m past).state j ≡ Sound t found
-      → IsNext ms m past j.segment → IsGoodSegment ms m j.segment.segment → IsAudited ms m past
-      → IsAudited ms m (p ∷ past)
+  pub audited_on : (j : JobParts) (t : State) (found : List Authenticator) → is_exposed w past ≡ false
+      → filed p.0 p.1 ≡ Some j → verdict_on w.roster (end_of w past).state j ≡ Sound t found
+      → IsNext w past j.segment → IsGoodSegment w j.segment.segment → IsAudited w past
+      → IsAudited w (p ∷ past)
   audited_on j t found e is v next good a =
       let s = j.segment.segment in
-      let state = (end_of ms m past).state in
-      let k = is_joined ms m past j.segment e a next good in
-      let run = is_sound ms state (placed_in s) t found v in
-      from_are (record { number = s.closing.number; state = t }) (audited ms m past ++ s.entries)
-      (ap (end_after ms (end_of ms m past)) is ∙ ap (moved_by (end_of ms m past) s.closing.number) v)
-      (ap (λ x. audited ms m past ++ entries_filed ms state x) is
-      ∙ ap (λ x. audited ms m past ++ sound_entries s.entries x) v)
+      let state = (end_of w past).state in
+      let k = is_joined w past j.segment e a next good in
+      let run = is_sound w.roster state (placed_in s) t found v in
+      from_are (record { number = s.closing.number; state = t }) (audited w past ++ s.entries)
+      (ap (end_after w.roster (end_of w past)) is ∙ ap (moved_by (end_of w past) s.closing.number) v)
+      (ap (λ x. audited w past ++ entries_filed w.roster state x) is
+      ∙ ap (λ x. audited w past ++ sound_entries s.entries x) v)
       (record {
         count = k.count;
         there = shown_stays (
           s.closing.number,
           last_hash zeros
-              (links_from 1 (audited ms m past ++ s.entries)),
+              (links_from 1 (audited w past ++ s.entries)),
         )
-            (subst (λ h. IsAmong (s.closing.number, h) (shown ms m past)) (sym k.hash)
-            (last_shown ms m past j.segment next good));
+            (subst (λ h. IsAmong (s.closing.number, h) (shown w past)) (sym k.hash)
+            (last_shown w past j.segment next good));
         each = k.each;
         states = a.states ++ run.states;
-        honest = subst (λ ps. Honest ms (opening_of m) ps (a.states ++ run.states)) (sym k.places)
-            (joined ms (opening_of m) (placed 1 zeros (audited ms m past))
+        honest =
+            subst (λ ps. Honest w.roster (opening_of w.member) ps (a.states ++ run.states)) (sym k.places)
+            (joined w.roster (opening_of w.member) (placed 1 zeros (audited w past))
             (placed_in s) a.states run.states a.honest
-            (subst (λ x. Honest ms x (placed_in s) run.states) (sym a.last) run.honest));
-        last = last_joined (opening_of m) a.states run.states
+            (subst (λ x. Honest w.roster x (placed_in s) run.states) (sym a.last) run.honest));
+        last = last_joined (opening_of w.member) a.states run.states
             ∙ (ap (λ x. last_state x run.states) a.last ∙ run.last);
       })
 
@@ -236,17 +237,17 @@ fault_behind ms o s ps qs ts fault number honest last v =
     })
 
 -- A segment in which a replay finds a fault after the end, with all that was audited, is a charge.
-pub replay_charge : (ms : List Member) (m : Member) (past : Past) (j : JobParts) (fault : ReplayFault)
+pub replay_charge : (w : Watched) (past : Past) (j : JobParts) (fault : ReplayFault)
     (number : ℕ)
-    → member_of ms m.node ≡ Some m → is_exposed ms m past ≡ false → IsAudited ms m past
-    → IsNext ms m past j.segment → IsGoodSegment ms m j.segment.segment
-    → verdict_on ms (end_of ms m past).state j ≡ Fault fault number
-    → IsGoodCharge ms m (Replay (audited_with ms m past j.segment.segment))
-replay_charge ms m past j fault number is e a next good v =
+    → IsInRoster w → is_exposed w past ≡ false → IsAudited w past
+    → IsNext w past j.segment → IsGoodSegment w j.segment.segment
+    → verdict_on w.roster (end_of w past).state j ≡ Fault fault number
+    → IsGoodCharge w (Replay (audited_with w past j.segment.segment))
+replay_charge w past j fault number is e a next good v =
     let s = j.segment.segment in
-    let k = is_joined ms m past j.segment e a next good in
-    let values = length-map (audited ms m past ++ s.entries) entry_value in
-    let node : m.node < 2 ^ 32 = omega (arith, good.text.0.0, good.closed.ends.node, good.node) in
+    let k = is_joined w past j.segment e a next good in
+    let values = length-map (audited w past ++ s.entries) entry_value in
+    let node : w.member.node < 2 ^ 32 = omega (arith, good.text.0.0, good.closed.ends.node, good.node) in
     record {
       small = node;
       accepted = record {
@@ -257,12 +258,13 @@ replay_charge ms m past j fault number is e a next good v =
           ends = record { node = good.node; number = omega (arith, k.count); hash = sym k.hash };
           signed = good.closed.signed;
         };
-        member = m;
+        member = w.member;
         is_member = is;
         fault = fault;
         number = number;
-        found = ap (verdict_of ms (opening_of m)) k.places
-            ∙ fault_behind ms (opening_of m) (end_of ms m past).state (placed 1 zeros (audited ms m past))
+        found = ap (verdict_of w.roster (opening_of w.member)) k.places
+            ∙ fault_behind w.roster (opening_of w.member) (end_of w past).state
+            (placed 1 zeros (audited w past))
             (placed_in s)
             a.states fault number a.honest a.last v;
       };

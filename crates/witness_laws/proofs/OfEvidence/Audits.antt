@@ -1,15 +1,15 @@
 -- What stands after own steps that were checked and owed: where the audit is, and that the accepted segments
 -- hold all numbers up to the end.
 -- Serves: evidence_where_exposed, evidence_proves.
-use Rattle.std.proofs.Common.{◌≡◌, ◌⊎◌, inl, inr, ℕ, ◌+◌, ◌≤◌, Bool, true, false, nat_lt, List, [], ◌∷◌, ◌++◌}
+use Rattle.std.proofs.Common.{◌≡◌, ◌⊎◌, inl, inr, ℕ, ◌+◌, ◌≤◌, Bool, true, false, nat_lt, [], ◌∷◌, ◌++◌}
 use Rattle.std.proofs.Common.{Option, Some, None, refl, sym, ap, subst, ◌∙◌, arith}
 use Rattle.std.proofs.lemmas.Bool.{ltb-true, ltb-false}
-use Rattle.authenticator.specs.declared.member.Member.{Member}
 use Rattle.secure_log.specs.LogEntries.Chain.{IsAmong}
 use Rattle.secure_log.specs.Segment.{SegmentParts, ClosedParts, HasText, IsClosed}
 use Rattle.witness_spec.specs.replay_spec.Replay.{Verdict, Sound, Fault}
 use Rattle.witness_spec.specs.Events.{JobParts}
 use Rattle.witness_spec.specs.Replies.{Reply}
+use Rattle.witness_spec.specs.Watched.{Watched}
 use Rattle.witness_spec.specs.Steps.{Step, Past}
 use Rattle.witness_spec.specs.evidence_spec.Evidence.{MAX_AUDITED}
 use Rattle.witness_spec.specs.Done.{accepted, filed}
@@ -24,18 +24,18 @@ use Rattle.witness_laws.proofs.Doing.{doing}
 -- ---- what holds
 
 -- a segment of the node's log, with a text, closed by it
-pub record IsGoodSegment (ms : List Member) (m : Member) (s : SegmentParts) : Type 0 where
+pub record IsGoodSegment (w : Watched) (s : SegmentParts) : Type 0 where
   -- it has a text
   pub text : HasText s
   -- it is closed
-  pub closed : IsClosed ms s
+  pub closed : IsClosed w.roster s
   -- its closing authenticator is of the node
-  pub node : s.closing.node ≡ m.node
+  pub node : s.closing.node ≡ w.member.node
 
 -- a segment that a checked answer gives is one of the node's, closed, with a text
-pub good_given : (ms : List Member) (m : Member) (c : ClosedParts) → IsGiven ms m c
-    → IsGoodSegment ms m c.segment
-good_given ms m c given = record { text = given.text; closed = given.closed; node = given.node }
+pub good_given : (w : Watched) (c : ClosedParts) → IsGiven w c
+    → IsGoodSegment w c.segment
+good_given w c given = record { text = given.text; closed = given.closed; node = given.node }
 
 -- a number lies in an accepted segment
 pub record IsHeld (past : Past) (number : ℕ) : Type 0 where
@@ -49,43 +49,43 @@ pub record IsHeld (past : Past) (number : ℕ) : Type 0 where
   pub to : number ≤ segment.closing.number
 
 -- a segment that was accepted lies after the end
-pub record IsNext (ms : List Member) (m : Member) (past : Past) (c : ClosedParts) : Type 0 where
+pub record IsNext (w : Watched) (past : Past) (c : ClosedParts) : Type 0 where
   -- it was accepted
   pub among : IsAmong c.segment (all_accepted past)
   -- its first number is the one after the end
-  pub first : c.segment.first ≡ (end_of ms m past).number + 1
+  pub first : c.segment.first ≡ (end_of w past).number + 1
   -- its last number is one that may be audited
   pub last : c.segment.closing.number ≤ MAX_AUDITED
 
 -- an audit is of the part that follows the end
-abbrev pub IsAt : List Member → Member → Past → Stage → Type 0
-IsAt ms m past NoAudit = Unit {0}
-IsAt ms m past (Wanted first last) = (first ≡ (end_of ms m past).number + 1) × (last ≤ MAX_AUDITED)
-IsAt ms m past (Given c) = IsNext ms m past c
-IsAt ms m past (Out c) = IsNext ms m past c
+abbrev pub IsAt : Watched → Past → Stage → Type 0
+IsAt w past NoAudit = Unit {0}
+IsAt w past (Wanted first last) = (first ≡ (end_of w past).number + 1) × (last ≤ MAX_AUDITED)
+IsAt w past (Given c) = IsNext w past c
+IsAt w past (Out c) = IsNext w past c
 
 -- an accepted segment is good, and begins at the place after the end at most
-pub record IsAfter (ms : List Member) (m : Member) (past : Past) (s : SegmentParts) : Type 0 where
+pub record IsAfter (w : Watched) (past : Past) (s : SegmentParts) : Type 0 where
   -- it is good
-  pub good : IsGoodSegment ms m s
+  pub good : IsGoodSegment w s
   -- it begins at the place after the end at most
-  pub first : s.first ≤ (end_of ms m past).number + 1
+  pub first : s.first ≤ (end_of w past).number + 1
 
 -- What stands after own steps: where the audit is, and that the accepted segments hold all up to the end.
-pub record Stand (ms : List Member) (m : Member) (past : Past) : Type 0 where
+pub record Stand (w : Watched) (past : Past) : Type 0 where
   -- the audit is where its stage says
-  pub stage : IsAt ms m past (stage_of past)
+  pub stage : IsAt w past (stage_of past)
   -- each accepted segment is good, and leaves no gap
-  pub segments : (s : SegmentParts) → IsAmong s (all_accepted past) → IsAfter ms m past s
+  pub segments : (s : SegmentParts) → IsAmong s (all_accepted past) → IsAfter w past s
   -- each number up to the end lies in one
-  pub held : (n : ℕ) → 1 ≤ n → n ≤ (end_of ms m past).number → IsHeld past n
+  pub held : (n : ℕ) → 1 ≤ n → n ≤ (end_of w past).number → IsHeld past n
 
 -- ---- a step that files nothing
 
-module _ (ms : List Member) (m : Member) (past : Past) (p : Step × Reply) where
+module _ (w : Watched) (past : Past) (p : Step × Reply) where
   -- it leaves the end
-  pub end_stays : filed p.0 p.1 ≡ None → end_of ms m (p ∷ past) ≡ end_of ms m past
-  end_stays h = ap (end_after ms (end_of ms m past)) h
+  pub end_stays : filed p.0 p.1 ≡ None → end_of w (p ∷ past) ≡ end_of w past
+  end_stays h = ap (end_after w.roster (end_of w past)) h
 
   -- what was accepted stays so
   pub accepted_stays : (s : SegmentParts) → IsAmong s (all_accepted past)
@@ -100,20 +100,20 @@ module _ (ms : List Member) (m : Member) (past : Past) (p : Step × Reply) where
   held_stays n h =
       record { segment = h.segment; among = accepted_stays h.segment h.among; from = h.from; to = h.to }
 
-  next_stays : (c : ClosedParts) → filed p.0 p.1 ≡ None → IsNext ms m past c → IsNext ms m (p ∷ past) c
+  next_stays : (c : ClosedParts) → filed p.0 p.1 ≡ None → IsNext w past c → IsNext w (p ∷ past) c
   next_stays c h k = record {
     among = accepted_stays c.segment k.among;
     first = k.first ∙ ap (λ (e : End). e.number + 1) (sym (end_stays h));
     last = k.last;
   }
 
-  at_stays : (s : Stage) → filed p.0 p.1 ≡ None → IsAt ms m past s → IsAt ms m (p ∷ past) s
+  at_stays : (s : Stage) → filed p.0 p.1 ≡ None → IsAt w past s → IsAt w (p ∷ past) s
   at_stays NoAudit h k = tt
   at_stays (Wanted first last) h k = (k.0 ∙ ap (λ (e : End). e.number + 1) (sym (end_stays h)), k.1)
   at_stays (Given c) h k = next_stays c h k
   at_stays (Out c) h k = next_stays c h k
 
-  after_stays : (s : SegmentParts) → filed p.0 p.1 ≡ None → IsAfter ms m past s → IsAfter ms m (p ∷ past) s
+  after_stays : (s : SegmentParts) → filed p.0 p.1 ≡ None → IsAfter w past s → IsAfter w (p ∷ past) s
   after_stays s h k = record {
     good = k.good;
     first = subst (λ (e : End). s.first ≤ e.number + 1) (sym (end_stays h)) k.first;
@@ -124,35 +124,35 @@ module _ (ms : List Member) (m : Member) (past : Past) (p : Step × Reply) where
       → IsAmong s (all_accepted past)
   same_accepted s h i = subst (λ o. IsAmong s (segment_of o ++ all_accepted past)) h i
 
-  numbers_stay : filed p.0 p.1 ≡ None → ((n : ℕ) → 1 ≤ n → n ≤ (end_of ms m past).number → IsHeld past n)
-      → (n : ℕ) → 1 ≤ n → n ≤ (end_of ms m (p ∷ past)).number → IsHeld (p ∷ past) n
+  numbers_stay : filed p.0 p.1 ≡ None → ((n : ℕ) → 1 ≤ n → n ≤ (end_of w past).number → IsHeld past n)
+      → (n : ℕ) → 1 ≤ n → n ≤ (end_of w (p ∷ past)).number → IsHeld (p ∷ past) n
   numbers_stay h k n low high =
       held_stays n (k n low (subst (λ (e : End). n ≤ e.number) (end_stays h) high))
 
   -- the audit goes on, and nothing is accepted
   quiet : (to : Stage) → stage_after (stage_of past) p.0 p.1 ≡ to → accepted p.0 p.1 ≡ None
-      → filed p.0 p.1 ≡ None → IsAt ms m past to → Stand ms m past → Stand ms m (p ∷ past)
+      → filed p.0 p.1 ≡ None → IsAt w past to → Stand w past → Stand w (p ∷ past)
   quiet to stage none unfiled at k = record {
-    stage = subst (IsAt ms m (p ∷ past)) (sym stage) (at_stays to unfiled at);
+    stage = subst (IsAt w (p ∷ past)) (sym stage) (at_stays to unfiled at);
     segments = λ s i. after_stays s unfiled (k.segments s (same_accepted s none i));
     held = numbers_stay unfiled k.held;
   }
 
   -- a segment is accepted
-  gives : (c : ClosedParts) → IsGoodSegment ms m c.segment
+  gives : (c : ClosedParts) → IsGoodSegment w c.segment
       → stage_of past ≡ Wanted c.segment.first c.segment.closing.number
-      → Did past p None (Some c) None (Given c) → Stand ms m past → Stand ms m (p ∷ past)
+      → Did past p None (Some c) None (Given c) → Stand w past → Stand w (p ∷ past)
   gives c good wanted did k =
-      let at : IsAt ms m past (Wanted c.segment.first c.segment.closing.number) =
-      subst (IsAt ms m past) wanted k.stage in
+      let at : IsAt w past (Wanted c.segment.first c.segment.closing.number) =
+      subst (IsAt w past) wanted k.stage in
       let there : IsAmong c.segment (all_accepted (p ∷ past)) =
       subst (λ o. IsAmong c.segment (segment_of o ++ all_accepted past)) (sym did.accepts) (inl refl) in
-      let same : (end_of ms m past).number ≡ (end_of ms m (p ∷ past)).number =
+      let same : (end_of w past).number ≡ (end_of w (p ∷ past)).number =
       ap (λ (e : End). e.number) (sym (end_stays did.files)) in
-      let next : IsNext ms m (p ∷ past) c =
+      let next : IsNext w (p ∷ past) c =
       record { among = there; first = at.0 ∙ ap (λ n. n + 1) same; last = at.1 } in
       record {
-        stage = subst (IsAt ms m (p ∷ past)) (sym did.stage) next;
+        stage = subst (IsAt w (p ∷ past)) (sym did.stage) next;
         segments = λ s i.
             by s (subst (λ o. IsAmong s (segment_of o ++ all_accepted past)) did.accepts i)
             (omega (arith, next.first));
@@ -160,26 +160,26 @@ module _ (ms : List Member) (m : Member) (past : Past) (p : Step × Reply) where
       }
     where
       by : (s : SegmentParts) → (s ≡ c.segment) ⊎ IsAmong s (all_accepted past)
-          → c.segment.first ≤ (end_of ms m (p ∷ past)).number + 1 → IsAfter ms m (p ∷ past) s
+          → c.segment.first ≤ (end_of w (p ∷ past)).number + 1 → IsAfter w (p ∷ past) s
       by s (inl is) low =
-          subst (IsAfter ms m (p ∷ past)) (sym is) (record { good = good; first = low })
+          subst (IsAfter w (p ∷ past)) (sym is) (record { good = good; first = low })
       by s (inr i) low = after_stays s did.files (k.segments s i)
 
   -- ---- a segment is filed
 
-  moved_to : (j : JobParts) (v : Verdict) → verdict_on ms (end_of ms m past).state j ≡ v
+  moved_to : (j : JobParts) (v : Verdict) → verdict_on w.roster (end_of w past).state j ≡ v
       → filed p.0 p.1 ≡ Some j
-      → end_of ms m (p ∷ past) ≡ moved_by (end_of ms m past) j.segment.segment.closing.number v
+      → end_of w (p ∷ past) ≡ moved_by (end_of w past) j.segment.segment.closing.number v
   moved_to j v is h =
-      ap (end_after ms (end_of ms m past)) h
-      ∙ ap (moved_by (end_of ms m past) j.segment.segment.closing.number) is
+      ap (end_after w.roster (end_of w past)) h
+      ∙ ap (moved_by (end_of w past) j.segment.segment.closing.number) is
 
-  moves : (j : JobParts) → IsNext ms m past j.segment → Did past p None None (Some j) NoAudit
-      → Stand ms m past → (v : Verdict) → verdict_on ms (end_of ms m past).state j ≡ v → Stand ms m (p ∷ past)
+  moves : (j : JobParts) → IsNext w past j.segment → Did past p None None (Some j) NoAudit
+      → Stand w past → (v : Verdict) → verdict_on w.roster (end_of w past).state j ≡ v → Stand w (p ∷ past)
   moves j next did k (Fault fault number) is =
-      let same : end_of ms m (p ∷ past) ≡ end_of ms m past = moved_to j (Fault fault number) is did.files in
+      let same : end_of w (p ∷ past) ≡ end_of w past = moved_to j (Fault fault number) is did.files in
       record {
-        stage = subst (IsAt ms m (p ∷ past)) (sym did.stage) tt;
+        stage = subst (IsAt w (p ∷ past)) (sym did.stage) tt;
         segments = λ s i.
             let b = k.segments s (same_accepted s did.accepts i) in
             record { good = b.good; first = subst (λ (e : End). s.first ≤ e.number + 1) (sym same) b.first };
@@ -187,59 +187,59 @@ module _ (ms : List Member) (m : Member) (past : Past) (p : Step × Reply) where
       }
   moves j next did k (Sound t found) is =
       let c = j.segment.segment in
-      let good : IsGoodSegment ms m c = (k.segments c next.among).good in
-      let same : (end_of ms m (p ∷ past)).number ≡ c.closing.number =
+      let good : IsGoodSegment w c = (k.segments c next.among).good in
+      let same : (end_of w (p ∷ past)).number ≡ c.closing.number =
       ap (λ (e : End). e.number) (moved_to j (Sound t found) is did.files) in
-      let more : (end_of ms m past).number ≤ c.closing.number =
+      let more : (end_of w past).number ≤ c.closing.number =
       omega (arith, next.first, good.closed.ends.number) in
       record {
-        stage = subst (IsAt ms m (p ∷ past)) (sym did.stage) tt;
+        stage = subst (IsAt w (p ∷ past)) (sym did.stage) tt;
         segments = λ s i.
             let b = k.segments s (same_accepted s did.accepts i) in
             record { good = b.good; first = omega (arith, b.first, more, same) };
         held = λ n low high.
-            by n (nat_lt (end_of ms m past).number n) refl low (omega (arith, high, same))
+            by n (nat_lt (end_of w past).number n) refl low (omega (arith, high, same))
             (omega (arith, next.first));
       }
     where
-      by : (n : ℕ) (b : Bool) → nat_lt (end_of ms m past).number n ≡ b → 1 ≤ n
+      by : (n : ℕ) (b : Bool) → nat_lt (end_of w past).number n ≡ b → 1 ≤ n
           → n ≤ j.segment.segment.closing.number
-          → j.segment.segment.first ≡ (end_of ms m past).number + 1 → IsHeld (p ∷ past) n
+          → j.segment.segment.first ≡ (end_of w past).number + 1 → IsHeld (p ∷ past) n
       by n true e low high first = record {
         segment = j.segment.segment;
         among = accepted_stays j.segment.segment next.among;
-        from = omega (arith, first, ltb-true (end_of ms m past).number n e);
+        from = omega (arith, first, ltb-true (end_of w past).number n e);
         to = high;
       }
       by n false e low high first =
-          held_stays n (k.held n low (omega (arith, ltb-false (end_of ms m past).number n e)))
+          held_stays n (k.held n low (omega (arith, ltb-false (end_of w past).number n e)))
 
   -- ---- all steps
 
-  stands_on : Doing ms m past p → IsCheckedStep ms m p.0 → Stand ms m past → Stand ms m (p ∷ past)
+  stands_on : Doing w past p → IsCheckedStep w p.0 → Stand w past → Stand w (p ∷ past)
   stands_on (Nothing did) checked k = quiet (stage_of past) did.stage did.accepts did.files k.stage k
   stands_on (Notes a is did) checked k = quiet (stage_of past) did.stage did.accepts did.files k.stage k
   stands_on (Accepts c is wanted did) checked k =
-      gives c (good_given ms m c (subst (IsCheckedStep ms m) is checked)) wanted did k
+      gives c (good_given w c (subst (IsCheckedStep w) is checked)) wanted did k
   stands_on (Asks first last is few did) checked k =
       quiet (Wanted first last) did.stage did.accepts did.files (is, few.0) k
   stands_on (Begins c is did) checked k =
-      quiet (Out c) did.stage did.accepts did.files (subst (IsAt ms m past) is k.stage) k
+      quiet (Out c) did.stage did.accepts did.files (subst (IsAt w past) is k.stage) k
   stands_on (PutsBack c is did) checked k =
-      quiet (Given c) did.stage did.accepts did.files (subst (IsAt ms m past) is k.stage) k
+      quiet (Given c) did.stage did.accepts did.files (subst (IsAt w past) is k.stage) k
   stands_on (Files j is did) checked k =
-      moves j (subst (IsAt ms m past) is k.stage) did k (verdict_on ms (end_of ms m past).state j) refl
+      moves j (subst (IsAt w past) is k.stage) did k (verdict_on w.roster (end_of w past).state j) refl
 
-at_first : (ms : List Member) (m : Member) → Stand ms m []
-at_first ms m = record {
+at_first : (w : Watched) → Stand w []
+at_first w = record {
   stage = tt;
   segments = λ s i. absurd i;
   held = λ n low high. absurd (omega (arith, low, high));
 }
 
 -- so it stands after all own steps that were checked and have the replies that are owed
-pub stands : (ms : List Member) (m : Member) (past : Past) → AreOwed ms m past → AreChecked ms m past
-    → Stand ms m past
-stands ms m [] owed checked = at_first ms m
-stands ms m (p ∷ past) owed checked =
-    stands_on ms m past p (doing ms m past p.0 p.1 owed.0) checked.0 (stands ms m past owed.1 checked.1)
+pub stands : (w : Watched) (past : Past) → AreOwed w past → AreChecked w past
+    → Stand w past
+stands w [] owed checked = at_first w
+stands w (p ∷ past) owed checked =
+    stands_on w past p (doing w past p.0 p.1 owed.0) checked.0 (stands w past owed.1 checked.1)

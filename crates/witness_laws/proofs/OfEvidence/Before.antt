@@ -8,7 +8,6 @@ use Rattle.std.proofs.Common.{subst, ◌∙◌, arith, eqb-true, eq-eqb, length-
 use Rattle.std.specs.Prelude.{find, ◌&&◌}
 use Rattle.std.proofs.lemmas.Bool.{and_parts, and_from, true≢false, ltb-true, ltb-false, leb-true, le-leb}
 use Rattle.authenticator.specs.declared.authenticator.Authenticator.{Authenticator}
-use Rattle.authenticator.specs.declared.member.Member.{Member}
 use Rattle.secure_log.specs.LogEntries.Entry.{entry_value}
 use Rattle.secure_log.specs.LogEntries.Chain.{Link, pairs, hash_after, links_from, IsAmong}
 use Rattle.secure_log.specs.Segment.{SegmentParts, ClosedParts, segment_pairs}
@@ -20,6 +19,7 @@ use Rattle.witness_spec.specs.evidence_spec.Laws.{ShowsPairs}
 use Rattle.witness_spec.proofs.evidence_spec.Closed.{one_pair, own_pairs}
 use Rattle.witness_spec.proofs.evidence_spec.Places.{AreNumbered, entries_numbered, length-links, behind}
 use Rattle.witness_spec.specs.Replies.{Reply}
+use Rattle.witness_spec.specs.Watched.{Watched}
 use Rattle.witness_spec.specs.Steps.{Step, Learn, Past}
 use Rattle.witness_spec.specs.Pairs.{Pair, pair_of, first_pair}
 use Rattle.witness_spec.specs.Done.{noted, accepted}
@@ -127,51 +127,51 @@ has_hash before opening (l ∷ links) n are low high =
         let rest = next (omega (arith, are.0, ltb-true before n e)) (omega (arith, are.0, high)) in
         record { hash = rest.hash; there = inr rest.there }
 
-module _ (ms : List Member) (m : Member) where
+module _ (w : Watched) where
   -- ---- what is shown
 
   -- one hash is shown at each number
-  pub one_shown : (past : Past) → is_exposed ms m past ≡ false → (n : ℕ) (x y : List ℕ)
-      → IsAmong (n, x) (shown ms m past) → IsAmong (n, y) (shown ms m past) → x ≡ y
+  pub one_shown : (past : Past) → is_exposed w past ≡ false → (n : ℕ) (x y : List ℕ)
+      → IsAmong (n, x) (shown w past) → IsAmong (n, y) (shown w past) → x ≡ y
   one_shown past e n x y i j = by (is_same x y) refl
     where
       by : (b : Bool) → is_same x y ≡ b → x ≡ y
       by true s = same_list x y s
       by false s =
-          let two : HasTwoHashes (shown ms m past) = record {
+          let two : HasTwoHashes (shown w past) = record {
             number = n;
             one = x;
             other = y;
             one_shown = i;
             other_shown = j;
             differ = λ h. true≢false (sym (list_same x y h) ∙ s);
-          } in absurd (true≢false (sym (exposed_is ms m past (why_exposed ms m past (inl two))) ∙ e))
+          } in absurd (true≢false (sym (exposed_is w past (why_exposed w past (inl two))) ∙ e))
 
   -- a node that isn't exposed after a step wasn't exposed before it
-  pub was_not : (p : Step × Reply) (past : Past) → is_exposed ms m (p ∷ past) ≡ false
-      → is_exposed ms m past ≡ false
+  pub was_not : (p : Step × Reply) (past : Past) → is_exposed w (p ∷ past) ≡ false
+      → is_exposed w past ≡ false
   was_not p past e =
-      is_false (is_exposed ms m past) (λ h. true≢false (sym (exposed_further ms m (p ∷ []) past h) ∙ e))
+      is_false (is_exposed w past) (λ h. true≢false (sym (exposed_further w (p ∷ []) past h) ∙ e))
 
   -- a good segment that was accepted showed its pairs
   pub accepted_shown : (past : Past) (s : SegmentParts) (q : Pair) → IsAmong s (all_accepted past)
-      → IsAmong q (segment_pairs s) → IsAmong q (shown ms m past)
+      → IsAmong q (segment_pairs s) → IsAmong q (shown w past)
   accepted_shown [] s q i j = absurd i
   accepted_shown (p ∷ past) s q i j =
-      on_right q (pairs_noted (is_exposed ms m past) (noted p.0 p.1))
-      (pairs_accepted (accepted p.0 p.1) ++ shown ms m past)
+      on_right q (pairs_noted (is_exposed w past) (noted p.0 p.1))
+      (pairs_accepted (accepted p.0 p.1) ++ shown w past)
       (by (accepted p.0 p.1) i (λ k. accepted_shown past s q k j))
     where
       by : (o : Option ClosedParts) → IsAmong s (segment_of o ++ all_accepted past)
-          → (IsAmong s (all_accepted past) → IsAmong q (shown ms m past))
-          → IsAmong q (pairs_accepted o ++ shown ms m past)
+          → (IsAmong s (all_accepted past) → IsAmong q (shown w past))
+          → IsAmong q (pairs_accepted o ++ shown w past)
       by None i rest = rest i
       by (Some c) (inl e) rest =
-          on_left q (segment_pairs c.segment) (shown ms m past) (subst (λ t. IsAmong q (segment_pairs t)) e j)
-      by (Some c) (inr i) rest = on_right q (segment_pairs c.segment) (shown ms m past) (rest i)
+          on_left q (segment_pairs c.segment) (shown w past) (subst (λ t. IsAmong q (segment_pairs t)) e j)
+      by (Some c) (inr i) rest = on_right q (segment_pairs c.segment) (shown w past) (rest i)
 
   -- what was noted is that of a Learn
-  noted_step : (past : Past) (p : Step × Reply) (a : Authenticator) → Doing ms m past p
+  noted_step : (past : Past) (p : Step × Reply) (a : Authenticator) → Doing w past p
       → noted p.0 p.1 ≡ Some a → p.0 ≡ Learn a
   noted_step past p a (Nothing did) h = let no : None ≡ Some a = sym did.notes ∙ h in absurd (cc)
   noted_step past p a (Notes b is did) h = is ∙ ap (λ x. Learn x) (some_same (sym did.notes ∙ h))
@@ -182,48 +182,48 @@ module _ (ms : List Member) (m : Member) where
   noted_step past p a (Files j is did) h = let no : None ≡ Some a = sym did.notes ∙ h in absurd (cc)
   noted_step past p a (PutsBack c is did) h = let no : None ≡ Some a = sym did.notes ∙ h in absurd (cc)
 
-  noted_good : (past : Past) (a : Authenticator) → AreOwed ms m past → AreChecked ms m past
-      → IsAmong a (noted_before ms m past) → IsLearned ms m a
+  noted_good : (past : Past) (a : Authenticator) → AreOwed w past → AreChecked w past
+      → IsAmong a (noted_before w past) → IsLearned w a
   noted_good [] a owed checked i = absurd i
   noted_good (p ∷ past) a owed checked i =
-      by (is_exposed ms m (p ∷ past)) (noted p.0 p.1) refl i (λ k. noted_good past a owed.1 checked.1 k)
+      by (is_exposed w (p ∷ past)) (noted p.0 p.1) refl i (λ k. noted_good past a owed.1 checked.1 k)
     where
       by : (b : Bool) (o : Option Authenticator) → noted p.0 p.1 ≡ o
-          → IsAmong a (unless_exposed b o ++ noted_before ms m past)
-          → (IsAmong a (noted_before ms m past) → IsLearned ms m a) → IsLearned ms m a
+          → IsAmong a (unless_exposed b o ++ noted_before w past)
+          → (IsAmong a (noted_before w past) → IsLearned w a) → IsLearned w a
       by b None h i rest = rest i
       by true (Some c) h i rest = rest i
       by false (Some c) h (inr i) rest = rest i
       by false (Some c) h (inl e) rest =
-          let is : p.0 ≡ Learn c = noted_step past p c (doing ms m past p.0 p.1 owed.0) h in
-          subst (IsLearned ms m) (sym e) (subst (IsCheckedStep ms m) is checked.0)
+          let is : p.0 ≡ Learn c = noted_step past p c (doing w past p.0 p.1 owed.0) h in
+          subst (IsLearned w) (sym e) (subst (IsCheckedStep w) is checked.0)
 
-  noted_shown : (past : Past) (a : Authenticator) → is_exposed ms m past ≡ false
-      → IsAmong a (noted_before ms m past) → IsAmong (pair_of a) (shown ms m past)
+  noted_shown : (past : Past) (a : Authenticator) → is_exposed w past ≡ false
+      → IsAmong a (noted_before w past) → IsAmong (pair_of a) (shown w past)
   noted_shown [] a e i = absurd i
   noted_shown (p ∷ past) a e i =
       by (noted p.0 p.1) refl
-      (subst (λ b. IsAmong a (unless_exposed b (noted p.0 p.1) ++ noted_before ms m past)) e i)
+      (subst (λ b. IsAmong a (unless_exposed b (noted p.0 p.1) ++ noted_before w past)) e i)
       (λ k. noted_shown past a (was_not p past e) k)
     where
-      earlier : IsAmong (pair_of a) (shown ms m past) → IsAmong (pair_of a) (shown ms m (p ∷ past))
+      earlier : IsAmong (pair_of a) (shown w past) → IsAmong (pair_of a) (shown w (p ∷ past))
       earlier i =
-          on_right (pair_of a) (pairs_noted (is_exposed ms m past) (noted p.0 p.1))
-          (pairs_accepted (accepted p.0 p.1) ++ shown ms m past)
-          (on_right (pair_of a) (pairs_accepted (accepted p.0 p.1)) (shown ms m past) i)
+          on_right (pair_of a) (pairs_noted (is_exposed w past) (noted p.0 p.1))
+          (pairs_accepted (accepted p.0 p.1) ++ shown w past)
+          (on_right (pair_of a) (pairs_accepted (accepted p.0 p.1)) (shown w past) i)
 
       by : (o : Option Authenticator) → noted p.0 p.1 ≡ o
-          → IsAmong a (unless_exposed false o ++ noted_before ms m past)
-          → (IsAmong a (noted_before ms m past) → IsAmong (pair_of a) (shown ms m past))
-          → IsAmong (pair_of a) (shown ms m (p ∷ past))
+          → IsAmong a (unless_exposed false o ++ noted_before w past)
+          → (IsAmong a (noted_before w past) → IsAmong (pair_of a) (shown w past))
+          → IsAmong (pair_of a) (shown w (p ∷ past))
       by None h i rest = earlier (rest i)
       by (Some c) h (inr i) rest = earlier (rest i)
       by (Some c) h (inl same) rest =
           subst (λ b. IsAmong (pair_of a)
-          (pairs_noted b (noted p.0 p.1) ++ (pairs_accepted (accepted p.0 p.1) ++ shown ms m past)))
+          (pairs_noted b (noted p.0 p.1) ++ (pairs_accepted (accepted p.0 p.1) ++ shown w past)))
           (sym (was_not p past e))
           (subst (λ o. IsAmong (pair_of a)
-          (pairs_noted false o ++ (pairs_accepted (accepted p.0 p.1) ++ shown ms m past))) (sym h)
+          (pairs_noted false o ++ (pairs_accepted (accepted p.0 p.1) ++ shown w past))) (sym h)
           (inl (ap pair_of same)))
 
   -- ---- where it is shown
@@ -231,27 +231,27 @@ module _ (ms : List Member) (m : Member) where
   -- a pair that was shown is the first pair, of an authenticator that was noted, or of an accepted segment
   pub data Source (past : Past) (n : ℕ) (x : List ℕ) : Type 0 where
     AtFirst : ◌≡◌ {A = Pair} (n, x) first_pair → Source past n x
-    OfNoted : (a : Authenticator) → IsAmong a (noted_before ms m past) → ◌≡◌ {A = Pair} (n, x) (pair_of a)
+    OfNoted : (a : Authenticator) → IsAmong a (noted_before w past) → ◌≡◌ {A = Pair} (n, x) (pair_of a)
         → Source past n x
     OfAccepted : (s : SegmentParts) → IsAmong s (all_accepted past) → IsAmong (n, x) (segment_pairs s)
         → Source past n x
 
-  sourced : (past : Past) (n : ℕ) (x : List ℕ) → is_exposed ms m past ≡ false
-      → IsAmong (n, x) (shown ms m past)
+  sourced : (past : Past) (n : ℕ) (x : List ℕ) → is_exposed w past ≡ false
+      → IsAmong (n, x) (shown w past)
       → Source past n x
   sourced [] n x e (inl same) = AtFirst same
   sourced [] n x e (inr i) = absurd i
   sourced (p ∷ past) n x e i =
-      let new = pairs_noted (is_exposed ms m past) (noted p.0 p.1) in
+      let new = pairs_noted (is_exposed w past) (noted p.0 p.1) in
       let given = pairs_accepted (accepted p.0 p.1) in
-      by (split (n, x) new (given ++ shown ms m past) i)
+      by (split (n, x) new (given ++ shown w past) i)
       (λ k. older (sourced past n x (was_not p past e) k))
     where
       older : Source past n x → Source (p ∷ past) n x
       older (AtFirst same) = AtFirst same
       older (OfNoted a i same) =
-          OfNoted a (on_right a (unless_exposed (is_exposed ms m (p ∷ past)) (noted p.0 p.1))
-          (noted_before ms m past) i)
+          OfNoted a (on_right a (unless_exposed (is_exposed w (p ∷ past)) (noted p.0 p.1))
+          (noted_before w past) i)
           same
       older (OfAccepted s i j) =
           OfAccepted s (on_right s (segment_of (accepted p.0 p.1)) (all_accepted past) i) j
@@ -263,8 +263,8 @@ module _ (ms : List Member) (m : Member) where
       by_noted false (Some a) h (inr i) = absurd i
       by_noted false (Some a) h (inl same) =
           OfNoted a
-          (subst (λ b. IsAmong a (unless_exposed b (noted p.0 p.1) ++ noted_before ms m past)) (sym e)
-          (subst (λ o. IsAmong a (unless_exposed false o ++ noted_before ms m past)) (sym h) (inl refl)))
+          (subst (λ b. IsAmong a (unless_exposed b (noted p.0 p.1) ++ noted_before w past)) (sym e)
+          (subst (λ o. IsAmong a (unless_exposed false o ++ noted_before w past)) (sym h) (inl refl)))
           same
 
       by_accepted : (o : Option ClosedParts) → accepted p.0 p.1 ≡ o → IsAmong (n, x) (pairs_accepted o)
@@ -274,12 +274,12 @@ module _ (ms : List Member) (m : Member) where
           OfAccepted c.segment (subst (λ o. IsAmong c.segment (segment_of o ++ all_accepted past)) (sym h)
           (inl refl)) i
 
-      by : IsAmong (n, x) (pairs_noted (is_exposed ms m past) (noted p.0 p.1))
-          ⊎ IsAmong (n, x) (pairs_accepted (accepted p.0 p.1) ++ shown ms m past)
-          → (IsAmong (n, x) (shown ms m past) → Source (p ∷ past) n x) → Source (p ∷ past) n x
-      by (inl i) rest = by_noted (is_exposed ms m past) (noted p.0 p.1) refl i
+      by : IsAmong (n, x) (pairs_noted (is_exposed w past) (noted p.0 p.1))
+          ⊎ IsAmong (n, x) (pairs_accepted (accepted p.0 p.1) ++ shown w past)
+          → (IsAmong (n, x) (shown w past) → Source (p ∷ past) n x) → Source (p ∷ past) n x
+      by (inl i) rest = by_noted (is_exposed w past) (noted p.0 p.1) refl i
       by (inr i) rest =
-          elim (split (n, x) (pairs_accepted (accepted p.0 p.1)) (shown ms m past) i) [
+          elim (split (n, x) (pairs_accepted (accepted p.0 p.1)) (shown w past) i) [
             | inl j ↦ by_accepted (accepted p.0 p.1) refl j
             | inr j ↦ rest j
           ]
@@ -287,45 +287,45 @@ module _ (ms : List Member) (m : Member) where
 -- ---- what shows it
 
 -- a showing of the node, closed, with a text, of these pairs
-pub record IsGoodShowing (ms : List Member) (m : Member) (s : ShowingParts) (ps : List Pair) : Type 0 where
+pub record IsGoodShowing (w : Watched) (s : ShowingParts) (ps : List Pair) : Type 0 where
   -- it is of the node
-  pub node : s.node ≡ m.node
+  pub node : s.node ≡ w.member.node
   -- it is closed, has a text, and shows these pairs
-  pub shows : ShowsPairs ms s ps
+  pub shows : ShowsPairs w.roster s ps
 
 -- a learned authenticator of the node, alone, shows its own pair
-pub good_authenticator : (ms : List Member) (m : Member) (a : Authenticator) → IsLearned ms m a
-    → IsGoodShowing ms m (authenticator_showing a) (pair_of a ∷ [])
-good_authenticator ms m a good = record { node = good.node; shows = one_pair ms a good.text good.signed }
+pub good_authenticator : (w : Watched) (a : Authenticator) → IsLearned w a
+    → IsGoodShowing w (authenticator_showing a) (pair_of a ∷ [])
+good_authenticator w a good = record { node = good.node; shows = one_pair w.roster a good.text good.signed }
 
 -- its first number is at least 1
-pub first_some : (ms : List Member) (m : Member) (s : SegmentParts) → IsGoodSegment ms m s → 0 < s.first
-first_some ms m s good =
+pub first_some : (w : Watched) (s : SegmentParts) → IsGoodSegment w s → 0 < s.first
+first_some w s good =
     let both = and_parts (nat_lt 0 s.first) (nat_lt 0 (length (map entry_value s.entries))) good.text.1 in
     ltb-true 0 s.first both.0
 
 -- a good segment of the node, without its entries, shows all its pairs
-pub good_segment : (ms : List Member) (m : Member) (s : SegmentParts) → IsGoodSegment ms m s
-    → IsGoodShowing ms m (segment_showing s) (segment_pairs s)
-good_segment ms m s good = record {
+pub good_segment : (w : Watched) (s : SegmentParts) → IsGoodSegment w s
+    → IsGoodShowing w (segment_showing s) (segment_pairs s)
+good_segment w s good = record {
   node = sym good.closed.ends.node ∙ good.node;
-  shows = own_pairs ms s good.text.0 (first_some ms m s good) good.closed;
+  shows = own_pairs w.roster s good.text.0 (first_some w s good) good.closed;
 }
 
 -- what is kept shows a hash at a number
-pub record IsShownBefore (ms : List Member) (m : Member) (past : Past) (n : ℕ) (x : List ℕ) : Type 0 where
+pub record IsShownBefore (w : Watched) (past : Past) (n : ℕ) (x : List ℕ) : Type 0 where
   -- the showing
   pub showing : ShowingParts
   -- it is the one that is looked up for the number
-  pub is : showing_before (kept ms m past) (all_accepted past) n ≡ Some showing
+  pub is : showing_before (kept w past) (all_accepted past) n ≡ Some showing
   -- the pairs that it shows
   pub ps : List Pair
   -- it is closed and has a text
-  pub good : IsGoodShowing ms m showing ps
+  pub good : IsGoodShowing w showing ps
   -- the number and hash are one of those pairs
   pub there : IsAmong (n, x) ps
 
-module _ (ms : List Member) (m : Member) (past : Past) (n : ℕ) (x : List ℕ) where
+module _ (w : Watched) (past : Past) (n : ℕ) (x : List ℕ) where
   abbrev at_number : Authenticator → Bool
   at_number a = a.number == n
 
@@ -333,80 +333,80 @@ module _ (ms : List Member) (m : Member) (past : Past) (n : ℕ) (x : List ℕ) 
   holds s = nat_le s.first n && nat_le n s.closing.number
 
   -- a kept one has this hash
-  by_kept : (a : Authenticator) → AreOwed ms m past → AreChecked ms m past → is_exposed ms m past ≡ false
-      → IsAmong (n, x) (shown ms m past) → find at_number (kept ms m past) ≡ Some a
-      → IsShownBefore ms m past n x
+  by_kept : (a : Authenticator) → AreOwed w past → AreChecked w past → is_exposed w past ≡ false
+      → IsAmong (n, x) (shown w past) → find at_number (kept w past) ≡ Some a
+      → IsShownBefore w past n x
   by_kept a owed checked e i is =
-      let f = found at_number (kept ms m past) a is in
-      let before = filtered (λ (b : Authenticator). nat_lt (end_of ms m past).number b.number)
-      (noted_before ms m past) a f.0 in
+      let f = found at_number (kept w past) a is in
+      let before = filtered (λ (b : Authenticator). nat_lt (end_of w past).number b.number)
+      (noted_before w past) a f.0 in
       let number : a.number ≡ n = eqb-true a.number n f.1 in
-      let there : IsAmong (n, a.hash) (shown ms m past) =
-      subst (λ k. IsAmong (k, a.hash) (shown ms m past)) number (noted_shown ms m past a e before) in
-      let hash : x ≡ a.hash = one_shown ms m past e n x a.hash i there in
+      let there : IsAmong (n, a.hash) (shown w past) =
+      subst (λ k. IsAmong (k, a.hash) (shown w past)) number (noted_shown w past a e before) in
+      let hash : x ≡ a.hash = one_shown w past e n x a.hash i there in
       record {
         showing = authenticator_showing a;
         is = ap (λ o. or_segment o (segment_holding n (all_accepted past))) is;
         ps = pair_of a ∷ [];
-        good = good_authenticator ms m a (noted_good ms m past a owed checked before);
+        good = good_authenticator w a (noted_good w past a owed checked before);
         there = inl (ap (λ (k : ℕ). (k, x)) (sym number) ∙ ap (λ (y : List ℕ). (a.number, y)) hash);
       }
 
   -- a segment that holds the number shows this hash
-  by_segment : (s : SegmentParts) → Stand ms m past → is_exposed ms m past ≡ false
-      → IsAmong (n, x) (shown ms m past) → find at_number (kept ms m past) ≡ None
-      → find holds (all_accepted past) ≡ Some s → IsShownBefore ms m past n x
+  by_segment : (s : SegmentParts) → Stand w past → is_exposed w past ≡ false
+      → IsAmong (n, x) (shown w past) → find at_number (kept w past) ≡ None
+      → find holds (all_accepted past) ≡ Some s → IsShownBefore w past n x
   by_segment s stand e i none is =
       let f = found holds (all_accepted past) s is in
       let good = (stand.segments s f.0).good in
       let both = and_parts (nat_le s.first n) (nat_le n s.closing.number) f.1 in
       let low : s.first ≤ n = leb-true s.first n both.0 in
       let high : n ≤ s.closing.number = leb-true n s.closing.number both.1 in
-      let some : 0 < s.first = first_some ms m s good in
+      let some : 0 < s.first = first_some w s good in
       let back : s.first ≡ s.first - 1 + 1 = omega (arith, some) in
       let links = links_from s.first s.entries in
       let has = has_hash (s.first - 1) s.opening links n
       (subst (λ k. AreNumbered k links) back (entries_numbered s.first s.entries)) (omega (arith, low))
       (omega (arith, high, some, good.closed.ends.number, length-links s.first s.entries)) in
       let hash : has.hash ≡ x =
-      one_shown ms m past e n has.hash x (accepted_shown ms m past s (n, has.hash) f.0 has.there) i in
+      one_shown w past e n has.hash x (accepted_shown w past s (n, has.hash) f.0 has.there) i in
       record {
         showing = segment_showing s;
         is = ap (λ o. or_segment o (segment_holding n (all_accepted past))) none
             ∙ ap (λ o. or_segment None o) is;
         ps = segment_pairs s;
-        good = good_segment ms m s good;
+        good = good_segment w s good;
         there = subst (λ y. IsAmong (n, y) (segment_pairs s)) hash has.there;
       }
 
   -- where none is kept at the number, a segment holds it
-  held : Stand ms m past → 1 ≤ n → find at_number (kept ms m past) ≡ None → Source ms m past n x
+  held : Stand w past → 1 ≤ n → find at_number (kept w past) ≡ None → Source w past n x
       → IsHeld past n
   held stand some none (AtFirst same) =
       let zero_is : n ≡ 0 = ap (λ (q : Pair). q.0) same in absurd (omega (arith, some, zero_is))
-  held stand some none (OfNoted a i same) = by (nat_lt (end_of ms m past).number a.number) refl
+  held stand some none (OfNoted a i same) = by (nat_lt (end_of w past).number a.number) refl
     where
       number : n ≡ a.number
       number = ap (λ (q : Pair). q.0) same
 
-      by : (b : Bool) → nat_lt (end_of ms m past).number a.number ≡ b → IsHeld past n
+      by : (b : Bool) → nat_lt (end_of w past).number a.number ≡ b → IsHeld past n
       by false e =
           stand.held n some (omega (
             arith,
             ap (λ (q : Pair). q.0) same,
-            ltb-false (end_of ms m past).number a.number e,
+            ltb-false (end_of w past).number a.number e,
           ))
       by true e =
           absurd (true≢false (sym (eq-eqb a.number n (sym (ap (λ (q : Pair). q.0) same)))
-          ∙ not_found at_number (kept ms m past) a none
-          (passing (λ (b : Authenticator). nat_lt (end_of ms m past).number b.number)
-          (noted_before ms m past) a i e)))
+          ∙ not_found at_number (kept w past) a none
+          (passing (λ (b : Authenticator). nat_lt (end_of w past).number b.number)
+          (noted_before w past) a i e)))
   held stand some none (OfAccepted s i j) = by (nat_lt n s.first) refl
     where
       by : (b : Bool) → nat_lt n s.first ≡ b → IsHeld past n
       by b e =
           let k = stand.segments s i in
-          let first : 0 < s.first = first_some ms m s k.good in
+          let first : 0 < s.first = first_some w s k.good in
           let back : s.first ≡ s.first - 1 + 1 = omega (arith, first) in
           let links = links_from s.first s.entries in
           let h = behind (s.first - 1) s.opening links n x
@@ -425,30 +425,30 @@ module _ (ms : List Member) (m : Member) (past : Past) (n : ℕ) (x : List ℕ) 
           at b e low high k.first
         where
           at : (b : Bool) → nat_lt n s.first ≡ b → s.first ≤ n + 1 → n ≤ s.closing.number
-              → s.first ≤ (end_of ms m past).number + 1 → IsHeld past n
+              → s.first ≤ (end_of w past).number + 1 → IsHeld past n
           at true e low high first = stand.held n some (omega (arith, low, first, ltb-true n s.first e))
           at false e low high first =
               record { segment = s; among = i; from = omega (arith, ltb-false n s.first e); to = high }
 
-  by_held : (o : Option SegmentParts) → Stand ms m past → is_exposed ms m past ≡ false
-      → IsAmong (n, x) (shown ms m past) → find at_number (kept ms m past) ≡ None
-      → IsHeld past n → find holds (all_accepted past) ≡ o → IsShownBefore ms m past n x
+  by_held : (o : Option SegmentParts) → Stand w past → is_exposed w past ≡ false
+      → IsAmong (n, x) (shown w past) → find at_number (kept w past) ≡ None
+      → IsHeld past n → find holds (all_accepted past) ≡ o → IsShownBefore w past n x
   by_held (Some s) stand e i none h is = by_segment s stand e i none is
   by_held None stand e i none h is =
       absurd (true≢false (sym (and_from (nat_le h.segment.first n) (nat_le n h.segment.closing.number)
       (le-leb h.segment.first n h.from) (le-leb n h.segment.closing.number h.to))
       ∙ not_found holds (all_accepted past) h.segment is h.among))
 
-  by_number : (o : Option Authenticator) → AreOwed ms m past → AreChecked ms m past → Stand ms m past
-      → is_exposed ms m past ≡ false → 1 ≤ n → IsAmong (n, x) (shown ms m past)
-      → find at_number (kept ms m past) ≡ o → IsShownBefore ms m past n x
+  by_number : (o : Option Authenticator) → AreOwed w past → AreChecked w past → Stand w past
+      → is_exposed w past ≡ false → 1 ≤ n → IsAmong (n, x) (shown w past)
+      → find at_number (kept w past) ≡ o → IsShownBefore w past n x
   by_number (Some a) owed checked stand e some i is = by_kept a owed checked e i is
   by_number None owed checked stand e some i is =
       by_held (find holds (all_accepted past)) stand e i is
-      (held stand some is (sourced ms m past n x e i)) refl
+      (held stand some is (sourced w past n x e i)) refl
 
   -- Each pair that was shown, but that at 0, is shown by what is kept.
-  pub shown_before : AreOwed ms m past → AreChecked ms m past → Stand ms m past → is_exposed ms m past ≡ false
-      → 1 ≤ n → IsAmong (n, x) (shown ms m past) → IsShownBefore ms m past n x
+  pub shown_before : AreOwed w past → AreChecked w past → Stand w past → is_exposed w past ≡ false
+      → 1 ≤ n → IsAmong (n, x) (shown w past) → IsShownBefore w past n x
   shown_before owed checked stand e some i =
-      by_number (find at_number (kept ms m past)) owed checked stand e some i refl
+      by_number (find at_number (kept w past)) owed checked stand e some i refl

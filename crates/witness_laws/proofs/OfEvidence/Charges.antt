@@ -9,7 +9,6 @@ use Rattle.std.proofs.lemmas.Bool.{and_parts, or_cases, or_right, true≢false, 
 use Rattle.xdr.specs.Item.{Fits, choice}
 use Rattle.authenticator.specs.Numbers.{number_item}
 use Rattle.authenticator.specs.declared.authenticator.Authenticator.{Authenticator}
-use Rattle.authenticator.specs.declared.member.Member.{Member}
 use Rattle.secure_log.specs.LogEntries.Chain.{zeros, links_from, IsAmong}
 use Rattle.secure_log.specs.Segment.{SegmentParts, ClosedParts, segment_pairs}
 use Rattle.authenticator.specs.Signing.{is_same}
@@ -24,6 +23,7 @@ use Rattle.witness_spec.proofs.evidence_spec.Places.{AreNumbered, entries_number
 use Rattle.witness_spec.proofs.evidence_spec.Places.{one_hash}
 use Rattle.witness_spec.specs.Events.{JobParts}
 use Rattle.witness_spec.specs.Replies.{Reply}
+use Rattle.witness_spec.specs.Watched.{Watched}
 use Rattle.witness_spec.specs.Steps.{Step, Past}
 use Rattle.witness_spec.specs.Pairs.{Pair, pair_of, first_pair, differ, is_fork, has_fork, first_fork}
 use Rattle.witness_spec.specs.Done.{noted, accepted, filed}
@@ -137,30 +137,30 @@ positive (suc n) h = omega arith
 -- ---- charges
 
 -- it is accepted against the node, and has a text with it
-pub record IsGoodCharge (ms : List Member) (m : Member) (g : Charge) : Type 0 where
+pub record IsGoodCharge (w : Watched) (g : Charge) : Type 0 where
   -- the node's number has 32 bits
-  pub small : m.node < 2 ^ 32
+  pub small : w.member.node < 2 ^ 32
   -- the charge is accepted
-  pub accepted : AcceptsCharge ms m.node g
+  pub accepted : AcceptsCharge w.roster w.member.node g
   -- the charge has a text
   pub text : Fits (choice is_charge charge_item) (charge_value g)
 
 -- a step exposes with a charge, or does neither
-pub data Charging (ms : List Member) (m : Member) (past : Past) (p : Step × Reply) : Type 0 where
-  Uncharged : new_charge ms m past p.0 p.1 ≡ None → is_exposed ms m (p ∷ past) ≡ false → Charging ms m past p
-  Charged : (g : Charge) → new_charge ms m past p.0 p.1 ≡ Some g → is_exposed ms m (p ∷ past) ≡ true
-      → IsGoodCharge ms m g → Charging ms m past p
+pub data Charging (w : Watched) (past : Past) (p : Step × Reply) : Type 0 where
+  Uncharged : new_charge w past p.0 p.1 ≡ None → is_exposed w (p ∷ past) ≡ false → Charging w past p
+  Charged : (g : Charge) → new_charge w past p.0 p.1 ≡ Some g → is_exposed w (p ∷ past) ≡ true
+      → IsGoodCharge w g → Charging w past p
 
 -- what is shown anew: a showing with its pairs, of one hash at each number
-record IsNew (ms : List Member) (m : Member) (new : ShowingParts) (ps : List Pair) : Type 0 where
-  good : IsGoodShowing ms m new ps
+record IsNew (w : Watched) (new : ShowingParts) (ps : List Pair) : Type 0 where
+  good : IsGoodShowing w new ps
   one : (n : ℕ) (x y : List ℕ) → IsAmong (n, x) ps → IsAmong (n, y) ps → x ≡ y
   few : (n : ℕ) (x : List ℕ) → IsAmong (n, x) ps → Fits number_item n
 
-new_authenticator : (ms : List Member) (m : Member) (a : Authenticator) → IsLearned ms m a
-    → IsNew ms m (authenticator_showing a) (pair_of a ∷ [])
-new_authenticator ms m a good = record {
-  good = good_authenticator ms m a good;
+new_authenticator : (w : Watched) (a : Authenticator) → IsLearned w a
+    → IsNew w (authenticator_showing a) (pair_of a ∷ [])
+new_authenticator w a good = record {
+  good = good_authenticator w a good;
   one = λ n x y i j. its x n i ∙ sym (its y n j);
   few = λ n x i. number n x i;
 }
@@ -173,16 +173,16 @@ new_authenticator ms m a good = record {
     number n x (inl e) = subst (Fits number_item) (sym (ap (λ (q : Pair). q.0) e)) good.text.1.0
     number n x (inr i) = absurd i
 
-new_segment : (ms : List Member) (m : Member) (s : SegmentParts) → IsGoodSegment ms m s
-    → IsNew ms m (segment_showing s) (segment_pairs s)
-new_segment ms m s good =
-    let some : 0 < s.first = first_some ms m s good in
+new_segment : (w : Watched) (s : SegmentParts) → IsGoodSegment w s
+    → IsNew w (segment_showing s) (segment_pairs s)
+new_segment w s good =
+    let some : 0 < s.first = first_some w s good in
     let back : s.first ≡ s.first - 1 + 1 = omega (arith, some) in
     let links = links_from s.first s.entries in
     let are : AreNumbered (s.first - 1 + 1) links =
     subst (λ k. AreNumbered k links) back (entries_numbered s.first s.entries) in
     record {
-      good = good_segment ms m s good;
+      good = good_segment w s good;
       one = λ n x y i j. one_hash (s.first - 1) s.opening links n x y are i j;
       few = λ n x i.
           let h = behind (s.first - 1) s.opening links n x are i in
@@ -199,23 +199,23 @@ new_segment ms m s good =
     }
 
 -- the pair before the first entry is always among those that were shown
-pub first_shown : (ms : List Member) (m : Member) (past : Past) → IsAmong first_pair (shown ms m past)
-first_shown ms m [] = inl refl
-first_shown ms m (p ∷ past) =
-    on_right first_pair (pairs_noted (is_exposed ms m past) (noted p.0 p.1))
-    (pairs_accepted (accepted p.0 p.1) ++ shown ms m past)
-    (on_right first_pair (pairs_accepted (accepted p.0 p.1)) (shown ms m past) (first_shown ms m past))
+pub first_shown : (w : Watched) (past : Past) → IsAmong first_pair (shown w past)
+first_shown w [] = inl refl
+first_shown w (p ∷ past) =
+    on_right first_pair (pairs_noted (is_exposed w past) (noted p.0 p.1))
+    (pairs_accepted (accepted p.0 p.1) ++ shown w past)
+    (on_right first_pair (pairs_accepted (accepted p.0 p.1)) (shown w past) (first_shown w past))
 
-module _ (ms : List Member) (m : Member) (past : Past) (p : Step × Reply) (owed : AreOwed ms m past)
-    (checked : AreChecked ms m past) (stand : Stand ms m past) (e : is_exposed ms m past ≡ false) where
+module _ (w : Watched) (past : Past) (p : Step × Reply) (owed : AreOwed w past)
+    (checked : AreChecked w past) (stand : Stand w past) (e : is_exposed w past ≡ false) where
   -- ---- a fork
 
   -- the charge of a fork at 0
-  at_zero : (new : ShowingParts) (ps : List Pair) → IsNew ms m new ps → Forks ps (shown ms m past) 0
-      → IsGoodCharge ms m (Fork (record { at = 0; a = new; b = None }))
+  at_zero : (new : ShowingParts) (ps : List Pair) → IsNew w new ps → Forks ps (shown w past) 0
+      → IsGoodCharge w (Fork (record { at = 0; a = new; b = None }))
   at_zero new ps is f =
       let zero_is : f.other ≡ zeros =
-      one_shown ms m past e 0 f.other zeros f.other_old (first_shown ms m past) in
+      one_shown w past e 0 f.other zeros f.other_old (first_shown w past) in
       record {
         small = omega (arith, is.good.shows.text.0, is.good.node);
         accepted = record {
@@ -229,9 +229,9 @@ module _ (ms : List Member) (m : Member) (past : Past) (p : Step × Reply) (owed
       }
 
   -- the charge of a fork after 0, with what showed the other hash
-  at_number : (n : ℕ) (new old : ShowingParts) (ps qs : List Pair) → IsNew ms m new ps
-      → IsGoodShowing ms m old qs → (f : Forks ps (shown ms m past) n) → IsAmong (n, f.other) qs
-      → IsGoodCharge ms m (Fork (record { at = n; a = old; b = Some new }))
+  at_number : (n : ℕ) (new old : ShowingParts) (ps qs : List Pair) → IsNew w new ps
+      → IsGoodShowing w old qs → (f : Forks ps (shown w past) n) → IsAmong (n, f.other) qs
+      → IsGoodCharge w (Fork (record { at = n; a = old; b = Some new }))
   at_number n new old ps qs is before f there = record {
     small = omega (arith, is.good.shows.text.0, is.good.node);
     accepted = record {
@@ -250,105 +250,105 @@ module _ (ms : List Member) (m : Member) (past : Past) (p : Step × Reply) (owed
 
   -- new pairs of a showing, as they are shown after the step, and charged
   record ShowsNew (new : ShowingParts) (ps : List Pair) : Type 0 where
-    is : IsNew ms m new ps
-    shown_is : shown ms m (p ∷ past) ≡ ps ++ shown ms m past
-    fault_is : has_fault ms m (p ∷ past) ≡ has_fault ms m past
-    charge_is : new_charge ms m past p.0 p.1 ≡ new_fork ms m past new ps
+    is : IsNew w new ps
+    shown_is : shown w (p ∷ past) ≡ ps ++ shown w past
+    fault_is : has_fault w (p ∷ past) ≡ has_fault w past
+    charge_is : new_charge w past p.0 p.1 ≡ new_fork w past new ps
 
-  not_faulty : has_fault ms m past ≡ true → ⊥
-  not_faulty h = true≢false (sym (or_right (has_fork (shown ms m past)) (has_fault ms m past) h) ∙ e)
+  not_faulty : has_fault w past ≡ true → ⊥
+  not_faulty h = true≢false (sym (or_right (has_fork (shown w past)) (has_fault w past) h) ∙ e)
 
   -- where no new pair forks, no number has two hashes
   none_exposes : (new : ShowingParts) (ps : List Pair) → ShowsNew new ps
-      → first_fork ps (shown ms m past) ≡ None
-      → is_exposed ms m (p ∷ past) ≡ true → ⊥
-  none_exposes new ps s none h = by (exposed_why ms m (p ∷ past) (is_exposed_told ms m (p ∷ past) h))
+      → first_fork ps (shown w past) ≡ None
+      → is_exposed w (p ∷ past) ≡ true → ⊥
+  none_exposes new ps s none h = by (exposed_why w (p ∷ past) (is_exposed_told w (p ∷ past) h))
     where
-      apart : (n : ℕ) (x y : List ℕ) → x ≢ y → IsAmong (n, x) ps → IsAmong (n, y) (shown ms m past) → ⊥
+      apart : (n : ℕ) (x y : List ℕ) → x ≢ y → IsAmong (n, x) ps → IsAmong (n, y) (shown w past) → ⊥
       apart n x y d i j =
-          true≢false (sym (fork_at n x y (shown ms m past) d j)
-          ∙ none_first ps (shown ms m past) (n, x) none i)
+          true≢false (sym (fork_at n x y (shown w past) d j)
+          ∙ none_first ps (shown w past) (n, x) none i)
 
-      two : (n : ℕ) (x y : List ℕ) → x ≢ y → IsAmong (n, x) ps ⊎ IsAmong (n, x) (shown ms m past)
-          → IsAmong (n, y) ps ⊎ IsAmong (n, y) (shown ms m past) → ⊥
+      two : (n : ℕ) (x y : List ℕ) → x ≢ y → IsAmong (n, x) ps ⊎ IsAmong (n, x) (shown w past)
+          → IsAmong (n, y) ps ⊎ IsAmong (n, y) (shown w past) → ⊥
       two n x y d (inl i) (inl j) = d (s.is.one n x y i j)
       two n x y d (inl i) (inr j) = apart n x y d i j
       two n x y d (inr i) (inl j) = apart n y x (λ k. d (sym k)) j i
-      two n x y d (inr i) (inr j) = d (one_shown ms m past e n x y i j)
+      two n x y d (inr i) (inr j) = d (one_shown w past e n x y i j)
 
-      by : HasTwoHashes (shown ms m (p ∷ past)) ⊎ HasFaultyFile ms m (p ∷ past) → ⊥
+      by : HasTwoHashes (shown w (p ∷ past)) ⊎ HasFaultyFile w (p ∷ past) → ⊥
       by (inl g) =
           two g.number g.one g.other g.differ
-          (split (g.number, g.one) ps (shown ms m past)
+          (split (g.number, g.one) ps (shown w past)
           (subst (IsAmong (g.number, g.one)) s.shown_is g.one_shown))
-          (split (g.number, g.other) ps (shown ms m past)
+          (split (g.number, g.other) ps (shown w past)
           (subst (IsAmong (g.number, g.other)) s.shown_is g.other_shown))
-      by (inr g) = not_faulty (sym s.fault_is ∙ of_file ms m (p ∷ past) g)
+      by (inr g) = not_faulty (sym s.fault_is ∙ of_file w (p ∷ past) g)
 
   -- where one forks, it has
   fork_exposes : (new : ShowingParts) (ps : List Pair) (n : ℕ) → ShowsNew new ps
-      → Forks ps (shown ms m past) n
-      → is_exposed ms m (p ∷ past) ≡ true
+      → Forks ps (shown w past) n
+      → is_exposed w (p ∷ past) ≡ true
   fork_exposes new ps n s f =
-      let two : HasTwoHashes (shown ms m (p ∷ past)) = record {
+      let two : HasTwoHashes (shown w (p ∷ past)) = record {
         number = n;
         one = f.one;
         other = f.other;
         one_shown = subst (IsAmong (n, f.one)) (sym s.shown_is)
-            (on_left (n, f.one) ps (shown ms m past) f.one_new);
+            (on_left (n, f.one) ps (shown w past) f.one_new);
         other_shown = subst (IsAmong (n, f.other)) (sym s.shown_is)
-            (on_right (n, f.other) ps (shown ms m past) f.other_old);
+            (on_right (n, f.other) ps (shown w past) f.other_old);
         differ = f.differs;
-      } in exposed_is ms m (p ∷ past) (why_exposed ms m (p ∷ past) (inl two))
+      } in exposed_is w (p ∷ past) (why_exposed w (p ∷ past) (inl two))
 
   charged_at : (new : ShowingParts) (ps : List Pair) (n : ℕ) (b : Bool) → ShowsNew new ps
-      → first_fork ps (shown ms m past) ≡ Some n → (n == 0) ≡ b → Charging ms m past p
+      → first_fork ps (shown w past) ≡ Some n → (n == 0) ≡ b → Charging w past p
   charged_at new ps n true s is z =
-      let f = first_is ps (shown ms m past) n is in
+      let f = first_is ps (shown w past) n is in
       let zero_is : n ≡ 0 = eqb-true n 0 z in
       Charged (Fork (record { at = 0; a = new; b = None }))
-      (s.charge_is ∙ (ap (option_and_then (fork_of (kept ms m past) (all_accepted past) new)) is
-      ∙ ap (fork_of (kept ms m past) (all_accepted past) new) zero_is))
-      (fork_exposes new ps n s f) (at_zero new ps s.is (subst (Forks ps (shown ms m past)) zero_is f))
+      (s.charge_is ∙ (ap (option_and_then (fork_of (kept w past) (all_accepted past) new)) is
+      ∙ ap (fork_of (kept w past) (all_accepted past) new) zero_is))
+      (fork_exposes new ps n s f) (at_zero new ps s.is (subst (Forks ps (shown w past)) zero_is f))
   charged_at new ps n false s is z =
-      let f = first_is ps (shown ms m past) n is in
-      let old = shown_before ms m past n f.other owed checked stand e (positive n z) f.other_old in
+      let f = first_is ps (shown w past) n is in
+      let old = shown_before w past n f.other owed checked stand e (positive n z) f.other_old in
       Charged (Fork (record { at = n; a = old.showing; b = Some new }))
-      (s.charge_is ∙ (ap (option_and_then (fork_of (kept ms m past) (all_accepted past) new)) is
+      (s.charge_is ∙ (ap (option_and_then (fork_of (kept w past) (all_accepted past) new)) is
       ∙ (ap (λ b. cond b (Some (Fork (record { at = 0; a = new; b = None })))
       (option_map (λ x. Fork (record { at = n; a = x; b = Some new }))
-      (showing_before (kept ms m past) (all_accepted past) n))) z
+      (showing_before (kept w past) (all_accepted past) n))) z
       ∙ ap (option_map (λ x. Fork (record { at = n; a = x; b = Some new }))) old.is)))
       (fork_exposes new ps n s f) (at_number n new old.showing ps old.ps s.is old.good f old.there)
 
   shows_new : (new : ShowingParts) (ps : List Pair) (o : Option ℕ) → ShowsNew new ps
-      → first_fork ps (shown ms m past) ≡ o → Charging ms m past p
+      → first_fork ps (shown w past) ≡ o → Charging w past p
   shows_new new ps None s is =
-      Uncharged (s.charge_is ∙ ap (option_and_then (fork_of (kept ms m past) (all_accepted past) new)) is)
-      (is_false (is_exposed ms m (p ∷ past)) (none_exposes new ps s is))
+      Uncharged (s.charge_is ∙ ap (option_and_then (fork_of (kept w past) (all_accepted past) new)) is)
+      (is_false (is_exposed w (p ∷ past)) (none_exposes new ps s is))
   shows_new new ps (Some n) s is = charged_at new ps n (n == 0) s is refl
 
   -- ---- what a step does
 
   shown_by : (a : Option Authenticator) (c : Option ClosedParts) → noted p.0 p.1 ≡ a → accepted p.0 p.1 ≡ c
-      → shown ms m (p ∷ past) ≡ pairs_noted false a ++ (pairs_accepted c ++ shown ms m past)
+      → shown w (p ∷ past) ≡ pairs_noted false a ++ (pairs_accepted c ++ shown w past)
   shown_by a c is_a is_c =
-      ap (λ b. pairs_noted b (noted p.0 p.1) ++ (pairs_accepted (accepted p.0 p.1) ++ shown ms m past)) e
-      ∙ (ap (λ x. pairs_noted false x ++ (pairs_accepted (accepted p.0 p.1) ++ shown ms m past)) is_a
-      ∙ ap (λ x. pairs_noted false a ++ (pairs_accepted x ++ shown ms m past)) is_c)
+      ap (λ b. pairs_noted b (noted p.0 p.1) ++ (pairs_accepted (accepted p.0 p.1) ++ shown w past)) e
+      ∙ (ap (λ x. pairs_noted false x ++ (pairs_accepted (accepted p.0 p.1) ++ shown w past)) is_a
+      ∙ ap (λ x. pairs_noted false a ++ (pairs_accepted x ++ shown w past)) is_c)
 
   fault_by : (j : Option JobParts) → filed p.0 p.1 ≡ j
-      → has_fault ms m (p ∷ past) ≡ (finds_fault ms (end_of ms m past).state j || has_fault ms m past)
-  fault_by j is = ap (λ x. finds_fault ms (end_of ms m past).state x || has_fault ms m past) is
+      → has_fault w (p ∷ past) ≡ (finds_fault w.roster (end_of w past).state j || has_fault w past)
+  fault_by j is = ap (λ x. finds_fault w.roster (end_of w past).state x || has_fault w past) is
 
   charge_by : (a : Option Authenticator) (c : Option ClosedParts) (j : Option JobParts) → noted p.0 p.1 ≡ a
-      → accepted p.0 p.1 ≡ c → filed p.0 p.1 ≡ j → new_charge ms m past p.0 p.1 ≡ charge_of ms m past a c j
+      → accepted p.0 p.1 ≡ c → filed p.0 p.1 ≡ j → new_charge w past p.0 p.1 ≡ charge_of w past a c j
   charge_by a c j is_a is_c is_j =
-      ap (λ x. charge_of ms m past x (accepted p.0 p.1) (filed p.0 p.1)) is_a
-      ∙ (ap (λ x. charge_of ms m past a x (filed p.0 p.1)) is_c ∙ ap (charge_of ms m past a c) is_j)
+      ap (λ x. charge_of w past x (accepted p.0 p.1) (filed p.0 p.1)) is_a
+      ∙ (ap (λ x. charge_of w past a x (filed p.0 p.1)) is_c ∙ ap (charge_of w past a c) is_j)
 
   -- a step that shows nothing and files nothing
-  shows_nothing : (to : Stage) → Did past p None None None to → Charging ms m past p
+  shows_nothing : (to : Stage) → Did past p None None None to → Charging w past p
   shows_nothing to did =
       Uncharged (charge_by None None None did.notes did.accepts did.files)
       (ap₂ (λ ps b. has_fork ps || b) (shown_by None None did.notes did.accepts) (fault_by None did.files)
@@ -356,42 +356,42 @@ module _ (ms : List Member) (m : Member) (past : Past) (p : Step × Reply) (owed
 
   -- a replay's verdict
   files : (j : JobParts) (v : Verdict) → Did past p None None (Some j) NoAudit
-      → verdict_on ms (end_of ms m past).state j ≡ v
+      → verdict_on w.roster (end_of w past).state j ≡ v
       → ((fault : ReplayFault) (number : ℕ) → v ≡ Fault fault number
-      → IsGoodCharge ms m (Replay (audited_with ms m past j.segment.segment))) → Charging ms m past p
+      → IsGoodCharge w (Replay (audited_with w past j.segment.segment))) → Charging w past p
   files j (Sound t found) did is good =
       Uncharged
       (charge_by None None (Some j) did.notes did.accepts did.files
-      ∙ ap (replay_of ms m past j.segment.segment) is)
+      ∙ ap (replay_of w past j.segment.segment) is)
       (ap₂ (λ ps b. has_fork ps || b) (shown_by None None did.notes did.accepts)
-      (fault_by (Some j) did.files ∙ ap (λ v. is_fault v || has_fault ms m past) is) ∙ e)
+      (fault_by (Some j) did.files ∙ ap (λ v. is_fault v || has_fault w past) is) ∙ e)
   files j (Fault fault number) did is good =
-      Charged (Replay (audited_with ms m past j.segment.segment))
+      Charged (Replay (audited_with w past j.segment.segment))
       (charge_by None None (Some j) did.notes did.accepts did.files
-      ∙ ap (replay_of ms m past j.segment.segment) is)
-      (or_right (has_fork (shown ms m (p ∷ past))) (has_fault ms m (p ∷ past))
-      (fault_by (Some j) did.files ∙ ap (λ v. is_fault v || has_fault ms m past) is))
+      ∙ ap (replay_of w past j.segment.segment) is)
+      (or_right (has_fork (shown w (p ∷ past))) (has_fault w (p ∷ past))
+      (fault_by (Some j) did.files ∙ ap (λ v. is_fault v || has_fault w past) is))
       (good fault number refl)
 
   -- Each step exposes with a charge, or does neither.
-  pub charging : Doing ms m past p → IsCheckedStep ms m p.0
+  pub charging : Doing w past p → IsCheckedStep w p.0
       → ((j : JobParts) (fault : ReplayFault) (number : ℕ) → stage_of past ≡ Out j.segment
-      → verdict_on ms (end_of ms m past).state j ≡ Fault fault number
-      → IsGoodCharge ms m (Replay (audited_with ms m past j.segment.segment))) → Charging ms m past p
+      → verdict_on w.roster (end_of w past).state j ≡ Fault fault number
+      → IsGoodCharge w (Replay (audited_with w past j.segment.segment))) → Charging w past p
   charging (Nothing did) c faulty = shows_nothing (stage_of past) did
   charging (Notes a is did) c faulty =
-      shows_new (authenticator_showing a) (pair_of a ∷ []) (first_fork (pair_of a ∷ []) (shown ms m past))
+      shows_new (authenticator_showing a) (pair_of a ∷ []) (first_fork (pair_of a ∷ []) (shown w past))
       (record {
-        is = new_authenticator ms m a (subst (IsCheckedStep ms m) is c);
+        is = new_authenticator w a (subst (IsCheckedStep w) is c);
         shown_is = shown_by (Some a) None did.notes did.accepts;
         fault_is = fault_by None did.files;
         charge_is = charge_by (Some a) None None did.notes did.accepts did.files;
       }) refl
   charging (Accepts d is wanted did) c faulty =
       shows_new (segment_showing d.segment) (segment_pairs d.segment)
-      (first_fork (segment_pairs d.segment) (shown ms m past))
+      (first_fork (segment_pairs d.segment) (shown w past))
       (record {
-        is = new_segment ms m d.segment (good_given ms m d (subst (IsCheckedStep ms m) is c));
+        is = new_segment w d.segment (good_given w d (subst (IsCheckedStep w) is c));
         shown_is = shown_by None (Some d) did.notes did.accepts;
         fault_is = fault_by None did.files;
         charge_is = charge_by None (Some d) None did.notes did.accepts did.files;
@@ -400,5 +400,5 @@ module _ (ms : List Member) (m : Member) (past : Past) (p : Step × Reply) (owed
   charging (Begins d is did) c faulty = shows_nothing (Out d) did
   charging (PutsBack d is did) c faulty = shows_nothing (Given d) did
   charging (Files j is did) c faulty =
-      files j (verdict_on ms (end_of ms m past).state j) did refl
+      files j (verdict_on w.roster (end_of w past).state j) did refl
       (λ fault number h. faulty j fault number is h)

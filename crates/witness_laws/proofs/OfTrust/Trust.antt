@@ -7,7 +7,6 @@ use Rattle.std.proofs.Common.{length-append, arith}
 use Rattle.std.specs.List.{AllByRecursion, flat_map}
 use Rattle.std.proofs.lemmas.Bool.{and_parts, or_from, ltb-true}
 use Rattle.authenticator.specs.declared.authenticator.Authenticator.{Authenticator}
-use Rattle.authenticator.specs.declared.member.Member.{Member}
 use Rattle.secure_log.specs.LogEntries.Chain.{Link, hash_after, link_of, links_from, last_hash, pairs, zeros}
 use Rattle.secure_log.specs.LogEntries.Chain.{NoCollision, IsAmong}
 use Rattle.secure_log.specs.declared.log_entries.entry.Entry.{Entry}
@@ -27,6 +26,7 @@ use Rattle.witness_spec.specs.evidence_spec.Evidence.{MAX_AUDITED}
 use Rattle.witness_spec.specs.evidence_spec.Proving.{IsLog, IsUnforged, log_texts, segment_texts}
 use Rattle.witness_spec.specs.Events.{JobParts}
 use Rattle.witness_spec.specs.Replies.{Reply}
+use Rattle.witness_spec.specs.Watched.{Watched}
 use Rattle.witness_spec.specs.Steps.{Step, Past}
 use Rattle.witness_spec.specs.Pairs.{Pair, pair_of, has_fork}
 use Rattle.witness_spec.specs.Done.{noted, accepted}
@@ -75,7 +75,7 @@ first_is s t = ltb-true 0 s.first (and_parts _ _ t.1).0
 none_some : {A : Type 0} (x : A) → ◌≡◌ {A = Option A} None (Some x) → ⊥
 none_some x h = cc
 
-module _ (ms : List Member) (m : Member) (log : List Entry) (one : OneHashAtANumber) (is : IsLog log)
+module _ (w : Watched) (log : List Entry) (one : OneHashAtANumber) (is : IsLog log)
     (all : List (List ℕ)) (unlike : NoCollision all) (log_within : Within (log_texts log) all) where
   -- all of these pairs are the log's
   abbrev pub InLog : List Pair → Type 0
@@ -94,7 +94,7 @@ module _ (ms : List Member) (m : Member) (log : List Entry) (one : OneHashAtANum
     -- the states of the rest
     pub states : List State
     -- the rest is honest from the end's state
-    pub honest : Honest ms end.state (placed (length before + 1) (log_hash before) rest) states
+    pub honest : Honest w.roster end.state (placed (length before + 1) (log_hash before) rest) states
 
   -- a segment is the log's, right after the end
   pub record IsNextIn (end : End) (c : ClosedParts) : Type 0 where
@@ -117,13 +117,13 @@ module _ (ms : List Member) (m : Member) (log : List Entry) (one : OneHashAtANum
   -- what stands after own steps: all that was shown is of the log, and the audit is on it
   pub record Trusted (past : Past) : Type 0 where
     -- all pairs that were shown are of the log
-    pub shown_in : InLog (shown ms m past)
+    pub shown_in : InLog (shown w past)
     -- no segment had a fault
-    pub no_fault : has_fault ms m past ≡ false
+    pub no_fault : has_fault w past ≡ false
     -- the audit's end lies in the log
-    pub reached : Reached (end_of ms m past)
+    pub reached : Reached (end_of w past)
     -- what is under way is the log's part after the end
-    pub stage : StageFits (end_of ms m past) (stage_of past)
+    pub stage : StageFits (end_of w past) (stage_of past)
 
   -- ---- what is shown
 
@@ -138,18 +138,18 @@ module _ (ms : List Member) (m : Member) (log : List Entry) (one : OneHashAtANum
 
   shown_is : (past : Past) (p : Step × Reply) (learned : Option Authenticator) (answer : Option ClosedParts)
       → noted p.0 p.1 ≡ learned → accepted p.0 p.1 ≡ answer
-      → shown ms m (p ∷ past)
-      ≡ pairs_noted (is_exposed ms m past) learned ++ (pairs_accepted answer ++ shown ms m past)
+      → shown w (p ∷ past)
+      ≡ pairs_noted (is_exposed w past) learned ++ (pairs_accepted answer ++ shown w past)
   shown_is past p learned answer e f =
-      ap₂ (λ n a. pairs_noted (is_exposed ms m past) n ++ (pairs_accepted a ++ shown ms m past)) e f
+      ap₂ (λ n a. pairs_noted (is_exposed w past) n ++ (pairs_accepted a ++ shown w past)) e f
 
   shown_on : (past : Past) (p : Step × Reply) (learned : Option Authenticator) (answer : Option ClosedParts)
       → noted p.0 p.1 ≡ learned → accepted p.0 p.1 ≡ answer
-      → InLog (pairs_noted (is_exposed ms m past) learned) → InLog (pairs_accepted answer)
-      → InLog (shown ms m past) → InLog (shown ms m (p ∷ past))
+      → InLog (pairs_noted (is_exposed w past) learned) → InLog (pairs_accepted answer)
+      → InLog (shown w past) → InLog (shown w (p ∷ past))
   shown_on past p learned answer e f h k g q i =
-      joined_in (pairs_noted (is_exposed ms m past) learned) (pairs_accepted answer ++ shown ms m past) h
-      (joined_in (pairs_accepted answer) (shown ms m past) k g) q
+      joined_in (pairs_noted (is_exposed w past) learned) (pairs_accepted answer ++ shown w past) h
+      (joined_in (pairs_accepted answer) (shown w past) k g) q
       (subst (IsAmong q) (shown_is past p learned answer e f) i)
 
   nothing_in : InLog []
@@ -159,23 +159,23 @@ module _ (ms : List Member) (m : Member) (log : List Entry) (one : OneHashAtANum
 
   unfiled : (past : Past) (p : Step × Reply) (learned : Option Authenticator) (answer : Option ClosedParts)
       (to : Stage) → Did past p learned answer None to
-      → InLog (pairs_noted (is_exposed ms m past) learned) → InLog (pairs_accepted answer)
-      → StageFits (end_of ms m past) to → Trusted past → Trusted (p ∷ past)
+      → InLog (pairs_noted (is_exposed w past) learned) → InLog (pairs_accepted answer)
+      → StageFits (end_of w past) to → Trusted past → Trusted (p ∷ past)
   unfiled past p learned answer to did h k fits g =
-      let same : end_of ms m past ≡ end_of ms m (p ∷ past) =
-      sym (ap (end_after ms (end_of ms m past)) did.files) in
+      let same : end_of w past ≡ end_of w (p ∷ past) =
+      sym (ap (end_after w.roster (end_of w past)) did.files) in
       record {
         shown_in = shown_on past p learned answer did.notes did.accepts h k g.shown_in;
-        no_fault = ap (λ j. finds_fault ms (end_of ms m past).state j || has_fault ms m past) did.files
+        no_fault = ap (λ j. finds_fault w.roster (end_of w past).state j || has_fault w past) did.files
             ∙ g.no_fault;
         reached = subst Reached same g.reached;
         stage = subst (λ e. StageFits e (stage_of (p ∷ past))) same
-            (subst (StageFits (end_of ms m past)) (sym did.stage) fits);
+            (subst (StageFits (end_of w past)) (sym did.stage) fits);
       }
 
   -- ---- a segment is accepted
 
-  next_in : (end : End) (c : ClosedParts) → IsGiven ms m c
+  next_in : (end : End) (c : ClosedParts) → IsGiven w c
       → IsAmong (pair_of c.segment.closing) (log_pairs log)
       → Within (segment_texts c.segment) all → c.segment.first ≡ end.number + 1
       → IsNextIn end c × InLog (segment_pairs c.segment)
@@ -185,12 +185,12 @@ module _ (ms : List Member) (m : Member) (log : List Entry) (one : OneHashAtANum
       let apart = fewer (log_texts log ++ segment_texts c.segment) all
       (both (log_texts log) (segment_texts c.segment) all log_within within) unlike in
       let in_log : InLog (segment_pairs c.segment) =
-      λ q j. segment_in_log ms log c.segment is fits some given.closed i apart q.0 q.1 j in
+      λ q j. segment_in_log w.roster log c.segment is fits some given.closed i apart q.0 q.1 j in
       let place : c.segment.first - 1 ≡ end.number = omega (arith, first) in (
         record {
           first = first;
           last = given.closed.ends.number;
-          part = segment_is_part ms log c.segment is fits some given.closed i apart;
+          part = segment_is_part w.roster log c.segment is fits some given.closed i apart;
           opening = subst (λ n. IsAmong (n, c.segment.opening) (log_pairs log)) place
               (in_log (c.segment.first - 1, c.segment.opening)
               (head_among (c.segment.first - 1) c.segment.opening
@@ -208,7 +208,7 @@ module _ (ms : List Member) (m : Member) (log : List Entry) (one : OneHashAtANum
     -- what it shows of other nodes
     pub found : List Authenticator
     -- the verdict on it is sound
-    pub sound : segment_verdict ms end.state c.segment ≡ Sound state found
+    pub sound : segment_verdict w.roster end.state c.segment ≡ Sound state found
     -- its closing number lies in the log, with that state
     pub reached : Reached (record { number = c.segment.closing.number; state = state })
 
@@ -228,13 +228,14 @@ module _ (ms : List Member) (m : Member) (log : List Entry) (one : OneHashAtANum
       (subst (λ n. IsAmong (n, log_hash r.before) (log_pairs log)) r.count there) next.opening in
       let number : length r.before + 1 ≡ s.first = omega (arith, r.count, next.first) in
       let last : length r.before + 1 + length es ≡ s.first + length es = omega (arith, number) in
-      let honest : Honest ms end.state (placed s.first s.opening (es ++ next.part.rest)) r.states =
-      subst (λ l. Honest ms end.state (placed s.first s.opening l) r.states) same.1
-      (subst (λ h. Honest ms end.state (placed s.first h r.rest) r.states) hash
-      (subst (λ n. Honest ms end.state (placed n (log_hash r.before) r.rest) r.states) number r.honest)) in
-      let parts = split ms end.state (placed_in s)
+      let honest : Honest w.roster end.state (placed s.first s.opening (es ++ next.part.rest)) r.states =
+      subst (λ l. Honest w.roster end.state (placed s.first s.opening l) r.states) same.1
+      (subst (λ h. Honest w.roster end.state (placed s.first h r.rest) r.states) hash
+      (subst
+      (λ n. Honest w.roster end.state (placed n (log_hash r.before) r.rest) r.states) number r.honest)) in
+      let parts = split w.roster end.state (placed_in s)
       (placed (s.first + length es) (last_hash s.opening (links_from s.first es)) next.part.rest) r.states
-      (subst (λ ps. Honest ms end.state ps r.states)
+      (subst (λ ps. Honest w.roster end.state ps r.states)
       (places_joined s.first s.opening es next.part.rest) honest) in
       let behind : log_hash (r.before ++ es) ≡ last_hash s.opening (links_from s.first es) =
       last_hash-parts zeros 1 r.before es s.first (omega (arith, number))
@@ -244,16 +245,16 @@ module _ (ms : List Member) (m : Member) (log : List Entry) (one : OneHashAtANum
       record {
         state = last_state end.state parts.first;
         found = found end.state (placed_in s) parts.first;
-        sound = sound ms end.state (placed_in s) parts.first parts.honest;
+        sound = sound w.roster end.state (placed_in s) parts.first parts.honest;
         reached = record {
           before = r.before ++ es;
           rest = next.part.rest;
           whole = r.whole ∙ (ap (λ l. r.before ++ l) same.1 ∙ sym (append_assoc r.before es next.part.rest));
           count = omega (arith, far, next.last);
           states = parts.more;
-          honest = subst (λ n. Honest ms (last_state end.state parts.first)
+          honest = subst (λ n. Honest w.roster (last_state end.state parts.first)
               (placed n (log_hash (r.before ++ es)) next.part.rest) parts.more) (sym far)
-              (subst (λ h. Honest ms (last_state end.state parts.first)
+              (subst (λ h. Honest w.roster (last_state end.state parts.first)
               (placed (s.first + length es) h next.part.rest) parts.more) (sym behind) parts.rest);
         };
       }
@@ -261,47 +262,54 @@ module _ (ms : List Member) (m : Member) (log : List Entry) (one : OneHashAtANum
   files_on : (past : Past) (p : Step × Reply) (j : JobParts) → stage_of past ≡ Out j.segment
       → Did past p None None (Some j) NoAudit → Trusted past → Trusted (p ∷ past)
   files_on past p j out did g =
-      let end : End = end_of ms m past in
+      let end : End = end_of w past in
       let f = file_sound end j.segment (subst (StageFits end) out g.stage) g.reached in
-      let moved : end_of ms m (p ∷ past)
+      let moved : end_of w (p ∷ past)
       ≡ record { number = j.segment.segment.closing.number; state = f.state } =
-      ap (end_after ms end) did.files ∙ ap (moved_by end j.segment.segment.closing.number) f.sound in
+      ap (end_after w.roster end) did.files ∙ ap (moved_by end j.segment.segment.closing.number) f.sound in
       record {
         shown_in = shown_on past p None None did.notes did.accepts nothing_in nothing_in g.shown_in;
-        no_fault = ap (λ x. finds_fault ms end.state x || has_fault ms m past) did.files
-            ∙ (ap (λ v. is_fault v || has_fault ms m past) f.sound ∙ g.no_fault);
+        no_fault = ap (λ x. finds_fault w.roster end.state x || has_fault w past) did.files
+            ∙ (ap (λ v. is_fault v || has_fault w past) f.sound ∙ g.no_fault);
         reached = subst Reached (sym moved) f.reached;
-        stage = subst (StageFits (end_of ms m (p ∷ past))) (sym did.stage) tt;
+        stage = subst (StageFits (end_of w (p ∷ past))) (sym did.stage) tt;
       }
 
   -- ---- all steps
 
-  one_step : (past : Past) (p : Step × Reply) → Doing ms m past p → IsCheckedStep ms m p.0
-      → AllByRecursion (IsUnforged ms m.node log) (authenticators_in p.0) → Within (texts_in p.0) all
+  one_step : (past : Past) (p : Step × Reply) → Doing w past p → IsCheckedStep w p.0
+      → AllByRecursion (IsUnforged w.roster w.member.node log) (authenticators_in p.0)
+      → Within (texts_in p.0) all
       → Trusted past → Trusted (p ∷ past)
   one_step past p (Nothing did) checked unforged within g =
       unfiled past p None None (stage_of past) did nothing_in nothing_in g.stage g
   one_step past p (Notes a same did) checked unforged within g =
-      let learned : IsLearned ms m a = subst (IsCheckedStep ms m) same checked in
-      let free = subst (λ s. AllByRecursion (IsUnforged ms m.node log) (authenticators_in s)) same unforged in
+      let learned : IsLearned w a = subst (IsCheckedStep w) same checked in
+      let free =
+      subst
+      (λ s. AllByRecursion (IsUnforged w.roster w.member.node log)
+      (authenticators_in s)) same unforged in
       unfiled past p (Some a) None (stage_of past) did
-      (noted_in (is_exposed ms m past) a (free.0 learned.node learned.signed)) nothing_in g.stage g
+      (noted_in (is_exposed w past) a (free.0 learned.node learned.signed)) nothing_in g.stage g
   one_step past p (Accepts c same wanted did) checked unforged within g =
-      let given : IsGiven ms m c = subst (IsCheckedStep ms m) same checked in
-      let free = subst (λ s. AllByRecursion (IsUnforged ms m.node log) (authenticators_in s)) same unforged in
-      let first : c.segment.first ≡ (end_of ms m past).number + 1 =
-      subst (StageFits (end_of ms m past)) wanted g.stage in
-      let next = next_in (end_of ms m past) c given (free.0 given.node given.closed.signed)
+      let given : IsGiven w c = subst (IsCheckedStep w) same checked in
+      let free =
+      subst
+      (λ s. AllByRecursion (IsUnforged w.roster w.member.node log)
+      (authenticators_in s)) same unforged in
+      let first : c.segment.first ≡ (end_of w past).number + 1 =
+      subst (StageFits (end_of w past)) wanted g.stage in
+      let next = next_in (end_of w past) c given (free.0 given.node given.closed.signed)
       (subst (λ s. Within (texts_in s) all) same within) first in
       unfiled past p None (Some c) (Given c) did nothing_in next.1 next.0 g
   one_step past p (Asks first last at few did) checked unforged within g =
       unfiled past p None None (Wanted first last) did nothing_in nothing_in at g
   one_step past p (Begins c at did) checked unforged within g =
       unfiled past p None None (Out c) did nothing_in nothing_in
-      (subst (StageFits (end_of ms m past)) at g.stage) g
+      (subst (StageFits (end_of w past)) at g.stage) g
   one_step past p (PutsBack c at did) checked unforged within g =
       unfiled past p None None (Given c) did nothing_in nothing_in
-      (subst (StageFits (end_of ms m past)) at g.stage) g
+      (subst (StageFits (end_of w past)) at g.stage) g
   one_step past p (Files j at did) checked unforged within g = files_on past p j at did g
 
   all_parts : {A : Type 0} (P : A → Type 0) (xs ys : List A) → AllByRecursion P (xs ++ ys)
@@ -309,9 +317,10 @@ module _ (ms : List Member) (m : Member) (log : List Entry) (one : OneHashAtANum
   all_parts P [] ys h = (tt, h)
   all_parts P (x ∷ xs) ys h = let k = all_parts P xs ys h.1 in ((h.0, k.0), k.1)
 
-  trusted : (past : Past) (states : List State) → Honest ms (opening_of m) (placed 1 zeros log) states
-      → AreOwed ms m past → AreChecked ms m past
-      → AllByRecursion (IsUnforged ms m.node log) (flat_map (λ p. authenticators_in p.0) past)
+  trusted : (past : Past) (states : List State)
+      → Honest w.roster (opening_of w.member) (placed 1 zeros log) states
+      → AreOwed w past → AreChecked w past
+      → AllByRecursion (IsUnforged w.roster w.member.node log) (flat_map (λ p. authenticators_in p.0) past)
       → Within (flat_map (λ p. texts_in p.0) past) all → Trusted past
   trusted [] states honest owed checked unforged within = record {
     shown_in = λ q i. elim i [
@@ -330,20 +339,21 @@ module _ (ms : List Member) (m : Member) (log : List Entry) (one : OneHashAtANum
     stage = tt;
   }
   trusted (p ∷ past) states honest owed checked unforged within =
-      let parts = all_parts (IsUnforged ms m.node log) (authenticators_in p.0)
+      let parts = all_parts (IsUnforged w.roster w.member.node log) (authenticators_in p.0)
       (flat_map (λ q. authenticators_in q.0) past) unforged in
       let texts = flat_map (λ (q : Step × Reply). texts_in q.0) past in
-      one_step past p (doing ms m past p.0 p.1 owed.0) checked.0 parts.0
+      one_step past p (doing w past p.0 p.1 owed.0) checked.0 parts.0
       (λ t i. within t (left (texts_in p.0) texts t i))
       (trusted past states honest owed.1 checked.1 parts.1
       (λ t i. within t (right (texts_in p.0) texts t i)))
 
   -- it isn't exposed
-  pub not_exposed : (past : Past) (states : List State) → Honest ms (opening_of m) (placed 1 zeros log) states
-      → AreOwed ms m past → AreChecked ms m past
-      → AllByRecursion (IsUnforged ms m.node log) (flat_map (λ p. authenticators_in p.0) past)
-      → Within (flat_map (λ p. texts_in p.0) past) all → is_exposed ms m past ≡ false
+  pub not_exposed : (past : Past) (states : List State)
+      → Honest w.roster (opening_of w.member) (placed 1 zeros log) states
+      → AreOwed w past → AreChecked w past
+      → AllByRecursion (IsUnforged w.roster w.member.node log) (flat_map (λ p. authenticators_in p.0) past)
+      → Within (flat_map (λ p. texts_in p.0) past) all → is_exposed w past ≡ false
   not_exposed past states honest owed checked unforged within =
       let g = trusted past states honest owed checked unforged within in
-      or_from (has_fork (shown ms m past)) (has_fault ms m past)
-      (no_fork log one (shown ms m past) g.shown_in) g.no_fault
+      or_from (has_fork (shown w past)) (has_fault w past)
+      (no_fork log one (shown w past) g.shown_in) g.no_fault

@@ -1,10 +1,10 @@
-use Rattle.std.proofs.Common.{◌≡◌, rules, refl, ap, arith, length, []}
+use Rattle.std.proofs.Common.{◌≡◌, rules, refl, ap, arith, length}
 use Rattle.authenticator.proofs.Signed.{list_same}
 use Rattle.secure_log.specs.LogEntries.Chain.{zeros, hash_after, link_of}
 use Rattle.secure_log.specs.declared.log_entries.entry.Entry.TheVariants.{Clock}
 use Rattle.witness_spec.specs.Events.{ItsEvidence}
 use Rattle.witness_spec.specs.Steps.{Ask}
-use Rattle.witness_examples.specs.Worked.{five, one_hash}
+use Rattle.witness_examples.specs.Worked.{node_five, one_hash}
 use Rattle.witness_examples.specs.Forks.{answer_forked}
 use Rattle.witness_examples.proofs.Telling.{told}
 use Rattle.witness_examples.proofs.Hashes.{hash_length, short_first, short_last}
@@ -18,6 +18,6 @@ returns-clause-unlike c = λ e.
 pub returns-clause-evidence : goal.returns-clause-evidence
 returns-clause-evidence c = record {
   steps = search (rules, short_first, short_last);
-  next = told [] five answer_forked (Ask ItsEvidence) _ (λ x. x)
+  next = told node_five answer_forked (Ask ItsEvidence) _ (λ x. x)
       (rw (list_same zeros zeros refl, short_last 1 zeros (link_of 1 (Clock 1 0))) refl);
 }

@@ -1,4 +1,4 @@
-use Rattle.std.proofs.Common.{◌≡◌, Bool, false, cond, Some, rules, refl, ap₂, []}
+use Rattle.std.proofs.Common.{◌≡◌, Bool, false, cond, Some, rules, refl, ap₂}
 use Rattle.std.specs.Prelude.{option_map}
 use Rattle.authenticator.proofs.Signed.{list_same}
 use Rattle.secure_log.specs.LogEntries.Chain.{zeros, link_of}
@@ -10,7 +10,7 @@ use Rattle.witness_spec.specs.Replies.{Told, EvidenceIs, Accepted, Exposed}
 use Rattle.witness_spec.specs.Steps.{Answer, Ask}
 use Rattle.witness_spec.specs.Standing.{is_exposed}
 use Rattle.witness_spec.specs.Exposing.{new_charge, evidence}
-use Rattle.witness_examples.specs.Worked.{five, read_hash, segment}
+use Rattle.witness_examples.specs.Worked.{node_five, read_hash, segment}
 use Rattle.witness_examples.specs.Forks.{forked, later_segment, later_closed, later_wanted, opening_forked}
 use Rattle.witness_examples.proofs.Telling.{told}
 use Rattle.witness_examples.proofs.Hashes.{short_first, short_last}
@@ -20,7 +20,7 @@ pub returns-clause-exposed : goal.returns-clause-exposed
 unfolding step
 returns-clause-exposed c = record {
   steps = search (rules, short_first, short_last);
-  next = told [] five opening_forked (Ask ItsIndication) (Told Exposed) (λ x. x)
+  next = told node_five opening_forked (Ask ItsIndication) (Told Exposed) (λ x. x)
       (rw (
         list_same zeros zeros refl,
         list_same read_hash read_hash refl,
@@ -29,13 +29,13 @@ returns-clause-exposed c = record {
       ) refl);
 }
 
-not_yet : is_exposed [] five later_wanted ≡ false
+not_yet : is_exposed node_five later_wanted ≡ false
 unfolding step
 not_yet =
     rw (list_same zeros zeros refl, list_same read_hash read_hash refl)
     (rw (list_same zeros zeros refl, list_same read_hash read_hash refl) refl)
 
-charged : new_charge [] five later_wanted (Answer later_closed) Accepted
+charged : new_charge node_five later_wanted (Answer later_closed) Accepted
     ≡ Some (forked 1 (segment_showing segment) (Some (segment_showing later_segment))).charge
 unfolding step
 charged =
@@ -50,8 +50,8 @@ pub returns-clause-evidence : goal.returns-clause-evidence
 unfolding step
 returns-clause-evidence c = record {
   steps = search (rules, short_first, short_last);
-  next = told [] five opening_forked (Ask ItsEvidence) _ (λ x. x)
-      (ap₂ (λ (b : Bool) g. EvidenceIs (cond b (evidence [] five later_wanted)
+  next = told node_five opening_forked (Ask ItsEvidence) _ (λ x. x)
+      (ap₂ (λ (b : Bool) g. EvidenceIs (cond b (evidence node_five later_wanted)
       (option_map (λ g. record { node = 5; charge = g }) g))) not_yet charged);
 }
 

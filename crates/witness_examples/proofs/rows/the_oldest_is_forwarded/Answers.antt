@@ -11,6 +11,6 @@ one_more : (past : Past) (a : Authenticator) → forwards ((Forward, Forwarded a
 one_more past a = omega (arith, sum_by-cons)
 
 pub returns-clause-taken : goal.returns-clause-taken
-returns-clause-taken c = λ ms m past a rest h.
-    ap₂ drop (one_more past a) (append-nil (all_found ms m past))
-    ∙ drop_more (forwards past) (all_found ms m past) a rest h
+returns-clause-taken c = λ w past a rest h.
+    ap₂ drop (one_more past a) (append-nil (all_found w past))
+    ∙ drop_more (forwards past) (all_found w past) a rest h

@@ -9,4 +9,4 @@ pub returns-clause-alone : goal.returns-clause-alone
 returns-clause-alone c = same_book
 
 pub returns-clause-each : goal.returns-clause-each
-returns-clause-each c = λ ms m books history is stand. found ms m history books is stand
+returns-clause-each c = λ w books history is stand. found w history books is stand

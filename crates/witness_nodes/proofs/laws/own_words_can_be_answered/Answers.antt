@@ -1,14 +1,15 @@
-use Rattle.witness_laws.specs.witness_spec.Histories.{own}
+use Rattle.witness_laws.specs.witness_spec.Histories.{own_of}
 use Rattle.witness_laws.proofs.OwnSteps.{own_owed}
 use Rattle.witness_nodes.proofs.OwnAsked.{asked_is_signed}
 use Rattle.witness_nodes.proofs.laws.own_words_can_be_answered.Goals as goal
 
 -- an audit asks up to a number that the node signed
 pub returns : goal.returns
-returns c = λ ms m history first last fault member h all stage refused.
+returns c = λ w history first last fault member h all stage refused.
     let n = c.args.node.now in
-    c.what_is_asked_can_be_answered.ensures ms m history n first last fault member h stage
+    c.what_is_asked_can_be_answered.ensures w history n first last fault member h stage
     c.is_honest.ensures.signed
-    (asked_is_signed c.each_send_and_recv_is_signed.ensures.signed c.each_send_and_recv_is_signed.ensures.unsigned n
-    ms m (own ms m.node history) first last (own_owed ms m member history h) all stage)
+    (asked_is_signed c.each_send_and_recv_is_signed.ensures.signed
+    c.each_send_and_recv_is_signed.ensures.unsigned n w (own_of w history) first last
+    (own_owed w member history h) all stage)
     refused

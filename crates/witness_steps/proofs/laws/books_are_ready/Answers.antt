@@ -6,9 +6,9 @@ pub returns-clause-opening : goal.returns-clause-opening
 returns-clause-opening c = first_ready
 
 pub returns-clause-step : goal.returns-clause-step
-returns-clause-step c = λ ms m books b event step reply roster ready e w there owes. (
-  all_step ms m books b event step reply roster ready.kept e w there owes,
-  ready_on ms m books b event step reply roster ready e w there owes,
+returns-clause-step c = λ w books b event step reply roster ready e its there owes. (
+  all_step w books b event step reply roster ready.kept e its there owes,
+  ready_on w books b event step reply roster ready e its there owes,
 )
 
 pub returns-clause-ready : goal.returns-clause-ready

@@ -3,7 +3,7 @@ use Rattle.witness_steps.proofs.Standing.{stand}
 use Rattle.witness_steps.proofs.laws.books_stand.Goals as goal
 
 pub returns-clause-one : goal.returns-clause-one
-returns-clause-one c = λ ms m history is h. (own_known ms m history is h).of
+returns-clause-one c = λ w history is h. (own_known w history is h).of
 
 pub returns-clause-all : goal.returns-clause-all
 returns-clause-all c = stand

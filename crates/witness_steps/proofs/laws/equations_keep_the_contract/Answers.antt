@@ -2,11 +2,12 @@ use Rattle.std.proofs.Common.{[], refl}
 use Rattle.witness_steps.proofs.Histories.{at_first}
 use Rattle.witness_steps.proofs.AnyBook.{any_stands}
 use Rattle.witness_steps.proofs.laws.equations_keep_the_contract.Goals as goal
+use Rattle.witness_spec.specs.Watched.{watched}
 
 -- whatever the history, the book is the member's after its own steps
 pub returns-clause-step : goal.returns-clause-step
-returns-clause-step c = λ ms m b event step reply is fits node e w owes history h stands.
-    any_stands ms m history b is h fits (record { node = node; stands = stands }) event step reply e w owes
+returns-clause-step c = λ w b event step reply is fits node e its owes history h stands.
+    any_stands w history b is h fits (record { node = node; stands = stands }) event step reply e its owes
 
 pub returns-clause-opening : goal.returns-clause-opening
-returns-clause-opening c = λ m. (refl, (at_first [] m).fits)
+returns-clause-opening c = λ m. (refl, (at_first (watched [] m)).fits)

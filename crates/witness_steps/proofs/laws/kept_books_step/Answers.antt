@@ -5,7 +5,7 @@ pub returns-clause-opening : goal.returns-clause-opening
 returns-clause-opening c = first_kept
 
 pub returns-clause-step : goal.returns-clause-step
-returns-clause-step c = λ ms m books b event step reply roster kept e w there owes. (
-  all_step ms m books b event step reply roster kept e w there owes,
-  all_kept ms m books b event step reply roster kept e w there owes,
+returns-clause-step c = λ w books b event step reply roster kept e its there owes. (
+  all_step w books b event step reply roster kept e its there owes,
+  all_kept w books b event step reply roster kept e its there owes,
 )

@@ -1,4 +1,5 @@
 use Rattle.std.proofs.Common.{sym, subst}
+use Rattle.witness_spec.specs.Watched.{watched}
 use Rattle.witness_spec.specs.Premises.{NoCollisionWith, Unforged}
 use Rattle.witness_examples.specs.Signed.Audited.{readings}
 use Rattle.witness_examples.specs.Signed.Audited.{alone, client}
@@ -10,7 +11,8 @@ returns-clause-honest c = reading_honest
 
 pub returns-clause-unforged : goal.returns-clause-unforged
 returns-clause-unforged c = λ secret.
-    subst (Unforged (alone secret) (client secret) readings) (sym (own_all secret)) (unforged secret)
+    subst (Unforged (watched (alone secret) (client secret)) readings) (sym (own_all secret))
+    (unforged secret)
 
 pub returns-clause-unlike : goal.returns-clause-unlike
 returns-clause-unlike c = λ secret. subst (NoCollisionWith readings) (sym (own_all secret)) (unlike secret)

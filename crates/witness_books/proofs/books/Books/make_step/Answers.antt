@@ -1,11 +1,11 @@
-use Rattle.std.proofs.Common.{List, map, subst}
+use Rattle.std.proofs.Common.{map, subst}
 use Rattle.witness_spec.specs.Contract.{StepsTo}
 use Rattle.witness_steps.specs.Books.{parts_of}
 use Rattle.node_book.specs.Events.{event_in, step_in}
 use Rattle.node_book.specs.Replies.{reply_in}
 use Rattle.witness_books.specs.Books.{BooksParts, parts_in}
-use Rattle.witness_books.proofs.Stepping.{Goes, its_member, step_goes}
-use Rattle.witness_books.proofs.books.Books.step.Goals as goal
+use Rattle.witness_books.proofs.Stepping.{its_member, step_goes}
+use Rattle.witness_books.proofs.books.Books.make_step.Goals as goal
 
 pub step_of-requires-clause-member : goal.step_of-requires-clause-member
 step_of-requires-clause-member c =

@@ -1,0 +1,23 @@
+-- A run leads to a history for which the books stand; the laws on histories say the rest.
+use Rattle.std.proofs.Common.{inr}
+use Rattle.witness_spec.specs.Watched.{watched}
+use Rattle.witness_books.proofs.laws.runs_keep_the_headline.Goals as goal
+
+pub returns : goal.returns
+returns c ms old new events replies run history is stands =
+    let kept = run.keeps history is stands in
+    record {
+      history = kept.0;
+      stands = kept.1;
+      alone = λ m first last more others earlier member was stood other same.
+          c.runs_are_histories.ensures.agree (watched ms m) old first new last history earlier events more
+          replies others member is stands was stood run other same;
+      says = λ m member. record {
+        honest = λ log s texts honest unforged differ.
+            c.honest_is_never_exposed.ensures (watched ms m) _ log s member kept.0 texts honest unforged
+            differ;
+        differs = λ f. (c.exposed_exactly_if.ensures.exposed (watched ms m) _).1 (inr f);
+        shown = c.evidence_where_exposed.ensures (watched ms m) _ member kept.0;
+        proves = λ e has. c.evidence_proves.ensures (watched ms m) _ e member kept.0 has;
+      };
+    }

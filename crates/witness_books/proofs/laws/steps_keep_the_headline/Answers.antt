@@ -1,0 +1,8 @@
+-- A step is a run of one event.
+use Rattle.std.proofs.Common.{◌∷◌, [], refl}
+use Rattle.witness_books.proofs.laws.steps_keep_the_headline.Goals as goal
+
+pub returns : goal.returns
+returns c ms old new event reply step =
+    c.runs_keep_the_headline.ensures ms old new (event ∷ []) (reply ∷ [])
+    (c.runs_are_histories.ensures.steps ms old new (event ∷ []) (reply ∷ []) (new, (step, refl)))
