@@ -16,4 +16,8 @@ mod learned;
 #[cfg(test)]
 mod lying;
 #[cfg(test)]
+mod others;
+#[cfg(test)]
 mod parties;
+#[cfg(test)]
+mod strangers;

@@ -126,7 +126,10 @@ fn refuses_text(
     kind: Kind,
     refusal: Refusal,
 ) -> bool {
-    match (checked_event(alloc, roster, text, kind), packet_of(alloc, text, kind)) {
+    match (
+        checked_event(alloc, roster, text, kind),
+        packet_of(alloc, text, kind),
+    ) {
         (Some(event), Some(bytes)) => {
             let refused = refuses(alloc, books, event, refusal);
             refuses(alloc, books, EventOf::Deliver(bytes), refusal) && refused
