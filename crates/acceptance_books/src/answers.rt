@@ -1,0 +1,178 @@
+//! What books answer, told by values that may be copied, and events that are handed to them.
+
+use authenticator::{Authenticator, check};
+use challenge::replay_code::ReplayFault;
+use envelopes::{check_ack, check_envelope};
+use node_book::{
+    Back, Event, EventOf, Indication, JobVerdict, Question, Refusal, ReplayDone, ReplayJob, Reply,
+    ReplyOf, SharedSegment,
+};
+use secure_log::check_segment;
+use std::alloc::Global;
+use witness_books::Books;
+
+/// What a reply says; of a list how many there are, of evidence whether there is some.
+#[derive(Clone, Copy, Debug, PartialEq, Eq)]
+pub enum Answer {
+    Noted,
+    Already,
+    Opened,
+    Accepted,
+    Closed,
+    /// The first and the last number.
+    Asked(u64, u64),
+    /// The job's number.
+    Job(u64),
+    Filed,
+    Returned,
+    /// The node that signed, and the number.
+    Forwarded(u32, u64),
+    Empty,
+    Told(Indication),
+    OpenList(usize),
+    EvidenceIs(bool),
+    Refused(Refusal),
+    /// With the number of the job that comes back.
+    FileRefused(Refusal, u64),
+    PutBackRefused(Refusal, u64),
+}
+
+/// The number of a job, which is spent.
+pub fn spend_job(job: ReplayJob) -> u64 {
+    let number = job.plain().number();
+    job.discard();
+    number
+}
+
+/// The number of a job that was done, which is spent.
+pub fn spend_done(done: ReplayDone) -> u64 {
+    let number = done.plain().job().number();
+    done.discard();
+    number
+}
+
+/// What a reply says. A job or a done value in it is spent.
+pub fn answer_of(reply: Reply) -> Answer {
+    match reply {
+        ReplyOf::Noted => Answer::Noted,
+        ReplyOf::Already => Answer::Already,
+        ReplyOf::Opened => Answer::Opened,
+        ReplyOf::Accepted => Answer::Accepted,
+        ReplyOf::Closed => Answer::Closed,
+        ReplyOf::Asked { first, last } => Answer::Asked(first.get(), last.get()),
+        ReplyOf::Job(job) => Answer::Job(spend_job(job)),
+        ReplyOf::Filed => Answer::Filed,
+        ReplyOf::Returned => Answer::Returned,
+        ReplyOf::Forwarded(shown) => Answer::Forwarded(shown.node, shown.number.get()),
+        ReplyOf::Empty => Answer::Empty,
+        ReplyOf::Told(indication) => Answer::Told(indication),
+        ReplyOf::OpenList(list) => Answer::OpenList(list.len()),
+        ReplyOf::EvidenceIs(evidence) => Answer::EvidenceIs(evidence.is_some()),
+        ReplyOf::Refused(refusal) => Answer::Refused(refusal),
+        ReplyOf::FileRefused(refusal, done) => Answer::FileRefused(refusal, spend_done(done)),
+        ReplyOf::PutBackRefused(refusal, job) => Answer::PutBackRefused(refusal, spend_job(job)),
+    }
+}
+
+/// Whether an event is answered so.
+pub fn answers(alloc: Global, books: &mut Books, event: Event, answer: Answer) -> bool {
+    answer_of(books.step(alloc, event)) == answer
+}
+
+/// Whether an event is refused so.
+pub fn refuses(alloc: Global, books: &mut Books, event: Event, refusal: Refusal) -> bool {
+    answers(alloc, books, event, Answer::Refused(refusal))
+}
+
+/// Whether a node's indication is this.
+pub fn tells(alloc: Global, books: &mut Books, node: u32, indication: Indication) -> bool {
+    let event = EventOf::Ask(node, Question::Indication);
+    answers(alloc, books, event, Answer::Told(indication))
+}
+
+/// Whether an authenticator that is checked first, by its text, is answered so where it is learned.
+pub fn learns(
+    alloc: Global,
+    books: &mut Books,
+    authenticator: &Authenticator,
+    answer: Answer,
+) -> bool {
+    let mut text = Vec::new(alloc);
+    authenticator.write(&mut text).is_ok() && learns_text(alloc, books, &text, answer)
+}
+
+/// The same by its text.
+fn learns_text(alloc: Global, books: &mut Books, text: &[u8], answer: Answer) -> bool {
+    match check(alloc, books.roster(), text) {
+        Ok(checked) => answers(alloc, books, EventOf::Learn(checked), answer),
+        Err(_) => false,
+    }
+}
+
+/// Whether a challenge with a message is answered so, by its envelope's text.
+pub fn challenges(alloc: Global, books: &mut Books, text: &[u8], answer: Answer) -> bool {
+    match check_envelope(alloc, books.roster(), text) {
+        Ok(checked) => answers(alloc, books, EventOf::SendChallenge(checked), answer),
+        Err(_) => false,
+    }
+}
+
+/// Whether an acknowledgement is answered so, by its text.
+pub fn acknowledges(alloc: Global, books: &mut Books, text: &[u8], answer: Answer) -> bool {
+    match check_ack(alloc, books.roster(), text) {
+        Ok(checked) => answers(alloc, books, EventOf::AckIn(checked), answer),
+        Err(_) => false,
+    }
+}
+
+/// A segment by its text, closed under the roster of these books.
+pub fn shared(alloc: Global, books: &Books, text: &[u8]) -> Option<SharedSegment> {
+    match check_segment(alloc, books.roster(), text) {
+        Ok(closed) => SharedSegment::new(alloc, closed).ok(),
+        Err(_) => None,
+    }
+}
+
+/// Whether a segment is answered so where it answers an audit, by its text.
+pub fn audited(alloc: Global, books: &mut Books, text: &[u8], answer: Answer) -> bool {
+    match shared(alloc, books, text) {
+        Some(segment) => answers(alloc, books, EventOf::Answer(segment), answer),
+        None => false,
+    }
+}
+
+/// What a replay finds.
+#[derive(Clone, Copy, Debug, PartialEq, Eq)]
+pub enum Found {
+    /// So many authenticators of other nodes.
+    Sound(usize),
+    /// A fault, and the number of its entry.
+    Fault(ReplayFault, u64),
+}
+
+/// What a replay that was done found.
+fn found_in(done: &ReplayDone) -> Found {
+    match done.verdict() {
+        JobVerdict::Sound(_, shown) => Found::Sound(shown.len()),
+        JobVerdict::Fault(fault, number) => Found::Fault(*fault, number.get()),
+    }
+}
+
+/// Whether a job that is run finds this, and is filed.
+fn files(alloc: Global, books: &mut Books, job: ReplayJob, found: Found) -> bool {
+    match job.run(alloc) {
+        Back::Done(done) => {
+            let finds = found_in(&done) == found;
+            answers(alloc, books, EventOf::File(done), Answer::Filed) && finds
+        }
+        Back::Job(job) => spend_job(job) == 0,
+    }
+}
+
+/// Whether the replay of a node's segment that was given begins, finds this, and is filed.
+pub fn replays(alloc: Global, books: &mut Books, node: u32, found: Found) -> bool {
+    match books.step(alloc, EventOf::Begin(node)) {
+        ReplyOf::Job(job) => files(alloc, books, job, found),
+        reply => answer_of(reply) == Answer::Job(0) && false,
+    }
+}
