@@ -14,11 +14,11 @@ readonly REFUSED=400
 # Of each subject how many requests the calls have at most, and how many what is made first has, which aren't refused.
 declare -rA MOST=(
     [replies]=30 [files]=90 [keys]=10 [log]=84 [state]=80 [calls]=124 [streams]=24 [steps]=30 [entries]=30 [segments]=56
-    [evidence]=124
+    [evidence]=124 [books]=34 [filings]=13
 )
 declare -rA MADE=(
     [replies]=0 [files]=0 [keys]=0 [log]=1 [state]=1 [calls]=11 [streams]=15 [steps]=113 [entries]=120 [segments]=149
-    [evidence]=1
+    [evidence]=1 [books]=171 [filings]=234
 )
 readonly CASE=$PWD/checks/evidence/wrong_checkpoint.evidence
 
@@ -135,12 +135,21 @@ check_subject() {
             # These two copy a signature, and write no text of it.
             least_refused 6 of_authenticator from_start
             ;;
+        # Nothing else takes memory: neither AckIn, Begin and PutBack, nor Ask of the indication and of evidence at hand.
+        books)
+            exactly_refused 4 'Deliver of an authenticator' 1 SendChallenge 5 'Ask of the challenges' \
+                13 'Deliver of a segment' 1 Learn 1 Audit 1 Answer 7 'Learn that forks'
+            ;;
+        # A done value that was refused comes back, and is filed then. This evidence is made when it is asked for.
+        filings)
+            exactly_refused 1 'File of a sound verdict' 3 Forward 1 'File of a fault' 7 'Ask of the evidence'
+            ;;
     esac
 }
 
 subjects=("$@")
-if [ $# -eq 0 ]; then subjects=(replies files keys log state calls streams steps entries segments evidence); fi
-scratch_crate refused_memory checks/refused_memory rpc_streams challenge evidence_showings replay node_logs checkpoint state_machine gateway service nfs_items rpc commitment secure_log authenticator merkle_keys xdr sha2
+if [ $# -eq 0 ]; then subjects=(replies files keys log state calls streams steps entries segments evidence books filings); fi
+scratch_crate refused_memory checks/refused_memory rpc_streams witness_books node_book packets challenge evidence_showings envelopes replay node_logs checkpoint state_machine gateway service nfs_items rpc commitment secure_log authenticator merkle_keys xdr sha2
 mkdir "$work/cases"
 for subject in "${subjects[@]}"; do make_cases "$subject"; done
 rt try --steps 1 --fail-alloc $REFUSED --cases "$work/cases" > "$work/log" 2>&1 || { cat "$work/log" >&2; exit 1; }
