@@ -122,7 +122,7 @@ fn flood(alloc: Global) -> Option<Vec<Vec<u8>>> {
 }
 
 /// All that is handed over.
-fn handed(alloc: Global) -> Option<Handed> {
+fn all_handed(alloc: Global) -> Option<Handed> {
     let mut fifth = keys(alloc, FIFTH, 2)?;
     let mut server = keys(alloc, SERVER, 1)?;
     let log = log_of_two(alloc)?;
@@ -249,7 +249,7 @@ fn are_owed_anew(alloc: Global, handed: &Handed, others: usize) -> bool {
 
 /// Whether they are with none and with 24 before each, which are 288.
 fn are_owed_among_others(alloc: Global) -> bool {
-    match handed(alloc) {
+    match all_handed(alloc) {
         Some(handed) => are_owed_anew(alloc, &handed, 0) && are_owed_anew(alloc, &handed, 24),
         None => false,
     }
