@@ -20,4 +20,6 @@ mod others;
 #[cfg(test)]
 mod parties;
 #[cfg(test)]
+mod running;
+#[cfg(test)]
 mod strangers;
