@@ -1,12 +1,16 @@
 //! `nfsacc`: an accountable file service.
 #![tactic(auto)]
 
+mod shelf;
+
 use clap::error::ErrorKind;
-use console::command_line::{CheckRequest, Request, parse};
+use console::command_line::{CheckRequest, Request, RunRequest, parse};
 use console::{CheckFault, Judgement, check, check_and_explain};
 use rpc::records::{Counting, RecordFault, RecordReader};
 use rpc_streams::run_rpc;
-use std::io::BufReader;
+use scripts::{ScriptEnd, ScriptFault, run_script};
+use shelf::FileShelf;
+use std::io::{BufReader, Read};
 use std::process::ExitCode;
 use std::rt::Files;
 use std::{env, fs, io};
@@ -60,11 +64,7 @@ fn report_fault(rt: &impl Eprint, fault: RecordFault) -> u8 {
 fn check_file<R: Files + Print + Eprint + AllocGlobal>(rt: &R, request: CheckRequest<'_>) -> u8 {
     let mut file = match fs::open(rt, request.file) {
         Ok(file) => Counting::new(file),
-        Err(error) if error.kind() == io::ErrorKind::OutOfMemory => return report_no_memory(rt),
-        Err(error) => {
-            let _ = eprintln!(rt; "nfsacc: {}: {error}", request.file);
-            return DEVICE;
-        }
+        Err(error) => return report_file(rt, request.file, &error),
     };
     let mut writer = Counting::new(io::writer(rt));
     let judgement = if request.explain {
@@ -81,6 +81,59 @@ fn check_file<R: Files + Print + Eprint + AllocGlobal>(rt: &R, request: CheckReq
             DEVICE
         }
     }
+}
+
+/// Runs the script in a file, or the one on standard input.
+fn run_file<R>(rt: &R, request: RunRequest<'_>) -> u8
+where
+    R: Files + Input + Print + Eprint + AllocGlobal + Threads + Wait + Sync,
+{
+    if request.file == "-" {
+        return match BufReader::with_capacity(rt.alloc(), READ_AHEAD, rt.reader()) {
+            Ok(mut reader) => run_lines(rt, &mut reader, request),
+            Err(_) => report_no_memory(rt),
+        };
+    }
+    match fs::open(rt, request.file) {
+        Ok(file) => match BufReader::with_capacity(rt.alloc(), READ_AHEAD, file) {
+            Ok(mut reader) => run_lines(rt, &mut reader, request),
+            Err(_) => report_no_memory(rt),
+        },
+        Err(error) => report_file(rt, request.file, &error),
+    }
+}
+
+/// Runs the lines of a script, and gives the status for how it came to its end.
+fn run_lines<R, I>(rt: &R, reader: &mut I, request: RunRequest<'_>) -> u8
+where
+    R: Files + Print + Eprint + AllocGlobal + Threads + Wait + Sync,
+    I: Read,
+{
+    let mut shelf = FileShelf::new(rt, rt.alloc());
+    let mut writer = io::writer(rt);
+    match run_script(rt, rt.alloc(), reader, &mut writer, &mut shelf, request.roster_out) {
+        Ok(ScriptEnd::Closed) => 0,
+        Ok(ScriptEnd::NotInJournal) => INPUT_FAULT,
+        Ok(ScriptEnd::Bad(line)) => {
+            let _ = eprintln!(rt; "line {line}: bad");
+            INPUT_FAULT
+        }
+        Err(ScriptFault::NoMemory) => report_no_memory(rt),
+        Err(ScriptFault::Device) => {
+            let _ = rt.eprintln("nfsacc: a device failed");
+            DEVICE
+        }
+        Err(ScriptFault::File(name, error)) => report_file(rt, &name, &error),
+    }
+}
+
+/// Says on standard error what is wrong with a file.
+fn report_file(rt: &impl Eprint, name: &str, error: &io::Error) -> u8 {
+    if error.kind() == io::ErrorKind::OutOfMemory {
+        return report_no_memory(rt);
+    }
+    let _ = eprintln!(rt; "nfsacc: {name}: {error}");
+    DEVICE
 }
 
 fn report_no_memory(rt: &impl Eprint) -> u8 {
@@ -105,6 +158,7 @@ fn run(rt: &HostRuntime) -> u8 {
     match parse(alloc, words.as_slice()) {
         Ok(Request::Rpc) => rpc(rt),
         Ok(Request::Check(request)) => check_file(rt, request),
+        Ok(Request::Run(request)) => run_file(rt, request),
         Err(error) if error.kind() == ErrorKind::OutOfMemory => report_no_memory(rt),
         Err(error) => {
             let status = error.exit_code();

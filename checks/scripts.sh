@@ -1,0 +1,107 @@
+#!/usr/bin/env bash
+# nfsacc run from outside: three stories that scripts tell, with what they print, the evidence that they leave, and how a
+# script ends. It tries the programs that the gate left in crates/nfsacc/out; where none is there, rt run makes one.
+set -euo pipefail
+cd "$(dirname "$0")/.."
+. checks/scratch_crate.sh
+. checks/built_programs.sh
+stories=$PWD/checks/scripts
+
+built_programs
+
+work=$(mktemp -d)
+trap 'rm -rf "$work"' EXIT
+cd "$work"
+
+# run STATUS WORD.. runs the program and wants this status; it writes to `out` and to `said`.
+run() {
+    local status=$1 got=0
+    shift
+    "$program" "$@" < in > out 2> said || got=$?
+    [ "$got" -eq "$status" ] || fail "status $got where $status is wanted, of: $*" said
+}
+
+# said_is LINE: the program said this line alone.
+said_is() {
+    [ "$(cat said)" = "$1" ] || fail "it didn't say: $1" said
+}
+
+# Each story prints what stands beside it, from a file and from standard input.
+check_stories() {
+    local story
+    for story in lie fork accusation; do
+        : > in
+        run 0 run "$stories/$story.script"
+        cmp -s out "$stories/$story.printed" || fail "$story: it printed" out
+        cp "$stories/$story.script" in
+        run 0 run -
+        cmp -s out "$stories/$story.printed" || fail "$story from standard input: it printed" out
+    done
+    : > in
+    run 0 check lie.evidence
+    [ "$(cat out)" = 'exposed 1' ] || fail 'the evidence of the lie' out
+    run 0 check fork.evidence
+    [ "$(cat out)" = 'exposed 2' ] || fail 'the evidence of the fork' out
+    [ ! -e none.evidence ] || fail 'there is evidence of a false accusation' out
+    echo 'three stories print what they should, and leave evidence where somebody is exposed'
+}
+
+# Each way in which a script ends before its end.
+check_ends() {
+    printf 'node 1 server 1\nask 1\nask 2\n' > in
+    run 1 run -
+    [ "$(cat out)" = '1 trusted 0' ] || fail 'what was printed before a bad line' out
+    said_is 'line 3: bad'
+    : > in
+    run 4 run there_is_none
+    grep -q '^nfsacc: there_is_none: ' said || fail 'a script that is not there' said
+    run 4 run .
+    sed 's/lie.evidence/no_folder\/e/' "$stories/lie.script" > in
+    run 4 run -
+    grep -q '^nfsacc: no_folder/e: ' said || fail 'evidence that can not be put in its place' said
+    if [ -e /dev/full ]; then
+        cp "$stories/lie.script" in
+        got=0
+        "$program" run - < in > /dev/full 2> said || got=$?
+        [ "$got" -eq 4 ] || fail 'a full device' said
+    fi
+    echo 'a bad line, a script that is not there, a folder, and a full device end with their statuses'
+}
+
+# The roster is there before the first line after the nodes runs, and is the one in the evidence.
+check_roster() {
+    : > in
+    run 0 run --roster-out roster "$stories/lie.script"
+    cmp -s roster <(head -c "$(wc -c < roster)" lie.evidence) || fail 'the roster is not that of the evidence' said
+    printf 'node 1 server 1\nbad\n' > in
+    rm -f roster
+    run 1 run --roster-out roster -
+    [ -s roster ] || fail 'no roster before a bad line' said
+    echo 'the roster is written before the first line runs, as it stands in the evidence'
+}
+
+# An answer comes before the next line is sent.
+check_answers_at_once() {
+    local answer
+    mkfifo lines
+    "$program" run - < lines > answers 2> said &
+    exec 7> lines
+    printf 'node 1 server 1\nask 1\n' >&7
+    for _ in $(seq 100); do
+        [ -s answers ] && break
+        sleep 0.1
+    done
+    answer=$(cat answers)
+    exec 7>&-
+    wait
+    [ "$answer" = '1 trusted 0' ] || fail 'no answer before the next line' answers
+    rm lines
+    echo 'an answer comes before the next line is sent'
+}
+
+for program in "${made[@]}"; do
+    check_stories
+    check_ends
+    check_roster
+    check_answers_at_once
+done

@@ -1,0 +1,175 @@
+//! Messages between the nodes of a script.
+
+use crate::acts::Run;
+use crate::line::Pair;
+use crate::shelf::Shelf;
+use crate::stop::Stop;
+use audits::{ack_packet, challenge_packet};
+use authenticator::Number;
+use commitment::{Received, Refusal};
+use envelopes::Envelope;
+use nfs_items::Time;
+use node_logs::{NodeLog, Receipt};
+use nodes::exchanges::exchange;
+use secure_log::log_entries::Body;
+use std::alloc::{AllocError, Global};
+
+impl<R: Threads + Wait + Sync, S: Shelf> Run<'_, R, S> {
+    /// `call C S HEX`: the whole exchange, which both nodes log.
+    pub(crate) fn call(&mut self, time: Time, pair: Pair, body: &Body) -> Result<(), Stop> {
+        let (client, server) = self.parties.pair(pair).ok_or(Stop::Bad)?;
+        match exchange(client, server, self.alloc, time, body) {
+            Ok(reply) => self.answer.reply(self.alloc, reply.as_deref())?,
+            Err(refusal) => self.refuse(refusal)?,
+        }
+        Ok(())
+    }
+
+    /// `lie S`: the server's next reply will be changed.
+    pub(crate) fn lie(&mut self, server: u32) -> Result<(), Stop> {
+        self.parties.server(server).ok_or(Stop::Bad)?.lie();
+        self.print("ok")
+    }
+
+    /// `fork C S HEX HEX`: two messages under one number, of which the client logs the first alone. It takes
+    /// nothing back.
+    pub(crate) fn fork(
+        &mut self,
+        time: Time,
+        pair: Pair,
+        first: Body,
+        second: Body,
+    ) -> Result<(), Stop> {
+        let (client, _) = self.parties.pair(pair).ok_or(Stop::Bad)?;
+        match client.fork(self.alloc, pair.server, first, second) {
+            Ok(forked) => {
+                self.hand_first(time, pair, forked.number)?;
+                match forked.second {
+                    Some(envelope) => self.hand_second(time, pair.server, &envelope),
+                    None => self.refuse(Refusal::KeysUsedUp),
+                }
+            }
+            Err(refusal) => {
+                self.refuse(refusal)?;
+                self.refuse(refusal)
+            }
+        }
+    }
+
+    /// Hands the server the message that a client logged under a number.
+    fn hand_first(&mut self, time: Time, pair: Pair, number: Number) -> Result<(), Stop> {
+        match self.message_text(pair, number.get())? {
+            Some(text) => self.hand(time, pair.server, &text),
+            None => self.print("none"),
+        }
+    }
+
+    /// Hands a server a message that its client didn't log.
+    fn hand_second(
+        &mut self,
+        time: Time,
+        server: u32,
+        envelope: &Envelope,
+    ) -> Result<(), Stop> {
+        let mut text = Vec::new(self.alloc);
+        envelope.view().write(&mut text)?;
+        self.hand(time, server, &text)
+    }
+
+    /// Hands a server a message's text, and prints its reply.
+    fn hand(&mut self, time: Time, server: u32, text: &[u8]) -> Result<(), Stop> {
+        let server = self.parties.server(server).ok_or(Stop::Bad)?;
+        match server.receive(self.alloc, time, text) {
+            Ok(Received::New(receipt) | Received::Repeat(receipt)) => {
+                let reply = reply_of(server.node(), &receipt);
+                self.answer.reply(self.alloc, reply)?;
+                Ok(())
+            }
+            Err(refusal) => self.refuse(refusal),
+        }
+    }
+
+    /// Prints a node's refusal.
+    pub(crate) fn refuse(&mut self, refusal: Refusal) -> Result<(), Stop> {
+        let number = refusal.number().ok_or(Stop::NoMemory)?;
+        self.answer.refused(number)?;
+        Ok(())
+    }
+
+    /// The text of a client's message to a server, if it sent one under this number.
+    fn message_text(&self, pair: Pair, number: u64) -> Result<Option<Vec<u8>>, Stop> {
+        let client = self.parties.client(pair.client).ok_or(Stop::Bad)?;
+        match client.node().envelope(number) {
+            Some(envelope) if envelope.to == pair.server => {
+                let mut text = Vec::new(self.alloc);
+                envelope.write(&mut text)?;
+                Ok(Some(text))
+            }
+            _ => Ok(None),
+        }
+    }
+
+    /// `challenge C S K`: the witness gets the message, which the server is to acknowledge.
+    pub(crate) fn challenge(&mut self, pair: Pair, number: u32) -> Result<(), Stop> {
+        self.parties.pair(pair).ok_or(Stop::Bad)?;
+        match self.challenge_packet(pair, u64::from(number))? {
+            Some(packet) => self.deliver(&packet),
+            None => self.print("none"),
+        }
+    }
+
+    /// The packet of a client's message to a server, if it sent one under this number.
+    fn challenge_packet(&self, pair: Pair, number: u64) -> Result<Option<Vec<u8>>, Stop> {
+        let client = self.parties.client(pair.client).ok_or(Stop::Bad)?;
+        match client.node().envelope(number) {
+            Some(envelope) if envelope.to == pair.server => {
+                Ok(Some(challenge_packet(self.alloc, &envelope)?))
+            }
+            _ => Ok(None),
+        }
+    }
+
+    /// `ack C S K`: the server receives the message again, and the witness gets its acknowledgement.
+    pub(crate) fn acknowledge(
+        &mut self,
+        time: Time,
+        pair: Pair,
+        number: u32,
+    ) -> Result<(), Stop> {
+        self.parties.pair(pair).ok_or(Stop::Bad)?;
+        match self.message_text(pair, u64::from(number))? {
+            Some(text) => self.receive_again(time, pair.server, &text),
+            None => self.print("none"),
+        }
+    }
+
+    /// Hands a server a message's text, and the witness the acknowledgement.
+    fn receive_again(&mut self, time: Time, server: u32, text: &[u8]) -> Result<(), Stop> {
+        let server = self.parties.server(server).ok_or(Stop::Bad)?;
+        match server.receive(self.alloc, time, text) {
+            Ok(Received::New(receipt) | Received::Repeat(receipt)) => {
+                let packet = receipt_packet(self.alloc, server.node(), &receipt)?;
+                self.deliver(&packet)
+            }
+            Err(refusal) => self.refuse(refusal),
+        }
+    }
+}
+
+/// The body of the reply that a receipt names, if there is one.
+fn reply_of<'a>(server: &'a NodeLog, receipt: &Receipt) -> Option<&'a [u8]> {
+    let envelope = server.envelope(receipt.reply?.get())?;
+    Some(envelope.body.bytes())
+}
+
+/// The packet of the acknowledgement that a receipt names. It is empty where there is none.
+fn receipt_packet(
+    alloc: Global,
+    server: &NodeLog,
+    receipt: &Receipt,
+) -> Result<Vec<u8>, AllocError> {
+    match server.ack(receipt.ack.get()) {
+        Some(ack) => ack_packet(alloc, &ack),
+        None => Ok(Vec::new(alloc)),
+    }
+}

@@ -1,0 +1,199 @@
+//! Running a script.
+
+use crate::acts::Run;
+use crate::answer::Answer;
+use crate::cursor::Cursor;
+use crate::line::{Line, read_line};
+use crate::parties::Listed;
+use crate::shelf::Shelf;
+use crate::stop::Stop;
+use audits::Caller;
+use authenticator::Roster;
+use std::alloc::Global;
+use std::io::{self, Read, Write};
+use witness_books::Books;
+use witness_service::{Pass, WitnessService};
+
+/// How a script came to its end.
+#[derive(Clone, Copy, Debug, PartialEq, Eq)]
+pub enum ScriptEnd {
+    /// Each line ran, and what the witness answered stands once in its journal.
+    Closed,
+    /// Each line ran, but what the witness answered doesn't stand in its journal.
+    NotInJournal,
+    /// This line, counted from 1, is bad: it did nothing, and no line after it was read.
+    Bad(u64),
+}
+
+/// Why a script could not be run to its end.
+#[derive(Debug, Drop)]
+pub enum ScriptFault {
+    /// Memory was refused.
+    NoMemory,
+    /// A read or a write failed.
+    Device,
+    /// The file with this name could not be put in its place.
+    File(String, io::Error),
+}
+
+/// Runs a script: reads it line by line, does what each line says, and writes what it prints before the next
+/// line is read. The nodes stand on its first lines; where a name is given for it, the file of their roster is
+/// put in its place before the next line runs. At the end it writes `closed ok`, or `closed fault 1` where
+/// receipts and journal don't fit. After a bad line, and after a fault, what was printed before stands, and
+/// nothing more is written.
+pub fn run_script<R: Threads + Wait + Sync, I: Read, O: Write, S: Shelf>(
+    rt: &R,
+    alloc: Global,
+    reader: &mut I,
+    writer: &mut O,
+    shelf: &mut S,
+    roster_file: Option<&str>,
+) -> Result<ScriptEnd, ScriptFault> {
+    let mut cursor = Cursor::new(alloc, reader);
+    match run_all(rt, alloc, &mut cursor, writer, shelf, roster_file) {
+        Ok(end) => Ok(end),
+        Err(Stop::Bad) => Ok(ScriptEnd::Bad(cursor.number())),
+        Err(Stop::NoMemory) => Err(ScriptFault::NoMemory),
+        Err(Stop::Device) => Err(ScriptFault::Device),
+        Err(Stop::File(name, error)) => Err(ScriptFault::File(name, error)),
+    }
+}
+
+/// As `run_script`.
+fn run_all<R: Threads + Wait + Sync, I: Read, O: Write, S: Shelf>(
+    rt: &R,
+    alloc: Global,
+    cursor: &mut Cursor<'_, I>,
+    writer: &mut O,
+    shelf: &mut S,
+    roster_file: Option<&str>,
+) -> Result<ScriptEnd, Stop> {
+    let (listed, more) = read_nodes(alloc, cursor)?;
+    let roster = Roster::new(listed.members(alloc)?).map_err(|_| Stop::Bad)?;
+    if let Some(name) = roster_file {
+        put_roster(alloc, shelf, name, &roster)?;
+    }
+    let parties = listed.make(alloc, &roster)?;
+    let (service, pass) = open_witness(alloc, &roster)?;
+    let mut run = Run {
+        alloc,
+        roster: &roster,
+        parties,
+        caller: Caller::new(rt, alloc, &service, &roster, pass),
+        shelf,
+        answer: Answer::new(alloc),
+    };
+    run_lines(&mut run, cursor, writer, more)?;
+    let pass = run.caller.into_pass();
+    close(alloc, service, pass, writer)
+}
+
+/// Reads the nodes on the first lines. Tells whether a line is there that says something else.
+fn read_nodes<I: Read>(
+    alloc: Global,
+    cursor: &mut Cursor<'_, I>,
+) -> Result<(Listed, bool), Stop> {
+    let mut listed = Listed::new(alloc);
+    for _ in 0..u64::MAX {
+        if !cursor.next()? {
+            return Ok((listed, false));
+        }
+        match read_line(alloc, cursor.text()?)? {
+            Line::Node(line) => listed.add(alloc, &line)?,
+            Line::Act(_) => return Ok((listed, true)),
+        }
+    }
+    Err(Stop::Bad)
+}
+
+/// Puts the file of a roster in its place.
+fn put_roster<S: Shelf>(
+    alloc: Global,
+    shelf: &mut S,
+    name: &str,
+    roster: &Roster,
+) -> Result<(), Stop> {
+    let mut text = Vec::new(alloc);
+    roster.write(&mut text)?;
+    match shelf.put(name, &text) {
+        Ok(()) => Ok(()),
+        Err(error) => Err(Stop::of_file(alloc, name, error)),
+    }
+}
+
+/// A witness of a roster's members, with one pass.
+fn open_witness(alloc: Global, roster: &Roster) -> Result<(WitnessService, Pass), Stop> {
+    let Ok(books) = Books::new(alloc, roster.try_clone(alloc)?) else {
+        return Err(Stop::NoMemory);
+    };
+    let Ok((service, mut passes)) = WitnessService::open(alloc, books, 1) else {
+        return Err(Stop::NoMemory);
+    };
+    match passes.pop() {
+        Some(pass) => Ok((service, pass)),
+        None => Err(Stop::NoMemory),
+    }
+}
+
+/// Runs the line that is there, if one is, and those after it.
+fn run_lines<R: Threads + Wait + Sync, I: Read, O: Write, S: Shelf>(
+    run: &mut Run<'_, R, S>,
+    cursor: &mut Cursor<'_, I>,
+    writer: &mut O,
+    there: bool,
+) -> Result<(), Stop> {
+    let mut more = there;
+    for _ in 0..u64::MAX {
+        if !more {
+            return Ok(());
+        }
+        run_line(run, cursor, writer)?;
+        more = cursor.next()?;
+    }
+    Err(Stop::Bad)
+}
+
+/// Runs the line that is there, and writes what it prints.
+fn run_line<R: Threads + Wait + Sync, I: Read, O: Write, S: Shelf>(
+    run: &mut Run<'_, R, S>,
+    cursor: &Cursor<'_, I>,
+    writer: &mut O,
+) -> Result<(), Stop> {
+    run.answer.clear();
+    match read_line(run.alloc, cursor.text()?)? {
+        Line::Node(_) => return Err(Stop::Bad),
+        Line::Act(act) => run.act(cursor.time(), act)?,
+    }
+    write_text(writer, run.answer.text())
+}
+
+/// Writes a text.
+fn write_text<O: Write>(writer: &mut O, text: &str) -> Result<(), Stop> {
+    match writer.write_all(text.as_bytes()) {
+        Ok(()) => Ok(()),
+        Err(_) => Err(Stop::Device),
+    }
+}
+
+/// Closes the witness, and writes whether its journal has each receipt of the pass, and no step besides.
+fn close<O: Write>(
+    alloc: Global,
+    service: WitnessService,
+    pass: Pass,
+    writer: &mut O,
+) -> Result<ScriptEnd, Stop> {
+    let mut passes = Vec::new(alloc);
+    if passes.push(pass).is_err() {
+        return Err(Stop::NoMemory);
+    }
+    match service.close(passes) {
+        Ok(_) => {
+            write_text(writer, "closed ok\n")?;
+            Ok(ScriptEnd::Closed)
+        }
+        Err(_) => {
+            write_text(writer, "closed fault 1\n")?;
+            Ok(ScriptEnd::NotInJournal)
+        }
+    }
+}

@@ -1,0 +1,43 @@
+//! Why a script stops before its end.
+
+use crate::words::LineFault;
+use std::alloc::{AllocError, Global};
+use std::io;
+
+/// Why a line isn't done.
+#[derive(Debug, Drop)]
+pub(crate) enum Stop {
+    /// It is bad.
+    Bad,
+    /// A growth was refused.
+    NoMemory,
+    /// A read or a write failed.
+    Device,
+    /// A file with this name could not be put in its place.
+    File(String, io::Error),
+}
+
+impl Stop {
+    /// That a file could not be put in its place.
+    pub(crate) fn of_file(alloc: Global, name: &str, error: io::Error) -> Stop {
+        match String::from_str(alloc, name) {
+            Ok(name) => Stop::File(name, error),
+            Err(AllocError) => Stop::NoMemory,
+        }
+    }
+}
+
+impl From<AllocError> for Stop {
+    fn from(_error: AllocError) -> Stop {
+        Stop::NoMemory
+    }
+}
+
+impl From<LineFault> for Stop {
+    fn from(fault: LineFault) -> Stop {
+        match fault {
+            LineFault::Bad => Stop::Bad,
+            LineFault::NoMemory => Stop::NoMemory,
+        }
+    }
+}

@@ -1,0 +1,179 @@
+//! What the witness of a script is asked and told.
+
+use crate::acts::Run;
+use crate::line::{Place, OneToSixteen};
+use crate::shelf::Shelf;
+use crate::stop::Stop;
+use audits::{Said, answer_packet, learn_packet};
+use authenticator::{Authenticator, Number};
+use challenge::{Challenge, write_case};
+use node_book::{Indication, Question};
+use secure_log::SegmentFault;
+
+impl<R: Threads + Wait + Sync, S: Shelf> Run<'_, R, S> {
+    /// The packet of a node's authenticator, if the node signed something there.
+    fn authenticator_packet(&self, place: Place) -> Result<Option<Vec<u8>>, Stop> {
+        let node = self.parties.node(place.node).ok_or(Stop::Bad)?;
+        match node.authenticator(self.alloc, u64::from(place.number))? {
+            Some(authenticator) => Ok(Some(learn_packet(self.alloc, &authenticator)?)),
+            None => Ok(None),
+        }
+    }
+
+    /// `learn N K`.
+    pub(crate) fn learn(&mut self, place: Place) -> Result<(), Stop> {
+        match self.authenticator_packet(place)? {
+            Some(packet) => self.deliver(&packet),
+            None => self.print("none"),
+        }
+    }
+
+    /// `forge N K`: the lowest bit of the last byte is changed.
+    pub(crate) fn forge(&mut self, place: Place) -> Result<(), Stop> {
+        match self.authenticator_packet(place)? {
+            Some(mut packet) => {
+                change_last(&mut packet);
+                self.deliver(&packet)
+            }
+            None => self.print("none"),
+        }
+    }
+
+    /// That there is a node with a number.
+    fn known(&self, node: u32) -> Result<(), Stop> {
+        match self.parties.node(node) {
+            Some(_) => Ok(()),
+            None => Err(Stop::Bad),
+        }
+    }
+
+    /// `audit N`.
+    pub(crate) fn audit(&mut self, node: u32) -> Result<(), Stop> {
+        self.known(node)?;
+        let said = self.caller.audit(node);
+        self.say(&said)
+    }
+
+    /// What is asked of a node by the audit that is open, if one is.
+    fn asked(&mut self, node: u32) -> Result<Option<(Number, Number)>, Stop> {
+        match self.caller.ask(node, Question::Challenges) {
+            Said::Open(challenges) => Ok(asked_of(&challenges)),
+            said if said.is_no_memory() => Err(Stop::NoMemory),
+            _ => Ok(None),
+        }
+    }
+
+    /// The packet of the segment that a node is asked for, if one is and the node has it.
+    fn segment_packet(&mut self, node: u32) -> Result<Option<Vec<u8>>, Stop> {
+        let Some((first, last)) = self.asked(node)? else {
+            return Ok(None);
+        };
+        let log = self.parties.node(node).ok_or(Stop::Bad)?;
+        match log.answer_challenge(self.alloc, first.get(), last.get()) {
+            Ok(text) => Ok(Some(answer_packet(self.alloc, &text)?)),
+            Err(SegmentFault::NoMemory) => Err(Stop::NoMemory),
+            Err(_) => Ok(None),
+        }
+    }
+
+    /// `answer N`.
+    pub(crate) fn answer_audit(&mut self, node: u32) -> Result<(), Stop> {
+        self.known(node)?;
+        match self.segment_packet(node)? {
+            Some(packet) => self.deliver(&packet),
+            None => self.print("none"),
+        }
+    }
+
+    /// `replay W`: begins what was given by rising numbers of nodes.
+    pub(crate) fn replay(&mut self, workers: OneToSixteen) -> Result<(), Stop> {
+        let mut nodes = Vec::new(self.alloc);
+        for member in self.roster.members() {
+            nodes.push(member.node)?;
+        }
+        let replayed = self.caller.replay(&nodes, workers.get() as usize)?;
+        if replayed.is_empty() {
+            return self.print("idle");
+        }
+        for one in &replayed {
+            self.answer.replayed(one)?;
+        }
+        Ok(())
+    }
+
+    /// `forward N`: what comes out goes to the book of the node that signed it.
+    pub(crate) fn forward(&mut self, node: u32) -> Result<(), Stop> {
+        self.known(node)?;
+        match self.caller.forward(node) {
+            Said::Forwarded(authenticator) => self.pass_on(&authenticator),
+            said => self.say(&said),
+        }
+    }
+
+    /// Hands an authenticator over, and prints whose it is and what the witness said.
+    fn pass_on(&mut self, authenticator: &Authenticator) -> Result<(), Stop> {
+        let packet = learn_packet(self.alloc, authenticator)?;
+        self.answer.forwarded(authenticator)?;
+        self.deliver(&packet)
+    }
+
+    /// `ask N`: prints the node's failure indication, and how many challenges are open.
+    pub(crate) fn ask(&mut self, node: u32) -> Result<(), Stop> {
+        self.known(node)?;
+        match self.caller.ask(node, Question::Indication) {
+            Said::Told(indication) => self.tell(node, indication),
+            said => self.say(&said),
+        }
+    }
+
+    /// Prints a node's failure indication, and how many challenges are open.
+    fn tell(&mut self, node: u32, indication: Indication) -> Result<(), Stop> {
+        match self.caller.ask(node, Question::Challenges) {
+            Said::Open(challenges) => {
+                self.answer.told(node, indication, challenges.len())?;
+                Ok(())
+            }
+            said => self.say(&said),
+        }
+    }
+
+    /// `evidence N FILE`: the file gets the roster's text, and after it that of the evidence.
+    pub(crate) fn evidence(&mut self, node: u32, file: &str) -> Result<(), Stop> {
+        self.known(node)?;
+        match self.caller.ask(node, Question::Evidence) {
+            Said::EvidenceIs(Some(evidence)) => {
+                let mut text = Vec::new(self.alloc);
+                write_case(self.roster, &evidence, &mut text)?;
+                self.put(file, &text)?;
+                self.print("written")
+            }
+            Said::EvidenceIs(None) => self.print("none"),
+            said => self.say(&said),
+        }
+    }
+
+    /// Puts a file in its place.
+    fn put(&mut self, file: &str, bytes: &[u8]) -> Result<(), Stop> {
+        match self.shelf.put(file, bytes) {
+            Ok(()) => Ok(()),
+            Err(error) => Err(Stop::of_file(self.alloc, file, error)),
+        }
+    }
+}
+
+/// What the open audit among some challenges asks for.
+fn asked_of(challenges: &[Challenge]) -> Option<(Number, Number)> {
+    for challenge in challenges {
+        if let Challenge::Audit { first, last } = challenge {
+            return Some((*first, *last));
+        }
+    }
+    None
+}
+
+/// Changes the lowest bit of the last byte.
+fn change_last(bytes: &mut [u8]) {
+    if let Some(last) = bytes.last_mut() {
+        *last ^= 1;
+    }
+}
