@@ -2,6 +2,7 @@
 
 ghost use Rattle.witness_books.specs.Given.{AcksAreTaken, AnswersAreTaken, StepsKeepHeadline};
 ghost use Rattle.witness_books.specs.Given.{WhatIsOwedIsGiven};
+ghost use Rattle.witness_books.specs.Delivering.{SpelledIsOwed, SpelledIsTaken, SpelledIsWhose};
 ghost use Rattle.witness_books.specs.Headline.{RunsKeepHeadline};
 ghost use Rattle.witness_books.specs.Witnessed.{WitnessesAgree};
 
@@ -51,4 +52,12 @@ pub fn what_is_owed_is_given()
     ensures given { WhatIsOwedIsGiven }
     ensures answers { AnswersAreTaken }
     ensures acks { AcksAreTaken }
+{}
+
+/// Bytes and the event that they spell are one node's step, and the same one: the same reply is owed to both
+/// after any history, and books are led by both to the same books.
+pub fn spelled_is_taken()
+    ensures whose { SpelledIsWhose }
+    ensures owed { SpelledIsOwed }
+    ensures taken { SpelledIsTaken }
 {}
