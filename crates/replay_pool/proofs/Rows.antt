@@ -5,7 +5,6 @@ use Rattle.std.proofs.lemmas.List.{reverse-append}
 use Rattle.std.specs.List.{AllZip}
 use Rattle.std.proofs.lemmas.List.Elements.{All-nil, All-cons, AllZip-push}
 use Rattle.node_book.specs.witness_spec.Events.{JobParts}
-use Rattle.node_book.specs.Backs.{job_in}
 use Rattle.node_book.specs.declared.job.Back.{Back}
 use Rattle.replay_pool.specs.Rounds.{IsBackOf, Runs, waiting}
 

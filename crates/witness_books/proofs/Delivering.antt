@@ -161,7 +161,7 @@ module _ (ms : List Member) (one two : Event) (alike : AreAlike ms one two) wher
       → StepsTo ms old two reply new
   taken_alike old new reply is_event steps history is stands =
       let made = steps history is stands in
-      ((is_event, (by made.0.1.0, is)), stand_alike history reply ms new made.1)
+      ((is_event, by made.0.1, is), stand_alike history reply ms new made.1)
     where
       by : IsOwed ms history one reply ⊎ IsWanting one reply
           → IsOwed ms history two reply ⊎ IsWanting two reply

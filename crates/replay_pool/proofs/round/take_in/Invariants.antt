@@ -1,5 +1,4 @@
 use Rattle.std.proofs.Common.{◌≡◌, ◌+◌, ◌≤◌, ◌++◌, All, IsSome, map, reverse, vec_len, vec_capacity, Some}
-
 use Rattle.replay_pool.proofs.round.take_in.Given as goal
 
 abbrev pub invariant-loop-place : goal.invariant-loop-place
