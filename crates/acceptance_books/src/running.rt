@@ -74,9 +74,7 @@ fn notes(alloc: Global, books: &mut Books) -> bool {
     let (reply, notes) = books.noted_step(alloc, EventOf::Audit(1));
     let answered = answer_of(reply) == Answer::Refused(Refusal::NothingToAudit);
     match notes {
-        Some((one, other)) => {
-            answered && one.event.is_same(&other.event) && one.reply.is_same(&other.reply)
-        }
+        Some((one, other)) => answered && one.is_same(&other),
         None => false,
     }
 }

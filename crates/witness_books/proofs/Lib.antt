@@ -7,3 +7,4 @@ pub mod Noting
 pub mod Witnessed
 pub mod Given
 pub mod Refused
+pub mod Delivering

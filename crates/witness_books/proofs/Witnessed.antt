@@ -1,12 +1,12 @@
 -- What a witness that began with nothing holds.
--- Serves: run.
-use Rattle.std.proofs.Common.{◌≡◌, List, [], ◌∷◌, map, refl, ap, subst, ◌∙◌}
+-- Serves: run, opening_is_a_journal.
+use Rattle.std.proofs.Common.{◌≡◌, List, [], ◌∷◌, map, refl, sym, ap, subst, ◌∙◌}
 use Rattle.authenticator.specs.declared.member.Member.{Member}
 use Rattle.witness_spec.specs.Events.{Event}
 use Rattle.witness_spec.specs.Replies.{Reply}
 use Rattle.witness_spec.specs.Histories.{BookParts}
-use Rattle.witness_spec.specs.Contract.{opening_book, opening_books, RunsTo}
-use Rattle.witness_spec.specs.ContractLaws.{RunsAreHistories}
+use Rattle.witness_spec.specs.Contract.{opening_book, opening_books, RunsTo, IsJournalOf}
+use Rattle.witness_spec.specs.ContractLaws.{OpeningJournal, RunsAreHistories}
 use Rattle.witness_steps.specs.Books.{book_opening, parts_of}
 use Rattle.witness_books.specs.Books.{BooksParts, parts_in}
 use Rattle.witness_books.specs.Witnessed.{AreOpening, IsWitnessed}
@@ -25,3 +25,9 @@ is_witnessed law old new events replies run opening =
     (subst (λ (bs : List BookParts). RunsTo old.roster bs events replies (parts_in new))
     (ap (map parts_of) opening ∙ opening_same old.roster) run) in
     record { history = both.0; stands = both.1 }
+
+-- opening books are those of the journal of nothing
+pub is_journal : OpeningJournal → (b : BooksParts) → AreOpening b → IsJournalOf b.roster [] (parts_in b)
+is_journal law b opening =
+    subst (λ (bs : List BookParts). IsJournalOf b.roster [] bs)
+    (sym (ap (map parts_of) opening ∙ opening_same b.roster)) (law b.roster)

@@ -5,3 +5,4 @@ pub mod Notes
 pub mod Witnessed
 pub mod Headline
 pub mod Given
+pub mod Delivering

@@ -1,13 +1,10 @@
 -- What notes of a step say.
 use Rattle.std.specs.Prelude.{◌≡◌, true, false, Option, Some, None}
-use Rattle.witness_spec.specs.Events.{JobParts}
-use Rattle.witness_spec.specs.Events as spec
+use Rattle.witness_spec.specs.Events.{JobParts, Event}
 use Rattle.witness_spec.specs.Refusals.{NoMemory}
 use Rattle.witness_spec.specs.Replies.{Reply, Refused, FileRefused, PutBackRefused, is_want_of_memory}
-use Rattle.node_book.specs.Events.{event_in}
 use Rattle.node_book.specs.Replies.{reply_in}
 use Rattle.node_book.specs.declared.reply.ReplyOf.{ReplyOf}
-use Rattle.witness_books.specs.declared.note.Note.{Note}
 
 -- ---- replies
 
@@ -39,15 +36,9 @@ NotesRefusal refusal reply (Some notes) = (reply ≡ refusal) × AreOf refusal n
 
 -- ---- events with their replies
 
--- A note says this event and this reply.
-pub record IsNoteOf (event : spec.Event) (reply : Reply) (note : Note) : Type 0 where
-  -- the event
-  pub is_event : event_in note.event ≡ event
-  -- the reply
-  pub is_reply : reply_in note.reply ≡ reply
-
--- There are two notes of an event with its reply; there are none exactly where memory ran out.
-abbrev pub AreNotes : (event : spec.Event) → Reply → Option (Note × Note) → Type 0
+-- There are two notes of an event with its reply, that say every word of both; there are none exactly where
+-- memory ran out.
+abbrev pub AreNotes : Event → Reply → Option ((Event × Reply) × (Event × Reply)) → Type 0
 AreNotes event reply None = is_want_of_memory reply ≡ true
 AreNotes event reply (Some notes) =
-    (is_want_of_memory reply ≡ false) × IsNoteOf event reply notes.0 × IsNoteOf event reply notes.1
+    (is_want_of_memory reply ≡ false) × (notes.0 ≡ (event, reply)) × (notes.1 ≡ (event, reply))

@@ -5,7 +5,7 @@ use Rattle.witness_spec.specs.Events.{Event}
 use Rattle.witness_spec.specs.Replies.{Reply}
 use Rattle.witness_spec.specs.Watched.{Watched, IsInRoster}
 use Rattle.witness_spec.specs.Histories.{own_of, IsHistory, BookParts, Stands}
-use Rattle.witness_spec.specs.Contract.{opening_books, joined, RunsTo}
+use Rattle.witness_spec.specs.Contract.{opening_books, joined, RunsTo, IsJournalOf}
 use Rattle.witness_spec.specs.Laws.{SaysSame}
 use Rattle.witness_steps.specs.Books.{book_opening}
 use Rattle.witness_books.specs.Books.{BooksParts, parts_in}
@@ -13,6 +13,10 @@ use Rattle.witness_books.specs.Books.{BooksParts, parts_in}
 -- The books are those before any step.
 abbrev pub AreOpening : BooksParts → Type 0
 AreOpening b = b.books ≡ map book_opening b.roster
+
+-- Such books stand for the journal of nothing.
+abbrev pub OpeningIsJournal : Type 0
+OpeningIsJournal = (b : BooksParts) → AreOpening b → IsJournalOf b.roster [] (parts_in b)
 
 -- Events with their replies are a history, and the books stand for it.
 pub record IsWitnessed (ms : List Member) (events : List Event) (replies : List Reply) (new : BooksParts)

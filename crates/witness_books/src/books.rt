@@ -127,15 +127,8 @@ impl Books {
         match self.step_noting(alloc, event) {
             (reply, None) => (reply, None),
             (reply, Some((first, second))) => {
-                let first = Note {
-                    event: one,
-                    reply: first,
-                };
-                let second = Note {
-                    event: two,
-                    reply: second,
-                };
-                (reply, Some((first, second)))
+                let notes = (Note::new(one, first), Note::new(two, second));
+                (reply, Some(notes))
             }
         }
     }

@@ -2,10 +2,11 @@
 
 ghost use Rattle.witness_books.specs.Given.{AcksAreTaken, AnswersAreTaken, StepsKeepHeadline};
 ghost use Rattle.witness_books.specs.Given.{WhatIsOwedIsGiven};
+ghost use Rattle.witness_books.specs.Delivering.{SpelledIsOwed, SpelledIsTaken, SpelledIsWhose};
 ghost use Rattle.witness_books.specs.Headline.{RunsKeepHeadline};
-ghost use Rattle.witness_books.specs.Witnessed.{WitnessesAgree};
+ghost use Rattle.witness_books.specs.Witnessed.{OpeningIsJournal, WitnessesAgree};
 
-use witness_laws::books::{books_can_stand, runs_are_histories};
+use witness_laws::books::{books_can_stand, journals_are_histories, runs_are_histories};
 use witness_laws::evidence::laws::{evidence_proves, evidence_where_exposed};
 use witness_laws::laws::exposed_exactly_if;
 use witness_laws::trust::laws::honest_is_never_exposed;
@@ -51,4 +52,19 @@ pub fn what_is_owed_is_given()
     ensures given { WhatIsOwedIsGiven }
     ensures answers { AnswersAreTaken }
     ensures acks { AcksAreTaken }
+{}
+
+/// Books before any step stand for the journal of nothing, from which a noted step goes on.
+pub fn opening_is_a_journal()
+    ensures { OpeningIsJournal }
+{
+    journals_are_histories();
+}
+
+/// Bytes and the event that they spell are one node's step, and the same one: the same reply is owed to both
+/// after any history, and books are led by both to the same books.
+pub fn spelled_is_taken()
+    ensures whose { SpelledIsWhose }
+    ensures owed { SpelledIsOwed }
+    ensures taken { SpelledIsTaken }
 {}

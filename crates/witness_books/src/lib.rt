@@ -2,11 +2,14 @@
 #![tactic(auto)]
 
 mod books;
+mod delivery;
 pub mod laws;
 mod note;
 mod route;
 mod runs;
 
 pub use books::Books;
+pub use delivery::read_event;
 pub use note::Note;
+pub use route::refuse_event;
 pub use runs::run;

@@ -52,7 +52,7 @@ pub(crate) fn route(alloc: Global, roster: &Roster, event: Event) -> Routed
 }
 
 /// The event is refused: a job or a done value comes back with the refusal.
-pub(crate) fn refuse_event(event: Event, refusal: Refusal) -> Reply
+pub fn refuse_event(event: Event, refusal: Refusal) -> Reply
     ensures { reply_in result ≡ refused (event_in event) (refusal_in refusal) }
 {
     match event {
