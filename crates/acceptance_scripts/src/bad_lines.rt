@@ -2,6 +2,8 @@
 
 use crate::running::{LastFile, prints, run};
 use scripts::ScriptEnd;
+use std::sync::Wait;
+use std::thread::Threads;
 
 /// The nodes of a script, and a line that prints something.
 const BEFORE: &str = "node 1 server 1\nnode 2 client 1\nask 2\n";
@@ -9,8 +11,20 @@ const BEFORE: &str = "node 1 server 1\nnode 2 client 1\nask 2\n";
 /// What is printed of that.
 const PRINTED: &str = "2 trusted 0\n";
 
-/// Lines that are bad after those.
-const BAD: [&str; 32] = [
+/// Lines that are bad after those, by the nodes that they name.
+const BAD_AFTER: [&str; 8] = [
+    "ask 3",
+    "node 3 server 1",
+    "call 1 2 00",
+    "lie 2",
+    "audit 64",
+    "challenge 1 2 1",
+    "ack 2 2 1",
+    "forward 0",
+];
+
+/// Lines that are bad whatever stands before them.
+const BAD: [&str; 24] = [
     " ask 1",
     "ask 1 ",
     "ask  1",
@@ -22,27 +36,19 @@ const BAD: [&str; 32] = [
     "ask +1",
     "ask -1",
     "ask 4294967296",
-    "ask 3",
     "Ask 1",
-    "node 3 server 1",
-    "call 1 2 00",
-    "call 2 2 00",
     "call 2 1",
     "call 2 1 0",
     "call 2 1 0g",
     "call 2 1 0A",
     "call 2 1 00 00",
     "fork 2 1 00",
-    "lie 2",
     "learn 1",
-    "audit 64",
     "replay 0",
     "replay 17",
-    "challenge 1 2 1",
-    "ack 2 2 1",
     "evidence 1",
-    "forward 0",
     "flood 1 1 1",
+    "\u{e9} 1",
 ];
 
 /// First lines that are bad.
@@ -58,7 +64,7 @@ const BAD_NODES: [&str; 8] = [
 ];
 
 /// Whether a bad line after others is told by its number, and what was printed before it stands.
-fn is_bad_after(rt: &HostRuntime, line: &str) -> bool {
+fn is_bad_after<R: AllocGlobal + Threads + Wait + Sync>(rt: &R, line: &str) -> bool {
     let mut script = String::new(rt.alloc());
     if script.push_str(BEFORE).is_err() || script.push_str(line).is_err() {
         return false;
@@ -66,36 +72,40 @@ fn is_bad_after(rt: &HostRuntime, line: &str) -> bool {
     prints(rt, &script, PRINTED, ScriptEnd::Bad(4))
 }
 
-/// The first of these lines that isn't bad after others.
-fn first_good<'a>(rt: &HostRuntime, lines: &[&'a str]) -> Option<&'a str> {
-    for line in lines {
-        if !is_bad_after(rt, line) {
-            return Some(line);
-        }
-    }
-    None
+/// Whether a line is bad as the first one.
+fn is_bad<R: AllocGlobal + Threads + Wait + Sync>(rt: &R, line: &str) -> bool {
+    prints(rt, line, "", ScriptEnd::Bad(1))
 }
 
 #[test]
 fn bad_lines_are_told(rt: HostRuntime) {
-    assert!(first_good(&rt, &BAD).is_none());
+    for line in &BAD {
+        assert!(&rt; is_bad(&rt, line));
+    }
+}
+
+#[test]
+fn lines_that_name_no_node_are_told(rt: HostRuntime) {
+    for line in &BAD_AFTER {
+        assert!(&rt; is_bad_after(&rt, line));
+    }
 }
 
 #[test]
 fn bad_nodes_are_told(rt: HostRuntime) {
     for line in &BAD_NODES {
-        assert!(prints(&rt, line, "", ScriptEnd::Bad(1)));
+        assert!(&rt; is_bad(&rt, line));
     }
 }
 
 #[test]
 fn two_nodes_of_a_number_are_told(rt: HostRuntime) {
     let script = "node 1 server 1\nnode 1 client 1\n";
-    assert!(prints(&rt, script, "", ScriptEnd::Bad(2)));
+    assert!(&rt; prints(&rt, script, "", ScriptEnd::Bad(2)));
 }
 
 /// A script of one word: a letter so many times.
-fn letters(rt: &HostRuntime, count: usize) -> Option<Vec<u8>> {
+fn letters<R: AllocGlobal>(rt: &R, count: usize) -> Option<Vec<u8>> {
     let mut script = Vec::new(rt.alloc());
     script.resize(count, b'a').ok()?;
     Some(script)
@@ -103,23 +113,23 @@ fn letters(rt: &HostRuntime, count: usize) -> Option<Vec<u8>> {
 
 #[test]
 fn a_line_of_a_megabyte_is_told(rt: HostRuntime) {
-    let script = letters(&rt, 1 << 20).unwrap_or_default();
+    let script = letters(&rt, 1 << 20).unwrap();
     let mut shelf = LastFile::new(rt.alloc());
-    let run = run(&rt, &script, &mut shelf);
-    assert!(run.end == Some(ScriptEnd::Bad(1)));
+    let outcome = run(&rt, &script, &mut shelf);
+    assert!(&rt; outcome.end == Some(ScriptEnd::Bad(1)));
 }
 
 #[test]
 fn thousands_of_lines_are_passed_over(rt: HostRuntime) {
     let mut script = Vec::new(rt.alloc());
-    assert!(script.resize(10_000, b'\n').is_ok());
-    assert!(script.extend_from_slice(b"ask 1").is_ok());
+    assert!(&rt; script.resize(10_000, b'\n').is_ok());
+    assert!(&rt; script.extend_from_slice(b"ask 1").is_ok());
     let mut shelf = LastFile::new(rt.alloc());
-    let run = run(&rt, &script, &mut shelf);
-    assert!(run.end == Some(ScriptEnd::Bad(10_001)));
+    let outcome = run(&rt, &script, &mut shelf);
+    assert!(&rt; outcome.end == Some(ScriptEnd::Bad(10_001)));
 }
 
 #[test]
 fn an_empty_script_is_closed(rt: HostRuntime) {
-    assert!(prints(&rt, "", "closed ok\n", ScriptEnd::Closed));
+    assert!(&rt; prints(&rt, "", "closed ok\n", ScriptEnd::Closed));
 }

@@ -3,6 +3,8 @@
 use scripts::{ScriptEnd, Shelf, run_script};
 use std::alloc::Global;
 use std::io;
+use std::sync::Wait;
+use std::thread::Threads;
 
 /// A shelf in memory, which keeps the last file that was put on it.
 #[derive(Drop)]
@@ -31,22 +33,22 @@ impl Shelf for LastFile {
 
 /// What a script printed, and how it came to its end.
 #[derive(Drop)]
-pub(crate) struct Run {
+pub(crate) struct Outcome {
     pub(crate) printed: Vec<u8>,
     pub(crate) end: Option<ScriptEnd>,
 }
 
 /// Runs a script.
-pub(crate) fn run(rt: &HostRuntime, script: &[u8], shelf: &mut LastFile) -> Run {
+pub(crate) fn run<R: AllocGlobal + Threads + Wait + Sync>(rt: &R, script: &[u8], shelf: &mut LastFile) -> Outcome {
     let mut reader = script;
     let mut printed = Vec::new(rt.alloc());
     let end = run_script(rt, rt.alloc(), &mut reader, &mut printed, shelf, None).ok();
-    Run { printed, end }
+    Outcome { printed, end }
 }
 
 /// Whether a script prints these lines, and comes to its end so.
-pub(crate) fn prints(rt: &HostRuntime, script: &str, lines: &str, end: ScriptEnd) -> bool {
+pub(crate) fn prints<R: AllocGlobal + Threads + Wait + Sync>(rt: &R, script: &str, lines: &str, end: ScriptEnd) -> bool {
     let mut shelf = LastFile::new(rt.alloc());
-    let run = run(rt, script.as_bytes(), &mut shelf);
-    run.printed.as_slice() == lines.as_bytes() && run.end == Some(end)
+    let outcome = run(rt, script.as_bytes(), &mut shelf);
+    outcome.printed.as_slice() == lines.as_bytes() && outcome.end == Some(end)
 }

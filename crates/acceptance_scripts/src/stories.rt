@@ -168,30 +168,30 @@ closed ok\n\
 
 #[test]
 fn a_lie_is_exposed(rt: HostRuntime) {
-    assert!(prints(&rt, A_LIE_IS_EXPOSED, A_LIE_IS_EXPOSED_PRINTED, ScriptEnd::Closed));
+    assert!(&rt; prints(&rt, A_LIE_IS_EXPOSED, A_LIE_IS_EXPOSED_PRINTED, ScriptEnd::Closed));
 }
 
 #[test]
 fn a_fork_is_exposed(rt: HostRuntime) {
-    assert!(prints(&rt, A_FORK_IS_EXPOSED, A_FORK_IS_EXPOSED_PRINTED, ScriptEnd::Closed));
+    assert!(&rt; prints(&rt, A_FORK_IS_EXPOSED, A_FORK_IS_EXPOSED_PRINTED, ScriptEnd::Closed));
 }
 
 #[test]
 fn without_keys_nothing_is_acknowledged(rt: HostRuntime) {
-    assert!(prints(&rt, WITHOUT_KEYS_NOTHING_IS_ACKNOWLEDGED, WITHOUT_KEYS_NOTHING_IS_ACKNOWLEDGED_PRINTED, ScriptEnd::Closed));
+    assert!(&rt; prints(&rt, WITHOUT_KEYS_NOTHING_IS_ACKNOWLEDGED, WITHOUT_KEYS_NOTHING_IS_ACKNOWLEDGED_PRINTED, ScriptEnd::Closed));
 }
 
 #[test]
 fn an_accusation_fails(rt: HostRuntime) {
-    assert!(prints(&rt, AN_ACCUSATION_FAILS, AN_ACCUSATION_FAILS_PRINTED, ScriptEnd::Closed));
+    assert!(&rt; prints(&rt, AN_ACCUSATION_FAILS, AN_ACCUSATION_FAILS_PRINTED, ScriptEnd::Closed));
 }
 
 #[test]
 fn nodes_come_in_any_order(rt: HostRuntime) {
-    assert!(prints(&rt, NODES_COME_IN_ANY_ORDER, NODES_COME_IN_ANY_ORDER_PRINTED, ScriptEnd::Closed));
+    assert!(&rt; prints(&rt, NODES_COME_IN_ANY_ORDER, NODES_COME_IN_ANY_ORDER_PRINTED, ScriptEnd::Closed));
 }
 
 #[test]
 fn nothing_is_there(rt: HostRuntime) {
-    assert!(prints(&rt, NOTHING_IS_THERE, NOTHING_IS_THERE_PRINTED, ScriptEnd::Closed));
+    assert!(&rt; prints(&rt, NOTHING_IS_THERE, NOTHING_IS_THERE_PRINTED, ScriptEnd::Closed));
 }

@@ -4,10 +4,12 @@ use crate::said::Said;
 use authenticator::Roster;
 use node_book::{Event, EventOf, Question, Reply};
 use std::alloc::Global;
+use std::sync::Wait;
 use witness_service::{Pass, SignatureCache, WitnessService, admit};
 
 /// A pass at a witness's service, with all that its steps need: whoever has it hands events over, one after
 /// the other, and others do so beside it through passes of their own.
+#[derive(Drop)]
 pub struct Caller<'a, R> {
     runtime: &'a R,
     alloc: Global,
@@ -31,7 +33,7 @@ impl<'a, R: Wait> Caller<'a, R> {
             alloc,
             service,
             roster,
-            cache: SignatureCache::new(alloc, 0),
+            cache: SignatureCache::new(0),
             pass,
         }
     }

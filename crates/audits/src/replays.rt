@@ -7,6 +7,8 @@ use node_book::{Back, EventOf, JobVerdict, ReplayDone, ReplayJob, ReplyOf};
 use replay::ReplayFault;
 use replay_pool::{NoGate, replay_round};
 use std::alloc::AllocError;
+use std::sync::Wait;
+use std::thread::Threads;
 
 /// What the replay of a node's segment found.
 #[derive(Clone, Copy, Debug, PartialEq, Eq)]

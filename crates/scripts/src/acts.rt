@@ -9,8 +9,11 @@ use audits::{Caller, Said};
 use authenticator::Roster;
 use nfs_items::Time;
 use std::alloc::Global;
+use std::sync::Wait;
+use std::thread::Threads;
 
 /// A script that runs: its nodes, and its pass at the witness.
+#[derive(Drop)]
 pub(crate) struct Run<'a, R, S> {
     pub(crate) alloc: Global,
     pub(crate) roster: &'a Roster,

@@ -7,6 +7,7 @@ use std::alloc::Global;
 use std::io::Read;
 
 /// A script, as far as it was read.
+#[derive(Drop)]
 pub(crate) struct Cursor<'a, I> {
     reader: &'a mut I,
     line: Vec<u8>,

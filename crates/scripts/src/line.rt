@@ -28,6 +28,8 @@ impl Model for OneToSixteen {
     ghost view = { λ n. n.value };
 
     ghost invariant = { λ n. (1 ≤ n.value) × (n.value ≤ 16) };
+
+    ghost inverse = { λ n. record { value = n } };
 }
 
 impl OneToSixteen {
@@ -121,7 +123,7 @@ pub(crate) fn read_line(alloc: Global, text: &str) -> Result<Line<'_>, LineFault
     let line = if name == "node" {
         Line::Node(node_line(&mut words)?)
     } else {
-        Line::Act(act(alloc, name, &mut words)?)
+        Line::Act(read_act(alloc, name, &mut words)?)
     };
     match words.end() {
         Ok(()) => Ok(line),
@@ -151,7 +153,7 @@ fn kind_of(word: &str) -> Result<Kind, LineFault> {
 }
 
 /// What a line's first word says is done, with the words after it.
-fn act<'a>(alloc: Global, name: &str, words: &mut Words<'a>) -> Result<Act<'a>, LineFault> {
+fn read_act<'a>(alloc: Global, name: &str, words: &mut Words<'a>) -> Result<Act<'a>, LineFault> {
     match name {
         "call" | "fork" => message(alloc, name, words),
         "challenge" => {
@@ -162,8 +164,8 @@ fn act<'a>(alloc: Global, name: &str, words: &mut Words<'a>) -> Result<Act<'a>, 
             let (pair, number) = sent(words)?;
             Ok(Act::Ack(pair, number))
         }
-        "learn" => Ok(Act::Learn(place(words)?)),
-        "forge" => Ok(Act::Forge(place(words)?)),
+        "learn" => Ok(Act::Learn(read_place(words)?)),
+        "forge" => Ok(Act::Forge(read_place(words)?)),
         "replay" => Ok(Act::Replay(OneToSixteen::read(words)?)),
         "evidence" => {
             let node = words.number()?;
@@ -187,7 +189,7 @@ fn of_node<'a>(name: &str, words: &mut Words<'a>) -> Result<Act<'a>, LineFault> 
 
 /// What follows `call` or `fork`.
 fn message<'a>(alloc: Global, name: &str, words: &mut Words<'a>) -> Result<Act<'a>, LineFault> {
-    let pair = pair(words)?;
+    let pair = read_pair(words)?;
     let first = words.body(alloc)?;
     if name == "call" {
         return Ok(Act::Call(pair, first));
@@ -197,7 +199,7 @@ fn message<'a>(alloc: Global, name: &str, words: &mut Words<'a>) -> Result<Act<'
 }
 
 /// A client and a server.
-fn pair(words: &mut Words<'_>) -> Result<Pair, LineFault> {
+fn read_pair(words: &mut Words<'_>) -> Result<Pair, LineFault> {
     let client = words.number()?;
     let server = words.number()?;
     Ok(Pair { client, server })
@@ -205,12 +207,12 @@ fn pair(words: &mut Words<'_>) -> Result<Pair, LineFault> {
 
 /// A client, a server, and a number in the client's log.
 fn sent(words: &mut Words<'_>) -> Result<(Pair, u32), LineFault> {
-    let pair = pair(words)?;
+    let pair = read_pair(words)?;
     Ok((pair, words.number()?))
 }
 
 /// A node, and a number in its log.
-fn place(words: &mut Words<'_>) -> Result<Place, LineFault> {
+fn read_place(words: &mut Words<'_>) -> Result<Place, LineFault> {
     let node = words.number()?;
     let number = words.number()?;
     Ok(Place { node, number })

@@ -13,6 +13,8 @@ use node_logs::{NodeLog, Receipt};
 use nodes::exchanges::exchange;
 use secure_log::log_entries::Body;
 use std::alloc::{AllocError, Global};
+use std::sync::Wait;
+use std::thread::Threads;
 
 impl<R: Threads + Wait + Sync, S: Shelf> Run<'_, R, S> {
     /// `call C S HEX`: the whole exchange, which both nodes log.

@@ -13,6 +13,8 @@ use std::alloc::Global;
 use std::io::{self, Read, Write};
 use witness_books::Books;
 use witness_service::{Pass, WitnessService};
+use std::sync::Wait;
+use std::thread::Threads;
 
 /// How a script came to its end.
 #[derive(Clone, Copy, Debug, PartialEq, Eq)]

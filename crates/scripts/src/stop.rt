@@ -1,7 +1,7 @@
 //! Why a script stops before its end.
 
 use crate::words::LineFault;
-use std::alloc::{AllocError, Global};
+use std::alloc::{AllocError, AllocFailed, Global};
 use std::io;
 
 /// Why a line isn't done.
@@ -29,6 +29,12 @@ impl Stop {
 
 impl From<AllocError> for Stop {
     fn from(_error: AllocError) -> Stop {
+        Stop::NoMemory
+    }
+}
+
+impl<T: Drop> From<AllocFailed<T>> for Stop {
+    fn from(_error: AllocFailed<T>) -> Stop {
         Stop::NoMemory
     }
 }

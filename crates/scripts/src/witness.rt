@@ -9,6 +9,8 @@ use authenticator::{Authenticator, Number};
 use challenge::{Challenge, write_case};
 use node_book::{Indication, Question};
 use secure_log::SegmentFault;
+use std::sync::Wait;
+use std::thread::Threads;
 
 impl<R: Threads + Wait + Sync, S: Shelf> Run<'_, R, S> {
     /// The packet of a node's authenticator, if the node signed something there.

@@ -1,6 +1,6 @@
 //! The words of a line.
 
-use hex::{FromHex, FromHexError};
+use hex::FromHexError;
 use secure_log::log_entries::{Body, MAX_BODY};
 use std::alloc::{AllocError, Global};
 
@@ -14,6 +14,7 @@ pub(crate) enum LineFault {
 }
 
 /// The words of a line that are left: they stand with one space between.
+#[derive(Drop)]
 pub(crate) struct Words<'a> {
     rest: Option<&'a str>,
 }
@@ -71,7 +72,7 @@ impl<'a> Words<'a> {
         if !word.as_bytes().iter().all(|digit| is_lower_digit(*digit)) {
             return Err(LineFault::Bad);
         }
-        match Vec::<u8>::from_hex(alloc, word) {
+        match hex::decode(alloc, word.as_bytes()) {
             Ok(bytes) if bytes.len() <= MAX_BODY as usize => Ok(Body::new(bytes)),
             Ok(_) => Err(LineFault::Bad),
             Err(FromHexError::OutOfMemory) => Err(LineFault::NoMemory),
