@@ -1,0 +1,10 @@
+#!/usr/bin/env bash
+# Prints how long the audit of a server's log of 65,532 entries takes, in sixteen rounds, beside the replays alone; and a
+# round of two jobs by one worker beside the same by two. Needs rt, GNU time and two processors with nothing else to do.
+set -euo pipefail
+cd "$(dirname "$0")/.."
+. checks/scratch_crate.sh
+
+proved_scratch_crate audit_bench bench/audit/main.rt.txt anyhow audits witness_service witness_books node_book nodes node_logs secure_log authenticator merkle_keys nfs_items
+rt run > "$work/log" 2>&1 || { tail -40 "$work/log" >&2; exit 1; }
+/usr/bin/time -f 'peak memory: %M KiB' out/audit_bench
