@@ -95,15 +95,15 @@ spelled_alike ms bytes event spell = by spell.delivery spell.is_taken spell.is_e
     by (packets.SendChallenge e) is (m, (of, same)) =
         subst (AreAlike ms (events.Deliver bytes)) (sym same) (record {
           whose_is = ap (judged_step ms) is
-          ∙ sent_is ms e.from m (member_of ms e.to) (steps.SendChallenge e) of;
+              ∙ sent_is ms e.from m (member_of ms e.to) (steps.SendChallenge e) of;
           refused_as = λ f. refl;
           wants_as = λ _. tt;
         })
     by (packets.Answer s) is same =
         subst (AreAlike ms (events.Deliver bytes)) (sym same) (record {
           whose_is = ap (judged_step ms) is
-          ∙ closed_is ms (member_of ms s.closing.node)
-          (steps.Answer (record { segment = s; roster = ms }));
+              ∙ closed_is ms (member_of ms s.closing.node)
+              (steps.Answer (record { segment = s; roster = ms }));
           refused_as = λ f. refl;
           wants_as = λ _. tt;
         })
@@ -142,7 +142,7 @@ module _ (ms : List Member) (one two : Event) (alike : AreAlike ms one two) wher
       → own ms node ((one, reply) ∷ history) ≡ own ms node ((two, reply) ∷ history)
   own_alike history reply node =
       ap (λ (step : Result OwnStep Refusal).
-          (if is_want_of_memory reply then [] else own_step node step reply) ++ own ms node history)
+      (if is_want_of_memory reply then [] else own_step node step reply) ++ own ms node history)
       alike.whose_is
 
   -- books stand for one where they stand for the other
@@ -152,9 +152,10 @@ module _ (ms : List Member) (one two : Event) (alike : AreAlike ms one two) wher
   stand_alike history reply [] [] stand = tt
   stand_alike history reply [] (b ∷ books) stand = absurd stand
   stand_alike history reply (m ∷ members) [] stand = absurd stand
-  stand_alike history reply (m ∷ members) (b ∷ books) stand =
-      (subst (λ past. StandsFor (watched ms m) past b) (own_alike history reply m.node) stand.0,
-      stand_alike history reply members books stand.1)
+  stand_alike history reply (m ∷ members) (b ∷ books) stand = (
+    subst (λ past. StandsFor (watched ms m) past b) (own_alike history reply m.node) stand.0,
+    stand_alike history reply members books stand.1,
+  )
 
   -- a step of one is a step of the other
   pub taken_alike : (old new : List BookParts) (reply : Reply) → IsEvent two → StepsTo ms old one reply new
