@@ -12,18 +12,18 @@ use Rattle.authenticator.proofs.Signed.{list_same}
 use Rattle.packets.specs.Packet.{Delivery}
 use Rattle.packets.specs.Packet as packets
 use Rattle.packets.specs.Judging.{Refuses, judged}
-use Rattle.witness_spec.specs.Refusals.{Refusal, BadSignature, NoMemory, refusal_of}
-use Rattle.witness_spec.specs.Events.{Event, PublicKey, IsEvent}
-use Rattle.witness_spec.specs.Events as events
-use Rattle.witness_spec.specs.Replies.{Reply, refused, is_want_of_memory}
-use Rattle.witness_spec.specs.Steps.{Step, OwnStep}
-use Rattle.witness_spec.specs.Steps as steps
-use Rattle.witness_spec.specs.Watched.{watched}
-use Rattle.witness_spec.specs.Whose.{is_key_of, same_roster, step_of, signed_step, sent_step, closed_step}
-use Rattle.witness_spec.specs.Whose.{judged_step, whose}
-use Rattle.witness_spec.specs.Histories.{History, own_step, own, OwesTo, IsOwed, MayWant, IsWanting, IsHistory}
-use Rattle.witness_spec.specs.Histories.{BookParts, StandsFor, StandEach, Stands}
-use Rattle.witness_spec.specs.Contract.{StepsTo}
+use Rattle.node_book.specs.witness_spec.Refusals.{Refusal, BadSignature, NoMemory, refusal_of}
+use Rattle.node_book.specs.witness_spec.Events.{Event, PublicKey, IsEvent}
+use Rattle.node_book.specs.witness_spec.Events as events
+use Rattle.node_book.specs.witness_spec.Replies.{Reply, refused, is_want_of_memory}
+use Rattle.node_book.specs.witness_spec.Steps.{Step, OwnStep}
+use Rattle.node_book.specs.witness_spec.Steps as steps
+use Rattle.node_book.specs.witness_spec.Watched.{watched}
+use Rattle.node_book.specs.witness_spec.Whose.{is_key_of, same_roster, step_of, signed_step, sent_step, closed_step}
+use Rattle.node_book.specs.witness_spec.Whose.{judged_step, whose}
+use Rattle.node_book.specs.witness_spec.Histories.{History, own_step, own, OwesTo, IsOwed, MayWant, IsWanting, IsHistory}
+use Rattle.node_book.specs.witness_spec.Histories.{BookParts, StandsFor, StandEach, Stands}
+use Rattle.node_book.specs.witness_spec.Contract.{StepsTo}
 use Rattle.node_book.specs.Events.{key_of}
 use Rattle.witness_books.specs.Delivering.{IsDelivery, Spell}
 use Rattle.witness_books.proofs.Rosters.{roster_self}

@@ -8,8 +8,8 @@ use Rattle.authenticator.specs.Roster.{kind_number}
 use Rattle.authenticator.specs.Signing.{is_same}
 use Rattle.authenticator.specs.declared.member.Member.{Member}
 use Rattle.authenticator.proofs.Signed.{is_false, list_same}
-use Rattle.witness_spec.specs.Whose.{same_member, same_roster}
-use Rattle.witness_laws.proofs.Checked.{roster_is}
+use Rattle.node_book.specs.witness_spec.Whose.{same_member, same_roster}
+use Rattle.node_book.proofs.witness_laws.Checked.{roster_is}
 
 -- a member is the same as itself
 member_self : (m : Member) → same_member m m ≡ true

@@ -1,5 +1,5 @@
 pub use Rattle.authenticator.specs as authenticator
-pub use Rattle.witness_spec.specs as witness_spec
+pub use Rattle.node_book.specs.witness_spec as witness_spec
 pub use Rattle.node_book.specs as node_book
 pub mod Routing
 pub mod Books

@@ -1,5 +1,5 @@
 -- Bytes and the event that they spell are taken alike.
-use Rattle.witness_spec.specs.Events as events
+use Rattle.node_book.specs.witness_spec.Events as events
 use Rattle.witness_books.proofs.Delivering.{spelled_alike, alike_spelled, owed_alike, taken_alike}
 use Rattle.witness_books.proofs.laws.spelled_is_taken.Goals as goal
 
