@@ -30,12 +30,8 @@ use Rattle.witness_books.proofs.Rosters.{roster_self}
 
 -- ---- whose step it is
 
--- the step of this member
-own_of_member : Member → Step → Result OwnStep Refusal
-own_of_member m step = Ok (record { member = m; step = step })
-
 -- the step, if the key is this member's
-if_own : Member → Step → Bool → Result OwnStep Refusal
+abbrev if_own : Member → Step → Bool → Result OwnStep Refusal
 if_own m step b = if b then Ok (record { member = m; step = step }) else Err BadSignature
 
 -- a member's own key is its key

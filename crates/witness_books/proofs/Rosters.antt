@@ -24,8 +24,8 @@ member_self m =
 
 -- a roster is the same as itself
 pub roster_self : (ms : List Member) → same_roster ms ms ≡ true
-pub roster_self [] = refl
-pub roster_self (m ∷ ms) = and_from (same_member m m) (same_roster ms ms) (member_self m) (roster_self ms)
+roster_self [] = refl
+roster_self (m ∷ ms) = and_from (same_member m m) (same_roster ms ms) (member_self m) (roster_self ms)
 
 -- What is true exactly where two rosters are equal is the test of them.
 pub test_of_rosters : (b : Bool) (xs ys : List Member) → IsTrue b ↔ (xs ≡ ys) → b ≡ same_roster xs ys
