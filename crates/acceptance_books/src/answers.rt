@@ -3,13 +3,13 @@
 use authenticator::{Authenticator, check};
 use challenge::replay_code::ReplayFault;
 use envelopes::{check_ack, check_envelope};
-use node_book::{
-    Back, Event, EventOf, Indication, JobVerdict, Question, Refusal, ReplayDone, ReplayJob, Reply,
-    ReplyOf, SharedSegment,
-};
 use secure_log::check_segment;
 use std::alloc::Global;
 use witness_books::Books;
+use witness_books::node_book_code::{
+    Back, Event, EventOf, Indication, JobVerdict, Question, Refusal, ReplayDone, ReplayJob, Reply,
+    ReplyOf, SharedSegment,
+};
 
 /// What a reply says; of a list how many there are, of evidence whether there is some.
 #[derive(Clone, Copy, Debug, PartialEq, Eq)]

@@ -6,12 +6,12 @@ use crate::parties::{CLIENT, keys, new_books};
 use authenticator::{Authenticator, Number, signed_digest};
 use envelopes::Envelope;
 use merkle_keys::Signer;
-use node_book::{EventOf, Indication, Question, Refusal};
 use nodes::ServerNode;
 use packets::write_learn;
 use secure_log::log_entries::{Body, SignatureText, message_hash};
 use std::alloc::Global;
 use witness_books::Books;
+use witness_books::node_book_code::{EventOf, Indication, Question, Refusal};
 
 /// Whether a challenge with a message to the server is opened once, and the server suspected.
 fn opens(alloc: Global, books: &mut Books, text: &[u8]) -> bool {

@@ -4,12 +4,12 @@ use crate::answers::{Answer, Found, answer_of, answers, audited, learns, replays
 use crate::calls::{authenticator_at, first_call, new_server, received};
 use crate::parties::new_books;
 use authenticator::Authenticator;
-use node_book::{EventOf, Indication, ReplyOf};
 use nodes::ServerNode;
 use nodes::node_logs_code::NodeLog;
 use secure_log::log_entries::Entry;
 use std::alloc::Global;
 use witness_books::Books;
+use witness_books::node_book_code::{EventOf, Indication, ReplyOf};
 
 /// Whether a server logs what it receives at this number.
 fn receives(alloc: Global, server: &mut ServerNode, text: &[u8], number: u64) -> bool {

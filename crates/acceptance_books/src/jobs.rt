@@ -3,10 +3,10 @@
 use crate::answers::{Answer, answer_of, answers, audited, learns, spend_done, spend_job};
 use crate::calls::{authenticator_at, called, new_client};
 use crate::parties::new_books;
-use node_book::{Back, EventOf, Refusal, ReplayDone, ReplayJob, ReplyOf};
 use nodes::node_logs_code::NodeLog;
 use std::alloc::Global;
 use witness_books::Books;
+use witness_books::node_book_code::{Back, EventOf, Refusal, ReplayDone, ReplayJob, ReplyOf};
 
 /// Whether books are given the client's segment of one entry.
 fn is_given(alloc: Global, books: &mut Books, node: &NodeLog) -> bool {

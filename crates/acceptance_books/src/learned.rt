@@ -6,10 +6,10 @@ use crate::answers::{Answer, answers, learns, tells};
 use crate::parties::{SERVER, keys, server_books};
 use authenticator::Number;
 use merkle_keys::Signer;
-use node_book::{EventOf, Indication, Refusal};
 use std::alloc::Global;
 use test_helpers::signed;
 use witness_books::Books;
+use witness_books::node_book_code::{EventOf, Indication, Refusal};
 
 /// Whether node 1's authenticator of a number and a hash, bytes all the same, is answered so.
 fn learns_at(

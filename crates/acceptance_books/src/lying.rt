@@ -6,12 +6,12 @@ use authenticator::{Authenticator, Number, signed_digest};
 use challenge::check_evidence;
 use challenge::replay_code::ReplayFault;
 use merkle_keys::Signer;
-use node_book::{EventOf, Indication, Question, ReplyOf};
 use secure_log::Log;
 use secure_log::log_entries::{Body, Entry, SignatureText, message_hash};
 use std::alloc::Global;
 use test_helpers::{of_words, signed};
 use witness_books::Books;
+use witness_books::node_book_code::{EventOf, Indication, Question, ReplyOf};
 
 /// NULL with the transaction 1, and its reply with the lowest bit of the last byte changed.
 const CALL: [u32; 10] = [1, 0, 2, 0x186a3, 2, 0, 0, 0, 0, 0];

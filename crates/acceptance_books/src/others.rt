@@ -4,13 +4,13 @@ use crate::answers::{Answer, answer_of, answers};
 use crate::parties::{CLIENT, SERVER, keys};
 use authenticator::{Authenticator, Kind, Member, Number};
 use merkle_keys::Signer;
-use node_book::{Event, EventOf, Indication, Question};
 use packets::{write_answer_text, write_learn};
 use secure_log::Log;
 use secure_log::log_entries::Entry;
 use std::alloc::Global;
 use test_helpers::{client, roster_of, server, signed};
 use witness_books::Books;
+use witness_books::node_book_code::{Event, EventOf, Indication, Question};
 
 /// The master secret of node 5.
 const FIFTH: [u8; 32] = [5; 32];

@@ -2,8 +2,8 @@
 
 use crate::answers::{Answer, answer_of, spend_done, spend_job};
 use crate::parties::new_books;
-use node_book::{Event, EventOf, Indication, Question, Refusal, Reply};
 use std::alloc::Global;
+use witness_books::node_book_code::{Event, EventOf, Indication, Question, Refusal, Reply};
 use witness_books::{Books, run};
 
 /// A question for the server's indication, and an audit of it.

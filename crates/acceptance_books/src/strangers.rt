@@ -6,12 +6,12 @@ use crate::jobs::{begun, done, given_books};
 use crate::parties::{SERVER, keys, new_books, pair, server_books};
 use authenticator::{Roster, check};
 use envelopes::{check_ack, check_envelope};
-use node_book::{Event, EventOf, Question, Refusal, SharedSegment};
 use nodes::ClientNode;
 use nodes::node_logs_code::NodeLog;
 use secure_log::check_segment;
 use std::alloc::Global;
 use witness_books::Books;
+use witness_books::node_book_code::{Event, EventOf, Question, Refusal, SharedSegment};
 
 /// What the client signed.
 #[derive(Clone, Copy)]

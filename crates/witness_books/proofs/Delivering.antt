@@ -12,30 +12,26 @@ use Rattle.authenticator.proofs.Signed.{list_same}
 use Rattle.packets.specs.Packet.{Delivery}
 use Rattle.packets.specs.Packet as packets
 use Rattle.packets.specs.Judging.{Refuses, judged}
-use Rattle.witness_spec.specs.Refusals.{Refusal, BadSignature, NoMemory, refusal_of}
-use Rattle.witness_spec.specs.Events.{Event, PublicKey, IsEvent}
-use Rattle.witness_spec.specs.Events as events
-use Rattle.witness_spec.specs.Replies.{Reply, refused, is_want_of_memory}
-use Rattle.witness_spec.specs.Steps.{Step, OwnStep}
-use Rattle.witness_spec.specs.Steps as steps
-use Rattle.witness_spec.specs.Watched.{watched}
-use Rattle.witness_spec.specs.Whose.{is_key_of, same_roster, step_of, signed_step, sent_step, closed_step}
-use Rattle.witness_spec.specs.Whose.{judged_step, whose}
-use Rattle.witness_spec.specs.Histories.{History, own_step, own, OwesTo, IsOwed, MayWant, IsWanting, IsHistory}
-use Rattle.witness_spec.specs.Histories.{BookParts, StandsFor, StandEach, Stands}
-use Rattle.witness_spec.specs.Contract.{StepsTo}
+use Rattle.node_book.specs.witness_spec.Refusals.{Refusal, BadSignature, NoMemory, refusal_of}
+use Rattle.node_book.specs.witness_spec.Events.{Event, PublicKey, IsEvent}
+use Rattle.node_book.specs.witness_spec.Events as events
+use Rattle.node_book.specs.witness_spec.Replies.{Reply, refused, is_want_of_memory}
+use Rattle.node_book.specs.witness_spec.Steps.{Step, OwnStep}
+use Rattle.node_book.specs.witness_spec.Steps as steps
+use Rattle.node_book.specs.witness_spec.Watched.{watched}
+use Rattle.node_book.specs.witness_spec.Whose.{is_key_of, same_roster, step_of, signed_step, sent_step, closed_step}
+use Rattle.node_book.specs.witness_spec.Whose.{judged_step, whose}
+use Rattle.node_book.specs.witness_spec.Histories.{History, own_step, own, OwesTo, IsOwed, MayWant, IsWanting, IsHistory}
+use Rattle.node_book.specs.witness_spec.Histories.{BookParts, StandsFor, StandEach, Stands}
+use Rattle.node_book.specs.witness_spec.Contract.{StepsTo}
 use Rattle.node_book.specs.Events.{key_of}
 use Rattle.witness_books.specs.Delivering.{IsDelivery, Spell}
 use Rattle.witness_books.proofs.Rosters.{roster_self}
 
 -- ---- whose step it is
 
--- the step of this member
-own_of_member : Member → Step → Result OwnStep Refusal
-own_of_member m step = Ok (record { member = m; step = step })
-
 -- the step, if the key is this member's
-if_own : Member → Step → Bool → Result OwnStep Refusal
+abbrev if_own : Member → Step → Bool → Result OwnStep Refusal
 if_own m step b = if b then Ok (record { member = m; step = step }) else Err BadSignature
 
 -- a member's own key is its key
@@ -95,15 +91,15 @@ spelled_alike ms bytes event spell = by spell.delivery spell.is_taken spell.is_e
     by (packets.SendChallenge e) is (m, (of, same)) =
         subst (AreAlike ms (events.Deliver bytes)) (sym same) (record {
           whose_is = ap (judged_step ms) is
-          ∙ sent_is ms e.from m (member_of ms e.to) (steps.SendChallenge e) of;
+              ∙ sent_is ms e.from m (member_of ms e.to) (steps.SendChallenge e) of;
           refused_as = λ f. refl;
           wants_as = λ _. tt;
         })
     by (packets.Answer s) is same =
         subst (AreAlike ms (events.Deliver bytes)) (sym same) (record {
           whose_is = ap (judged_step ms) is
-          ∙ closed_is ms (member_of ms s.closing.node)
-          (steps.Answer (record { segment = s; roster = ms }));
+              ∙ closed_is ms (member_of ms s.closing.node)
+              (steps.Answer (record { segment = s; roster = ms }));
           refused_as = λ f. refl;
           wants_as = λ _. tt;
         })
@@ -142,7 +138,7 @@ module _ (ms : List Member) (one two : Event) (alike : AreAlike ms one two) wher
       → own ms node ((one, reply) ∷ history) ≡ own ms node ((two, reply) ∷ history)
   own_alike history reply node =
       ap (λ (step : Result OwnStep Refusal).
-          (if is_want_of_memory reply then [] else own_step node step reply) ++ own ms node history)
+      (if is_want_of_memory reply then [] else own_step node step reply) ++ own ms node history)
       alike.whose_is
 
   -- books stand for one where they stand for the other
@@ -152,9 +148,10 @@ module _ (ms : List Member) (one two : Event) (alike : AreAlike ms one two) wher
   stand_alike history reply [] [] stand = tt
   stand_alike history reply [] (b ∷ books) stand = absurd stand
   stand_alike history reply (m ∷ members) [] stand = absurd stand
-  stand_alike history reply (m ∷ members) (b ∷ books) stand =
-      (subst (λ past. StandsFor (watched ms m) past b) (own_alike history reply m.node) stand.0,
-      stand_alike history reply members books stand.1)
+  stand_alike history reply (m ∷ members) (b ∷ books) stand = (
+    subst (λ past. StandsFor (watched ms m) past b) (own_alike history reply m.node) stand.0,
+    stand_alike history reply members books stand.1,
+  )
 
   -- a step of one is a step of the other
   pub taken_alike : (old new : List BookParts) (reply : Reply) → IsEvent two → StepsTo ms old one reply new

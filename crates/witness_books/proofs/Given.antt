@@ -2,9 +2,9 @@
 -- Serves: what_is_owed_is_given.
 use Rattle.std.proofs.Common.{◌≡◌, ◌⊎◌, inl, inr, ◌↔◌, List}
 use Rattle.authenticator.specs.declared.member.Member.{Member}
-use Rattle.witness_spec.specs.Events.{Event}
-use Rattle.witness_spec.specs.Replies.{Reply}
-use Rattle.witness_spec.specs.Histories.{History, IsOwed, IsWanting}
+use Rattle.node_book.specs.witness_spec.Events.{Event}
+use Rattle.node_book.specs.witness_spec.Replies.{Reply}
+use Rattle.node_book.specs.witness_spec.Histories.{History, IsOwed, IsWanting}
 
 -- what is owed is the one reply, unless memory ran out
 pub owed_alone : (ms : List Member) (history : History) (event : Event) (owed reply : Reply)

@@ -8,3 +8,4 @@ pub mod Witnessed
 pub mod Given
 pub mod Refused
 pub mod Delivering
+pub use Rattle.node_book.proofs as node_book

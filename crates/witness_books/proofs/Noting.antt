@@ -4,24 +4,24 @@ use Rattle.std.proofs.Common.{◌≡◌, ◌⊎◌, inl, inr, false, List, map, 
 use Rattle.std.proofs.Common.{refl, sym, ap, subst, ◌∙◌}
 use Rattle.authenticator.specs.Roster.{IsRoster}
 use Rattle.authenticator.specs.declared.member.Member.{Member}
-use Rattle.witness_spec.specs.Refusals as refusals
-use Rattle.witness_spec.specs.Events.{JobParts, Event, IsEvent}
-use Rattle.witness_spec.specs.Events as events
-use Rattle.witness_spec.specs.Replies.{Reply, refused, is_want_of_memory}
-use Rattle.witness_spec.specs.Steps as steps
-use Rattle.witness_spec.specs.Watched.{Watched, watched}
-use Rattle.witness_spec.specs.Histories.{own_of, IsWanting}
-use Rattle.witness_spec.specs.Contract.{IsNotedStep}
-use Rattle.witness_spec.specs.ContractLaws.{LeftOutLeavesBooks, WantLeavesBooks, OutOfMemoryLeavesBooks}
-use Rattle.witness_spec.specs.ContractLaws.{StepsAreNoted}
-use Rattle.witness_laws.proofs.Replied.{owed_good, good_want, want_refused}
-use Rattle.witness_steps.specs.Books.{Book, parts_of}
-use Rattle.witness_steps.specs.Replying.{BookOwes}
-use Rattle.witness_steps.specs.Together.{book_at, with_book_at}
-use Rattle.witness_steps.specs.Ready.{AreReady}
-use Rattle.witness_steps.specs.ReadyLaws.{ReadyBooksStep}
-use Rattle.witness_steps.proofs.AllBooks.{its, its_book}
-use Rattle.witness_steps.proofs.AnyBook.{any_owes}
+use Rattle.node_book.specs.witness_spec.Refusals as refusals
+use Rattle.node_book.specs.witness_spec.Events.{JobParts, Event, IsEvent}
+use Rattle.node_book.specs.witness_spec.Events as events
+use Rattle.node_book.specs.witness_spec.Replies.{Reply, refused, is_want_of_memory}
+use Rattle.node_book.specs.witness_spec.Steps as steps
+use Rattle.node_book.specs.witness_spec.Watched.{Watched, watched}
+use Rattle.node_book.specs.witness_spec.Histories.{own_of, IsWanting}
+use Rattle.node_book.specs.witness_spec.Contract.{IsNotedStep}
+use Rattle.node_book.specs.witness_spec.ContractLaws.{LeftOutLeavesBooks, WantLeavesBooks, OutOfMemoryLeavesBooks}
+use Rattle.node_book.specs.witness_spec.ContractLaws.{StepsAreNoted}
+use Rattle.node_book.proofs.witness_laws.Replied.{owed_good, good_want, want_refused}
+use Rattle.node_book.specs.witness_steps.Books.{Book, parts_of}
+use Rattle.node_book.specs.witness_steps.Replying.{BookOwes}
+use Rattle.node_book.specs.witness_steps.Together.{book_at, with_book_at}
+use Rattle.node_book.specs.witness_steps.Ready.{AreReady}
+use Rattle.node_book.specs.witness_steps.ReadyLaws.{ReadyBooksStep}
+use Rattle.node_book.proofs.witness_steps.AllBooks.{its, its_book}
+use Rattle.node_book.proofs.witness_steps.AnyBook.{any_owes}
 use Rattle.node_book.specs.Replies.{reply_in}
 use Rattle.node_book.specs.Stepping.{NotedSteps}
 use Rattle.node_book.specs.declared.reply.ReplyOf.{ReplyOf}

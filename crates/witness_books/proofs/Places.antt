@@ -4,11 +4,11 @@ use Rattle.std.proofs.Common.{◌≡◌, ℕ, suc, ◌+◌, ◌<◌, Bool, true,
 use Rattle.std.proofs.Common.{Option, Some, get_or, set, IsSome, refl, sym, ap, subst, ◌∙◌, arith}
 use Rattle.authenticator.specs.Roster.{member_of}
 use Rattle.authenticator.specs.declared.member.Member.{Member}
-use Rattle.witness_spec.specs.Watched.{watched}
-use Rattle.witness_steps.specs.Books.{Book}
-use Rattle.witness_steps.specs.Together.{book_at, with_book_at, FitEach}
-use Rattle.witness_steps.specs.Ready.{IsReady, AreReady}
-use Rattle.witness_steps.specs.ReadyLaws.{ReadyBooksAreReady}
+use Rattle.node_book.specs.witness_spec.Watched.{watched}
+use Rattle.node_book.specs.witness_steps.Books.{Book}
+use Rattle.node_book.specs.witness_steps.Together.{book_at, with_book_at, FitEach}
+use Rattle.node_book.specs.witness_steps.Ready.{IsReady, AreReady}
+use Rattle.node_book.specs.witness_steps.ReadyLaws.{ReadyBooksAreReady}
 use Rattle.witness_books.specs.Places.{place_from, OneDoes}
 
 some_same : {x y : ℕ} → ◌≡◌ {A = Option ℕ} (Some x) (Some y) → x ≡ y

@@ -3,14 +3,14 @@
 use Rattle.std.proofs.Common.{◌≡◌, ◌⊎◌, inl, inr, ℕ, Bool, true, false, true≢false, List, [], ◌∷◌, map}
 use Rattle.std.proofs.Common.{refl, sym, ap, ap₂, ◌∙◌}
 use Rattle.authenticator.specs.declared.member.Member.{Member}
-use Rattle.witness_spec.specs.Contract.{opening_book, opening_books}
-use Rattle.witness_spec.specs.Replies.{Reply, Noted, Already, Opened, Accepted, Closed, Asked, Job, Filed}
-use Rattle.witness_spec.specs.Replies.{Returned, Forwarded, Empty, Told, OpenList, EvidenceIs}
-use Rattle.witness_spec.specs.Replies.{Refused, FileRefused, PutBackRefused}
-use Rattle.witness_spec.specs.Steps as steps
-use Rattle.witness_steps.specs.Books.{Book, book_opening, parts_of}
-use Rattle.witness_steps.specs.Going.{book_after}
-use Rattle.witness_steps.specs.Together.{with_book_at}
+use Rattle.node_book.specs.witness_spec.Contract.{opening_book, opening_books}
+use Rattle.node_book.specs.witness_spec.Replies.{Reply, Noted, Already, Opened, Accepted, Closed, Asked, Job, Filed}
+use Rattle.node_book.specs.witness_spec.Replies.{Returned, Forwarded, Empty, Told, OpenList, EvidenceIs}
+use Rattle.node_book.specs.witness_spec.Replies.{Refused, FileRefused, PutBackRefused}
+use Rattle.node_book.specs.witness_spec.Steps as steps
+use Rattle.node_book.specs.witness_steps.Books.{Book, book_opening, parts_of}
+use Rattle.node_book.specs.witness_steps.Going.{book_after}
+use Rattle.node_book.specs.witness_steps.Together.{with_book_at}
 use Rattle.node_book.specs.Stepping.{StepMayWant, IsStep, RanOut, Steps}
 use Rattle.witness_books.specs.Books.{is_refusal}
 use Rattle.witness_books.specs.Places.{OneDoes}

@@ -8,8 +8,8 @@ use Rattle.authenticator.specs.Roster.{kind_number}
 use Rattle.authenticator.specs.Signing.{is_same}
 use Rattle.authenticator.specs.declared.member.Member.{Member}
 use Rattle.authenticator.proofs.Signed.{is_false, list_same}
-use Rattle.witness_spec.specs.Whose.{same_member, same_roster}
-use Rattle.witness_laws.proofs.Checked.{roster_is}
+use Rattle.node_book.specs.witness_spec.Whose.{same_member, same_roster}
+use Rattle.node_book.proofs.witness_laws.Checked.{roster_is}
 
 -- a member is the same as itself
 member_self : (m : Member) → same_member m m ≡ true
@@ -24,8 +24,8 @@ member_self m =
 
 -- a roster is the same as itself
 pub roster_self : (ms : List Member) → same_roster ms ms ≡ true
-pub roster_self [] = refl
-pub roster_self (m ∷ ms) = and_from (same_member m m) (same_roster ms ms) (member_self m) (roster_self ms)
+roster_self [] = refl
+roster_self (m ∷ ms) = and_from (same_member m m) (same_roster ms ms) (member_self m) (roster_self ms)
 
 -- What is true exactly where two rosters are equal is the test of them.
 pub test_of_rosters : (b : Bool) (xs ys : List Member) → IsTrue b ↔ (xs ≡ ys) → b ≡ same_roster xs ys

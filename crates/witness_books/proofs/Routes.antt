@@ -7,15 +7,15 @@ use Rattle.authenticator.specs.declared.refusal.Refusal as checks
 use Rattle.authenticator.specs.declared.refusal.Refusal.TheVariants as checking
 use Rattle.packets.specs.Packet.{Delivery}
 use Rattle.packets.specs.Judging.{Refuses, judged}
-use Rattle.witness_spec.specs.Refusals.{refusal_of}
-use Rattle.witness_spec.specs.Refusals as refusals
-use Rattle.witness_spec.specs.Events.{JobParts, IsEvent}
-use Rattle.witness_spec.specs.Events as spec
-use Rattle.witness_spec.specs.Replies as replies
-use Rattle.witness_spec.specs.Steps.{OwnStep}
-use Rattle.witness_spec.specs.Steps as steps
-use Rattle.witness_spec.specs.Whose.{step_of, delivered_step, judged_step, whose}
-use Rattle.witness_spec.specs.Histories.{MayWant, IsWanting}
+use Rattle.node_book.specs.witness_spec.Refusals.{refusal_of}
+use Rattle.node_book.specs.witness_spec.Refusals as refusals
+use Rattle.node_book.specs.witness_spec.Events.{JobParts, IsEvent}
+use Rattle.node_book.specs.witness_spec.Events as spec
+use Rattle.node_book.specs.witness_spec.Replies as replies
+use Rattle.node_book.specs.witness_spec.Steps.{OwnStep}
+use Rattle.node_book.specs.witness_spec.Steps as steps
+use Rattle.node_book.specs.witness_spec.Whose.{step_of, delivered_step, judged_step, whose}
+use Rattle.node_book.specs.witness_spec.Histories.{MayWant, IsWanting}
 use Rattle.node_book.specs.Events.{event_in, step_in}
 use Rattle.node_book.specs.Replies.{refusal_in}
 use Rattle.node_book.specs.Stepping.{StepMayWant, step_refused}

@@ -2,11 +2,11 @@
 -- Serves: run_all.
 use Rattle.std.proofs.Common.{◌≡◌, List, [], ◌∷◌, ◌++◌, map, refl, sym, ap, subst, ◌∙◌}
 use Rattle.std.proofs.lemmas.List.{append-nil, append_assoc, map-append}
-use Rattle.witness_spec.specs.Events.{JobParts}
-use Rattle.witness_spec.specs.Events as spec
-use Rattle.witness_spec.specs.Replies as answers
-use Rattle.witness_spec.specs.Contract.{StepsTo, RunsTo}
-use Rattle.witness_spec.specs.ContractLaws.{NothingIsARun, OneStepMore}
+use Rattle.node_book.specs.witness_spec.Events.{JobParts}
+use Rattle.node_book.specs.witness_spec.Events as spec
+use Rattle.node_book.specs.witness_spec.Replies as answers
+use Rattle.node_book.specs.witness_spec.Contract.{StepsTo, RunsTo}
+use Rattle.node_book.specs.witness_spec.ContractLaws.{NothingIsARun, OneStepMore}
 use Rattle.node_book.specs.Events.{event_in}
 use Rattle.node_book.specs.Replies.{reply_in}
 use Rattle.node_book.specs.declared.event.EventOf.{EventOf}

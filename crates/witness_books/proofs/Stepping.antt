@@ -4,19 +4,19 @@ use Rattle.std.proofs.Common.{◌≡◌, ◌⊎◌, inl, inr, ℕ, Bool, true, f
 use Rattle.std.proofs.Common.{Option, Some, refl, sym, ap, subst, ◌∙◌}
 use Rattle.authenticator.specs.Roster.{IsRoster, member_of}
 use Rattle.authenticator.specs.declared.member.Member.{Member}
-use Rattle.witness_spec.specs.Watched.{watched}
-use Rattle.witness_spec.specs.Refusals.{NoMemory}
-use Rattle.witness_spec.specs.Events.{Event, IsEvent}
-use Rattle.witness_spec.specs.Replies.{Reply}
-use Rattle.witness_spec.specs.Steps as steps
-use Rattle.witness_spec.specs.Histories.{IsWanting}
-use Rattle.witness_spec.specs.Contract.{StepsTo}
-use Rattle.witness_spec.specs.ContractLaws.{LeftOutLeavesBooks, WantLeavesBooks}
-use Rattle.witness_laws.proofs.OwnSteps.{of_member}
-use Rattle.witness_steps.specs.Books.{Book, parts_of}
-use Rattle.witness_steps.specs.Together.{book_at, with_book_at}
-use Rattle.witness_steps.specs.Ready.{AreReady}
-use Rattle.witness_steps.specs.ReadyLaws.{ReadyBooksStep}
+use Rattle.node_book.specs.witness_spec.Watched.{watched}
+use Rattle.node_book.specs.witness_spec.Refusals.{NoMemory}
+use Rattle.node_book.specs.witness_spec.Events.{Event, IsEvent}
+use Rattle.node_book.specs.witness_spec.Replies.{Reply}
+use Rattle.node_book.specs.witness_spec.Steps as steps
+use Rattle.node_book.specs.witness_spec.Histories.{IsWanting}
+use Rattle.node_book.specs.witness_spec.Contract.{StepsTo}
+use Rattle.node_book.specs.witness_spec.ContractLaws.{LeftOutLeavesBooks, WantLeavesBooks}
+use Rattle.node_book.proofs.witness_laws.OwnSteps.{of_member}
+use Rattle.node_book.specs.witness_steps.Books.{Book, parts_of}
+use Rattle.node_book.specs.witness_steps.Together.{book_at, with_book_at}
+use Rattle.node_book.specs.witness_steps.Ready.{AreReady}
+use Rattle.node_book.specs.witness_steps.ReadyLaws.{ReadyBooksStep}
 use Rattle.node_book.specs.Stepping.{StepMayWant, IsStep, RanOut, Steps}
 use Rattle.witness_books.specs.Routing.{IsStepOf, IsNobodys}
 use Rattle.witness_books.specs.Places.{OneDoes}

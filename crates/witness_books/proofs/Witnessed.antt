@@ -2,12 +2,12 @@
 -- Serves: run, opening_is_a_journal.
 use Rattle.std.proofs.Common.{◌≡◌, List, [], ◌∷◌, map, refl, sym, ap, subst, ◌∙◌}
 use Rattle.authenticator.specs.declared.member.Member.{Member}
-use Rattle.witness_spec.specs.Events.{Event}
-use Rattle.witness_spec.specs.Replies.{Reply}
-use Rattle.witness_spec.specs.Histories.{BookParts}
-use Rattle.witness_spec.specs.Contract.{opening_book, opening_books, RunsTo, IsJournalOf}
-use Rattle.witness_spec.specs.ContractLaws.{OpeningJournal, RunsAreHistories}
-use Rattle.witness_steps.specs.Books.{book_opening, parts_of}
+use Rattle.node_book.specs.witness_spec.Events.{Event}
+use Rattle.node_book.specs.witness_spec.Replies.{Reply}
+use Rattle.node_book.specs.witness_spec.Histories.{BookParts}
+use Rattle.node_book.specs.witness_spec.Contract.{opening_book, opening_books, RunsTo, IsJournalOf}
+use Rattle.node_book.specs.witness_spec.ContractLaws.{OpeningJournal, RunsAreHistories}
+use Rattle.node_book.specs.witness_steps.Books.{book_opening, parts_of}
 use Rattle.witness_books.specs.Books.{BooksParts, parts_in}
 use Rattle.witness_books.specs.Witnessed.{AreOpening, IsWitnessed}
 

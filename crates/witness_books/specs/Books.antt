@@ -4,11 +4,11 @@ use Rattle.std.specs.Coded.{Coded, code_by, coded×, coded_list}
 use Rattle.authenticator.specs.Roster.{IsRoster}
 use Rattle.authenticator.specs.declared.member.Member.{Member}
 use Rattle.authenticator.specs.contracts.member.Member as members
-use Rattle.witness_spec.specs.Replies.{Reply}
-use Rattle.witness_spec.specs.Replies as replies
-use Rattle.witness_spec.specs.Histories.{BookParts}
-use Rattle.witness_steps.specs.Books.{Book, parts_of}
-use Rattle.witness_steps.specs.Ready.{AreReady}
+use Rattle.node_book.specs.witness_spec.Replies.{Reply}
+use Rattle.node_book.specs.witness_spec.Replies as replies
+use Rattle.node_book.specs.witness_spec.Histories.{BookParts}
+use Rattle.node_book.specs.witness_steps.Books.{Book, parts_of}
+use Rattle.node_book.specs.witness_steps.Ready.{AreReady}
 use Rattle.node_book.specs.BookCodes.{book_code}
 
 -- A roster, and its members' books in the same order.

@@ -5,13 +5,13 @@ use Rattle.authenticator.specs.declared.member.Member.{Member}
 use Rattle.packets.specs.Packet.{Delivery}
 use Rattle.packets.specs.Packet as packets
 use Rattle.packets.specs.Judging.{judged}
-use Rattle.witness_spec.specs.Refusals as refusals
-use Rattle.witness_spec.specs.Events.{JobParts, Event, IsEvent}
-use Rattle.witness_spec.specs.Events as events
-use Rattle.witness_spec.specs.Replies.{Reply}
-use Rattle.witness_spec.specs.Whose.{whose}
-use Rattle.witness_spec.specs.Histories.{History, IsOwed, BookParts}
-use Rattle.witness_spec.specs.Contract.{StepsTo}
+use Rattle.node_book.specs.witness_spec.Refusals as refusals
+use Rattle.node_book.specs.witness_spec.Events.{JobParts, Event, IsEvent}
+use Rattle.node_book.specs.witness_spec.Events as events
+use Rattle.node_book.specs.witness_spec.Replies.{Reply}
+use Rattle.node_book.specs.witness_spec.Whose.{whose}
+use Rattle.node_book.specs.witness_spec.Histories.{History, IsOwed, BookParts}
+use Rattle.node_book.specs.witness_spec.Contract.{StepsTo}
 use Rattle.node_book.specs.Events.{event_in, key_of}
 use Rattle.node_book.specs.Replies.{refusal_in}
 use Rattle.node_book.specs.declared.event.EventOf.{EventOf}

@@ -3,13 +3,13 @@ use Rattle.std.specs.Prelude.{◌≡◌, ◌⊎◌, ◌↔◌, List, ◌∷◌, 
 use Rattle.authenticator.specs.declared.member.Member.{Member}
 use Rattle.secure_log.specs.Segment.{ClosedParts}
 use Rattle.envelopes.specs.declared.acknowledgement.Ack.{Ack}
-use Rattle.witness_spec.specs.Events.{Event, PublicKey}
-use Rattle.witness_spec.specs.Events as events
-use Rattle.witness_spec.specs.Replies.{Reply, Accepted, Closed}
-use Rattle.witness_spec.specs.Watched.{Watched}
-use Rattle.witness_spec.specs.Histories.{History, IsOwed, IsWanting, IsHistory, BookParts, Stands}
-use Rattle.witness_spec.specs.Contract.{StepsTo}
-use Rattle.witness_spec.specs.Laws.{AnswersAudit, ClosesChallenge}
+use Rattle.node_book.specs.witness_spec.Events.{Event, PublicKey}
+use Rattle.node_book.specs.witness_spec.Events as events
+use Rattle.node_book.specs.witness_spec.Replies.{Reply, Accepted, Closed}
+use Rattle.node_book.specs.witness_spec.Watched.{Watched}
+use Rattle.node_book.specs.witness_spec.Histories.{History, IsOwed, IsWanting, IsHistory, BookParts, Stands}
+use Rattle.node_book.specs.witness_spec.Contract.{StepsTo}
+use Rattle.node_book.specs.witness_spec.Laws.{AnswersAudit, ClosesChallenge}
 use Rattle.witness_books.specs.Headline.{KeepsHeadline}
 
 -- Where one reply alone is owed to an event, a step of books that stand for the history gives it, or memory

@@ -3,19 +3,19 @@ use Rattle.std.specs.Prelude.{◌≡◌, ◌≢◌, ◌↔◌, List, map, Some, 
 use Rattle.authenticator.specs.declared.member.Member.{Member}
 use Rattle.secure_log.specs.declared.log_entries.entry.Entry.{Entry}
 use Rattle.state_spec.specs.State.{State}
-use Rattle.evidence_spec.specs.Evidence.{EvidenceParts}
-use Rattle.evidence_spec.specs.Proving.{IsLog}
-use Rattle.evidence_spec.specs.replay_spec.Opening.{opening_of}
-use Rattle.evidence_spec.specs.replay_spec.HonestLogs.{IsHonestLog}
-use Rattle.witness_spec.specs.Events.{Event}
-use Rattle.witness_spec.specs.Replies.{Reply, Exposed}
-use Rattle.witness_spec.specs.Standing.{indication}
-use Rattle.witness_spec.specs.Exposing.{evidence}
-use Rattle.witness_spec.specs.Watched.{Watched, watched, IsInRoster}
-use Rattle.witness_spec.specs.Histories.{History, own_of, IsHistory, BookParts, Stands}
-use Rattle.witness_spec.specs.Contract.{joined, RunsTo}
-use Rattle.witness_spec.specs.Laws.{SaysSame, HasFaultyFile, IsProof}
-use Rattle.witness_spec.specs.Premises.{Unforged, NoCollisionWith}
+use Rattle.node_book.specs.evidence_spec.Evidence.{EvidenceParts}
+use Rattle.node_book.specs.evidence_spec.Proving.{IsLog}
+use Rattle.node_book.specs.evidence_spec.replay_spec.Opening.{opening_of}
+use Rattle.node_book.specs.evidence_spec.replay_spec.HonestLogs.{IsHonestLog}
+use Rattle.node_book.specs.witness_spec.Events.{Event}
+use Rattle.node_book.specs.witness_spec.Replies.{Reply, Exposed}
+use Rattle.node_book.specs.witness_spec.Standing.{indication}
+use Rattle.node_book.specs.witness_spec.Exposing.{evidence}
+use Rattle.node_book.specs.witness_spec.Watched.{Watched, watched, IsInRoster}
+use Rattle.node_book.specs.witness_spec.Histories.{History, own_of, IsHistory, BookParts, Stands}
+use Rattle.node_book.specs.witness_spec.Contract.{joined, RunsTo}
+use Rattle.node_book.specs.witness_spec.Laws.{SaysSame, HasFaultyFile, IsProof}
+use Rattle.node_book.specs.witness_spec.Premises.{Unforged, NoCollisionWith}
 
 -- A run of other books of the roster, that stood for an earlier history, in which a member's steps are the
 -- same and in the same order, has the same replies to these, and its witness says the same of the member.

@@ -1,13 +1,13 @@
 -- What a witness that began with nothing holds, and that two such witnesses agree.
 use Rattle.std.specs.Prelude.{◌≡◌, List, [], map}
 use Rattle.authenticator.specs.declared.member.Member.{Member}
-use Rattle.witness_spec.specs.Events.{Event}
-use Rattle.witness_spec.specs.Replies.{Reply}
-use Rattle.witness_spec.specs.Watched.{Watched, IsInRoster}
-use Rattle.witness_spec.specs.Histories.{own_of, IsHistory, BookParts, Stands}
-use Rattle.witness_spec.specs.Contract.{opening_books, joined, RunsTo, IsJournalOf}
-use Rattle.witness_spec.specs.Laws.{SaysSame}
-use Rattle.witness_steps.specs.Books.{book_opening}
+use Rattle.node_book.specs.witness_spec.Events.{Event}
+use Rattle.node_book.specs.witness_spec.Replies.{Reply}
+use Rattle.node_book.specs.witness_spec.Watched.{Watched, IsInRoster}
+use Rattle.node_book.specs.witness_spec.Histories.{own_of, IsHistory, BookParts, Stands}
+use Rattle.node_book.specs.witness_spec.Contract.{opening_books, joined, RunsTo, IsJournalOf}
+use Rattle.node_book.specs.witness_spec.Laws.{SaysSame}
+use Rattle.node_book.specs.witness_steps.Books.{book_opening}
 use Rattle.witness_books.specs.Books.{BooksParts, parts_in}
 
 -- The books are those before any step.

@@ -2,9 +2,9 @@
 
 ghost use Rattle.std.specs.Prelude.{◌≡◌, ◌∷◌, [], true, IfErr, IfOk, Some, map};
 ghost use Rattle.authenticator.specs.Roster.{IsRoster, member_of};
-ghost use Rattle.witness_spec.specs.Contract.{AreBooks, IsNotedStep, StepsTo, opening_books};
-ghost use Rattle.witness_steps.specs.Books.{book_opening};
-ghost use Rattle.witness_steps.specs.Ready.{AreReady};
+ghost use Rattle.node_book.specs.witness_spec.Contract.{AreBooks, IsNotedStep, StepsTo, opening_books};
+ghost use Rattle.node_book.specs.witness_steps.Books.{book_opening};
+ghost use Rattle.node_book.specs.witness_steps.Ready.{AreReady};
 ghost use Rattle.node_book.specs.Events.{event_in, step_in};
 ghost use Rattle.node_book.specs.Replies.{reply_in};
 ghost use Rattle.node_book.specs.Stepping.{NotedSteps, Steps};
@@ -17,11 +17,11 @@ use crate::laws::steps_keep_the_headline;
 use crate::note::{Note, event_twice, note_refusal};
 use crate::route::{Routed, refuse_event, route};
 use authenticator::{Member, Roster};
+use node_book::witness_laws_code::books::{journals_are_histories, what_leaves_books};
+use node_book::witness_steps_code::laws::books_are_ready;
 use node_book::{Book, Event, PlainReply, Refusal, Reply, Step};
 use std::alloc::{AllocError, AllocFailed, Global};
 use std::marker::Model;
-use witness_laws::books::{journals_are_histories, what_leaves_books};
-use witness_steps::laws::books_are_ready;
 
 /// What a witness keeps of the members of a roster (PeerReview, SOSP 2007): a book of each.
 #[derive(Drop)]

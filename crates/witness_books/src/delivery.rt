@@ -2,7 +2,7 @@
 
 ghost use Rattle.std.specs.Prelude.{◌≡◌, IfErr, IfOk};
 ghost use Rattle.packets.specs.Delivered.{IsUnder, delivery_in};
-ghost use Rattle.witness_spec.specs.Refusals.{NoMemory};
+ghost use Rattle.node_book.specs.witness_spec.Refusals.{NoMemory};
 ghost use Rattle.node_book.specs.Events.{event_in};
 ghost use Rattle.node_book.specs.Replies.{refusal_in};
 ghost use Rattle.witness_books.specs.Delivering.{IsDelivery, ReadsEvent};

@@ -1,10 +1,10 @@
 //! Whose step an event is.
 
 ghost use Rattle.std.specs.Prelude.{◌≡◌};
-ghost use Rattle.witness_spec.specs.Events.{Learn, SendChallenge, Answer, AckIn, Deliver};
-ghost use Rattle.witness_spec.specs.Replies.{refused};
-ghost use Rattle.witness_spec.specs.Whose.{closed_step, is_key_of, same_roster, sent_step};
-ghost use Rattle.witness_spec.specs.Whose.{signed_step, step_of};
+ghost use Rattle.node_book.specs.witness_spec.Events.{Learn, SendChallenge, Answer, AckIn, Deliver};
+ghost use Rattle.node_book.specs.witness_spec.Replies.{refused};
+ghost use Rattle.node_book.specs.witness_spec.Whose.{closed_step, is_key_of, same_roster, sent_step};
+ghost use Rattle.node_book.specs.witness_spec.Whose.{signed_step, step_of};
 ghost use Rattle.authenticator.specs.Roster.{member_of};
 ghost use Rattle.packets.specs.Delivered.{IsUnder, delivery_in};
 ghost use Rattle.node_book.specs.Events.{event_in, key_of, step_in};

@@ -1,7 +1,7 @@
 //! Events one after the other.
 
 ghost use Rattle.std.specs.Prelude.{◌≡◌, ◌+◌, ◌≤◌, [], IfErr, IfOk, OnErr, map, vec_capacity, vec_len};
-ghost use Rattle.witness_spec.specs.Contract.{RunsTo};
+ghost use Rattle.node_book.specs.witness_spec.Contract.{RunsTo};
 ghost use Rattle.node_book.specs.Events.{event_in};
 ghost use Rattle.node_book.specs.Replies.{reply_in};
 ghost use Rattle.witness_books.specs.Books.{parts_in};
@@ -10,9 +10,9 @@ ghost use Rattle.witness_books.specs.Witnessed.{AreOpening, IsWitnessed};
 
 use crate::books::Books;
 use crate::laws::runs_keep_the_headline;
+use node_book::witness_laws_code::books::runs_are_histories;
 use node_book::{Event, Reply};
 use std::alloc::{AllocError, Global};
-use witness_laws::books::runs_are_histories;
 
 /// Hands these events to the books, one after the other, the oldest first, and gives their replies in the
 /// same order: each event is a step of its own, from the books that the one before left. Room for all replies

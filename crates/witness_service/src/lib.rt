@@ -11,3 +11,4 @@ pub use admission::{SignatureCache, admit};
 pub use journal::Journal;
 pub use pass::{Pass, Receipt};
 pub use service::{Closed, ReceiptFault, WitnessService};
+pub use witness_books as witness_books_code;

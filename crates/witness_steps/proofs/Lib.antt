@@ -17,3 +17,4 @@ pub mod Limits
 pub mod Answers
 pub mod Few
 pub mod Ready
+pub use Rattle.witness_laws.proofs as witness_laws

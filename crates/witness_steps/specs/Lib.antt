@@ -9,3 +9,4 @@ pub mod Keeping
 pub mod Laws
 pub mod Ready
 pub mod ReadyLaws
+pub use Rattle.witness_laws.specs as witness_laws

@@ -2,3 +2,5 @@
 #![tactic(auto)]
 
 pub mod laws;
+
+pub use witness_laws as witness_laws_code;

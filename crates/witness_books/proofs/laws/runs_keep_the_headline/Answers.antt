@@ -1,6 +1,6 @@
 -- A run leads to a history for which the books stand; the laws on histories say the rest.
 use Rattle.std.proofs.Common.{inr}
-use Rattle.witness_spec.specs.Watched.{watched}
+use Rattle.node_book.specs.witness_spec.Watched.{watched}
 use Rattle.witness_books.proofs.laws.runs_keep_the_headline.Goals as goal
 
 pub returns : goal.returns

@@ -1,5 +1,5 @@
 -- Bytes and the event that they spell are taken alike.
-use Rattle.witness_spec.specs.Events as events
+use Rattle.node_book.specs.witness_spec.Events as events
 use Rattle.witness_books.proofs.Delivering.{spelled_alike, alike_spelled, owed_alike, taken_alike}
 use Rattle.witness_books.proofs.laws.spelled_is_taken.Goals as goal
 
@@ -7,11 +7,13 @@ pub returns-clause-whose : goal.returns-clause-whose
 returns-clause-whose c ms bytes event spell = (spelled_alike ms bytes event spell).whose_is
 
 pub returns-clause-owed : goal.returns-clause-owed
-returns-clause-owed c ms bytes event history reply spell =
-    (owed_alike ms (events.Deliver bytes) event (spelled_alike ms bytes event spell) history reply,
-    owed_alike ms event (events.Deliver bytes) (alike_spelled ms bytes event spell) history reply)
+returns-clause-owed c ms bytes event history reply spell = (
+  owed_alike ms (events.Deliver bytes) event (spelled_alike ms bytes event spell) history reply,
+  owed_alike ms event (events.Deliver bytes) (alike_spelled ms bytes event spell) history reply,
+)
 
 pub returns-clause-taken : goal.returns-clause-taken
-returns-clause-taken c ms old new bytes event reply is_bytes is_event spell =
-    (taken_alike ms (events.Deliver bytes) event (spelled_alike ms bytes event spell) old new reply is_event,
-    taken_alike ms event (events.Deliver bytes) (alike_spelled ms bytes event spell) old new reply is_bytes)
+returns-clause-taken c ms old new bytes event reply is_bytes is_event spell = (
+  taken_alike ms (events.Deliver bytes) event (spelled_alike ms bytes event spell) old new reply is_event,
+  taken_alike ms event (events.Deliver bytes) (alike_spelled ms bytes event spell) old new reply is_bytes,
+)

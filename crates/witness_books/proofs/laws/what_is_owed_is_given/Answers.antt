@@ -1,6 +1,6 @@
 -- What is owed is given.
-use Rattle.witness_spec.specs.Events as events
-use Rattle.witness_spec.specs.Replies.{Accepted, Closed}
+use Rattle.node_book.specs.witness_spec.Events as events
+use Rattle.node_book.specs.witness_spec.Replies.{Accepted, Closed}
 use Rattle.witness_books.proofs.Given.{owed_alone}
 use Rattle.witness_books.proofs.laws.what_is_owed_is_given.Goals as goal
 

@@ -1,5 +1,5 @@
 use Rattle.std.proofs.Common.{[]}
-use Rattle.witness_spec.specs.Contract.{opening_books}
+use Rattle.node_book.specs.witness_spec.Contract.{opening_books}
 use Rattle.witness_books.proofs.laws.witnesses_agree.Goals as goal
 
 pub returns : goal.returns

@@ -1,7 +1,7 @@
 use Rattle.std.proofs.Common.{ℕ, refl}
-use Rattle.witness_spec.specs.Events as spec
-use Rattle.witness_spec.specs.Steps as steps
-use Rattle.witness_spec.specs.Histories.{MayWant}
+use Rattle.node_book.specs.witness_spec.Events as spec
+use Rattle.node_book.specs.witness_spec.Steps as steps
+use Rattle.node_book.specs.witness_spec.Histories.{MayWant}
 use Rattle.node_book.specs.Events.{question_in}
 use Rattle.node_book.specs.Stepping.{StepMayWant}
 use Rattle.node_book.specs.declared.event.EventOf.TheVariants as e

@@ -1,0 +1,65 @@
+//! What is admitted, and why a packet isn't.
+
+use crate::handed::{Handed, all_handed, spend};
+use std::alloc::Global;
+use witness_service::witness_books_code::node_book_code::{Event, EventOf, Refusal};
+use witness_service::{SignatureCache, admit};
+
+/// What a packet is admitted as.
+#[derive(Clone, Copy, Debug, PartialEq, Eq)]
+enum Admission {
+    Learn,
+    Answer,
+    Other,
+    Refused(Refusal),
+}
+
+/// What an event is. It is spent.
+fn kind_of(event: Event) -> Admission {
+    match event {
+        EventOf::Learn(_) => Admission::Learn,
+        EventOf::Answer(_) => Admission::Answer,
+        event => {
+            spend(event);
+            Admission::Other
+        }
+    }
+}
+
+/// What a packet is admitted as under the roster.
+fn taken(alloc: Global, handed: &Handed, cache: &mut SignatureCache, bytes: &[u8]) -> Admission {
+    match admit(alloc, &handed.roster, cache, bytes) {
+        Ok(event) => kind_of(event),
+        Err(refusal) => Admission::Refused(refusal),
+    }
+}
+
+/// Whether all packets are admitted or not as they should.
+fn admits(alloc: Global, handed: &Handed) -> bool {
+    let mut cache = SignatureCache::new(4);
+    let cases: [(&[u8], Admission); 4] = [
+        (&handed.own.first, Admission::Learn),
+        (&handed.own.answer, Admission::Answer),
+        (&handed.forged, Admission::Refused(Refusal::BadSignature)),
+        (&[0; 7], Admission::Refused(Refusal::Garbage)),
+    ];
+    for (bytes, wanted) in cases {
+        if taken(alloc, handed, &mut cache, bytes) != wanted {
+            return false;
+        }
+    }
+    true
+}
+
+/// The same of packets that are made first.
+fn packets_are_admitted(alloc: Global) -> bool {
+    match all_handed(alloc) {
+        Some(handed) => admits(alloc, &handed),
+        None => false,
+    }
+}
+
+#[test]
+fn packets_are_admitted_or_refused(rt: HostRuntime) {
+    assert!(rt; packets_are_admitted(rt.alloc()));
+}

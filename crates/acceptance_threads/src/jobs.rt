@@ -1,0 +1,65 @@
+//! Two jobs of two nodes.
+
+use crate::handed::{delivered, end};
+use crate::parties::{Shown, roster, shown_by};
+use std::alloc::Global;
+use witness_service::witness_books_code::Books;
+use witness_service::witness_books_code::node_book_code::{Event, EventOf, ReplayJob, ReplyOf};
+
+/// Hands over bytes.
+fn hand(alloc: Global, books: &mut Books, bytes: &[u8]) {
+    if let Some(event) = delivered(alloc, bytes) {
+        end(books.step(alloc, event));
+    }
+}
+
+/// The job of a node, whose segment is asked for and given.
+fn job_of(alloc: Global, books: &mut Books, node: u8, shown: &Shown) -> Option<ReplayJob> {
+    hand(alloc, books, &shown.second);
+    end(books.step(alloc, EventOf::Audit(node as u32)));
+    hand(alloc, books, &shown.answer);
+    match books.step(alloc, EventOf::Begin(node as u32)) {
+        ReplyOf::Job(job) => Some(job),
+        reply => match end(reply) {
+            () => None,
+        },
+    }
+}
+
+/// Adds the job of a node, if there is one and room for it.
+fn add_job(alloc: Global, books: &mut Books, node: u8, jobs: &mut Vec<ReplayJob>) {
+    if jobs.reserve(1).is_err() {
+        return;
+    }
+    match shown_by(alloc, node) {
+        Some(shown) => match job_of(alloc, books, node, &shown) {
+            Some(job) => jobs.push_reserved(job),
+            None => {}
+        },
+        None => {}
+    }
+}
+
+/// The jobs of nodes 5 and 6, in that order.
+pub fn two_jobs(alloc: Global) -> Vec<ReplayJob> {
+    let mut jobs = Vec::new(alloc);
+    match roster(alloc) {
+        Some(roster) => match Books::new(alloc, roster) {
+            Ok(mut books) => {
+                add_job(alloc, &mut books, 5, &mut jobs);
+                add_job(alloc, &mut books, 6, &mut jobs);
+            }
+            Err(_) => {}
+        },
+        None => {}
+    }
+    jobs
+}
+
+/// Spends jobs that came back.
+pub fn spend_jobs(mut jobs: Vec<ReplayJob>) {
+    while let Some(job) = jobs.pop() {
+        job.discard();
+    }
+    jobs.destroy_empty();
+}

@@ -1,0 +1,17 @@
+//! Tests of what runs in threads: rounds of replays, and books under a lock.
+#![tactic(auto)]
+
+#[cfg(test)]
+mod admitted;
+#[cfg(test)]
+mod closed;
+#[cfg(test)]
+mod handed;
+#[cfg(test)]
+mod jobs;
+#[cfg(test)]
+mod meeting;
+#[cfg(test)]
+mod parties;
+#[cfg(test)]
+mod together;
