@@ -1,8 +1,9 @@
 //! What a line of a script prints.
 
-use audits::{Outcome, Replayed, Said};
+use crate::replays::{Outcome, Replayed};
+use crate::said::Said;
 use authenticator::Authenticator;
-use node_book::Indication;
+use witness_service::witness_books_code::node_book_code::Indication;
 use std::alloc::{AllocError, Global};
 
 /// What a line prints: words with one space between, line by line.

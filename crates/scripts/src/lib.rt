@@ -3,16 +3,22 @@
 
 mod acts;
 mod answer;
+mod caller;
 mod cursor;
 mod line;
 mod lines;
 mod messages;
+mod packet_texts;
 mod parties;
+mod replays;
+mod said;
 mod script;
 mod shelf;
 mod stop;
 mod witness;
 mod words;
 
+pub use replay_pool as replay_pool_code;
 pub use script::{ScriptEnd, ScriptFault, run_script};
 pub use shelf::Shelf;
+pub use witness_service as witness_service_code;

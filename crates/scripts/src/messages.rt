@@ -4,12 +4,12 @@ use crate::acts::Run;
 use crate::line::Pair;
 use crate::shelf::Shelf;
 use crate::stop::Stop;
-use audits::{ack_packet, challenge_packet};
+use crate::packet_texts::{ack_packet, challenge_packet};
 use authenticator::Number;
 use commitment::{Received, Refusal};
 use envelopes::Envelope;
 use nfs_items::Time;
-use node_logs::{NodeLog, Receipt};
+use nodes::node_logs_code::{NodeLog, Receipt};
 use nodes::exchanges::exchange;
 use secure_log::log_entries::Body;
 use std::alloc::{AllocError, Global};
@@ -43,7 +43,7 @@ impl<R: Threads + Wait + Sync, S: Shelf> Run<'_, R, S> {
         second: Body,
     ) -> Result<(), Stop> {
         let (client, _) = self.parties.pair(pair).ok_or(Stop::Bad)?;
-        match client.fork(self.alloc, pair.server, first, second) {
+        match client.fork(pair.server, first, second) {
             Ok(forked) => {
                 self.hand_first(time, pair, forked.number)?;
                 match forked.second {

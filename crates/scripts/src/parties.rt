@@ -6,7 +6,7 @@ use crate::line::{NodeLine, Pair};
 use crate::stop::Stop;
 use authenticator::{Kind, Member, Roster};
 use merkle_keys::Signer;
-use node_logs::NodeLog;
+use nodes::node_logs_code::NodeLog;
 use nodes::{ClientNode, Node, Role, ServerNode};
 use std::alloc::{AllocError, Global};
 

@@ -3,8 +3,8 @@
 use crate::caller::Caller;
 use crate::said::Said;
 use authenticator::Number;
-use node_book::{Back, EventOf, JobVerdict, ReplayDone, ReplayJob, ReplyOf};
-use replay::ReplayFault;
+use witness_service::witness_books_code::node_book_code::{Back, EventOf, JobVerdict, ReplayDone, ReplayJob, ReplyOf};
+use challenge::replay_code::ReplayFault;
 use replay_pool::{NoGate, replay_round};
 use std::alloc::AllocError;
 use std::sync::Wait;
@@ -12,7 +12,7 @@ use std::thread::Threads;
 
 /// What the replay of a node's segment found.
 #[derive(Clone, Copy, Debug, PartialEq, Eq)]
-pub enum Outcome {
+pub(crate) enum Outcome {
     /// Each entry may stand where it does.
     Sound,
     /// What the first entry that may not has wrong, and its number.
@@ -21,11 +21,11 @@ pub enum Outcome {
 
 /// A node whose segment was replayed.
 #[derive(Clone, Copy, Debug, PartialEq, Eq)]
-pub struct Replayed {
+pub(crate) struct Replayed {
     /// The node's number.
-    pub node: u32,
+    pub(crate) node: u32,
     /// What was found.
-    pub outcome: Outcome,
+    pub(crate) outcome: Outcome,
 }
 
 impl Replayed {
@@ -46,7 +46,7 @@ impl<R: Threads + Wait + Sync> Caller<'_, R> {
     /// Begins each segment that these nodes gave, in their order, has so many workers replay them at once, and
     /// files what they found: that of each node comes back, in the same order. A node that gave none is passed
     /// over. `AllocError` comes where memory ran out: a job that wasn't done is then put back.
-    pub fn replay(&mut self, nodes: &[u32], workers: usize) -> Result<Vec<Replayed>, AllocError>
+    pub(crate) fn replay(&mut self, nodes: &[u32], workers: usize) -> Result<Vec<Replayed>, AllocError>
         requires some { 1 ≤ workers }
         requires most { workers ≤ 16 }
     {

@@ -2,12 +2,12 @@
 
 use authenticator::{Authenticator, Number};
 use challenge::{Challenge, Evidence};
-use node_book::{Indication, Refusal, Reply, ReplyOf};
+use witness_service::witness_books_code::node_book_code::{Indication, Refusal, Reply, ReplyOf};
 use std::sync::Arc;
 
 /// What a witness answered to an event that asks for no job and brings none back.
 #[derive(Drop)]
-pub enum Said {
+pub(crate) enum Said {
     /// The authenticator was learned.
     Noted,
     /// It was learned before, or a challenge with that message is open.
@@ -74,7 +74,7 @@ impl Said {
     }
 
     /// Whether it was refused because memory ran out.
-    pub fn is_no_memory(&self) -> bool {
+    pub(crate) fn is_no_memory(&self) -> bool {
         matches!(self, Said::Refused(Refusal::NoMemory))
     }
 }

@@ -2,7 +2,7 @@
 
 use crate::said::Said;
 use authenticator::Roster;
-use node_book::{Event, EventOf, Question, Reply};
+use witness_service::witness_books_code::node_book_code::{Event, EventOf, Question, Reply};
 use std::alloc::Global;
 use std::sync::Wait;
 use witness_service::{Pass, SignatureCache, WitnessService, admit};
@@ -10,7 +10,7 @@ use witness_service::{Pass, SignatureCache, WitnessService, admit};
 /// A pass at a witness's service, with all that its steps need: whoever has it hands events over, one after
 /// the other, and others do so beside it through passes of their own.
 #[derive(Drop)]
-pub struct Caller<'a, R> {
+pub(crate) struct Caller<'a, R> {
     runtime: &'a R,
     alloc: Global,
     service: &'a WitnessService,
@@ -21,7 +21,7 @@ pub struct Caller<'a, R> {
 
 impl<'a, R: Wait> Caller<'a, R> {
     /// The caller who has a pass. The roster is the witness's.
-    pub fn new(
+    pub(crate) fn new(
         runtime: &'a R,
         alloc: Global,
         service: &'a WitnessService,
@@ -39,7 +39,7 @@ impl<'a, R: Wait> Caller<'a, R> {
     }
 
     /// Gives the pass back, with the receipts of all steps.
-    pub fn into_pass(self) -> Pass {
+    pub(crate) fn into_pass(self) -> Pass {
         let Caller { pass, .. } = self;
         pass
     }
@@ -66,7 +66,7 @@ impl<'a, R: Wait> Caller<'a, R> {
     }
 
     /// Hands a packet over: its bytes are checked before the step, which no one waits for.
-    pub fn deliver(&mut self, packet: &[u8]) -> Said {
+    pub(crate) fn deliver(&mut self, packet: &[u8]) -> Said {
         match admit(self.alloc, self.roster, &mut self.cache, packet) {
             Ok(event) => self.say(event),
             Err(refusal) => Said::Refused(refusal),
@@ -74,17 +74,17 @@ impl<'a, R: Wait> Caller<'a, R> {
     }
 
     /// Has the node asked for the next segment of its log.
-    pub fn audit(&mut self, node: u32) -> Said {
+    pub(crate) fn audit(&mut self, node: u32) -> Said {
         self.say(EventOf::Audit(node))
     }
 
     /// Takes the oldest authenticator that a node's log showed of another one.
-    pub fn forward(&mut self, node: u32) -> Said {
+    pub(crate) fn forward(&mut self, node: u32) -> Said {
         self.say(EventOf::Forward(node))
     }
 
     /// Asks what the witness says of a node.
-    pub fn ask(&mut self, node: u32, question: Question) -> Said {
+    pub(crate) fn ask(&mut self, node: u32, question: Question) -> Said {
         self.say(EventOf::Ask(node, question))
     }
 }
