@@ -15,7 +15,7 @@ const MAX_NODE: u32 = 64;
 const MOST: u32 = 16;
 
 /// A number from 1 to 16: the height of a tree of keys, or the workers of a round.
-#[derive(Clone, Copy, Debug, PartialEq, Eq)]
+#[derive(Clone, Copy)]
 pub(crate) struct OneToSixteen {
     value: u32,
 }
@@ -53,21 +53,21 @@ impl OneToSixteen {
 }
 
 /// A client and a server, by their numbers.
-#[derive(Clone, Copy, Debug, PartialEq, Eq)]
+#[derive(Clone, Copy)]
 pub(crate) struct Pair {
     pub(crate) client: u32,
     pub(crate) server: u32,
 }
 
 /// Something of a node's log: the node's number, and a number in its log.
-#[derive(Clone, Copy, Debug, PartialEq, Eq)]
+#[derive(Clone, Copy)]
 pub(crate) struct Place {
     pub(crate) node: u32,
     pub(crate) number: u32,
 }
 
 /// A node that a script has.
-#[derive(Clone, Copy, Debug, PartialEq, Eq)]
+#[derive(Clone, Copy)]
 pub(crate) struct NodeLine {
     pub(crate) number: u32,
     pub(crate) kind: Kind,

@@ -7,7 +7,7 @@ use std::io::Read;
 const MAX_LINE: usize = 65536;
 
 /// The next line of a script, or why there is none.
-#[derive(Clone, Copy, Debug, PartialEq, Eq)]
+#[derive(Clone, Copy)]
 pub(crate) enum Next {
     /// There is a line.
     Line,

@@ -11,7 +11,7 @@ use std::sync::Wait;
 use std::thread::Threads;
 
 /// What the replay of a node's segment found.
-#[derive(Clone, Copy, Debug, PartialEq, Eq)]
+#[derive(Clone, Copy)]
 pub(crate) enum Outcome {
     /// Each entry may stand where it does.
     Sound,
@@ -20,7 +20,7 @@ pub(crate) enum Outcome {
 }
 
 /// A node whose segment was replayed.
-#[derive(Clone, Copy, Debug, PartialEq, Eq)]
+#[derive(Clone, Copy)]
 pub(crate) struct Replayed {
     /// The node's number.
     pub(crate) node: u32,

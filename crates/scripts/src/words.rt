@@ -5,7 +5,7 @@ use secure_log::log_entries::{Body, MAX_BODY};
 use std::alloc::{AllocError, Global};
 
 /// Why words aren't a line of a script.
-#[derive(Clone, Copy, Debug, PartialEq, Eq)]
+#[derive(Clone, Copy)]
 pub(crate) enum LineFault {
     /// They are none.
     Bad,
