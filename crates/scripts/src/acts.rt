@@ -21,6 +21,8 @@ pub(crate) struct Run<'a, R, S> {
     pub(crate) parties: Parties,
     pub(crate) caller: Caller<'a, R>,
     pub(crate) shelf: &'a mut S,
+    /// What goes between two nodes, for the time of an exchange.
+    pub(crate) text: Vec<u8>,
     /// What the line that runs prints.
     pub(crate) answer: Answer,
 }

@@ -11,6 +11,7 @@ use envelopes::Envelope;
 use nfs_items::Time;
 use nodes::node_logs_code::{NodeLog, Receipt};
 use nodes::exchanges::exchange;
+use nodes::gateway_code::links::LinkFault;
 use secure_log::log_entries::Body;
 use std::alloc::{AllocError, Global};
 use std::sync::Wait;
@@ -20,11 +21,14 @@ impl<R: Threads + Wait + Sync, S: Shelf> Run<'_, R, S> {
     /// `call C S HEX`: the whole exchange, which both nodes log.
     pub(crate) fn call(&mut self, time: Time, pair: Pair, body: &Body) -> Result<(), Stop> {
         let (client, server) = self.parties.pair(pair).ok_or(Stop::Bad)?;
-        match exchange(client, server, self.alloc, time, body) {
-            Ok(reply) => self.answer.reply(self.alloc, reply.as_deref())?,
-            Err(refusal) => self.refuse(refusal)?,
+        let text = &mut self.text;
+        match exchange(client, server, text, self.alloc, time, body.bytes()) {
+            Ok(reply) => {
+                self.answer.reply(self.alloc, reply.as_deref())?;
+                Ok(())
+            }
+            Err(fault) => self.refuse(refusal_of(fault)),
         }
-        Ok(())
     }
 
     /// `lie S`: the server's next reply will be changed.
@@ -155,6 +159,16 @@ impl<R: Threads + Wait + Sync, S: Shelf> Run<'_, R, S> {
             }
             Err(refusal) => self.refuse(refusal),
         }
+    }
+}
+
+/// A fault of an exchange as a node's refusal. One that isn't out of keys or memory is of a message that isn't
+/// for its receiver: no node of a script takes another's so.
+fn refusal_of(fault: LinkFault) -> Refusal {
+    match fault {
+        LinkFault::KeysUsedUp => Refusal::KeysUsedUp,
+        LinkFault::NoMemory => Refusal::NoMemory,
+        LinkFault::Failed => Refusal::NotForMe,
     }
 }
 

@@ -83,6 +83,7 @@ fn run_all<R: Threads + Wait + Sync, I: Read, O: Write, S: Shelf>(
         parties,
         caller: Caller::new(rt, alloc, &service, &roster, pass),
         shelf,
+        text: Vec::new(alloc),
         answer: Answer::new(alloc),
     };
     run_lines(&mut run, cursor, writer, more)?;
