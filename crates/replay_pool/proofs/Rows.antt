@@ -1,5 +1,5 @@
 -- Rows of places, which are filled and emptied from their ends.
--- Serves: take_in, replay_round.
+-- Serves: run_place, take_in, replay_round.
 use Rattle.std.proofs.Common.{◌≡◌, ℕ, suc, ◌<◌, List, [], ◌∷◌, ◌++◌, map, take, drop, reverse, length}
 use Rattle.std.proofs.Common.{get_or, All, IsSome, Option, Some, None, refl, sym, ap, ◌∙◌, subst, arith}
 use Rattle.std.proofs.Common.{append_assoc}
@@ -8,7 +8,9 @@ use Rattle.std.proofs.lemmas.List.{reverse-append}
 use Rattle.std.specs.List.{AllZip}
 use Rattle.std.proofs.lemmas.List.Elements.{All-nil, All-cons, AllZip-push}
 use Rattle.node_book.specs.witness_spec.Events.{JobParts}
+use Rattle.node_book.specs.Backs.{job_in}
 use Rattle.node_book.specs.declared.job.Back.{Back}
+use Rattle.node_book.specs.declared.job.Back.TheVariants.{Done, Job}
 use Rattle.replay_pool.specs.Rounds.{IsBackOf, Runs, waiting}
 
 -- the images of a list and one element more
@@ -46,8 +48,7 @@ zip_reverse : {X : Type 0} (R : X → X → Type 0) (xs ys : List X) → AllZip 
 zip_reverse R [] [] h = tt
 zip_reverse R [] (y ∷ ys) h = absurd h
 zip_reverse R (x ∷ xs) [] h = absurd h
-zip_reverse {X} R (x ∷ xs) (y ∷ ys) h =
-    let P : List X → List X → Type 0 = λ a b. AllZip R a b in
+zip_reverse R (x ∷ xs) (y ∷ ys) h =
     let one : reverse (x ∷ xs) ≡ reverse xs ++ x ∷ [] = reverse-append (x ∷ []) xs in
     let two : reverse (y ∷ ys) ≡ reverse ys ++ y ∷ [] = reverse-append (y ∷ []) ys in
     rw (one, two) (AllZip-push R (reverse xs) (reverse ys) x y (zip_reverse R xs ys h.1) h.0)
@@ -67,6 +68,33 @@ reverse_twice (x ∷ xs) =
     ap reverse (reverse-append (x ∷ []) xs)
     ∙ (reverse-append (reverse xs) (x ∷ []) ∙ ap (λ ys. x ∷ ys) (reverse_twice xs))
 
+-- the job of a place, if there is one
+abbrev job_there : JobParts → Option Back → JobParts
+job_there j None = j
+job_there j (Some b) = job_in b
+
+-- where a job waited, what came back of it was put
+pub ran_job : (old : Option Back) (job : JobParts) (b : Back) (new : Option Back) → old ≡ Some (Job job)
+    → job_in b ≡ job → new ≡ Some b → Runs old new
+unfolding Runs
+ran_job old job b new was runs put j waits = (b, put, runs ∙ ap (job_there j) (sym was ∙ waits))
+
+-- where a job was done before, none waited
+pub ran_done : (old : Option Back) (done : JobParts) (new : Option Back) → old ≡ Some (Done done) → Runs old new
+unfolding Runs
+ran_done old done new was j waits = absurd (no (sym was ∙ waits))
+  where
+    no : Some (Done done) ≡ Some (Job j) → ⊥
+    no h = cc
+
+-- nor in an empty place
+pub ran_none : (old : Option Back) (new : Option Back) → old ≡ None → Runs old new
+unfolding Runs
+ran_none old new was j waits = absurd (no (sym was ∙ waits))
+  where
+    no : None ≡ Some (Job j) → ⊥
+    no h = cc
+
 -- a place with something isn't empty
 some_there : (b : Back) (p : Option Back) → p ≡ Some b → IsSome p
 some_there b (Some c) h = refl
@@ -75,6 +103,7 @@ some_there b None h = cc
 -- where jobs waited, something came back
 all_full : (jobs : List JobParts) (places : List (Option Back)) → AllZip Runs (map waiting jobs) places
     → All IsSome places
+unfolding Runs
 all_full [] [] h = All-nil IsSome
 all_full [] (p ∷ ps) h = absurd h
 all_full (t ∷ ts) [] h = absurd h
@@ -84,6 +113,7 @@ all_full (t ∷ ts) (p ∷ ps) h = let r = h.0 t refl in
 -- and it is each job's own
 own_backs : (jobs : List JobParts) (backs : List Back) → AllZip Runs (map waiting jobs) (map Some backs)
     → AllZip IsBackOf jobs backs
+unfolding Runs
 own_backs [] [] h = tt
 own_backs [] (b ∷ bs) h = absurd h
 own_backs (t ∷ ts) [] h = absurd h
