@@ -12,5 +12,6 @@ pub mod Outboxes
 pub mod Rows
 pub mod Stepping
 pub mod BookCodes
+pub mod NoteCodes
 pub mod Deciding
 pub mod Looking

@@ -15,5 +15,5 @@ abbrev pub waiting : JobParts → Option Back
 waiting j = Some (Job j)
 
 -- Where a job waited is what came back of it.
-abbrev pub Runs : Option Back → Option Back → Type 0
+unfoldable pub Runs : Option Back → Option Back → Type 0
 Runs old new = (j : JobParts) → old ≡ waiting j → (b : Back) × (new ≡ Some b) × IsBackOf j b

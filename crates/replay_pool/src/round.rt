@@ -81,6 +81,7 @@ fn run_places<R: Threads + Sync, G: Gate>(
 }
 
 /// Runs the job that waits in this place.
+#[tactic(auto, using(crate::proofs::Rows::ran_none))]
 fn run_place<G: Gate>(gate: &G, alloc: Global, number: usize, place: &mut Option<Back>)
     ensures { Runs place.old place.new }
 {

@@ -1,3 +1,4 @@
 pub mod Journals
 pub mod Claims
 pub mod Closing
+pub mod Codes

@@ -5,10 +5,10 @@ mod admission;
 mod closing;
 mod journal;
 mod pass;
-mod service;
+mod shared;
 
 pub use admission::{SignatureCache, admit};
 pub use journal::Journal;
 pub use pass::{Pass, Receipt};
-pub use service::{Closed, ReceiptFault, WitnessService};
+pub use shared::{Closed, ReceiptFault, WitnessService};
 pub use witness_books as witness_books_code;
