@@ -1,13 +1,15 @@
 //! What the words of the command line ask for.
 
-ghost use Rattle.std.specs.Prelude.{◌≡◌, ◌⊎◌, map, None, Some, IfOk, IfErr, string_bytes};
+ghost use Rattle.std.specs.Prelude.{◌≡◌, ◌⊎◌, map, codes, None, Some, IfOk, IfErr, string_bytes, true, unwrap_or, []};
 ghost use Rattle.clap.specs.Faults.{fault_of};
 ghost use Rattle.clap.specs.Kinds.{FailsBy};
+ghost use Rattle.clap.specs.Walk.{first_of};
 ghost use Rattle.clap.specs.Words.{app_of, kind_of};
 ghost use Rattle.console.specs.CommandLine.CommandLine.{commands, check_command, asked_by, asked_in};
+ghost use Rattle.console.specs.CommandLine.CommandLine.{is_set, is_told, rows_in};
 
 use clap::error::ErrorKind;
-use clap::{Arg, ArgAction, Command, Error};
+use clap::{Arg, ArgAction, ArgMatches, Command, Error};
 use std::alloc::{AllocError, Global};
 
 /// What the command line asks for.
@@ -63,25 +65,51 @@ fn commands<'a>(alloc: Global) -> Result<Command<'a>, AllocError>
         .subcommand(check)
 }
 
-/// The same as `parse`, by the rules that the words are read by.
+/// The text of an argument that must be given.
+fn text_of<'a>(matches: &ArgMatches<'a>, id: &str) -> &'a str
+    ensures { result.now ≡ unwrap_or (first_of id.now (rows_in matches.now)) [] }
+{
+    matches.get_str(id).unwrap_or("")
+}
+
+/// Whether a flag is set.
+fn flag_of(matches: &ArgMatches<'_>, id: &str) -> bool
+    ensures { is_told id.now (rows_in matches.now) ≡ true
+        → result ≡ is_set id.now (rows_in matches.now) }
+{
+    matches.get_flag(id)
+}
+
+/// What `check` is asked.
+fn check_request<'a>(matches: &ArgMatches<'a>) -> CheckRequest<'a>
+    ensures file { result.file.now ≡ unwrap_or (first_of (codes "file") (rows_in matches.now)) [] }
+    ensures explain { is_told (codes "explain") (rows_in matches.now) ≡ true
+        → result.explain ≡ is_set (codes "explain") (rows_in matches.now) }
+{
+    CheckRequest {
+        file: text_of(matches, "file"),
+        explain: flag_of(matches, "explain"),
+    }
+}
+
+/// The same as `parse`.
 fn request_by_rules(alloc: Global, words: &[String]) -> Result<Request<'_>, Error>
     ensures ok { IfOk result (λ r. asked_in (map string_bytes words.now) ≡ Some (asked_by r)) }
     ensures kinds { FailsBy (fault_of commands (map string_bytes words.now)) result }
 {
     let matches = commands(alloc)?.try_get_matches_from(words)?;
-    let Some(check) = matches.subcommand_matches("check") else {
-        return Ok(Request::Rpc);
-    };
-    let file = check.get_str("file").unwrap_or("");
-    let explain = check.get_flag("explain");
-    Ok(Request::Check(CheckRequest { file, explain }))
+    if let Some(check) = matches.subcommand_matches("check") {
+        return Ok(Request::Check(check_request(check)));
+    }
+    Ok(Request::Rpc)
 }
 
 /// The request that the words of a command line make, the program's name first: `rpc` alone, or with `--`
 /// after it, is `Rpc`; `check` with a file's name after it is `Check`, with `--explain` before that name or
-/// after it, or without. After `--` each word is a name. The error says what is wrong with other words, or
-/// is the help or the version that they ask for; its kind is OutOfMemory where memory was refused.
-#[tactic(auto, using(crate::proofs::OfCommandLine::CommandLines::is_none))]
+/// after it, or without. After `--` each word is a name. It comes exactly where clap's rules find no fault in
+/// the words, memory aside, and has what they say the words hold. The error says what is wrong with other
+/// words, or is the help or the version that they ask for: its kind is one of those that the rules give, or
+/// OutOfMemory where memory was refused.
 pub fn parse(alloc: Global, words: &[String]) -> Result<Request<'_>, Error>
     ensures ok { IfOk result (λ r. asked_in (map string_bytes words.now) ≡ Some (asked_by r)) }
     ensures err { IfErr result (λ e.
