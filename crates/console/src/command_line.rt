@@ -4,4 +4,4 @@ mod examples;
 mod request;
 
 pub use examples::lines_are_read;
-pub use request::{CheckRequest, Request, parse};
+pub use request::{CheckRequest, Request, RunRequest, parse};

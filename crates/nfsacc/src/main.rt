@@ -105,6 +105,7 @@ fn run(rt: &HostRuntime) -> u8 {
     match parse(alloc, words.as_slice()) {
         Ok(Request::Rpc) => rpc(rt),
         Ok(Request::Check(request)) => check_file(rt, request),
+        Ok(Request::Run(_)) => COMMAND_LINE,
         Err(error) if error.kind() == ErrorKind::OutOfMemory => report_no_memory(rt),
         Err(error) => {
             let status = error.exit_code();

@@ -2,7 +2,7 @@
 use Rattle.std.proofs.Common.{◌≡◌, ◌∙◌, Bool, true, false, List, [], ◌∷◌, Option, Some, None, Result, Ok, Err}
 use Rattle.std.proofs.Common.{Bor, IfErr, ◌⊎◌, inl, inr, codes, option_map, refl, sym, ap, ap₂, unwrap_or}
 use Rattle.std.specs.Prelude.{◌||◌, is_some}
-use Rattle.std.specs.List.{list_any}
+use Rattle.std.specs.List.{AllByRecursion, list_any}
 use Rattle.std.specs.Option.{option_map_or}
 use Rattle.std.specs.Str.{bytes_eq}
 use Rattle.std.proofs.lemmas.Slice.Eq.{bytes_eq-Decides}
@@ -15,7 +15,7 @@ use Rattle.clap.specs.declared.error.Error.{Error}
 use Rattle.clap.specs.declared.error.kind.ErrorKind.TheVariants.{OutOfMemory}
 use Rattle.clap.specs.declared.parser.matches.ArgMatches.{ArgMatches}
 use Rattle.clap.proofs.OnLiterals.{clap_on_literals}
-use Rattle.console.specs.CommandLine.CommandLine.{Check, Rpc, asked_in, asked_of, asked_without, commands}
+use Rattle.console.specs.CommandLine.CommandLine.{Check, Rpc, Run, asked_in, asked_of, asked_without, commands}
 use Rattle.console.specs.CommandLine.CommandLine.{is_flag_text, is_set, is_told}
 use Rattle.console.specs.declared.command_line.request.Request.{Request}
 use Rattle.console.proofs.OfCommandLine.Taken.{entered_is, flag_is, is_plain_app, name_is_one, value_is}
@@ -100,19 +100,39 @@ check_is words rows file explain none is file_is explain_is =
     ∙ some_of _ _ (value_is commands words are_plain none (codes "check") (codes "file") rows refl is)
     ∙ ap₂ (λ f b. Some (Check (record { file = f; explain = b }))) (sym file_is) (sym (explain_is (flag_is commands words are_plain none (codes "check") (codes "explain") rows refl is)))
 
+pub run_is : (words : List Text) (rows : List Row) (file : Text) (roster_out : Option Text) → fault_of commands words ≡ [] → subcommand_of commands words ≡ Some (codes "run", rows)
+    → file ≡ unwrap_or (first_of (codes "file") rows) [] → roster_out ≡ first_of (codes "roster-out") rows
+    → asked_in words ≡ Some (Run (record { file = file; roster_out = roster_out }))
+run_is words rows file roster_out none is file_is roster_is =
+    asked_is words (codes "run") rows none is
+    ∙ some_of _ _ (value_is commands words are_plain none (codes "run") (codes "file") rows refl is)
+    ∙ ap₂ (λ f r. Some (Run (record { file = f; roster_out = r }))) (sym file_is) (sym roster_is)
+
+-- the subcommands that have words of their own
+abbrev others : List Text
+others = codes "check" ∷ codes "run" ∷ []
+
 -- another subcommand is `rpc`
-pub rpc_is : (words : List Text) → fault_of commands words ≡ [] → (option_map (λ p. p.0) (subcommand_of commands words) ≡ Some (codes "check") → ⊥) → asked_in words ≡ Some Rpc
-rpc_is words none no_check =
+pub rpc_is : (words : List Text) → fault_of commands words ≡ []
+    → AllByRecursion (λ name. option_map (λ p. p.0) (subcommand_of commands words) ≡ Some name → ⊥) others → asked_in words ≡ Some Rpc
+rpc_is words none not_others =
     let e = entered_is commands words are_plain none in
     let rows = rows_after e.sub.rules [] e.rest in
-    by e.sub.name rows e.is (name_is_one commands words are_plain none (codes "rpc" ∷ codes "check" ∷ []) e.sub.name rows refl e.is)
+    by e.sub.name rows e.is (name_is_one commands words are_plain none (codes "rpc" ∷ others) e.sub.name rows refl e.is)
   where
-    by : (name : Text) (rows : List Row) → subcommand_of commands words ≡ Some (name, rows) → list_any (λ n. bytes_eq name n) (codes "rpc" ∷ codes "check" ∷ []) ≡ true
-        → asked_in words ≡ Some Rpc
-    by name rows is one = of (bytes_eq name (codes "rpc")) (bytes_eq name (codes "check")) refl refl one
+    no_other : (names : List Text) (name : Text) (rows : List Row) → subcommand_of commands words ≡ Some (name, rows)
+        → AllByRecursion (λ n. option_map (λ p. p.0) (subcommand_of commands words) ≡ Some n → ⊥) names → list_any (λ n. bytes_eq name n) names ≡ true → ⊥
+    no_other [] name rows is none e = cc
+    no_other (n ∷ names) name rows is none e = one (bytes_eq name n) refl (no_other names name rows is none.1) e
       where
-        of : (a b : Bool) → bytes_eq name (codes "rpc") ≡ a → bytes_eq name (codes "check") ≡ b → (a || (b || false)) ≡ true → asked_in words ≡ Some Rpc
-        of true b e f one =
-            asked_is words name rows none is ∙ ap (λ t. asked_of (t, rows)) ((bytes_eq-Decides name (codes "rpc")).0 e)
-        of false true e f one = absurd (no_check (ap (option_map (λ p. p.0)) is ∙ ap (λ t. Some t) ((bytes_eq-Decides name (codes "check")).0 f)))
-        of false false e f one = cc
+        one : (b : Bool) → bytes_eq name n ≡ b → (list_any (λ n. bytes_eq name n) names ≡ true → ⊥) → (b || list_any (λ n. bytes_eq name n) names) ≡ true → ⊥
+        one true same rest e = none.0 (ap (option_map (λ (p : Text × List Row). p.0)) is ∙ ap (λ (t : Text). Some t) ((bytes_eq-Decides name n).0 same))
+        one false same rest e = rest e
+
+    by : (name : Text) (rows : List Row) → subcommand_of commands words ≡ Some (name, rows) → list_any (λ n. bytes_eq name n) (codes "rpc" ∷ others) ≡ true
+        → asked_in words ≡ Some Rpc
+    by name rows is one = of (bytes_eq name (codes "rpc")) refl one
+      where
+        of : (b : Bool) → bytes_eq name (codes "rpc") ≡ b → (b || list_any (λ n. bytes_eq name n) others) ≡ true → asked_in words ≡ Some Rpc
+        of true same one = asked_is words name rows none is ∙ ap (λ (t : Text). asked_of (t, rows)) ((bytes_eq-Decides name (codes "rpc")).0 same)
+        of false same one = absurd (no_other others name rows is not_others one)

@@ -42,9 +42,17 @@ file_argument = record (new_rule (codes "file")) { value_names = 1; required = t
 abbrev pub check_command : App
 check_command = with_rule (with_rule (new_app (codes "check")) (flag (codes "explain"))) file_argument
 
--- `nfsacc`, with its subcommands `rpc` and `check`
+-- an option with the name of a file, given as `--` and its own name
+abbrev pub file_option : Text → Rule
+file_option name = record (new_rule name) { long = Some name; value_names = 1 }
+
+-- `run`, with the option `--roster-out` and a file
+abbrev pub run_command : App
+run_command = with_rule (with_rule (new_app (codes "run")) (file_option (codes "roster-out"))) file_argument
+
+-- `nfsacc`, with its subcommands `rpc`, `check` and `run`
 abbrev pub commands : App
-commands = with_subcommand (with_subcommand nfsacc rpc_command) check_command.top
+commands = with_subcommand (with_subcommand (with_subcommand nfsacc rpc_command) check_command.top) run_command.top
 
 -- ---- what is asked for
 
@@ -53,16 +61,23 @@ pub record CheckAsked : Type 0 where
   pub file : Text
   pub explain : Bool
 
+-- what `run` is asked: the name of a script's file, and that of the file that the roster's text goes to
+pub record RunAsked : Type 0 where
+  pub file : Text
+  pub roster_out : Option Text
+
 -- what a command line asks for
 pub data Asked : Type 0 where
   -- records, to be answered
   Rpc : Asked
   Check : CheckAsked → Asked
+  Run : RunAsked → Asked
 
 -- what a request asks for
 abbrev pub asked_by : Request → Asked
 asked_by requests.Rpc = Rpc
 asked_by (requests.Check r) = Check (record { file = r.file.now; explain = r.explain })
+asked_by (requests.Run r) = Run (record { file = r.file.now; roster_out = option_map (λ s. s.now) r.roster_out })
 
 -- what was found for the arguments of a subcommand
 abbrev pub rows_in : ArgMatches → List Row
@@ -85,11 +100,17 @@ abbrev pub check_asked : List Row → Option Asked
 check_asked rows =
     option_map (λ file. Check (record { file = file; explain = is_set (codes "explain") rows })) (first_of (codes "file") rows)
 
+-- what `run` is asked
+abbrev pub run_asked : List Row → Option Asked
+run_asked rows =
+    option_map (λ file. Run (record { file = file; roster_out = first_of (codes "roster-out") rows })) (first_of (codes "file") rows)
+
 -- what a subcommand is asked, by its name and what was found for its arguments
 abbrev pub asked_of : Text × List Row → Option Asked
 asked_of (name, rows) =
     if bytes_eq (codes "rpc") name then Some Rpc
     else if bytes_eq (codes "check") name then check_asked rows
+    else if bytes_eq (codes "run") name then run_asked rows
     else None
 
 -- the same, where the rules find no fault
