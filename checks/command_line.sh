@@ -178,9 +178,12 @@ check_words() {
     says 0 'Usage: .*' --help
     says 0 ' *rpc +Answers .*' --help
     says 0 ' *check +Says .*' --help
+    says 0 ' *run +Runs .*' --help
     says 0 'Usage: nfsacc[^ ]* rpc.*' help rpc
     says 0 'Usage: nfsacc[^ ]* check.*' help check
     says 0 'Usage: nfsacc[^ ]* check.*' check --help
+    says 0 'Usage: nfsacc[^ ]* run.*' run --help
+    says 0 '  node 1 server 4' run --help
     says 2 'Usage: .*'
     says 2 "error: unrecognized subcommand 'serve-all'" serve-all
     says 2 "error: unrecognized subcommand 'RPC'" RPC
@@ -190,6 +193,8 @@ check_words() {
     says 2 "error: unexpected argument '--fast' found" rpc --fast
     says 2 'error: the following required arguments were not provided:' check
     says 2 "error: unexpected argument 'b' found" check a b
+    says 2 'error: the following required arguments were not provided:' run
+    says 2 "error: a value is required for '--roster-out <FILE>' but none was supplied" run --roster-out
     says 2 'nfsacc: the command line is no text' $'\xff'
 }
 

@@ -1,10 +1,14 @@
 //! Command lines, and what they ask for.
 
-use console::command_line::{CheckRequest, Request, parse};
+use console::command_line::{CheckRequest, Request, RunRequest, parse};
 use std::test::Fail;
 
 fn check(file: &str, explain: bool) -> Request<'_> {
     Request::Check(CheckRequest { file, explain })
+}
+
+fn run<'a>(file: &'a str, roster_out: Option<&'a str>) -> Request<'a> {
+    Request::Run(RunRequest { file, roster_out })
 }
 
 #[test]
@@ -33,6 +37,11 @@ fn command_lines_are_read(rt: HostRuntime) -> Result<(), Fail> {
         ("nfsacc check f g", None),
         ("nfsacc check --explain --explain f", None),
         ("nfsacc check --help", None),
+        ("nfsacc run -", Some(run("-", None))),
+        ("nfsacc run f --roster-out g", Some(run("f", Some("g")))),
+        ("nfsacc run --roster-out=g f", Some(run("f", Some("g")))),
+        ("nfsacc run", None),
+        ("nfsacc run --roster-out f", None),
     ];
     for (line, request) in cases {
         let mut words = Vec::new(rt.alloc());

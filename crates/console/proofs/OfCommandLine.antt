@@ -1,3 +1,4 @@
--- Lemmas on which words are a command line. Serves: `command_line`.
-pub mod CheckWords
-pub mod CommandLines
+-- Lemmas on what clap's rules leave of the words that they take. Serves: `command_line`.
+pub mod Rows
+pub mod Taken
+pub mod Asked

@@ -1,5 +1,7 @@
 //! The command line of `nfsacc`.
 
+mod examples;
 mod request;
 
-pub use request::{CheckRequest, Request, parse};
+pub use examples::lines_are_read;
+pub use request::{CheckRequest, Request, RunRequest, parse};

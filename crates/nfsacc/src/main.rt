@@ -158,7 +158,11 @@ fn run(rt: &HostRuntime) -> u8 {
     match parse(alloc, words.as_slice()) {
         Ok(Request::Rpc) => rpc(rt),
         Ok(Request::Check(request)) => check_file(rt, request),
+<<<<<<< HEAD
         Ok(Request::Run(request)) => run_file(rt, request),
+=======
+        Ok(Request::Run(_)) => COMMAND_LINE,
+>>>>>>> b44470fb5d5c1c8bbf48e82d9f39517d33c216c6
         Err(error) if error.kind() == ErrorKind::OutOfMemory => report_no_memory(rt),
         Err(error) => {
             let status = error.exit_code();

@@ -1,11 +1,15 @@
 -- What the words of a command line ask for.
-use Rattle.std.specs.Prelude.{ℕ, Bool, true, false, ◌==◌, ◌&&◌, List, [], ◌∷◌, length, drop, nat_lt, is_some}
-use Rattle.std.specs.Prelude.{Option}
-use Rattle.std.specs.Prelude.{Some, None, codes, if◌then◌else◌}
-use Rattle.std.specs.Str.{bytes_eq, chars}
-use Rattle.clap.specs.Walk.{Rule}
-use Rattle.clap.specs.Simple.{App, Shape, new_app, new_rule, new_shape, with_rule, with_subcommand}
+use Rattle.std.specs.Prelude.{◌||◌, Bool, true, false, List, [], ◌∷◌, Option, Some, None, codes, if◌then◌else◌}
+use Rattle.std.specs.Prelude.{option_and_then, option_map}
+use Rattle.std.specs.Option.{option_map_or}
+use Rattle.std.specs.Str.{bytes_eq}
+use Rattle.clap.specs.Kinds.{Kinds}
+use Rattle.clap.specs.Walk.{Row, Rule, Text, first_of, one_of, rows_of}
+use Rattle.clap.specs.Matches.{found_of}
+use Rattle.clap.specs.Simple.{App, Shape, new_app, new_rule, new_shape, subcommand_of, with_rule, with_subcommand}
+use Rattle.clap.specs.Faults.{fault_of}
 use Rattle.clap.specs.declared.builder.action.ArgAction.TheVariants.{SetTrue}
+use Rattle.clap.specs.declared.parser.matches.ArgMatches.{ArgMatches}
 use Rattle.console.specs.declared.command_line.request.Request.{Request}
 use Rattle.console.specs.declared.command_line.request.Request.TheVariants as requests
 
@@ -26,80 +30,94 @@ nfsacc = record {
 abbrev pub rpc_command : Shape
 rpc_command = new_shape (codes "rpc")
 
--- `check` has an option and a file, which must be named
-abbrev pub explain_option : Rule
-explain_option = record (new_rule (codes "explain")) {
-  long = Some (codes "explain");
-  action = Some SetTrue;
-}
+-- a flag, given as `--` and its name
+abbrev pub flag : Text → Rule
+flag name = record (new_rule name) { long = Some name; action = Some SetTrue }
 
--- the file's name, which `check` requires
+-- a file's name, which must be given
 abbrev pub file_argument : Rule
 file_argument = record (new_rule (codes "file")) { value_names = 1; required = true }
 
 -- `check`, with the option `--explain` and a file
 abbrev pub check_command : App
-check_command = with_rule (with_rule (new_app (codes "check")) explain_option) file_argument
+check_command = with_rule (with_rule (new_app (codes "check")) (flag (codes "explain"))) file_argument
 
--- `nfsacc`, with its subcommands `rpc` and `check`
+-- an option with the name of a file, given as `--` and its own name
+abbrev pub file_option : Text → Rule
+file_option name = record (new_rule name) { long = Some name; value_names = 1 }
+
+-- `run`, with the option `--roster-out` and a file
+abbrev pub run_command : App
+run_command = with_rule (with_rule (new_app (codes "run")) (file_option (codes "roster-out"))) file_argument
+
+-- `nfsacc`, with its subcommands `rpc`, `check` and `run`
 abbrev pub commands : App
-commands = with_subcommand (with_subcommand nfsacc rpc_command) check_command.top
+commands = with_subcommand (with_subcommand (with_subcommand nfsacc rpc_command) check_command.top) run_command.top
 
 -- ---- what is asked for
+
+-- what `check` is asked: a file's name, and whether what the file shows is asked for, too
+pub record CheckAsked : Type 0 where
+  pub file : Text
+  pub explain : Bool
+
+-- what `run` is asked: the name of a script's file, and that of the file that the roster's text goes to
+pub record RunAsked : Type 0 where
+  pub file : Text
+  pub roster_out : Option Text
 
 -- what a command line asks for
 pub data Asked : Type 0 where
   -- records, to be answered
   Rpc : Asked
-  -- a file's name, and whether what the file shows is asked for, too
-  Check : List ℕ → Bool → Asked
+  Check : CheckAsked → Asked
+  Run : RunAsked → Asked
 
 -- what a request asks for
 abbrev pub asked_by : Request → Asked
 asked_by requests.Rpc = Rpc
-asked_by (requests.Check r) = Check r.file.now r.explain
+asked_by (requests.Check r) = Check (record { file = r.file.now; explain = r.explain })
+asked_by (requests.Run r) = Run (record { file = r.file.now; roster_out = option_map (λ s. s.now) r.roster_out })
 
--- `--` alone, which ends the options of a command line, or nothing
-abbrev pub says_no_more : List (List ℕ) → Bool
-says_no_more [] = true
-says_no_more (word ∷ []) = bytes_eq word (codes "--")
-says_no_more (word ∷ more ∷ rest) = false
+-- what was found for the arguments of a subcommand
+abbrev pub rows_in : ArgMatches → List Row
+rows_in matches = rows_of (found_of matches)
 
--- a word is an option if it begins with `-` (45) and a character stands after that
-abbrev pub is_option : List ℕ → Bool
-is_option [] = false
-is_option (x ∷ rest) = (x == 45) && nat_lt 0 (length (chars rest))
+-- a flag is set, by what was found
+abbrev pub is_set : Text → List Row → Bool
+is_set name rows = option_map_or (bytes_eq (codes "true")) (one_of name rows) false
 
--- after `--` each word is a file's name; one is wanted
-abbrev pub check_of_names : Option (List ℕ) → Bool → List (List ℕ) → Option Asked
-check_of_names None explain [] = None
-check_of_names (Some file) explain [] = Some (Check file explain)
-check_of_names None explain (word ∷ rest) = check_of_names (Some word) explain rest
-check_of_names (Some file) explain (word ∷ rest) = None
+-- `true` or `false`
+abbrev pub is_flag_text : Text → Bool
+is_flag_text text = bytes_eq (codes "true") text || bytes_eq (codes "false") text
 
--- what is asked by the words after `check`, where a file was named so far, or none, and `--explain` was
--- given, or not: it may be given once, before the file or after it
-abbrev pub check_of : Option (List ℕ) → Bool → List (List ℕ) → Option Asked
-check_of file explain [] = check_of_names file explain []
-check_of file explain (word ∷ rest) =
-    if bytes_eq word (codes "--") then check_of_names file explain rest
-    else if bytes_eq word (codes "--explain") then (if explain then None else check_of file true rest)
-    else if is_option word then None
-    else if is_some file then None
-    else check_of (Some word) explain rest
+-- it is known whether a flag is set
+abbrev pub is_told : Text → List Row → Bool
+is_told name rows = option_map_or is_flag_text (one_of name rows) true
 
--- what is asked by a subcommand's name and the words after it
-abbrev pub asked_named : List ℕ → List (List ℕ) → Option Asked
-asked_named name rest =
-    if bytes_eq (codes "rpc") name then (if says_no_more rest then Some Rpc else None)
-    else if bytes_eq (codes "check") name then check_of None false rest
+-- what `check` is asked
+abbrev pub check_asked : List Row → Option Asked
+check_asked rows =
+    option_map (λ file. Check (record { file = file; explain = is_set (codes "explain") rows })) (first_of (codes "file") rows)
+
+-- what `run` is asked
+abbrev pub run_asked : List Row → Option Asked
+run_asked rows =
+    option_map (λ file. Run (record { file = file; roster_out = first_of (codes "roster-out") rows })) (first_of (codes "file") rows)
+
+-- what a subcommand is asked, by its name and what was found for its arguments
+abbrev pub asked_of : Text × List Row → Option Asked
+asked_of (name, rows) =
+    if bytes_eq (codes "rpc") name then Some Rpc
+    else if bytes_eq (codes "check") name then check_asked rows
+    else if bytes_eq (codes "run") name then run_asked rows
     else None
 
--- what the words after the program's name ask for
-abbrev pub asked_after : List (List ℕ) → Option Asked
-asked_after [] = None
-asked_after (name ∷ rest) = asked_named name rest
+-- the same, where the rules find no fault
+abbrev pub asked_without : Kinds → Option (Text × List Row) → Option Asked
+asked_without [] found = option_and_then asked_of found
+asked_without (kind ∷ kinds) found = None
 
--- what the words of a command line ask for, the program's name first
-abbrev pub asked_in : List (List ℕ) → Option Asked
-asked_in words = asked_after (drop 1 words)
+-- what the words of a command line ask for, the program's name first: nothing where clap's rules find a fault in them
+abbrev pub asked_in : List Text → Option Asked
+asked_in words = asked_without (fault_of commands words) (subcommand_of commands words)

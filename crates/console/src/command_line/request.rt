@@ -1,13 +1,17 @@
 //! What the words of the command line ask for.
 
-ghost use Rattle.std.specs.Prelude.{◌≡◌, ◌⊎◌, map, None, Some, IfOk, IfErr, string_bytes};
+ghost use Rattle.std.specs.Prelude.{◌≡◌, ◌⊎◌, map, codes, None, Some, IfOk, IfErr, string_bytes};
+ghost use Rattle.std.specs.Prelude.{ℕ, List, [], true, false, unwrap_or, option_map};
 ghost use Rattle.clap.specs.Faults.{fault_of};
 ghost use Rattle.clap.specs.Kinds.{FailsBy};
-ghost use Rattle.clap.specs.Words.{app_of, kind_of};
-ghost use Rattle.console.specs.CommandLine.CommandLine.{commands, check_command, asked_by, asked_in};
+ghost use Rattle.clap.specs.Walk.{first_of};
+ghost use Rattle.clap.specs.Words.{app_of, kind_of, rule_of, subcommand_of, subcommand_rows_of};
+ghost use Rattle.console.specs.CommandLine.CommandLine.{commands, check_command, run_command};
+ghost use Rattle.console.specs.CommandLine.CommandLine.{asked_by, asked_in, file_argument};
+ghost use Rattle.console.specs.CommandLine.CommandLine.{is_set, is_told, rows_in};
 
 use clap::error::ErrorKind;
-use clap::{Arg, ArgAction, Command, Error};
+use clap::{Arg, ArgAction, ArgMatches, Command, Error};
 use std::alloc::{AllocError, Global};
 
 /// What the command line asks for.
@@ -17,6 +21,8 @@ pub enum Request<'a> {
     Rpc,
     /// `nfsacc check FILE`: whether a file is evidence.
     Check(CheckRequest<'a>),
+    /// `nfsacc run FILE`: the lines of a script.
+    Run(RunRequest<'a>),
 }
 
 /// What `nfsacc check` is asked.
@@ -28,6 +34,38 @@ pub struct CheckRequest<'a> {
     pub explain: bool,
 }
 
+/// What `nfsacc run` is asked.
+#[derive(Clone, Copy, Debug, PartialEq, Eq)]
+pub struct RunRequest<'a> {
+    /// The name of the script's file; `-` is standard input.
+    pub file: &'a str,
+    /// The name of the file that the roster's text goes to, if one is named.
+    pub roster_out: Option<&'a str>,
+}
+
+/// What the help of `run` ends with.
+const RUN_EXAMPLE: &str = "Example:
+  node 1 server 4
+  node 2 client 4
+  call 2 1 000000010000000000000002000186a3000000020000000000000000000000000000000000000000
+  audit 1
+  answer 1
+  replay 1
+  ask 1
+
+Statuses: 0 done, 1 a fault in the input, 2 the command line, 3 no memory, 4 a device";
+
+/// A file that must be named.
+fn file_argument<'a>(alloc: Global, help: &'a str) -> Arg<'a>
+    ensures rule { rule_of result ≡ file_argument }
+    ensures local { result.global ≡ false }
+{
+    Arg::new(alloc, "file")
+        .value_name("FILE")
+        .help(help)
+        .required(true)
+}
+
 /// The subcommand `check`.
 fn check_command<'a>(alloc: Global) -> Result<Command<'a>, AllocError>
     ensures { IfOk result (λ c. app_of c ≡ check_command) }
@@ -36,13 +74,26 @@ fn check_command<'a>(alloc: Global) -> Result<Command<'a>, AllocError>
         .long("explain")
         .help("Says what the file shows, too")
         .action(ArgAction::SetTrue);
-    let file = Arg::new(alloc, "file")
-        .value_name("FILE")
-        .help("A roster's text, and behind it that of evidence")
-        .required(true);
+    let file = file_argument(alloc, "A roster's text, and after it that of evidence");
     Command::new(alloc, "check")
         .about("Says whether a file is evidence that its roster accepts")
         .arg(explain)?
+        .arg(file)
+}
+
+/// The subcommand `run`.
+fn run_command<'a>(alloc: Global) -> Result<Command<'a>, AllocError>
+    ensures { IfOk result (λ c. app_of c ≡ run_command) }
+{
+    let roster_out = Arg::new(alloc, "roster-out")
+        .long("roster-out")
+        .value_name("FILE")
+        .help("Writes the text of the nodes' roster to this file");
+    let file = file_argument(alloc, "The script; `-` reads it from standard input");
+    Command::new(alloc, "run")
+        .about("Runs a script of nodes, lies, forks and audits; `-` reads it from standard input")
+        .after_help(RUN_EXAMPLE)
+        .arg(roster_out)?
         .arg(file)
 }
 
@@ -54,34 +105,87 @@ fn commands<'a>(alloc: Global) -> Result<Command<'a>, AllocError>
         "Answers the RPC records of standard input on standard output, as the server of node 1",
     );
     let check = check_command(alloc)?;
+    let run = run_command(alloc)?;
     Command::new(alloc, "nfsacc")
         .version("0.1.0")
         .about("An accountable file service: NFS version 2 whose servers can be held to account")
         .subcommand_required(true)
         .arg_required_else_help(true)
         .subcommand(rpc)?
-        .subcommand(check)
+        .subcommand(check)?
+        .subcommand(run)
 }
 
-/// The same as `parse`, by the rules that the words are read by.
+/// The text of an argument that must be given.
+fn text_of<'a>(matches: &ArgMatches<'a>, id: &str) -> &'a str
+    ensures { result.now ≡ unwrap_or (first_of id.now (rows_in matches.now)) [] }
+{
+    matches.get_str(id).unwrap_or("")
+}
+
+/// Whether a flag is set.
+fn flag_of(matches: &ArgMatches<'_>, id: &str) -> bool
+    ensures { is_told id.now (rows_in matches.now) ≡ true
+        → result ≡ is_set id.now (rows_in matches.now) }
+{
+    matches.get_flag(id)
+}
+
+/// What `check` is asked.
+fn check_request<'a>(matches: &ArgMatches<'a>) -> CheckRequest<'a>
+    ensures file { result.file.now ≡ unwrap_or (first_of (codes "file") (rows_in matches.now)) [] }
+    ensures explain { is_told (codes "explain") (rows_in matches.now) ≡ true
+        → result.explain ≡ is_set (codes "explain") (rows_in matches.now) }
+{
+    CheckRequest {
+        file: text_of(matches, "file"),
+        explain: flag_of(matches, "explain"),
+    }
+}
+
+/// What `run` is asked.
+fn run_request<'a>(matches: &ArgMatches<'a>) -> RunRequest<'a>
+    ensures file { result.file.now ≡ unwrap_or (first_of (codes "file") (rows_in matches.now)) [] }
+    ensures roster_out { option_map (λ s. s.now) result.roster_out
+        ≡ first_of (codes "roster-out") (rows_in matches.now) }
+{
+    RunRequest {
+        file: text_of(matches, "file"),
+        roster_out: matches.get_str("roster-out"),
+    }
+}
+
+/// The request that is made, by the matches of words that are taken.
+fn request_in<'a>(matches: &ArgMatches<'a>) -> Request<'a>
+    ensures { (words : List (List ℕ)) → fault_of commands words ≡ []
+        → subcommand_rows_of matches.now ≡ subcommand_of commands words
+        → asked_in words ≡ Some (asked_by result) }
+{
+    if let Some(check) = matches.subcommand_matches("check") {
+        return Request::Check(check_request(check));
+    }
+    if let Some(run) = matches.subcommand_matches("run") {
+        return Request::Run(run_request(run));
+    }
+    Request::Rpc
+}
+
+/// The same as `parse`.
 fn request_by_rules(alloc: Global, words: &[String]) -> Result<Request<'_>, Error>
     ensures ok { IfOk result (λ r. asked_in (map string_bytes words.now) ≡ Some (asked_by r)) }
     ensures kinds { FailsBy (fault_of commands (map string_bytes words.now)) result }
 {
     let matches = commands(alloc)?.try_get_matches_from(words)?;
-    let Some(check) = matches.subcommand_matches("check") else {
-        return Ok(Request::Rpc);
-    };
-    let file = check.get_str("file").unwrap_or("");
-    let explain = check.get_flag("explain");
-    Ok(Request::Check(CheckRequest { file, explain }))
+    Ok(request_in(&matches))
 }
 
 /// The request that the words of a command line make, the program's name first: `rpc` alone, or with `--`
 /// after it, is `Rpc`; `check` with a file's name after it is `Check`, with `--explain` before that name or
-/// after it, or without. After `--` each word is a name. The error says what is wrong with other words, or
-/// is the help or the version that they ask for; its kind is OutOfMemory where memory was refused.
-#[tactic(auto, using(crate::proofs::OfCommandLine::CommandLines::is_none))]
+/// after it, or without; `run` with a file's name is `Run`, with `--roster-out` and another name before it or
+/// after it, or without. After `--` each word is a name. It comes exactly where clap's rules find no fault in
+/// the words, memory aside, and has what they say the words hold. The error says what is wrong with other
+/// words, or is the help or the version that they ask for: its kind is one of those that the rules give, or
+/// OutOfMemory where memory was refused.
 pub fn parse(alloc: Global, words: &[String]) -> Result<Request<'_>, Error>
     ensures ok { IfOk result (λ r. asked_in (map string_bytes words.now) ≡ Some (asked_by r)) }
     ensures err { IfErr result (λ e.

@@ -1,0 +1,28 @@
+use Rattle.std.proofs.Common.{◌∙◌, refl}
+use Rattle.console.proofs.OfCommandLine.Asked.{check_is, found_is, name_is, rpc_is, run_is}
+use Rattle.console.proofs.command_line.request.request_in.Goals as goal
+
+pub returns-in-Some : goal.returns-in-Some
+returns-in-Some c words none found =
+    let is = found_is c.args.matches.now _ _ _ found (c.in-Some.ensures.found.0 refl) c.in-Some.ensures.rows in
+    check_is words _ _ _ none is c.check_request.ensures.file c.check_request.ensures.explain
+
+pub returns-in-Some-subcommand_matches : goal.returns-in-Some-subcommand_matches
+returns-in-Some-subcommand_matches c words none found =
+    let is = found_is c.args.matches.now _ _ _ found (c.in-Some-subcommand_matches.ensures.found.0 refl) c.in-Some-subcommand_matches.ensures.rows in
+    run_is words _ _ _ none is c.run_request.ensures.file c.run_request.ensures.roster_out
+
+pub returns : goal.returns
+returns c words none found =
+    let name = name_is c.args.matches.now _ found in
+    rpc_is words none (
+      λ e.
+          let bad = rw c.in_default.is at c.subcommand_matches.ensures.found.1 (name ∙ e) in
+          cc,
+      (
+        λ e.
+            let bad = rw c.in_default-subcommand_matches.is at c.subcommand_matches-2.ensures.found.1 (name ∙ e) in
+            cc,
+        tt,
+      ),
+    )

@@ -1,0 +1,49 @@
+-- Command lines, and what they ask for.
+use Rattle.std.specs.Prelude.{◌≡◌, ◌==◌, true, false, List, [], ◌∷◌, Option, Some, None, codes}
+use Rattle.std.specs.List.{AllByRecursion, slice_split}
+use Rattle.clap.specs.Walk.{Text}
+use Rattle.console.specs.CommandLine.CommandLine.{Asked, Check, Rpc, Run, asked_in}
+
+-- the words of a line, between its spaces (32)
+abbrev pub words_of : Text → List Text
+words_of line = slice_split (λ x. x == 32) line
+
+-- `check` of the file `f`
+abbrev plain : Option Asked
+plain = Some (Check (record { file = codes "f"; explain = false }))
+
+abbrev explained : Option Asked
+explained = Some (Check (record { file = codes "f"; explain = true }))
+
+-- `run` of the file `f`, with the roster's text in the file `g`
+abbrev run_to_g : Option Asked
+run_to_g = Some (Run (record { file = codes "f"; roster_out = Some (codes "g") }))
+
+-- command lines that ask for something, and those that ask for nothing
+abbrev pub lines : List (Text × Option Asked)
+lines =
+    (codes "nfsacc rpc", Some Rpc)
+    ∷ (codes "nfsacc check f", plain)
+    ∷ (codes "nfsacc check --explain f", explained)
+    ∷ (codes "nfsacc check f --explain", explained)
+    ∷ (codes "nfsacc check -- --explain", Some (Check (record { file = codes "--explain"; explain = false })))
+    ∷ (codes "nfsacc check -", Some (Check (record { file = codes "-"; explain = false })))
+    ∷ (codes "nfsacc run -", Some (Run (record { file = codes "-"; roster_out = None })))
+    ∷ (codes "nfsacc run f --roster-out g", run_to_g)
+    ∷ (codes "nfsacc run --roster-out=g f", run_to_g)
+    ∷ (codes "nfsacc", None)
+    ∷ (codes "nfsacc rpc x", None)
+    ∷ (codes "nfsacc check", None)
+    ∷ (codes "nfsacc check a b", None)
+    ∷ (codes "nfsacc check -f", None)
+    ∷ (codes "nfsacc check --explain --explain f", None)
+    ∷ (codes "nfsacc check --help", None)
+    ∷ (codes "nfsacc help check", None)
+    ∷ (codes "nfsacc run", None)
+    ∷ (codes "nfsacc run --roster-out", None)
+    ∷ (codes "nfsacc run --roster-out f", None)
+    ∷ []
+
+-- each line asks for what is said
+abbrev pub AreRead : Type 0
+AreRead = AllByRecursion (λ line. asked_in (words_of line.0) ≡ line.1) lines
