@@ -215,8 +215,7 @@ fn ends_by_link(
 fn is_ended(alloc: Global, fault: LinkFault, owed: StreamFault) -> bool {
     match (short_link(alloc, fault), seconds(alloc), three_calls(alloc)) {
         (Some(mut link), Some(mut clock), Some(streams)) => {
-            ends_by_link(alloc, &mut link, &mut clock, &streams, owed)
-                && clock.now().seconds() == 3
+            ends_by_link(alloc, &mut link, &mut clock, &streams, owed) && clock.now().seconds() == 3
         }
         _ => false,
     }
