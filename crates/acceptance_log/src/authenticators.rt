@@ -179,14 +179,14 @@ fn over(left: [u8; 32], right: [u8; 32]) -> [u8; 32] {
 
 /// An authenticator's text, and the root to which its path leads.
 #[derive(Drop)]
-struct Raised {
+struct RaisedText {
     text: Vec<u8>,
     root: [u8; 32],
 }
 
 /// An authenticator's text at height 1 by leaf 0 with its path gone on to height 16 by hashes that are made
 /// up.
-fn raised(mut text: Vec<u8>, root: [u8; 32]) -> Option<Raised> {
+fn raised(mut text: Vec<u8>, root: [u8; 32]) -> Option<RaisedText> {
     *text.get_mut(16_435)? = 16;
     let mut top = root;
     for _ in 1..16 {
@@ -195,11 +195,11 @@ fn raised(mut text: Vec<u8>, root: [u8; 32]) -> Option<Raised> {
         }
         top = over(top, [7; 32]);
     }
-    Some(Raised { text, root: top })
+    Some(RaisedText { text, root: top })
 }
 
 /// It by the master secret's keys.
-fn first_raised(alloc: Global) -> Option<Raised> {
+fn first_raised(alloc: Global) -> Option<RaisedText> {
     match Signer::new(alloc, MASTER, 1) {
         Ok(mut signer) => {
             let text = text_of_first(alloc, &mut signer)?;
@@ -212,7 +212,7 @@ fn first_raised(alloc: Global) -> Option<Raised> {
 /// Whether a text with these bits of a byte changed is taken, or refused so, where the keys have a height.
 fn is_at_height(
     alloc: Global,
-    raised: &mut Raised,
+    raised: &mut RaisedText,
     height: u32,
     place: usize,
     bits: u8,
@@ -227,7 +227,7 @@ fn is_at_height(
 }
 
 /// Whether it is taken at height 16 alone, and with nothing changed.
-fn is_of_height_16(alloc: Global, raised: &mut Raised) -> bool {
+fn is_of_height_16(alloc: Global, raised: &mut RaisedText) -> bool {
     let bad = Some(Refusal::BadSignature);
     raised.text.len() == 16_948
         && is_at_height(alloc, raised, 16, 0, 0, None)
