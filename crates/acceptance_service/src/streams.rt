@@ -46,10 +46,9 @@ fn serves(alloc: Global, input: &[u8], done: Result<u64, RecordFault>, owed: &[u
 /// Whether the four calls and these bytes after them end so, with the four replies written.
 fn ends_after(alloc: Global, more: &[u8], done: Result<u64, RecordFault>) -> bool {
     match Streams::new(alloc) {
-        Some(streams) => {
-            let mut input = streams.calls.bytes;
-            input.extend_from_slice(more).is_ok()
-                && serves(alloc, &input, done, &streams.replies.bytes)
+        Some(mut streams) => {
+            streams.calls.bytes.extend_from_slice(more).is_ok()
+                && serves(alloc, &streams.calls.bytes, done, &streams.replies.bytes)
         }
         None => false,
     }
