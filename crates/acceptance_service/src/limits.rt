@@ -209,12 +209,13 @@ fn a_server_has_16384_entries(rt: HostRuntime) {
     hold(&rt, &steps);
 }
 
-/// The bytes of a page of the entries `.`, `..` and `hello`, and so many others of 20 bytes: the header after
+/// The bytes of a page of the entries `.`, `..` and `hello` and of 405 others of 20 bytes: the header after
 /// the xid has 20, the stat four, the first two entries 20 each and the third 24, and what follows the
 /// entries eight.
-const fn page(others: usize) -> usize {
-    20 + 4 + 64 + others * 20 + 8
-}
+const OF_405: usize = 20 + 4 + 64 + 405 * 20 + 8;
+
+/// The same with one more.
+const OF_406: usize = OF_405 + 20;
 
 /// A page has at most 8,192 bytes of entries, for any count.
 #[test]
@@ -223,23 +224,23 @@ fn a_page_has_8192_bytes(rt: HostRuntime) {
         Step::MakesLinks { end: 0x4000 },
         Step::HasPage {
             count: 0x1ff7,
-            len: page(405),
+            len: OF_405,
         },
         Step::HasPage {
             count: 0x1ff8,
-            len: page(406),
+            len: OF_406,
         },
         Step::HasPage {
             count: 0x2000,
-            len: page(406),
+            len: OF_406,
         },
         Step::HasPage {
             count: 0x2001,
-            len: page(406),
+            len: OF_406,
         },
         Step::HasPage {
             count: 0xffffffff,
-            len: page(406),
+            len: OF_406,
         },
     ];
     hold(&rt, &steps);
