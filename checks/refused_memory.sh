@@ -13,8 +13,8 @@ readonly REFUSED=400
 
 # Of each subject how many requests the calls have at most, and how many what is made first has, which aren't refused.
 declare -rA MOST=(
-    [replies]=30 [files]=90 [keys]=10 [log]=84 [state]=80 [calls]=124 [streams]=24 [steps]=30 [entries]=30 [segments]=56
-    [evidence]=124 [books]=34 [filings]=13
+    [replies]=30 [files]=90 [keys]=10 [log]=84 [state]=150 [calls]=124 [streams]=24 [steps]=30 [entries]=30 [segments]=90
+    [evidence]=170 [books]=34 [filings]=13
 )
 declare -rA MADE=(
     [replies]=0 [files]=0 [keys]=0 [log]=1 [state]=1 [calls]=11 [streams]=15 [steps]=113 [entries]=120 [segments]=149
