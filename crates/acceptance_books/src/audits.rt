@@ -42,7 +42,7 @@ pub fn is_given_to(
     log: &Log,
     signer: &mut Signer,
     first: u64,
-    last: u64,
+    last: u32,
 ) -> bool {
     match closing_at(log, signer, last) {
         Some(closing) => is_given(alloc, books, log, first, &closing),

@@ -96,12 +96,12 @@ fn refuses_changed(alloc: Global, parties: &mut Parties) -> bool {
 }
 
 /// The text of the client's empty message to the server under a number.
-fn empty_text(alloc: Global, client: &mut Signer, number: u64) -> Option<Vec<u8>> {
+fn empty_text(alloc: Global, client: &mut Signer, number: u32) -> Option<Vec<u8>> {
     match message(
         client,
         2,
         1,
-        Number::new(number),
+        Number::new(number as u64),
         Body::new(Vec::new(alloc)),
     ) {
         Some(message) => message_text(alloc, &message),
@@ -110,7 +110,7 @@ fn empty_text(alloc: Global, client: &mut Signer, number: u64) -> Option<Vec<u8>
 }
 
 /// Whether a challenge with that message is answered so.
-fn challenges_at(alloc: Global, parties: &mut Parties, number: u64, answer: Answer) -> bool {
+fn challenges_at(alloc: Global, parties: &mut Parties, number: u32, answer: Answer) -> bool {
     match empty_text(alloc, &mut parties.client, number) {
         Some(text) => challenges(alloc, &mut parties.books, &text, answer),
         None => false,

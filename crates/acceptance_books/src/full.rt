@@ -39,7 +39,7 @@ fn outbox_is_full(alloc: Global, parties: &mut Parties) -> bool {
 }
 
 /// Whether the client's next 4,096 entries are audited.
-fn audits_next(alloc: Global, parties: &mut Parties, log: &Log, first: u64) -> bool {
+fn audits_next(alloc: Global, parties: &mut Parties, log: &Log, first: u32) -> bool {
     let last = first.saturating_add(4095);
     is_given_to(
         alloc,
@@ -53,7 +53,7 @@ fn audits_next(alloc: Global, parties: &mut Parties, log: &Log, first: u64) -> b
 
 /// Whether 16 times as many are, which are 65,536.
 fn audits_all(alloc: Global, parties: &mut Parties, log: &Log) -> bool {
-    let mut first = 1u64;
+    let mut first = 1u32;
     for _ in 0..16 {
         if !audits_next(alloc, parties, log, first) {
             return false;

@@ -8,8 +8,13 @@ use std::alloc::Global;
 use test_helpers::signed;
 
 /// Whether node 1's authenticator of a number and a hash, bytes all the same, is answered so.
-fn learns_at(alloc: Global, parties: &mut Parties, number: u64, byte: u8, answer: Answer) -> bool {
-    match signed(&mut parties.server, 1, Number::new(number), [byte; 32]) {
+fn learns_at(alloc: Global, parties: &mut Parties, number: u32, byte: u8, answer: Answer) -> bool {
+    match signed(
+        &mut parties.server,
+        1,
+        Number::new(number as u64),
+        [byte; 32],
+    ) {
         Some(authenticator) => learns(alloc, &mut parties.books, &authenticator, answer),
         None => false,
     }

@@ -59,9 +59,9 @@ pub fn answers_call(
 }
 
 /// What the log's node signs for one of its numbers.
-pub fn closing_at(log: &Log, signer: &mut Signer, number: u64) -> Option<Authenticator> {
-    match log.hash_at(number) {
-        Some(hash) => signed(signer, log.node(), Number::new(number), hash),
+pub fn closing_at(log: &Log, signer: &mut Signer, number: u32) -> Option<Authenticator> {
+    match log.hash_at(number as u64) {
+        Some(hash) => signed(signer, log.node(), Number::new(number as u64), hash),
         None => None,
     }
 }

@@ -17,7 +17,7 @@ fn body(alloc: Global, words: &[u32]) -> Option<Body> {
 }
 
 /// NULL of NFS version 2 with this transaction.
-fn call_body(alloc: Global, transaction: u32) -> Option<Body> {
+pub fn call_body(alloc: Global, transaction: u32) -> Option<Body> {
     body(alloc, &[transaction, 0, 2, 0x186a3, 2, 0, 0, 0, 0, 0])
 }
 
@@ -81,12 +81,20 @@ pub fn message_text(alloc: Global, message: &Envelope) -> Option<Vec<u8>> {
 
 /// A message as its receiver logs it.
 pub fn recv_of(message: Envelope) -> Entry {
+    let Envelope {
+        from,
+        to: _,
+        seq,
+        prev,
+        body,
+        signature,
+    } = message;
     Entry::Recv {
-        from: message.from,
-        seq: message.seq,
-        prev: message.prev,
-        body: message.body,
-        signature: message.signature,
+        from,
+        seq,
+        prev,
+        body,
+        signature,
     }
 }
 

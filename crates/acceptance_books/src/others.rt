@@ -59,8 +59,8 @@ fn packet_of(alloc: Global, authenticator: &Authenticator) -> Option<Vec<u8>> {
 }
 
 /// The packet of what a node signs for a hash, bytes all the same, at a number.
-fn learn(alloc: Global, signer: &mut Signer, node: u32, number: u64, byte: u8) -> Option<Vec<u8>> {
-    match signed(signer, node, Number::new(number), [byte; 32]) {
+fn learn(alloc: Global, signer: &mut Signer, node: u32, number: u32, byte: u8) -> Option<Vec<u8>> {
+    match signed(signer, node, Number::new(number as u64), [byte; 32]) {
         Some(authenticator) => packet_of(alloc, &authenticator),
         None => None,
     }
@@ -76,7 +76,7 @@ fn forged(packet: Option<Vec<u8>>) -> Option<Vec<u8>> {
 }
 
 /// The packet of what node 5 signs for a number of its log.
-fn closing(alloc: Global, log: &Log, fifth: &mut Signer, number: u64) -> Option<Vec<u8>> {
+fn closing(alloc: Global, log: &Log, fifth: &mut Signer, number: u32) -> Option<Vec<u8>> {
     match closing_at(log, fifth, number) {
         Some(authenticator) => packet_of(alloc, &authenticator),
         None => None,
