@@ -46,7 +46,7 @@ fn audits_next(alloc: Global, parties: &mut Parties, log: &Log, first: u32) -> b
         &mut parties.books,
         log,
         &mut parties.client,
-        first,
+        first as u64,
         last,
     ) && replays(alloc, &mut parties.books, 2, Found::Sound(0))
 }
