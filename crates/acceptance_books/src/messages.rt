@@ -11,7 +11,7 @@ use test_helpers::of_words;
 /// A body of these words, ten at most.
 fn body(alloc: Global, words: &[u32]) -> Option<Body> {
     match of_words(alloc, words) {
-        Ok(bytes) if bytes.len() <= 40 => Some(Body::new(bytes)),
+        Some(bytes) if bytes.len() <= 40 => Some(Body::new(bytes)),
         _ => None,
     }
 }
