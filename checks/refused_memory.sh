@@ -13,8 +13,8 @@ readonly REFUSED=400
 
 # Of each subject how many requests the calls have at most, and how many what is made first has, which aren't refused.
 declare -rA MOST=(
-    [replies]=30 [files]=90 [keys]=10 [log]=84 [state]=80 [calls]=124 [streams]=24 [steps]=30 [entries]=30 [segments]=56
-    [evidence]=124 [books]=34 [filings]=13
+    [replies]=30 [files]=90 [keys]=10 [log]=84 [state]=130 [calls]=124 [streams]=24 [steps]=30 [entries]=30 [segments]=72
+    [evidence]=150 [books]=34 [filings]=13
 )
 declare -rA MADE=(
     [replies]=0 [files]=0 [keys]=0 [log]=1 [state]=1 [calls]=11 [streams]=15 [steps]=113 [entries]=120 [segments]=149
@@ -112,7 +112,7 @@ check_subject() {
             least_refused 1 Roster::read Roster::write Roster::try_clone Authenticator::write check Entry::read \
                 Entry::write Log::reserve Log::append OpenSegment::write check_segment
             ;;
-        state) least_refused 2 read_state state_text state_digest ;;
+        state) least_refused 7 read_state state_text state_digest SharedState::new SharedState::state ;;
         calls)
             gave_the_same
             least_refused 4 send receive take_ack take_reply checkpoint answer_challenge
@@ -128,10 +128,10 @@ check_subject() {
             ;;
         segments)
             gave_the_same
-            least_refused 2 replay
+            least_refused 9 replay ClosedSegment::try_clone
             ;;
         evidence)
-            least_refused 9 read_case write_case evidence_text read_evidence check_evidence
+            least_refused 9 read_case write_case evidence_text read_evidence check_evidence Evidence::try_clone
             # These two copy a signature, and write no text of it.
             least_refused 6 of_authenticator from_start
             ;;

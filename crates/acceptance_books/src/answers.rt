@@ -1,18 +1,17 @@
 //! What books answer, told by values that may be copied, and events that are handed to them.
 
 use authenticator::{Authenticator, check};
-use challenge::replay_code::ReplayFault;
 use envelopes::{check_ack, check_envelope};
+use witness_books::node_book_code::{
+    Event, EventOf, Indication, Question, Refusal, ReplayDone, ReplayJob, Reply, ReplyOf,
+    SharedSegment,
+};
 use secure_log::check_segment;
 use std::alloc::Global;
 use witness_books::Books;
-use witness_books::node_book_code::{
-    Back, Event, EventOf, Indication, JobVerdict, Question, Refusal, ReplayDone, ReplayJob, Reply,
-    ReplyOf, SharedSegment,
-};
 
 /// What a reply says; of a list how many there are, of evidence whether there is some.
-#[derive(Clone, Copy, Debug, PartialEq, Eq)]
+#[derive(Clone, Copy, PartialEq, Eq)]
 pub enum Answer {
     Noted,
     Already,
@@ -125,8 +124,14 @@ pub fn acknowledges(alloc: Global, books: &mut Books, text: &[u8], answer: Answe
     }
 }
 
+/// Whether that many challenges to a node are open.
+pub fn are_open(alloc: Global, books: &mut Books, node: u32, count: usize) -> bool {
+    let event = EventOf::Ask(node, Question::Challenges);
+    answers(alloc, books, event, Answer::OpenList(count))
+}
+
 /// A segment by its text, closed under the roster of these books.
-pub fn shared(alloc: Global, books: &Books, text: &[u8]) -> Option<SharedSegment> {
+fn shared(alloc: Global, books: &Books, text: &[u8]) -> Option<SharedSegment> {
     match check_segment(alloc, books.roster(), text) {
         Ok(closed) => SharedSegment::new(alloc, closed).ok(),
         Err(_) => None,
@@ -138,41 +143,5 @@ pub fn audited(alloc: Global, books: &mut Books, text: &[u8], answer: Answer) ->
     match shared(alloc, books, text) {
         Some(segment) => answers(alloc, books, EventOf::Answer(segment), answer),
         None => false,
-    }
-}
-
-/// What a replay finds.
-#[derive(Clone, Copy, Debug, PartialEq, Eq)]
-pub enum Found {
-    /// So many authenticators of other nodes.
-    Sound(usize),
-    /// A fault, and the number of its entry.
-    Fault(ReplayFault, u64),
-}
-
-/// What a replay that was done found.
-fn found_in(done: &ReplayDone) -> Found {
-    match done.verdict() {
-        JobVerdict::Sound(_, shown) => Found::Sound(shown.len()),
-        JobVerdict::Fault(fault, number) => Found::Fault(*fault, number.get()),
-    }
-}
-
-/// Whether a job that is run finds this, and is filed.
-fn files(alloc: Global, books: &mut Books, job: ReplayJob, found: Found) -> bool {
-    match job.run(alloc) {
-        Back::Done(done) => {
-            let finds = found_in(&done) == found;
-            answers(alloc, books, EventOf::File(done), Answer::Filed) && finds
-        }
-        Back::Job(job) => spend_job(job) == 0,
-    }
-}
-
-/// Whether the replay of a node's segment that was given begins, finds this, and is filed.
-pub fn replays(alloc: Global, books: &mut Books, node: u32, found: Found) -> bool {
-    match books.step(alloc, EventOf::Begin(node)) {
-        ReplyOf::Job(job) => files(alloc, books, job, found),
-        reply => answer_of(reply) == Answer::Job(0) && false,
     }
 }

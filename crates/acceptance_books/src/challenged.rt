@@ -1,17 +1,16 @@
 //! Challenges with messages, and the acknowledgements that close them; bytes that are no member's.
 
-use crate::answers::{Answer, acknowledges, answers, challenges, refuses, tells};
-use crate::calls::{ack_text, authenticator_at, first_call, received, server_of_call};
-use crate::parties::{CLIENT, keys, new_books};
-use authenticator::{Authenticator, Number, signed_digest};
-use envelopes::Envelope;
+use crate::answers::{Answer, acknowledges, are_open, challenges, refuses, tells};
+use crate::messages::{ack_text, first_call, message, message_text};
+use crate::parties::{Parties, new_parties};
+use authenticator::{Authenticator, Number};
 use merkle_keys::Signer;
-use nodes::ServerNode;
+use witness_books::node_book_code::{EventOf, Indication, Refusal};
 use packets::write_learn;
-use secure_log::log_entries::{Body, SignatureText, message_hash};
+use secure_log::log_entries::Body;
 use std::alloc::Global;
+use test_helpers::signed;
 use witness_books::Books;
-use witness_books::node_book_code::{EventOf, Indication, Question, Refusal};
 
 /// Whether a challenge with a message to the server is opened once, and the server suspected.
 fn opens(alloc: Global, books: &mut Books, text: &[u8]) -> bool {
@@ -19,36 +18,39 @@ fn opens(alloc: Global, books: &mut Books, text: &[u8]) -> bool {
         && challenges(alloc, books, text, Answer::Opened)
         && challenges(alloc, books, text, Answer::Already)
         && tells(alloc, books, 1, Indication::Suspected)
-        && answers(
-            alloc,
-            books,
-            EventOf::Ask(1, Question::Challenges),
-            Answer::OpenList(1),
-        )
+        && are_open(alloc, books, 1, 1)
 }
 
-/// The same of a new client's call and new books.
-fn is_suspected(alloc: Global) -> bool {
-    match (first_call(alloc, 1), new_books(alloc, 3)) {
-        (Some(text), Some(mut books)) => opens(alloc, &mut books, &text),
-        _ => false,
+/// Whether an acknowledgement closes the challenge, once.
+fn closes(alloc: Global, books: &mut Books, ack: &[u8]) -> bool {
+    let not_asked = Answer::Refused(Refusal::NotAsked);
+    acknowledges(alloc, books, ack, Answer::Closed)
+        && tells(alloc, books, 1, Indication::Trusted)
+        && are_open(alloc, books, 1, 0)
+        && acknowledges(alloc, books, ack, not_asked)
+}
+
+/// Whether both go so, and the acknowledgement isn't asked for before.
+fn opens_and_closes(alloc: Global, books: &mut Books, text: &[u8], ack: &[u8]) -> bool {
+    acknowledges(alloc, books, ack, Answer::Refused(Refusal::NotAsked))
+        && opens(alloc, books, text)
+        && closes(alloc, books, ack)
+}
+
+/// The texts of a call and of the server's acknowledgement of it.
+fn call_and_ack(alloc: Global, parties: &mut Parties) -> Option<(Vec<u8>, Vec<u8>)> {
+    let call = first_call(alloc, &mut parties.client, 1)?;
+    let ack = ack_text(alloc, &mut parties.server, &call)?;
+    match message_text(alloc, &call) {
+        Some(text) => Some((text, ack)),
+        None => None,
     }
 }
 
-/// Whether the server's acknowledgement of a message that it had before closes the challenge, once.
-fn closes(alloc: Global, books: &mut Books, server: &mut ServerNode, text: &[u8]) -> bool {
-    let not_asked = Answer::Refused(Refusal::NotAsked);
-    match received(alloc, server, text) {
-        Some(number) => match ack_text(alloc, server.node(), number) {
-            Some(ack) => {
-                acknowledges(alloc, books, &ack, not_asked)
-                    && challenges(alloc, books, text, Answer::Opened)
-                    && acknowledges(alloc, books, &ack, Answer::Closed)
-                    && tells(alloc, books, 1, Indication::Trusted)
-                    && acknowledges(alloc, books, &ack, not_asked)
-            }
-            None => false,
-        },
+/// Whether a call that the server doesn't acknowledge at once is a challenge until it does.
+fn is_suspected_until(alloc: Global, parties: &mut Parties) -> bool {
+    match call_and_ack(alloc, parties) {
+        Some((text, ack)) => opens_and_closes(alloc, &mut parties.books, &text, &ack),
         None => false,
     }
 }
@@ -68,108 +70,83 @@ fn changed_packet(alloc: Global, authenticator: &Authenticator) -> Option<Vec<u8
 }
 
 /// Whether bytes are refused so.
-fn refuses_bytes(alloc: Global, books: &mut Books, bytes: Vec<u8>, refusal: Refusal) -> bool {
-    refuses(alloc, books, EventOf::Deliver(bytes), refusal)
-}
-
-/// Whether the server's authenticator at 3 is refused with a bit changed, and no bytes at all.
-fn refuses_changed(alloc: Global, books: &mut Books, server: &ServerNode) -> bool {
-    match authenticator_at(alloc, server.node(), 3) {
-        Some(authenticator) => match changed_packet(alloc, &authenticator) {
-            Some(bytes) => {
-                refuses_bytes(alloc, books, bytes, Refusal::BadSignature)
-                    && refuses_bytes(alloc, books, Vec::new(alloc), Refusal::Garbage)
-            }
-            None => false,
-        },
+fn refuses_bytes(
+    alloc: Global,
+    books: &mut Books,
+    bytes: Option<Vec<u8>>,
+    refusal: Refusal,
+) -> bool {
+    match bytes {
+        Some(bytes) => refuses(alloc, books, EventOf::Deliver(bytes), refusal),
         None => false,
     }
 }
 
-/// Whether both hold of a server that received a client's call.
-fn is_trusted_again(alloc: Global, books: &mut Books, server: &mut ServerNode) -> bool {
-    match first_call(alloc, 1) {
-        Some(text) => {
-            refuses_changed(alloc, books, server) && closes(alloc, books, server, &text)
+/// Whether the server's authenticator is refused with a bit changed, and no bytes at all.
+fn refuses_changed(alloc: Global, parties: &mut Parties) -> bool {
+    match signed(&mut parties.server, 1, Number::new(3), [3; 32]) {
+        Some(authenticator) => {
+            let changed = changed_packet(alloc, &authenticator);
+            let books = &mut parties.books;
+            refuses_bytes(alloc, books, changed, Refusal::BadSignature)
+                && refuses_bytes(alloc, books, Some(Vec::new(alloc)), Refusal::Garbage)
         }
         None => false,
     }
 }
 
-/// The same of a new server and new books.
-fn an_answer_is_trusted(alloc: Global) -> bool {
-    match server_of_call(alloc) {
-        Some(mut server) => match new_books(alloc, 3) {
-            Some(mut books) => is_trusted_again(alloc, &mut books, &mut server),
-            None => false,
-        },
-        None => false,
-    }
-}
-
-/// The client's envelope of an empty message to the server under a number.
-fn empty_envelope(alloc: Global, client: &mut Signer, number: u32) -> Option<Envelope> {
-    let body = Body::new(Vec::new(alloc));
-    let seq = Number::new(number as u64);
-    let hash = message_hash(1, seq, &[0; 32], &body.digest());
-    match client.sign(&signed_digest(2, seq, &hash)) {
-        Ok(signature) => Some(Envelope {
-            from: 2,
-            to: 1,
-            seq,
-            prev: [0; 32],
-            body,
-            signature: SignatureText::new(signature),
-        }),
-        Err(_) => None,
+/// The text of the client's empty message to the server under a number.
+fn empty_text(alloc: Global, client: &mut Signer, number: u32) -> Option<Vec<u8>> {
+    match message(
+        client,
+        2,
+        1,
+        Number::new(number as u64),
+        Body::new(Vec::new(alloc)),
+    ) {
+        Some(message) => message_text(alloc, &message),
+        None => None,
     }
 }
 
 /// Whether a challenge with that message is answered so.
-fn challenges_at(
-    alloc: Global,
-    books: &mut Books,
-    client: &mut Signer,
-    number: u32,
-    answer: Answer,
-) -> bool {
-    let mut text = Vec::new(alloc);
-    match empty_envelope(alloc, client, number) {
-        Some(envelope) => {
-            envelope.write(&mut text).is_ok() && challenges(alloc, books, &text, answer)
-        }
+fn challenges_at(alloc: Global, parties: &mut Parties, number: u32, answer: Answer) -> bool {
+    match empty_text(alloc, &mut parties.client, number) {
+        Some(text) => challenges(alloc, &mut parties.books, &text, answer),
         None => false,
     }
 }
 
-/// Whether 16 challenges with messages are open, and no more.
-fn opens_16(alloc: Global, books: &mut Books, client: &mut Signer) -> bool {
+/// Whether 16 challenges with messages are opened.
+fn opens_16(alloc: Global, parties: &mut Parties) -> bool {
     for number in 1..17 {
-        if !challenges_at(alloc, books, client, number, Answer::Opened) {
+        if !challenges_at(alloc, parties, number, Answer::Opened) {
             return false;
         }
     }
-    let full = Answer::Refused(Refusal::ChallengesFull);
-    challenges_at(alloc, books, client, 17, full)
-        && answers(
-            alloc,
-            books,
-            EventOf::Ask(1, Question::Challenges),
-            Answer::OpenList(16),
-        )
+    true
 }
 
-/// The same of new keys and new books.
-fn opens_no_more(alloc: Global) -> bool {
-    match (keys(alloc, CLIENT, 5), new_books(alloc, 5)) {
-        (Some(mut client), Some(mut books)) => opens_16(alloc, &mut books, &mut client),
-        _ => false,
+/// Whether no more are.
+fn opens_no_more(alloc: Global, parties: &mut Parties) -> bool {
+    opens_16(alloc, parties)
+        && challenges_at(alloc, parties, 17, Answer::Refused(Refusal::ChallengesFull))
+        && are_open(alloc, &mut parties.books, 1, 16)
+}
+
+/// Whether all of this holds of new books.
+fn challenges_go_well(alloc: Global) -> bool {
+    match new_parties(alloc, 5) {
+        Some(mut parties) => {
+            refuses_changed(alloc, &mut parties)
+                && is_suspected_until(alloc, &mut parties)
+                && opens_no_more(alloc, &mut parties)
+        }
+        None => false,
     }
 }
 
 #[test]
 fn a_challenge_makes_suspected_until_it_is_closed(rt: HostRuntime) {
-    assert!(rt; is_suspected(rt.alloc()));
-    assert!(rt; an_answer_is_trusted(rt.alloc()));
-    assert!(rt; opens_no_more(rt.alloc()));
+    assert!(rt; challenges_go_well(rt.alloc()));
 }

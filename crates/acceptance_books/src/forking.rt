@@ -1,75 +1,15 @@
 //! A client that signs two messages under one number, found in the log of a server that received both.
 
-use crate::answers::{Answer, Found, answer_of, answers, audited, learns, replays, tells};
-use crate::calls::{authenticator_at, first_call, new_server, received};
-use crate::parties::new_books;
+use crate::answers::{Answer, answer_of, answers, learns, tells};
+use crate::audits::{Found, is_given_to, replays};
+use crate::logs::answers_call;
+use crate::parties::{Parties, new_parties};
 use authenticator::Authenticator;
-use nodes::ServerNode;
-use nodes::node_logs_code::NodeLog;
-use secure_log::log_entries::Entry;
+use merkle_keys::Signer;
+use witness_books::node_book_code::{EventOf, Indication, ReplyOf};
+use secure_log::Log;
 use std::alloc::Global;
 use witness_books::Books;
-use witness_books::node_book_code::{EventOf, Indication, ReplyOf};
-
-/// Whether a server logs what it receives at this number.
-fn receives(alloc: Global, server: &mut ServerNode, text: &[u8], number: u64) -> bool {
-    received(alloc, server, text) == Some(number)
-}
-
-/// Whether a log is RECV, CLOCK and SEND twice.
-fn is_of_two_calls(node: &NodeLog) -> bool {
-    match node.log().entries() {
-        [
-            Entry::Recv { .. },
-            Entry::Clock { .. },
-            Entry::Send { .. },
-            Entry::Recv { .. },
-            Entry::Clock { .. },
-            Entry::Send { .. },
-        ] => true,
-        _ => false,
-    }
-}
-
-/// The server that received the first calls of two clients of one master secret.
-fn server_of_two(alloc: Global) -> Option<ServerNode> {
-    let one = first_call(alloc, 1)?;
-    let other = first_call(alloc, 2)?;
-    match new_server(alloc) {
-        Some(mut server) => {
-            let both = receives(alloc, &mut server, &one, 1)
-                && receives(alloc, &mut server, &other, 4);
-            if both && is_of_two_calls(server.node()) {
-                Some(server)
-            } else {
-                None
-            }
-        }
-        None => None,
-    }
-}
-
-/// Whether an audit of the server up to 6 begins.
-fn is_asked(alloc: Global, books: &mut Books, node: &NodeLog) -> bool {
-    match authenticator_at(alloc, node, 6) {
-        Some(closing) => {
-            learns(alloc, books, &closing, Answer::Noted)
-                && answers(alloc, books, EventOf::Audit(1), Answer::Asked(1, 6))
-        }
-        None => false,
-    }
-}
-
-/// Whether its answer is accepted, and sound.
-fn is_sound(alloc: Global, books: &mut Books, node: &NodeLog) -> bool {
-    match node.answer_challenge(alloc, 1, 6) {
-        Ok(text) => {
-            audited(alloc, books, &text, Answer::Accepted)
-                && replays(alloc, books, 1, Found::Sound(2))
-        }
-        Err(_) => false,
-    }
-}
 
 /// The authenticator that the server's book forwards.
 fn forwarded(alloc: Global, books: &mut Books) -> Option<Authenticator> {
@@ -81,14 +21,12 @@ fn forwarded(alloc: Global, books: &mut Books) -> Option<Authenticator> {
     }
 }
 
-/// Whether two authenticators of the client at 1 differ.
-fn are_two(one: &Authenticator, other: &Authenticator) -> bool {
-    (one.node, one.number.get()) == (2, 1)
-        && (other.node, other.number.get()) == (2, 1)
-        && one.hash != other.hash
+/// Whether an authenticator is the client's at 1.
+fn is_first(authenticator: &Authenticator) -> bool {
+    authenticator.node == 2 && authenticator.number.get() == 1
 }
 
-/// Whether both expose the client alone.
+/// Whether two authenticators expose the client alone.
 fn expose_client(
     alloc: Global,
     books: &mut Books,
@@ -106,7 +44,8 @@ fn expose_client(
 fn forwards_two(alloc: Global, books: &mut Books) -> bool {
     match (forwarded(alloc, books), forwarded(alloc, books)) {
         (Some(one), Some(other)) => {
-            are_two(&one, &other)
+            is_first(&one)
+                && is_first(&other)
                 && answers(alloc, books, EventOf::Forward(1), Answer::Empty)
                 && expose_client(alloc, books, &one, &other)
         }
@@ -114,23 +53,30 @@ fn forwards_two(alloc: Global, books: &mut Books) -> bool {
     }
 }
 
-/// Whether the server's log exposes the client.
-fn log_exposes(alloc: Global, books: &mut Books, node: &NodeLog) -> bool {
-    is_asked(alloc, books, node) && is_sound(alloc, books, node) && forwards_two(alloc, books)
+/// Whether the server's log is sound, and exposes the client.
+fn log_exposes(alloc: Global, books: &mut Books, log: &Log, server: &mut Signer) -> bool {
+    is_given_to(alloc, books, log, server, 1, 6)
+        && replays(alloc, books, 1, Found::Sound(2))
+        && forwards_two(alloc, books)
 }
 
-/// The same of a new server and new books.
-fn two_calls_expose(alloc: Global) -> bool {
-    match server_of_two(alloc) {
-        Some(server) => match new_books(alloc, 3) {
-            Some(mut books) => log_exposes(alloc, &mut books, server.node()),
-            None => false,
-        },
+/// The same of the log of two first calls, RECV, CLOCK and SEND twice.
+fn two_calls_expose(alloc: Global, parties: &mut Parties) -> bool {
+    let mut log = Log::new(alloc, 1);
+    answers_call(alloc, &mut log, &mut parties.client, 1, 0)
+        && answers_call(alloc, &mut log, &mut parties.client, 2, 0)
+        && log_exposes(alloc, &mut parties.books, &log, &mut parties.server)
+}
+
+/// The same of new books.
+fn a_fork_exposes(alloc: Global) -> bool {
+    match new_parties(alloc, 1) {
+        Some(mut parties) => two_calls_expose(alloc, &mut parties),
         None => false,
     }
 }
 
 #[test]
 fn a_client_that_forks_is_exposed(rt: HostRuntime) {
-    assert!(rt; two_calls_expose(rt.alloc()));
+    assert!(rt; a_fork_exposes(rt.alloc()));
 }

@@ -1,78 +1,29 @@
 //! Jobs of two books of one roster: each takes its own back, and no other's.
 
-use crate::answers::{Answer, answer_of, answers, audited, learns, spend_done, spend_job};
-use crate::calls::{authenticator_at, called, new_client};
-use crate::parties::new_books;
-use nodes::node_logs_code::NodeLog;
+use crate::answers::{Answer, answer_of, answers, refuses};
+use crate::audits::{begun, done, is_given};
+use crate::logs::{closing_at, reads_clock};
+use crate::parties::{Parties, new_parties, pair_books};
+use authenticator::Authenticator;
+use witness_books::node_book_code::{EventOf, Refusal, ReplayDone, ReplyOf};
+use secure_log::Log;
 use std::alloc::Global;
 use witness_books::Books;
-use witness_books::node_book_code::{Back, EventOf, Refusal, ReplayDone, ReplayJob, ReplyOf};
 
-/// Whether books are given the client's segment of one entry.
-fn is_given(alloc: Global, books: &mut Books, node: &NodeLog) -> bool {
-    match (
-        authenticator_at(alloc, node, 1),
-        node.answer_challenge(alloc, 1, 1),
-    ) {
-        (Some(closing), Ok(text)) => {
-            learns(alloc, books, &closing, Answer::Noted)
-                && answers(alloc, books, EventOf::Audit(2), Answer::Asked(1, 1))
-                && audited(alloc, books, &text, Answer::Accepted)
-        }
-        _ => false,
-    }
-}
-
-/// The client's books with a segment given.
-pub fn given_books(alloc: Global, node: &NodeLog) -> Option<Books> {
-    match new_books(alloc, 3) {
-        Some(mut books) => {
-            if is_given(alloc, &mut books, node) {
-                Some(books)
-            } else {
-                None
-            }
-        }
-        None => None,
-    }
-}
-
-/// The job that begins.
-pub fn begun(alloc: Global, books: &mut Books) -> Option<ReplayJob> {
-    match books.step(alloc, EventOf::Begin(2)) {
-        ReplyOf::Job(job) => Some(job),
-        reply => match answer_of(reply) {
-            _ => None,
-        },
-    }
-}
-
-/// The done value of the job that begins.
-pub fn done(alloc: Global, books: &mut Books) -> Option<ReplayDone> {
-    match begun(alloc, books) {
-        Some(job) => match job.run(alloc) {
-            Back::Done(done) => Some(done),
-            Back::Job(job) => match spend_job(job) {
-                _ => None,
-            },
-        },
-        None => None,
-    }
-}
-
-/// Whether the first job is put back.
+/// Whether the first job is put back, and another can't begin before.
 fn puts_back(alloc: Global, books: &mut Books) -> bool {
-    match begun(alloc, books) {
+    match begun(alloc, books, 2) {
         Some(job) => {
+            let is_busy = refuses(alloc, books, EventOf::Begin(2), Refusal::Busy);
             let is_first = job.plain().number() == 1;
-            answers(alloc, books, EventOf::PutBack(job), Answer::Returned) && is_first
+            answers(alloc, books, EventOf::PutBack(job), Answer::Returned) && is_first && is_busy
         }
         None => false,
     }
 }
 
-/// The done value of the first job of other books, if these refuse it as wrong.
-fn refused_first(alloc: Global, books: &mut Books, other: ReplayDone) -> Option<ReplayDone> {
+/// The done value of a job of other books, if these refuse it as wrong.
+fn refused(alloc: Global, books: &mut Books, other: ReplayDone) -> Option<ReplayDone> {
     match books.step(alloc, EventOf::File(other)) {
         ReplyOf::FileRefused(Refusal::WrongJob, done) => Some(done),
         reply => match answer_of(reply) {
@@ -81,7 +32,7 @@ fn refused_first(alloc: Global, books: &mut Books, other: ReplayDone) -> Option<
     }
 }
 
-/// Whether a done value, the job's number being this, is filed, once.
+/// Whether a done value, the job's number being this, is filed.
 fn is_filed(alloc: Global, books: &mut Books, done: ReplayDone, number: u64) -> bool {
     let is_right = done.plain().job().number() == number;
     answers(alloc, books, EventOf::File(done), Answer::Filed) && is_right
@@ -89,8 +40,8 @@ fn is_filed(alloc: Global, books: &mut Books, done: ReplayDone, number: u64) -> 
 
 /// Whether the first job of other books comes back from these, and goes there.
 fn goes_home(alloc: Global, books: &mut Books, others: &mut Books) -> bool {
-    match done(alloc, others) {
-        Some(first) => match refused_first(alloc, books, first) {
+    match done(alloc, others, 2) {
+        Some(first) => match refused(alloc, books, first) {
             Some(first) => is_filed(alloc, others, first, 1),
             None => false,
         },
@@ -100,7 +51,7 @@ fn goes_home(alloc: Global, books: &mut Books, others: &mut Books) -> bool {
 
 /// Whether the second job of these books is out while the other's first comes, and is filed after it.
 fn files_own(alloc: Global, books: &mut Books, others: &mut Books) -> bool {
-    match done(alloc, books) {
+    match done(alloc, books, 2) {
         Some(second) => {
             let home = goes_home(alloc, books, others);
             is_filed(alloc, books, second, 2) && home
@@ -111,7 +62,7 @@ fn files_own(alloc: Global, books: &mut Books, others: &mut Books) -> bool {
 
 /// Whether a job is refused where none is out.
 fn refuses_job(alloc: Global, books: &mut Books, others: &mut Books) -> bool {
-    match begun(alloc, others) {
+    match begun(alloc, others, 2) {
         Some(job) => {
             let refused = Answer::PutBackRefused(Refusal::NoJob, 1);
             answers(alloc, books, EventOf::PutBack(job), refused)
@@ -121,30 +72,65 @@ fn refuses_job(alloc: Global, books: &mut Books, others: &mut Books) -> bool {
 }
 
 /// Whether each of two books takes back its own jobs alone.
-fn take_own(alloc: Global, node: &NodeLog) -> bool {
-    match (given_books(alloc, node), given_books(alloc, node)) {
-        (Some(mut books), Some(mut others)) => {
-            puts_back(alloc, &mut books) && files_own(alloc, &mut books, &mut others)
+fn take_own(alloc: Global, books: &mut Books, others: &mut Books) -> bool {
+    puts_back(alloc, books) && files_own(alloc, books, others)
+}
+
+/// What is tried with two books.
+#[derive(Clone, Copy)]
+enum Trial {
+    TakeOwn,
+    RefuseOther,
+}
+
+/// Whether it goes as it should; the second books are given the log's segment.
+fn goes_well(
+    alloc: Global,
+    trial: Trial,
+    books: &mut Books,
+    others: &mut Books,
+    log: &Log,
+    closing: &Authenticator,
+) -> bool {
+    is_given(alloc, others, log, 1, closing)
+        && match trial {
+            Trial::TakeOwn => {
+                is_given(alloc, books, log, 1, closing) && take_own(alloc, books, others)
+            }
+            Trial::RefuseOther => refuses_job(alloc, books, others),
         }
-        _ => false,
+}
+
+/// The same of other books of the same members.
+fn goes_well_with_others(
+    alloc: Global,
+    trial: Trial,
+    parties: &mut Parties,
+    log: &Log,
+    closing: &Authenticator,
+) -> bool {
+    match pair_books(alloc, parties.server.root(), parties.client.root(), 1) {
+        Some(mut others) => {
+            goes_well(alloc, trial, &mut parties.books, &mut others, log, closing)
+        }
+        None => false,
     }
 }
 
-/// Whether books refuse a job while none of theirs is out.
-fn refuse_other(alloc: Global, node: &NodeLog) -> bool {
-    match (given_books(alloc, node), given_books(alloc, node)) {
-        (Some(mut books), Some(mut others)) => refuses_job(alloc, &mut books, &mut others),
-        _ => false,
+/// The same of the client's log of one entry.
+fn goes_well_of_one(alloc: Global, trial: Trial, parties: &mut Parties, log: &Log) -> bool {
+    match closing_at(log, &mut parties.client, 1) {
+        Some(closing) => goes_well_with_others(alloc, trial, parties, log, &closing),
+        None => false,
     }
 }
 
-/// Whether both hold of a new client that called once.
-fn books_take_own_jobs(alloc: Global) -> bool {
-    match new_client(alloc) {
-        Some(mut client) => {
-            called(alloc, &mut client, 1).is_some()
-                && take_own(alloc, client.node())
-                && refuse_other(alloc, client.node())
+/// The same of new books.
+fn goes_well_anew(alloc: Global, trial: Trial) -> bool {
+    let mut log = Log::new(alloc, 2);
+    match new_parties(alloc, 1) {
+        Some(mut parties) => {
+            reads_clock(&mut log, 1) && goes_well_of_one(alloc, trial, &mut parties, &log)
         }
         None => false,
     }
@@ -152,5 +138,6 @@ fn books_take_own_jobs(alloc: Global) -> bool {
 
 #[test]
 fn books_take_back_their_own_jobs(rt: HostRuntime) {
-    assert!(rt; books_take_own_jobs(rt.alloc()));
+    assert!(rt; goes_well_anew(rt.alloc(), Trial::TakeOwn));
+    assert!(rt; goes_well_anew(rt.alloc(), Trial::RefuseOther));
 }

@@ -4,17 +4,25 @@
 #[cfg(test)]
 mod answers;
 #[cfg(test)]
-mod calls;
+mod audits;
 #[cfg(test)]
 mod challenged;
 #[cfg(test)]
+mod exposed;
+#[cfg(test)]
 mod forking;
+#[cfg(test)]
+mod full;
 #[cfg(test)]
 mod jobs;
 #[cfg(test)]
 mod learned;
 #[cfg(test)]
+mod logs;
+#[cfg(test)]
 mod lying;
+#[cfg(test)]
+mod messages;
 #[cfg(test)]
 mod others;
 #[cfg(test)]

@@ -1,12 +1,13 @@
 //! Two runs that agree on one node's own steps, of which the other has forgeries, floods and forks among them.
 
-use crate::answers::{Answer, answer_of, answers};
-use crate::parties::{CLIENT, SERVER, keys};
+use crate::answers::Answer;
+use crate::logs::{closing_at, reads_clocks, segment_text};
+use crate::parties::{CLIENT, SERVER, books_of, keys};
+use crate::running::{answers_of_run, hand};
 use authenticator::{Authenticator, Kind, Member, Number};
 use merkle_keys::Signer;
 use packets::{write_answer_text, write_learn};
 use secure_log::Log;
-use secure_log::log_entries::Entry;
 use std::alloc::Global;
 use test_helpers::{client, roster_of, server, signed};
 use witness_books::Books;
@@ -15,17 +16,37 @@ use witness_books::node_book_code::{Event, EventOf, Indication, Question};
 /// The master secret of node 5.
 const FIFTH: [u8; 32] = [5; 32];
 
-/// What is handed to the books: of node 5 its authenticators at 1 and 2, the first with another bit, and its
-/// answer; of the others two hashes of node 1 at one number, and node 2's authenticators from 1 on.
+/// The keys of nodes 1, 2 and 5.
 #[derive(Drop)]
-struct Handed {
-    first: Vec<u8>,
-    second: Vec<u8>,
-    forged: Vec<u8>,
-    answer: Vec<u8>,
-    one: Vec<u8>,
-    other: Vec<u8>,
-    flood: Vec<Vec<u8>>,
+struct Signers {
+    server: Signer,
+    client: Signer,
+    fifth: Signer,
+}
+
+/// New keys.
+fn new_signers(alloc: Global) -> Option<Signers> {
+    let server = keys(alloc, SERVER, 1)?;
+    let client = keys(alloc, CLIENT, 7)?;
+    let fifth = keys(alloc, FIFTH, 2)?;
+    Some(Signers {
+        server,
+        client,
+        fifth,
+    })
+}
+
+/// The books of these nodes before any step.
+fn books(alloc: Global, signers: &Signers) -> Option<Books> {
+    let fifth = Member {
+        node: 5,
+        kind: Kind::Client,
+        root: signers.fifth.root(),
+        height: 2,
+    };
+    let one = server(signers.server.root(), 1);
+    let two = client(signers.client.root(), 7);
+    books_of(alloc, roster_of(alloc, &[one, two, fifth]))
 }
 
 /// The packet of an authenticator.
@@ -37,44 +58,28 @@ fn packet_of(alloc: Global, authenticator: &Authenticator) -> Option<Vec<u8>> {
     }
 }
 
-/// The packet of what a node signs for a hash at a number.
-fn learn(
-    alloc: Global,
-    signer: &mut Signer,
-    node: u32,
-    number: u32,
-    hash: [u8; 32],
-) -> Option<Vec<u8>> {
-    match signed(signer, node, Number::new(number as u64), hash) {
+/// The packet of what a node signs for a hash, bytes all the same, at a number.
+fn learn(alloc: Global, signer: &mut Signer, node: u32, number: u32, byte: u8) -> Option<Vec<u8>> {
+    match signed(signer, node, Number::new(number as u64), [byte; 32]) {
         Some(authenticator) => packet_of(alloc, &authenticator),
         None => None,
     }
 }
 
-/// Node 5's log: two readings of the clock.
-fn log_of_two(alloc: Global) -> Option<Log> {
-    let mut log = Log::new(alloc, 5);
-    for seconds in 1..3 {
-        let entry = Entry::Clock {
-            seconds,
-            microseconds: 0,
-        };
-        if log.append(entry).is_err() {
-            return None;
-        }
+/// A packet with the lowest bit of its last byte changed.
+fn forged(packet: Option<Vec<u8>>) -> Option<Vec<u8>> {
+    let mut bytes = packet?;
+    if let Some(last) = bytes.last_mut() {
+        *last ^= 1;
     }
-    Some(log)
+    Some(bytes)
 }
 
-/// The text of both entries, closed.
-fn text_closed(alloc: Global, log: &Log, closing: &Authenticator) -> Option<Vec<u8>> {
-    let mut text = Vec::new(alloc);
-    match log.segment(1, 2) {
-        Ok(segment) => match segment.write(closing, &mut text) {
-            Ok(()) => Some(text),
-            Err(_) => None,
-        },
-        Err(_) => None,
+/// The packet of what node 5 signs for a number of its log.
+fn closing(alloc: Global, log: &Log, fifth: &mut Signer, number: u32) -> Option<Vec<u8>> {
+    match closing_at(log, fifth, number) {
+        Some(authenticator) => packet_of(alloc, &authenticator),
+        None => None,
     }
 }
 
@@ -87,175 +92,183 @@ fn answer_of_text(alloc: Global, text: &[u8]) -> Option<Vec<u8>> {
     }
 }
 
+/// The text of node 5's log, two entries.
+fn log_text(alloc: Global, log: &Log, fifth: &mut Signer) -> Option<Vec<u8>> {
+    match closing_at(log, fifth, 2) {
+        Some(closing) => segment_text(alloc, log, 1, &closing),
+        None => None,
+    }
+}
+
 /// The packet of node 5's answer.
-fn answer(alloc: Global, log: &Log, closing: &Authenticator) -> Option<Vec<u8>> {
-    match text_closed(alloc, log, closing) {
+fn answer(alloc: Global, log: &Log, fifth: &mut Signer) -> Option<Vec<u8>> {
+    match log_text(alloc, log, fifth) {
         Some(text) => answer_of_text(alloc, &text),
         None => None,
     }
 }
 
-/// A copy of bytes with the lowest bit of the last changed.
-fn forged(alloc: Global, bytes: &[u8]) -> Option<Vec<u8>> {
-    match Vec::from_slice(alloc, bytes) {
-        Ok(mut forged) => {
-            if let Some(last) = forged.last_mut() {
-                *last ^= 1;
-            }
-            Some(forged)
-        }
-        Err(_) => None,
+/// Keeps a packet, if there is one.
+fn keep(packets: &mut Vec<Vec<u8>>, packet: Option<Vec<u8>>) {
+    if let Some(packet) = packet {
+        let _ = packets.push(packet);
     }
 }
 
-/// Node 2's authenticators at the numbers up to 30.
-fn flood(alloc: Global) -> Option<Vec<Vec<u8>>> {
-    let mut signer = keys(alloc, CLIENT, 5)?;
+/// Node 5's packets: its authenticators at 1 and 2, and its answer.
+fn own_packets(alloc: Global, fifth: &mut Signer) -> Vec<Vec<u8>> {
     let mut packets = Vec::new(alloc);
-    for number in 1..31 {
-        let packet = learn(alloc, &mut signer, 2, number, [2; 32])?;
-        if packets.push(packet).is_err() {
-            return None;
-        }
+    let mut log = Log::new(alloc, 5);
+    if reads_clocks(&mut log, 2) {
+        keep(&mut packets, closing(alloc, &log, fifth, 1));
+        keep(&mut packets, closing(alloc, &log, fifth, 2));
+        keep(&mut packets, answer(alloc, &log, fifth));
     }
-    Some(packets)
+    packets
 }
 
-/// All that is handed over.
-fn all_handed(alloc: Global) -> Option<Handed> {
-    let mut fifth = keys(alloc, FIFTH, 2)?;
-    let mut server = keys(alloc, SERVER, 1)?;
-    let log = log_of_two(alloc)?;
-    let first = learn(alloc, &mut fifth, 5, 1, log.hash_at(1)?)?;
-    let closing = signed(&mut fifth, 5, Number::new(2), log.hash_at(2)?)?;
-    Some(Handed {
-        forged: forged(alloc, &first)?,
-        first,
-        second: packet_of(alloc, &closing)?,
-        answer: answer(alloc, &log, &closing)?,
-        one: learn(alloc, &mut server, 1, 1, [1; 32])?,
-        other: learn(alloc, &mut server, 1, 1, [2; 32])?,
-        flood: flood(alloc)?,
-    })
-}
+/// How many packets there are of others.
+const OTHERS: usize = 84;
 
-/// The books of nodes 1, 2 and 5.
-fn books(alloc: Global) -> Option<Books> {
-    let one = keys(alloc, SERVER, 1)?.root();
-    let two = keys(alloc, CLIENT, 5)?.root();
-    let fifth = Member {
-        node: 5,
-        kind: Kind::Client,
-        root: keys(alloc, FIFTH, 2)?.root(),
-        height: 2,
-    };
-    match roster_of(alloc, &[server(one, 1), client(two, 5), fifth]) {
-        Some(roster) => Books::new(alloc, roster).ok(),
-        None => None,
+/// Node 2's authenticators at the numbers up to 81.
+fn flood(alloc: Global, packets: &mut Vec<Vec<u8>>, client: &mut Signer) {
+    for number in 1..82 {
+        keep(packets, learn(alloc, client, 2, number, 2));
     }
 }
 
-/// Bytes that are delivered.
-fn delivered(alloc: Global, bytes: &[u8]) -> Option<Event> {
-    match Vec::from_slice(alloc, bytes) {
-        Ok(bytes) => Some(EventOf::Deliver(bytes)),
-        Err(_) => None,
-    }
+/// What others hand over: a forged authenticator of node 5, two hashes of node 1 at one number, and a flood.
+fn other_packets(alloc: Global, signers: &mut Signers) -> Vec<Vec<u8>> {
+    let mut packets = Vec::new(alloc);
+    keep(
+        &mut packets,
+        forged(learn(alloc, &mut signers.fifth, 5, 1, 9)),
+    );
+    keep(&mut packets, learn(alloc, &mut signers.server, 1, 1, 1));
+    keep(&mut packets, learn(alloc, &mut signers.server, 1, 1, 2));
+    flood(alloc, &mut packets, &mut signers.client);
+    packets
 }
 
-/// What each of node 5's own steps is answered.
-const OWN: [Answer; 12] = [
-    Answer::Noted,
-    Answer::Noted,
-    Answer::Already,
-    Answer::Told(Indication::Trusted),
-    Answer::Asked(1, 2),
-    Answer::Told(Indication::Suspected),
-    Answer::OpenList(1),
-    Answer::Accepted,
-    Answer::Told(Indication::Trusted),
-    Answer::Job(1),
-    Answer::Empty,
-    Answer::EvidenceIs(false),
+/// A step of node 5's own.
+#[derive(Clone, Copy)]
+enum Own {
+    /// The packet with this place among its own.
+    Packet(usize),
+    Audit,
+    Begin,
+    Forward,
+    Ask(Question),
+}
+
+/// Node 5's own steps, and what each is answered.
+const STEPS: [(Own, Answer); 12] = [
+    (Own::Packet(0), Answer::Noted),
+    (Own::Packet(1), Answer::Noted),
+    (Own::Packet(0), Answer::Already),
+    (
+        Own::Ask(Question::Indication),
+        Answer::Told(Indication::Trusted),
+    ),
+    (Own::Audit, Answer::Asked(1, 2)),
+    (
+        Own::Ask(Question::Indication),
+        Answer::Told(Indication::Suspected),
+    ),
+    (Own::Ask(Question::Challenges), Answer::OpenList(1)),
+    (Own::Packet(2), Answer::Accepted),
+    (
+        Own::Ask(Question::Indication),
+        Answer::Told(Indication::Trusted),
+    ),
+    (Own::Begin, Answer::Job(1)),
+    (Own::Forward, Answer::Empty),
+    (Own::Ask(Question::Evidence), Answer::EvidenceIs(false)),
 ];
 
-/// Node 5's own step with this place.
-fn own(alloc: Global, handed: &Handed, step: usize) -> Option<Event> {
+/// Hands a packet to a run.
+fn hand_packet(alloc: Global, events: &mut Vec<Event>, packet: &[u8]) {
+    if let Ok(bytes) = Vec::from_slice(alloc, packet) {
+        hand(events, EventOf::Deliver(bytes));
+    }
+}
+
+/// Hands packets to a run.
+fn hand_packets(alloc: Global, events: &mut Vec<Event>, packets: &[Vec<u8>]) {
+    for packet in packets {
+        hand_packet(alloc, events, packet);
+    }
+}
+
+/// Hands node 5's packet with a place to a run.
+fn hand_own_packet(alloc: Global, events: &mut Vec<Event>, own: &[Vec<u8>], place: usize) {
+    if let Some(packet) = own.get(place) {
+        hand_packet(alloc, events, packet);
+    }
+}
+
+/// Hands a step of node 5's own to a run.
+fn hand_own(alloc: Global, events: &mut Vec<Event>, own: &[Vec<u8>], step: Own) {
     match step {
-        0 | 2 => delivered(alloc, &handed.first),
-        1 => delivered(alloc, &handed.second),
-        4 => Some(EventOf::Audit(5)),
-        6 => Some(EventOf::Ask(5, Question::Challenges)),
-        7 => delivered(alloc, &handed.answer),
-        9 => Some(EventOf::Begin(5)),
-        10 => Some(EventOf::Forward(5)),
-        11 => Some(EventOf::Ask(5, Question::Evidence)),
-        _ => Some(EventOf::Ask(5, Question::Indication)),
+        Own::Packet(place) => hand_own_packet(alloc, events, own, place),
+        Own::Audit => hand(events, EventOf::Audit(5)),
+        Own::Begin => hand(events, EventOf::Begin(5)),
+        Own::Forward => hand(events, EventOf::Forward(5)),
+        Own::Ask(question) => hand(events, EventOf::Ask(5, question)),
     }
 }
 
-/// An event that is none of node 5's own, by its count: a forgery, one of a flood, or half of a fork.
-fn noise(alloc: Global, handed: &Handed, count: usize) -> Option<Event> {
-    match count % 4 {
-        0 => delivered(alloc, &handed.forged),
-        1 => delivered(alloc, &handed.one),
-        2 => delivered(alloc, &handed.other),
-        _ => match handed.flood.get(count) {
-            Some(bytes) => delivered(alloc, bytes),
-            None => Some(EventOf::Audit(1)),
-        },
+/// Node 5's own steps, each with all that others hand over before it.
+fn events_of(alloc: Global, own: &[Vec<u8>], others: &[Vec<u8>]) -> Vec<Event> {
+    let mut events = Vec::new(alloc);
+    for (step, _) in STEPS {
+        hand_packets(alloc, &mut events, others);
+        hand_own(alloc, &mut events, own, step);
     }
+    events
 }
 
-/// Whether node 5's own step is answered as it is owed.
-fn is_owed(alloc: Global, books: &mut Books, handed: &Handed, step: usize) -> bool {
-    match (own(alloc, handed, step), OWN.get(step)) {
-        (Some(event), Some(owed)) => answers(alloc, books, event, *owed),
-        (Some(event), None) => answers(alloc, books, event, Answer::Filed),
-        (None, _) => false,
-    }
-}
-
-/// Hands over so many events that are none of node 5's own.
-fn hand_noise(alloc: Global, books: &mut Books, handed: &Handed, count: usize) {
-    for place in 0..count {
-        match noise(alloc, handed, place) {
-            Some(event) => {
-                answer_of(books.step(alloc, event));
-            }
-            None => {}
-        }
-    }
-}
-
-/// Whether each of node 5's own steps is, with so many events of others before it.
-fn are_owed(alloc: Global, books: &mut Books, handed: &Handed, others: usize) -> bool {
-    for step in 0..OWN.len() {
-        hand_noise(alloc, books, handed, others);
-        if !is_owed(alloc, books, handed, step) {
+/// Whether the answers to node 5's own steps are those that are owed, with so many to others before each.
+fn are_owed(answers: &[Answer], others: usize) -> bool {
+    let mut place = others;
+    for (_, owed) in STEPS {
+        if answers.get(place) != Some(&owed) {
             return false;
         }
+        place = place.saturating_add(others).saturating_add(1);
     }
     true
 }
 
-/// The same of new books.
-fn are_owed_anew(alloc: Global, handed: &Handed, others: usize) -> bool {
-    match books(alloc) {
-        Some(mut books) => are_owed(alloc, &mut books, handed, others),
+/// Whether they are in a run of new books.
+fn are_owed_in_run(alloc: Global, signers: &Signers, own: &[Vec<u8>], others: &[Vec<u8>]) -> bool {
+    match books(alloc, signers) {
+        Some(mut books) => {
+            let events = events_of(alloc, own, others);
+            are_owed(&answers_of_run(alloc, &mut books, events), others.len())
+        }
         None => false,
     }
 }
 
-/// Whether they are with none and with 24 before each, which are 288.
-fn are_owed_among_others(alloc: Global) -> bool {
-    match all_handed(alloc) {
-        Some(handed) => are_owed_anew(alloc, &handed, 0) && are_owed_anew(alloc, &handed, 24),
+/// Whether they are with none and with 84 before each, which are 1,008.
+fn are_owed_among_others(alloc: Global, signers: &mut Signers) -> bool {
+    let own = own_packets(alloc, &mut signers.fifth);
+    let others = other_packets(alloc, signers);
+    others.len() == OTHERS
+        && are_owed_in_run(alloc, signers, &own, &[])
+        && are_owed_in_run(alloc, signers, &own, &others)
+}
+
+/// The same of new keys.
+fn others_change_nothing(alloc: Global) -> bool {
+    match new_signers(alloc) {
+        Some(mut signers) => are_owed_among_others(alloc, &mut signers),
         None => false,
     }
 }
 
 #[test]
 fn others_change_no_answer(rt: HostRuntime) {
-    assert!(rt; are_owed_among_others(rt.alloc()));
+    assert!(rt; others_change_nothing(rt.alloc()));
 }

@@ -14,6 +14,14 @@ pub const SERVER: [u8; 32] = [1; 32];
 
 pub const CLIENT: [u8; 32] = [2; 32];
 
+/// The keys of the server and of the client, and books of both.
+#[derive(Drop)]
+pub struct Parties {
+    pub server: Signer,
+    pub client: Signer,
+    pub books: Books,
+}
+
 /// Keys of a master secret.
 pub fn keys(alloc: Global, master: [u8; 32], height: u32) -> Option<Signer>
     requires some { 1 ≤ height }
@@ -22,31 +30,43 @@ pub fn keys(alloc: Global, master: [u8; 32], height: u32) -> Option<Signer>
     Signer::new(alloc, master, height).ok()
 }
 
-/// The roster of the server and the client, whose keys have this height.
-pub fn pair(alloc: Global, height: u32) -> Option<Roster>
-    requires some { 1 ≤ height }
-    requires low { height ≤ 16 }
-{
-    let one = keys(alloc, SERVER, height)?.root();
-    let two = keys(alloc, CLIENT, height)?.root();
-    roster_of(alloc, &[server(one, height), client(two, height)])
-}
-
-/// The books of the server and the client before any step.
-pub fn new_books(alloc: Global, height: u32) -> Option<Books>
-    requires some { 1 ≤ height }
-    requires low { height ≤ 16 }
-{
-    match pair(alloc, height) {
+/// The books of a roster before any step.
+pub fn books_of(alloc: Global, roster: Option<Roster>) -> Option<Books> {
+    match roster {
         Some(roster) => Books::new(alloc, roster).ok(),
         None => None,
     }
 }
 
-/// The books of the server alone.
-pub fn server_books(alloc: Global, signer: &Signer, height: u32) -> Option<Books> {
-    match roster_of(alloc, &[server(signer.root(), height)]) {
-        Some(roster) => Books::new(alloc, roster).ok(),
+/// Books of the server alone.
+pub fn server_books(alloc: Global, root: [u8; 32], height: u32) -> Option<Books> {
+    books_of(alloc, roster_of(alloc, &[server(root, height)]))
+}
+
+/// The same of both roots, under this height.
+pub fn pair_books(alloc: Global, one: [u8; 32], two: [u8; 32], height: u32) -> Option<Books> {
+    let members = [server(one, height), client(two, height)];
+    books_of(alloc, roster_of(alloc, &members))
+}
+
+/// Both with their keys.
+fn with_books(alloc: Global, server: Signer, client: Signer, height: u32) -> Option<Parties> {
+    match pair_books(alloc, server.root(), client.root(), height) {
+        Some(books) => Some(Parties {
+            server,
+            client,
+            books,
+        }),
         None => None,
     }
+}
+
+/// The server and the client with new keys of this height, and their books before any step.
+pub fn new_parties(alloc: Global, height: u32) -> Option<Parties>
+    requires some { 1 ≤ height }
+    requires low { height ≤ 16 }
+{
+    let server = keys(alloc, SERVER, height)?;
+    let client = keys(alloc, CLIENT, height)?;
+    with_books(alloc, server, client, height)
 }

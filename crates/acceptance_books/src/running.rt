@@ -1,25 +1,13 @@
 //! Events in a row, and a step with notes.
 
 use crate::answers::{Answer, answer_of, spend_done, spend_job};
-use crate::parties::new_books;
-use std::alloc::Global;
+use crate::parties::new_parties;
 use witness_books::node_book_code::{Event, EventOf, Indication, Question, Refusal, Reply};
-use witness_books::{Books, run};
-
-/// A question for the server's indication, and an audit of it.
-fn two_events(alloc: Global) -> Option<Vec<Event>> {
-    match Vec::with_capacity(alloc, 2) {
-        Ok(mut events) => {
-            events.push_reserved(EventOf::Ask(1, Question::Indication));
-            events.push_reserved(EventOf::Audit(1));
-            Some(events)
-        }
-        Err(_) => None,
-    }
-}
+use std::alloc::Global;
+use witness_books::{Books, Note, run};
 
 /// An event is spent.
-fn spend(event: Event) {
+pub fn spend(event: Event) {
     match event {
         EventOf::File(done) => {
             let _number = spend_done(done);
@@ -31,58 +19,74 @@ fn spend(event: Event) {
     }
 }
 
-/// Events that came back are spent.
-fn spend_all(events: Vec<Event>) -> bool {
+/// Events that came back are spent, and nothing is told.
+fn spend_all(alloc: Global, events: Vec<Event>) -> Vec<Answer> {
     let mut rest = events.into_iter();
     'events: while let Some(event) = rest.next() {
         spend(event);
     }
     rest.destroy_empty();
-    false
+    Vec::new(alloc)
 }
 
-/// Whether replies are these answers, in order. They are spent.
-fn are_answers(replies: Vec<Reply>, wanted: &[Answer]) -> bool {
-    let mut good = replies.len() == wanted.len();
-    let mut wanted = wanted.iter();
+/// What replies say, in order. They are spent.
+fn told(alloc: Global, replies: Vec<Reply>) -> Vec<Answer> {
+    let mut answers = Vec::new(alloc);
     let mut rest = replies.into_iter();
     'replies: while let Some(reply) = rest.next() {
-        let answer = answer_of(reply);
-        good = good && wanted.next() == Some(&answer);
+        let _ = answers.push(answer_of(reply));
     }
     rest.destroy_empty();
-    good
+    answers
 }
 
-/// Whether a run of two events answers each.
+/// What a run of events is answered, in order; nothing where memory is refused.
+pub fn answers_of_run(alloc: Global, books: &mut Books, events: Vec<Event>) -> Vec<Answer> {
+    match run(alloc, books, events) {
+        Ok(replies) => told(alloc, replies),
+        Err(events) => spend_all(alloc, events),
+    }
+}
+
+/// Hands an event to a run, if there is memory.
+pub fn hand(events: &mut Vec<Event>, event: Event) {
+    if let Err(refused) = events.push(event) {
+        spend(refused.value);
+    }
+}
+
+/// Whether a question for the server's indication and an audit of it are answered in a run.
 fn runs(alloc: Global, books: &mut Books) -> bool {
+    let mut events = Vec::new(alloc);
+    hand(&mut events, EventOf::Ask(1, Question::Indication));
+    hand(&mut events, EventOf::Audit(1));
+    let answers = answers_of_run(alloc, books, events);
     let wanted = [
         Answer::Told(Indication::Trusted),
         Answer::Refused(Refusal::NothingToAudit),
     ];
-    match two_events(alloc) {
-        Some(events) => match run(alloc, books, events) {
-            Ok(replies) => are_answers(replies, &wanted),
-            Err(events) => spend_all(events),
-        },
-        None => false,
-    }
+    answers.as_slice() == wanted.as_slice()
+}
+
+/// Whether two notes say the same.
+fn are_same(one: &Note, other: &Note) -> bool {
+    one.event.is_same(&other.event) && one.reply.is_same(&other.reply)
 }
 
 /// Whether a step gives two notes, of the event and the reply that it gives.
 fn notes(alloc: Global, books: &mut Books) -> bool {
     let (reply, notes) = books.noted_step(alloc, EventOf::Audit(1));
-    let answered = answer_of(reply) == Answer::Refused(Refusal::NothingToAudit);
+    let is_answered = answer_of(reply) == Answer::Refused(Refusal::NothingToAudit);
     match notes {
-        Some((one, other)) => answered && one.is_same(&other),
+        Some((one, other)) => is_answered && are_same(&one, &other),
         None => false,
     }
 }
 
 /// Whether new books run events, and give notes of a step.
 fn new_books_run(alloc: Global) -> bool {
-    match new_books(alloc, 1) {
-        Some(mut books) => runs(alloc, &mut books) && notes(alloc, &mut books),
+    match new_parties(alloc, 1) {
+        Some(mut parties) => { runs(alloc, &mut parties.books) && notes(alloc, &mut parties.books) }
         None => false,
     }
 }

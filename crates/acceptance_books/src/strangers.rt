@@ -1,17 +1,18 @@
 //! Events of a node that is no member, or has other keys, in each of their forms.
 
 use crate::answers::{Answer, answers, refuses};
-use crate::calls::{ack_text, authenticator_at, called, envelope_text, new_client, server_of_call};
-use crate::jobs::{begun, done, given_books};
-use crate::parties::{SERVER, keys, new_books, pair, server_books};
-use authenticator::{Roster, check};
+use crate::audits::{begun, done, is_given_to};
+use crate::logs::{closing_at, reads_clock, segment_text};
+use crate::messages::{ack_text, first_call, message, message_text};
+use crate::parties::{Parties, new_parties, pair_books, server_books};
+use authenticator::{Authenticator, Number, Roster, check};
 use envelopes::{check_ack, check_envelope};
-use nodes::ClientNode;
-use nodes::node_logs_code::NodeLog;
-use secure_log::check_segment;
+use merkle_keys::Signer;
+use witness_books::node_book_code::{Event, EventOf, Question, Refusal, SharedSegment};
+use secure_log::log_entries::Body;
+use secure_log::{Log, check_segment};
 use std::alloc::Global;
 use witness_books::Books;
-use witness_books::node_book_code::{Event, EventOf, Question, Refusal, SharedSegment};
 
 /// What the client signed.
 #[derive(Clone, Copy)]
@@ -22,99 +23,129 @@ enum Kind {
     Acknowledgement,
 }
 
-/// The client that called the server and took its reply: its log is SEND, RECV.
-fn client_of_call(alloc: Global) -> Option<ClientNode> {
-    match server_of_call(alloc) {
-        Some(server) => match envelope_text(alloc, server.node(), 3) {
-            Some(reply) => client_of_reply(alloc, &reply),
-            None => None,
-        },
-        None => None,
-    }
-}
-
-/// The same of this reply.
-fn client_of_reply(alloc: Global, reply: &[u8]) -> Option<ClientNode> {
-    match new_client(alloc) {
-        Some(mut client) => {
-            let is_called = called(alloc, &mut client, 1).is_some();
-            if is_called && client.take_reply(alloc, reply).is_ok() {
-                Some(client)
-            } else {
-                None
-            }
-        }
-        None => None,
-    }
-}
-
-/// The text of the client's authenticator at 1.
-fn authenticator_text(alloc: Global, node: &NodeLog) -> Option<Vec<u8>> {
+/// The text of an authenticator.
+fn authenticator_text(alloc: Global, authenticator: &Authenticator) -> Option<Vec<u8>> {
     let mut text = Vec::new(alloc);
-    match authenticator_at(alloc, node, 1) {
-        Some(authenticator) => match authenticator.write(&mut text) {
-            Ok(()) => Some(text),
-            Err(_) => None,
-        },
+    match authenticator.write(&mut text) {
+        Ok(()) => Some(text),
+        Err(_) => None,
+    }
+}
+
+/// The text of the client's log, an entry that an authenticator closes, or of that authenticator.
+fn log_text(alloc: Global, client: &mut Signer, log: &Log, kind: Kind) -> Option<Vec<u8>> {
+    match (closing_at(log, client, 1), kind) {
+        (Some(closing), Kind::Segment) => segment_text(alloc, log, 1, &closing),
+        (Some(closing), _) => authenticator_text(alloc, &closing),
+        (None, _) => None,
+    }
+}
+
+/// The text of the client's first call.
+fn call_text(alloc: Global, client: &mut Signer) -> Option<Vec<u8>> {
+    match first_call(alloc, client, 1) {
+        Some(call) => message_text(alloc, &call),
+        None => None,
+    }
+}
+
+/// The text of its acknowledgement of an empty message of the server.
+fn client_ack(alloc: Global, parties: &mut Parties) -> Option<Vec<u8>> {
+    let body = Body::new(Vec::new(alloc));
+    match message(&mut parties.server, 1, 2, Number::new(1), body) {
+        Some(message) => ack_text(alloc, &mut parties.client, &message),
         None => None,
     }
 }
 
 /// The text of what the client signed.
-fn text_of(alloc: Global, node: &NodeLog, kind: Kind) -> Option<Vec<u8>> {
+fn text_of(alloc: Global, parties: &mut Parties, log: &Log, kind: Kind) -> Option<Vec<u8>> {
     match kind {
-        Kind::Authenticator => authenticator_text(alloc, node),
-        Kind::Envelope => envelope_text(alloc, node, 1),
-        Kind::Segment => node.answer_challenge(alloc, 1, 2).ok(),
-        Kind::Acknowledgement => ack_text(alloc, node, 2),
+        Kind::Authenticator | Kind::Segment => log_text(alloc, &mut parties.client, log, kind),
+        Kind::Envelope => call_text(alloc, &mut parties.client),
+        Kind::Acknowledgement => client_ack(alloc, parties),
     }
 }
 
-/// A segment of this text, as an answer to an audit.
-fn segment_event(alloc: Global, roster: &Roster, text: &[u8]) -> Option<Event> {
+/// An authenticator of this text, to be learned.
+fn learned(alloc: Global, roster: &Roster, text: &[u8]) -> Option<Event> {
+    match check(alloc, roster, text) {
+        Ok(checked) => Some(EventOf::Learn(checked)),
+        Err(_) => None,
+    }
+}
+
+/// A challenge with a message of this text.
+fn challenge(alloc: Global, roster: &Roster, text: &[u8]) -> Option<Event> {
+    match check_envelope(alloc, roster, text) {
+        Ok(checked) => Some(EventOf::SendChallenge(checked)),
+        Err(_) => None,
+    }
+}
+
+/// A segment of this text, to be shared.
+fn shared(alloc: Global, roster: &Roster, text: &[u8]) -> Option<SharedSegment> {
     match check_segment(alloc, roster, text) {
-        Ok(closed) => match SharedSegment::new(alloc, closed) {
-            Ok(segment) => Some(EventOf::Answer(segment)),
-            Err(_) => None,
-        },
+        Ok(closed) => SharedSegment::new(alloc, closed).ok(),
+        Err(_) => None,
+    }
+}
+
+/// The answer of an audit with a segment of this text.
+fn answer(alloc: Global, roster: &Roster, text: &[u8]) -> Option<Event> {
+    match shared(alloc, roster, text) {
+        Some(segment) => Some(EventOf::Answer(segment)),
+        None => None,
+    }
+}
+
+/// An acknowledgement of this text.
+fn acknowledged(alloc: Global, roster: &Roster, text: &[u8]) -> Option<Event> {
+    match check_ack(alloc, roster, text) {
+        Ok(checked) => Some(EventOf::AckIn(checked)),
         Err(_) => None,
     }
 }
 
 /// The event of a text that is checked under a roster.
-fn checked_event(alloc: Global, roster: &Roster, text: &[u8], kind: Kind) -> Option<Event> {
+fn checked(alloc: Global, roster: &Roster, text: &[u8], kind: Kind) -> Option<Event> {
     match kind {
-        Kind::Authenticator => match check(alloc, roster, text) {
-            Ok(checked) => Some(EventOf::Learn(checked)),
-            Err(_) => None,
-        },
-        Kind::Envelope => match check_envelope(alloc, roster, text) {
-            Ok(checked) => Some(EventOf::SendChallenge(checked)),
-            Err(_) => None,
-        },
-        Kind::Segment => segment_event(alloc, roster, text),
-        Kind::Acknowledgement => match check_ack(alloc, roster, text) {
-            Ok(checked) => Some(EventOf::AckIn(checked)),
-            Err(_) => None,
-        },
+        Kind::Authenticator => learned(alloc, roster, text),
+        Kind::Envelope => challenge(alloc, roster, text),
+        Kind::Segment => answer(alloc, roster, text),
+        Kind::Acknowledgement => acknowledged(alloc, roster, text),
     }
 }
 
-/// The packet of a text.
-fn packet_of(alloc: Global, text: &[u8], kind: Kind) -> Option<Vec<u8>> {
-    let mut bytes = Vec::new(alloc);
-    let first = match kind {
+/// Whether that event is refused so.
+fn refuses_checked(
+    alloc: Global,
+    books: &mut Books,
+    event: Option<Event>,
+    refusal: Refusal,
+) -> bool {
+    match event {
+        Some(event) => refuses(alloc, books, event, refusal),
+        None => false,
+    }
+}
+
+/// The first word of a packet.
+fn packet_kind(kind: Kind) -> u8 {
+    match kind {
         Kind::Authenticator => 1,
         Kind::Envelope => 2,
         Kind::Segment => 3,
         Kind::Acknowledgement => 4,
-    };
-    let is_begun = bytes.extend_from_slice(&[0, 0, 0, first]).is_ok();
-    if is_begun && bytes.extend_from_slice(text).is_ok() {
-        Some(bytes)
-    } else {
-        None
     }
+}
+
+/// The packet of a text.
+fn packet_of(alloc: Global, text: &[u8], kind: Kind) -> Vec<u8> {
+    let mut bytes = Vec::new(alloc);
+    let _ = bytes.extend_from_slice(&[0, 0, 0, packet_kind(kind)]);
+    let _ = bytes.extend_from_slice(text);
+    bytes
 }
 
 /// Whether a text is refused so, checked before under a roster and as bytes.
@@ -126,42 +157,38 @@ fn refuses_text(
     kind: Kind,
     refusal: Refusal,
 ) -> bool {
-    match (
-        checked_event(alloc, roster, text, kind),
-        packet_of(alloc, text, kind),
-    ) {
-        (Some(event), Some(bytes)) => {
-            let refused = refuses(alloc, books, event, refusal);
-            refuses(alloc, books, EventOf::Deliver(bytes), refusal) && refused
-        }
-        (Some(event), None) => refuses(alloc, books, event, refusal) && false,
-        (None, _) => false,
+    let bytes = packet_of(alloc, text, kind);
+    refuses_checked(alloc, books, checked(alloc, roster, text, kind), refusal)
+        && refuses(alloc, books, EventOf::Deliver(bytes), refusal)
+}
+
+/// Whether what the client signed is refused so, which was checked under the roster of its own books.
+fn refuses_kind(
+    alloc: Global,
+    books: &mut Books,
+    parties: &mut Parties,
+    log: &Log,
+    kind: Kind,
+    refusal: Refusal,
+) -> bool {
+    match text_of(alloc, parties, log, kind) {
+        Some(text) => { refuses_text(alloc, books, parties.books.roster(), &text, kind, refusal) }
+        None => false,
     }
 }
 
-/// Whether each that the client signed is refused so.
+/// Whether each is.
 fn refuses_each(
     alloc: Global,
     books: &mut Books,
-    roster: &Roster,
-    node: &NodeLog,
+    parties: &mut Parties,
+    log: &Log,
     refusal: Refusal,
 ) -> bool {
-    for kind in [
-        Kind::Authenticator,
-        Kind::Envelope,
-        Kind::Segment,
-        Kind::Acknowledgement,
-    ] {
-        let refused = match text_of(alloc, node, kind) {
-            Some(text) => refuses_text(alloc, books, roster, &text, kind, refusal),
-            None => false,
-        };
-        if !refused {
-            return false;
-        }
-    }
-    true
+    refuses_kind(alloc, books, parties, log, Kind::Authenticator, refusal)
+        && refuses_kind(alloc, books, parties, log, Kind::Envelope, refusal)
+        && refuses_kind(alloc, books, parties, log, Kind::Segment, refusal)
+        && refuses_kind(alloc, books, parties, log, Kind::Acknowledgement, refusal)
 }
 
 /// Whether the client is unknown by its number.
@@ -177,7 +204,7 @@ fn refuses_named(alloc: Global, books: &mut Books) -> bool {
 
 /// Whether a job of the client comes back from books that don't know it.
 fn refuses_job(alloc: Global, books: &mut Books, others: &mut Books) -> bool {
-    match begun(alloc, others) {
+    match begun(alloc, others, 2) {
         Some(job) => {
             let unknown = Answer::PutBackRefused(Refusal::UnknownNode, 1);
             answers(alloc, books, EventOf::PutBack(job), unknown)
@@ -188,7 +215,7 @@ fn refuses_job(alloc: Global, books: &mut Books, others: &mut Books) -> bool {
 
 /// Whether a done value of the client comes back from books that don't know it.
 fn refuses_done(alloc: Global, books: &mut Books, others: &mut Books) -> bool {
-    match done(alloc, others) {
+    match done(alloc, others, 2) {
         Some(done) => {
             let unknown = Answer::FileRefused(Refusal::UnknownNode, 1);
             answers(alloc, books, EventOf::File(done), unknown)
@@ -197,51 +224,63 @@ fn refuses_done(alloc: Global, books: &mut Books, others: &mut Books) -> bool {
     }
 }
 
-/// Whether a job and a done value come back.
-fn refuses_jobs(alloc: Global, books: &mut Books, node: &NodeLog) -> bool {
-    match (given_books(alloc, node), given_books(alloc, node)) {
-        (Some(mut one), Some(mut other)) => {
-            refuses_job(alloc, books, &mut one) && refuses_done(alloc, books, &mut other)
+/// What of the client's comes to books that don't know it.
+#[derive(Clone, Copy)]
+enum Spent {
+    Job,
+    Done,
+}
+
+/// Whether what the client's own books give comes back.
+fn refuses_spent(
+    alloc: Global,
+    books: &mut Books,
+    parties: &mut Parties,
+    log: &Log,
+    spent: Spent,
+) -> bool {
+    is_given_to(alloc, &mut parties.books, log, &mut parties.client, 1, 1)
+        && match spent {
+            Spent::Job => refuses_job(alloc, books, &mut parties.books),
+            Spent::Done => refuses_done(alloc, books, &mut parties.books),
         }
-        _ => false,
-    }
 }
 
 /// Whether books of the server alone don't know the client in any event.
-fn is_unknown(alloc: Global, books: &mut Books, roster: &Roster, node: &NodeLog) -> bool {
-    refuses_each(alloc, books, roster, node, Refusal::UnknownNode)
-        && refuses_named(alloc, books)
-        && refuses_jobs(alloc, books, node)
-}
-
-/// The books of a roster of the server alone.
-fn books_of_one(alloc: Global) -> Option<Books> {
-    match keys(alloc, SERVER, 3) {
-        Some(signer) => server_books(alloc, &signer, 3),
-        None => None,
-    }
-}
-
-/// Whether a client is unknown to some books, and what it signed isn't signed under other keys.
-fn is_refused(alloc: Global, roster: &Roster, node: &NodeLog) -> bool {
-    match (books_of_one(alloc), new_books(alloc, 2)) {
-        (Some(mut one), Some(mut other)) => {
-            is_unknown(alloc, &mut one, roster, node)
-                && refuses_each(alloc, &mut other, roster, node, Refusal::BadSignature)
+fn is_unknown(alloc: Global, parties: &mut Parties, log: &Log, spent: Spent) -> bool {
+    match server_books(alloc, parties.server.root(), 3) {
+        Some(mut books) => {
+            refuses_named(alloc, &mut books)
+                && refuses_each(alloc, &mut books, parties, log, Refusal::UnknownNode)
+                && refuses_spent(alloc, &mut books, parties, log, spent)
         }
-        _ => false,
+        None => false,
     }
 }
 
-/// The same of a client that called.
-fn a_client_is_refused(alloc: Global) -> bool {
-    match (client_of_call(alloc), pair(alloc, 3)) {
-        (Some(client), Some(roster)) => is_refused(alloc, &roster, client.node()),
-        _ => false,
+/// Whether what the client signed isn't signed under another root.
+fn is_forged(alloc: Global, parties: &mut Parties, log: &Log) -> bool {
+    match pair_books(alloc, parties.server.root(), parties.server.root(), 4) {
+        Some(mut books) => refuses_each(alloc, &mut books, parties, log, Refusal::BadSignature),
+        None => false,
+    }
+}
+
+/// Whether a client with a log of one entry is refused.
+fn is_refused(alloc: Global, spent: Spent) -> bool {
+    let mut log = Log::new(alloc, 2);
+    match new_parties(alloc, 4) {
+        Some(mut parties) => {
+            reads_clock(&mut log, 1)
+                && is_forged(alloc, &mut parties, &log)
+                && is_unknown(alloc, &mut parties, &log, spent)
+        }
+        None => false,
     }
 }
 
 #[test]
 fn strangers_and_other_keys_are_refused(rt: HostRuntime) {
-    assert!(rt; a_client_is_refused(rt.alloc()));
+    assert!(rt; is_refused(rt.alloc(), Spent::Job));
+    assert!(rt; is_refused(rt.alloc(), Spent::Done));
 }

@@ -5,7 +5,6 @@ use authenticator::{Authenticator, Number, Refusal, Roster, check, signed_digest
 use merkle_keys::Signer;
 use sha2::{Digest, Sha256};
 use std::alloc::Global;
-use std::test::Fail;
 use test_helpers::{MASTER, client, roster_of, server, signed};
 use xdr::{FromXdr, Reader};
 
@@ -17,16 +16,18 @@ const FIRST_DIGEST: [u8; 32] = [
 
 #[test]
 fn the_digest_is_another_programs(rt: HostRuntime) {
-    assert_eq!(rt; signed_digest(1, Number::new(1), &[0; 32]), FIRST_DIGEST);
+    assert!(rt; signed_digest(1, Number::new(1), &[0; 32]) == FIRST_DIGEST);
+}
+
+/// Whether eight bytes of which the last is given, and all others are ff, are a number.
+fn is_number(alloc: Global, last: u8) -> bool {
+    let text = [0xff, 0xff, 0xff, 0xff, 0xff, 0xff, 0xff, last];
+    Number::read(alloc, &mut Reader::new(&text)).is_ok()
 }
 
 #[test]
 fn the_greatest_number_is_none(rt: HostRuntime) {
-    for (last, is_number) in [(0xfe, true), (0xff, false)] {
-        let text = [0xff, 0xff, 0xff, 0xff, 0xff, 0xff, 0xff, last];
-        let number = Number::read(rt.alloc(), &mut Reader::new(&text));
-        assert_eq!(rt; number.is_ok(), is_number);
-    }
+    assert!(rt; is_number(rt.alloc(), 0xfe) && !is_number(rt.alloc(), 0xff));
 }
 
 /// A roster of nodes 1 and 2 with one root and height.
@@ -176,37 +177,76 @@ fn over(left: [u8; 32], right: [u8; 32]) -> [u8; 32] {
     text.finalize()
 }
 
+/// An authenticator's text, and the root to which its path leads.
+#[derive(Drop)]
+struct RaisedText {
+    text: Vec<u8>,
+    root: [u8; 32],
+}
+
 /// An authenticator's text at height 1 by leaf 0 with its path gone on to height 16 by hashes that are made
-/// up, and the root to which they lead.
-fn raised(alloc: Global, low: &[u8], root: [u8; 32]) -> Result<(Vec<u8>, [u8; 32]), Fail> {
-    let mut text = Vec::from_slice(alloc, low)?;
-    *text.get_mut(16_435).ok_or("no count")? = 16;
+/// up.
+fn raised(mut text: Vec<u8>, root: [u8; 32]) -> Option<RaisedText> {
+    *text.get_mut(16_435)? = 16;
     let mut top = root;
     for _ in 1..16 {
-        text.extend_from_slice(&[7; 32])?;
+        if text.extend_from_slice(&[7; 32]).is_err() {
+            return None;
+        }
         top = over(top, [7; 32]);
     }
-    Ok((text, top))
+    Some(RaisedText { text, root: top })
+}
+
+/// It by the master secret's keys.
+fn first_raised(alloc: Global) -> Option<RaisedText> {
+    match Signer::new(alloc, MASTER, 1) {
+        Ok(mut signer) => {
+            let text = text_of_first(alloc, &mut signer)?;
+            raised(text, signer.root())
+        }
+        Err(_) => None,
+    }
+}
+
+/// Whether a text with these bits of a byte changed is taken, or refused so, where the keys have a height.
+fn is_at_height(
+    alloc: Global,
+    raised: &mut RaisedText,
+    height: u32,
+    place: usize,
+    bits: u8,
+    refusal: Option<Refusal>,
+) -> bool {
+    match pair(alloc, raised.root, height) {
+        Some(roster) => {
+            refusal_changed(alloc, &roster, &mut raised.text, place, bits) == refusal
+        }
+        None => false,
+    }
+}
+
+/// Whether it is taken at height 16 alone, and with nothing changed.
+fn is_of_height_16(alloc: Global, raised: &mut RaisedText) -> bool {
+    let bad = Some(Refusal::BadSignature);
+    raised.text.len() == 16_948
+        && is_at_height(alloc, raised, 16, 0, 0, None)
+        && is_at_height(alloc, raised, 15, 0, 0, bad)
+        && is_at_height(alloc, raised, 1, 0, 0, bad)
+        && is_at_height(alloc, raised, 16, 45, 1, bad)
+        && is_at_height(alloc, raised, 16, 46, 0x80, bad)
+        && is_at_height(alloc, raised, 16, 16_947, 1, bad)
+}
+
+/// Whether that holds of the first.
+fn is_first_of_height_16(alloc: Global) -> bool {
+    match first_raised(alloc) {
+        Some(mut raised) => is_of_height_16(alloc, &mut raised),
+        None => false,
+    }
 }
 
 #[test]
-fn the_greatest_height_is_checked(rt: HostRuntime) -> Result<(), Fail> {
-    let mut signer = Signer::new(rt.alloc(), MASTER, 1)?;
-    let low = text_of_first(rt.alloc(), &mut signer).ok_or("no memory")?;
-    let (mut text, root) = raised(rt.alloc(), &low, signer.root())?;
-    assert_eq!(rt; text.len(), 16_948);
-    let bad = Some(Refusal::BadSignature);
-    for (height, place, bits, refusal) in [
-        (16, 0, 0, None),
-        (15, 0, 0, bad),
-        (1, 0, 0, bad),
-        (16, 45, 1, bad),
-        (16, 46, 0x80, bad),
-        (16, 16_947, 1, bad),
-    ] {
-        let roster = pair(rt.alloc(), root, height).ok_or("no roster")?;
-        let answer = refusal_changed(rt.alloc(), &roster, &mut text, place, bits);
-        assert_eq!(rt; answer, refusal, "height {height}, at {place}");
-    }
-    Ok(())
+fn the_greatest_height_is_checked(rt: HostRuntime) {
+    assert!(rt; is_first_of_height_16(rt.alloc()));
 }

@@ -14,32 +14,42 @@ fn member(node: u32, height: u32) -> Member {
     }
 }
 
-/// Whether two members are a roster, or have this fault.
-fn has_fault(alloc: Global, pair: &[Member; 2], fault: Option<RosterFault>) -> bool {
-    match Vec::from_slice(alloc, pair) {
+/// Whether members of these numbers and heights are a roster, or have this fault.
+fn has_fault(
+    alloc: Global,
+    first: (u32, u32),
+    second: (u32, u32),
+    fault: Option<RosterFault>,
+) -> bool {
+    let pair = [member(first.0, first.1), member(second.0, second.1)];
+    match Vec::from_slice(alloc, &pair) {
         Ok(members) => Roster::new(members).err() == fault,
         Err(_) => false,
     }
 }
 
 #[test]
-fn two_members_are_a_roster_or_have_a_fault(rt: HostRuntime) {
-    for (first, second, fault) in [
-        ((1, 1), (2, 16), None),
-        ((1, 1), (64, 1), None),
-        ((0, 1), (2, 1), Some(RosterFault::BadNumber)),
-        ((1, 1), (65, 1), Some(RosterFault::BadNumber)),
-        ((1, 0), (2, 1), Some(RosterFault::BadHeight)),
-        ((1, 1), (2, 17), Some(RosterFault::BadHeight)),
-        ((2, 1), (2, 1), Some(RosterFault::NotRising)),
-        ((2, 1), (1, 1), Some(RosterFault::NotRising)),
-        ((2, 17), (0, 1), Some(RosterFault::BadHeight)),
-        ((2, 1), (1, 17), Some(RosterFault::BadHeight)),
-    ] {
-        let pair = [member(first.0, first.1), member(second.0, second.1)];
-        let has = has_fault(rt.alloc(), &pair, fault);
-        assert!(rt; has, "{first:?} {second:?}");
-    }
+fn members_of_a_roster(rt: HostRuntime) {
+    assert!(rt; has_fault(rt.alloc(), (1, 1), (2, 16), None));
+    assert!(rt; has_fault(rt.alloc(), (1, 1), (64, 1), None));
+}
+
+#[test]
+fn members_out_of_bounds(rt: HostRuntime) {
+    let (number, height) = (Some(RosterFault::BadNumber), Some(RosterFault::BadHeight));
+    assert!(rt; has_fault(rt.alloc(), (0, 1), (2, 1), number));
+    assert!(rt; has_fault(rt.alloc(), (1, 1), (65, 1), number));
+    assert!(rt; has_fault(rt.alloc(), (1, 0), (2, 1), height));
+    assert!(rt; has_fault(rt.alloc(), (1, 1), (2, 17), height));
+    assert!(rt; has_fault(rt.alloc(), (2, 17), (0, 1), height));
+    assert!(rt; has_fault(rt.alloc(), (2, 1), (1, 17), height));
+}
+
+#[test]
+fn members_out_of_order(rt: HostRuntime) {
+    let not_rising = Some(RosterFault::NotRising);
+    assert!(rt; has_fault(rt.alloc(), (2, 1), (2, 1), not_rising));
+    assert!(rt; has_fault(rt.alloc(), (2, 1), (1, 1), not_rising));
 }
 
 /// Members with the numbers from 1 to the last.
@@ -112,11 +122,10 @@ fn is_read_back(alloc: Global, last: u32, length: usize) -> bool {
 // As many members as there may be, and one more.
 #[test]
 fn whole_rosters_read_back(rt: HostRuntime) {
-    for (last, length) in [(0, 4), (1, 48), (64, 2_820)] {
-        let is_read = is_read_back(rt.alloc(), last, length);
-        assert!(rt; is_read, "{last} members");
-    }
-    assert_eq!(rt; fault_to(rt.alloc(), 65), Some(RosterFault::TooMany));
+    assert!(rt; is_read_back(rt.alloc(), 0, 4));
+    assert!(rt; is_read_back(rt.alloc(), 1, 48));
+    assert!(rt; is_read_back(rt.alloc(), 64, 2_820));
+    assert!(rt; fault_to(rt.alloc(), 65) == Some(RosterFault::TooMany));
 }
 
 /// Whether a text is a roster's where a byte of it is another.

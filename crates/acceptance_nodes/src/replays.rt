@@ -8,8 +8,8 @@ use replay::{
 };
 use secure_log::log_entries::{Body, Entry, SignatureText, message_hash};
 use secure_log::{ClosedSegment, Log, check_segment};
-use std::alloc::{AllocError, Global};
-use std::test::Fail;
+use std::alloc::Global;
+use test_helpers::{client, roster_of, server, signed};
 
 /// A call of the null procedure (RFC 1094, section 2.2.1) with the number 7.
 const CALL: [u8; 40] = [
@@ -23,7 +23,7 @@ const REPLY: [u8; 24] = [
 ];
 
 /// What is told of a verdict.
-#[derive(Clone, Copy, Debug, PartialEq, Eq)]
+#[derive(Clone, Copy, PartialEq, Eq)]
 enum Found {
     /// So many authenticators of other nodes.
     Sound(usize),
@@ -31,6 +31,7 @@ enum Found {
     Fault(u32, u64),
 }
 
+/// What a verdict says.
 fn told(verdict: Verdict) -> Found {
     match verdict {
         Verdict::Sound(_, found) => Found::Sound(found.len()),
@@ -39,45 +40,49 @@ fn told(verdict: Verdict) -> Found {
 }
 
 /// Keys of height 2, of a master secret that ends in this byte.
-fn signer(alloc: Global, last: u8) -> Result<Signer, Fail> {
+fn signer(alloc: Global, last: u8) -> Option<Signer> {
     let mut master = [0; 32];
     master[31] = last;
-    Ok(Signer::new(alloc, master, 2)?)
-}
-
-fn member(node: u32, kind: Kind, signer: &Signer) -> Member {
-    Member {
-        node,
-        kind,
-        root: signer.root(),
-        height: 2,
-    }
+    Signer::new(alloc, master, 2).ok()
 }
 
 /// Server 1 and client 2.
-fn roster(alloc: Global, server: &Signer, client: &Signer) -> Result<Roster, Fail> {
-    let members = [
-        member(1, Kind::Server, server),
-        member(2, Kind::Client, client),
-    ];
-    Ok(Roster::new(Vec::from_slice(alloc, &members)?)?)
+fn roster(alloc: Global, one: &Signer, two: &Signer) -> Option<Roster> {
+    roster_of(alloc, &[server(one.root(), 2), client(two.root(), 2)])
 }
 
-/// The RECV of the call in the log of node 1, that node 2 sent under this number after a hash of zeros.
-fn call_received(alloc: Global, client: &mut Signer, seq: u64) -> Result<Entry, Fail> {
-    let seq = Number::new(seq.min(9));
-    let body = Body::new(Vec::from_slice(alloc, &CALL)?);
+/// A body of at most 40 bytes.
+fn body(alloc: Global, bytes: &[u8]) -> Option<Body> {
+    match Vec::from_slice(alloc, bytes) {
+        Ok(bytes) if bytes.len() <= 40 => Some(Body::new(bytes)),
+        _ => None,
+    }
+}
+
+/// The RECV of a body in the log of node 1, that node 2 sent under this number after a hash of zeros.
+fn received(body: Body, client: &mut Signer, seq: Number) -> Option<Entry> {
     let hash = message_hash(1, seq, &[0; 32], &body.digest());
-    let signature = client.sign(&signed_digest(2, seq, &hash))?;
-    Ok(Entry::Recv {
-        from: 2,
-        seq,
-        prev: [0; 32],
-        body,
-        signature: SignatureText::new(signature),
-    })
+    match client.sign(&signed_digest(2, seq, &hash)) {
+        Ok(signature) => Some(Entry::Recv {
+            from: 2,
+            seq,
+            prev: [0; 32],
+            body,
+            signature: SignatureText::new(signature),
+        }),
+        Err(_) => None,
+    }
 }
 
+/// The RECV of the call.
+fn call_received(alloc: Global, client: &mut Signer, seq: u64) -> Option<Entry> {
+    match body(alloc, &CALL) {
+        Some(body) => received(body, client, Number::new(seq.min(9))),
+        None => None,
+    }
+}
+
+/// A reading of the clock.
 fn clock(seconds: u32, microseconds: u32) -> Entry {
     Entry::Clock {
         seconds,
@@ -85,177 +90,260 @@ fn clock(seconds: u32, microseconds: u32) -> Entry {
     }
 }
 
-fn sent(alloc: Global, reply: &[u8; 24]) -> Result<Entry, AllocError> {
-    Ok(Entry::Send {
-        to: 2,
-        body: Body::new(Vec::from_slice(alloc, reply)?),
-    })
+/// A reply to node 2.
+fn sent(alloc: Global, reply: &[u8; 24]) -> Option<Entry> {
+    match body(alloc, reply) {
+        Some(body) => Some(Entry::Send { to: 2, body }),
+        None => None,
+    }
+}
+
+/// Whether an entry is appended.
+fn pushes(entries: &mut Vec<Entry>, entry: Option<Entry>) -> bool {
+    match entry {
+        Some(entry) => entries.push(entry).is_ok(),
+        None => false,
+    }
 }
 
 /// The first entries of server 1, as many as are asked for: it hears the call, reads its clock and replies.
-fn answered(alloc: Global, client: &mut Signer, count: usize) -> Result<Vec<Entry>, Fail> {
+fn answered(alloc: Global, client: &mut Signer, count: usize) -> Option<Vec<Entry>> {
     let mut entries = Vec::new(alloc);
-    entries.push(call_received(alloc, client, 1)?)?;
-    entries.push(clock(1, 0))?;
-    entries.push(sent(alloc, &REPLY)?)?;
-    entries.truncate(count);
-    Ok(entries)
+    if pushes(&mut entries, call_received(alloc, client, 1))
+        && pushes(&mut entries, Some(clock(1, 0)))
+        && pushes(&mut entries, sent(alloc, &REPLY))
+    {
+        entries.truncate(count);
+        Some(entries)
+    } else {
+        None
+    }
+}
+
+/// What a replay of at most nine entries finds after the state that a node begins with.
+fn found_after(alloc: Global, roster: &Roster, node: &Member, entries: &[Entry]) -> Option<Found> {
+    let Ok(start) = opening_state(alloc, node) else {
+        return None;
+    };
+    if entries.len() > 9 {
+        return None;
+    }
+    match replay_entries(alloc, roster, start, Number::new(1), &[0; 32], entries) {
+        Ok(verdict) => Some(told(verdict)),
+        Err(_) => None,
+    }
 }
 
 /// What a replay of the first entries of server 1 finds.
-fn found_in(alloc: Global, client: &Signer, entries: &[Entry]) -> Result<Found, Fail> {
-    if entries.len() > 9 {
-        return Err("too many entries".into());
+fn found_in(alloc: Global, keys: &Signer, entries: &[Entry]) -> Option<Found> {
+    match roster(alloc, keys, keys) {
+        Some(roster) => found_after(alloc, &roster, &server(keys.root(), 2), entries),
+        None => None,
     }
-    let roster = roster(alloc, client, client)?;
-    let start = opening_state(alloc, &member(1, Kind::Server, client))?;
-    let first = Number::new(1);
-    let verdict = replay_entries(alloc, &roster, start, first, &[0; 32], entries)?;
-    Ok(told(verdict))
 }
 
 /// What it finds where this entry stands after the first entries.
-fn found_with(alloc: Global, count: usize, next: Entry) -> Result<Found, Fail> {
+fn found_with(alloc: Global, count: usize, next: Option<Entry>) -> Option<Found> {
     let mut client = signer(alloc, 2)?;
     let mut entries = answered(alloc, &mut client, count)?;
-    entries.push(next)?;
-    found_in(alloc, &client, &entries)
+    if pushes(&mut entries, next) {
+        found_in(alloc, &client, &entries)
+    } else {
+        None
+    }
 }
 
 /// What it finds where a call is heard after the first three, under this number, and then the clock read.
-fn found_with_call(alloc: Global, seq: u64, read: Entry) -> Result<Found, Fail> {
+fn found_with_call(alloc: Global, seq: u64, read: Entry) -> Option<Found> {
     let mut client = signer(alloc, 2)?;
     let mut entries = answered(alloc, &mut client, 3)?;
-    entries.push(call_received(alloc, &mut client, seq)?)?;
-    entries.push(read)?;
-    found_in(alloc, &client, &entries)
+    if pushes(&mut entries, call_received(alloc, &mut client, seq))
+        && pushes(&mut entries, Some(read))
+    {
+        found_in(alloc, &client, &entries)
+    } else {
+        None
+    }
+}
+
+/// Whether a fault of this number is found at the entry of a number.
+fn is_fault(found: Option<Found>, fault: u32, number: u64) -> bool {
+    found == Some(Found::Fault(fault, number))
+}
+
+/// Whether none is found, and so many authenticators of other nodes.
+fn is_sound(found: Option<Found>, count: usize) -> bool {
+    found == Some(Found::Sound(count))
 }
 
 #[test]
-fn out_of_turn(rt: HostRuntime) -> Result<(), Fail> {
-    let send = sent(rt.alloc(), &REPLY)?;
-    assert_eq!(rt; found_with(rt.alloc(), 1, send)?, Found::Fault(1, 2));
-    assert_eq!(rt; found_with(rt.alloc(), 2, clock(1, 0))?, Found::Fault(1, 3));
-    Ok(())
+fn out_of_turn(rt: HostRuntime) {
+    let reply = sent(rt.alloc(), &REPLY);
+    assert!(rt; is_fault(found_with(rt.alloc(), 1, reply), 1, 2));
+    let read = Some(clock(1, 0));
+    assert!(rt; is_fault(found_with(rt.alloc(), 2, read), 1, 3));
 }
 
 #[test]
-fn another_reply(rt: HostRuntime) -> Result<(), Fail> {
-    let check = Entry::Check { digest: [0; 32] };
-    assert_eq!(rt; found_with(rt.alloc(), 2, check)?, Found::Fault(4, 3));
+fn another_reply(rt: HostRuntime) {
+    let check = Some(Entry::Check { digest: [0; 32] });
+    assert!(rt; is_fault(found_with(rt.alloc(), 2, check), 4, 3));
     let mut reply = REPLY;
     reply[23] = 1;
-    let send = sent(rt.alloc(), &reply)?;
-    assert_eq!(rt; found_with(rt.alloc(), 2, send)?, Found::Fault(4, 3));
-    Ok(())
+    let other = sent(rt.alloc(), &reply);
+    assert!(rt; is_fault(found_with(rt.alloc(), 2, other), 4, 3));
 }
 
 #[test]
-fn another_checkpoint(rt: HostRuntime) -> Result<(), Fail> {
-    let check = Entry::Check { digest: [0; 32] };
-    assert_eq!(rt; found_with(rt.alloc(), 3, check)?, Found::Fault(6, 4));
-    Ok(())
+fn another_checkpoint(rt: HostRuntime) {
+    let check = Some(Entry::Check { digest: [0; 32] });
+    assert!(rt; is_fault(found_with(rt.alloc(), 3, check), 6, 4));
 }
 
 #[test]
-fn a_message_again(rt: HostRuntime) -> Result<(), Fail> {
-    let found = found_with_call(rt.alloc(), 1, clock(2, 0))?;
-    assert_eq!(rt; found, Found::Fault(3, 4));
-    Ok(())
+fn a_message_again(rt: HostRuntime) {
+    let found = found_with_call(rt.alloc(), 1, clock(2, 0));
+    assert!(rt; is_fault(found, 3, 4));
 }
 
 #[test]
-fn the_clock(rt: HostRuntime) -> Result<(), Fail> {
-    let found = found_with_call(rt.alloc(), 2, clock(0, 5))?;
-    assert_eq!(rt; found, Found::Fault(5, 5));
-    let found = found_with_call(rt.alloc(), 2, clock(2, 1_000_000))?;
-    assert_eq!(rt; found, Found::Fault(1, 5));
-    let found = found_with_call(rt.alloc(), 2, clock(2, 0))?;
-    assert_eq!(rt; found, Found::Sound(2));
-    Ok(())
+fn the_clock(rt: HostRuntime) {
+    let back = found_with_call(rt.alloc(), 2, clock(0, 5));
+    assert!(rt; is_fault(back, 5, 5));
+    let no_time = found_with_call(rt.alloc(), 2, clock(2, 1_000_000));
+    assert!(rt; is_fault(no_time, 1, 5));
+    let later = found_with_call(rt.alloc(), 2, clock(2, 0));
+    assert!(rt; is_sound(later, 2));
 }
 
 /// A signature of 32 zero bytes, which is none of a message.
-fn other_signature(alloc: Global) -> Result<SignatureText, Fail> {
-    let mut client = signer(alloc, 2)?;
-    Ok(SignatureText::new(client.sign(&[0; 32])?))
+fn other_signature(alloc: Global) -> Option<SignatureText> {
+    match signer(alloc, 2) {
+        Some(mut client) => match client.sign(&[0; 32]) {
+            Ok(signature) => Some(SignatureText::new(signature)),
+            Err(_) => None,
+        },
+        None => None,
+    }
 }
 
-#[test]
-fn messages_that_are_not_signed(rt: HostRuntime) -> Result<(), Fail> {
-    let heard = Entry::Recv {
+/// A message that isn't signed.
+fn unsigned(alloc: Global) -> Option<Entry> {
+    let signature = other_signature(alloc)?;
+    Some(Entry::Recv {
         from: 2,
         seq: Number::new(1),
         prev: [0; 32],
-        body: Body::new(Vec::new(rt.alloc())),
-        signature: other_signature(rt.alloc())?,
-    };
-    assert_eq!(rt; found_with(rt.alloc(), 0, heard)?, Found::Fault(2, 1));
-    Ok(())
+        body: Body::new(Vec::new(alloc)),
+        signature,
+    })
 }
 
 #[test]
-fn acknowledgements_of_nothing(rt: HostRuntime) -> Result<(), Fail> {
-    let ack = Entry::Ack {
+fn messages_that_are_not_signed(rt: HostRuntime) {
+    let heard = unsigned(rt.alloc());
+    assert!(rt; is_fault(found_with(rt.alloc(), 0, heard), 2, 1));
+}
+
+/// An acknowledgement of a message that wasn't sent.
+fn ack_of_nothing(alloc: Global) -> Option<Entry> {
+    let signature = other_signature(alloc)?;
+    Some(Entry::Ack {
         to: 2,
         seq: Number::new(1),
         mine: [0; 32],
         number: Number::new(1),
         prev: [0; 32],
-        signature: other_signature(rt.alloc())?,
-    };
-    assert_eq!(rt; found_with(rt.alloc(), 3, ack)?, Found::Fault(7, 4));
-    Ok(())
+        signature,
+    })
+}
+
+#[test]
+fn acknowledgements_of_nothing(rt: HostRuntime) {
+    let ack = ack_of_nothing(rt.alloc());
+    assert!(rt; is_fault(found_with(rt.alloc(), 3, ack), 7, 4));
 }
 
 // ---- a closed segment
 
 /// The authenticator of the end of a log of server 1.
-fn closing(server: &mut Signer, log: &Log) -> Result<Authenticator, Fail> {
-    let number = Number::new(3);
-    let hash = log.hash_at(3).ok_or("no such place")?;
-    Ok(Authenticator {
-        node: 1,
-        number,
-        hash,
-        signature: server.sign(&signed_digest(1, number, &hash))?,
-    })
+fn closing(server: &mut Signer, log: &Log) -> Option<Authenticator> {
+    match log.hash_at(3) {
+        Some(hash) => signed(server, 1, Number::new(3), hash),
+        None => None,
+    }
+}
+
+/// Whether an entry is logged.
+fn logs(log: &mut Log, entry: Option<Entry>) -> bool {
+    match entry {
+        Some(entry) => log.append(entry).is_ok(),
+        None => false,
+    }
 }
 
 /// The log of server 1 that heard the call, read its clock and replied.
-fn log_of_call(alloc: Global, client: &mut Signer) -> Result<Log, Fail> {
+fn log_of_call(alloc: Global, client: &mut Signer) -> Option<Log> {
     let mut log = Log::new(alloc, 1);
-    log.append(call_received(alloc, client, 1)?)?;
-    log.append(clock(1, 0))?;
-    log.append(sent(alloc, &REPLY)?)?;
-    Ok(log)
+    if logs(&mut log, call_received(alloc, client, 1))
+        && logs(&mut log, Some(clock(1, 0)))
+        && logs(&mut log, sent(alloc, &REPLY))
+    {
+        Some(log)
+    } else {
+        None
+    }
+}
+
+/// The text of its three entries.
+fn segment_text(alloc: Global, log: &Log, closing: &Authenticator) -> Option<Vec<u8>> {
+    let mut text = Vec::new(alloc);
+    match log.segment(1, 3) {
+        Ok(segment) => match segment.write(closing, &mut text) {
+            Ok(()) => Some(text),
+            Err(_) => None,
+        },
+        Err(_) => None,
+    }
 }
 
 /// It as a closed segment.
-fn closed_segment(alloc: Global) -> Result<ClosedSegment, Fail> {
+fn closed_segment(alloc: Global) -> Option<ClosedSegment> {
     let mut client = signer(alloc, 2)?;
     let mut server = signer(alloc, 1)?;
     let roster = roster(alloc, &server, &client)?;
     let log = log_of_call(alloc, &mut client)?;
-    let mut text = Vec::new(alloc);
-    log.segment(1, 3)?
-        .write(&closing(&mut server, &log)?, &mut text)?;
-    Ok(check_segment(alloc, &roster, &text)?)
+    let closing = closing(&mut server, &log)?;
+    let text = segment_text(alloc, &log, &closing)?;
+    check_segment(alloc, &roster, &text).ok()
 }
 
-/// What a replay of a segment of server 1 finds after the state that the node begins with.
-fn found_in_segment(alloc: Global, segment: &ClosedSegment) -> Result<Found, Fail> {
-    let server = segment.roster().member(1).ok_or("no such member")?;
-    let start = opening_state(alloc, &server)?;
+/// What a replay of a segment of a node finds after the state that the node begins with.
+fn found_in_segment(alloc: Global, node: &Member, segment: &ClosedSegment) -> Option<Found> {
+    let Ok(start) = opening_state(alloc, node) else {
+        return None;
+    };
     let _few = segment.segment().entries();
-    Ok(told(replay(alloc, &start, segment)?))
+    match replay(alloc, &start, segment) {
+        Ok(verdict) => Some(told(verdict)),
+        Err(_) => None,
+    }
+}
+
+/// What a replay of the closed segment of server 1 finds.
+fn found_closed(alloc: Global) -> Option<Found> {
+    match closed_segment(alloc) {
+        Some(segment) => match segment.roster().member(1) {
+            Some(node) => found_in_segment(alloc, &node, &segment),
+            None => None,
+        },
+        None => None,
+    }
 }
 
 #[test]
-fn a_call_is_answered(rt: HostRuntime) -> Result<(), Fail> {
-    let segment = closed_segment(rt.alloc())?;
-    assert_eq!(rt; found_in_segment(rt.alloc(), &segment)?, Found::Sound(1));
-    Ok(())
+fn a_call_is_answered(rt: HostRuntime) {
+    assert!(rt; is_sound(found_closed(rt.alloc()), 1));
 }
 
 // ---- machines
@@ -267,10 +355,14 @@ const OPENING: [u8; 32] = [
 ];
 
 #[test]
-fn a_first_checkpoint(rt: HostRuntime) -> Result<(), Fail> {
-    let check = Entry::Check { digest: OPENING };
-    assert_eq!(rt; found_with(rt.alloc(), 0, check)?, Found::Sound(0));
-    Ok(())
+fn a_first_checkpoint(rt: HostRuntime) {
+    let check = Some(Entry::Check { digest: OPENING });
+    assert!(rt; is_sound(found_with(rt.alloc(), 0, check), 0));
+}
+
+/// A roster of nobody.
+fn nobody(alloc: Global) -> Option<Roster> {
+    Roster::new(Vec::new(alloc)).ok()
 }
 
 /// Node 1 with keys of zeros.
@@ -281,30 +373,43 @@ const SERVER: Member = Member {
     height: 1,
 };
 
-/// The first step of a server, which reads its clock: the bytes of its text after it, and what it answers.
-fn server_step(alloc: Global, roster: &Roster) -> Result<(usize, Option<StepFault>), AllocError> {
-    let mut machine = ServerMachine::new(opening_state(alloc, &SERVER)?);
+/// The same as a client.
+const CLIENT: Member = Member {
+    node: 1,
+    kind: Kind::Client,
+    root: [0; 32],
+    height: 1,
+};
+
+/// Whether the first step of a server, which reads its clock, is refused as out of turn.
+fn server_refuses(alloc: Global, roster: &Roster) -> bool {
+    let Ok(start) = opening_state(alloc, &SERVER) else {
+        return false;
+    };
+    let mut machine = ServerMachine::new(start);
     let answer = machine.step(alloc, roster, Number::new(1), &[0; 32], &clock(1, 0));
-    Ok((machine.text(alloc)?.len(), answer.err()))
+    answer == Err(StepFault::Fault(ReplayFault::BadForm)) && machine.text(alloc).is_ok()
 }
 
-/// The same of a client.
-fn client_step(alloc: Global, roster: &Roster) -> Result<(usize, Option<StepFault>), AllocError> {
-    let client = Member {
-        kind: Kind::Client,
-        ..SERVER
+/// Whether a client takes the same step.
+fn client_takes(alloc: Global, roster: &Roster) -> bool {
+    let Ok(start) = opening_state(alloc, &CLIENT) else {
+        return false;
     };
-    let mut machine = FreeMachine::new(opening_state(alloc, &client)?);
+    let mut machine = FreeMachine::new(start);
     let answer = machine.step(alloc, roster, Number::new(1), &[0; 32], &clock(1, 0));
-    Ok((machine.text(alloc)?.len(), answer.err()))
+    answer.is_ok() && machine.text(alloc).is_ok()
+}
+
+/// Whether both do.
+fn step(alloc: Global) -> bool {
+    match nobody(alloc) {
+        Some(roster) => server_refuses(alloc, &roster) && client_takes(alloc, &roster),
+        None => false,
+    }
 }
 
 #[test]
-fn machines(rt: HostRuntime) -> Result<(), Fail> {
-    let roster = Roster::new(Vec::new(rt.alloc()))?;
-    let (_, answer) = server_step(rt.alloc(), &roster)?;
-    assert_eq!(rt; answer, Some(StepFault::Fault(ReplayFault::BadForm)));
-    let (_, answer) = client_step(rt.alloc(), &roster)?;
-    assert_eq!(rt; answer, None);
-    Ok(())
+fn machines(rt: HostRuntime) {
+    assert!(rt; step(rt.alloc()));
 }

@@ -6,9 +6,8 @@ use nodes::gateway_code::links::{Clock, FixedClock, Link, LinkFault, ScriptedClo
 use nodes::gateway_code::{Gateway, Served, StreamFault};
 use nodes::service_code::Service;
 use rpc::records::{Counting, RecordReader};
-use std::alloc::{AllocError, Global};
+use std::alloc::Global;
 use std::collections::VecDeque;
-use std::test::Fail;
 use test_helpers::{Refusal, SlowReader, SlowWriter, of_words};
 
 /// NULL, GETATTR of the root and LOOKUP of `hello` in it, each as a record.
@@ -51,105 +50,190 @@ impl Link for ShortLink {
 }
 
 /// A clock that reads seconds 1, 2, 3 and 4.
-fn seconds(alloc: Global) -> Result<ScriptedClock, Fail> {
+fn seconds(alloc: Global) -> Option<ScriptedClock> {
     let mut later = VecDeque::new(alloc);
     for second in 2..5 {
-        later.push_back(Time::new(second, 0).ok_or("no time")?)?;
+        let time = Time::new(second, 0)?;
+        if later.push_back(time).is_err() {
+            return None;
+        }
     }
-    let next = Time::new(1, 0).ok_or("no time")?;
-    Ok(ScriptedClock { next, later })
+    let next = Time::new(1, 0)?;
+    Some(ScriptedClock { next, later })
+}
+
+/// Calls, and the replies to them.
+#[derive(Drop)]
+struct Streams {
+    calls: Vec<u8>,
+    replies: Vec<u8>,
+}
+
+impl Streams {
+    /// The reply to NULL.
+    fn first_reply(&self) -> &[u8] {
+        &self.replies[..self.replies.len().min(28)]
+    }
+}
+
+/// Those of the three calls.
+fn three_calls(alloc: Global) -> Option<Streams> {
+    let calls = of_words(alloc, &CALLS)?;
+    let replies = of_words(alloc, &REPLIES)?;
+    Some(Streams { calls, replies })
+}
+
+/// Whether calls that come a byte at a time are answered by a server, at the times that a clock reads.
+fn is_answered(
+    alloc: Global,
+    link: &mut Service,
+    clock: &mut ScriptedClock,
+    streams: &Streams,
+) -> bool {
+    let mut reader = RecordReader::new(Counting::new(SlowReader::new(&streams.calls, 0)));
+    let mut writer = Counting::new(Vec::new(alloc));
+    let done = Gateway::new().serve_stream(alloc, link, clock, &mut reader, &mut writer);
+    done == Ok(Served { records: 3 }) && writer.get_ref().as_slice() == streams.replies.as_slice()
+}
+
+/// Whether they are by a new server, whose clock is at the last call then.
+fn is_answered_in_time(alloc: Global, streams: &Streams) -> bool {
+    match (Service::opening(alloc, 1), seconds(alloc)) {
+        (Ok(mut link), Some(mut clock)) => {
+            is_answered(alloc, &mut link, &mut clock, streams)
+                && clock.now().seconds() == 4
+                && link.clock().seconds() == 3
+        }
+        _ => false,
+    }
+}
+
+/// Whether the three calls are.
+fn are_answered(alloc: Global) -> bool {
+    match three_calls(alloc) {
+        Some(streams) => is_answered_in_time(alloc, &streams),
+        None => false,
+    }
 }
 
 #[test]
-fn calls_are_answered_by_the_byte(rt: HostRuntime) -> Result<(), Fail> {
-    let input = of_words(rt.alloc(), &CALLS)?;
-    let owed = of_words(rt.alloc(), &REPLIES)?;
-    let mut link = Service::opening(rt.alloc(), 1)?;
-    let mut clock = seconds(rt.alloc())?;
-    let mut reader = RecordReader::new(Counting::new(SlowReader::new(&input, 0)));
-    let mut writer = Counting::new(Vec::new(rt.alloc()));
+fn calls_are_answered_by_the_byte(rt: HostRuntime) {
+    assert!(rt; are_answered(rt.alloc()));
+}
+
+/// Whether a writer took these bytes a byte a call, and refused the call after them.
+fn took(writer: &Counting<SlowWriter>, written: &[u8]) -> bool {
+    let device = writer.get_ref();
+    device.taken.as_slice() == written
+        && device.calls == (written.len() as u64).saturating_add(1)
+        && writer.count() == 1
+}
+
+/// Whether a stream over a server ends by its writer, and stays so with nothing read.
+fn ends_by_writer(
+    alloc: Global,
+    link: &mut Service,
+    reader: &mut RecordReader<&[u8]>,
+    writer: &mut Counting<SlowWriter>,
+) -> bool {
+    let mut clock = FixedClock {
+        time: Time::epoch(),
+    };
     let mut gateway = Gateway::new();
-    let done = gateway.serve_stream(rt.alloc(), &mut link, &mut clock, &mut reader, &mut writer);
-    assert!(rt; done == Ok(Served { records: 3 }));
-    assert!(rt; writer.get_ref().as_slice() == owed.as_slice());
-    assert!(rt; clock.now().seconds() == 4 && link.clock().seconds() == 3);
-    Ok(())
+    let done = gateway.serve_stream(alloc, link, &mut clock, reader, writer);
+    let left = reader.get_ref().get_ref().len();
+    let again = gateway.serve_stream(alloc, link, &mut clock, reader, writer);
+    done == Err(StreamFault::Device)
+        && again == Err(StreamFault::Failed)
+        && reader.get_ref().get_ref().len() == left
 }
 
 /// Whether a stream whose writer takes these bytes, one a call, and then fails, ends with no more written,
 /// and stays so with nothing read or written.
-fn ends_after(alloc: Global, input: &[u8], written: &[u8]) -> Result<bool, AllocError> {
-    let mut link = Service::opening(alloc, 1)?;
-    let mut clock = FixedClock {
-        time: Time::epoch(),
+fn ends_after(alloc: Global, calls: &[u8], written: &[u8]) -> bool {
+    let Ok(mut link) = Service::opening(alloc, 1) else {
+        return false;
     };
-    let mut reader = RecordReader::new(Counting::new(input));
     let fails_at = (written.len() as u64).saturating_add(1);
+    let mut reader = RecordReader::new(Counting::new(calls));
     let mut writer = Counting::new(SlowWriter::new(alloc, 1, fails_at, Refusal::Error));
+    ends_by_writer(alloc, &mut link, &mut reader, &mut writer) && took(&writer, written)
+}
+
+/// Whether it does after each number of bytes of the replies to three calls.
+fn ends_after_each(alloc: Global) -> bool {
+    let Some(streams) = three_calls(alloc) else {
+        return false;
+    };
+    let replies = streams.replies.as_slice();
+    for written in 0..replies.len() {
+        if !ends_after(alloc, &streams.calls, &replies[..written]) {
+            return false;
+        }
+    }
+    true
+}
+
+#[test]
+fn a_failed_write_ends_all(rt: HostRuntime) {
+    assert!(rt; ends_after_each(rt.alloc()));
+}
+
+/// A server that answers one record, and then this fault.
+fn short_link(alloc: Global, fault: LinkFault) -> Option<ShortLink> {
+    let service = Service::opening(alloc, 1).ok()?;
+    Some(ShortLink {
+        service,
+        left: 1,
+        fault,
+    })
+}
+
+/// Whether a stream over a link ends by this fault, with the reply to its first record written and its last
+/// not read, and stays so.
+fn ends_by_link(
+    alloc: Global,
+    link: &mut ShortLink,
+    clock: &mut ScriptedClock,
+    streams: &Streams,
+    fault: StreamFault,
+) -> bool {
+    let mut reader = RecordReader::new(Counting::new(streams.calls.as_slice()));
+    let mut writer = Counting::new(Vec::new(alloc));
     let mut gateway = Gateway::new();
-    let done = gateway.serve_stream(alloc, &mut link, &mut clock, &mut reader, &mut writer);
+    let done = gateway.serve_stream(alloc, link, clock, &mut reader, &mut writer);
     let left = reader.get_ref().get_ref().len();
-    let again = gateway.serve_stream(alloc, &mut link, &mut clock, &mut reader, &mut writer);
-    let device = writer.get_ref();
-    Ok(
-        done == Err(StreamFault::Device)
-            && again == Err(StreamFault::Failed)
-            && writer.count() == 1
-            && device.calls == fails_at
-            && device.taken.as_slice() == written
-            && reader.get_ref().get_ref().len() == left,
-    )
+    let again = gateway.serve_stream(alloc, link, clock, &mut reader, &mut writer);
+    done == Err(fault)
+        && again == Err(StreamFault::Failed)
+        && left == 88
+        && writer.get_ref().as_slice() == streams.first_reply()
+}
+
+/// Whether the three calls over a link that answers one record and then a fault end by this one, the clock
+/// having been read for two.
+fn is_ended(alloc: Global, fault: LinkFault, owed: StreamFault) -> bool {
+    match (short_link(alloc, fault), seconds(alloc), three_calls(alloc)) {
+        (Some(mut link), Some(mut clock), Some(streams)) => {
+            ends_by_link(alloc, &mut link, &mut clock, &streams, owed) && clock.now().seconds() == 3
+        }
+        _ => false,
+    }
 }
 
 #[test]
-fn a_failed_write_ends_all(rt: HostRuntime) -> Result<(), Fail> {
-    let input = of_words(rt.alloc(), &CALLS)?;
-    let owed = of_words(rt.alloc(), &REPLIES)?;
-    for written in 0..owed.len() {
-        let ends = ends_after(rt.alloc(), &input, &owed[..written])?;
-        assert!(rt; ends, "{written}");
-    }
-    Ok(())
+fn a_fault_of_the_link_ends_all(rt: HostRuntime) {
+    let (used_up, no_memory) = (LinkFault::KeysUsedUp, LinkFault::NoMemory);
+    assert!(rt; is_ended(rt.alloc(), used_up, StreamFault::KeysUsedUp));
+    assert!(rt; is_ended(rt.alloc(), no_memory, StreamFault::NoMemory));
+    assert!(rt; is_ended(rt.alloc(), LinkFault::Failed, StreamFault::Failed));
 }
 
+/// Faults of a link have the numbers of a stream's.
 #[test]
-fn a_fault_of_the_link_ends_all(rt: HostRuntime) -> Result<(), Fail> {
-    let input = of_words(rt.alloc(), &CALLS)?;
-    let owed = of_words(rt.alloc(), &REPLIES[..7])?;
-    let faults = [
-        (LinkFault::KeysUsedUp, StreamFault::KeysUsedUp),
-        (LinkFault::NoMemory, StreamFault::NoMemory),
-        (LinkFault::Failed, StreamFault::Failed),
-    ];
-    for (fault, answer) in faults {
-        let mut link = ShortLink {
-            service: Service::opening(rt.alloc(), 1)?,
-            left: 1,
-            fault,
-        };
-        let mut clock = seconds(rt.alloc())?;
-        let mut reader = RecordReader::new(Counting::new(input.as_slice()));
-        let mut writer = Counting::new(Vec::new(rt.alloc()));
-        let mut gateway = Gateway::new();
-        let done = gateway.serve_stream(
-            rt.alloc(),
-            &mut link,
-            &mut clock,
-            &mut reader,
-            &mut writer,
-        );
-        assert!(rt; done == Err(answer) && fault.number() == answer.number());
-        assert!(rt;
-            writer.get_ref().as_slice() == owed.as_slice() && reader.get_ref().get_ref().len() == 88
-        );
-        let again = gateway.serve_stream(
-            rt.alloc(),
-            &mut link,
-            &mut clock,
-            &mut reader,
-            &mut writer,
-        );
-        assert!(rt; again == Err(StreamFault::Failed) && clock.now().seconds() == 3);
-    }
-    Ok(())
+fn faults_have_one_number(rt: HostRuntime) {
+    let (used_up, no_memory) = (LinkFault::KeysUsedUp, LinkFault::NoMemory);
+    assert!(rt; used_up.number() == StreamFault::KeysUsedUp.number());
+    assert!(rt; no_memory.number() == StreamFault::NoMemory.number());
+    assert!(rt; LinkFault::Failed.number() == StreamFault::Failed.number());
 }

@@ -16,7 +16,7 @@ use test_helpers::signed;
 
 /// What evidence holds.
 #[derive(Clone, Copy, Debug)]
-enum Content {
+pub enum Content {
     /// Two hashes at number 5.
     TwoHashes,
     /// A hash of bytes that are all this one, at number 0.
@@ -126,12 +126,12 @@ fn finds_again(alloc: Global, roster: &Roster, evidence: &Evidence, finding: &Fi
 
 /// Node 2's roster, and evidence against it.
 #[derive(Drop)]
-struct Made {
-    roster: Roster,
-    evidence: Evidence,
+pub struct Made {
+    pub roster: Roster,
+    pub evidence: Evidence,
 }
 
-fn made_of(alloc: Global, content: Content) -> Option<Made> {
+pub fn made_of(alloc: Global, content: Content) -> Option<Made> {
     let mut signer = keys(alloc)?;
     let roster = roster(alloc, &signer)?;
     let evidence = evidence_of(alloc, &mut signer, content)?;

@@ -4,6 +4,8 @@
 #[cfg(test)]
 mod changed;
 #[cfg(test)]
+mod copies;
+#[cfg(test)]
 mod cut;
 #[cfg(test)]
 mod evidence;

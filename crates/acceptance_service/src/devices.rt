@@ -1,93 +1,118 @@
 //! Readers and writers that fail in the middle of a stream, and how often a writer is called.
 
-use crate::texts::Stream;
+use crate::texts::Streams;
 use rpc::records::{Counting, RecordFault, RecordReader};
 use rpc_streams::run_rpc;
-use std::test::Fail;
+use std::alloc::Global;
 use test_helpers::{Refusal, SlowReader, SlowWriter};
 
-#[test]
-fn a_failed_read_ends_the_stream(rt: HostRuntime) -> Result<(), Fail> {
-    let input = Stream::of_calls(rt.alloc())?;
-    let output = Stream::of_replies(rt.alloc())?;
-    for read in 0..input.bytes.len() + 1 {
-        let fails_at = read as u64 + 1;
-        let mut reader = RecordReader::new(Counting::new(SlowReader::new(&input.bytes, fails_at)));
-        let mut writer = Counting::new(Vec::new(rt.alloc()));
-        let done = run_rpc(rt.alloc(), &mut reader, &mut writer);
-        let owed = output.first(input.count_within(read));
-        let is_written = writer.get_ref().as_slice() == owed;
-        assert!(rt;
-            done == Err(RecordFault::Device) && is_written,
-            "after {read}"
-        );
-        assert!(rt;
-            reader.get_ref().count() == 1 && writer.count() == 0,
-            "after {read}"
-        );
-        let again = reader.next(rt.alloc()).err();
-        let asked = reader.get_ref().get_ref().calls;
-        assert!(rt;
-            again == Some(RecordFault::Device) && asked == fails_at,
-            "after {read}"
-        );
+/// Whether a further call of a reader answers that its device failed, and doesn't ask it: it was asked so
+/// often, and refused once.
+fn has_failed(alloc: Global, reader: &mut RecordReader<SlowReader<'_>>, asked: u64) -> bool {
+    let again = reader.next(alloc).err();
+    let device = reader.get_ref();
+    again == Some(RecordFault::Device) && device.count() == 1 && device.get_ref().calls == asked
+}
+
+/// Whether a stream whose reader fails after so many bytes ends so, with these replies written.
+fn read_fails(alloc: Global, calls: &[u8], read: u64, owed: &[u8]) -> bool {
+    let fails_at = read.saturating_add(1);
+    let mut reader = RecordReader::new(Counting::new(SlowReader::new(calls, fails_at)));
+    let mut writer = Counting::new(Vec::new(alloc));
+    run_rpc(alloc, &mut reader, &mut writer) == Err(RecordFault::Device)
+        && writer.get_ref().as_slice() == owed
+        && writer.count() == 0
+        && has_failed(alloc, &mut reader, fails_at)
+}
+
+/// Whether it ends so after each number of bytes, with the replies to the records among them.
+fn reads_fail(alloc: Global) -> bool {
+    let Some(streams) = Streams::new(alloc) else {
+        return false;
+    };
+    let calls = streams.calls.bytes.as_slice();
+    for read in 0..calls.len() + 1 {
+        if !read_fails(alloc, calls, read as u64, streams.owed_within(read)) {
+            return false;
+        }
     }
-    Ok(())
+    true
 }
 
 #[test]
-fn a_failed_write_ends_the_stream(rt: HostRuntime) -> Result<(), Fail> {
-    let input = Stream::of_calls(rt.alloc())?;
-    let output = Stream::of_replies(rt.alloc())?;
-    for refusal in [Refusal::Error, Refusal::TakesNothing] {
-        for written in 0..output.bytes.len() {
-            let mut reader = RecordReader::new(Counting::new(input.bytes.as_slice()));
-            let fails_at = written as u64 + 1;
-            let mut writer = Counting::new(SlowWriter::new(rt.alloc(), 1, fails_at, refusal));
-            let done = run_rpc(rt.alloc(), &mut reader, &mut writer);
-            let is_part = writer.get_ref().taken.as_slice() == &output.bytes[..written];
-            assert!(rt;
-                done == Err(RecordFault::Device) && is_part,
-                "after {written}"
-            );
-            assert!(rt;
-                reader.get_ref().count() == 0 && writer.count() == 1,
-                "after {written}"
-            );
-            let taken = input.ends[output.count_within(written).min(3)];
-            let left = reader.get_ref().get_ref().len();
-            assert!(rt;
-                input.bytes.len().checked_sub(taken) == Some(left),
-                "after {written}"
-            );
+fn a_failed_read_ends_the_stream(rt: HostRuntime) {
+    assert!(rt; reads_fail(rt.alloc()));
+}
+
+/// Whether a writer took these bytes in so many calls, of which so many were refused.
+fn took(writer: &Counting<SlowWriter>, bytes: &[u8], calls: u64, refused: u64) -> bool {
+    let device = writer.get_ref();
+    device.taken.as_slice() == bytes && device.calls == calls && writer.count() == refused
+}
+
+/// Whether a stream whose writer takes one byte a call, and refuses the call after these bytes, ends so, with
+/// so many bytes of the calls left.
+fn write_fails(alloc: Global, calls: &[u8], written: &[u8], refusal: Refusal, left: usize) -> bool {
+    let fails_at = (written.len() as u64).saturating_add(1);
+    let mut reader = RecordReader::new(Counting::new(calls));
+    let mut writer = Counting::new(SlowWriter::new(alloc, 1, fails_at, refusal));
+    run_rpc(alloc, &mut reader, &mut writer) == Err(RecordFault::Device)
+        && took(&writer, written, fails_at, 1)
+        && reader.get_ref().count() == 0
+        && reader.get_ref().get_ref().len() == left
+}
+
+/// Whether it ends so after each number of bytes, with the records taken whose replies were begun.
+fn writes_fail(alloc: Global, refusal: Refusal) -> bool {
+    let Some(streams) = Streams::new(alloc) else {
+        return false;
+    };
+    let calls = streams.calls.bytes.as_slice();
+    let replies = streams.replies.bytes.as_slice();
+    for written in 0..replies.len() {
+        let left = streams.left_after(written);
+        if !write_fails(alloc, calls, &replies[..written], refusal, left) {
+            return false;
         }
     }
-    Ok(())
+    true
+}
+
+#[test]
+fn a_failed_write_ends_the_stream(rt: HostRuntime) {
+    assert!(rt; writes_fail(rt.alloc(), Refusal::Error));
+    assert!(rt; writes_fail(rt.alloc(), Refusal::TakesNothing));
+}
+
+/// Whether all replies go out by four writes where the calls come a byte at a time.
+fn writes_each(alloc: Global) -> bool {
+    let Some(streams) = Streams::new(alloc) else {
+        return false;
+    };
+    let mut reader = RecordReader::new(Counting::new(SlowReader::new(&streams.calls.bytes, 0)));
+    let mut writer = Counting::new(SlowWriter::new(alloc, usize::MAX, 0, Refusal::Error));
+    run_rpc(alloc, &mut reader, &mut writer) == Ok(4) && took(&writer, &streams.replies.bytes, 4, 0)
 }
 
 /// A reply goes out by one write: by two, a connection would wait for the other side between them.
 #[test]
-fn a_reply_is_one_write(rt: HostRuntime) -> Result<(), Fail> {
-    let input = Stream::of_calls(rt.alloc())?;
-    let output = Stream::of_replies(rt.alloc())?;
-    let mut reader = RecordReader::new(Counting::new(SlowReader::new(&input.bytes, 0)));
-    let mut writer = Counting::new(SlowWriter::new(rt.alloc(), usize::MAX, 0, Refusal::Error));
-    let done = run_rpc(rt.alloc(), &mut reader, &mut writer);
-    assert!(rt; done == Ok(4) && writer.get_ref().calls == 4);
-    assert!(rt; writer.get_ref().taken.as_slice() == output.bytes.as_slice());
-    Ok(())
+fn a_reply_is_one_write(rt: HostRuntime) {
+    assert!(rt; writes_each(rt.alloc()));
+}
+
+/// Whether all replies go out by three writes where all calls are at hand.
+fn writes_together(alloc: Global) -> bool {
+    let Some(streams) = Streams::new(alloc) else {
+        return false;
+    };
+    let mut reader = RecordReader::new(Counting::new(streams.calls.bytes.as_slice()));
+    let mut writer = Counting::new(SlowWriter::new(alloc, usize::MAX, 0, Refusal::Error));
+    run_rpc(alloc, &mut reader, &mut writer) == Ok(4) && took(&writer, &streams.replies.bytes, 3, 0)
 }
 
 /// What is owed to records at hand goes out together: the first two are read by themselves, since the second
 /// is in two fragments.
 #[test]
-fn replies_to_records_at_hand_are_one_write(rt: HostRuntime) -> Result<(), Fail> {
-    let input = Stream::of_calls(rt.alloc())?;
-    let output = Stream::of_replies(rt.alloc())?;
-    let mut reader = RecordReader::new(Counting::new(input.bytes.as_slice()));
-    let mut writer = Counting::new(SlowWriter::new(rt.alloc(), usize::MAX, 0, Refusal::Error));
-    let done = run_rpc(rt.alloc(), &mut reader, &mut writer);
-    assert!(rt; done == Ok(4) && writer.get_ref().calls == 3);
-    assert!(rt; writer.get_ref().taken.as_slice() == output.bytes.as_slice());
-    Ok(())
+fn replies_to_records_at_hand_are_one_write(rt: HostRuntime) {
+    assert!(rt; writes_together(rt.alloc()));
 }

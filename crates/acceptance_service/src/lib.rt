@@ -18,15 +18,21 @@ mod mounts;
 #[cfg(test)]
 mod names;
 #[cfg(test)]
+mod numbered;
+#[cfg(test)]
 mod pages;
 #[cfg(test)]
 mod reads_and_writes;
 #[cfg(test)]
 mod server;
 #[cfg(test)]
+mod shared_states;
+#[cfg(test)]
 mod state_limits;
 #[cfg(test)]
 mod state_texts;
+#[cfg(test)]
+mod steps;
 #[cfg(test)]
 mod streams;
 #[cfg(test)]

@@ -1,10 +1,7 @@
 //! Each limit at its bound and one past it, and that a refused call changes nothing.
 
-use crate::server::{SUPERUSER, Server};
-use std::alloc::{AllocError, Global};
-use std::process::Abort;
-use std::test::Fail;
-use test_helpers::{of_words, push_words};
+use crate::server::{Program, SUPERUSER};
+use crate::steps::{Step, hold};
 
 const NAMES_OF_256: &str = "
 LOOKUP: 4 1 1 0*6 100 6e6e6e6e*64 -> 1 0*3 4
@@ -35,10 +32,12 @@ RMDIR: f 1 1 0*6 ff 6e6e6e6e*63 6e6e6e00 -> 1 0*4 0
 
 /// A name has at most 255 bytes, in each argument of a call.
 #[test]
-fn names_of_255_bytes_are_the_longest(rt: HostRuntime) -> Result<(), Fail> {
-    let mut server = Server::opening(rt.alloc())?;
-    server.refuses_all(&rt, NAMES_OF_256)?;
-    server.answers_all(&rt, SUPERUSER, NAMES_OF_255)
+fn names_of_255_bytes_are_the_longest(rt: HostRuntime) {
+    let steps = [
+        Step::Refuses(NAMES_OF_256),
+        Step::Answers(Program::Nfs, SUPERUSER, NAMES_OF_255),
+    ];
+    hold(&rt, &steps);
 }
 
 const TARGET_OF_1025: &str = "
@@ -53,10 +52,12 @@ LOOKUP: 4 1 1 0*6 1 74000000 -> 1 0*4 0 1 3 0*6 5 a1ff 1 0 0 400 200 0 2 1 3 0*6
 
 /// A target has at most 1,024 bytes.
 #[test]
-fn a_target_of_1024_bytes_is_the_longest(rt: HostRuntime) -> Result<(), Fail> {
-    let mut server = Server::opening(rt.alloc())?;
-    server.refuses_all(&rt, TARGET_OF_1025)?;
-    server.answers_all(&rt, SUPERUSER, TARGET_OF_1024)
+fn a_target_of_1024_bytes_is_the_longest(rt: HostRuntime) {
+    let steps = [
+        Step::Refuses(TARGET_OF_1025),
+        Step::Answers(Program::Nfs, SUPERUSER, TARGET_OF_1024),
+    ];
+    hold(&rt, &steps);
 }
 
 const FILES_OF_1048577: &str = "
@@ -87,61 +88,12 @@ READ at the greatest: 6 1 2 0*6 ffffffff ffffffff 0 -> 1 0*4 0 1 81a4 1 0 0 1000
 /// A file has at most 1,048,576 bytes, by SETATTR, by CREATE and by the end of a WRITE. READ gives at most
 /// 8,192 of them, and none past the end, for any count and any offset.
 #[test]
-fn a_file_of_1048576_bytes_is_the_longest(rt: HostRuntime) -> Result<(), Fail> {
-    let mut server = Server::opening(rt.alloc())?;
-    server.refuses_all(&rt, FILES_OF_1048577)?;
-    server.answers_all(&rt, SUPERUSER, FILES_OF_1048576)
-}
-
-/// The bytes of a name of four, another for each number below 65,536.
-pub fn name(k: u32) -> u32 {
-    let nibbles = (k & 0xf) | (k & 0xf0) << 4 | (k & 0xf00) << 8 | (k & 0xf000) << 12;
-    0x40404040 | nibbles
-}
-
-/// A sattr word that is ignored.
-const NONE: u32 = u32::MAX;
-
-/// The call that makes a file of so many bytes in the root, under the name of its number.
-fn create(alloc: Global, number: u32, size: u32) -> Result<Vec<u8>, AllocError> {
-    let mut call = of_words(alloc, &[9, 1, 1, 0, 0, 0, 0, 0, 0])?;
-    push_words(&mut call, &[4, name(number)])?;
-    push_words(&mut call, &[NONE, NONE, NONE, size, NONE, 0, NONE, 0])?;
-    Ok(call)
-}
-
-/// The reply to it where the next number is that one.
-fn created(alloc: Global, number: u32, size: u32) -> Result<Vec<u8>, AllocError> {
-    let mut reply = of_words(alloc, &[1, 0, 0, 0, 0, 0])?;
-    push_words(&mut reply, &[1, number, 0, 0, 0, 0, 0, 0])?;
-    push_words(&mut reply, &[1, 0x81a4, 1, 0, 0, size, 512, 0])?;
-    push_words(&mut reply, &[size / 512, 1, number, 0, 0, 0, 0, 0, 0])?;
-    Ok(reply)
-}
-
-/// The call that gives `hello` one more name in the root, of a number.
-fn link(alloc: Global, number: u32) -> Result<Vec<u8>, AllocError> {
-    let mut call = of_words(alloc, &[12, 1, 2, 0, 0, 0, 0, 0, 0])?;
-    push_words(&mut call, &[1, 1, 0, 0, 0, 0, 0, 0])?;
-    push_words(&mut call, &[4, name(number)])?;
-    Ok(call)
-}
-
-/// Makes files of so many bytes under new names, of numbers from `first` to before `end`.
-fn make_files(
-    rt: &impl Abort,
-    alloc: Global,
-    server: &mut Server,
-    first: u32,
-    end: u32,
-    size: u32,
-) -> Result<(), Fail> {
-    for number in first..end {
-        let reply = server.reply(rt, SUPERUSER, &create(alloc, number, size)?)?;
-        let owed = created(alloc, number, size)?;
-        assert_eq!(rt; reply.as_slice(), owed.as_slice(), "file {number}");
-    }
-    Ok(())
+fn a_file_of_1048576_bytes_is_the_longest(rt: HostRuntime) {
+    let steps = [
+        Step::Refuses(FILES_OF_1048577),
+        Step::Answers(Program::Nfs, SUPERUSER, FILES_OF_1048576),
+    ];
+    hold(&rt, &steps);
 }
 
 const BLOCKS_PAST: &str = "
@@ -163,13 +115,23 @@ STATFS: 11 1 1 0*6 -> 1 0*4 0 2000 200 8000 0 0
 
 /// Regular files take at most 32,768 blocks: 15 of 2,048, one of 2,047, and `hello`.
 #[test]
-fn files_take_32768_blocks(rt: HostRuntime) -> Result<(), Fail> {
-    let mut server = Server::opening(rt.alloc())?;
-    make_files(&rt, rt.alloc(), &mut server, 3, 0x12, 0x100000)?;
-    make_files(&rt, rt.alloc(), &mut server, 0x12, 0x13, 0xffe00)?;
-    server.refuses_all(&rt, BLOCKS_PAST)?;
-    server.answers_all(&rt, SUPERUSER, BLOCKS_AT)?;
-    server.refuses_all(&rt, BLOCKS_PAST)
+fn files_take_32768_blocks(rt: HostRuntime) {
+    let steps = [
+        Step::MakesFiles {
+            first: 3,
+            end: 0x12,
+            size: 0x100000,
+        },
+        Step::MakesFiles {
+            first: 0x12,
+            end: 0x13,
+            size: 0xffe00,
+        },
+        Step::Refuses(BLOCKS_PAST),
+        Step::Answers(Program::Nfs, SUPERUSER, BLOCKS_AT),
+        Step::Refuses(BLOCKS_PAST),
+    ];
+    hold(&rt, &steps);
 }
 
 /// No file is made, whatever its kind.
@@ -190,15 +152,25 @@ REMOVE: a 1 1 0*6 4 41404040 -> 1 0*4 0
 
 /// A server has at most 8,192 files, directories and links; a number is not given again.
 #[test]
-fn a_server_has_8192_files(rt: HostRuntime) -> Result<(), Fail> {
-    let mut server = Server::opening(rt.alloc())?;
-    make_files(&rt, rt.alloc(), &mut server, 3, 0x2001, 0)?;
-    server.refuses_all(&rt, FILES_PAST)?;
-    server.answers_all(&rt, SUPERUSER, FILES_AT)?;
-    server.refuses_all(&rt, FILES_PAST)?;
-    server.answers_all(&rt, SUPERUSER, FILE_LESS)?;
-    make_files(&rt, rt.alloc(), &mut server, 0x2001, 0x2002, 0)?;
-    server.refuses_all(&rt, FILES_PAST)
+fn a_server_has_8192_files(rt: HostRuntime) {
+    let steps = [
+        Step::MakesFiles {
+            first: 3,
+            end: 0x2001,
+            size: 0,
+        },
+        Step::Refuses(FILES_PAST),
+        Step::Answers(Program::Nfs, SUPERUSER, FILES_AT),
+        Step::Refuses(FILES_PAST),
+        Step::Answers(Program::Nfs, SUPERUSER, FILE_LESS),
+        Step::MakesFiles {
+            first: 0x2001,
+            end: 0x2002,
+            size: 0,
+        },
+        Step::Refuses(FILES_PAST),
+    ];
+    hold(&rt, &steps);
 }
 
 const LINK_PAST: &str = "
@@ -223,37 +195,53 @@ the greatest: 10 1 1 0*6 ffffffff ffffffff -> 1 0*4 0 0 1
 
 /// A server has at most 16,384 directory entries; RENAME needs none.
 #[test]
-fn a_server_has_16384_entries(rt: HostRuntime) -> Result<(), Fail> {
-    let mut server = Server::opening(rt.alloc())?;
-    let done = of_words(rt.alloc(), &[1, 0, 0, 0, 0, 0])?;
-    for number in 1..0x4000 {
-        let reply = server.reply(&rt, SUPERUSER, &link(rt.alloc(), number)?)?;
-        assert_eq!(rt; reply.as_slice(), done.as_slice(), "entry {number}");
-    }
-    server.refuses_all(&rt, FILES_PAST)?;
-    server.refuses_all(&rt, LINK_PAST)?;
-    server.answers_all(&rt, SUPERUSER, RENAME_AT)?;
-    server.refuses_all(&rt, LINK_PAST)?;
-    server.answers_all(&rt, SUPERUSER, ENTRY_LESS)?;
-    server.refuses_all(&rt, LINK_PAST)?;
-    server.answers_all(&rt, SUPERUSER, LAST_PAGES)?;
-    pages_have_8192_bytes(&rt, rt.alloc(), &mut server)
+fn a_server_has_16384_entries(rt: HostRuntime) {
+    let steps = [
+        Step::MakesLinks { end: 0x4000 },
+        Step::Refuses(FILES_PAST),
+        Step::Refuses(LINK_PAST),
+        Step::Answers(Program::Nfs, SUPERUSER, RENAME_AT),
+        Step::Refuses(LINK_PAST),
+        Step::Answers(Program::Nfs, SUPERUSER, ENTRY_LESS),
+        Step::Refuses(LINK_PAST),
+        Step::Answers(Program::Nfs, SUPERUSER, LAST_PAGES),
+    ];
+    hold(&rt, &steps);
 }
 
-/// A page has at most 8,192 bytes of entries, for any count: `.` and `..` of 20 bytes, `hello` of 24, and 406
-/// of 20. The header after the xid has 20 bytes, the stat four, and what follows the entries eight.
-fn pages_have_8192_bytes(rt: &impl Abort, alloc: Global, server: &mut Server) -> Result<(), Fail> {
-    let rows = [
-        (0x1ff7, 405),
-        (0x1ff8, 406),
-        (0x2000, 406),
-        (0x2001, 406),
-        (0xffffffff, 406),
+/// The bytes of a page of the entries `.`, `..` and `hello` and of 405 others of 20 bytes: the header after
+/// the xid has 20, the stat four, the first two entries 20 each and the third 24, and what follows the
+/// entries eight.
+const OF_405: usize = 20 + 4 + 64 + 405 * 20 + 8;
+
+/// The same with one more.
+const OF_406: usize = OF_405 + 20;
+
+/// A page has at most 8,192 bytes of entries, for any count.
+#[test]
+fn a_page_has_8192_bytes(rt: HostRuntime) {
+    let steps = [
+        Step::MakesLinks { end: 0x4000 },
+        Step::HasPage {
+            count: 0x1ff7,
+            len: OF_405,
+        },
+        Step::HasPage {
+            count: 0x1ff8,
+            len: OF_406,
+        },
+        Step::HasPage {
+            count: 0x2000,
+            len: OF_406,
+        },
+        Step::HasPage {
+            count: 0x2001,
+            len: OF_406,
+        },
+        Step::HasPage {
+            count: 0xffffffff,
+            len: OF_406,
+        },
     ];
-    for (count, others) in rows {
-        let call = of_words(alloc, &[16, 1, 1, 0, 0, 0, 0, 0, 0, 0, count])?;
-        let page = server.reply(rt, SUPERUSER, &call)?;
-        assert_eq!(rt; page.len(), 20 + 4 + 64 + others * 20 + 8, "count {count}");
-    }
-    Ok(())
+    hold(&rt, &steps);
 }

@@ -1,10 +1,8 @@
 //! What is mounted, by whom (RFC 1094, appendix A). In each row a path is its length,
 //! and its bytes with zeros after.
 
-use crate::server::{NOBODY, Program, SUPERUSER, Server};
-use std::alloc::{AllocError, Global};
-use std::test::Fail;
-use test_helpers::of_words;
+use crate::server::{NOBODY, Program, SUPERUSER};
+use crate::steps::{Step, hold};
 
 const BY_NOBODY: &str = "
 NULL: 0 -> 1 0*4
@@ -19,9 +17,9 @@ procedure 6: 6 -> 1 0*3 3
 
 /// AUTH_SYS alone names a machine, and so MNT, UMNT and UMNTALL want it, before their arguments are read.
 #[test]
-fn a_machine_wants_a_name(rt: HostRuntime) -> Result<(), Fail> {
-    let mut server = Server::opening(rt.alloc())?;
-    server.mounts_all(&rt, NOBODY, BY_NOBODY)
+fn a_machine_wants_a_name(rt: HostRuntime) {
+    let steps = [Step::Answers(Program::Mount, NOBODY, BY_NOBODY)];
+    hold(&rt, &steps);
 }
 
 const BY_A_MACHINE: &str = "
@@ -43,9 +41,9 @@ DUMP: 2 -> 1 0*4 0
 
 /// A machine mounts the root once, and unmounts it.
 #[test]
-fn the_root_is_mounted(rt: HostRuntime) -> Result<(), Fail> {
-    let mut server = Server::opening(rt.alloc())?;
-    server.mounts_all(&rt, SUPERUSER, BY_A_MACHINE)
+fn the_root_is_mounted(rt: HostRuntime) {
+    let steps = [Step::Answers(Program::Mount, SUPERUSER, BY_A_MACHINE)];
+    hold(&rt, &steps);
 }
 
 const PATHS: &str = "
@@ -66,35 +64,31 @@ DUMP: 2 -> 1 0*4 0
 /// The root alone may be mounted; another path that is in the tree is refused (EACCES),
 /// and one that isn't (ENOENT).
 #[test]
-fn only_the_root_is_exported(rt: HostRuntime) -> Result<(), Fail> {
-    let mut server = Server::opening(rt.alloc())?;
-    server.mounts_all(&rt, SUPERUSER, PATHS)
+fn only_the_root_is_exported(rt: HostRuntime) {
+    let steps = [Step::Answers(Program::Mount, SUPERUSER, PATHS)];
+    hold(&rt, &steps);
 }
 
-/// AUTH_SYS with a machine's name of one byte.
-fn machine(alloc: Global, name: u32) -> Result<Vec<u8>, AllocError> {
-    of_words(alloc, &[1, 0x18, 0, 1, name << 24, 0, 0, 0])
+const MOUNTED: &str = "MNT: 1 1 2f000000 -> 1 0*4 0 1 1 0*6";
+
+const REFUSED: &str = "MNT: 1 1 2f000000 -> 1 0*4 1c";
+
+const UNMOUNTED: &str = "UMNTALL: 4 -> 1 0*4";
+
+/// A row that is answered so to machines, whose names are the bytes from `first` to before `end`.
+const fn machines(first: u32, end: u32, row: &'static str) -> Step {
+    Step::AnswersMachines { first, end, row }
 }
 
-/// 40 machines may have the root mounted; another one is refused (ENOSPC) until one of them unmounts it. The
-/// last word of a reply to MNT that is refused is its status.
+/// 40 machines may have the root mounted; another one is refused (ENOSPC) until one of them unmounts it.
 #[test]
-fn a_server_has_40_mounts(rt: HostRuntime) -> Result<(), Fail> {
-    let mut server = Server::opening(rt.alloc())?;
-    let mount = of_words(rt.alloc(), &[1, 1, 0x2f000000])?;
-    for name in 1..=41 {
-        let credential = machine(rt.alloc(), name)?;
-        let reply = server.reply_of(&rt, Program::Mount, &credential, &mount)?;
-        let refused = reply.ends_with(&[0, 0, 0, 28]);
-        assert_eq!(rt; refused, name == 41, "{name}");
-    }
-    let first = machine(rt.alloc(), 1)?;
-    let again = server.reply_of(&rt, Program::Mount, &first, &mount)?;
-    assert_eq!(rt; again.len(), 56);
-    let unmount = of_words(rt.alloc(), &[4])?;
-    server.reply_of(&rt, Program::Mount, &first, &unmount)?;
-    let last = machine(rt.alloc(), 41)?;
-    let reply = server.reply_of(&rt, Program::Mount, &last, &mount)?;
-    assert_eq!(rt; reply.len(), 56);
-    Ok(())
+fn a_server_has_40_mounts(rt: HostRuntime) {
+    let steps = [
+        machines(1, 41, MOUNTED),
+        machines(41, 42, REFUSED),
+        machines(1, 2, MOUNTED),
+        machines(1, 2, UNMOUNTED),
+        machines(41, 42, MOUNTED),
+    ];
+    hold(&rt, &steps);
 }

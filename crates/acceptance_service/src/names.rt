@@ -1,8 +1,8 @@
 //! Names that are made, renamed and removed. In each row a name is its length, and its bytes with zeros
 //! after them.
 
-use crate::server::{SUPERUSER, Server};
-use std::test::Fail;
+use crate::server::{Program, SUPERUSER};
+use crate::steps::{Step, hold};
 
 const CREATES: &str = "
 padding 1: 9 1 1 0*6 ff 6e6e6e6e*63 6e6e6e01 ffffffff*8 -> 1 0*3 4
@@ -12,9 +12,9 @@ padding 1: 9 1 1 0*6 ff 6e6e6e6e*63 6e6e6e01 ffffffff*8 -> 1 0*3 4
 
 /// A name has at most 255 bytes, and its padding is zero.
 #[test]
-fn a_name_has_255_bytes(rt: HostRuntime) -> Result<(), Fail> {
-    let mut server = Server::opening(rt.alloc())?;
-    server.answers_all(&rt, SUPERUSER, CREATES)
+fn a_name_has_255_bytes(rt: HostRuntime) {
+    let steps = [Step::Answers(Program::Nfs, SUPERUSER, CREATES)];
+    hold(&rt, &steps);
 }
 
 const RENAMES: &str = "
@@ -41,9 +41,9 @@ LOOKUP /b/..: 4 1 4 0*6 2 2e2e0000 -> 1 0*4 0 1 1 0*6 2 41ff 4 0 0 200 200 0 1 1
 /// A directory is renamed with all that is below it, never into one below it, and not over another kind; what
 /// stands at the new name goes.
 #[test]
-fn names_move_with_what_is_below(rt: HostRuntime) -> Result<(), Fail> {
-    let mut server = Server::opening(rt.alloc())?;
-    server.answers_all(&rt, SUPERUSER, RENAMES)
+fn names_move_with_what_is_below(rt: HostRuntime) {
+    let steps = [Step::Answers(Program::Nfs, SUPERUSER, RENAMES)];
+    hold(&rt, &steps);
 }
 
 const LINKS: &str = "
@@ -71,7 +71,7 @@ GETATTR /: 1 1 1 0*6 -> 1 0*4 0 2 41ff 2 0 0 200 200 0 1 1 1 0*6
 /// One file as `f` and `g` goes with the second name, and its number isn't given again. A symbolic link; a
 /// directory that is made and removed.
 #[test]
-fn files_come_and_go(rt: HostRuntime) -> Result<(), Fail> {
-    let mut server = Server::opening(rt.alloc())?;
-    server.answers_all(&rt, SUPERUSER, LINKS)
+fn files_come_and_go(rt: HostRuntime) {
+    let steps = [Step::Answers(Program::Nfs, SUPERUSER, LINKS)];
+    hold(&rt, &steps);
 }

@@ -1,8 +1,8 @@
 //! Pages of READDIR: each entry after a 1, its number, its name and its cookie; then 0, and 1 where it is
 //! the last page.
 
-use crate::server::{NOBODY, SUPERUSER, Server};
-use std::test::Fail;
+use crate::server::{NOBODY, Program, SUPERUSER};
+use crate::steps::{Step, hold};
 
 const PAGES: &str = "
 count 15: 10 1 1 0*6 0 f -> 1 0*4 0 0 0
@@ -19,9 +19,9 @@ no file: 10 1 3 0*6 0 2000 -> 1 0*4 46
 
 /// The root's page after a cookie, of at most so many bytes: 16 an entry, and its padded name.
 #[test]
-fn pages_of_the_opening_root(rt: HostRuntime) -> Result<(), Fail> {
-    let mut server = Server::opening(rt.alloc())?;
-    server.answers_all(&rt, NOBODY, PAGES)
+fn pages_of_the_opening_root(rt: HostRuntime) {
+    let steps = [Step::Answers(Program::Nfs, NOBODY, PAGES)];
+    hold(&rt, &steps);
 }
 
 const REMOVAL: &str = "
@@ -34,7 +34,7 @@ the rest: 10 1 1 0*6 3 2000 -> 1 0*4 0 1 3 1 78000000 4 1 4 1 79000000 5 0 1
 
 /// What is left of a directory is given once, though the last entry given before was removed.
 #[test]
-fn pages_round_a_removal(rt: HostRuntime) -> Result<(), Fail> {
-    let mut server = Server::opening(rt.alloc())?;
-    server.answers_all(&rt, SUPERUSER, REMOVAL)
+fn pages_round_a_removal(rt: HostRuntime) {
+    let steps = [Step::Answers(Program::Nfs, SUPERUSER, REMOVAL)];
+    hold(&rt, &steps);
 }

@@ -1,7 +1,7 @@
 //! READ, WRITE and STATFS of the files that a server begins with.
 
-use crate::server::{NOBODY, SUPERUSER, Server};
-use std::test::Fail;
+use crate::server::{NOBODY, Program, SUPERUSER};
+use crate::steps::{Step, hold};
 
 const READS: &str = "
 all bytes: 6 1 2 0*6 0 2000 0 -> 1 0*4 0 1 81a4 1 0 0 6 200 0 1 1 2 0*6 6 68656c6c 6f0a0000
@@ -17,9 +17,9 @@ another node: 6 2 2 0*6 0 1 0 -> 1 0*4 46
 
 /// Bytes of `/hello` from the offset on, none past the end; a directory is ISDIR, and no file STALE.
 #[test]
-fn reads_give_what_is_there(rt: HostRuntime) -> Result<(), Fail> {
-    let mut server = Server::opening(rt.alloc())?;
-    server.answers_all(&rt, NOBODY, READS)
+fn reads_give_what_is_there(rt: HostRuntime) {
+    let steps = [Step::Answers(Program::Nfs, NOBODY, READS)];
+    hold(&rt, &steps);
 }
 
 const WRITE_BY_NOBODY: &str = "WRITE: 8 1 2 0*6 0 0 0 2000 61626364*2048 -> 1 0*4 d";
@@ -41,10 +41,12 @@ no file: 8 1 3 0*6 0 0 0 1 41000000 -> 1 0*4 46
 /// WRITE by one who may not, of a length word of 8,193, of 8,192 bytes, and past the end, with zeros between;
 /// of no bytes nothing changes, whatever the offset.
 #[test]
-fn writes_are_of_8192_bytes(rt: HostRuntime) -> Result<(), Fail> {
-    let mut server = Server::opening(rt.alloc())?;
-    server.answers(&rt, NOBODY, WRITE_BY_NOBODY)?;
-    server.answers_all(&rt, SUPERUSER, WRITES)
+fn writes_are_of_8192_bytes(rt: HostRuntime) {
+    let steps = [
+        Step::Answers(Program::Nfs, NOBODY, WRITE_BY_NOBODY),
+        Step::Answers(Program::Nfs, SUPERUSER, WRITES),
+    ];
+    hold(&rt, &steps);
 }
 
 const FREE: &str = "
@@ -57,7 +59,7 @@ by no file: 11 1 3 0*6 -> 1 0*4 46
 
 /// STATFS: 32,768 blocks of 512 bytes, of which `/hello` takes one until it is empty.
 #[test]
-fn free_is_what_files_leave(rt: HostRuntime) -> Result<(), Fail> {
-    let mut server = Server::opening(rt.alloc())?;
-    server.answers_all(&rt, SUPERUSER, FREE)
+fn free_is_what_files_leave(rt: HostRuntime) {
+    let steps = [Step::Answers(Program::Nfs, SUPERUSER, FREE)];
+    hold(&rt, &steps);
 }

@@ -1,11 +1,10 @@
 //! Texts of states from outside: each is a state that is written as it was read, Garbage, or NotAState. In
 //! each row a name stands before the words of the text.
 
+use crate::steps::none_wrong;
 use checkpoint::state_machine_code::State;
 use checkpoint::{StateFault, read_state, state_digest, state_text};
-use std::alloc::AllocGlobal;
-use std::process::Abort;
-use std::test::Fail;
+use std::alloc::Global;
 use test_helpers::of_text;
 
 /// The state that the server of node 1 begins with.
@@ -104,44 +103,78 @@ a host of 256 bytes: 1 1 1 0*5 2 1 100 61616161*64 1 2f000000 1 1 2 1ff 0*8 3 0
 a directory of 1,025 bytes: 1 1 1 0*5 2 1 1 6d000000 401 2f2f2f2f*256 2f000000 1 1 2 1ff 0*8 3 0
 ";
 
-/// What a text is.
-pub fn kind_of(rt: &(impl Abort + AllocGlobal), bytes: &[u8]) -> Result<Option<StateFault>, Fail> {
-    match read_state(rt.alloc(), bytes) {
-        Ok(state) => {
-            let text = state_text(rt.alloc(), &state)?;
-            assert!(rt; text.as_slice() == bytes, "it is written as it was read");
-            Ok(None)
-        }
-        Err(error) => Ok(Some(error)),
+/// Whether a state is written so.
+fn is_written(alloc: Global, state: &State, bytes: &[u8]) -> bool {
+    match state_text(alloc, state) {
+        Ok(text) => text.as_slice() == bytes,
+        Err(_) => false,
     }
 }
 
-/// Asserts of each row that its text is of a kind.
-fn are_all(
-    rt: &(impl Abort + AllocGlobal),
-    rows: &str,
-    kind: Option<StateFault>,
-) -> Result<(), Fail> {
+/// Whether a state has this digest.
+fn has_digest(alloc: Global, state: &State, digest: &[u8]) -> bool {
+    match state_digest(alloc, state) {
+        Ok(own) => own.as_slice() == digest,
+        Err(_) => false,
+    }
+}
+
+/// Whether a text is a state that is written as it was read, or is refused so.
+fn is_read(alloc: Global, bytes: &[u8], fault: Option<StateFault>) -> bool {
+    match read_state(alloc, bytes) {
+        Ok(state) => fault.is_none() && is_written(alloc, &state, bytes),
+        Err(error) => fault == Some(error),
+    }
+}
+
+/// The same of a text that there is.
+pub fn is_given(alloc: Global, bytes: Option<Vec<u8>>, fault: Option<StateFault>) -> bool {
+    match bytes {
+        Some(bytes) => is_read(alloc, &bytes, fault),
+        None => false,
+    }
+}
+
+/// The first row whose text isn't read or refused so.
+fn first_wrong(
+    alloc: Global,
+    rows: &'static str,
+    fault: Option<StateFault>,
+) -> Option<&'static str> {
     for row in rows.lines() {
-        if let Some((name, words)) = row.split_once(':') {
-            let bytes = of_text(rt.alloc(), words)?;
-            assert_eq!(rt; kind_of(rt, &bytes)?, kind, "{name}");
+        if let Some((_, words)) = row.split_once(':') {
+            if !is_given(alloc, of_text(alloc, words), fault) {
+                return Some(row);
+            }
         }
     }
-    Ok(())
+    None
 }
 
-/// The state that a server begins with has this text and this digest.
+/// Whether a state has a text and a digest, each a text of words.
+fn is_known(alloc: Global, state: &State, text: &str, digest: &str) -> bool {
+    match (of_text(alloc, text), of_text(alloc, digest)) {
+        (Some(text), Some(digest)) => {
+            text.len() == 172
+                && is_written(alloc, state, &text)
+                && has_digest(alloc, state, &digest)
+        }
+        _ => false,
+    }
+}
+
+/// Whether the state that a server begins with has this text and this digest.
+fn opens(alloc: Global) -> bool {
+    match State::opening_server(alloc, 1) {
+        Ok(state) => is_known(alloc, &state, OPENING, OPENING_DIGEST),
+        Err(_) => false,
+    }
+}
+
 #[test]
-fn the_opening_state(rt: HostRuntime) -> Result<(), Fail> {
-    let bytes = of_text(rt.alloc(), OPENING)?;
-    assert_eq!(rt; bytes.len(), 172);
-    let opening = State::opening_server(rt.alloc(), 1)?;
-    assert!(rt; state_text(rt.alloc(), &opening)?.as_slice() == bytes.as_slice());
-    assert_eq!(rt; kind_of(&rt, &bytes)?, None);
-    let digest = of_text(rt.alloc(), OPENING_DIGEST)?;
-    assert!(rt; state_digest(rt.alloc(), &opening)?.as_slice() == digest.as_slice());
-    Ok(())
+fn the_opening_state(rt: HostRuntime) {
+    assert!(rt; opens(rt.alloc()));
+    assert!(rt; is_given(rt.alloc(), of_text(rt.alloc(), OPENING), None));
 }
 
 /// That text with another cookie of its entry.
@@ -154,32 +187,44 @@ const EXCHANGED: &str = "1 1 1 0*5 3 0 2
     2 1 1a4 0*8 6 68656c6c 6f0a0000
     1 2 1ff 0*8 4 1 5 68656c6c 6f000000 2 3";
 
-/// These are no states, and that text a byte shorter or a byte longer is Garbage.
+/// These are no states.
 #[test]
-fn the_opening_state_changed(rt: HostRuntime) -> Result<(), Fail> {
+fn the_opening_state_changed(rt: HostRuntime) {
     let none = Some(StateFault::NotAState);
-    assert_eq!(rt; kind_of(&rt, &of_text(rt.alloc(), ANOTHER_COOKIE)?)?, none);
-    assert_eq!(rt; kind_of(&rt, &of_text(rt.alloc(), EXCHANGED)?)?, none);
-    let mut bytes = of_text(rt.alloc(), OPENING)?;
-    let last = bytes.pop();
-    assert!(rt; last == Some(0));
-    assert_eq!(rt; kind_of(&rt, &bytes)?, Some(StateFault::Garbage));
-    bytes.extend_from_slice(&[0, 0])?;
-    assert_eq!(rt; kind_of(&rt, &bytes)?, Some(StateFault::Garbage));
-    Ok(())
+    assert!(rt; is_given(rt.alloc(), of_text(rt.alloc(), ANOTHER_COOKIE), none));
+    assert!(rt; is_given(rt.alloc(), of_text(rt.alloc(), EXCHANGED), none));
+}
+
+/// The first bytes of that text, or the text and zeros.
+fn opening_of(alloc: Global, len: usize) -> Option<Vec<u8>> {
+    let mut bytes = of_text(alloc, OPENING)?;
+    match bytes.resize(len, 0) {
+        Ok(()) => Some(bytes),
+        Err(_) => None,
+    }
+}
+
+/// That text a byte shorter or a byte longer is Garbage.
+#[test]
+fn the_opening_state_cut(rt: HostRuntime) {
+    let garbage = Some(StateFault::Garbage);
+    assert!(rt; is_given(rt.alloc(), opening_of(rt.alloc(), 171), garbage));
+    assert!(rt; is_given(rt.alloc(), opening_of(rt.alloc(), 173), garbage));
 }
 
 #[test]
-fn states_are_written_as_they_were_read(rt: HostRuntime) -> Result<(), Fail> {
-    are_all(&rt, STATES, None)
+fn states_are_written_as_they_were_read(rt: HostRuntime) {
+    none_wrong(&rt, first_wrong(rt.alloc(), STATES, None));
 }
 
 #[test]
-fn each_rule_is_looked_at(rt: HostRuntime) -> Result<(), Fail> {
-    are_all(&rt, NO_STATES, Some(StateFault::NotAState))
+fn each_rule_is_looked_at(rt: HostRuntime) {
+    let fault = Some(StateFault::NotAState);
+    none_wrong(&rt, first_wrong(rt.alloc(), NO_STATES, fault));
 }
 
 #[test]
-fn other_bytes_are_garbage(rt: HostRuntime) -> Result<(), Fail> {
-    are_all(&rt, GARBAGE, Some(StateFault::Garbage))
+fn other_bytes_are_garbage(rt: HostRuntime) {
+    let fault = Some(StateFault::Garbage);
+    none_wrong(&rt, first_wrong(rt.alloc(), GARBAGE, fault));
 }

@@ -1,7 +1,7 @@
 //! Four records, and the replies to them.
 
-use std::alloc::{AllocError, Global};
-use test_helpers::of_words;
+use std::alloc::Global;
+use test_helpers::push_words;
 
 /// Records one after the other, and where each of them ends.
 #[derive(Drop)]
@@ -38,25 +38,24 @@ const LOOKUP_REPLY: [u32; 33] = [
 ];
 
 /// Four texts, joined.
-fn stream_of(alloc: Global, texts: [&[u32]; 4]) -> Result<Stream, AllocError> {
-    let mut joined = Vec::new(alloc);
+fn stream_of(alloc: Global, texts: [&[u32]; 4]) -> Option<Stream> {
+    let mut bytes = Vec::new(alloc);
     let mut ends = [0; 4];
     for i in 0..4 {
-        joined.extend_from_slice(&of_words(alloc, texts[i])?)?;
-        ends[i] = joined.len();
+        if !push_words(&mut bytes, texts[i]) {
+            return None;
+        }
+        ends[i] = bytes.len();
     }
-    Ok(Stream {
-        bytes: joined,
-        ends,
-    })
+    Some(Stream { bytes, ends })
 }
 
 impl Stream {
-    pub fn of_calls(alloc: Global) -> Result<Stream, AllocError> {
+    pub fn of_calls(alloc: Global) -> Option<Stream> {
         stream_of(alloc, [&NULL, &NULL_IN_TWO_FRAGMENTS, &GETATTR, &LOOKUP])
     }
 
-    pub fn of_replies(alloc: Global) -> Result<Stream, AllocError> {
+    pub fn of_replies(alloc: Global) -> Option<Stream> {
         stream_of(
             alloc,
             [&NULL_REPLY, &NULL_REPLY, &GETATTR_REPLY, &LOOKUP_REPLY],
@@ -72,5 +71,31 @@ impl Stream {
     pub fn first(&self, count: usize) -> &[u8] {
         let end = self.ends.iter().take(count).last().map_or(0, |end| *end);
         &self.bytes[..end.min(self.bytes.len())]
+    }
+}
+
+/// Calls, and the replies to them.
+#[derive(Drop)]
+pub struct Streams {
+    pub calls: Stream,
+    pub replies: Stream,
+}
+
+impl Streams {
+    pub fn new(alloc: Global) -> Option<Streams> {
+        let calls = Stream::of_calls(alloc)?;
+        let replies = Stream::of_replies(alloc)?;
+        Some(Streams { calls, replies })
+    }
+
+    /// The replies that are owed where so many bytes of the calls are read.
+    pub fn owed_within(&self, read: usize) -> &[u8] {
+        self.replies.first(self.calls.count_within(read))
+    }
+
+    /// How many bytes of the calls are after the one to which a reply begins after so many bytes.
+    pub fn left_after(&self, written: usize) -> usize {
+        let call = self.replies.count_within(written).min(3);
+        self.calls.bytes.len().saturating_sub(self.calls.ends[call])
     }
 }

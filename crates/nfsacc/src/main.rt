@@ -161,7 +161,6 @@ fn run(rt: &HostRuntime) -> u8 {
 <<<<<<< HEAD
         Ok(Request::Run(request)) => run_file(rt, request),
 =======
-        Ok(Request::Run(_)) => COMMAND_LINE,
 >>>>>>> b44470fb5d5c1c8bbf48e82d9f39517d33c216c6
         Err(error) if error.kind() == ErrorKind::OutOfMemory => report_no_memory(rt),
         Err(error) => {
