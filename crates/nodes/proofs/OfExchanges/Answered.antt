@@ -20,8 +20,8 @@ use Rattle.gateway.specs.service.Replies.{reply_owed, world_after}
 use Rattle.state_spec.specs.State.{State, Idle, Machine, Server, clock_in}
 use Rattle.node_logs.specs.replay_spec.LogLaws.HonestServers.{heard_entries, with_reply}
 use Rattle.node_logs.specs.Steps.Nodes.{NodeParts, sender_of}
-use Rattle.node_logs.specs.Receiving.{ReceivesEnvelope, receipt_from}
-use Rattle.node_logs.specs.Steps.Serving.{reading_at}
+use Rattle.node_logs.specs.Receiving.{ReceivesEnvelope, lies_still, receipt_from}
+use Rattle.node_logs.specs.Steps.Serving.{reading_at, reply_told, state_heard, with_answer}
 use Rattle.node_logs.specs.Steps.Logging.{with_receipt}
 use Rattle.node_logs.specs.AckTaking.{ack_entry}
 use Rattle.node_logs.specs.declared.outcome.Receipt.{Receipt}
@@ -32,7 +32,7 @@ use Rattle.nodes.specs.Exchanges.Exchanges.{IsAsked, IsJoined, IsReplied, IsServ
 use Rattle.nodes.proofs.OfExchanges.Texts.{some_same}
 use Rattle.nodes.proofs.OfExchanges.Shown.{ack_shown, envelope_shown}
 use Rattle.nodes.proofs.OfExchanges.Fresh.{not_received, up_to_both, up_to_more}
-use Rattle.nodes.proofs.OfExchanges.Called.{heard_by, listed_stays, sent_there}
+use Rattle.nodes.proofs.OfExchanges.Called.{listed_stays, plainly, sent_there}
 
 -- ---- the acknowledgement of a reply
 
@@ -109,7 +109,7 @@ served_by s t time body e r says h =
       after =
           ap (λ (x : NodeParts). x.state.machine) h.served
           ∙ machine_stays
-          (heard_by s w e (reading_at s time) None).state _ _ e.from (reply_owed w (reading_at s time) e.body)
+          (state_heard s.state w e (reading_at s time)) _ _ e.from (reply_told s.lies (reply_owed w (reading_at s time) e.body))
           ∙ ap (λ (x : Timeval). Server (world_after w x e.body) Idle) reading
           ∙ ap (λ (x : World). Server x Idle) (same_world w time e.body ∙ ap (world_after w time) says);
     }
@@ -154,7 +154,8 @@ pub asked_joined : (c s c1 t : NodeParts) (time : Timeval) (body : List ℕ) (r 
 asked_joined c s c1 t time body r joined asked =
     let h = asked.heard.receives in
     let e = asked.heard.envelope in
-    let o = reply_owed h.world (reading_at s time) e.body in
+    let owed = reply_owed h.world (reading_at s time) e.body in
+    let o = reply_told s.lies owed in
     let client : c1.node ≡ c.node = ap (λ (n : NodeParts). n.node) asked.taken in
     let server : t.node ≡ s.node = ap (λ (n : NodeParts). n.node) h.served in
     let long = client_long c s c1 t time body r asked in
@@ -175,6 +176,7 @@ asked_joined c s c1 t time body r joined asked =
           (up_to_more (length c.entries) (length c1.entries) s.entries (omega (arith, long)) joined.heard));
       received = client_up_to c s c1 t time body r (length t.entries) asked
           (up_to_more (length s.entries) (length t.entries) c.entries longer joined.received);
+      plain = ap (λ (n : NodeParts). n.lies) h.served ∙ ap (λ (b : Bool). lies_still b owed) joined.plain;
     }
 
 -- ---- the reply that the call owes
@@ -192,7 +194,7 @@ three es a b = omega (arith, length-append es (a ∷ b ∷ []))
 -- what is ready of a reply that the server logged
 reply_ready : (c s c1 t : NodeParts) (time : Timeval) (body : List ℕ) (r : Receipt) (number : ℕ) (reply : List ℕ)
     → IsJoined c s → (asked : IsAsked c s time body r c1 t) → IsSender (sender_of t) → number ≡ length s.entries + 1 + 2
-    → t ≡ heard_by s asked.heard.receives.world asked.heard.envelope (reading_at s time) (Some reply)
+    → t ≡ with_answer s asked.heard.receives.world asked.heard.envelope (reading_at s time) (Some reply)
     → (ready : IsReplyReady c1 t number) × (ready.envelope.body ≡ reply)
 reply_ready c s c1 t time body r number reply joined asked is at heard_it =
     let e = asked.heard.envelope in
@@ -235,7 +237,7 @@ reply_ready c s c1 t time body r number reply joined asked is at heard_it =
         client = joined1.client;
         awaited = subst (λ (n : NodeParts). IsSome (finite.get n.state.sends number)) (sym heard_it)
             (subst (λ (j : ℕ). IsSome (finite.get
-            (heard_by s asked.heard.receives.world e reading (Some reply)).state.sends j)) sent
+            (with_answer s asked.heard.receives.world e reading (Some reply)).state.sends j)) sent
             (sent_there s.state.sends (length s.entries + 1 + 1 + 1) _));
       },
       k.says,
@@ -264,9 +266,9 @@ reply_due c s c1 t time body r number joined asked is owed =
         ap (λ (y : Receipt). y.reply) asked.heard.receives.receipt
         ∙ ap (λ (o : Option (List ℕ)). (receipt_from (length s.entries + 1) o).reply) x in
         let at : number ≡ length s.entries + 1 + 2 = some_same (sym owed ∙ some) in
-        let heard_it : t ≡ heard_by s asked.heard.receives.world asked.heard.envelope (reading_at s time) (Some reply) =
-        asked.heard.receives.served
-        ∙ ap (heard_by s asked.heard.receives.world asked.heard.envelope (reading_at s time)) x in
+        let heard_it : t ≡ with_answer s asked.heard.receives.world asked.heard.envelope (reading_at s time) (Some reply) =
+        plainly s t time asked.heard.envelope r joined.plain asked.heard.receives
+        ∙ ap (with_answer s asked.heard.receives.world asked.heard.envelope (reading_at s time)) x in
         let y = reply_ready c s c1 t time body r number reply joined asked is at heard_it in
         record {
           ready = y.0;
@@ -345,4 +347,5 @@ replied_joined c1 t c2 t2 number reply joined h k =
           (up_to_both (length t2.entries) c1.entries (recv ∷ [])
           (up_to_more (length t.entries) (length t2.entries) c1.entries (omega (arith, longer)) joined.received)
           (omega (arith, seq, within, longer), tt));
+      plain = ap (λ (n : NodeParts). n.lies) k.taken ∙ joined.plain;
     }
