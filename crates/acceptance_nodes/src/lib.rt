@@ -12,4 +12,6 @@ mod replays;
 #[cfg(test)]
 mod rows;
 #[cfg(test)]
+mod strays;
+#[cfg(test)]
 mod streams;

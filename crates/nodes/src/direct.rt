@@ -8,7 +8,7 @@ ghost use Rattle.nodes.specs.Exchanges.Exchanges.{IsServed, MayJoin};
 ghost use Rattle.nodes.specs.Directs.{IsExchanged, StopsExchange, direct_of, world_in};
 
 use crate::client::ClientNode;
-use crate::exchange::carry;
+use crate::exchange::exchange;
 use crate::server::ServerNode;
 use gateway::links::{Link, LinkFault};
 use nfs_items::Time;
@@ -105,7 +105,7 @@ impl Direct {
         if self.failed {
             return Err(LinkFault::Failed);
         }
-        match carry(
+        match exchange(
             &mut self.client,
             &mut self.server,
             &mut self.text,

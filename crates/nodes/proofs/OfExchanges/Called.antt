@@ -31,7 +31,7 @@ use Rattle.node_logs.specs.Steps.Serving.{reading_at, reply_told, with_answer, w
 use Rattle.node_logs.specs.Steps.Logging.{with_send}
 use Rattle.node_logs.specs.declared.outcome.Receipt.{Receipt}
 use Rattle.nodes.specs.Exchanges.Members.{IsListed, IsMemberAs}
-use Rattle.nodes.specs.Exchanges.Reaching.{AckReaches, Reaches}
+use Rattle.nodes.specs.Exchanges.Reaching.{AckReaches, Reaches, ReceivesUpTo}
 use Rattle.nodes.specs.Exchanges.Exchanges.{IsCall, IsJoined, having_called}
 use Rattle.nodes.proofs.OfExchanges.Shown.{ack_shown, envelope_shown}
 use Rattle.nodes.proofs.OfExchanges.Fresh.{not_received}
@@ -98,7 +98,8 @@ call_reaches c s body joined is =
                 from = e.from;
                 seq = e.seq;
                 hash = message_hash e.to e.seq e.prev (sha256 e.body);
-              }) joined.heard past;
+              })
+              (subst (λ (k : ℕ). ReceivesUpTo k (length c.entries) s.entries) (sym h.sender) joined.heard) past;
         },
       ),
     )

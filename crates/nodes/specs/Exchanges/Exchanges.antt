@@ -20,13 +20,14 @@ use Rattle.nodes.specs.Exchanges.Members.{IsListed}
 use Rattle.nodes.specs.Exchanges.Reaching.{ReceivesUpTo}
 
 -- A client and a server are joined: two nodes, each listed in the other's roster, of which neither received a
--- message whose number the other's log hasn't reached; and the server won't lie.
+-- message of the other whose number the other's log hasn't reached; and the server won't lie. What either received
+-- of others is open.
 pub record IsJoined (c s : NodeParts) : Type 0 where
   pub two : c.node ≢ s.node
   pub client : IsListed s.roster kinds.Client c
   pub server : IsListed c.roster kinds.Server s
-  pub heard : ReceivesUpTo (length c.entries) s.entries
-  pub received : ReceivesUpTo (length s.entries) c.entries
+  pub heard : ReceivesUpTo c.node (length c.entries) s.entries
+  pub received : ReceivesUpTo s.node (length s.entries) c.entries
   pub plain : s.lies ≡ false
 
 -- A client and a server that may be joined: nothing is logged yet, they are two nodes, each is listed in the
