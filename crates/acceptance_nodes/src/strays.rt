@@ -172,7 +172,14 @@ fn a_client_signs_two_messages_under_one_number(rt: HostRuntime) {
 fn forks_to_the_last_key(alloc: Global, client: &mut ClientNode) -> bool {
     let called = called(alloc, client, &CALL).is_some() && !client.strayed();
     let first = match forked(alloc, client) {
-        Some(Ok(Forked { number, second: None })) => number.get() == 2 && client.strayed(),
+        Some(
+            Ok(
+                Forked {
+                    number,
+                    second: None,
+                },
+            ),
+        ) => number.get() == 2 && client.strayed(),
         _ => false,
     };
     called && first && matches!(&forked(alloc, client), Some(Err(Refusal::KeysUsedUp)))
