@@ -6,6 +6,8 @@ mod calls;
 #[cfg(test)]
 mod devices;
 #[cfg(test)]
+mod exchanges;
+#[cfg(test)]
 mod parties;
 #[cfg(test)]
 mod replays;
