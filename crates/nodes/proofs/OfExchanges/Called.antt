@@ -15,7 +15,6 @@ use Rattle.authenticator.specs.declared.member.Member.{Member}
 use Rattle.secure_log.specs.LogEntries.Messages.{message_hash}
 use Rattle.secure_log.specs.declared.log_entries.entry.Entry.{Entry}
 use Rattle.secure_log.specs.declared.log_entries.entry.Entry.TheVariants.{Send, Recv, Clock}
-use Rattle.secure_log.specs.Log.{log_hash}
 use Rattle.envelopes.specs.declared.envelope.Envelope.{Envelope}
 use Rattle.envelopes.specs.declared.acknowledgement.Ack.{Ack}
 use Rattle.commitment.specs.Senders.LookUps.{FitsEnvelope, ack_at, envelope_at}

@@ -17,8 +17,7 @@ pub returns-in-Ok-clause-carried : goal.returns-in-Ok-clause-carried
 returns-in-Ok-clause-carried c = λ joined.
     let ready = reply_due c.args.client.now c.args.server.now c.ask.new.client c.ask.new.server c.args.time
     c.args.bytes.now c.in_ok-receipt.receipt c.in-Some.number joined (c.in_ok-receipt.ensures.asks joined)
-    c.in_ok-receipt.ensures.sender c.in-Some.is in
-    (
+    c.in_ok-receipt.ensures.sender c.in-Some.is in (
       c.in-Some.number,
       (
         c.ask.new.client,
