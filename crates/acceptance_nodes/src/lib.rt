@@ -6,10 +6,14 @@ mod calls;
 #[cfg(test)]
 mod devices;
 #[cfg(test)]
+mod exchanges;
+#[cfg(test)]
 mod parties;
 #[cfg(test)]
 mod replays;
 #[cfg(test)]
 mod rows;
+#[cfg(test)]
+mod strays;
 #[cfg(test)]
 mod streams;

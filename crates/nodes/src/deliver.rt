@@ -1,6 +1,6 @@
 //! Handing what one node shows to another that awaits it.
 
-ghost use Rattle.std.specs.Prelude.{◌≡◌, ◌≤◌, OnOk, None, Some, length};
+ghost use Rattle.std.specs.Prelude.{◌≡◌, ◌≤◌, IfOk, OnOk, None, Some, length};
 ghost use Rattle.secure_log.specs.declared.log_entries.entry.TheConstants.{MAX_BODY};
 ghost use Rattle.authenticator.specs.declared.member.Kind.TheVariants as kinds;
 ghost use Rattle.envelopes.specs.Envelope.{envelope_text, envelope_value};
@@ -98,8 +98,9 @@ fn write_ack(node: &NodeLog, number: Number, text: &mut Vec<u8>) -> Result<(), L
 
 /// A copy of the body of the SEND with a number. `NoMemory` comes only where a growth was refused.
 pub(crate) fn body_of(node: &NodeLog, number: Number, alloc: Global) -> Result<Vec<u8>, LinkFault>
-    ensures { (e : Envelope) → envelope_at (sender_of node.now) number ≡ Some e →
+    ensures copied { (e : Envelope) → envelope_at (sender_of node.now) number ≡ Some e →
         CopiesBody (λ v. v.items) e result }
+    ensures size { IfOk result (λ v. length v.items ≤ MAX_BODY) }
 {
     let Some(envelope) = node.envelope(number.get()) else {
         return Err(LinkFault::Failed);

@@ -8,7 +8,7 @@ ghost use Rattle.nodes.specs.Exchanges.Exchanges.{IsServed, MayJoin};
 ghost use Rattle.nodes.specs.Directs.{IsExchanged, StopsExchange, direct_of, world_in};
 
 use crate::client::ClientNode;
-use crate::exchange::carry;
+use crate::exchange::exchange;
 use crate::server::ServerNode;
 use gateway::links::{Link, LinkFault};
 use nfs_items::Time;
@@ -40,7 +40,7 @@ impl Model for Direct {
 impl Direct {
     /// Joins a client and a server. Both come back, as they were handed in, exactly where they can't be
     /// joined: one of them has logged something, or they have one number, or one of them isn't listed in the
-    /// other's roster with its kind, root and height.
+    /// other's roster with its kind, root and height, or the server was told to lie in its next reply.
     pub fn join(
         alloc: Global,
         client: ClientNode,
@@ -105,7 +105,7 @@ impl Direct {
         if self.failed {
             return Err(LinkFault::Failed);
         }
-        match carry(
+        match exchange(
             &mut self.client,
             &mut self.server,
             &mut self.text,
@@ -131,6 +131,7 @@ fn may_join(client: &ClientNode, server: &ServerNode) -> bool
         && client.number() != server.number()
         && client.is_listed(server.node().roster())
         && server.is_listed(client.node().roster())
+        && !server.lies()
 }
 
 /// It tells its server's world. From now on it may lack keys or memory; it has failed after a fault, and

@@ -1,4 +1,4 @@
-//! An exchange between a client and a server that are joined, step by step.
+//! An exchange between a client and a server, step by step.
 
 ghost use Rattle.std.specs.Prelude.{◌≡◌, ◌≤◌, ◌+◌, IfErr, IfOk, IfSome, OnOk, length};
 ghost use Rattle.std.specs.Option.{option_map};
@@ -20,8 +20,12 @@ use nfs_items::Time;
 use node_logs::Receipt;
 use std::alloc::Global;
 
-/// Carries a body to the server at a time, and its reply, if one is owed, back.
-pub(crate) fn carry(
+/// Carries a body of at most 12,288 bytes from a client to a server at a time, and its reply, if one is owed, back:
+/// a call of the client, with all that the two log for it (specs/Exchanges/Exchanges.antt). What either logged with
+/// others before, and whether it strayed, doesn't matter; `text` is used for what goes between the two. Where they
+/// are joined, neither refuses the other but for want of keys, `KeysUsedUp`, or memory, `NoMemory`; else `Failed`
+/// comes where one refuses the other, as where it doesn't list it. After a fault what was done before it stands.
+pub fn exchange(
     client: &mut ClientNode,
     server: &mut ServerNode,
     text: &mut Vec<u8>,
@@ -30,14 +34,13 @@ pub(crate) fn carry(
     bytes: &[u8],
 ) -> Result<Option<Vec<u8>>, LinkFault>
     requires size { length bytes.now ≤ MAX_BODY }
-    requires joined { IsJoined client.old server.old }
-    ensures carried { IfOk result (λ r. IsCarried client.old server.old time bytes.now
-        (option_map (λ v. v.items) r) client.new server.new) }
-    ensures stops { IfErr result (λ e.
+    ensures carried { IsJoined client.old server.old → IfOk result (λ r. IsCarried client.old server.old time
+        bytes.now (option_map (λ v. v.items) r) client.new server.new) }
+    ensures stops { IsJoined client.old server.old → IfErr result (λ e.
         StopsCarrying client.old server.old time bytes.now e client.new server.new) }
-    ensures served { IfOk result (λ r.
+    ensures served { IsJoined client.old server.old → IfOk result (λ r.
         IsServed server.old time bytes.now (option_map (λ v. v.items) r) server.new) }
-    ensures joined { OnOk result (IsJoined client.new server.new) }
+    ensures joined { IsJoined client.old server.old → OnOk result (IsJoined client.new server.new) }
     ensures size { IfOk result (λ r. IfSome r (λ v. length v.items ≤ MAX_BODY)) }
 {
     let receipt = ask(client, server, text, alloc, time, bytes)?;
@@ -60,8 +63,7 @@ fn ask(
     bytes: &[u8],
 ) -> Result<Receipt, LinkFault>
     requires size { length bytes.now ≤ MAX_BODY }
-    requires joined { IsJoined client.old server.old }
-    ensures asks { Asks client.old server.old time bytes.now result client.new server.new }
+    ensures asks { IsJoined client.old server.old → Asks client.old server.old time bytes.now result client.new server.new }
     ensures sender { OnOk result (IsSender (sender_of server.new)) }
 {
     let number = send(client, server.number(), alloc, bytes)?;
@@ -84,10 +86,10 @@ fn bring_back(
     text: &mut Vec<u8>,
     alloc: Global,
 ) -> Result<Vec<u8>, LinkFault>
-    requires ready { IsReplyReady client.old server.old number }
-    ensures replied { IfOk result (λ v.
+    ensures replied { IsReplyReady client.old server.old number → IfOk result (λ v.
         IsReplied client.old server.old number v.items client.new server.new) }
-    ensures stops { IfErr result (λ e. StopsAtReply client.old server.old number e client.new server.new) }
+    ensures stops { IsReplyReady client.old server.old number → IfErr result (λ e.
+        StopsAtReply client.old server.old number e client.new server.new) }
     ensures size { IfOk result (λ v. length v.items ≤ MAX_BODY) }
 {
     let reply = body_of(server.node(), number, alloc)?;

@@ -1,3 +1,5 @@
-//! What an exchange between a client and a server is, and what holds of it.
+//! An exchange between a client and a server, and what holds of it.
 
 pub mod laws;
+
+pub use crate::exchange::exchange;

@@ -1,4 +1,4 @@
-//! Servers and clients whose logs are honest, and the two of them joined to a link.
+//! Servers and clients whose logs are honest unless they stray, and the two of them joined to a link.
 #![tactic(auto)]
 
 mod client;
@@ -6,6 +6,7 @@ mod deliver;
 mod direct;
 mod exchange;
 pub mod exchanges;
+mod lookups;
 mod node;
 mod role;
 mod server;
@@ -16,5 +17,6 @@ pub use gateway as gateway_code;
 pub use gateway::service_code;
 pub use node::Node;
 pub use node_logs as node_logs_code;
+pub use node_logs::Forked;
 pub use role::{Client, Role, Server};
 pub use server::ServerNode;

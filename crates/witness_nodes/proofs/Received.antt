@@ -21,8 +21,8 @@ use Rattle.nfs_items.specs.Timeval.{Timeval}
 use Rattle.service.specs.Replies.{reply_owed}
 use Rattle.node_logs.specs.replay_spec.LogLaws.HonestServers.{heard_entries}
 use Rattle.node_logs.specs.Steps.Nodes.{NodeParts, log_of}
-use Rattle.node_logs.specs.Receiving.{Receives, ReceivesEnvelope}
-use Rattle.node_logs.specs.Steps.Serving.{with_served, reading_at}
+use Rattle.node_logs.specs.Receiving.{Receives, ReceivesEnvelope, with_received}
+use Rattle.node_logs.specs.Steps.Serving.{reading_at, reply_told}
 use Rattle.node_logs.specs.Sending.{TakesReply}
 use Rattle.node_logs.specs.Steps.Logging.{with_receipt}
 use Rattle.node_logs.specs.declared.outcome.Receipt.{Receipt}
@@ -70,8 +70,8 @@ new_call : (n n' : NodeParts) (time : Timeval) (e : Envelope) (r : Receipt) → 
     → ReceivesEnvelope n time e r n' → IsReceiptAt (log_of n') (envelope_message e) r.ack
 new_call n n' time e r to h =
     let reading : Timeval = reading_at n time in
-    let o : Option (List ℕ) = reply_owed h.world reading e.body in
-    let after : NodeParts = with_served n h.world e reading in
+    let o : Option (List ℕ) = reply_told n.lies (reply_owed h.world reading e.body) in
+    let after : NodeParts = with_received n h.world e reading in
     let there = recv_at (log_of after) n.entries (behind e reading o) e to
     (ap (λ (es : List Entry). n.entries ++ es) (heard_is e reading o)) in
     subst (IsReceiptAt (log_of n') (envelope_message e)) (sym (ap (λ (x : Receipt). x.ack) h.receipt))

@@ -1,5 +1,5 @@
 -- What holds between nodes and witnesses. Each is the contract of a function in src/laws.rt.
-use Rattle.std.specs.Prelude.{◌≡◌, ◌≢◌, ◌↔◌, ℕ, IsSome, IsTrue, List, ◌∷◌, ◌++◌, Some, Ok}
+use Rattle.std.specs.Prelude.{◌≡◌, ◌≢◌, ◌↔◌, ℕ, IsSome, IsTrue, List, ◌∷◌, ◌++◌, Some, Ok, false}
 use Rattle.std.specs.List.{AllByRecursion}
 use Rattle.xdr.specs.Item.{IsBytes, number_spelling}
 use Rattle.xdr.specs.Texts.Text.{IsText}
@@ -42,11 +42,11 @@ use Rattle.witness_nodes.specs.Logs.{IsListedAs, ShowsItsOwn}
 
 -- ---- who is never exposed
 
--- A node is never exposed under its roster, where none of its signatures is forged and no two texts have one
--- digest.
+-- A node that didn't stray is never exposed under its roster, where none of its signatures is forged and no two
+-- texts have one digest.
 abbrev pub IsNeverExposed : NodeParts → Type 0
 IsNeverExposed n =
-    (m : Member) (history : History)
+    n.strayed ≡ false → (m : Member) (history : History)
     → let w : Watched = watched n.roster m in
     IsListedAs n m → IsInRoster w → IsHistory n.roster history
     → Unforged w n.entries (own_of w history)
@@ -57,7 +57,7 @@ IsNeverExposed n =
 -- that log have one digest. Nothing is supposed of signatures.
 abbrev pub OwnWordsNeverExpose : NodeParts → Type 0
 OwnWordsNeverExpose n =
-    (m : Member) (history : History)
+    n.strayed ≡ false → (m : Member) (history : History)
     → let w : Watched = watched n.roster m in
     IsListedAs n m → IsInRoster w → IsHistory n.roster history
     → AllByRecursion (λ p. ShowsItsOwn n p.0) (own_of w history)

@@ -1,5 +1,5 @@
 -- A reply reaches the client, and its acknowledgement the server; it is the one owed, and both stay joined.
--- Serves: laws.exchanges_serve, and nodes: exchange.carry.
+-- Serves: laws.exchanges_serve, and nodes: exchange.exchange.
 use Rattle.std.proofs.Common.{◌≡◌, ℕ, ◌+◌, ◌<◌, ◌≤◌, Bool, cond, List, [], ◌∷◌, ◌++◌, length, Option, Some}
 use Rattle.std.proofs.Common.{None, refl, sym, ap, subst, ◌∙◌, arith, append_assoc, length-append}
 use Rattle.std.specs.Prelude.{IsSome, IsSomeAnd}
@@ -20,8 +20,8 @@ use Rattle.gateway.specs.service.Replies.{reply_owed, world_after}
 use Rattle.state_spec.specs.State.{State, Idle, Machine, Server, clock_in}
 use Rattle.node_logs.specs.replay_spec.LogLaws.HonestServers.{heard_entries, with_reply}
 use Rattle.node_logs.specs.Steps.Nodes.{NodeParts, sender_of}
-use Rattle.node_logs.specs.Receiving.{ReceivesEnvelope, receipt_from}
-use Rattle.node_logs.specs.Steps.Serving.{reading_at}
+use Rattle.node_logs.specs.Receiving.{ReceivesEnvelope, lies_still, receipt_from}
+use Rattle.node_logs.specs.Steps.Serving.{reading_at, reply_told, state_heard, with_answer}
 use Rattle.node_logs.specs.Steps.Logging.{with_receipt}
 use Rattle.node_logs.specs.AckTaking.{ack_entry}
 use Rattle.node_logs.specs.declared.outcome.Receipt.{Receipt}
@@ -31,8 +31,8 @@ use Rattle.nodes.specs.Exchanges.Reaching.{AckReaches, IsReplyReady, ReceivesUpT
 use Rattle.nodes.specs.Exchanges.Exchanges.{IsAsked, IsJoined, IsReplied, IsServed}
 use Rattle.nodes.proofs.OfExchanges.Texts.{some_same}
 use Rattle.nodes.proofs.OfExchanges.Shown.{ack_shown, envelope_shown}
-use Rattle.nodes.proofs.OfExchanges.Fresh.{not_received, up_to_both, up_to_more}
-use Rattle.nodes.proofs.OfExchanges.Called.{heard_by, listed_stays, sent_there}
+use Rattle.nodes.proofs.OfExchanges.Fresh.{not_received, recv_up_to, up_to_both, up_to_more}
+use Rattle.nodes.proofs.OfExchanges.Called.{listed_stays, plainly, sent_there}
 
 -- ---- the acknowledgement of a reply
 
@@ -109,7 +109,7 @@ served_by s t time body e r says h =
       after =
           ap (λ (x : NodeParts). x.state.machine) h.served
           ∙ machine_stays
-          (heard_by s w e (reading_at s time) None).state _ _ e.from (reply_owed w (reading_at s time) e.body)
+          (state_heard s.state w e (reading_at s time)) _ _ e.from (reply_told s.lies (reply_owed w (reading_at s time) e.body))
           ∙ ap (λ (x : Timeval). Server (world_after w x e.body) Idle) reading
           ∙ ap (λ (x : World). Server x Idle) (same_world w time e.body ∙ ap (world_after w time) says);
     }
@@ -117,19 +117,21 @@ served_by s t time body e r says h =
 -- ---- after a call
 
 -- the client's log by the server's numbers
-client_up_to : (c s c1 t : NodeParts) (time : Timeval) (body : List ℕ) (r : Receipt) (limit : ℕ)
-    → IsAsked c s time body r c1 t → ReceivesUpTo limit c.entries → ReceivesUpTo limit c1.entries
-client_up_to c s c1 t time body r limit asked few =
-    subst (λ (n : NodeParts). ReceivesUpTo limit n.entries) (sym asked.taken)
-    (up_to_both limit (c.entries ++ Send s.node body ∷ []) _
-    (up_to_both limit c.entries _ few (omega arith, tt)) (omega arith, tt))
+client_up_to : (c s c1 t : NodeParts) (time : Timeval) (body : List ℕ) (r : Receipt) (from limit : ℕ)
+    → IsAsked c s time body r c1 t → ReceivesUpTo from limit c.entries → ReceivesUpTo from limit c1.entries
+client_up_to c s c1 t time body r from limit asked few =
+    subst (λ (n : NodeParts). ReceivesUpTo from limit n.entries) (sym asked.taken)
+    (up_to_both from limit (c.entries ++ Send s.node body ∷ []) _
+    (up_to_both from limit c.entries _ few (omega arith, tt)) (omega arith, tt))
 
-server_up_to : (limit : ℕ) (es : List Entry) (e : Envelope) (time : Timeval) (o : Option (List ℕ)) → e.seq ≤ limit
-    → ReceivesUpTo limit es → ReceivesUpTo limit (es ++ heard_entries e.from e.seq e.prev e.body e.signature time o)
-server_up_to limit es e time None h few =
-    up_to_both limit es _ few (h, (omega arith, tt))
-server_up_to limit es e time (Some reply) h few =
-    up_to_both limit es _ few (h, (omega arith, (omega arith, tt)))
+server_up_to : (from limit : ℕ) (es : List Entry) (e : Envelope) (time : Timeval) (o : Option (List ℕ)) → e.seq ≤ limit
+    → ReceivesUpTo from limit es
+    → ReceivesUpTo from limit (es ++ heard_entries e.from e.seq e.prev e.body e.signature time o)
+server_up_to from limit es e time None h few =
+    up_to_both from limit es _ few (recv_up_to from limit e.from e.seq e.prev e.body e.signature h, (omega arith, tt))
+server_up_to from limit es e time (Some reply) h few =
+    up_to_both from limit es _ few
+    (recv_up_to from limit e.from e.seq e.prev e.body e.signature h, (omega arith, (omega arith, tt)))
 
 client_long : (c s c1 t : NodeParts) (time : Timeval) (body : List ℕ) (r : Receipt) → IsAsked c s time body r c1 t
     → length c1.entries ≡ length c.entries + 2
@@ -154,7 +156,8 @@ pub asked_joined : (c s c1 t : NodeParts) (time : Timeval) (body : List ℕ) (r 
 asked_joined c s c1 t time body r joined asked =
     let h = asked.heard.receives in
     let e = asked.heard.envelope in
-    let o = reply_owed h.world (reading_at s time) e.body in
+    let owed = reply_owed h.world (reading_at s time) e.body in
+    let o = reply_told s.lies owed in
     let client : c1.node ≡ c.node = ap (λ (n : NodeParts). n.node) asked.taken in
     let server : t.node ≡ s.node = ap (λ (n : NodeParts). n.node) h.served in
     let long = client_long c s c1 t time body r asked in
@@ -170,11 +173,14 @@ asked_joined c s c1 t time body r joined asked =
       server = subst (λ (ms : List Member). IsListed ms kinds.Server t) (sym (ap (λ (n : NodeParts). n.roster) asked.taken))
           (listed_stays c.roster kinds.Server s t server (ap (λ (n : NodeParts). n.signer.master) h.served)
           (ap (λ (n : NodeParts). n.signer.height) h.served) joined.server);
-      heard = subst (λ (n : NodeParts). ReceivesUpTo (length c1.entries) n.entries) (sym h.served)
-          (server_up_to (length c1.entries) s.entries e (reading_at s time) o (omega (arith, long, numbered))
-          (up_to_more (length c.entries) (length c1.entries) s.entries (omega (arith, long)) joined.heard));
-      received = client_up_to c s c1 t time body r (length t.entries) asked
-          (up_to_more (length s.entries) (length t.entries) c.entries longer joined.received);
+      heard = subst (λ (k : ℕ). ReceivesUpTo k (length c1.entries) t.entries) (sym client)
+          (subst (λ (n : NodeParts). ReceivesUpTo c.node (length c1.entries) n.entries) (sym h.served)
+          (server_up_to c.node (length c1.entries) s.entries e (reading_at s time) o (omega (arith, long, numbered))
+          (up_to_more c.node (length c.entries) (length c1.entries) s.entries (omega (arith, long)) joined.heard)));
+      received = subst (λ (k : ℕ). ReceivesUpTo k (length t.entries) c1.entries) (sym server)
+          (client_up_to c s c1 t time body r s.node (length t.entries) asked
+          (up_to_more s.node (length s.entries) (length t.entries) c.entries longer joined.received));
+      plain = ap (λ (n : NodeParts). n.lies) h.served ∙ ap (λ (b : Bool). lies_still b owed) joined.plain;
     }
 
 -- ---- the reply that the call owes
@@ -192,7 +198,7 @@ three es a b = omega (arith, length-append es (a ∷ b ∷ []))
 -- what is ready of a reply that the server logged
 reply_ready : (c s c1 t : NodeParts) (time : Timeval) (body : List ℕ) (r : Receipt) (number : ℕ) (reply : List ℕ)
     → IsJoined c s → (asked : IsAsked c s time body r c1 t) → IsSender (sender_of t) → number ≡ length s.entries + 1 + 2
-    → t ≡ heard_by s asked.heard.receives.world asked.heard.envelope (reading_at s time) (Some reply)
+    → t ≡ with_answer s asked.heard.receives.world asked.heard.envelope (reading_at s time) (Some reply)
     → (ready : IsReplyReady c1 t number) × (ready.envelope.body ≡ reply)
 reply_ready c s c1 t time body r number reply joined asked is at heard_it =
     let e = asked.heard.envelope in
@@ -228,14 +234,15 @@ reply_ready c s c1 t time body r number reply joined asked is at heard_it =
                 seq = f.seq;
                 hash = message_hash f.to f.seq f.prev (sha256 f.body);
               })
-              (client_up_to c s c1 t time body r (length s.entries) asked joined.received) past;
+              (subst (λ (j : ℕ). ReceivesUpTo j (length s.entries) c1.entries) (sym (k.sender ∙ node))
+              (client_up_to c s c1 t time body r s.node (length s.entries) asked joined.received)) past;
         };
         numbered = numbered;
         within = omega (arith, all, place);
         client = joined1.client;
         awaited = subst (λ (n : NodeParts). IsSome (finite.get n.state.sends number)) (sym heard_it)
             (subst (λ (j : ℕ). IsSome (finite.get
-            (heard_by s asked.heard.receives.world e reading (Some reply)).state.sends j)) sent
+            (with_answer s asked.heard.receives.world e reading (Some reply)).state.sends j)) sent
             (sent_there s.state.sends (length s.entries + 1 + 1 + 1) _));
       },
       k.says,
@@ -264,9 +271,9 @@ reply_due c s c1 t time body r number joined asked is owed =
         ap (λ (y : Receipt). y.reply) asked.heard.receives.receipt
         ∙ ap (λ (o : Option (List ℕ)). (receipt_from (length s.entries + 1) o).reply) x in
         let at : number ≡ length s.entries + 1 + 2 = some_same (sym owed ∙ some) in
-        let heard_it : t ≡ heard_by s asked.heard.receives.world asked.heard.envelope (reading_at s time) (Some reply) =
-        asked.heard.receives.served
-        ∙ ap (heard_by s asked.heard.receives.world asked.heard.envelope (reading_at s time)) x in
+        let heard_it : t ≡ with_answer s asked.heard.receives.world asked.heard.envelope (reading_at s time) (Some reply) =
+        plainly s t time asked.heard.envelope r joined.plain asked.heard.receives
+        ∙ ap (with_answer s asked.heard.receives.world asked.heard.envelope (reading_at s time)) x in
         let y = reply_ready c s c1 t time body r number reply joined asked is at heard_it in
         record {
           ready = y.0;
@@ -337,12 +344,15 @@ replied_joined c1 t c2 t2 number reply joined h k =
       server = subst (λ (ms : List Member). IsListed ms kinds.Server t2) (sym (ap (λ (n : NodeParts). n.roster) got))
           (listed_stays c1.roster kinds.Server t t2 server (ap (λ (n : NodeParts). n.signer.master) k.taken)
           (ap (λ (n : NodeParts). n.signer.height) k.taken) joined.server);
-      heard = subst (λ (n : NodeParts). ReceivesUpTo (length c2.entries) n.entries) (sym k.taken)
-          (up_to_both (length c2.entries) t.entries (ack_entry k.ack ∷ [])
-          (up_to_more (length c1.entries) (length c2.entries) t.entries (omega (arith, long)) joined.heard)
-          (omega arith, tt));
-      received = subst (λ (n : NodeParts). ReceivesUpTo (length t2.entries) n.entries) (sym got)
-          (up_to_both (length t2.entries) c1.entries (recv ∷ [])
-          (up_to_more (length t.entries) (length t2.entries) c1.entries (omega (arith, longer)) joined.received)
-          (omega (arith, seq, within, longer), tt));
+      heard = subst (λ (j : ℕ). ReceivesUpTo j (length c2.entries) t2.entries) (sym client)
+          (subst (λ (n : NodeParts). ReceivesUpTo c1.node (length c2.entries) n.entries) (sym k.taken)
+          (up_to_both c1.node (length c2.entries) t.entries (ack_entry k.ack ∷ [])
+          (up_to_more c1.node (length c1.entries) (length c2.entries) t.entries (omega (arith, long)) joined.heard)
+          (omega arith, tt)));
+      received = subst (λ (j : ℕ). ReceivesUpTo j (length t2.entries) c2.entries) (sym server)
+          (subst (λ (n : NodeParts). ReceivesUpTo t.node (length t2.entries) n.entries) (sym got)
+          (up_to_both t.node (length t2.entries) c1.entries (recv ∷ [])
+          (up_to_more t.node (length t.entries) (length t2.entries) c1.entries (omega (arith, longer)) joined.received)
+          (recv_up_to t.node (length t2.entries) e.from e.seq e.prev e.body e.signature (omega (arith, seq, within, longer)), tt)));
+      plain = ap (λ (n : NodeParts). n.lies) k.taken ∙ joined.plain;
     }

@@ -1,6 +1,6 @@
 -- A call reaches the server, and its acknowledgement the client.
 -- Serves: Answered, laws.calls_are_accepted, and nodes: exchange.ask.
-use Rattle.std.proofs.Common.{◌≡◌, ℕ, ◌+◌, ◌<◌, Bool, true, cond, List, [], ◌∷◌, ◌++◌, length, Option, Some}
+use Rattle.std.proofs.Common.{◌≡◌, ℕ, ◌+◌, ◌<◌, Bool, true, false, cond, List, [], ◌∷◌, ◌++◌, length, Option, Some}
 use Rattle.std.proofs.Common.{None, refl, sym, ap, subst, ◌∙◌, arith, nat_cmp}
 use Rattle.std.specs.Prelude.{IsSome, IsSomeAnd}
 use Rattle.std.specs.FinMap as finite
@@ -15,25 +15,22 @@ use Rattle.authenticator.specs.declared.member.Member.{Member}
 use Rattle.secure_log.specs.LogEntries.Messages.{message_hash}
 use Rattle.secure_log.specs.declared.log_entries.entry.Entry.{Entry}
 use Rattle.secure_log.specs.declared.log_entries.entry.Entry.TheVariants.{Send, Recv, Clock}
-use Rattle.secure_log.specs.Log.{log_hash}
 use Rattle.envelopes.specs.declared.envelope.Envelope.{Envelope}
 use Rattle.envelopes.specs.declared.acknowledgement.Ack.{Ack}
 use Rattle.commitment.specs.Senders.LookUps.{FitsEnvelope, ack_at, envelope_at}
 use Rattle.commitment.specs.Senders.Sender.{IsSender}
 use Rattle.nfs_items.specs.Timeval.{Timeval}
-use Rattle.worlds.specs.World.{World}
-use Rattle.gateway.specs.service.Replies.{reply_owed, world_after}
-use Rattle.state_spec.specs.State.{SentMessage, with_received, Idle, Server}
-use Rattle.node_logs.specs.replay_spec.Steps.{received_message}
-use Rattle.node_logs.specs.replay_spec.LogLaws.HonestServers.{heard_entries, hash_before_reply, with_reply}
-use Rattle.node_logs.specs.Steps.Nodes.{NodeParts, sender_of}
+use Rattle.gateway.specs.service.Replies.{reply_owed}
+use Rattle.state_spec.specs.State.{SentMessage}
+use Rattle.node_logs.specs.replay_spec.LogLaws.HonestServers.{heard_entries}
+use Rattle.node_logs.specs.Steps.Nodes.{NodeParts, sender_of, straying}
 use Rattle.node_logs.specs.Nodes.{LacksKeys}
-use Rattle.node_logs.specs.Receiving.{ReceivesEnvelope}
-use Rattle.node_logs.specs.Steps.Serving.{keys_for, reading_at}
+use Rattle.node_logs.specs.Receiving.{ReceivesEnvelope, lies_still}
+use Rattle.node_logs.specs.Steps.Serving.{reading_at, reply_told, with_answer, with_told}
 use Rattle.node_logs.specs.Steps.Logging.{with_send}
 use Rattle.node_logs.specs.declared.outcome.Receipt.{Receipt}
 use Rattle.nodes.specs.Exchanges.Members.{IsListed, IsMemberAs}
-use Rattle.nodes.specs.Exchanges.Reaching.{AckReaches, Reaches}
+use Rattle.nodes.specs.Exchanges.Reaching.{AckReaches, Reaches, ReceivesUpTo}
 use Rattle.nodes.specs.Exchanges.Exchanges.{IsCall, IsJoined, having_called}
 use Rattle.nodes.proofs.OfExchanges.Shown.{ack_shown, envelope_shown}
 use Rattle.nodes.proofs.OfExchanges.Fresh.{not_received}
@@ -100,7 +97,8 @@ call_reaches c s body joined is =
                 from = e.from;
                 seq = e.seq;
                 hash = message_hash e.to e.seq e.prev (sha256 e.body);
-              }) joined.heard past;
+              })
+              (subst (λ (k : ℕ). ReceivesUpTo k (length c.entries) s.entries) (sym h.sender) joined.heard) past;
         },
       ),
     )
@@ -140,22 +138,15 @@ sent_by c s to body c1 number joined at sends is =
 
 -- ---- what the server logs
 
--- the server that has heard an envelope, where this reply is owed
-abbrev pub heard_by : NodeParts → World → Envelope → Timeval → Option (List ℕ) → NodeParts
-heard_by n w e time o = record {
-  node = n.node;
-  roster = n.roster;
-  entries = n.entries ++ heard_entries e.from e.seq e.prev e.body e.signature time o;
-  signer = record n.signer { used = n.signer.used + keys_for o };
-  state = with_reply
-      (record n.state {
-        received = with_received n.state.received (received_message n.state.node e.from e.seq e.prev e.body);
-        machine = Server (world_after w time e.body) Idle;
-      })
-      (length n.entries + 1 + 1 + 1)
-      (hash_before_reply (length n.entries + 1) (log_hash n.entries) e.from e.seq e.prev e.body e.signature time)
-      e.from o;
-}
+-- A server that doesn't lie has served an envelope by the reply that is owed.
+pub plainly : (s t : NodeParts) (time : Timeval) (e : Envelope) (r : Receipt) → s.lies ≡ false
+    → (h : ReceivesEnvelope s time e r t)
+    → t ≡ with_answer s h.world e (reading_at s time) (reply_owed h.world (reading_at s time) e.body)
+plainly s t time e r plain h =
+    let o = reply_owed h.world (reading_at s time) e.body in
+    h.served
+    ∙ ap (λ (b : Bool). straying (lies_still b o) s.strayed (with_told b s h.world e (reading_at s time))) plain
+    ∙ ap (λ (b : Bool). straying b s.strayed (with_answer s h.world e (reading_at s time) o)) (sym plain)
 
 -- its RECV stands first
 recv_first : (e : Envelope) (time : Timeval) (o : Option (List ℕ))
@@ -170,7 +161,7 @@ pub call_acknowledged : (c s t : NodeParts) (body : List ℕ) (e : Envelope) (ti
     → (a : Ack) × AckReaches t kinds.Server r.ack (having_called c s body) a
 call_acknowledged c s t body e time r joined call receives is =
     let reading = reading_at s time in
-    let o = reply_owed receives.world reading e.body in
+    let o = reply_told s.lies (reply_owed receives.world reading e.body) in
     let first = recv_first e reading o in
     let log : t.entries ≡ s.entries ++ Recv e.from e.seq e.prev e.body e.signature ∷ first.0 =
     ap (λ (x : NodeParts). x.entries) receives.served ∙ ap (λ (es : List Entry). s.entries ++ es) first.1 in

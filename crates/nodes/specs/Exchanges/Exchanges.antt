@@ -1,7 +1,7 @@
 -- What an exchange is, between a client and a server that are joined without anyone between them: the client
 -- logs SEND; the server RECV, CLOCK and the SEND of its reply, if one is owed; the client takes the server's
 -- acknowledgement (ACK), and then the reply (RECV); the server takes the client's acknowledgement (ACK).
-use Rattle.std.specs.Prelude.{◌≡◌, ◌≢◌, ◌+◌, ℕ, List, [], length, Option, Some, None}
+use Rattle.std.specs.Prelude.{◌≡◌, ◌≢◌, ◌+◌, ℕ, false, List, [], length, Option, Some, None}
 use Rattle.authenticator.specs.declared.member.Kind.TheVariants as kinds
 use Rattle.envelopes.specs.declared.envelope.Envelope.{Envelope}
 use Rattle.envelopes.specs.declared.acknowledgement.Ack.{Ack}
@@ -20,22 +20,25 @@ use Rattle.nodes.specs.Exchanges.Members.{IsListed}
 use Rattle.nodes.specs.Exchanges.Reaching.{ReceivesUpTo}
 
 -- A client and a server are joined: two nodes, each listed in the other's roster, of which neither received a
--- message whose number the other's log hasn't reached.
+-- message of the other whose number the other's log hasn't reached; and the server won't lie. What either received
+-- of others is open.
 pub record IsJoined (c s : NodeParts) : Type 0 where
   pub two : c.node ≢ s.node
   pub client : IsListed s.roster kinds.Client c
   pub server : IsListed c.roster kinds.Server s
-  pub heard : ReceivesUpTo (length c.entries) s.entries
-  pub received : ReceivesUpTo (length s.entries) c.entries
+  pub heard : ReceivesUpTo c.node (length c.entries) s.entries
+  pub received : ReceivesUpTo s.node (length s.entries) c.entries
+  pub plain : s.lies ≡ false
 
--- A client and a server that may be joined: nothing is logged yet, they are two nodes, and each is listed in
--- the other's roster.
+-- A client and a server that may be joined: nothing is logged yet, they are two nodes, each is listed in the
+-- other's roster, and the server won't lie.
 pub record MayJoin (c s : NodeParts) : Type 0 where
   pub unused : c.entries ≡ []
   pub server_unused : s.entries ≡ []
   pub two : c.node ≢ s.node
   pub client : IsListed s.roster kinds.Client c
   pub server : IsListed c.roster kinds.Server s
+  pub plain : s.lies ≡ false
 
 -- ---- the call
 

@@ -1,5 +1,5 @@
 -- What one node shows reaches another that hasn't had it yet.
-use Rattle.std.specs.Prelude.{◌≡◌, ◌⊎◌, ◌≤◌, ℕ, List, length, Result, Ok, Err, Some, None, IsSome}
+use Rattle.std.specs.Prelude.{◌≡◌, ◌⊎◌, ◌≤◌, ◌==◌, if◌then◌else◌, ℕ, List, length, Result, Ok, Err, Some, None, IsSome}
 use Rattle.std.specs.List.{AllByRecursion}
 use Rattle.std.specs.FinMap.{get}
 use Rattle.authenticator.specs.declared.member.Kind.{Kind}
@@ -21,17 +21,18 @@ use Rattle.node_logs.specs.declared.outcome.AckTaken.{AckTaken}
 use Rattle.node_logs.specs.declared.outcome.AckTaken.TheVariants as taken
 use Rattle.nodes.specs.Exchanges.Members.{IsListed}
 
--- the number, in its sender's log, of the message that an entry received; 0 of other entries
-abbrev pub seq_of : Entry → ℕ
-seq_of (Send to body) = 0
-seq_of (Recv from seq prev body signature) = seq
-seq_of (Acked to seq mine number prev signature) = 0
-seq_of (Clock seconds microseconds) = 0
-seq_of (Check digest) = 0
+-- the number, in a sender's log, of the message that an entry received from it; 0 of other entries
+abbrev pub seq_from : (from : ℕ) → Entry → ℕ
+seq_from from (Send to body) = 0
+seq_from from (Recv sender seq prev body signature) = if sender == from then seq else 0
+seq_from from (Acked to seq mine number prev signature) = 0
+seq_from from (Clock seconds microseconds) = 0
+seq_from from (Check digest) = 0
 
--- Each message that these entries received has at most this number in its sender's log.
-abbrev pub ReceivesUpTo : ℕ → List Entry → Type 0
-ReceivesUpTo limit entries = AllByRecursion (λ e. seq_of e ≤ limit) entries
+-- Each message that these entries received from a node has at most this number in that node's log. Messages of
+-- others may have any.
+abbrev pub ReceivesUpTo : (from limit : ℕ) → List Entry → Type 0
+ReceivesUpTo from limit entries = AllByRecursion (λ e. seq_from from e ≤ limit) entries
 
 -- The envelope that a node shows at a number reaches another: it is to that node, which lists its sender, and
 -- hasn't received its message.

@@ -3,8 +3,8 @@ use Rattle.witness_nodes.proofs.laws.a_node_is_never_exposed.Goals as goal
 
 -- the law on honest nodes, of the node's own log
 pub returns : goal.returns
-returns c = λ m history listed member h unforged unlike.
+returns c = λ plain m history listed member h unforged unlike.
     let n = c.args.node.now in
     let log = c.a_node_keeps_a_log.ensures in
     c.honest_is_never_exposed.ensures (watched n.roster m) history n.entries n.state member h log.is_log
-    (log.honest m listed) unforged unlike
+    (log.honest plain m listed) unforged unlike

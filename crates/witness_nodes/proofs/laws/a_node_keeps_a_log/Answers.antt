@@ -21,7 +21,7 @@ returns c =
             c.entries_have_texts.ensures.each);
         few = subst (λ (es : List Entry). length es < 2 ^ 64) same c.entries_have_texts.ensures.few;
       };
-      honest = λ m listed. honest_from n m listed c.is_honest.ensures.honest;
+      honest = λ plain m listed. honest_from n m listed (c.is_honest.ensures.honest plain);
       shown = λ number a made.
           of_place c.a_log_has_one_pair_for_each_place.ensures.each (log_of n) number a
           (c.what_a_sender_shows_is_of_its_log.ensures.authenticator (sender_of n) number a
