@@ -1,6 +1,6 @@
 #!/usr/bin/env bash
-# nfsacc run from outside: three stories that scripts tell, with what they print, the evidence that they leave, and how a
-# script ends. It tries the programs that the gate left in crates/nfsacc/out; where none is there, rt run makes one.
+# nfsacc run from outside: stories that scripts tell, with what they print, the evidence that they leave, lines that are
+# bad, and how a script ends. It tries the programs that the gate left in crates/nfsacc/out; where none is there, rt run makes one.
 set -euo pipefail
 cd "$(dirname "$0")/.."
 . checks/scratch_crate.sh
@@ -29,7 +29,7 @@ said_is() {
 # Each story prints what stands beside it, from a file and from standard input.
 check_stories() {
     local story
-    for story in lie fork accusation; do
+    for story in lie fork accusation no_keys any_order nothing; do
         : > in
         run 0 run "$stories/$story.script"
         cmp -s out "$stories/$story.printed" || fail "$story: it printed" out
@@ -43,7 +43,41 @@ check_stories() {
     run 0 check fork.evidence
     [ "$(cat out)" = 'exposed 2' ] || fail 'the evidence of the fork' out
     [ ! -e none.evidence ] || fail 'there is evidence of a false accusation' out
-    echo 'three stories print what they should, and leave evidence where somebody is exposed'
+    echo 'six stories print what they should, and leave evidence where somebody is exposed'
+}
+
+# Lines that are bad, as the first one and after others; one of a megabyte; thousands that are passed over before one.
+check_bad_lines() {
+    local line count=0
+    while IFS= read -r line; do
+        case $line in '#'*) continue ;; esac
+        printf "$line" > in
+        run 1 run -
+        said_is 'line 1: bad'
+        [ ! -s out ] || fail "a bad line printed: $line" out
+        count=$((count + 1))
+    done < "$stories/bad_lines"
+    while IFS= read -r line; do
+        case $line in '#'*) continue ;; esac
+        printf "node 1 server 1\nnode 2 client 1\nask 2\n$line" > in
+        run 1 run -
+        said_is 'line 4: bad'
+        [ "$(cat out)" = '2 trusted 0' ] || fail "what was printed before a bad line: $line" out
+        count=$((count + 1))
+    done < "$stories/bad_after"
+    head -c 1048576 /dev/zero | tr '\0' a > in
+    run 1 run -
+    said_is 'line 1: bad'
+    { yes '' | head -10000; echo 'ask 1'; } > in
+    run 1 run -
+    said_is 'line 10001: bad'
+    printf 'node 1 server 1\nnode 2 client 1\ncall 2 1 %s\n' "$(head -c 24578 /dev/zero | tr '\0' 0)" > in
+    run 1 run -
+    said_is 'line 3: bad'
+    : > in
+    run 0 run -
+    [ "$(cat out)" = 'closed ok' ] || fail 'an empty script' out
+    echo "$count bad lines, one of a megabyte, a body above the limit, and one after 10,000 empty lines are told by their numbers"
 }
 
 # Each way in which a script ends before its end.
@@ -101,6 +135,7 @@ check_answers_at_once() {
 
 for program in "${made[@]}"; do
     check_stories
+    check_bad_lines
     check_ends
     check_roster
     check_answers_at_once

@@ -18,7 +18,5 @@ mod stop;
 mod witness;
 mod words;
 
-pub use replay_pool as replay_pool_code;
 pub use script::{ScriptEnd, ScriptFault, run_script};
 pub use shelf::Shelf;
-pub use witness_service as witness_service_code;

@@ -9,14 +9,26 @@ use merkle_keys::Signer;
 use nodes::node_logs_code::NodeLog;
 use nodes::{ClientNode, Node, Role, ServerNode};
 use std::alloc::{AllocError, Global};
+use std::marker::Model;
 
-/// A node that has its keys, and isn't made yet.
+/// A node that has its keys, of which none is used, and isn't made yet.
 #[derive(Drop)]
 struct Keyed {
     number: u32,
     kind: Kind,
     height: u32,
     signer: Signer,
+}
+
+impl Model for Keyed {
+    ghost use Rattle.std.specs.Prelude.{◌≡◌, ◌≤◌};
+    ghost use Rattle.merkle_keys.specs.Signing.{SignerState};
+
+    ghost Value = { SignerState };
+
+    ghost view = { λ k. k.signer };
+
+    ghost invariant = { λ k. (k.signer.used ≡ 0) × (k.signer.height ≡ k.height) × (k.height ≤ 16) };
 }
 
 impl Keyed {
@@ -124,13 +136,19 @@ impl Parties {
     /// One node more.
     fn add(&mut self, alloc: Global, roster: &Roster, keyed: Keyed) -> Result<(), AllocError> {
         let roster = roster.try_clone(alloc)?;
-        match keyed.kind {
+        let Keyed {
+            number,
+            kind,
+            height,
+            signer,
+        } = keyed;
+        match kind {
             Kind::Client => {
-                let client = Node::with_signer(alloc, roster, keyed.number, keyed.signer)?;
+                let client = Node::with_signer(alloc, roster, number, signer, height)?;
                 self.clients.push(client)?;
             }
             Kind::Server => {
-                let server = Node::with_signer(alloc, roster, keyed.number, keyed.signer)?;
+                let server = Node::with_signer(alloc, roster, number, signer, height)?;
                 self.servers.push(server)?;
             }
         }
