@@ -3,7 +3,7 @@
 use crate::answers::Answer;
 use crate::logs::{closing_at, reads_clocks, segment_text};
 use crate::parties::{CLIENT, SERVER, books_of, keys};
-use crate::running::{answers_of_run, hand};
+use crate::running::{answers_of_run, hand, is_at};
 use authenticator::{Authenticator, Kind, Member, Number};
 use merkle_keys::Signer;
 use packets::{write_answer_text, write_learn};
@@ -232,7 +232,7 @@ fn events_of(alloc: Global, own: &[Vec<u8>], others: &[Vec<u8>]) -> Vec<Event> {
 fn are_owed(answers: &[Answer], others: usize) -> bool {
     let mut place = others;
     for (_, owed) in STEPS {
-        if answers.get(place) != Some(&owed) {
+        if !is_at(answers, place, owed) {
             return false;
         }
         place = place.saturating_add(others).saturating_add(1);

@@ -48,6 +48,14 @@ pub fn answers_of_run(alloc: Global, books: &mut Books, events: Vec<Event>) -> V
     }
 }
 
+/// Whether the answer with a place is this.
+pub fn is_at(answers: &[Answer], place: usize, owed: Answer) -> bool {
+    match answers.get(place) {
+        Some(answer) => answer.is_same(owed),
+        None => false,
+    }
+}
+
 /// Hands an event to a run, if there is memory.
 pub fn hand(events: &mut Vec<Event>, event: Event) {
     if let Err(refused) = events.push(event) {
@@ -61,11 +69,9 @@ fn runs(alloc: Global, books: &mut Books) -> bool {
     hand(&mut events, EventOf::Ask(1, Question::Indication));
     hand(&mut events, EventOf::Audit(1));
     let answers = answers_of_run(alloc, books, events);
-    let wanted = [
-        Answer::Told(Indication::Trusted),
-        Answer::Refused(Refusal::NothingToAudit),
-    ];
-    answers.as_slice() == wanted.as_slice()
+    is_at(&answers, 0, Answer::Told(Indication::Trusted))
+        && is_at(&answers, 1, Answer::Refused(Refusal::NothingToAudit))
+        && answers.len() == 2
 }
 
 /// Whether two notes say the same.
@@ -73,14 +79,19 @@ fn are_same(one: &Note, other: &Note) -> bool {
     one.event.is_same(&other.event) && one.reply.is_same(&other.reply)
 }
 
+/// Whether there are two notes that say the same.
+fn are_two(notes: Option<(Note, Note)>) -> bool {
+    match notes {
+        Some((one, other)) => are_same(&one, &other),
+        None => false,
+    }
+}
+
 /// Whether a step gives two notes, of the event and the reply that it gives.
 fn notes(alloc: Global, books: &mut Books) -> bool {
     let (reply, notes) = books.noted_step(alloc, EventOf::Audit(1));
-    let is_answered = answer_of(reply) == Answer::Refused(Refusal::NothingToAudit);
-    match notes {
-        Some((one, other)) => is_answered && are_same(&one, &other),
-        None => false,
-    }
+    let is_answered = answer_of(reply).is_same(Answer::Refused(Refusal::NothingToAudit));
+    are_two(notes) && is_answered
 }
 
 /// Whether new books run events, and give notes of a step.
