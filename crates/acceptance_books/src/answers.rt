@@ -2,13 +2,13 @@
 
 use authenticator::{Authenticator, check};
 use envelopes::{check_ack, check_envelope};
+use secure_log::check_segment;
+use std::alloc::Global;
+use witness_books::Books;
 use witness_books::node_book_code::{
     Event, EventOf, Indication, Question, Refusal, ReplayDone, ReplayJob, Reply, ReplyOf,
     SharedSegment,
 };
-use secure_log::check_segment;
-use std::alloc::Global;
-use witness_books::Books;
 
 /// What a reply says; of a list how many there are, of evidence whether there is some.
 #[derive(Clone, Copy)]

@@ -6,11 +6,13 @@ use authenticator::Authenticator;
 use challenge::Evidence;
 use challenge::replay_code::ReplayFault;
 use merkle_keys::Signer;
-use witness_books::node_book_code::{Back, EventOf, JobVerdict, Question, ReplayDone, ReplayJob, ReplyOf};
 use secure_log::Log;
 use std::alloc::Global;
 use std::sync::Arc;
 use witness_books::Books;
+use witness_books::node_book_code::{
+    Back, EventOf, JobVerdict, Question, ReplayDone, ReplayJob, ReplyOf,
+};
 
 /// Whether a node that signed this is asked for its log from a number on, up to it.
 pub fn is_asked(alloc: Global, books: &mut Books, first: u64, closing: &Authenticator) -> bool {

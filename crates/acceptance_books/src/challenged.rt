@@ -5,12 +5,12 @@ use crate::messages::{ack_text, first_call, message, message_text};
 use crate::parties::{Parties, new_parties};
 use authenticator::{Authenticator, Number};
 use merkle_keys::Signer;
-use witness_books::node_book_code::{EventOf, Indication, Refusal};
 use packets::write_learn;
 use secure_log::log_entries::Body;
 use std::alloc::Global;
 use test_helpers::signed;
 use witness_books::Books;
+use witness_books::node_book_code::{EventOf, Indication, Refusal};
 
 /// Whether a challenge with a message to the server is opened once, and the server suspected.
 fn opens(alloc: Global, books: &mut Books, text: &[u8]) -> bool {

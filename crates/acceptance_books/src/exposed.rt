@@ -9,13 +9,13 @@ use authenticator::{Authenticator, Number};
 use challenge::Evidence;
 use envelopes::Envelope;
 use merkle_keys::Signer;
-use witness_books::node_book_code::{EventOf, Indication, Refusal, ReplayDone};
 use secure_log::Log;
 use secure_log::log_entries::Body;
 use std::alloc::Global;
 use std::sync::Arc;
 use test_helpers::signed;
 use witness_books::Books;
+use witness_books::node_book_code::{EventOf, Indication, Refusal, ReplayDone};
 
 /// Whether the client is exposed.
 fn is_exposed(alloc: Global, books: &mut Books) -> bool {

@@ -6,10 +6,10 @@ use crate::logs::answers_call;
 use crate::parties::{Parties, new_parties};
 use authenticator::Authenticator;
 use merkle_keys::Signer;
-use witness_books::node_book_code::{EventOf, Indication, ReplyOf};
 use secure_log::Log;
 use std::alloc::Global;
 use witness_books::Books;
+use witness_books::node_book_code::{EventOf, Indication, ReplyOf};
 
 /// The authenticator that the server's book forwards.
 fn forwarded(alloc: Global, books: &mut Books) -> Option<Authenticator> {

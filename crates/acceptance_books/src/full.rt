@@ -7,11 +7,11 @@ use crate::logs::{answers_call, reads_clocks};
 use crate::parties::{CLIENT, Parties, books_of, keys, new_parties};
 use authenticator::{Authenticator, Kind, Member, Number, Roster};
 use merkle_keys::Signer;
-use witness_books::node_book_code::{EventOf, Indication, Refusal};
 use secure_log::Log;
 use std::alloc::Global;
 use test_helpers::signed;
 use witness_books::Books;
+use witness_books::node_book_code::{EventOf, Indication, Refusal};
 
 /// Whether an audit of the server that could find 4,096 more waits until what was found is forwarded.
 fn waits(alloc: Global, books: &mut Books, far: &Authenticator) -> bool {

@@ -5,10 +5,10 @@ use crate::audits::{begun, done, is_given};
 use crate::logs::{closing_at, reads_clock};
 use crate::parties::{Parties, new_parties, pair_books};
 use authenticator::Authenticator;
-use witness_books::node_book_code::{EventOf, Refusal, ReplayDone, ReplyOf};
 use secure_log::Log;
 use std::alloc::Global;
 use witness_books::Books;
+use witness_books::node_book_code::{EventOf, Refusal, ReplayDone, ReplyOf};
 
 /// Whether the first job is put back, and another can't begin before.
 fn puts_back(alloc: Global, books: &mut Books) -> bool {

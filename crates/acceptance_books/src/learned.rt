@@ -3,9 +3,9 @@
 use crate::answers::{Answer, answers, learns, refuses, tells};
 use crate::parties::{Parties, new_parties};
 use authenticator::Number;
-use witness_books::node_book_code::{EventOf, Indication, Refusal};
 use std::alloc::Global;
 use test_helpers::signed;
+use witness_books::node_book_code::{EventOf, Indication, Refusal};
 
 /// Whether node 1's authenticator of a number and a hash, bytes all the same, is answered so.
 fn learns_at(alloc: Global, parties: &mut Parties, number: u32, byte: u8, answer: Answer) -> bool {

@@ -6,10 +6,10 @@ use crate::logs::{answers_call, closing_at, segment_text};
 use crate::parties::{Parties, new_parties};
 use authenticator::Authenticator;
 use challenge::check_evidence;
-use witness_books::node_book_code::Indication;
 use secure_log::Log;
 use std::alloc::Global;
 use witness_books::Books;
+use witness_books::node_book_code::Indication;
 
 /// Whether there is evidence against the server, and it is accepted.
 fn has_evidence(alloc: Global, books: &mut Books) -> bool {

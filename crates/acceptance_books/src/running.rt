@@ -2,8 +2,8 @@
 
 use crate::answers::{Answer, answer_of, spend_done, spend_job};
 use crate::parties::new_parties;
-use witness_books::node_book_code::{Event, EventOf, Indication, Question, Refusal, Reply};
 use std::alloc::Global;
+use witness_books::node_book_code::{Event, EventOf, Indication, Question, Refusal, Reply};
 use witness_books::{Books, Note, run};
 
 /// An event is spent.
@@ -76,7 +76,7 @@ fn runs(alloc: Global, books: &mut Books) -> bool {
 
 /// Whether two notes say the same.
 fn are_same(one: &Note, other: &Note) -> bool {
-    one.event.is_same(&other.event) && one.reply.is_same(&other.reply)
+    one.is_same(other)
 }
 
 /// Whether there are two notes that say the same.

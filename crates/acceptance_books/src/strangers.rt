@@ -8,11 +8,11 @@ use crate::parties::{Parties, new_parties, pair_books, server_books};
 use authenticator::{Authenticator, Number, Roster, check};
 use envelopes::{check_ack, check_envelope};
 use merkle_keys::Signer;
-use witness_books::node_book_code::{Event, EventOf, Question, Refusal, SharedSegment};
 use secure_log::log_entries::Body;
 use secure_log::{Log, check_segment};
 use std::alloc::Global;
 use witness_books::Books;
+use witness_books::node_book_code::{Event, EventOf, Question, Refusal, SharedSegment};
 
 /// What the client signed.
 #[derive(Clone, Copy)]

@@ -79,8 +79,20 @@ fn run<'a>(file: &'a str, roster_out: Option<&'a str>) -> Option<Request<'a>> {
 #[test]
 fn runs_are_asked_for(rt: HostRuntime) {
     assert!(rt; asks(rt.alloc(), "nfsacc run -", run("-", None)));
-    assert!(rt; asks(rt.alloc(), "nfsacc run f --roster-out g", run("f", Some("g"))));
-    assert!(rt; asks(rt.alloc(), "nfsacc run --roster-out=g f", run("f", Some("g"))));
+    assert!(rt;
+        asks(
+            rt.alloc(),
+            "nfsacc run f --roster-out g",
+            run("f", Some("g"))
+        )
+    );
+    assert!(rt;
+        asks(
+            rt.alloc(),
+            "nfsacc run --roster-out=g f",
+            run("f", Some("g"))
+        )
+    );
 }
 
 #[test]

@@ -20,8 +20,11 @@ impl<'a, R: Files> FileShelf<'a, R> {
     /// Writes a file beside the one that is named, and then puts it in that one's place.
     fn replace(&self, name: &str, bytes: &[u8]) -> io::Result<()> {
         let part = format!(in self.alloc; "{name}.part")?;
-        let put = fs::write(self.runtime, part.as_str(), bytes)
-            .and_then(|()| fs::rename(self.runtime, part.as_str(), name));
+        let put = fs::write(self.runtime, part.as_str(), bytes).and_then(|()| fs::rename(
+            self.runtime,
+            part.as_str(),
+            name,
+        ));
         if put.is_err() {
             let _ = fs::remove_file(self.runtime, part.as_str());
         }

@@ -3,8 +3,8 @@
 use crate::replays::{Outcome, Replayed};
 use crate::said::Said;
 use authenticator::Authenticator;
-use witness_service::witness_books_code::node_book_code::Indication;
 use std::alloc::{AllocError, Global};
+use witness_service::witness_books_code::node_book_code::Indication;
 
 /// What a line prints: words with one space between, line by line.
 #[derive(Drop)]

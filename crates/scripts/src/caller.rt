@@ -2,9 +2,9 @@
 
 use crate::said::Said;
 use authenticator::Roster;
-use witness_service::witness_books_code::node_book_code::{Event, EventOf, Question, Reply};
 use std::alloc::Global;
 use std::sync::Wait;
+use witness_service::witness_books_code::node_book_code::{Event, EventOf, Question, Reply};
 use witness_service::{Pass, SignatureCache, WitnessService, admit};
 
 /// A pass at a witness's service, with all that its steps need: whoever has it hands events over, one after

@@ -2,16 +2,16 @@
 
 use crate::acts::Run;
 use crate::line::Pair;
+use crate::packet_texts::{ack_packet, challenge_packet};
 use crate::shelf::Shelf;
 use crate::stop::Stop;
-use crate::packet_texts::{ack_packet, challenge_packet};
 use authenticator::Number;
 use commitment::{Received, Refusal};
 use envelopes::Envelope;
 use nfs_items::Time;
-use nodes::node_logs_code::{NodeLog, Receipt};
 use nodes::exchanges::exchange;
 use nodes::gateway_code::links::LinkFault;
+use nodes::node_logs_code::{NodeLog, Receipt};
 use secure_log::log_entries::Body;
 use std::alloc::{AllocError, Global};
 use std::sync::Wait;
@@ -71,12 +71,7 @@ impl<R: Threads + Wait + Sync, S: Shelf> Run<'_, R, S> {
     }
 
     /// Hands a server a message that its client didn't log.
-    fn hand_second(
-        &mut self,
-        time: Time,
-        server: u32,
-        envelope: &Envelope,
-    ) -> Result<(), Stop> {
+    fn hand_second(&mut self, time: Time, server: u32, envelope: &Envelope) -> Result<(), Stop> {
         let mut text = Vec::new(self.alloc);
         envelope.view().write(&mut text)?;
         self.hand(time, server, &text)
@@ -136,12 +131,7 @@ impl<R: Threads + Wait + Sync, S: Shelf> Run<'_, R, S> {
     }
 
     /// `ack C S K`: the server receives the message again, and the witness gets its acknowledgement.
-    pub(crate) fn acknowledge(
-        &mut self,
-        time: Time,
-        pair: Pair,
-        number: u32,
-    ) -> Result<(), Stop> {
+    pub(crate) fn acknowledge(&mut self, time: Time, pair: Pair, number: u32) -> Result<(), Stop> {
         self.parties.pair(pair).ok_or(Stop::Bad)?;
         match self.message_text(pair, u64::from(number))? {
             Some(text) => self.receive_again(time, pair.server, &text),

@@ -3,12 +3,14 @@
 use crate::caller::Caller;
 use crate::said::Said;
 use authenticator::Number;
-use witness_service::witness_books_code::node_book_code::{Back, EventOf, JobVerdict, ReplayDone, ReplayJob, ReplyOf};
 use challenge::replay_code::ReplayFault;
 use replay_pool::{NoGate, replay_round};
 use std::alloc::AllocError;
 use std::sync::Wait;
 use std::thread::Threads;
+use witness_service::witness_books_code::node_book_code::{
+    Back, EventOf, JobVerdict, ReplayDone, ReplayJob, ReplyOf,
+};
 
 /// What the replay of a node's segment found.
 #[derive(Clone, Copy)]
@@ -46,7 +48,11 @@ impl<R: Threads + Wait + Sync> Caller<'_, R> {
     /// Begins each segment that these nodes gave, in their order, has so many workers replay them at once, and
     /// files what they found: that of each node comes back, in the same order. A node that gave none is passed
     /// over. `AllocError` comes where memory ran out: a job that wasn't done is then put back.
-    pub(crate) fn replay(&mut self, nodes: &[u32], workers: usize) -> Result<Vec<Replayed>, AllocError>
+    pub(crate) fn replay(
+        &mut self,
+        nodes: &[u32],
+        workers: usize,
+    ) -> Result<Vec<Replayed>, AllocError>
         requires some { 1 ≤ workers }
         requires most { workers ≤ 16 }
     {

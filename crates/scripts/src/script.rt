@@ -2,19 +2,19 @@
 
 use crate::acts::Run;
 use crate::answer::Answer;
+use crate::caller::Caller;
 use crate::cursor::Cursor;
 use crate::line::{Line, read_line};
 use crate::parties::Listed;
 use crate::shelf::Shelf;
 use crate::stop::Stop;
-use crate::caller::Caller;
 use authenticator::Roster;
 use std::alloc::Global;
 use std::io::{self, Read, Write};
-use witness_service::witness_books_code::Books;
-use witness_service::{Pass, WitnessService};
 use std::sync::Wait;
 use std::thread::Threads;
+use witness_service::witness_books_code::Books;
+use witness_service::{Pass, WitnessService};
 
 /// How a script came to its end.
 #[derive(Clone, Copy, Debug, PartialEq, Eq)]
@@ -92,10 +92,7 @@ fn run_all<R: Threads + Wait + Sync, I: Read, O: Write, S: Shelf>(
 }
 
 /// Reads the nodes on the first lines. Tells whether a line is there that says something else.
-fn read_nodes<I: Read>(
-    alloc: Global,
-    cursor: &mut Cursor<'_, I>,
-) -> Result<(Listed, bool), Stop> {
+fn read_nodes<I: Read>(alloc: Global, cursor: &mut Cursor<'_, I>) -> Result<(Listed, bool), Stop> {
     let mut listed = Listed::new(alloc);
     for _ in 0..u64::MAX {
         if !cursor.next()? {

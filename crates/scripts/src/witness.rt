@@ -1,17 +1,17 @@
 //! What the witness of a script is asked and told.
 
 use crate::acts::Run;
-use crate::line::{Place, OneToSixteen};
-use crate::shelf::Shelf;
-use crate::stop::Stop;
+use crate::line::{OneToSixteen, Place};
 use crate::packet_texts::{answer_packet, learn_packet};
 use crate::said::Said;
+use crate::shelf::Shelf;
+use crate::stop::Stop;
 use authenticator::{Authenticator, Number};
 use challenge::{Challenge, write_case};
-use witness_service::witness_books_code::node_book_code::{Indication, Question};
 use secure_log::SegmentFault;
 use std::sync::Wait;
 use std::thread::Threads;
+use witness_service::witness_books_code::node_book_code::{Indication, Question};
 
 impl<R: Threads + Wait + Sync, S: Shelf> Run<'_, R, S> {
     /// The packet of a node's authenticator, if the node signed something there.
