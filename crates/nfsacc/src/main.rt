@@ -111,7 +111,14 @@ where
 {
     let mut shelf = FileShelf::new(rt, rt.alloc());
     let mut writer = io::writer(rt);
-    match run_script(rt, rt.alloc(), reader, &mut writer, &mut shelf, request.roster_out) {
+    match run_script(
+        rt,
+        rt.alloc(),
+        reader,
+        &mut writer,
+        &mut shelf,
+        request.roster_out,
+    ) {
         Ok(ScriptEnd::Closed) => 0,
         Ok(ScriptEnd::NotInJournal) => INPUT_FAULT,
         Ok(ScriptEnd::Bad(line)) => {
@@ -158,10 +165,7 @@ fn run(rt: &HostRuntime) -> u8 {
     match parse(alloc, words.as_slice()) {
         Ok(Request::Rpc) => rpc(rt),
         Ok(Request::Check(request)) => check_file(rt, request),
-<<<<<<< HEAD
         Ok(Request::Run(request)) => run_file(rt, request),
-=======
->>>>>>> b44470fb5d5c1c8bbf48e82d9f39517d33c216c6
         Err(error) if error.kind() == ErrorKind::OutOfMemory => report_no_memory(rt),
         Err(error) => {
             let status = error.exit_code();
