@@ -1,5 +1,7 @@
 //! Nodes that stray: a server that lies once, and a client that signs two messages under one number.
 
+ghost use Rattle.std.specs.Prelude.{◌<◌};
+
 use crate::parties::{CALL, SERVER, envelope_text, new_client, new_server};
 use authenticator::Number;
 use commitment::{Received, Refusal};

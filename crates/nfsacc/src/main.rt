@@ -12,7 +12,9 @@ use scripts::{ScriptEnd, ScriptFault, run_script};
 use shelf::FileShelf;
 use std::io::{BufReader, Read};
 use std::process::ExitCode;
-use std::rt::Files;
+use std::rt::{Env, Files};
+use std::sync::Wait;
+use std::thread::Threads;
 use std::{env, fs, io};
 
 /// The statuses of the program beside 0, which is done. A fault in the input: the records end with one, or a
@@ -149,7 +151,10 @@ fn report_no_memory(rt: &impl Eprint) -> u8 {
 }
 
 /// The status of a run with the words of the command line.
-fn run(rt: &HostRuntime) -> u8 {
+fn run<R>(rt: &R) -> u8
+where
+    R: Env + Files + Input + Print + Eprint + AllocGlobal + Threads + Wait + Sync,
+{
     let alloc = rt.alloc();
     let args = match env::args(rt) {
         Ok(args) => args,

@@ -6,6 +6,7 @@ use std::rt::Files;
 use std::{fs, io};
 
 /// The files that the system has.
+#[derive(Drop)]
 pub struct FileShelf<'a, R> {
     runtime: &'a R,
     alloc: Global,
