@@ -15,19 +15,19 @@ use std::thread::Threads;
 
 /// A script that runs: its nodes, and its pass at the witness.
 #[derive(Drop)]
-pub(crate) struct Run<'a, R, S> {
+pub(crate) struct Run<'a, 's, R, S> {
     pub(crate) alloc: Global,
     pub(crate) roster: &'a Roster,
     pub(crate) parties: Parties,
     pub(crate) caller: Caller<'a, R>,
-    pub(crate) shelf: &'a mut S,
+    pub(crate) shelf: &'s mut S,
     /// What goes between two nodes, for the time of an exchange.
     pub(crate) text: Vec<u8>,
     /// What the line that runs prints.
     pub(crate) answer: Answer,
 }
 
-impl<R: Threads + Wait + Sync, S: Shelf> Run<'_, R, S> {
+impl<R: Threads + Wait + Sync, S: Shelf> Run<'_, '_, R, S> {
     /// Does what a line says, at a time.
     pub(crate) fn act(&mut self, time: Time, act: Act<'_>) -> Result<(), Stop> {
         match act {

@@ -17,7 +17,7 @@ use std::alloc::{AllocError, Global};
 use std::sync::Wait;
 use std::thread::Threads;
 
-impl<R: Threads + Wait + Sync, S: Shelf> Run<'_, R, S> {
+impl<R: Threads + Wait + Sync, S: Shelf> Run<'_, '_, R, S> {
     /// `call C S HEX`: the whole exchange, which both nodes log.
     pub(crate) fn call(&mut self, time: Time, pair: Pair, body: &Body) -> Result<(), Stop> {
         let (client, server) = self.parties.pair(pair).ok_or(Stop::Bad)?;
@@ -82,8 +82,8 @@ impl<R: Threads + Wait + Sync, S: Shelf> Run<'_, R, S> {
         let server = self.parties.server(server).ok_or(Stop::Bad)?;
         match server.receive(self.alloc, time, text) {
             Ok(Received::New(receipt) | Received::Repeat(receipt)) => {
-                let reply = reply_of(server.node(), &receipt);
-                self.answer.reply(self.alloc, reply)?;
+                let reply = reply_of(self.alloc, server.node(), &receipt)?;
+                self.answer.reply(self.alloc, reply.as_deref())?;
                 Ok(())
             }
             Err(refusal) => self.refuse(refusal),
@@ -163,9 +163,18 @@ fn refusal_of(fault: LinkFault) -> Refusal {
 }
 
 /// The body of the reply that a receipt names, if there is one.
-fn reply_of<'a>(server: &'a NodeLog, receipt: &Receipt) -> Option<&'a [u8]> {
-    let envelope = server.envelope(receipt.reply?.get())?;
-    Some(envelope.body.bytes())
+fn reply_of(
+    alloc: Global,
+    server: &NodeLog,
+    receipt: &Receipt,
+) -> Result<Option<Vec<u8>>, AllocError> {
+    let Some(number) = receipt.reply else {
+        return Ok(None);
+    };
+    match server.envelope(number.get()) {
+        Some(envelope) => Ok(Some(envelope.body.bytes().to_vec(alloc)?)),
+        None => Ok(None),
+    }
 }
 
 /// The packet of the acknowledgement that a receipt names. It is empty where there is none.

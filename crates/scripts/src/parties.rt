@@ -88,11 +88,12 @@ impl Listed {
     fn place_of(&self, number: u32) -> usize
         ensures { result ≤ length self.now.nodes.items }
     {
-        let mut place = 0;
-        while place < self.nodes.len() && self.nodes[place].number < number {
-            place += 1;
+        for place in 0..self.nodes.len() {
+            if number <= self.nodes[place].number {
+                return place;
+            }
         }
-        place
+        self.nodes.len()
     }
 
     /// Whether the node at a place, if there is one, has a number.

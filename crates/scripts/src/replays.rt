@@ -1,5 +1,7 @@
 //! Rounds of replays.
 
+ghost use Rattle.std.specs.Prelude.{◌≤◌};
+
 use crate::caller::Caller;
 use crate::said::Said;
 use authenticator::Number;
@@ -138,18 +140,18 @@ impl<R: Threads + Wait + Sync> Caller<'_, R> {
         }
     }
 
-    /// Files what came back of each job, the first first.
+    /// Files what came back of each job. What was found is in the order of the jobs.
     fn file_each(&mut self, mut backs: Vec<Back>) -> Result<Vec<Replayed>, AllocError> {
         let mut found = Vec::new(self.alloc());
         let mut failed = false;
-        while !backs.is_empty() {
-            let filed = self.file(backs.remove(0));
-            failed |= match filed {
+        while let Some(back) = backs.pop() {
+            failed |= match self.file(back) {
                 Ok(replayed) => found.push(replayed).is_err(),
                 Err(AllocError) => true,
             };
         }
         backs.destroy_empty();
+        found.reverse();
         if failed { Err(AllocError) } else { Ok(found) }
     }
 }

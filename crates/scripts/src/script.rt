@@ -5,7 +5,7 @@ use crate::answer::Answer;
 use crate::caller::Caller;
 use crate::cursor::Cursor;
 use crate::line::{Line, read_line};
-use crate::parties::Listed;
+use crate::parties::{Listed, Parties};
 use crate::shelf::Shelf;
 use crate::stop::Stop;
 use authenticator::Roster;
@@ -77,18 +77,52 @@ fn run_all<R: Threads + Wait + Sync, I: Read, O: Write, S: Shelf>(
     }
     let parties = listed.make(alloc, &roster)?;
     let (service, pass) = open_witness(alloc, &roster)?;
+    let stage = Stage {
+        roster: &roster,
+        service: &service,
+        parties,
+        pass,
+    };
+    let pass = play(rt, alloc, stage, cursor, writer, shelf, more)?;
+    close(alloc, service, pass, writer)
+}
+
+/// What the lines after the nodes act on.
+#[derive(Drop)]
+struct Stage<'a> {
+    roster: &'a Roster,
+    service: &'a WitnessService,
+    parties: Parties,
+    pass: Pass,
+}
+
+/// Runs the line that is there, if one is, and those after it. Gives the pass back, with all receipts.
+fn play<'a, R: Threads + Wait + Sync, I: Read, O: Write, S: Shelf>(
+    rt: &'a R,
+    alloc: Global,
+    stage: Stage<'a>,
+    cursor: &mut Cursor<'_, I>,
+    writer: &mut O,
+    shelf: &mut S,
+    there: bool,
+) -> Result<Pass, Stop> {
+    let Stage {
+        roster,
+        service,
+        parties,
+        pass,
+    } = stage;
     let mut run = Run {
         alloc,
-        roster: &roster,
+        roster,
         parties,
-        caller: Caller::new(rt, alloc, &service, &roster, pass),
+        caller: Caller::new(rt, alloc, service, roster, pass),
         shelf,
         text: Vec::new(alloc),
         answer: Answer::new(alloc),
     };
-    run_lines(&mut run, cursor, writer, more)?;
-    let pass = run.caller.into_pass();
-    close(alloc, service, pass, writer)
+    run_lines(&mut run, cursor, writer, there)?;
+    Ok(run.caller.into_pass())
 }
 
 /// Reads the nodes on the first lines. Tells whether a line is there that says something else.
@@ -137,7 +171,7 @@ fn open_witness(alloc: Global, roster: &Roster) -> Result<(WitnessService, Pass)
 
 /// Runs the line that is there, if one is, and those after it.
 fn run_lines<R: Threads + Wait + Sync, I: Read, O: Write, S: Shelf>(
-    run: &mut Run<'_, R, S>,
+    run: &mut Run<'_, '_, R, S>,
     cursor: &mut Cursor<'_, I>,
     writer: &mut O,
     there: bool,
@@ -155,7 +189,7 @@ fn run_lines<R: Threads + Wait + Sync, I: Read, O: Write, S: Shelf>(
 
 /// Runs the line that is there, and writes what it prints.
 fn run_line<R: Threads + Wait + Sync, I: Read, O: Write, S: Shelf>(
-    run: &mut Run<'_, R, S>,
+    run: &mut Run<'_, '_, R, S>,
     cursor: &Cursor<'_, I>,
     writer: &mut O,
 ) -> Result<(), Stop> {

@@ -6,14 +6,21 @@ use crate::packet_texts::{answer_packet, learn_packet};
 use crate::said::Said;
 use crate::shelf::Shelf;
 use crate::stop::Stop;
-use authenticator::{Authenticator, Number};
+use authenticator::Authenticator;
 use challenge::{Challenge, write_case};
 use secure_log::SegmentFault;
 use std::sync::Wait;
 use std::thread::Threads;
 use witness_service::witness_books_code::node_book_code::{Indication, Question};
 
-impl<R: Threads + Wait + Sync, S: Shelf> Run<'_, R, S> {
+/// The first and the last number of the part of a log that is asked for.
+#[derive(Clone, Copy)]
+struct Asked {
+    first: u64,
+    last: u64,
+}
+
+impl<R: Threads + Wait + Sync, S: Shelf> Run<'_, '_, R, S> {
     /// The packet of a node's authenticator, if the node signed something there.
     fn authenticator_packet(&self, place: Place) -> Result<Option<Vec<u8>>, Stop> {
         let node = self.parties.node(place.node).ok_or(Stop::Bad)?;
@@ -58,21 +65,21 @@ impl<R: Threads + Wait + Sync, S: Shelf> Run<'_, R, S> {
     }
 
     /// What is asked of a node by the audit that is open, if one is.
-    fn asked(&mut self, node: u32) -> Result<Option<(Number, Number)>, Stop> {
-        match self.caller.ask(node, Question::Challenges) {
-            Said::Open(challenges) => Ok(asked_of(&challenges)),
-            said if said.is_no_memory() => Err(Stop::NoMemory),
-            _ => Ok(None),
+    fn asked(&mut self, node: u32) -> Result<Option<Asked>, Stop> {
+        let said = self.caller.ask(node, Question::Challenges);
+        if said.is_no_memory() {
+            return Err(Stop::NoMemory);
         }
+        Ok(asked_of(&said))
     }
 
     /// The packet of the segment that a node is asked for, if one is and the node has it.
     fn segment_packet(&mut self, node: u32) -> Result<Option<Vec<u8>>, Stop> {
-        let Some((first, last)) = self.asked(node)? else {
+        let Some(asked) = self.asked(node)? else {
             return Ok(None);
         };
         let log = self.parties.node(node).ok_or(Stop::Bad)?;
-        match log.answer_challenge(self.alloc, first.get(), last.get()) {
+        match log.answer_challenge(self.alloc, asked.first, asked.last) {
             Ok(text) => Ok(Some(answer_packet(self.alloc, &text)?)),
             Err(SegmentFault::NoMemory) => Err(Stop::NoMemory),
             Err(_) => Ok(None),
@@ -164,11 +171,22 @@ impl<R: Threads + Wait + Sync, S: Shelf> Run<'_, R, S> {
     }
 }
 
-/// What the open audit among some challenges asks for.
-fn asked_of(challenges: &[Challenge]) -> Option<(Number, Number)> {
+/// What the open audit asks for, where a witness told the open challenges.
+fn asked_of(said: &Said) -> Option<Asked> {
+    match said {
+        Said::Open(challenges) => audit_among(challenges),
+        _ => None,
+    }
+}
+
+/// What the audit among some challenges asks for.
+fn audit_among(challenges: &[Challenge]) -> Option<Asked> {
     for challenge in challenges {
         if let Challenge::Audit { first, last } = challenge {
-            return Some((*first, *last));
+            return Some(Asked {
+                first: first.get(),
+                last: last.get(),
+            });
         }
     }
     None
