@@ -39,34 +39,50 @@ pub enum Answer {
 impl Answer {
     /// Whether another says the same. A derived equality would have the proof of its exactness, for nothing.
     pub fn is_same(self, other: Answer) -> bool {
-        match self {
-            Answer::Noted => matches!(other, Answer::Noted),
-            Answer::Already => matches!(other, Answer::Already),
-            Answer::Opened => matches!(other, Answer::Opened),
-            Answer::Accepted => matches!(other, Answer::Accepted),
-            Answer::Closed => matches!(other, Answer::Closed),
-            Answer::Asked(first, last) => {
-                matches!(other, Answer::Asked(one, two) if one == first && two == last)
+        self.is_same_word(other) || self.is_same_value(other) || self.is_same_refusal(other)
+    }
+
+    /// The same of those that say no more than their name.
+    fn is_same_word(self, other: Answer) -> bool {
+        matches!(
+            (self, other),
+            (Answer::Noted, Answer::Noted)
+                | (Answer::Already, Answer::Already)
+                | (Answer::Opened, Answer::Opened)
+                | (Answer::Accepted, Answer::Accepted)
+                | (Answer::Closed, Answer::Closed)
+                | (Answer::Filed, Answer::Filed)
+                | (Answer::Returned, Answer::Returned)
+                | (Answer::Empty, Answer::Empty)
+        )
+    }
+
+    /// The same of those with a value.
+    fn is_same_value(self, other: Answer) -> bool {
+        match (self, other) {
+            (Answer::Asked(first, last), Answer::Asked(one, two)) => first == one && last == two,
+            (Answer::Job(number), Answer::Job(one)) => number == one,
+            (Answer::Forwarded(node, number), Answer::Forwarded(one, two)) => {
+                node == one && number == two
             }
-            Answer::Job(number) => matches!(other, Answer::Job(one) if one == number),
-            Answer::Filed => matches!(other, Answer::Filed),
-            Answer::Returned => matches!(other, Answer::Returned),
-            Answer::Forwarded(node, number) => {
-                matches!(other, Answer::Forwarded(one, two) if one == node && two == number)
+            (Answer::Told(indication), Answer::Told(one)) => indication == one,
+            (Answer::OpenList(count), Answer::OpenList(one)) => count == one,
+            (Answer::EvidenceIs(is_some), Answer::EvidenceIs(one)) => is_some == one,
+            _ => false,
+        }
+    }
+
+    /// The same of refusals.
+    fn is_same_refusal(self, other: Answer) -> bool {
+        match (self, other) {
+            (Answer::Refused(refusal), Answer::Refused(one)) => refusal == one,
+            (Answer::FileRefused(refusal, number), Answer::FileRefused(one, two)) => {
+                refusal == one && number == two
             }
-            Answer::Empty => matches!(other, Answer::Empty),
-            Answer::Told(told) => matches!(other, Answer::Told(one) if one == told),
-            Answer::OpenList(count) => matches!(other, Answer::OpenList(one) if one == count),
-            Answer::EvidenceIs(is_some) => {
-                matches!(other, Answer::EvidenceIs(one) if one == is_some)
+            (Answer::PutBackRefused(refusal, number), Answer::PutBackRefused(one, two)) => {
+                refusal == one && number == two
             }
-            Answer::Refused(refusal) => matches!(other, Answer::Refused(one) if one == refusal),
-            Answer::FileRefused(refusal, number) => {
-                matches!(other, Answer::FileRefused(one, two) if one == refusal && two == number)
-            }
-            Answer::PutBackRefused(refusal, number) => {
-                matches!(other, Answer::PutBackRefused(one, two) if one == refusal && two == number)
-            }
+            _ => false,
         }
     }
 }

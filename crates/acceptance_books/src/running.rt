@@ -80,9 +80,9 @@ fn are_same(one: &Note, other: &Note) -> bool {
 }
 
 /// Whether there are two notes that say the same.
-fn are_two(notes: Option<(Note, Note)>) -> bool {
+fn are_two(notes: &Option<(Note, Note)>) -> bool {
     match notes {
-        Some((one, other)) => are_same(&one, &other),
+        Some((one, other)) => are_same(one, other),
         None => false,
     }
 }
@@ -91,7 +91,7 @@ fn are_two(notes: Option<(Note, Note)>) -> bool {
 fn notes(alloc: Global, books: &mut Books) -> bool {
     let (reply, notes) = books.noted_step(alloc, EventOf::Audit(1));
     let is_answered = answer_of(reply).is_same(Answer::Refused(Refusal::NothingToAudit));
-    are_two(notes) && is_answered
+    are_two(&notes) && is_answered
 }
 
 /// Whether new books run events, and give notes of a step.
