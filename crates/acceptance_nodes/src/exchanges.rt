@@ -87,7 +87,11 @@ fn answers_by_turns(
 
 /// The same of a new server and two new clients.
 fn new_nodes_answer_by_turns(alloc: Global) -> bool {
-    match (new_client(alloc, 2), new_client(alloc, 3), new_server(alloc)) {
+    match (
+        new_client(alloc, 2),
+        new_client(alloc, 3),
+        new_server(alloc),
+    ) {
         (Some(mut one), Some(mut two), Some(mut server)) => {
             answers_by_turns(alloc, &mut one, &mut two, &mut server)
         }
