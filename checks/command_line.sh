@@ -230,10 +230,11 @@ check_devices() {
 # few can be refused without harm, as those for the words of an error's text: such a run ends as it would with memory.
 check_memory() (
     local most=90 words usual request name
-    sed -e 's/^use std::process::ExitCode;$/use std::io::Read;\n&/' \
-        -e "/^fn main(rt: HostRuntime) -> ExitCode {\$/r $cases/take_memory.txt" "$top/crates/nfsacc/src/main.rt" > main.rt
+    mkdir memory
+    cp "$top/crates/nfsacc/src/shelf.rt" memory/shelf.rt.txt
+    sed -e "/^fn main(rt: HostRuntime) -> ExitCode {\$/r $cases/take_memory.txt" "$top/crates/nfsacc/src/main.rt" > memory/main.rt.txt
     cd "$top"
-    scratch_crate nfsacc_memory "$OLDPWD/main.rt" console rpc_streams rpc clap
+    scratch_crate nfsacc_memory "$OLDPWD/memory" scripts console rpc_streams rpc clap
     mkdir "$work/cases"
     for words in rpc serve-all; do
         for ((request = 1; request <= most; request++)); do

@@ -1,11 +1,16 @@
 # To be sourced at the top of the repository: sets up programs that are kept as text beside a script.
 
-# The lines of crates.txt, which has the lowest first, for these libraries and all that they stand on.
+# The lines of crates.txt, which has the lowest first, for these libraries and all that they stand on, without what they
+# say of waiting.
 crates_below() {
     tac crates.txt | awk -v libraries="$*" '
         BEGIN { count = split(libraries, names, " "); for (i = 1; i <= count; i++) wanted[names[i]] }
         { name = $1; sub(/:$/, "", name) }
-        name in wanted { print; for (i = 2; i <= NF; i++) wanted[$i] }'
+        name in wanted {
+            line = name ":"
+            for (i = 2; i <= NF; i++) if ($i !~ /=/) { wanted[$i]; line = line " " $i }
+            print line
+        }'
 }
 
 # copy_parts CRATE PART..
