@@ -68,7 +68,7 @@ check_bad_lines() {
     head -c 1048576 /dev/zero | tr '\0' a > in
     run 1 run -
     said_is 'line 1: bad'
-    { yes '' | head -10000; echo 'ask 1'; } > in
+    { head -c 10000 /dev/zero | tr '\0' '\n'; echo 'ask 1'; } > in
     run 1 run -
     said_is 'line 10001: bad'
     printf 'node 1 server 1\nnode 2 client 1\ncall 2 1 %s\n' "$(head -c 24578 /dev/zero | tr '\0' 0)" > in
@@ -107,7 +107,7 @@ check_roster() {
     : > in
     run 0 run --roster-out roster "$stories/lie.script"
     cmp -s roster <(head -c "$(wc -c < roster)" lie.evidence) || fail 'the roster is not that of the evidence' said
-    printf 'node 1 server 1\nbad\n' > in
+    printf 'node 1 server 1\nask 2\n' > in
     rm -f roster
     run 1 run --roster-out roster -
     [ -s roster ] || fail 'no roster before a bad line' said
