@@ -6,6 +6,7 @@ fault and its entry's number.
 usage: checks/generate.py PROGRAM COUNT SEED [KIND..]    of all kinds, or of these alone
        checks/generate.py --show INDEX SEED [KIND..]     writes one of these files to standard output
        checks/generate.py --stored FOLDER                makes the files that checks/evidence keeps of it
+       checks/generate.py --handed books|replays         writes the texts that checks/refused_memory reads
 """
 
 import os
@@ -17,6 +18,7 @@ from collections import Counter
 from random import Random
 
 sys.dont_write_bytecode = True
+from generator.handed import handed  # noqa: E402
 from generator.kinds import KINDS, Case  # noqa: E402
 from generator.stored import STORED  # noqa: E402
 from verifier.evidence import Verdict, judge  # noqa: E402
@@ -70,6 +72,9 @@ def store(folder: str):
 def main() -> int:
     if len(sys.argv) == 3 and sys.argv[1] == '--stored':
         store(sys.argv[2])
+        return 0
+    if len(sys.argv) == 3 and sys.argv[1] == '--handed':
+        sys.stdout.buffer.write(handed(sys.argv[2]))
         return 0
     if len(sys.argv) < 4:
         print(__doc__, file=sys.stderr)

@@ -11,16 +11,25 @@ cd "$(dirname "$0")/.."
 # many others then that the next one to be tried is this one.
 readonly REFUSED=400
 
-# Of each subject how many requests the calls have at most, and how many what is made first has, which aren't refused.
+# Of each subject one more than the requests that the calls have, and how many what is made first has, which aren't refused.
 declare -rA MOST=(
-    [replies]=30 [files]=90 [keys]=10 [log]=84 [state]=130 [calls]=124 [streams]=24 [steps]=30 [entries]=30 [segments]=72
-    [evidence]=150 [books]=34 [filings]=13
+    [replies]=26 [files]=35 [keys]=8 [log]=81 [state]=120 [calls]=77 [streams]=19 [steps]=26 [entries]=26 [segments]=34
+    [evidence]=105 [books]=34 [filings]=13 [served]=27 [returned]=13 [jobs]=40 [rounds]=48
 )
 declare -rA MADE=(
-    [replies]=0 [files]=0 [keys]=0 [log]=1 [state]=1 [calls]=11 [streams]=15 [steps]=113 [entries]=120 [segments]=149
-    [evidence]=1 [books]=171 [filings]=234
+    [replies]=0 [files]=7 [keys]=0 [log]=1 [state]=1 [calls]=11 [streams]=15 [steps]=20 [entries]=27 [segments]=27
+    [evidence]=1 [books]=90 [filings]=133 [served]=59 [returned]=122 [jobs]=74 [rounds]=100
 )
-readonly CASE=$PWD/checks/evidence/wrong_checkpoint.evidence
+readonly CHECKS=$PWD/checks
+
+# What a subject reads besides its name.
+texts_of() {
+    case $1 in
+        evidence) cat "$CHECKS/evidence/wrong_checkpoint.evidence" ;;
+        steps | entries | segments) cat "$work/to_replays" ;;
+        books | filings | served | returned | jobs | rounds) cat "$work/to_books" ;;
+    esac
+}
 
 # Standard input for each run of a subject: its name, what it reads, and a byte for each of the others. In run 0 the last
 # of the others is refused.
@@ -29,7 +38,7 @@ make_cases() {
     for ((request = 0; request <= ${MOST[$subject]}; request++)); do
         {
             echo "$subject"
-            if [ "$subject" = evidence ]; then cat "$CASE"; fi
+            texts_of "$subject"
             head -c $((others - request)) /dev/zero
         } > "$work/cases/$subject.$(printf %03d $request)"
     done
@@ -144,12 +153,25 @@ check_subject() {
         filings)
             exactly_refused 1 'File of a sound verdict' 3 Forward 1 'File of a fault' 7 'Ask of the evidence'
             ;;
+        # A service also takes memory for its pass, its journal, and two notes of the event and the reply.
+        served)
+            exactly_refused 8 'Deliver of an authenticator' 1 Audit 15 'Deliver of a segment' 2 PutBack
+            ;;
+        returned) exactly_refused 3 'File of a sound verdict' 9 Forward ;;
+        # Each directory's map asks for more room than it needs, and goes on where that is refused.
+        jobs) least_refused 30 ReplayJob::run ;;
+        rounds) least_refused 40 replay_round ;;
     esac
 }
 
 subjects=("$@")
-if [ $# -eq 0 ]; then subjects=(replies files keys log state calls streams steps entries segments evidence books filings); fi
-scratch_crate refused_memory checks/refused_memory rpc_streams witness_books node_book packets challenge evidence_showings envelopes replay node_logs checkpoint state_machine gateway service nfs_items rpc commitment secure_log authenticator merkle_keys xdr sha2
+if [ $# -eq 0 ]; then
+    subjects=(
+        replies files keys log state calls streams steps entries segments evidence books filings served returned jobs rounds
+    )
+fi
+scratch_crate refused_memory checks/refused_memory rpc_streams replay_pool witness_service witness_books node_book packets challenge evidence_showings envelopes replay node_logs checkpoint state_machine gateway service nfs_items rpc commitment secure_log authenticator merkle_keys xdr sha2
+for to in books replays; do python3 "$CHECKS/generate.py" --handed $to > "$work/to_$to"; done
 mkdir "$work/cases"
 for subject in "${subjects[@]}"; do make_cases "$subject"; done
 rt try --steps 1 --fail-alloc $REFUSED --cases "$work/cases" > "$work/log" 2>&1 || { cat "$work/log" >&2; exit 1; }

@@ -44,6 +44,7 @@ scratch_program() {
     work=$(mktemp -d)
     trap 'rm -rf "$work"' EXIT
     mkdir "$work/crates"
+    cp HANDLES "$work/"
     crates_below "$@" > "$work/crates.txt"
     while IFS=: read -r crate _; do
         copy_parts "$crate" $parts

@@ -1,3 +1,5 @@
+pub use Rattle.evidence_showings.specs as evidence_showings
+pub use Rattle.replay.specs as replay
 pub use Rattle.evidence_showings.specs.evidence_spec as evidence_spec
 pub mod FaultNumbers
 pub mod Charges

@@ -25,16 +25,16 @@ use Rattle.state_machine.specs.file_texts.declared.parts.AttributesPart.{Attribu
 use Rattle.state_machine.specs.file_texts.declared.parts.BodyPart.{BodyPart}
 use Rattle.state_machine.specs.file_texts.declared.parts.BodyPart.TheVariants.{Regular, Symlink, Directory}
 use Rattle.state_machine.specs.file_texts.declared.parts.FilePart.{FilePart}
-use Rattle.state_spec.specs.State.{ReceivedMessage, received_cmp, State, IsState}
-use Rattle.state_spec.specs.State as spec
-use Rattle.state_spec.specs.StateItems.{sent_item, received_value, state_item}
-use Rattle.state_spec.specs.StateText.{Said, said}
-use Rattle.state_spec.specs.StateValues.{map_from, set_from, received_from, sent_from, stage_of, stage_from}
-use Rattle.state_spec.specs.StateValues.{world_from, machine_from, state_from}
-use Rattle.state_spec.specs.Rules.{ListsRise, KeepsRules}
-use Rattle.state_spec.proofs.Back.{map_back}
-use Rattle.state_spec.proofs.Forth.{entries_of_map, forth}
-use Rattle.state_spec.proofs.Ruled.{rules_of_state, state_of_rules}
+use Rattle.state_machine.specs.state_spec.State.{ReceivedMessage, received_cmp, State, IsState}
+use Rattle.state_machine.specs.state_spec.State as spec
+use Rattle.state_machine.specs.state_spec.StateItems.{sent_item, received_value, state_item}
+use Rattle.state_machine.specs.state_spec.StateText.{Said, said}
+use Rattle.state_machine.specs.state_spec.StateValues.{map_from, set_from, received_from, sent_from, stage_of, stage_from}
+use Rattle.state_machine.specs.state_spec.StateValues.{world_from, machine_from, state_from}
+use Rattle.state_machine.specs.state_spec.Rules.{ListsRise, KeepsRules}
+use Rattle.state_machine.proofs.state_spec.Back.{map_back}
+use Rattle.state_machine.proofs.state_spec.Forth.{entries_of_map, forth}
+use Rattle.state_machine.proofs.state_spec.Ruled.{rules_of_state, state_of_rules}
 use Rattle.state_machine.specs.States.Numbered.{numbered}
 use Rattle.state_machine.specs.declared.states.texts.NumberedSend.{NumberedSend}
 use Rattle.checkpoint.specs.Parts.SaidParts.{sent_said, mounts_given, stage_said, world_said, machine_said}

@@ -1,6 +1,6 @@
 pub use Rattle.state_machine.specs.service as service
 pub use Rattle.state_machine.specs as state_machine
-pub use Rattle.state_spec.specs as state_spec
+pub use Rattle.state_machine.specs.state_spec as state_spec
 pub mod Trees
 pub mod Parts
 pub mod Fronts

@@ -14,5 +14,5 @@ pub use digest::state_digest;
 pub use read::{StateFault, read_state};
 pub use shared::SharedState;
 pub use state_machine as state_machine_code;
-pub use state_spec as state_spec_code;
+pub use state_machine::state_spec_code;
 pub use text::state_text;

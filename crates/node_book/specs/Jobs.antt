@@ -4,9 +4,9 @@ use Rattle.std.specs.FinMap.{len}
 use Rattle.std.specs.Arc.{arc_value}
 use Rattle.checkpoint.specs.state_machine.declared.states.received.TheConstants.{MAX_RECEIVED}
 use Rattle.checkpoint.specs.state_machine.declared.states.sends.TheConstants.{MAX_SENDS}
-use Rattle.replay.specs.replay_spec.Replay.{segment_verdict}
-use Rattle.replay.specs.replay_spec.Replay as spec
-use Rattle.replay.specs.Faults.{fault_in}
+use Rattle.challenge.specs.replay.replay_spec.Replay.{segment_verdict}
+use Rattle.challenge.specs.replay.replay_spec.Replay as spec
+use Rattle.challenge.specs.replay.Faults.{fault_in}
 use Rattle.witness_spec.specs.Events.{JobParts, DoneParts}
 use Rattle.node_book.specs.declared.verdict.JobVerdict.{JobVerdict}
 use Rattle.node_book.specs.declared.verdict.JobVerdict.TheVariants.{Sound, Fault}

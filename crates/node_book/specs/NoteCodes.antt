@@ -12,9 +12,9 @@ use Rattle.evidence_spec.specs.Evidence.{EvidenceParts}
 use Rattle.challenge.specs.contracts.evidence.Evidence as evidences
 use Rattle.checkpoint.specs.state_spec.State.{State}
 use Rattle.checkpoint.specs.state_spec.Codes.{state_code}
-use Rattle.replay.specs.replay_spec.Stepping.{ReplayFault, BadForm, BadReceive, Repeated, WrongReply, ClockBack}
-use Rattle.replay.specs.replay_spec.Stepping.{WrongCheckpoint, BadAck, fault_number}
-use Rattle.replay.specs.replay_spec.Replay.{Verdict, Sound, Fault}
+use Rattle.challenge.specs.replay.replay_spec.Stepping.{ReplayFault, BadForm, BadReceive, Repeated, WrongReply, ClockBack}
+use Rattle.challenge.specs.replay.replay_spec.Stepping.{WrongCheckpoint, BadAck, fault_number}
+use Rattle.challenge.specs.replay.replay_spec.Replay.{Verdict, Sound, Fault}
 use Rattle.witness_spec.specs.Refusals.{Refusal, UnknownNode, Garbage, BadSignature, LearnedFull}
 use Rattle.witness_spec.specs.Refusals.{ChallengesFull, OutboxFull, TooFar, NothingToAudit, Busy, NotAsked}
 use Rattle.witness_spec.specs.Refusals.{NoJob, WrongJob, BookFull, NoMemory, refusal_number}

@@ -16,8 +16,8 @@ use crate::reply::{PlainReply, Reply, ReplyOf};
 use crate::rows::{Exposure, Rows, Stage};
 use crate::step::Step;
 use authenticator::Member;
+use challenge::replay_code::opening_state;
 use checkpoint::SharedState;
-use replay::opening_state;
 use std::alloc::{AllocError, Global};
 use std::marker::Model;
 

@@ -2,13 +2,13 @@
 
 ghost use Rattle.std.specs.Prelude.{◌≡◌, IfOk};
 ghost use Rattle.std.specs.Arc.{arc_value};
-ghost use Rattle.replay.specs.Verdicts.{verdict_in};
+ghost use Rattle.challenge.specs.replay.Verdicts.{verdict_in};
 ghost use Rattle.node_book.specs.Jobs.{HasRoom, job_verdict, verdict_told};
 
 use crate::plain::PlainJob;
 use authenticator::{Authenticator, Number};
+use challenge::replay_code::{ReplayFault, Verdict, replay_entries};
 use checkpoint::SharedState;
-use replay::{ReplayFault, Verdict, replay_entries};
 use std::alloc::{AllocError, Global};
 use std::sync::Arc;
 

@@ -15,4 +15,5 @@ pub use service as service_code;
 pub use service::mount_code;
 pub use stage::Stage;
 pub use state::State;
+pub use state_spec as state_spec_code;
 pub use state_spec::file_texts_code;

@@ -5,7 +5,7 @@ use Rattle.std.proofs.Common.{[], ◌∷◌, ◌++◌, Option, Some, None, refl,
 use Rattle.std.proofs.Common.{append_assoc}
 use Rattle.std.proofs.lemmas.Bool.{and_parts, and_from, or_cases, or_left, or_right, true≢false}
 use Rattle.authenticator.specs.declared.member.Member.{Member}
-use Rattle.state_spec.specs.State.{State}
+use Rattle.witness_spec.specs.state_spec.State.{State}
 use Rattle.authenticator.specs.Signing.{is_same}
 use Rattle.witness_spec.specs.replay_spec.Placed.{placed_in}
 use Rattle.witness_spec.specs.replay_spec.Replay.{Honest, Verdict, Sound, Fault, segment_verdict}

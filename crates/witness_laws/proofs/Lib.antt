@@ -1,3 +1,5 @@
+pub use Rattle.witness_spec.proofs.state_spec as state_spec
+pub use Rattle.witness_spec.proofs as witness_spec
 pub use Rattle.witness_spec.proofs.evidence_spec as evidence_spec
 pub mod OfAnswers
 pub mod OfBooks

@@ -1,2 +1,3 @@
+pub use Rattle.state_spec.proofs as state_spec
 pub use Rattle.evidence_spec.proofs as evidence_spec
 pub use Rattle.evidence_spec.proofs.replay_spec as replay_spec

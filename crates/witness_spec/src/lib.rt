@@ -2,3 +2,4 @@
 #![tactic(auto)]
 
 pub use evidence_spec as evidence_spec_code;
+pub use state_spec as state_spec_code;

@@ -5,15 +5,15 @@ use Rattle.std.proofs.Common.{length, append-nil, Option, Some, None, refl, sym,
 use Rattle.std.proofs.Common.{◌∙◌, arith}
 use Rattle.secure_log.specs.Segment.{SegmentParts, ClosedParts, segment_pairs}
 use Rattle.secure_log.specs.LogEntries.Chain.{IsAmong}
-use Rattle.evidence_spec.specs.Showing.{segment_showing}
-use Rattle.evidence_spec.specs.Evidence.{EvidenceParts}
-use Rattle.witness_spec.specs.Replies.{Accepted}
-use Rattle.witness_spec.specs.Watched.{Watched}
-use Rattle.witness_spec.specs.Steps.{Answer, Past}
-use Rattle.witness_spec.specs.Pairs.{Pair, pair_of}
-use Rattle.witness_spec.specs.Standing.{shown, all_accepted, open_after, Stage, Wanted, audited, forwards}
-use Rattle.witness_spec.specs.Exposing.{evidence}
-use Rattle.witness_spec.specs.Histories.{HoldSame}
+use Rattle.witness_laws.specs.evidence_spec.Showing.{segment_showing}
+use Rattle.witness_laws.specs.evidence_spec.Evidence.{EvidenceParts}
+use Rattle.witness_laws.specs.witness_spec.Replies.{Accepted}
+use Rattle.witness_laws.specs.witness_spec.Watched.{Watched}
+use Rattle.witness_laws.specs.witness_spec.Steps.{Answer, Past}
+use Rattle.witness_laws.specs.witness_spec.Pairs.{Pair, pair_of}
+use Rattle.witness_laws.specs.witness_spec.Standing.{shown, all_accepted, open_after, Stage, Wanted, audited, forwards}
+use Rattle.witness_laws.specs.witness_spec.Exposing.{evidence}
+use Rattle.witness_laws.specs.witness_spec.Histories.{HoldSame}
 use Rattle.witness_steps.specs.Books.{Book, exposed, book_shown}
 use Rattle.witness_steps.specs.Going.{first_evidence, fork_evidence, evidence_accepted, after_answer}
 use Rattle.witness_steps.specs.Fitting.{IsWhole, IsMore, FitsTogether}

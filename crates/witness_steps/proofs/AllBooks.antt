@@ -5,13 +5,13 @@ use Rattle.std.proofs.Common.{refl, sym, ap, subst, ◌∙◌, eqb-true}
 use Rattle.std.specs.Prelude.{option_map}
 use Rattle.authenticator.specs.Roster.{IsRoster}
 use Rattle.authenticator.specs.declared.member.Member.{Member}
-use Rattle.witness_spec.specs.Events.{Event, IsEvent}
-use Rattle.witness_spec.specs.Replies.{Reply}
-use Rattle.witness_spec.specs.Watched.{Watched, watched, IsInRoster}
-use Rattle.witness_spec.specs.Steps.{Step}
-use Rattle.witness_spec.specs.Whose.{whose}
-use Rattle.witness_spec.specs.Histories.{StandEach, own_of}
-use Rattle.witness_spec.specs.Contract.{book_in, with_book, StepsTo, BookStepsTo}
+use Rattle.witness_laws.specs.witness_spec.Events.{Event, IsEvent}
+use Rattle.witness_laws.specs.witness_spec.Replies.{Reply}
+use Rattle.witness_laws.specs.witness_spec.Watched.{Watched, watched, IsInRoster}
+use Rattle.witness_laws.specs.witness_spec.Steps.{Step}
+use Rattle.witness_laws.specs.witness_spec.Whose.{whose}
+use Rattle.witness_laws.specs.witness_spec.Histories.{StandEach, own_of}
+use Rattle.witness_laws.specs.witness_spec.Contract.{book_in, with_book, StepsTo, BookStepsTo}
 use Rattle.witness_laws.proofs.OwnSteps.{of_member}
 use Rattle.witness_laws.proofs.OfBooks.Standing.{found_stands, one_book}
 use Rattle.witness_laws.proofs.OfBooks.Runs.{books_after}

@@ -15,9 +15,9 @@ use Rattle.secure_log.specs.LogEntries.Chain.{IsAmong}
 use Rattle.secure_log.specs.Segment.{SegmentParts, segment_pairs}
 use Rattle.secure_log.specs.SegmentHashes.{segment_hash_at}
 use Rattle.secure_log.proofs.SegmentPlaces.{each_place_of}
-use Rattle.evidence_spec.specs.Evidence.{EvidenceParts}
-use Rattle.witness_spec.specs.Pairs.{Pair, pair_of, differ, is_fork, first_fork}
-use Rattle.witness_spec.specs.Standing.{Wanted}
+use Rattle.witness_laws.specs.evidence_spec.Evidence.{EvidenceParts}
+use Rattle.witness_laws.specs.witness_spec.Pairs.{Pair, pair_of, differ, is_fork, first_fork}
+use Rattle.witness_laws.specs.witness_spec.Standing.{Wanted}
 use Rattle.witness_steps.specs.Books.{Book, exposed, exposing_pairs, book_shown}
 use Rattle.witness_steps.specs.Fitting.{IsMore, FitsTogether}
 use Rattle.witness_steps.specs.LookUps.{hash_among, hash_shown, is_other_hash, HasOneHash}

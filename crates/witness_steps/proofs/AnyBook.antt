@@ -3,14 +3,14 @@
 use Rattle.std.proofs.Common.{◌≡◌, ◌↔◌, inl, List, ◌∷◌, filter, flat_map, Some, Ok}
 use Rattle.std.proofs.Common.{sym, ap₂, subst, ◌∙◌}
 use Rattle.secure_log.specs.Segment.{SegmentParts}
-use Rattle.witness_spec.specs.Events.{Event, IsEvent}
-use Rattle.witness_spec.specs.Replies.{Reply}
-use Rattle.witness_spec.specs.Watched.{Watched, IsInRoster}
-use Rattle.witness_spec.specs.Steps.{Step, Past}
-use Rattle.witness_spec.specs.Whose.{whose}
-use Rattle.witness_spec.specs.Standing.{End}
-use Rattle.witness_spec.specs.Owing.{Owes}
-use Rattle.witness_spec.specs.Histories.{History, OwesTo, IsHistory, HoldSame, StandsFor, own_of}
+use Rattle.witness_laws.specs.witness_spec.Events.{Event, IsEvent}
+use Rattle.witness_laws.specs.witness_spec.Replies.{Reply}
+use Rattle.witness_laws.specs.witness_spec.Watched.{Watched, IsInRoster}
+use Rattle.witness_laws.specs.witness_spec.Steps.{Step, Past}
+use Rattle.witness_laws.specs.witness_spec.Whose.{whose}
+use Rattle.witness_laws.specs.witness_spec.Standing.{End}
+use Rattle.witness_laws.specs.witness_spec.Owing.{Owes}
+use Rattle.witness_laws.specs.witness_spec.Histories.{History, OwesTo, IsHistory, HoldSame, StandsFor, own_of}
 use Rattle.witness_laws.proofs.Checked.{checked_event}
 use Rattle.witness_laws.proofs.LeftOut.{taken}
 use Rattle.witness_steps.specs.Books.{Book, is_audited, book_audited, parts_of}

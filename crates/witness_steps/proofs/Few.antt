@@ -10,7 +10,7 @@ use Rattle.authenticator.specs.declared.member.Kind.TheVariants as kinds
 use Rattle.authenticator.specs.declared.member.Member.{Member}
 use Rattle.secure_log.specs.Segment.{SegmentParts}
 use Rattle.secure_log.specs.LogEntries.Chain.{IsAmong}
-use Rattle.state_spec.specs.State.{State, received_cmp, SentMessage}
+use Rattle.witness_laws.specs.state_spec.State.{State, received_cmp, SentMessage}
 use Rattle.replay_spec.specs.Opening.{opening_by}
 use Rattle.replay_spec.specs.Placed.{placed_in}
 use Rattle.replay_spec.specs.Stepping.{is_send}
@@ -18,13 +18,13 @@ use Rattle.replay_spec.specs.LogLaws.LoggedMessages.{is_recv}
 use Rattle.replay_spec.specs.Replay.{Verdict, Sound, Fault, segment_verdict}
 use Rattle.replay_spec.proofs.Runs.{is_sound}
 use Rattle.replay_spec.proofs.OfLogLaws.Counts.{counted_on}
-use Rattle.witness_spec.specs.Refusals.{NoJob, WrongJob}
-use Rattle.witness_spec.specs.Events.{JobParts}
-use Rattle.witness_spec.specs.Replies.{Reply, Noted, Opened, Accepted, Closed, Asked, Job, Filed}
-use Rattle.witness_spec.specs.Replies.{Returned, Forwarded, FileRefused}
-use Rattle.witness_spec.specs.Steps.{Step, Learn, SendChallenge, Answer, AckIn, Audit, Begin, File, PutBack}
-use Rattle.witness_spec.specs.Steps.{Forward, Ask}
-use Rattle.witness_spec.specs.Standing.{End}
+use Rattle.witness_laws.specs.witness_spec.Refusals.{NoJob, WrongJob}
+use Rattle.witness_laws.specs.witness_spec.Events.{JobParts}
+use Rattle.witness_laws.specs.witness_spec.Replies.{Reply, Noted, Opened, Accepted, Closed, Asked, Job, Filed}
+use Rattle.witness_laws.specs.witness_spec.Replies.{Returned, Forwarded, FileRefused}
+use Rattle.witness_laws.specs.witness_spec.Steps.{Step, Learn, SendChallenge, Answer, AckIn, Audit, Begin, File, PutBack}
+use Rattle.witness_laws.specs.witness_spec.Steps.{Forward, Ask}
+use Rattle.witness_laws.specs.witness_spec.Standing.{End}
 use Rattle.witness_steps.specs.Books.{Book, book_opening, exposed, job_out}
 use Rattle.witness_steps.specs.Replying.{BookOwes}
 use Rattle.witness_steps.specs.Going.{book_after, having_filed}

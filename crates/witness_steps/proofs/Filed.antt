@@ -12,24 +12,24 @@ use Rattle.authenticator.specs.declared.authenticator.Authenticator.{Authenticat
 use Rattle.secure_log.specs.declared.log_entries.entry.Entry.{Entry}
 use Rattle.secure_log.specs.LogEntries.Chain.{zeros}
 use Rattle.secure_log.specs.Segment.{SegmentParts, segment_pairs}
-use Rattle.state_spec.specs.State.{State}
+use Rattle.witness_laws.specs.state_spec.State.{State}
 use Rattle.replay_spec.specs.Placed.{placed_in}
 use Rattle.replay_spec.specs.Replay.{Verdict, Sound, Fault}
 use Rattle.replay_spec.specs.LogLaws.Laws.{SendsLieBelow}
 use Rattle.replay_spec.proofs.Runs.{is_sound}
 use Rattle.replay_spec.proofs.OfLogLaws.Counts.{lie_below}
 use Rattle.secure_log.specs.LogEntries.Chain.{IsAmong}
-use Rattle.evidence_spec.specs.Evidence.{Charge, Replay, EvidenceParts}
-use Rattle.witness_spec.specs.Events.{DoneParts}
-use Rattle.witness_spec.specs.Replies.{Filed}
-use Rattle.witness_spec.specs.Watched.{Watched}
-use Rattle.witness_spec.specs.Steps.{File, Past}
-use Rattle.witness_spec.specs.Pairs.{pair_of, first_pair}
-use Rattle.witness_spec.specs.Standing.{End, end_of, moved_by, verdict_on, sound_entries, audited, shown}
-use Rattle.witness_spec.specs.Standing.{noted_before}
-use Rattle.witness_spec.specs.Standing.{kept, Out, sound_found, all_found, forwards}
-use Rattle.witness_spec.specs.Exposing.{replay_of, evidence}
-use Rattle.witness_spec.specs.Histories.{HoldSame}
+use Rattle.witness_laws.specs.evidence_spec.Evidence.{Charge, Replay, EvidenceParts}
+use Rattle.witness_laws.specs.witness_spec.Events.{DoneParts}
+use Rattle.witness_laws.specs.witness_spec.Replies.{Filed}
+use Rattle.witness_laws.specs.witness_spec.Watched.{Watched}
+use Rattle.witness_laws.specs.witness_spec.Steps.{File, Past}
+use Rattle.witness_laws.specs.witness_spec.Pairs.{pair_of, first_pair}
+use Rattle.witness_laws.specs.witness_spec.Standing.{End, end_of, moved_by, verdict_on, sound_entries, audited, shown}
+use Rattle.witness_laws.specs.witness_spec.Standing.{noted_before}
+use Rattle.witness_laws.specs.witness_spec.Standing.{kept, Out, sound_found, all_found, forwards}
+use Rattle.witness_laws.specs.witness_spec.Exposing.{replay_of, evidence}
+use Rattle.witness_laws.specs.witness_spec.Histories.{HoldSame}
 use Rattle.witness_steps.specs.Books.{Book, exposed, exposing_pairs, book_shown, book_audited}
 use Rattle.witness_steps.specs.Going.{evidence_of, first_evidence, verdict_charge, evidence_filed}
 use Rattle.witness_steps.specs.Going.{learned_above}

@@ -17,17 +17,17 @@ use Rattle.packets.specs.Judging.{judged}
 use Rattle.replay_spec.specs.Opening.{opening_by}
 use Rattle.replay_spec.specs.LogLaws.Laws.{SendsLieBelow}
 use Rattle.secure_log.specs.LogEntries.Chain.{IsAmong}
-use Rattle.witness_spec.specs.Refusals.{Refusal, BadSignature}
-use Rattle.witness_spec.specs.Events.{PublicKey, Event, IsEvent}
-use Rattle.witness_spec.specs.Events as events
-use Rattle.witness_spec.specs.Replies.{Reply, is_want_of_memory}
-use Rattle.witness_spec.specs.Watched.{Watched, IsInRoster}
-use Rattle.witness_spec.specs.Steps.{Step, Learn, SendChallenge, Answer, AckIn, Audit, Begin, File, PutBack}
-use Rattle.witness_spec.specs.Steps.{Forward}
-use Rattle.witness_spec.specs.Steps.{Ask, OwnStep, Past}
-use Rattle.witness_spec.specs.Whose.{step_of, is_key_of, same_roster, signed_step, sent_step, closed_step}
-use Rattle.witness_spec.specs.Whose.{delivered_step, judged_step, whose}
-use Rattle.witness_spec.specs.Histories.{History, own_step, own, IsHistory, AreOwed, own_of}
+use Rattle.witness_laws.specs.witness_spec.Refusals.{Refusal, BadSignature}
+use Rattle.witness_laws.specs.witness_spec.Events.{PublicKey, Event, IsEvent}
+use Rattle.witness_laws.specs.witness_spec.Events as events
+use Rattle.witness_laws.specs.witness_spec.Replies.{Reply, is_want_of_memory}
+use Rattle.witness_laws.specs.witness_spec.Watched.{Watched, IsInRoster}
+use Rattle.witness_laws.specs.witness_spec.Steps.{Step, Learn, SendChallenge, Answer, AckIn, Audit, Begin, File, PutBack}
+use Rattle.witness_laws.specs.witness_spec.Steps.{Forward}
+use Rattle.witness_laws.specs.witness_spec.Steps.{Ask, OwnStep, Past}
+use Rattle.witness_laws.specs.witness_spec.Whose.{step_of, is_key_of, same_roster, signed_step, sent_step, closed_step}
+use Rattle.witness_laws.specs.witness_spec.Whose.{delivered_step, judged_step, whose}
+use Rattle.witness_laws.specs.witness_spec.Histories.{History, own_step, own, IsHistory, AreOwed, own_of}
 use Rattle.witness_laws.proofs.OwnSteps.{own_owed}
 use Rattle.witness_laws.proofs.Checked.{AreChecked, own_checked}
 use Rattle.witness_laws.proofs.OfEvidence.Told.{Told, Without, With, told}

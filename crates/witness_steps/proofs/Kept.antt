@@ -8,11 +8,11 @@ use Rattle.std.specs.List.{AllByRecursion}
 use Rattle.authenticator.specs.declared.authenticator.Authenticator.{Authenticator}
 use Rattle.secure_log.specs.Segment.{SegmentParts, segment_pairs}
 use Rattle.secure_log.specs.LogEntries.Chain.{IsAmong}
-use Rattle.evidence_spec.specs.Showing.{ShowingParts}
-use Rattle.evidence_spec.specs.Evidence.{Charge, Fork, EvidenceParts}
-use Rattle.witness_spec.specs.Pairs.{Pair, pair_of, first_pair, first_fork}
-use Rattle.witness_spec.specs.Exposing.{fork_of, showing_before}
-use Rattle.witness_spec.specs.Histories.{HoldSame}
+use Rattle.witness_laws.specs.evidence_spec.Showing.{ShowingParts}
+use Rattle.witness_laws.specs.evidence_spec.Evidence.{Charge, Fork, EvidenceParts}
+use Rattle.witness_laws.specs.witness_spec.Pairs.{Pair, pair_of, first_pair, first_fork}
+use Rattle.witness_laws.specs.witness_spec.Exposing.{fork_of, showing_before}
+use Rattle.witness_laws.specs.witness_spec.Histories.{HoldSame}
 use Rattle.witness_steps.specs.Books.{Book, exposing_pairs, book_shown}
 use Rattle.witness_steps.specs.Going.{evidence_of, fork_evidence}
 use Rattle.witness_steps.specs.Fitting.{NumbersDiffer}

@@ -7,20 +7,20 @@ use Rattle.std.proofs.lemmas.Bool.{and_parts, leb-true}
 use Rattle.authenticator.specs.declared.authenticator.Authenticator.{Authenticator}
 use Rattle.authenticator.specs.declared.member.Member.{Member}
 use Rattle.secure_log.specs.Segment.{SegmentParts}
-use Rattle.evidence_spec.specs.Showing.{ShowingParts}
-use Rattle.evidence_spec.specs.Evidence.{Charge, Fork, EvidenceParts}
-use Rattle.witness_spec.specs.Replies.{Reply}
-use Rattle.witness_spec.specs.Watched.{Watched}
-use Rattle.witness_spec.specs.Steps.{Step, Past}
-use Rattle.witness_spec.specs.Owing.{Owes}
+use Rattle.witness_laws.specs.evidence_spec.Showing.{ShowingParts}
+use Rattle.witness_laws.specs.evidence_spec.Evidence.{Charge, Fork, EvidenceParts}
+use Rattle.witness_laws.specs.witness_spec.Replies.{Reply}
+use Rattle.witness_laws.specs.witness_spec.Watched.{Watched}
+use Rattle.witness_laws.specs.witness_spec.Steps.{Step, Past}
+use Rattle.witness_laws.specs.witness_spec.Owing.{Owes}
 use Rattle.witness_steps.specs.Replying.{BookOwes}
 use Rattle.witness_steps.proofs.Replies.{owes_same}
-use Rattle.witness_spec.specs.Pairs.{Pair, differ, first_fork}
-use Rattle.witness_spec.specs.Standing.{shown, is_exposed, kept, all_accepted, Stage, NoAudit, Wanted, Given}
-use Rattle.witness_spec.specs.Standing.{Out}
-use Rattle.witness_spec.specs.Standing.{stage_of, audited, all_found, forwards}
-use Rattle.witness_spec.specs.Exposing.{segment_holding, or_segment, fork_of, new_fork, evidence}
-use Rattle.witness_spec.specs.Histories.{HoldSame}
+use Rattle.witness_laws.specs.witness_spec.Pairs.{Pair, differ, first_fork}
+use Rattle.witness_laws.specs.witness_spec.Standing.{shown, is_exposed, kept, all_accepted, Stage, NoAudit, Wanted, Given}
+use Rattle.witness_laws.specs.witness_spec.Standing.{Out}
+use Rattle.witness_laws.specs.witness_spec.Standing.{stage_of, audited, all_found, forwards}
+use Rattle.witness_laws.specs.witness_spec.Exposing.{segment_holding, or_segment, fork_of, new_fork, evidence}
+use Rattle.witness_laws.specs.witness_spec.Histories.{HoldSame}
 use Rattle.witness_steps.specs.Books.{Book, exposed, book_shown, book_audited}
 use Rattle.witness_steps.specs.Going.{first_evidence, fork_evidence}
 use Rattle.witness_steps.specs.Fitting.{NumbersDiffer, FitsTogether, IsBookOf}

@@ -11,17 +11,17 @@ use Rattle.authenticator.specs.Signing.{is_same}
 use Rattle.authenticator.proofs.Signed.{list_same}
 use Rattle.secure_log.specs.Segment.{segment_pairs}
 use Rattle.secure_log.specs.LogEntries.Chain.{IsAmong}
-use Rattle.evidence_spec.specs.Showing.{authenticator_showing}
-use Rattle.evidence_spec.specs.Evidence.{EvidenceParts}
-use Rattle.witness_spec.specs.Replies.{Noted}
-use Rattle.witness_spec.specs.Watched.{Watched}
-use Rattle.witness_spec.specs.Steps.{Learn, Past}
-use Rattle.witness_spec.specs.Pairs.{pair_of, first_pair, same_pair, is_shown}
-use Rattle.witness_spec.specs.Standing.{End, end_of, pairs_noted, shown, is_exposed, unless_exposed}
-use Rattle.witness_spec.specs.Standing.{noted_before, kept}
-use Rattle.witness_spec.specs.Standing.{Stage, NoAudit, Wanted, Given, Out, audited, forwards}
-use Rattle.witness_spec.specs.Exposing.{evidence}
-use Rattle.witness_spec.specs.Histories.{HoldSame}
+use Rattle.witness_laws.specs.evidence_spec.Showing.{authenticator_showing}
+use Rattle.witness_laws.specs.evidence_spec.Evidence.{EvidenceParts}
+use Rattle.witness_laws.specs.witness_spec.Replies.{Noted}
+use Rattle.witness_laws.specs.witness_spec.Watched.{Watched}
+use Rattle.witness_laws.specs.witness_spec.Steps.{Learn, Past}
+use Rattle.witness_laws.specs.witness_spec.Pairs.{pair_of, first_pair, same_pair, is_shown}
+use Rattle.witness_laws.specs.witness_spec.Standing.{End, end_of, pairs_noted, shown, is_exposed, unless_exposed}
+use Rattle.witness_laws.specs.witness_spec.Standing.{noted_before, kept}
+use Rattle.witness_laws.specs.witness_spec.Standing.{Stage, NoAudit, Wanted, Given, Out, audited, forwards}
+use Rattle.witness_laws.specs.witness_spec.Exposing.{evidence}
+use Rattle.witness_laws.specs.witness_spec.Histories.{HoldSame}
 use Rattle.witness_steps.specs.Books.{Book, exposed, book_shown}
 use Rattle.witness_steps.specs.Going.{first_evidence, learned_unless, fork_evidence, evidence_noted}
 use Rattle.witness_steps.specs.Going.{after_learn}

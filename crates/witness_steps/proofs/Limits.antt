@@ -15,32 +15,32 @@ use Rattle.secure_log.specs.LogEntries.Chain.{hash_after, link_of}
 use Rattle.secure_log.specs.Segment.{SegmentParts}
 use Rattle.envelopes.specs.Envelope.{envelope_message}
 use Rattle.envelopes.specs.Acknowledgement.{acked_message}
-use Rattle.state_spec.specs.State.{State}
+use Rattle.witness_laws.specs.state_spec.State.{State}
 use Rattle.replay_spec.specs.Placed.{Placed, placed, placed_in}
 use Rattle.replay_spec.specs.Stepping.{shown_by}
 use Rattle.replay_spec.specs.Replay.{found, with_shown, Verdict, Sound, Fault, segment_verdict}
 use Rattle.replay_spec.proofs.Runs.{is_sound}
 use Rattle.secure_log.specs.LogEntries.Chain.{IsAmong}
-use Rattle.evidence_spec.specs.Showing.{authenticator_showing}
-use Rattle.evidence_spec.specs.Evidence.{EvidenceParts}
-use Rattle.witness_spec.specs.Events.{Event, IsEvent}
-use Rattle.witness_spec.specs.Watched.{Watched, IsInRoster}
-use Rattle.witness_spec.specs.Whose.{whose}
-use Rattle.witness_spec.specs.Histories.{History, IsHistory, AreOwed, own_of}
+use Rattle.witness_laws.specs.evidence_spec.Showing.{authenticator_showing}
+use Rattle.witness_laws.specs.evidence_spec.Evidence.{EvidenceParts}
+use Rattle.witness_laws.specs.witness_spec.Events.{Event, IsEvent}
+use Rattle.witness_laws.specs.witness_spec.Watched.{Watched, IsInRoster}
+use Rattle.witness_laws.specs.witness_spec.Whose.{whose}
+use Rattle.witness_laws.specs.witness_spec.Histories.{History, IsHistory, AreOwed, own_of}
 use Rattle.witness_laws.proofs.OwnSteps.{own_owed}
 use Rattle.witness_laws.proofs.Checked.{AreChecked, own_checked}
-use Rattle.witness_spec.specs.Refusals.{ChallengesFull, LearnedFull, NoJob, WrongJob}
-use Rattle.witness_spec.specs.Events.{JobParts, DoneParts}
-use Rattle.witness_spec.specs.Replies.{Reply, Noted, Already, Opened, Accepted, Closed, Asked, Job, Filed}
-use Rattle.witness_spec.specs.Replies.{Returned}
-use Rattle.witness_spec.specs.Replies.{Forwarded, Refused, FileRefused, PutBackRefused, Challenge, SendOf}
-use Rattle.witness_spec.specs.Replies.{AuditOf}
-use Rattle.witness_spec.specs.Steps.{Step, Learn, SendChallenge, Answer, AckIn, Audit, Begin, File, PutBack}
-use Rattle.witness_spec.specs.Steps.{Forward, Ask, Past}
-use Rattle.witness_spec.specs.Limits.{MAX_LEARNED, MAX_CHALLENGES, MAX_AUDITED, MAX_OUTBOX}
-use Rattle.witness_spec.specs.Pairs.{Pair, pair_of, differ, is_shown, is_fork}
-use Rattle.witness_spec.specs.Standing.{Stage, Given, Out, Wanted, is_answered, is_send_of, sound_found}
-use Rattle.witness_spec.specs.Owing.{is_send, is_open, back_reply}
+use Rattle.witness_laws.specs.witness_spec.Refusals.{ChallengesFull, LearnedFull, NoJob, WrongJob}
+use Rattle.witness_laws.specs.witness_spec.Events.{JobParts, DoneParts}
+use Rattle.witness_laws.specs.witness_spec.Replies.{Reply, Noted, Already, Opened, Accepted, Closed, Asked, Job, Filed}
+use Rattle.witness_laws.specs.witness_spec.Replies.{Returned}
+use Rattle.witness_laws.specs.witness_spec.Replies.{Forwarded, Refused, FileRefused, PutBackRefused, Challenge, SendOf}
+use Rattle.witness_laws.specs.witness_spec.Replies.{AuditOf}
+use Rattle.witness_laws.specs.witness_spec.Steps.{Step, Learn, SendChallenge, Answer, AckIn, Audit, Begin, File, PutBack}
+use Rattle.witness_laws.specs.witness_spec.Steps.{Forward, Ask, Past}
+use Rattle.witness_laws.specs.witness_spec.Limits.{MAX_LEARNED, MAX_CHALLENGES, MAX_AUDITED, MAX_OUTBOX}
+use Rattle.witness_laws.specs.witness_spec.Pairs.{Pair, pair_of, differ, is_shown, is_fork}
+use Rattle.witness_laws.specs.witness_spec.Standing.{Stage, Given, Out, Wanted, is_answered, is_send_of, sound_found}
+use Rattle.witness_laws.specs.witness_spec.Owing.{is_send, is_open, back_reply}
 use Rattle.witness_steps.proofs.Known.{owes_known}
 use Rattle.witness_steps.proofs.Histories.{AreDone, own_done, done_event, known, exposed_or_not}
 use Rattle.witness_steps.proofs.LookUps.{one_hash}

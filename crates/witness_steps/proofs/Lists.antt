@@ -7,7 +7,7 @@ use Rattle.std.specs.List.{list_any}
 use Rattle.std.proofs.Math.Nat.{le-max_left, le-max_right, max-le}
 use Rattle.std.proofs.lemmas.Bool.{or_cases, or_left, or_right, true≢false, leb-true, leb-false}
 use Rattle.secure_log.specs.LogEntries.Chain.{IsAmong}
-use Rattle.witness_spec.specs.Histories.{HoldSame}
+use Rattle.witness_laws.specs.witness_spec.Histories.{HoldSame}
 
 -- ---- what is among lists
 

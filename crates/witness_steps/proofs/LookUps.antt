@@ -12,11 +12,11 @@ use Rattle.secure_log.specs.declared.log_entries.entry.Entry.{Entry}
 use Rattle.secure_log.specs.LogEntries.Chain.{zeros, pairs, hash_after, link_of, links_from}
 use Rattle.secure_log.specs.Segment.{SegmentParts, segment_pairs}
 use Rattle.secure_log.specs.LogEntries.Chain.{IsAmong}
-use Rattle.evidence_spec.specs.Evidence.{EvidenceParts}
-use Rattle.witness_spec.specs.Watched.{Watched}
-use Rattle.witness_spec.specs.Steps.{Past}
-use Rattle.witness_spec.specs.Pairs.{Pair, same_pair, differ, is_shown, is_fork}
-use Rattle.witness_spec.specs.Exposing.{segment_holding}
+use Rattle.witness_laws.specs.evidence_spec.Evidence.{EvidenceParts}
+use Rattle.witness_laws.specs.witness_spec.Watched.{Watched}
+use Rattle.witness_laws.specs.witness_spec.Steps.{Past}
+use Rattle.witness_laws.specs.witness_spec.Pairs.{Pair, same_pair, differ, is_shown, is_fork}
+use Rattle.witness_laws.specs.witness_spec.Exposing.{segment_holding}
 use Rattle.witness_laws.proofs.OfEvidence.Before.{one_shown}
 use Rattle.witness_steps.specs.Books.{Book, exposed, exposing_pairs, book_shown}
 use Rattle.witness_steps.specs.Fitting.{IsWhole, FitsTogether, IsBookOf}

@@ -8,18 +8,18 @@ use Rattle.std.proofs.lemmas.List.Sums.{sum_by_from}
 use Rattle.authenticator.specs.declared.authenticator.Authenticator.{Authenticator}
 use Rattle.envelopes.specs.declared.envelope.Envelope.{Envelope}
 use Rattle.envelopes.specs.declared.acknowledgement.Ack.{Ack}
-use Rattle.evidence_spec.specs.Evidence.{EvidenceParts}
-use Rattle.witness_spec.specs.Events.{JobParts, Question}
-use Rattle.witness_spec.specs.Replies.{Reply, Opened, Closed, Asked, Job, Returned, Forwarded}
-use Rattle.witness_spec.specs.Watched.{Watched}
-use Rattle.witness_spec.specs.Steps.{Step, SendChallenge, AckIn, Audit, Begin, PutBack, Forward, Ask, Past}
-use Rattle.witness_spec.specs.Done.{noted, accepted, begun, filed, forwarded}
-use Rattle.witness_spec.specs.Histories.{HoldSame}
-use Rattle.witness_spec.specs.Standing.{End, end_of, end_after, pairs_noted, pairs_accepted}
-use Rattle.witness_spec.specs.Standing.{shown, is_exposed, unless_exposed, noted_before, kept}
-use Rattle.witness_spec.specs.Standing.{segment_of, all_accepted, stage_after, stage_of, begins, open_after}
-use Rattle.witness_spec.specs.Standing.{open_challenges, found_filed, all_found, forwards, outbox}
-use Rattle.witness_spec.specs.Exposing.{charge_of, evidence}
+use Rattle.witness_laws.specs.evidence_spec.Evidence.{EvidenceParts}
+use Rattle.witness_laws.specs.witness_spec.Events.{JobParts, Question}
+use Rattle.witness_laws.specs.witness_spec.Replies.{Reply, Opened, Closed, Asked, Job, Returned, Forwarded}
+use Rattle.witness_laws.specs.witness_spec.Watched.{Watched}
+use Rattle.witness_laws.specs.witness_spec.Steps.{Step, SendChallenge, AckIn, Audit, Begin, PutBack, Forward, Ask, Past}
+use Rattle.witness_laws.specs.witness_spec.Done.{noted, accepted, begun, filed, forwarded}
+use Rattle.witness_laws.specs.witness_spec.Histories.{HoldSame}
+use Rattle.witness_laws.specs.witness_spec.Standing.{End, end_of, end_after, pairs_noted, pairs_accepted}
+use Rattle.witness_laws.specs.witness_spec.Standing.{shown, is_exposed, unless_exposed, noted_before, kept}
+use Rattle.witness_laws.specs.witness_spec.Standing.{segment_of, all_accepted, stage_after, stage_of, begins, open_after}
+use Rattle.witness_laws.specs.witness_spec.Standing.{open_challenges, found_filed, all_found, forwards, outbox}
+use Rattle.witness_laws.specs.witness_spec.Exposing.{charge_of, evidence}
 use Rattle.witness_steps.specs.Books.{Book, book_shown}
 use Rattle.witness_steps.specs.Going.{after_send_challenge, after_ack, after_audit, after_begin}
 use Rattle.witness_steps.specs.Going.{after_put_back}

@@ -5,11 +5,11 @@ use Rattle.std.proofs.Common.{subst}
 use Rattle.std.specs.List.{AllByRecursion}
 use Rattle.authenticator.specs.Roster.{IsRoster}
 use Rattle.authenticator.specs.declared.member.Member.{Member}
-use Rattle.witness_spec.specs.Events.{Event, IsEvent}
-use Rattle.witness_spec.specs.Replies.{Reply}
-use Rattle.witness_spec.specs.Watched.{Watched, IsInRoster}
-use Rattle.witness_spec.specs.Steps.{Step}
-use Rattle.witness_spec.specs.Whose.{whose}
+use Rattle.witness_laws.specs.witness_spec.Events.{Event, IsEvent}
+use Rattle.witness_laws.specs.witness_spec.Replies.{Reply}
+use Rattle.witness_laws.specs.witness_spec.Watched.{Watched, IsInRoster}
+use Rattle.witness_laws.specs.witness_spec.Steps.{Step}
+use Rattle.witness_laws.specs.witness_spec.Whose.{whose}
 use Rattle.witness_steps.specs.Books.{Book, book_opening}
 use Rattle.witness_steps.specs.Replying.{BookOwes}
 use Rattle.witness_steps.specs.Going.{book_after}

@@ -6,23 +6,23 @@ use Rattle.std.proofs.Common.{◌∙◌}
 use Rattle.authenticator.specs.declared.authenticator.Authenticator.{Authenticator}
 use Rattle.secure_log.specs.Segment.{ClosedParts}
 use Rattle.envelopes.specs.Acknowledgement.{acked_message}
-use Rattle.witness_spec.specs.Refusals.{LearnedFull, NothingToAudit, NoJob, WrongJob}
-use Rattle.witness_spec.specs.Events.{JobParts, Question, ItsIndication, ItsChallenges, ItsEvidence}
-use Rattle.witness_spec.specs.Replies.{Reply, Noted, Already, Job, Filed, Returned, Told, OpenList}
-use Rattle.witness_spec.specs.Replies.{EvidenceIs}
-use Rattle.witness_spec.specs.Replies.{Refused, FileRefused, PutBackRefused, Exposed}
-use Rattle.witness_spec.specs.Watched.{Watched}
-use Rattle.witness_spec.specs.Steps.{Step, Learn, SendChallenge, Answer, AckIn, Audit, Begin, File, PutBack}
-use Rattle.witness_spec.specs.Steps.{Forward, Ask, Past}
-use Rattle.witness_spec.specs.Limits.{MAX_LEARNED, MAX_ASKED}
-use Rattle.witness_spec.specs.Pairs.{pair_of, same_pair, differ, is_shown, is_fork}
-use Rattle.witness_spec.specs.Standing.{End, Stage, NoAudit, Wanted, Given, Out, end_of, shown, is_exposed}
-use Rattle.witness_spec.specs.Standing.{kept}
-use Rattle.witness_spec.specs.Standing.{stage_of, begins, out_at, open_challenges, without_evidence, outbox}
-use Rattle.witness_spec.specs.Owing as owing
-use Rattle.witness_spec.specs.Owing.{Owes, ask_reply, ask_up_to, last_in_reach, answer_reply, back_reply}
-use Rattle.witness_spec.specs.Owing.{challenge_reply, ack_reply, forward_reply, reply_told}
-use Rattle.witness_spec.specs.Histories.{HoldSame}
+use Rattle.witness_laws.specs.witness_spec.Refusals.{LearnedFull, NothingToAudit, NoJob, WrongJob}
+use Rattle.witness_laws.specs.witness_spec.Events.{JobParts, Question, ItsIndication, ItsChallenges, ItsEvidence}
+use Rattle.witness_laws.specs.witness_spec.Replies.{Reply, Noted, Already, Job, Filed, Returned, Told, OpenList}
+use Rattle.witness_laws.specs.witness_spec.Replies.{EvidenceIs}
+use Rattle.witness_laws.specs.witness_spec.Replies.{Refused, FileRefused, PutBackRefused, Exposed}
+use Rattle.witness_laws.specs.witness_spec.Watched.{Watched}
+use Rattle.witness_laws.specs.witness_spec.Steps.{Step, Learn, SendChallenge, Answer, AckIn, Audit, Begin, File, PutBack}
+use Rattle.witness_laws.specs.witness_spec.Steps.{Forward, Ask, Past}
+use Rattle.witness_laws.specs.witness_spec.Limits.{MAX_LEARNED, MAX_ASKED}
+use Rattle.witness_laws.specs.witness_spec.Pairs.{pair_of, same_pair, differ, is_shown, is_fork}
+use Rattle.witness_laws.specs.witness_spec.Standing.{End, Stage, NoAudit, Wanted, Given, Out, end_of, shown, is_exposed}
+use Rattle.witness_laws.specs.witness_spec.Standing.{kept}
+use Rattle.witness_laws.specs.witness_spec.Standing.{stage_of, begins, out_at, open_challenges, without_evidence, outbox}
+use Rattle.witness_laws.specs.witness_spec.Owing as owing
+use Rattle.witness_laws.specs.witness_spec.Owing.{Owes, ask_reply, ask_up_to, last_in_reach, answer_reply, back_reply}
+use Rattle.witness_laws.specs.witness_spec.Owing.{challenge_reply, ack_reply, forward_reply, reply_told}
+use Rattle.witness_laws.specs.witness_spec.Histories.{HoldSame}
 use Rattle.witness_steps.specs.Books.{Book, exposed, book_shown, job_out_at, job_out}
 use Rattle.witness_steps.specs.Books as books
 use Rattle.witness_steps.specs.Replying.{book_reply, reply_to_audit, reply_to_begin, IsOut, BookOwes}

@@ -11,9 +11,9 @@ use Rattle.secure_log.specs.declared.log_entries.entry.Entry.{Entry}
 use Rattle.secure_log.specs.LogEntries.Chain.{pairs, hash_after, last_hash, link_of, links_from}
 use Rattle.secure_log.specs.Segment.{SegmentParts, segment_pairs}
 use Rattle.secure_log.specs.LogEntries.Chain.{IsAmong}
-use Rattle.witness_spec.specs.Pairs.{Pair, pair_of}
-use Rattle.witness_spec.specs.Standing.{Stage, NoAudit, Wanted, Given, Out}
-use Rattle.witness_spec.specs.Histories.{HoldSame}
+use Rattle.witness_laws.specs.witness_spec.Pairs.{Pair, pair_of}
+use Rattle.witness_laws.specs.witness_spec.Standing.{Stage, NoAudit, Wanted, Given, Out}
+use Rattle.witness_laws.specs.witness_spec.Histories.{HoldSame}
 use Rattle.witness_steps.specs.Books.{Book, exposed, is_audited, book_audited}
 use Rattle.witness_steps.specs.Fitting.{IsWhole, Tile, Follows, IsOne, IsMore, AreTiles}
 use Rattle.witness_steps.proofs.Lists.{on_left}

@@ -4,11 +4,11 @@ use Rattle.std.proofs.Common.{◌≡◌, inl, inr, cond, List, [], ◌∷◌, ma
 use Rattle.authenticator.specs.Roster.{IsRoster, member_of}
 use Rattle.authenticator.specs.declared.member.Member.{Member}
 use Rattle.secure_log.specs.LogEntries.Chain.{IsAmong}
-use Rattle.witness_spec.specs.Replies.{Exposed}
-use Rattle.witness_spec.specs.Watched.{Watched, watched}
-use Rattle.witness_spec.specs.Steps.{Past}
-use Rattle.witness_spec.specs.Standing.{is_exposed, without_evidence, indication}
-use Rattle.witness_spec.specs.Histories.{History, own, IsHistory, StandEach, Stands}
+use Rattle.witness_laws.specs.witness_spec.Replies.{Exposed}
+use Rattle.witness_laws.specs.witness_spec.Watched.{Watched, watched}
+use Rattle.witness_laws.specs.witness_spec.Steps.{Past}
+use Rattle.witness_laws.specs.witness_spec.Standing.{is_exposed, without_evidence, indication}
+use Rattle.witness_laws.specs.witness_spec.Histories.{History, own, IsHistory, StandEach, Stands}
 use Rattle.witness_steps.specs.Books.{Book, book_indication, parts_of}
 use Rattle.witness_steps.specs.Going.{book_after_steps}
 use Rattle.witness_steps.proofs.Known.{Known, exposed_same}

@@ -14,27 +14,27 @@ use Rattle.authenticator.specs.declared.member.Member.{Member}
 use Rattle.secure_log.specs.Segment.{ClosedParts, segment_pairs}
 use Rattle.envelopes.specs.declared.envelope.Envelope.{Envelope}
 use Rattle.envelopes.specs.declared.acknowledgement.Ack.{Ack}
-use Rattle.state_spec.specs.State.{State}
+use Rattle.witness_laws.specs.state_spec.State.{State}
 use Rattle.replay_spec.specs.Replay.{segment_verdict}
 use Rattle.secure_log.specs.LogEntries.Chain.{IsAmong}
-use Rattle.witness_spec.specs.Refusals.{NotAsked, TooFar, BookFull, OutboxFull, LearnedFull, NothingToAudit}
-use Rattle.witness_spec.specs.Events.{JobParts, DoneParts, Question}
-use Rattle.witness_spec.specs.Replies.{Reply, Noted, Already, Opened, Accepted, Closed, Asked, Job, Filed}
-use Rattle.witness_spec.specs.Replies.{Returned}
-use Rattle.witness_spec.specs.Replies.{Forwarded, Refused, Challenge}
-use Rattle.witness_spec.specs.Watched.{Watched}
-use Rattle.witness_spec.specs.Steps.{Step, Learn, SendChallenge, Answer, AckIn, Audit, Begin, File, PutBack}
-use Rattle.witness_spec.specs.Steps.{Forward, Ask, Past}
-use Rattle.witness_spec.specs.Limits.{MAX_AUDITED, MAX_OUTBOX}
-use Rattle.witness_spec.specs.Pairs.{pair_of, is_shown}
-use Rattle.witness_spec.specs.Done as did
-use Rattle.witness_spec.specs.Done.{forwarded}
-use Rattle.witness_spec.specs.Standing.{End, end_of, entries_filed, audited, shown, is_exposed, Stage}
-use Rattle.witness_spec.specs.Standing.{NoAudit, Wanted}
-use Rattle.witness_spec.specs.Standing.{Given, Out, all_found, forwards, outbox}
-use Rattle.witness_spec.specs.Owing.{has_no_room, answer_reply, last_in_reach, ask_up_to, ask_reply}
-use Rattle.witness_spec.specs.Owing.{back_reply}
-use Rattle.witness_spec.specs.Owing.{forward_reply, Owes}
+use Rattle.witness_laws.specs.witness_spec.Refusals.{NotAsked, TooFar, BookFull, OutboxFull, LearnedFull, NothingToAudit}
+use Rattle.witness_laws.specs.witness_spec.Events.{JobParts, DoneParts, Question}
+use Rattle.witness_laws.specs.witness_spec.Replies.{Reply, Noted, Already, Opened, Accepted, Closed, Asked, Job, Filed}
+use Rattle.witness_laws.specs.witness_spec.Replies.{Returned}
+use Rattle.witness_laws.specs.witness_spec.Replies.{Forwarded, Refused, Challenge}
+use Rattle.witness_laws.specs.witness_spec.Watched.{Watched}
+use Rattle.witness_laws.specs.witness_spec.Steps.{Step, Learn, SendChallenge, Answer, AckIn, Audit, Begin, File, PutBack}
+use Rattle.witness_laws.specs.witness_spec.Steps.{Forward, Ask, Past}
+use Rattle.witness_laws.specs.witness_spec.Limits.{MAX_AUDITED, MAX_OUTBOX}
+use Rattle.witness_laws.specs.witness_spec.Pairs.{pair_of, is_shown}
+use Rattle.witness_laws.specs.witness_spec.Done as did
+use Rattle.witness_laws.specs.witness_spec.Done.{forwarded}
+use Rattle.witness_laws.specs.witness_spec.Standing.{End, end_of, entries_filed, audited, shown, is_exposed, Stage}
+use Rattle.witness_laws.specs.witness_spec.Standing.{NoAudit, Wanted}
+use Rattle.witness_laws.specs.witness_spec.Standing.{Given, Out, all_found, forwards, outbox}
+use Rattle.witness_laws.specs.witness_spec.Owing.{has_no_room, answer_reply, last_in_reach, ask_up_to, ask_reply}
+use Rattle.witness_laws.specs.witness_spec.Owing.{back_reply}
+use Rattle.witness_laws.specs.witness_spec.Owing.{forward_reply, Owes}
 use Rattle.witness_steps.specs.Books.{Book, exposed, job_of, job_out_at, job_out}
 use Rattle.witness_steps.specs.Replying.{reply_to_audit, reply_to_begin, BookOwes}
 use Rattle.witness_steps.specs.Going.{after_learn, after_send_challenge, after_answer, after_ack, after_audit}

@@ -5,7 +5,7 @@ use Rattle.secure_log.specs.Segment.{SegmentParts}
 use Rattle.secure_log.specs.SegmentHashes.{segment_hash_at}
 use Rattle.witness_steps.specs.Books.{Book}
 use Rattle.witness_steps.specs.LookUps.{hash_shown, is_other_hash}
-use Rattle.witness_spec.specs.Pairs.{number_of}
+use Rattle.witness_laws.specs.witness_spec.Pairs.{number_of}
 
 -- a segment shows another hash at an authenticator's number
 abbrev pub shows_another : SegmentParts → Authenticator → Bool

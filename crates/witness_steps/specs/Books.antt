@@ -6,13 +6,13 @@ use Rattle.authenticator.specs.declared.member.Member.{Member}
 use Rattle.secure_log.specs.declared.log_entries.entry.Entry.{Entry}
 use Rattle.secure_log.specs.Segment.{SegmentParts, ClosedParts}
 use Rattle.replay_spec.specs.Opening.{opening_of}
-use Rattle.evidence_spec.specs.Showing.{ShowingParts}
-use Rattle.evidence_spec.specs.Evidence.{Charge, Fork, Replay, EvidenceParts}
-use Rattle.witness_spec.specs.Events.{JobParts}
-use Rattle.witness_spec.specs.Replies.{Challenge, Indication, Exposed}
-use Rattle.witness_spec.specs.Pairs.{Pair, pair_of, first_pair, last_of, marks_of}
-use Rattle.witness_spec.specs.Standing.{End, Stage, NoAudit, Wanted, Given, Out, without_evidence}
-use Rattle.witness_spec.specs.Histories.{BookParts}
+use Rattle.witness_laws.specs.evidence_spec.Showing.{ShowingParts}
+use Rattle.witness_laws.specs.evidence_spec.Evidence.{Charge, Fork, Replay, EvidenceParts}
+use Rattle.witness_laws.specs.witness_spec.Events.{JobParts}
+use Rattle.witness_laws.specs.witness_spec.Replies.{Challenge, Indication, Exposed}
+use Rattle.witness_laws.specs.witness_spec.Pairs.{Pair, pair_of, first_pair, last_of, marks_of}
+use Rattle.witness_laws.specs.witness_spec.Standing.{End, Stage, NoAudit, Wanted, Given, Out, without_evidence}
+use Rattle.witness_laws.specs.witness_spec.Histories.{BookParts}
 
 -- What a witness keeps of one node. Each list has the oldest first.
 pub record Book : Type 0 where

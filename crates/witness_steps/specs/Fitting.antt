@@ -5,12 +5,12 @@ use Rattle.authenticator.specs.declared.authenticator.Authenticator.{Authenticat
 use Rattle.secure_log.specs.Segment.{SegmentParts}
 use Rattle.replay_spec.specs.LogLaws.Laws.{SendsLieBelow}
 use Rattle.secure_log.specs.LogEntries.Chain.{IsAmong}
-use Rattle.witness_spec.specs.Watched.{Watched}
-use Rattle.witness_spec.specs.Steps.{Past}
-use Rattle.witness_spec.specs.Pairs.{pair_of, number_of, first_of, last_of, marks_of}
-use Rattle.witness_spec.specs.Standing.{Stage, NoAudit, Wanted}
-use Rattle.witness_spec.specs.Standing.{Given, Out}
-use Rattle.witness_spec.specs.Histories.{StandsFor}
+use Rattle.witness_laws.specs.witness_spec.Watched.{Watched}
+use Rattle.witness_laws.specs.witness_spec.Steps.{Past}
+use Rattle.witness_laws.specs.witness_spec.Pairs.{pair_of, number_of, first_of, last_of, marks_of}
+use Rattle.witness_laws.specs.witness_spec.Standing.{Stage, NoAudit, Wanted}
+use Rattle.witness_laws.specs.witness_spec.Standing.{Given, Out}
+use Rattle.witness_laws.specs.witness_spec.Histories.{StandsFor}
 use Rattle.witness_steps.specs.Books.{Book, exposed, parts_of}
 
 -- ---- what is kept

@@ -9,17 +9,17 @@ use Rattle.envelopes.specs.Acknowledgement.{acked_message}
 use Rattle.envelopes.specs.declared.envelope.Envelope.{Envelope}
 use Rattle.envelopes.specs.declared.acknowledgement.Ack.{Ack}
 use Rattle.replay_spec.specs.Replay.{Verdict, Sound, Fault}
-use Rattle.evidence_spec.specs.Showing.{ShowingParts, authenticator_showing, segment_showing}
-use Rattle.evidence_spec.specs.Evidence.{Charge, Replay, EvidenceParts}
-use Rattle.witness_spec.specs.Events.{JobParts, DoneParts}
-use Rattle.witness_spec.specs.Replies.{Reply, Noted, Opened, Accepted, Closed, Asked, Job, Filed, Returned}
-use Rattle.witness_spec.specs.Replies.{Forwarded, AuditOf, SendOf}
-use Rattle.witness_spec.specs.Steps.{Step, Learn, SendChallenge, Answer, AckIn, Audit, Begin, File, PutBack}
-use Rattle.witness_spec.specs.Steps.{Forward, Ask, Past}
-use Rattle.witness_spec.specs.Pairs.{Pair, pair_of, first_fork, number_of, last_of, marks_of}
-use Rattle.witness_spec.specs.Standing.{moved_by, sound_found, is_answered, is_send_of}
-use Rattle.witness_spec.specs.Standing.{NoAudit, Wanted, Given, Out}
-use Rattle.witness_spec.specs.Exposing.{fork_of}
+use Rattle.witness_laws.specs.evidence_spec.Showing.{ShowingParts, authenticator_showing, segment_showing}
+use Rattle.witness_laws.specs.evidence_spec.Evidence.{Charge, Replay, EvidenceParts}
+use Rattle.witness_laws.specs.witness_spec.Events.{JobParts, DoneParts}
+use Rattle.witness_laws.specs.witness_spec.Replies.{Reply, Noted, Opened, Accepted, Closed, Asked, Job, Filed, Returned}
+use Rattle.witness_laws.specs.witness_spec.Replies.{Forwarded, AuditOf, SendOf}
+use Rattle.witness_laws.specs.witness_spec.Steps.{Step, Learn, SendChallenge, Answer, AckIn, Audit, Begin, File, PutBack}
+use Rattle.witness_laws.specs.witness_spec.Steps.{Forward, Ask, Past}
+use Rattle.witness_laws.specs.witness_spec.Pairs.{Pair, pair_of, first_fork, number_of, last_of, marks_of}
+use Rattle.witness_laws.specs.witness_spec.Standing.{moved_by, sound_found, is_answered, is_send_of}
+use Rattle.witness_laws.specs.witness_spec.Standing.{NoAudit, Wanted, Given, Out}
+use Rattle.witness_laws.specs.witness_spec.Exposing.{fork_of}
 use Rattle.witness_steps.specs.Books.{Book, book_opening, book_shown, book_audited}
 
 -- ---- evidence

@@ -1,9 +1,9 @@
 -- How much a book keeps at most.
 use Rattle.std.specs.Prelude.{ℕ, ◌+◌, ◌-◌, ◌≤◌, length, count_by}
-use Rattle.witness_spec.specs.Limits.{MAX_LEARNED, MAX_CHALLENGES, MAX_AUDITED, MAX_OUTBOX}
-use Rattle.witness_spec.specs.Pairs.{last_of}
-use Rattle.witness_spec.specs.Standing.{Stage, NoAudit, Wanted, Given, Out}
-use Rattle.witness_spec.specs.Owing.{is_send}
+use Rattle.witness_laws.specs.witness_spec.Limits.{MAX_LEARNED, MAX_CHALLENGES, MAX_AUDITED, MAX_OUTBOX}
+use Rattle.witness_laws.specs.witness_spec.Pairs.{last_of}
+use Rattle.witness_laws.specs.witness_spec.Standing.{Stage, NoAudit, Wanted, Given, Out}
+use Rattle.witness_laws.specs.witness_spec.Owing.{is_send}
 use Rattle.witness_steps.specs.Books.{Book}
 
 -- the last number that the audit is to reach: without one, the end

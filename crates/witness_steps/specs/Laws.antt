@@ -4,16 +4,16 @@ use Rattle.authenticator.specs.Roster.{IsRoster}
 use Rattle.authenticator.specs.declared.member.Member.{Member}
 use Rattle.secure_log.specs.Segment.{SegmentParts}
 use Rattle.secure_log.specs.SegmentHashes.{segment_hash_at}
-use Rattle.witness_spec.specs.Events.{Event, IsEvent}
-use Rattle.witness_spec.specs.Replies.{Reply}
-use Rattle.witness_spec.specs.Watched.{Watched, watched, IsInRoster}
-use Rattle.witness_spec.specs.Steps.{Step}
-use Rattle.witness_spec.specs.Whose.{whose}
-use Rattle.witness_spec.specs.Standing.{audited, is_exposed, indication, Wanted}
-use Rattle.witness_spec.specs.Owing.{Owes}
-use Rattle.witness_spec.specs.Histories.{History, IsHistory, Stands, own_of}
-use Rattle.witness_spec.specs.Contract.{StepsTo, BookStepsTo, opening_book}
-use Rattle.witness_spec.specs.Pairs.{is_shown, is_fork, first_fork, first_of, marks_of}
+use Rattle.witness_laws.specs.witness_spec.Events.{Event, IsEvent}
+use Rattle.witness_laws.specs.witness_spec.Replies.{Reply}
+use Rattle.witness_laws.specs.witness_spec.Watched.{Watched, watched, IsInRoster}
+use Rattle.witness_laws.specs.witness_spec.Steps.{Step}
+use Rattle.witness_laws.specs.witness_spec.Whose.{whose}
+use Rattle.witness_laws.specs.witness_spec.Standing.{audited, is_exposed, indication, Wanted}
+use Rattle.witness_laws.specs.witness_spec.Owing.{Owes}
+use Rattle.witness_laws.specs.witness_spec.Histories.{History, IsHistory, Stands, own_of}
+use Rattle.witness_laws.specs.witness_spec.Contract.{StepsTo, BookStepsTo, opening_book}
+use Rattle.witness_laws.specs.witness_spec.Pairs.{is_shown, is_fork, first_fork, first_of, marks_of}
 use Rattle.witness_steps.specs.Books.{Book, book_opening, exposed, book_shown, book_audited}
 use Rattle.witness_steps.specs.Books.{book_indication, parts_of}
 use Rattle.witness_steps.specs.Replying.{BookOwes}

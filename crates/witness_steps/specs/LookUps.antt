@@ -5,8 +5,8 @@ use Rattle.authenticator.specs.Signing.{is_same}
 use Rattle.secure_log.specs.LogEntries.Chain.{zeros}
 use Rattle.secure_log.specs.Segment.{SegmentParts}
 use Rattle.secure_log.specs.LogEntries.Chain.{IsAmong}
-use Rattle.witness_spec.specs.Pairs.{Pair, number_of, marks_of}
-use Rattle.witness_spec.specs.Exposing.{segment_holding}
+use Rattle.witness_laws.specs.witness_spec.Pairs.{Pair, number_of, marks_of}
+use Rattle.witness_laws.specs.witness_spec.Exposing.{segment_holding}
 use Rattle.witness_steps.specs.Books.{Book, exposed, book_shown}
 
 -- the hash of the first of these pairs that has a number

@@ -1,7 +1,7 @@
 -- The books of all members of a roster.
 use Rattle.std.specs.Prelude.{◌≡◌, ℕ, ◌==◌, List, [], ◌∷◌, map, Option, Some, None, if◌then◌else◌}
 use Rattle.authenticator.specs.declared.member.Member.{Member}
-use Rattle.witness_spec.specs.Contract.{AreBooks}
+use Rattle.witness_laws.specs.witness_spec.Contract.{AreBooks}
 use Rattle.witness_steps.specs.Books.{Book, parts_of}
 use Rattle.witness_steps.specs.Fitting.{FitsTogether}
 

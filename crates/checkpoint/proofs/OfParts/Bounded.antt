@@ -14,9 +14,9 @@ use Rattle.state_machine.specs.file_texts.declared.parts.AttributesPart.{Attribu
 use Rattle.state_machine.specs.file_texts.declared.parts.BodyPart.{BodyPart}
 use Rattle.state_machine.specs.file_texts.declared.parts.BodyPart.TheVariants.{Regular, Symlink, Directory}
 use Rattle.state_machine.specs.file_texts.declared.parts.FilePart.{FilePart}
-use Rattle.state_spec.specs.Limits.{max_received, max_sends}
-use Rattle.state_spec.specs.StateItems.{received_value, mount_item, stage_item, rest_item, is_node_kind}
-use Rattle.state_spec.specs.StateItems.{machine_item, state_item}
+use Rattle.state_machine.specs.state_spec.Limits.{max_received, max_sends}
+use Rattle.state_machine.specs.state_spec.StateItems.{received_value, mount_item, stage_item, rest_item, is_node_kind}
+use Rattle.state_machine.specs.state_spec.StateItems.{machine_item, state_item}
 use Rattle.checkpoint.specs.declared.parts.parts.StagePart.{StagePart}
 use Rattle.checkpoint.specs.declared.parts.parts.StagePart.TheVariants.{Idle, Heard, Owes}
 use Rattle.checkpoint.specs.declared.parts.parts.MountPart.{MountPart}

@@ -7,7 +7,7 @@ use Rattle.fs_model.specs.Maxima.{max_files}
 use Rattle.state_machine.specs.file_texts.Bounds.{IsWritable}
 use Rattle.state_machine.specs.file_texts.Parts.{body_of}
 use Rattle.state_machine.specs.file_texts.declared.parts.FilePart.{FilePart}
-use Rattle.state_spec.specs.Limits.{max_received, max_sends, max_body}
+use Rattle.state_machine.specs.state_spec.Limits.{max_received, max_sends, max_body}
 use Rattle.checkpoint.specs.declared.parts.parts.StagePart.{StagePart}
 use Rattle.checkpoint.specs.declared.parts.parts.StagePart.TheVariants.{Idle, Heard, Owes}
 use Rattle.checkpoint.specs.declared.parts.parts.MountPart.{MountPart}

@@ -14,7 +14,7 @@ use Rattle.secure_log.specs.LogEntries.Entry.{entry_item, entry_value}
 use Rattle.secure_log.specs.LogEntries.Chain.{Link, zeros, pairs, hash_after, last_hash, links_from, IsAmong}
 use Rattle.secure_log.proofs.OfLogEntries.Pairs.{last_hash-parts}
 use Rattle.secure_log.specs.Segment.{SegmentParts, ClosedParts, segment_pairs}
-use Rattle.state_spec.specs.State.{State}
+use Rattle.witness_spec.specs.state_spec.State.{State}
 use Rattle.witness_spec.specs.replay_spec.Opening.{opening_of}
 use Rattle.witness_spec.specs.replay_spec.Placed.{Placed, placed, placed_in}
 use Rattle.witness_spec.specs.replay_spec.Stepping.{ReplayFault, step}

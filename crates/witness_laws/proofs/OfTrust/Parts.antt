@@ -2,7 +2,7 @@
 -- Serves: honest_is_never_exposed.
 use Rattle.std.proofs.Common.{◌≡◌, List, [], ◌∷◌, ◌++◌, length, refl, arith}
 use Rattle.authenticator.specs.declared.member.Member.{Member}
-use Rattle.state_spec.specs.State.{State}
+use Rattle.witness_spec.specs.state_spec.State.{State}
 use Rattle.witness_spec.specs.replay_spec.Placed.{Placed}
 use Rattle.witness_spec.specs.replay_spec.Replay.{Honest, last_state}
 

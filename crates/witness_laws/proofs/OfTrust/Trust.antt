@@ -18,7 +18,7 @@ use Rattle.witness_spec.proofs.replay_spec.Places.{places_joined}
 use Rattle.witness_spec.specs.evidence_spec.Laws.{OneHashAtANumber, IsPartOf}
 use Rattle.witness_spec.proofs.evidence_spec.Shown.{segment_in_log, segment_is_part}
 use Rattle.secure_log.proofs.OfLogEntries.FewerTexts.{Within, fewer, left, right, both}
-use Rattle.state_spec.specs.State.{State}
+use Rattle.witness_spec.specs.state_spec.State.{State}
 use Rattle.witness_spec.specs.replay_spec.Opening.{opening_of}
 use Rattle.witness_spec.specs.replay_spec.Placed.{placed, placed_in}
 use Rattle.witness_spec.specs.replay_spec.Replay.{Honest, Sound, last_state, found, segment_verdict}

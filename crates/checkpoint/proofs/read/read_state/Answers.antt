@@ -1,7 +1,7 @@
 use Rattle.std.proofs.Common.{sym, subst, arith}
-use Rattle.state_spec.specs.State.{State}
-use Rattle.state_spec.specs.StateText.{IsStateText}
-use Rattle.state_spec.proofs.Texts.{text_of_rules, no_state}
+use Rattle.state_machine.specs.state_spec.State.{State}
+use Rattle.state_machine.specs.state_spec.StateText.{IsStateText}
+use Rattle.state_machine.proofs.state_spec.Texts.{text_of_rules, no_state}
 use Rattle.checkpoint.specs.Parts.SaidParts.{state_said}
 use Rattle.checkpoint.proofs.Chosen.{when_none, when_some}
 use Rattle.checkpoint.proofs.OneText.{one_state_of, rules_of_text, never_garbage}

@@ -3,7 +3,7 @@ use Rattle.witness_steps.proofs.Known.{exposed_same, owes_known}
 use Rattle.witness_steps.proofs.Histories.{own_known}
 use Rattle.witness_steps.proofs.Standing.{same_indication}
 use Rattle.witness_steps.proofs.laws.books_reply_what_is_owed.Goals as goal
-use Rattle.witness_spec.specs.Histories.{own_of}
+use Rattle.witness_laws.specs.witness_spec.Histories.{own_of}
 
 pub returns-clause-owes : goal.returns-clause-owes
 returns-clause-owes c = λ w history step reply is h.

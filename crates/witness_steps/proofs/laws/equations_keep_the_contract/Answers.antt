@@ -2,7 +2,7 @@ use Rattle.std.proofs.Common.{[], refl}
 use Rattle.witness_steps.proofs.Histories.{at_first}
 use Rattle.witness_steps.proofs.AnyBook.{any_stands}
 use Rattle.witness_steps.proofs.laws.equations_keep_the_contract.Goals as goal
-use Rattle.witness_spec.specs.Watched.{watched}
+use Rattle.witness_laws.specs.witness_spec.Watched.{watched}
 
 -- whatever the history, the book is the member's after its own steps
 pub returns-clause-step : goal.returns-clause-step

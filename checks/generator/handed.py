@@ -1,0 +1,109 @@
+"""What `checks/refused_memory.sh` hands its program: texts of a server's log of five entries, of the logs of two
+clients, and of what all three signed."""
+
+from verifier.keys import CLIENT, SERVER, ZEROS, Authenticator, digest
+from verifier.log import (RECV, SEND, Ack, Check, Clock, Entry, Recv, hash_after, recv_content, send_content)
+from verifier.replay import opening_state, step
+from verifier.xdr import array, hyper, opaque, word
+
+from .signer import Signer
+from .texts import authenticator_text, entry_text, roster_text
+
+# The words that a packet begins with.
+LEARN, ANSWER = 1, 3
+
+# CREATE of `b` in the root, with 700 bytes, by user 0.
+NONE = 0xffffffff
+CREATE = word(7, 0, 2, 100003, 2, 9, 1, 24, 0, 1, 0x6d000000, 0, 0, 0, 0, 0, 1, 1, 0, 0, 0, 0, 0, 0, 1, 0x62000000,
+              NONE, NONE, NONE, 700, NONE, 0, NONE, 0)
+
+
+class Log:
+    """A node's log with its signer."""
+
+    def __init__(self, signer: Signer):
+        self.signer = signer
+        self.entries: list[Entry] = []
+        self.hashes = [ZEROS]
+
+    def append(self, entry: Entry):
+        number, before = len(self.hashes), self.hashes[-1]
+        self.entries.append(entry)
+        self.hashes.append(hash_after(before, number, entry.kind, digest(entry.content())))
+
+    def signed(self, number: int) -> Authenticator:
+        return self.signer.sign(number, self.hashes[number])
+
+    def segment(self, closing: Authenticator) -> bytes:
+        """The text of the entries from the first one to the closing's."""
+        entries = array([entry_text(entry) for entry in self.entries[:closing.number]])
+        return word(self.signer.node) + hyper(1) + ZEROS + entries + authenticator_text(closing)
+
+
+def one_check(signer: Signer) -> Log:
+    """The log of a client that only made a checkpoint, of no state."""
+    log = Log(signer)
+    log.append(Check(bytes([6]) * 32))
+    return log
+
+
+class Made:
+    """A server that hears a client's call, reads its clock, replies, is acknowledged, and makes a checkpoint."""
+
+    def __init__(self):
+        self.server = Signer(1, SERVER, 'signer 0', 2)
+        self.client = Signer(2, CLIENT, 'signer 1', 2)
+        self.other = Signer(3, CLIENT, 'signer 2', 1)
+        sent = hash_after(ZEROS, 1, SEND, digest(send_content(1, digest(CREATE))))
+        self.shown = self.client.sign(1, sent)
+        self.log = Log(self.server)
+        self.state = opening_state(1, SERVER)
+        self.take(Recv(2, 1, ZEROS, CREATE, self.shown.signature))
+        self.take(Clock(1, 0))
+        self.take(self.state.owed)
+        self.take(self.acknowledged(mine=bytes([9]) * 32, prev=bytes([8]) * 32))
+        self.take(Check(self.state.digest()))
+
+    def take(self, entry: Entry):
+        step(self.state, len(self.log.hashes), self.log.hashes[-1], entry)
+        self.log.append(entry)
+
+    def acknowledged(self, mine: bytes, prev: bytes) -> Ack:
+        """The client received the reply as its second entry."""
+        sent = self.state.sent[3]
+        content = recv_content(1, 3, sent.prev, sent.body_hash, mine)
+        signed = self.client.sign(2, hash_after(prev, 2, RECV, digest(content)))
+        return Ack(2, 3, mine, 2, prev, signed.signature)
+
+    def roster(self) -> bytes:
+        return roster_text([signer.member() for signer in (self.server, self.client, self.other)])
+
+    def envelope(self) -> bytes:
+        """The client's message to the server."""
+        return word(2, 1) + hyper(1) + ZEROS + opaque(CREATE) + self.shown.signature.text
+
+    def ack(self) -> bytes:
+        """The server's acknowledgement of it."""
+        message = word(2) + hyper(1) + ZEROS + digest(CREATE) + digest(self.shown.signature.text)
+        return word(1) + hyper(1) + ZEROS + message + self.log.signed(1).signature.text
+
+    def to_books(self) -> list[bytes]:
+        """What books are given: the roster, and packets of the server's third authenticator and of the segment that
+        it closes. Of the clients' logs the authenticators and the segments. Client 2's message as an authenticator,
+        which is of another log, as an envelope, and its acknowledgement."""
+        closing = self.log.signed(3)
+        texts = [self.roster(), word(LEARN) + authenticator_text(closing), word(ANSWER) + self.log.segment(closing)]
+        for log in (one_check(self.client), one_check(self.other)):
+            closing = log.signed(1)
+            texts += [authenticator_text(closing), log.segment(closing)]
+        return texts + [authenticator_text(self.shown), self.envelope(), self.ack()]
+
+    def to_replays(self) -> list[bytes]:
+        """The roster, and the segment of the server's whole log."""
+        return [self.roster(), self.log.segment(self.log.signed(5))]
+
+
+def handed(to: str) -> bytes:
+    """The texts for books or for replays, each after its length."""
+    texts = {'books': Made().to_books, 'replays': Made().to_replays}[to]()
+    return b''.join(word(len(text)) + text for text in texts)
