@@ -27,19 +27,14 @@ use Rattle.gateway.specs.Faults.{of_records, of_link}
 use Rattle.record_streams.specs.Streams.{Serves, ServesPart, StopsBeforeReply, StopsInReply, TakesNothing}
 use Rattle.record_streams.specs.InTurn.{with_times}
 use Rattle.record_streams.specs.Faults as stream_faults
-use Rattle.record_streams.proofs.Timed.{with_times-append}
+use Rattle.gateway.proofs.ReadingsTaken.{with_next, none_taken, next_reading, takes_next}
 use Rattle.gateway.specs.Serving.{text_owed, LinkStandsAfter, IfTold, LeavesOff, StandsAfter}
 use Rattle.record_streams.proofs.StreamProgress as streams
 use Rattle.record_streams.proofs.StreamProgress.{Progress, ReadsRecord, begins, pushes, stops_after}
 use Rattle.record_streams.proofs.StreamProgress.{stops_before_reply, stops_in_reply, is_part}
 use Rattle.record_streams.proofs.StreamProgress.{is_part_in_reply, serves}
 
--- ---- one record more: its reading, what is owed to it, and the world after it
-
-with_next : (f : Readings) (rs : List (List ℕ)) (r : List ℕ)
-    → with_times f 0 (rs ++ r ∷ []) ≡ with_times f 0 rs ++ (f (length rs), r) ∷ []
-with_next f rs r = let e : 0 + length rs ≡ length rs = omega arith in
-    with_times-append f 0 rs (r ∷ []) ∙ rw e refl
+-- ---- one record more: what is owed to it, and the world after it
 
 replies_owed-push : (w : World) (cs : List (Timeval × List ℕ)) (time : Timeval) (r : List ℕ)
     → replies_owed w (cs ++ (time, r) ∷ [])
@@ -101,7 +96,7 @@ of_some P e h = subst (λ (o : Option _). IfSome o P) e h
 -- at first no reading is taken, and the world is the one that is told
 stands_at_first : (w : World) (f : Readings) → LinkStandsAfter w f (Some w) (Some f) [] []
 stands_at_first w f =
-    record { readings_taken = λ k. let e : 0 + k ≡ k = omega arith in rw e refl; world_is = λ e. refl }
+    record { readings_taken = none_taken f; world_is = λ e. refl }
 
 module _ {w : World} {f : Readings} {world : Option World} {readings : Option Readings} {rs : List (List ℕ)}
     (s : LinkStandsAfter w f world readings rs []) where
@@ -112,24 +107,16 @@ module _ {w : World} {f : Readings} {world : Option World} {readings : Option Re
       (let e : length (rs ++ []) ≡ length rs = omega (arith, length-append rs []) in e) s.readings_taken
 
   -- the next reading
-  next_reading : (time : Timeval) → IfSome readings (λ g. time ≡ g 0) → time ≡ f (length rs)
-  next_reading time h = by readings taken_so_far h
-    where
-      by : (o : Option Readings) → IsAfter (length rs) f o → IfSome o (λ g. time ≡ g 0) → time ≡ f (length rs)
-      by None b h = absurd b
-      by (Some g) b h = let e : length rs + 0 ≡ length rs = omega arith in h ∙ b 0 ∙ rw e refl
+  next : (time : Timeval) → IfSome readings (λ g. time ≡ g 0) → time ≡ f (length rs)
+  next time h = next_reading f (length rs) readings time taken_so_far h
 
   -- a reading more was taken
   takes_reading : (readings' : Option Readings) (r : List ℕ) → IfSome readings (λ g. IsAfter 1 g readings')
       → IsAfter (length (rs ++ r ∷ [])) f readings'
-  takes_reading readings' r h = by readings readings' taken_so_far h
-    where
-      by : (o o' : Option Readings) → IsAfter (length rs) f o → IfSome o (λ g. IsAfter 1 g o')
-          → IsAfter (length (rs ++ r ∷ [])) f o'
-      by None o' b h = absurd b
-      by (Some g) None b h = absurd h
-      by (Some g) (Some g') b h = λ k. let e : length rs + (1 + k) ≡ length (rs ++ r ∷ []) + k =
-          omega (arith, length-append rs (r ∷ [])) in h k ∙ b (1 + k) ∙ rw e refl
+  takes_reading readings' r h =
+      let e : length (rs ++ r ∷ []) ≡ length rs + 1 = omega (arith, length-append rs (r ∷ [])) in
+      subst (λ (n : ℕ). IsAfter n f readings') (sym e)
+      (takes_next f (length rs) readings readings' taken_so_far h)
 
   -- a record was read at a reading of the clock, and the link's answer moved the world
   pub stands_answered : (world' : Option World) (readings' : Option Readings) (time : Timeval) (r : List ℕ)
@@ -141,7 +128,7 @@ module _ {w : World} {f : Readings} {world : Option World} {readings : Option Re
         omega (arith, length-append (rs ++ r ∷ []) []) in
         subst (λ (n : ℕ). IsAfter n f readings') (sym e) (takes_reading readings' r rest);
     world_is = λ e. of_some (λ v. world' ≡ Some (world_after v time r)) (s.world_is refl) moves
-        ∙ ap (λ (t : Timeval). Some (world_after (world_at w f rs) t r)) (next_reading time reading)
+        ∙ ap (λ (t : Timeval). Some (world_after (world_at w f rs) t r)) (next time reading)
         ∙ ap Some (sym (world_at-push w f rs r));
   }
 
@@ -156,7 +143,7 @@ module _ {w : World} {f : Readings} {world : Option World} {readings : Option Re
       → text_owed w f (rs ++ r ∷ []) ≡ text_owed w f rs ++ record_of (reply_owed (world_at w f rs) time r)
   owes time r h =
       text_owed-push w f rs r ∙ ap (λ (t : Timeval). text_owed w f rs
-      ++ record_of (reply_owed (world_at w f rs) t r)) (sym (next_reading time h))
+      ++ record_of (reply_owed (world_at w f rs) t r)) (sym (next time h))
 
   -- what is known of the world is known of the one after these records
   pub at_world : (P : World → Type 0) → IfSome world P → P (world_at w f rs)
@@ -179,10 +166,12 @@ served_nothing world readings before written = told world readings (λ w f a b.
 
 -- the loop before the k-th turn: no fault has come, nothing was counted, and the link may answer no fault
 -- that it didn't at first
-pub record Turn (may may_now : LinkFault → Type 0) (served : Type 0) (failed : Option RecordFault)
+pub record Turn (may may_now : LinkFault → Type 0) (served asked : Type 0) (failed : Option RecordFault)
     (reads reads_now writes writes_now : ℕ) : Type 0 where
   -- what was read, answered and written
   pub is_served : served
+  -- which exchanges were made
+  pub has_asked : asked
   -- the reader has no fault
   pub fresh : failed ≡ None
   -- no read failed
@@ -290,15 +279,16 @@ DeviceFails e world₁ world' time r written written' =
 
 -- one of the two, by what a step says
 pub fails_by : (e : StreamFault) (world₁ world' : Option World) (time : Timeval) (r : List ℕ)
-    (written written' : Option (List ℕ)) {Same Counted : Type 0} {May Then : LinkFault → Type 0}
+    (written written' : Option (List ℕ)) {Same Counted : Type 0} {May Then Fails : LinkFault → Type 0}
     → (Same → written' ≡ written)
-    → (e ≡ faults.Device) ⊎ ((f : LinkFault) × (e ≡ of_link f) × Same × May f × Then f)
+    → (e ≡ faults.Device) ⊎ ((f : LinkFault) × (e ≡ of_link f) × Same × May f × Then f × Fails f)
     → ((e ≡ faults.Device) → Counted × IfSome world₁
     (λ v. WritesFront written written' (record_of (reply_owed v time r))
     × (world' ≡ Some (world_after v time r))))
     → DeviceFails e world₁ world' time r written written' ⊎ LinkFails e written written'
 fails_by e world₁ world' time r written written' same (inl d) device = inl (d, (device d).1)
-fails_by e world₁ world' time r written written' same (inr (f, e', s, may, then)) device = inr (f, e', same s)
+fails_by e world₁ world' time r written written' same (inr (f, e', s, may, then, fails)) device =
+    inr (f, e', same s)
 
 module _ (world world₁ world' : Option World) (readings readings₁ readings' : Option Readings) (k : ℕ)
     (before mid mid' written_before written written' : Option (List ℕ)) (more r : List ℕ) (time : Timeval)

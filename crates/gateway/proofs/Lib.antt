@@ -1,1 +1,3 @@
+mod ReadingsTaken
 mod GatewayTurns
+mod GatewayExchanges

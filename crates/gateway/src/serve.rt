@@ -1,6 +1,6 @@
 //! A stream of records in, and the replies out, over a link.
 
-ghost use Rattle.std.specs.Prelude.{◌≡◌, ◌≤◌, ◌⊎◌, length, true, false, is_err, IfOk};
+ghost use Rattle.std.specs.Prelude.{◌≡◌, ◌≤◌, ◌⊎◌, ℕ, List, length, true, false, is_err, IfOk, Option};
 ghost use Rattle.std.specs.Prelude.{IfErr, OnOk, OnErr, IsErrOf, IfSome, Some, None, Err};
 ghost use Rattle.std.specs.Option.{option_map};
 ghost use Rattle.std.specs.Io.KnownBytes.{Appends, IsAtEnd};
@@ -12,9 +12,11 @@ ghost use Rattle.service.specs.Owed.{record_of};
 ghost use Rattle.gateway.specs.declared.links.fault.LinkFault.{LinkFault};
 ghost use Rattle.gateway.specs.declared.links.fault.LinkFault.TheVariants as links;
 ghost use Rattle.gateway.specs.declared.fault.StreamFault.TheVariants.{Device, KeysUsedUp, Failed};
-ghost use Rattle.record_streams.specs.Streams.{Serves, ServesPart};
+ghost use Rattle.record_streams.specs.Streams.{Serves, ServesPart, StopsAfterRecords, TakesNothing};
+ghost use Rattle.gateway.specs.Links.Exchanges.{Exchange};
 ghost use Rattle.gateway.specs.Faults.{of_records, of_link, IsOfStream, IsOkOr};
 ghost use Rattle.gateway.specs.Serving.{IfTold, text_owed, LinkStandsAfter, LeavesOff, StandsAfter};
+ghost use Rattle.gateway.specs.Serving.{text_given, IsAsked};
 
 use crate::fault::StreamFault;
 use crate::links::{Clock, Link};
@@ -60,6 +62,9 @@ fn answer<L: Link, W: Write>(
     bytes: &[u8],
 ) -> Result<(), StreamFault>
     requires { length bytes.now ≤ MAX_RECORD }
+    ensures exchanged { OnOk result ((reply : Option (List ℕ))
+        × L.exchanges link.old time bytes.now reply link.new
+        × Appends (W.contents writer.old.inner) (W.contents writer.new.inner) (record_of reply)) }
     ensures text { OnOk result (IfSome (L.world link.old) (λ w.
         Appends (W.contents writer.old.inner) (W.contents writer.new.inner)
         (record_of (reply_owed w time bytes.now)))) }
@@ -68,13 +73,17 @@ fn answer<L: Link, W: Write>(
     ensures kept { OnOk result (writer.new.count ≡ writer.old.count) }
     ensures calm { IsOkOr result IsOfStream →
         (f : LinkFault) → L.may_fault link.new f → L.may_fault link.old f }
+    ensures cut { IsErrOf result Device → (reply : Option (List ℕ))
+        × L.exchanges link.old time bytes.now reply link.new
+        × WritesFront (W.contents writer.old.inner) (W.contents writer.new.inner) (record_of reply) }
     ensures device { IsErrOf result Device → Rises writer.old.count writer.new.count
         × IfSome (L.world link.old) (λ w.
         WritesFront (W.contents writer.old.inner) (W.contents writer.new.inner)
         (record_of (reply_owed w time bytes.now))
         × (L.world link.new ≡ Some (world_after w time bytes.now))) }
     ensures link { IfErr result (λ e. (e ≡ StreamFault.Device) ⊎ ((f : LinkFault) × (e ≡ of_link f)
-        × (writer.new ≡ writer.old) × L.may_fault link.old f × L.faulted link.new f)) }
+        × (writer.new ≡ writer.old) × L.may_fault link.old f × L.faulted link.new f
+        × L.fails link.old time bytes.now f link.new)) }
 {
     let reply = link.exchange(alloc, time, bytes)?;
     write_reply(writer, &reply)
@@ -89,6 +98,16 @@ fn serve_records<L: Link, C: Clock, R: Read + Drop, W: Write>(
     writer: &mut Counting<W>,
 ) -> Result<Served, StreamFault>
     requires fresh { reader.old.fault ≡ None }
+    ensures exchanged { IfOk result (λ done. (made : List Exchange) × (length made ≡ done.records)
+        × StopsAfterRecords (text_given made)
+        (IsAsked L.exchanges L.fails link.old link.new (C.readings clock.old) (C.readings clock.new) made
+        result) TakesNothing (R.remaining reader.old.reader.inner) (R.remaining reader.new.reader.inner)
+        (W.contents writer.old.inner) (W.contents writer.new.inner)) }
+    ensures asked { IfErr result (λ e. (made : List Exchange)
+        × LeavesOff e reader.new.fault (text_given made)
+        (IsAsked L.exchanges L.fails link.old link.new (C.readings clock.old) (C.readings clock.new) made
+        result) (R.remaining reader.old.reader.inner) (R.remaining reader.new.reader.inner)
+        (W.contents writer.old.inner) (W.contents writer.new.inner)) }
     ensures served { IfOk result (λ done. IfTold (L.world link.old) (C.readings clock.old) (λ w f.
         IfSome (R.remaining reader.old.reader.inner) (λ input.
         Serves (text_owed w f) (LinkStandsAfter w f (L.world link.new) (C.readings clock.new)) done.records
@@ -167,6 +186,20 @@ impl Gateway {
         reader: &mut RecordReader<R>,
         writer: &mut Counting<W>,
     ) -> Result<Served, StreamFault>
+        // Over any link: each record was handed to it once, at a reading of its own, and what it replied was
+        // written. At its fault one exchange more was made, which failed with that fault.
+        ensures exchanged { IfOk result (λ done. (made : List Exchange) × (length made ≡ done.records)
+            × StopsAfterRecords (text_given made)
+            (IsAsked L.exchanges L.fails link.old link.new (C.readings clock.old) (C.readings clock.new) made
+            result) TakesNothing (R.remaining reader.old.reader.inner) (R.remaining reader.new.reader.inner)
+            (W.contents writer.old.inner) (W.contents writer.new.inner)) }
+        ensures asked { IfErr result (λ e. self.old ≡ false → reader.old.fault ≡ None →
+            (made : List Exchange) × LeavesOff e reader.new.fault (text_given made)
+            (IsAsked L.exchanges L.fails link.old link.new (C.readings clock.old) (C.readings clock.new) made
+            result) (R.remaining reader.old.reader.inner) (R.remaining reader.new.reader.inner)
+            (W.contents writer.old.inner) (W.contents writer.new.inner)) }
+
+        // Over a link that tells its world what was written is what is owed.
         ensures served { IfOk result (λ done. IfTold (L.world link.old) (C.readings clock.old) (λ w f.
             IfSome (R.remaining reader.old.reader.inner) (λ input.
             Serves (text_owed w f) (LinkStandsAfter w f (L.world link.new) (C.readings clock.new))

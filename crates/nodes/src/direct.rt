@@ -134,10 +134,15 @@ fn may_join(client: &ClientNode, server: &ServerNode) -> bool
         && !server.lies()
 }
 
-/// It tells its server's world. From now on it may lack keys or memory; it has failed after a fault, and
-/// only there. It answers `KeysUsedUp` only where keys lack.
+/// Its exchanges are what `carry` says, and so are its faults. It tells its server's world. From now on it
+/// may lack keys or memory; it has failed after a fault, and only there. It answers `KeysUsedUp` only where
+/// keys lack.
 impl Link for Direct {
     ghost use Rattle.nodes.specs.Directs.{IsFaulted};
+
+    ghost exchanges = { λ d time bytes reply d'. IsExchanged d time bytes reply d' };
+
+    ghost fails = { λ d time bytes e d'. StopsExchange d time bytes e d' };
 
     ghost world = { λ d. world_in d.server.state.machine };
 

@@ -1,8 +1,10 @@
 //! What carries a record to a server and brings the reply back.
 
-ghost use Rattle.std.specs.Prelude.{◌≡◌, ◌≤◌, ⊤, length, Option, Some, None, IfOk, IfErr, IfSome, OnOk};
+ghost use Rattle.std.specs.Prelude.{◌≡◌, ◌≤◌, ℕ, ⊤, length, List, Option, Some, None, IfOk, IfErr};
+ghost use Rattle.std.specs.Prelude.{IfSome, OnOk};
 ghost use Rattle.std.specs.Option.{option_map};
 ghost use Rattle.rpc.specs.declared.records.record.TheConstants.{MAX_RECORD};
+ghost use Rattle.nfs_items.specs.Timeval.{Timeval};
 ghost use Rattle.worlds.specs.World.{World};
 ghost use Rattle.service.specs.Replies.{reply_owed, world_after};
 ghost use Rattle.gateway.specs.declared.links.fault.LinkFault.{LinkFault};
@@ -16,11 +18,18 @@ use std::alloc::Global;
 /// has nothing to do with links in files, nor with those of a hash chain. A link that waits for others keeps
 /// its runtime itself.
 ///
-/// Its ghost members say what is known of it. `world` is that of its server, where it is told; then each
-/// answer is the reply owed (RFC 5531, section 9), and the world moves as that says. `may_fault` are the
+/// Its ghost members say what is known of it. `exchanges` and `fails` say which link an exchange leaves, by
+/// its time, its record and the reply, or the fault. `world` is that of its server, where it is told; then
+/// each answer is the reply owed (RFC 5531, section 9), and the world moves as that says. `may_fault` are the
 /// faults that it may answer from now on; an exchange that is answered adds none. `faulted` is what holds of
 /// a link after a fault.
 pub trait Link {
+    // An exchange at this time, of this record and with this reply, if one, leads from one link to another.
+    ghost exchanges: { Self → Timeval → List ℕ → Option (List ℕ) → Self → Type 0 } = { λ _ _ _ _ _. ⊤ };
+
+    // So does an exchange with this fault.
+    ghost fails: { Self → Timeval → List ℕ → LinkFault → Self → Type 0 } = { λ _ _ _ _ _. ⊤ };
+
     // The world of its server, where it is told.
     ghost world: { Self → Option World } = { λ _. None };
 
@@ -39,6 +48,9 @@ pub trait Link {
         bytes: &[u8],
     ) -> Result<Option<Vec<u8>>, LinkFault>
         requires size { length bytes.now ≤ MAX_RECORD }
+        ensures exchanged { IfOk result (λ r.
+            exchanges self.old time bytes.now (option_map (λ v. v.items) r) self.new) }
+        ensures failed { IfErr result (λ e. fails self.old time bytes.now e self.new) }
         ensures reply { IfOk result (λ r. IfSome (world self.old) (λ w.
             option_map (λ v. v.items) r ≡ reply_owed w time bytes.now)) }
         ensures moves { OnOk result (IfSome (world self.old) (λ w.
@@ -49,8 +61,14 @@ pub trait Link {
         ensures after { IfErr result (λ e. faulted self.new e) };
 }
 
-/// The server itself is the shortest link. It tells its world, and lacks nothing but memory.
+/// The server itself is the shortest link. It tells its world, and lacks nothing but memory; then it is as it
+/// was.
 impl Link for Service {
+    ghost exchanges = { λ s time bytes reply s'.
+        (reply ≡ reply_owed s time bytes) × (s' ≡ world_after s time bytes) };
+
+    ghost fails = { λ s _ _ e s'. (e ≡ LinkFault.NoMemory) × (s' ≡ s) };
+
     ghost world = { λ s. Some s };
 
     ghost may_fault = { λ _ e. e ≡ LinkFault.NoMemory };
