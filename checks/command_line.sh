@@ -170,6 +170,26 @@ check_fragments() {
     done
 }
 
+# So many fragments of a call of NULL, all but the last one empty.
+with_fragments() {
+    head -c "$((4 * ($1 - 1)))" /dev/zero
+    cat null
+}
+
+# A record may have 16,384 fragments: the next one is refused at its mark.
+check_many_fragments() {
+    with_fragments 16384 > in
+    run 0 rpc
+    cp out owed
+    cp null in
+    run 0 rpc
+    cmp -s out owed || fail 'a call in 16,384 fragments: it wrote' owed
+    with_fragments 16385 > in
+    run 1 rpc
+    [ ! -s out ] || fail 'a call in 16,385 fragments: it wrote' out
+    [ "$(cat said)" = 'nfsacc: record fault 3' ] || fail 'a call in 16,385 fragments' said
+}
+
 check_words() {
     : > in
     run 0 rpc --
@@ -262,6 +282,7 @@ for program in "${made[@]}"; do
     check_many_records
     check_waiting
     check_fragments
+    check_many_fragments
     check_words
     check_devices
 done

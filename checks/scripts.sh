@@ -29,7 +29,7 @@ said_is() {
 # Each story prints what stands beside it, from a file and from standard input.
 check_stories() {
     local story
-    for story in lie fork accusation no_keys any_order nothing; do
+    for story in lie fork accusation no_keys any_order nothing flood; do
         : > in
         run 0 run "$stories/$story.script"
         cmp -s out "$stories/$story.printed" || fail "$story: it printed" out
@@ -37,13 +37,16 @@ check_stories() {
         run 0 run -
         cmp -s out "$stories/$story.printed" || fail "$story from standard input: it printed" out
     done
+    sed 's/^flood .*/#/' "$stories/flood.script" > in
+    run 0 run -
+    grep -v -e '^flooded ' -e '^none$' "$stories/flood.printed" | cmp -s out - || fail 'the same without floods: it printed' out
     : > in
     run 0 check lie.evidence
     [ "$(cat out)" = 'exposed 1' ] || fail 'the evidence of the lie' out
     run 0 check fork.evidence
     [ "$(cat out)" = 'exposed 2' ] || fail 'the evidence of the fork' out
     [ ! -e none.evidence ] || fail 'there is evidence of a false accusation' out
-    echo 'six stories print what they should, and leave evidence where somebody is exposed'
+    echo 'seven stories print what they should, and leave evidence where somebody is exposed'
 }
 
 # Lines that are bad, as the first one and after others; one of a megabyte; thousands that are passed over before one.

@@ -38,6 +38,7 @@ impl<R: Threads + Wait + Sync, S: Shelf> Run<'_, '_, R, S> {
             Act::Ack(pair, number) => self.acknowledge(time, pair, number),
             Act::Learn(place) => self.learn(place),
             Act::Forge(place) => self.forge(place),
+            Act::Flood(place, times) => self.flood(place, times),
             Act::Audit(node) => self.audit(node),
             Act::Answer(node) => self.answer_audit(node),
             Act::Replay(workers) => self.replay(workers),

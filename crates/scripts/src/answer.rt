@@ -67,6 +67,13 @@ impl Answer {
         self.end()
     }
 
+    /// The line `flooded T`.
+    pub(crate) fn flooded(&mut self, times: u32) -> Result<(), AllocError> {
+        self.word("flooded")?;
+        self.number(u64::from(times))?;
+        self.end()
+    }
+
     /// The line of a reply: `reply HEX`, or `no reply`.
     pub(crate) fn reply(&mut self, alloc: Global, reply: Option<&[u8]>) -> Result<(), AllocError> {
         let Some(bytes) = reply else {

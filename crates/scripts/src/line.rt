@@ -14,6 +14,9 @@ const MAX_NODE: u32 = 64;
 /// The greatest height of a tree of keys, and the most workers of a round.
 const MOST: u32 = 16;
 
+/// The most deliveries of a flood.
+const MAX_FLOOD: u32 = 10_000;
+
 /// A number from 1 to 16: the height of a tree of keys, or the workers of a round.
 #[derive(Clone, Copy)]
 pub(crate) struct OneToSixteen {
@@ -88,6 +91,8 @@ pub(crate) enum Act<'a> {
     Learn(Place),
     /// `forge N K`: the same with one bit changed.
     Forge(Place),
+    /// `flood N K T`: that, T times.
+    Flood(Place, u32),
     /// `audit N`: the witness asks for a segment.
     Audit(u32),
     /// `answer N`: the node answers.
@@ -166,6 +171,10 @@ fn read_act<'a>(alloc: Global, name: &str, words: &mut Words<'a>) -> Result<Act<
         }
         "learn" => Ok(Act::Learn(read_place(words)?)),
         "forge" => Ok(Act::Forge(read_place(words)?)),
+        "flood" => {
+            let place = read_place(words)?;
+            Ok(Act::Flood(place, words.number_within(1, MAX_FLOOD)?))
+        }
         "replay" => Ok(Act::Replay(OneToSixteen::read(words)?)),
         "evidence" => {
             let node = words.number()?;

@@ -73,6 +73,11 @@ impl Said {
         }
     }
 
+    /// Whether it was refused because a signature doesn't verify.
+    pub(crate) fn is_bad_signature(&self) -> bool {
+        matches!(self, Said::Refused(Refusal::BadSignature))
+    }
+
     /// Whether it was refused because memory ran out.
     pub(crate) fn is_no_memory(&self) -> bool {
         matches!(self, Said::Refused(Refusal::NoMemory))

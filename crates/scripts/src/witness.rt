@@ -38,15 +38,42 @@ impl<R: Threads + Wait + Sync, S: Shelf> Run<'_, '_, R, S> {
         }
     }
 
-    /// `forge N K`: the lowest bit of the last byte is changed.
+    /// The same packet with the lowest bit of its last byte changed.
+    fn forged_packet(&self, place: Place) -> Result<Option<Vec<u8>>, Stop> {
+        let mut packet = self.authenticator_packet(place)?;
+        if let Some(bytes) = &mut packet {
+            change_last(bytes);
+        }
+        Ok(packet)
+    }
+
+    /// `forge N K`.
     pub(crate) fn forge(&mut self, place: Place) -> Result<(), Stop> {
-        match self.authenticator_packet(place)? {
-            Some(mut packet) => {
-                change_last(&mut packet);
-                self.deliver(&packet)
-            }
+        match self.forged_packet(place)? {
+            Some(packet) => self.deliver(&packet),
             None => self.print("none"),
         }
+    }
+
+    /// `flood N K T`: as `forge`, so many times.
+    pub(crate) fn flood(&mut self, place: Place, times: u32) -> Result<(), Stop> {
+        match self.forged_packet(place)? {
+            Some(packet) => self.deliver_often(&packet, times),
+            None => self.print("none"),
+        }
+    }
+
+    /// Hands a packet over so many times, or until the witness says something else than that its signature is bad,
+    /// and then prints that.
+    fn deliver_often(&mut self, packet: &[u8], times: u32) -> Result<(), Stop> {
+        for _ in 0..times {
+            let said = self.caller.deliver(packet);
+            if !said.is_bad_signature() {
+                return self.say(&said);
+            }
+        }
+        self.answer.flooded(times)?;
+        Ok(())
     }
 
     /// That there is a node with a number.
