@@ -39,7 +39,7 @@ fn roster(alloc: Global) -> Option<Roster> {
 }
 
 /// The server.
-fn new_server(alloc: Global) -> Option<ServerNode> {
+pub fn new_server(alloc: Global) -> Option<ServerNode> {
     match signer(alloc, 1) {
         Some(keys) => ServerNode::with_signer(alloc, roster(alloc)?, 1, keys, HEIGHT).ok(),
         None => None,
@@ -47,7 +47,7 @@ fn new_server(alloc: Global) -> Option<ServerNode> {
 }
 
 /// A client.
-fn new_client(alloc: Global, node: u8) -> Option<ClientNode> {
+pub fn new_client(alloc: Global, node: u8) -> Option<ClientNode> {
     match signer(alloc, node) {
         Some(keys) => {
             ClientNode::with_signer(alloc, roster(alloc)?, node as u32, keys, HEIGHT).ok()

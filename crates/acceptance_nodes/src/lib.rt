@@ -14,6 +14,8 @@ mod replays;
 #[cfg(test)]
 mod rows;
 #[cfg(test)]
+mod shared;
+#[cfg(test)]
 mod strays;
 #[cfg(test)]
 mod streams;

@@ -3,3 +3,7 @@ pub mod Delivered
 pub mod Asked
 pub mod Replied
 pub mod Stopped
+pub mod Handed
+pub mod Unjoined
+pub mod Straight
+pub mod UnderLock

@@ -23,24 +23,6 @@ is_received c s c1 number h takes =
     let x = takes h.envelope h.reaches in
     record { envelope = h.reaches.envelope; left = x.0; received = x.1 }
 
--- With both the reply and its acknowledgement taken, the reply is brought back.
-pub is_replied : (c s c1 t : NodeParts) (number receipt : ℕ) (reply : List ℕ) (h : IsReplyReady c s number)
-    → ((e : Envelope) → Reaches s kinds.Server number c e → TakesNew c e (Ok tt) c1) → IsSender (sender_of c1)
-    → receipt ≡ length c1.entries → reply ≡ h.envelope.body
-    → ((a : Ack) → AckReaches c1 kinds.Client receipt s a → TakesAwaited s a (Ok tt) t)
-    → IsReplied c s number reply c1 t
-is_replied c s c1 t number receipt reply h takes is last says acknowledged =
-    let got = is_received c s c1 number h takes in
-    let x = reply_acknowledged c s c1 number receipt h got.received is last in
-    record {
-      envelope = h.envelope;
-      received = got;
-      body = says;
-      ack = x.0;
-      made = ap (ack_at (sender_of c1)) (sym last) ∙ x.1.ack;
-      taken = acknowledged x.0 x.1;
-    }
-
 -- Where the server was refused memory for the acknowledgement, the reply stops there.
 pub stops_replying : (c s c1 t : NodeParts) (number receipt : ℕ) (fault : LinkFault) (h : IsReplyReady c s number)
     → ((e : Envelope) → Reaches s kinds.Server number c e → TakesNew c e (Ok tt) c1) → IsSender (sender_of c1)

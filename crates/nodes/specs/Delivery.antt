@@ -60,6 +60,30 @@ TakesAwaited n a (Err KeysUsedUp) n' = ⊥
 TakesAwaited n a (Err NoMemory) n' = n' ≡ n
 TakesAwaited n a (Err Failed) n' = ⊥
 
+-- ---- the same between any two nodes, whatever either received before: Failed comes where one refuses what the
+-- other shows, and then it is as it was
+
+-- A server is handed an envelope: KeysUsedUp only where fewer than two keys are left.
+abbrev pub MayReceive : NodeParts → Timeval → Envelope → Result ServerReceipt LinkFault → NodeParts → Type 0
+MayReceive s time e (Ok r) s' = (¬ LacksKeys 2 s) × ReceivesEnvelope s time e r s'
+MayReceive s time e (Err KeysUsedUp) s' = LacksKeys 2 s × (s' ≡ s)
+MayReceive s time e (Err NoMemory) s' = s' ≡ s
+MayReceive s time e (Err Failed) s' = s' ≡ s
+
+-- A client is handed an envelope: KeysUsedUp only where no key is left.
+abbrev pub MayTake : NodeParts → Envelope → Result (Unit {0}) LinkFault → NodeParts → Type 0
+MayTake c e (Ok x) c' = (¬ LacksKeys 1 c) × (c' ≡ with_receipt c e)
+MayTake c e (Err KeysUsedUp) c' = LacksKeys 1 c × (c' ≡ c)
+MayTake c e (Err NoMemory) c' = c' ≡ c
+MayTake c e (Err Failed) c' = c' ≡ c
+
+-- A node is handed an acknowledgement. No key is needed.
+abbrev pub MayTakeAck : NodeParts → Ack → Result (Unit {0}) LinkFault → NodeParts → Type 0
+MayTakeAck n a (Ok x) n' = n' ≡ with_ack n a
+MayTakeAck n a (Err KeysUsedUp) n' = ⊥
+MayTakeAck n a (Err NoMemory) n' = n' ≡ n
+MayTakeAck n a (Err Failed) n' = n' ≡ n
+
 -- ---- refusals
 
 -- a refusal as a fault of the link

@@ -1,4 +1,5 @@
--- How far an exchange between a client and a server that are joined comes before a fault, and what is left.
+-- How far an exchange between a client and a server comes before a fault, and what is left: first of two that are
+-- joined, then of any two.
 use Rattle.std.specs.Prelude.{◌≡◌, ◌⊎◌, ℕ, List, Result, Ok, Err}
 use Rattle.envelopes.specs.declared.envelope.Envelope.{Envelope}
 use Rattle.gateway.specs.declared.links.fault.LinkFault.{LinkFault}
@@ -51,3 +52,30 @@ StopsCarrying c s time body fault c' s' =
     Asks c s time body (Err fault) c' s'
     ⊎ ((number : ℕ) × ((d : NodeParts) × ((t : NodeParts) ×
     (IsOwed c s time body number d t × StopsAtReply d t number fault c' s'))))
+
+-- ---- any two: where they aren't joined, one may refuse the other, and the fault is Failed
+
+-- What a call gives and leaves. Failed comes only once the client has sent: the server refuses the call, or the
+-- client the server's acknowledgement.
+abbrev pub MayAsk : (c s : NodeParts) → Timeval → List ℕ → Result ServerReceipt LinkFault → (c' s' : NodeParts)
+    → Type 0
+MayAsk c s time body (Ok r) c' s' = IsAsked c s time body r c' s'
+MayAsk c s time body (Err KeysUsedUp) c' s' =
+    (LacksKeys 1 c × (c' ≡ c) × (s' ≡ s))
+    ⊎ ((¬ LacksKeys 1 c) × LacksKeys 2 s × (c' ≡ having_called c s body) × (s' ≡ s))
+MayAsk c s time body (Err NoMemory) c' s' = StopsAsking c s time body c' s'
+MayAsk c s time body (Err Failed) c' s' = (c' ≡ having_called c s body) × StopsAsking c s time body c' s'
+
+-- Why a reply isn't brought back, and what is left then: Failed where the client refuses the reply, or the server
+-- the client's acknowledgement.
+abbrev pub MayStopAtReply : (c s : NodeParts) (number : ℕ) → LinkFault → (c' s' : NodeParts) → Type 0
+MayStopAtReply c s number KeysUsedUp c' s' = LacksKeys 1 c × (c' ≡ c) × (s' ≡ s)
+MayStopAtReply c s number NoMemory c' s' = StopsReplying c s number c' s'
+MayStopAtReply c s number Failed c' s' = StopsReplying c s number c' s'
+
+-- A fault with the call, or with the reply that the call owes.
+abbrev pub MayStop : (c s : NodeParts) → Timeval → List ℕ → LinkFault → (c' s' : NodeParts) → Type 0
+MayStop c s time body fault c' s' =
+    MayAsk c s time body (Err fault) c' s'
+    ⊎ ((number : ℕ) × ((d : NodeParts) × ((t : NodeParts) ×
+    (IsOwed c s time body number d t × MayStopAtReply d t number fault c' s'))))

@@ -3,3 +3,4 @@ pub mod Exchanges
 pub mod Delivery
 pub mod Faults
 pub mod Directs
+pub mod Shareds

@@ -3,6 +3,7 @@
 ghost use Rattle.std.specs.Prelude.{◌≡◌, ◌≤◌, IfOk, OnOk, None, Some, length};
 ghost use Rattle.secure_log.specs.declared.log_entries.entry.TheConstants.{MAX_BODY};
 ghost use Rattle.authenticator.specs.declared.member.Kind.TheVariants as kinds;
+ghost use Rattle.xdr.specs.Texts.Text.{IsText};
 ghost use Rattle.envelopes.specs.Envelope.{envelope_text, envelope_value};
 ghost use Rattle.envelopes.specs.Acknowledgement.{ack_text, ack_value};
 ghost use Rattle.envelopes.specs.declared.envelope.Envelope.{Envelope};
@@ -13,8 +14,8 @@ ghost use Rattle.commitment.specs.Senders.Sender.{IsSender};
 ghost use Rattle.node_logs.specs.Steps.Nodes.{receiver_of, sender_of};
 ghost use Rattle.gateway.specs.declared.links.fault.LinkFault.TheVariants.{Failed};
 ghost use Rattle.nodes.specs.Exchanges.Reaching.{AckReaches, Reaches, ack_told};
-ghost use Rattle.nodes.specs.Delivery.{CopiesBody, ReceivesNew, SendsBody, TakesAwaited};
-ghost use Rattle.nodes.specs.Delivery.{TakesNew, WritesText, fault_of};
+ghost use Rattle.nodes.specs.Delivery.{CopiesBody, MayReceive, MayTake, MayTakeAck, ReceivesNew, SendsBody};
+ghost use Rattle.nodes.specs.Delivery.{TakesAwaited, TakesNew, WritesText, fault_of};
 
 use crate::client::ClientNode;
 use crate::server::ServerNode;
@@ -111,7 +112,7 @@ pub(crate) fn body_of(node: &NodeLog, number: Number, alloc: Global) -> Result<V
     }
 }
 
-/// The server receives an envelope's text that is new to it.
+/// The server receives an envelope's text, which is to be new to it: of another, `Failed`.
 fn receive(
     server: &mut ServerNode,
     alloc: Global,
@@ -120,6 +121,8 @@ fn receive(
 ) -> Result<Receipt, LinkFault>
     ensures receives { (e : Envelope) → Finds (receiver_of server.old) text.now e None →
         ReceivesNew server.old time e result server.new }
+    ensures told { (e : Envelope) → IsText envelope_text (envelope_value e) text.now →
+        MayReceive server.old time e result server.new }
     ensures sender { IsSender (sender_of server.new) }
 {
     let received = server.receive(alloc, time, text);
@@ -131,10 +134,12 @@ fn receive(
     }
 }
 
-/// The client takes a reply's text that is new to it.
+/// The client takes a reply's text, which is to be new to it: of another, `Failed`.
 fn take_reply(client: &mut ClientNode, alloc: Global, text: &[u8]) -> Result<(), LinkFault>
     ensures takes { (e : Envelope) → Finds (receiver_of client.old) text.now e None →
         TakesNew client.old e result client.new }
+    ensures told { (e : Envelope) → IsText envelope_text (envelope_value e) text.now →
+        MayTake client.old e result client.new }
     ensures sender { IsSender (sender_of client.new) }
 {
     let taken = client.take_reply(alloc, text);
@@ -146,7 +151,7 @@ fn take_reply(client: &mut ClientNode, alloc: Global, text: &[u8]) -> Result<(),
     }
 }
 
-/// What became of an acknowledgement that is awaited.
+/// What became of an acknowledgement, which is to be awaited: of another, `Failed`.
 fn ack_taken(taken: Result<AckTaken, Refusal>) -> Result<(), LinkFault>
     ensures { result ≡ ack_told fault_of Failed taken }
 {
@@ -168,6 +173,8 @@ pub(crate) fn deliver_call(
 ) -> Result<Receipt, LinkFault>
     ensures receives { (e : Envelope) → Reaches client.now kinds.Client number server.old e →
         ReceivesNew server.old time e result server.new }
+    ensures told { (e : Envelope) → envelope_at (sender_of client.now) number ≡ Some e →
+        MayReceive server.old time e result server.new }
     ensures sender { OnOk result (IsSender (sender_of server.new)) }
 {
     write_envelope(client.node(), number, text)?;
@@ -184,6 +191,8 @@ pub(crate) fn deliver_reply(
 ) -> Result<(), LinkFault>
     ensures takes { (e : Envelope) → Reaches server.now kinds.Server number client.old e →
         TakesNew client.old e result client.new }
+    ensures told { (e : Envelope) → envelope_at (sender_of server.now) number ≡ Some e →
+        MayTake client.old e result client.new }
     ensures sender { OnOk result (IsSender (sender_of client.new)) }
 {
     write_envelope(server.node(), number, text)?;
@@ -198,8 +207,10 @@ pub(crate) fn acknowledge_call(
     text: &mut Vec<u8>,
     alloc: Global,
 ) -> Result<(), LinkFault>
-    ensures { (a : Ack) → AckReaches server.now kinds.Server number client.old a →
+    ensures takes { (a : Ack) → AckReaches server.now kinds.Server number client.old a →
         TakesAwaited client.old a result client.new }
+    ensures told { (a : Ack) → ack_at (sender_of server.now) number ≡ Some a →
+        MayTakeAck client.old a result client.new }
 {
     write_ack(server.node(), number, text)?;
     ack_taken(client.take_ack(alloc, text))
@@ -220,8 +231,10 @@ pub(crate) fn acknowledge_reply(
     text: &mut Vec<u8>,
     alloc: Global,
 ) -> Result<(), LinkFault>
-    ensures { (a : Ack) → AckReaches client.now kinds.Client number server.old a →
+    ensures takes { (a : Ack) → AckReaches client.now kinds.Client number server.old a →
         TakesAwaited server.old a result server.new }
+    ensures told { (a : Ack) → ack_at (sender_of client.now) number ≡ Some a →
+        MayTakeAck server.old a result server.new }
 {
     write_ack(client.node(), number, text)?;
     ack_taken(server.take_ack(alloc, text))

@@ -1,13 +1,15 @@
 //! An exchange between a client and a server, step by step.
 
-ghost use Rattle.std.specs.Prelude.{◌≡◌, ◌≤◌, ◌+◌, IfErr, IfOk, IfSome, OnOk, length};
+ghost use Rattle.std.specs.Prelude.{◌≡◌, ◌≤◌, ◌+◌, false, IfErr, IfOk, IfSome, OnOk, Some, length};
 ghost use Rattle.std.specs.Option.{option_map};
 ghost use Rattle.secure_log.specs.declared.log_entries.entry.TheConstants.{MAX_BODY};
+ghost use Rattle.envelopes.specs.declared.envelope.Envelope.{Envelope};
+ghost use Rattle.commitment.specs.Senders.LookUps.{envelope_at};
 ghost use Rattle.commitment.specs.Senders.Sender.{IsSender};
 ghost use Rattle.node_logs.specs.Steps.Nodes.{sender_of};
 ghost use Rattle.nodes.specs.Exchanges.Reaching.{IsReplyReady};
 ghost use Rattle.nodes.specs.Exchanges.Exchanges.{IsCarried, IsJoined, IsReplied, IsServed};
-ghost use Rattle.nodes.specs.Faults.{Asks, StopsAtReply, StopsCarrying};
+ghost use Rattle.nodes.specs.Faults.{Asks, MayAsk, MayStop, MayStopAtReply, StopsAtReply, StopsCarrying};
 
 use crate::client::ClientNode;
 use crate::deliver::{
@@ -22,9 +24,10 @@ use std::alloc::Global;
 
 /// Carries a body of at most 12,288 bytes from a client to a server at a time, and its reply, if one is owed, back:
 /// a call of the client, with all that the two log for it (specs/Exchanges/Exchanges.antt). What either logged with
-/// others before, and whether it strayed, doesn't matter; `text` is used for what goes between the two. Where they
-/// are joined, neither refuses the other but for want of keys, `KeysUsedUp`, or memory, `NoMemory`; else `Failed`
-/// comes where one refuses the other, as where it doesn't list it. After a fault what was done before it stands.
+/// others before, and whether it strayed, doesn't matter; `text` is used for what goes between the two. The reply is
+/// the one owed, unless the server was told to lie. Where they are joined, neither refuses the other but for want of
+/// keys, `KeysUsedUp`, or memory, `NoMemory`; else `Failed` comes where one refuses the other, as where it doesn't
+/// list it. After a fault what was done before it stands, and nothing else was done (specs/Faults.antt).
 pub fn exchange(
     client: &mut ClientNode,
     server: &mut ServerNode,
@@ -34,12 +37,14 @@ pub fn exchange(
     bytes: &[u8],
 ) -> Result<Option<Vec<u8>>, LinkFault>
     requires size { length bytes.now ≤ MAX_BODY }
-    ensures carried { IsJoined client.old server.old → IfOk result (λ r. IsCarried client.old server.old time
+    ensures carried { IfOk result (λ r. IsCarried client.old server.old time
         bytes.now (option_map (λ v. v.items) r) client.new server.new) }
+    ensures told { IfErr result (λ e.
+        MayStop client.old server.old time bytes.now e client.new server.new) }
+    ensures served { server.old.lies ≡ false → IfOk result (λ r.
+        IsServed server.old time bytes.now (option_map (λ v. v.items) r) server.new) }
     ensures stops { IsJoined client.old server.old → IfErr result (λ e.
         StopsCarrying client.old server.old time bytes.now e client.new server.new) }
-    ensures served { IsJoined client.old server.old → IfOk result (λ r.
-        IsServed server.old time bytes.now (option_map (λ v. v.items) r) server.new) }
     ensures joined { IsJoined client.old server.old → OnOk result (IsJoined client.new server.new) }
     ensures size { IfOk result (λ r. IfSome r (λ v. length v.items ≤ MAX_BODY)) }
 {
@@ -63,6 +68,7 @@ fn ask(
     bytes: &[u8],
 ) -> Result<Receipt, LinkFault>
     requires size { length bytes.now ≤ MAX_BODY }
+    ensures told { MayAsk client.old server.old time bytes.now result client.new server.new }
     ensures asks { IsJoined client.old server.old → Asks client.old server.old time bytes.now result client.new server.new }
     ensures sender { OnOk result (IsSender (sender_of server.new)) }
 {
@@ -86,8 +92,10 @@ fn bring_back(
     text: &mut Vec<u8>,
     alloc: Global,
 ) -> Result<Vec<u8>, LinkFault>
-    ensures replied { IsReplyReady client.old server.old number → IfOk result (λ v.
+    ensures replied { (e : Envelope) → envelope_at (sender_of server.old) number ≡ Some e → IfOk result (λ v.
         IsReplied client.old server.old number v.items client.new server.new) }
+    ensures told { (e : Envelope) → envelope_at (sender_of server.old) number ≡ Some e → IfErr result (λ f.
+        MayStopAtReply client.old server.old number f client.new server.new) }
     ensures stops { IsReplyReady client.old server.old number → IfErr result (λ e.
         StopsAtReply client.old server.old number e client.new server.new) }
     ensures size { IfOk result (λ v. length v.items ≤ MAX_BODY) }

@@ -149,7 +149,7 @@ plainly s t time e r plain h =
     ∙ ap (λ (b : Bool). straying b s.strayed (with_answer s h.world e (reading_at s time) o)) (sym plain)
 
 -- its RECV stands first
-recv_first : (e : Envelope) (time : Timeval) (o : Option (List ℕ))
+pub recv_first : (e : Envelope) (time : Timeval) (o : Option (List ℕ))
     → (rest : List Entry)
     × (heard_entries e.from e.seq e.prev e.body e.signature time o ≡ Recv e.from e.seq e.prev e.body e.signature ∷ rest)
 recv_first e time None = (Clock time.seconds time.microseconds ∷ [], refl)

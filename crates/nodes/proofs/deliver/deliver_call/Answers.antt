@@ -1,4 +1,5 @@
 use Rattle.nodes.proofs.OfExchanges.Reached.{call_found}
+use Rattle.nodes.proofs.Handed.{envelope_written}
 use Rattle.nodes.proofs.deliver.deliver_call.Goals as goal
 
 pub returns-clause-receives : goal.returns-clause-receives
@@ -6,3 +7,9 @@ returns-clause-receives c e h =
     c.receive.ensures.receives e
     (call_found c.args.client.now c.node.result.now c.args.server.now _ c.args.number e _ _ c.node.ensures.node
     c.in_ok-write_envelope.ensures.sender c.in_ok-write_envelope.ensures.written c.deref.ensures.value h)
+
+pub returns-clause-told : goal.returns-clause-told
+returns-clause-told c e h =
+    c.receive.ensures.told e
+    (envelope_written c.args.client.now c.node.result.now c.args.number e _ _ c.node.ensures.node
+    c.in_ok-write_envelope.ensures.written c.deref.ensures.value h)

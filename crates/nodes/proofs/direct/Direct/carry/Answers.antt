@@ -21,11 +21,11 @@ returns-in-Ok-clause-exchanged c =
     (record {
       before = c.if-self.false;
       after = c.if-self.false;
-      carried = c.in-Ok.ensures.carried (c.self.invariant c.if-self.false);
+      carried = c.in-Ok.ensures.carried;
     })
 
 pub returns-in-Ok-clause-served : goal.returns-in-Ok-clause-served
 returns-in-Ok-clause-served c =
     subst (λ (d : DirectParts). IsServed d.server c.args.time c.args.bytes.now (option_map (λ v. v.items) c.in-Ok.reply)
     c.exchange.new.server) c.self.view_is
-    (c.in-Ok.ensures.served (c.self.invariant c.if-self.false))
+    (c.in-Ok.ensures.served (c.self.invariant c.if-self.false).plain)

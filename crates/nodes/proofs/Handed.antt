@@ -1,0 +1,88 @@
+-- What a node does with a text that another wrote, whatever either received before.
+-- Serves: receive, take_reply, deliver_call, deliver_reply, acknowledge_call, acknowledge_reply.
+use Rattle.std.proofs.Common.{◌≡◌, ℕ, List, Result, Ok, Err, Some, sym, ap, subst, ◌∙◌}
+use Rattle.xdr.specs.Texts.Text.{IsText}
+use Rattle.envelopes.specs.Envelope.{envelope_text, envelope_value}
+use Rattle.envelopes.specs.Acknowledgement.{ack_text, ack_value}
+use Rattle.envelopes.specs.Checking.{IsAckText}
+use Rattle.envelopes.specs.declared.envelope.Envelope.{Envelope}
+use Rattle.envelopes.specs.declared.acknowledgement.Ack.{Ack}
+use Rattle.commitment.specs.Senders.LookUps.{ack_at, envelope_at}
+use Rattle.commitment.specs.declared.outcome.Received.{Received}
+use Rattle.commitment.specs.declared.outcome.Received.TheVariants.{New}
+use Rattle.commitment.specs.declared.refusal.Refusal.{Refusal}
+use Rattle.commitment.specs.declared.refusal.Refusal.TheVariants.{Garbage, NotForMe, BadSignature, KeysUsedUp}
+use Rattle.commitment.specs.declared.refusal.Refusal.TheVariants.{NoMemory}
+use Rattle.nfs_items.specs.Timeval.{Timeval}
+use Rattle.gateway.specs.declared.links.fault.LinkFault.{LinkFault}
+use Rattle.gateway.specs.declared.links.fault.LinkFault.TheVariants.{Failed}
+use Rattle.node_logs.specs.Steps.Nodes.{NodeParts, sender_of}
+use Rattle.node_logs.specs.Nodes.{LacksKeys}
+use Rattle.node_logs.specs.Receiving.{Receives, ReceivesEnvelope}
+use Rattle.node_logs.specs.Sending.{TakesReply, with_receipt}
+use Rattle.node_logs.specs.AckTaking.{TakesAck, with_ack}
+use Rattle.node_logs.specs.declared.outcome.AckTaken.{AckTaken}
+use Rattle.node_logs.specs.declared.outcome.AckTaken.TheVariants.{Logged, Already}
+use Rattle.node_logs.specs.declared.outcome.Receipt.{Receipt}
+use Rattle.nodes.specs.Exchanges.Reaching.{ack_told}
+use Rattle.nodes.specs.Delivery.{MayReceive, MayTakeAck, fault_of}
+use Rattle.nodes.proofs.OfExchanges.Texts.{one_ack, one_envelope, reads_back}
+
+-- the text that a call wrote of an envelope
+pub envelope_written : (a n : NodeParts) (number : ℕ) (e : Envelope) (bytes text : List ℕ) → n ≡ a
+    → ((x : Envelope) → envelope_at (sender_of n) number ≡ Some x → IsText envelope_text (envelope_value x) text)
+    → bytes ≡ text → envelope_at (sender_of a) number ≡ Some e → IsText envelope_text (envelope_value e) bytes
+envelope_written a n number e bytes text node written same h =
+    subst (IsText envelope_text (envelope_value e)) (sym same)
+    (written e (ap (λ (x : NodeParts). envelope_at (sender_of x) number) node ∙ h))
+
+-- What a server receives by it is that envelope.
+pub received_new : (n n' : NodeParts) (time : Timeval) (bytes : List ℕ) (e : Envelope) (r : Receipt) (h : Received Receipt)
+    → IsText envelope_text (envelope_value e) bytes → h ≡ New r → Receives n time bytes (Ok h) n'
+    → (LacksKeys 2 n → ⊥) × ReceivesEnvelope n time e r n'
+received_new n n' time bytes e r h text is receives =
+    by (subst (λ (x : Received Receipt). Receives n time bytes (Ok x) n') is receives)
+  where
+    by : Receives n time bytes (Ok (New r)) n' → (LacksKeys 2 n → ⊥) × ReceivesEnvelope n time e r n'
+    by x =
+        let same : x.0 ≡ e =
+        one_envelope bytes x.0 e x.1.0.opened.0.text (reads_back envelope_text (envelope_value e) bytes text) in
+        (x.1.1, subst (λ (y : Envelope). ReceivesEnvelope n time y r n') same x.1.2)
+
+-- What a client receives by it is that envelope.
+pub taken_new : (n n' : NodeParts) (bytes : List ℕ) (e : Envelope) (number : ℕ) (h : Received ℕ)
+    (result : Result (Received ℕ) Refusal) → IsText envelope_text (envelope_value e) bytes → result ≡ Ok h
+    → h ≡ New number → TakesReply n bytes result n' → (LacksKeys 1 n → ⊥) × (n' ≡ with_receipt n e)
+taken_new n n' bytes e number h result text is new takes =
+    by (subst (λ (x : Received ℕ). TakesReply n bytes (Ok x) n') new
+    (subst (λ (r : Result (Received ℕ) Refusal). TakesReply n bytes r n') is takes))
+  where
+    by : TakesReply n bytes (Ok (New number)) n' → (LacksKeys 1 n → ⊥) × (n' ≡ with_receipt n e)
+    by x =
+        let same : x.0 ≡ e =
+        one_envelope bytes x.0 e x.1.0.opened.0.text (reads_back envelope_text (envelope_value e) bytes text) in
+        (x.1.1, x.1.2 ∙ ap (with_receipt n) same)
+
+-- What a node does with the text that a call wrote of an acknowledgement.
+pub ack_handed : (a n b b' : NodeParts) (number : ℕ) (k : Ack) (bytes text : List ℕ) (result : Result AckTaken Refusal)
+    (answer : Result (Unit {0}) LinkFault) → n ≡ a
+    → ((x : Ack) → ack_at (sender_of n) number ≡ Some x → IsText ack_text (ack_value x) text) → bytes ≡ text
+    → TakesAck b bytes result b' → answer ≡ ack_told fault_of Failed result → ack_at (sender_of a) number ≡ Some k
+    → MayTakeAck b k answer b'
+ack_handed a n b b' number k bytes text result answer node written same takes answered h =
+    subst (λ (r : Result (Unit {0}) LinkFault). MayTakeAck b k r b') (sym answered) (by result takes)
+  where
+    read : IsAckText bytes k
+    read =
+        reads_back ack_text (ack_value k) bytes
+        (subst (IsText ack_text (ack_value k)) (sym same)
+        (written k (ap (λ (x : NodeParts). ack_at (sender_of x) number) node ∙ h)))
+
+    by : (r : Result AckTaken Refusal) → TakesAck b bytes r b' → MayTakeAck b k (ack_told fault_of Failed r) b'
+    by (Ok (Logged m)) t = t.1.3 ∙ ap (with_ack b) (one_ack bytes t.0 k t.1.0.text read)
+    by (Ok Already) t = t.1.3
+    by (Err Garbage) t = t.1
+    by (Err NotForMe) t = t.1.2
+    by (Err BadSignature) t = t.1.2
+    by (Err NoMemory) t = t
+    by (Err KeysUsedUp) t = absurd t

@@ -1,0 +1,254 @@
+-- An exchange between any two nodes, whatever either received of others before.
+-- Serves: exchange, ask, bring_back, HonestServer::exchange.
+use Rattle.std.proofs.Common.{◌≡◌, inl, inr, ℕ, ◌+◌, Bool, true, false, List, [], ◌∷◌, ◌++◌, length, Result, Ok, Err}
+use Rattle.std.proofs.Common.{Option, Some, None, refl, sym, ap, subst, ◌∙◌, arith, append_assoc, length-append}
+use Rattle.envelopes.specs.declared.envelope.Envelope.{Envelope}
+use Rattle.envelopes.specs.declared.acknowledgement.Ack.{Ack}
+use Rattle.commitment.specs.Senders.LookUps.{ack_at, envelope_at}
+use Rattle.commitment.specs.Senders.Sender.{IsSender}
+use Rattle.nfs_items.specs.Timeval.{Timeval}
+use Rattle.gateway.specs.service.Replies.{reply_owed}
+use Rattle.gateway.specs.declared.links.fault.LinkFault.{LinkFault}
+use Rattle.gateway.specs.declared.links.fault.LinkFault.TheVariants.{KeysUsedUp, NoMemory, Failed}
+use Rattle.secure_log.specs.declared.log_entries.entry.Entry.{Entry}
+use Rattle.secure_log.specs.declared.log_entries.entry.Entry.TheVariants.{Send, Recv, Clock}
+use Rattle.node_logs.specs.replay_spec.LogLaws.HonestServers.{heard_entries}
+use Rattle.node_logs.specs.Steps.Nodes.{NodeParts, sender_of}
+use Rattle.node_logs.specs.Steps.Logging.{with_receipt, with_send}
+use Rattle.node_logs.specs.Steps.Serving.{reading_at, reply_told, with_last_bit_changed}
+use Rattle.node_logs.specs.Nodes.{LacksKeys}
+use Rattle.node_logs.specs.Receiving.{ReceivesEnvelope, receipt_from}
+use Rattle.node_logs.specs.AckTaking.{with_ack}
+use Rattle.node_logs.specs.declared.outcome.Receipt.{Receipt}
+use Rattle.nodes.specs.Exchanges.Exchanges.{IsAsked, IsCall, IsHeard, IsReceived, IsReplied, IsServed, having_called}
+use Rattle.nodes.specs.Delivery.{MayReceive, MayTake, MayTakeAck}
+use Rattle.nodes.specs.Faults.{MayAsk, MayStopAtReply, heard, received, sent, unreceived}
+use Rattle.nodes.proofs.OfExchanges.Texts.{some_same}
+use Rattle.nodes.proofs.OfExchanges.Shown.{ack_shown, envelope_shown}
+use Rattle.nodes.proofs.OfExchanges.Called.{recv_first}
+use Rattle.nodes.proofs.OfExchanges.Answered.{served_by}
+
+-- ---- the call
+
+-- what the client's SEND is
+pub record IsSent (c s : NodeParts) (body : List ℕ) (c1 : NodeParts) (number : ℕ) : Type 0 where
+  -- the client has a key left
+  pub left : ¬ LacksKeys 1 c
+  -- the client is as it is after the SEND
+  pub is : c1 ≡ having_called c s body
+  -- the envelope of the SEND
+  pub envelope : Envelope
+  -- it is the call with this body
+  pub call : IsCall c s body envelope
+  -- the client shows it at the number
+  pub shown : envelope_at (sender_of c1) number ≡ Some envelope
+
+-- What the client's SEND is, once it is logged: its envelope is the call.
+pub is_sent : (c s : NodeParts) (to : ℕ) (body : List ℕ) (c1 : NodeParts) (number : ℕ) → to ≡ s.node
+    → (¬ LacksKeys 1 c) × (c1 ≡ with_send c to body) × (number ≡ length c.entries + 1) → IsSender (sender_of c1)
+    → IsSent c s body c1 number
+is_sent c s to body c1 number at sends is =
+    let same : c1 ≡ having_called c s body = sends.1 ∙ ap (λ (k : ℕ). with_send c k body) at in
+    let x = envelope_shown (sender_of (having_called c s body)) c.entries [] s.node body
+    (subst (λ (n : NodeParts). IsSender (sender_of n)) same is) refl in
+    let h = x.1 in
+    record {
+      left = sends.0;
+      is = same;
+      envelope = x.0;
+      call = record {
+        shown = h.there;
+        sender = h.sender;
+        receiver = h.receiver;
+        numbered = h.numbered;
+        says = h.says;
+      };
+      shown = ap (λ (n : NodeParts). envelope_at (sender_of n) number) same
+          ∙ ap (envelope_at (sender_of (having_called c s body))) sends.2 ∙ h.there;
+    }
+
+-- The server doesn't receive it.
+pub not_heard : (c s : NodeParts) (time : Timeval) (body : List ℕ) (c1 s1 : NodeParts) (number : ℕ) (fault : LinkFault)
+    → (h : IsSent c s body c1 number)
+    → ((e : Envelope) → envelope_at (sender_of c1) number ≡ Some e → MayReceive s time e (Err fault) s1)
+    → MayAsk c s time body (Err fault) c1 s1
+not_heard c s time body c1 s1 number fault h receives = by fault (receives h.envelope h.shown)
+  where
+    by : (f : LinkFault) → MayReceive s time h.envelope (Err f) s1 → MayAsk c s time body (Err f) c1 s1
+    by KeysUsedUp x = inr (h.left, x.0, h.is, x.1)
+    by NoMemory x = sent h.left h.is x
+    by Failed x = (h.is, sent h.left h.is x)
+
+-- It receives it.
+pub heard_it : (c s : NodeParts) (time : Timeval) (body : List ℕ) (c1 s1 : NodeParts) (number : ℕ) (r : Receipt)
+    → IsSent c s body c1 number
+    → ((e : Envelope) → envelope_at (sender_of c1) number ≡ Some e → MayReceive s time e (Ok r) s1)
+    → IsHeard c s time body r s1
+heard_it c s time body c1 s1 number r h receives =
+    let x = receives h.envelope h.shown in
+    record { left = h.left; envelope = h.envelope; call = h.call; server_left = x.0; receives = x.1 }
+
+-- The server shows its acknowledgement.
+ack_made : (s t : NodeParts) (e : Envelope) (time : Timeval) (r : Receipt) → ReceivesEnvelope s time e r t
+    → IsSender (sender_of t) → (a : Ack) × (ack_at (sender_of t) r.ack ≡ Some a)
+ack_made s t e time r receives is =
+    let reading = reading_at s time in
+    let first = recv_first e reading (reply_told s.lies (reply_owed receives.world reading e.body)) in
+    let log : t.entries ≡ s.entries ++ Recv e.from e.seq e.prev e.body e.signature ∷ first.0 =
+    ap (λ (x : NodeParts). x.entries) receives.served ∙ ap (λ (es : List Entry). s.entries ++ es) first.1 in
+    let x = ack_shown (sender_of t) s.entries first.0 e.from e.seq e.prev e.body e.signature is log in
+    (x.0, ap (ack_at (sender_of t)) (ap (λ (x : Receipt). x.ack) receives.receipt) ∙ x.1.there)
+
+-- With the acknowledgement taken, the call is asked.
+pub asked_it : (c s : NodeParts) (time : Timeval) (body : List ℕ) (c1 s1 c2 : NodeParts) (number : ℕ) (r : Receipt)
+    → IsSent c s body c1 number → IsHeard c s time body r s1 → IsSender (sender_of s1)
+    → ((a : Ack) → ack_at (sender_of s1) r.ack ≡ Some a → MayTakeAck c1 a (Ok tt) c2)
+    → IsAsked c s time body r c2 s1
+asked_it c s time body c1 s1 c2 number r h done is takes =
+    let x = ack_made s s1 done.envelope time r done.receives is in
+    record { heard = done; ack = x.0; made = x.1; taken = takes x.0 x.1 ∙ ap (λ (n : NodeParts). with_ack n x.0) h.is }
+
+-- Where the client doesn't take the acknowledgement, the call stops there.
+pub not_asked : (c s : NodeParts) (time : Timeval) (body : List ℕ) (c1 s1 c2 : NodeParts) (number : ℕ) (r : Receipt)
+    (fault : LinkFault) → IsSent c s body c1 number → IsHeard c s time body r s1 → IsSender (sender_of s1)
+    → ((a : Ack) → ack_at (sender_of s1) r.ack ≡ Some a → MayTakeAck c1 a (Err fault) c2)
+    → MayAsk c s time body (Err fault) c2 s1
+not_asked c s time body c1 s1 c2 number r fault h done is takes =
+    let x = ack_made s s1 done.envelope time r done.receives is in
+    by fault x.0 (takes x.0 x.1)
+  where
+    by : (f : LinkFault) (a : Ack) → MayTakeAck c1 a (Err f) c2 → MayAsk c s time body (Err f) c2 s1
+    by KeysUsedUp a t = absurd t
+    by NoMemory a t = heard r done (t ∙ h.is)
+    by Failed a t = (t ∙ h.is, heard r done (t ∙ h.is))
+
+-- ---- the reply
+
+-- the client that has received the reply
+pub taken_it : (c s c1 : NodeParts) (number : ℕ) (e : Envelope) → envelope_at (sender_of s) number ≡ Some e
+    → MayTake c e (Ok tt) c1 → IsReceived c s number e c1
+taken_it c s c1 number e there takes = record { envelope = there; left = takes.0; received = takes.1 }
+
+-- The client doesn't take it.
+pub not_taken : (c s c1 : NodeParts) (number : ℕ) (e : Envelope) (fault : LinkFault) → MayTake c e (Err fault) c1
+    → MayStopAtReply c s number fault c1 s
+not_taken c s c1 number e KeysUsedUp t = (t.0, t.1, refl)
+not_taken c s c1 number e NoMemory t = unreceived t refl
+not_taken c s c1 number e Failed t = unreceived t refl
+
+-- It shows its acknowledgement.
+reply_ack_made : (c s c1 : NodeParts) (number receipt : ℕ) (e : Envelope) → IsReceived c s number e c1
+    → IsSender (sender_of c1) → receipt ≡ length c1.entries → (a : Ack) × (ack_at (sender_of c1) receipt ≡ Some a)
+reply_ack_made c s c1 number receipt e got is last =
+    let log : c1.entries ≡ c.entries ++ Recv e.from e.seq e.prev e.body e.signature ∷ [] =
+    ap (λ (x : NodeParts). x.entries) got.received in
+    let place : receipt ≡ length c.entries + 1 =
+    last ∙ ap length log ∙ length-append c.entries (Recv e.from e.seq e.prev e.body e.signature ∷ []) in
+    let x = ack_shown (sender_of c1) c.entries [] e.from e.seq e.prev e.body e.signature is log in
+    (x.0, ap (ack_at (sender_of c1)) place ∙ x.1.there)
+
+-- With both the reply and its acknowledgement taken, the reply is brought back.
+pub brought_back : (c s c1 t : NodeParts) (number receipt : ℕ) (reply : List ℕ) (e : Envelope)
+    → IsReceived c s number e c1 → IsSender (sender_of c1) → receipt ≡ length c1.entries → reply ≡ e.body
+    → ((a : Ack) → ack_at (sender_of c1) receipt ≡ Some a → MayTakeAck s a (Ok tt) t)
+    → IsReplied c s number reply c1 t
+brought_back c s c1 t number receipt reply e got is last says acknowledged =
+    let x = reply_ack_made c s c1 number receipt e got is last in
+    record {
+      envelope = e;
+      received = got;
+      body = says;
+      ack = x.0;
+      made = ap (ack_at (sender_of c1)) (sym last) ∙ x.1;
+      taken = acknowledged x.0 x.1;
+    }
+
+-- Where the server doesn't take the acknowledgement, the reply stops there.
+pub not_brought : (c s c1 t : NodeParts) (number receipt : ℕ) (fault : LinkFault) (e : Envelope)
+    → IsReceived c s number e c1 → IsSender (sender_of c1) → receipt ≡ length c1.entries
+    → ((a : Ack) → ack_at (sender_of c1) receipt ≡ Some a → MayTakeAck s a (Err fault) t)
+    → MayStopAtReply c s number fault c1 t
+not_brought c s c1 t number receipt fault e got is last acknowledged =
+    let x = reply_ack_made c s c1 number receipt e got is last in
+    by fault x.0 (acknowledged x.0 x.1)
+  where
+    by : (f : LinkFault) (a : Ack) → MayTakeAck s a (Err f) t → MayStopAtReply c s number f c1 t
+    by KeysUsedUp a k = absurd k
+    by NoMemory a k = received e got k
+    by Failed a k = received e got k
+
+-- ---- what the server did
+
+-- A server shows a reply that it owes; unless it lies, that is the reply owed to the body.
+pub record IsShown (s t : NodeParts) (time : Timeval) (body : List ℕ) (number : ℕ) : Type 0 where
+  -- the envelope of the reply
+  pub envelope : Envelope
+  -- the server shows it at the number
+  pub there : envelope_at (sender_of t) number ≡ Some envelope
+  -- its body is the reply owed
+  pub served : s.lies ≡ false → IsServed s time body (Some envelope.body) t
+
+some_told : (lies : Bool) (reply : List ℕ)
+    → (told : List ℕ) × ((reply_told lies (Some reply) ≡ Some told) × (lies ≡ false → told ≡ reply))
+some_told false reply = (reply, (refl, λ plain. refl))
+some_told true reply = (with_last_bit_changed reply, (refl, λ plain. absurd (cc)))
+
+three : (es : List Entry) (a b : Entry) → length (es ++ a ∷ b ∷ []) + 1 ≡ length es + 1 + 1 + 1
+three es a b = omega (arith, length-append es (a ∷ b ∷ []))
+
+-- The reply that a receipt names is shown at its number.
+pub reply_shown : (c s c1 t : NodeParts) (time : Timeval) (body : List ℕ) (r : Receipt) (number : ℕ)
+    → IsAsked c s time body r c1 t → IsSender (sender_of t) → r.reply ≡ Some number → IsShown s t time body number
+reply_shown c s c1 t time body r number asked is owed =
+    by (reply_owed asked.heard.receives.world (reading_at s time) asked.heard.envelope.body) refl
+  where
+    by : (o : Option (List ℕ))
+        → reply_owed asked.heard.receives.world (reading_at s time) asked.heard.envelope.body ≡ o
+        → IsShown s t time body number
+    by None x =
+        let none : r.reply ≡ None =
+        ap (λ (y : Receipt). y.reply) asked.heard.receives.receipt
+        ∙ ap (λ (o : Option (List ℕ)). (receipt_from (length s.entries + 1) o).reply) x in
+        absurd (cc)
+    by (Some reply) x =
+        let some : r.reply ≡ Some (length s.entries + 1 + 2) =
+        ap (λ (y : Receipt). y.reply) asked.heard.receives.receipt
+        ∙ ap (λ (o : Option (List ℕ)). (receipt_from (length s.entries + 1) o).reply) x in
+        let at : number ≡ length s.entries + 1 + 2 = some_same (sym owed ∙ some) in
+        let e = asked.heard.envelope in
+        let reading = reading_at s time in
+        let y = some_told s.lies reply in
+        let recv = Recv e.from e.seq e.prev e.body e.signature in
+        let clock = Clock reading.seconds reading.microseconds in
+        let front = s.entries ++ recv ∷ clock ∷ [] in
+        let log : t.entries ≡ front ++ Send e.from y.0 ∷ [] =
+        ap (λ (n : NodeParts). n.entries) asked.heard.receives.served
+        ∙ ap (λ (o : Option (List ℕ)). s.entries ++ heard_entries e.from e.seq e.prev e.body e.signature reading o)
+        (ap (reply_told s.lies) x ∙ y.1.0)
+        ∙ sym (append_assoc s.entries (recv ∷ clock ∷ []) (Send e.from y.0 ∷ [])) in
+        let long = three s.entries recv clock in
+        let place : length front + 1 ≡ number = omega (arith, long, at) in
+        let f = envelope_shown (sender_of t) front [] e.from y.0 is log in
+        record {
+          envelope = f.0;
+          there = ap (envelope_at (sender_of t)) (sym place) ∙ f.1.there;
+          served = λ plain.
+              subst (λ (o : Option (List ℕ)). IsServed s time body o t)
+              (x ∙ ap (λ (b : List ℕ). Some b) (sym (f.1.says ∙ y.1.1 plain)))
+              (served_by s t time body e r asked.heard.call.says asked.heard.receives);
+        }
+
+-- The reply that is brought back is the one that the server shows.
+pub served_it : (c1 s t c2 t2 : NodeParts) (time : Timeval) (body : List ℕ) (number : ℕ) (reply : List ℕ)
+    → IsShown s t time body number → s.lies ≡ false → IsReplied c1 t number reply c2 t2
+    → IsServed s time body (Some reply) t2
+served_it c1 s t c2 t2 time body number reply shown plain k =
+    let served = shown.served plain in
+    let same : k.envelope ≡ shown.envelope = some_same (sym k.received.envelope ∙ shown.there) in
+    let says : reply ≡ shown.envelope.body = k.body ∙ ap (λ (e : Envelope). e.body) same in
+    record {
+      world = served.world;
+      idle = served.idle;
+      owed = ap (λ (b : List ℕ). Some b) says ∙ served.owed;
+      after = ap (λ (n : NodeParts). n.state.machine) k.taken ∙ served.after;
+    }
