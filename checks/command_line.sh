@@ -198,10 +198,14 @@ check_words() {
     says 0 'Usage: .*' --help
     says 0 ' *rpc +Answers .*' --help
     says 0 ' *check +Says .*' --help
+    says 0 ' *roster +Says .*' --help
     says 0 ' *run +Runs .*' --help
     says 0 'Usage: nfsacc[^ ]* rpc.*' help rpc
     says 0 'Usage: nfsacc[^ ]* check.*' help check
     says 0 'Usage: nfsacc[^ ]* check.*' check --help
+    says 0 ' *--roster <FILE> .*' check --help
+    says 0 ' *--json .*' check --help
+    says 0 'Usage: nfsacc[^ ]* roster.*' roster --help
     says 0 'Usage: nfsacc[^ ]* run.*' run --help
     says 0 '  node 1 server 4' run --help
     says 2 'Usage: .*'
@@ -213,6 +217,10 @@ check_words() {
     says 2 "error: unexpected argument '--fast' found" rpc --fast
     says 2 'error: the following required arguments were not provided:' check
     says 2 "error: unexpected argument 'b' found" check a b
+    says 2 'error: the following required arguments were not provided:' check --json
+    says 2 "error: a value is required for '--roster <FILE>' but none was supplied" check a --roster
+    says 2 "error: the argument '--json' cannot be used multiple times" check --json --json a
+    says 2 'error: the following required arguments were not provided:' roster
     says 2 'error: the following required arguments were not provided:' run
     says 2 "error: a value is required for '--roster-out <FILE>' but none was supplied" run --roster-out
     says 2 'nfsacc: the command line is no text' $'\xff'
@@ -254,7 +262,7 @@ check_memory() (
     cp "$top/crates/nfsacc/src/shelf.rt" memory/shelf.rt.txt
     sed -e "/^fn main(rt: HostRuntime) -> ExitCode {\$/r $cases/take_memory.txt" "$top/crates/nfsacc/src/main.rt" > memory/main.rt.txt
     cd "$top"
-    scratch_crate nfsacc_memory "$OLDPWD/memory" scripts console rpc_streams rpc clap
+    scratch_crate nfsacc_memory "$OLDPWD/memory" scripts console rpc_streams rpc authenticator clap
     mkdir "$work/cases"
     for words in rpc serve-all; do
         for ((request = 1; request <= most; request++)); do

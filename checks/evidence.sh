@@ -39,7 +39,7 @@ check_whole() {
         cmp -s "$files/out" "$name.said" || fail "$name is explained otherwise" "$files/out"
         count=$((count + 1))
     done
-    [ "$count" -eq 10 ] || fail "$count files were tried"
+    [ "$count" -eq 18 ] || fail "$count files were tried"
 }
 
 # Files that are cut, by the last byte and in each part, and one with a byte more.
@@ -86,6 +86,65 @@ check_rosters() {
     judged 1 'no evidence' "$files/case"
 }
 
+# why PATTERN WORD..: `nfsacc check WORD..` says `no evidence`, and on standard error just this line.
+why() {
+    local pattern=$1
+    shift
+    judged 1 'no evidence' "$@"
+    grep -qx "$pattern" "$files/said" || fail "no line '$pattern' of: $*" "$files/said"
+    [ "$(wc -l < "$files/said")" -eq 1 ] || fail "more than a line of: $*" "$files/said"
+}
+
+# A file that is no evidence is told as which of three it is: by the byte at which an item begins that doesn't decode, by
+# its roster, or by what it lacks. In fork.evidence the roster ends at 92, the charge is at 96, `at` at 100, the first
+# showing at 108 with its links at 152, its closing's signature at 200, its path at 16588, the second's flag at 16688.
+check_reasons() {
+    local case='' cut
+    for cut in 0:0 3:0 4:4 8:8 12:12 43:12 44:44 48:48 92:92 96:96 99:96 100:100 107:100 108:108 116:112 124:120 \
+        152:152 156:156 200:200 204:204 8395:204 8396:8396 16588:16588 16592:16592 16687:16656 16688:16688 33271:33240; do
+        head -c "${cut%:*}" "$cases/fork.evidence" > "$files/case"
+        why "nfsacc: $files/case: not a roster .* byte ${cut#*:} does not decode" "$files/case"
+    done
+    { cat "$cases/fork.evidence"; printf '\0'; } > "$files/case"
+    why "nfsacc: $files/case: not a roster .* byte 33272 does not decode" "$files/case"
+    why "nfsacc: .*: the evidence is not accepted: the log has no fault" "$cases/no_fault.evidence"
+    why "nfsacc: .*: its roster is not the one that is trusted" --roster "$cases/client_clock.evidence" "$cases/fork.evidence"
+    judged 1 'no evidence' --explain "$cases/fork.evidence" --roster "$cases/client_clock.evidence"
+    grep -qx 'reason: its roster is not the one that is trusted' "$files/out" || fail 'another roster' "$files/out"
+    [ ! -s "$files/said" ] || fail 'an explanation has its reason' "$files/said"
+}
+
+# The roster that is trusted: that of another file, or a roster alone. What `nfsacc roster` says is the same of both.
+check_trusted() {
+    local got=0
+    head -c 92 "$cases/fork.evidence" > "$files/roster"
+    judged 0 'exposed 1' --roster "$files/roster" "$cases/fork.evidence"
+    judged 0 'exposed 1' --roster "$cases/wrong_reply.evidence" "$cases/fork.evidence"
+    "$program" roster "$files/roster" > "$files/out"
+    "$program" roster "$cases/fork.evidence" | cmp - "$files/out"
+    grep -qx "sha256: $(sha256sum < "$files/roster" | cut -d ' ' -f 1)" "$files/out" || fail 'H of a roster' "$files/out"
+    [ "$(grep -c 'key: [0-9a-f]\{64\}$' "$files/out")" -eq 2 ] || fail 'the keys of a roster' "$files/out"
+    head -c 91 "$cases/fork.evidence" > "$files/case"
+    "$program" roster "$files/case" > "$files/out" 2> "$files/said" || got=$?
+    [ $got -eq 1 ] && [ ! -s "$files/out" ] || fail "status $got of no roster" "$files/said"
+    judged 1 '' --roster "$files/case" "$cases/fork.evidence"
+    judged 4 '' --roster "$files" "$cases/fork.evidence"
+}
+
+# One JSON object and nothing else, with the status of plain `check`.
+check_json() {
+    local name status
+    for name in fork no_fault; do
+        status=0
+        if [ $name = no_fault ]; then status=1; fi
+        judged $status "$("$program" check --json "$cases/$name.evidence")" --json "$cases/$name.evidence"
+        [ "$(wc -l < "$files/out")" -eq 1 ] && [ ! -s "$files/said" ] || fail "--json of $name" "$files/out" "$files/said"
+        python3 -c 'import json, sys; assert list(json.load(sys.stdin))[0] == "verdict"' < "$files/out"
+    done
+    printf x > "$files/case"
+    judged 1 '{"verdict":"no evidence","file":{"length":1,"sha256":"2d711642b726b04401627ca9fbac32f5c8530fb1903cc4db02258717921a4881"},"program":"nfsacc 0.1.0","reason":"the file is not a roster with evidence after it","first_byte_that_does_not_decode":0}' --json "$files/case"
+}
+
 # Files that are no text at all, and those that can't be read.
 check_others() {
     : > "$files/case"
@@ -96,6 +155,9 @@ check_others() {
     judged 4 '' "$files/case"
     grep -qx "nfsacc: $files/case: .*" "$files/said" || fail 'a missing file' "$files/said"
     judged 4 '' "$files"
+    grep -qx "nfsacc: $files: Is a directory.*" "$files/said" || fail 'a folder' "$files/said"
+    judged 4 '' ''
+    grep -qx "nfsacc: '': No such file.*" "$files/said" || fail 'a file without a name' "$files/said"
     judged 2 ''
     judged 2 '' "$cases/fork.evidence" "$cases/fork.evidence"
     judged 2 '' --fast "$cases/fork.evidence"
@@ -107,6 +169,7 @@ check_others() {
     local got=0
     "$program" check "$cases/fork.evidence" > /dev/full 2> "$files/said" || got=$?
     [ $got -eq 4 ] || fail "status $got on a full device" "$files/said"
+    grep -qx 'nfsacc: standard output: a write failed' "$files/said" || fail 'a full device' "$files/said"
 }
 
 for program in "${made[@]}"; do
@@ -114,6 +177,9 @@ for program in "${made[@]}"; do
     check_cuts
     check_changes
     check_rosters
+    check_reasons
+    check_trusted
+    check_json
     check_others
 done
 

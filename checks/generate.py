@@ -1,16 +1,18 @@
 #!/usr/bin/env python3
 """Makes files of evidence of many kinds, each with the verdict that it is meant to have, and sees that the
 second verifier and the program `nfsacc check` both give it: the node that is exposed, and of a replay the
-fault and its entry's number.
+fault and its entry's number. All that `--json` and `--explain` say of a file is compared, too, with what the
+second verifier finds in it.
 
-usage: checks/generate.py PROGRAM COUNT SEED [KIND..]    of all kinds, or of these alone
+usage: checks/generate.py PROGRAM COUNT SEED [KIND..]    of all kinds, or of these alone; several programs, with a comma
+                                                         between them, must say the same
        checks/generate.py --show INDEX SEED [KIND..]     writes one of these files to standard output
        checks/generate.py --stored FOLDER                makes the files that checks/evidence keeps of it
        checks/generate.py --handed books|replays         writes the texts that checks/refused_memory reads
 """
 
+import json
 import os
-import re
 import subprocess
 import sys
 import tempfile
@@ -22,6 +24,7 @@ from generator.handed import handed  # noqa: E402
 from generator.kinds import KINDS, Case  # noqa: E402
 from generator.stored import STORED  # noqa: E402
 from verifier.evidence import Verdict, judge  # noqa: E402
+from verifier.explain import differences  # noqa: E402
 
 
 def made(index: int, seed: str, names: list[str]) -> tuple[str, Case]:
@@ -34,33 +37,43 @@ def made(index: int, seed: str, names: list[str]) -> tuple[str, Case]:
     return name, KINDS[name][0](random)
 
 
-def said(program: str, path: str) -> Verdict:
-    """What the program says of a file."""
-    run = subprocess.run([program, 'check', '--explain', path], capture_output=True, check=False)
-    line, *explained = run.stdout.decode(errors='replace').split('\n')
-    exposed = re.fullmatch(r'exposed (\d+)', line)
-    if run.returncode != (0 if exposed else 1) or (not exposed and line != 'no evidence'):
-        raise SystemExit(f'{program}: status {run.returncode} with {line!r} of {path}')
-    fault = re.match(r'the log of node \d+ has fault (\d+) at number (\d+):', explained[0])
-    return Verdict(int(exposed[1]) if exposed else None, (int(fault[1]), int(fault[2])) if fault else None)
+def said(program: str, option: str, path: str) -> str:
+    """What the program says of a file, with the status for it."""
+    run = subprocess.run([program, 'check', option, path], capture_output=True, check=False)
+    text = run.stdout.decode()
+    exposes = text.startswith(('exposed ', '{"verdict":"exposed '))
+    if run.returncode != (0 if exposes else 1) or run.stderr:
+        raise SystemExit(f'{program}: status {run.returncode} with {text!r} and {run.stderr!r} of {path}')
+    return text
 
 
-def compare(program: str, count: int, seed: str, names: list[str]) -> int:
-    """Judges so many files; answers how many verdicts aren't as they are meant to be."""
-    kinds, differences = Counter(), 0
+def verdict_in(json_text: str) -> Verdict:
+    """The verdict that the program gives."""
+    told = json.loads(json_text)
+    words, fault = told['verdict'].split(), told.get('fault')
+    return Verdict(int(words[1]) if words[0] == 'exposed' else None,
+                   (fault['fault'], fault['entry']) if fault else None)
+
+
+def compare(programs: list[str], count: int, seed: str, names: list[str]) -> int:
+    """Judges so many files; answers how many verdicts or explanations aren't as they are meant to be."""
+    kinds, wrong = Counter(), 0
     with tempfile.TemporaryDirectory() as folder:
         path = os.path.join(folder, 'case')
         for index in range(count):
             name, case = made(index, seed, names)
             with open(path, 'wb') as file:
                 file.write(case.data)
-            meant, judged, told = Verdict(case.exposed, case.fault), judge(case.data), said(program, path)
+            texts = [(said(program, '--json', path), said(program, '--explain', path)) for program in programs]
+            meant, judged, told = Verdict(case.exposed, case.fault), judge(case.data), verdict_in(texts[0][0])
+            otherwise = differences(case.data, *texts[0])
             kinds[name] += 1
-            if not meant == judged == told:
-                differences += 1
-                print(f'{name} {index}: meant {meant}, verify.py {judged}, {program} {told}', file=sys.stderr)
+            if not meant == judged == told or otherwise or texts.count(texts[0]) != len(texts):
+                wrong += 1
+                print(f'{name} {index}: meant {meant}, verify.py {judged}, {programs} {told}', *otherwise,
+                      sep='\n  ', file=sys.stderr)
     print(', '.join(f'{name} {number}' for name, number in sorted(kinds.items())))
-    return differences
+    return wrong
 
 
 def store(folder: str):
@@ -79,14 +92,14 @@ def main() -> int:
     if len(sys.argv) < 4:
         print(__doc__, file=sys.stderr)
         return 2
-    program, number, seed, *names = sys.argv[1:]
+    programs, number, seed, *names = sys.argv[1:]
     names = names or list(KINDS)
-    if program == '--show':
+    if programs == '--show':
         sys.stdout.buffer.write(made(int(number), seed, names)[1].data)
         return 0
-    differences = compare(program, int(number), seed, names)
-    print(f'{number} files were judged, {differences} otherwise than they are meant to be')
-    return 1 if differences else 0
+    wrong = compare(programs.split(','), int(number), seed, names)
+    print(f'{number} files were judged, {wrong} otherwise than they are meant to be')
+    return 1 if wrong else 0
 
 
 if __name__ == '__main__':

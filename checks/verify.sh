@@ -1,8 +1,8 @@
 #!/usr/bin/env bash
 # Two programs judge the same evidence: `nfsacc check`, and checks/verify.py, which was written from
-# the pages of docs alone, without a look into the crates. The files are those of
-# checks/evidence, each with its verdict, and COUNT made ones (200 where none is said), of which the generator
-# knows what each must give. PROGRAM is an nfsacc that is built already; without one those are tried that the
+# the pages of docs alone, without a look into the crates. The files are those of checks/evidence, and COUNT made ones (200
+# where none is said), of which the generator knows what each must give. All that is explained of each is compared, too, with
+# what the second program finds in the file. PROGRAM is an nfsacc that is built already; without one those are tried that the
 # gate left in crates/nfsacc/out.
 # usage: checks/verify.sh [COUNT [PROGRAM]]
 set -euo pipefail
@@ -17,18 +17,8 @@ if [ $# -ge 2 ]; then made=("$2"); else built_programs; fi
 files=$(mktemp -d)
 trap 'rm -rf "$files"' EXIT
 
-# The verdicts of the files that checks/generate.py makes, beside those that stand in checks/evidence/*.said.
+# The verdicts of the stored files.
 verdicts() {
-    cat << 'END'
-client_clock no evidence
-check_after_ack no evidence
-wrong_check_after_ack exposed 1
-second_ack exposed 1
-first_0 no evidence
-other_handle no evidence
-odd_name exposed 1
-long_write no evidence
-END
     local said
     for said in "$cases"/*.said; do
         echo "$(basename "$said" .said) $(head -1 "$said")"
@@ -40,11 +30,21 @@ judged() {
     local wanted=$1 said status=0 right=0
     shift
     if [ "$wanted" = 'no evidence' ]; then right=1; fi
-    said=$("$@") || status=$?
+    said=$("$@" 2> /dev/null) || status=$?
     if [ "$said" != "$wanted" ] || [ "$status" -ne "$right" ]; then
         echo "'$said' with status $status, where '$wanted' is wanted, of: $*" >&2
         exit 1
     fi
+}
+
+# explained NAME: what the program shows of a stored file, in lines and as JSON, is what the second verifier finds in it.
+explained() {
+    "$program" check --json "$cases/$1.evidence" > "$files/json" 2> /dev/null || true
+    "$program" check --explain "$cases/$1.evidence" > "$files/lines" 2> /dev/null || true
+    checks/verify.py "$cases/$1.evidence" "$files/json" "$files/lines" || {
+        echo "$1 is explained otherwise than it shows" >&2
+        exit 1
+    }
 }
 
 check_stored() {
@@ -53,6 +53,7 @@ check_stored() {
         judged "$verdict" checks/verify.py "$cases/$name.evidence"
         for program in "${made[@]}"; do
             judged "$verdict" "$program" check "$cases/$name.evidence"
+            explained "$name"
         done
         stored=$((stored + 1))
     done < <(verdicts)
@@ -73,7 +74,5 @@ check_made_again() {
 
 check_stored
 check_made_again
-for program in "${made[@]}"; do
-    checks/generate.py "$program" "$count" evidence
-done
-echo "the second verifier and nfsacc check agree on the stored files and on $count made ones"
+checks/generate.py "$(IFS=,; echo "${made[*]}")" "$count" evidence
+echo "the second verifier and nfsacc check agree on the stored files and on $count made ones, and on what each shows"

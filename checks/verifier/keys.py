@@ -45,24 +45,25 @@ class Authenticator:
 Roster = dict[int, Member]
 
 
-def read_member(reader: Reader) -> Member:
-    node = reader.word_among(1, MAX_MEMBERS)
+def read_member(reader: Reader, least: int) -> Member:
+    node = reader.word_among(least, MAX_MEMBERS)
     kind = reader.word_among(SERVER, CLIENT)
     return Member(node, kind, reader.fixed(32), reader.word_among(1, MAX_HEIGHT))
 
 
 def read_roster(reader: Reader) -> Roster:
-    members = reader.array(MAX_MEMBERS, read_member)
-    nodes = [member.node for member in members]
-    if nodes != sorted(set(nodes)):
-        raise Undecodable
-    return dict(zip(nodes, members))
+    roster, least = {}, 1
+    for _ in range(reader.word_among(0, MAX_MEMBERS)):
+        member = read_member(reader, least)
+        roster[member.node], least = member, member.node + 1
+    return roster
 
 
-def read_place(reader: Reader) -> int:
-    """A number of an entry: any of 64 bits but the greatest."""
-    number = reader.hyper()
-    if number == NO_PLACE:
+def read_place(reader: Reader, least: int = 0) -> int:
+    """A number of an entry: any of 64 bits but the greatest, and none below the least."""
+    start, number = reader.at, reader.hyper()
+    if number < least or number == NO_PLACE:
+        reader.at = start
         raise Undecodable
     return number
 

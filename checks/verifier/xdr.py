@@ -6,7 +6,9 @@ class Undecodable(Exception):
 
 
 class Reader:
-    """Takes items from the front of some bytes. Each call raises Undecodable where no such item stands."""
+    """Takes items from the front of some bytes. Where no such item stands each call raises Undecodable, and `at` stays
+    where the item begins; within an array and whatever else has items of its own, where the first one begins that
+    doesn't decode."""
 
     def __init__(self, data: bytes):
         self.data = data
@@ -25,8 +27,9 @@ class Reader:
         return int.from_bytes(self.fixed(4), 'big')
 
     def word_among(self, least: int, greatest: int) -> int:
-        number = self.word()
+        start, number = self.at, self.word()
         if not least <= number <= greatest:
+            self.at = start
             raise Undecodable
         return number
 
@@ -37,10 +40,15 @@ class Reader:
         return self.word_among(0, 1) == 1
 
     def opaque(self, limit: int) -> bytes:
-        return self.fixed(self.word_among(0, limit))
+        start = self.at
+        try:
+            return self.fixed(self.word_among(0, limit))
+        except Undecodable:
+            self.at = start
+            raise
 
-    def array(self, limit: int, read_item) -> list:
-        count = self.word_among(0, limit)
+    def array(self, limit: int, read_item, least: int = 0) -> list:
+        count = self.word_among(least, limit)
         return [read_item(self) for _ in range(count)]
 
     def end(self):

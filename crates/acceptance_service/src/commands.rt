@@ -28,6 +28,12 @@ nfsacc check -f
 nfsacc check f g
 nfsacc check --explain --explain f
 nfsacc check --help
+nfsacc check --roster f
+nfsacc check --roster r --roster r f
+nfsacc check --json --json f
+nfsacc roster
+nfsacc roster -f
+nfsacc roster f g
 nfsacc run
 nfsacc run --roster-out f
 ";
@@ -68,7 +74,22 @@ fn first_wrong(
 
 /// A check of a file.
 fn check(file: &str, explain: bool) -> Option<Request<'_>> {
-    Some(Request::Check(CheckRequest { file, explain }))
+    Some(Request::Check(CheckRequest {
+        file,
+        explain,
+        json: false,
+        roster: None,
+    }))
+}
+
+/// A check of a file under a roster, to be told as JSON.
+fn check_under<'a>(roster: &'a str, file: &'a str) -> Option<Request<'a>> {
+    Some(Request::Check(CheckRequest {
+        file,
+        explain: false,
+        json: true,
+        roster: Some(roster),
+    }))
 }
 
 /// A run of a script.
@@ -91,6 +112,32 @@ fn runs_are_asked_for(rt: HostRuntime) {
             rt.alloc(),
             "nfsacc run --roster-out=g f",
             run("f", Some("g"))
+        )
+    );
+}
+
+#[test]
+fn rosters_are_asked_for(rt: HostRuntime) {
+    assert!(rt; asks(rt.alloc(), "nfsacc roster f", Some(Request::Roster("f"))));
+    assert!(rt;
+        asks(
+            rt.alloc(),
+            "nfsacc roster -- -f",
+            Some(Request::Roster("-f"))
+        )
+    );
+    assert!(rt;
+        asks(
+            rt.alloc(),
+            "nfsacc check --json f --roster=r",
+            check_under("r", "f")
+        )
+    );
+    assert!(rt;
+        asks(
+            rt.alloc(),
+            "nfsacc check --roster r --json f",
+            check_under("r", "f")
         )
     );
 }

@@ -1,4 +1,4 @@
-//! Two jobs of two nodes.
+//! Jobs of nodes.
 
 use crate::handed::{delivered, end};
 use crate::parties::{Shown, roster, shown_by};
@@ -40,14 +40,15 @@ fn add_job(alloc: Global, books: &mut Books, node: u8, jobs: &mut Vec<ReplayJob>
     }
 }
 
-/// The jobs of nodes 5 and 6, in that order.
-pub fn two_jobs(alloc: Global) -> Vec<ReplayJob> {
+/// The job of each of these nodes, in their order, as far as there is one and room for it.
+pub fn jobs_of(alloc: Global, nodes: &[u8]) -> Vec<ReplayJob> {
     let mut jobs = Vec::new(alloc);
     match roster(alloc) {
         Some(roster) => match Books::new(alloc, roster) {
             Ok(mut books) => {
-                add_job(alloc, &mut books, 5, &mut jobs);
-                add_job(alloc, &mut books, 6, &mut jobs);
+                for node in nodes {
+                    add_job(alloc, &mut books, *node, &mut jobs);
+                }
             }
             Err(_) => {}
         },

@@ -8,6 +8,8 @@ mod closed;
 #[cfg(test)]
 mod handed;
 #[cfg(test)]
+mod handing;
+#[cfg(test)]
 mod jobs;
 #[cfg(test)]
 mod meeting;

@@ -1,70 +1,126 @@
 -- What a check of a file says.
-use Rattle.std.specs.Prelude.{◌≡◌, ◌⊎◌, ℕ, List, ◌++◌, Option, Some, None, IfSome, codes}
-use Rattle.std.specs.Prelude.{decimal}
+use Rattle.std.specs.Prelude.{◌≡◌, ◌⊎◌, ℕ, List, [], ◌∷◌, ◌++◌, Option, Some, None, IfSome, codes, decimal}
 use Rattle.std.specs.Io.KnownBytes.{Appends}
 use Rattle.xdr.specs.Texts.Text.{text_at}
 use Rattle.rpc.specs.Records.Writing.{WritesFront}
+use Rattle.authenticator.specs.Roster.{roster_text, roster_value}
+use Rattle.authenticator.specs.declared.member.Member.{Member}
 use Rattle.challenge.specs.evidence_spec.Evidence.{Accepts}
 use Rattle.challenge.specs.evidence_spec.Proving.{Proves}
 use Rattle.challenge.specs.Cases.{case_text, case_value}
+use Rattle.challenge.specs.Findings.{Finds}
 use Rattle.challenge.specs.declared.case.Case.{Case}
+use Rattle.challenge.specs.declared.finding.Finding.{Finding}
+use Rattle.challenge.specs.declared.finding.Finding.TheVariants as finding
+use Rattle.explained_evidence.specs.explained_calls.Shown.{IsShown}
 use Rattle.console.specs.declared.checking.Judgement.{Judgement}
 use Rattle.console.specs.declared.checking.Judgement.TheVariants.{Exposed, NoEvidence}
+use Rattle.console.specs.declared.checking.Reason.{Reason}
+use Rattle.console.specs.declared.checking.Reason.TheVariants as reason
+use Rattle.console.specs.declared.checking.Format.{Format}
+use Rattle.console.specs.declared.checking.Format.TheVariants.{Line, Lines, Json}
+use Rattle.console.specs.declared.fault.CheckFault.{CheckFault}
+use Rattle.console.specs.declared.fault.CheckFault.TheVariants as fault
 
--- The bytes are a roster's text with that of evidence against this node after it, which is accepted under
--- that roster, and so proves that no log of the node is honest.
-pub record Exposes (bytes : List ℕ) (node : ℕ) : Type 0 where
+-- a roster is the one that is trusted, if one is
+abbrev pub IsTrusted : Option (List Member) → List Member → Type 0
+IsTrusted trusted roster = IfSome trusted (λ t. t ≡ roster)
+
+-- ---- what is said of a case
+
+-- it is of the trusted roster, and its evidence is accepted, or not
+abbrev pub JudgesReason : Option (List Member) → Case → Reason → Type 0
+JudgesReason trusted c (reason.NoCase at) = ⊥
+JudgesReason trusted c reason.AnotherRoster = ¬ IsTrusted trusted c.roster
+JudgesReason trusted c (reason.NotAccepted why) =
+    IsTrusted trusted c.roster × (¬ Accepts c.roster c.evidence)
+    × Finds c.roster c.evidence (finding.NotAccepted why)
+
+abbrev pub JudgesCase : Option (List Member) → Case → Judgement → Type 0
+JudgesCase trusted c (Exposed node) =
+    IsTrusted trusted c.roster × (c.evidence.node ≡ node) × Accepts c.roster c.evidence
+    × Proves c.roster c.evidence
+JudgesCase trusted c (NoEvidence why) = JudgesReason trusted c why
+
+-- what a finding says of evidence against a node
+abbrev pub judgement_of : ℕ → Finding → Judgement
+judgement_of node (finding.NotAccepted why) = NoEvidence (reason.NotAccepted why)
+judgement_of node _ = Exposed node
+
+-- ---- what is said of bytes
+
+-- The bytes are a roster's text with that of evidence after it, of which this is said. Exposed: it is against
+-- this node, accepted under that roster, and so proves that no log of the node is honest.
+pub record JudgesText (trusted : Option (List Member)) (bytes : List ℕ) (judgement : Judgement) : Type 0 where
   pub case : Case
   pub text : text_at case_text bytes ≡ Some (case_value case)
-  pub against : case.evidence.node ≡ node
-  pub accepted : Accepts case.roster case.evidence
-  pub proves : Proves case.roster case.evidence
+  pub judged : JudgesCase trusted case judgement
 
--- The bytes are such a text of evidence that isn't accepted.
-pub record ExposesNone (bytes : List ℕ) : Type 0 where
-  pub case : Case
-  pub text : text_at case_text bytes ≡ Some (case_value case)
-  pub refused : ¬ Accepts case.roster case.evidence
+abbrev pub Judges : Option (List Member) → List ℕ → Judgement → Type 0
+Judges trusted bytes (NoEvidence (reason.NoCase at)) = text_at case_text bytes ≡ None
+Judges trusted bytes judgement = JudgesText trusted bytes judgement
 
--- what is said of a case
-abbrev pub JudgesCase : Case → Judgement → Type 0
-JudgesCase c (Exposed node) =
-    (c.evidence.node ≡ node) × Accepts c.roster c.evidence × Proves c.roster c.evidence
-JudgesCase c NoEvidence = ¬ Accepts c.roster c.evidence
+-- ---- the texts that tell it
 
--- what is said of bytes
-abbrev pub Judges : List ℕ → Judgement → Type 0
-Judges bytes (Exposed node) = Exposes bytes node
-Judges bytes NoEvidence = (text_at case_text bytes ≡ None) ⊎ ExposesNone bytes
+-- its words
+abbrev pub words_of : Judgement → List ℕ
+words_of (Exposed node) = codes "exposed " ++ decimal node
+words_of (NoEvidence why) = codes "no evidence"
 
--- the line that says it
-abbrev pub line_of : Judgement → List ℕ
-line_of (Exposed node) = codes "exposed " ++ (decimal node ++ codes "\n")
-line_of NoEvidence = codes "no evidence\n"
-
--- the line, with more after it
-pub record IsExplained (judgement : Judgement) (text : List ℕ) : Type 0 where
+-- a text in a form that leaves some bytes open, all of them such as a terminal shows as they are
+pub record IsFormed (form : List ℕ → List ℕ) (text : List ℕ) : Type 0 where
   pub more : List ℕ
-  pub whole : text ≡ line_of judgement ++ more
+  pub shown : IsShown more
+  pub whole : text ≡ form more
+
+-- the line (10 ends it), with more after it
+abbrev pub line_form : Judgement → List ℕ → List ℕ
+line_form judgement more = words_of judgement ++ (10 ∷ more)
+
+-- a JSON object whose first member is `verdict` (123 is a brace, 34 a quote, 58 a colon)
+abbrev pub json_form : Judgement → List ℕ → List ℕ
+json_form judgement more = (123 ∷ 34 ∷ codes "verdict") ++ (34 ∷ 58 ∷ 34 ∷ (words_of judgement ++ (34 ∷ more)))
+
+-- what is told in a format
+abbrev pub IsTold : Format → Judgement → List ℕ → Type 0
+IsTold Line judgement text = text ≡ line_form judgement []
+IsTold Lines judgement text = IsFormed (line_form judgement) text
+IsTold Json judgement text = IsFormed (json_form judgement) text
 
 -- such a text was written
-pub record WritesExplained (judgement : Judgement) (before after : Option (List ℕ)) : Type 0 where
+pub record WritesTold (format : Format) (judgement : Judgement) (before after : Option (List ℕ)) : Type 0 where
   pub text : List ℕ
-  pub explained : IsExplained judgement text
+  pub told : IsTold format judgement text
   pub written : Appends before after text
 
--- ---- a write failed: what an input shows was written in part, and not all of it
-
--- the line
-pub record SaysPart (input before after : Option (List ℕ)) : Type 0 where
-  pub judgement : Judgement
-  pub judged : IfSome input (λ bytes. Judges bytes judgement)
-  pub written : WritesFront before after (line_of judgement)
-
--- the line, with more after it
-pub record ExplainsPart (input before after : Option (List ℕ)) : Type 0 where
+-- a write failed: what an input shows was written in part, and not all of it
+pub record TellsPart (trusted : Option (List Member)) (format : Format) (input before after : Option (List ℕ)) : Type 0 where
   pub judgement : Judgement
   pub text : List ℕ
-  pub judged : IfSome input (λ bytes. Judges bytes judgement)
-  pub explained : IsExplained judgement text
+  pub judged : IfSome input (λ bytes. Judges trusted bytes judgement)
+  pub told : IsTold format judgement text
   pub written : WritesFront before after text
+
+-- ---- faults
+
+-- a read failed
+abbrev pub IsRead : CheckFault → Type 0
+IsRead (fault.Read error) = Unit {0}
+IsRead _ = ⊥
+
+-- ---- rosters in files
+
+-- The bytes are the text of a case with this roster.
+pub record HoldsCase (bytes : List ℕ) (roster : List Member) : Type 0 where
+  pub case : Case
+  pub text : text_at case_text bytes ≡ Some (case_value case)
+  pub its : case.roster ≡ roster
+
+-- they are the roster's text, or that of a case with it
+abbrev pub HoldsRoster : List ℕ → List Member → Type 0
+HoldsRoster bytes roster =
+    (text_at roster_text bytes ≡ Some (roster_value roster)) ⊎ HoldsCase bytes roster
+
+-- they are the text of neither
+abbrev pub HoldsNone : List ℕ → Type 0
+HoldsNone bytes = (text_at roster_text bytes ≡ None) × (text_at case_text bytes ≡ None)

@@ -1,21 +1,24 @@
 //! Whether a file is evidence.
 
-ghost use Rattle.std.specs.Prelude.{◌≡◌, ◌⊎◌, IfOk, IfSome, IsErrOf, OnOk, string_bytes};
-ghost use Rattle.std.specs.Io.KnownBytes.{Appends};
+ghost use Rattle.std.specs.Prelude.{◌≡◌, ◌↔◌, option_map, IfErr, IfOk, IfSome, IsErrOf, IsTrue, OnOk};
+ghost use Rattle.std.specs.Prelude.{string_bytes};
 ghost use Rattle.rpc.specs.Records.Count.{Rises};
-ghost use Rattle.console.specs.Checking.{Judges, JudgesCase};
-ghost use Rattle.console.specs.Checking.{line_of, IsExplained, WritesExplained, SaysPart, ExplainsPart};
-ghost use Rattle.console.specs.declared.checking.CheckFault.TheVariants.{NoMemory, Device};
+ghost use Rattle.console.specs.Checking.{IsRead, IsTold, IsTrusted, Judges, JudgesCase, TellsPart};
+ghost use Rattle.std.specs.Prelude.{[], None};
+ghost use Rattle.console.specs.declared.checking.Format.TheVariants as Format;
+ghost use Rattle.console.specs.Checking.{WritesTold, judgement_of, line_form, words_of};
+ghost use Rattle.console.specs.declared.fault.CheckFault.TheVariants.{NoMemory, Write};
 
-use crate::explain::{NO_CASE, explanation};
-use challenge::{Case, EvidenceFault, check_evidence, read_case};
+use crate::fault::CheckFault;
+use crate::input::all_bytes;
+use authenticator::Roster;
+use challenge::evidence_showings_code::evidence_spec_code::laws::accepted_evidence_proves;
+use challenge::{Case, EvidenceFault, Finding, NotAccepted, examine, read_case};
+use explained_evidence::explained_calls_code::{Facts, Text};
+use explained_evidence::{File, case_facts, first_undecodable, no_case_facts, rejected_facts};
 use rpc::records::{Counting, write_bytes};
 use std::alloc::{AllocError, Global};
 use std::io::{Read, Write};
-use thiserror::Error;
-
-/// The bytes that are read at once.
-const PIECE: usize = 8192;
 
 /// What is said of a file.
 #[derive(Clone, Copy, Debug, PartialEq, Eq)]
@@ -24,169 +27,242 @@ pub enum Judgement {
     /// of the texts that were hashed have one digest.
     Exposed(u32),
     /// It isn't.
-    NoEvidence,
+    NoEvidence(Reason),
 }
 
-/// Why nothing is said of a file.
-#[derive(Clone, Copy, Debug, PartialEq, Eq, Error)]
-pub enum CheckFault {
-    /// Memory was refused.
-    #[error("out of memory")]
-    NoMemory,
-    /// A read or a write failed.
-    #[error("a device failed")]
-    Device,
+/// Why a file is no evidence: the first of these.
+#[derive(Clone, Copy, Debug, PartialEq, Eq)]
+pub enum Reason {
+    /// Its bytes aren't a roster's text with that of evidence after it. The first item that doesn't decode
+    /// begins at this byte, counted from 0.
+    NoCase(usize),
+    /// Its roster isn't the one that is trusted.
+    AnotherRoster,
+    /// The evidence isn't accepted under its roster.
+    NotAccepted(NotAccepted),
 }
 
-impl From<AllocError> for CheckFault {
-    ghost from_gives = { λ _ e. e ≡ NoMemory };
+/// How a judgement is told.
+#[derive(Clone, Copy, Debug, PartialEq, Eq)]
+pub enum Format {
+    /// By its line alone.
+    Line,
+    /// By its line, and lines after it that say what the file shows.
+    Lines,
+    /// By one JSON object that says both (RFC 8259).
+    Json,
+}
 
-    fn from(_e: AllocError) -> CheckFault {
-        CheckFault::NoMemory
+/// Whether a roster is the one that is trusted, if one is.
+fn is_trusted(trusted: Option<&Roster>, roster: &Roster) -> bool
+    ensures { IsTrue result ↔ IsTrusted (option_map (λ r. r.now) trusted.entry) roster.now }
+{
+    match trusted {
+        Some(trusted) => trusted.is_same(roster),
+        None => true,
     }
 }
 
-/// What is said of a file's bytes, which are given back to memory while they are read: `Exposed` exactly
-/// where they are a roster's text, and after it that of evidence that is accepted under it. `AllocError`
-/// comes only where a growth was refused.
-#[tactic(auto, using(crate::proofs::Judging::of_case))]
-pub fn judge(alloc: Global, bytes: Vec<u8>) -> Result<Judgement, AllocError>
-    ensures { IfOk result (λ judgement. Judges bytes.items judgement) }
+/// What a finding says of evidence against a node.
+fn judgement_of(node: u32, finding: &Finding) -> Judgement
+    ensures { result ≡ judgement_of node finding.now }
 {
+    match finding {
+        Finding::NotAccepted(reason) => Judgement::NoEvidence(Reason::NotAccepted(*reason)),
+        _ => Judgement::Exposed(node),
+    }
+}
+
+/// What is found in a case whose roster is trusted, and what that says.
+fn found(alloc: Global, case: &Case) -> Result<(Judgement, Finding), AllocError>
+    ensures { IfOk result (λ x. JudgesCase None case.now x.0) }
+{
+    accepted_evidence_proves();
+    case.evidence.has_text();
+    let finding = examine(alloc, &case.roster, &case.evidence)?;
+    let judgement = judgement_of(case.evidence.node(), &finding);
+    Ok((judgement, finding))
+}
+
+/// What is said of a file's bytes, which are given back to memory while they are read: `Exposed` exactly
+/// where they are a roster's text, and after it that of evidence that is accepted under it, and where the
+/// roster is the one that is trusted, if one is. `AllocError` comes only where a growth was refused.
+#[tactic(auto, using(crate::proofs::Judging::of_case))]
+pub fn judge(
+    alloc: Global,
+    trusted: Option<&Roster>,
+    bytes: Vec<u8>,
+) -> Result<Judgement, AllocError>
+    ensures { IfOk result
+        (λ judgement. Judges (option_map (λ r. r.now) trusted.entry) bytes.items judgement) }
+{
+    let at = first_undecodable(&bytes).unwrap_or(bytes.len());
     match read_case(alloc, bytes) {
-        Ok(case) => judge_case(alloc, &case),
-        Err(EvidenceFault::Garbage) => Ok(Judgement::NoEvidence),
+        Ok(case) => judge_case(alloc, trusted, &case),
+        Err(EvidenceFault::Garbage) => Ok(Judgement::NoEvidence(Reason::NoCase(at))),
         Err(EvidenceFault::NoMemory) => Err(AllocError),
     }
 }
 
 /// What is said of a case.
-fn judge_case(alloc: Global, case: &Case) -> Result<Judgement, AllocError>
-    ensures { IfOk result (λ judgement. JudgesCase case.now judgement) }
+fn judge_case(alloc: Global, trusted: Option<&Roster>, case: &Case) -> Result<Judgement, AllocError>
+    ensures { IfOk result
+        (λ judgement. JudgesCase (option_map (λ r. r.now) trusted.entry) case.now judgement) }
 {
-    if check_evidence(alloc, &case.roster, &case.evidence)? {
-        Ok(Judgement::Exposed(case.evidence.node()))
-    } else {
-        Ok(Judgement::NoEvidence)
+    if !is_trusted(trusted, &case.roster) {
+        return Ok(Judgement::NoEvidence(Reason::AnotherRoster));
     }
+    let (judgement, _) = found(alloc, case)?;
+    Ok(judgement)
 }
 
-/// The line that says a judgement.
-fn line(alloc: Global, judgement: Judgement) -> Result<String, AllocError>
-    ensures { IfOk result (λ text. string_bytes text ≡ line_of judgement) }
-{
-    match judgement {
-        Judgement::Exposed(node) => format!(in alloc; "exposed {node}\n"),
-        Judgement::NoEvidence => format!(in alloc; "no evidence\n"),
-    }
-}
-
-/// All bytes that a reader gives, up to its end or to the first read that fails.
-fn all_bytes<R: Read>(alloc: Global, reader: &mut Counting<R>) -> Result<Vec<u8>, CheckFault>
-    ensures bytes { IfOk result (λ bytes.
-        IfSome (R.remaining reader.old.inner) (λ input. bytes.items ≡ input)) }
-    ensures kept { OnOk result (reader.new.count ≡ reader.old.count) }
-    ensures memory { IsErrOf result NoMemory → reader.new.count ≡ reader.old.count }
-    ensures device { IsErrOf result Device → Rises reader.old.count reader.new.count }
-{
-    let mut bytes = Vec::new(alloc);
-    let mut piece = [0; PIECE];
-    for _ in 0..u64::MAX {
-        match reader.read(&mut piece) {
-            Ok(0) => return Ok(bytes),
-            Ok(len) => bytes.extend_from_slice(&piece[..len])?,
-            Err(_) => return Err(CheckFault::Device),
-        }
-    }
-    // So many bytes no memory holds.
-    Err(CheckFault::NoMemory)
-}
-
-/// Reads a file to its end, judges its bytes and writes the line that says so: `exposed N`, with the node's
-/// number, or `no evidence`. `Device` comes where a read failed, and then the reader's count rose and nothing
-/// was written, or where a write failed: then a part of the line was written, and the writer's count rose.
-/// `NoMemory` comes where memory was refused, and then nothing was written.
-pub fn check<R: Read, W: Write>(
-    alloc: Global,
-    reader: &mut Counting<R>,
-    writer: &mut Counting<W>,
-) -> Result<Judgement, CheckFault>
-    ensures judged { IfOk result (λ judgement. IfSome (R.remaining reader.old.inner) (λ input.
-        Judges input judgement)) }
-    ensures written { IfOk result (λ judgement. Appends (W.contents writer.old.inner)
-        (W.contents writer.new.inner) (line_of judgement)) }
-    ensures kept { OnOk result
-        ((reader.new.count ≡ reader.old.count) × (writer.new.count ≡ writer.old.count)) }
-    ensures memory { IsErrOf result NoMemory
-        → (reader.new.count ≡ reader.old.count) × (writer.new ≡ writer.old) }
-    ensures device { IsErrOf result Device
-        → ((writer.new ≡ writer.old) × Rises reader.old.count reader.new.count)
-        ⊎ (SaysPart (R.remaining reader.old.inner) (W.contents writer.old.inner)
-        (W.contents writer.new.inner) × Rises writer.old.count writer.new.count
-        × (reader.new.count ≡ reader.old.count)) }
-{
-    let bytes = all_bytes(alloc, reader)?;
-    let judgement = judge(alloc, bytes)?;
-    let line = line(alloc, judgement)?;
-    match write_bytes(writer, line.as_bytes()) {
-        Ok(()) => Ok(judgement),
-        Err(_) => Err(CheckFault::Device),
-    }
-}
-
-/// As `check`, and writes after its line what the file shows, in plain words: who is accused, of what and
-/// where, or why it is no evidence.
-pub fn check_and_explain<R: Read, W: Write>(
-    alloc: Global,
-    reader: &mut Counting<R>,
-    writer: &mut Counting<W>,
-) -> Result<Judgement, CheckFault>
-    ensures judged { IfOk result (λ judgement. IfSome (R.remaining reader.old.inner) (λ input.
-        Judges input judgement)) }
-    ensures written { IfOk result (λ judgement. WritesExplained judgement
-        (W.contents writer.old.inner) (W.contents writer.new.inner)) }
-    ensures kept { OnOk result
-        ((reader.new.count ≡ reader.old.count) × (writer.new.count ≡ writer.old.count)) }
-    ensures memory { IsErrOf result NoMemory
-        → (reader.new.count ≡ reader.old.count) × (writer.new ≡ writer.old) }
-    ensures device { IsErrOf result Device
-        → ((writer.new ≡ writer.old) × Rises reader.old.count reader.new.count)
-        ⊎ (ExplainsPart (R.remaining reader.old.inner) (W.contents writer.old.inner)
-        (W.contents writer.new.inner) × Rises writer.old.count writer.new.count
-        × (reader.new.count ≡ reader.old.count)) }
-{
-    let bytes = all_bytes(alloc, reader)?;
-    let (judgement, text) = explained(alloc, bytes)?;
-    match write_bytes(writer, text.as_bytes()) {
-        Ok(()) => Ok(judgement),
-        Err(_) => Err(CheckFault::Device),
-    }
-}
-
-/// What is said of a file's bytes, and the line that says it, with what they show after it.
+/// As `judge`, with the facts that the bytes show.
 #[tactic(auto, using(crate::proofs::Judging::of_case))]
-fn explained(alloc: Global, bytes: Vec<u8>) -> Result<(Judgement, String), AllocError>
-    ensures { IfOk result (λ x. Judges bytes.items x.0 × IsExplained x.0 (string_bytes x.1)) }
+fn explain(
+    alloc: Global,
+    trusted: Option<&Roster>,
+    bytes: Vec<u8>,
+) -> Result<(Judgement, Facts), AllocError>
+    ensures { IfOk result (λ x. Judges (option_map (λ r. r.now) trusted.entry) bytes.items x.0) }
 {
+    let file = File::new(&bytes);
+    let at = first_undecodable(&bytes).unwrap_or(bytes.len());
     match read_case(alloc, bytes) {
-        Ok(case) => {
-            let judgement = judge_case(alloc, &case)?;
-            let more = explanation(alloc, &case)?;
-            Ok((judgement, line_with(alloc, judgement, &more)?))
-        }
+        Ok(case) => explain_case(alloc, trusted, &file, &case),
         Err(EvidenceFault::Garbage) => {
-            let judgement = Judgement::NoEvidence;
-            Ok((judgement, line_with(alloc, judgement, NO_CASE)?))
+            let facts = no_case_facts(alloc, &file, at)?;
+            Ok((Judgement::NoEvidence(Reason::NoCase(at)), facts))
         }
         Err(EvidenceFault::NoMemory) => Err(AllocError),
     }
 }
 
-/// The line that says a judgement, with more after it.
-fn line_with(alloc: Global, judgement: Judgement, more: &str) -> Result<String, AllocError>
-    ensures { IfOk result (λ text. IsExplained judgement (string_bytes text)) }
+/// As `judge_case`, with the facts that the case shows.
+fn explain_case(
+    alloc: Global,
+    trusted: Option<&Roster>,
+    file: &File,
+    case: &Case,
+) -> Result<(Judgement, Facts), AllocError>
+    ensures { IfOk result (λ x. JudgesCase (option_map (λ r. r.now) trusted.entry) case.now x.0) }
+{
+    match trusted {
+        Some(trusted) if !trusted.is_same(&case.roster) => {
+            let facts = rejected_facts(alloc, file, case, trusted)?;
+            Ok((Judgement::NoEvidence(Reason::AnotherRoster), facts))
+        }
+        _ => {
+            let (judgement, finding) = found(alloc, case)?;
+            let facts = case_facts(alloc, file, case, finding)?;
+            Ok((judgement, facts))
+        }
+    }
+}
+
+/// The words that say a judgement.
+fn words(alloc: Global, judgement: Judgement) -> Result<String, AllocError>
+    ensures { IfOk result (λ text. string_bytes text ≡ words_of judgement) }
+{
+    match judgement {
+        Judgement::Exposed(node) => format!(in alloc; "exposed {node}"),
+        Judgement::NoEvidence(_) => format!(in alloc; "no evidence"),
+    }
+}
+
+/// The line that says a judgement.
+fn line(alloc: Global, judgement: Judgement) -> Result<Vec<u8>, AllocError>
+    ensures { IfOk result (λ text. text.items ≡ line_form judgement []) }
+{
+    let words = words(alloc, judgement)?;
+    let mut text = Vec::new(alloc);
+    text.extend_from_slice(words.as_bytes())?;
+    text.push(b'\n')?;
+    Ok(text)
+}
+
+/// The line that says a judgement, and lines after it.
+fn lines(alloc: Global, judgement: Judgement, more: &Text) -> Result<Vec<u8>, AllocError>
+    ensures { IfOk result (λ text. IsTold Format.Lines judgement text.items) }
 {
     let mut text = line(alloc, judgement)?;
-    text.push_str(more)?;
+    text.extend_from_slice(more.as_bytes())?;
     Ok(text)
+}
+
+/// The JSON object that says a judgement, and members after it.
+fn json(alloc: Global, judgement: Judgement, more: &Text) -> Result<Vec<u8>, AllocError>
+    ensures { IfOk result (λ text. IsTold Format.Json judgement text.items) }
+{
+    let words = words(alloc, judgement)?;
+    let mut text = Vec::new(alloc);
+    text.extend_from_slice(b"{\"verdict\":\"")?;
+    text.extend_from_slice(words.as_bytes())?;
+    text.extend_from_slice(b"\"")?;
+    text.extend_from_slice(more.as_bytes())?;
+    text.extend_from_slice(b"}\n")?;
+    Ok(text)
+}
+
+/// What is said of a file's bytes, and the text that tells it.
+fn told(
+    alloc: Global,
+    trusted: Option<&Roster>,
+    format: Format,
+    bytes: Vec<u8>,
+) -> Result<(Judgement, Vec<u8>), AllocError>
+    ensures { IfOk result (λ x. Judges (option_map (λ r. r.now) trusted.entry) bytes.items x.0
+        × IsTold format x.0 x.1.items) }
+{
+    match format {
+        Format::Line => {
+            let judgement = judge(alloc, trusted, bytes)?;
+            Ok((judgement, line(alloc, judgement)?))
+        }
+        Format::Lines => {
+            let (judgement, facts) = explain(alloc, trusted, bytes)?;
+            let more = facts.lines(alloc)?;
+            Ok((judgement, lines(alloc, judgement, &more)?))
+        }
+        Format::Json => {
+            let (judgement, facts) = explain(alloc, trusted, bytes)?;
+            let more = facts.members(alloc)?;
+            Ok((judgement, json(alloc, judgement, &more)?))
+        }
+    }
+}
+
+/// Reads a file to its end, judges its bytes under the roster that is trusted, if one is, and writes in a
+/// format what is said of it: the line `exposed N`, with the node's number, or `no evidence`; after that line
+/// what the file shows, in plain words; or one JSON object with both, the line's words first as `verdict`.
+/// `Read` comes where a read failed, and then the reader's count rose and nothing was written; `Write` where a
+/// write failed: then a part of that text was written, and the writer's count rose. `NoMemory` comes where
+/// memory was refused, and then nothing was written.
+pub fn check<R: Read, W: Write>(
+    alloc: Global,
+    trusted: Option<&Roster>,
+    format: Format,
+    reader: &mut Counting<R>,
+    writer: &mut Counting<W>,
+) -> Result<Judgement, CheckFault>
+    ensures judged { IfOk result (λ judgement. IfSome (R.remaining reader.old.inner) (λ input.
+        Judges (option_map (λ r. r.now) trusted.entry) input judgement)) }
+    ensures written { IfOk result (λ judgement. WritesTold format judgement
+        (W.contents writer.old.inner) (W.contents writer.new.inner)) }
+    ensures kept { OnOk result
+        ((reader.new.count ≡ reader.old.count) × (writer.new.count ≡ writer.old.count)) }
+    ensures memory { IsErrOf result NoMemory
+        → (reader.new.count ≡ reader.old.count) × (writer.new ≡ writer.old) }
+    ensures read { IfErr result (λ e. IsRead e
+        → (writer.new ≡ writer.old) × Rises reader.old.count reader.new.count) }
+    ensures write { IsErrOf result Write
+        → TellsPart (option_map (λ r. r.now) trusted.entry) format (R.remaining reader.old.inner)
+        (W.contents writer.old.inner) (W.contents writer.new.inner)
+        × Rises writer.old.count writer.new.count × (reader.new.count ≡ reader.old.count) }
+{
+    let bytes = all_bytes(alloc, reader)?;
+    let (judgement, text) = told(alloc, trusted, format, bytes)?;
+    match write_bytes(writer, &text) {
+        Ok(()) => Ok(judgement),
+        Err(_) => Err(CheckFault::Write),
+    }
 }

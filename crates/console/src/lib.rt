@@ -1,9 +1,12 @@
 //! The commands of `nfsacc`.
 #![tactic(auto)]
 
-mod call_words;
 mod checking;
 pub mod command_line;
-mod explain;
+mod fault;
+mod input;
+mod rosters;
 
-pub use checking::{CheckFault, Judgement, check, check_and_explain, judge};
+pub use checking::{Format, Judgement, Reason, check, judge};
+pub use fault::CheckFault;
+pub use rosters::{read_roster, write_roster};

@@ -3,9 +3,10 @@
 
 mod shelf;
 
+use authenticator::Roster;
 use clap::error::ErrorKind;
 use console::command_line::{CheckRequest, Request, RunRequest, parse};
-use console::{CheckFault, Judgement, check, check_and_explain};
+use console::{CheckFault, Format, Judgement, Reason, check, read_roster, write_roster};
 use rpc::records::{Counting, RecordFault, RecordReader};
 use rpc_streams::run_rpc;
 use scripts::{ScriptEnd, ScriptFault, run_script};
@@ -17,8 +18,8 @@ use std::sync::Wait;
 use std::thread::Threads;
 use std::{env, fs, io};
 
-/// The statuses of the program beside 0, which is done. A fault in the input: the records end with one, or a
-/// file is no evidence.
+/// The statuses of the program beside 0, which is done. A fault in the input: the records end with one, a file
+/// is no evidence or has no roster, or a script has a bad line.
 const INPUT_FAULT: u8 = 1;
 
 /// The words of the command line ask for nothing that there is.
@@ -64,22 +65,99 @@ fn report_fault(rt: &impl Eprint, fault: RecordFault) -> u8 {
 
 /// Says on standard output whether a file is evidence, and gives the status for it.
 fn check_file<R: Files + Print + Eprint + AllocGlobal>(rt: &R, request: CheckRequest<'_>) -> u8 {
+    match request.roster {
+        Some(name) => match roster_of(rt, name) {
+            Ok(trusted) => check_under(rt, request, Some(&trusted)),
+            Err(status) => status,
+        },
+        None => check_under(rt, request, None),
+    }
+}
+
+/// The same under the roster that is trusted, if one is.
+fn check_under<R: Files + Print + Eprint + AllocGlobal>(
+    rt: &R,
+    request: CheckRequest<'_>,
+    trusted: Option<&Roster>,
+) -> u8 {
     let mut file = match fs::open(rt, request.file) {
         Ok(file) => Counting::new(file),
         Err(error) => return report_file(rt, request.file, &error),
     };
-    let mut writer = Counting::new(io::writer(rt));
-    let judgement = if request.explain {
-        check_and_explain(rt.alloc(), &mut file, &mut writer)
+    let format = if request.json {
+        Format::Json
+    } else if request.explain {
+        Format::Lines
     } else {
-        check(rt.alloc(), &mut file, &mut writer)
+        Format::Line
     };
-    match judgement {
+    let mut writer = Counting::new(io::writer(rt));
+    match check(rt.alloc(), trusted, format, &mut file, &mut writer) {
         Ok(Judgement::Exposed(_)) => 0,
-        Ok(Judgement::NoEvidence) => INPUT_FAULT,
-        Err(CheckFault::NoMemory) => report_no_memory(rt),
-        Err(CheckFault::Device) => {
-            let _ = rt.eprintln("nfsacc: a device failed");
+        Ok(Judgement::NoEvidence(reason)) => {
+            if format == Format::Line {
+                report_reason(rt, request.file, reason);
+            }
+            INPUT_FAULT
+        }
+        Err(fault) => report_check(rt, request.file, fault),
+    }
+}
+
+/// Says on standard error why a file is no evidence.
+fn report_reason(rt: &impl Eprint, name: &str, reason: Reason) {
+    let _ = match reason {
+        Reason::NoCase(at) => eprintln!(rt;
+            "nfsacc: {name}: not a roster with evidence after it: the item at byte {at} does not decode"
+        ),
+        Reason::AnotherRoster => {
+            eprintln!(rt; "nfsacc: {name}: its roster is not the one that is trusted")
+        }
+        Reason::NotAccepted(why) => {
+            eprintln!(rt; "nfsacc: {name}: the evidence is not accepted: {why}")
+        }
+    };
+}
+
+/// Says on standard output who is in the roster of a file, and gives the status for it.
+fn show_roster<R: Files + Print + Eprint + AllocGlobal>(rt: &R, name: &str) -> u8 {
+    match roster_of(rt, name) {
+        Ok(roster) => {
+            let mut writer = Counting::new(io::writer(rt));
+            match write_roster(rt.alloc(), &roster, &mut writer) {
+                Ok(()) => 0,
+                Err(fault) => report_check(rt, name, fault),
+            }
+        }
+        Err(status) => status,
+    }
+}
+
+/// The roster in a file, or the status where it has none.
+fn roster_of<R: Files + Eprint + AllocGlobal>(rt: &R, name: &str) -> Result<Roster, u8> {
+    let mut file = match fs::open(rt, name) {
+        Ok(file) => Counting::new(file),
+        Err(error) => return Err(report_file(rt, name, &error)),
+    };
+    match read_roster(rt.alloc(), &mut file) {
+        Ok(Some(roster)) => Ok(roster),
+        Ok(None) => {
+            let _ = eprintln!(rt;
+                "nfsacc: {name}: neither a roster nor one with evidence after it"
+            );
+            Err(INPUT_FAULT)
+        }
+        Err(fault) => Err(report_check(rt, name, fault)),
+    }
+}
+
+/// Says on standard error why nothing is said of a file, and gives the status for it.
+fn report_check(rt: &impl Eprint, name: &str, fault: CheckFault) -> u8 {
+    match fault {
+        CheckFault::NoMemory => report_no_memory(rt),
+        CheckFault::Read(error) => report_file(rt, name, &error),
+        CheckFault::Write => {
+            let _ = rt.eprintln("nfsacc: standard output: a write failed");
             DEVICE
         }
     }
@@ -141,6 +219,7 @@ fn report_file(rt: &impl Eprint, name: &str, error: &io::Error) -> u8 {
     if error.kind() == io::ErrorKind::OutOfMemory {
         return report_no_memory(rt);
     }
+    let name = if name.is_empty() { "''" } else { name };
     let _ = eprintln!(rt; "nfsacc: {name}: {error}");
     DEVICE
 }
@@ -170,6 +249,7 @@ where
     match parse(alloc, words.as_slice()) {
         Ok(Request::Rpc) => rpc(rt),
         Ok(Request::Check(request)) => check_file(rt, request),
+        Ok(Request::Roster(name)) => show_roster(rt, name),
         Ok(Request::Run(request)) => run_file(rt, request),
         Err(error) if error.kind() == ErrorKind::OutOfMemory => report_no_memory(rt),
         Err(error) => {

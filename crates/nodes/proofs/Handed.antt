@@ -25,7 +25,7 @@ use Rattle.node_logs.specs.declared.outcome.AckTaken.{AckTaken}
 use Rattle.node_logs.specs.declared.outcome.AckTaken.TheVariants.{Logged, Already}
 use Rattle.node_logs.specs.declared.outcome.Receipt.{Receipt}
 use Rattle.nodes.specs.Exchanges.Reaching.{ack_told}
-use Rattle.nodes.specs.Delivery.{MayReceive, MayTakeAck, fault_of}
+use Rattle.nodes.specs.Delivery.{MayTakeAck, fault_of}
 use Rattle.nodes.proofs.OfExchanges.Texts.{one_ack, one_envelope, reads_back}
 
 -- the text that a call wrote of an envelope
@@ -51,11 +51,10 @@ received_new n n' time bytes e r h text is receives =
 
 -- What a client receives by it is that envelope.
 pub taken_new : (n n' : NodeParts) (bytes : List ℕ) (e : Envelope) (number : ℕ) (h : Received ℕ)
-    (result : Result (Received ℕ) Refusal) → IsText envelope_text (envelope_value e) bytes → result ≡ Ok h
-    → h ≡ New number → TakesReply n bytes result n' → (LacksKeys 1 n → ⊥) × (n' ≡ with_receipt n e)
-taken_new n n' bytes e number h result text is new takes =
-    by (subst (λ (x : Received ℕ). TakesReply n bytes (Ok x) n') new
-    (subst (λ (r : Result (Received ℕ) Refusal). TakesReply n bytes r n') is takes))
+    → IsText envelope_text (envelope_value e) bytes → h ≡ New number → TakesReply n bytes (Ok h) n'
+    → (LacksKeys 1 n → ⊥) × (n' ≡ with_receipt n e)
+taken_new n n' bytes e number h text new takes =
+    by (subst (λ (x : Received ℕ). TakesReply n bytes (Ok x) n') new takes)
   where
     by : TakesReply n bytes (Ok (New number)) n' → (LacksKeys 1 n → ⊥) × (n' ≡ with_receipt n e)
     by x =

@@ -1,16 +1,15 @@
 -- What bringing a reply back gives, and where it stops.
 -- Serves: bring_back.
-use Rattle.std.proofs.Common.{◌≡◌, ℕ, List, length, Ok, Err, sym, ap, ◌∙◌}
+use Rattle.std.proofs.Common.{◌≡◌, ℕ, length, Ok, Err}
 use Rattle.authenticator.specs.declared.member.Kind.TheVariants as kinds
 use Rattle.envelopes.specs.declared.envelope.Envelope.{Envelope}
 use Rattle.envelopes.specs.declared.acknowledgement.Ack.{Ack}
-use Rattle.commitment.specs.Senders.LookUps.{ack_at}
 use Rattle.commitment.specs.Senders.Sender.{IsSender}
 use Rattle.node_logs.specs.Steps.Nodes.{NodeParts, sender_of}
 use Rattle.gateway.specs.declared.links.fault.LinkFault.{LinkFault}
 use Rattle.gateway.specs.declared.links.fault.LinkFault.TheVariants.{KeysUsedUp, NoMemory, Failed}
 use Rattle.nodes.specs.Exchanges.Reaching.{AckReaches, IsReplyReady, Reaches}
-use Rattle.nodes.specs.Exchanges.Exchanges.{IsReceived, IsReplied}
+use Rattle.nodes.specs.Exchanges.Exchanges.{IsReceived}
 use Rattle.nodes.proofs.OfExchanges.Answered.{reply_acknowledged}
 use Rattle.nodes.specs.Delivery.{TakesAwaited, TakesNew}
 use Rattle.nodes.specs.Faults.{StopsAtReply, received}

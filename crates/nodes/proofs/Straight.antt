@@ -1,6 +1,6 @@
 -- An exchange doesn't make a server stray.
 -- Serves: HonestServer::exchange.
-use Rattle.std.proofs.Common.{◌≡◌, inl, inr, ℕ, Bool, List, Result, Ok, Err, Option, Some, None, sym, ap, ◌∙◌}
+use Rattle.std.proofs.Common.{◌≡◌, inl, inr, ℕ, List, Result, Ok, Err, Option, Some, None, ap, ◌∙◌}
 use Rattle.std.specs.Prelude.{IfErr, IfOk}
 use Rattle.nfs_items.specs.Timeval.{Timeval}
 use Rattle.gateway.specs.declared.links.fault.LinkFault.{LinkFault}

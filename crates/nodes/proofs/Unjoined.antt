@@ -1,6 +1,6 @@
 -- An exchange between any two nodes, whatever either received of others before.
 -- Serves: exchange, ask, bring_back, HonestServer::exchange.
-use Rattle.std.proofs.Common.{◌≡◌, inl, inr, ℕ, ◌+◌, Bool, true, false, List, [], ◌∷◌, ◌++◌, length, Result, Ok, Err}
+use Rattle.std.proofs.Common.{◌≡◌, inr, ℕ, ◌+◌, Bool, true, false, List, [], ◌∷◌, ◌++◌, length, Ok, Err}
 use Rattle.std.proofs.Common.{Option, Some, None, refl, sym, ap, subst, ◌∙◌, arith, append_assoc, length-append}
 use Rattle.envelopes.specs.declared.envelope.Envelope.{Envelope}
 use Rattle.envelopes.specs.declared.acknowledgement.Ack.{Ack}
@@ -14,7 +14,7 @@ use Rattle.secure_log.specs.declared.log_entries.entry.Entry.{Entry}
 use Rattle.secure_log.specs.declared.log_entries.entry.Entry.TheVariants.{Send, Recv, Clock}
 use Rattle.node_logs.specs.replay_spec.LogLaws.HonestServers.{heard_entries}
 use Rattle.node_logs.specs.Steps.Nodes.{NodeParts, sender_of}
-use Rattle.node_logs.specs.Steps.Logging.{with_receipt, with_send}
+use Rattle.node_logs.specs.Steps.Logging.{with_send}
 use Rattle.node_logs.specs.Steps.Serving.{reading_at, reply_told, with_last_bit_changed}
 use Rattle.node_logs.specs.Nodes.{LacksKeys}
 use Rattle.node_logs.specs.Receiving.{ReceivesEnvelope, receipt_from}

@@ -145,8 +145,10 @@ fn take_reply(client: &mut ClientNode, alloc: Global, text: &[u8]) -> Result<(),
     let taken = client.take_reply(alloc, text);
     client.node().is_honest();
     match taken {
-        Ok(Received::New(_)) => Ok(()),
-        Ok(Received::Repeat(_)) => Err(LinkFault::Failed),
+        Ok(received) => match received {
+            Received::New(_) => Ok(()),
+            Received::Repeat(_) => Err(LinkFault::Failed),
+        },
         Err(refusal) => Err(fault_of(refusal)),
     }
 }

@@ -1,19 +1,21 @@
--- What a round leaves in its places.
-use Rattle.std.specs.Prelude.{◌≡◌, Option, Some}
-use Rattle.node_book.specs.witness_spec.Events.{JobParts}
-use Rattle.node_book.specs.Backs.{job_in}
-use Rattle.node_book.specs.declared.job.Back.{Back}
-use Rattle.node_book.specs.declared.job.Back.TheVariants.{Job}
+-- What a round of jobs gives back.
+use Rattle.std.specs.Prelude.{◌≡◌, List, map, Option, Some}
+use Rattle.hand_off.specs.node_book.witness_spec.Events.{JobParts}
+use Rattle.hand_off.specs.node_book.Backs.{job_in}
+use Rattle.hand_off.specs.node_book.declared.job.Back.{Back}
 
 -- It came back of this job: the job done, whose type says that the verdict is the replay of its own state and
 -- segment, or the job itself.
 abbrev pub IsBackOf : JobParts → Back → Type 0
 IsBackOf j b = job_in b ≡ j
 
--- a place where a job waits
-abbrev pub waiting : JobParts → Option Back
-waiting j = Some (Job j)
+-- it came back of the job that was posted
+abbrev pub IsBackAt : Option JobParts → Back → Type 0
+IsBackAt posted b = posted ≡ Some (job_in b)
 
--- Where a job waited is what came back of it.
-unfoldable pub Runs : Option Back → Option Back → Type 0
-Runs old new = (j : JobParts) → old ≡ waiting j → (b : Back) × (new ≡ Some b) × IsBackOf j b
+abbrev pub some_job : JobParts → Option JobParts
+some_job j = Some j
+
+-- jobs, each of which was posted
+abbrev pub some_jobs : List JobParts → List (Option JobParts)
+some_jobs jobs = map some_job jobs

@@ -1,13 +1,13 @@
 -- What the matches of the commands ask for. Serves: parse, request_by_rules, flag_of.
 use Rattle.std.proofs.Common.{◌≡◌, ◌∙◌, Bool, true, false, List, [], ◌∷◌, Option, Some, None, Result, Ok, Err}
-use Rattle.std.proofs.Common.{Bor, IfErr, ◌⊎◌, inl, inr, codes, option_map, refl, sym, ap, ap₂, unwrap_or}
-use Rattle.std.specs.Prelude.{◌||◌, is_some}
+use Rattle.std.proofs.Common.{Bor, IfErr, ◌⊎◌, inl, inr, codes, option_map, refl, sym, ap, ap₂, unwrap_or, subst}
+use Rattle.std.specs.Prelude.{◌||◌, IsErrAnd, is_some}
 use Rattle.std.specs.List.{AllByRecursion, list_any}
 use Rattle.std.specs.Option.{option_map_or}
 use Rattle.std.specs.Str.{bytes_eq}
 use Rattle.std.proofs.lemmas.Slice.Eq.{bytes_eq-Decides}
 use Rattle.clap.specs.Words.{App, HasMatchesOf, is_simple, is_simple_and_free, kind_of, subcommand_name_of, subcommand_rows_of}
-use Rattle.clap.specs.Kinds.{FailsBy, IsAmong, Kinds}
+use Rattle.clap.specs.Kinds.{FailsBy, HasKind, IsAmong, Kinds}
 use Rattle.clap.specs.Walk.{Row, Text, first_of, rows_after}
 use Rattle.clap.specs.Simple.{built, subcommand_of}
 use Rattle.clap.specs.Faults.{fault_of}
@@ -15,7 +15,7 @@ use Rattle.clap.specs.declared.error.Error.{Error}
 use Rattle.clap.specs.declared.error.kind.ErrorKind.TheVariants.{OutOfMemory}
 use Rattle.clap.specs.declared.parser.matches.ArgMatches.{ArgMatches}
 use Rattle.clap.proofs.OnLiterals.{clap_on_literals}
-use Rattle.console.specs.CommandLine.CommandLine.{Check, Rpc, Run, asked_in, asked_of, asked_without, commands}
+use Rattle.console.specs.CommandLine.CommandLine.{Check, Roster, Rpc, Run, asked_in, asked_of, asked_without, commands}
 use Rattle.console.specs.CommandLine.CommandLine.{is_flag_text, is_set, is_told}
 use Rattle.console.specs.declared.command_line.request.Request.{Request}
 use Rattle.console.proofs.OfCommandLine.Taken.{entered_is, flag_is, is_plain_app, name_is_one, value_is}
@@ -35,6 +35,16 @@ taken app words m is matches kinds = (
   ap (λ (a : App). fault_of a words) (sym is) ∙ kinds (ap is_simple_and_free is ∙ are_simple.1),
   (matches (ap is_simple is ∙ are_simple.0)).1 ∙ ap (λ (a : App). subcommand_of a words) is,
 )
+
+-- what they say of an error is said of these commands
+fails : (app : App) (words : List Text) (e : Error) → app ≡ commands → (is_simple_and_free app ≡ true → HasKind (fault_of app words) e) → HasKind (fault_of commands words) e
+fails app words e is kinds = subst (λ (a : App). HasKind (fault_of a words) e) is (kinds (ap is_simple_and_free is ∙ are_simple.1))
+
+-- and of a result that passes it on
+pub passes_on : {A : Type 0} (app : App) (words : List Text) (e : Error) (r : Result A Error) → app ≡ commands → (is_simple_and_free app ≡ true → HasKind (fault_of app words) e)
+    → IsErrAnd r (λ x. x ≡ e) → FailsBy (fault_of commands words) r
+passes_on app words e (Ok x) is kinds passed = absurd passed
+passes_on app words e (Err x) is kinds passed = subst (HasKind (fault_of commands words)) (sym passed) (fails app words e is kinds)
 
 -- the subcommand's name is that of its matches
 pub name_is : (m : ArgMatches) (found : Option (Text × List Row)) → subcommand_rows_of m ≡ found → subcommand_name_of m ≡ option_map (λ p. p.0) found
@@ -92,13 +102,25 @@ some_of : {A : Type 0} (g : Text → A) (o : Option Text) → is_some o ≡ true
 some_of g None e = cc
 some_of g (Some t) e = refl
 
-pub check_is : (words : List Text) (rows : List Row) (file : Text) (explain : Bool) → fault_of commands words ≡ [] → subcommand_of commands words ≡ Some (codes "check", rows)
+pub check_is : (words : List Text) (rows : List Row) (file : Text) (explain json : Bool) (roster : Option Text) → fault_of commands words ≡ [] → subcommand_of commands words ≡ Some (codes "check", rows)
     → file ≡ unwrap_or (first_of (codes "file") rows) [] → (is_told (codes "explain") rows ≡ true → explain ≡ is_set (codes "explain") rows)
-    → asked_in words ≡ Some (Check (record { file = file; explain = explain }))
-check_is words rows file explain none is file_is explain_is =
+    → (is_told (codes "json") rows ≡ true → json ≡ is_set (codes "json") rows) → roster ≡ first_of (codes "roster") rows
+    → asked_in words ≡ Some (Check (record { file = file; explain = explain; json = json; roster = roster }))
+check_is words rows file explain json roster none is file_is explain_is json_is roster_is =
     asked_is words (codes "check") rows none is
     ∙ some_of _ _ (value_is commands words are_plain none (codes "check") (codes "file") rows refl is)
-    ∙ ap₂ (λ f b. Some (Check (record { file = f; explain = b }))) (sym file_is) (sym (explain_is (flag_is commands words are_plain none (codes "check") (codes "explain") rows refl is)))
+    ∙ ap₂ (λ f (o : Bool × (Bool × Option Text)). Some (Check (record { file = f; explain = o.0; json = o.1.0; roster = o.1.1 }))) (sym file_is)
+    (
+    ap₂ (λ (b : Bool) (o : Bool × Option Text). (b, o)) (sym (explain_is (flag_is commands words are_plain none (codes "check") (codes "explain") rows refl is)))
+    (ap₂ (λ (b : Bool) (r : Option Text). (b, r)) (sym (json_is (flag_is commands words are_plain none (codes "check") (codes "json") rows refl is))) (sym roster_is))
+    )
+
+pub roster_is : (words : List Text) (rows : List Row) (file : Text) → fault_of commands words ≡ [] → subcommand_of commands words ≡ Some (codes "roster", rows)
+    → file ≡ unwrap_or (first_of (codes "file") rows) [] → asked_in words ≡ Some (Roster file)
+roster_is words rows file none is file_is =
+    asked_is words (codes "roster") rows none is
+    ∙ some_of _ _ (value_is commands words are_plain none (codes "roster") (codes "file") rows refl is)
+    ∙ ap (λ (f : Text). Some (Roster f)) (sym file_is)
 
 pub run_is : (words : List Text) (rows : List Row) (file : Text) (roster_out : Option Text) → fault_of commands words ≡ [] → subcommand_of commands words ≡ Some (codes "run", rows)
     → file ≡ unwrap_or (first_of (codes "file") rows) [] → roster_out ≡ first_of (codes "roster-out") rows
@@ -110,7 +132,7 @@ run_is words rows file roster_out none is file_is roster_is =
 
 -- the subcommands that have words of their own
 abbrev others : List Text
-others = codes "check" ∷ codes "run" ∷ []
+others = codes "check" ∷ codes "roster" ∷ codes "run" ∷ []
 
 -- another subcommand is `rpc`
 pub rpc_is : (words : List Text) → fault_of commands words ≡ []

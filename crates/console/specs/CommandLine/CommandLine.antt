@@ -38,28 +38,37 @@ flag name = record (new_rule name) { long = Some name; action = Some SetTrue }
 abbrev pub file_argument : Rule
 file_argument = record (new_rule (codes "file")) { value_names = 1; required = true }
 
--- `check`, with the option `--explain` and a file
-abbrev pub check_command : App
-check_command = with_rule (with_rule (new_app (codes "check")) (flag (codes "explain"))) file_argument
-
 -- an option with the name of a file, given as `--` and its own name
 abbrev pub file_option : Text → Rule
 file_option name = record (new_rule name) { long = Some name; value_names = 1 }
+
+-- `check`, with the options `--explain`, `--json` and `--roster` and a file
+abbrev pub check_command : App
+check_command =
+    with_rule (with_rule (with_rule (with_rule (new_app (codes "check")) (flag (codes "explain"))) (flag (codes "json"))) (file_option (codes "roster"))) file_argument
+
+-- `roster`, with a file
+abbrev pub roster_command : App
+roster_command = with_rule (new_app (codes "roster")) file_argument
 
 -- `run`, with the option `--roster-out` and a file
 abbrev pub run_command : App
 run_command = with_rule (with_rule (new_app (codes "run")) (file_option (codes "roster-out"))) file_argument
 
--- `nfsacc`, with its subcommands `rpc`, `check` and `run`
+-- `nfsacc`, with its subcommands `rpc`, `check`, `roster` and `run`
 abbrev pub commands : App
-commands = with_subcommand (with_subcommand (with_subcommand nfsacc rpc_command) check_command.top) run_command.top
+commands =
+    with_subcommand (with_subcommand (with_subcommand (with_subcommand nfsacc rpc_command) check_command.top) roster_command.top) run_command.top
 
 -- ---- what is asked for
 
--- what `check` is asked: a file's name, and whether what the file shows is asked for, too
+-- what `check` is asked: a file's name, whether what the file shows is asked for, too, whether one JSON object with
+-- both is, and the name of the file with the roster that is trusted
 pub record CheckAsked : Type 0 where
   pub file : Text
   pub explain : Bool
+  pub json : Bool
+  pub roster : Option Text
 
 -- what `run` is asked: the name of a script's file, and that of the file that the roster's text goes to
 pub record RunAsked : Type 0 where
@@ -71,12 +80,16 @@ pub data Asked : Type 0 where
   -- records, to be answered
   Rpc : Asked
   Check : CheckAsked → Asked
+  -- the roster in the file of this name
+  Roster : Text → Asked
   Run : RunAsked → Asked
 
 -- what a request asks for
 abbrev pub asked_by : Request → Asked
 asked_by requests.Rpc = Rpc
-asked_by (requests.Check r) = Check (record { file = r.file.now; explain = r.explain })
+asked_by (requests.Check r) =
+    Check (record { file = r.file.now; explain = r.explain; json = r.json; roster = option_map (λ s. s.now) r.roster })
+asked_by (requests.Roster name) = Roster name.now
 asked_by (requests.Run r) = Run (record { file = r.file.now; roster_out = option_map (λ s. s.now) r.roster_out })
 
 -- what was found for the arguments of a subcommand
@@ -98,7 +111,16 @@ is_told name rows = option_map_or is_flag_text (one_of name rows) true
 -- what `check` is asked
 abbrev pub check_asked : List Row → Option Asked
 check_asked rows =
-    option_map (λ file. Check (record { file = file; explain = is_set (codes "explain") rows })) (first_of (codes "file") rows)
+    option_map (λ file. Check (record {
+      file = file;
+      explain = is_set (codes "explain") rows;
+      json = is_set (codes "json") rows;
+      roster = first_of (codes "roster") rows;
+    })) (first_of (codes "file") rows)
+
+-- what `roster` is asked
+abbrev pub roster_asked : List Row → Option Asked
+roster_asked rows = option_map Roster (first_of (codes "file") rows)
 
 -- what `run` is asked
 abbrev pub run_asked : List Row → Option Asked
@@ -110,6 +132,7 @@ abbrev pub asked_of : Text × List Row → Option Asked
 asked_of (name, rows) =
     if bytes_eq (codes "rpc") name then Some Rpc
     else if bytes_eq (codes "check") name then check_asked rows
+    else if bytes_eq (codes "roster") name then roster_asked rows
     else if bytes_eq (codes "run") name then run_asked rows
     else None
 

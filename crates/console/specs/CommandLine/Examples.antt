@@ -2,18 +2,26 @@
 use Rattle.std.specs.Prelude.{◌≡◌, ◌==◌, true, false, List, [], ◌∷◌, Option, Some, None, codes}
 use Rattle.std.specs.List.{AllByRecursion, slice_split}
 use Rattle.clap.specs.Walk.{Text}
-use Rattle.console.specs.CommandLine.CommandLine.{Asked, Check, Rpc, Run, asked_in}
+use Rattle.console.specs.CommandLine.CommandLine.{Asked, Check, CheckAsked, Roster, Rpc, Run, asked_in}
 
 -- the words of a line, between its spaces (32)
 abbrev pub words_of : Text → List Text
 words_of line = slice_split (λ x. x == 32) line
 
+-- what `check` of a file is asked, without an option
+abbrev of_file : Text → CheckAsked
+of_file name = record { file = name; explain = false; json = false; roster = None }
+
 -- `check` of the file `f`
 abbrev plain : Option Asked
-plain = Some (Check (record { file = codes "f"; explain = false }))
+plain = Some (Check (of_file (codes "f")))
 
 abbrev explained : Option Asked
-explained = Some (Check (record { file = codes "f"; explain = true }))
+explained = Some (Check (record (of_file (codes "f")) { explain = true }))
+
+-- the same as JSON, under the roster in the file `r`
+abbrev under_r : Option Asked
+under_r = Some (Check (record (of_file (codes "f")) { json = true; roster = Some (codes "r") }))
 
 -- `run` of the file `f`, with the roster's text in the file `g`
 abbrev run_to_g : Option Asked
@@ -26,8 +34,11 @@ lines =
     ∷ (codes "nfsacc check f", plain)
     ∷ (codes "nfsacc check --explain f", explained)
     ∷ (codes "nfsacc check f --explain", explained)
-    ∷ (codes "nfsacc check -- --explain", Some (Check (record { file = codes "--explain"; explain = false })))
-    ∷ (codes "nfsacc check -", Some (Check (record { file = codes "-"; explain = false })))
+    ∷ (codes "nfsacc check -- --explain", Some (Check (of_file (codes "--explain"))))
+    ∷ (codes "nfsacc check -", Some (Check (of_file (codes "-"))))
+    ∷ (codes "nfsacc check --json f --roster r", under_r)
+    ∷ (codes "nfsacc check --roster=r f --json", under_r)
+    ∷ (codes "nfsacc roster f", Some (Roster (codes "f")))
     ∷ (codes "nfsacc run -", Some (Run (record { file = codes "-"; roster_out = None })))
     ∷ (codes "nfsacc run f --roster-out g", run_to_g)
     ∷ (codes "nfsacc run --roster-out=g f", run_to_g)
@@ -37,8 +48,10 @@ lines =
     ∷ (codes "nfsacc check a b", None)
     ∷ (codes "nfsacc check -f", None)
     ∷ (codes "nfsacc check --explain --explain f", None)
+    ∷ (codes "nfsacc check --roster f", None)
     ∷ (codes "nfsacc check --help", None)
     ∷ (codes "nfsacc help check", None)
+    ∷ (codes "nfsacc roster", None)
     ∷ (codes "nfsacc run", None)
     ∷ (codes "nfsacc run --roster-out", None)
     ∷ (codes "nfsacc run --roster-out f", None)

@@ -6,8 +6,8 @@ ghost use Rattle.clap.specs.Faults.{fault_of};
 ghost use Rattle.clap.specs.Kinds.{FailsBy};
 ghost use Rattle.clap.specs.Walk.{first_of};
 ghost use Rattle.clap.specs.Words.{app_of, kind_of, rule_of, subcommand_of, subcommand_rows_of};
-ghost use Rattle.console.specs.CommandLine.CommandLine.{commands, check_command, run_command};
-ghost use Rattle.console.specs.CommandLine.CommandLine.{asked_by, asked_in, file_argument};
+ghost use Rattle.console.specs.CommandLine.CommandLine.{commands, check_command, roster_command, run_command};
+ghost use Rattle.console.specs.CommandLine.CommandLine.{asked_by, asked_in, file_argument, file_option, flag};
 ghost use Rattle.console.specs.CommandLine.CommandLine.{is_set, is_told, rows_in};
 
 use clap::error::ErrorKind;
@@ -21,6 +21,8 @@ pub enum Request<'a> {
     Rpc,
     /// `nfsacc check FILE`: whether a file is evidence.
     Check(CheckRequest<'a>),
+    /// `nfsacc roster FILE`: the members of the roster in the file of this name.
+    Roster(&'a str),
     /// `nfsacc run FILE`: the lines of a script.
     Run(RunRequest<'a>),
 }
@@ -32,6 +34,10 @@ pub struct CheckRequest<'a> {
     pub file: &'a str,
     /// Whether what it shows is asked for, too.
     pub explain: bool,
+    /// Whether one JSON object with both is asked for.
+    pub json: bool,
+    /// The name of the file with the roster that is trusted, if one is named.
+    pub roster: Option<&'a str>,
 }
 
 /// What `nfsacc run` is asked.
@@ -66,18 +72,58 @@ fn file_argument<'a>(alloc: Global, help: &'a str) -> Arg<'a>
         .required(true)
 }
 
+/// A flag.
+fn flag<'a>(alloc: Global, name: &'a str, help: &'a str) -> Arg<'a>
+    ensures rule { rule_of result ≡ flag name.now }
+    ensures local { result.global ≡ false }
+{
+    Arg::new(alloc, name)
+        .long(name)
+        .help(help)
+        .action(ArgAction::SetTrue)
+}
+
+/// An option with the name of a file.
+fn file_option<'a>(alloc: Global, name: &'a str, help: &'a str) -> Arg<'a>
+    ensures rule { rule_of result ≡ file_option name.now }
+    ensures local { result.global ≡ false }
+{
+    Arg::new(alloc, name)
+        .long(name)
+        .value_name("FILE")
+        .help(help)
+}
+
 /// The subcommand `check`.
 fn check_command<'a>(alloc: Global) -> Result<Command<'a>, AllocError>
     ensures { IfOk result (λ c. app_of c ≡ check_command) }
 {
-    let explain = Arg::new(alloc, "explain")
-        .long("explain")
-        .help("Says what the file shows, too")
-        .action(ArgAction::SetTrue);
+    let explain = flag(alloc, "explain", "Says what the file shows, too");
+    let json = flag(alloc, "json", "Says both as one JSON object");
+    let roster = file_option(
+        alloc,
+        "roster",
+        "Takes evidence under the roster of this file alone",
+    );
     let file = file_argument(alloc, "A roster's text, and after it that of evidence");
     Command::new(alloc, "check")
         .about("Says whether a file is evidence that its roster accepts")
         .arg(explain)?
+        .arg(json)?
+        .arg(roster)?
+        .arg(file)
+}
+
+/// The subcommand `roster`.
+fn roster_command<'a>(alloc: Global) -> Result<Command<'a>, AllocError>
+    ensures { IfOk result (λ c. app_of c ≡ roster_command) }
+{
+    let file = file_argument(
+        alloc,
+        "A roster's text, alone or with that of evidence after it",
+    );
+    Command::new(alloc, "roster")
+        .about("Says whose keys a roster has, and the digest of its text")
         .arg(file)
 }
 
@@ -85,10 +131,11 @@ fn check_command<'a>(alloc: Global) -> Result<Command<'a>, AllocError>
 fn run_command<'a>(alloc: Global) -> Result<Command<'a>, AllocError>
     ensures { IfOk result (λ c. app_of c ≡ run_command) }
 {
-    let roster_out = Arg::new(alloc, "roster-out")
-        .long("roster-out")
-        .value_name("FILE")
-        .help("Writes the text of the nodes' roster to this file");
+    let roster_out = file_option(
+        alloc,
+        "roster-out",
+        "Writes the text of the nodes' roster to this file",
+    );
     let file = file_argument(alloc, "The script; `-` reads it from standard input");
     Command::new(alloc, "run")
         .about("Runs a script of nodes, lies, forks and audits; `-` reads it from standard input")
@@ -105,6 +152,7 @@ fn commands<'a>(alloc: Global) -> Result<Command<'a>, AllocError>
         "Answers the RPC records of standard input on standard output, as the server of node 1",
     );
     let check = check_command(alloc)?;
+    let roster = roster_command(alloc)?;
     let run = run_command(alloc)?;
     Command::new(alloc, "nfsacc")
         .version("0.1.0")
@@ -113,6 +161,7 @@ fn commands<'a>(alloc: Global) -> Result<Command<'a>, AllocError>
         .arg_required_else_help(true)
         .subcommand(rpc)?
         .subcommand(check)?
+        .subcommand(roster)?
         .subcommand(run)
 }
 
@@ -136,10 +185,16 @@ fn check_request<'a>(matches: &ArgMatches<'a>) -> CheckRequest<'a>
     ensures file { result.file.now ≡ unwrap_or (first_of (codes "file") (rows_in matches.now)) [] }
     ensures explain { is_told (codes "explain") (rows_in matches.now) ≡ true
         → result.explain ≡ is_set (codes "explain") (rows_in matches.now) }
+    ensures json { is_told (codes "json") (rows_in matches.now) ≡ true
+        → result.json ≡ is_set (codes "json") (rows_in matches.now) }
+    ensures roster { option_map (λ s. s.now) result.roster
+        ≡ first_of (codes "roster") (rows_in matches.now) }
 {
     CheckRequest {
         file: text_of(matches, "file"),
         explain: flag_of(matches, "explain"),
+        json: flag_of(matches, "json"),
+        roster: matches.get_str("roster"),
     }
 }
 
@@ -164,6 +219,9 @@ fn request_in<'a>(matches: &ArgMatches<'a>) -> Request<'a>
     if let Some(check) = matches.subcommand_matches("check") {
         return Request::Check(check_request(check));
     }
+    if let Some(roster) = matches.subcommand_matches("roster") {
+        return Request::Roster(text_of(roster, "file"));
+    }
     if let Some(run) = matches.subcommand_matches("run") {
         return Request::Run(run_request(run));
     }
@@ -180,9 +238,9 @@ fn request_by_rules(alloc: Global, words: &[String]) -> Result<Request<'_>, Erro
 }
 
 /// The request that the words of a command line make, the program's name first: `rpc` alone, or with `--`
-/// after it, is `Rpc`; `check` with a file's name after it is `Check`, with `--explain` before that name or
-/// after it, or without; `run` with a file's name is `Run`, with `--roster-out` and another name before it or
-/// after it, or without. After `--` each word is a name. It comes exactly where clap's rules find no fault in
+/// after it, is `Rpc`; `check` with a file's name is `Check`, with or without `--explain`, `--json` and
+/// `--roster` with another name, in any order; `roster` with a file's name is `Roster`; `run` with a file's name
+/// is `Run`, with `--roster-out` and another name before it or after it, or without. After `--` each word is a name. It comes exactly where clap's rules find no fault in
 /// the words, memory aside, and has what they say the words hold. The error says what is wrong with other
 /// words, or is the help or the version that they ask for: its kind is one of those that the rules give, or
 /// OutOfMemory where memory was refused.

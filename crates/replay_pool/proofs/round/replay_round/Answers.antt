@@ -1,27 +1,27 @@
-use Rattle.std.proofs.Common.{◌≡◌, reverse, List, Option, All, IsSome, length, sym, ap, subst, ◌∙◌}
-use Rattle.node_book.specs.declared.job.Back.{Back}
-use Rattle.replay_pool.proofs.Rows.{full_after, round_is, written_back}
+use Rattle.std.proofs.Common.{◌≡◌, ℕ, List, All, IsSome, Option, vec_len, map, ap, sym, ◌∙◌, subst, arith}
+use Rattle.std.specs.List.{AllZip}
+use Rattle.hand_off.specs.node_book.witness_spec.Events.{JobParts}
+use Rattle.hand_off.specs.Seats.{Count, Posting, count}
+use Rattle.replay_pool.specs.Rounds.{IsBackAt}
+use Rattle.replay_pool.proofs.Posted.{all_some, none_retired, own_backs}
 use Rattle.replay_pool.proofs.round.replay_round.Goals as goal
 
-pub take_in-requires-clause-full : goal.take_in-requires-clause-full
-take_in-requires-clause-full g c =
-    let set_out = c.deref_mut.ensures.value ∙ c.set_out-places.ensures in
-    let long : length c.run_places.new.places ≡ length c.set_out-places.result.items =
-    c.run_places.ensures.count ∙ ap (λ (x : List (Option Back)). length x) c.deref_mut.ensures.value in
-    let back = written_back c.set_out-places.result.len c.run_places.new.places c.set_out-places.result.items
-    (sym c.deref_mut.ensures.len ∙ ap (λ (x : List (Option Back)). length x) c.deref_mut.ensures.value)
-    long in
-    subst (All IsSome) (sym back)
-    (full_after c.args.jobs.items c.deref_mut.result.now c.run_places.new.places set_out
-    c.run_places.ensures.count c.run_places.ensures.each)
+pub retire_all-requires-clause-workers : goal.retire_all-requires-clause-workers
+retire_all-requires-clause-workers g c =
+    let few : c.args.workers ≡ vec_len c.run_workers-seats.result =
+    omega (arith, c.run_workers-seats.ensures.len, c.in-Ok-open.ensures.count) in
+    let own : c.post_all.new.poster.workers ≡ map (λ _. count c.args.workers 0) c.in-Ok-open.hand_off =
+    c.post_all.ensures.workers ∙ ap (λ (p : Posting). p.workers) c.in-Ok-open.ensures.poster in
+    subst (λ (n : ℕ). All (λ (w : Count). w ≡ count n 0) c.post_all.new.poster.workers) few
+    (subst (All (λ (w : Count). w ≡ count c.args.workers 0)) (sym own)
+    (none_retired c.in-Ok-open.hand_off c.args.workers))
+
+pub collect_all-backs-requires-clause-posted : goal.collect_all-backs-requires-clause-posted
+collect_all-backs-requires-clause-posted g c =
+    subst (All IsSome) (sym (c.retire_all.ensures.jobs ∙ c.post_all.ensures.jobs)) (all_some c.args.jobs.items)
 
 pub returns-clause-backs : goal.returns-clause-backs
 returns-clause-backs g c =
-    let set_out = c.deref_mut.ensures.value ∙ c.set_out-places.ensures in
-    let long : length c.run_places.new.places ≡ length c.set_out-places.result.items =
-    c.run_places.ensures.count ∙ ap (λ (x : List (Option Back)). length x) c.deref_mut.ensures.value in
-    let back = written_back c.set_out-places.result.len c.run_places.new.places c.set_out-places.result.items
-    (sym c.deref_mut.ensures.len ∙ ap (λ (x : List (Option Back)). length x) c.deref_mut.ensures.value)
-    long in
-    round_is c.args.jobs.items c.deref_mut.result.now c.run_places.new.places c.take_in.result.items set_out
-    c.run_places.ensures.count c.run_places.ensures.each (c.take_in.ensures ∙ ap reverse back)
+    own_backs c.args.jobs.items c.collect_all-backs.result.items
+    (subst (λ (x : List (Option JobParts)). AllZip IsBackAt x c.collect_all-backs.result.items)
+    (c.retire_all.ensures.jobs ∙ c.post_all.ensures.jobs) c.collect_all-backs.ensures.backs)

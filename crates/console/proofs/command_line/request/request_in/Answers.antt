@@ -1,15 +1,21 @@
 use Rattle.std.proofs.Common.{◌∙◌, refl}
-use Rattle.console.proofs.OfCommandLine.Asked.{check_is, found_is, name_is, rpc_is, run_is}
+use Rattle.console.proofs.OfCommandLine.Asked.{check_is, found_is, name_is, roster_is, rpc_is, run_is}
 use Rattle.console.proofs.command_line.request.request_in.Goals as goal
 
 pub returns-in-Some : goal.returns-in-Some
 returns-in-Some c words none found =
     let is = found_is c.args.matches.now _ _ _ found (c.in-Some.ensures.found.0 refl) c.in-Some.ensures.rows in
-    check_is words _ _ _ none is c.check_request.ensures.file c.check_request.ensures.explain
+    let asked = c.check_request.ensures in
+    check_is words _ _ _ _ _ none is asked.file asked.explain asked.json asked.roster
 
 pub returns-in-Some-subcommand_matches : goal.returns-in-Some-subcommand_matches
 returns-in-Some-subcommand_matches c words none found =
     let is = found_is c.args.matches.now _ _ _ found (c.in-Some-subcommand_matches.ensures.found.0 refl) c.in-Some-subcommand_matches.ensures.rows in
+    roster_is words _ _ none is c.text_of.ensures
+
+pub returns-in-Some-subcommand_matches-2 : goal.returns-in-Some-subcommand_matches-2
+returns-in-Some-subcommand_matches-2 c words none found =
+    let is = found_is c.args.matches.now _ _ _ found (c.in-Some-subcommand_matches-2.ensures.found.0 refl) c.in-Some-subcommand_matches-2.ensures.rows in
     run_is words _ _ _ none is c.run_request.ensures.file c.run_request.ensures.roster_out
 
 pub returns : goal.returns
@@ -23,6 +29,11 @@ returns c words none found =
         λ e.
             let bad = rw c.in_default-subcommand_matches.is at c.subcommand_matches-2.ensures.found.1 (name ∙ e) in
             cc,
-        tt,
+        (
+          λ e.
+              let bad = rw c.in_default-subcommand_matches-2.is at c.subcommand_matches-3.ensures.found.1 (name ∙ e) in
+              cc,
+          tt,
+        ),
       ),
     )

@@ -1,14 +1,13 @@
 use Rattle.std.proofs.Common.{◌≡◌, ◌∙◌, ap₂, codes, rules}
 use Rattle.std.proofs.lemmas.Result.{IfOk-weaker}
-use Rattle.clap.specs.Words.{app_of, new_app, rule_of, with_rule}
+use Rattle.clap.specs.Words.{app_of, new_app, with_rule}
 use Rattle.console.specs.CommandLine.CommandLine.{file_option}
 use Rattle.console.proofs.command_line.request.run_command.Goals as goal
 
 -- step by step it is the command that the specification has
 pub returns : goal.returns
 returns c =
-    let roster_is : rule_of c.help-roster_out.result ≡ file_option (codes "roster-out") = search rules in
     let empty : app_of c.after_help.result ≡ new_app (codes "run") = search rules in
     let one : app_of c.in_ok-arg.field-0 ≡ with_rule (new_app (codes "run")) (file_option (codes "roster-out")) =
-    c.in_ok-arg.ensures.shape (search rules) ∙ ap₂ with_rule empty roster_is in
+    c.in_ok-arg.ensures.shape (search rules) ∙ ap₂ with_rule empty c.file_option-roster_out.ensures.rule in
     IfOk-weaker c.arg-2.result _ _ (λ r added. added.shape (search rules) ∙ ap₂ with_rule one c.file_argument-file.ensures.rule) c.arg-2.ensures

@@ -1,0 +1,15 @@
+use Rattle.std.proofs.Common.{rules}
+use Rattle.console.proofs.checking.check.Goals as goal
+
+pub returns-clause-write : goal.returns-clause-write
+returns-clause-write g c e = (
+  record {
+    judgement = c.in_ok-judgement.judgement;
+    text = c.in_ok-judgement.text.items;
+    judged = search rules;
+    told = c.in_ok-judgement.ensures.1;
+    written = search rules;
+  },
+  search rules,
+  search rules,
+)

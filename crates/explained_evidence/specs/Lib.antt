@@ -1,0 +1,1 @@
+pub use Rattle.explained_calls.specs as explained_calls

@@ -1,0 +1,37 @@
+//! What is said of a file and of the program.
+
+use explained_calls::{Facts, Text};
+use sha2::{Digest, Sha256};
+use std::alloc::{AllocError, Global};
+
+/// The program's version.
+pub const VERSION: &str = "0.1.0";
+
+/// What is said of a file.
+#[derive(Clone, Copy)]
+pub struct File {
+    length: u64,
+    digest: [u8; 32],
+}
+
+impl File {
+    /// Of a file with these bytes. Takes no memory.
+    pub fn new(bytes: &[u8]) -> File {
+        File {
+            length: bytes.len() as u64,
+            digest: Sha256::digest(bytes),
+        }
+    }
+
+    /// Adds the file's length and digest, and the program's version.
+    pub(crate) fn add(&self, alloc: Global, facts: &mut Facts) -> Result<(), AllocError> {
+        facts.group("file")?;
+        facts.number("length", self.length)?;
+        facts.hex(alloc, "sha256", &self.digest)?;
+        facts.end()?;
+        let mut program = Text::new(alloc);
+        program.words("nfsacc ")?;
+        program.words(VERSION)?;
+        facts.text("program", program)
+    }
+}

@@ -1,0 +1,17 @@
+//! Evidence in words, as facts that are shown as lines or as JSON.
+#![tactic(auto)]
+
+mod case;
+mod comparison;
+mod decoding;
+mod entry;
+mod file;
+mod fork;
+mod log;
+mod roster;
+
+pub use case::{case_facts, no_case_facts, rejected_facts};
+pub use decoding::first_undecodable;
+pub use explained_calls as explained_calls_code;
+pub use file::{File, VERSION};
+pub use roster::{roster_digest, roster_facts};

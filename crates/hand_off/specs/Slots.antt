@@ -1,0 +1,151 @@
+-- The rule of one slot, and what each of its steps tells.
+use Rattle.std.specs.Prelude.{◌≡◌, ◌≢◌, ℕ, ◌+◌, ◌<◌, [], ◌∷◌, Bool, true, false, cond, ◌==◌, length, count_by, Option, Some, None, slice_index, ◌⊎◌}
+use mathlib.Core.Option.{some}
+use lib.ListN.{get_elem?}
+use Rattle.atomic_table.specs.Table.{State, Me}
+use Rattle.node_book.specs.witness_spec.Events.{JobParts}
+use Rattle.node_book.specs.Backs.{job_in}
+use Rattle.node_book.specs.declared.job.Back.{Back}
+use Rattle.node_book.specs.declared.job.Back.TheVariants.{Job}
+use Rattle.hand_off.specs.declared.view.Workers.{Workers}
+use Rattle.hand_off.specs.declared.view.View.{View}
+use Rattle.hand_off.specs.declared.view.View.TheVariants.{Poster, Idle, Holds, Retired}
+
+abbrev pub poster : Option JobParts → Bool → Workers → View
+poster = Poster
+
+abbrev pub idle : ℕ → View
+idle = Idle
+
+abbrev pub holds : ℕ → JobParts → View
+holds = Holds
+
+abbrev pub workers : ℕ → ℕ → Option ℕ → Workers
+workers made retired noted = record { made = made; retired = retired; noted = noted }
+
+-- the same workers, of which no word is noted
+abbrev pub unnoted : Workers → Workers
+unnoted c = workers c.made c.retired None
+
+-- once all workers are retired, the word that is read is noted: no one else changes it
+abbrev pub noted_by : Workers → ℕ → Workers
+noted_by c n = workers c.made c.retired (cond (c.retired == c.made) (Some n) None)
+
+-- the number of a worker
+abbrev pub number : View → Option ℕ
+number (Poster job home c) = None
+number (Idle w) = Some w
+number (Holds w t) = Some w
+number Retired = None
+
+abbrev pub is_worker : View → Bool
+is_worker (Poster job home c) = false
+is_worker (Idle w) = true
+is_worker (Holds w t) = true
+is_worker Retired = false
+
+abbrev pub is_poster : View → Bool
+is_poster (Poster job home c) = true
+is_poster (Idle w) = false
+is_poster (Holds w t) = false
+is_poster Retired = false
+
+abbrev pub Content : Type 0
+Content = Option Back
+
+abbrev pub SlotState : Type 0
+SlotState = State Content View
+
+abbrev pub word_of : SlotState → ℕ
+word_of s = slice_index s.words 0
+
+-- the slot is at home with this in it
+abbrev pub Lies : SlotState → Content → Type 0
+Lies s x = get_elem? s.homes 0 ≡ some (some x)
+
+-- a seat's view
+abbrev pub Sees : SlotState → ℕ → View → Type 0
+Sees s j v = get_elem? s.views j ≡ some v
+
+abbrev pub IsEmpty : SlotState → Option JobParts → Bool → ℕ → Type 0
+IsEmpty s job home n = (n ≡ 0) × (job ≡ None) × (home ≡ true → Lies s None)
+
+abbrev pub IsReady : SlotState → Option JobParts → ℕ → Type 0
+IsReady s job n = (n ≡ 1) × ((t : JobParts) × (job ≡ Some t) × Lies s (Some (Job t)))
+
+abbrev pub IsDone : SlotState → Option JobParts → ℕ → Type 0
+IsDone s job n = (n ≡ 2) × ((t : JobParts) × (b : Back) × (job ≡ Some t) × Lies s (Some b) × (job_in b ≡ t))
+
+abbrev pub IsWith : SlotState → Option JobParts → ℕ → Type 0
+IsWith s job n = (j : ℕ) × (w : ℕ) × (t : JobParts) × (n ≡ w + 3) × (job ≡ Some t) × Sees s j (Holds w t)
+
+abbrev pub Phase : SlotState → Option JobParts → Bool → ℕ → Type 0
+Phase s job home n = IsEmpty s job home n ⊎ (IsReady s job n ⊎ (IsDone s job n ⊎ IsWith s job n))
+
+-- Empty: the poster names no job. Ready: the slot holds the very job that the poster names. Done: a Back of it.
+-- With a worker: that worker's view names that job, and no other's does.
+pub record Kept (s : SlotState) : Type 0 where
+  pub seat : ℕ
+  pub job : Option JobParts
+  pub home : Bool
+  pub who : Workers
+  pub wide : 0 < length s.words
+  pub roomy : 0 < length s.homes
+  pub posts : Sees s seat (Poster job home who)
+  pub only : (j : ℕ) (v : View) → Sees s j v → is_poster v ≡ true → j ≡ seat
+  pub phase : Phase s job home (word_of s)
+  pub named : (j w : ℕ) (t : JobParts) → Sees s j (Holds w t) → (word_of s ≡ w + 3) × (job ≡ Some t)
+  pub apart : (j k w : ℕ) (v u : View) → Sees s j v → Sees s k u → number v ≡ Some w → number u ≡ Some w → j ≡ k
+  pub low : (j w : ℕ) (v : View) → Sees s j v → number v ≡ Some w → w < who.made
+  pub live : count_by is_worker s.views + who.retired ≡ who.made
+  pub noted : (n : ℕ) → who.noted ≡ Some n → (word_of s ≡ n) × (who.retired ≡ who.made)
+
+abbrev pub Seated : Type 0
+Seated = Me Content View
+
+-- the poster takes the slot out before the first job
+abbrev pub takes_out : Seated → Seated → Type 0
+takes_out m n = (c : Workers) → m ≡ (Poster None true c, []) → n ≡ (Poster None false c, (0, None) ∷ [])
+
+-- and brings it back at the end
+abbrev pub brings_back : Seated → Seated → Type 0
+brings_back m n = (c : Workers) → m ≡ (Poster None false c, (0, None) ∷ []) → n ≡ (Poster None true c, [])
+
+-- the poster names the job, and the slot is at home with it
+abbrev pub posts : Seated → ℕ → Seated → Type 0
+posts m r n = (t : JobParts) (c : Workers) → m ≡ (Poster None false c, (0, Some (Job t)) ∷ []) → (r ≡ 0) × (n ≡ (Poster (Some t) false (unnoted c), []))
+
+-- a worker names the job and has the slot out, or nothing changed
+abbrev pub takes : Seated → ℕ → Seated → Type 0
+takes m r n = (w : ℕ) → m ≡ (Idle w, []) → (r ≡ 1 → (t : JobParts) × (n ≡ (Holds w t, (0, Some (Job t)) ∷ []))) × (r ≢ 1 → n ≡ m)
+
+-- it names none, and the slot is at home
+abbrev pub dones : Seated → Seated → Type 0
+dones m n = (w : ℕ) (t : JobParts) (b : Back) → m ≡ (Holds w t, (0, Some b) ∷ []) → n ≡ (Idle w, [])
+
+-- the poster reads the word; once all are retired it notes it, and it is that of a slot that is ready or done
+abbrev pub notes : Seated → ℕ → Seated → Type 0
+notes m r n = (t : JobParts) (c : Workers) → m ≡ (Poster (Some t) false c, []) → (n ≡ (Poster (Some t) false (noted_by c r), [])) × (c.retired ≡ c.made → (0 < r) × (r < 3))
+
+-- the poster names none and has the slot out, with a Back of its job, or nothing changed; never the latter at a noted word
+abbrev pub collects : ℕ → Seated → ℕ → Seated → Type 0
+collects old m r n = (t : JobParts) (c : Workers) → m ≡ (Poster (Some t) false c, []) → (r ≡ old → (b : Back) × (job_in b ≡ t) × (n ≡ (Poster None false (unnoted c), (0, Some b) ∷ []))) × (r ≢ old → n ≡ m) × (c.noted ≡ Some old → r ≡ old)
+
+abbrev pub recruiter : View → View
+recruiter (Poster job home c) = Poster job home (workers (c.made + 1) c.retired None)
+recruiter (Idle w) = Idle w
+recruiter (Holds w t) = Holds w t
+recruiter Retired = Retired
+
+abbrev pub recruit : View → View
+recruit (Poster job home c) = Idle c.made
+recruit (Idle w) = Retired
+recruit (Holds w t) = Retired
+recruit Retired = Retired
+
+-- the poster counts a worker whose seat is spent
+abbrev pub retirer : View → View → View
+retirer (Poster job home c) v = Poster job home (workers c.made (c.retired + 1) None)
+retirer (Idle w) v = Idle w
+retirer (Holds w t) v = Holds w t
+retirer Retired v = Retired

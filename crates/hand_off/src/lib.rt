@@ -1,0 +1,16 @@
+//! Slots through which jobs pass from one poster to several workers, and what came back of them returns. Each call is
+//! a few atomic steps and waits for nobody.
+#![tactic(auto)]
+
+mod hand_off;
+pub mod laws;
+mod opening;
+mod places;
+mod rule;
+mod seats;
+mod slot;
+mod view;
+
+pub use hand_off::HandOff;
+pub use node_book as node_book_code;
+pub use seats::{PosterSeat, WorkerSeat};
