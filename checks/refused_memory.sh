@@ -14,7 +14,7 @@ readonly REFUSED=400
 # Of each subject one more than the requests that the calls have, and how many what is made first has, which aren't refused.
 declare -rA MOST=(
     [replies]=26 [files]=35 [keys]=8 [log]=81 [state]=120 [calls]=77 [streams]=19 [steps]=26 [entries]=26 [segments]=34
-    [evidence]=105 [books]=34 [filings]=13 [served]=27 [returned]=13 [jobs]=40 [rounds]=48
+    [evidence]=105 [books]=34 [filings]=13 [served]=27 [returned]=13 [jobs]=40 [rounds]=64
 )
 declare -rA MADE=(
     [replies]=0 [files]=7 [keys]=0 [log]=1 [state]=1 [calls]=11 [streams]=15 [steps]=20 [entries]=27 [segments]=27
@@ -160,7 +160,8 @@ check_subject() {
         returned) exactly_refused 3 'File of a sound verdict' 9 Forward ;;
         # Each directory's map asks for more room than it needs, and goes on where that is refused.
         jobs) least_refused 30 ReplayJob::run ;;
-        rounds) least_refused 40 replay_round ;;
+        # What opens the round. A job to which memory is refused is run once more at the round's end, and is done then.
+        rounds) least_refused 16 replay_round ;;
     esac
 }
 
