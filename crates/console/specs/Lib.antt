@@ -1,2 +1,3 @@
 pub mod CommandLine
 pub mod Checking
+pub use Rattle.authenticator.specs as authenticator
