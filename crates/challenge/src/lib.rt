@@ -24,3 +24,4 @@ pub use find::{examine, one_finding};
 pub use finding::{Finding, NotAccepted};
 pub use read::read_evidence;
 pub use replay as replay_code;
+pub use replay::SharedState;

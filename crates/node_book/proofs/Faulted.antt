@@ -8,7 +8,7 @@ use Rattle.std.proofs.Math.Seq.{take-append_seam}
 use Rattle.authenticator.specs.declared.authenticator.Authenticator.{Authenticator}
 use Rattle.secure_log.specs.LogEntries.Chain.{IsAmong, zeros}
 use Rattle.secure_log.specs.Segment.{SegmentParts, ClosedParts}
-use Rattle.checkpoint.specs.state_spec.State.{State}
+use Rattle.witness_spec.specs.state_spec.State.{State}
 use Rattle.evidence_spec.specs.Evidence.{EvidenceParts, Replay}
 use Rattle.evidence_spec.specs.replay_spec.Replay.{Sound}
 use Rattle.witness_spec.specs.Limits.{MAX_AUDITED}

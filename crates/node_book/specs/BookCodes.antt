@@ -11,8 +11,8 @@ use Rattle.envelopes.specs.declared.envelope.Envelope.{Envelope}
 use Rattle.envelopes.specs.contracts.envelope.Envelope as envelopes
 use Rattle.evidence_spec.specs.Evidence.{EvidenceParts}
 use Rattle.challenge.specs.contracts.evidence.Evidence as evidences
-use Rattle.checkpoint.specs.state_spec.State.{State}
-use Rattle.checkpoint.specs.state_spec.Codes.{state_code}
+use Rattle.witness_spec.specs.state_spec.State.{State}
+use Rattle.witness_spec.specs.state_spec.Codes.{state_code}
 use Rattle.witness_spec.specs.Replies.{Challenge, AuditOf, SendOf}
 use Rattle.witness_spec.specs.Standing.{End, Stage, NoAudit, Wanted, Given, Out}
 use Rattle.witness_steps.specs.Books.{Book}

@@ -3,8 +3,8 @@ use Rattle.std.specs.Prelude.{ℕ, refl}
 use Rattle.std.specs.Coded.{Coded, code_by, coded×, coded_ℕ}
 use Rattle.secure_log.specs.Segment.{ClosedParts}
 use Rattle.secure_log.specs.contracts.closed.ClosedSegment.{the_row}
-use Rattle.checkpoint.specs.state_spec.State.{State}
-use Rattle.checkpoint.specs.state_spec.Codes.{state_code}
+use Rattle.witness_spec.specs.state_spec.State.{State}
+use Rattle.witness_spec.specs.state_spec.Codes.{state_code}
 use Rattle.witness_spec.specs.Events.{JobParts}
 
 -- of a closed segment with its roster

@@ -28,7 +28,7 @@ mod step;
 mod verdict;
 
 pub use book::Book;
-pub use checkpoint::SharedState;
+pub use challenge::SharedState;
 pub use done::{PlainDone, ReplayDone};
 pub use event::{Event, EventOf, PlainEvent, Question};
 pub use evidence_spec as evidence_spec_code;

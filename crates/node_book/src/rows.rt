@@ -3,8 +3,7 @@
 use crate::outbox::Outbox;
 use crate::segment::SharedSegment;
 use authenticator::{Authenticator, Number};
-use challenge::{Challenge, Evidence};
-use checkpoint::SharedState;
+use challenge::{Challenge, Evidence, SharedState};
 use std::sync::Arc;
 
 /// How far an audit is: there is none; a segment is asked for, from the first to the last of two numbers; one

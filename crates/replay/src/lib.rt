@@ -16,6 +16,7 @@ mod take;
 mod turns;
 mod verdict;
 
+pub use checkpoint::SharedState;
 pub use fault::ReplayFault;
 pub use machine::{Clients, FreeMachine, KindMachine, Machine, NodeKind, ServerMachine, Servers};
 pub use opening::opening_state;

@@ -1,3 +1,4 @@
+pub use Rattle.state_machine.specs as state_machine
 pub use Rattle.state_machine.specs.state_spec as state_spec
 pub mod LogLaws
 pub mod StateSteps
