@@ -4,8 +4,9 @@
 //!
 //!     files answer                    answers the records of standard input, each reply by a write of its own
 //!     files hold                      the same, and holds replies as long as a whole record is at hand
+//!     files place                     the same, and reads such a record where it lies
 //!     files alone PROCEDURE COUNT     writes so many calls of one procedure, or of it and of the one that undoes it by
-//!                                     turns, behind those that make a file of 8,192 bytes and a symbolic link
+//!                                     turns, after those that make a file of 8,192 bytes and a symbolic link
 //!     files stream DIRECTORIES FILES ROUNDS    writes records that make so many directories, of so many files each, or
 //!                                     so many files in the root, and then so many rounds of 32 mixed calls
 
@@ -1015,10 +1016,14 @@ fn stream(directories: u32, files: u32, rounds: usize) -> io::Result<()> {
 fn main() -> ExitCode {
     let words: Vec<String> = std::env::args().collect();
     match words.iter().map(String::as_str).collect::<Vec<_>>()[..] {
-        [_, writes @ ("answer" | "hold")] => {
+        [_, writes @ ("answer" | "hold" | "place")] => {
             let mut tree = Tree::opening();
             let mut count = 0u32;
-            let writes = if writes == "hold" { Writes::Held } else { Writes::Each };
+            let writes = match writes {
+                "hold" => Writes::Held,
+                "place" => Writes::InPlace,
+                _ => Writes::Each,
+            };
             answer(writes, |record, out| {
                 count = count.saturating_add(1);
                 reply(&mut tree, (count, 0), record, out)

@@ -2,7 +2,7 @@
 
 use crate::items::put;
 use std::fs::File;
-use std::io::{self, BufReader, Read, Write};
+use std::io::{self, BufRead, BufReader, Read, Write};
 use std::os::fd::AsFd;
 use std::process::ExitCode;
 
@@ -63,43 +63,57 @@ pub enum Writes {
     Each,
     /// Together, as long as a whole record is at hand and they are few.
     Held,
+    /// The same, and a whole record that is at hand is read where it lies.
+    InPlace,
 }
 
 /// Replies of more bytes aren't held.
 const MOST_HELD: usize = 57344;
 
-/// Whether a whole record of one fragment stands in front.
-fn has_record(bytes: &[u8]) -> bool {
-    match bytes.first_chunk() {
-        Some(mark) => {
-            let mark = u32::from_be_bytes(*mark);
-            mark & LAST != 0 && (mark & !LAST) as usize <= bytes.len() - 4
-        }
-        None => false,
+/// The whole record of one fragment that stands in front, if one does.
+fn record_in_front(bytes: &[u8]) -> Option<&[u8]> {
+    let (mark, rest) = bytes.split_first_chunk()?;
+    let mark = u32::from_be_bytes(*mark);
+    let len = (mark & !LAST) as usize;
+    if mark & LAST == 0 || len > MAX_RECORD {
+        return None;
+    }
+    rest.get(..len)
+}
+
+/// Appends the reply to a record, after its mark, if it gets one.
+fn append_reply(held: &mut Vec<u8>, record: &[u8], reply: &mut impl FnMut(&[u8], &mut Vec<u8>) -> Option<()>) {
+    let start = held.len();
+    put(held, &[0]);
+    match reply(record, held) {
+        Some(()) => mark(&mut held[start..]),
+        None => held.truncate(start),
     }
 }
 
 /// Answers the records of standard input by what appends the reply to one, if it gets one.
 fn answer_records(writes: Writes, mut reply: impl FnMut(&[u8], &mut Vec<u8>) -> Option<()>) -> Result<(), Fault> {
-    let read_ahead = if writes == Writes::Held { 65536 } else { 8192 };
+    let read_ahead = if writes == Writes::Each { 8192 } else { 65536 };
     let mut input = BufReader::with_capacity(read_ahead, io::stdin().lock());
     let mut output = File::from(io::stdout().as_fd().try_clone_to_owned()?);
     let mut record = Vec::with_capacity(MAX_RECORD);
     let mut held = Vec::with_capacity(MOST_HELD + 4 + MAX_RECORD);
     loop {
-        if writes == Writes::Each || held.len() > MOST_HELD || !has_record(input.buffer()) {
+        let at_hand = record_in_front(input.buffer());
+        if writes == Writes::Each || held.len() > MOST_HELD || at_hand.is_none() {
             output.write_all(&held)?;
             held.clear();
+        }
+        if let (Writes::InPlace, Some(whole)) = (writes, at_hand) {
+            let len = whole.len();
+            append_reply(&mut held, whole, &mut reply);
+            input.consume(4 + len);
+            continue;
         }
         if !next(&mut input, &mut record)? {
             return Ok(());
         }
-        let start = held.len();
-        put(&mut held, &[0]);
-        match reply(&record, &mut held) {
-            Some(()) => mark(&mut held[start..]),
-            None => held.truncate(start),
-        }
+        append_reply(&mut held, &record, &mut reply);
     }
 }
 

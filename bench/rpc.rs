@@ -3,6 +3,7 @@
 //!
 //!     rpc answer          answers the records of standard input, each reply by a write of its own
 //!     rpc hold            the same, and holds replies as long as a whole record is at hand
+//!     rpc place           the same, and reads such a record where it lies
 //!     rpc stream COUNT    writes so many records, GETATTR of the root and LOOKUP of hello by turns
 
 mod items;
@@ -223,6 +224,10 @@ fn main() -> ExitCode {
         [_, "hold"] => {
             let tree = Tree::opening();
             answer(Writes::Held, |record, out| reply(&tree, record, out))
+        }
+        [_, "place"] => {
+            let tree = Tree::opening();
+            answer(Writes::InPlace, |record, out| reply(&tree, record, out))
         }
         [_, "stream", count] => match count.parse().map(stream) {
             Ok(Ok(())) => ExitCode::SUCCESS,

@@ -1,8 +1,9 @@
 #!/usr/bin/env bash
-# Measures `nfsacc rpc` by processor time against two plain Rust programs that answer the same records and prove nothing:
-# one writes each reply by itself, one holds replies as long as a whole record is at hand. They run by turns; what the
-# three write is compared. First GETATTR and LOOKUP by turns, from a file and through a pipe; then each procedure of NFS
-# once, from a file. Prints how many times as fast as each of the two `nfsacc` is, and peak memory.
+# Measures `nfsacc rpc` by processor time against three plain Rust programs that answer the same records and prove
+# nothing: one writes each reply by itself, one holds replies as long as a whole record is at hand, one also reads such a
+# record where it lies. They run by turns; what the four write is compared. First GETATTR and LOOKUP by turns, from a
+# file and through a pipe; then each procedure of NFS once, from a file. Prints how many times as fast as each of the
+# three `nfsacc` is, and peak memory.
 #
 #     bench/rpc.sh [RECORDS]    a million, if not given; a tenth as many of each procedure
 #
@@ -30,8 +31,8 @@ busy() {
     awk '{ print $1 + $2 }' "$folder/busy"
 }
 
-# by_turns FROM INPUT PLAIN ROUNDS runs the three, and prints nfsacc's processor seconds, and how many times as fast it is
-# as the plain program that writes each reply, and as the one that holds them.
+# by_turns FROM INPUT PLAIN ROUNDS runs the four, and prints nfsacc's processor seconds, and how many times as fast it is
+# as the plain program that writes each reply, as the one that holds them, and as the one that reads records in place.
 by_turns() {
     local from=$1 input=$2 plain=$3 round
     rm -f "$folder"/took.*
@@ -39,19 +40,21 @@ by_turns() {
         busy "$from" "$input" "$folder/nfsacc.out" "$nfsacc" rpc >>"$folder/took.nfsacc"
         busy "$from" "$input" "$folder/each.out" "$plain" answer >>"$folder/took.each"
         busy "$from" "$input" "$folder/held.out" "$plain" hold >>"$folder/took.held"
+        busy "$from" "$input" "$folder/place.out" "$plain" place >>"$folder/took.place"
         cmp "$folder/nfsacc.out" "$folder/each.out"
         cmp "$folder/nfsacc.out" "$folder/held.out"
+        cmp "$folder/nfsacc.out" "$folder/place.out"
     done
-    paste "$folder"/took.nfsacc "$folder"/took.each "$folder"/took.held |
-        awk '{ n += $1; e += $2; h += $3 } END { printf "%.3f %.2f %.2f\n", n / NR, e / n, h / n }'
+    paste "$folder"/took.nfsacc "$folder"/took.each "$folder"/took.held "$folder"/took.place |
+        awk '{ n += $1; e += $2; h += $3; p += $4 } END { printf "%.3f %.2f %.2f %.2f\n", n / NR, e / n, h / n, p / n }'
 }
 
 "$folder/calls" stream "$records" >"$folder/records"
-printf '%-24s %18s %22s %18s\n' '' 'records a second' 'each reply written' 'replies held'
+printf '%-24s %18s %22s %18s %18s\n' '' 'records a second' 'each reply written' 'replies held' 'read in place'
 for from in file pipe; do
-    read -r seconds each held < <(by_turns $from "$folder/records" "$folder/calls" $rounds)
+    read -r seconds each held place < <(by_turns $from "$folder/records" "$folder/calls" $rounds)
     awk -v from="GETATTR, LOOKUP: $from" -v records="$records" -v seconds="$seconds" -v each="$each" -v held="$held" \
-        'BEGIN { printf "%-24s %18.0f %22s %18s\n", from, records / seconds, each, held }'
+        -v place="$place" 'BEGIN { printf "%-24s %18.0f %22s %18s %18s\n", from, records / seconds, each, held, place }'
 done
 
 procedures=(NULL GETATTR SETATTR ROOT LOOKUP READLINK READ WRITECACHE WRITE CREATE REMOVE RENAME LINK SYMLINK MKDIR RMDIR
@@ -59,9 +62,9 @@ procedures=(NULL GETATTR SETATTR ROOT LOOKUP READLINK READ WRITECACHE WRITE CREA
 for procedure in "${!procedures[@]}"; do
     count=$((records / 10))
     "$folder/files" alone "$procedure" "$count" >"$folder/alone"
-    read -r seconds each held < <(by_turns file "$folder/alone" "$folder/files" 3)
+    read -r seconds each held place < <(by_turns file "$folder/alone" "$folder/files" 3)
     awk -v name="${procedures[procedure]}" -v count="$count" -v seconds="$seconds" -v each="$each" -v held="$held" \
-        'BEGIN { printf "%-24s %18.0f %22s %18s\n", name, count / seconds, each, held }'
+        -v place="$place" 'BEGIN { printf "%-24s %18.0f %22s %18s %18s\n", name, count / seconds, each, held, place }'
 done
 
 few=10000
