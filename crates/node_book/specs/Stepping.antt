@@ -12,8 +12,10 @@ use Rattle.node_book.specs.Replies.{reply_in}
 use Rattle.node_book.specs.declared.reply.ReplyOf.{ReplyOf}
 use Rattle.node_book.specs.declared.step.Step.{Step}
 
--- A step may run out of memory: neither that an indication is asked for does, nor that a job is put back.
+-- A step may run out of memory: neither that an indication is asked for does, nor that a job is put back, nor
+-- that a message is acknowledged.
 abbrev pub StepMayWant : steps.Step → Type 0
+StepMayWant (steps.AckIn a) = ⊥
 StepMayWant (steps.PutBack j) = ⊥
 StepMayWant (steps.Ask ItsIndication) = ⊥
 StepMayWant _ = Unit {0}

@@ -305,48 +305,21 @@ impl Rows {
         ensures after { book_in self.new ≡ book_after (book_in self.old) (step_in step) (reply_in result) }
         ensures keeps { KeepsExposure (segments_in self.new.segments.items) self.new.exposure }
     {
-        // What was decided is always of the step's own kind.
-        match step {
-            Step::Learn(authenticator) => match decided {
-                Decided::Learn(d) => self.carry_learn(authenticator, d),
-                _ => unreachable!(),
-            },
-            Step::SendChallenge(envelope) => match decided {
-                Decided::SendChallenge(d) => self.carry_send_challenge(envelope, d),
-                _ => unreachable!(),
-            },
-            Step::Answer(segment) => match decided {
-                Decided::Answer(d) => self.carry_answer(segment, d),
-                _ => unreachable!(),
-            },
-            Step::AckIn(ack) => match decided {
-                Decided::AckIn(d) => self.carry_ack(ack, d),
-                _ => unreachable!(),
-            },
-            Step::Audit => match decided {
-                Decided::Audit(d) => self.carry_audit(d),
-                _ => unreachable!(),
-            },
-            Step::Begin => match decided {
-                Decided::Begin(d) => self.carry_begin(d),
-                _ => unreachable!(),
-            },
-            Step::File(done) => match decided {
-                Decided::File(d) => self.carry_file(done, d),
-                _ => unreachable!(),
-            },
-            Step::PutBack(job) => match decided {
-                Decided::PutBack(d) => self.carry_put_back(job, d),
-                _ => unreachable!(),
-            },
-            Step::Forward => match decided {
-                Decided::Forward(d) => self.carry_forward(d),
-                _ => unreachable!(),
-            },
-            Step::Ask(_) => match decided {
-                Decided::Ask(d) => told(d),
-                _ => unreachable!(),
-            },
+        match (step, decided) {
+            (Step::Learn(authenticator), Decided::Learn(d)) => self.carry_learn(authenticator, d),
+            (Step::SendChallenge(envelope), Decided::SendChallenge(d)) => {
+                self.carry_send_challenge(envelope, d)
+            }
+            (Step::Answer(segment), Decided::Answer(d)) => self.carry_answer(segment, d),
+            (Step::AckIn(ack), Decided::AckIn(d)) => self.carry_ack(ack, d),
+            (Step::Audit, Decided::Audit(d)) => self.carry_audit(d),
+            (Step::Begin, Decided::Begin(d)) => self.carry_begin(d),
+            (Step::File(done), Decided::File(d)) => self.carry_file(done, d),
+            (Step::PutBack(job), Decided::PutBack(d)) => self.carry_put_back(job, d),
+            (Step::Forward, Decided::Forward(d)) => self.carry_forward(d),
+            (Step::Ask(_), Decided::Ask(d)) => told(d),
+            // What was decided is always of the step's own kind.
+            (_, _) => unreachable!(),
         }
     }
 }

@@ -269,8 +269,8 @@ impl Rows {
         }
     }
 
-    /// Of a step. `AllocError` comes only where memory was refused, and never for a job that is put back or a
-    /// question for the indication.
+    /// Of a step. `AllocError` comes only where memory was refused, and never for a job that is put back, an
+    /// acknowledgement or a question for the indication.
     pub fn decide(&self, alloc: Global, step: &Step) -> Result<Decided, AllocError>
         requires ready { IsReady (book_in self.now) }
         requires keeps { KeepsExposure (segments_in self.now.segments.items) self.now.exposure }

@@ -21,8 +21,8 @@ use Rattle.node_book.specs.witness_spec.Steps as steps
 use Rattle.node_book.specs.witness_spec.Watched.{watched}
 use Rattle.node_book.specs.witness_spec.Whose.{is_key_of, same_roster, step_of, signed_step, sent_step, closed_step}
 use Rattle.node_book.specs.witness_spec.Whose.{judged_step, whose}
-use Rattle.node_book.specs.witness_spec.Histories.{History, own_step, own, OwesTo, IsOwed, MayWant, IsWanting, IsHistory}
-use Rattle.node_book.specs.witness_spec.Histories.{BookParts, StandsFor, StandEach, Stands}
+use Rattle.node_book.specs.witness_spec.Histories.{History, own_step, own, OwesTo, IsOwed, MayWant, IsWanting}
+use Rattle.node_book.specs.witness_spec.Histories.{BookParts, StandsFor, StandEach}
 use Rattle.node_book.specs.witness_spec.Contract.{StepsTo}
 use Rattle.node_book.specs.Events.{key_of}
 use Rattle.witness_books.specs.Delivering.{IsDelivery, Spell}

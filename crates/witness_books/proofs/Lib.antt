@@ -4,6 +4,7 @@ pub mod Places
 pub mod Stepping
 pub mod Running
 pub mod Noting
+pub mod Memory
 pub mod Witnessed
 pub mod Given
 pub mod Refused

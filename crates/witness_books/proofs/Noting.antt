@@ -25,6 +25,7 @@ use Rattle.node_book.proofs.witness_steps.AnyBook.{any_owes}
 use Rattle.node_book.specs.Replies.{reply_in}
 use Rattle.node_book.specs.Stepping.{NotedSteps}
 use Rattle.node_book.specs.declared.reply.ReplyOf.{ReplyOf}
+use Rattle.witness_books.specs.Memory.{AreBytes}
 use Rattle.witness_books.specs.Routing.{IsStepOf, IsNobodys}
 use Rattle.witness_books.specs.Places.{OneDoes}
 use Rattle.witness_books.specs.Notes.{for_memory, AreNotesOf, NotesRefusal}
@@ -47,7 +48,7 @@ pub record GoesNoting (ms : List Member) (old : List Book) (event : Event) (repl
 -- ---- a member's step
 
 -- what a member's book owes doesn't say that memory ran out
-owed_enough : (ms : List Member) (m : Member) (old : List Book) (book : Book) (event : Event)
+pub owed_enough : (ms : List Member) (m : Member) (old : List Book) (book : Book) (event : Event)
     (step : steps.Step) (reply : Reply) → IsRoster ms → AreReady ms old → IsEvent event
     → IsStepOf ms event m step → book_at ms old m.node ≡ Some book → BookOwes book step reply
     → is_want_of_memory reply ≡ false
@@ -127,14 +128,16 @@ for_memory_of (events.Ask node question) refusal = refl
 
 -- so does what is refused before it is a step
 for_memory_is : (ms : List Member) (event : Event) (reply : Reply)
-    → IsNobodys ms event reply ⊎ IsWanting event reply → for_memory reply ≡ refused event refusals.NoMemory
+    → IsNobodys ms event reply ⊎ (AreBytes event × IsWanting event reply)
+    → for_memory reply ≡ refused event refusals.NoMemory
 for_memory_is ms event reply (inl nobodys) = ap for_memory nobodys.is ∙ for_memory_of event nobodys.why
-for_memory_is ms event reply (inr wants) = ap for_memory wants.is ∙ for_memory_of event refusals.NoMemory
+for_memory_is ms event reply (inr wants) = ap for_memory wants.1.is ∙ for_memory_of event refusals.NoMemory
 
 -- a refusal with its notes leaves the books
 pub refusal_goes : Laws → LeftOutLeavesBooks → WantLeavesBooks → (ms : List Member) (books : List Book)
     (event : Event) (refusal reply : Reply) (notes : Notes) → AreReady ms books → IsEvent event
-    → IsNobodys ms event refusal ⊎ IsWanting event refusal → NotesRefusal refusal reply notes
+    → IsNobodys ms event refusal ⊎ (AreBytes event × IsWanting event refusal)
+    → NotesRefusal refusal reply notes
     → GoesNoting ms books event reply notes books
 refusal_goes laws out want ms books event refusal reply None ready is why given =
     let same : reply ≡ refused event refusals.NoMemory = given ∙ for_memory_is ms event refusal why in

@@ -1,7 +1,7 @@
 -- A refused step leaves the books; and books at first are those of the contract.
--- Serves: Books::new, Books::step.
-use Rattle.std.proofs.Common.{◌≡◌, ◌⊎◌, inl, inr, ℕ, Bool, true, false, true≢false, List, [], ◌∷◌, map}
-use Rattle.std.proofs.Common.{refl, sym, ap, ap₂, ◌∙◌}
+-- Serves: Books::new, Books::step, Books::noted_step.
+use Rattle.std.proofs.Common.{◌≡◌, inl, inr, ℕ, true, true≢false, List, [], ◌∷◌, map}
+use Rattle.std.proofs.Common.{Option, Some, None, refl, sym, ap, ◌∙◌}
 use Rattle.authenticator.specs.declared.member.Member.{Member}
 use Rattle.node_book.specs.witness_spec.Contract.{opening_book, opening_books}
 use Rattle.node_book.specs.witness_spec.Replies.{Reply, Noted, Already, Opened, Accepted, Closed, Asked, Job, Filed}
@@ -11,7 +11,10 @@ use Rattle.node_book.specs.witness_spec.Steps as steps
 use Rattle.node_book.specs.witness_steps.Books.{Book, book_opening, parts_of}
 use Rattle.node_book.specs.witness_steps.Going.{book_after}
 use Rattle.node_book.specs.witness_steps.Together.{with_book_at}
-use Rattle.node_book.specs.Stepping.{StepMayWant, IsStep, RanOut, Steps}
+use Rattle.node_book.specs.witness_spec.Events.{JobParts}
+use Rattle.node_book.specs.Replies.{reply_in}
+use Rattle.node_book.specs.Stepping.{Steps, NotedSteps}
+use Rattle.node_book.specs.declared.reply.ReplyOf.{ReplyOf}
 use Rattle.witness_books.specs.Books.{is_refusal}
 use Rattle.witness_books.specs.Places.{OneDoes}
 use Rattle.witness_books.proofs.Stepping.{with_same}
@@ -75,10 +78,33 @@ one_stays : (b after : Book) (step : steps.Step) (reply : Reply) → is_refusal 
 one_stays b after step reply refused (inl made) = made.after ∙ refused_stays b step reply refused
 one_stays b after step reply refused (inr out) = out.1.stays
 
+-- so does a step of which notes were made
+one_noted_stays : (b after : Book) (step : steps.Step) (reply : ReplyOf JobParts JobParts)
+    (notes : Option (ReplyOf JobParts JobParts × ReplyOf JobParts JobParts)) → is_refusal (reply_in reply) ≡ true
+    → NotedSteps b step reply notes after → after ≡ b
+one_noted_stays b after step reply None refused out = out.stays
+one_noted_stays b after step reply (Some notes) refused made =
+    made.2.after ∙ refused_stays b step (reply_in reply) refused
+
+-- where one book stays, all books do
+as_one : (ms : List Member) (node : ℕ) (old new : List Book) (Does : Book → Book → Type 0)
+    → (one : OneDoes ms node old Does new) → one.after ≡ one.book → new ≡ old
+as_one ms node old new Does one stays =
+    one.are ∙ (ap (λ b. with_book_at ms node b old) stays ∙ with_same ms node old one.book one.there)
+
 -- where one book makes a refused step, all books stay
 pub all_stay : (ms : List Member) (node : ℕ) (old new : List Book) (step : steps.Step) (reply : Reply)
     → OneDoes ms node old (λ b after. Steps b step reply after) new → is_refusal reply ≡ true → new ≡ old
 all_stay ms node old new step reply one refused =
-    one.are ∙ (ap (λ b. with_book_at ms node b old)
+    as_one ms node old new (λ b after. Steps b step reply after) one
     (one_stays one.book one.after step reply refused one.does)
-    ∙ with_same ms node old one.book one.there)
+
+-- the same where notes were made
+pub all_stay_noted : (ms : List Member) (node : ℕ) (old new : List Book) (step : steps.Step)
+    (reply : ReplyOf JobParts JobParts)
+    (notes : Option (ReplyOf JobParts JobParts × ReplyOf JobParts JobParts))
+    → OneDoes ms node old (λ b after. NotedSteps b step reply notes after) new
+    → is_refusal (reply_in reply) ≡ true → new ≡ old
+all_stay_noted ms node old new step reply notes one refused =
+    as_one ms node old new (λ b after. NotedSteps b step reply notes after) one
+    (one_noted_stays one.book one.after step reply notes refused one.does)

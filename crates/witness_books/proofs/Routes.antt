@@ -24,6 +24,7 @@ use Rattle.node_book.specs.declared.refusal.Refusal.{Refusal}
 use Rattle.node_book.specs.declared.step.Step.{Step}
 use Rattle.witness_books.specs.declared.route.Routed.{Routed}
 use Rattle.witness_books.specs.declared.route.Routed.TheVariants as r
+use Rattle.witness_books.specs.Memory.{AreBytes}
 use Rattle.witness_books.specs.Routing.{OwnerIs, IsGivenTo, IsDelivered, DeliversTo, IsStepOf}
 use Rattle.witness_books.specs.Routing.{IsNobodys, GoesTo, RoutesTo}
 
@@ -97,16 +98,17 @@ module _ (ms : List Member) (bytes : List ℕ) where
   }
   delivery_goes d (r.Refused reply) is (inl to) =
       inl (record { why = to.why; whose_is = ap (judged_step ms) is ∙ to.whose_is; is = to.is })
-  delivery_goes d (r.Refused reply) is (inr to) = inr (record { may = tt; is = to })
+  delivery_goes d (r.Refused reply) is (inr to) = inr (tt, record { may = tt; is = to })
 
   -- the refusal of bytes goes where they do
   pub refusal_goes : (refusal : checks.Refusal) (reply : replies.Reply) → Refuses (judged ms bytes) refusal
       → reply ≡ replies.Refused (refusal_of refusal)
-      → IsNobodys ms (spec.Deliver bytes) reply ⊎ IsWanting (spec.Deliver bytes) reply
+      → IsNobodys ms (spec.Deliver bytes) reply
+      ⊎ (AreBytes (spec.Deliver bytes) × IsWanting (spec.Deliver bytes) reply)
   refusal_goes checking.UnknownNode reply is to =
       inl (record { why = refusals.UnknownNode; whose_is = ap (judged_step ms) is; is = to })
   refusal_goes checking.Garbage reply is to =
       inl (record { why = refusals.Garbage; whose_is = ap (judged_step ms) is; is = to })
   refusal_goes checking.BadSignature reply is to =
       inl (record { why = refusals.BadSignature; whose_is = ap (judged_step ms) is; is = to })
-  refusal_goes checking.NoMemory reply is to = inr (record { may = tt; is = to })
+  refusal_goes checking.NoMemory reply is to = inr (tt, record { may = tt; is = to })

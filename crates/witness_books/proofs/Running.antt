@@ -1,6 +1,7 @@
 -- A run grows by a step at its end.
 -- Serves: run_all.
 use Rattle.std.proofs.Common.{◌≡◌, List, [], ◌∷◌, ◌++◌, map, refl, sym, ap, subst, ◌∙◌}
+use Rattle.std.specs.List.{AllZip}
 use Rattle.std.proofs.lemmas.List.{append-nil, append_assoc, map-append}
 use Rattle.node_book.specs.witness_spec.Events.{JobParts}
 use Rattle.node_book.specs.witness_spec.Events as spec
@@ -11,7 +12,9 @@ use Rattle.node_book.specs.Events.{event_in}
 use Rattle.node_book.specs.Replies.{reply_in}
 use Rattle.node_book.specs.declared.event.EventOf.{EventOf}
 use Rattle.node_book.specs.declared.reply.ReplyOf.{ReplyOf}
+use Rattle.authenticator.specs.declared.member.Member.{Member}
 use Rattle.witness_books.specs.Books.{BooksParts, parts_in}
+use Rattle.witness_books.specs.Memory.{RunsOutWhereItMay}
 
 -- events as they are handed in
 abbrev pub Event : Type 0
@@ -20,6 +23,18 @@ Event = EventOf JobParts JobParts
 -- replies as they are given
 abbrev pub Reply : Type 0
 Reply = ReplyOf JobParts JobParts
+
+-- a reply says that memory ran out only where it may
+abbrev pub SaysWhereItMay : List Member → Event → Reply → Type 0
+SaysWhereItMay ms event reply = RunsOutWhereItMay ms (event_in event) (reply_in reply)
+
+-- with one more of both
+zip_more : {A B : Type 0} (R : A → B → Type 0) (xs : List A) (ys : List B) (x : A) (y : B)
+    → AllZip R xs ys → R x y → AllZip R (xs ++ x ∷ []) (ys ++ y ∷ [])
+zip_more R [] [] x y all more = (more, tt)
+zip_more R [] (b ∷ ys) x y all more = absurd all
+zip_more R (a ∷ xs) [] x y all more = absurd all
+zip_more R (a ∷ xs) (b ∷ ys) x y all more = (all.0, zip_more R xs ys x y all.1 more)
 
 -- Of all events the first ones have these replies, and the rest is still to come.
 pub record HasRun (old : BooksParts) (events rest : List Event) (replies : List Reply) (new : BooksParts)
@@ -32,6 +47,8 @@ pub record HasRun (old : BooksParts) (events rest : List Event) (replies : List 
   pub all : events ≡ done ++ rest
   -- they are a run
   pub run : RunsTo old.roster (parts_in old) (map event_in done) (map reply_in replies) (parts_in new)
+  -- memory ran out only where it may
+  pub memory : AllZip (SaysWhereItMay old.roster) done replies
 
 -- before the first
 pub has_run_none : NothingIsARun → (old : BooksParts) (events rest : List Event) (replies : List Reply)
@@ -42,6 +59,7 @@ has_run_none law old events rest replies all none = record {
   all = sym all;
   run = subst (λ (rs : List Reply). RunsTo old.roster (parts_in old) [] (map reply_in rs) (parts_in old))
       (sym none) (law old.roster (parts_in old));
+  memory = subst (λ (rs : List Reply). AllZip (SaysWhereItMay old.roster) [] rs) (sym none) tt;
 }
 
 -- after one more
@@ -50,8 +68,8 @@ pub has_run_more : OneStepMore → (old mid new : BooksParts) (events rest later
     → HasRun old events rest replies mid → rest ≡ event ∷ later → after ≡ replies ++ reply ∷ []
     → new.roster ≡ mid.roster
     → StepsTo mid.roster (parts_in mid) (event_in event) (reply_in reply) (parts_in new)
-    → HasRun old events later after new
-has_run_more law old mid new events rest later replies after event reply was next grown roster step = record {
+    → SaysWhereItMay mid.roster event reply → HasRun old events later after new
+has_run_more law old mid new events rest later replies after event reply was next grown roster step may = record {
   roster = roster ∙ was.roster;
   done = was.done ++ event ∷ [];
   all = was.all ∙ ap (λ l. was.done ++ l) next ∙ sym (append_assoc was.done (event ∷ []) later);
@@ -65,6 +83,10 @@ has_run_more law old mid new events rest later replies after event reply was nex
       (map reply_in replies) (event_in event) (reply_in reply) was.run
       (subst (λ ms. StepsTo ms (parts_in mid) (event_in event) (reply_in reply) (parts_in new)) was.roster
       step)));
+  memory = subst (λ (rs : List Reply). AllZip (SaysWhereItMay old.roster) (was.done ++ event ∷ []) rs)
+      (sym grown)
+      (zip_more (SaysWhereItMay old.roster) was.done replies event reply was.memory
+      (subst (λ (ms : List Member). SaysWhereItMay ms event reply) was.roster may));
 }
 
 -- after the last
@@ -74,3 +96,10 @@ pub has_run_all : (old : BooksParts) (events rest : List Event) (replies : List 
 has_run_all old events rest replies new was none =
     subst (λ (es : List Event). RunsTo old.roster (parts_in old) (map event_in es) (map reply_in replies)
     (parts_in new)) (sym (was.all ∙ ap (λ l. was.done ++ l) none ∙ append-nil was.done)) was.run
+
+-- and then memory ran out only where it may
+pub has_run_where : (old : BooksParts) (events rest : List Event) (replies : List Reply) (new : BooksParts)
+    → HasRun old events rest replies new → rest ≡ [] → AllZip (SaysWhereItMay old.roster) events replies
+has_run_where old events rest replies new was none =
+    subst (λ (es : List Event). AllZip (SaysWhereItMay old.roster) es replies)
+    (sym (was.all ∙ ap (λ l. was.done ++ l) none ∙ append-nil was.done)) was.memory

@@ -18,6 +18,7 @@ use Rattle.node_book.specs.witness_steps.Together.{book_at, with_book_at}
 use Rattle.node_book.specs.witness_steps.Ready.{AreReady}
 use Rattle.node_book.specs.witness_steps.ReadyLaws.{ReadyBooksStep}
 use Rattle.node_book.specs.Stepping.{StepMayWant, IsStep, RanOut, Steps}
+use Rattle.witness_books.specs.Memory.{AreBytes}
 use Rattle.witness_books.specs.Routing.{IsStepOf, IsNobodys}
 use Rattle.witness_books.specs.Places.{OneDoes}
 
@@ -92,10 +93,11 @@ step_goes law want ms m old new event step reply roster ready is of one = by one
 
 -- what is refused before it is a step leaves the books
 pub refused_steps : LeftOutLeavesBooks → WantLeavesBooks → (ms : List Member) (books : List Book)
-    (event : Event) (reply : Reply) → IsEvent event → IsNobodys ms event reply ⊎ IsWanting event reply
+    (event : Event) (reply : Reply) → IsEvent event
+    → IsNobodys ms event reply ⊎ (AreBytes event × IsWanting event reply)
     → StepsTo ms (map parts_of books) event reply (map parts_of books)
 refused_steps out want ms books event reply is (inl nobodys) =
     subst (λ r. StepsTo ms (map parts_of books) event r (map parts_of books)) (sym nobodys.is)
     (out ms (map parts_of books) event nobodys.why is nobodys.whose_is)
 refused_steps out want ms books event reply is (inr wants) =
-    want ms (map parts_of books) event reply is wants
+    want ms (map parts_of books) event reply is wants.1

@@ -16,6 +16,7 @@ use Rattle.node_book.specs.Stepping.{StepMayWant, step_refused}
 use Rattle.node_book.specs.declared.event.EventOf.{EventOf}
 use Rattle.node_book.specs.declared.refusal.Refusal.{Refusal}
 use Rattle.node_book.specs.declared.step.Step.{Step}
+use Rattle.witness_books.specs.Memory.{AreBytes}
 use Rattle.witness_books.specs.declared.route.Routed.{Routed}
 use Rattle.witness_books.specs.declared.route.Routed.TheVariants as r
 
@@ -66,10 +67,11 @@ pub record IsNobodys (ms : List Member) (event : spec.Event) (reply : replies.Re
   pub whose_is : whose ms event ≡ Err why
   pub is : reply ≡ replies.refused event why
 
--- An event is a member's step; or it is refused, as it is nobody's or as memory ran out.
+-- An event is a member's step; or it is refused, as it is nobody's or, bytes alone, as memory ran out.
 abbrev pub GoesTo : List Member → spec.Event → Routed → Type 0
 GoesTo ms event (r.Step m s) = IsStepOf ms event m (step_in s)
-GoesTo ms event (r.Refused reply) = IsNobodys ms event (reply_in reply) ⊎ IsWanting event (reply_in reply)
+GoesTo ms event (r.Refused reply) =
+    IsNobodys ms event (reply_in reply) ⊎ (AreBytes event × IsWanting event (reply_in reply))
 
 -- What was handed over is an event, and is routed to its member, or refused.
 pub record RoutesTo (ms : List Member) (event : EventOf JobParts JobParts) (routed : Routed) : Type 0 where

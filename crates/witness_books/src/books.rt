@@ -10,6 +10,7 @@ ghost use Rattle.node_book.specs.Replies.{reply_in};
 ghost use Rattle.node_book.specs.Stepping.{NotedSteps, Steps};
 ghost use Rattle.witness_books.specs.Books.{is_refusal, parts_in};
 ghost use Rattle.witness_books.specs.Headline.{KeepsHeadline};
+ghost use Rattle.witness_books.specs.Memory.{RunsOutWhereItMay};
 ghost use Rattle.witness_books.specs.Notes.{AreNotes, AreNotesOf};
 ghost use Rattle.witness_books.specs.Places.{OneDoes, place_from};
 
@@ -18,6 +19,7 @@ use crate::note::{Note, event_twice, note_refusal};
 use crate::route::{Routed, refuse_event, route};
 use authenticator::{Member, Roster};
 use node_book::witness_laws_code::books::{journals_are_histories, what_leaves_books};
+use node_book::witness_laws_code::laws::left_out_changes_nothing;
 use node_book::witness_steps_code::laws::books_are_ready;
 use node_book::{Book, Event, PlainReply, Refusal, Reply, Step};
 use std::alloc::{AllocError, AllocFailed, Global};
@@ -78,7 +80,8 @@ impl Books {
     /// One event, with its reply. An event that is nobody's step is refused: `UnknownNode` where a node that
     /// it is of is no member, else `BadSignature` where it was checked under another key or roster, or isn't
     /// signed; `Garbage` where bytes are no packet. A member's step is refused as its book owes. `NoMemory`
-    /// comes only where a growth was refused, never where a job is put back or an indication is asked for.
+    /// comes only where a growth was refused, never where a job is put back, an indication is asked for or a checked
+    /// acknowledgement is handed in, and of what is nobody's step only at bytes.
     /// What is refused changes nothing: a job or a done value comes back with the refusal.
     pub fn step(&mut self, alloc: Global, event: Event) -> Reply
         ensures roster { self.new.roster ≡ self.old.roster }
@@ -87,6 +90,7 @@ impl Books {
         ensures headline { KeepsHeadline self.old.roster (parts_in self.old) (event_in event ∷ [])
             (reply_in result ∷ []) (parts_in self.new) }
         ensures stays { is_refusal (reply_in result) ≡ true → self.new ≡ self.old }
+        ensures memory { RunsOutWhereItMay self.old.roster (event_in event) (reply_in result) }
     {
         steps_keep_the_headline();
         self.make_step(alloc, event)
@@ -98,9 +102,11 @@ impl Books {
         ensures steps { StepsTo self.old.roster (parts_in self.old) (event_in event) (reply_in result)
             (parts_in self.new) }
         ensures stays { is_refusal (reply_in result) ≡ true → self.new ≡ self.old }
+        ensures memory { RunsOutWhereItMay self.old.roster (event_in event) (reply_in result) }
     {
         books_are_ready();
         what_leaves_books();
+        left_out_changes_nothing();
         match route(alloc, &self.roster, event) {
             Routed::Refused(reply) => reply,
             Routed::Step(member, step) => {
@@ -112,12 +118,13 @@ impl Books {
     /// One event, with its reply and two notes of both: one to keep, one to hand on. All notes are made
     /// before anything changes: where a growth was refused for them, or owners can't be counted further, the
     /// event is refused with `NoMemory`, whatever it is. There are no notes exactly where the reply is
-    /// `NoMemory`, and then nothing changed; any other reply is one that `step` owes, and refused as there.
+    /// `NoMemory`; any other reply is one that `step` owes, and refused as there. What is refused changes nothing.
     pub fn noted_step(&mut self, alloc: Global, event: Event) -> (Reply, Option<(Note, Note)>)
         ensures roster { self.new.roster ≡ self.old.roster }
         ensures noted { IsNotedStep self.old.roster (parts_in self.old) (event_in event) (reply_in result.0)
             (parts_in self.new) }
         ensures notes { AreNotes (event_in event) (reply_in result.0) result.1 }
+        ensures stays { is_refusal (reply_in result.0) ≡ true → self.new ≡ self.old }
     {
         what_leaves_books();
         let (one, two) = match event_twice(alloc, &event) {
@@ -143,6 +150,7 @@ impl Books {
         ensures noted { IsNotedStep self.old.roster (parts_in self.old) (event_in event) (reply_in result.0)
             (parts_in self.new) }
         ensures notes { AreNotesOf (reply_in result.0) result.1 }
+        ensures stays { is_refusal (reply_in result.0) ≡ true → self.new ≡ self.old }
     {
         books_are_ready();
         what_leaves_books();

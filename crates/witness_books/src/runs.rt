@@ -1,11 +1,13 @@
 //! Events one after the other.
 
 ghost use Rattle.std.specs.Prelude.{◌≡◌, ◌+◌, ◌≤◌, [], IfErr, IfOk, OnErr, map, vec_capacity, vec_len};
+ghost use Rattle.std.specs.List.{AllZip};
 ghost use Rattle.node_book.specs.witness_spec.Contract.{RunsTo};
 ghost use Rattle.node_book.specs.Events.{event_in};
 ghost use Rattle.node_book.specs.Replies.{reply_in};
 ghost use Rattle.witness_books.specs.Books.{parts_in};
 ghost use Rattle.witness_books.specs.Headline.{KeepsHeadline};
+ghost use Rattle.witness_books.specs.Memory.{RunsOutWhereItMay};
 ghost use Rattle.witness_books.specs.Witnessed.{AreOpening, IsWitnessed};
 
 use crate::books::Books;
@@ -25,6 +27,9 @@ pub fn run(alloc: Global, books: &mut Books, events: Vec<Event>) -> Result<Vec<R
         (map event_in events.items) (map reply_in replies.items) (parts_in books.new)) }
     ensures headline { IfOk result (λ replies. KeepsHeadline books.old.roster (parts_in books.old)
         (map event_in events.items) (map reply_in replies.items) (parts_in books.new)) }
+    ensures memory { IfOk result (λ replies. AllZip
+        (λ event reply. RunsOutWhereItMay books.old.roster (event_in event) (reply_in reply))
+        events.items replies.items) }
     ensures witnessed { IfOk result (λ replies. AreOpening books.old → IsWitnessed books.old.roster
         (map event_in events.items) (map reply_in replies.items) books.new) }
     ensures back { IfErr result (λ e. e ≡ events) }
@@ -50,6 +55,9 @@ fn run_all(
     ensures roster { books.new.roster ≡ books.old.roster }
     ensures runs { RunsTo books.old.roster (parts_in books.old) (map event_in events.items)
         (map reply_in result.items) (parts_in books.new) }
+    ensures memory { AllZip
+        (λ event reply. RunsOutWhereItMay books.old.roster (event_in event) (reply_in reply))
+        events.items result.items }
 {
     runs_are_histories();
     let mut rest = events.into_iter();

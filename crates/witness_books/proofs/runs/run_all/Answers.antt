@@ -14,6 +14,7 @@ steps-preserved c =
           c.step-reply.new.self c.args.events.items (into_iter_items c.steps.rest)
           (into_iter_items c.next.new.self) c.steps.replies.items c.push_reserved.new.self.items
           c.in-Some.event c.step-reply.result c.steps.invariant.run c.in-Some.ensures.items
-          c.push_reserved.ensures.items c.step-reply.ensures.roster c.step-reply.ensures.steps;
+          c.push_reserved.ensures.items c.step-reply.ensures.roster c.step-reply.ensures.steps
+          c.step-reply.ensures.memory;
       room = omega (arith, room, rest, len, capacity);
     }

@@ -4,6 +4,8 @@ use Rattle.node_book.specs.witness_steps.Books.{Book, parts_of}
 use Rattle.node_book.specs.Events.{event_in, step_in}
 use Rattle.node_book.specs.Replies.{reply_in}
 use Rattle.witness_books.specs.Books.{BooksParts, parts_in}
+use Rattle.witness_books.specs.Memory.{RunsOutWhereItMay}
+use Rattle.witness_books.proofs.Memory.{refused_runs_out, step_runs_out}
 use Rattle.witness_books.proofs.Refused.{all_stay}
 use Rattle.witness_books.proofs.Stepping.{its_member, step_goes}
 use Rattle.witness_books.proofs.books.Books.make_step.Goals as goal
@@ -36,3 +38,18 @@ returns-in-Step-clause-stays c refused =
     (all_stay c.self.inside.roster c.in-Step.member.node c.self.inside.books.items c.step_of.new.books.items
     (step_in c.in-Step.step) (reply_in c.step_of.result) c.step_of.ensures refused)
     ∙ c.self.view_is
+
+pub returns-in-Refused-clause-memory : goal.returns-in-Refused-clause-memory
+returns-in-Refused-clause-memory c =
+    subst (λ (b : BooksParts). RunsOutWhereItMay b.roster (event_in c.args.event) (reply_in c.in-Refused.reply))
+    c.self.view_is
+    (refused_runs_out c.left_out_changes_nothing.ensures.out c.self.inside.roster (event_in c.args.event)
+    (reply_in c.in-Refused.reply) c.in-Refused.ensures.goes)
+
+pub returns-in-Step-clause-memory : goal.returns-in-Step-clause-memory
+returns-in-Step-clause-memory c =
+    subst (λ (b : BooksParts). RunsOutWhereItMay b.roster (event_in c.args.event) (reply_in c.step_of.result))
+    c.self.view_is
+    (step_runs_out c.self.inside.roster c.in-Step.member c.self.inside.books.items c.step_of.new.books.items
+    (event_in c.args.event) (step_in c.in-Step.step) (reply_in c.step_of.result) c.self.invariant.roster
+    c.self.invariant.ready c.route.ensures.is_event c.in-Step.ensures.goes c.step_of.ensures)

@@ -1,10 +1,11 @@
-use Rattle.std.proofs.Common.{map, subst}
+use Rattle.std.proofs.Common.{List, map, ap, subst, ◌∙◌}
 use Rattle.node_book.specs.witness_spec.Contract.{IsNotedStep}
-use Rattle.node_book.specs.witness_steps.Books.{parts_of}
+use Rattle.node_book.specs.witness_steps.Books.{Book, parts_of}
 use Rattle.node_book.specs.Events.{event_in, step_in}
 use Rattle.node_book.specs.Replies.{reply_in}
 use Rattle.witness_books.specs.Books.{BooksParts, parts_in}
 use Rattle.witness_books.proofs.Stepping.{its_member}
+use Rattle.witness_books.proofs.Refused.{all_stay_noted}
 use Rattle.witness_books.proofs.Noting.{laws_of, noting_goes, refusal_goes}
 use Rattle.witness_books.proofs.books.Books.step_noting.Goals as goal
 
@@ -65,3 +66,11 @@ returns-in-Step-clause-notes c =
     c.noted_step_of.result.1 c.self.invariant.roster c.self.invariant.ready c.route.ensures.is_event
     c.in-Step.ensures.goes c.noted_step_of.ensures in
     goes.say
+
+pub returns-in-Step-clause-stays : goal.returns-in-Step-clause-stays
+returns-in-Step-clause-stays c refused =
+    ap (λ (bs : List Book). record { roster = c.self.inside.roster; books = bs })
+    (all_stay_noted c.self.inside.roster c.in-Step.member.node c.self.inside.books.items
+    c.noted_step_of.new.books.items (step_in c.in-Step.step) c.noted_step_of.result.0 c.noted_step_of.result.1
+    c.noted_step_of.ensures refused)
+    ∙ c.self.view_is
