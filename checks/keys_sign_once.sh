@@ -5,13 +5,15 @@
 # refuses the others.
 set -euo pipefail
 cd "$(dirname "$0")/.."
+. checks/scratch_crate.sh
 
 work=$(mktemp -d)
 trap 'rm -rf "$work"' EXIT
 mkdir "$work/crates"
-grep '^lamport:' crates.txt > "$work/crates.txt"
-cp -r crates/lamport "$work/crates/"
-rm -rf "$work/crates/lamport/out"
+crates_below lamport > "$work/crates.txt"
+while IFS=: read -r crate _; do
+    copy_parts "$crate" src specs proofs
+done < "$work/crates.txt"
 copy=$work/crates/lamport
 front=crates/lamport/src/lib.rt
 log=$work/log

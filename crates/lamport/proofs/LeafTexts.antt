@@ -1,8 +1,10 @@
 -- A leaf's text and a signature's two texts, as far as the first n places: each is empty (or the byte 0) at
 -- first, grows by one place's piece, and is the whole at PLACES.
--- Serves: OneTimeKey::leaf_hash, OneTimeKey::texts, shown_key (lamport).
-use Rattle.std.proofs.Common.{◌≡◌, ℕ, ◌+◌, Bool, true, false, not, cond, List, [], ◌∷◌, ◌++◌, refl, sym}
-use Rattle.std.proofs.Common.{append_assoc, add-one}
+-- Serves: OneTimeKey::leaf_hash, OneTimeKey::texts, add_four, add_four_pairs, piece_hashes, shown_key (lamport).
+use Rattle.std.proofs.Common.{◌≡◌, ℕ, zero, suc, ◌+◌, ◌*◌, ◌<◌, Bool, true, false, not, cond, List, [], ◌∷◌, ◌++◌}
+use Rattle.std.proofs.Common.{take, drop, get_or, map, refl, sym, ap, ◌∙◌, append_assoc, add-one, arith}
+use Rattle.std.proofs.lemmas.List.{drop-drop}
+use Rattle.std.specs.Simd.{first_chunks}
 use Rattle.sha2.specs.Sha256.{sha256}
 use Rattle.lamport.specs.Lamport.{end_to_end, piece, LeafKey, secret, public_hash, digest_bit, leaf_text}
 use Rattle.lamport.specs.Lamport.{leaf_hash, shown_hash, shown_secrets, other_hashes}
@@ -17,6 +19,29 @@ end_to_end_none f = refl
 pub end_to_end_more : (f : ℕ → List ℕ) (n : ℕ) → end_to_end f (n + 1) ≡ end_to_end f n ++ f n
 unfolding end_to_end
 end_to_end_more f n = rw add-one refl
+
+-- four more pieces at the end
+pub end_to_end_four : (f : ℕ → List ℕ) (n : ℕ)
+    → end_to_end f (n + 4) ≡ (((end_to_end f n ++ f n) ++ f (n + 1)) ++ f (n + 2)) ++ f (n + 3)
+end_to_end_four f n =
+    let n2 : n + 2 ≡ n + 1 + 1 = omega arith in
+    let n3 : n + 3 ≡ n + 2 + 1 = omega arith in
+    let n4 : n + 4 ≡ n + 3 + 1 = omega arith in
+    let to = λ (k : ℕ). end_to_end f k in
+    let two = ap to n2 ∙ end_to_end_more f (n + 1) ∙ ap (λ (l : List ℕ). l ++ f (n + 1)) (end_to_end_more f n) in
+    let three = ap to n3 ∙ end_to_end_more f (n + 2) ∙ ap (λ (l : List ℕ). l ++ f (n + 2)) two in
+    ap to n4 ∙ end_to_end_more f (n + 3) ∙ ap (λ (l : List ℕ). l ++ f (n + 3)) three
+
+-- the digests of the pieces that a text is cut into
+pub chunk_hash : (count : ℕ) (bytes : List ℕ) (place : ℕ) → place < count
+    → get_or (map sha256 (first_chunks 32 count bytes)) place [] ≡ sha256 (piece bytes place)
+unfolding piece
+chunk_hash zero bytes place h = absurd (omega arith)
+chunk_hash (suc count) bytes zero h = refl
+chunk_hash (suc count) bytes (suc place) h =
+    chunk_hash count (drop 32 bytes) place (omega arith)
+    ∙ ap (λ (l : List ℕ). sha256 (take 32 l)) (drop-drop (32 * place) 32 bytes)
+    ∙ ap (λ (k : ℕ). sha256 (take 32 (drop k bytes))) (omega arith)
 
 -- a leaf's text as far as n places, after the byte 0
 unfoldable pub leaf_front : (ℕ → Bool → List ℕ) → ℕ → List ℕ

@@ -1,1 +1,2 @@
 pub mod Lamport
+pub mod Fours

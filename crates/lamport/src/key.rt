@@ -1,13 +1,16 @@
 //! Keys that sign once.
 
-ghost use Rattle.std.specs.Prelude.{◌≡◌, ◌<◌, ◌^◌, ◌+◌, ◌≤◌, IfOk, IfErr, not, ◌++◌, if◌then◌else◌, vec_len};
-ghost use Rattle.std.specs.Prelude.{vec_capacity};
-ghost use Rattle.lamport.specs.Lamport.{LeafKey, digest_bit, secret, public_hash, leaf_hash, shown_secrets};
-ghost use Rattle.lamport.specs.Lamport.{other_hashes};
+ghost use Rattle.std.specs.Prelude.{◌≡◌, ℕ, ◌<◌, ◌^◌, ◌+◌, ◌≤◌, Bool, not, IfOk, IfErr, List, ◌++◌, take};
+ghost use Rattle.std.specs.Prelude.{if◌then◌else◌, vec_len, vec_capacity};
+ghost use Rattle.sha2.specs.Sha256.{sha256};
+ghost use Rattle.lamport.specs.Fours.{four, four_bits};
+ghost use Rattle.lamport.specs.Lamport.{LeafKey, digest_bit, end_to_end, secret, public_hash, leaf_hash};
+ghost use Rattle.lamport.specs.Lamport.{shown_secrets, other_hashes, word_bytes};
 
 use crate::buffers::TextBuffers;
-use crate::shown::{digest_bit, leaf_start};
+use crate::shown::{add_four_pairs, four_digest_bits, leaf_start};
 use sha2::{Digest, Sha256};
+use sha256_lanes::digest_4;
 use std::alloc::{AllocError, AllocFailed, Global};
 use std::marker::Model;
 
@@ -55,7 +58,8 @@ impl OneTimeKey {
     pub fn public_hash(&self, place: u8, bit: bool) -> [u8; 32]
         ensures { result ≡ public_hash self.now place bit }
     {
-        self.hash(u32::from(place), bit)
+        let secret = Sha256::digest(self.secret_text(u32::from(place), bit));
+        Sha256::digest(secret)
     }
 
     /// The hash of the key's leaf in a tree of keys: the digest of the byte 0 and all 512 public hashes. It
@@ -64,9 +68,10 @@ impl OneTimeKey {
         ensures { result ≡ leaf_hash (public_hash self.now) }
     {
         let mut text = leaf_start();
-        for place in 0..PLACES {
-            text.update(self.hash(place, false));
-            text.update(self.hash(place, true));
+        for turn in 0..PLACES / 4 {
+            let zeros = self.four_hashes(4 * turn, [false; 4]);
+            let ones = self.four_hashes(4 * turn, [true; 4]);
+            add_four_pairs(&mut text, &zeros, &ones);
         }
         text.finalize()
     }
@@ -112,47 +117,70 @@ impl OneTimeKey {
             mut shown,
             mut other,
         } = buffers;
-        for place in 0..PLACES {
-            add_32(&mut shown, &self.shown_secret(digest, place));
-            add_32(&mut other, &self.other_hash(digest, place));
+        for turn in 0..PLACES / 4 {
+            let bits = four_digest_bits(digest, 4 * turn);
+            add_four(&mut shown, &self.four_secrets(4 * turn, bits));
+            add_four(&mut other, &self.four_hashes(4 * turn, opposite(bits)));
         }
         OneTimeSignature { shown, other }
     }
 
-    // The secret of a place and the digest's bit there.
-    fn shown_secret(&self, digest: &[u8; 32], place: u32) -> [u8; 32]
-        requires { place < PLACES }
-        ensures { result ≡ secret self.now place (digest_bit digest.now place) }
+    // The secrets of four places from `first` on, each of its bit value.
+    fn four_secrets(&self, first: u32, bits: [bool; 4]) -> [[u8; 32]; 4]
+        requires { first + 4 ≤ PLACES }
+        ensures { (bit : ℕ → Bool) → bits ≡ four_bits bit first →
+            result ≡ four (λ place. secret self.now place (bit place)) first }
     {
-        self.secret(place, digest_bit(digest, place))
+        digest_4(&[
+            self.secret_text(first, bits[0]),
+            self.secret_text(first + 1, bits[1]),
+            self.secret_text(first + 2, bits[2]),
+            self.secret_text(first + 3, bits[3]),
+        ])
     }
 
-    // The public hash of a place and the other bit value.
-    fn other_hash(&self, digest: &[u8; 32], place: u32) -> [u8; 32]
-        requires { place < PLACES }
-        ensures { result ≡ public_hash self.now place (not (digest_bit digest.now place)) }
+    // The public hashes of four places from `first` on, each of its bit value.
+    fn four_hashes(&self, first: u32, bits: [bool; 4]) -> [[u8; 32]; 4]
+        requires { first + 4 ≤ PLACES }
+        ensures { (bit : ℕ → Bool) → bits ≡ four_bits bit first →
+            result ≡ four (λ place. public_hash self.now place (bit place)) first }
     {
-        self.hash(place, !digest_bit(digest, place))
+        digest_4(&self.four_secrets(first, bits))
     }
 
-    #[tactic(auto, unfolding(crate::specs::Lamport::public_hash))]
-    fn hash(&self, place: u32, bit: bool) -> [u8; 32]
-        ensures { result ≡ public_hash self.now place bit }
+    // What the secret of a place and bit value is the digest of.
+    fn secret_text(&self, place: u32, bit: bool) -> [u8; 44]
+        ensures { secret self.now place bit ≡ sha256 result }
     {
-        Sha256::digest(self.secret(place, bit))
+        let mut text = [0u8; 44];
+        text[..32].copy_from_slice(&self.master);
+        put_word(&mut text, 32, self.leaf);
+        put_word(&mut text, 36, place);
+        put_word(&mut text, 40, word_of(bit));
+        text
     }
+}
 
-    #[tactic(auto, unfolding(crate::specs::Lamport::secret, crate::specs::Lamport::word_bytes))]
-    fn secret(&self, place: u32, bit: bool) -> [u8; 32]
-        ensures { result ≡ secret self.now place bit }
-    {
-        let mut text = Sha256::new();
-        text.update(self.master);
-        text.update(self.leaf.to_be_bytes());
-        text.update(place.to_be_bytes());
-        text.update(word_of(bit).to_be_bytes());
-        text.finalize()
-    }
+/// Sets the number after the first `at` bytes, high byte first.
+fn put_word(text: &mut [u8; 44], at: usize, word: u32)
+    requires { at + 4 ≤ 44 }
+    ensures { take (at + 4) text.new ≡ take at text.old ++ word_bytes word }
+{
+    text[at..at + 4].copy_from_slice(&word.to_be_bytes());
+}
+
+/// Appends the bytes of four places, for which there is room.
+fn add_four(text: &mut Vec<u8>, pieces: &[[u8; 32]; 4])
+    requires { vec_len text.old + 128 ≤ vec_capacity text.old }
+    ensures items { (f : ℕ → List ℕ) (n : ℕ) → pieces.now ≡ four f n → text.old.items ≡ end_to_end f n →
+        text.new.items ≡ end_to_end f (n + 4) }
+    ensures len { vec_len text.new ≡ vec_len text.old + 128 }
+    ensures capacity { vec_capacity text.old ≤ vec_capacity text.new }
+{
+    add_32(text, &pieces[0]);
+    add_32(text, &pieces[1]);
+    add_32(text, &pieces[2]);
+    add_32(text, &pieces[3]);
 }
 
 /// Appends 32 bytes, for which there is room.
@@ -163,6 +191,14 @@ fn add_32(text: &mut Vec<u8>, bytes: &[u8; 32])
     ensures capacity { vec_capacity text.old ≤ vec_capacity text.new }
 {
     text.extend_from_slice(bytes).unwrap();
+}
+
+/// The other value of each bit.
+fn opposite(bits: [bool; 4]) -> [bool; 4]
+    ensures { (bit : ℕ → Bool) (n : ℕ) → bits ≡ four_bits bit n →
+        result ≡ four_bits (λ place. not (bit place)) n }
+{
+    [!bits[0], !bits[1], !bits[2], !bits[3]]
 }
 
 fn word_of(bit: bool) -> u32

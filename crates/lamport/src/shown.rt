@@ -1,11 +1,15 @@
 //! What a signature shows of its key: the public hashes, and by them the hash of the key's leaf.
 
-ghost use Rattle.std.specs.Prelude.{◌≡◌, ℕ, ◌+◌, ◌*◌, ◌<◌, ◌≤◌, List, [], ◌∷◌, ◌++◌, length, if◌then◌else◌};
+ghost use Rattle.std.specs.Prelude.{◌≡◌, ℕ, ◌+◌, ◌*◌, ◌<◌, ◌≤◌, Bool, false, true, List, [], ◌∷◌, ◌++◌, length};
+ghost use Rattle.std.specs.Prelude.{if◌then◌else◌, slice_index_or};
 ghost use Rattle.sha2.specs.Hashers.{Holds256};
-ghost use Rattle.lamport.specs.Lamport.{digest_bit, leaf_hash, shown_hash, piece};
+ghost use Rattle.sha2.specs.Sha256.{sha256};
+ghost use Rattle.lamport.specs.Fours.{four, four_bits};
+ghost use Rattle.lamport.specs.Lamport.{digest_bit, end_to_end, leaf_hash, shown_hash, piece};
 
 use crate::key::{PLACES, TEXT_SIZE};
 use sha2::{Digest, Sha256};
+use sha256_lanes::digest_row;
 
 /// The bit of a digest at a place: place 0 is the highest bit of the first byte.
 pub(crate) fn digest_bit(digest: &[u8; 32], place: u32) -> bool
@@ -14,6 +18,19 @@ pub(crate) fn digest_bit(digest: &[u8; 32], place: u32) -> bool
 {
     let byte = digest[(place / 8) as usize];
     (byte >> (7 - place % 8)) & 1 == 1
+}
+
+/// The bits of a digest at four places from `first` on.
+pub(crate) fn four_digest_bits(digest: &[u8; 32], first: u32) -> [bool; 4]
+    requires { first + 4 ≤ PLACES }
+    ensures { result ≡ four_bits (digest_bit digest.now) first }
+{
+    [
+        digest_bit(digest, first),
+        digest_bit(digest, first + 1),
+        digest_bit(digest, first + 2),
+        digest_bit(digest, first + 3),
+    ]
 }
 
 /// The 32 bytes at a place.
@@ -25,10 +42,43 @@ fn piece(bytes: &[u8], place: usize) -> &[u8]
     &bytes[32 * place..32 * place + 32]
 }
 
+/// The digest of the 32 bytes at each place.
+fn piece_hashes(bytes: &[u8]) -> [[u8; 32]; 256]
+    requires { length bytes.now ≡ TEXT_SIZE }
+    ensures { (place : ℕ) → place < PLACES →
+        slice_index_or result place [] ≡ sha256 (piece bytes.now place) }
+{
+    let (pieces, _) = bytes.as_chunks::<32>();
+    let mut hashes = [[0u8; 32]; 256];
+    digest_row(pieces, &mut hashes);
+    hashes
+}
+
+/// Adds the public hashes of four places to a leaf's text, of each place value 0 before 1.
+pub(crate) fn add_four_pairs(text: &mut Sha256, zeros: &[[u8; 32]; 4], ones: &[[u8; 32]; 4])
+    ensures { (hash : ℕ → Bool → List ℕ) (n : ℕ) →
+        zeros.now ≡ four (λ place. hash place false) n → ones.now ≡ four (λ place. hash place true) n →
+        Holds256 text.old (0 ∷ end_to_end (λ place. hash place false ++ hash place true) n) →
+        Holds256 text.new (0 ∷ end_to_end (λ place. hash place false ++ hash place true) (n + 4)) }
+{
+    add_pair(text, &zeros[0], &ones[0]);
+    add_pair(text, &zeros[1], &ones[1]);
+    add_pair(text, &zeros[2], &ones[2]);
+    add_pair(text, &zeros[3], &ones[3]);
+}
+
+/// Adds two hashes to a leaf's text.
+fn add_pair(text: &mut Sha256, zero: &[u8; 32], one: &[u8; 32])
+    ensures { (m : List ℕ) → Holds256 text.old m → Holds256 text.new (m ++ (zero.now ++ one.now)) }
+{
+    text.update(zero);
+    text.update(one);
+}
+
 /// Adds both public hashes of a place to a leaf's text, value 0 before 1: `shown` is the digest's own bit's.
-fn add_place(text: &mut Sha256, bit: bool, shown: [u8; 32], other: &[u8])
+fn add_place(text: &mut Sha256, bit: bool, shown: &[u8; 32], other: &[u8])
     ensures { (m : List ℕ) → Holds256 text.old m →
-        Holds256 text.new (m ++ (if bit then other.now ++ shown else shown ++ other.now)) }
+        Holds256 text.new (m ++ (if bit then other.now ++ shown.now else shown.now ++ other.now)) }
 {
     if bit {
         text.update(other);
@@ -55,11 +105,16 @@ pub fn shown_key(digest: &[u8; 32], shown: &[u8], other: &[u8]) -> [u8; 32]
     requires other { length other.now ≡ TEXT_SIZE }
     ensures { result ≡ leaf_hash (shown_hash digest.now shown.now other.now) }
 {
+    let hashes = piece_hashes(shown);
     let mut text = leaf_start();
     for place in 0..PLACES {
         let bit = digest_bit(digest, place);
-        let hash = Sha256::digest(piece(shown, place as usize));
-        add_place(&mut text, bit, hash, piece(other, place as usize));
+        add_place(
+            &mut text,
+            bit,
+            &hashes[place as usize],
+            piece(other, place as usize),
+        );
     }
     text.finalize()
 }

@@ -9,14 +9,14 @@ loop-place-init c = rw leaf_front_none c.leaf_start-text.ensures
 pub loop-place-preserved : goal.loop-place-preserved
 loop-place-preserved c =
     let whole = c.add_place.ensures _ c.loop-place.invariant in
+    let hash = c.piece_hashes-hashes.ensures c.loop-place.place (omega arith) in
     rw (
       leaf_front_more,
       append_assoc,
       shown_pair,
       ← c.digest_bit-bit.ensures,
       ← c.piece.ensures,
-      ← c.piece-in-loop-place.ensures,
-      ← c.digest-hash.ensures,
+      ← hash,
     ) whole
 
 -- after all places the text is the leaf's that the signature gives

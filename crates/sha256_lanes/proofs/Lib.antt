@@ -1,0 +1,3 @@
+mod BlockRounds
+mod OneBlock
+mod DigestRows

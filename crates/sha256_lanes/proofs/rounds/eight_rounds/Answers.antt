@@ -1,0 +1,16 @@
+use Rattle.std.proofs.Common.{◌+◌, arith}
+use Rattle.sha256_lanes.proofs.BlockRounds.{one_more_round}
+use Rattle.sha256_lanes.proofs.rounds.eight_rounds.Goals as goal
+
+pub returns : goal.returns
+returns c = λ h held.
+    let t = c.args.t in
+    let w = c.args.w.now in
+    let v1 = one_more_round h w _ _ t (t + 1) (omega arith) held c.round-v.ensures in
+    let v2 = one_more_round h w _ _ (t + 1) (t + 2) (omega arith) v1 c.round-v-2.ensures in
+    let v3 = one_more_round h w _ _ (t + 2) (t + 3) (omega arith) v2 c.round-v-3.ensures in
+    let v4 = one_more_round h w _ _ (t + 3) (t + 4) (omega arith) v3 c.round-v-4.ensures in
+    let v5 = one_more_round h w _ _ (t + 4) (t + 5) (omega arith) v4 c.round-v-5.ensures in
+    let v6 = one_more_round h w _ _ (t + 5) (t + 6) (omega arith) v5 c.round-v-6.ensures in
+    let v7 = one_more_round h w _ _ (t + 6) (t + 7) (omega arith) v6 c.round-v-7.ensures in
+    one_more_round h w _ _ (t + 7) (t + 8) (omega arith) v7 c.round.ensures

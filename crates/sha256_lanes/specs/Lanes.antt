@@ -1,0 +1,20 @@
+-- Four messages side by side: word i of lane l stands at place 4 * i + l of a list of words.
+use Rattle.std.specs.Prelude.{◌≡◌, ◌≢◌, ℕ, ◌+◌, ◌*◌, ◌%◌, ◌<◌, List, length, slice_index}
+use Rattle.sha2.specs.Sha256.{schedule, word_at}
+
+-- the first t of these 64 words are those of the message schedule of the block b
+pub record HasWords (b w : List ℕ) (t : ℕ) : Type 0 where
+  pub size : length w ≡ 64
+  pub words : (k : ℕ) → k < t → slice_index w k ≡ slice_index (schedule b 48) k
+
+-- the words of lane l are those of the block b
+abbrev pub IsBlockOf : List ℕ → List ℕ → ℕ → Type 0
+IsBlockOf b words l = (k : ℕ) → k < 16 → slice_index words (4 * k + l) ≡ word_at b (4 * k)
+
+-- the words of lane l are the hash value h
+abbrev pub IsHashOf : List ℕ → List ℕ → ℕ → Type 0
+IsHashOf h words l = (k : ℕ) → k < 8 → slice_index words (4 * k + l) ≡ slice_index h k
+
+-- the words of all other lanes are as before
+abbrev pub KeepsOthers : ℕ → List ℕ → List ℕ → Type 0
+KeepsOthers l before after = (k : ℕ) → k % 4 ≢ l → slice_index after k ≡ slice_index before k
