@@ -1,5 +1,7 @@
 -- A worker comes to a slot, or is retired.
-use Rattle.std.proofs.Common.{◌≡◌, ℕ, zero, suc, ◌+◌, List, [], ◌∷◌, ◌++◌, Bool, true, false, length, set, Option, Some, None, ◌⊎◌, inl, inr, refl, sym, ap, ◌∙◌, subst, arith}
+-- Serves: Slot::recruit, Slot::retire.
+use Rattle.std.proofs.Common.{◌≡◌, ℕ, zero, suc, ◌+◌, List, [], ◌∷◌, ◌++◌, Bool, true, false, length, set, Option}
+use Rattle.std.proofs.Common.{Some, None, ◌⊎◌, inl, inr, refl, sym, ap, ◌∙◌, subst, arith}
 use mathlib.Core.Option.{some, none, some-injective, some-ne-none}
 use lib.ListN.{get_elem?}
 use Rattle.atomic_table.specs.Table.{Splits, Joins}
@@ -10,16 +12,21 @@ use Rattle.hand_off.specs.declared.view.Workers.{Workers}
 use Rattle.hand_off.specs.declared.view.View.{View}
 use Rattle.hand_off.specs.declared.view.View.TheVariants.{Poster, Idle, Holds, Retired}
 use Rattle.hand_off.specs.Slots.{Content, SlotState, Kept, Phase, Sees, word_of, number, is_poster, workers}
-use Rattle.hand_off.proofs.Keeping.{there_at, none_some, one_view, same_job, same_workers, not_a_holder, live_set, live_less, live_more}
+use Rattle.hand_off.proofs.Keeping.{there_at, none_some, one_view, same_job, same_workers, not_a_holder, live_set}
+use Rattle.hand_off.proofs.Keeping.{live_less, live_more}
 
-at_end : {A : Type 0} (l : List A) (a b : A) (j : ℕ) → get_elem? (l ++ a ∷ []) j ≡ some b → (get_elem? l j ≡ some b) ⊎ ((j ≡ length l) × (a ≡ b))
+-- what stands in a list with one value more is an old one, or that value
+at_end : {A : Type 0} (l : List A) (a b : A) (j : ℕ) → get_elem? (l ++ a ∷ []) j ≡ some b
+    → (get_elem? l j ≡ some b) ⊎ ((j ≡ length l) × (a ≡ b))
 at_end [] a b zero e = inr (refl, some-injective a b e)
 at_end [] a b (suc j) e = absurd (some-ne-none b (sym e))
 at_end (x ∷ xs) a b zero e = inl e
 at_end (x ∷ xs) a b (suc j) e = elim (at_end xs a b j e) [ inl h ↦ inl h | inr h ↦ inr (omega (arith, h.0), h.1) ]
 
 -- a phase stays where a worker's view that names the job stays
-phase_moves : (s s' : SlotState) (job job' : Option JobParts) (home home' : Bool) (n : ℕ) → job ≡ job' → home ≡ home' → s.homes ≡ s'.homes → ((j w : ℕ) (t : JobParts) → Sees s j (Holds w t) → Sees s' j (Holds w t)) → Phase s job home n → Phase s' job' home' n
+phase_moves : (s s' : SlotState) (job job' : Option JobParts) (home home' : Bool) (n : ℕ) → job ≡ job' → home ≡ home'
+    → s.homes ≡ s'.homes → ((j w : ℕ) (t : JobParts) → Sees s j (Holds w t) → Sees s' j (Holds w t))
+    → Phase s job home n → Phase s' job' home' n
 phase_moves s s' job job' home home' n jobs at_homes homes sees phase = elim phase [
   | inl e ↦ inl (e.0, sym jobs ∙ e.1, λ h. subst P homes (e.2 (at_homes ∙ h)))
   | inr h ↦ elim h [
@@ -38,12 +45,15 @@ phase_moves s s' job job' home home' n jobs at_homes homes sees phase = elim pha
     P hs = get_elem? hs 0 ≡ some (some None)
 
 module _ (id : ℕ) (job : Option JobParts) (home : Bool) (c : Workers) where
+  -- the poster's view before
   abbrev before : View
   before = Poster job home c
 
+  -- and with one worker more
   abbrev more : View
   more = Poster job home (workers (c.made + 1) c.retired None)
 
+  -- no other view is the poster's
   not_before : (x : View) → is_poster x ≡ false → x ≡ before → ⊥
   not_before x h e = let g : is_poster x ≡ true = ap is_poster e in cc
 
@@ -69,30 +79,55 @@ module _ (id : ℕ) (job : Option JobParts) (home : Bool) (c : Workers) where
           | inl f ↦ elim (at_set s.views id j more v f) [ inl h ↦ h.0 | inr h ↦ k.only j v h.1 p ∙ sym mine ]
           | inr h ↦ absurd (plain v h.1 p)
         ];
-        phase = phase_moves s record { words = s.words; homes = s.homes; views = vs ++ new ∷ [] } k.job job k.home home (word_of s) jobs at_homes refl
-            (λ j w t e. at_longer vs (new ∷ []) j (Holds w t) (set_else s.views id j more (λ q. not_a_holder job home c w t (one_view s id before (Holds w t) at (subst (λ (x : ℕ). Sees s x (Holds w t)) q e))) ∙ e)) k.phase;
+        phase = phase_moves s record { words = s.words; homes = s.homes; views = vs ++ new ∷ [] } k.job job k.home
+            home (word_of s) jobs at_homes refl
+            (λ j w t e. at_longer vs (new ∷ []) j (Holds w t)
+            (set_else s.views id j more
+            (λ q. not_a_holder job home c w t
+            (one_view s id before (Holds w t) at (subst (λ (x : ℕ). Sees s x (Holds w t)) q e))) ∙ e)) k.phase;
         named = λ j w t e. elim (at_end vs new (Holds w t) j e) [
-          | inl f ↦ elim (at_set s.views id j more (Holds w t) f) [ inl h ↦ absurd (not_a_holder _ _ _ w t h.1) | inr h ↦ let g = k.named j w t h.1 in (g.0, sym jobs ∙ g.1) ]
+          | inl f ↦ elim (at_set s.views id j more (Holds w t) f) [
+            | inl h ↦ absurd (not_a_holder _ _ _ w t h.1)
+            | inr h ↦ let g = k.named j w t h.1 in
+                (g.0, sym jobs ∙ g.1)
+          ]
           | inr h ↦ absurd (not_holds w t h.1)
         ];
         apart = λ j i w v u e f p q. elim (at_end vs new v j e) [
           | inl a ↦ elim (at_set s.views id j more v a) [
             | inl h ↦ absurd (no_number v w h.1 p)
             | inr h ↦ elim (at_end vs new u i f) [
-              | inl b ↦ elim (at_set s.views id i more u b) [ inl g ↦ absurd (no_number u w g.1 q) | inr g ↦ k.apart j i w v u h.1 g.1 p q ]
-              | inr g ↦ let x : w ≡ c.made = number_is u w g.1 q in let y = k.low j w v h.1 p in absurd (omega (arith, x, y, ap (λ (z : Workers). z.made) who))
+              | inl b ↦ elim (at_set s.views id i more u b)
+                  [ inl g ↦ absurd (no_number u w g.1 q) | inr g ↦ k.apart j i w v u h.1 g.1 p q ]
+              | inr g ↦ let x : w ≡ c.made = number_is u w g.1 q in let y = k.low j w v h.1 p in
+                  absurd (omega (arith, x, y, ap (λ (z : Workers). z.made) who))
             ]
           ]
           | inr h ↦ let x : w ≡ c.made = number_is v w h.1 p in elim (at_end vs new u i f) [
-            | inl b ↦ elim (at_set s.views id i more u b) [ inl g ↦ absurd (no_number u w g.1 q) | inr g ↦ let y = k.low i w u g.1 q in absurd (omega (arith, x, y, ap (λ (z : Workers). z.made) who)) ]
+            | inl b ↦ elim (at_set s.views id i more u b) [
+              | inl g ↦ absurd (no_number u w g.1 q)
+              | inr g ↦ let y = k.low i w u g.1 q in
+                  absurd (omega (arith, x, y, ap (λ (z : Workers). z.made) who))
+            ]
             | inr g ↦ h.0 ∙ sym g.0
           ]
         ];
         low = λ j w v e p. elim (at_end vs new v j e) [
-          | inl a ↦ elim (at_set s.views id j more v a) [ inl h ↦ absurd (no_number v w h.1 p) | inr h ↦ let y = k.low j w v h.1 p in omega (arith, y, ap (λ (z : Workers). z.made) who) ]
+          | inl a ↦ elim (at_set s.views id j more v a) [
+            | inl h ↦ absurd (no_number v w h.1 p)
+            | inr h ↦ let y = k.low j w v h.1 p in
+                omega (arith, y, ap (λ (z : Workers). z.made) who)
+          ]
           | inr h ↦ let x : w ≡ c.made = number_is v w h.1 p in omega (arith, x)
         ];
-        live = omega (arith, live_more vs new refl, live_set s.views id before more at refl, k.live, ap (λ (z : Workers). z.made) who, ap (λ (z : Workers). z.retired) who);
+        live = omega (
+          arith,
+          live_more vs new refl,
+          live_set s.views id before more at refl,
+          k.live,
+          ap (λ (z : Workers). z.made) who,
+          ap (λ (z : Workers). z.retired) who,
+        );
         noted = λ x e. absurd (none_some x e);
       }
     where
@@ -108,6 +143,7 @@ module _ (id : ℕ) (job : Option JobParts) (home : Bool) (c : Workers) where
       number_is : (v : View) (w : ℕ) → Idle c.made ≡ v → number v ≡ Some w → w ≡ c.made
       number_is v w h p = let g : number (Idle c.made) ≡ Some w = ap number h ∙ p in let f : c.made ≡ w = cc in sym f
 
+  -- the poster's view with one worker retired
   abbrev fewer : View
   fewer = Poster job home (workers c.made (c.retired + 1) None)
 
@@ -129,13 +165,29 @@ module _ (id : ℕ) (job : Option JobParts) (home : Bool) (c : Workers) where
         who = workers c.made (c.retired + 1) None;
         wide = k.wide;
         roomy = k.roomy;
-        posts = set_else vs other id Retired (λ e. apart (sym e)) ∙ set_here s.views id fewer (there_at s.views id before at);
-        only = λ j v e p. elim (back j v e) [ inl h ↦ absurd (gone v h p) | inr h ↦ elim h [ inl g ↦ g.0 | inr g ↦ k.only j v g p ∙ sym mine ] ];
-        phase = phase_moves s record { words = s.words; homes = s.homes; views = set vs other Retired } k.job job k.home home (word_of s) jobs at_homes refl
+        posts = set_else vs other id Retired (λ e. apart (sym e))
+            ∙ set_here s.views id fewer (there_at s.views id before at);
+        only = λ j v e p.
+            elim (back j v e)
+            [ inl h ↦ absurd (gone v h p) | inr h ↦ elim h [ inl g ↦ g.0 | inr g ↦ k.only j v g p ∙ sym mine ] ];
+        phase = phase_moves s record { words = s.words; homes = s.homes; views = set vs other Retired } k.job job
+            k.home home (word_of s) jobs at_homes refl
             (λ j w t e.
-            set_else vs other j Retired (λ q. not_idle x w t (one_view s other (Idle x) (Holds w t) spent (subst (λ (y : ℕ). Sees s y (Holds w t)) q e)))
-            ∙ (set_else s.views id j fewer (λ q. not_a_holder job home c w t (one_view s id before (Holds w t) at (subst (λ (y : ℕ). Sees s y (Holds w t)) q e))) ∙ e)) k.phase;
-        named = λ j w t e. elim (back j (Holds w t) e) [ inl h ↦ absurd (gone_holds w t h) | inr h ↦ elim h [ inl g ↦ absurd (not_a_holder _ _ _ w t g.1) | inr g ↦ let y = k.named j w t g in (y.0, sym jobs ∙ y.1) ] ];
+            set_else vs other j Retired
+            (λ q. not_idle x w t
+            (one_view s other (Idle x) (Holds w t) spent (subst (λ (y : ℕ). Sees s y (Holds w t)) q e)))
+            ∙ (set_else s.views id j fewer
+            (λ q. not_a_holder job home c w t
+            (one_view s id before (Holds w t) at (subst (λ (y : ℕ). Sees s y (Holds w t)) q e))) ∙ e)) k.phase;
+        named = λ j w t e.
+            elim (back j (Holds w t) e) [
+              | inl h ↦ absurd (gone_holds w t h)
+              | inr h ↦ elim h [
+                | inl g ↦ absurd (not_a_holder _ _ _ w t g.1)
+                | inr g ↦ let y = k.named j w t g in
+                    (y.0, sym jobs ∙ y.1)
+              ]
+            ];
         apart = λ j i w v u e f p q. elim (back j v e) [
           | inl h ↦ absurd (gone_number v w h p)
           | inr h ↦ elim h [
@@ -148,14 +200,27 @@ module _ (id : ℕ) (job : Option JobParts) (home : Bool) (c : Workers) where
         ];
         low = λ j w v e p. elim (back j v e) [
           | inl h ↦ absurd (gone_number v w h p)
-          | inr h ↦ elim h [ inl g ↦ absurd (no_number v w g.1 p) | inr g ↦ let y = k.low j w v g p in omega (arith, y, ap (λ (z : Workers). z.made) who) ]
+          | inr h ↦ elim h [
+            | inl g ↦ absurd (no_number v w g.1 p)
+            | inr g ↦ let y = k.low j w v g p in
+                omega (arith, y, ap (λ (z : Workers). z.made) who)
+          ]
         ];
-        live = omega (arith, live_less vs other (Idle x) Retired at' refl refl, live_set s.views id before fewer at refl, k.live, ap (λ (z : Workers). z.made) who, ap (λ (z : Workers). z.retired) who);
+        live = omega (
+          arith,
+          live_less vs other (Idle x) Retired at' refl refl,
+          live_set s.views id before fewer at refl,
+          k.live,
+          ap (λ (z : Workers). z.made) who,
+          ap (λ (z : Workers). z.retired) who,
+        );
         noted = λ y e. absurd (none_some y e);
       }
     where
       -- a view is that of the seat that was spent, the poster's, or stands as it was
-      seen : (s : SlotState) (other j : ℕ) (v : View) → get_elem? (set (set s.views id fewer) other Retired) j ≡ some v → (Retired ≡ v) ⊎ (((j ≡ id) × (fewer ≡ v)) ⊎ Sees s j v)
+      seen : (s : SlotState) (other j : ℕ) (v : View)
+          → get_elem? (set (set s.views id fewer) other Retired) j ≡ some v
+          → (Retired ≡ v) ⊎ (((j ≡ id) × (fewer ≡ v)) ⊎ Sees s j v)
       seen s other j v e = elim (at_set (set s.views id fewer) other j Retired v e) [
         | inl h ↦ inl h.1
         | inr h ↦ elim (at_set s.views id j fewer v h.1) [ inl g ↦ inr (inl g) | inr g ↦ inr (inr g.1) ]

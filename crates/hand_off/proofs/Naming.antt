@@ -22,6 +22,7 @@ worked_by id me = record { slot = id; job = job_named me.0 }
 pub job_of : (me : Seated) (n : Seated) → me ≡ n → job_named me.0 ≡ job_named n.0
 job_of me n is = ap (λ (m : Seated). job_named m.0) is
 
+-- and the workers that it counts
 pub counted_of : (me : Seated) (n : Seated) → me ≡ n → workers_counted me.0 ≡ workers_counted n.0
 counted_of me n is = ap (λ (m : Seated). workers_counted m.0) is
 

@@ -77,7 +77,8 @@ retired_there places ids i p d same lt is all =
     omega (arith, a, length-map places (λ (q : PostedPlace). q.workers)) in
     let h = All-get_or AreRetired (map (λ (q : PostedPlace). q.workers) places) i d.workers b all in
     subst AreRetired
-    (get_or-map (λ (q : PostedPlace). q.workers) places i d d.workers a ∙ ap (λ (q : PostedPlace). q.workers) (sym is)) h
+    (get_or-map (λ (q : PostedPlace). q.workers) places i d d.workers a
+    ∙ ap (λ (q : PostedPlace). q.workers) (sym is)) h
 
 -- the poster names another job at a slot, or none
 pub names_there : (places : List PostedPlace) (i : ℕ) (p q d : PostedPlace) (job : Option JobParts)
@@ -153,7 +154,8 @@ idle_places (p ∷ ps) [] h = absurd (some_is (ap (λ (w : Working). w.slots) h)
     some_is e = cc
 idle_places (p ∷ ps) (s ∷ ss) h =
     let a : p.slot ∷ map (λ (q : WorkedPlace). q.slot) ps ≡ slot_id s ∷ slot_ids ss = ap (λ (w : Working). w.slots) h in
-    let b : p.job ∷ map (λ (q : WorkedPlace). q.job) ps ≡ None ∷ none_at (slot_ids ss) = ap (λ (w : Working). w.jobs) h in
+    let b : p.job ∷ map (λ (q : WorkedPlace). q.job) ps ≡ None ∷ none_at (slot_ids ss) =
+    ap (λ (w : Working). w.jobs) h in
     let slot : p.slot ≡ slot_id s = cc in
     let slots : map (λ (q : WorkedPlace). q.slot) ps ≡ slot_ids ss = cc in
     let job : p.job ≡ None = cc in
@@ -193,6 +195,7 @@ front_there f g [] i d e lt = absurd (omega (arith, lt))
 front_there f g (s ∷ ss) zero d e lt = refl
 front_there f g (s ∷ ss) (suc i) d e lt = front_there f g ss i d e (omega (arith, lt))
 
+-- that place is changed like those before it
 front_set : (f g : Slot → PostedPlace) (slots : List Slot) (i : ℕ) (y : PostedPlace) (e : Slot) → i < length slots
     → y ≡ g (get_or slots i e)
     → set (map g (take i slots) ++ map f (drop i slots)) i y ≡ map g (take (suc i) slots) ++ map f (drop (suc i) slots)
@@ -202,7 +205,8 @@ front_set f g (s ∷ ss) (suc i) y e lt is =
     ap (λ (x : List PostedPlace). g s ∷ x) (front_set f g ss i y e (omega (arith, lt)) is)
 
 -- one more is changed
-pub front_more : (f g : Slot → PostedPlace) (slots : List Slot) (i : ℕ) (row : List PostedPlace) (y : PostedPlace) (e : Slot)
+pub front_more : (f g : Slot → PostedPlace) (slots : List Slot) (i : ℕ) (row : List PostedPlace) (y : PostedPlace)
+    (e : Slot)
     → i < length slots → row ≡ map g (take i slots) ++ map f (drop i slots) → y ≡ g (get_or slots i e)
     → set row i y ≡ map g (take (i + 1) slots) ++ map f (drop (i + 1) slots)
 front_more f g slots i row y e lt is new =
@@ -232,18 +236,21 @@ last_seat slots n i e left rest p lt next split is =
     ∙ (ap (map (λ s. idle_place (slot_id s))) (take-suc slots i e lt)
     ∙ map-append (λ s. idle_place (slot_id s)) (take i slots) (get_or slots i e ∷ [])))))
 
+-- the first of the changed places is read as it was
 read_last : (f : PostedPlace → PostedPlace) (row : List PostedPlace) (i : ℕ) (d : PostedPlace) → i < length row
     → get_or (take (suc i) row ++ map f (drop (suc i) row)) i d ≡ get_or row i d
 read_last f [] i d lt = absurd (omega (arith, lt))
 read_last f (x ∷ xs) zero d lt = refl
 read_last f (x ∷ xs) (suc i) d lt = read_last f xs i d (omega (arith, lt))
 
+-- that place is changed like those after it
 set_last : (f : PostedPlace → PostedPlace) (row : List PostedPlace) (i : ℕ) (d : PostedPlace) → i < length row
     → set (take (suc i) row ++ map f (drop (suc i) row)) i (f (get_or row i d)) ≡ take i row ++ map f (drop i row)
 set_last f [] i d lt = absurd (omega (arith, lt))
 set_last f (x ∷ xs) zero d lt = refl
 set_last f (x ∷ xs) (suc i) d lt = ap (λ (ys : List PostedPlace). x ∷ ys) (set_last f xs i d (omega (arith, lt)))
 
+-- the same by the number of the places that are left
 last_is : (f : PostedPlace → PostedPlace) (row first : List PostedPlace) (n i : ℕ) → n ≡ i + 1
     → row ≡ take n first ++ map f (drop n first) → row ≡ take (suc i) first ++ map f (drop (suc i) first)
 last_is f row first n i next is =

@@ -10,6 +10,7 @@ pub record Count : Type 0 where
   -- how many of them are retired
   pub retired : ℕ
 
+-- so many workers, of whom so many are retired
 abbrev pub count : ℕ → ℕ → Count
 count made retired = record { made = made; retired = retired }
 

@@ -47,8 +47,10 @@ impl Slot {
     /// A seat for one worker more, of the next number.
     pub fn recruit(&self, seat: &mut SlotSeat) -> SlotSeat
         requires seat { seat.old.table_id ≡ self.now.table.shared.table_id }
-        requires poster { (job : Option JobParts) × (home : Bool) × (c : Workers) × (seat.old.me.0 ≡ poster job home c) }
-        ensures same { (seat.new.table_id ≡ seat.old.table_id) × (seat.new.id ≡ seat.old.id) × (seat.new.me.1 ≡ seat.old.me.1) }
+        requires poster { (job : Option JobParts) × (home : Bool) × (c : Workers)
+            × (seat.old.me.0 ≡ poster job home c) }
+        ensures same { (seat.new.table_id ≡ seat.old.table_id) × (seat.new.id ≡ seat.old.id)
+            × (seat.new.me.1 ≡ seat.old.me.1) }
         ensures more { seat.new.me.0 ≡ recruiter seat.old.me.0 }
         ensures worker { (result.table_id ≡ seat.old.table_id) × (result.me ≡ (recruit seat.old.me.0, [])) }
     {
@@ -60,7 +62,8 @@ impl Slot {
         requires seat { seat.old.table_id ≡ self.now.table.shared.table_id }
         requires empty { (c : Workers) × (seat.old.me ≡ (poster None false c, (0, None) ∷ [])) }
         ensures same { (seat.new.table_id ≡ seat.old.table_id) × (seat.new.id ≡ seat.old.id) }
-        ensures posted { (c : Workers) → seat.old.me ≡ (poster None false c, (0, None) ∷ []) → seat.new.me ≡ (poster (Some job) false (unnoted c), []) }
+        ensures posted { (c : Workers) → seat.old.me ≡ (poster None false c, (0, None) ∷ [])
+            → seat.new.me ≡ (poster (Some job) false (unnoted c), []) }
     {
         let old = self.table.shared.exchange(seat, 0, Some(Back::Job(job)));
         let None = old else { unreachable!() };
@@ -93,9 +96,11 @@ impl Slot {
     /// Gives back what came of the job that this worker holds.
     pub fn done(&self, seat: &mut SlotSeat, back: Back)
         requires seat { seat.old.table_id ≡ self.now.table.shared.table_id }
-        requires holds { (w : ℕ) × (job : JobParts) × (seat.old.me ≡ (holds w job, (0, None) ∷ [])) × (job_in back ≡ job) }
+        requires holds { (w : ℕ) × (job : JobParts) × (seat.old.me ≡ (holds w job, (0, None) ∷ []))
+            × (job_in back ≡ job) }
         ensures same { (seat.new.table_id ≡ seat.old.table_id) × (seat.new.id ≡ seat.old.id) }
-        ensures idle { (w : ℕ) (job : JobParts) → seat.old.me ≡ (holds w job, (0, None) ∷ []) → seat.new.me ≡ (idle w, []) }
+        ensures idle { (w : ℕ) (job : JobParts) → seat.old.me ≡ (holds w job, (0, None) ∷ [])
+            → seat.new.me ≡ (idle w, []) }
     {
         let old = self.table.shared.exchange(seat, 0, Some(back));
         let None = old else { unreachable!() };
@@ -108,8 +113,13 @@ impl Slot {
         requires seat { seat.old.table_id ≡ self.now.table.shared.table_id }
         requires posted { (job : JobParts) × (c : Workers) × (seat.old.me ≡ (poster (Some job) false c, [])) }
         ensures same { (seat.new.table_id ≡ seat.old.table_id) × (seat.new.id ≡ seat.old.id) }
-        ensures some { IfSome result (λ back. (job : JobParts) (c : Workers) → seat.old.me ≡ (poster (Some job) false c, []) → (job_in back ≡ job) × (seat.new.me ≡ (poster None false (unnoted c), (0, None) ∷ []))) }
-        ensures none { IfNone result ((job : JobParts) (c : Workers) → seat.old.me ≡ (poster (Some job) false c, []) → (c.retired ≡ c.made → ⊥) × ((d : Workers) × (d.made ≡ c.made) × (d.retired ≡ c.retired) × (seat.new.me ≡ (poster (Some job) false d, [])))) }
+        ensures some { IfSome result (λ back. (job : JobParts) (c : Workers)
+            → seat.old.me ≡ (poster (Some job) false c, [])
+            → (job_in back ≡ job) × (seat.new.me ≡ (poster None false (unnoted c), (0, None) ∷ []))) }
+        ensures none { IfNone result ((job : JobParts) (c : Workers)
+            → seat.old.me ≡ (poster (Some job) false c, [])
+            → (c.retired ≡ c.made → ⊥) × ((d : Workers) × (d.made ≡ c.made) × (d.retired ≡ c.retired)
+            × (seat.new.me ≡ (poster (Some job) false d, [])))) }
     {
         let word = self.table.shared.load::<Note>(seat, 0);
         if word != READY && word != DONE {
@@ -129,10 +139,13 @@ impl Slot {
 
     /// Takes in the seat of a worker that holds nothing.
     pub fn retire(&self, seat: &mut SlotSeat, worker: SlotSeat)
-        requires seats { (seat.old.table_id ≡ self.now.table.shared.table_id) × (worker.table_id ≡ self.now.table.shared.table_id) }
-        requires poster { (job : Option JobParts) × (home : Bool) × (c : Workers) × (seat.old.me.0 ≡ poster job home c) }
+        requires seats { (seat.old.table_id ≡ self.now.table.shared.table_id)
+            × (worker.table_id ≡ self.now.table.shared.table_id) }
+        requires poster { (job : Option JobParts) × (home : Bool) × (c : Workers)
+            × (seat.old.me.0 ≡ poster job home c) }
         requires idle { (w : ℕ) × (worker.me ≡ (idle w, [])) }
-        ensures same { (seat.new.table_id ≡ seat.old.table_id) × (seat.new.id ≡ seat.old.id) × (seat.new.me.1 ≡ seat.old.me.1) }
+        ensures same { (seat.new.table_id ≡ seat.old.table_id) × (seat.new.id ≡ seat.old.id)
+            × (seat.new.me.1 ≡ seat.old.me.1) }
         ensures fewer { seat.new.me.0 ≡ retirer seat.old.me.0 worker.me.0 }
     {
         self.table.shared.join_seat::<Retire>(seat, worker);

@@ -10,7 +10,8 @@ retire-requires-clause-slot c =
     let low : i < length (slot_ids c.args.slots.now) =
     omega (arith, c.loop-place.invariant.low, next, slots_long c.args.slots.now) in
     let lt : i < length c.args.places.now.items =
-    places_long (λ (p : PostedPlace). p.slot) c.args.places.now.items (slot_ids c.args.slots.now) i c.requires.slots low in
+    places_long (λ (p : PostedPlace). p.slot) c.args.places.now.items (slot_ids c.args.slots.now) i c.requires.slots
+    low in
     slot_there (λ (p : PostedPlace). p.slot) c.args.places.now.items c.args.slots.now i c.index_mut.result.now
     c.index_mut.result.now c.index-slots-slot.result c.index-slots-slot.result c.requires.slots low
     (c.index_mut.ensures.value

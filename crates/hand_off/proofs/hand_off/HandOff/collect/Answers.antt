@@ -15,7 +15,8 @@ collect-requires c =
 pub returns-clause-empty : goal.returns-clause-empty
 returns-clause-empty c =
     IfSome_then c.collect.result c.collect.ensures.empty
-    (λ back new. names_there c.poster.inside.places.items c.args.slot c.index_mut.result.now c.collect.new.self _ None new
+    (λ back new.
+    names_there c.poster.inside.places.items c.args.slot c.index_mut.result.now c.collect.new.self _ None new
     c.index_mut.ensures.value ∙ ap (λ (p : Posting). posting p c.args.slot None) c.poster.view_is)
 
 pub returns-clause-sure : goal.returns-clause-sure

@@ -12,14 +12,20 @@ load-word-requires c = let p = c.requires.posted in (c.requires.seat, search rul
 pub compare_exchange-found-requires : goal.compare_exchange-found-requires
 compare_exchange-found-requires c =
     let p = c.requires.posted in
-    let some_ : 0 < c.load-word.result = elim c.else-word-ne-READY.either [ inl h ↦ omega (arith, h.1) | inr h ↦ omega (arith, h) ] in
-    let low : c.load-word.result < 3 = elim c.else-word-ne-READY.either [ inl h ↦ omega (arith, h.1) | inr h ↦ omega (arith, h) ] in
-    (c.load-word.ensures.0 ∙ c.requires.seat, search rules, collects_keeps _ _ c.load-word.result _ p.0 _ some_ low (c.load-word.ensures.2 p.0 p.1 p.2).0)
+    let some_ : 0 < c.load-word.result =
+    elim c.else-word-ne-READY.either [ inl h ↦ omega (arith, h.1) | inr h ↦ omega (arith, h) ] in
+    let low : c.load-word.result < 3 =
+    elim c.else-word-ne-READY.either [ inl h ↦ omega (arith, h.1) | inr h ↦ omega (arith, h) ] in (
+      c.load-word.ensures.0 ∙ c.requires.seat,
+      search rules,
+      collects_keeps _ _ c.load-word.result _ p.0 _ some_ low (c.load-word.ensures.2 p.0 p.1 p.2).0,
+    )
 
 pub returns-then-word-ne-DONE-clause-none : goal.returns-then-word-ne-DONE-clause-none
 returns-then-word-ne-DONE-clause-none c = λ job d is.
     let read = c.load-word.ensures.2 job d is in (
-      (λ gone. let g = read.1 gone in no_word c.load-word.result g.0 g.1 c.if-word-ne-READY.true c.if-word-ne-DONE.true),
+      (λ gone. let g = read.1 gone in
+          no_word c.load-word.result g.0 g.1 c.if-word-ne-READY.true c.if-word-ne-DONE.true),
       (noted_by d c.load-word.result, refl, refl, read.0),
     )
   where
@@ -37,7 +43,8 @@ returns-then-found-word-clause-none c = λ job d is.
 pub exchange-lay-requires : goal.exchange-lay-requires
 exchange-lay-requires c =
     let p = c.requires.posted in
-    let got = (c.compare_exchange-found.ensures.2 p.0 _ (c.load-word.ensures.2 p.0 p.1 p.2).0).0 c.if-found-word.false in
+    let got = (c.compare_exchange-found.ensures.2 p.0 _ (c.load-word.ensures.2 p.0 p.1 p.2).0).0
+    c.if-found-word.false in
     (c.compare_exchange-found.ensures.0 ∙ (c.load-word.ensures.0 ∙ c.requires.seat), (Some got.0, in_front _ _ _ got.2))
 
 pub returns-clause-some : goal.returns-clause-some
@@ -50,5 +57,6 @@ returns-clause-some c = λ job d is.
 pub unreachable-requires : goal.unreachable-requires
 unreachable-requires c =
     let p = c.requires.posted in
-    let got = (c.compare_exchange-found.ensures.2 p.0 _ (c.load-word.ensures.2 p.0 p.1 p.2).0).0 c.if-found-word.false in
+    let got = (c.compare_exchange-found.ensures.2 p.0 _ (c.load-word.ensures.2 p.0 p.1 p.2).0).0
+    c.if-found-word.false in
     c.in_default.not-Some got.0 (found_in _ _ _ _ got.2 c.exchange-lay.ensures.2)

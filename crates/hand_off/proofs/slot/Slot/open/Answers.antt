@@ -6,7 +6,9 @@ pub vacant-requires : goal.vacant-requires
 vacant-requires c = opening_keeps
 
 pub load-requires : goal.load-requires
-load-requires c = (c.in_ok-table.ensures.2, omega (arith, c.in_ok-table.ensures.0), takes_out_keeps _ _ _ _ c.in_ok-table.ensures.4)
+load-requires c =
+    (c.in_ok-table.ensures.2, omega (arith, c.in_ok-table.ensures.0), takes_out_keeps _ _ _ _ c.in_ok-table.ensures.4)
 
 pub returns : goal.returns
-returns c = record { seat = c.load.ensures.0 ∙ c.in_ok-table.ensures.2; empty = c.load.ensures.2 _ c.in_ok-table.ensures.4 }
+returns c = record
+    { seat = c.load.ensures.0 ∙ c.in_ok-table.ensures.2; empty = c.load.ensures.2 _ c.in_ok-table.ensures.4 }

@@ -9,8 +9,11 @@ pub compare_exchange-requires : goal.compare_exchange-requires
 compare_exchange-requires c = (
   c.exchange-old.ensures.0 ∙ c.requires.seat,
   search rules,
-  posts_keeps _ _ c.requires.empty.0 c.args.job _ (c.exchange-old.ensures.3 ∙ ap (λ (m : Seated). (m.0, (0, Some (Job c.args.job)) ∷ rest m.1)) c.requires.empty.1),
+  posts_keeps _ _ c.requires.empty.0 c.args.job _
+      (c.exchange-old.ensures.3 ∙ ap (λ (m : Seated). (m.0, (0, Some (Job c.args.job)) ∷ rest m.1)) c.requires.empty.1),
 )
 
 pub returns-clause-posted : goal.returns-clause-posted
-returns-clause-posted c = λ made is. (c.compare_exchange.ensures.2 c.args.job made (c.exchange-old.ensures.3 ∙ ap (λ (m : Seated). (m.0, (0, Some (Job c.args.job)) ∷ rest m.1)) is)).1
+returns-clause-posted c =
+    λ made is. (c.compare_exchange.ensures.2 c.args.job made
+    (c.exchange-old.ensures.3 ∙ ap (λ (m : Seated). (m.0, (0, Some (Job c.args.job)) ∷ rest m.1)) is)).1

@@ -10,7 +10,8 @@ pub compare_exchange-found-requires : goal.compare_exchange-found-requires
 compare_exchange-found-requires c = (c.requires.seat, search rules, takes_keeps _ _ c.args.worker _ c.requires.idle.0)
 
 pub returns-then-found-ne-READY-clause-none : goal.returns-then-found-ne-READY-clause-none
-returns-then-found-ne-READY-clause-none c = (c.compare_exchange-found.ensures.2 c.args.worker c.requires.idle.0).1 c.if-found-ne-READY.true
+returns-then-found-ne-READY-clause-none c =
+    (c.compare_exchange-found.ensures.2 c.args.worker c.requires.idle.0).1 c.if-found-ne-READY.true
 
 pub exchange-lay-requires : goal.exchange-lay-requires
 exchange-lay-requires c =
@@ -35,4 +36,5 @@ returns-clause-taken c =
     let lay : c.exchange-lay.result ≡ Some (Job took.0) = found_in _ _ _ _ took.1 c.exchange-lay.ensures.2 in
     let back : c.in-Some.back ≡ Job took.0 = cc in
     let same : took.0 ≡ c.in-Job.job = cc in
-    put_in _ _ _ _ None took.1 c.exchange-lay.ensures.3 ∙ ap (λ (t : JobParts). (holds c.args.worker t, (0, None) ∷ [])) same
+    put_in _ _ _ _ None took.1 c.exchange-lay.ensures.3
+    ∙ ap (λ (t : JobParts). (holds c.args.worker t, (0, None) ∷ [])) same
