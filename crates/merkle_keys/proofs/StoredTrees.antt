@@ -17,6 +17,15 @@ pub tree_hash_of_leaf : (master : List ℕ) (leaf : ℕ) (x : List ℕ)
 unfolding tree_hash
 tree_hash_of_leaf master leaf x e = e
 
+-- as many as the leaves, each the hash of its leaf
+pub leaves_of_each : (master : List ℕ) (n : ℕ) (xs : List (List ℕ)) → length xs ≡ n
+    → ((k : ℕ) → k < length xs → get_or xs k [] ≡ leaf_hash (public_hash (leaf_key master k)))
+    → HoldsLeaves master n xs
+leaves_of_each master n xs count each = record {
+  count = count;
+  each = λ k h. tree_hash_of_leaf master k _ (each k (omega arith));
+}
+
 -- no leaves in an empty list
 pub no_leaves : (master : List ℕ) → HoldsLeaves master 0 []
 no_leaves master = record { count = refl; each = λ k h. absurd (omega arith) }

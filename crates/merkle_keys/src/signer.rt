@@ -8,10 +8,11 @@ ghost use Rattle.merkle_keys.specs.Signing.{Signed, signature_of};
 
 use crate::buffers::SignatureBuffers;
 use crate::signature::{MAX_HEIGHT, Signature};
-use crate::tree::{leaf_count, sibling, tree_hashes};
+use crate::tree::{leaf_count, sibling, tree_hashes, tree_hashes_by};
 use lamport::{LeafKeys, OneTimeSignature};
 use std::alloc::{AllocError, Global};
 use std::marker::Model;
+use std::thread::Threads;
 use thiserror::Error;
 
 /// Why a digest was not signed. After either nothing has changed.
@@ -78,6 +79,27 @@ impl Signer {
     {
         let keys = LeafKeys::new(master);
         let hashes = tree_hashes(alloc, &keys, leaf_count(height))?;
+        Ok(Signer {
+            keys,
+            height,
+            hashes,
+        })
+    }
+
+    /// A signer as `new` makes it, whose leaves' hashes are made by as many threads as there are processors, up to
+    /// four. It has the same keys for any number of threads. Takes memory once, as `new`, and what threads take.
+    pub fn new_by<R: Threads + Sync>(
+        rt: &R,
+        alloc: Global,
+        master: [u8; 32],
+        height: u32,
+    ) -> Result<Signer, AllocError>
+        requires some { 1 ≤ height }
+        requires low { height ≤ MAX_HEIGHT }
+        ensures { IfOk result (λ s. s ≡ record { master = master; height = height; used = 0 }) }
+    {
+        let keys = LeafKeys::new(master);
+        let hashes = tree_hashes_by(rt, alloc, &keys, leaf_count(height))?;
         Ok(Signer {
             keys,
             height,
