@@ -1,20 +1,18 @@
 #!/usr/bin/env bash
 # `nfsacc check` from outside. The files of checks/evidence are evidence of each kind, and a log without a fault, each
-# with what the program says of it: the program beside them makes them again from keys of its own, byte for byte. Then
-# they are judged whole, cut and with a byte or a bit changed, as are files that are none: an empty one, one of 2 GiB, a
-# folder, and one that isn't there. It tries the programs that the gate left in crates/nfsacc/out, as
-# checks/command_line.sh does.
+# with what the program says of it; checks/refused_memory.sh and checks/verify.sh make them again. They are judged whole,
+# cut and with a byte or a bit changed, as are files that are none: an empty one, one of 2 GiB, a folder, and one that
+# isn't there. It tries the programs that the gate left in crates/nfsacc/out, as checks/command_line.sh does.
 set -euo pipefail
 cd "$(dirname "$0")/.."
 . checks/scratch_crate.sh
 . checks/built_programs.sh
-top=$PWD
-cases=$top/checks/evidence
+cases=$PWD/checks/evidence
 
 built_programs
 
 files=$(mktemp -d)
-trap 'rm -rf "$files" "${work:-}"' EXIT
+trap 'rm -rf "$files"' EXIT
 
 # judged STATUS LINE WORD.. wants of `nfsacc check WORD..` this status, and this line first.
 judged() {
@@ -183,13 +181,4 @@ for program in "${made[@]}"; do
     check_others
 done
 
-# The files are made again.
-mkdir "$files/made"
-scratch_crate evidence_files "$cases/main.rt.txt" anyhow challenge evidence_showings secure_log authenticator merkle_keys
-trap 'rm -rf "$files" "$work"' EXIT
-rt try --steps 1 --seconds 300 -- "$files/made" > "$work/log" 2>&1 || { cat "$work/log" >&2; exit 1; }
-for name in "$files"/made/*; do
-    cmp "$name" "$cases/${name##*/}.evidence"
-done
-[ "$(ls "$files/made" | wc -l)" -eq 10 ]
 echo "evidence is judged as it should be, as ${#made[@]} of the compilers build it"

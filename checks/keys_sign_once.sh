@@ -1,8 +1,8 @@
 #!/usr/bin/env bash
 # A one-time key signs once. Programs that sign twice with one key, copy it, clone it or let it go, or that copy or clone
 # the keys of a master secret, must not compile: they are added to a copy of the crate, and each must be refused at its
-# line marked `refused:`, by the words after the mark. A program that signs once must compile, so that nothing else
-# refuses the others.
+# line marked `refused:`, by the words after the mark. Beside them stands a program that signs once, or that takes a key.
+# No other line is refused, so nothing else refuses them.
 set -euo pipefail
 cd "$(dirname "$0")/.."
 . checks/scratch_crate.sh
@@ -15,7 +15,7 @@ while IFS=: read -r crate _; do
     copy_parts "$crate" src specs proofs
 done < "$work/crates.txt"
 copy=$work/crates/lamport
-front=crates/lamport/src/lib.rt
+front=$work/front
 log=$work/log
 
 # Compiles the copy with the programs of standard input added, and a test, without which there is nothing to compile.
@@ -24,8 +24,21 @@ compiles() {
     (cd "$copy" && rt try --test) > "$log" 2>&1
 }
 
-# Each line with a mark must be refused by the mark's words.
+# Ends where a line without a mark is refused.
+refused_beside() {
+    local place
+    grep -oE '^src/[a-z_]+\.rt:[0-9]+:[0-9]+: error' "$log" | cut -d: -f1,2 | sort -u | while IFS=: read -r file place; do
+        if ! sed -n "${place}p" "$copy/$file" | grep -q 'refused: '; then
+            echo "$file:$place is refused beside those that must be:" >&2
+            cat "$log" >&2
+            exit 1
+        fi
+    done
+}
+
+# Each line with a mark must be refused by the mark's words, and no other line.
 refused() {
+    local line place words
     if compiles; then
         echo "compiles, and must not:" >&2
         cat "$copy/src/lib.rt" >&2
@@ -41,9 +54,11 @@ refused() {
         fi
         echo "refused, as it must be: ${line%% //*}"
     done
+    refused_beside
 }
 
-if ! compiles <<'END'
+# Programs stand after a copy of the crate, and one that signs once.
+cat crates/lamport/src/lib.rt - > "$front" <<'END'
 
 pub fn signs_once(alloc: std::alloc::Global, key: OneTimeKey, digest: &[u8; 32]) {
     match key.sign(alloc, digest) {
@@ -52,12 +67,6 @@ pub fn signs_once(alloc: std::alloc::Global, key: OneTimeKey, digest: &[u8; 32])
     }
 }
 END
-then
-    echo "a program that signs once does not compile:" >&2
-    cat "$log" >&2
-    exit 1
-fi
-echo "compiles, as it must: a program that signs once"
 
 refused <<'END'
 
@@ -113,7 +122,6 @@ END
 cp crates/lamport/src/lib.rt "$copy/src/lib.rt"
 echo 'outside: lamport' >> "$work/crates.txt"
 copy=$work/crates/outside
-front=$work/front
 mkdir -p "$copy/src" "$copy/specs"
 touch "$copy/specs/Lib.antt"
 cat > "$front" <<'END'
@@ -122,24 +130,12 @@ cat > "$front" <<'END'
 
 use lamport::{LeafKeys, OneTimeKey};
 
-#[test]
-fn is_compiled(_rt: HostRuntime) {}
-END
-
-if ! compiles <<'END'
-
 pub fn takes_once(keys: &mut LeafKeys) -> OneTimeKey
     requires { keys.old.next ≡ 0 }
 {
     keys.take()
 }
 END
-then
-    echo "a program that takes a key does not compile:" >&2
-    cat "$log" >&2
-    exit 1
-fi
-echo "compiles, as it must: a program that takes a key"
 
 refused <<'END'
 

@@ -2,7 +2,8 @@
 # Want of memory at each request inside the calls that take memory leaves all as it was, gives no answer, and the same
 # call gives what it should when it is made once more: `checks/refused_memory.sh [SUBJECT..]`, all subjects if none is named.
 # The program of checks/refused_memory has them as modules. It is built once, and run with each request of a subject's calls
-# refused in turn.
+# refused in turn. One subject, `stored`, is there because the program is: no request of its calls is refused, and it makes
+# ten files of checks/evidence again, byte for byte.
 set -euo pipefail
 cd "$(dirname "$0")/.."
 . checks/scratch_crate.sh
@@ -14,11 +15,11 @@ readonly REFUSED=400
 # Of each subject one more than the requests that the calls have, and how many what is made first has, which aren't refused.
 declare -rA MOST=(
     [replies]=26 [files]=35 [keys]=8 [log]=81 [state]=120 [calls]=77 [streams]=19 [steps]=26 [entries]=26 [segments]=34
-    [evidence]=105 [books]=34 [filings]=13 [served]=27 [returned]=13 [jobs]=40 [rounds]=64
+    [evidence]=105 [books]=34 [filings]=13 [served]=27 [returned]=13 [jobs]=40 [rounds]=64 [stored]=0
 )
 declare -rA MADE=(
     [replies]=0 [files]=7 [keys]=0 [log]=1 [state]=1 [calls]=11 [streams]=15 [steps]=20 [entries]=27 [segments]=27
-    [evidence]=1 [books]=90 [filings]=133 [served]=59 [returned]=122 [jobs]=74 [rounds]=100
+    [evidence]=1 [books]=90 [filings]=133 [served]=59 [returned]=122 [jobs]=74 [rounds]=100 [stored]=0
 )
 readonly CHECKS=$PWD/checks
 
@@ -42,6 +43,10 @@ make_cases() {
             head -c $((others - request)) /dev/zero
         } > "$work/cases/$subject.$(printf %03d $request)"
     done
+    if [ "$subject" = stored ]; then
+        mkdir "$work/stored"
+        echo "$work/stored" > "$work/cases/stored.000.args"
+    fi
 }
 
 # wrong WORDS FILE: says what is wrong, shows the file, and ends.
@@ -106,8 +111,24 @@ gave_the_same() {
     [ "$(grep -o ', gave [0-9]*' "$work/runs" | sort -u | wc -l)" -eq 1 ] || wrong 'runs gave unlike things' "$work/runs"
 }
 
+# The files of evidence that the program made are those of checks/evidence.
+check_stored() {
+    local name subject=stored
+    awk '/^== / { wanted = $2 == "stored.000" } wanted' "$work/log" > "$work/runs"
+    grep -qx 'refused 1 in no call, held true' "$work/runs" || wrong 'the files were not made' "$work/runs"
+    for name in "$work"/stored/*; do
+        cmp "$name" "$CHECKS/evidence/${name##*/}.evidence"
+    done
+    [ "$(ls "$work/stored" | wc -l)" -eq 10 ]
+    echo 'ten files of checks/evidence are made again'
+}
+
 # check_subject SUBJECT: sees that of each of its calls so many requests were refused as there should be.
 check_subject() {
+    if [ "$1" = stored ]; then
+        check_stored
+        return
+    fi
     see_runs "$1"
     case $1 in
         # One request to read a record or to see that there is none, and one a reply; of a run 7 to open, 3 for all that it
@@ -169,11 +190,12 @@ subjects=("$@")
 if [ $# -eq 0 ]; then
     subjects=(
         replies files keys log state calls streams steps entries segments evidence books filings served returned jobs rounds
+        stored
     )
 fi
-scratch_crate refused_memory checks/refused_memory rpc_streams replay_pool witness_service witness_books node_book packets challenge evidence_showings envelopes replay node_logs checkpoint state_machine gateway service nfs_items rpc commitment secure_log authenticator merkle_keys xdr sha2
+scratch_crate refused_memory checks/refused_memory rpc_streams replay_pool witness_service witness_books node_book packets challenge evidence_showings envelopes replay node_logs checkpoint state_machine gateway service nfs_items rpc commitment secure_log authenticator merkle_keys xdr sha2 anyhow
 for to in books replays; do python3 "$CHECKS/generate.py" --handed $to > "$work/to_$to"; done
 mkdir "$work/cases"
 for subject in "${subjects[@]}"; do make_cases "$subject"; done
-rt try --steps 1 --fail-alloc $REFUSED --cases "$work/cases" > "$work/log" 2>&1 || { cat "$work/log" >&2; exit 1; }
+rt try --steps 1 --seconds 300 --fail-alloc $REFUSED --cases "$work/cases" > "$work/log" 2>&1 || { cat "$work/log" >&2; exit 1; }
 for subject in "${subjects[@]}"; do check_subject "$subject"; done
