@@ -11,7 +11,7 @@ use std::alloc::Global;
 use test_helpers::{roster_of, signed};
 
 /// The height of each node's tree of keys, which has eight.
-const HEIGHT: u32 = 3;
+pub const HEIGHT: u32 = 3;
 
 /// A node's keys: its number is each byte of its master secret.
 pub fn keys(alloc: Global, node: u8) -> Option<Signer> {
