@@ -58,6 +58,14 @@ impl Gate for Meeting {
     }
 }
 
+impl Meeting {
+    /// Whether so many jobs reached it, of which so many waited in vain.
+    fn has_met(&self, reached: u64, missed: u64) -> bool {
+        self.reached.load(Ordering::SeqCst) == reached
+            && self.missed.load(Ordering::SeqCst) == missed
+    }
+}
+
 /// A gate that nobody reached, for these jobs of so many.
 fn gate(holds: Holds, wanted: u64) -> Meeting {
     Meeting {
@@ -114,20 +122,21 @@ fn all_done<R: Threads + Wait + Sync, G: Gate>(
     }
 }
 
-/// Whether so many of two jobs wait in vain for the other, in a round with so many workers, and both come back done.
+/// Whether two jobs reach the gate, of which so many wait in vain for the other, in a round with so many workers, and
+/// both come back done.
 fn miss<R: Threads + Wait + Sync>(rt: &R, alloc: Global, workers: usize, missed: u64) -> bool
     requires least { 1 ≤ workers }
     requires most { workers ≤ 16 }
 {
     let gate = gate(Holds::Each, 2);
-    all_done(rt, alloc, &[5, 6], workers, &gate) && gate.missed.load(Ordering::SeqCst) == missed
+    all_done(rt, alloc, &[5, 6], workers, &gate) && gate.has_met(2, missed)
 }
 
-/// Whether the job at this place of three waits in vain for both others, in a round with two workers. All come back
-/// done.
-fn is_left_alone<R: Threads + Wait + Sync>(rt: &R, alloc: Global, place: usize) -> bool {
+/// Whether the job at this place of three is held until both others reached the gate, in a round with two workers, and
+/// all come back done.
+fn meets_both_others<R: Threads + Wait + Sync>(rt: &R, alloc: Global, place: usize) -> bool {
     let gate = gate(Holds::One(place), 3);
-    !all_done(rt, alloc, &[5, 6, 2], 2, &gate) || gate.missed.load(Ordering::SeqCst) != 0
+    all_done(rt, alloc, &[5, 6, 2], 2, &gate) && gate.has_met(3, 0)
 }
 
 #[test]
@@ -147,17 +156,17 @@ fn more_workers_than_jobs_run_each_once(rt: HostRuntime) {
 
 #[test]
 fn while_one_holds_the_first_of_three_the_other_takes_both_others(rt: HostRuntime) {
-    assert!(rt; !is_left_alone(&rt, rt.alloc(), 1));
+    assert!(rt; meets_both_others(&rt, rt.alloc(), 1));
 }
 
 #[test]
 fn while_one_holds_the_second_of_three_the_other_takes_both_others(rt: HostRuntime) {
-    assert!(rt; !is_left_alone(&rt, rt.alloc(), 2));
+    assert!(rt; meets_both_others(&rt, rt.alloc(), 2));
 }
 
 #[test]
 fn while_one_holds_the_third_of_three_both_others_were_taken(rt: HostRuntime) {
-    assert!(rt; !is_left_alone(&rt, rt.alloc(), 3));
+    assert!(rt; meets_both_others(&rt, rt.alloc(), 3));
 }
 
 #[test]

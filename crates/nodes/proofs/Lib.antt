@@ -5,5 +5,4 @@ pub mod Replied
 pub mod Stopped
 pub mod Handed
 pub mod Unjoined
-pub mod Straight
 pub mod UnderLock
