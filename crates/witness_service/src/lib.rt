@@ -2,12 +2,16 @@
 #![tactic(auto)]
 
 mod admission;
+mod cache;
+mod checking;
 mod closing;
 mod journal;
+mod key;
 mod pass;
 mod shared;
 
-pub use admission::{SignatureCache, admit};
+pub use admission::admit;
+pub use cache::SignatureCache;
 pub use journal::Journal;
 pub use pass::{Pass, Receipt};
 pub use shared::{Closed, ReceiptFault, WitnessService};

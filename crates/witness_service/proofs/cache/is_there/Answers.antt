@@ -1,0 +1,6 @@
+use Rattle.std.proofs.Common.{◌∙◌}
+use Rattle.witness_service.proofs.Keys.{kept_as}
+use Rattle.witness_service.proofs.cache.is_there.Goals as goal
+
+pub returns : goal.returns
+returns c = c.contains.ensures ∙ kept_as c.args.key.now.bytes.items c.args.kept.now.entries

@@ -1,0 +1,205 @@
+//! Signatures that were checked, so that they aren't checked again.
+
+ghost use Rattle.std.specs.Prelude.{◌≡◌, ◌↔◌, ◌⊎◌, ◌<◌, [], IfOk, IsTrue, MatchBool, false, if◌then◌else◌};
+ghost use Rattle.merkle_keys.specs.Signing.{Signed};
+ghost use Rattle.authenticator.specs.Signed.{signed_digest};
+ghost use Rattle.witness_service.specs.Caching.{AreSigned, Holds, IsSignedKey, MayHold, MayUse, bytes_of, is_kept};
+ghost use Rattle.witness_service.specs.Caching.{key_bytes, key_text, keys_of, used, without};
+
+use crate::key::Key;
+use authenticator::{Member, Number, is_signed};
+use lru::LruCache;
+use merkle_keys::Signature;
+use std::alloc::{AllocError, Global};
+use std::marker::Model;
+use std::num::NonZeroUsize;
+use xdr::laws::no_spelling_begins_another;
+
+/// The keys that are kept.
+type Kept = LruCache<Key, ()>;
+
+/// Signatures that were checked: at most so many, of which the one that wasn't used for longest makes room. It keeps
+/// each by the root and the height under which it was checked and the authenticator's whole text, some 17 KiB, and
+/// keeps none that wasn't checked.
+#[derive(Drop)]
+pub struct SignatureCache {
+    capacity: usize,
+    kept: Option<Kept>,
+}
+
+impl Model for SignatureCache {
+    ghost use Rattle.witness_service.specs.Caching.{CacheParts, MayHold, keys_of};
+
+    ghost Value = { CacheParts };
+
+    ghost view = { λ c. record { capacity = c.capacity; keys = keys_of c.kept } };
+
+    ghost invariant = { λ c. MayHold c.capacity c.kept };
+}
+
+impl SignatureCache {
+    /// An empty cache for at most so many signatures; one for none keeps none. Takes no memory.
+    pub fn new(capacity: usize) -> SignatureCache
+        ensures { result ≡ record { capacity = capacity; keys = [] } }
+    {
+        SignatureCache {
+            capacity,
+            kept: None,
+        }
+    }
+
+    /// The most signatures that it may keep.
+    pub fn capacity(&self) -> usize
+        ensures { result ≡ self.now.capacity }
+    {
+        self.capacity
+    }
+
+    /// Whether it keeps the authenticator of this text, checked under this root and height. The order in which
+    /// signatures make room stays. `AllocError` comes only where a growth was refused.
+    pub fn known(
+        &self,
+        alloc: Global,
+        root: &[u8; 32],
+        height: u32,
+        text: &[u8],
+    ) -> Result<bool, AllocError>
+        ensures { IfOk result (λ known. known ≡ is_kept self.now.keys (key_bytes root.now height text.now)) }
+    {
+        let key = Key::of_text(alloc, root, height, text)?;
+        match &self.kept {
+            Some(kept) => Ok(is_there(kept, &key)),
+            None => Ok(false),
+        }
+    }
+
+    /// Whether a member signed that the log of this node has this hash at this number, as `authenticator::is_signed`
+    /// says: from what is kept, else by a check, and then it is kept. Where memory is refused for its key it is
+    /// checked and not kept.
+    pub(crate) fn is_signed(
+        &mut self,
+        alloc: Global,
+        member: &Member,
+        node: u32,
+        number: Number,
+        hash: &[u8; 32],
+        signature: &Signature,
+    ) -> bool
+        ensures signed { IsTrue result ↔
+            Signed member.now.root member.now.height (signed_digest node number hash.now) signature.now }
+        ensures kept { MatchBool result
+            (MayUse (key_text member.now.root member.now.height
+            (record { node = node; number = number; hash = hash.now; signature = signature.now }))
+            self.old self.new)
+            (self.new ≡ self.old) }
+    {
+        let Ok(key) = Key::of_parts(alloc, member, node, number, hash, signature) else {
+            return is_signed(member, node, number, hash, signature);
+        };
+        if is_used(&mut self.kept, self.capacity, &key) {
+            no_spelling_begins_another();
+            return true;
+        }
+        if !is_signed(member, node, number, hash, signature) {
+            return false;
+        }
+        keep(&mut self.kept, alloc, self.capacity, key);
+        true
+    }
+
+    /// Keeps what a member signed: that the log of this node has this hash at this number. Where memory is refused
+    /// for its key it isn't kept.
+    pub(crate) fn keep_signed(
+        &mut self,
+        alloc: Global,
+        member: &Member,
+        node: u32,
+        number: Number,
+        hash: &[u8; 32],
+        signature: &Signature,
+    )
+        requires { Signed member.now.root member.now.height (signed_digest node number hash.now) signature.now }
+        ensures { MayUse (key_text member.now.root member.now.height
+            (record { node = node; number = number; hash = hash.now; signature = signature.now }))
+            self.old self.new }
+    {
+        let Ok(key) = Key::of_parts(alloc, member, node, number, hash, signature) else {
+            return;
+        };
+        if !is_used(&mut self.kept, self.capacity, &key) {
+            keep(&mut self.kept, alloc, self.capacity, key);
+        }
+    }
+}
+
+/// Whether a key is kept; it goes first then.
+fn is_used(kept: &mut Option<Kept>, capacity: usize, key: &Key) -> bool
+    requires { MayHold capacity kept.old }
+    ensures holds { MayHold capacity kept.new }
+    ensures own { IsTrue result → IsSignedKey key.now.bytes.items }
+    ensures there { result ≡ is_kept (keys_of kept.old) key.now.bytes.items }
+    ensures some { IsTrue result → 0 < capacity }
+    ensures keys { keys_of kept.new ≡
+        (if result then used capacity key.now.bytes.items (keys_of kept.old) else keys_of kept.old) }
+{
+    match kept {
+        Some(kept) => is_promoted(kept, capacity, key),
+        None => false,
+    }
+}
+
+/// The same where something may be kept.
+fn is_promoted(kept: &mut Kept, capacity: usize, key: &Key) -> bool
+    requires { Holds capacity kept.old }
+    ensures holds { Holds capacity kept.new }
+    ensures own { IsTrue result → IsSignedKey key.now.bytes.items }
+    ensures there { result ≡ is_kept (bytes_of kept.old.entries) key.now.bytes.items }
+    ensures keys { bytes_of kept.new.entries ≡
+        (if result then used capacity key.now.bytes.items (bytes_of kept.old.entries)
+        else bytes_of kept.old.entries) }
+{
+    kept.promote(key)
+}
+
+/// Keeps a key that isn't kept, if there may be one and memory is enough.
+fn keep(kept: &mut Option<Kept>, alloc: Global, capacity: usize, key: Key)
+    requires holds { MayHold capacity kept.old }
+    requires own { IsSignedKey key.bytes.items }
+    requires new { is_kept (keys_of kept.old) key.bytes.items ≡ false }
+    ensures holds { MayHold capacity kept.new }
+    ensures keys { (keys_of kept.new ≡ keys_of kept.old) ⊎
+        ((0 < capacity) × (keys_of kept.new ≡ used capacity key.bytes.items (keys_of kept.old))) }
+{
+    let Some(room) = NonZeroUsize::new(capacity) else {
+        return;
+    };
+    if kept.is_none() {
+        let Ok(empty) = LruCache::sparse(alloc, room) else {
+            return;
+        };
+        *kept = Some(empty);
+    }
+    match kept {
+        Some(kept) => put(kept, capacity, key),
+        None => {}
+    }
+}
+
+/// The same where something may be kept.
+fn put(kept: &mut Kept, capacity: usize, key: Key)
+    requires holds { Holds capacity kept.old }
+    requires own { IsSignedKey key.bytes.items }
+    requires new { is_kept (bytes_of kept.old.entries) key.bytes.items ≡ false }
+    ensures holds { Holds capacity kept.new }
+    ensures keys { (bytes_of kept.new.entries ≡ bytes_of kept.old.entries) ⊎
+        (bytes_of kept.new.entries ≡ used capacity key.bytes.items (bytes_of kept.old.entries)) }
+{
+    let _ = kept.put(key, ());
+}
+
+/// Whether a key is kept.
+fn is_there(kept: &Kept, key: &Key) -> bool
+    ensures { result ≡ is_kept (bytes_of kept.now.entries) key.now.bytes.items }
+{
+    kept.contains(key)
+}
