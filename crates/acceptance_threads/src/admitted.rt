@@ -7,7 +7,7 @@ use witness_service::{SignatureCache, admit};
 
 /// What a packet is admitted as.
 #[derive(Clone, Copy, Debug, PartialEq, Eq)]
-enum Admission {
+pub enum Admission {
     Learn,
     Answer,
     Other,
@@ -27,7 +27,12 @@ fn kind_of(event: Event) -> Admission {
 }
 
 /// What a packet is admitted as under the roster.
-fn taken(alloc: Global, handed: &Handed, cache: &mut SignatureCache, bytes: &[u8]) -> Admission {
+pub fn taken(
+    alloc: Global,
+    handed: &Handed,
+    cache: &mut SignatureCache,
+    bytes: &[u8],
+) -> Admission {
     match admit(alloc, &handed.roster, cache, bytes) {
         Ok(event) => kind_of(event),
         Err(refusal) => Admission::Refused(refusal),
@@ -35,26 +40,36 @@ fn taken(alloc: Global, handed: &Handed, cache: &mut SignatureCache, bytes: &[u8
 }
 
 /// Whether all packets are admitted or not as they should.
-fn admits(alloc: Global, handed: &Handed) -> bool {
-    let mut cache = SignatureCache::new(4);
-    let cases: [(&[u8], Admission); 4] = [
+fn admits(alloc: Global, handed: &Handed, cache: &mut SignatureCache) -> bool {
+    let cases: [(&[u8], Admission); 5] = [
         (&handed.own.first, Admission::Learn),
+        (&handed.own.second, Admission::Learn),
         (&handed.own.answer, Admission::Answer),
         (&handed.forged, Admission::Refused(Refusal::BadSignature)),
         (&[0; 7], Admission::Refused(Refusal::Garbage)),
     ];
     for (bytes, wanted) in cases {
-        if taken(alloc, handed, &mut cache, bytes) != wanted {
+        if taken(alloc, handed, cache, bytes) != wanted {
             return false;
         }
     }
     true
 }
 
-/// The same of packets that are made first.
+/// The same twice, with one cache for so many signatures.
+fn admits_with(alloc: Global, handed: &Handed, capacity: usize) -> bool {
+    let mut cache = SignatureCache::new(capacity);
+    admits(alloc, handed, &mut cache) && admits(alloc, handed, &mut cache)
+}
+
+/// The same of packets that are made first, with caches for none, one, and more than all.
 fn packets_are_admitted(alloc: Global) -> bool {
     match all_handed(alloc) {
-        Some(handed) => admits(alloc, &handed),
+        Some(handed) => {
+            admits_with(alloc, &handed, 0)
+                && admits_with(alloc, &handed, 1)
+                && admits_with(alloc, &handed, 4)
+        }
         None => false,
     }
 }

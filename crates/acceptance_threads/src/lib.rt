@@ -4,6 +4,8 @@
 #[cfg(test)]
 mod admitted;
 #[cfg(test)]
+mod cached;
+#[cfg(test)]
 mod closed;
 #[cfg(test)]
 mod handed;
@@ -15,5 +17,7 @@ mod jobs;
 mod meeting;
 #[cfg(test)]
 mod parties;
+#[cfg(test)]
+mod shown;
 #[cfg(test)]
 mod together;
