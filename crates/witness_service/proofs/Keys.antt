@@ -85,6 +85,7 @@ promoted_keys capacity bytes es there is = at (lookup_entry (has bytes) es) refl
   where
     is_there : there ≡ is_kept (bytes_of es) bytes
     is_there = is ∙ kept_as bytes es
+
     at : (o : Option Entry) → lookup_entry (has bytes) es ≡ o
         → bytes_of (promoted (has bytes) es) ≡ (if there then used capacity bytes (bytes_of es) else bytes_of es)
     at None none =

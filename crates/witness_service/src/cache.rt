@@ -89,8 +89,8 @@ impl SignatureCache {
             Signed member.now.root member.now.height (signed_digest node number hash.now) signature.now }
         ensures kept { MatchBool result
             (MayUse (key_text member.now.root member.now.height
-                (record { node = node; number = number; hash = hash.now; signature = signature.now }))
-                self.old self.new)
+            (record { node = node; number = number; hash = hash.now; signature = signature.now }))
+            self.old self.new)
             (self.new ≡ self.old) }
     {
         let Ok(key) = Key::of_parts(alloc, member, node, number, hash, signature) else {

@@ -6,7 +6,6 @@ ghost use Rattle.witness_service.specs.Caching.{key_bytes, key_item, key_text, k
 ghost use Rattle.witness_service.specs.Hashing.{same_start};
 
 use authenticator::{Member, Number};
-
 use merkle_keys::Signature;
 use std::alloc::{AllocError, Global};
 use std::hash::{Hash, Hasher};

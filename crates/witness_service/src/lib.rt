@@ -8,7 +8,6 @@ mod closing;
 mod journal;
 mod key;
 mod pass;
-
 mod shared;
 
 pub use admission::admit;
