@@ -1,7 +1,7 @@
 #!/usr/bin/env bash
 # Prints how many calls a second nfsacc serve answers over loopback, by 1, 4 and 16 connections at once: the calls alone,
 # without the time for keys and audits; and the peak memory of the program. GETATTR of `hello` is asked, and each connection
-# waits for a reply before it asks again.
+# waits for a reply before it asks again; in the last line it sends eight calls before it waits.
 #
 #     bench/serve.sh [CALLS]    of all connections together, 2,000 if not given; at most 16,000
 #
@@ -24,7 +24,8 @@ height() {
     echo $height
 }
 
-for connections in 1 4 16; do
+for turn in '1 1' '4 1' '16 1' '1 8'; do
+    read -r connections depth <<< "$turn"
     each=$((calls / connections))
     server=$(height $((each * connections)))
     client=$(height $each)
@@ -32,8 +33,8 @@ for connections in 1 4 16; do
         --client-height "$client" > "$folder/lines" &
     until [ -s "$folder/lines" ]; do sleep 0.1; done
     port=$(sed -n 's/^listening //p' "$folder/lines")
-    echo "$connections connections, $each calls each, heights $server and $client:" \
-        "$("$folder/asks" "$port" $connections $each)"
+    echo "$connections connections, $each calls each, $depth at once, heights $server and $client:" \
+        "$("$folder/asks" "$port" $connections $each $depth)"
     wait
     awk -v calls=$((each * connections)) \
         '{ printf "  peak memory %d MiB, %d KiB a call; processor %s + %s s, with keys and audits\n", $1 / 1024, $1 / calls, $2, $3 }' \

@@ -70,8 +70,12 @@ const SERVE_HELP: &str =
   13    4096       3.3     264
   14    8192       6.6     529
   15   16384        13    1058
-The seconds are what it takes to make the keys, and the MiB what the node's log has once all are used; the witness keeps
-a copy of it.
+The seconds are what it takes to make the keys, and the MiB what the node's log has once all are used by short calls; by
+the longest records it has up to 1.4 times as much. The witness keeps a copy of it.
+
+A client takes at most one key more of the server than it has itself, whatever it sends: a last call with a single key
+takes two of the server. So no client can use up the server's keys where COUNT times one more than 2 to the client's height
+is at most 2 to the server's: with the heights that aren't named, where COUNT is at most 3.
 
 Each connection is a client of its own, whose log is audited when the connection ends. In the end everybody is, and a line
 says of each node whether it is trusted, suspected or exposed.
