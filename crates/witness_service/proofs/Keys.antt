@@ -1,7 +1,7 @@
 -- Keys of signatures, and those that are kept.
 -- Serves: is_promoted, put, is_there, SignatureCache::is_signed, SignatureCache::keep_signed.
-use Rattle.std.proofs.Common.{◌≡◌, ◌⊎◌, ◌<◌, ◌-◌, ℕ, Bool, true, false, if◌then◌else◌, List, [], ◌∷◌, ◌++◌, map, take}
-use Rattle.std.proofs.Common.{nat_eq, Contains, Option, Some, None, Result, Ok, Err, OnOk, OnErr, is_some}
+use Rattle.std.proofs.Common.{◌≡◌, ◌⊎◌, ◌-◌, ℕ, Bool, true, false, if◌then◌else◌, List, [], ◌∷◌, ◌++◌}
+use Rattle.std.proofs.Common.{nat_eq, Option, Some, None, Result, Ok, Err, OnOk, OnErr, is_some}
 use Rattle.std.proofs.Common.{inl, inr, refl, sym, ap, ◌∙◌, subst}
 use Rattle.std.proofs.lemmas.List.{take-map}
 use Rattle.std.specs.Cmp.Lexicographic.{pointwise}
