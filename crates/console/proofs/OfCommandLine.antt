@@ -2,4 +2,3 @@
 pub mod Rows
 pub mod Taken
 pub mod Asked
-pub mod ServeAsked

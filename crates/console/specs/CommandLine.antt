@@ -1,4 +1,2 @@
-pub mod Serve
-pub mod ServeOrders
 pub mod CommandLine
 pub mod Examples

@@ -1,3 +1,2 @@
 pub mod CommandLine
 pub mod Checking
-pub use Rattle.authenticator.specs as authenticator

@@ -1,40 +1,35 @@
 //! `nfsacc`: an accountable file service.
 #![tactic(auto)]
 
-mod errors;
-mod master;
-mod serve;
 mod shelf;
 
+use authenticator::Roster;
 use clap::error::ErrorKind;
-use console::authenticator_code::Roster;
 use console::command_line::{CheckRequest, Request, RunRequest, parse};
 use console::{CheckFault, Format, Judgement, Reason, check, read_roster, write_roster};
 use rpc::records::{Counting, RecordFault, RecordReader};
 use rpc_streams::run_rpc;
 use scripts::{ScriptEnd, ScriptFault, run_script};
-use serve::serve_port;
 use shelf::FileShelf;
 use std::io::{BufReader, Read};
-use std::net::{Net, TcpListener, TcpStream};
 use std::process::ExitCode;
 use std::rt::{Env, Files};
 use std::sync::Wait;
 use std::thread::Threads;
-use std::{env, fs, io, time};
+use std::{env, fs, io};
 
 /// The statuses of the program beside 0, which is done. A fault in the input: the records end with one, a file
 /// is no evidence or has no roster, or a script has a bad line.
-pub(crate) const INPUT_FAULT: u8 = 1;
+const INPUT_FAULT: u8 = 1;
 
 /// The words of the command line ask for nothing that there is.
-pub(crate) const COMMAND_LINE: u8 = 2;
+const COMMAND_LINE: u8 = 2;
 
 /// Memory was refused.
 const NO_MEMORY: u8 = 3;
 
 /// A read or a write failed.
-pub(crate) const DEVICE: u8 = 4;
+const DEVICE: u8 = 4;
 
 /// The bytes that are read at once: as many as a pipe holds.
 const READ_AHEAD: usize = 65536;
@@ -220,7 +215,7 @@ where
 }
 
 /// Says on standard error what is wrong with a file.
-pub(crate) fn report_file(rt: &impl Eprint, name: &str, error: &io::Error) -> u8 {
+fn report_file(rt: &impl Eprint, name: &str, error: &io::Error) -> u8 {
     if error.kind() == io::ErrorKind::OutOfMemory {
         return report_no_memory(rt);
     }
@@ -229,7 +224,7 @@ pub(crate) fn report_file(rt: &impl Eprint, name: &str, error: &io::Error) -> u8
     DEVICE
 }
 
-pub(crate) fn report_no_memory(rt: &impl Eprint) -> u8 {
+fn report_no_memory(rt: &impl Eprint) -> u8 {
     let _ = rt.eprintln("nfsacc: out of memory");
     NO_MEMORY
 }
@@ -238,7 +233,6 @@ pub(crate) fn report_no_memory(rt: &impl Eprint) -> u8 {
 fn run<R>(rt: &R) -> u8
 where
     R: Env + Files + Input + Print + Eprint + AllocGlobal + Threads + Wait + Sync,
-    R: Net<Listener = TcpListener, Stream = TcpStream> + time::Clock,
 {
     let alloc = rt.alloc();
     let args = match env::args(rt) {
@@ -257,7 +251,6 @@ where
         Ok(Request::Check(request)) => check_file(rt, request),
         Ok(Request::Roster(name)) => show_roster(rt, name),
         Ok(Request::Run(request)) => run_file(rt, request),
-        Ok(Request::Serve(request)) => serve_port(rt, &request),
         Err(error) if error.kind() == ErrorKind::OutOfMemory => report_no_memory(rt),
         Err(error) => {
             let status = error.exit_code();

@@ -6,8 +6,8 @@ use crate::line::{NodeLine, Pair};
 use crate::stop::Stop;
 use authenticator::{Kind, Member, Roster};
 use merkle_keys::Signer;
-use serving::nodes_code::node_logs_code::NodeLog;
-use serving::nodes_code::{ClientNode, Node, Role, ServerNode};
+use nodes::node_logs_code::NodeLog;
+use nodes::{ClientNode, Node, Role, ServerNode};
 use std::alloc::{AllocError, Global};
 use std::marker::Model;
 

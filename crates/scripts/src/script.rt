@@ -2,17 +2,19 @@
 
 use crate::acts::Run;
 use crate::answer::Answer;
+use crate::caller::Caller;
 use crate::cursor::Cursor;
 use crate::line::{Line, read_line};
 use crate::parties::{Listed, Parties};
+use crate::shelf::Shelf;
 use crate::stop::Stop;
 use authenticator::Roster;
-use serving::witness_calls_code::witness_service_code::{Pass, WitnessService};
-use serving::witness_calls_code::{Caller, Shelf, open_witness};
 use std::alloc::Global;
 use std::io::{self, Read, Write};
 use std::sync::Wait;
 use std::thread::Threads;
+use witness_service::witness_books_code::Books;
+use witness_service::{Pass, WitnessService};
 
 /// How a script came to its end.
 #[derive(Clone, Copy, Debug, PartialEq, Eq)]
@@ -74,7 +76,7 @@ fn run_all<R: Threads + Wait + Sync, I: Read, O: Write, S: Shelf>(
         put_roster(alloc, shelf, name, &roster)?;
     }
     let parties = listed.make(alloc, &roster)?;
-    let (service, pass) = witness_of(alloc, &roster)?;
+    let (service, pass) = open_witness(alloc, &roster)?;
     let stage = Stage {
         roster: &roster,
         service: &service,
@@ -154,8 +156,13 @@ fn put_roster<S: Shelf>(
 }
 
 /// A witness of a roster's members, with one pass.
-fn witness_of(alloc: Global, roster: &Roster) -> Result<(WitnessService, Pass), Stop> {
-    let (service, mut passes) = open_witness(alloc, roster, 1)?;
+fn open_witness(alloc: Global, roster: &Roster) -> Result<(WitnessService, Pass), Stop> {
+    let Ok(books) = Books::new(alloc, roster.try_clone(alloc)?) else {
+        return Err(Stop::NoMemory);
+    };
+    let Ok((service, mut passes)) = WitnessService::open(alloc, books, 1) else {
+        return Err(Stop::NoMemory);
+    };
     match passes.pop() {
         Some(pass) => Ok((service, pass)),
         None => Err(Stop::NoMemory),

@@ -1,1 +1,0 @@
-pub use Rattle.serving.proofs as serving

@@ -1,1 +1,0 @@
-pub use Rattle.serving.specs as serving

@@ -1,1 +1,0 @@
-pub use Rattle.nodes.proofs as nodes
