@@ -218,6 +218,14 @@ check_words() {
     says 2 "error: unexpected argument 'rpc' found" rpc rpc
     says 2 "error: unexpected argument '--fast' found" rpc --fast
     says 2 'error: the following required arguments were not provided:' check
+    says 2 "error: unexpected argument '--version' found" check --version
+    says 4 "nfsacc: '': No such file.*" check ''
+    says 4 "nfsacc: '': No such file.*" roster ''
+    says 4 "nfsacc: '': No such file.*" run ''
+    says 4 'nfsacc: /: Is a directory.*' check /
+    says 4 'nfsacc: /: Is a directory.*' roster /
+    says 4 'nfsacc: /: Is a directory.*' run /
+    says 4 'nfsacc: /: Is a directory.*' check --roster / /
     says 2 "error: unexpected argument 'b' found" check a b
     says 2 'error: the following required arguments were not provided:' check --json
     says 2 "error: a value is required for '--roster <FILE>' but none was supplied" check a --roster
@@ -228,57 +236,67 @@ check_words() {
     says 2 'nfsacc: the command line is no text' $'\xff'
 }
 
-# A device that fails ends the run with status 4 and a line, never with a signal: a full one, a pipe that nobody reads any
-# more, and a folder that is read as a file.
+# A device that fails ends the run with status 4 and a line that names it and says why, never with a signal: a full one, a
+# pipe that nobody reads any more, and a folder that is read as a file.
 check_devices() {
-    local got closed full=/dev/full
-    cp "$top/crates/nfsacc/stdin" in
-    for words in rpc --version --help; do
+    local got closed words full=/dev/full evidence=$top/checks/evidence/fork.evidence
+    for words in rpc --version --help 'help check' "check $evidence" "check --json $evidence" "roster $evidence" 'run -'; do
+        cp "$top/crates/nfsacc/stdin" in
+        if [ "$words" = 'run -' ]; then : > in; fi
         got=0
         "$program" $words < in > "$full" 2> said || got=$?
         [ $got -eq 4 ] || fail "status $got of $words on a full device" said
+        grep -qx 'nfsacc: standard output: No space left on device.*' said || fail "$words on a full device" said
+        [ "$(wc -l < said)" -eq 1 ] || fail "more than a line of $words on a full device" said
     done
+    cp "$top/crates/nfsacc/stdin" in
     exec {closed}> >(:)
     wait $!
     got=0
     env --default-signal=PIPE "$program" rpc < in >&"$closed" 2> said || got=$?
     exec {closed}>&-
     [ $got -eq 4 ] || fail "status $got on a closed pipe" said
-    grep -qx 'nfsacc: a device failed' said || fail 'a closed pipe' said
-    got=0
-    "$program" rpc < / > out 2> said || got=$?
-    [ $got -eq 4 ] || fail "status $got of a folder" said
-    grep -qx 'nfsacc: a device failed' said || fail 'a folder' said
+    grep -qx 'nfsacc: standard output: Broken pipe.*' said || fail 'a closed pipe' said
+    for words in rpc 'run -'; do
+        got=0
+        "$program" $words < / > out 2> said || got=$?
+        [ $got -eq 4 ] || fail "status $got of $words of a folder" said
+        grep -qx 'nfsacc: standard input: Is a directory.*' said || fail "$words of a folder" said
+    done
     got=0
     printf '\x80\x00\x30\x01' > in
     "$program" rpc < in > out 2> "$full" || got=$?
     [ $got -eq 1 ] || fail "status $got of a record fault that can't be told"
 }
 
-# Want of memory ends the run with status 3 and a line. A copy of the program reads a byte first and makes as many requests
+# Out of memory the run ends with status 3 and a line. A copy of the program reads a byte first and makes as many requests
 # for memory; of all its requests the one of number $most is refused: so in each run another one of the program's own. A
 # few can be refused without harm, as those for the words of an error's text: such a run ends as it would with memory.
 check_memory() (
-    local most=90 words usual request name
+    local most=150 try words last step usual least request name module
+    # Words of a command line, the last request that is refused, how many from one to the next, the status with memory, and
+    # in how many runs at least memory runs out.
+    local tries=('rpc 80 1 0 60' 'serve-all 149 4 2 20')
     mkdir memory
-    cp "$top/crates/nfsacc/src/shelf.rt" memory/shelf.rt.txt
+    for module in "$top"/crates/nfsacc/src/*.rt; do cp "$module" "memory/$(basename "$module").txt"; done
     sed -e "/^fn main(rt: HostRuntime) -> ExitCode {\$/r $cases/take_memory.txt" "$top/crates/nfsacc/src/main.rt" > memory/main.rt.txt
     cd "$top"
-    scratch_crate nfsacc_memory "$OLDPWD/memory" scripts console rpc_streams rpc authenticator clap
+    scratch_crate nfsacc_memory "$OLDPWD/memory" scripts console rpc_streams rpc clap
     mkdir "$work/cases"
-    for words in rpc serve-all; do
-        for ((request = 1; request <= most; request++)); do
-            name=$work/cases/$words.$(printf %02d "$request")
+    for try in "${tries[@]}"; do
+        read -r words last step usual least <<< "$try"
+        for ((request = 1; request <= last; request += step)); do
+            name=$work/cases/$words.$(printf %03d "$request")
             { printf "\\x$(printf %x $((most - request)))"; cat "$top/crates/nfsacc/stdin"; } > "$name"
             echo "$words" > "$name.args"
         done
     done
     rt try --steps 1 --fail-alloc "$most" --cases "$work/cases" > "$work/log" 2>&1 || { cat "$work/log" >&2; exit 1; }
-    for words in rpc:0 serve-all:2; do
-        usual=${words#*:}
-        grep -a "^case=${words%:*}\." "$work/log" | sed -E 's/.* run=ended status=([0-9]+) .*/\1/' > "$work/statuses"
+    for try in "${tries[@]}"; do
+        read -r words last step usual least <<< "$try"
+        grep -a "^case=$words\." "$work/log" | sed -E 's/.* run=ended status=([0-9]+) .*/\1/' > "$work/statuses"
         if grep -qvx "[3$usual]" "$work/statuses" || [ "$(tail -1 "$work/statuses")" != "$usual" ] \
-            || [ "$(grep -cx 3 "$work/statuses")" -lt 30 ]; then
+            || [ "$(grep -cx 3 "$work/statuses")" -lt "$least" ]; then
             cat "$work/log" >&2
             exit 1
         fi

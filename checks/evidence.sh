@@ -1,8 +1,9 @@
 #!/usr/bin/env bash
 # `nfsacc check` from outside. The files of checks/evidence are evidence of each kind, and a log without a fault, each
 # with what the program says of it; checks/refused_memory.sh and checks/verify.sh make them again. They are judged whole,
-# cut and with a byte or a bit changed, as are files that are none: an empty one, one of 2 GiB, a folder, and one that
-# isn't there. It tries the programs that the gate left in crates/nfsacc/out, as checks/command_line.sh does.
+# cut and with a byte or a bit changed, as are files that are none: an empty one, one of 2 GiB, a folder, one that isn't
+# there, and some that have no end. It tries the programs that the gate left in crates/nfsacc/out, as
+# checks/command_line.sh does.
 set -euo pipefail
 cd "$(dirname "$0")/.."
 . checks/scratch_crate.sh
@@ -40,12 +41,13 @@ check_whole() {
     [ "$count" -eq 18 ] || fail "$count files were tried"
 }
 
-# Files that are cut, by the last byte and in each part, and one with a byte more.
+# Files that are cut, at each of the first 208 bytes, at each 64th after them, by the last byte and in each part, and one
+# with a byte more.
 check_cuts() {
     local name size cut
     for name in wrong_reply fork; do
         size=$(wc -c < "$cases/$name.evidence")
-        for cut in $((size - 1)) $((size - 4)) $((size - 16500)) $((size / 2)) 200 100 97 96 95 52 8 4 3 1 0; do
+        for cut in $(seq 0 208) $(seq 256 64 "$size") $((size - 1)) $((size - 4)) $((size - 16500)); do
             head -c "$cut" "$cases/$name.evidence" > "$files/case"
             judged 1 'no evidence' "$files/case"
         done
@@ -167,7 +169,64 @@ check_others() {
     local got=0
     "$program" check "$cases/fork.evidence" > /dev/full 2> "$files/said" || got=$?
     [ $got -eq 4 ] || fail "status $got on a full device" "$files/said"
-    grep -qx 'nfsacc: standard output: a write failed' "$files/said" || fail 'a full device' "$files/said"
+    grep -qx 'nfsacc: standard output: No space left on device.*' "$files/said" || fail 'a full device' "$files/said"
+}
+
+# unread AT FILE: a file that isn't read to its end is no evidence, and is told as that in each format; nor is it a roster.
+unread() {
+    local at=$1 name=$2 got=0
+    timeout 60 "$program" check "$name" > "$files/out" 2> "$files/said" || got=$?
+    [ $got -eq 1 ] && [ "$(cat "$files/out")" = 'no evidence' ] || fail "status $got of $name" "$files/said"
+    grep -qx "nfsacc: $name: not a roster .* byte $at does not decode" "$files/said" || fail "$name" "$files/said"
+    got=0
+    timeout 60 "$program" check --explain "$name" > "$files/out" 2> "$files/said" || got=$?
+    [ $got -eq 1 ] && grep -qx '  read: not to its end' "$files/out" || fail "--explain of $name" "$files/out"
+    grep -qx "first byte that does not decode: $at" "$files/out" || fail "--explain of $name" "$files/out"
+    got=0
+    timeout 60 "$program" check --json "$name" > "$files/out" 2> "$files/said" || got=$?
+    [ $got -eq 1 ] && grep -q '"file":{"read":"not to its end"}' "$files/out" || fail "--json of $name" "$files/out"
+    got=0
+    timeout 60 "$program" roster "$name" > "$files/out" 2> "$files/said" || got=$?
+    [ $got -eq 1 ] && [ ! -s "$files/out" ] || fail "status $got of the roster of $name" "$files/said"
+    got=0
+    timeout 60 "$program" check --roster "$name" "$cases/fork.evidence" > "$files/out" 2> "$files/said" || got=$?
+    [ $got -eq 1 ] && [ ! -s "$files/out" ] || fail "status $got under the roster $name" "$files/said"
+}
+
+# Files without an end are refused by the count of members or the charge, once 65,536 bytes were read: a device of zeros, a
+# pipe, a file that grows while it is read. A shorter one is read to its end, whatever its first words are.
+check_endless() {
+    local writer
+    unread 8 /dev/zero
+    mkfifo "$files/pipe"
+    setsid bash -c 'while :; do yes > "$1"; done' bash "$files/pipe" 2> "$files/piped" &
+    writer=$!
+    unread 0 "$files/pipe"
+    kill -- "-$writer"
+    wait "$writer" || :
+    rm "$files/pipe"
+    head -c 65536 /dev/zero > "$files/case"
+    setsid bash -c 'while sleep 0.01; do head -c 65536 /dev/zero >> "$1"; done' bash "$files/case" &
+    writer=$!
+    unread 8 "$files/case"
+    kill -- "-$writer"
+    wait "$writer" || :
+    head -c 65535 /dev/zero > "$files/case"
+    why "nfsacc: $files/case: not a roster .* byte 8 does not decode" "$files/case"
+    judged 1 'no evidence' --explain "$files/case"
+    grep -qx '  length: 65535' "$files/out" || fail 'a file of 65,535 bytes' "$files/out"
+}
+
+# A file that begins like evidence of 65,536 entries and has no end is read up to the longest evidence, 1,916,554,608
+# bytes, and a byte more.
+check_longest() {
+    { head -c 144 "$cases/wrong_reply.evidence"; printf '\0\1\0\0'; } > "$files/case"
+    [ "$(od -An -tx1 -j 92 -N 8 "$files/case" | tr -d ' ')" = 0000000100000002 ] || fail 'evidence of a replay' "$files/case"
+    truncate -s 1916554609 "$files/case"
+    unread 148 "$files/case"
+    truncate -s 100G "$files/case"
+    unread 148 "$files/case"
+    rm "$files/case"
 }
 
 for program in "${made[@]}"; do
@@ -179,6 +238,10 @@ for program in "${made[@]}"; do
     check_trusted
     check_json
     check_others
+    check_endless
 done
+# It takes 2 GiB of memory, so one program is enough.
+program=${made[0]}
+check_longest
 
 echo "evidence is judged as it should be, as ${#made[@]} of the compilers build it"

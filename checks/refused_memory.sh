@@ -14,8 +14,8 @@ readonly REFUSED=400
 
 # Of each subject one more than the requests that the calls have, and how many what is made first has, which aren't refused.
 declare -rA MOST=(
-    [replies]=26 [files]=35 [keys]=8 [log]=81 [state]=120 [calls]=77 [streams]=19 [steps]=26 [entries]=26 [segments]=34
-    [evidence]=105 [books]=34 [filings]=13 [served]=27 [returned]=13 [jobs]=40 [rounds]=64 [stored]=0
+    [replies]=26 [files]=35 [keys]=8 [log]=81 [state]=120 [calls]=78 [streams]=19 [steps]=27 [entries]=27 [segments]=100
+    [evidence]=106 [books]=34 [filings]=13 [served]=27 [returned]=13 [jobs]=40 [rounds]=64 [stored]=0
 )
 declare -rA MADE=(
     [replies]=0 [files]=7 [keys]=0 [log]=1 [state]=1 [calls]=11 [streams]=15 [steps]=20 [entries]=27 [segments]=27

@@ -93,6 +93,7 @@ check_ends() {
     run 4 run there_is_none
     grep -q '^nfsacc: there_is_none: ' said || fail 'a script that is not there' said
     run 4 run .
+    grep -q '^nfsacc: \.: Is a directory' said || fail 'a folder' said
     sed 's/lie.evidence/no_folder\/e/' "$stories/lie.script" > in
     run 4 run -
     grep -q '^nfsacc: no_folder/e: ' said || fail 'evidence that can not be put in its place' said
@@ -100,7 +101,7 @@ check_ends() {
         cp "$stories/lie.script" in
         got=0
         "$program" run - < in > /dev/full 2> said || got=$?
-        [ "$got" -eq 4 ] || fail 'a full device' said
+        [ "$got" -eq 4 ] && grep -q '^nfsacc: standard output: No space left' said || fail 'a full device' said
     fi
     echo 'a bad line, a script that is not there, a folder, and a full device end with their statuses'
 }

@@ -428,6 +428,8 @@ def roster_facts(data: bytes, roster: Roster) -> dict:
     return {'sha256': digest(data).hex(), 'members': members}
 
 
+HEAD = 65_536
+LONGEST = 1_916_554_608
 MEMBER_LENGTH = 44
 ANOTHER_NODE = 'what is shown is of another node'
 NOT_CLOSED = 'what is shown does not end in what closes it'
@@ -514,9 +516,20 @@ def finding(roster: Roster, node: int, charge: Fork | Replay) -> dict:
     return fault_finding(roster, node, charge, *fault)
 
 
+def is_read_in_part(data: bytes) -> bool:
+    """Whether a file isn't read to its end: it is longer than evidence can be, or of some length, and its first words are
+    those of no evidence."""
+    if len(data) < HEAD:
+        return False
+    count = int.from_bytes(data[:4], 'big')
+    charge = int.from_bytes(data[MEMBER_LENGTH * count + 8:MEMBER_LENGTH * count + 12], 'big')
+    return len(data) > LONGEST or count > 64 or charge not in (1, 2)
+
+
 def explain(data: bytes, program: str) -> dict:
     """All that a program of this name and version says of a file."""
-    said = {'verdict': 'no evidence', 'file': {'length': len(data), 'sha256': digest(data).hex()}, 'program': program}
+    file = {'read': 'not to its end'} if is_read_in_part(data) else {'length': len(data), 'sha256': digest(data).hex()}
+    said = {'verdict': 'no evidence', 'file': file, 'program': program}
     reader = Reader(data)
     try:
         roster, node, charge = read_file(reader)

@@ -12,6 +12,8 @@ mod devices;
 #[cfg(test)]
 mod items;
 #[cfg(test)]
+mod kept_digests;
+#[cfg(test)]
 mod limits;
 #[cfg(test)]
 mod mounts;

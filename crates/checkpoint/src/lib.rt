@@ -6,12 +6,14 @@ mod front;
 mod mounts;
 pub mod parts;
 mod read;
+mod renewal;
 mod shared;
 mod text;
 pub mod trees;
 
 pub use digest::state_digest;
 pub use read::{StateFault, read_state};
+pub use renewal::renew;
 pub use shared::SharedState;
 pub use state_machine as state_machine_code;
 pub use state_machine::state_spec_code;

@@ -60,6 +60,11 @@ abbrev pub Judges : Option (List Member) → List ℕ → Judgement → Type 0
 Judges trusted bytes (NoEvidence (reason.NoCase at)) = text_at case_text bytes ≡ None
 Judges trusted bytes judgement = JudgesText trusted bytes judgement
 
+-- they are no case's text
+abbrev pub IsNoCase : Judgement → Type 0
+IsNoCase (NoEvidence (reason.NoCase at)) = Unit {0}
+IsNoCase judgement = ⊥
+
 -- ---- the texts that tell it
 
 -- its words

@@ -1,2 +1,4 @@
+pub mod Serve
+pub mod ServeOrders
 pub mod CommandLine
 pub mod Examples

@@ -1,2 +1,4 @@
 pub mod CommandLine
 pub mod Checking
+pub mod Contents
+pub use Rattle.authenticator.specs as authenticator

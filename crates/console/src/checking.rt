@@ -1,21 +1,24 @@
 //! Whether a file is evidence.
 
-ghost use Rattle.std.specs.Prelude.{◌≡◌, ◌↔◌, option_map, IfErr, IfOk, IfSome, IsErrOf, IsTrue, OnOk};
+ghost use Rattle.std.specs.Prelude.{◌≡◌, ◌↔◌, ℕ, List, option_map, IfErr, IfOk, IfSome, IsErrOf, IsTrue, OnOk};
 ghost use Rattle.std.specs.Prelude.{string_bytes};
 ghost use Rattle.rpc.specs.Records.Count.{Rises};
 ghost use Rattle.console.specs.Checking.{IsRead, IsTold, IsTrusted, Judges, JudgesCase, TellsPart};
 ghost use Rattle.std.specs.Prelude.{[], None};
 ghost use Rattle.console.specs.declared.checking.Format.TheVariants as Format;
-ghost use Rattle.console.specs.Checking.{WritesTold, judgement_of, line_form, words_of};
+ghost use Rattle.console.specs.Checking.{IsNoCase, WritesTold, judgement_of, line_form, words_of};
+ghost use Rattle.console.specs.Contents.{IsContents};
 ghost use Rattle.console.specs.declared.fault.CheckFault.TheVariants.{NoMemory, Write};
 
 use crate::fault::CheckFault;
-use crate::input::all_bytes;
+use crate::input::{Contents, read_contents};
 use authenticator::Roster;
 use challenge::evidence_showings_code::evidence_spec_code::laws::accepted_evidence_proves;
 use challenge::{Case, EvidenceFault, Finding, NotAccepted, examine, read_case};
 use explained_evidence::explained_calls_code::{Facts, Text};
-use explained_evidence::{File, case_facts, first_undecodable, no_case_facts, rejected_facts};
+use explained_evidence::{
+    File, VERSION, case_facts, first_undecodable, no_case_facts, rejected_facts,
+};
 use rpc::records::{Counting, write_bytes};
 use std::alloc::{AllocError, Global};
 use std::io::{Read, Write};
@@ -204,7 +207,7 @@ fn json(alloc: Global, judgement: Judgement, more: &Text) -> Result<Vec<u8>, All
 }
 
 /// What is said of a file's bytes, and the text that tells it.
-fn told(
+fn told_of_whole(
     alloc: Global,
     trusted: Option<&Roster>,
     format: Format,
@@ -231,9 +234,69 @@ fn told(
     }
 }
 
-/// Reads a file to its end, judges its bytes under the roster that is trusted, if one is, and writes in a
-/// format what is said of it: the line `exposed N`, with the node's number, or `no evidence`; after that line
-/// what the file shows, in plain words; or one JSON object with both, the line's words first as `verdict`.
+/// What a file shows that wasn't read to its end: the item that begins at this byte doesn't decode.
+fn front_facts(alloc: Global, at: usize) -> Result<Facts, AllocError> {
+    let mut facts = Facts::new(alloc);
+    facts.group("file")?;
+    facts.words(alloc, "read", "not to its end")?;
+    facts.end()?;
+    let mut program = Text::new(alloc);
+    program.words("nfsacc ")?;
+    program.words(VERSION)?;
+    facts.text("program", program)?;
+    facts.words(
+        alloc,
+        "reason",
+        "the file is not a roster with evidence after it",
+    )?;
+    facts.number("first byte that does not decode", at as u64)?;
+    Ok(facts)
+}
+
+/// What is said of a file that begins with these bytes, and holds no evidence whatever follows.
+fn told_of_front(
+    alloc: Global,
+    format: Format,
+    front: &[u8],
+) -> Result<(Judgement, Vec<u8>), AllocError>
+    ensures case { IfOk result (λ x. IsNoCase x.0) }
+    ensures told { IfOk result (λ x. IsTold format x.0 x.1.items) }
+{
+    let at = first_undecodable(front).unwrap_or(front.len());
+    let judgement = Judgement::NoEvidence(Reason::NoCase(at));
+    if format == Format::Line {
+        return Ok((judgement, line(alloc, judgement)?));
+    }
+    let facts = front_facts(alloc, at)?;
+    if format == Format::Lines {
+        let more = facts.lines(alloc)?;
+        return Ok((judgement, lines(alloc, judgement, &more)?));
+    }
+    let more = facts.members(alloc)?;
+    Ok((judgement, json(alloc, judgement, &more)?))
+}
+
+/// What is said of a file of which this was read, and the text that tells it.
+fn told(
+    alloc: Global,
+    trusted: Option<&Roster>,
+    format: Format,
+    contents: Contents,
+) -> Result<(Judgement, Vec<u8>), AllocError>
+    ensures judged { (input : List ℕ) → IsContents contents input →
+        IfOk result (λ x. Judges (option_map (λ r. r.now) trusted.entry) input x.0) }
+    ensures told { IfOk result (λ x. IsTold format x.0 x.1.items) }
+{
+    match contents {
+        Contents::Whole(bytes) => told_of_whole(alloc, trusted, format, bytes),
+        Contents::Front(front) => told_of_front(alloc, format, &front),
+    }
+}
+
+/// Reads a file to its end, or up to where no evidence can have so many bytes or such first words, judges its bytes
+/// under the roster that is trusted, if one is, and writes in a format what is said of it: the line `exposed N`,
+/// with the node's number, or `no evidence`; after that line what the file shows, in plain words; or one JSON
+/// object with both, the line's words first as `verdict`.
 /// `Read` comes where a read failed, and then the reader's count rose and nothing was written; `Write` where a
 /// write failed: then a part of that text was written, and the writer's count rose. `NoMemory` comes where
 /// memory was refused, and then nothing was written.
@@ -259,8 +322,8 @@ pub fn check<R: Read, W: Write>(
         (W.contents writer.old.inner) (W.contents writer.new.inner)
         × Rises writer.old.count writer.new.count × (reader.new.count ≡ reader.old.count) }
 {
-    let bytes = all_bytes(alloc, reader)?;
-    let (judgement, text) = told(alloc, trusted, format, bytes)?;
+    let contents = read_contents(alloc, reader)?;
+    let (judgement, text) = told(alloc, trusted, format, contents)?;
     match write_bytes(writer, &text) {
         Ok(()) => Ok(judgement),
         Err(_) => Err(CheckFault::Write),

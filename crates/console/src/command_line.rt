@@ -2,6 +2,10 @@
 
 mod examples;
 mod request;
+mod serve;
+mod serve_numbers;
 
 pub use examples::lines_are_read;
 pub use request::{CheckRequest, Request, RunRequest, parse};
+pub use serve::ServeRequest;
+pub use serve_numbers::{ServeOrder, ServeRefusal, serve_order};

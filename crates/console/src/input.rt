@@ -1,25 +1,93 @@
 //! Files as bytes.
 
-ghost use Rattle.std.specs.Prelude.{◌≡◌, IfErr, IfOk, IfSome, IsErrOf, OnOk};
+ghost use Rattle.std.specs.Prelude.{◌≡◌, ◌++◌, ℕ, List, IfErr, IfOk, IfSome, IsErrOf, OnOk, false};
 ghost use Rattle.rpc.specs.Records.Count.{Rises};
-ghost use Rattle.console.specs.Checking.{IsRead};
+ghost use Rattle.console.specs.Checking.{HoldsNone, IsRead};
+ghost use Rattle.console.specs.Contents.{IsContents, IsWordAt};
 ghost use Rattle.console.specs.declared.fault.CheckFault.TheVariants.{NoMemory, Write};
 
 use crate::fault::CheckFault;
+use authenticator::MAX_MEMBERS;
 use rpc::records::Counting;
 use std::alloc::Global;
 use std::io::Read;
+use xdr::Reader;
 
 /// The bytes that are read at once.
 const PIECE: usize = 8192;
 
-/// All bytes that a reader gives, up to its end or to the first read that fails.
-pub(crate) fn all_bytes<R: Read>(
+/// The bytes of a file that are read before its first words are judged, so that all is told of a shorter one.
+const HEAD: usize = 65_536;
+
+/// The most bytes of a file with evidence.
+const LONGEST: usize = 1_916_554_608;
+
+/// The bytes of a member in a roster's text.
+const MEMBER: usize = 44;
+
+/// What was read of a file.
+#[derive(Drop)]
+pub(crate) enum Contents {
+    /// All of it.
+    Whole(Vec<u8>),
+    /// A beginning. No file that begins so, and is longer, holds a roster or evidence.
+    Front(Vec<u8>),
+}
+
+/// The word at a place, if one is there.
+fn word_at(bytes: &[u8], at: usize) -> Option<u32>
+    ensures { IfSome result (λ n. IsWordAt bytes.now at n) }
+{
+    if at > bytes.len() {
+        return None;
+    }
+    let mut reader = Reader::new(&bytes[at..]);
+    match reader.u32() {
+        Ok(word) => Some(word),
+        Err(_) => None,
+    }
+}
+
+/// Whether a file whose roster has so many members may hold evidence, by the charge after it.
+fn may_accuse(front: &[u8], count: u32) -> bool
+    requires { IsWordAt front.now 0 count }
+    ensures { result ≡ false → (more : List ℕ) → HoldsNone (front.now ++ more) }
+{
+    if count > MAX_MEMBERS {
+        return false;
+    }
+    match word_at(front, count as usize * MEMBER + 8) {
+        Some(charge) => charge == 1 || charge == 2,
+        None => true,
+    }
+}
+
+/// Whether a file that begins with these bytes may hold a roster or evidence, by how many they are, and, once the
+/// head of it is there, by the count of members and the charge.
+fn may_hold(front: &[u8]) -> bool
+    ensures { result ≡ false → (more : List ℕ) → HoldsNone (front.now ++ more) }
+{
+    if front.len() > LONGEST {
+        return false;
+    }
+    if front.len() < HEAD {
+        return true;
+    }
+    match word_at(front, 0) {
+        Some(count) => may_accuse(front, count),
+        None => true,
+    }
+}
+
+/// What a reader gives up to its end, or up to the first piece with which no roster and no evidence can have so many
+/// bytes or such first words. `Read` comes where a read failed, and then the reader's count rose; `NoMemory` where
+/// memory was refused.
+pub(crate) fn read_contents<R: Read>(
     alloc: Global,
     reader: &mut Counting<R>,
-) -> Result<Vec<u8>, CheckFault>
-    ensures bytes { IfOk result (λ bytes.
-        IfSome (R.remaining reader.old.inner) (λ input. bytes.items ≡ input)) }
+) -> Result<Contents, CheckFault>
+    ensures found { IfOk result (λ c.
+        IfSome (R.remaining reader.old.inner) (λ input. IsContents c input)) }
     ensures kept { OnOk result (reader.new.count ≡ reader.old.count) }
     ensures memory { IsErrOf result NoMemory → reader.new.count ≡ reader.old.count }
     ensures read { IfErr result (λ e. IsRead e → Rises reader.old.count reader.new.count) }
@@ -28,8 +96,11 @@ pub(crate) fn all_bytes<R: Read>(
     let mut bytes = Vec::new(alloc);
     let mut piece = [0; PIECE];
     for _ in 0..u64::MAX {
+        if !may_hold(&bytes) {
+            return Ok(Contents::Front(bytes));
+        }
         match reader.read(&mut piece) {
-            Ok(0) => return Ok(bytes),
+            Ok(0) => return Ok(Contents::Whole(bytes)),
             Ok(len) => bytes.extend_from_slice(&piece[..len])?,
             Err(error) => return Err(CheckFault::Read(error)),
         }

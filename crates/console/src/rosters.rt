@@ -1,14 +1,15 @@
 //! The roster in a file.
 
-ghost use Rattle.std.specs.Prelude.{◌≡◌, IfErr, IfNone, IfOk, IfSome, IsErrOf, None, OnOk};
+ghost use Rattle.std.specs.Prelude.{◌≡◌, ℕ, List, IfErr, IfNone, IfOk, IfSome, IsErrOf, None, OnOk};
 ghost use Rattle.xdr.specs.Texts.Text.{text_at};
 ghost use Rattle.challenge.specs.Cases.{case_text};
 ghost use Rattle.rpc.specs.Records.Count.{Rises};
 ghost use Rattle.console.specs.Checking.{HoldsNone, HoldsRoster, IsRead};
+ghost use Rattle.console.specs.Contents.{IsContents};
 ghost use Rattle.console.specs.declared.fault.CheckFault.TheVariants.{NoMemory, Write};
 
 use crate::fault::CheckFault;
-use crate::input::all_bytes;
+use crate::input::{Contents, read_contents};
 use authenticator::Roster;
 use challenge::{EvidenceFault, read_case};
 use explained_evidence::roster_facts;
@@ -42,9 +43,23 @@ fn roster_of_case(alloc: Global, bytes: Vec<u8>) -> Result<Option<Roster>, Alloc
     }
 }
 
-/// Reads a file to its end, and answers the roster in it: the file is a roster's text alone, or one with that
-/// of evidence after it; None where it is neither. `Read` comes where a read failed, and then the reader's
-/// count rose; `NoMemory` where memory was refused.
+/// The roster in a file of which this was read.
+fn roster_of(alloc: Global, contents: Contents) -> Result<Option<Roster>, AllocError>
+    ensures some { (input : List ℕ) → IsContents contents input →
+        IfOk result (λ r. IfSome r (HoldsRoster input)) }
+    ensures none { (input : List ℕ) → IsContents contents input →
+        IfOk result (λ r. IfNone r (HoldsNone input)) }
+{
+    match contents {
+        Contents::Whole(bytes) => roster_in(alloc, bytes),
+        Contents::Front(_) => Ok(None),
+    }
+}
+
+/// Reads a file to its end, or up to where no roster and no evidence can have so many bytes or such first words,
+/// and answers the roster in it: the file is a roster's text alone, or one with that of evidence after it; None
+/// where it is neither. `Read` comes where a read failed, and then the reader's count rose; `NoMemory` where memory
+/// was refused.
 pub fn read_roster<R: Read>(
     alloc: Global,
     reader: &mut Counting<R>,
@@ -58,8 +73,8 @@ pub fn read_roster<R: Read>(
     ensures read { IfErr result (λ e. IsRead e → Rises reader.old.count reader.new.count) }
     ensures written { IsErrOf result Write → ⊥ }
 {
-    let bytes = all_bytes(alloc, reader)?;
-    let roster = roster_in(alloc, bytes)?;
+    let contents = read_contents(alloc, reader)?;
+    let roster = roster_of(alloc, contents)?;
     Ok(roster)
 }
 

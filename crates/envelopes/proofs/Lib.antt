@@ -1,0 +1,1 @@
+pub use Rattle.secure_log.proofs as secure_log

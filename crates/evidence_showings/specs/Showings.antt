@@ -1,7 +1,7 @@
 -- Showings that have a text, and that end in their closings.
 use Rattle.std.specs.Prelude.{◌≡◌, ◌+◌, ◌<◌, length}
 use Rattle.xdr.specs.Item.{Fits}
-use Rattle.secure_log.specs.LogEntries.Chain.{last_hash}
+use Rattle.evidence_spec.specs.secure_log.LogEntries.Chain.{last_hash}
 use Rattle.evidence_spec.specs.Showing.{ShowingParts, numbered, showing_item, showing_value}
 
 -- A showing has a text.

@@ -5,15 +5,15 @@ use Rattle.std.proofs.Common.{ap, subst, ◌∙◌, arith}
 use Rattle.std.specs.Prelude.{IsSomeAnd, ◌↔◌, option_map}
 use Rattle.std.specs.List.{AllByRecursion}
 use Rattle.xdr.specs.Item.{Fits, optional}
-use Rattle.authenticator.specs.declared.authenticator.Authenticator.{Authenticator}
-use Rattle.authenticator.specs.declared.member.Member.{Member}
-use Rattle.authenticator.specs.Roster.{member_of}
-use Rattle.authenticator.specs.Signed.{IsSignedBy, IsSignedIn}
-use Rattle.authenticator.proofs.Members.{member_node}
-use Rattle.secure_log.specs.declared.log_entries.entry.Entry.{Entry}
-use Rattle.secure_log.specs.LogEntries.Chain.{zeros, hash_after, link_of, links_from, NoCollision, IsAmong}
-use Rattle.secure_log.specs.Log.{log_pairs}
-use Rattle.secure_log.specs.Segment.{SegmentParts, FitsWithin}
+use Rattle.replay_spec.specs.authenticator.declared.authenticator.Authenticator.{Authenticator}
+use Rattle.replay_spec.specs.authenticator.declared.member.Member.{Member}
+use Rattle.replay_spec.specs.authenticator.Roster.{member_of}
+use Rattle.replay_spec.specs.authenticator.Signed.{IsSignedBy, IsSignedIn}
+use Rattle.replay_spec.proofs.authenticator.Members.{member_node}
+use Rattle.replay_spec.specs.secure_log.declared.log_entries.entry.Entry.{Entry}
+use Rattle.replay_spec.specs.secure_log.LogEntries.Chain.{zeros, hash_after, link_of, links_from, NoCollision, IsAmong}
+use Rattle.replay_spec.specs.secure_log.Log.{log_pairs}
+use Rattle.replay_spec.specs.secure_log.Segment.{SegmentParts, FitsWithin}
 use Rattle.replay_spec.specs.state_spec.State.{State}
 use Rattle.replay_spec.specs.Placed.{Placed, placed}
 use Rattle.replay_spec.specs.Replay.{Honest, last_state, found, Sound, verdict_of}
@@ -26,7 +26,7 @@ use Rattle.evidence_spec.specs.Evidence.{AcceptsCharge}
 use Rattle.evidence_spec.specs.Proving.{IsLog, log_texts, showing_texts, option_texts, IsUnforged}
 use Rattle.evidence_spec.specs.Proving.{option_closings, Withstands, Proves}
 use Rattle.evidence_spec.specs.Laws.{IsPartOf}
-use Rattle.secure_log.proofs.OfLogEntries.FewerTexts.{Within, fewer, left, right, both}
+use Rattle.replay_spec.proofs.secure_log.OfLogEntries.FewerTexts.{Within, fewer, left, right, both}
 use Rattle.evidence_spec.proofs.Places.{entries_numbered, one_hash}
 use Rattle.evidence_spec.proofs.Shown.{showing_in_log, segment_is_part}
 

@@ -4,10 +4,10 @@ use Rattle.std.proofs.Common.{◌≡◌, ℕ, ◌+◌, ◌-◌, ◌<◌, List, [
 use Rattle.std.proofs.Common.{arith, append_assoc, length-append}
 use Rattle.std.proofs.lemmas.List.{length-replicate}
 use Rattle.std.specs.List.{AllByRecursion}
-use Rattle.secure_log.specs.LogEntries.Chain.{Link, IsLink, IsChain, IsEndOf, zeros, hash_after, last_hash}
-use Rattle.secure_log.specs.LogEntries.Chain.{pairs, chain_texts, NoCollision, IsAmong}
-use Rattle.secure_log.proofs.OfLogEntries.Chains.{chain_end}
-use Rattle.secure_log.proofs.OfLogEntries.FewerTexts.{Within, fewer, left, right, both, beginning}
+use Rattle.replay_spec.specs.secure_log.LogEntries.Chain.{Link, IsLink, IsChain, IsEndOf, zeros, hash_after, last_hash}
+use Rattle.replay_spec.specs.secure_log.LogEntries.Chain.{pairs, chain_texts, NoCollision, IsAmong}
+use Rattle.replay_spec.proofs.secure_log.OfLogEntries.Chains.{chain_end}
+use Rattle.replay_spec.proofs.secure_log.OfLogEntries.FewerTexts.{Within, fewer, left, right, both, beginning}
 use Rattle.evidence_spec.proofs.Places.{all_front, AreNumbered, behind, among}
 
 -- links stand in a log's chain from a number on, and the hash before them is this one

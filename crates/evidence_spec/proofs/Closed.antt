@@ -6,15 +6,15 @@ use Rattle.std.specs.List.{AllByRecursion}
 use Rattle.std.proofs.lemmas.List.{length-map}
 use Rattle.sha2.proofs.Facts256.{length-sha256}
 use Rattle.xdr.specs.Item.{Fits, word_where, array}
-use Rattle.authenticator.specs.declared.authenticator.Authenticator.{Authenticator}
-use Rattle.authenticator.specs.declared.member.Member.{Member}
-use Rattle.authenticator.specs.Signed.{IsSignedIn, authenticator_item, authenticator_value}
-use Rattle.secure_log.specs.declared.log_entries.entry.Entry.{Entry}
-use Rattle.secure_log.specs.declared.log_entries.entry.Entry.TheVariants.{Send, Recv, Ack, Clock, Check}
-use Rattle.secure_log.specs.LogEntries.Entry.{is_kind, kind_number, entry_value, content}
-use Rattle.secure_log.specs.LogEntries.Chain.{last_hash, links_from, link_of, pairs}
-use Rattle.secure_log.specs.declared.segment.TheConstants.{MAX_ENTRIES}
-use Rattle.secure_log.specs.Segment.{SegmentParts, IsClosed, FitsWithin, segment_pairs}
+use Rattle.replay_spec.specs.authenticator.declared.authenticator.Authenticator.{Authenticator}
+use Rattle.replay_spec.specs.authenticator.declared.member.Member.{Member}
+use Rattle.replay_spec.specs.authenticator.Signed.{IsSignedIn, authenticator_item, authenticator_value}
+use Rattle.replay_spec.specs.secure_log.declared.log_entries.entry.Entry.{Entry}
+use Rattle.replay_spec.specs.secure_log.declared.log_entries.entry.Entry.TheVariants.{Send, Recv, Ack, Clock, Check}
+use Rattle.replay_spec.specs.secure_log.LogEntries.Entry.{is_kind, kind_number, entry_value, content}
+use Rattle.replay_spec.specs.secure_log.LogEntries.Chain.{last_hash, links_from, link_of, pairs}
+use Rattle.replay_spec.specs.secure_log.declared.segment.TheConstants.{MAX_ENTRIES}
+use Rattle.replay_spec.specs.secure_log.Segment.{SegmentParts, IsClosed, FitsWithin, segment_pairs}
 use Rattle.evidence_spec.specs.Showing.{numbered, link_item, link_value, shown_link, authenticator_showing}
 use Rattle.evidence_spec.specs.Showing.{segment_showing}
 use Rattle.evidence_spec.specs.Laws.{ShowsPairs}

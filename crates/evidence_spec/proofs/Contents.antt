@@ -8,14 +8,14 @@ use Rattle.sha2.proofs.Facts256.{length-sha256}
 use Rattle.xdr.specs.Item.{Item, Value, Fits, word, hyper, fixed, pair, spelling}
 use Rattle.xdr.proofs.Exact.{one_meaning}
 use Rattle.merkle_keys.specs.Signing.{SignatureParts, signature_item, signature_value}
-use Rattle.secure_log.specs.LogEntries.Signatures.{signature_digest}
-use Rattle.secure_log.specs.declared.log_entries.entry.Entry.{Entry}
-use Rattle.secure_log.specs.declared.log_entries.entry.Entry.TheVariants.{Send, Recv, Ack, Clock, Check}
-use Rattle.secure_log.specs.LogEntries.Entry.{entry_item, entry_value, content}
-use Rattle.secure_log.specs.LogEntries.Chain.{NoCollision}
+use Rattle.replay_spec.specs.secure_log.LogEntries.Signatures.{signature_digest}
+use Rattle.replay_spec.specs.secure_log.declared.log_entries.entry.Entry.{Entry}
+use Rattle.replay_spec.specs.secure_log.declared.log_entries.entry.Entry.TheVariants.{Send, Recv, Ack, Clock, Check}
+use Rattle.replay_spec.specs.secure_log.LogEntries.Entry.{entry_item, entry_value, content}
+use Rattle.replay_spec.specs.secure_log.LogEntries.Chain.{NoCollision}
 use Rattle.evidence_spec.specs.Proving.{signature_text, entry_texts}
 use Rattle.evidence_spec.specs.Laws.{SameContent}
-use Rattle.secure_log.proofs.OfLogEntries.FewerTexts.{Within}
+use Rattle.replay_spec.proofs.secure_log.OfLogEntries.FewerTexts.{Within}
 
 -- values with one spelling are one
 one_value : (a : Item) (v w : Value a) → Fits a v → Fits a w → spelling a v ≡ spelling a w → v ≡ w

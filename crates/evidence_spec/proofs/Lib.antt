@@ -1,3 +1,4 @@
+pub use Rattle.replay_spec.proofs.secure_log as secure_log
 pub use Rattle.replay_spec.proofs as replay_spec
 pub mod Places
 pub mod Chained

@@ -3,12 +3,12 @@
 use Rattle.std.proofs.Common.{◌≡◌, ℕ, List, [], ◌++◌, Option, Some, None, sym, ◌∙◌, subst, arith}
 use Rattle.std.specs.Prelude.{IfSome, option_map}
 use Rattle.std.specs.List.{AllByRecursion}
-use Rattle.authenticator.specs.declared.authenticator.Authenticator.{Authenticator}
-use Rattle.authenticator.specs.declared.member.Member.{Member}
-use Rattle.authenticator.specs.Roster.{member_of}
-use Rattle.authenticator.specs.Signed.{IsSignedIn}
-use Rattle.secure_log.specs.declared.log_entries.entry.Entry.{Entry}
-use Rattle.secure_log.specs.LogEntries.Chain.{NoCollision, IsAmong}
+use Rattle.replay_spec.specs.authenticator.declared.authenticator.Authenticator.{Authenticator}
+use Rattle.replay_spec.specs.authenticator.declared.member.Member.{Member}
+use Rattle.replay_spec.specs.authenticator.Roster.{member_of}
+use Rattle.replay_spec.specs.authenticator.Signed.{IsSignedIn}
+use Rattle.replay_spec.specs.secure_log.declared.log_entries.entry.Entry.{Entry}
+use Rattle.replay_spec.specs.secure_log.LogEntries.Chain.{NoCollision, IsAmong}
 use Rattle.replay_spec.specs.state_spec.State.{State}
 use Rattle.replay_spec.specs.Opening.{opening_of}
 use Rattle.replay_spec.specs.HonestLogs.{IsHonestLog}
@@ -16,7 +16,7 @@ use Rattle.evidence_spec.specs.Showing.{authenticator_showing}
 use Rattle.evidence_spec.specs.Evidence.{ForkParts, Fork, EvidenceParts}
 use Rattle.evidence_spec.specs.Proving.{IsLog, log_texts, charge_texts, closings, option_texts}
 use Rattle.evidence_spec.specs.Proving.{option_closings, IsUnforged, Withstands, Proves}
-use Rattle.secure_log.proofs.OfLogEntries.FewerTexts.{fewer, both}
+use Rattle.replay_spec.proofs.secure_log.OfLogEntries.FewerTexts.{fewer, both}
 
 -- evidence whose texts are all those of an honest log, with no signature forged against it, proves nothing
 pub own_texts : (ms : List Member) (member : Member) (e : EvidenceParts) (log : List Entry) (s : State)

@@ -5,15 +5,15 @@ use Rattle.std.specs.Prelude.{slice_index}
 use Rattle.sha2.specs.Sha256.{first_words, schedule, rounds, compress, digest_bytes, sha256}
 use Rattle.sha2.specs.Sha256 as sha
 use Rattle.xdr.specs.Item.{number_spelling}
-use Rattle.authenticator.specs.declared.authenticator.Authenticator.{Authenticator}
-use Rattle.authenticator.specs.declared.member.Member.{Member}
-use Rattle.authenticator.specs.declared.member.Kind.TheVariants.{Client}
-use Rattle.authenticator.specs.Roster.{member_of}
-use Rattle.secure_log.specs.declared.log_entries.entry.Entry.{Entry}
-use Rattle.secure_log.specs.declared.log_entries.entry.Entry.TheVariants.{Clock}
-use Rattle.secure_log.specs.LogEntries.Entry.{content}
-use Rattle.secure_log.specs.LogEntries.Chain.{zeros, chain_text, link_of, NoCollision}
-use Rattle.secure_log.specs.Log.{log_hash}
+use Rattle.replay_spec.specs.authenticator.declared.authenticator.Authenticator.{Authenticator}
+use Rattle.replay_spec.specs.authenticator.declared.member.Member.{Member}
+use Rattle.replay_spec.specs.authenticator.declared.member.Kind.TheVariants.{Client}
+use Rattle.replay_spec.specs.authenticator.Roster.{member_of}
+use Rattle.replay_spec.specs.secure_log.declared.log_entries.entry.Entry.{Entry}
+use Rattle.replay_spec.specs.secure_log.declared.log_entries.entry.Entry.TheVariants.{Clock}
+use Rattle.replay_spec.specs.secure_log.LogEntries.Entry.{content}
+use Rattle.replay_spec.specs.secure_log.LogEntries.Chain.{zeros, chain_text, link_of, NoCollision}
+use Rattle.replay_spec.specs.secure_log.Log.{log_hash}
 use Rattle.replay_spec.specs.state_spec.State.{State, opening_client}
 use Rattle.replay_spec.specs.Steps.{after_entry}
 use Rattle.replay_spec.specs.Opening.{opening_of, opening_by}

@@ -5,11 +5,11 @@ use Rattle.std.proofs.Common.{arith}
 use Rattle.std.proofs.lemmas.Grind.{flat_map-append}
 use Rattle.std.specs.List.{AllByRecursion, flat_map}
 use Rattle.xdr.specs.Item.{Fits}
-use Rattle.secure_log.specs.declared.log_entries.entry.Entry.{Entry}
-use Rattle.secure_log.specs.LogEntries.Entry.{entry_item, entry_value}
-use Rattle.secure_log.specs.LogEntries.Chain.{Link, link_of, links_from, NoCollision, IsAmong}
+use Rattle.replay_spec.specs.secure_log.declared.log_entries.entry.Entry.{Entry}
+use Rattle.replay_spec.specs.secure_log.LogEntries.Entry.{entry_item, entry_value}
+use Rattle.replay_spec.specs.secure_log.LogEntries.Chain.{Link, link_of, links_from, NoCollision, IsAmong}
 use Rattle.evidence_spec.specs.Proving.{entry_texts}
-use Rattle.secure_log.proofs.OfLogEntries.FewerTexts.{Within, left, right}
+use Rattle.replay_spec.proofs.secure_log.OfLogEntries.FewerTexts.{Within, left, right}
 use Rattle.evidence_spec.proofs.Places.{all_front, length-links}
 use Rattle.evidence_spec.proofs.Contents.{one_entry}
 

@@ -3,8 +3,8 @@
 use Rattle.std.proofs.Common.{◌≡◌, ℕ, suc, ◌+◌, List, [], ◌∷◌, ◌++◌, length, inl, inr, refl, sym, ap, ap₂}
 use Rattle.std.proofs.Common.{subst, ◌∙◌, arith}
 use Rattle.std.specs.List.{AllByRecursion}
-use Rattle.secure_log.specs.declared.log_entries.entry.Entry.{Entry}
-use Rattle.secure_log.specs.LogEntries.Chain.{Link, hash_after, last_hash, pairs, links_from, IsAmong}
+use Rattle.replay_spec.specs.secure_log.declared.log_entries.entry.Entry.{Entry}
+use Rattle.replay_spec.specs.secure_log.LogEntries.Chain.{Link, hash_after, last_hash, pairs, links_from, IsAmong}
 use Rattle.evidence_spec.specs.Showing.{ShownLink, numbered}
 
 -- links are numbered one after the other, from `first` on

@@ -5,21 +5,21 @@ use Rattle.std.specs.Prelude.{IsTrue}
 use Rattle.std.proofs.lemmas.Bool.{ltb-true}
 use Rattle.std.specs.List.{AllByRecursion, flat_map}
 use Rattle.xdr.specs.Item.{Fits}
-use Rattle.authenticator.specs.Numbers.{is_number}
-use Rattle.authenticator.specs.declared.member.Member.{Member}
-use Rattle.secure_log.specs.declared.log_entries.entry.Entry.{Entry}
-use Rattle.secure_log.specs.LogEntries.Chain.{IsLink, IsChain, zeros, links_from, chain_texts, NoCollision}
-use Rattle.secure_log.specs.LogEntries.Chain.{IsAmong}
-use Rattle.secure_log.proofs.OfLogEntries.Chains.{links-are-links}
-use Rattle.secure_log.specs.Log.{log_pairs}
-use Rattle.secure_log.specs.Segment.{SegmentParts, IsClosed, FitsWithin, segment_pairs}
-use Rattle.secure_log.proofs.Places.{is_chain}
+use Rattle.replay_spec.specs.authenticator.Numbers.{is_number}
+use Rattle.replay_spec.specs.authenticator.declared.member.Member.{Member}
+use Rattle.replay_spec.specs.secure_log.declared.log_entries.entry.Entry.{Entry}
+use Rattle.replay_spec.specs.secure_log.LogEntries.Chain.{IsLink, IsChain, zeros, links_from, chain_texts, NoCollision}
+use Rattle.replay_spec.specs.secure_log.LogEntries.Chain.{IsAmong}
+use Rattle.replay_spec.proofs.secure_log.OfLogEntries.Chains.{links-are-links}
+use Rattle.replay_spec.specs.secure_log.Log.{log_pairs}
+use Rattle.replay_spec.specs.secure_log.Segment.{SegmentParts, IsClosed, FitsWithin, segment_pairs}
+use Rattle.replay_spec.proofs.secure_log.Places.{is_chain}
 use Rattle.evidence_spec.specs.Showing.{ShownLink, ShowingParts, IsClosedShowing, Shows, link_item}
 use Rattle.evidence_spec.specs.Showing.{link_value, showing_item, showing_value, numbered}
 use Rattle.evidence_spec.specs.Evidence.{MAX_AUDITED}
 use Rattle.evidence_spec.specs.Proving.{IsLog, entry_texts, log_texts, segment_texts, showing_texts}
 use Rattle.evidence_spec.specs.Laws.{IsPartOf}
-use Rattle.secure_log.proofs.OfLogEntries.FewerTexts.{Within, fewer, left, right, both}
+use Rattle.replay_spec.proofs.secure_log.OfLogEntries.FewerTexts.{Within, fewer, left, right, both}
 use Rattle.evidence_spec.proofs.Places.{entries_numbered, shown_numbered, length-numbered, length-links}
 use Rattle.evidence_spec.proofs.Chained.{IsPartOfChain, zeros-length, ends_in_log, shown_in_log}
 use Rattle.evidence_spec.proofs.Parts.{each_of_values, entries_in_log}

@@ -3,11 +3,11 @@ use Rattle.std.specs.Prelude.{◌≡◌, ◌≢◌, ℕ, Bool, true, false, ◌=
 use Rattle.std.specs.Prelude.{Option, Some, None, option_map}
 use Rattle.xdr.specs.Item.{Item, Value, word, pair, choice, optional}
 use Rattle.xdr.specs.Texts.Text.{Text}
-use Rattle.authenticator.specs.declared.member.Member.{Member}
-use Rattle.authenticator.specs.Roster.{member_of}
-use Rattle.authenticator.specs.Numbers.{number_item}
-use Rattle.secure_log.specs.LogEntries.Chain.{zeros}
-use Rattle.secure_log.specs.Segment.{SegmentParts, IsClosed, bounded_item, segment_value, is_whole}
+use Rattle.replay_spec.specs.authenticator.declared.member.Member.{Member}
+use Rattle.replay_spec.specs.authenticator.Roster.{member_of}
+use Rattle.replay_spec.specs.authenticator.Numbers.{number_item}
+use Rattle.replay_spec.specs.secure_log.LogEntries.Chain.{zeros}
+use Rattle.replay_spec.specs.secure_log.Segment.{SegmentParts, IsClosed, bounded_item, segment_value, is_whole}
 use Rattle.replay_spec.specs.Placed.{placed_in}
 use Rattle.replay_spec.specs.Stepping.{ReplayFault}
 use Rattle.replay_spec.specs.Replay.{Fault, verdict_of}

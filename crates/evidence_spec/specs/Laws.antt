@@ -4,18 +4,18 @@ use Rattle.std.specs.Prelude.{Option, Some, option_map, IfSome}
 use Rattle.std.specs.List.{AllByRecursion}
 use Rattle.sha2.specs.Sha256.{sha256}
 use Rattle.xdr.specs.Item.{Fits}
-use Rattle.authenticator.specs.declared.member.Member.{Member}
-use Rattle.authenticator.specs.declared.member.Kind.TheVariants.{Client}
-use Rattle.authenticator.specs.declared.authenticator.Authenticator.{Authenticator}
-use Rattle.authenticator.specs.Roster.{member_of}
-use Rattle.authenticator.specs.Signed.{IsSignedIn, authenticator_item, authenticator_value}
-use Rattle.secure_log.specs.LogEntries.Chain.{zeros, NoCollision, IsAmong}
-use Rattle.secure_log.specs.LogEntries.Entry.{entry_item, entry_value, kind_number, content}
-use Rattle.secure_log.specs.declared.log_entries.entry.Entry.{Entry}
-use Rattle.secure_log.specs.declared.log_entries.entry.Entry.TheVariants.{Clock}
-use Rattle.secure_log.specs.Log.{log_hash, log_pairs}
-use Rattle.secure_log.specs.Segment.{SegmentParts, IsClosed, FitsWithin, segment_pairs}
-use Rattle.secure_log.specs.declared.segment.TheConstants.{MAX_ENTRIES}
+use Rattle.replay_spec.specs.authenticator.declared.member.Member.{Member}
+use Rattle.replay_spec.specs.authenticator.declared.member.Kind.TheVariants.{Client}
+use Rattle.replay_spec.specs.authenticator.declared.authenticator.Authenticator.{Authenticator}
+use Rattle.replay_spec.specs.authenticator.Roster.{member_of}
+use Rattle.replay_spec.specs.authenticator.Signed.{IsSignedIn, authenticator_item, authenticator_value}
+use Rattle.replay_spec.specs.secure_log.LogEntries.Chain.{zeros, NoCollision, IsAmong}
+use Rattle.replay_spec.specs.secure_log.LogEntries.Entry.{entry_item, entry_value, kind_number, content}
+use Rattle.replay_spec.specs.secure_log.declared.log_entries.entry.Entry.{Entry}
+use Rattle.replay_spec.specs.secure_log.declared.log_entries.entry.Entry.TheVariants.{Clock}
+use Rattle.replay_spec.specs.secure_log.Log.{log_hash, log_pairs}
+use Rattle.replay_spec.specs.secure_log.Segment.{SegmentParts, IsClosed, FitsWithin, segment_pairs}
+use Rattle.replay_spec.specs.secure_log.declared.segment.TheConstants.{MAX_ENTRIES}
 use Rattle.replay_spec.specs.state_spec.State.{State}
 use Rattle.replay_spec.specs.Opening.{opening_of}
 use Rattle.replay_spec.specs.HonestLogs.{IsHonestLog}

@@ -4,16 +4,16 @@ use Rattle.std.specs.Prelude.{◌≡◌, ℕ, ◌<◌, ◌^◌, List, [], ◌∷
 use Rattle.std.specs.List.{AllByRecursion}
 use Rattle.xdr.specs.Item.{Fits, spelling}
 use Rattle.merkle_keys.specs.Signing.{SignatureParts, signature_item, signature_value}
-use Rattle.authenticator.specs.declared.member.Member.{Member}
-use Rattle.authenticator.specs.declared.authenticator.Authenticator.{Authenticator}
-use Rattle.authenticator.specs.Roster.{member_of}
-use Rattle.authenticator.specs.Signed.{IsSignedIn}
-use Rattle.secure_log.specs.declared.log_entries.entry.Entry.{Entry}
-use Rattle.secure_log.specs.declared.log_entries.entry.Entry.TheVariants.{Send, Recv, Ack, Clock, Check}
-use Rattle.secure_log.specs.LogEntries.Entry.{entry_item, entry_value, content}
-use Rattle.secure_log.specs.LogEntries.Chain.{zeros, links_from, chain_texts, NoCollision, IsAmong}
-use Rattle.secure_log.specs.Log.{log_pairs}
-use Rattle.secure_log.specs.Segment.{SegmentParts}
+use Rattle.replay_spec.specs.authenticator.declared.member.Member.{Member}
+use Rattle.replay_spec.specs.authenticator.declared.authenticator.Authenticator.{Authenticator}
+use Rattle.replay_spec.specs.authenticator.Roster.{member_of}
+use Rattle.replay_spec.specs.authenticator.Signed.{IsSignedIn}
+use Rattle.replay_spec.specs.secure_log.declared.log_entries.entry.Entry.{Entry}
+use Rattle.replay_spec.specs.secure_log.declared.log_entries.entry.Entry.TheVariants.{Send, Recv, Ack, Clock, Check}
+use Rattle.replay_spec.specs.secure_log.LogEntries.Entry.{entry_item, entry_value, content}
+use Rattle.replay_spec.specs.secure_log.LogEntries.Chain.{zeros, links_from, chain_texts, NoCollision, IsAmong}
+use Rattle.replay_spec.specs.secure_log.Log.{log_pairs}
+use Rattle.replay_spec.specs.secure_log.Segment.{SegmentParts}
 use Rattle.replay_spec.specs.state_spec.State.{State}
 use Rattle.replay_spec.specs.Opening.{opening_of}
 use Rattle.replay_spec.specs.HonestLogs.{IsHonestLog}

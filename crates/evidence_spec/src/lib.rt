@@ -5,3 +5,4 @@ pub mod laws;
 mod limits;
 
 pub use limits::MAX_AUDITED;
+pub use replay_spec::secure_log_code;

@@ -1,3 +1,4 @@
+pub use Rattle.xdr.specs as xdr
 pub use Rattle.fs_model.specs as fs_model
 pub use Rattle.fs_model.specs.nfs_items as nfs_items
 pub mod FileItems

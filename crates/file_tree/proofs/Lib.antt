@@ -3,6 +3,9 @@ pub use Rattle.inode_table.proofs.tree_rules as tree_rules
 mod OfNameChecks
 pub mod OfFileChecks
 mod FilesSeen
+mod KeptDigests
+mod RenewedDigests
+pub mod WritableFiles
 mod LookUpPaths
 mod PageNames
 mod CreatedFiles

@@ -1,6 +1,7 @@
 //! The files of a server, as a tree of directories.
 #![tactic(auto)]
 
+mod digests;
 pub mod file_checks;
 mod limits;
 mod linking;

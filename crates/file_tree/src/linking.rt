@@ -35,6 +35,8 @@ impl Tree {
             return Ok(Err(stat));
         }
         self.table.link(now, number, dir, name.to_vec(alloc)?)?;
+        self.digests.forget(number);
+        self.digests.forget(dir);
         Ok(Ok(()))
     }
 }

@@ -86,7 +86,9 @@ impl Tree {
         self.table.files_are_a_tree();
         let body = Body::zeros(alloc, given.size.unwrap_or(0))?;
         let inode = Inode::new(who, now, given, 0o644, body);
-        Ok(Ok(self.table.make(now, dir, name.to_vec(alloc)?, inode)?))
+        let number = self.table.make(now, dir, name.to_vec(alloc)?, inode)?;
+        self.digests.forget(dir);
+        Ok(Ok(number))
     }
 
     /// Makes a directory (RFC 1094, section 2.2.15), and gives its number. Stale, NotDir, Acces, Exist and
@@ -171,6 +173,8 @@ impl Tree {
         if let Err(stat) = check_make(&self.table, who, dir, name, inode.body.blocks()) {
             return Ok(Err(stat));
         }
-        Ok(Ok(self.table.make(now, dir, name.to_vec(alloc)?, inode)?))
+        let number = self.table.make(now, dir, name.to_vec(alloc)?, inode)?;
+        self.digests.forget(dir);
+        Ok(Ok(number))
     }
 }

@@ -1,14 +1,17 @@
 //! A tree from its files, and its files in order.
 
-ghost use Rattle.std.specs.Prelude.{◌≡◌, IfOk, IsTrue};
+ghost use Rattle.std.specs.Prelude.{◌≡◌, ◌≤◌, IfOk, IfSome, IsTrue};
 ghost use Rattle.std.specs.FinMap as finite;
+ghost use Rattle.nfs_spec.specs.fs_model.Maxima.{max_files};
 ghost use Rattle.nfs_spec.specs.fs_model.Trees.{IsFileTree};
 ghost use Rattle.nfs_spec.specs.fs_model.Changes.Limits.{has_room};
 ghost use Rattle.inode_table.specs.nfs_laws.Sizes.Bounds.{AreWords};
 ghost use Rattle.inode_table.specs.tree_rules.FileRules.Rules.{AreRising, numbers_of};
 ghost use Rattle.inode_table.specs.inodes.Inodes.{files_of};
 ghost use Rattle.inode_table.specs.tree_rules.Listed.{files_in};
+ghost use Rattle.file_tree.specs.KeptDigests.{IsDigestAt};
 
+use crate::digests::FileDigests;
 use crate::tree::Tree;
 use inode_table::InodeTable;
 use inode_table::inodes_code::Inode;
@@ -34,6 +37,7 @@ impl Tree {
     {
         Ok(Tree {
             table: InodeTable::of_inodes(alloc, fsid, next, inodes)?,
+            digests: FileDigests::new(alloc),
         })
     }
 
@@ -42,6 +46,24 @@ impl Tree {
         ensures { result ≡ self.now.next }
     {
         self.table.next()
+    }
+
+    /// The digest of the text of a number's file (`file_texts::file_digest`), where one is kept.
+    pub fn kept_digest(&self, number: u32) -> Option<&[u8; 32]>
+        ensures { IfSome result (λ digest. IsDigestAt self.now number digest.now) }
+    {
+        self.digests.get(number)
+    }
+
+    /// Computes the digests of files' texts that are missing, and gives how many they were; the files stay.
+    /// From then on all are kept, and a call that changes files drops the digests of those files alone. Where
+    /// memory is refused, some more may be kept.
+    pub fn renew_digests(&mut self, alloc: Global) -> Result<u32, AllocError>
+        ensures same { self.new ≡ self.old }
+        ensures count { IfOk result (λ count. count ≤ max_files) }
+    {
+        self.table.files_are_a_tree();
+        self.digests.renew(alloc, &self.table)
     }
 
     /// The files, lent as inodes with their numbers, which rise.

@@ -23,6 +23,8 @@ impl Tree {
         self.table.files_are_a_tree();
         let number = check_remove(&self.table, who, dir, name)?;
         self.table.unlink(now, dir, name, number);
+        self.digests.forget(number);
+        self.digests.forget(dir);
         Ok(())
     }
 
@@ -37,6 +39,8 @@ impl Tree {
         self.table.files_are_a_tree();
         let number = check_remove_dir(&self.table, who, dir, name)?;
         self.table.unlink(now, dir, name, number);
+        self.digests.forget(number);
+        self.digests.forget(dir);
         Ok(())
     }
 }

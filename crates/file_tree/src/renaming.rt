@@ -49,6 +49,10 @@ impl Tree {
         let name = to_name.to_vec(alloc)?;
         self.table
             .rename(now, number, from, from_name, to, name, target)?;
+        self.digests.forget(number);
+        self.digests.forget(from);
+        self.digests.forget(to);
+        self.digests.forget(target.unwrap_or(number));
         Ok(Ok(()))
     }
 }

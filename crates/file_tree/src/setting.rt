@@ -48,6 +48,10 @@ impl Tree {
             return Ok(Err(stat));
         }
         self.table.set(now, number, given)?;
+        if !given.is_any() {
+            return Ok(Ok(()));
+        }
+        self.digests.forget(number);
         Ok(Ok(()))
     }
 
@@ -72,6 +76,7 @@ impl Tree {
             return Ok(Ok(()));
         }
         self.table.write(now, number, offset, bytes)?;
+        self.digests.forget(number);
         Ok(Ok(()))
     }
 }

@@ -11,6 +11,7 @@ ghost use Rattle.nfs_spec.specs.Opening.{opening_files};
 ghost use Rattle.inode_table.specs.nfs_laws.Sizes.Bounds.{AreWords};
 ghost use Rattle.file_tree.specs.LookUps.{LeadsOn, LeadsBack};
 
+use crate::digests::FileDigests;
 use inode_table::InodeTable;
 use nfs_spec::nfs_items_code::{Fattr, Stat, Who};
 use std::alloc::{AllocError, Global};
@@ -20,6 +21,8 @@ use std::marker::Model;
 #[derive(Drop)]
 pub struct Tree {
     pub(crate) table: InodeTable,
+    /// Digests of the files' texts, of as many as are kept.
+    pub(crate) digests: FileDigests,
 }
 
 impl Model for Tree {
@@ -29,7 +32,11 @@ impl Model for Tree {
 
     ghost coded = { files_code };
 
+    ghost use Rattle.file_tree.specs.KeptDigests.{AreKept};
+
     ghost view = { λ t. t.table };
+
+    ghost invariant = { λ t. AreKept t.digests t.table };
 }
 
 impl Tree {
@@ -40,6 +47,7 @@ impl Tree {
     {
         Ok(Tree {
             table: InodeTable::opening(alloc, fsid)?,
+            digests: FileDigests::new(alloc),
         })
     }
 

@@ -6,8 +6,8 @@ use Rattle.std.specs.List.{AllByRecursion, flat_map}
 use Rattle.std.proofs.lemmas.List.{length-append, length-replicate}
 use Rattle.xdr.specs.Item.{Fits, spelling, number_spelling, padding, word, opaque}
 use Rattle.xdr.proofs.Front.{length-number_spelling}
-use Rattle.nfs_items.specs.Caller.{Caller}
-use Rattle.nfs_items.specs.Handle.{handle_of}
+use Rattle.mount_types.specs.nfs_items.Caller.{Caller}
+use Rattle.mount_types.specs.nfs_items.Handle.{handle_of}
 use Rattle.file_tree.specs.fs_model.Files.{Files}
 use Rattle.mount_types.specs.declared.arguments.MountProcedure.TheVariants as procedures
 use Rattle.mount_types.specs.Calls as calls

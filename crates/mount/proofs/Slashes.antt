@@ -6,7 +6,7 @@ use Rattle.std.specs.Prelude.{nat_lt, if◌then◌else◌}
 use Rattle.std.specs.Option.{is_some}
 use Rattle.std.specs.List.{filter, list_all, slice_split, onto_first}
 use Rattle.std.proofs.lemmas.Bool.{lt-ltb}
-use Rattle.nfs_items.specs.Terms.{Name}
+use Rattle.mount_types.specs.nfs_items.Terms.{Name}
 use Rattle.file_tree.specs.fs_model.Paths.{DirectoryEntries, path_at}
 use Rattle.mount.specs.Paths.{slash, names_between, names_on}
 use Rattle.mount.specs.Walks.{is_root, is_there}

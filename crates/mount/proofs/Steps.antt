@@ -7,10 +7,10 @@ use Rattle.std.specs.List.{filter, list_any}
 use Rattle.std.specs.Str.{bytes_eq}
 use Rattle.std.proofs.lemmas.Bool.{ltb-true}
 use Rattle.std.proofs.lemmas.Slice.Eq.{bytes_eq-Decides}
-use Rattle.nfs_items.specs.Handle.{FileHandle}
-use Rattle.nfs_items.specs.Caller.{Caller}
-use Rattle.nfs_items.specs.Terms.{Name}
-use Rattle.nfs_items.specs.declared.stat.Stat.TheVariants.{NoEnt, Acces, NoSpc}
+use Rattle.mount_types.specs.nfs_items.Handle.{FileHandle}
+use Rattle.mount_types.specs.nfs_items.Caller.{Caller}
+use Rattle.mount_types.specs.nfs_items.Terms.{Name}
+use Rattle.mount_types.specs.nfs_items.declared.stat.Stat.TheVariants.{NoEnt, Acces, NoSpc}
 use Rattle.file_tree.specs.fs_model.Files.{Files, directory_entries}
 use Rattle.file_tree.specs.fs_model.Paths.{path_at}
 use Rattle.mount_types.specs.Calls as calls

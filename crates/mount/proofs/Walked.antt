@@ -6,7 +6,7 @@ use Rattle.std.specs.Prelude.{nat_lt, if◌then◌else◌}
 use Rattle.std.specs.Option.{is_some, option_map_or}
 use Rattle.std.specs.List.{filter}
 use Rattle.std.proofs.lemmas.List.{at_drop_more, at_drop_all}
-use Rattle.nfs_items.specs.Terms.{Name}
+use Rattle.mount_types.specs.nfs_items.Terms.{Name}
 use Rattle.file_tree.specs.fs_model.Listing.{DirectoryEntry, file_number}
 use Rattle.file_tree.specs.fs_model.Paths.{DirectoryEntries, walk}
 use Rattle.mount.specs.Walks.{number_after}

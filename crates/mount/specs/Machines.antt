@@ -1,6 +1,6 @@
 -- Callers of the worked calls.
 use Rattle.std.specs.Prelude.{[], Some, codes}
-use Rattle.nfs_items.specs.Caller.{Caller}
+use Rattle.mount_types.specs.nfs_items.Caller.{Caller}
 use Rattle.mount_types.specs.Calls.{HostName}
 
 -- a machine

@@ -2,10 +2,10 @@
 -- it. The files stay, and permissions aren't looked at.
 use Rattle.std.specs.Prelude.{List, [], ◌∷◌, ◌++◌, length, nat_lt, Option, Some, None, Ok, Err, is_some}
 use Rattle.std.specs.Prelude.{unwrap_or, if◌then◌else◌}
-use Rattle.nfs_items.specs.Handle.{handle_of}
-use Rattle.nfs_items.specs.Caller.{Caller}
-use Rattle.nfs_items.specs.Terms.{Name}
-use Rattle.nfs_items.specs.declared.stat.Stat.TheVariants.{NoEnt, Acces, NoSpc}
+use Rattle.mount_types.specs.nfs_items.Handle.{handle_of}
+use Rattle.mount_types.specs.nfs_items.Caller.{Caller}
+use Rattle.mount_types.specs.nfs_items.Terms.{Name}
+use Rattle.mount_types.specs.nfs_items.declared.stat.Stat.TheVariants.{NoEnt, Acces, NoSpc}
 use Rattle.file_tree.specs.fs_model.Files.{Files, directory_entries}
 use Rattle.file_tree.specs.fs_model.Paths.{path_at}
 use Rattle.mount_types.specs.Calls.{HostName, MountCall, Null, Mnt, Dump, Umnt, Umntall, Export, MountAnswer}

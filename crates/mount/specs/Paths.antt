@@ -1,7 +1,7 @@
 -- The names on a path of bytes (RFC 1094, appendix A.4.3, dirpath).
 use Rattle.std.specs.Prelude.{ℕ, ◌==◌, nat_lt, List, [], ◌∷◌, length, Option, Some, None, if◌then◌else◌}
 use Rattle.std.specs.List.{filter, slice_split}
-use Rattle.nfs_items.specs.Terms.{Name}
+use Rattle.mount_types.specs.nfs_items.Terms.{Name}
 use Rattle.mount_types.specs.Calls.{DirPath}
 
 -- the byte between names

@@ -2,7 +2,7 @@
 -- and whether it leads to something.
 use Rattle.std.specs.Prelude.{Bool, true, false, nat_lt, List, [], ◌∷◌, length, Option, Some, None, is_some}
 use Rattle.std.specs.Prelude.{option_map, if◌then◌else◌}
-use Rattle.nfs_items.specs.Terms.{Name, FileNumber}
+use Rattle.mount_types.specs.nfs_items.Terms.{Name, FileNumber}
 use Rattle.file_tree.specs.fs_model.Listing.{file_number}
 use Rattle.file_tree.specs.fs_model.Paths.{DirectoryEntries, path_at}
 

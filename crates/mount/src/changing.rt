@@ -10,7 +10,7 @@ use crate::paths::{ROOT, is_root, is_there};
 use crate::table::MountTable;
 use file_tree::Tree;
 use mount_types::MountResult;
-use nfs_items::{FileHandle, Stat};
+use mount_types::nfs_items_code::{FileHandle, Stat};
 use std::alloc::{AllocError, Global};
 
 /// A machine mounts the root (RFC 1094, appendix A.5.2): NoSpc where 40 others have it mounted.

@@ -2,8 +2,8 @@
 
 ghost use Rattle.std.specs.Prelude.{◌≡◌, ◌≢◌, ◌≤◌, true, false, IsTrue, Ok, length};
 ghost use Rattle.xdr.specs.Item.{Fits};
-ghost use Rattle.nfs_items.specs.Caller.{Caller};
-ghost use Rattle.nfs_items.specs.Handle.{FileHandle};
+ghost use Rattle.mount_types.specs.nfs_items.Caller.{Caller};
+ghost use Rattle.mount_types.specs.nfs_items.Handle.{FileHandle};
 ghost use Rattle.file_tree.specs.fs_model.Files.{Files};
 ghost use Rattle.mount_types.specs.declared.limits.TheConstants.{MNTNAMLEN};
 ghost use Rattle.mount_types.specs.Calls.{HostName, DirPath, MountCall, Mnt, Umnt, Umntall, Mounted};

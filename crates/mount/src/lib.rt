@@ -3,7 +3,7 @@
 
 ghost use Rattle.std.specs.Prelude.{◌≡◌, ◌≤◌, [], ◌∷◌, IfSome, OnOk, OnErr, length};
 ghost use Rattle.xdr.specs.Writing.{Appends};
-ghost use Rattle.nfs_items.specs.CallerOf.{caller_of};
+ghost use Rattle.mount_types.specs.nfs_items.CallerOf.{caller_of};
 ghost use Rattle.mount_types.specs.Bounds.{HasBounds};
 ghost use Rattle.mount_types.specs.Texts.{answer_text};
 ghost use Rattle.mount_types.specs.Arguments.{call_of};
@@ -21,8 +21,8 @@ pub mod worked;
 
 use changing::{mount, unmount};
 use file_tree::Tree;
+use mount_types::nfs_items_code::Who;
 use mount_types::{MNT_ANSWER, MountArgs, MountResult, write_mount_result};
-use nfs_items::Who;
 use paths::root_path;
 use std::alloc::{AllocError, Global};
 pub use table::MountTable;

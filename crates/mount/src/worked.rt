@@ -1,9 +1,9 @@
 //! Calls on the files that a server begins with.
 
 ghost use Rattle.std.specs.Prelude.{◌≡◌, false, [], ◌∷◌, codes, Some, None, Ok, Err, length};
-ghost use Rattle.nfs_items.specs.Caller.{Caller};
-ghost use Rattle.nfs_items.specs.Handle.{handle_of};
-ghost use Rattle.nfs_items.specs.declared.stat.Stat.TheVariants as stats;
+ghost use Rattle.mount_types.specs.nfs_items.Caller.{Caller};
+ghost use Rattle.mount_types.specs.nfs_items.Handle.{handle_of};
+ghost use Rattle.mount_types.specs.nfs_items.declared.stat.Stat.TheVariants as stats;
 ghost use Rattle.file_tree.specs.nfs_spec.Opening.{opening_files};
 ghost use Rattle.mount_types.specs.Calls.{HostName, Mnt, Umnt, Umntall, Nothing, Mounted};
 ghost use Rattle.mount_types.specs.Mounts.{Mounts, root_of, is_listed};

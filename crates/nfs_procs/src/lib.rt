@@ -10,6 +10,8 @@ ghost use Rattle.file_tree.specs.nfs_types.Arguments.{call_of};
 ghost use Rattle.nfs_laws.specs.nfs_spec.NfsCalls.{call_does};
 ghost use Rattle.nfs_laws.specs.Steps.Answers.{only_reads};
 
+pub use nfs_items as nfs_items_code;
+
 mod changing;
 mod handles;
 mod reading;

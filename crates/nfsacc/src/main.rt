@@ -1,15 +1,23 @@
 //! `nfsacc`: an accountable file service.
 #![tactic(auto)]
 
+mod devices;
+mod errors;
+mod master;
+mod serve;
 mod shelf;
 
-use authenticator::Roster;
 use clap::error::ErrorKind;
-use console::command_line::{CheckRequest, Request, RunRequest, parse};
+use console::authenticator_code::Roster;
+use console::command_line::{CheckRequest, Request, RunRequest, ServeRefusal, parse, serve_order};
 use console::{CheckFault, Format, Judgement, Reason, check, read_roster, write_roster};
+use devices::Remembering;
+use errors::ErrorWriter;
 use rpc::records::{Counting, RecordFault, RecordReader};
 use rpc_streams::run_rpc;
+use scripts::serving_code::serve;
 use scripts::{ScriptEnd, ScriptFault, run_script};
+use serve::{open, order_of, report_served};
 use shelf::FileShelf;
 use std::io::{BufReader, Read};
 use std::process::ExitCode;
@@ -20,29 +28,39 @@ use std::{env, fs, io};
 
 /// The statuses of the program beside 0, which is done. A fault in the input: the records end with one, a file
 /// is no evidence or has no roster, or a script has a bad line.
-const INPUT_FAULT: u8 = 1;
+pub(crate) const INPUT_FAULT: u8 = 1;
 
 /// The words of the command line ask for nothing that there is.
-const COMMAND_LINE: u8 = 2;
+pub(crate) const COMMAND_LINE: u8 = 2;
 
 /// Memory was refused.
 const NO_MEMORY: u8 = 3;
 
 /// A read or a write failed.
-const DEVICE: u8 = 4;
+pub(crate) const DEVICE: u8 = 4;
+
+/// How lines on standard error name the devices that have no name of their own.
+const STANDARD_INPUT: &str = "standard input";
+
+const STANDARD_OUTPUT: &str = "standard output";
 
 /// The bytes that are read at once: as many as a pipe holds.
 const READ_AHEAD: usize = 65536;
 
 /// Answers the records of standard input on standard output.
 fn rpc<R: Input + Print + Eprint + AllocGlobal>(rt: &R) -> u8 {
-    let Ok(input) = BufReader::with_capacity(rt.alloc(), READ_AHEAD, rt.reader()) else {
+    let device = Remembering::new(rt.reader());
+    let Ok(input) = BufReader::with_capacity(rt.alloc(), READ_AHEAD, device) else {
         return report_no_memory(rt);
     };
     let mut reader = RecordReader::new(Counting::new(input));
-    let mut writer = Counting::new(io::writer(rt));
+    let mut writer = Counting::new(Remembering::new(io::writer(rt)));
     match run_rpc(rt.alloc(), &mut reader, &mut writer) {
         Ok(_) => 0,
+        Err(RecordFault::Device) => match reader.get_ref().get_ref().get_ref().last() {
+            Some(error) => report_file(rt, STANDARD_INPUT, &error),
+            None => report_output(rt, writer.get_ref().last()),
+        },
         Err(fault) => report_fault(rt, fault),
     }
 }
@@ -51,10 +69,7 @@ fn rpc<R: Input + Print + Eprint + AllocGlobal>(rt: &R) -> u8 {
 fn report_fault(rt: &impl Eprint, fault: RecordFault) -> u8 {
     match fault {
         RecordFault::NoMemory => report_no_memory(rt),
-        RecordFault::Device => {
-            let _ = rt.eprintln("nfsacc: a device failed");
-            DEVICE
-        }
+        RecordFault::Device => report_output(rt, None),
         RecordFault::RecordTooLong | RecordFault::EndInRecord => {
             let number = fault.number().unwrap();
             let _ = eprintln!(rt; "nfsacc: record fault {number}");
@@ -91,7 +106,7 @@ fn check_under<R: Files + Print + Eprint + AllocGlobal>(
     } else {
         Format::Line
     };
-    let mut writer = Counting::new(io::writer(rt));
+    let mut writer = Counting::new(Remembering::new(io::writer(rt)));
     match check(rt.alloc(), trusted, format, &mut file, &mut writer) {
         Ok(Judgement::Exposed(_)) => 0,
         Ok(Judgement::NoEvidence(reason)) => {
@@ -100,6 +115,7 @@ fn check_under<R: Files + Print + Eprint + AllocGlobal>(
             }
             INPUT_FAULT
         }
+        Err(CheckFault::Write) => report_output(rt, writer.get_ref().last()),
         Err(fault) => report_check(rt, request.file, fault),
     }
 }
@@ -123,9 +139,10 @@ fn report_reason(rt: &impl Eprint, name: &str, reason: Reason) {
 fn show_roster<R: Files + Print + Eprint + AllocGlobal>(rt: &R, name: &str) -> u8 {
     match roster_of(rt, name) {
         Ok(roster) => {
-            let mut writer = Counting::new(io::writer(rt));
+            let mut writer = Counting::new(Remembering::new(io::writer(rt)));
             match write_roster(rt.alloc(), &roster, &mut writer) {
                 Ok(()) => 0,
+                Err(CheckFault::Write) => report_output(rt, writer.get_ref().last()),
                 Err(fault) => report_check(rt, name, fault),
             }
         }
@@ -156,10 +173,7 @@ fn report_check(rt: &impl Eprint, name: &str, fault: CheckFault) -> u8 {
     match fault {
         CheckFault::NoMemory => report_no_memory(rt),
         CheckFault::Read(error) => report_file(rt, name, &error),
-        CheckFault::Write => {
-            let _ = rt.eprintln("nfsacc: standard output: a write failed");
-            DEVICE
-        }
+        CheckFault::Write => report_output(rt, None),
     }
 }
 
@@ -170,31 +184,32 @@ where
 {
     if request.file == "-" {
         return match BufReader::with_capacity(rt.alloc(), READ_AHEAD, rt.reader()) {
-            Ok(mut reader) => run_lines(rt, &mut reader, request),
+            Ok(reader) => run_lines(rt, reader, STANDARD_INPUT, request),
             Err(_) => report_no_memory(rt),
         };
     }
     match fs::open(rt, request.file) {
         Ok(file) => match BufReader::with_capacity(rt.alloc(), READ_AHEAD, file) {
-            Ok(mut reader) => run_lines(rt, &mut reader, request),
+            Ok(reader) => run_lines(rt, reader, request.file, request),
             Err(_) => report_no_memory(rt),
         },
         Err(error) => report_file(rt, request.file, &error),
     }
 }
 
-/// Runs the lines of a script, and gives the status for how it came to its end.
-fn run_lines<R, I>(rt: &R, reader: &mut I, request: RunRequest<'_>) -> u8
+/// Runs the lines of the script with a name, and gives the status for how it came to its end.
+fn run_lines<R, I>(rt: &R, input: I, name: &str, request: RunRequest<'_>) -> u8
 where
     R: Files + Print + Eprint + AllocGlobal + Threads + Wait + Sync,
-    I: Read,
+    I: Read + Drop,
 {
     let mut shelf = FileShelf::new(rt, rt.alloc());
-    let mut writer = io::writer(rt);
+    let mut reader = Remembering::new(input);
+    let mut writer = Remembering::new(io::writer(rt));
     match run_script(
         rt,
         rt.alloc(),
-        reader,
+        &mut reader,
         &mut writer,
         &mut shelf,
         request.roster_out,
@@ -206,16 +221,16 @@ where
             INPUT_FAULT
         }
         Err(ScriptFault::NoMemory) => report_no_memory(rt),
-        Err(ScriptFault::Device) => {
-            let _ = rt.eprintln("nfsacc: a device failed");
-            DEVICE
-        }
+        Err(ScriptFault::Device) => match reader.last() {
+            Some(error) => report_file(rt, name, &error),
+            None => report_output(rt, writer.last()),
+        },
         Err(ScriptFault::File(name, error)) => report_file(rt, &name, &error),
     }
 }
 
 /// Says on standard error what is wrong with a file.
-fn report_file(rt: &impl Eprint, name: &str, error: &io::Error) -> u8 {
+pub(crate) fn report_file(rt: &impl Eprint, name: &str, error: &io::Error) -> u8 {
     if error.kind() == io::ErrorKind::OutOfMemory {
         return report_no_memory(rt);
     }
@@ -224,45 +239,95 @@ fn report_file(rt: &impl Eprint, name: &str, error: &io::Error) -> u8 {
     DEVICE
 }
 
-fn report_no_memory(rt: &impl Eprint) -> u8 {
-    let _ = rt.eprintln("nfsacc: out of memory");
-    NO_MEMORY
-}
-
-/// The status of a run with the words of the command line.
-fn run<R>(rt: &R) -> u8
-where
-    R: Env + Files + Input + Print + Eprint + AllocGlobal + Threads + Wait + Sync,
-{
-    let alloc = rt.alloc();
-    let args = match env::args(rt) {
-        Ok(args) => args,
-        Err(error) if error.kind() == io::ErrorKind::OutOfMemory => return report_no_memory(rt),
-        Err(_) => {
-            let _ = rt.eprintln("nfsacc: the command line is no text");
-            return COMMAND_LINE;
-        }
-    };
-    let Ok(words) = args.collect::<Vec<String>>(alloc) else {
-        return report_no_memory(rt);
-    };
-    match parse(alloc, words.as_slice()) {
-        Ok(Request::Rpc) => rpc(rt),
-        Ok(Request::Check(request)) => check_file(rt, request),
-        Ok(Request::Roster(name)) => show_roster(rt, name),
-        Ok(Request::Run(request)) => run_file(rt, request),
-        Err(error) if error.kind() == ErrorKind::OutOfMemory => report_no_memory(rt),
-        Err(error) => {
-            let status = error.exit_code();
-            match error.print(rt) {
-                Ok(()) if status == 0 => 0,
-                Ok(()) => COMMAND_LINE,
-                Err(_) => DEVICE,
-            }
+/// Says on standard error that standard output takes no more, and why: where no error was answered, a write took
+/// nothing.
+fn report_output(rt: &impl Eprint, error: Option<io::Error>) -> u8 {
+    match error {
+        Some(error) => report_file(rt, STANDARD_OUTPUT, &error),
+        None => {
+            let _ = eprintln!(rt; "nfsacc: {STANDARD_OUTPUT}: a write took nothing");
+            DEVICE
         }
     }
 }
 
+pub(crate) fn report_no_memory(rt: &impl Eprint) -> u8 {
+    let _ = rt.eprintln("nfsacc: out of memory");
+    NO_MEMORY
+}
+
+/// The words of the command line, or the status where there are none to be had.
+fn words_of<R: Env + Eprint + AllocGlobal>(rt: &R) -> Result<Vec<String>, u8> {
+    let args = match env::args(rt) {
+        Ok(args) => args,
+        Err(error) if error.kind() == io::ErrorKind::OutOfMemory => {
+            return Err(report_no_memory(rt));
+        }
+        Err(_) => {
+            let _ = rt.eprintln("nfsacc: the command line is no text");
+            return Err(COMMAND_LINE);
+        }
+    };
+    args.collect::<Vec<String>>(rt.alloc())
+        .map_err(|_| report_no_memory(rt))
+}
+
+/// The status of a command line that asks for nothing that there is, or for help.
+fn report_words<R: Print + Eprint>(rt: &R, error: &clap::Error) -> u8 {
+    if error.kind() == ErrorKind::OutOfMemory {
+        return report_no_memory(rt);
+    }
+    let status = error.exit_code();
+    match error.print(rt) {
+        Ok(()) if status == 0 => 0,
+        Ok(()) => COMMAND_LINE,
+        Err(error) if status == 0 => report_output(rt, Some(error)),
+        Err(_) => DEVICE,
+    }
+}
+
+/// Says on standard error what can't be served, and gives the status for it.
+fn report_order(rt: &impl Eprint, refusal: ServeRefusal) -> u8 {
+    let _ = eprintln!(rt; "nfsacc: {refusal}");
+    COMMAND_LINE
+}
+
+/// The threads of a service write to standard error and to files, so all of its types are made here.
 fn main(rt: HostRuntime) -> ExitCode {
-    ExitCode::from(run(&rt))
+    let alloc = rt.alloc();
+    let words = match words_of(&rt) {
+        Ok(words) => words,
+        Err(status) => return ExitCode::from(status),
+    };
+    let status = match parse(alloc, words.as_slice()) {
+        Ok(Request::Rpc) => rpc(&rt),
+        Ok(Request::Check(request)) => check_file(&rt, request),
+        Ok(Request::Roster(name)) => show_roster(&rt, name),
+        Ok(Request::Run(request)) => run_file(&rt, request),
+        Ok(Request::Serve(request)) => match serve_order(&request) {
+            Ok(order) => match open(&rt, &order) {
+                Ok(opened) => {
+                    let asked = order_of(&order, opened.masters);
+                    let mut lines = io::writer(&rt);
+                    let errors = ErrorWriter::new(&rt);
+                    let shelf = FileShelf::new(&rt, alloc);
+                    let served = serve(
+                        &rt,
+                        alloc,
+                        &opened.listener,
+                        &rt,
+                        &mut lines,
+                        errors,
+                        shelf,
+                        &asked,
+                    );
+                    report_served(&rt, &order, served)
+                }
+                Err(status) => status,
+            },
+            Err(refusal) => report_order(&rt, refusal),
+        },
+        Err(error) => report_words(&rt, &error),
+    };
+    ExitCode::from(status)
 }

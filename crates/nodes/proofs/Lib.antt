@@ -6,3 +6,4 @@ pub mod Stopped
 pub mod Handed
 pub mod Unjoined
 pub mod UnderLock
+pub use Rattle.gateway.proofs as gateway

@@ -4,3 +4,4 @@ pub mod Delivery
 pub mod Faults
 pub mod Directs
 pub mod Shareds
+pub use Rattle.gateway.specs as gateway

@@ -1,10 +1,10 @@
 -- Values come back from what their texts say.
 -- Serves: read_packet by its four parts, packets_are_read_as_spelled.
 use Rattle.std.proofs.Common.{◌≡◌, List, [], ◌∷◌, map, refl, ap, ap₂}
-use Rattle.secure_log.specs.declared.log_entries.entry.Entry.{Entry}
-use Rattle.secure_log.specs.declared.log_entries.entry.Entry.TheVariants.{Send, Recv, Ack, Clock, Check}
-use Rattle.secure_log.specs.LogEntries.Entry.{entry_value}
-use Rattle.secure_log.specs.Segment.{SegmentParts, segment_value}
+use Rattle.envelopes.specs.secure_log.declared.log_entries.entry.Entry.{Entry}
+use Rattle.envelopes.specs.secure_log.declared.log_entries.entry.Entry.TheVariants.{Send, Recv, Ack, Clock, Check}
+use Rattle.envelopes.specs.secure_log.LogEntries.Entry.{entry_value}
+use Rattle.envelopes.specs.secure_log.Segment.{SegmentParts, segment_value}
 use Rattle.packets.specs.Values.{entry_said, segment_said}
 
 -- an entry comes back from what its text says

@@ -7,28 +7,28 @@ use Rattle.std.specs.Prelude.{◌+◌, ◌&&◌, ◌⊎◌, not, is_some, IsSome
 use Rattle.std.proofs.lemmas.Bool.{and_parts, and_from}
 use Rattle.xdr.specs.declared.fault.XdrFault.{XdrFault}
 use Rattle.xdr.specs.Reading.{number_at}
-use Rattle.authenticator.specs.Roster.{member_of}
-use Rattle.authenticator.specs.Signed.{IsSignedBy, IsSignedIn}
-use Rattle.authenticator.specs.Checking.{Checks}
-use Rattle.authenticator.specs.declared.member.Member.{Member}
-use Rattle.authenticator.specs.declared.authenticator.Authenticator.{Authenticator}
-use Rattle.authenticator.specs.declared.refusal.Refusal.{Refusal}
-use Rattle.authenticator.specs.declared.refusal.Refusal.TheVariants as refusal
+use Rattle.envelopes.specs.secure_log.authenticator.Roster.{member_of}
+use Rattle.envelopes.specs.secure_log.authenticator.Signed.{IsSignedBy, IsSignedIn}
+use Rattle.envelopes.specs.secure_log.authenticator.Checking.{Checks}
+use Rattle.envelopes.specs.secure_log.authenticator.declared.member.Member.{Member}
+use Rattle.envelopes.specs.secure_log.authenticator.declared.authenticator.Authenticator.{Authenticator}
+use Rattle.envelopes.specs.secure_log.authenticator.declared.refusal.Refusal.{Refusal}
+use Rattle.envelopes.specs.secure_log.authenticator.declared.refusal.Refusal.TheVariants as refusal
 use Rattle.envelopes.specs.Checking.{ChecksEnvelope, ChecksAck}
 use Rattle.envelopes.specs.declared.envelope.Envelope.{Envelope}
 use Rattle.envelopes.specs.declared.acknowledgement.Ack.{Ack}
-use Rattle.secure_log.specs.LogEntries.Chain.{last_hash, links_from}
-use Rattle.secure_log.specs.Segment.{SegmentParts, ClosedParts, Ends}
-use Rattle.secure_log.specs.declared.fault.SegmentFault.{SegmentFault}
-use Rattle.secure_log.specs.declared.fault.SegmentFault.TheVariants as fault
-use Rattle.secure_log.specs.Checking.{ChecksSegment, IsOf}
+use Rattle.envelopes.specs.secure_log.LogEntries.Chain.{last_hash, links_from}
+use Rattle.envelopes.specs.secure_log.Segment.{SegmentParts, ClosedParts, Ends}
+use Rattle.envelopes.specs.secure_log.declared.fault.SegmentFault.{SegmentFault}
+use Rattle.envelopes.specs.secure_log.declared.fault.SegmentFault.TheVariants as fault
+use Rattle.envelopes.specs.secure_log.Checking.{ChecksSegment, IsOf}
 use Rattle.packets.specs.Packet.{Delivery, Learn, SendChallenge, Answer, AckIn, delivery_shows, content_at}
 use Rattle.packets.specs.Packet.{delivery_of}
-use Rattle.authenticator.specs.Signing.{is_signed_in, is_same}
+use Rattle.envelopes.specs.secure_log.authenticator.Signing.{is_signed_in, is_same}
 use Rattle.packets.specs.Judging.{judged, ends, may_be, is_member, is_of_members, judged_delivery}
 use Rattle.packets.specs.Judging.{judged_option, Refuses, GivesDelivery}
-use Rattle.authenticator.proofs.Signed.{is_false, of_signed_in, signed_by_member, unsigned_by_member}
-use Rattle.authenticator.proofs.Signed.{same_list, list_same}
+use Rattle.envelopes.proofs.secure_log.authenticator.Signed.{is_false, of_signed_in, signed_by_member, unsigned_by_member}
+use Rattle.envelopes.proofs.secure_log.authenticator.Signed.{same_list, list_same}
 use Rattle.packets.proofs.Contents.{segment_back}
 
 -- ---- the four answers

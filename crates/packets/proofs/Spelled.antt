@@ -12,11 +12,11 @@ use Rattle.xdr.proofs.Exact.{takes}
 use Rattle.xdr.proofs.Front.{number_again}
 use Rattle.xdr.specs.Texts.Text.{IsText, text_at}
 use Rattle.xdr.proofs.OfTexts.WholeTexts.{is_text}
-use Rattle.authenticator.specs.Signed.{authenticator_text, authenticator_value}
+use Rattle.envelopes.specs.secure_log.authenticator.Signed.{authenticator_text, authenticator_value}
 use Rattle.envelopes.specs.Envelope.{envelope_text, envelope_value}
 use Rattle.envelopes.specs.Acknowledgement.{ack_text, ack_value}
-use Rattle.secure_log.specs.LogEntries.Entry.{entry_item, entry_value, kind_item, is_kind}
-use Rattle.secure_log.specs.Segment.{segment_text, segment_value, segment_item}
+use Rattle.envelopes.specs.secure_log.LogEntries.Entry.{entry_item, entry_value, kind_item, is_kind}
+use Rattle.envelopes.specs.secure_log.Segment.{segment_text, segment_value, segment_item}
 use Rattle.packets.specs.Values.{entry_said, entry_of_kind, authenticator_said, envelope_said, segment_said}
 use Rattle.packets.specs.Values.{ack_said}
 use Rattle.packets.specs.Packet.{Delivery, Learn, SendChallenge, Answer, AckIn, packet_number, IsContent}

@@ -5,17 +5,17 @@ use Rattle.std.proofs.Common.{Some, None, refl, ap, subst, ◌∙◌, eq-eqb}
 use Rattle.std.specs.Prelude.{◌↔◌, not, is_some, IsSome}
 use Rattle.std.proofs.lemmas.Bool.{and_parts, and_from}
 use Rattle.xdr.specs.Item.{IsBytes, number_spelling}
-use Rattle.authenticator.specs.Roster.{member_of}
-use Rattle.authenticator.specs.declared.member.Member.{Member}
-use Rattle.authenticator.specs.declared.refusal.Refusal.{Refusal}
-use Rattle.authenticator.specs.declared.refusal.Refusal.TheVariants.{UnknownNode, Garbage, BadSignature}
-use Rattle.authenticator.specs.declared.refusal.Refusal.TheVariants.{NoMemory}
+use Rattle.envelopes.specs.secure_log.authenticator.Roster.{member_of}
+use Rattle.envelopes.specs.secure_log.authenticator.declared.member.Member.{Member}
+use Rattle.envelopes.specs.secure_log.authenticator.declared.refusal.Refusal.{Refusal}
+use Rattle.envelopes.specs.secure_log.authenticator.declared.refusal.Refusal.TheVariants.{UnknownNode, Garbage, BadSignature}
+use Rattle.envelopes.specs.secure_log.authenticator.declared.refusal.Refusal.TheVariants.{NoMemory}
 use Rattle.packets.specs.Packet.{Delivery, Learn, SendChallenge, Answer, AckIn, Says, IsContent, content_text}
 use Rattle.packets.specs.Packet.{packet_number, packet_text, delivery_of, delivery_shows}
-use Rattle.authenticator.specs.Signing.{is_signed_in}
+use Rattle.envelopes.specs.secure_log.authenticator.Signing.{is_signed_in}
 use Rattle.packets.specs.Judging.{may_be, is_member, is_of_members, judged_delivery, judged_option, judged}
 use Rattle.packets.specs.Taking.{MayBe, IsOfMembers, Means}
-use Rattle.authenticator.proofs.Signed.{is_false, signed_in_of, of_signed_in}
+use Rattle.envelopes.proofs.secure_log.authenticator.Signed.{is_false, signed_in_of, of_signed_in}
 use Rattle.packets.proofs.Judged.{of_ends, ends_of, taken, unsigned, of_strangers, between}
 use Rattle.packets.proofs.Spelled.{exact, one_delivery}
 

@@ -1,7 +1,7 @@
 -- What a packet that was read delivers, and under which roster it was checked.
 use Rattle.std.specs.Prelude.{◌≡◌, List, Some}
-use Rattle.authenticator.specs.Roster.{member_of}
-use Rattle.authenticator.specs.declared.member.Member.{Member}
+use Rattle.envelopes.specs.secure_log.authenticator.Roster.{member_of}
+use Rattle.envelopes.specs.secure_log.authenticator.declared.member.Member.{Member}
 use Rattle.packets.specs.Packet.{Delivery, Learn, SendChallenge, Answer, AckIn}
 use Rattle.packets.specs.declared.packet.Packet.{Packet}
 use Rattle.packets.specs.declared.packet.Packet.TheVariants as packet

@@ -1,15 +1,15 @@
 -- What a packet is taken for under a roster.
 use Rattle.std.specs.Prelude.{◌≡◌, ℕ, ◌+◌, Bool, true, not, ◌&&◌, ◌==◌, List, length, Result, Ok, Err, Option}
 use Rattle.std.specs.Prelude.{Some, None, if◌then◌else◌, is_some}
-use Rattle.authenticator.specs.Roster.{member_of}
-use Rattle.authenticator.specs.declared.member.Member.{Member}
-use Rattle.authenticator.specs.declared.refusal.Refusal.{Refusal}
-use Rattle.authenticator.specs.declared.refusal.Refusal.TheVariants.{UnknownNode, Garbage, BadSignature}
-use Rattle.authenticator.specs.declared.refusal.Refusal.TheVariants.{NoMemory}
-use Rattle.secure_log.specs.LogEntries.Chain.{last_hash, links_from}
-use Rattle.secure_log.specs.Segment.{SegmentParts}
+use Rattle.envelopes.specs.secure_log.authenticator.Roster.{member_of}
+use Rattle.envelopes.specs.secure_log.authenticator.declared.member.Member.{Member}
+use Rattle.envelopes.specs.secure_log.authenticator.declared.refusal.Refusal.{Refusal}
+use Rattle.envelopes.specs.secure_log.authenticator.declared.refusal.Refusal.TheVariants.{UnknownNode, Garbage, BadSignature}
+use Rattle.envelopes.specs.secure_log.authenticator.declared.refusal.Refusal.TheVariants.{NoMemory}
+use Rattle.envelopes.specs.secure_log.LogEntries.Chain.{last_hash, links_from}
+use Rattle.envelopes.specs.secure_log.Segment.{SegmentParts}
 use Rattle.packets.specs.Packet.{Delivery, Learn, SendChallenge, Answer, AckIn, delivery_of, delivery_shows}
-use Rattle.authenticator.specs.Signing.{is_same, is_signed_in}
+use Rattle.envelopes.specs.secure_log.authenticator.Signing.{is_same, is_signed_in}
 
 -- whether a segment's closing is of its node, its last number and its last hash
 abbrev pub ends : SegmentParts → Bool

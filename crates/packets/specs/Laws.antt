@@ -1,8 +1,8 @@
 -- What holds of packets: each law is the contract of a function in src/laws.rt.
 use Rattle.std.specs.Prelude.{Ok, ◌≡◌, ◌↔◌, ℕ, List, Result, Some}
 use Rattle.xdr.specs.Item.{IsBytes}
-use Rattle.authenticator.specs.declared.member.Member.{Member}
-use Rattle.authenticator.specs.declared.refusal.Refusal.{Refusal}
+use Rattle.envelopes.specs.secure_log.authenticator.declared.member.Member.{Member}
+use Rattle.envelopes.specs.secure_log.authenticator.declared.refusal.Refusal.{Refusal}
 use Rattle.packets.specs.Packet.{Delivery, Says, packet_text, delivery_of}
 use Rattle.packets.specs.Judging.{judged, judged_delivery}
 use Rattle.packets.specs.Taking.{Means}

@@ -4,3 +4,4 @@ pub mod Judging
 pub mod Taking
 pub mod Delivered
 pub mod Laws
+pub use Rattle.envelopes.specs as envelopes

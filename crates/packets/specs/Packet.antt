@@ -3,13 +3,13 @@ use Rattle.std.specs.Prelude.{◌≡◌, ℕ, ◌==◌, List, ◌++◌, Ok, Err,
 use Rattle.xdr.specs.Item.{number_spelling, spelling}
 use Rattle.xdr.specs.Reading.{Read, number_at}
 use Rattle.xdr.specs.Texts.Text.{IsText, text_at}
-use Rattle.authenticator.specs.Signed.{authenticator_item, authenticator_text, authenticator_value}
-use Rattle.authenticator.specs.declared.authenticator.Authenticator.{Authenticator}
+use Rattle.envelopes.specs.secure_log.authenticator.Signed.{authenticator_item, authenticator_text, authenticator_value}
+use Rattle.envelopes.specs.secure_log.authenticator.declared.authenticator.Authenticator.{Authenticator}
 use Rattle.envelopes.specs.Envelope.{envelope_item, envelope_text, envelope_value, envelope_shows}
 use Rattle.envelopes.specs.Acknowledgement.{ack_item, ack_text, ack_value, ack_shows}
 use Rattle.envelopes.specs.declared.envelope.Envelope.{Envelope}
 use Rattle.envelopes.specs.declared.acknowledgement.Ack.{Ack}
-use Rattle.secure_log.specs.Segment.{SegmentParts, segment_item, segment_text, segment_value}
+use Rattle.envelopes.specs.secure_log.Segment.{SegmentParts, segment_item, segment_text, segment_value}
 use Rattle.packets.specs.Values.{authenticator_said, envelope_said, segment_said, ack_said}
 
 -- What a packet delivers: a node's authenticator, to be learned; an envelope that its receiver is to

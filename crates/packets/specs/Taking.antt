@@ -1,12 +1,12 @@
 -- Which packets are taken under a roster, and why others aren't, in a reader's words.
 use Rattle.std.specs.Prelude.{◌≢◌, ℕ, List, IsSome, Result, Ok, Err}
-use Rattle.authenticator.specs.Roster.{member_of}
-use Rattle.authenticator.specs.Signed.{IsSignedIn}
-use Rattle.authenticator.specs.declared.member.Member.{Member}
-use Rattle.authenticator.specs.declared.refusal.Refusal.{Refusal}
-use Rattle.authenticator.specs.declared.refusal.Refusal.TheVariants.{UnknownNode, Garbage, BadSignature}
-use Rattle.authenticator.specs.declared.refusal.Refusal.TheVariants.{NoMemory}
-use Rattle.secure_log.specs.Segment.{Ends}
+use Rattle.envelopes.specs.secure_log.authenticator.Roster.{member_of}
+use Rattle.envelopes.specs.secure_log.authenticator.Signed.{IsSignedIn}
+use Rattle.envelopes.specs.secure_log.authenticator.declared.member.Member.{Member}
+use Rattle.envelopes.specs.secure_log.authenticator.declared.refusal.Refusal.{Refusal}
+use Rattle.envelopes.specs.secure_log.authenticator.declared.refusal.Refusal.TheVariants.{UnknownNode, Garbage, BadSignature}
+use Rattle.envelopes.specs.secure_log.authenticator.declared.refusal.Refusal.TheVariants.{NoMemory}
+use Rattle.envelopes.specs.secure_log.Segment.{Ends}
 use Rattle.packets.specs.Packet.{Delivery, Learn, SendChallenge, Answer, AckIn, Says, delivery_shows}
 
 -- It may be delivered at all: an envelope's sender isn't its receiver, and a segment's closing is of its

@@ -2,16 +2,16 @@
 use Rattle.std.specs.Prelude.{ℕ, zero, suc, [], map}
 use Rattle.xdr.specs.Item.{Value}
 use Rattle.merkle_keys.specs.Signing.{SignatureParts, signature_item}
-use Rattle.authenticator.specs.Signed.{authenticator_item}
-use Rattle.authenticator.specs.declared.authenticator.Authenticator.{Authenticator}
-use Rattle.secure_log.specs.LogEntries.Entry.{entry_item, kind_item}
-use Rattle.secure_log.specs.declared.log_entries.entry.Entry.{Entry}
-use Rattle.secure_log.specs.declared.log_entries.entry.Entry.TheVariants as entry
+use Rattle.envelopes.specs.secure_log.authenticator.Signed.{authenticator_item}
+use Rattle.envelopes.specs.secure_log.authenticator.declared.authenticator.Authenticator.{Authenticator}
+use Rattle.envelopes.specs.secure_log.LogEntries.Entry.{entry_item, kind_item}
+use Rattle.envelopes.specs.secure_log.declared.log_entries.entry.Entry.{Entry}
+use Rattle.envelopes.specs.secure_log.declared.log_entries.entry.Entry.TheVariants as entry
 use Rattle.envelopes.specs.Envelope.{envelope_item}
 use Rattle.envelopes.specs.Acknowledgement.{ack_item}
 use Rattle.envelopes.specs.declared.envelope.Envelope.{Envelope}
 use Rattle.envelopes.specs.declared.acknowledgement.Ack.{Ack}
-use Rattle.secure_log.specs.Segment.{SegmentParts, segment_item}
+use Rattle.envelopes.specs.secure_log.Segment.{SegmentParts, segment_item}
 
 abbrev pub signature_said : Value signature_item → SignatureParts
 signature_said v = record { leaf = v.0; shown = v.1.0; other = v.1.1.0; path = v.1.1.1 }

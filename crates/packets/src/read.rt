@@ -6,9 +6,9 @@ ghost use Rattle.packets.specs.Judging.{GivesDelivery, judged, judged_option};
 ghost use Rattle.packets.specs.Delivered.{IsUnder, delivery_in};
 
 use crate::packet::Packet;
-use authenticator::{Refusal, Roster, check};
+use envelopes::secure_log_code::authenticator_code::{Refusal, Roster, check};
+use envelopes::secure_log_code::{SegmentFault, check_segment};
 use envelopes::{check_ack, check_envelope};
-use secure_log::{SegmentFault, check_segment};
 use std::alloc::Global;
 use xdr::Reader;
 

@@ -3,17 +3,17 @@
 ghost use Rattle.std.specs.Prelude.{◌++◌, OnOk};
 ghost use Rattle.xdr.specs.Item.{Fits, number_spelling};
 ghost use Rattle.xdr.specs.Writing.{Adds, Appends};
-ghost use Rattle.authenticator.specs.Signed.{authenticator_item, authenticator_value};
+ghost use Rattle.envelopes.specs.secure_log.authenticator.Signed.{authenticator_item, authenticator_value};
 ghost use Rattle.envelopes.specs.Acknowledgement.{ack_in, ack_item, ack_value};
 ghost use Rattle.envelopes.specs.Envelope.{envelope_in, envelope_item, envelope_value};
-ghost use Rattle.secure_log.specs.Segment.{segment_item, segment_value};
+ghost use Rattle.envelopes.specs.secure_log.Segment.{segment_item, segment_value};
 ghost use Rattle.packets.specs.Packet.{Learn, SendChallenge, Answer, AckIn, Says, packet_text};
 ghost use Rattle.packets.specs.Delivered.{delivery_in};
 
 use crate::packet::Packet;
-use authenticator::Authenticator;
+use envelopes::secure_log_code::authenticator_code::Authenticator;
+use envelopes::secure_log_code::{ClosedSegment, Segment};
 use envelopes::{AckRef, EnvelopeRef};
-use secure_log::{ClosedSegment, Segment};
 use std::alloc::AllocError;
 use xdr::{Writer, all_or_nothing};
 

@@ -16,6 +16,7 @@ use crate::messages::{is_bad_ack, is_bad_receive, is_repeated, is_wrong_checkpoi
 use crate::take::take;
 use crate::turns::{is_bad_form, is_clock_back, is_wrong_reply};
 use authenticator::{Number, Roster};
+use checkpoint::renew;
 use checkpoint::state_machine_code::State;
 use secure_log::log_entries::Entry;
 use std::alloc::{AllocError, Global};
@@ -55,10 +56,38 @@ pub fn step(
     requires few_sends { len state.old.sends < MAX_SENDS }
     ensures { Steps roster.now state.old (place number before.now entry.now) result state.new }
 {
+    renew_at_check(alloc, state, entry)?;
+    step_once(state, alloc, roster, number, before, entry)
+}
+
+/// The same, where a CHECK's digest is computed from those of files that are kept, and the others.
+fn step_once(
+    state: &mut State,
+    alloc: Global,
+    roster: &Roster,
+    number: Number,
+    before: &[u8; 32],
+    entry: &Entry,
+) -> Result<(), StepFault>
+    requires few_received { len state.old.received < MAX_RECEIVED }
+    requires few_sends { len state.old.sends < MAX_SENDS }
+    ensures { Steps roster.now state.old (place number before.now entry.now) result state.new }
+{
     if let Some(fault) = fault_of(alloc, roster, state, entry)? {
         return Err(StepFault::Fault(fault));
     }
     take(state, alloc, number, before, entry)?;
+    Ok(())
+}
+
+/// Before a CHECK the digests of files that the state doesn't keep are computed, and kept for the next one;
+/// the state stays.
+fn renew_at_check(alloc: Global, state: &mut State, entry: &Entry) -> Result<(), AllocError>
+    ensures { state.new ≡ state.old }
+{
+    if let Entry::Check { .. } = entry {
+        renew(alloc, state)?;
+    }
     Ok(())
 }
 

@@ -3,3 +3,5 @@ pub mod Stepping
 pub mod Runs
 pub mod Places
 pub mod Logs
+pub use Rattle.secure_log.proofs.authenticator as authenticator
+pub use Rattle.secure_log.proofs as secure_log

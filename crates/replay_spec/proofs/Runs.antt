@@ -2,8 +2,8 @@
 -- Serves: one_run, sound_exactly_if, fault_exactly_if, parts_are_honest.
 use Rattle.std.proofs.Common.{◌≡◌, ℕ, List, [], ◌∷◌, ◌++◌, Option, Result, Ok, Err}
 use Rattle.std.proofs.Common.{refl, sym, ap, ap₂, subst, ◌∙◌}
-use Rattle.authenticator.specs.declared.member.Member.{Member}
-use Rattle.authenticator.specs.declared.authenticator.Authenticator.{Authenticator}
+use Rattle.secure_log.specs.authenticator.declared.member.Member.{Member}
+use Rattle.secure_log.specs.authenticator.declared.authenticator.Authenticator.{Authenticator}
 use Rattle.state_machine.specs.state_spec.State.{State}
 use Rattle.replay_spec.specs.Placed.{Placed}
 use Rattle.replay_spec.specs.Steps.{Takes}

@@ -6,13 +6,13 @@ use Rattle.std.proofs.Common.{eqb-true, eq-eqb, ne_eqb, ltb-false, le-ltb}
 use Rattle.std.proofs.lemmas.Bool.{and_parts, and_from, not-false, both_ways}
 use Rattle.std.specs.FinMap as finite
 use Rattle.merkle_keys.specs.Signing.{SignatureParts}
-use Rattle.authenticator.specs.declared.member.Member.{Member}
+use Rattle.secure_log.specs.authenticator.declared.member.Member.{Member}
 use Rattle.secure_log.specs.declared.log_entries.entry.Entry.{Entry}
 use Rattle.secure_log.specs.declared.log_entries.entry.Entry.TheVariants.{Send, Recv, Ack, Clock, Check}
 use Rattle.state_machine.specs.state_spec.State.{SentMessage, Idle, Heard, Owes, Machine, Server, Client}
 use Rattle.state_machine.specs.state_spec.State.{State}
 use Rattle.state_machine.specs.state_spec.StateText.{state_digest}
-use Rattle.authenticator.specs.Signing.{is_same, is_signed_in}
+use Rattle.secure_log.specs.authenticator.Signing.{is_same, is_signed_in}
 use Rattle.replay_spec.specs.Shown.{sender_shown, receiver_shown}
 use Rattle.replay_spec.specs.Placed.{Placed}
 use Rattle.replay_spec.specs.Steps.{OwesNothing, MaySend, MayReadClock}
@@ -22,7 +22,7 @@ use Rattle.replay_spec.specs.Stepping.{BadAck, WrongCheckpoint, is_clock, is_sen
 use Rattle.replay_spec.specs.Stepping.{shows_no_time, is_bad_form, is_send_of, is_wrong_reply, fits_message}
 use Rattle.replay_spec.specs.Stepping.{is_bad_receive, is_repeated, is_clock_back, is_bad_ack}
 use Rattle.replay_spec.specs.Stepping.{is_wrong_checkpoint, fault_of, unless_fault, step}
-use Rattle.authenticator.proofs.Signed.{same_list, list_same, signed_in_of, of_signed_in}
+use Rattle.secure_log.proofs.authenticator.Signed.{same_list, list_same, signed_in_of, of_signed_in}
 
 -- ---- tests one after the other
 

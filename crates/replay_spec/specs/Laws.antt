@@ -1,7 +1,7 @@
 -- What holds of replays: each law is the contract of a function in src/laws.rt.
 use Rattle.std.specs.Prelude.{◌≡◌, ◌↔◌, ◌+◌, ℕ, List, [], ◌∷◌, ◌++◌, length, map, Ok, Err}
-use Rattle.authenticator.specs.declared.member.Member.{Member}
-use Rattle.authenticator.specs.declared.authenticator.Authenticator.{Authenticator}
+use Rattle.secure_log.specs.authenticator.declared.member.Member.{Member}
+use Rattle.secure_log.specs.authenticator.declared.authenticator.Authenticator.{Authenticator}
 use Rattle.secure_log.specs.LogEntries.Chain.{hash_after, link_of, links_from, last_hash, pairs}
 use Rattle.secure_log.specs.declared.log_entries.entry.Entry.{Entry}
 use Rattle.secure_log.specs.Log.{log_hash}

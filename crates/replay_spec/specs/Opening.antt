@@ -1,8 +1,8 @@
 -- The states that members begin with.
 use Rattle.std.specs.Prelude.{ℕ}
-use Rattle.authenticator.specs.declared.member.Kind.{Kind}
-use Rattle.authenticator.specs.declared.member.Kind.TheVariants as kinds
-use Rattle.authenticator.specs.declared.member.Member.{Member}
+use Rattle.secure_log.specs.authenticator.declared.member.Kind.{Kind}
+use Rattle.secure_log.specs.authenticator.declared.member.Kind.TheVariants as kinds
+use Rattle.secure_log.specs.authenticator.declared.member.Member.{Member}
 use Rattle.state_machine.specs.state_spec.State.{State, opening_server, opening_client}
 
 -- by what the node does

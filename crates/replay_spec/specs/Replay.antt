@@ -1,7 +1,7 @@
 -- Honest entries, and what a replay finds.
 use Rattle.std.specs.Prelude.{ℕ, List, [], ◌∷◌, Option, Some, None, Ok, Err}
-use Rattle.authenticator.specs.declared.member.Member.{Member}
-use Rattle.authenticator.specs.declared.authenticator.Authenticator.{Authenticator}
+use Rattle.secure_log.specs.authenticator.declared.member.Member.{Member}
+use Rattle.secure_log.specs.authenticator.declared.authenticator.Authenticator.{Authenticator}
 use Rattle.state_machine.specs.state_spec.State.{State}
 use Rattle.secure_log.specs.Segment.{SegmentParts}
 use Rattle.replay_spec.specs.Placed.{Placed, placed_in}

@@ -3,8 +3,8 @@ use Rattle.std.specs.Prelude.{ℕ, Bool, true, false, not, ◌==◌, ◌&&◌, �
 use Rattle.std.specs.Prelude.{Result, Ok, Err, if◌then◌else◌}
 use Rattle.std.specs.FinMap as finite
 use Rattle.merkle_keys.specs.Signing.{SignatureParts}
-use Rattle.authenticator.specs.declared.member.Member.{Member}
-use Rattle.authenticator.specs.declared.authenticator.Authenticator.{Authenticator}
+use Rattle.secure_log.specs.authenticator.declared.member.Member.{Member}
+use Rattle.secure_log.specs.authenticator.declared.authenticator.Authenticator.{Authenticator}
 use Rattle.secure_log.specs.declared.log_entries.entry.Entry.{Entry}
 use Rattle.secure_log.specs.declared.log_entries.entry.Entry.TheVariants.{Send, Recv, Ack, Clock, Check}
 use Rattle.nfs_items.specs.Timeval.{is_before}
@@ -12,7 +12,7 @@ use Rattle.state_machine.specs.state_spec.State.{is_received, SentMessage, Idle,
 use Rattle.state_machine.specs.state_spec.State.{Client, State}
 use Rattle.state_machine.specs.state_spec.State.{clock_in}
 use Rattle.state_machine.specs.state_spec.StateText.{state_digest}
-use Rattle.authenticator.specs.Signing.{is_same, is_signed_in}
+use Rattle.secure_log.specs.authenticator.Signing.{is_same, is_signed_in}
 use Rattle.replay_spec.specs.Shown.{sender_shown, receiver_shown}
 use Rattle.replay_spec.specs.Placed.{Placed}
 use Rattle.replay_spec.specs.Steps.{received_message, time_of, after_entry}

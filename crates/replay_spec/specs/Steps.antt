@@ -4,8 +4,8 @@ use Rattle.std.specs.Prelude.{◌≡◌, ◌≢◌, ◌<◌, ℕ, false, List, S
 use Rattle.std.specs.FinMap as finite
 use Rattle.sha2.specs.Sha256.{sha256}
 use Rattle.merkle_keys.specs.Signing.{SignatureParts}
-use Rattle.authenticator.specs.Signed.{IsSignedIn}
-use Rattle.authenticator.specs.declared.member.Member.{Member}
+use Rattle.secure_log.specs.authenticator.Signed.{IsSignedIn}
+use Rattle.secure_log.specs.authenticator.declared.member.Member.{Member}
 use Rattle.secure_log.specs.LogEntries.Messages.{message_hash}
 use Rattle.secure_log.specs.declared.log_entries.entry.Entry.{Entry}
 use Rattle.secure_log.specs.declared.log_entries.entry.Entry.TheVariants.{Send, Recv, Ack, Clock, Check}

@@ -3,3 +3,6 @@
 
 pub mod laws;
 pub mod log_laws;
+
+pub use secure_log as secure_log_code;
+pub use secure_log::authenticator_code;

@@ -1,14 +1,12 @@
 //! A script that runs, and what its lines do.
 
 use crate::answer::Answer;
-use crate::caller::Caller;
 use crate::line::Act;
 use crate::parties::Parties;
-use crate::said::Said;
-use crate::shelf::Shelf;
 use crate::stop::Stop;
 use authenticator::Roster;
 use nfs_items::Time;
+use serving::witness_calls_code::{Caller, Said, Shelf};
 use std::alloc::Global;
 use std::sync::Wait;
 use std::thread::Threads;

@@ -1,10 +1,8 @@
 //! What a line of a script prints.
 
-use crate::replays::{Outcome, Replayed};
-use crate::said::Said;
 use authenticator::Authenticator;
+use serving::witness_calls_code::{Outcome, Replayed, Said, indication_word};
 use std::alloc::{AllocError, Global};
-use witness_service::witness_books_code::node_book_code::Indication;
 
 /// What a line prints: words with one space between, line by line.
 #[derive(Drop)]
@@ -110,11 +108,11 @@ impl Answer {
     pub(crate) fn told(
         &mut self,
         node: u32,
-        indication: Indication,
+        indication: &str,
         open: usize,
     ) -> Result<(), AllocError> {
         self.number(u64::from(node))?;
-        self.word(indication_word(indication))?;
+        self.word(indication)?;
         self.number(open as u64)?;
         self.end()
     }
@@ -131,15 +129,6 @@ impl Answer {
             }
         }
         self.end()
-    }
-}
-
-/// The word of an indication.
-fn indication_word(indication: Indication) -> &'static str {
-    match indication {
-        Indication::Trusted => "trusted",
-        Indication::Suspected => "suspected",
-        Indication::Exposed => "exposed",
     }
 }
 

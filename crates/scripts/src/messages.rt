@@ -2,17 +2,17 @@
 
 use crate::acts::Run;
 use crate::line::Pair;
-use crate::packet_texts::{ack_packet, challenge_packet};
-use crate::shelf::Shelf;
 use crate::stop::Stop;
 use authenticator::Number;
 use commitment::{Received, Refusal};
 use envelopes::Envelope;
 use nfs_items::Time;
-use nodes::exchanges::exchange;
-use nodes::gateway_code::links::LinkFault;
-use nodes::node_logs_code::{NodeLog, Receipt};
 use secure_log::log_entries::Body;
+use serving::nodes_code::exchanges::exchange;
+use serving::nodes_code::gateway_code::links::LinkFault;
+use serving::nodes_code::node_logs_code::{NodeLog, Receipt};
+use serving::witness_calls_code::Shelf;
+use serving::witness_calls_code::packet_texts::{ack_packet, challenge_packet};
 use std::alloc::{AllocError, Global};
 use std::sync::Wait;
 use std::thread::Threads;

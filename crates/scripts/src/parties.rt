@@ -6,10 +6,11 @@ use crate::line::{NodeLine, Pair};
 use crate::stop::Stop;
 use authenticator::{Kind, Member, Roster};
 use merkle_keys::Signer;
-use nodes::node_logs_code::NodeLog;
-use nodes::{ClientNode, Node, Role, ServerNode};
+use serving::nodes_code::node_logs_code::NodeLog;
+use serving::nodes_code::{ClientNode, Node, Role, ServerNode};
 use std::alloc::{AllocError, Global};
 use std::marker::Model;
+use std::thread::Threads;
 
 /// A node that has its keys, of which none is used, and isn't made yet.
 #[derive(Drop)]
@@ -65,13 +66,18 @@ impl Listed {
     }
 
     /// A node more, with new keys. The line is bad where a node has its number.
-    pub(crate) fn add(&mut self, alloc: Global, line: &NodeLine) -> Result<(), Stop> {
+    pub(crate) fn add<R: Threads + Sync>(
+        &mut self,
+        rt: &R,
+        alloc: Global,
+        line: &NodeLine,
+    ) -> Result<(), Stop> {
         let place = self.place_of(line.number);
         if self.has(place, line.number) {
             return Err(Stop::Bad);
         }
         let height = line.height.get();
-        let signer = Signer::new(alloc, master_of(line.number), height)?;
+        let signer = Signer::new_by(rt, alloc, master_of(line.number), height)?;
         let keyed = Keyed {
             number: line.number,
             kind: line.kind,

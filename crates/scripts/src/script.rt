@@ -2,19 +2,17 @@
 
 use crate::acts::Run;
 use crate::answer::Answer;
-use crate::caller::Caller;
 use crate::cursor::Cursor;
 use crate::line::{Line, read_line};
 use crate::parties::{Listed, Parties};
-use crate::shelf::Shelf;
 use crate::stop::Stop;
 use authenticator::Roster;
+use serving::witness_calls_code::witness_service_code::{Pass, WitnessService};
+use serving::witness_calls_code::{Caller, Shelf, open_witness};
 use std::alloc::Global;
 use std::io::{self, Read, Write};
 use std::sync::Wait;
 use std::thread::Threads;
-use witness_service::witness_books_code::Books;
-use witness_service::{Pass, WitnessService};
 
 /// How a script came to its end.
 #[derive(Clone, Copy, Debug, PartialEq, Eq)]
@@ -70,13 +68,13 @@ fn run_all<R: Threads + Wait + Sync, I: Read, O: Write, S: Shelf>(
     shelf: &mut S,
     roster_file: Option<&str>,
 ) -> Result<ScriptEnd, Stop> {
-    let (listed, more) = read_nodes(alloc, cursor)?;
+    let (listed, more) = read_nodes(rt, alloc, cursor)?;
     let roster = Roster::new(listed.members(alloc)?).map_err(|_| Stop::Bad)?;
     if let Some(name) = roster_file {
         put_roster(alloc, shelf, name, &roster)?;
     }
     let parties = listed.make(alloc, &roster)?;
-    let (service, pass) = open_witness(alloc, &roster)?;
+    let (service, pass) = witness_of(alloc, &roster)?;
     let stage = Stage {
         roster: &roster,
         service: &service,
@@ -126,14 +124,18 @@ fn play<'a, R: Threads + Wait + Sync, I: Read, O: Write, S: Shelf>(
 }
 
 /// Reads the nodes on the first lines. Tells whether a line is there that says something else.
-fn read_nodes<I: Read>(alloc: Global, cursor: &mut Cursor<'_, I>) -> Result<(Listed, bool), Stop> {
+fn read_nodes<R: Threads + Sync, I: Read>(
+    rt: &R,
+    alloc: Global,
+    cursor: &mut Cursor<'_, I>,
+) -> Result<(Listed, bool), Stop> {
     let mut listed = Listed::new(alloc);
     for _ in 0..u64::MAX {
         if !cursor.next()? {
             return Ok((listed, false));
         }
         match read_line(alloc, cursor.text()?)? {
-            Line::Node(line) => listed.add(alloc, &line)?,
+            Line::Node(line) => listed.add(rt, alloc, &line)?,
             Line::Act(_) => return Ok((listed, true)),
         }
     }
@@ -156,13 +158,8 @@ fn put_roster<S: Shelf>(
 }
 
 /// A witness of a roster's members, with one pass.
-fn open_witness(alloc: Global, roster: &Roster) -> Result<(WitnessService, Pass), Stop> {
-    let Ok(books) = Books::new(alloc, roster.try_clone(alloc)?) else {
-        return Err(Stop::NoMemory);
-    };
-    let Ok((service, mut passes)) = WitnessService::open(alloc, books, 1) else {
-        return Err(Stop::NoMemory);
-    };
+fn witness_of(alloc: Global, roster: &Roster) -> Result<(WitnessService, Pass), Stop> {
+    let (service, mut passes) = open_witness(alloc, roster, 1)?;
     match passes.pop() {
         Some(pass) => Ok((service, pass)),
         None => Err(Stop::NoMemory),

@@ -2,23 +2,14 @@
 
 use crate::acts::Run;
 use crate::line::{OneToSixteen, Place};
-use crate::packet_texts::{answer_packet, learn_packet};
-use crate::said::Said;
-use crate::shelf::Shelf;
 use crate::stop::Stop;
 use authenticator::Authenticator;
-use challenge::{Challenge, write_case};
 use secure_log::SegmentFault;
+use serving::witness_calls_code::challenge_code::write_case;
+use serving::witness_calls_code::packet_texts::{answer_packet, learn_packet};
+use serving::witness_calls_code::{Said, Shelf, indication_word};
 use std::sync::Wait;
 use std::thread::Threads;
-use witness_service::witness_books_code::node_book_code::{Indication, Question};
-
-/// The first and the last number of the part of a log that is asked for.
-#[derive(Clone, Copy)]
-struct Asked {
-    first: u64,
-    last: u64,
-}
 
 impl<R: Threads + Wait + Sync, S: Shelf> Run<'_, '_, R, S> {
     /// The packet of a node's authenticator, if the node signed something there.
@@ -91,18 +82,9 @@ impl<R: Threads + Wait + Sync, S: Shelf> Run<'_, '_, R, S> {
         self.say(&said)
     }
 
-    /// What is asked of a node by the audit that is open, if one is.
-    fn asked(&mut self, node: u32) -> Result<Option<Asked>, Stop> {
-        let said = self.caller.ask(node, Question::Challenges);
-        if said.is_no_memory() {
-            return Err(Stop::NoMemory);
-        }
-        Ok(asked_of(&said))
-    }
-
     /// The packet of the segment that a node is asked for, if one is and the node has it.
     fn segment_packet(&mut self, node: u32) -> Result<Option<Vec<u8>>, Stop> {
-        let Some(asked) = self.asked(node)? else {
+        let Some(asked) = self.caller.asked(node)? else {
             return Ok(None);
         };
         let log = self.parties.node(node).ok_or(Stop::Bad)?;
@@ -157,15 +139,15 @@ impl<R: Threads + Wait + Sync, S: Shelf> Run<'_, '_, R, S> {
     /// `ask N`: prints the node's failure indication, and how many challenges are open.
     pub(crate) fn ask(&mut self, node: u32) -> Result<(), Stop> {
         self.known(node)?;
-        match self.caller.ask(node, Question::Indication) {
-            Said::Told(indication) => self.tell(node, indication),
+        match self.caller.indication(node) {
+            Said::Told(indication) => self.tell(node, indication_word(indication)),
             said => self.say(&said),
         }
     }
 
-    /// Prints a node's failure indication, and how many challenges are open.
-    fn tell(&mut self, node: u32, indication: Indication) -> Result<(), Stop> {
-        match self.caller.ask(node, Question::Challenges) {
+    /// Prints a node's failure indication, by its word, and how many challenges are open.
+    fn tell(&mut self, node: u32, indication: &str) -> Result<(), Stop> {
+        match self.caller.challenges(node) {
             Said::Open(challenges) => {
                 self.answer.told(node, indication, challenges.len())?;
                 Ok(())
@@ -177,7 +159,7 @@ impl<R: Threads + Wait + Sync, S: Shelf> Run<'_, '_, R, S> {
     /// `evidence N FILE`: the file gets the roster's text, and after it that of the evidence.
     pub(crate) fn evidence(&mut self, node: u32, file: &str) -> Result<(), Stop> {
         self.known(node)?;
-        match self.caller.ask(node, Question::Evidence) {
+        match self.caller.evidence(node) {
             Said::EvidenceIs(Some(evidence)) => {
                 let mut text = Vec::new(self.alloc);
                 write_case(self.roster, &evidence, &mut text)?;
@@ -196,27 +178,6 @@ impl<R: Threads + Wait + Sync, S: Shelf> Run<'_, '_, R, S> {
             Err(error) => Err(Stop::of_file(self.alloc, file, error)),
         }
     }
-}
-
-/// What the open audit asks for, where a witness told the open challenges.
-fn asked_of(said: &Said) -> Option<Asked> {
-    match said {
-        Said::Open(challenges) => audit_among(challenges),
-        _ => None,
-    }
-}
-
-/// What the audit among some challenges asks for.
-fn audit_among(challenges: &[Challenge]) -> Option<Asked> {
-    for challenge in challenges {
-        if let Challenge::Audit { first, last } = challenge {
-            return Some(Asked {
-                first: first.get(),
-                last: last.get(),
-            });
-        }
-    }
-    None
 }
 
 /// Changes the lowest bit of the last byte.

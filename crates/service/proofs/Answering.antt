@@ -6,7 +6,7 @@ use Rattle.xdr.specs.Item.{IsBytes}
 use Rattle.xdr.specs.Reading.{Read}
 use Rattle.rpc.specs.Call.{Message, message_at}
 use Rattle.rpc.proofs.Messages.{read_is_said, said_is_read, says_one_call}
-use Rattle.nfs_items.specs.Timeval.{Timeval}
+use Rattle.nfs_procs.specs.nfs_items.Timeval.{Timeval}
 use Rattle.worlds.specs.World.{World, at_time}
 use Rattle.service.specs.Replies.{Answers, silence, reply, reply_to, reply_of_call, world_after_call}
 use Rattle.service.specs.Replies.{reply_owed, world_after}

@@ -3,11 +3,11 @@
 use Rattle.std.proofs.Common.{◌≡◌, ℕ, ◌≤◌, List, length, Option, Some, None, ap}
 use Rattle.std.specs.Prelude.{IfSome, option_map}
 use Rattle.xdr.specs.Item.{IsBytes}
-use Rattle.nfs_items.specs.Caller.{Caller}
-use Rattle.nfs_items.specs.CallerOf.{caller_of}
-use Rattle.nfs_items.specs.Credentials.{caller_in}
-use Rattle.nfs_items.specs.declared.who.Who.{Who}
-use Rattle.nfs_items.proofs.Credentials.{said}
+use Rattle.nfs_procs.specs.nfs_items.Caller.{Caller}
+use Rattle.nfs_procs.specs.nfs_items.CallerOf.{caller_of}
+use Rattle.nfs_procs.specs.nfs_items.Credentials.{caller_in}
+use Rattle.nfs_procs.specs.nfs_items.declared.who.Who.{Who}
+use Rattle.nfs_procs.proofs.nfs_items.Credentials.{said}
 use Rattle.service.specs.Views.{HasShortName}
 
 short : {R : Type 0} (value : R → List ℕ) (m : Option R) (name : List ℕ) → length name ≤ 255

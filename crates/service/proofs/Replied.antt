@@ -9,7 +9,7 @@ use Rattle.rpc.specs.Call.{Message, message_at}
 use Rattle.rpc.specs.CallValues.{IsCallOf, GivesCall}
 use Rattle.rpc.specs.declared.call.Call.{Call}
 use Rattle.rpc.specs.declared.call.CallFault.{CallFault}
-use Rattle.nfs_items.specs.Timeval.{Timeval}
+use Rattle.nfs_procs.specs.nfs_items.Timeval.{Timeval}
 use Rattle.worlds.specs.World.{World, at_time}
 use Rattle.service.specs.Replies.{reply_to, reply_of_call, world_after_call, reply_owed, world_after}
 

@@ -9,8 +9,8 @@ use Rattle.rpc.specs.Call.{Message, OtherVersion, Version2, message_at}
 use Rattle.rpc.specs.Reply.{reply_text}
 use Rattle.rpc.specs.declared.reply.ReplyBody.{ReplyBody}
 use Rattle.rpc.specs.declared.reply.ReplyBody.TheVariants as bodies
-use Rattle.nfs_items.specs.Timeval.{Timeval}
-use Rattle.nfs_items.specs.Caller.{Caller}
+use Rattle.nfs_procs.specs.nfs_items.Timeval.{Timeval}
+use Rattle.nfs_procs.specs.nfs_items.Caller.{Caller}
 use Rattle.fs_model.specs.Trees.{IsFileTree}
 use Rattle.nfs_procs.proofs.nfs_laws.OfSizes.Lengths.{answer_length}
 use Rattle.mount.specs.mount_types.Mounts.{AreMounts}

@@ -10,10 +10,10 @@ use Rattle.xdr.proofs.Front.{IsBytes-drop, IsBytes-take}
 use Rattle.rpc.specs.Call.{CallHeader, Message, OtherVersion, Version2, message_at, Says, call_start}
 use Rattle.rpc.specs.Call.{call_header, header_value, message_text, opaque_auth}
 use Rattle.rpc.proofs.Messages.{read_is_said}
-use Rattle.nfs_items.specs.Timeval.{Timeval, is_before}
-use Rattle.nfs_items.specs.Caller.{Caller, nobody}
-use Rattle.nfs_items.specs.Credentials.{caller_in}
-use Rattle.nfs_items.proofs.Credentials.{said}
+use Rattle.nfs_procs.specs.nfs_items.Timeval.{Timeval, is_before}
+use Rattle.nfs_procs.specs.nfs_items.Caller.{Caller, nobody}
+use Rattle.nfs_procs.specs.nfs_items.Credentials.{caller_in}
+use Rattle.nfs_procs.proofs.nfs_items.Credentials.{said}
 use Rattle.nfs_types.specs.Calls.{Call}
 use Rattle.nfs_types.specs.Texts.{call_at, procedure_at}
 use Rattle.nfs_types.specs.Bounds.{HasBounds}

@@ -1,7 +1,7 @@
 -- What a stream of records is owed.
 use Rattle.std.specs.Prelude.{◌≡◌, ℕ, Bool, true, false, List, [], ◌∷◌, ◌++◌, Option, Some, None}
 use Rattle.rpc.specs.Records.Record.{fragment}
-use Rattle.nfs_items.specs.Timeval.{Timeval}
+use Rattle.nfs_procs.specs.nfs_items.Timeval.{Timeval}
 use Rattle.worlds.specs.World.{World}
 use Rattle.service.specs.Replies.{reply_owed, world_after}
 

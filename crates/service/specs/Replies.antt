@@ -7,9 +7,9 @@ use Rattle.rpc.specs.Reply.{reply_text}
 use Rattle.rpc.specs.declared.reply.ReplyBody.{ReplyBody}
 use Rattle.rpc.specs.declared.reply.ReplyBody.TheVariants as bodies
 use Rattle.rpc.specs.declared.reply.AuthStat.TheVariants as auth
-use Rattle.nfs_items.specs.Timeval.{Timeval}
-use Rattle.nfs_items.specs.Caller.{Caller, nobody}
-use Rattle.nfs_items.specs.Credentials.{caller_in}
+use Rattle.nfs_procs.specs.nfs_items.Timeval.{Timeval}
+use Rattle.nfs_procs.specs.nfs_items.Caller.{Caller, nobody}
+use Rattle.nfs_procs.specs.nfs_items.Credentials.{caller_in}
 use Rattle.nfs_types.specs.Calls.{Call}
 use Rattle.nfs_types.specs.Texts.{procedure_at, call_at, answer_text}
 use Rattle.mount.specs.nfs_spec.NfsCalls.{call_does}

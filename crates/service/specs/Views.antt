@@ -1,9 +1,9 @@
 -- What the program's values say of a call that was checked.
 use Rattle.std.specs.Prelude.{◌≤◌, length, Result, Ok, Err, IfSome}
 use Rattle.rpc.specs.declared.reply.ReplyBody.{ReplyBody}
-use Rattle.nfs_items.specs.Caller.{Caller}
-use Rattle.nfs_items.specs.CallerOf.{caller_of}
-use Rattle.nfs_items.specs.declared.who.Who.{Who}
+use Rattle.nfs_procs.specs.nfs_items.Caller.{Caller}
+use Rattle.nfs_procs.specs.nfs_items.CallerOf.{caller_of}
+use Rattle.nfs_procs.specs.nfs_items.declared.who.Who.{Who}
 use Rattle.nfs_types.specs.Arguments as nfs
 use Rattle.nfs_types.specs.Bounds as nfs_bounds
 use Rattle.mount.specs.mount_types.Arguments as mount

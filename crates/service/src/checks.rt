@@ -2,14 +2,14 @@
 
 ghost use Rattle.std.specs.Prelude.{◌≡◌, IfOk};
 ghost use Rattle.rpc.specs.CallValues.{header_of};
-ghost use Rattle.nfs_items.specs.Credentials.{caller_in};
+ghost use Rattle.nfs_procs.specs.nfs_items.Credentials.{caller_in};
 ghost use Rattle.service.specs.Replies.{caller_or_refusal, caller_at, version_served, wants_machine};
 ghost use Rattle.service.specs.Replies.{machine_or_refusal, nfs_call_or_refusal, mount_call_or_refusal};
 ghost use Rattle.service.specs.Replies.{program_call_or_refusal, call_or_refusal};
 ghost use Rattle.service.specs.Views.{view_of_caller, view_of_served, view_of_call, HasShortName, IsBounded};
 
 use mount::mount_types_code::{MountArgs, MountProcedure, read_mount_args};
-use nfs_items::{Who, read_credential};
+use nfs_procs::nfs_items_code::{Who, read_credential};
 use nfs_types::{NfsArgs, NfsProcedure, read_args};
 use rpc::{AuthStat, Header, OpaqueAuth, ReplyBody};
 

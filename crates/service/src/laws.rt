@@ -5,7 +5,7 @@ ghost use Rattle.service.specs.declared.checks.TheConstants.{AUTH_NONE, AUTH_SYS
 ghost use Rattle.service.specs.declared.checks.TheConstants.{MOUNT_PROGRAM, MOUNT_VERSION};
 ghost use Rattle.service.specs.declared.service.TheConstants.{RPC_VERSION};
 ghost use Rattle.xdr.specs.Item.{IsBytes};
-ghost use Rattle.nfs_items.specs.Timeval.{Timeval};
+ghost use Rattle.nfs_procs.specs.nfs_items.Timeval.{Timeval};
 ghost use Rattle.fs_model.specs.Trees.{IsTime};
 ghost use Rattle.rpc.specs.declared.records.record.TheConstants.{MAX_RECORD};
 ghost use Rattle.worlds.specs.World.{World};

@@ -7,7 +7,8 @@ ghost use Rattle.rpc.specs.declared.records.record.TheConstants.{MAX_RECORD};
 ghost use Rattle.xdr.specs.Writing.{Appends};
 ghost use Rattle.rpc.specs.Call.{Message};
 ghost use Rattle.rpc.specs.CallValues.{IsCallOf};
-ghost use Rattle.nfs_items.specs.CallerOf.{caller_of};
+ghost use Rattle.nfs_procs.specs.nfs_items.CallerOf.{caller_of};
+ghost use Rattle.fs_model.specs.Maxima.{max_files};
 ghost use Rattle.worlds.specs.IsWorld.{IsWorld};
 ghost use Rattle.worlds.specs.World.{opening_world, world_of};
 ghost use Rattle.service.specs.Replies.{bare_reply, call_results, call_reply, reply_to, reply_owed};
@@ -18,8 +19,8 @@ ghost use Rattle.service.specs.Views.{served_of, view_of_call, HasShortName, IsB
 use crate::checks::{ServedArgs, check_call};
 use mount::file_tree_code::Tree;
 use mount::{MountTable, mount_call};
-use nfs_items::{Time, Who};
 use nfs_procs::nfs_call;
+use nfs_procs::nfs_items_code::{Time, Who};
 use rpc::{Call, CallBody, Reply, ReplyBody, read_call, write_reply};
 use std::alloc::{AllocError, Global};
 use std::marker::Model;
@@ -77,6 +78,15 @@ impl Service {
         ensures { result.now ≡ self.now.files }
     {
         &self.tree
+    }
+
+    /// Computes the digests of files' texts that are missing, and gives how many they were; the world stays.
+    /// Where memory is refused, some more may be kept.
+    pub fn renew_digests(&mut self, alloc: Global) -> Result<u32, AllocError>
+        ensures same { self.new ≡ self.old }
+        ensures count { IfOk result (λ count. count ≤ max_files) }
+    {
+        self.tree.renew_digests(alloc)
     }
 
     /// The last clock reading.

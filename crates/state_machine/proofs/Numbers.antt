@@ -3,9 +3,9 @@
 use Rattle.std.proofs.Common.{◌≡◌, ℕ, List, Result, Ok, Err, refl, sym, subst, ◌∙◌}
 use Rattle.std.specs.Prelude.{OnOk, OnErr}
 use Rattle.xdr.specs.Reading.{Read}
-use Rattle.rpc.specs.Call.{Message, OtherVersion, Version2, message_at}
-use Rattle.nfs_items.specs.Timeval.{Timeval}
-use Rattle.nfs_items.specs.Caller.{Caller}
+use Rattle.service.specs.rpc.Call.{Message, OtherVersion, Version2, message_at}
+use Rattle.service.specs.nfs_items.Timeval.{Timeval}
+use Rattle.service.specs.nfs_items.Caller.{Caller}
 use Rattle.service.proofs.nfs_laws.OfFrames.UnnamedFiles.{heads}
 use Rattle.service.specs.worlds.World.{World, at_time}
 use Rattle.service.specs.Replies.{ServedCall, Nfs, Mount, OrRefusal, call_or_refusal, call_results}

@@ -4,7 +4,7 @@ use Rattle.std.specs.Ordering.{nat_cmp}
 use Rattle.std.specs.FinMap as finite
 use Rattle.std.specs.FinSet.{FinSet}
 use Rattle.xdr.specs.Item.{Fits}
-use Rattle.nfs_items.specs.Timeval.{Timeval, timeval, timeval_value}
+use Rattle.service.specs.nfs_items.Timeval.{Timeval, timeval, timeval_value}
 use Rattle.service.specs.worlds.World.{World}
 use Rattle.state_spec.specs.file_texts.FileItems.{file_item, file_value}
 use Rattle.state_spec.specs.State.{received_cmp, SentMessage, Stage, State}

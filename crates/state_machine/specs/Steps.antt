@@ -1,7 +1,7 @@
 -- What each step does to a state.
 use Rattle.std.specs.Prelude.{◌≡◌, ℕ, List, Option, Some, None}
 use Rattle.std.specs.FinMap as finite
-use Rattle.nfs_items.specs.Timeval.{Timeval}
+use Rattle.service.specs.nfs_items.Timeval.{Timeval}
 use Rattle.service.specs.worlds.World.{World}
 use Rattle.service.specs.Replies.{reply_owed, world_after}
 use Rattle.state_spec.specs.State.{ReceivedMessage, with_received, SentMessage, Stage, Idle, Heard, Owes}

@@ -1,12 +1,14 @@
 //! The reference machine of a node.
 
-ghost use Rattle.std.specs.Prelude.{◌≡◌, ℕ};
+ghost use Rattle.std.specs.Prelude.{◌≡◌, ◌≤◌, ℕ, IfOk};
+ghost use Rattle.state_spec.specs.file_texts.fs_model.Maxima.{max_files};
 ghost use Rattle.state_spec.specs.State.{clock_in, IsMachine};
 ghost use Rattle.state_machine.specs.Machines.{machine_in, IsOf, MachineFits};
 
 use crate::stage::Stage;
-use nfs_items::Time;
 use service::Service;
+use service::nfs_items_code::Time;
+use std::alloc::{AllocError, Global};
 
 /// The reference machine of a node: what its next entries depend on beside its messages.
 #[derive(Drop)]
@@ -25,6 +27,18 @@ impl Machine {
         match self {
             Machine::Server(service, _) => service.clock(),
             Machine::Client(clock) => *clock,
+        }
+    }
+
+    /// Computes the digests of a server's files that are missing, and gives how many they were; a client has
+    /// no files. It stays as it is seen. Where memory is refused, some more may be kept.
+    pub(crate) fn renew_digests(&mut self, alloc: Global) -> Result<u32, AllocError>
+        ensures same { machine_in self.new ≡ machine_in self.old }
+        ensures count { IfOk result (λ count. count ≤ max_files) }
+    {
+        match self {
+            Machine::Server(service, _) => service.renew_digests(alloc),
+            Machine::Client(_) => Ok(0),
         }
     }
 

@@ -16,7 +16,7 @@ ghost use Rattle.state_machine.specs.Steps.{HasPlaceFor};
 use crate::machine::Machine;
 use crate::state::State;
 use crate::states::{ReceivedMessage, SentMessage};
-use nfs_items::Time;
+use service::nfs_items_code::Time;
 use std::alloc::{AllocError, Global};
 
 impl State {

@@ -1,19 +1,20 @@
 //! The state of a node.
 
-ghost use Rattle.std.specs.Prelude.{◌≡◌, IfOk};
+ghost use Rattle.std.specs.Prelude.{◌≡◌, ◌≤◌, IfOk};
 ghost use Rattle.xdr.specs.Item.{Fits};
 ghost use Rattle.state_spec.specs.State.{IsState, clock_in, opening_client, opening_server};
 ghost use Rattle.state_spec.specs.StateItems.{state_item};
 ghost use Rattle.state_spec.specs.StateText.{said};
 ghost use Rattle.state_spec.specs.file_texts.FileItems.{file_item};
+ghost use Rattle.state_spec.specs.file_texts.fs_model.Maxima.{max_files};
 ghost use Rattle.state_machine.specs.Stages.{stage_in};
 ghost use Rattle.state_machine.specs.Machines.{machine_in, server_state, client_state};
 
 use crate::machine::Machine;
 use crate::stage::{Stage, is_word};
 use crate::states::{Received, Sends};
-use nfs_items::Time;
 use service::Service;
+use service::nfs_items_code::Time;
 use std::alloc::{AllocError, Global};
 use std::marker::Model;
 
@@ -130,6 +131,15 @@ impl State {
         ensures { result ≡ clock_in self.now.machine }
     {
         self.machine.clock()
+    }
+
+    /// Computes the digests of a server's files that are missing, and gives how many they were; a client has
+    /// no files. The state stays. Where memory is refused, some more may be kept.
+    pub fn renew_digests(&mut self, alloc: Global) -> Result<u32, AllocError>
+        ensures same { self.new ≡ self.old }
+        ensures count { IfOk result (λ count. count ≤ max_files) }
+    {
+        self.machine.renew_digests(alloc)
     }
 
     /// It is one that a node can be in, and what is said of it can be spelled, as its types keep it: does

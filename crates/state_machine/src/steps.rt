@@ -14,8 +14,8 @@ use crate::machine::Machine;
 use crate::stage::Stage;
 use crate::state::State;
 use crate::states::{ReceivedMessage, SentMessage};
-use nfs_items::Time;
 use service::Service;
+use service::nfs_items_code::Time;
 use std::alloc::{AllocError, Global};
 
 impl State {

@@ -8,7 +8,7 @@ use Rattle.std.specs.Map.{lookup}
 use Rattle.std.specs.Ordering.{nat_cmp, eq_by_cmp}
 use Rattle.std.specs.Cmp.Lexicographic.{pointwise, same_text}
 use Rattle.std.specs.FinMap as finite
-use Rattle.xdr.specs.Item.{Fits, choice}
+use Rattle.file_texts.specs.xdr.Item.{Fits, choice}
 use Rattle.file_texts.specs.fs_model.Maxima.{max_file_size, max_target, max_name, max_files}
 use Rattle.file_texts.specs.fs_model.Listing.{NamedEntry, entry_at}
 use Rattle.file_texts.specs.fs_model.Files.{Body, Regular, Symlink, Directory, File, file_at, listing_in}

@@ -12,7 +12,7 @@ use Rattle.std.specs.FinMap as finite
 use Rattle.std.specs.FinMap.Entries.{below_all, is_sorted}
 use Rattle.std.specs.FinSet.{FinSet}
 use Rattle.std.proofs.lemmas.Bool.{eqb-true, ltb-true}
-use Rattle.xdr.specs.Item.{Value, Fits}
+use Rattle.file_texts.specs.xdr.Item.{Value, Fits}
 use Rattle.file_texts.specs.fs_model.Files.{File}
 use Rattle.file_texts.proofs.fs_model.Reached.{both_of}
 use Rattle.file_texts.specs.FileItems.{file_item, file_value}

@@ -4,7 +4,7 @@ use Rattle.std.proofs.Common.{◌≡◌, ℕ, zero, suc, ◌<◌, ◌≤◌, ◌
 use Rattle.std.proofs.Common.{IsSome, is_some, option_map, refl, sym, ap, subst, ◌∙◌, arith}
 use Rattle.std.specs.Prelude.{IsTrue}
 use Rattle.std.specs.Option.{option_map_or}
-use Rattle.xdr.specs.Item.{Value, Fits}
+use Rattle.file_texts.specs.xdr.Item.{Value, Fits}
 use Rattle.file_texts.specs.fs_model.Maxima.{max_name}
 use Rattle.file_texts.specs.fs_model.Listing.{Listing, IsRising, HasDistinctNames}
 use Rattle.file_texts.specs.fs_model.Names.{is_name}

@@ -11,7 +11,7 @@ use Rattle.std.specs.FinMap as finite
 use Rattle.std.specs.FinMap.Entries.{find, below_all, is_sorted}
 use Rattle.std.proofs.lemmas.Bool.{cond-true, cond-false}
 use Rattle.std.proofs.lemmas.List.{length-map}
-use Rattle.xdr.specs.Item.{Fits, array, choice}
+use Rattle.file_texts.specs.xdr.Item.{Fits, array, choice}
 use Rattle.worlds.specs.mount_types.Calls.{Mount}
 use Rattle.worlds.specs.mount_types.Mounts.{IsMount}
 use Rattle.file_texts.specs.fs_model.Maxima.{max_files, max_entries, max_name}

@@ -5,7 +5,7 @@ use Rattle.std.specs.Prelude.{◌≡◌, ◌≢◌, ◌<◌, ◌≤◌, ℕ, zer
 use Rattle.std.specs.List.{AllByRecursion, AllPairs}
 use Rattle.std.specs.List.Sorted.{IsStrictlySortedBy}
 use Rattle.std.specs.Ordering.{nat_cmp}
-use Rattle.xdr.specs.Item.{Value}
+use Rattle.file_texts.specs.xdr.Item.{Value}
 use Rattle.file_texts.specs.nfs_items.Terms.{FileNumber, Name, Cookie}
 use Rattle.file_texts.specs.nfs_items.Timeval.{Timeval}
 use Rattle.file_texts.specs.fs_model.Maxima.{max_entries, max_blocks}

@@ -1,7 +1,7 @@
 -- States in texts (RFC 4506), in which each file stands as an item of some kind.
 use Rattle.std.specs.Prelude.{ℕ, Bool, ◌==◌, ◌||◌, nat_lt, map, if◌then◌else◌}
 use Rattle.std.specs.FinMap as finite
-use Rattle.xdr.specs.Item.{Item, Value, word, hyper, fixed, opaque, empty, pair, array, choice, word_where}
+use Rattle.file_texts.specs.xdr.Item.{Item, Value, word, hyper, fixed, opaque, empty, pair, array, choice, word_where}
 use Rattle.file_texts.specs.nfs_items.Timeval.{timeval, timeval_value}
 use Rattle.file_texts.specs.fs_model.Maxima.{max_files}
 use Rattle.file_texts.specs.fs_model.Files.{File}

@@ -5,7 +5,7 @@ use Rattle.std.specs.Ordering.{nat_cmp}
 use Rattle.std.specs.declared.cmp.Ordering.{Ordering}
 use Rattle.std.specs.FinMap as finite
 use Rattle.std.specs.FinSet.{FinSet}
-use Rattle.xdr.specs.Item.{Value}
+use Rattle.file_texts.specs.xdr.Item.{Value}
 use Rattle.file_texts.specs.nfs_items.Timeval.{Timeval}
 use Rattle.worlds.specs.World.{World}
 use Rattle.file_texts.specs.FileItems.{file_item}

@@ -15,11 +15,11 @@ use Rattle.authenticator.specs.declared.refusal.Refusal as checks
 use Rattle.authenticator.proofs.Members.{member_node}
 use Rattle.authenticator.proofs.Signed.{same_list}
 use Rattle.secure_log.specs.Segment.{SegmentParts, ClosedParts, HasText, IsClosed}
-use Rattle.packets.specs.Packet.{Delivery}
-use Rattle.packets.specs.Packet as packets
-use Rattle.packets.specs.Judging.{judged}
-use Rattle.packets.specs.Taking.{IsTaken}
-use Rattle.packets.proofs.Taken.{as_meant}
+use Rattle.witness_spec.specs.packets.Packet.{Delivery}
+use Rattle.witness_spec.specs.packets.Packet as packets
+use Rattle.witness_spec.specs.packets.Judging.{judged}
+use Rattle.witness_spec.specs.packets.Taking.{IsTaken}
+use Rattle.witness_spec.proofs.packets.Taken.{as_meant}
 use Rattle.witness_spec.specs.Refusals.{Refusal, BadSignature}
 use Rattle.witness_spec.specs.Events.{PublicKey, Event, IsSignedUnder, IsClosedUnder, IsEvent}
 use Rattle.witness_spec.specs.Events as events

@@ -7,10 +7,10 @@ use Rattle.std.proofs.lemmas.Bool.{and_parts}
 use Rattle.authenticator.specs.Roster.{member_of}
 use Rattle.authenticator.specs.declared.member.Member.{Member}
 use Rattle.authenticator.specs.declared.refusal.Refusal.TheVariants as checking
-use Rattle.packets.specs.Packet.{Delivery, delivery_of, delivery_shows}
-use Rattle.packets.specs.Packet as packets
+use Rattle.witness_spec.specs.packets.Packet.{Delivery, delivery_of, delivery_shows}
+use Rattle.witness_spec.specs.packets.Packet as packets
 use Rattle.authenticator.specs.Signing.{is_signed_in}
-use Rattle.packets.specs.Judging.{may_be, is_of_members, judged_option, judged}
+use Rattle.witness_spec.specs.packets.Judging.{may_be, is_of_members, judged_option, judged}
 use Rattle.witness_spec.specs.Refusals.{Refusal, refusal_number, BadSignature}
 use Rattle.witness_spec.specs.Events.{PublicKey, Event}
 use Rattle.witness_spec.specs.Events as events

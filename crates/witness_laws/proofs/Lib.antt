@@ -1,3 +1,4 @@
+pub use Rattle.witness_spec.proofs.packets as packets
 pub use Rattle.witness_spec.proofs.state_spec as state_spec
 pub use Rattle.witness_spec.proofs as witness_spec
 pub use Rattle.witness_spec.proofs.evidence_spec as evidence_spec

@@ -7,9 +7,9 @@ use Rattle.authenticator.specs.Roster.{member_of}
 use Rattle.authenticator.specs.declared.member.Member.{Member}
 use Rattle.authenticator.specs.declared.refusal.Refusal as checks
 use Rattle.authenticator.proofs.Members.{member_node}
-use Rattle.packets.specs.Packet.{Delivery}
-use Rattle.packets.specs.Packet as packets
-use Rattle.packets.specs.Judging.{judged}
+use Rattle.witness_spec.specs.packets.Packet.{Delivery}
+use Rattle.witness_spec.specs.packets.Packet as packets
+use Rattle.witness_spec.specs.packets.Judging.{judged}
 use Rattle.witness_spec.specs.Refusals.{Refusal}
 use Rattle.witness_spec.specs.Events.{PublicKey, Event}
 use Rattle.witness_spec.specs.Events as events

@@ -2,8 +2,8 @@
 use Rattle.std.specs.Prelude.{ℕ, Option, Some, None}
 use Rattle.authenticator.specs.declared.authenticator.Authenticator.{Authenticator}
 use Rattle.secure_log.specs.Segment.{ClosedParts}
-use Rattle.envelopes.specs.declared.envelope.Envelope.{Envelope}
-use Rattle.envelopes.specs.declared.acknowledgement.Ack.{Ack}
+use Rattle.packets.specs.envelopes.declared.envelope.Envelope.{Envelope}
+use Rattle.packets.specs.envelopes.declared.acknowledgement.Ack.{Ack}
 use Rattle.witness_spec.specs.Events.{JobParts}
 use Rattle.witness_spec.specs.Replies.{Reply, Noted, Opened, Accepted, Closed, Asked, Job, Filed, Returned}
 use Rattle.witness_spec.specs.Replies.{Forwarded}

@@ -5,10 +5,10 @@ use Rattle.merkle_keys.specs.Signing.{Signed}
 use Rattle.authenticator.specs.Signed.{signed_digest, authenticator_item, authenticator_value}
 use Rattle.authenticator.specs.declared.authenticator.Authenticator.{Authenticator}
 use Rattle.secure_log.specs.Segment.{ClosedParts, HasText, IsClosed}
-use Rattle.envelopes.specs.declared.envelope.Envelope.{Envelope}
-use Rattle.envelopes.specs.declared.acknowledgement.Ack.{Ack}
-use Rattle.envelopes.specs.Envelope.{envelope_item, envelope_value, envelope_shows}
-use Rattle.envelopes.specs.Acknowledgement.{ack_item, ack_value, ack_shows}
+use Rattle.packets.specs.envelopes.declared.envelope.Envelope.{Envelope}
+use Rattle.packets.specs.envelopes.declared.acknowledgement.Ack.{Ack}
+use Rattle.packets.specs.envelopes.Envelope.{envelope_item, envelope_value, envelope_shows}
+use Rattle.packets.specs.envelopes.Acknowledgement.{ack_item, ack_value, ack_shows}
 use Rattle.state_spec.specs.State.{State}
 use Rattle.evidence_spec.specs.replay_spec.Replay.{Verdict, segment_verdict}
 

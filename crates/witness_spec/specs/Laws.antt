@@ -16,11 +16,11 @@ use Rattle.secure_log.specs.Log.{LogParts, IsOfPlace}
 use Rattle.secure_log.specs.Part.{GivesPart, with_closing}
 use Rattle.secure_log.specs.Segment.{SegmentParts, ClosedParts, IsClosed}
 use Rattle.secure_log.specs.declared.open.OpenSegment.{OpenSegment}
-use Rattle.envelopes.specs.Envelope.{envelope_message}
-use Rattle.envelopes.specs.Acknowledgement.{acked_message}
-use Rattle.envelopes.specs.declared.envelope.Envelope.{Envelope}
-use Rattle.envelopes.specs.declared.acknowledgement.Ack.{Ack}
-use Rattle.envelopes.specs.declared.message.Message.{Message}
+use Rattle.packets.specs.envelopes.Envelope.{envelope_message}
+use Rattle.packets.specs.envelopes.Acknowledgement.{acked_message}
+use Rattle.packets.specs.envelopes.declared.envelope.Envelope.{Envelope}
+use Rattle.packets.specs.envelopes.declared.acknowledgement.Ack.{Ack}
+use Rattle.packets.specs.envelopes.declared.message.Message.{Message}
 use Rattle.state_spec.specs.State.{State}
 use Rattle.evidence_spec.specs.replay_spec.Opening.{opening_of}
 use Rattle.evidence_spec.specs.replay_spec.Placed.{placed_in}

@@ -1,3 +1,4 @@
+pub use Rattle.packets.specs as packets
 pub use Rattle.state_spec.specs as state_spec
 pub use Rattle.evidence_spec.specs as evidence_spec
 pub use Rattle.evidence_spec.specs.replay_spec as replay_spec

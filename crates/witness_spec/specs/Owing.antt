@@ -6,10 +6,10 @@ use Rattle.std.specs.Prelude.{Decides, if◌then◌else◌}
 use Rattle.std.specs.List.{list_any}
 use Rattle.authenticator.specs.declared.authenticator.Authenticator.{Authenticator}
 use Rattle.secure_log.specs.Segment.{ClosedParts}
-use Rattle.envelopes.specs.Envelope.{envelope_message}
-use Rattle.envelopes.specs.Acknowledgement.{acked_message}
-use Rattle.envelopes.specs.declared.message.Message.{Message}
-use Rattle.envelopes.specs.declared.envelope.Envelope.{Envelope}
+use Rattle.packets.specs.envelopes.Envelope.{envelope_message}
+use Rattle.packets.specs.envelopes.Acknowledgement.{acked_message}
+use Rattle.packets.specs.envelopes.declared.message.Message.{Message}
+use Rattle.packets.specs.envelopes.declared.envelope.Envelope.{Envelope}
 use Rattle.witness_spec.specs.Refusals.{LearnedFull, ChallengesFull, OutboxFull, TooFar, NothingToAudit, Busy}
 use Rattle.witness_spec.specs.Refusals.{NotAsked, NoJob, WrongJob, BookFull}
 use Rattle.witness_spec.specs.Events.{JobParts, Question, ItsIndication, ItsChallenges, ItsEvidence}

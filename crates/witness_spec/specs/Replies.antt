@@ -1,7 +1,7 @@
 -- What a witness answers.
 use Rattle.std.specs.Prelude.{ℕ, Bool, true, false, List, Option}
 use Rattle.authenticator.specs.declared.authenticator.Authenticator.{Authenticator}
-use Rattle.envelopes.specs.declared.envelope.Envelope.{Envelope}
+use Rattle.packets.specs.envelopes.declared.envelope.Envelope.{Envelope}
 use Rattle.evidence_spec.specs.Evidence.{EvidenceParts}
 use Rattle.witness_spec.specs.Refusals as refusals
 use Rattle.witness_spec.specs.Events.{Event, JobParts, DoneParts}

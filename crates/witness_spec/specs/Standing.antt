@@ -11,9 +11,9 @@ use Rattle.secure_log.specs.declared.log_entries.entry.Entry.{Entry}
 use Rattle.secure_log.specs.declared.log_entries.entry.Entry.TheVariants as entries
 use Rattle.secure_log.specs.LogEntries.Messages.{message_hash}
 use Rattle.secure_log.specs.Segment.{SegmentParts, ClosedParts}
-use Rattle.envelopes.specs.Envelope.{envelope_message}
-use Rattle.envelopes.specs.Acknowledgement.{acked_message}
-use Rattle.envelopes.specs.declared.message.Message.{Message}
+use Rattle.packets.specs.envelopes.Envelope.{envelope_message}
+use Rattle.packets.specs.envelopes.Acknowledgement.{acked_message}
+use Rattle.packets.specs.envelopes.declared.message.Message.{Message}
 use Rattle.state_spec.specs.State.{State}
 use Rattle.evidence_spec.specs.replay_spec.Opening.{opening_of}
 use Rattle.authenticator.specs.Signing.{is_same}

@@ -3,8 +3,8 @@ use Rattle.std.specs.Prelude.{List}
 use Rattle.authenticator.specs.declared.authenticator.Authenticator.{Authenticator}
 use Rattle.authenticator.specs.declared.member.Member.{Member}
 use Rattle.secure_log.specs.Segment.{ClosedParts}
-use Rattle.envelopes.specs.declared.envelope.Envelope.{Envelope}
-use Rattle.envelopes.specs.declared.acknowledgement.Ack.{Ack}
+use Rattle.packets.specs.envelopes.declared.envelope.Envelope.{Envelope}
+use Rattle.packets.specs.envelopes.declared.acknowledgement.Ack.{Ack}
 use Rattle.witness_spec.specs.Events.{JobParts, DoneParts, Question}
 use Rattle.witness_spec.specs.Replies.{Reply}
 

@@ -2,4 +2,5 @@
 #![tactic(auto)]
 
 pub use evidence_spec as evidence_spec_code;
+pub use packets as packets_code;
 pub use state_spec as state_spec_code;

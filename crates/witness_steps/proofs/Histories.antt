@@ -11,9 +11,9 @@ use Rattle.authenticator.specs.declared.member.Kind.{Kind}
 use Rattle.authenticator.specs.declared.member.Kind.TheVariants as kinds
 use Rattle.authenticator.specs.declared.member.Member.{Member}
 use Rattle.authenticator.specs.declared.refusal.Refusal as checks
-use Rattle.packets.specs.Packet.{Delivery}
-use Rattle.packets.specs.Packet as packets
-use Rattle.packets.specs.Judging.{judged}
+use Rattle.witness_laws.specs.packets.Packet.{Delivery}
+use Rattle.witness_laws.specs.packets.Packet as packets
+use Rattle.witness_laws.specs.packets.Judging.{judged}
 use Rattle.replay_spec.specs.Opening.{opening_by}
 use Rattle.replay_spec.specs.LogLaws.Laws.{SendsLieBelow}
 use Rattle.secure_log.specs.LogEntries.Chain.{IsAmong}

@@ -1,12 +1,14 @@
 //! A server's files after their count (RFC 4506, section 4.13).
 
-ghost use Rattle.std.specs.Prelude.{◌≡◌, OnOk, map};
+ghost use Rattle.std.specs.Prelude.{◌≡◌, IfOk, OnOk, Some, map};
 ghost use Rattle.std.specs.List.{AllByRecursion, flat_map};
 ghost use Rattle.std.specs.FinMap as finite;
 ghost use Rattle.xdr.specs.Item.{Fits, array, fixed, spelling};
 ghost use Rattle.xdr.specs.Writing.{Adds};
+ghost use Rattle.fs_model.specs.Files.{file_at};
 ghost use Rattle.fs_model.specs.Maxima.{max_files};
 ghost use Rattle.inodes.specs.Inodes.{body_in, file_in};
+ghost use Rattle.file_tree.specs.KeptDigests.{IsWritableAt};
 ghost use Rattle.file_tree.specs.tree_rules.Listed.{files_in};
 ghost use Rattle.state_machine.specs.file_texts.Bounds.{IsWritable};
 ghost use Rattle.state_machine.specs.file_texts.FileItems.{file_digest, file_item, file_value};
@@ -30,7 +32,8 @@ pub fn add_tree(tree: &Tree, out: &mut Vec<u8>) -> Result<(), AllocError>
     add_files(tree.inodes(), out)
 }
 
-/// The same with each file's digest in the place of its text. `buffer` is used for each text in turn.
+/// The same with each file's digest in the place of its text, the one that is kept where one is. `buffer` is
+/// used for each other text in turn.
 pub fn add_tree_digests(
     tree: &Tree,
     buffer: &mut Vec<u8>,
@@ -43,7 +46,7 @@ pub fn add_tree_digests(
 {
     tree.files_are_a_tree();
     out.put_u32(tree.inodes().len() as u32)?;
-    add_digests(tree.inodes(), buffer, out)
+    add_digests(tree, tree.inodes(), buffer, out)
 }
 
 /// Files one after the other.
@@ -60,35 +63,56 @@ fn add_files(inodes: Iter<'_, u32, Inode>, out: &mut Vec<u8>) -> Result<(), Allo
     Ok(())
 }
 
-/// Digests of files one after the other.
+/// Digests of a tree's files one after the other.
 fn add_digests(
+    tree: &Tree,
     inodes: Iter<'_, u32, Inode>,
     buffer: &mut Vec<u8>,
     out: &mut Vec<u8>,
 ) -> Result<(), AllocError>
-    requires { AllByRecursion (λ e. IsWritable (file_in e.1).body) inodes }
+    requires { AllByRecursion (IsWritableAt tree.now) inodes }
     ensures fits { OnOk result
         (AllByRecursion (Fits (fixed 32)) (map (λ e. file_digest (e.0, file_in e.1)) inodes.entry)) }
     ensures text { Adds (flat_map (λ e. spelling (fixed 32) (file_digest (e.0, file_in e.1))) inodes.entry)
         out.old.items result out.new.items }
 {
     for (number, inode) in inodes {
-        add_digest(*number, inode, buffer, out)?;
+        add_digest(tree, *number, inode, buffer, out)?;
     }
     Ok(())
 }
 
+/// The digest of a tree's file, appended.
 fn add_digest(
+    tree: &Tree,
     number: u32,
     inode: &Inode,
     buffer: &mut Vec<u8>,
     out: &mut Vec<u8>,
 ) -> Result<(), AllocError>
-    requires { IsWritable (body_in inode.now.body) }
+    requires there { file_at tree.now number ≡ Some (file_in inode.now) }
+    requires writable { IsWritable (body_in inode.now.body) }
     ensures fits { OnOk result (Fits (fixed 32) (file_digest (number, file_in inode.now))) }
     ensures text { Adds (spelling (fixed 32) (file_digest (number, file_in inode.now)))
         out.old.items result out.new.items }
 {
-    let digest = file_digest(number, inode, buffer)?;
+    let digest = digest_of(tree, number, inode, buffer)?;
     out.put_fixed(&digest)
+}
+
+/// The digest that is kept of the text of a tree's file, or, where none is, the one that is computed.
+fn digest_of(
+    tree: &Tree,
+    number: u32,
+    inode: &Inode,
+    buffer: &mut Vec<u8>,
+) -> Result<[u8; 32], AllocError>
+    requires there { file_at tree.now number ≡ Some (file_in inode.now) }
+    requires writable { IsWritable (body_in inode.now.body) }
+    ensures { IfOk result (λ digest. digest ≡ file_digest (number, file_in inode.now)) }
+{
+    match tree.kept_digest(number) {
+        Some(digest) => Ok(*digest),
+        None => file_digest(number, inode, buffer),
+    }
 }

@@ -94,7 +94,7 @@ is_none words (Err e) (inr kind) = inr (by (fault_of commands words) kind)
 -- ---- each command
 
 -- where no fault is found, the words ask for what the subcommand's matches say
-asked_is : (words : List Text) (name : Text) (rows : List Row) → fault_of commands words ≡ [] → subcommand_of commands words ≡ Some (name, rows)
+pub asked_is : (words : List Text) (name : Text) (rows : List Row) → fault_of commands words ≡ [] → subcommand_of commands words ≡ Some (name, rows)
     → asked_in words ≡ asked_of (name, rows)
 asked_is words name rows none is = ap₂ asked_without none is
 
@@ -132,7 +132,7 @@ run_is words rows file roster_out none is file_is roster_is =
 
 -- the subcommands that have words of their own
 abbrev others : List Text
-others = codes "check" ∷ codes "roster" ∷ codes "run" ∷ []
+others = codes "check" ∷ codes "roster" ∷ codes "run" ∷ codes "serve" ∷ []
 
 -- another subcommand is `rpc`
 pub rpc_is : (words : List Text) → fault_of commands words ≡ []

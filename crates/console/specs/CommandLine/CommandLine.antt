@@ -10,6 +10,7 @@ use Rattle.clap.specs.Simple.{App, Shape, new_app, new_rule, new_shape, subcomma
 use Rattle.clap.specs.Faults.{fault_of}
 use Rattle.clap.specs.declared.builder.action.ArgAction.TheVariants.{SetTrue}
 use Rattle.clap.specs.declared.parser.matches.ArgMatches.{ArgMatches}
+use Rattle.console.specs.CommandLine.Serve.{ServeAsked, serve_asked, serve_command}
 use Rattle.console.specs.declared.command_line.request.Request.{Request}
 use Rattle.console.specs.declared.command_line.request.Request.TheVariants as requests
 
@@ -55,10 +56,10 @@ roster_command = with_rule (new_app (codes "roster")) file_argument
 abbrev pub run_command : App
 run_command = with_rule (with_rule (new_app (codes "run")) (file_option (codes "roster-out"))) file_argument
 
--- `nfsacc`, with its subcommands `rpc`, `check`, `roster` and `run`
+-- `nfsacc`, with its subcommands `rpc`, `check`, `roster`, `run` and `serve`
 abbrev pub commands : App
 commands =
-    with_subcommand (with_subcommand (with_subcommand (with_subcommand nfsacc rpc_command) check_command.top) roster_command.top) run_command.top
+    with_subcommand (with_subcommand (with_subcommand (with_subcommand (with_subcommand nfsacc rpc_command) check_command.top) roster_command.top) run_command.top) serve_command.top
 
 -- ---- what is asked for
 
@@ -83,6 +84,7 @@ pub data Asked : Type 0 where
   -- the roster in the file of this name
   Roster : Text → Asked
   Run : RunAsked → Asked
+  Serve : ServeAsked → Asked
 
 -- what a request asks for
 abbrev pub asked_by : Request → Asked
@@ -91,6 +93,17 @@ asked_by (requests.Check r) =
     Check (record { file = r.file.now; explain = r.explain; json = r.json; roster = option_map (λ s. s.now) r.roster })
 asked_by (requests.Roster name) = Roster name.now
 asked_by (requests.Run r) = Run (record { file = r.file.now; roster_out = option_map (λ s. s.now) r.roster_out })
+asked_by (requests.Serve r) = Serve (record {
+  port = r.port.now;
+  count = r.count.now;
+  address = option_map (λ s. s.now) r.address;
+  server_height = option_map (λ s. s.now) r.server_height;
+  client_height = option_map (λ s. s.now) r.client_height;
+  master = option_map (λ s. s.now) r.master;
+  roster_out = option_map (λ s. s.now) r.roster_out;
+  evidence = option_map (λ s. s.now) r.evidence;
+  progress = r.progress;
+})
 
 -- what was found for the arguments of a subcommand
 abbrev pub rows_in : ArgMatches → List Row
@@ -134,6 +147,7 @@ asked_of (name, rows) =
     else if bytes_eq (codes "check") name then check_asked rows
     else if bytes_eq (codes "roster") name then roster_asked rows
     else if bytes_eq (codes "run") name then run_asked rows
+    else if bytes_eq (codes "serve") name then option_map Serve (serve_asked rows)
     else None
 
 -- the same, where the rules find no fault

@@ -10,6 +10,7 @@ ghost use Rattle.console.specs.CommandLine.CommandLine.{commands, check_command,
 ghost use Rattle.console.specs.CommandLine.CommandLine.{asked_by, asked_in, file_argument, file_option, flag};
 ghost use Rattle.console.specs.CommandLine.CommandLine.{is_set, is_told, rows_in};
 
+use super::serve::{ServeRequest, serve_command, serve_request};
 use clap::error::ErrorKind;
 use clap::{Arg, ArgAction, ArgMatches, Command, Error};
 use std::alloc::{AllocError, Global};
@@ -25,6 +26,8 @@ pub enum Request<'a> {
     Roster(&'a str),
     /// `nfsacc run FILE`: the lines of a script.
     Run(RunRequest<'a>),
+    /// `nfsacc serve PORT COUNT`: clients over TCP.
+    Serve(ServeRequest<'a>),
 }
 
 /// What `nfsacc check` is asked.
@@ -154,6 +157,7 @@ fn commands<'a>(alloc: Global) -> Result<Command<'a>, AllocError>
     let check = check_command(alloc)?;
     let roster = roster_command(alloc)?;
     let run = run_command(alloc)?;
+    let serve = serve_command(alloc)?;
     Command::new(alloc, "nfsacc")
         .version("0.1.0")
         .about("An accountable file service: NFS version 2 whose servers can be held to account")
@@ -162,18 +166,19 @@ fn commands<'a>(alloc: Global) -> Result<Command<'a>, AllocError>
         .subcommand(rpc)?
         .subcommand(check)?
         .subcommand(roster)?
-        .subcommand(run)
+        .subcommand(run)?
+        .subcommand(serve)
 }
 
 /// The text of an argument that must be given.
-fn text_of<'a>(matches: &ArgMatches<'a>, id: &str) -> &'a str
+pub(crate) fn text_of<'a>(matches: &ArgMatches<'a>, id: &str) -> &'a str
     ensures { result.now ≡ unwrap_or (first_of id.now (rows_in matches.now)) [] }
 {
     matches.get_str(id).unwrap_or("")
 }
 
 /// Whether a flag is set.
-fn flag_of(matches: &ArgMatches<'_>, id: &str) -> bool
+pub(crate) fn flag_of(matches: &ArgMatches<'_>, id: &str) -> bool
     ensures { is_told id.now (rows_in matches.now) ≡ true
         → result ≡ is_set id.now (rows_in matches.now) }
 {
@@ -225,6 +230,9 @@ fn request_in<'a>(matches: &ArgMatches<'a>) -> Request<'a>
     if let Some(run) = matches.subcommand_matches("run") {
         return Request::Run(run_request(run));
     }
+    if let Some(serve) = matches.subcommand_matches("serve") {
+        return Request::Serve(serve_request(serve));
+    }
     Request::Rpc
 }
 
@@ -240,7 +248,8 @@ fn request_by_rules(alloc: Global, words: &[String]) -> Result<Request<'_>, Erro
 /// The request that the words of a command line make, the program's name first: `rpc` alone, or with `--`
 /// after it, is `Rpc`; `check` with a file's name is `Check`, with or without `--explain`, `--json` and
 /// `--roster` with another name, in any order; `roster` with a file's name is `Roster`; `run` with a file's name
-/// is `Run`, with `--roster-out` and another name before it or after it, or without. After `--` each word is a name. It comes exactly where clap's rules find no fault in
+/// is `Run`, with `--roster-out` and another name before it or after it, or without; `serve` with two words is
+/// `Serve`, with its options before, between or after them. After `--` each word is a name. It comes exactly where clap's rules find no fault in
 /// the words, memory aside, and has what they say the words hold. The error says what is wrong with other
 /// words, or is the help or the version that they ask for: its kind is one of those that the rules give, or
 /// OutOfMemory where memory was refused.

@@ -10,7 +10,7 @@ use Rattle.std.proofs.lemmas.List.{take-append-le, take_all}
 use Rattle.std.proofs.lemmas.Bool.{cases_eq}
 use Rattle.sha2.specs.Sha256.{sha256}
 use Rattle.merkle_keys.specs.Signing.{SignatureParts}
-use Rattle.authenticator.specs.declared.member.Member.{Member}
+use Rattle.secure_log.specs.authenticator.declared.member.Member.{Member}
 use Rattle.secure_log.specs.declared.log_entries.entry.Entry.{Entry}
 use Rattle.secure_log.specs.declared.log_entries.entry.Entry.TheVariants.{Send, Recv, Ack, Clock, Check}
 use Rattle.secure_log.specs.Log.{log_hash}

@@ -1,8 +1,8 @@
 -- What a server logs for a message that it hears, and the state after that.
 use Rattle.std.specs.Prelude.{◌≡◌, ◌≢◌, ◌+◌, ◌<◌, ℕ, false, List, [], ◌∷◌, Option, Some, None}
 use Rattle.merkle_keys.specs.Signing.{SignatureParts}
-use Rattle.authenticator.specs.Signed.{IsSignedIn}
-use Rattle.authenticator.specs.declared.member.Member.{Member}
+use Rattle.secure_log.specs.authenticator.Signed.{IsSignedIn}
+use Rattle.secure_log.specs.authenticator.declared.member.Member.{Member}
 use Rattle.secure_log.specs.LogEntries.Chain.{links_from, last_hash}
 use Rattle.secure_log.specs.declared.log_entries.entry.Entry.{Entry}
 use Rattle.secure_log.specs.declared.log_entries.entry.Entry.TheVariants.{Send, Recv, Clock}

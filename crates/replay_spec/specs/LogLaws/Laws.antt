@@ -2,7 +2,7 @@
 use Rattle.std.specs.Prelude.{◌≡◌, ◌↔◌, ◌+◌, ◌<◌, ◌≤◌, ℕ, true, false, IsTrue, List, ◌++◌, length, Some}
 use Rattle.std.specs.FinMap as finite
 use Rattle.merkle_keys.specs.Signing.{SignatureParts}
-use Rattle.authenticator.specs.declared.member.Member.{Member}
+use Rattle.secure_log.specs.authenticator.declared.member.Member.{Member}
 use Rattle.secure_log.specs.declared.log_entries.entry.Entry.{Entry}
 use Rattle.secure_log.specs.Log.{log_hash}
 use Rattle.nfs_items.specs.Timeval.{Timeval}

@@ -1,5 +1,5 @@
 use Rattle.evidence_spec.specs.Proving.{entry_texts}
-use Rattle.secure_log.proofs.OfLogEntries.FewerTexts.{left, right}
+use Rattle.replay_spec.proofs.secure_log.OfLogEntries.FewerTexts.{left, right}
 use Rattle.evidence_spec.proofs.Contents.{one_entry}
 use Rattle.evidence_spec.proofs.laws.contents_give_entries_back.Goals as goal
 use Rattle.std.proofs.Common.{◌++◌}

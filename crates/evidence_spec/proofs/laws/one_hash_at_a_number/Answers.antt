@@ -1,4 +1,4 @@
-use Rattle.secure_log.specs.LogEntries.Chain.{zeros, links_from}
+use Rattle.replay_spec.specs.secure_log.LogEntries.Chain.{zeros, links_from}
 use Rattle.evidence_spec.proofs.Places.{entries_numbered, one_hash}
 use Rattle.evidence_spec.proofs.laws.one_hash_at_a_number.Goals as goal
 

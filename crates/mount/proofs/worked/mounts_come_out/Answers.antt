@@ -3,7 +3,7 @@ use Rattle.std.proofs.Common.{ap, ◌∙◌, arith}
 use Rattle.std.specs.Prelude.{nat_lt, codes, if◌then◌else◌}
 use Rattle.std.specs.Option.{is_some}
 use Rattle.std.proofs.lemmas.Bool.{le-ltb}
-use Rattle.nfs_items.specs.declared.stat.Stat.TheVariants.{Acces, NoEnt}
+use Rattle.mount_types.specs.nfs_items.declared.stat.Stat.TheVariants.{Acces, NoEnt}
 use Rattle.file_tree.specs.fs_model.Listing.{DirectoryEntry, entry_at}
 use Rattle.file_tree.specs.fs_model.Files.{File, listing_in, directory_entries}
 use Rattle.file_tree.specs.fs_model.Paths.{walk}

@@ -2,10 +2,10 @@ use Rattle.std.proofs.Common.{◌≡◌, ◌≢◌, ℕ, Bool, true, false, cond
 use Rattle.std.proofs.Common.{refl, ap}
 use Rattle.state_machine.specs.state_spec.State.{opening_client}
 use Rattle.state_machine.specs.state_spec.StateText.{state_digest}
-use Rattle.authenticator.specs.Signing.{is_same}
+use Rattle.secure_log.specs.authenticator.Signing.{is_same}
 use Rattle.replay_spec.specs.Stepping.{WrongCheckpoint, unless_fault, step}
 use Rattle.replay_spec.specs.Replay.{Verdict, Fault, behind, verdict_of}
-use Rattle.authenticator.proofs.Signed.{same_list, list_same}
+use Rattle.secure_log.proofs.authenticator.Signed.{same_list, list_same}
 use Rattle.replay_spec.proofs.laws.clients_have_faults.Goals as goal
 
 -- the verdict on a CHECK, by whether it has the digest

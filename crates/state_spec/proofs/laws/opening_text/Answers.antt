@@ -3,7 +3,7 @@ use Rattle.std.proofs.Common.{◌∙◌, arith}
 use Rattle.std.specs.Ordering.{nat_cmp}
 use Rattle.std.specs.declared.cmp.Ordering.{Ordering}
 use Rattle.std.specs.FinMap as finite
-use Rattle.xdr.specs.Item.{Item, Value, Fits, fixed, spelling, number_spelling}
+use Rattle.file_texts.specs.xdr.Item.{Item, Value, Fits, fixed, spelling, number_spelling}
 use Rattle.sha2.proofs.Facts256.{length-sha256}
 use Rattle.file_texts.specs.fs_model.Files.{File}
 use Rattle.worlds.specs.nfs_spec.Opening.{opening_root, opening_hello}

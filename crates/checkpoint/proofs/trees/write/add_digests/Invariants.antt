@@ -3,7 +3,7 @@ use Rattle.std.specs.List.{AllByRecursion}
 use Rattle.xdr.specs.Item.{fixed}
 use Rattle.inodes.specs.Inodes.{file_in}
 use Rattle.inodes.specs.declared.inode.Inode.{Inode}
-use Rattle.state_machine.specs.file_texts.Bounds.{IsWritable}
+use Rattle.file_tree.specs.KeptDigests.{IsWritableAt}
 use Rattle.state_machine.specs.file_texts.FileItems.{file_digest}
 use Rattle.state_machine.proofs.file_texts.Arrays.{AddsRest}
 use Rattle.checkpoint.proofs.trees.write.add_digests.Given as goal
@@ -12,5 +12,5 @@ abbrev pub invariant-loop-number : goal.invariant-loop-number
 invariant-loop-number l = record {
   added : AddsRest (fixed 32) (λ (e : ℕ × Inode). file_digest (e.0, file_in e.1)) l.fn.inodes
       l.number-iterator l.initial.out.items l.out.items;
-  writable : AllByRecursion (λ (e : ℕ × Inode). IsWritable (file_in e.1).body) l.number-iterator;
+  writable : AllByRecursion (IsWritableAt l.tree) l.number-iterator;
 }

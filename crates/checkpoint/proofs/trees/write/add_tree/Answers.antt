@@ -2,7 +2,8 @@ use Rattle.std.proofs.Common.{◌≡◌, ◌++◌, ◌∙◌, length, ap, sym, a
 use Rattle.std.specs.FinMap as finite
 use Rattle.xdr.specs.Item.{number_spelling}
 use Rattle.state_machine.specs.file_texts.FileItems.{file_item, file_value}
-use Rattle.checkpoint.proofs.OfTrees.WrittenFiles.{writable, few_files, as_many, files_fit, files_added}
+use Rattle.file_tree.proofs.WritableFiles.{writable, few_files, as_many}
+use Rattle.checkpoint.proofs.OfTrees.WrittenFiles.{files_fit, files_added}
 use Rattle.checkpoint.proofs.trees.write.add_tree.Goals as goal
 
 pub overflow_cast-len : goal.overflow_cast-len

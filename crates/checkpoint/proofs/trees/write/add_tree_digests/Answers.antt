@@ -2,7 +2,8 @@ use Rattle.std.proofs.Common.{◌≡◌, ◌++◌, ◌∙◌, length, ap, sym, a
 use Rattle.std.specs.FinMap as finite
 use Rattle.xdr.specs.Item.{fixed, number_spelling}
 use Rattle.state_machine.specs.file_texts.FileItems.{file_digest}
-use Rattle.checkpoint.proofs.OfTrees.WrittenFiles.{writable, few_files, as_many, files_fit, files_added}
+use Rattle.file_tree.proofs.WritableFiles.{writable_at, few_files, as_many}
+use Rattle.checkpoint.proofs.OfTrees.WrittenFiles.{files_fit, files_added}
 use Rattle.checkpoint.proofs.trees.write.add_tree_digests.Goals as goal
 
 pub overflow_cast-len : goal.overflow_cast-len
@@ -12,7 +13,7 @@ overflow_cast-len c =
     omega (arith, c.len.ensures.value, few, many)
 
 pub add_digests-requires : goal.add_digests-requires
-add_digests-requires c = writable c.args.tree.now c.files_are_a_tree.ensures.tree
+add_digests-requires c = writable_at c.args.tree.now c.files_are_a_tree.ensures.tree
     c.files_are_a_tree.ensures.room c.inodes-2.result c.inodes-2.ensures
 
 pub returns-clause-fits : goal.returns-clause-fits

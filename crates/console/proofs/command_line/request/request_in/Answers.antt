@@ -1,5 +1,6 @@
 use Rattle.std.proofs.Common.{◌∙◌, refl}
 use Rattle.console.proofs.OfCommandLine.Asked.{check_is, found_is, name_is, roster_is, rpc_is, run_is}
+use Rattle.console.proofs.OfCommandLine.ServeAsked.{serve_is}
 use Rattle.console.proofs.command_line.request.request_in.Goals as goal
 
 pub returns-in-Some : goal.returns-in-Some
@@ -18,6 +19,32 @@ returns-in-Some-subcommand_matches-2 c words none found =
     let is = found_is c.args.matches.now _ _ _ found (c.in-Some-subcommand_matches-2.ensures.found.0 refl) c.in-Some-subcommand_matches-2.ensures.rows in
     run_is words _ _ _ none is c.run_request.ensures.file c.run_request.ensures.roster_out
 
+pub returns-in-Some-subcommand_matches-3 : goal.returns-in-Some-subcommand_matches-3
+returns-in-Some-subcommand_matches-3 c words none found =
+    let is = found_is c.args.matches.now _ _ _ found (c.in-Some-subcommand_matches-3.ensures.found.0 refl) c.in-Some-subcommand_matches-3.ensures.rows in
+    let asks = c.serve_request.ensures in
+    serve_is words _ (record {
+      port = _;
+      count = _;
+      address = _;
+      server_height = _;
+      client_height = _;
+      master = _;
+      roster_out = _;
+      evidence = _;
+      progress = _;
+    }) none is (record {
+      port = asks.port;
+      count = asks.count;
+      address = asks.address;
+      server = asks.server;
+      client = asks.client;
+      master = asks.master;
+      roster_out = asks.roster_out;
+      evidence = asks.evidence;
+      progress = asks.progress;
+    })
+
 pub returns : goal.returns
 returns c words none found =
     let name = name_is c.args.matches.now _ found in
@@ -33,7 +60,12 @@ returns c words none found =
           λ e.
               let bad = rw c.in_default-subcommand_matches-2.is at c.subcommand_matches-3.ensures.found.1 (name ∙ e) in
               cc,
-          tt,
+          (
+            λ e.
+                let bad = rw c.in_default-subcommand_matches-3.is at c.subcommand_matches-4.ensures.found.1 (name ∙ e) in
+                cc,
+            tt,
+          ),
         ),
       ),
     )

@@ -1,4 +1,4 @@
-use Rattle.std.proofs.Common.{None, Ok, sym, subst, rules}
+use Rattle.std.proofs.Common.{None, Ok, sym, subst, rules, ◌∙◌, ap}
 use Rattle.nfs_spec.specs.nfs_items.CallerOf.{caller_of}
 use Rattle.nfs_spec.specs.fs_model.Trees.{IsTime}
 use Rattle.inode_table.specs.nfs_laws.Laws.{NamesIn}
@@ -7,6 +7,10 @@ use Rattle.inode_table.specs.inodes.Given.{given_in}
 use Rattle.inode_table.specs.inodes.Inodes.{file_in}
 use Rattle.file_tree.specs.FileChecks.Creates.{DecidesCreate}
 use Rattle.file_tree.proofs.CreatedFiles.{new_regular_is, may_create, create_does, create_names}
+use Rattle.nfs_spec.specs.fs_model.Files.{Files, file_at}
+use Rattle.inode_table.proofs.nfs_laws.OfTrees.FilesFit.{next_free}
+use Rattle.inode_table.proofs.nfs_laws.OfChanges.OtherFiles.{made_other}
+use Rattle.file_tree.proofs.KeptDigests.{made_kept, same_kept}
 use Rattle.file_tree.proofs.tree.Tree.create_new.Goals as goal
 
 pub make-requires : goal.make-requires
@@ -38,7 +42,7 @@ returns-clause-effect c =
     words
     (subst (λ w. DecidesCreate w who c.args.now c.args.dir c.args.name.now a (Ok None)) (sym c.self.view_is)
     c.requires.granted)
-    c.in_ok-make.field-0 c.make.new.self c.in_ok-make.ensures.number c.in_ok-make.ensures.ok)
+    c.in_ok-number.number c.make.new.self c.in_ok-number.ensures.number c.in_ok-number.ensures.ok)
 
 pub returns-clause-paths : goal.returns-clause-paths
 returns-clause-paths c =
@@ -46,7 +50,7 @@ returns-clause-paths c =
     let a = given_in c.args.given.now in
     let words : HasWords (file_in c.new-inode.result) = search rules in
     let time : IsTime c.args.now = search rules in
-    subst (λ w. NamesIn w c.make.new.self c.args.dir c.args.name.now c.in_ok-make.field-0) c.self.view_is
+    subst (λ w. NamesIn w c.make.new.self c.args.dir c.args.name.now c.in_ok-number.number) c.self.view_is
     (create_names c.self.inside.table c.files_are_a_tree.ensures.tree c.files_are_a_tree.ensures.room who
     c.args.now time c.args.dir c.args.name.now c.in_ok-to_vec.field-0.items c.requires.name
     (c.in_ok-to_vec.ensures.items_if_clones_equal (λ x y e. e)) a c.requires.valid
@@ -55,4 +59,17 @@ returns-clause-paths c =
     words
     (subst (λ w. DecidesCreate w who c.args.now c.args.dir c.args.name.now a (Ok None)) (sym c.self.view_is)
     c.requires.granted)
-    c.in_ok-make.field-0 c.make.new.self c.in_ok-make.ensures.number c.in_ok-make.ensures.ok)
+    c.in_ok-number.number c.make.new.self c.in_ok-number.ensures.number c.in_ok-number.ensures.ok)
+
+pub invariant_of-self-in_err-number : goal.invariant_of-self-in_err-number
+invariant_of-self-in_err-number c =
+    same_kept c.self.inside.table c.make.new.self c.self.inside.digests c.self.invariant
+    (λ n. ap (λ (w : Files). file_at w n) c.in_err-number.ensures.err)
+
+pub invariant_of-self-2 : goal.invariant_of-self-2
+invariant_of-self-2 c =
+    made_kept c.self.inside.table c.make.new.self c.self.inside.digests c.self.invariant c.args.dir
+    c.self.inside.table.next c.forget.new.self c.forget.ensures
+    (next_free c.self.inside.table c.files_are_a_tree.ensures.tree)
+    (λ n nd nn. ap (λ (w : Files). file_at w n) c.in_ok-number.ensures.ok
+    ∙ made_other c.args.now c.self.inside.table c.args.dir c.in_ok-to_vec.field-0.items (file_in c.new-inode.result) n nd nn)

@@ -1,8 +1,11 @@
-use Rattle.std.proofs.Common.{◌≡◌, subst, rules}
+use Rattle.std.proofs.Common.{◌≡◌, subst, rules, ◌∙◌, ap}
 use Rattle.nfs_spec.specs.nfs_items.CallerOf.{caller_of}
 use Rattle.inode_table.specs.nfs_laws.Laws.{NamesIn}
 use Rattle.nfs_spec.specs.fs_model.Trees.{IsTime}
 use Rattle.file_tree.proofs.OfFileChecks.GrantedNames.{may_link, link_does, link_names}
+use Rattle.nfs_spec.specs.fs_model.Files.{Files, file_at}
+use Rattle.inode_table.proofs.nfs_laws.OfChanges.OtherFiles.{linked_other}
+use Rattle.file_tree.proofs.KeptDigests.{two_kept}
 use Rattle.file_tree.proofs.tree.Tree.link.Goals as goal
 
 pub link-requires : goal.link-requires
@@ -36,3 +39,10 @@ returns-clause-paths c =
     (caller_of c.args.who.now) c.args.now c.args.dir
     c.args.name.now c.requires c.args.number granted.0 granted.1 time c.link.new.self
     (rw copied at c.in_ok-link.ensures.ok))
+
+pub invariant_of-self-2 : goal.invariant_of-self-2
+invariant_of-self-2 c =
+    two_kept c.self.inside.table c.link.new.self c.self.inside.digests c.self.invariant c.args.number c.args.dir
+    c.forget.new.self c.forget-2.new.self c.forget.ensures c.forget-2.ensures
+    (λ n nf nd. ap (λ (w : Files). file_at w n) c.in_ok-link.ensures.ok
+    ∙ linked_other c.args.now c.self.inside.table c.args.number c.args.dir c.in_ok-to_vec.field-0.items n nf nd)

@@ -1,4 +1,4 @@
-use Rattle.std.proofs.Common.{◌≡◌, sym, subst, rules}
+use Rattle.std.proofs.Common.{◌≡◌, sym, subst, rules, ◌∙◌, ap}
 use Rattle.nfs_spec.specs.nfs_items.CallerOf.{caller_of}
 use Rattle.nfs_spec.specs.fs_model.Trees.{IsTime}
 use Rattle.nfs_spec.specs.Procedures.{make, add_file}
@@ -7,6 +7,10 @@ use Rattle.inode_table.specs.nfs_laws.Laws.{NamesIn}
 use Rattle.inode_table.specs.nfs_laws.Sizes.Bounds.{HasWords}
 use Rattle.inode_table.specs.inodes.Inodes.{file_in}
 use Rattle.file_tree.proofs.OfFileChecks.GrantedNames.{may_make, make_does, make_names}
+use Rattle.nfs_spec.specs.fs_model.Files.{Files, file_at}
+use Rattle.inode_table.proofs.nfs_laws.OfTrees.FilesFit.{next_free}
+use Rattle.inode_table.proofs.nfs_laws.OfChanges.OtherFiles.{made_other}
+use Rattle.file_tree.proofs.KeptDigests.{made_kept}
 use Rattle.file_tree.proofs.tree.Tree.make.Goals as goal
 
 pub make-requires : goal.make-requires
@@ -34,7 +38,7 @@ returns-clause-effect c =
     c.in_default.ensures c.args.now f c.requires.empty c.requires.cookie (sym c.blocks-2.ensures) in
     let does : c.make.new.self
     ≡ add_file c.args.now c.self.inside.table c.args.dir c.in_ok-to_vec.field-0.items f =
-    c.in_ok-make.ensures.ok in
+    c.in_ok-number.ensures.ok in
     rw (← c.self.view_is)
     (make_does c.self.inside.table c.files_are_a_tree.ensures.tree c.files_are_a_tree.ensures.room
     (caller_of c.args.who.now) c.args.now c.args.dir
@@ -43,7 +47,7 @@ returns-clause-effect c =
     (make_ok c.self.inside.table
     (caller_of c.args.who.now) c.args.now c.args.dir c.args.name.now f granted.0.0 granted.0.1 granted.1)
     (make c.self.inside.table (caller_of c.args.who.now) c.args.now c.args.dir c.args.name.now f) granted.1
-    c.in_ok-make.field-0 c.make.new.self c.in_ok-make.ensures.number (rw copied at does))
+    c.in_ok-number.number c.make.new.self c.in_ok-number.ensures.number (rw copied at does))
 
 pub returns-clause-paths : goal.returns-clause-paths
 returns-clause-paths c =
@@ -56,12 +60,20 @@ returns-clause-paths c =
     c.in_default.ensures c.args.now f c.requires.empty c.requires.cookie (sym c.blocks-2.ensures) in
     let does : c.make.new.self
     ≡ add_file c.args.now c.self.inside.table c.args.dir c.in_ok-to_vec.field-0.items f =
-    c.in_ok-make.ensures.ok in
-    subst (λ w. NamesIn w c.make.new.self c.args.dir c.args.name.now c.in_ok-make.field-0) c.self.view_is
+    c.in_ok-number.ensures.ok in
+    subst (λ w. NamesIn w c.make.new.self c.args.dir c.args.name.now c.in_ok-number.number) c.self.view_is
     (make_names c.self.inside.table c.files_are_a_tree.ensures.tree c.files_are_a_tree.ensures.room
     (caller_of c.args.who.now) c.args.now c.args.dir
     c.args.name.now c.requires.name f c.requires.empty c.requires.cookie
     c.requires.file words granted.0.0 granted.0.1
     (make_ok c.self.inside.table
     (caller_of c.args.who.now) c.args.now c.args.dir c.args.name.now f granted.0.0 granted.0.1 granted.1)
-    time c.in_ok-make.field-0 c.make.new.self c.in_ok-make.ensures.number (rw copied at does))
+    time c.in_ok-number.number c.make.new.self c.in_ok-number.ensures.number (rw copied at does))
+
+pub invariant_of-self-2 : goal.invariant_of-self-2
+invariant_of-self-2 c =
+    made_kept c.self.inside.table c.make.new.self c.self.inside.digests c.self.invariant c.args.dir
+    c.self.inside.table.next c.forget.new.self c.forget.ensures
+    (next_free c.self.inside.table c.files_are_a_tree.ensures.tree)
+    (λ n nd nn. ap (λ (w : Files). file_at w n) c.in_ok-number.ensures.ok
+    ∙ made_other c.args.now c.self.inside.table c.args.dir c.in_ok-to_vec.field-0.items (file_in c.args.inode) n nd nn)

@@ -4,6 +4,9 @@ use Rattle.nfs_spec.specs.fs_model.Trees.{IsFileTree}
 use Rattle.nfs_spec.specs.Procedures.{remove}
 use Rattle.file_tree.specs.Performs.{Does}
 use Rattle.file_tree.proofs.Removed.{removed}
+use Rattle.nfs_spec.specs.fs_model.Files.{Files, file_at}
+use Rattle.inode_table.proofs.nfs_laws.OfChanges.OtherFiles.{removed_other}
+use Rattle.file_tree.proofs.KeptDigests.{two_kept}
 use Rattle.file_tree.proofs.tree.Tree.remove.Goals as goal
 
 pub returns-clause-effect : goal.returns-clause-effect
@@ -28,3 +31,10 @@ returns-in_err-number-clause-effect c =
           ∙ sym (c.in_err-number.ensures.effect c.args.now),
       refl,
     )
+
+pub invariant_of-self : goal.invariant_of-self
+invariant_of-self c =
+    two_kept c.self.inside.table c.unlink.new.self c.self.inside.digests c.self.invariant c.in_ok-number.number
+    c.args.dir c.forget.new.self c.forget-2.new.self c.forget.ensures c.forget-2.ensures
+    (λ n nn nd. ap (λ (w : Files). file_at w n) c.unlink.ensures
+    ∙ removed_other c.args.now c.self.inside.table c.args.dir c.args.name.now c.in_ok-number.number n nd nn)

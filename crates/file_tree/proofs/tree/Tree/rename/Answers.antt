@@ -1,9 +1,13 @@
 use Rattle.std.proofs.Common.{sym, ap, subst, ◌≡◌, ◌∙◌, arith, rules, Ok}
+use Rattle.std.specs.Prelude.{unwrap_or}
 use Rattle.nfs_spec.specs.nfs_items.CallerOf.{caller_of}
 use Rattle.nfs_spec.specs.fs_model.Trees.{IsFileTree}
 use Rattle.nfs_spec.specs.Procedures.{move_entry, rename}
 use Rattle.file_tree.specs.FileChecks.Moves.{moved}
 use Rattle.file_tree.proofs.Renamed.{renamed}
+use Rattle.nfs_spec.specs.fs_model.Files.{Files, file_at}
+use Rattle.inode_table.proofs.nfs_laws.OfChanges.OtherFiles.{moved_other}
+use Rattle.file_tree.proofs.KeptDigests.{four_kept}
 use Rattle.file_tree.proofs.tree.Tree.rename.Goals as goal
 
 pub returns-clause-effect : goal.returns-clause-effect
@@ -43,3 +47,16 @@ returns-in_default-clause-paths c =
     (moved c.args.now c.self.inside.table c.args.from c.args.from_name.now c.args.to c.args.to_name.now m))
     c.in_default.is
     ∙ ap (λ w. Ok (tt, w)) c.self.view_is)
+
+pub invariant_of-self-2 : goal.invariant_of-self-2
+invariant_of-self-2 c =
+    let number = c.in-Some.field-0.number in
+    let target = c.in-Some.field-0.target in
+    four_kept c.self.inside.table c.rename.new.self c.self.inside.digests c.self.invariant
+    number c.args.from c.args.to c.unwrap_or.result
+    c.forget.new.self c.forget-2.new.self c.forget-3.new.self c.forget-4.new.self
+    c.forget.ensures c.forget-2.ensures c.forget-3.ensures c.forget-4.ensures
+    (λ n nn nf nt ng. ap (λ (w : Files). file_at w n) c.in_ok-rename.ensures.ok
+    ∙ moved_other c.args.now c.self.inside.table number c.args.from c.args.from_name.now c.args.to
+    c.in_ok-name.name.items target n nf nt nn
+    (λ k is e. ng (e ∙ sym (c.unwrap_or.ensures ∙ ap (λ t. unwrap_or t number) is))))

@@ -1,0 +1,67 @@
+//! Jobs of nodes.
+
+use crate::answers::end;
+use crate::four_nodes::{Shown, roster, shown_by};
+use crate::handed::delivered;
+use std::alloc::Global;
+use witness_service::witness_books_code::Books;
+use witness_service::witness_books_code::node_book_code::{Event, EventOf, ReplayJob, ReplyOf};
+
+/// Hands over bytes.
+fn hand(alloc: Global, books: &mut Books, bytes: &[u8]) {
+    if let Some(event) = delivered(alloc, bytes) {
+        end(books.step(alloc, event));
+    }
+}
+
+/// The job of a node, whose segment is asked for and given.
+pub fn job_of(alloc: Global, books: &mut Books, node: u8, shown: &Shown) -> Option<ReplayJob> {
+    hand(alloc, books, &shown.last);
+    end(books.step(alloc, EventOf::Audit(node as u32)));
+    hand(alloc, books, &shown.answer);
+    match books.step(alloc, EventOf::Begin(node as u32)) {
+        ReplyOf::Job(job) => Some(job),
+        reply => match end(reply) {
+            () => None,
+        },
+    }
+}
+
+/// Adds the job of a node, if there is one and room for it.
+fn add_job(alloc: Global, books: &mut Books, node: u8, jobs: &mut Vec<ReplayJob>) {
+    if jobs.reserve(1).is_err() {
+        return;
+    }
+    match shown_by(alloc, node) {
+        Some(shown) => match job_of(alloc, books, node, &shown) {
+            Some(job) => jobs.push_reserved(job),
+            None => {}
+        },
+        None => {}
+    }
+}
+
+/// The job of each of these nodes, in their order, as far as there is one and room for it.
+pub fn jobs_of(alloc: Global, nodes: &[u8]) -> Vec<ReplayJob> {
+    let mut jobs = Vec::new(alloc);
+    match roster(alloc) {
+        Some(roster) => match Books::new(alloc, roster) {
+            Ok(mut books) => {
+                for node in nodes {
+                    add_job(alloc, &mut books, *node, &mut jobs);
+                }
+            }
+            Err(_) => {}
+        },
+        None => {}
+    }
+    jobs
+}
+
+/// Spends jobs that came back.
+pub fn spend_jobs(mut jobs: Vec<ReplayJob>) {
+    while let Some(job) = jobs.pop() {
+        job.discard();
+    }
+    jobs.destroy_empty();
+}

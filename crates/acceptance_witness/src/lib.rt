@@ -1,0 +1,57 @@
+//! Tests of a witness: its books step by step, and under a lock that threads share, and rounds of replays.
+#![tactic(auto)]
+
+#[cfg(test)]
+mod admitted;
+#[cfg(test)]
+mod answers;
+#[cfg(test)]
+mod audits;
+#[cfg(test)]
+mod begun_jobs;
+#[cfg(test)]
+mod cached;
+#[cfg(test)]
+mod challenged;
+#[cfg(test)]
+mod closed;
+#[cfg(test)]
+mod crowd;
+#[cfg(test)]
+mod exposed;
+#[cfg(test)]
+mod forking;
+#[cfg(test)]
+mod four_nodes;
+#[cfg(test)]
+mod full;
+#[cfg(test)]
+mod handed;
+#[cfg(test)]
+mod handing;
+#[cfg(test)]
+mod learned;
+#[cfg(test)]
+mod logs;
+#[cfg(test)]
+mod lying;
+#[cfg(test)]
+mod meeting;
+#[cfg(test)]
+mod members;
+#[cfg(test)]
+mod messages;
+#[cfg(test)]
+mod others;
+#[cfg(test)]
+mod own_jobs;
+#[cfg(test)]
+mod packed;
+#[cfg(test)]
+mod running;
+#[cfg(test)]
+mod shown;
+#[cfg(test)]
+mod strangers;
+#[cfg(test)]
+mod together;

@@ -1,0 +1,11 @@
+-- A digest that is kept for a file that is there is that of its text.
+-- Serves: `digest_of`.
+use Rattle.std.proofs.Common.{◌≡◌, ℕ, List, Some, sym, ap, ◌∙◌}
+use Rattle.fs_model.specs.Files.{File, Files, file_at}
+use Rattle.fs_model.proofs.Walks.{some_same}
+use Rattle.file_tree.specs.KeptDigests.{IsDigestAt}
+use Rattle.state_machine.specs.file_texts.FileItems.{file_digest}
+
+pub kept_is : (w : Files) (n : ℕ) (f : File) (digest : List ℕ) → file_at w n ≡ Some f → IsDigestAt w n digest
+    → digest ≡ file_digest (n, f)
+kept_is w n f digest there is = is.2 ∙ ap (λ (g : File). file_digest (n, g)) (some_same (sym is.1 ∙ there))

@@ -1,0 +1,52 @@
+-- What the matches of `serve` ask for. Serves: request_in.
+use Rattle.std.proofs.Common.{◌≡◌, ◌∙◌, true, List, [], Option, Some, None, codes, refl, sym, ap, unwrap_or}
+use Rattle.std.specs.Prelude.{is_some, option_and_then, option_map}
+use Rattle.clap.specs.Walk.{Row, Text, first_of}
+use Rattle.clap.specs.Simple.{subcommand_of}
+use Rattle.clap.specs.Faults.{fault_of}
+use Rattle.console.specs.CommandLine.CommandLine.{Serve, asked_in, commands, is_set, is_told}
+use Rattle.console.specs.CommandLine.Serve.{ServeAsked, asked_with}
+use Rattle.console.proofs.OfCommandLine.Asked.{are_plain, asked_is}
+use Rattle.console.proofs.OfCommandLine.Taken.{flag_is, value_is}
+
+-- the words are those that the matches hold
+pub record IsAsked (rows : List Row) (a : ServeAsked) : Type 0 where
+  pub port : a.port ≡ unwrap_or (first_of (codes "port") rows) []
+  pub count : a.count ≡ unwrap_or (first_of (codes "count") rows) []
+  pub address : a.address ≡ first_of (codes "address") rows
+  pub server : a.server_height ≡ first_of (codes "server-height") rows
+  pub client : a.client_height ≡ first_of (codes "client-height") rows
+  pub master : a.master ≡ first_of (codes "master") rows
+  pub roster_out : a.roster_out ≡ first_of (codes "roster-out") rows
+  pub evidence : a.evidence ≡ first_of (codes "evidence") rows
+  pub progress : is_told (codes "progress") rows ≡ true → a.progress ≡ is_set (codes "progress") rows
+
+-- with both words there, what is asked is told by them
+told : {A : Type 0} (port count : Option Text) (g : Text → Text → A) → is_some port ≡ true → is_some count ≡ true
+    → option_and_then (λ p. option_map (g p) count) port ≡ Some (g (unwrap_or port []) (unwrap_or count []))
+told None count g e f = cc
+told (Some p) None g e f = cc
+told (Some p) (Some c) g e f = refl
+
+pub serve_is : (words : List Text) (rows : List Row) (a : ServeAsked) → fault_of commands words ≡ [] → subcommand_of commands words ≡ Some (codes "serve", rows)
+    → IsAsked rows a → asked_in words ≡ Some (Serve a)
+serve_is words rows a none is asks =
+    let port = value_is commands words are_plain none (codes "serve") (codes "port") rows refl is in
+    let count = value_is commands words are_plain none (codes "serve") (codes "count") rows refl is in
+    let progress = asks.progress (flag_is commands words are_plain none (codes "serve") (codes "progress") rows refl is) in
+    asked_is words (codes "serve") rows none is
+    ∙ ap (option_map Serve) (told (first_of (codes "port") rows) (first_of (codes "count") rows) (asked_with rows) port count ∙ ap (λ (x : ServeAsked). Some x) (same progress))
+  where
+    same : a.progress ≡ is_set (codes "progress") rows
+        → asked_with rows (unwrap_or (first_of (codes "port") rows) []) (unwrap_or (first_of (codes "count") rows) []) ≡ a
+    same progress = rw (
+      sym asks.port,
+      sym asks.count,
+      sym asks.address,
+      sym asks.server,
+      sym asks.client,
+      sym asks.master,
+      sym asks.roster_out,
+      sym asks.evidence,
+      sym progress,
+    ) refl

@@ -1,0 +1,56 @@
+-- What the words after `serve` ask for.
+use Rattle.std.specs.Prelude.{Bool, true, false, List, Option, Some, codes, option_and_then, option_map}
+use Rattle.std.specs.Option.{option_map_or}
+use Rattle.std.specs.Str.{bytes_eq}
+use Rattle.clap.specs.Walk.{Row, Rule, Text, first_of, one_of}
+use Rattle.clap.specs.Simple.{App, new_app, new_rule, with_rule}
+use Rattle.clap.specs.declared.builder.action.ArgAction.TheVariants.{SetTrue}
+
+-- a word that must be given
+abbrev pub word_argument : Text → Rule
+word_argument name = record (new_rule name) { value_names = 1; required = true }
+
+-- an option with a word after it, given as `--` and its own name
+abbrev pub word_option : Text → Rule
+word_option name = record (new_rule name) { long = Some name; value_names = 1 }
+
+-- `serve`, with its options, a port and a count of connections
+abbrev pub serve_options : App
+serve_options =
+    with_rule (with_rule (with_rule (with_rule (with_rule (with_rule (with_rule (new_app (codes "serve")) (word_option (codes "address"))) (word_option (codes "server-height")))
+    (word_option (codes "client-height"))) (word_option (codes "master"))) (word_option (codes "roster-out"))) (word_option (codes "evidence")))
+    (record (new_rule (codes "progress")) { long = Some (codes "progress"); action = Some SetTrue })
+
+abbrev pub serve_command : App
+serve_command = with_rule (with_rule serve_options (word_argument (codes "port"))) (word_argument (codes "count"))
+
+-- what `serve` is asked, word by word
+pub record ServeAsked : Type 0 where
+  pub port : Text
+  pub count : Text
+  pub address : Option Text
+  pub server_height : Option Text
+  pub client_height : Option Text
+  pub master : Option Text
+  pub roster_out : Option Text
+  pub evidence : Option Text
+  pub progress : Bool
+
+-- the same, by its port, its count and what was found for its options
+abbrev pub asked_with : List Row → Text → Text → ServeAsked
+asked_with rows port count = record {
+  port = port;
+  count = count;
+  address = first_of (codes "address") rows;
+  server_height = first_of (codes "server-height") rows;
+  client_height = first_of (codes "client-height") rows;
+  master = first_of (codes "master") rows;
+  roster_out = first_of (codes "roster-out") rows;
+  evidence = first_of (codes "evidence") rows;
+  progress = option_map_or (bytes_eq (codes "true")) (one_of (codes "progress") rows) false;
+}
+
+-- the same, by what was found for its arguments
+abbrev pub serve_asked : List Row → Option ServeAsked
+serve_asked rows =
+    option_and_then (λ port. option_map (asked_with rows port) (first_of (codes "count") rows)) (first_of (codes "port") rows)

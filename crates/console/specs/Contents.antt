@@ -1,0 +1,23 @@
+-- What is read of a file.
+use Rattle.std.specs.Prelude.{◌≡◌, ◌≤◌, ℕ, List, length, drop, Ok}
+use Rattle.xdr.specs.Reading.{number_at}
+use Rattle.console.specs.Checking.{HoldsNone}
+use Rattle.console.specs.declared.input.Contents.{Contents}
+use Rattle.console.specs.declared.input.Contents.TheVariants.{Whole, Front}
+
+-- The most bytes of a file with evidence: 2,820 of a roster of 64 members, 8 of the node and the charge, and
+-- 1,916,551,780 of a log of 65,536 entries. An entry has 29,244 bytes at most: a message received, with a body of
+-- 12,288 bytes and a signature whose path has 16 hashes.
+abbrev pub longest_case : ℕ
+longest_case = 1916554608
+
+-- the word at a place (RFC 4506, section 4.2)
+pub record IsWordAt (bytes : List ℕ) (at n : ℕ) : Type 0 where
+  pub rest : List ℕ
+  pub word : number_at 4 (drop at bytes) ≡ Ok (n, rest)
+  pub inside : at ≤ length bytes
+
+-- What was read of a file is all of it, or a beginning; then it holds no roster, alone or with evidence after it.
+abbrev pub IsContents : Contents → List ℕ → Type 0
+IsContents (Whole bytes) input = bytes.items ≡ input
+IsContents (Front bytes) input = HoldsNone input

@@ -1,0 +1,12 @@
+use Rattle.std.specs.List.{AllByRecursion}
+use Rattle.file_tree.specs.KeptDigests.{AreKept, IsWritableAt}
+use Rattle.file_tree.proofs.RenewedDigests.{AreKeptBut}
+use Rattle.file_tree.proofs.digests.FileDigests.renew.Given as goal
+
+-- all have one but those that are left
+abbrev pub invariant-loop-number : goal.invariant-loop-number
+invariant-loop-number l = record {
+  kept : AreKept l.self l.table;
+  covered : AreKeptBut l.self l.table l.number-iterator;
+  left : AllByRecursion (IsWritableAt l.table) l.number-iterator;
+}

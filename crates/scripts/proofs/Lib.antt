@@ -1,0 +1,1 @@
+pub use Rattle.serving.proofs as serving

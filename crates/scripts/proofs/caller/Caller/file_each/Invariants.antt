@@ -1,5 +1,0 @@
-use Rattle.std.proofs.Common.{vec_len}
-use Rattle.scripts.proofs.caller.Caller.file_each.Given as goal
-
-abbrev pub decreases-loop-back : goal.decreases-loop-back
-decreases-loop-back g l = vec_len l.backs

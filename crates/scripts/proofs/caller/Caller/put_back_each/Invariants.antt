@@ -1,5 +1,0 @@
-use Rattle.std.proofs.Common.{vec_len}
-use Rattle.scripts.proofs.caller.Caller.put_back_each.Given as goal
-
-abbrev pub decreases-loop-job : goal.decreases-loop-job
-decreases-loop-job g l = vec_len l.jobs

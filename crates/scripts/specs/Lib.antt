@@ -1,0 +1,1 @@
+pub use Rattle.serving.specs as serving

@@ -1,0 +1,1 @@
+pub use Rattle.nodes.proofs as nodes

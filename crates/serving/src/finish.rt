@@ -1,0 +1,98 @@
+//! The end of a run: everybody's log is audited, and what the witness says of each is written.
+
+use crate::audit::{Auditor, last_signed};
+use crate::lines::{LineFault, write_line};
+use authenticator::Authenticator;
+use nodes::node_logs_code::NodeLog;
+use std::alloc::AllocError;
+use std::io::Write;
+use std::mem;
+use std::sync::Wait;
+use std::thread::Threads;
+use witness_calls::{Said, Shelf, indication_word};
+
+/// A node whose log is to be audited, and how far it was.
+#[derive(Clone, Copy)]
+pub(crate) struct Standing<'n> {
+    pub(crate) number: u32,
+    pub(crate) log: &'n NodeLog,
+    /// The last number that the witness has filed.
+    pub(crate) filed: u64,
+}
+
+impl<'a, R: Threads + Wait + Sync, E: Write, S: Shelf> Auditor<'a, R, E, S> {
+    /// Audits a node to its last signed entry, and names it where it can't be.
+    fn finish_node(&mut self, standing: &Standing<'_>) -> Result<(), AllocError> {
+        let Standing { number, log, filed } = *standing;
+        let signed = last_signed(log);
+        let mut filed = filed;
+        let audited = self.go_on(number, log, signed, &mut filed);
+        if filed != signed {
+            self.say(format!(in self.office.alloc;
+                "nfsacc: node {number}: audited to {filed} of {signed}\n"
+            ));
+        }
+        audited
+    }
+
+    /// Goes on with the audit of a node, where its last signed entry isn't filed.
+    fn go_on(
+        &mut self,
+        number: u32,
+        log: &NodeLog,
+        signed: u64,
+        filed: &mut u64,
+    ) -> Result<(), AllocError> {
+        if *filed == signed {
+            return Ok(());
+        }
+        self.forward(number)?;
+        self.audit(number, log, filed)
+    }
+
+    /// Audits each node to its last signed entry, and hands the witness what each showed of others. Where memory is
+    /// refused for one the others are audited, and the desk notes it.
+    pub(crate) fn finish(&mut self, nodes: &[Standing<'_>], kept: &[Authenticator]) {
+        for standing in nodes {
+            if self.finish_node(standing).is_err() {
+                self.note_no_memory();
+            }
+        }
+        if self.pass_on_all(nodes).is_err() || self.learn_each(kept).is_err() {
+            self.note_no_memory();
+        }
+    }
+
+    /// Hands the witness what each node's log showed of others.
+    fn pass_on_all(&mut self, nodes: &[Standing<'_>]) -> Result<(), AllocError> {
+        for standing in nodes {
+            self.forward(standing.number)?;
+        }
+        let kept = mem::replace(&mut self.kept, Vec::new(self.office.alloc));
+        self.learn_each(&kept)
+    }
+
+    /// Hands the witness these authenticators.
+    fn learn_each(&mut self, kept: &[Authenticator]) -> Result<(), AllocError> {
+        for authenticator in kept {
+            self.learn(authenticator)?;
+        }
+        Ok(())
+    }
+
+    /// Writes what the witness says of a node: `N INDICATION OPEN`.
+    pub(crate) fn tell<O: Write>(&mut self, writer: &mut O, number: u32) -> Result<(), LineFault> {
+        let Said::Told(indication) = self.caller.indication(number) else {
+            return Err(LineFault::NoMemory);
+        };
+        let Said::Open(challenges) = self.caller.challenges(number) else {
+            return Err(LineFault::NoMemory);
+        };
+        let word = indication_word(indication);
+        let open = challenges.len();
+        write_line(
+            writer,
+            format!(in self.office.alloc; "{number} {word} {open}\n"),
+        )
+    }
+}

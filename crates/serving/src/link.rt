@@ -1,0 +1,83 @@
+//! The link of a connection's client to the server.
+
+ghost use Rattle.std.specs.Prelude.{◌≡◌, ◌↔◌, true, IsTrue};
+ghost use Rattle.nodes.specs.Shareds.{shared_of};
+ghost use Rattle.serving.specs.Links.{IsCall, LacksKeysOfACall, StopsCall};
+
+use nfs_items::Time;
+use nodes::gateway_code::links::{Link, LinkFault};
+use nodes::{ClientNode, HonestServer, Shared};
+use std::alloc::Global;
+use std::marker::Model;
+use std::sync::{Mutex, Wait};
+
+/// The keys that a call may take of its client: one for the call, and one for the reply. It takes no more of the
+/// server.
+const KEYS_OF_A_CALL: u32 = 2;
+
+/// A client of its own, and a server under a lock that others use too. A call is begun only where its client has
+/// keys for its reply too: so the calls of a client take no more keys of the server than the client has itself.
+#[derive(Drop)]
+pub(crate) struct ClientLink<'a, R: Wait> {
+    shared: Shared<'a, R>,
+}
+
+impl<'a, R: Wait> Model for ClientLink<'a, R> {
+    ghost use Rattle.nodes.specs.Shareds.{SharedParts, shared_code};
+
+    ghost Value = { SharedParts };
+
+    ghost coded = { shared_code };
+
+    ghost view = { λ l. l.shared };
+}
+
+impl<'a, R: Wait> ClientLink<'a, R> {
+    /// A link of a client to the server that lies under a lock.
+    pub(crate) fn new(
+        rt: &'a R,
+        alloc: Global,
+        client: ClientNode,
+        server: &'a Mutex<HonestServer>,
+    ) -> ClientLink<'a, R>
+        ensures { result ≡ shared_of client }
+    {
+        ClientLink {
+            shared: Shared::new(rt, alloc, client, server),
+        }
+    }
+
+    /// Gives the client back, as it is now, also after a fault.
+    pub(crate) fn into_client(self) -> ClientNode
+        ensures { result ≡ self.entry.client }
+    {
+        self.shared.into_client()
+    }
+
+    /// Whether the client lacks keys for a call and its reply.
+    fn lacks_keys(&self) -> bool
+        ensures { IsTrue result ↔ LacksKeysOfACall self.now }
+    {
+        self.shared.client().node().left() < KEYS_OF_A_CALL
+    }
+}
+
+/// Its exchanges are those of a `Shared` whose client has two keys left. Where it hasn't, `KeysUsedUp` comes, no lock
+/// is taken, and nothing changes.
+impl<'a, R: Wait> Link for ClientLink<'a, R> {
+    ghost exchanges = { λ d time bytes reply d'. IsCall d time bytes reply d' };
+
+    ghost fails = { λ d time bytes e d'. StopsCall d time bytes e d' };
+
+    fn exchange(
+        &mut self,
+        alloc: Global,
+        time: Time,
+        bytes: &[u8],
+    ) -> Result<Option<Vec<u8>>, LinkFault> {
+        if self.lacks_keys() {
+            return Err(LinkFault::KeysUsedUp);
+        }
+        self.shared.exchange(alloc, time, bytes)
+    }
+}

@@ -1,0 +1,30 @@
+//! What a run of the service is asked.
+
+use crate::keys::Masters;
+
+/// The heights of the trees of keys: so many keys as 2 to the height. A call takes two keys of its client, and two of
+/// the server.
+#[derive(Clone, Copy, Debug, PartialEq, Eq)]
+pub struct Heights {
+    /// The server's, from 1 to 15.
+    pub server: u32,
+    /// Each client's, from 1 to 15.
+    pub client: u32,
+}
+
+/// What a run of the service is asked.
+#[derive(Clone, Copy, Debug)]
+pub struct Order<'a> {
+    /// How many connections are served, from 1 to 16: each is a client of its own.
+    pub connections: u32,
+    /// The heights of the trees of keys.
+    pub heights: Heights,
+    /// What the nodes' master secrets are made of.
+    pub masters: Masters,
+    /// The name of the file that the roster's text goes to, if one is named.
+    pub roster_out: Option<&'a str>,
+    /// The name of the folder that evidence goes to, if one is named.
+    pub evidence: Option<&'a str>,
+    /// Whether it is told how far the keys and the audits are.
+    pub progress: bool,
+}

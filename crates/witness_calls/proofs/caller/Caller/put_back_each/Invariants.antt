@@ -1,0 +1,5 @@
+use Rattle.std.proofs.Common.{vec_len}
+use Rattle.witness_calls.proofs.caller.Caller.put_back_each.Given as goal
+
+abbrev pub decreases-loop-job : goal.decreases-loop-job
+decreases-loop-job g l = vec_len l.jobs

@@ -1,0 +1,109 @@
+//! A pass at a witness.
+
+use crate::said::Said;
+use authenticator::Roster;
+use std::alloc::Global;
+use std::sync::Wait;
+use witness_service::witness_books_code::node_book_code::{Event, EventOf, Question, Reply};
+use witness_service::{Pass, SignatureCache, WitnessService, admit};
+
+/// The most signatures that a caller's cache keeps: as many as a book learns above its audited end. They take some
+/// 4 MiB.
+const SIGNATURES: usize = 256;
+
+/// A pass at a witness's service, with all that its steps need: whoever has it hands events over, one after
+/// the other, and others do so beside it through passes of their own.
+#[derive(Drop)]
+pub struct Caller<'a, R> {
+    runtime: &'a R,
+    alloc: Global,
+    service: &'a WitnessService,
+    roster: &'a Roster,
+    cache: SignatureCache,
+    pass: Pass,
+}
+
+impl<'a, R: Wait> Caller<'a, R> {
+    /// The caller who has a pass. The roster is the witness's.
+    pub fn new(
+        runtime: &'a R,
+        alloc: Global,
+        service: &'a WitnessService,
+        roster: &'a Roster,
+        pass: Pass,
+    ) -> Caller<'a, R> {
+        Caller {
+            runtime,
+            alloc,
+            service,
+            roster,
+            cache: SignatureCache::new(SIGNATURES),
+            pass,
+        }
+    }
+
+    /// Gives the pass back, with the receipts of all steps.
+    pub fn into_pass(self) -> Pass {
+        let Caller { pass, .. } = self;
+        pass
+    }
+
+    /// What takes memory takes it from here.
+    pub fn alloc(&self) -> Global {
+        self.alloc
+    }
+
+    /// The runtime.
+    pub fn runtime(&self) -> &'a R {
+        self.runtime
+    }
+
+    /// One event, with its reply: one step of the witness's books.
+    pub fn step(&mut self, event: Event) -> Reply {
+        self.service
+            .step(self.runtime, self.alloc, &mut self.pass, event)
+    }
+
+    /// One event that asks for no job and brings none back.
+    fn say(&mut self, event: Event) -> Said {
+        Said::of(self.step(event))
+    }
+
+    /// Hands a packet over: its bytes are checked before the step, which no one waits for.
+    pub fn deliver(&mut self, packet: &[u8]) -> Said {
+        match admit(self.alloc, self.roster, &mut self.cache, packet) {
+            Ok(event) => self.say(event),
+            Err(refusal) => Said::Refused(refusal),
+        }
+    }
+
+    /// Has the node asked for the next segment of its log.
+    pub fn audit(&mut self, node: u32) -> Said {
+        self.say(EventOf::Audit(node))
+    }
+
+    /// Takes the oldest authenticator that a node's log showed of another one.
+    pub fn forward(&mut self, node: u32) -> Said {
+        self.say(EventOf::Forward(node))
+    }
+
+    /// Asks for a node's failure indication.
+    pub fn indication(&mut self, node: u32) -> Said {
+        self.ask(node, Question::Indication)
+    }
+
+    /// Asks for the challenges to a node that are open.
+    pub fn challenges(&mut self, node: u32) -> Said {
+        self.ask(node, Question::Challenges)
+    }
+
+    /// Asks for the evidence against a node.
+    pub fn evidence(&mut self, node: u32) -> Said {
+        self.ask(node, Question::Evidence)
+    }
+
+    /// Asks what the witness says of a node.
+    fn ask(&mut self, node: u32, question: Question) -> Said {
+        self.say(EventOf::Ask(node, question))
+    }
+}

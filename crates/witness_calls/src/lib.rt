@@ -1,0 +1,20 @@
+//! Calls at a witness: a pass with all that its steps need, the packets that it is handed, and where its files go.
+#![tactic(auto)]
+
+mod asked;
+mod caller;
+mod opening;
+pub mod packet_texts;
+mod replays;
+mod said;
+mod shelf;
+
+pub use asked::Asked;
+pub use caller::Caller;
+pub use challenge as challenge_code;
+pub use opening::open_witness;
+pub use replays::{Outcome, Replayed};
+pub use said::{Said, indication_word};
+pub use shelf::Shelf;
+pub use witness_service as witness_service_code;
+pub use witness_service::witness_books_code;
