@@ -5,7 +5,7 @@
 # source is newer, rt run makes one.
 built_programs() {
     local program newer below
-    below=($(crates_below nfsacc | cut -d: -f1))
+    below=($(names_below nfsacc))
     made=()
     for program in crates/nfsacc/out/nfsacc crates/nfsacc/out/nfsacc.by-rattle; do
         if [ -f "$program" ]; then

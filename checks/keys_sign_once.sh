@@ -11,9 +11,7 @@ work=$(mktemp -d)
 trap 'rm -rf "$work"' EXIT
 mkdir "$work/crates"
 crates_below lamport > "$work/crates.txt"
-while IFS=: read -r crate _; do
-    copy_parts "$crate" src specs proofs
-done < "$work/crates.txt"
+for crate in $(names_below lamport); do copy_parts "$crate" src specs proofs; done
 copy=$work/crates/lamport
 front=$work/front
 log=$work/log

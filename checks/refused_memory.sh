@@ -2,8 +2,10 @@
 # Want of memory at each request inside the calls that take memory leaves all as it was, gives no answer, and the same
 # call gives what it should when it is made once more: `checks/refused_memory.sh [SUBJECT..]`, all subjects if none is named.
 # The program of checks/refused_memory has them as modules. It is built once, and run with each request of a subject's calls
-# refused in turn. One subject, `stored`, is there because the program is: no request of its calls is refused, and it makes
-# ten files of checks/evidence again, byte for byte.
+# refused in turn. Three subjects have no request that is refused: `stored` makes ten files of checks/evidence again, byte
+# for byte, here since the program is built; `carried` makes what `client` and `server` are given of each other; and by
+# `itself` the program copies itself. For `rt try` removes what it builds, and sets up its interpreter anew for each run,
+# which takes ten times as long as most runs: so that one is its only run, and the copy makes the others.
 set -euo pipefail
 cd "$(dirname "$0")/.."
 . checks/scratch_crate.sh
@@ -14,12 +16,12 @@ readonly REFUSED=400
 
 # Of each subject one more than the requests that the calls have, and how many what is made first has, which aren't refused.
 declare -rA MOST=(
-    [replies]=26 [files]=35 [keys]=8 [log]=81 [state]=120 [calls]=78 [streams]=19 [steps]=27 [entries]=27 [segments]=100
-    [evidence]=106 [books]=34 [filings]=13 [served]=27 [returned]=13 [jobs]=40 [rounds]=64 [stored]=0
+    [replies]=26 [files]=35 [keys]=8 [log]=76 [state]=120 [client]=25 [server]=54 [streams]=19 [steps]=27 [entries]=27
+    [segments]=66 [evidence]=106 [books]=34 [filings]=13 [served]=27 [returned]=13 [jobs]=40 [rounds]=64 [stored]=0
 )
 declare -rA MADE=(
-    [replies]=0 [files]=7 [keys]=0 [log]=1 [state]=1 [calls]=11 [streams]=15 [steps]=20 [entries]=27 [segments]=27
-    [evidence]=1 [books]=90 [filings]=133 [served]=59 [returned]=122 [jobs]=74 [rounds]=100 [stored]=0
+    [replies]=0 [files]=7 [keys]=0 [log]=13 [state]=1 [client]=10 [server]=17 [streams]=15 [steps]=20 [entries]=27
+    [segments]=27 [evidence]=1 [books]=90 [filings]=133 [served]=59 [returned]=122 [jobs]=74 [rounds]=100 [stored]=0
 )
 readonly CHECKS=$PWD/checks
 
@@ -27,26 +29,33 @@ readonly CHECKS=$PWD/checks
 texts_of() {
     case $1 in
         evidence) cat "$CHECKS/evidence/wrong_checkpoint.evidence" ;;
+        client | server) cat "$work/to_calls" ;;
+        log) cat "$work/to_logs" ;;
         steps | entries | segments) cat "$work/to_replays" ;;
         books | filings | served | returned | jobs | rounds) cat "$work/to_books" ;;
     esac
 }
 
-# Standard input for each run of a subject: its name, what it reads, and a byte for each of the others. In run 0 the last
-# of the others is refused.
-make_cases() {
-    local subject=$1 request others=$((REFUSED - ${MADE[$1]}))
+# input_of SUBJECT REQUEST
+# What a run reads: its subject's name, the texts, and a byte for each of the other requests. The program makes these after
+# what is made first. In run 0 the last of them is refused, and in the others a request of the subject's calls.
+input_of() {
+    echo "$1"
+    texts_of "$1"
+    head -c $((REFUSED - ${MADE[$1]} - $2)) /dev/zero
+}
+
+# run_all SUBJECT [ARGUMENT]
+# Writes to $work/runs what the subject's runs printed, each after a line with its number.
+run_all() {
+    local request
+    subject=$1
+    shift
     for ((request = 0; request <= ${MOST[$subject]}; request++)); do
-        {
-            echo "$subject"
-            texts_of "$subject"
-            head -c $((others - request)) /dev/zero
-        } > "$work/cases/$subject.$(printf %03d $request)"
-    done
-    if [ "$subject" = stored ]; then
-        mkdir "$work/stored"
-        echo "$work/stored" > "$work/cases/stored.000.args"
-    fi
+        echo "== $request"
+        env -i timeout 300 "$work/program" "$@" < <(input_of "$subject" "$request") 2>&1 || echo "ended with status $?"
+    done > "$work/runs"
+    if grep -q '^ended with status' "$work/runs"; then wrong 'a run failed' "$work/runs"; fi
 }
 
 # wrong WORDS FILE: says what is wrong, shows the file, and ends.
@@ -57,12 +66,11 @@ wrong() {
 }
 
 # see_runs SUBJECT
-# Writes what its runs printed to $work/all_lines, and to $work/lines that of the runs in which a request of its calls was
-# refused. All held, run 0 shows that MADE is right, and the last that there are fewer requests than MOST.
+# Runs it, and writes what its runs saw to $work/all_lines, and to $work/lines that of the runs in which a request of its
+# calls was refused. All held, run 0 shows that MADE is right, and the last that there are fewer requests than MOST.
 see_runs() {
     local front made
-    subject=$1
-    awk -v subject="$subject" '/^== / { wanted = index($2, subject ".") == 1 } wanted' "$work/log" > "$work/runs"
+    run_all "$1"
     front=$(sed -n 's/^request \([0-9]*\) of the input was refused$/\1/p' "$work/runs" | head -1)
     made=${front:+$((REFUSED - front))}
     if [ "$made" != "${MADE[$subject]}" ]; then
@@ -113,8 +121,9 @@ gave_the_same() {
 
 # The files of evidence that the program made are those of checks/evidence.
 check_stored() {
-    local name subject=stored
-    awk '/^== / { wanted = $2 == "stored.000" } wanted' "$work/log" > "$work/runs"
+    local name
+    mkdir "$work/stored"
+    run_all stored "$work/stored"
     grep -qx 'refused 1 in no call, held true' "$work/runs" || wrong 'the files were not made' "$work/runs"
     for name in "$work"/stored/*; do
         cmp "$name" "$CHECKS/evidence/${name##*/}.evidence"
@@ -143,9 +152,13 @@ check_subject() {
                 Entry::write Log::reserve Log::append OpenSegment::write check_segment
             ;;
         state) least_refused 7 read_state state_text state_digest SharedState::new SharedState::state ;;
-        calls)
+        client)
             gave_the_same
-            least_refused 4 send receive take_ack take_reply checkpoint answer_challenge
+            least_refused 3 send take_ack take_reply
+            ;;
+        server)
+            gave_the_same
+            least_refused 3 receive take_ack checkpoint answer_challenge
             ;;
         streams) least_refused 4 serve_stream ;;
         steps)
@@ -189,13 +202,21 @@ check_subject() {
 subjects=("$@")
 if [ $# -eq 0 ]; then
     subjects=(
-        replies files keys log state calls streams steps entries segments evidence books filings served returned jobs rounds
-        stored
+        replies files keys log state client server streams steps entries segments evidence books filings served returned
+        jobs rounds stored
     )
 fi
 scratch_crate refused_memory checks/refused_memory rpc_streams replay_pool witness_service witness_books node_book packets challenge evidence_showings envelopes replay node_logs checkpoint state_machine gateway service nfs_items rpc commitment secure_log authenticator merkle_keys xdr sha2 anyhow
-for to in books replays; do python3 "$CHECKS/generate.py" --handed $to > "$work/to_$to"; done
-mkdir "$work/cases"
-for subject in "${subjects[@]}"; do make_cases "$subject"; done
-rt try --steps 1 --seconds 300 --fail-alloc $REFUSED --cases "$work/cases" > "$work/log" 2>&1 || { cat "$work/log" >&2; exit 1; }
+for to in books logs replays; do python3 "$CHECKS/generate.py" --handed $to > "$work/to_$to"; done
+
+# Two runs in which nothing is refused, each of which makes a file.
+subject=itself
+echo $subject | rt try --steps 1 --seconds 300 --fail-alloc $REFUSED -- "$work/program" > "$work/log" 2>&1 ||
+    wrong 'the program was not built or failed' "$work/log"
+grep -qx 'refused 0 in no call, held true' "$work/log" || wrong 'the program was not copied' "$work/log"
+chmod +x "$work/program"
+subject=carried
+echo $subject | env -i "$work/program" "$work/to_calls" > "$work/log" 2>&1 || wrong 'the program failed' "$work/log"
+grep -qx 'refused 0 in no call, held true' "$work/log" || wrong 'no call was carried' "$work/log"
+
 for subject in "${subjects[@]}"; do check_subject "$subject"; done

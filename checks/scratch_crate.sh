@@ -1,16 +1,19 @@
 # To be sourced at the top of the repository: sets up programs that are kept as text beside a script.
 
-# The lines of crates.txt, which has the lowest first, for these libraries and all that they stand on, without what they
-# say of waiting.
+# The lines of crates.txt, which has the lowest first, for these libraries and all that they stand on.
 crates_below() {
     tac crates.txt | awk -v libraries="$*" '
         BEGIN { count = split(libraries, names, " "); for (i = 1; i <= count; i++) wanted[names[i]] }
         { name = $1; sub(/:$/, "", name) }
         name in wanted {
-            line = name ":"
-            for (i = 2; i <= NF; i++) if ($i !~ /=/) { wanted[$i]; line = line " " $i }
-            print line
+            for (i = 2; i <= NF; i++) if ($i !~ /=/) wanted[$i]
+            print
         }'
+}
+
+# Their names alone.
+names_below() {
+    crates_below "$@" | sed 's/[ :].*//'
 }
 
 # copy_parts CRATE PART..
@@ -46,9 +49,7 @@ scratch_program() {
     mkdir "$work/crates"
     cp HANDLES "$work/"
     crates_below "$@" > "$work/crates.txt"
-    while IFS=: read -r crate _; do
-        copy_parts "$crate" $parts
-    done < "$work/crates.txt"
+    for crate in $(names_below "$@"); do copy_parts "$crate" $parts; done
     echo "$name: $*" >> "$work/crates.txt"
     mkdir -p "$work/crates/$name/src" "$work/crates/$name/specs"
     if [ -d "$main" ]; then

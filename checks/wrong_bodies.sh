@@ -18,13 +18,13 @@ trap 'rm -rf "$work"' EXIT
 mkdir "$work/crates"
 crates_below "$@" > "$work/crates.txt"
 # Of what is proved the libraries alone: what a check keeps besides takes much room.
-while IFS=: read -r crate _; do
+for crate in $(names_below "$@"); do
     copy_parts "$crate" src specs proofs
     if [ -d "crates/$crate/out/rlib" ]; then
         mkdir "$work/crates/$crate/out"
         cp -r "crates/$crate/out/rlib" "$work/crates/$crate/out/"
     fi
-done < "$work/crates.txt"
+done
 
 # Counts the edits of a crate of which rt said this.
 said() {

@@ -1,7 +1,8 @@
 #!/usr/bin/env python3
 """Writes, for each length from 0 to 55, sixteen rows of seven messages, each row with the digests of its messages by
-Python's hashlib after it. The messages are random, from a fixed seed; among them stand the examples that FIPS 180-4 and
-its validation suite print, as far as they have at most 55 bytes, and hashlib must give their printed digests."""
+Python's hashlib after it; then four long messages at a time, as blocks and what is left after them. The messages are
+random, from a fixed seed; among the short ones stand the examples that FIPS 180-4 and its validation suite print, as
+far as they have at most 55 bytes, and hashlib must give their printed digests."""
 import hashlib
 import random
 import sys
@@ -25,6 +26,15 @@ def message(length: int, row: int, place: int) -> bytes:
     return random.randbytes(length)
 
 
+def write_long(blocks: int, left: int) -> None:
+    """Writes four messages of so many blocks and bytes after them, side by side, and their digests."""
+    messages = [random.randbytes(64 * blocks + left) for _ in range(4)]
+    parts = [m[64 * b : 64 * b + 64] for b in range(blocks) for m in messages]
+    parts += [m[64 * blocks :] for m in messages]
+    parts += [hashlib.sha256(m).digest() for m in messages]
+    sys.stdout.buffer.write(b"".join(parts))
+
+
 def main() -> None:
     random.seed(34)
     for example, digest in PRINTED.items():
@@ -35,6 +45,10 @@ def main() -> None:
             messages = [message(length, row, place) for place in range(7)]
             sys.stdout.buffer.write(b"".join(messages))
             sys.stdout.buffer.write(b"".join(hashlib.sha256(m).digest() for m in messages))
+    for blocks in range(6):
+        for left in (0, 1, 32, 55):
+            write_long(blocks, left)
+    write_long(256, 1)
 
 
 main()

@@ -1,8 +1,8 @@
 """What `checks/refused_memory.sh` hands its program: texts of a server's log of five entries, of the logs of two
-clients, and of what all three signed."""
+clients, of what all three signed, and of what closes a log that the program makes."""
 
 from verifier.keys import CLIENT, SERVER, ZEROS, Authenticator, digest
-from verifier.log import (RECV, SEND, Ack, Check, Clock, Entry, Recv, hash_after, recv_content, send_content)
+from verifier.log import (RECV, SEND, Ack, Check, Clock, Entry, Recv, Send, hash_after, recv_content, send_content)
 from verifier.replay import opening_state, step
 from verifier.xdr import array, hyper, opaque, word
 
@@ -45,6 +45,21 @@ def one_check(signer: Signer) -> Log:
     log = Log(signer)
     log.append(Check(bytes([6]) * 32))
     return log
+
+
+def to_logs() -> list[bytes]:
+    """The roster of a server, its authenticator of the number 1, and the one that closes a log of an entry of each kind
+    and six readings of the clock. No message or acknowledgement in it is another node's: its signature is the first
+    authenticator's."""
+    log = Log(Signer(1, SERVER, 'signer 0', 2))
+    first = log.signer.sign(1, ZEROS)
+    log.append(Send(2, bytes([5]) * 6))
+    log.append(Recv(2, 9, bytes([7]) * 32, bytes([1, 2, 3, 4, 5]), first.signature))
+    log.append(Ack(2, 9, bytes([7]) * 32, 3, bytes([8]) * 32, first.signature))
+    log.append(Check(bytes([6]) * 32))
+    for seconds in range(6):
+        log.append(Clock(seconds, 0))
+    return [roster_text([log.signer.member()]), authenticator_text(first), authenticator_text(log.signed(10))]
 
 
 class Made:
@@ -104,6 +119,9 @@ class Made:
 
 
 def handed(to: str) -> bytes:
-    """The texts for books or for replays, each after its length."""
-    texts = {'books': Made().to_books, 'replays': Made().to_replays}[to]()
+    """The texts for books, for logs or for replays, each after its length."""
+    if to == 'logs':
+        texts = to_logs()
+    else:
+        texts = {'books': Made().to_books, 'replays': Made().to_replays}[to]()
     return b''.join(word(len(text)) + text for text in texts)

@@ -105,8 +105,8 @@ fn refusal_changed(
 }
 
 /// Whether a text is refused as it should be with nothing changed; with the node, to no member and to the
-/// other one; and in turn with the number, the hash, the leaf, the secrets, the hashes beside them, two hashes
-/// and 17 in the path, and its hash.
+/// other one; and in turn with the number, the hash, the leaf, the secrets, the hashes beside them, two
+/// hashes and 17 in the path, and its hash.
 fn is_refused_changed(alloc: Global, roster: &Roster, text: &mut [u8]) -> bool {
     let bad = Some(Refusal::BadSignature);
     for (place, bits, refusal) in [

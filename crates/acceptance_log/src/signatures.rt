@@ -120,9 +120,9 @@ fn is_signed(alloc: Global, text: &[u8]) -> Option<bool> {
     }
 }
 
-/// Whether a text is one with nothing changed; and none with a bit changed, in turn of the leaf, the first and
-/// the last secret shown, the first and the last hash beside them, and the first and the last hash of the
-/// path.
+/// Whether a text is one with nothing changed; and none with a bit changed, in turn of the leaf,
+/// the first and the last secret shown, the first and the last hash beside them, and the first and
+/// the last hash of the path.
 fn is_signed_as_it_is(alloc: Global, text: &mut [u8]) -> bool {
     for (place, bits, signed) in [
         (3, 0, Some(true)),

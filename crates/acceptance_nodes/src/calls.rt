@@ -1,7 +1,8 @@
 //! A call, its reply and their acknowledgements, and what comes again.
 
 use crate::parties::{
-    CALL, SERVER, ack_text, called, envelope_text, joined, new_client, new_server,
+    CALL, SERVER, ack_text, called, envelope_text, holds_of, joined, new_client, new_server,
+    of_both,
 };
 use authenticator::Number;
 use commitment::{Received, Refusal};
@@ -129,20 +130,16 @@ fn wrong_step(alloc: Global, client: &mut ClientNode, server: &mut ServerNode) -
     }
 }
 
-/// The same of a new client and a new server.
-fn wrong_step_of_both(alloc: Global) -> &'static str {
-    match new_server(alloc, 3) {
-        Some(mut server) => match new_client(alloc, 3) {
-            Some(mut client) => wrong_step(alloc, &mut client, &mut server),
-            None => "memory",
-        },
-        None => "memory",
-    }
-}
-
 #[test]
 fn each_step_is_logged_once(rt: HostRuntime) {
-    let step = wrong_step_of_both(rt.alloc());
+    let alloc = rt.alloc();
+    let step = of_both(
+        alloc,
+        new_client(alloc, 3),
+        new_server(alloc, 3),
+        wrong_step,
+    );
+    let step = step.unwrap_or("memory");
     assert!(rt; step.is_empty(), "{step}");
 }
 
@@ -184,20 +181,15 @@ fn refusal(alloc: Global, client: &mut ClientNode) -> Option<Refusal> {
 }
 
 /// Whether a client with two keys calls twice.
-fn calls_with_each_key(alloc: Global) -> bool {
-    match new_client(alloc, 1) {
-        Some(mut client) => {
-            refusal(alloc, &mut client) == None
-                && refusal(alloc, &mut client) == None
-                && refusal(alloc, &mut client) == Some(Refusal::KeysUsedUp)
-        }
-        None => false,
-    }
+fn calls_with_each_key(alloc: Global, client: &mut ClientNode) -> bool {
+    refusal(alloc, client) == None
+        && refusal(alloc, client) == None
+        && refusal(alloc, client) == Some(Refusal::KeysUsedUp)
 }
 
 #[test]
 fn a_client_calls_with_each_key(rt: HostRuntime) {
-    assert!(rt; calls_with_each_key(rt.alloc()));
+    assert!(rt; holds_of(rt.alloc(), new_client(rt.alloc(), 1), calls_with_each_key));
 }
 
 /// The length of the reply to a call, or the fault.
@@ -220,24 +212,22 @@ fn is_used_up(alloc: Global, link: &mut Direct) -> bool {
         && exchanged(alloc, link) == Err(LinkFault::Failed)
 }
 
-/// The same of a new client and a new server.
-fn are_used_up(alloc: Global) -> bool {
-    match joined(alloc, 2) {
-        Some(mut link) => is_used_up(alloc, &mut link),
-        None => false,
-    }
-}
-
 #[test]
 fn calls_are_answered_until_the_keys_are_used_up(rt: HostRuntime) {
-    assert!(rt; are_used_up(rt.alloc()));
+    assert!(rt; holds_of(rt.alloc(), joined(rt.alloc(), 2), is_used_up));
 }
 
-/// Whether a client that has called and a server come back from a join as they were.
-fn come_back(alloc: Global, client: ClientNode, server: ServerNode) -> bool {
-    match Direct::join(alloc, client, server) {
-        Ok(_) => false,
-        Err((client, server)) => client.node().left() == 1 && server.node().left() == 2,
+/// Whether a client and a server have so many keys left.
+fn have_left(client: &ClientNode, server: &ServerNode, of_client: u32, of_server: u32) -> bool {
+    client.node().left() == of_client && server.node().left() == of_server
+}
+
+/// Whether a client calls, and then it and a server come back from a join as they were.
+fn come_back(alloc: Global, mut client: ClientNode, server: ServerNode) -> bool {
+    let refusal = refusal(alloc, &mut client);
+    match Direct::join(alloc, client, server).err() {
+        Some(nodes) => refusal == None && have_left(&nodes.0, &nodes.1, 1, 2),
+        None => false,
     }
 }
 
@@ -245,9 +235,7 @@ fn come_back(alloc: Global, client: ClientNode, server: ServerNode) -> bool {
 fn both_come_back(alloc: Global) -> bool {
     match new_server(alloc, 1) {
         Some(server) => match new_client(alloc, 1) {
-            Some(mut client) => {
-                refusal(alloc, &mut client) == None && come_back(alloc, client, server)
-            }
+            Some(client) => come_back(alloc, client, server),
             None => false,
         },
         None => false,
@@ -259,16 +247,17 @@ fn nodes_that_are_not_joined_come_back(rt: HostRuntime) {
     assert!(rt; both_come_back(rt.alloc()));
 }
 
-/// Whether both have two keys left when they are taken apart.
-fn is_taken_apart(link: Direct) -> bool {
+/// Whether a call is answered, and both have two of four keys left when they are taken apart.
+fn is_taken_apart(alloc: Global, mut link: Direct) -> bool {
+    let answer = exchanged(alloc, &mut link);
     let (client, server) = link.into_nodes();
-    client.node().left() == 2 && server.node().left() == 2
+    answer == Ok(24) && have_left(&client, &server, 2, 2)
 }
 
-/// The same of a new client and a new server, with four keys each, after a call.
+/// The same of a new client and a new server, with four keys each.
 fn are_taken_apart(alloc: Global) -> bool {
     match joined(alloc, 2) {
-        Some(mut link) => exchanged(alloc, &mut link) == Ok(24) && is_taken_apart(link),
+        Some(link) => is_taken_apart(alloc, link),
         None => false,
     }
 }

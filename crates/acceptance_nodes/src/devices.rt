@@ -1,7 +1,7 @@
 //! A gateway over a client and a server, by readers and writers that give and take a byte a call and fail at
 //! each call in turn.
 
-use crate::parties::joined;
+use crate::parties::{holds_of, joined};
 use nfs_items::Time;
 use nodes::Direct;
 use nodes::gateway_code::links::FixedClock;
@@ -89,25 +89,18 @@ fn writes_end(alloc: Global, link: &mut Direct, call: &[u8], reply: &[u8]) -> bo
     true
 }
 
-/// Whether both hold of a new client and a new server with 64 keys each.
-fn devices_end(alloc: Global, call: &[u8], reply: &[u8]) -> bool {
-    match joined(alloc, 6) {
-        Some(mut link) => {
-            reads_end(alloc, &mut link, call, reply) && writes_end(alloc, &mut link, call, reply)
-        }
-        None => false,
-    }
-}
-
-/// Whether they hold of NULL and its reply.
-fn all_end(alloc: Global) -> bool {
+/// Whether both hold of NULL and its reply.
+fn all_end(alloc: Global, link: &mut Direct) -> bool {
     match (of_text(alloc, CALL), of_text(alloc, REPLY)) {
-        (Some(call), Some(reply)) => devices_end(alloc, &call, &reply),
+        (Some(call), Some(reply)) => {
+            reads_end(alloc, link, &call, &reply) && writes_end(alloc, link, &call, &reply)
+        }
         _ => false,
     }
 }
 
+/// A new client and a new server have 64 keys each.
 #[test]
 fn a_failed_device_ends_the_stream(rt: HostRuntime) {
-    assert!(rt; all_end(rt.alloc()));
+    assert!(rt; holds_of(rt.alloc(), joined(rt.alloc(), 6), all_end));
 }

@@ -85,15 +85,19 @@ fn answers_by_turns(
         && server.node().log().entries().len() == 12
 }
 
-/// The same of a new server and two new clients.
-fn new_nodes_answer_by_turns(alloc: Global) -> bool {
-    match (
-        new_client(alloc, 2),
-        new_client(alloc, 3),
-        new_server(alloc),
-    ) {
-        (Some(mut one), Some(mut two), Some(mut server)) => {
-            answers_by_turns(alloc, &mut one, &mut two, &mut server)
+/// Whether a function holds of three values, where all are there: of two of a type, and one of another.
+fn three_hold<A: Drop, B: Drop, F: FnOnce(Global, &mut A, &mut A, &mut B) -> bool>(
+    alloc: Global,
+    one: Option<A>,
+    two: Option<A>,
+    other: Option<B>,
+    hold: F,
+) -> bool
+    requires { F.IsAlwaysCallable hold }
+{
+    match (one, two, other) {
+        (Some(mut one), Some(mut two), Some(mut other)) => {
+            hold(alloc, &mut one, &mut two, &mut other)
         }
         _ => false,
     }
@@ -101,5 +105,7 @@ fn new_nodes_answer_by_turns(alloc: Global) -> bool {
 
 #[test]
 fn two_clients_are_answered_by_turns(rt: HostRuntime) {
-    assert!(rt; new_nodes_answer_by_turns(rt.alloc()));
+    let alloc = rt.alloc();
+    let (one, two) = (new_client(alloc, 2), new_client(alloc, 3));
+    assert!(rt; three_hold(alloc, one, two, new_server(alloc), answers_by_turns));
 }

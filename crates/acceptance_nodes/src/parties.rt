@@ -1,5 +1,6 @@
 //! A client and a server, and what they write. Each function is small, and gives none or false where memory
-//! is refused: the proof of a function takes its time by how much of a node is in it at how many exits.
+//! is refused: the proof of a function takes its time by how much of a node is in it at how many exits. So
+//! `holds_of` and `of_both` own the nodes of most tests, and are handed what is tried of them.
 
 ghost use Rattle.std.specs.Prelude.{◌≤◌};
 
@@ -80,6 +81,36 @@ pub fn joined(alloc: Global, height: u32) -> Option<Direct>
             None => None,
         },
         None => None,
+    }
+}
+
+/// Whether a function holds of a value, where there is one. The value's type is a parameter, so that the proof knows
+/// nothing of what it owns.
+pub fn holds_of<T: Drop, F: FnOnce(Global, &mut T) -> bool>(
+    alloc: Global,
+    value: Option<T>,
+    holds: F,
+) -> bool
+    requires { F.IsAlwaysCallable holds }
+{
+    match value {
+        Some(mut value) => holds(alloc, &mut value),
+        None => false,
+    }
+}
+
+/// What a function gives of two values, where both are there.
+pub fn of_both<A: Drop, B: Drop, T: Copy, F: FnOnce(Global, &mut A, &mut B) -> T>(
+    alloc: Global,
+    one: Option<A>,
+    two: Option<B>,
+    told: F,
+) -> Option<T>
+    requires { F.IsAlwaysCallable told }
+{
+    match (one, two) {
+        (Some(mut one), Some(mut two)) => Some(told(alloc, &mut one, &mut two)),
+        _ => None,
     }
 }
 

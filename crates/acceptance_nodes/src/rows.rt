@@ -1,7 +1,7 @@
 //! Streams of calls through a gateway, and their replies byte for byte (RFC 5531, RFC 1094). In each row the
 //! record of a call is followed after `->` by that of its reply, both as texts of words.
 
-use crate::parties::joined;
+use crate::parties::{holds_of, joined};
 use nfs_items::Time;
 use nodes::Direct;
 use nodes::gateway_code::Gateway;
@@ -74,15 +74,15 @@ fn is_served(alloc: Global, link: &mut Direct, rows: &Rows) -> bool {
     }
 }
 
-/// The same of a new client and a new server.
-fn are_served(alloc: Global, text: &str) -> bool {
-    match (joined(alloc, 6), parsed(alloc, text)) {
-        (Some(mut link), Some(rows)) => is_served(alloc, &mut link, &rows),
-        _ => false,
+/// Whether those to the calls of all rows are.
+fn all_are_served(alloc: Global, link: &mut Direct) -> bool {
+    match parsed(alloc, ROWS) {
+        Some(rows) => is_served(alloc, link, &rows),
+        None => false,
     }
 }
 
 #[test]
 fn calls_are_answered_byte_for_byte(rt: HostRuntime) {
-    assert!(rt; are_served(rt.alloc(), ROWS));
+    assert!(rt; holds_of(rt.alloc(), joined(rt.alloc(), 6), all_are_served));
 }

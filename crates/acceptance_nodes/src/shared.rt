@@ -1,7 +1,7 @@
 //! Two clients in two threads, which call one server under a lock.
 
 use crate::exchanges::{new_client, new_server};
-use crate::parties::CALL;
+use crate::parties::{CALL, SERVER};
 use nfs_items::Time;
 use nodes::gateway_code::links::Link;
 use nodes::{ClientNode, HonestServer, ServerNode, Shared};
@@ -24,7 +24,7 @@ fn is_served<R: Wait>(
     client: ClientNode,
     server: &Mutex<HonestServer>,
 ) -> bool {
-    let mut link = Shared::new(rt, alloc, client, server);
+    let mut link = Shared::new(rt, alloc, client, SERVER, server);
     is_answered(alloc, &mut link)
         && is_answered(alloc, &mut link)
         && link.into_client().node().log().entries().len() == 6

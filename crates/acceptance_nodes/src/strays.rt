@@ -2,7 +2,7 @@
 
 ghost use Rattle.std.specs.Prelude.{◌<◌};
 
-use crate::parties::{CALL, SERVER, envelope_text, new_client, new_server};
+use crate::parties::{CALL, SERVER, envelope_text, holds_of, new_client, new_server, of_both};
 use authenticator::Number;
 use commitment::{Received, Refusal};
 use nfs_items::Time;
@@ -86,17 +86,11 @@ fn lies_once(alloc: Global, client: &mut ClientNode, server: &mut ServerNode) ->
         && server.strayed()
 }
 
-/// The same of a new client and a new server.
-fn new_server_lies_once(alloc: Global) -> bool {
-    match (new_client(alloc, 3), new_server(alloc, 3)) {
-        (Some(mut client), Some(mut server)) => lies_once(alloc, &mut client, &mut server),
-        _ => false,
-    }
-}
-
 #[test]
 fn a_server_lies_in_one_reply(rt: HostRuntime) {
-    assert!(rt; new_server_lies_once(rt.alloc()));
+    let alloc = rt.alloc();
+    let held = of_both(alloc, new_client(alloc, 3), new_server(alloc, 3), lies_once);
+    assert!(rt; held == Some(true));
 }
 
 /// What a client makes of two calls under one number.
@@ -132,7 +126,8 @@ fn first_is_heard(
     }
 }
 
-/// Whether the first message of a fork, which is logged alone, is heard, then the second, and then the next call.
+/// Whether the first message of a fork, which is logged alone, is heard, then the
+/// second, and then the next call.
 fn both_are_heard(
     alloc: Global,
     client: &mut ClientNode,
@@ -157,17 +152,11 @@ fn forks(alloc: Global, client: &mut ClientNode, server: &mut ServerNode) -> boo
     }
 }
 
-/// The same of a new client and a new server.
-fn new_client_forks(alloc: Global) -> bool {
-    match (new_client(alloc, 3), new_server(alloc, 3)) {
-        (Some(mut client), Some(mut server)) => forks(alloc, &mut client, &mut server),
-        _ => false,
-    }
-}
-
 #[test]
 fn a_client_signs_two_messages_under_one_number(rt: HostRuntime) {
-    assert!(rt; new_client_forks(rt.alloc()));
+    let alloc = rt.alloc();
+    let held = of_both(alloc, new_client(alloc, 3), new_server(alloc, 3), forks);
+    assert!(rt; held == Some(true));
 }
 
 /// Whether a client with one key left sends the first message alone, and with none nothing.
@@ -187,17 +176,9 @@ fn forks_to_the_last_key(alloc: Global, client: &mut ClientNode) -> bool {
     called && first && matches!(&forked(alloc, client), Some(Err(Refusal::KeysUsedUp)))
 }
 
-/// The same of a new client with two keys.
-fn new_client_forks_to_the_last_key(alloc: Global) -> bool {
-    match new_client(alloc, 1) {
-        Some(mut client) => forks_to_the_last_key(alloc, &mut client),
-        None => false,
-    }
-}
-
 #[test]
 fn a_fork_takes_the_keys_that_are_left(rt: HostRuntime) {
-    assert!(rt; new_client_forks_to_the_last_key(rt.alloc()));
+    assert!(rt; holds_of(rt.alloc(), new_client(rt.alloc(), 1), forks_to_the_last_key));
 }
 
 /// Whether a client that has called and no more shows its signature at 1, and nothing at 2.
@@ -212,15 +193,7 @@ fn shows_its_call(alloc: Global, client: &mut ClientNode) -> bool {
         && client.answer_challenge(alloc, 1, 2).is_err()
 }
 
-/// The same of a new client with two keys.
-fn new_client_shows_its_call(alloc: Global) -> bool {
-    match new_client(alloc, 1) {
-        Some(mut client) => shows_its_call(alloc, &mut client),
-        None => false,
-    }
-}
-
 #[test]
 fn a_node_shows_what_it_signed(rt: HostRuntime) {
-    assert!(rt; new_client_shows_its_call(rt.alloc()));
+    assert!(rt; holds_of(rt.alloc(), new_client(rt.alloc(), 1), shows_its_call));
 }

@@ -27,8 +27,8 @@ pub enum Step {
         count: u32,
         len: usize,
     },
-    /// The call of a row of MOUNT is answered so to machines, whose names are the bytes from `first` to before
-    /// `end`.
+    /// The call of a row of MOUNT is answered so to machines, whose names are the bytes from
+    /// `first` to before `end`.
     AnswersMachines {
         first: u32,
         end: u32,

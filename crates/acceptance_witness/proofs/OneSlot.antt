@@ -32,10 +32,12 @@ none_held w ids idle = ap (λ (v : Working). job_at v.jobs 0) idle ∙ first ids
     first [] = refl
     first (x ∷ xs) = refl
 
+-- an option that is `None` has no value
 pub not_some : {A : Type 0} (o : Option A) → o ≡ None → IsSome o → ⊥
 not_some None is some = cc
 not_some (Some j) is some = cc
 
+-- an option that is `None` isn't `Some` of any value
 pub not_this : {A : Type 0} (o : Option A) (j : A) → o ≡ None → o ≡ Some j → ⊥
 not_this o j is some = cc
 

@@ -57,8 +57,8 @@ fn with_another_hash(alloc: Global, handed: &Handed) -> Option<Vec<u8>> {
     }
 }
 
-/// Whether a cache for one signature keeps the one that was admitted last, and neither keeps a forged one nor takes
-/// it for the one that it keeps.
+/// Whether a cache for one signature keeps the one that was admitted last, and neither keeps a forged one nor
+/// takes it for the one that it keeps.
 fn keeps_the_last(alloc: Global, handed: &Handed, forged: &[u8]) -> bool {
     let mut cache = SignatureCache::new(1);
     keeps(alloc, handed, &cache, false, false)
@@ -72,7 +72,8 @@ fn keeps_the_last(alloc: Global, handed: &Handed, forged: &[u8]) -> bool {
         && taken(alloc, handed, &mut cache, &handed.own.last) == Admission::Learn
 }
 
-/// Whether of two signatures the one that wasn't used for longest makes room, and asking for one is no use of it.
+/// Whether of two signatures the one that wasn't used for longest makes room, and asking
+/// for one is no use of it.
 fn keeps_what_was_used(alloc: Global, handed: &Handed) -> bool {
     let mut cache = SignatureCache::new(2);
     taken(alloc, handed, &mut cache, &handed.own.first) == Admission::Learn

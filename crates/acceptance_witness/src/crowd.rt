@@ -151,8 +151,8 @@ fn audit(alloc: Global, crowd: &Crowd, turn: usize) -> Option<Event> {
     }
 }
 
-/// An event that is none of node 5's own, by its count: a forgery, half of a fork, one of two floods, a part of an
-/// audit, or a forward.
+/// An event that is none of node 5's own, by its count: a forgery, half of a fork, one of two floods, a part
+/// of an audit, or a forward.
 pub fn noise(alloc: Global, crowd: &Crowd, count: usize) -> Option<Event> {
     let turn = count / KINDS;
     match count % KINDS {

@@ -1,5 +1,5 @@
-//! Nodes 1, 2, 5 and 6 with their keys, and what a node hands over: the packets of its log. Each function is small,
-//! and gives none where memory is refused.
+//! Nodes 1, 2, 5 and 6 with their keys, and what a node hands over: the packets of its log. Each function is
+//! small, and gives none where memory is refused.
 
 use crate::logs::{closing_at, reads_clocks, segment_text};
 use crate::members::{keys, member};
@@ -44,8 +44,8 @@ pub fn roster(alloc: Global) -> Option<Roster> {
     }
 }
 
-/// What a node hands over: its authenticators at 1 and at the last number of its log, and its answer, the segment
-/// up to there.
+/// What a node hands over: its authenticators at 1 and at the last number of its log, and its answer,
+/// the segment up to there.
 #[derive(Drop)]
 pub struct Shown {
     pub first: Vec<u8>,

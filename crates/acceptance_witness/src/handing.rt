@@ -80,8 +80,8 @@ fn finds_nothing(alloc: Global, hand_off: &HandOff, worker: &mut WorkerSeat) -> 
     false
 }
 
-/// Whether a job that is posted goes to the one worker that takes it, who alone gives it back; it is collected after
-/// that, and not before.
+/// Whether a job that is posted goes to the one worker that takes it, who alone gives it back; it is
+/// collected after that, and not before.
 fn passes(
     alloc: Global,
     hand_off: &HandOff,
@@ -119,8 +119,8 @@ fn passes(
         && collected(hand_off, poster) == Came::Nothing
 }
 
-/// Whether the first job passes; the second one is posted then, and the third refused; and where both workers are
-/// retired the second one is collected as it was.
+/// Whether the first job passes; the second one is posted then, and the third refused; and where both workers
+/// are retired the second one is collected as it was.
 fn goes_through(alloc: Global, first: ReplayJob, second: ReplayJob, third: ReplayJob) -> bool {
     let Ok((hand_off, mut poster, mut seats)) = HandOff::open(alloc, 1, 2) else {
         first.discard();

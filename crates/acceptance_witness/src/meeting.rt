@@ -1,5 +1,5 @@
-//! Jobs that meet at a gate: they are run at the same time, where there are two workers, and a free worker takes
-//! what is left.
+//! Jobs that meet at a gate: they are run at the same time, where there are two workers, and a free
+//! worker takes what is left.
 
 ghost use Rattle.std.specs.Prelude.{◌≤◌};
 
@@ -122,8 +122,8 @@ fn all_done<R: Threads + Wait + Sync, G: Gate>(
     }
 }
 
-/// Whether two jobs reach the gate, of which so many wait in vain for the other, in a round with so many workers, and
-/// both come back done.
+/// Whether two jobs reach the gate, of which so many wait in vain for the other, in a round with so many
+/// workers, and both come back done.
 fn miss<R: Threads + Wait + Sync>(rt: &R, alloc: Global, workers: usize, missed: u64) -> bool
     requires least { 1 ≤ workers }
     requires most { workers ≤ 16 }
@@ -132,8 +132,8 @@ fn miss<R: Threads + Wait + Sync>(rt: &R, alloc: Global, workers: usize, missed:
     all_done(rt, alloc, &[5, 6], workers, &gate) && gate.has_met(2, missed)
 }
 
-/// Whether the job at this place of three is held until both others reached the gate, in a round with two workers, and
-/// all come back done.
+/// Whether the job at this place of three is held until both others reached the gate, in a round with two
+/// workers, and all come back done.
 fn meets_both_others<R: Threads + Wait + Sync>(rt: &R, alloc: Global, place: usize) -> bool {
     let gate = gate(Holds::One(place), 3);
     all_done(rt, alloc, &[5, 6, 2], 2, &gate) && gate.has_met(3, 0)

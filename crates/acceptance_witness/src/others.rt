@@ -1,5 +1,6 @@
-//! Node 5's own steps in one thread, alone and with events of others among them: forgeries, forks, floods past each
-//! limit, a late filing and repeated forwards. They are answered as they should, and the same, line by line.
+//! Node 5's own steps in one thread, alone and with events of others among them: forgeries, forks,
+//! floods past each limit, a late filing and repeated forwards. They are answered as they should,
+//! and the same, line by line.
 
 use crate::answers::Answer;
 use crate::audits::ran;
@@ -32,7 +33,8 @@ const OWED: [Answer; OWN_STEPS] = [
     Answer::Told(Indication::Trusted),
 ];
 
-/// What others are answered at least once: limits are reached, node 1's log is filed and forwarded, node 6 is exposed.
+/// What others are answered at least once: limits are reached, node 1's log is filed and
+/// forwarded, node 6 is exposed.
 const REACHED: [Answer; 6] = [
     Answer::Refused(Refusal::BadSignature),
     Answer::Refused(Refusal::LearnedFull),
@@ -116,7 +118,8 @@ fn file_late(
     run_others(alloc, books, events, answered);
 }
 
-/// What books answer where so many events of others come before each step of node 5, and a replay is filed late.
+/// What books answer where so many events of others come before each step of node 5,
+/// and a replay is filed late.
 fn answered_by(
     alloc: Global,
     books: &mut Books,
@@ -215,8 +218,8 @@ fn are_reached(answers: &[Answer]) -> bool {
     true
 }
 
-/// Whether both are answered the same, and as they should; in the crowd with two events more of others, a fork and a
-/// filing.
+/// Whether both are answered the same, and as they should; in the crowd with two events more of
+/// others, a fork and a filing.
 fn agree(alone: &Answered, crowded: &Answered) -> bool {
     are_owed(&alone.own)
         && are_owed(&crowded.own)

@@ -1,6 +1,7 @@
 //! Two services, each with three passes in threads of their own. Their lists of events agree on node 5's own
-//! steps; one has forgeries, forks, floods past each limit, a late filing and repeated forwards of others among them,
-//! the other nothing else. Node 5's replies and its indication are the same, line by line, and both close.
+//! steps; one has forgeries, forks, floods past each limit, a late filing and repeated forwards of
+//! others among them, the other nothing else. Node 5's replies and its indication are the same, line
+//! by line, and both close.
 
 ghost use Rattle.std.specs.Prelude.{};
 ghost use Rattle.std.specs.Thread.{IsSync};
@@ -186,7 +187,8 @@ fn has_places(closed: &Closed, places: usize) -> bool {
     closed.journal.places().len() == places
 }
 
-/// What others are answered at least once: limits are reached, node 1's log is filed and forwarded, node 6 is exposed.
+/// What others are answered at least once: limits are reached, node 1's log is filed and
+/// forwarded, node 6 is exposed.
 #[derive(Clone, Copy)]
 enum Reached {
     Refused(Refusal),
@@ -235,9 +237,9 @@ fn are_reached(closed: &Closed) -> bool {
     true
 }
 
-/// Whether a service with node 5's steps alone and one with steps of others agree on node 5, whose packets are
-/// delivered to the one and admitted before to the other. Two threads make the steps of others; a fork and a filing
-/// come with node 1's one job.
+/// Whether a service with node 5's steps alone and one with steps of others agree on node 5, whose packets
+/// are delivered to the one and admitted before to the other. Two threads make the steps of others; a fork
+/// and a filing come with node 1's one job.
 fn services_agree<R: Threads + Wait + Sync>(rt: &R, alloc: Global, crowd: &Crowd) -> bool {
     match (
         closed(rt, alloc, crowd, Way::Delivered, 0),

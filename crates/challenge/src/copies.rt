@@ -28,8 +28,8 @@ impl Evidence {
 }
 
 impl Charge {
-    /// Whether another charge is the same: a fork of the same showings at the same number, or the same log. It
-    /// compares bytes, and takes no memory.
+    /// Whether another charge is the same: a fork of the same showings at the same number, or the same log.
+    /// It compares bytes, and takes no memory.
     pub fn is_same(&self, other: &Charge) -> bool
         ensures { IsTrue result ↔ (charge_in self.now ≡ charge_in other.now) }
     {
@@ -53,8 +53,8 @@ impl Charge {
 }
 
 impl Fork {
-    /// Whether another fork is the same: its number and both its showings are. It compares bytes, and takes no
-    /// memory.
+    /// Whether another fork is the same: its number and both its showings are. It compares
+    /// bytes, and takes no memory.
     pub fn is_same(&self, other: &Fork) -> bool
         ensures { IsTrue result ↔ (fork_in self.now ≡ fork_in other.now) }
     {

@@ -38,8 +38,8 @@ pub enum Charge {
     Replay(AuditedLog),
 }
 
-/// Evidence against a node, which has a text. Nothing else is checked of it: `check_evidence` tells whether it
-/// is accepted.
+/// Evidence against a node, which has a text. Nothing else is checked of it: `check_evidence`
+/// tells whether it is accepted.
 #[derive(Drop)]
 pub struct Evidence {
     node: u32,
@@ -61,8 +61,8 @@ impl Model for Evidence {
 }
 
 impl Evidence {
-    /// Evidence against this node. None where it would have no text: where a log is shown that has no entry, or
-    /// that begins at 0.
+    /// Evidence against this node. None where it would have no text: where a log is shown that has no
+    /// entry, or that begins at 0.
     pub fn new(node: u32, charge: Charge) -> Option<Evidence>
         ensures some { IfSome result (λ e. e ≡ record { node = node; charge = charge_in charge }) }
         ensures whole { IfSome result (λ _. IsTrue (is_whole_charge (charge_value (charge_in charge)))) }

@@ -4,8 +4,8 @@ use authenticator::Number;
 use envelopes::Envelope;
 
 /// What became of an envelope that wasn't refused: of one that a receiver logs, the number of its RECV, by
-/// which `Receiver::sender` gives the acknowledgement that is due; of one that a server answers, the numbers of
-/// both.
+/// which `Receiver::sender` gives the acknowledgement that is due; of one that a server
+/// answers, the numbers of both.
 #[derive(Clone, Copy, Debug, PartialEq, Eq)]
 pub enum Received<T> {
     /// It was logged.

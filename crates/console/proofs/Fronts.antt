@@ -88,12 +88,14 @@ member_just =
 
 -- ---- what is left of a text is nothing
 
+-- where a value was read as a whole, the reading left nothing
 pub whole_read : {A : Type 0} (test : A → Bool) (read : Read A) (v : A) → whole test read ≡ Some v
     → (w : A) × (read ≡ Ok (w, []))
 whole_read {A} test (Ok (w, [])) v e = (w, refl)
 whole_read test (Ok (w, x ∷ xs)) v e = absurd cc
 whole_read test (Err d) v e = absurd cc
 
+-- where bytes are a text, reading its item leaves nothing
 pub text_read : (t : Text) (bytes : List ℕ) (v : Value t.item) → text_at t bytes ≡ Some v
     → (w : Value t.item) × (read_at t.item bytes ≡ Ok (w, []))
 unfolding text_at
@@ -103,12 +105,18 @@ text_read t bytes v e = whole_read t.test (read_at t.item bytes) v e
 
 -- A roster was read: its first word is the count of its members, 64 at most, which have 44 bytes each.
 pub record OfRoster (bytes rest : List ℕ) : Type 0 where
+  -- the count of its members
   pub count : ℕ
+  -- it is the first word
   pub counted : number_at 4 bytes ≡ Ok (count, drop 4 bytes)
+  -- it is 64 at most
   pub few : count ≤ 64
+  -- the bytes hold that word and all members
   pub long : 4 + count * 44 ≤ length bytes
+  -- what stands after the members is left
   pub left : rest ≡ drop (4 + count * 44) bytes
 
+-- so it is with each roster that is read from the front of bytes
 pub roster_read : (bytes : List ℕ) (x : Value roster_item × List ℕ) → read_at roster_item bytes ≡ Ok x
     → OfRoster bytes x.1
 roster_read bytes x e =

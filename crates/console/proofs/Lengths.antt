@@ -36,6 +36,7 @@ abbrev pub TakesJust : {A : Type 0} → ℕ → (List ℕ → Read A) → Type 0
 TakesJust {A} n read =
     (bytes : List ℕ) (x : A × List ℕ) → read bytes ≡ Ok x → (n ≤ length bytes) × (x.1 ≡ drop n bytes)
 
+-- what takes just so many bytes takes at most so many
 pub at_most : {A : Type 0} (n : ℕ) (read : List ℕ → Read A) → TakesJust n read → TakesUpTo n read
 at_most n read just bytes x e =
     let t = just bytes x e in
@@ -43,6 +44,7 @@ at_most n read just bytes x e =
 
 -- ---- numbers
 
+-- a number of `len` bytes takes just these
 pub number_just : (len : ℕ) → TakesJust len (number_at len)
 unfolding number_at
 number_just len bytes x e =
@@ -51,6 +53,7 @@ number_just len bytes x e =
       sym (ap (λ (p : ℕ × List ℕ). p.1) (ok_is (big_number len bytes, drop len bytes) x g.1)),
     )
 
+-- so does one that must pass a test
 pub tested_just : (len : ℕ) (test : ℕ → Bool) → TakesJust len (tested_at len test)
 unfolding tested_at
 tested_just len test bytes x e =
@@ -92,6 +95,7 @@ fixed_rest len bytes x e =
       sym (ap (λ (p : List ℕ × List ℕ). p.1) (ok_is (take len bytes, drop pad after) x h.1)),
     )
 
+-- `len` bytes of fixed opaque data take just these, and the padding to a multiple of four
 pub fixed_just : (len : ℕ) → TakesJust (len + (4 - len % 4) % 4) (fixed_at len)
 fixed_just len bytes x e =
     let t = fixed_rest len bytes x e in
@@ -110,6 +114,7 @@ opaque_up max bytes x e =
 
 -- ---- items of others
 
+-- a pair takes at most as many bytes as its two parts take at most
 pub pair_up : (a b : Item) (m n : ℕ) → TakesUpTo m (read_at a) → TakesUpTo n (read_at b)
     → TakesUpTo (m + n) (read_at (pair a b))
 pair_up a b m n left right bytes x e =
@@ -159,6 +164,7 @@ wider m n read le up bytes x e = omega (arith, le, up bytes x e)
 
 -- an item takes at most so many bytes
 pub record IsWithin (n : ℕ) (a : Item) : Type 0 where
+  -- reading the item takes at most so many
   pub takes : TakesUpTo n (read_at a)
 
 within_pair : {a b : Item} (m n : ℕ) → IsWithin m a → IsWithin n b → IsWithin (m + n) (pair a b)
@@ -219,6 +225,7 @@ entry_up =
           choice_up is_kind kind_item 29240 (λ k. (kinds_up (eqb k 1) (eqb k 2) (eqb k 3) (eqb k 4)).takes);
     }
 
+-- a segment of at most 65,536 entries takes 1,916,551,780 bytes at most
 pub segment_up : IsWithin 1916551780 (bounded_item 65536)
 segment_up =
     within_pair 4 1916551776 word_up (within_pair 8 1916551768 number_up (within_pair 32 1916551736 hash_up
@@ -280,8 +287,10 @@ member_up =
     test_up : (test : ℕ → Bool) → IsWithin 4 (word_where test)
     test_up test = record { takes = at_most 4 (tested_at 4 test) (tested_just 4 test) }
 
+-- a roster takes 2,820 bytes at most
 pub roster_up : IsWithin 2820 roster_item
 roster_up = within_array 64 44 member_up
 
+-- a roster with evidence after it takes 1,916,554,608 bytes at most
 pub case_up : IsWithin 1916554608 case_item
 case_up = within_pair 2820 1916551788 roster_up evidence_up

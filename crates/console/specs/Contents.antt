@@ -6,8 +6,8 @@ use Rattle.console.specs.declared.input.Contents.{Contents}
 use Rattle.console.specs.declared.input.Contents.TheVariants.{Whole, Front}
 
 -- The most bytes of a file with evidence: 2,820 of a roster of 64 members, 8 of the node and the charge, and
--- 1,916,551,780 of a log of 65,536 entries. An entry has 29,244 bytes at most: a message received, with a body of
--- 12,288 bytes and a signature whose path has 16 hashes.
+-- 1,916,551,780 of a log of 65,536 entries. An entry has 29,244 bytes at most: a message received, with a
+-- body of 12,288 bytes and a signature whose path has 16 hashes.
 abbrev pub longest_case : ℕ
 longest_case = 1916554608
 
@@ -17,7 +17,8 @@ pub record IsWordAt (bytes : List ℕ) (at n : ℕ) : Type 0 where
   pub word : number_at 4 (drop at bytes) ≡ Ok (n, rest)
   pub inside : at ≤ length bytes
 
--- What was read of a file is all of it, or a beginning; then it holds no roster, alone or with evidence after it.
+-- What was read of a file is all of it, or a beginning; then it holds no roster, alone
+-- or with evidence after it.
 abbrev pub IsContents : Contents → List ℕ → Type 0
 IsContents (Whole bytes) input = bytes.items ≡ input
 IsContents (Front bytes) input = HoldsNone input

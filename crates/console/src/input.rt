@@ -62,8 +62,8 @@ fn may_accuse(front: &[u8], count: u32) -> bool
     }
 }
 
-/// Whether a file that begins with these bytes may hold a roster or evidence, by how many they are, and, once the
-/// head of it is there, by the count of members and the charge.
+/// Whether a file that begins with these bytes may hold a roster or evidence, by how many they are, and, once
+/// the head of it is there, by the count of members and the charge.
 fn may_hold(front: &[u8]) -> bool
     ensures { result ≡ false → (more : List ℕ) → HoldsNone (front.now ++ more) }
 {
@@ -79,9 +79,9 @@ fn may_hold(front: &[u8]) -> bool
     }
 }
 
-/// What a reader gives up to its end, or up to the first piece with which no roster and no evidence can have so many
-/// bytes or such first words. `Read` comes where a read failed, and then the reader's count rose; `NoMemory` where
-/// memory was refused.
+/// What a reader gives up to its end, or up to the first piece with which no roster and no evidence can have
+/// so many bytes or such first words. `Read` comes where a read failed, and then the reader's count rose;
+/// `NoMemory` where memory was refused.
 pub(crate) fn read_contents<R: Read>(
     alloc: Global,
     reader: &mut Counting<R>,

@@ -56,10 +56,10 @@ fn roster_of(alloc: Global, contents: Contents) -> Result<Option<Roster>, AllocE
     }
 }
 
-/// Reads a file to its end, or up to where no roster and no evidence can have so many bytes or such first words,
-/// and answers the roster in it: the file is a roster's text alone, or one with that of evidence after it; None
-/// where it is neither. `Read` comes where a read failed, and then the reader's count rose; `NoMemory` where memory
-/// was refused.
+/// Reads a file to its end, or up to where no roster and no evidence can have so many bytes or such first
+/// words, and answers the roster in it: the file is a roster's text alone, or one with that of evidence after
+/// it; None where it is neither. `Read` comes where a read failed, and then the reader's count rose;
+/// `NoMemory` where memory was refused.
 pub fn read_roster<R: Read>(
     alloc: Global,
     reader: &mut Counting<R>,

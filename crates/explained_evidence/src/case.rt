@@ -11,8 +11,8 @@ use explained_calls::Facts;
 use secure_log::authenticator_code::Roster;
 use std::alloc::{AllocError, Global};
 
-/// What a file shows that holds a case with a finding: its roster, who is accused of what, what was signed, and
-/// why it is evidence or why it isn't. `AllocError` comes only where a growth was refused.
+/// What a file shows that holds a case with a finding: its roster, who is accused of what, what was signed,
+/// and why it is evidence or why it isn't. `AllocError` comes only where a growth was refused.
 pub fn case_facts(
     alloc: Global,
     file: &File,

@@ -37,8 +37,8 @@ fn add_showing(alloc: Global, facts: &mut Facts, showing: &Showing) -> Result<()
     facts.end()
 }
 
-/// Adds a showing's links, by their numbers. A showing may begin so high that a link has no number of 64 bits:
-/// then nothing closes it.
+/// Adds a showing's links, by their numbers. A showing may begin so high that a link has no number of 64
+/// bits: then nothing closes it.
 fn add_links(alloc: Global, facts: &mut Facts, showing: &Showing) -> Result<(), AllocError> {
     facts.list("links")?;
     let mut number = Some(showing.first());

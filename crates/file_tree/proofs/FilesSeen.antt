@@ -1,13 +1,17 @@
 -- What the definitions say of a file by its number, told by the inode that the table has for it.
--- Serves: `Tree::attributes`, `Tree::lookup`.
+-- Serves: `Tree::attributes`, `Tree::lookup`, `Tree::write`.
 use Rattle.std.proofs.Common.{Bor, ◌≡◌, ℕ, List, Some, None, Ok, Err, option_map, if◌then◌else◌, refl, sym}
 use Rattle.std.proofs.Common.{ap, ◌∙◌}
-use Rattle.std.specs.Prelude.{Option}
+use Rattle.std.specs.Prelude.{Option, Result}
 use Rattle.nfs_spec.specs.nfs_items.Caller.{Caller}
+use Rattle.nfs_spec.specs.nfs_items.declared.attributes.Fattr.{Fattr}
+use Rattle.nfs_spec.specs.nfs_items.declared.stat.Stat.{Stat}
 use Rattle.nfs_spec.specs.nfs_items.declared.stat.Stat.TheVariants as stats
 use Rattle.nfs_spec.specs.fs_model.Files.{File, Files, file_at, parent_of}
 use Rattle.nfs_spec.specs.ProcedureChecks.{◌>>=◌, ok_or, listing_or, may_search}
 use Rattle.nfs_spec.specs.FileAttributes.{attributes_of}
+use Rattle.nfs_spec.specs.Changes.{Effect}
+use Rattle.file_tree.specs.Performs.{DoesAt}
 use Rattle.nfs_spec.specs.Effects.{attributes_at, number_named, number_at_name, number_in_listing}
 use Rattle.inode_table.specs.inodes.Inodes.{body_in, file_in, parent_in, KeepsParent}
 use Rattle.inode_table.specs.inodes.InodeLookUp.{look_up_in}
@@ -66,3 +70,12 @@ module _ (w : Files) (n : ℕ) where
       >>= (λ l. if may_search who f then ok_or stats.NoEnt
       (number_named w n l name) else Err stats.Acces))) there
       ∙ named_in w who n name (file_in inode) inode.body parent
+
+-- a call that leaves the files as they were gives the attributes of a file that is there
+pub told_there : (effect : Effect (Unit {0})) (w : Files) (n : ℕ) (f : File) → file_at w n ≡ Some f
+    → (r : Result Fattr Stat) → effect ≡ Ok (tt, w) → r ≡ attributes_at w n → DoesAt effect n w r w
+told_there effect w n f at (Ok a) does is = (does, sym is)
+told_there effect w n f at (Err e) does is = absurd (ok_err (sym (is ∙ attributes_some w n f at)))
+  where
+    ok_err : {A E : Type 0} {x : A} {e : E} → Ok x ≡ Err e → ⊥
+    ok_err h = cc

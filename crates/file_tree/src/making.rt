@@ -57,7 +57,7 @@ impl Tree {
         match find_to_create(&self.table, who, dir, name, given.size) {
             Ok(None) => self.create_new(alloc, who, now, dir, name, &given),
             Ok(Some(number)) => match self.set(who, now, number, &given)? {
-                Ok(()) => Ok(Ok(number)),
+                Ok(_attributes) => Ok(Ok(number)),
                 Err(stat) => Ok(Err(stat)),
             },
             Err(stat) => Ok(Err(stat)),

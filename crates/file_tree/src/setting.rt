@@ -6,28 +6,28 @@ ghost use Rattle.nfs_spec.specs.Sattr.{given_fields};
 ghost use Rattle.nfs_spec.specs.Procedures.{set_attributes, write};
 ghost use Rattle.inode_table.specs.nfs_laws.Laws.{AreValidFields};
 ghost use Rattle.inode_table.specs.inodes.Given.{given_in};
-ghost use Rattle.file_tree.specs.Performs.{Performs};
+ghost use Rattle.file_tree.specs.Performs.{PerformsAt};
 
 use crate::file_checks::{check_set, check_write};
 use crate::tree::Tree;
 use inode_table::inodes_code::Given;
-use nfs_spec::nfs_items_code::{Sattr, Stat, Time, Who};
+use nfs_spec::nfs_items_code::{Fattr, Sattr, Stat, Time, Who};
 use std::alloc::AllocError;
 
 impl Tree {
-    /// Sets the attributes of a file that are given (RFC 1094, section 2.2.3). Stale, then Perm, then IsDir,
-    /// NxIo, Acces, FBig and NoSpc where a size is given. A refusal, or running out of memory, leaves the
-    /// files as they were.
+    /// Sets the attributes of a file that are given (RFC 1094, section 2.2.3), and gives all of them after it.
+    /// Stale, then Perm, then IsDir, NxIo, Acces, FBig and NoSpc where a size is given. A refusal, or running
+    /// out of memory, leaves the files as they were.
     pub fn set_attributes(
         &mut self,
         who: &Who,
         now: Time,
         number: u32,
         attributes: &Sattr,
-    ) -> Result<Result<(), Stat>, AllocError>
-        ensures { Performs
+    ) -> Result<Result<Fattr, Stat>, AllocError>
+        ensures { PerformsAt
             (set_attributes self.old (caller_of who.now) now number (given_fields now attributes.now))
-            self.old result self.new }
+            number self.old result self.new }
     {
         self.set(who, now, number, &Given::of(attributes, now))
     }
@@ -39,25 +39,26 @@ impl Tree {
         now: Time,
         number: u32,
         given: &Given,
-    ) -> Result<Result<(), Stat>, AllocError>
+    ) -> Result<Result<Fattr, Stat>, AllocError>
         requires { AreValidFields (given_in given.now) }
-        ensures { Performs (set_attributes self.old (caller_of who.now) now number (given_in given.now))
-            self.old result self.new }
+        ensures { PerformsAt (set_attributes self.old (caller_of who.now) now number (given_in given.now))
+            number self.old result self.new }
     {
         if let Err(stat) = check_set(&self.table, who, number, given) {
             return Ok(Err(stat));
         }
-        self.table.set(now, number, given)?;
+        let attributes = self.table.set(now, number, given)?;
         if !given.is_any() {
-            return Ok(Ok(()));
+            return Ok(Ok(attributes));
         }
         self.digests.forget(number);
-        Ok(Ok(()))
+        Ok(Ok(attributes))
     }
 
     /// Writes bytes into a regular file at an offset (RFC 1094, section 2.2.9), with zeros between its end
-    /// and an offset past it; no bytes change nothing. Stale, IsDir, NxIo, Acces, FBig and NoSpc, in this
-    /// order. A refusal, or running out of memory, leaves the files as they were.
+    /// and an offset past it; no bytes change nothing. Gives the attributes after it. Stale, IsDir, NxIo,
+    /// Acces, FBig and NoSpc, in this order. A refusal, or running out of memory, leaves the files as they
+    /// were.
     pub fn write(
         &mut self,
         who: &Who,
@@ -65,18 +66,18 @@ impl Tree {
         number: u32,
         offset: u32,
         bytes: &[u8],
-    ) -> Result<Result<(), Stat>, AllocError>
-        ensures { Performs (write self.old (caller_of who.now) now number offset bytes.now)
-            self.old result self.new }
+    ) -> Result<Result<Fattr, Stat>, AllocError>
+        ensures { PerformsAt (write self.old (caller_of who.now) now number offset bytes.now)
+            number self.old result self.new }
     {
         if let Err(stat) = check_write(&self.table, who, number, offset, bytes) {
             return Ok(Err(stat));
         }
         if bytes.is_empty() {
-            return Ok(Ok(()));
+            return Ok(self.attributes(number));
         }
-        self.table.write(now, number, offset, bytes)?;
+        let attributes = self.table.write(now, number, offset, bytes)?;
         self.digests.forget(number);
-        Ok(Ok(()))
+        Ok(Ok(attributes))
     }
 }

@@ -567,7 +567,8 @@ back_there s k t job some_ low = elim k.phase [
     same_task : {x y : JobParts} → Some x ≡ Some y → x ≡ y
     same_task h = cc
 
--- it may, where it names a job: it gets what is of that job, or nothing changed; and at a noted word it gets it
+-- it may, where it names a job: it gets what is of that job, or nothing changed; and
+-- at a noted word it gets it
 collects_from : (slots id old : ℕ) (c : Workers) (t : JobParts) → 0 < old → old < 3
     → Collects slots id old (Poster (Some t) false c, [])
 collects_from slots id old c t some_ low s k long at small =

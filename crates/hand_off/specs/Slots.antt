@@ -97,8 +97,8 @@ IsWith s job n = (j : ℕ) × (w : ℕ) × (t : JobParts) × (n ≡ w + 3) × (j
 abbrev pub Phase : SlotState → Option JobParts → Bool → ℕ → Type 0
 Phase s job home n = IsEmpty s job home n ⊎ (IsReady s job n ⊎ (IsDone s job n ⊎ IsWith s job n))
 
--- Empty: the poster names no job. Ready: the slot holds the very job that the poster names. Done: a Back of it.
--- With a worker: that worker's view names that job, and no other's does.
+-- Empty: the poster names no job. Ready: the slot holds the very job that the poster names. Done: a Back of
+-- it. With a worker: that worker's view names that job, and no other's does.
 pub record Kept (s : SlotState) : Type 0 where
   -- the poster's seat, of which there is one
   pub seat : ℕ
@@ -161,7 +161,8 @@ notes m r n =
     (t : JobParts) (c : Workers) → m ≡ (Poster (Some t) false c, [])
     → (n ≡ (Poster (Some t) false (noted_by c r), [])) × (c.retired ≡ c.made → (0 < r) × (r < 3))
 
--- the poster names none and has the slot out, with a Back of its job, or nothing changed; never the latter at a noted word
+-- the poster names none and has the slot out, with a Back of its job, or nothing changed; never
+-- the latter at a noted word
 abbrev pub collects : ℕ → Seated → ℕ → Seated → Type 0
 collects old m r n =
     (t : JobParts) (c : Workers) → m ≡ (Poster (Some t) false c, [])

@@ -13,8 +13,8 @@ use node_book::{Back, ReplayJob};
 use std::alloc::{AllocError, Global};
 use std::marker::Model;
 
-/// Slots through which jobs pass from a poster to workers, and what came back of them returns. Threads share it by a
-/// reference, each with a seat of its own. It must be closed.
+/// Slots through which jobs pass from a poster to workers, and what came back of them returns. Threads share
+/// it by a reference, each with a seat of its own. It must be closed.
 pub struct HandOff {
     slots: Vec<Slot>,
 }
@@ -30,8 +30,8 @@ impl Model for HandOff {
 }
 
 impl HandOff {
-    /// This many empty slots, at least 1, for 1 to 16 workers: with the poster's seat, and a seat for each worker. It
-    /// alone takes memory: for the slots, and for each seat a few bytes a slot.
+    /// This many empty slots, at least 1, for 1 to 16 workers: with the poster's seat, and a seat for each
+    /// worker. It alone takes memory: for the slots, and for each seat a few bytes a slot.
     pub fn open(
         alloc: Global,
         slots: usize,
@@ -62,8 +62,8 @@ impl HandOff {
         self.slots.len()
     }
 
-    /// Puts a job into a slot. `Err` comes exactly where the poster's seat names a job there already, with the job
-    /// that was handed in; nothing has changed then. It is one atomic step.
+    /// Puts a job into a slot. `Err` comes exactly where the poster's seat names a job there already, with
+    /// the job that was handed in; nothing has changed then. It is one atomic step.
     pub fn post(
         &self,
         poster: &mut PosterSeat,
@@ -80,8 +80,8 @@ impl HandOff {
         poster.places[slot].post(&self.slots[slot], job)
     }
 
-    /// Takes the job out of a slot, for a worker that holds nothing. It tries once: `None` comes where at that moment
-    /// no job was ready there, or another worker was faster; the seat is as before then.
+    /// Takes the job out of a slot, for a worker that holds nothing. It tries once: `None` comes where at
+    /// that moment no job was ready there, or another worker was faster; the seat is as before then.
     pub fn take(&self, worker: &mut WorkerSeat, slot: usize) -> Option<ReplayJob>
         requires idle { worker.old ≡ idle_at self.now }
         requires slot { slot < length self.now }
@@ -91,8 +91,9 @@ impl HandOff {
         worker.places[slot].take(&self.slots[slot])
     }
 
-    /// Gives back what came of the job that this worker took from a slot. `Err` comes exactly where the worker doesn't
-    /// hold the slot, with what was handed in; nothing has changed then. It is one atomic step.
+    /// Gives back what came of the job that this worker took from a slot. `Err` comes exactly
+    /// where the worker doesn't hold the slot, with what was handed in; nothing has changed
+    /// then. It is one atomic step.
     pub fn done(&self, worker: &mut WorkerSeat, slot: usize, back: Back) -> Result<(), Back>
         requires slots { worker.old.slots ≡ self.now }
         requires slot { slot < length self.now }
@@ -105,9 +106,9 @@ impl HandOff {
         worker.places[slot].done(&self.slots[slot], back)
     }
 
-    /// Takes what came back of the job that was posted to a slot, or the job itself, if no worker took it. It tries
-    /// once: `None` comes where nothing is posted there, or where at that moment a worker had the job; the seat names
-    /// what it named then. Once all workers are retired it comes for no job that was posted.
+    /// Takes what came back of the job that was posted to a slot, or the job itself, if no worker took it. It
+    /// tries once: `None` comes where nothing is posted there, or where at that moment a worker had the job;
+    /// the seat names what it named then. Once all workers are retired it comes for no job that was posted.
     pub fn collect(&self, poster: &mut PosterSeat, slot: usize) -> Option<Back>
         requires slots { poster.old.slots ≡ self.now }
         requires slot { slot < length self.now }

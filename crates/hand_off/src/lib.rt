@@ -1,5 +1,5 @@
-//! Slots through which jobs pass from one poster to several workers, and what came back of them returns. Each call is
-//! a few atomic steps and waits for nobody.
+//! Slots through which jobs pass from one poster to several workers, and what came back of them returns. Each
+//! call is a few atomic steps and waits for nobody.
 #![tactic(auto)]
 
 mod hand_off;

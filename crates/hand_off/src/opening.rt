@@ -45,8 +45,8 @@ pub fn close_slots(mut slots: Vec<Slot>, mut places: Vec<PosterPlace>)
     slots.destroy_empty();
 }
 
-/// A seat at each slot for each of this many workers, at most 16. Where memory was refused the places are those of
-/// these slots, and name no job.
+/// A seat at each slot for each of this many workers, at most 16. Where memory was refused the places are
+/// those of these slots, and name no job.
 pub fn recruit_all(
     alloc: Global,
     slots: &[Slot],

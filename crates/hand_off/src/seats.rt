@@ -3,8 +3,8 @@
 use crate::places::{PosterPlace, WorkerPlace};
 use std::marker::Model;
 
-/// The poster's seat: it posts jobs and collects what came back of them. It may go to another thread, and can't be
-/// shared. It takes a few bytes for each slot.
+/// The poster's seat: it posts jobs and collects what came back of them. It may go to another thread, and
+/// can't be shared. It takes a few bytes for each slot.
 #[derive(Drop)]
 pub struct PosterSeat {
     pub(crate) places: Vec<PosterPlace>,
@@ -22,8 +22,8 @@ impl Model for PosterSeat {
     ghost view = { λ s. posting_of s.places.items };
 }
 
-/// A worker's seat: it takes jobs and gives back what came of them. It may go to another thread, and can't be shared.
-/// It takes a few bytes for each slot.
+/// A worker's seat: it takes jobs and gives back what came of them. It may go to another thread, and can't be
+/// shared. It takes a few bytes for each slot.
 #[derive(Drop)]
 pub struct WorkerSeat {
     pub(crate) places: Vec<WorkerPlace>,

@@ -107,8 +107,8 @@ impl Slot {
         self.table.shared.store::<Done>(seat, 0, DONE);
     }
 
-    /// Takes what came back of the job that was posted, or the job itself, if no worker has it. There is always one
-    /// once all workers are retired.
+    /// Takes what came back of the job that was posted, or the job itself, if no worker has it. There is
+    /// always one once all workers are retired.
     pub fn collect(&self, seat: &mut SlotSeat) -> Option<Back>
         requires seat { seat.old.table_id ≡ self.now.table.shared.table_id }
         requires posted { (job : JobParts) × (c : Workers) × (seat.old.me ≡ (poster (Some job) false c, [])) }

@@ -14,8 +14,8 @@ pub struct Workers {
 
 /// What a seat knows of its slot.
 pub enum View {
-    /// The poster: the job that it posted and hasn't collected, whether the slot is at home while it is empty, and
-    /// the workers.
+    /// The poster: the job that it posted and hasn't collected, whether the slot is at home while it
+    /// is empty, and the workers.
     Poster(Option<PlainJob>, bool, Workers),
     /// A worker, by its number, that holds nothing.
     Idle(u64),

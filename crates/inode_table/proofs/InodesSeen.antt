@@ -1,6 +1,6 @@
 -- What the definitions say of a file by its number, told by the inode of that number.
 -- Serves: `InodeTable::get`, `InodeTable::file_count`.
-use Rattle.std.proofs.Common.{◌≡◌, ℕ, ◌+◌, arith, length, is_some, cond, List, [], ◌∷◌, Some, option_map}
+use Rattle.std.proofs.Common.{◌≡◌, ℕ, ◌+◌, arith, length, is_some, cond, List, [], ◌∷◌, Some, None, Ok, option_map}
 use Rattle.std.proofs.Common.{refl, sym, ap, subst, ◌∙◌}
 use Rattle.std.specs.Ordering.{nat_cmp, eq_by_cmp}
 use Rattle.std.specs.Cmp.{nat_cmp_total, eq_by_cmp_equiv}
@@ -14,9 +14,15 @@ use Rattle.std.specs.Prelude.{Option}
 use Rattle.std.specs.Option.{option_map_or}
 use Rattle.fs_model.specs.Files.{File, Files, file_at, is_directory, parent_of}
 use Rattle.fs_model.specs.Trees.{IsBody}
+use Rattle.fs_model.proofs.Walks.{none_some}
+use Rattle.fs_model.specs.nfs_items.declared.attributes.Fattr.{Fattr}
+use Rattle.fs_model.specs.nfs_items.declared.stat.Stat.TheVariants as stats
+use Rattle.nfs_counts.specs.nfs_spec.ProcedureChecks.{◌>>=◌, ok_or}
+use Rattle.nfs_counts.specs.nfs_spec.Effects.{attributes_at}
 use Rattle.nfs_counts.specs.nfs_spec.FileAttributes.{attributes_of}
+use Rattle.inode_table.specs.Kept.{AreKept}
 use Rattle.tree_rules.specs.inodes.Inodes.{body_in, file_in, inode_at, files_of, fattr_of, parent_in}
-use Rattle.tree_rules.specs.inodes.Inodes.{KeepsParent}
+use Rattle.tree_rules.specs.inodes.Inodes.{KeepsParent, stored_at}
 use Rattle.tree_rules.specs.inodes.declared.inode.Body as stored
 use Rattle.tree_rules.specs.inodes.declared.inode.Body.TheVariants as code
 use Rattle.tree_rules.specs.inodes.declared.inode.Inode.{Inode}
@@ -40,6 +46,30 @@ count_seen fsid next (e ∷ es) sorted =
     ∙ ap (λ n. n + 1) (count_seen fsid next es (sorted_tail nat_cmp e.0 (keys_of es) sorted))
     ∙ omega arith
 
+-- the attributes of an inode are those of its file where all is kept
+pub fattr_kept : (fsid next entries blocks : ℕ) (es : List (ℕ × Inode)) → AreKept fsid next entries blocks es
+    → (n : ℕ) {inode : Inode} → inode_at es n ≡ Some inode
+    → fattr_of fsid n inode ≡ attributes_of (files_of fsid next es) n (file_in inode)
+fattr_kept fsid next entries blocks es kept n {inode} at =
+    ap (λ k. record (fattr_of fsid n inode) { nlink = k })
+    (sym (ap (λ (o : Option Inode). option_map_or (λ i. i.nlink) o 0) at)
+    ∙ kept.counted.nlinks n (file_in inode) (file_seen fsid next es n ∙ ap (option_map file_in) at))
+
+-- attributes that are an inode's are what the definitions say of its file
+pub attributes_told : (fsid next entries blocks : ℕ) (es : List (ℕ × Inode))
+    → AreKept fsid next entries blocks es
+    → (n : ℕ) (f : File) → stored_at es n ≡ Some f → (a : Fattr)
+    → ((inode : Inode) → inode_at es n ≡ Some inode → a ≡ fattr_of fsid n inode)
+    → attributes_at (files_of fsid next es) n ≡ Ok a
+attributes_told fsid next entries blocks es kept n f at a told = by (inode_at es n) refl
+  where
+    by : (o : Option Inode) → inode_at es n ≡ o → attributes_at (files_of fsid next es) n ≡ Ok a
+    by None e = absurd (none_some (sym (ap (option_map file_in) e) ∙ at))
+    by (Some inode) e =
+        ap (λ o. ok_or stats.Stale o >>= (λ f. Ok (attributes_of (files_of fsid next es) n f)))
+        (file_seen fsid next es n ∙ ap (option_map file_in) e)
+        ∙ ap (λ x. Ok x) (sym (told inode e ∙ fattr_kept fsid next entries blocks es kept n e))
+
 -- where an inode has a number
 module _ (t : Inside) (whole : IsWhole t) (n : ℕ) {inode : Inode}
     (at : inode_at t.inodes.entries n ≡ Some inode) where
@@ -54,9 +84,7 @@ module _ (t : Inside) (whole : IsWhole t) (n : ℕ) {inode : Inode}
     -- its attributes are those that it keeps
     pub attributes_kept : fattr_of w.fsid n inode ≡ attributes_of w n (file_in inode)
     attributes_kept = subst (λ (v : Files). fattr_of v.fsid n inode ≡ attributes_of v n (file_in inode)) view
-        (ap (λ k. record (fattr_of t.fsid n inode) { nlink = k })
-        (sym (ap (λ (o : Option Inode). option_map_or (λ i. i.nlink) o 0) at)
-        ∙ whole.counted.nlinks n (file_in inode) there))
+        (fattr_kept t.fsid t.next t.entries t.blocks t.inodes.entries whole n at)
 
     -- and the directory above a directory is the one that it keeps
     pub parent_kept : KeepsParent inode.body (parent_of w n)

@@ -1,7 +1,7 @@
 -- Attributes that are set, and bytes that are written, are kept.
 -- Serves: `InodeTable::set`, `InodeTable::write`.
 use Rattle.std.proofs.Common.{◌≡◌, ℕ, ◌+◌, ◌-◌, ◌≤◌, List, Option, Some, None, option_map, sym, ap, subst}
-use Rattle.std.proofs.Common.{◌∙◌, refl, arith}
+use Rattle.std.proofs.Common.{◌∙◌, IsSome, is_some, Ok, refl, arith}
 use Rattle.fs_model.specs.nfs_items.Timeval.{Timeval}
 use Rattle.fs_model.specs.Files.{File, Files, listing_in, is_directory}
 use Rattle.fs_model.specs.Trees.{IsBody, IsFile, IsTime}
@@ -18,12 +18,15 @@ use Rattle.nfs_counts.proofs.nfs_laws.FilesFit.{set_lists, set_keeps, set_fits, 
 use Rattle.nfs_counts.specs.nfs_laws.Sizes.Bounds.{HasWords}
 use Rattle.tree_rules.specs.inodes.declared.inode.Inode.{Inode}
 use Rattle.tree_rules.specs.inodes.Contents.{body_with_bytes_at}
-use Rattle.tree_rules.specs.inodes.Inodes.{files_of, stored_at}
+use Rattle.tree_rules.specs.inodes.Inodes.{fattr_of, file_in, files_of, inode_at, stored_at}
 use Rattle.inode_table.specs.Edits.Slots.{ChangesFile}
-use Rattle.inode_table.proofs.OfEdits.EditedInodes.{own_stored, changed_alike}
+use Rattle.inode_table.proofs.OfEdits.EditedInodes.{own_stored, changed_alike, some_mapped}
 use Rattle.inode_table.specs.declared.table.InodeTable.TheInside.{Inside}
 use Rattle.tree_rules.specs.inodes.Edits.{IsSizable, MaySet, MayWriteAt}
 use Rattle.inode_table.specs.Kept.{AreKept}
+use Rattle.inode_table.proofs.InodesSeen.{attributes_told}
+use Rattle.nfs_counts.specs.nfs_spec.Effects.{attributes_at}
+use Rattle.fs_model.specs.nfs_items.declared.attributes.Fattr.{Fattr}
 use Rattle.inode_table.proofs.Tables.{files_in, IsWhole, stored, kept_blocks, change_kept}
 
 -- what fits a limit where a size is given, and where none is
@@ -85,6 +88,14 @@ module _ (t : Inside) (whole : IsWhole t) {w : Files} (view : files_in t ≡ w) 
     set_body : IsBody (apply_fields now a may.file).body
     set_body = sized_fits (files_in t) may.file most fits a.size may.sized
 
+    -- the inode is there
+    pub set_there : IsSome (inode_at t.inodes.entries n)
+    set_there = sym (some_mapped file_in (inode_at es n)) ∙ ap is_some set_at
+
+    -- the body is within its limit after attributes are set
+    pub set_bodies : (f : File) → stored_at t.inodes.entries n ≡ Some f → IsBody (apply_fields now a f).body
+    set_bodies f at = subst (λ (g : File). IsBody (apply_fields now a g).body) (some_same (sym set_at ∙ at)) set_body
+
     set_room : block_count (files_in t) + blocks_in (apply_fields now a may.file).body
         ≤ 32768 + blocks_in may.file.body
     set_room = sized_room (files_in t) may.file most fits a.size may.sized
@@ -92,10 +103,6 @@ module _ (t : Inside) (whole : IsWhole t) {w : Files} (view : files_in t ≡ w) 
     module _ {es' : List (ℕ × Inode)} (c : ChangesFile n (apply_fields now a) t.inodes.entries es') where
       set_after : stored_at es' n ≡ Some (apply_fields now a may.file)
       set_after = own_stored es es' n (apply_fields now a) c ∙ ap (option_map (apply_fields now a)) set_at
-
-      -- the body is within its limit after attributes were set
-      pub set_bodies : (f : File) → stored_at es' n ≡ Some f → IsBody f.body
-      set_bodies f at = subst (λ (g : File). IsBody g.body) (some_same (sym set_after ∙ at)) set_body
 
       module _ {was is : ℕ}
           (old : (f : File) → stored_at t.inodes.entries n ≡ Some f → was ≡ blocks_in f.body)
@@ -122,6 +129,15 @@ module _ (t : Inside) (whole : IsWhole t) {w : Files} (view : files_in t ≡ w) 
             })
             c set_room (old may.file set_at) (new (apply_fields now a may.file) set_after)
 
+        -- so attributes that are the inode's are the file's
+        pub set_attributes : IsTime now → ((f : File) → stored_at es' n ≡ Some f → HasWords f)
+            → (attributes : Fattr)
+            → ((inode : Inode) → inode_at es' n ≡ Some inode → attributes ≡ fattr_of t.fsid n inode)
+            → attributes_at (files_of t.fsid t.next es') n ≡ Ok attributes
+        set_attributes time words =
+            attributes_told t.fsid t.next t.entries (t.blocks - was + is) es' (set_kept time words) n
+            (apply_fields now a may.file) set_after
+
   module _ {n offset : ℕ} {bytes old : List ℕ} (asked : MayWriteAt w n offset bytes old) where
     may_write : MayWriteAt (files_in t) n offset bytes old
     may_write = subst (λ v. MayWriteAt v n offset bytes old) (sym view) asked
@@ -136,6 +152,17 @@ module _ (t : Inside) (whole : IsWhole t) {w : Files} (view : files_in t ≡ w) 
     write_file time =
         rewritten_fits now time offset bytes old f may_write.regular
         (whole.tree.files n f may_write.there) may_write.fits
+
+    -- the inode is there
+    pub write_there : IsSome (inode_at t.inodes.entries n)
+    write_there = sym (some_mapped file_in (inode_at es n)) ∙ ap is_some write_at
+
+    -- the body is within its limit after bytes are written
+    pub write_bodies : IsTime now → (g : File) → stored_at t.inodes.entries n ≡ Some g
+        → IsBody (body_with_bytes_at offset bytes g.body)
+    write_bodies time g at =
+        subst (λ (g : File). IsBody (body_with_bytes_at offset bytes g.body)) (some_same (sym write_at ∙ at))
+        (subst (λ b. IsBody (body_with_bytes_at offset bytes b)) (sym may_write.regular) (write_file time).body)
 
     module _ {es' : List (ℕ × Inode)}
         (c : ChangesFile n (λ f. with_mtime now (record f { body = body_with_bytes_at offset bytes f.body }))
@@ -162,11 +189,6 @@ module _ (t : Inside) (whole : IsWhole t) {w : Files} (view : files_in t ≡ w) 
           own_stored es es' n (with_bytes_written now offset bytes old) written
           ∙ ap (option_map (with_bytes_written now offset bytes old)) write_at
 
-      -- the body is within its limit after bytes were written
-      pub write_bodies : IsTime now → (f : File) → stored_at es' n ≡ Some f → IsBody f.body
-      write_bodies time f at =
-          subst (λ (g : File). IsBody g.body) (some_same (sym write_after ∙ at)) (write_file time).body
-
       module _ {was is : ℕ}
           (before : (f : File) → stored_at t.inodes.entries n ≡ Some f → was ≡ blocks_in f.body)
           (new : (f : File) → stored_at es' n ≡ Some f → is ≡ blocks_in f.body) where
@@ -192,3 +214,12 @@ module _ (t : Inside) (whole : IsWhole t) {w : Files} (view : files_in t ≡ w) 
             })
             written may_write.room (before f write_at)
             (new (with_bytes_written now offset bytes old f) write_after)
+
+        -- so attributes that are the inode's are the file's
+        pub write_attributes : IsTime now → ((f : File) → stored_at es' n ≡ Some f → HasWords f)
+            → (attributes : Fattr)
+            → ((inode : Inode) → inode_at es' n ≡ Some inode → attributes ≡ fattr_of t.fsid n inode)
+            → attributes_at (files_of t.fsid t.next es') n ≡ Ok attributes
+        write_attributes time words =
+            attributes_told t.fsid t.next t.entries (t.blocks - was + is) es' (write_kept time words) n
+            (with_bytes_written now offset bytes old f) write_after

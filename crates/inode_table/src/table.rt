@@ -1,7 +1,7 @@
 //! The table.
 
 ghost use Rattle.std.specs.Prelude.{◌≡◌, ◌≢◌, ◌≤◌, ◌<◌, ◌+◌, ◌^◌, ℕ, List, [], IfOk, IfSome, OnOk, OnErr};
-ghost use Rattle.std.specs.Prelude.{IsTrue, IsSome, Some, None, length, option_map, true, false};
+ghost use Rattle.std.specs.Prelude.{IsTrue, IsSome, Ok, Some, None, length, option_map, true, false};
 ghost use Rattle.std.specs.FinMap as finite;
 ghost use Rattle.fs_model.specs.nfs_items.Terms.{FileNumber, Cookie};
 ghost use Rattle.fs_model.specs.Files.{Regular, File, Files, file_at, directory_entries, parent_of, listing};
@@ -13,6 +13,7 @@ ghost use Rattle.fs_model.specs.Trees.{IsBody, IsFile, IsFileTree, IsTime};
 ghost use Rattle.fs_model.specs.Changes.Edits.{with_changed_file, with_name};
 ghost use Rattle.fs_model.specs.Changes.Limits.{file_count, entry_count, block_count, blocks_in, has_room};
 ghost use Rattle.nfs_counts.specs.nfs_spec.FileAttributes.{attributes_of};
+ghost use Rattle.nfs_counts.specs.nfs_spec.Effects.{attributes_at};
 ghost use Rattle.nfs_counts.specs.nfs_spec.Changes.{touch, touch_ctime, unlink, apply_fields};
 ghost use Rattle.nfs_counts.specs.nfs_spec.Opening.{opening_files};
 ghost use Rattle.nfs_counts.specs.nfs_spec.Procedures.{add_file, move_entry, with_bytes_written};
@@ -29,7 +30,7 @@ ghost use Rattle.tree_rules.specs.inodes.Edits.{MaySet, MayWriteAt};
 use crate::edits::{renaming, slots};
 use crate::links::linked_inodes;
 use crate::opening::{hello_inode, root_inode};
-use fs_model::nfs_items_code::Time;
+use fs_model::nfs_items_code::{Fattr, Time};
 use std::alloc::{AllocError, Global};
 use std::collections::BTreeMap;
 use std::collections::btree_map::Iter;
@@ -180,44 +181,42 @@ impl InodeTable {
     }
 
     /// Sets the attributes of a file that are given (RFC 1094, section 2.2.3): ctime becomes now if there are
-    /// any, and mtime if a size is given, before a given mtime. Where memory is refused nothing changes.
-    pub fn set(&mut self, now: Time, number: u32, given: &Given) -> Result<(), AllocError>
+    /// any, and mtime if a size is given, before a given mtime. Gives the attributes of the file after it. Where
+    /// memory is refused nothing changes.
+    pub fn set(&mut self, now: Time, number: u32, given: &Given) -> Result<Fattr, AllocError>
         requires valid { AreValidFields (given_in given.now) }
         requires sized { MaySet self.old number (given_in given.now) }
         ensures ok { OnOk result (self.new
             ≡ with_changed_file self.old number (apply_fields now (given_in given.now))) }
+        ensures attributes { IfOk result (λ attributes. attributes_at self.new number ≡ Ok attributes) }
         ensures err { OnErr result (self.new ≡ self.old) }
     {
         time_is_valid(now);
-        let old = slots::blocks(&self.inodes, number);
-        slots::set(&mut self.inodes, number, now, given)?;
-        let new = slots::blocks(&self.inodes, number);
-        slots::has_words(&self.inodes, number);
-        self.blocks = self.blocks - old + new;
-        Ok(())
+        let edited = slots::set(&mut self.inodes, self.fsid, number, now, given)?;
+        self.blocks = self.blocks - edited.before + edited.after;
+        Ok(edited.attributes)
     }
 
     /// Writes bytes into a regular file at an offset (RFC 1094, section 2.2.9), with zeros between its end
-    /// and an offset past it; mtime and ctime become now. Where memory is refused nothing changes.
+    /// and an offset past it; mtime and ctime become now. Gives the attributes of the file after it. Where
+    /// memory is refused nothing changes.
     pub fn write(
         &mut self,
         now: Time,
         number: u32,
         offset: u32,
         bytes: &[u8],
-    ) -> Result<(), AllocError>
+    ) -> Result<Fattr, AllocError>
         requires { (old : List ℕ) × MayWriteAt self.old number offset bytes.now old }
         ensures ok { OnOk result ((old : List ℕ) → MayWriteAt self.old number offset bytes.now old →
             self.new ≡ with_changed_file self.old number (with_bytes_written now offset bytes.now old)) }
+        ensures attributes { IfOk result (λ attributes. attributes_at self.new number ≡ Ok attributes) }
         ensures err { OnErr result (self.new ≡ self.old) }
     {
         time_is_valid(now);
-        let old = slots::blocks(&self.inodes, number);
-        slots::write(&mut self.inodes, number, now, offset, bytes)?;
-        let new = slots::blocks(&self.inodes, number);
-        slots::has_words(&self.inodes, number);
-        self.blocks = self.blocks - old + new;
-        Ok(())
+        let edited = slots::write(&mut self.inodes, self.fsid, number, now, offset, bytes)?;
+        self.blocks = self.blocks - edited.before + edited.after;
+        Ok(edited.attributes)
     }
 
     /// Puts a new file under the next number, which it gives, with a free name in a directory, and touches

@@ -1,2 +1,3 @@
 pub mod LeafTexts
 pub mod ShownKeys
+mod FourLeaves

@@ -1,7 +1,7 @@
--- Four places of a key at a time.
+-- Four places of a key, or four leaves, at a time.
 use Rattle.std.specs.Prelude.{ℕ, ◌+◌, Bool, List, [], ◌∷◌}
 
--- the bytes that f gives at four places, from n on
+-- the bytes that f gives at four places, or of four leaves, from n on
 abbrev pub four : (ℕ → List ℕ) → ℕ → List (List ℕ)
 four f n = f n ∷ f (n + 1) ∷ f (n + 2) ∷ f (n + 3) ∷ []
 

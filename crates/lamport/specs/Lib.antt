@@ -1,2 +1,3 @@
 pub mod Lamport
 pub mod Fours
+pub mod LeafTexts

@@ -8,6 +8,7 @@ ghost use Rattle.lamport.specs.Lamport.{LeafKey, digest_bit, end_to_end, secret,
 ghost use Rattle.lamport.specs.Lamport.{shown_secrets, other_hashes, word_bytes};
 
 use crate::buffers::TextBuffers;
+use crate::secrets::secret_text;
 use crate::shown::{add_four_pairs, four_digest_bits, leaf_start};
 use sha2::{Digest, Sha256};
 use sha256_lanes::digest_4;
@@ -152,21 +153,8 @@ impl OneTimeKey {
     fn secret_text(&self, place: u32, bit: bool) -> [u8; 44]
         ensures { secret self.now place bit ≡ sha256 result }
     {
-        let mut text = [0u8; 44];
-        text[..32].copy_from_slice(&self.master);
-        put_word(&mut text, 32, self.leaf);
-        put_word(&mut text, 36, place);
-        put_word(&mut text, 40, word_of(bit));
-        text
+        secret_text(&self.master, self.leaf, place, bit)
     }
-}
-
-/// Sets the number after the first `at` bytes, high byte first.
-fn put_word(text: &mut [u8; 44], at: usize, word: u32)
-    requires { at + 4 ≤ 44 }
-    ensures { take (at + 4) text.new ≡ take at text.old ++ word_bytes word }
-{
-    text[at..at + 4].copy_from_slice(&word.to_be_bytes());
 }
 
 /// Appends the bytes of four places, for which there is room.
@@ -199,10 +187,4 @@ fn opposite(bits: [bool; 4]) -> [bool; 4]
         result ≡ four_bits (λ place. not (bit place)) n }
 {
     [!bits[0], !bits[1], !bits[2], !bits[3]]
-}
-
-fn word_of(bit: bool) -> u32
-    ensures { result ≡ (if bit then 1 else 0) }
-{
-    u32::from(bit)
 }

@@ -5,6 +5,8 @@ mod buffers;
 mod key;
 mod keys;
 pub mod laws;
+mod leaves;
+mod secrets;
 mod shown;
 
 pub use buffers::TextBuffers;

@@ -1,6 +1,6 @@
 -- A tree's hashes in one list: how the list grows hash by hash, and where the hash of a level and place
 -- stands.
--- Serves: leaf_hashes, add_inner_hashes, Signer::root, Signer::path (merkle_keys).
+-- Serves: leaf_hashes, leaf_hashes_by, add_inner_hashes, Signer::root, Signer::path (merkle_keys).
 use Rattle.std.proofs.Common.{◌≡◌, ℕ, zero, suc, ◌+◌, ◌-◌, ◌*◌, ◌^◌, ◌<◌, ◌≤◌, List, [], ◌∷◌, ◌++◌, length}
 use Rattle.std.proofs.Common.{get_or, refl, ap, ◌∙◌, arith, length-append, inl, inr}
 use Rattle.std.proofs.lemmas.List.{get_or_append_left, get_or-append-add}
@@ -26,10 +26,6 @@ leaves_of_each master n xs count each = record {
   each = λ k h. tree_hash_of_leaf master k _ (each k (omega arith));
 }
 
--- no leaves in an empty list
-pub no_leaves : (master : List ℕ) → HoldsLeaves master 0 []
-no_leaves master = record { count = refl; each = λ k h. absurd (omega arith) }
-
 -- what is read below the end is read after one more
 below_end : (xs : List (List ℕ)) (x : List ℕ) (k : ℕ) → k < length xs
     → get_or (xs ++ x ∷ []) k [] ≡ get_or xs k []
@@ -41,17 +37,6 @@ at_end xs x n e =
     let seam = get_or-append-add xs (x ∷ []) 0 [] in
     let same : length xs + 0 ≡ n = omega arith in
     rw (← same) seam
-
--- one leaf's hash more
-pub more_leaves : (master : List ℕ) (n : ℕ) (xs : List (List ℕ)) (x : List ℕ)
-    → HoldsLeaves master n xs → x ≡ tree_hash master 0 n → HoldsLeaves master (n + 1) (xs ++ x ∷ [])
-more_leaves master n xs x so_far e = record {
-  count = omega (arith, length-append xs (x ∷ []), so_far.count);
-  each = λ k h. elim (cases_lt k n) as (λ _. get_or (xs ++ x ∷ []) k [] ≡ tree_hash master 0 k) [
-    | inl before ↦ below_end xs x k (omega (arith, so_far.count)) ∙ so_far.each k before
-    | inr after ↦ let last : k ≡ n = omega arith in rw last (at_end xs x n so_far.count ∙ e)
-  ];
-}
 
 -- all leaves and no inner hash
 pub no_inner : (master : List ℕ) (leaves : ℕ) (xs : List (List ℕ))

@@ -1,7 +1,8 @@
 -- A tree's hashes in one list: level after level, the leaves first. After the leaves the j-th inner hash
 -- is over the hashes 2j and 2j + 1 of the list.
 use Rattle.std.specs.Prelude.{◌≡◌, ℕ, ◌+◌, ◌-◌, ◌*◌, ◌^◌, ◌<◌, ◌≤◌, List, [], length, slice_index_or}
-use Rattle.merkle_keys.specs.Tree.{inner_hash, tree_hash}
+use Rattle.lamport.specs.Lamport.{leaf_hash, public_hash}
+use Rattle.merkle_keys.specs.Tree.{inner_hash, leaf_key, tree_hash}
 use Rattle.merkle_keys.specs.declared.signature.TheConstants.{MAX_HEIGHT}
 
 -- the hash at an index
@@ -12,6 +13,10 @@ stored hashes k = slice_index_or hashes k []
 pub record HoldsLeaves (master : List ℕ) (leaves : ℕ) (hashes : List (List ℕ)) : Type 0 where
   pub count : length hashes ≡ leaves
   pub each : (k : ℕ) → k < leaves → stored hashes k ≡ tree_hash master 0 k
+
+-- of the leaves from a first one on, the hashes of n
+pub record HoldsFirst (master : List ℕ) (first n : ℕ) (hashes : List (List ℕ)) : Type 0 where
+  pub each : (k : ℕ) → k < n → stored hashes k ≡ leaf_hash (public_hash (leaf_key master (first + k)))
 
 -- all leaves' hashes and some inner hashes
 pub record HoldsTree (master : List ℕ) (leaves inner : ℕ) (hashes : List (List ℕ)) : Type 0 where

@@ -3,6 +3,7 @@
 
 mod buffers;
 pub mod laws;
+mod leaves;
 mod signature;
 mod signer;
 mod text;

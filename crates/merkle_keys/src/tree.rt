@@ -1,20 +1,15 @@
 //! The hashes of a tree.
 
-ghost use Rattle.std.specs.Prelude.{◌≡◌, ◌+◌, ◌-◌, ◌*◌, ◌^◌, ◌<◌, ◌≤◌, List, ℕ, IfOk, OnOk, [], length};
-ghost use Rattle.std.specs.Prelude.{slice_index_or, vec_len};
-ghost use Rattle.lamport.specs.Lamport.{leaf_hash, public_hash};
-ghost use Rattle.merkle_keys.specs.Tree.{inner_hash, leaf_key, sibling, parent_hash, path_end};
+ghost use Rattle.std.specs.Prelude.{◌≡◌, ◌+◌, ◌-◌, ◌*◌, ◌^◌, ◌<◌, ◌≤◌, List, ℕ, IfOk, OnOk, vec_len};
+ghost use Rattle.merkle_keys.specs.Tree.{inner_hash, sibling, parent_hash, path_end};
 ghost use Rattle.merkle_keys.specs.StoredTree.{HoldsLeaves, HoldsTree};
 
+use crate::leaves::{leaf_hashes, leaf_hashes_by};
 use crate::signature::MAX_HEIGHT;
 use lamport::LeafKeys;
 use sha2::{Digest, Sha256};
 use std::alloc::{AllocError, Global};
-use std::thread;
 use std::thread::Threads;
-
-/// The most threads that make the leaves of a tree.
-const MAX_THREADS: usize = 4;
 
 /// The number of leaves of a tree.
 pub(crate) fn leaf_count(height: u32) -> u32
@@ -87,18 +82,6 @@ pub(crate) fn tree_hashes(
     Ok(hashes)
 }
 
-/// The leaves' hashes, with room for those above them.
-fn leaf_hashes(alloc: Global, keys: &LeafKeys, leaves: u32) -> Result<Vec<[u8; 32]>, AllocError>
-    requires few { leaves ≤ 2 ^ MAX_HEIGHT }
-    ensures { IfOk result (λ v. HoldsLeaves keys.now.master leaves v.items) }
-{
-    let mut hashes = Vec::with_capacity(alloc, 2 * leaves as usize)?;
-    for leaf in 0..leaves {
-        hashes.push(keys.leaf_hash(leaf))?;
-    }
-    Ok(hashes)
-}
-
 /// All hashes of a tree, as `tree_hashes` gives them, with its leaves made by up to four threads.
 pub(crate) fn tree_hashes_by<R: Threads + Sync>(
     rt: &R,
@@ -113,46 +96,6 @@ pub(crate) fn tree_hashes_by<R: Threads + Sync>(
     let mut hashes = leaf_hashes_by(rt, alloc, keys, leaves)?;
     add_inner_hashes(&mut hashes, leaves as usize)?;
     Ok(hashes)
-}
-
-/// The leaves' hashes, with room for those above them.
-fn leaf_hashes_by<R: Threads + Sync>(
-    rt: &R,
-    alloc: Global,
-    keys: &LeafKeys,
-    leaves: u32,
-) -> Result<Vec<[u8; 32]>, AllocError>
-    requires few { leaves ≤ 2 ^ MAX_HEIGHT }
-    ensures { IfOk result (λ v. HoldsLeaves keys.now.master leaves v.items) }
-{
-    let mut hashes = Vec::with_capacity(alloc, 2 * leaves as usize)?;
-    hashes.resize(leaves as usize, [0u8; 32])?;
-    set_leaves(rt, keys, &mut hashes);
-    Ok(hashes)
-}
-
-/// Sets the leaves' hashes, each thread its share of them.
-fn set_leaves<R: Threads + Sync>(rt: &R, keys: &LeafKeys, hashes: &mut [[u8; 32]])
-    requires { length hashes.old ≤ 2 ^ MAX_HEIGHT }
-    ensures { (k : ℕ) → k < length hashes.old →
-        slice_index_or hashes.new k [] ≡ leaf_hash (public_hash (leaf_key keys.now.master k)) }
-{
-    thread::for_each_mut(
-        rt,
-        hashes,
-        thread_count(rt),
-        &|leaf, hash| { *hash = keys.leaf_hash(leaf as u32) },
-    );
-}
-
-/// As many threads as there are processors, up to four; one where that isn't known.
-fn thread_count(rt: &impl Threads) -> usize
-    ensures { 1 ≤ result }
-{
-    match thread::available_parallelism(rt) {
-        Ok(count) => count.get().min(MAX_THREADS),
-        Err(_) => 1,
-    }
 }
 
 /// Adds the inner hashes after the leaves': the n-th of them is over the hashes 2n and 2n + 1 of all.

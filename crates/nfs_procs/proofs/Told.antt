@@ -13,8 +13,8 @@ use Rattle.nfs_laws.specs.nfs_spec.Effects.{attributes_at}
 use Rattle.nfs_laws.specs.nfs_spec.Changes.{Effect}
 use Rattle.nfs_laws.proofs.nfs_spec.Present.{none_there}
 use Rattle.nfs_laws.specs.nfs_spec.NfsCalls.{answer_and_files, with_attributes, with_handle}
-use Rattle.file_tree.specs.Performs.{Does}
-use Rattle.nfs_procs.specs.Changed.{attributes_then, file_then}
+use Rattle.file_tree.specs.Performs.{Does, DoesAt}
+use Rattle.nfs_procs.specs.Changed.{file_then}
 
 -- the attributes of a file that is there
 shown : (fs : Files) (n : ℕ) → IsSome (file_at fs n) → (a : Fattr) × (attributes_at fs n ≡ Ok a)
@@ -29,21 +29,15 @@ shown fs n there = by (file_at fs n) refl there
     )
 
 module _ (fs new : Files) where
-  -- SETATTR and WRITE answer what was done, with the attributes of a file that is there after it
-  pub attributes_told : (n : ℕ) (e : Effect (Unit {0})) (done : Result (Unit {0}) Stat)
-      (r : Result Fattr Stat)
-      → Does e fs done new
-      → r ≡ attributes_then new n done → ((after : Files) → e ≡ Ok (tt, after) → IsSome (file_at after n))
+  -- SETATTR and WRITE answer what was done, with the attributes after it
+  pub attributes_told : (n : ℕ) (e : Effect (Unit {0})) (r : Result Fattr Stat) → DoesAt e n fs r new
       → answer_and_files Attributes fs (with_attributes n e) ≡ (Attributes r, new)
-  attributes_told n e (Ok x) r does is there =
-      let a = shown new n (there new does) in
-      ap (λ e. answer_and_files Attributes fs (with_attributes n e)) does
-      ∙ ap (λ r. answer_and_files Attributes fs (r >>= (λ a. Ok (a, new)))) a.1
-      ∙ ap (λ r. (Attributes r, new)) (sym (is ∙ a.1))
-  attributes_told n e (Err s) r does is there =
-      ap (λ e. answer_and_files Attributes fs (with_attributes n e)) does.0
-      ∙ ap (λ w. (Attributes (Err s), w)) (sym does.1)
-      ∙ ap (λ r. (Attributes r, new)) (sym is)
+  attributes_told n e (Ok a) done =
+      ap (λ e. answer_and_files Attributes fs (with_attributes n e)) done.0
+      ∙ ap (λ r. answer_and_files Attributes fs (r >>= (λ a. Ok (a, new)))) done.1
+  attributes_told n e (Err s) refused =
+      ap (λ e. answer_and_files Attributes fs (with_attributes n e)) refused.0
+      ∙ ap (λ w. (Attributes (Err s), w)) (sym refused.1)
 
   -- CREATE and MKDIR answer what was made, with the handle and attributes of a file that is there after it
   pub handle_told : (e : Effect ℕ) (made : Result ℕ Stat) (r : Result (FileHandle × Fattr) Stat)

@@ -23,12 +23,6 @@ abbrev pub IsChanged : {E : Type 0} → Files → Caller → Timeval → Call �
 IsChanged old who now call (Ok answer) new = IsDone old who now call answer new
 IsChanged old who now call (Err e) new = new ≡ old
 
--- the attributes of a number, where what came before was done
-abbrev pub attributes_then : Files → FileNumber → Result (Unit {0}) Stat → Result Fattr Stat
-attributes_then fs n done = do
-  _ ← done
-  attributes_at fs n
-
 -- the handle and the attributes of a number that was made or found
 abbrev pub file_then : Files → Result FileNumber Stat → Result (FileHandle × Fattr) Stat
 file_then fs made = do

@@ -10,7 +10,7 @@ ghost use Rattle.file_tree.specs.nfs_types.Arguments.{call_of};
 ghost use Rattle.nfs_laws.specs.Steps.Answers.{only_reads};
 ghost use Rattle.nfs_procs.specs.Changed.{IsDone, IsChanged};
 
-use crate::handles::{attributes_after, file_after, number_for};
+use crate::handles::{file_after, number_for};
 use file_tree::Tree;
 use file_tree::nfs_types_code::{DirOpArgs, NfsArgs, NfsResult};
 use nfs_items::{FileHandle, Sattr, Time, Who};
@@ -28,7 +28,7 @@ fn setattr(
 {
     let number = number_for(tree, file);
     let done = tree.set_attributes(who, now, number, attributes)?;
-    Ok(NfsResult::Attributes(attributes_after(tree, number, done)))
+    Ok(NfsResult::Attributes(done))
 }
 
 /// WRITE (section 2.2.9).
@@ -44,7 +44,7 @@ fn write(
 {
     let number = number_for(tree, file);
     let done = tree.write(who, now, number, offset, bytes)?;
-    Ok(NfsResult::Attributes(attributes_after(tree, number, done)))
+    Ok(NfsResult::Attributes(done))
 }
 
 /// CREATE (section 2.2.10).

@@ -4,29 +4,17 @@ ghost use Rattle.std.specs.Prelude.{◌≡◌};
 ghost use Rattle.nfs_items.specs.Attributes.{outcome_of};
 ghost use Rattle.file_tree.specs.nfs_types.Results.{dir_op_of};
 ghost use Rattle.nfs_laws.specs.nfs_spec.NfsCalls.{number_for};
-ghost use Rattle.nfs_procs.specs.Changed.{attributes_then, file_then};
+ghost use Rattle.nfs_procs.specs.Changed.{file_then};
 
 use file_tree::Tree;
 use file_tree::nfs_types_code::DirOpOk;
-use nfs_items::{Fattr, FileHandle, Stat};
+use nfs_items::{FileHandle, Stat};
 
 /// The file number that a handle names here; another handle names 0, which no file has.
 pub(crate) fn number_for(tree: &Tree, file: FileHandle) -> u32
     ensures { result ≡ number_for tree.now file.0 }
 {
     file.number_in(tree.fsid()).unwrap_or(0)
-}
-
-/// The attributes of a file after a call that changed it.
-pub(crate) fn attributes_after(
-    tree: &Tree,
-    number: u32,
-    done: Result<(), Stat>,
-) -> Result<Fattr, Stat>
-    ensures { result ≡ attributes_then tree.now number done }
-{
-    done?;
-    tree.attributes(number)
 }
 
 /// The handle and the attributes of a file that a call made or found.

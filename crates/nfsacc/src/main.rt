@@ -26,8 +26,8 @@ use std::sync::Wait;
 use std::thread::Threads;
 use std::{env, fs, io};
 
-/// The statuses of the program beside 0, which is done. A fault in the input: the records end with one, a file
-/// is no evidence or has no roster, or a script has a bad line.
+/// The statuses of the program beside 0, which is done. A fault in the input: the records end with one, a
+/// file is no evidence or has no roster, or a script has a bad line.
 pub(crate) const INPUT_FAULT: u8 = 1;
 
 /// The words of the command line ask for nothing that there is.
@@ -239,8 +239,8 @@ pub(crate) fn report_file(rt: &impl Eprint, name: &str, error: &io::Error) -> u8
     DEVICE
 }
 
-/// Says on standard error that standard output takes no more, and why: where no error was answered, a write took
-/// nothing.
+/// Says on standard error that standard output takes no more, and why: where no error was
+/// answered, a write took nothing.
 fn report_output(rt: &impl Eprint, error: Option<io::Error>) -> u8 {
     match error {
         Some(error) => report_file(rt, STANDARD_OUTPUT, &error),

@@ -20,12 +20,13 @@ const NOTHING: &str = "/dev/null";
 pub struct Opened {
     pub listener: TcpListener,
     pub masters: Masters,
-    /// What stands in for standard input, output and error where they are closed. A socket would get their numbers
-    /// else, and a client what is said of others.
+    /// What stands in for standard input, output and error where they are closed. A socket would get their
+    /// numbers else, and a client what is said of others.
     pub stand_ins: [Option<File>; 3],
 }
 
-/// Opens the port, and reads the secret bytes where a file of them is named; or the status where that can't be.
+/// Opens the port, and reads the secret bytes where a file of them is named; or the
+/// status where that can't be.
 pub fn open<R>(rt: &R, order: &ServeOrder<'_>) -> Result<Opened, u8>
 where
     R: Files<File = File> + Eprint + Net<Listener = TcpListener, Stream = TcpStream>,

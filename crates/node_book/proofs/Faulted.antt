@@ -41,7 +41,9 @@ tile_entries first next (s ∷ ss) t whole =
 
 -- the audited segments, and the job's
 pub record IsSplit (b : Book) (s : SegmentParts) : Type 0 where
+  -- the accepted segments are tiles
   pub tiles : AreTiles b
+  -- the one more is the job's segment, which follows on the end
   pub one : IsOne b.end.number s tiles.more
 
 split : (b : Book) (c : ClosedParts) → FitsTogether b → b.stage ≡ Out c → IsSplit b c.segment

@@ -1,4 +1,5 @@
 -- The entries of segments, and the log that they show.
+-- Serves: count_entries, entries_shown, replayed_evidence.
 use Rattle.std.proofs.Common.{◌≡◌, ◌+◌, ◌<◌, ◌≤◌, ℕ, Bool, true, false, List, ◌++◌, flat_map, length}
 use Rattle.std.proofs.Common.{get_or, take, Option, Some, None, refl, sym, ap, ◌∙◌, arith, length-append}
 use Rattle.std.specs.Option.{IfNone, IsSome}

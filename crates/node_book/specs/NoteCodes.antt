@@ -255,8 +255,8 @@ plain_at n =
     else if n == 7 then replies.Returned
     else replies.Empty
 
--- what a reply is made of, without names: a number where it has no parts; numbers, a job, an authenticator; what
--- is told; a refusal, with what comes back
+-- what a reply is made of, without names: a number where it has no parts; numbers, a job, an authenticator;
+-- what is told; a refusal, with what comes back
 abbrev pub ToldParts : Type 0
 ToldParts = Indication ⊎ (List Challenge ⊎ Option EvidenceParts)
 

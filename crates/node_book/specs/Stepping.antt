@@ -47,8 +47,8 @@ pub record RanOut (old : Book) (step : steps.Step) (reply : spec.Reply) (new : B
 abbrev pub Steps : (old : Book) → steps.Step → spec.Reply → (new : Book) → Type 0
 Steps old step reply new = IsStep old step reply new ⊎ (StepMayWant step × RanOut old step reply new)
 
--- A step of which notes were made: two copies of the very reply, before the book changed. There are none where
--- memory was refused, and then nothing changed.
+-- A step of which notes were made: two copies of the very reply, before the book changed. There are none
+-- where memory was refused, and then nothing changed.
 abbrev pub NotedSteps : (old : Book) → steps.Step → ReplyOf JobParts JobParts
     → Option (ReplyOf JobParts JobParts × ReplyOf JobParts JobParts) → (new : Book) → Type 0
 NotedSteps old step reply None new = RanOut old step (reply_in reply) new

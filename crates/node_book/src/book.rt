@@ -91,9 +91,9 @@ impl Book {
     }
 
     /// One step: the reply is the one that the book owes, and the book goes on with it. Where memory was
-    /// refused the reply is `NoMemory`, a job or a done value comes back, and the book is as before; a job that
-    /// is put back, an acknowledgement and a question for the indication take none. So is the book after any
-    /// other refusal.
+    /// refused the reply is `NoMemory`, a job or a done value comes back, and the book is as before; a job
+    /// that is put back, an acknowledgement and a question for the indication take none. So is the book
+    /// after any other refusal.
     pub fn step(&mut self, alloc: Global, step: Step) -> Reply
         requires { IsReady self.old }
         ensures { Steps self.old (step_in step) (reply_in result) self.new }

@@ -1,5 +1,5 @@
-//! What is decided of a step, before the book changes: all that the reply and the change need beside the step,
-//! and no value that must be spent.
+//! What is decided of a step, before the book changes: all that the reply and the change need beside the
+//! step, and no value that must be spent.
 
 use crate::plain::PlainJob;
 use crate::refusal::Refusal;

@@ -9,8 +9,8 @@ use crate::verdict::JobVerdict;
 use std::alloc::AllocError;
 use std::marker::Model;
 
-/// The plain words of a replay that was done: the job's, and its verdict, which is the replay of the job's own
-/// state and segment. So the job alone says what it is. They may be copied and let go.
+/// The plain words of a replay that was done: the job's, and its verdict, which is the replay of the job's
+/// own state and segment. So the job alone says what it is. They may be copied and let go.
 #[derive(Drop)]
 pub struct PlainDone {
     job: PlainJob,
@@ -64,7 +64,8 @@ impl PlainDone {
         (job, verdict)
     }
 
-    /// Whether another is of the same job, and so has the same verdict. It compares bytes, and takes no memory.
+    /// Whether another is of the same job, and so has the same verdict. It compares
+    /// bytes, and takes no memory.
     pub fn is_same(&self, other: &PlainDone) -> bool
         ensures { IsTrue result ↔ (self.now ≡ other.now) }
     {

@@ -11,10 +11,10 @@ use crate::verdict::replayed;
 use std::alloc::{AllocError, Global};
 use std::marker::Model;
 
-/// A replay to be done (PeerReview, SOSP 2007, section 5.4), which a book hands out: of its node, from a state,
-/// of a closed segment, with the number of the job in that book. It can be neither copied nor let go: `run` or
-/// `discard` spends it, or its book takes it back. The messages that the state knows, and those that the
-/// segment may add, are within a state's bounds.
+/// A replay to be done (PeerReview, SOSP 2007, section 5.4), which a book hands out: of its node, from a
+/// state, of a closed segment, with the number of the job in that book. It can be neither copied nor let go:
+/// `run` or `discard` spends it, or its book takes it back. The messages that the state knows, and those that
+/// the segment may add, are within a state's bounds.
 pub struct ReplayJob {
     plain: PlainJob,
 }
@@ -68,9 +68,9 @@ impl ReplayJob {
     }
 
     /// Replays the job's segment after its state. `Done` comes back with that very job and its verdict, which
-    /// is the replay by a done value's type; `Job` comes only where a growth was refused, and is the very job.
-    /// It takes no lock and waits for nobody. Memory is that of the state, of its calls, of the state's text
-    /// after the last entry, and of a copy of each authenticator that the entries show.
+    /// is the replay by a done value's type; `Job` comes only where a growth was refused, and is the very
+    /// job. It takes no lock and waits for nobody. Memory is that of the state, of its calls, of the state's
+    /// text after the last entry, and of a copy of each authenticator that the entries show.
     pub fn run(self, alloc: Global) -> Back
         ensures { job_in result ≡ self }
     {

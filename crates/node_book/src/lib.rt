@@ -1,4 +1,5 @@
-//! One member's book at a witness: its events, replies and steps, and the replays that are to be done and were done.
+//! One member's book at a witness: its events, replies and steps, and the replays that are
+//! to be done and were done.
 #![tactic(auto)]
 
 mod book;

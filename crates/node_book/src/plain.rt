@@ -8,9 +8,9 @@ use challenge::SharedState;
 use std::alloc::AllocError;
 use std::marker::Model;
 
-/// The plain words of a replay to be done: of a node, with the number of the job in its book, from a state, of
-/// a closed segment. They say which job is meant, and aren't the job: they may be copied and let go. State and
-/// segment are shared.
+/// The plain words of a replay to be done: of a node, with the number of the job in its book, from a state,
+/// of a closed segment. They say which job is meant, and aren't the job: they may be copied and let go.
+/// State and segment are shared.
 #[derive(Drop)]
 pub struct PlainJob {
     node: u32,
@@ -107,8 +107,8 @@ impl PlainJob {
             && self.segment.is_same(&other.segment)
     }
 
-    /// The same words once more: state and segment get an owner more each. Takes no memory: `AllocError` comes
-    /// only where owners can't be counted further.
+    /// The same words once more: state and segment get an owner more each. Takes no memory: `AllocError`
+    /// comes only where owners can't be counted further.
     pub fn try_clone(&self) -> Result<PlainJob, AllocError>
         ensures { IfOk result (λ j. j ≡ self.now) }
     {

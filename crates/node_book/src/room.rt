@@ -34,9 +34,9 @@ impl Rows {
         Ok(())
     }
 
-    /// Takes the memory for a step, and decides what it is to do. The book stays in any case. `AllocError` comes
-    /// only where memory was refused, and never for a job that is put back, an acknowledgement or
-    /// a question for the indication.
+    /// Takes the memory for a step, and decides what it is to do. The book stays in any case. `AllocError`
+    /// comes only where memory was refused, and never for a job that is put back, an acknowledgement or a
+    /// question for the indication.
     pub fn prepare(&mut self, alloc: Global, step: &Step) -> Result<Decided, AllocError>
         requires ready { IsReady (book_in self.old) }
         requires keeps { KeepsExposure (segments_in self.old.segments.items) self.old.exposure }

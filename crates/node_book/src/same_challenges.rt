@@ -5,8 +5,8 @@ ghost use Rattle.std.specs.Prelude.{◌≡◌, ◌↔◌, IsTrue};
 use authenticator::Signs;
 use challenge::Challenge;
 
-/// Whether two challenges are the same: the same numbers, or the same envelope. It compares bytes, and takes no
-/// memory.
+/// Whether two challenges are the same: the same numbers, or the same envelope. It compares
+/// bytes, and takes no memory.
 pub(crate) fn is_same_challenge(own: &Challenge, other: &Challenge) -> bool
     ensures { IsTrue result ↔ (own.now ≡ other.now) }
 {

@@ -1,5 +1,5 @@
 -- What a node does with a text that another wrote, whatever either received before.
--- Serves: receive, take_reply, deliver_call, deliver_reply, acknowledge_call, acknowledge_reply.
+-- Serves: receive, take_reply, take_ack, deliver_call, deliver_reply, acknowledge_call, acknowledge_reply.
 use Rattle.std.proofs.Common.{◌≡◌, ℕ, List, Result, Ok, Err, Some, sym, ap, subst, ◌∙◌}
 use Rattle.xdr.specs.Texts.Text.{IsText}
 use Rattle.envelopes.specs.Envelope.{envelope_text, envelope_value}
@@ -9,7 +9,7 @@ use Rattle.envelopes.specs.declared.envelope.Envelope.{Envelope}
 use Rattle.envelopes.specs.declared.acknowledgement.Ack.{Ack}
 use Rattle.commitment.specs.Senders.LookUps.{ack_at, envelope_at}
 use Rattle.commitment.specs.declared.outcome.Received.{Received}
-use Rattle.commitment.specs.declared.outcome.Received.TheVariants.{New}
+use Rattle.commitment.specs.declared.outcome.Received.TheVariants.{New, Repeat}
 use Rattle.commitment.specs.declared.refusal.Refusal.{Refusal}
 use Rattle.commitment.specs.declared.refusal.Refusal.TheVariants.{Garbage, NotForMe, BadSignature, KeysUsedUp}
 use Rattle.commitment.specs.declared.refusal.Refusal.TheVariants.{NoMemory}
@@ -49,6 +49,40 @@ received_new n n' time bytes e r h text is receives =
         one_envelope bytes x.0 e x.1.0.opened.0.text (reads_back envelope_text (envelope_value e) bytes text) in
         (x.1.1, subst (λ (y : Envelope). ReceivesEnvelope n time y r n') same x.1.2)
 
+-- It is to that server.
+pub received_to : (n n' : NodeParts) (time : Timeval) (bytes : List ℕ) (e : Envelope) (r : Receipt) (h : Received Receipt)
+    → IsText envelope_text (envelope_value e) bytes → h ≡ New r → Receives n time bytes (Ok h) n' → e.to ≡ n.node
+received_to n n' time bytes e r h text is receives =
+    by (subst (λ (x : Received Receipt). Receives n time bytes (Ok x) n') is receives)
+  where
+    by : Receives n time bytes (Ok (New r)) n' → e.to ≡ n.node
+    by x =
+        let same : x.0 ≡ e =
+        one_envelope bytes x.0 e x.1.0.opened.0.text (reads_back envelope_text (envelope_value e) bytes text) in
+        ap (λ (y : Envelope). y.to) (sym same) ∙ x.1.0.opened.0.receiver
+
+-- A server doesn't stray by what it receives.
+pub receives_straight : (n n' : NodeParts) (time : Timeval) (bytes : List ℕ) (result : Result (Received Receipt) Refusal)
+    → Receives n time bytes result n' → n'.strayed ≡ n.strayed
+receives_straight n n' time bytes (Ok (New r)) x = ap (λ (m : NodeParts). m.strayed) x.1.2.served
+receives_straight n n' time bytes (Ok (Repeat r)) x = ap (λ (m : NodeParts). m.strayed) x.1.2
+receives_straight n n' time bytes (Err KeysUsedUp) x = ap (λ (m : NodeParts). m.strayed) x.1.2
+receives_straight n n' time bytes (Err Garbage) x = ap (λ (m : NodeParts). m.strayed) x.1
+receives_straight n n' time bytes (Err NotForMe) x = ap (λ (m : NodeParts). m.strayed) x.1
+receives_straight n n' time bytes (Err BadSignature) x = ap (λ (m : NodeParts). m.strayed) x.1
+receives_straight n n' time bytes (Err NoMemory) x = ap (λ (m : NodeParts). m.strayed) x
+
+-- A node doesn't stray by an acknowledgement.
+pub acknowledged_straight : (n n' : NodeParts) (bytes : List ℕ) (result : Result AckTaken Refusal)
+    → TakesAck n bytes result n' → n'.strayed ≡ n.strayed
+acknowledged_straight n n' bytes (Ok (Logged number)) x = ap (λ (m : NodeParts). m.strayed) x.1.3
+acknowledged_straight n n' bytes (Ok Already) x = ap (λ (m : NodeParts). m.strayed) x.1.3
+acknowledged_straight n n' bytes (Err Garbage) x = ap (λ (m : NodeParts). m.strayed) x.1
+acknowledged_straight n n' bytes (Err NotForMe) x = ap (λ (m : NodeParts). m.strayed) x.1.2
+acknowledged_straight n n' bytes (Err BadSignature) x = ap (λ (m : NodeParts). m.strayed) x.1.2
+acknowledged_straight n n' bytes (Err NoMemory) x = ap (λ (m : NodeParts). m.strayed) x
+acknowledged_straight n n' bytes (Err KeysUsedUp) x = absurd x
+
 -- What a client receives by it is that envelope.
 pub taken_new : (n n' : NodeParts) (bytes : List ℕ) (e : Envelope) (number : ℕ) (h : Received ℕ)
     → IsText envelope_text (envelope_value e) bytes → h ≡ New number → TakesReply n bytes (Ok h) n'
@@ -62,20 +96,15 @@ taken_new n n' bytes e number h text new takes =
         one_envelope bytes x.0 e x.1.0.opened.0.text (reads_back envelope_text (envelope_value e) bytes text) in
         (x.1.1, x.1.2 ∙ ap (with_receipt n) same)
 
--- What a node does with the text that a call wrote of an acknowledgement.
-pub ack_handed : (a n b b' : NodeParts) (number : ℕ) (k : Ack) (bytes text : List ℕ) (result : Result AckTaken Refusal)
-    (answer : Result (Unit {0}) LinkFault) → n ≡ a
-    → ((x : Ack) → ack_at (sender_of n) number ≡ Some x → IsText ack_text (ack_value x) text) → bytes ≡ text
-    → TakesAck b bytes result b' → answer ≡ ack_told fault_of Failed result → ack_at (sender_of a) number ≡ Some k
-    → MayTakeAck b k answer b'
-ack_handed a n b b' number k bytes text result answer node written same takes answered h =
+-- What a node does with the text of an acknowledgement.
+pub ack_read : (b b' : NodeParts) (k : Ack) (bytes : List ℕ) (result : Result AckTaken Refusal)
+    (answer : Result (Unit {0}) LinkFault) → IsText ack_text (ack_value k) bytes → TakesAck b bytes result b'
+    → answer ≡ ack_told fault_of Failed result → MayTakeAck b k answer b'
+ack_read b b' k bytes result answer text takes answered =
     subst (λ (r : Result (Unit {0}) LinkFault). MayTakeAck b k r b') (sym answered) (by result takes)
   where
     read : IsAckText bytes k
-    read =
-        reads_back ack_text (ack_value k) bytes
-        (subst (IsText ack_text (ack_value k)) (sym same)
-        (written k (ap (λ (x : NodeParts). ack_at (sender_of x) number) node ∙ h)))
+    read = reads_back ack_text (ack_value k) bytes text
 
     by : (r : Result AckTaken Refusal) → TakesAck b bytes r b' → MayTakeAck b k (ack_told fault_of Failed r) b'
     by (Ok (Logged m)) t = t.1.3 ∙ ap (with_ack b) (one_ack bytes t.0 k t.1.0.text read)
@@ -85,3 +114,14 @@ ack_handed a n b b' number k bytes text result answer node written same takes an
     by (Err BadSignature) t = t.1.2
     by (Err NoMemory) t = t
     by (Err KeysUsedUp) t = absurd t
+
+-- The same, by the text that a call wrote.
+pub ack_handed : (a n b b' : NodeParts) (number : ℕ) (k : Ack) (bytes text : List ℕ) (result : Result AckTaken Refusal)
+    (answer : Result (Unit {0}) LinkFault) → n ≡ a
+    → ((x : Ack) → ack_at (sender_of n) number ≡ Some x → IsText ack_text (ack_value x) text) → bytes ≡ text
+    → TakesAck b bytes result b' → answer ≡ ack_told fault_of Failed result → ack_at (sender_of a) number ≡ Some k
+    → MayTakeAck b k answer b'
+ack_handed a n b b' number k bytes text result answer node written same takes answered h =
+    ack_read b b' k bytes result answer
+    (subst (IsText ack_text (ack_value k)) (sym same)
+    (written k (ap (λ (x : NodeParts). ack_at (sender_of x) number) node ∙ h))) takes answered

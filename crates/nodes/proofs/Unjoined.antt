@@ -1,5 +1,5 @@
 -- An exchange between any two nodes, whatever either received of others before.
--- Serves: exchange, ask, bring_back, HonestServer::exchange.
+-- Serves: exchange, ask, bring_back, answer, receive_reply.
 use Rattle.std.proofs.Common.{◌≡◌, inr, ℕ, ◌+◌, Bool, true, false, List, [], ◌∷◌, ◌++◌, length, Ok, Err}
 use Rattle.std.proofs.Common.{Option, Some, None, refl, sym, ap, subst, ◌∙◌, arith, append_assoc, length-append}
 use Rattle.envelopes.specs.declared.envelope.Envelope.{Envelope}
@@ -14,7 +14,7 @@ use Rattle.secure_log.specs.declared.log_entries.entry.Entry.{Entry}
 use Rattle.secure_log.specs.declared.log_entries.entry.Entry.TheVariants.{Send, Recv, Clock}
 use Rattle.node_logs.specs.replay_spec.LogLaws.HonestServers.{heard_entries}
 use Rattle.node_logs.specs.Steps.Nodes.{NodeParts, sender_of}
-use Rattle.node_logs.specs.Steps.Logging.{with_send}
+use Rattle.node_logs.specs.Steps.Logging.{with_receipt, with_send}
 use Rattle.node_logs.specs.Steps.Serving.{reading_at, reply_told, with_last_bit_changed}
 use Rattle.node_logs.specs.Nodes.{LacksKeys}
 use Rattle.node_logs.specs.Receiving.{ReceivesEnvelope, receipt_from}
@@ -89,7 +89,7 @@ heard_it c s time body c1 s1 number r h receives =
     record { left = h.left; envelope = h.envelope; call = h.call; server_left = x.0; receives = x.1 }
 
 -- The server shows its acknowledgement.
-ack_made : (s t : NodeParts) (e : Envelope) (time : Timeval) (r : Receipt) → ReceivesEnvelope s time e r t
+pub ack_made : (s t : NodeParts) (e : Envelope) (time : Timeval) (r : Receipt) → ReceivesEnvelope s time e r t
     → IsSender (sender_of t) → (a : Ack) × (ack_at (sender_of t) r.ack ≡ Some a)
 ack_made s t e time r receives is =
     let reading = reading_at s time in
@@ -137,11 +137,11 @@ not_taken c s c1 number e NoMemory t = unreceived t refl
 not_taken c s c1 number e Failed t = unreceived t refl
 
 -- It shows its acknowledgement.
-reply_ack_made : (c s c1 : NodeParts) (number receipt : ℕ) (e : Envelope) → IsReceived c s number e c1
-    → IsSender (sender_of c1) → receipt ≡ length c1.entries → (a : Ack) × (ack_at (sender_of c1) receipt ≡ Some a)
-reply_ack_made c s c1 number receipt e got is last =
+pub receipt_made : (c c1 : NodeParts) (receipt : ℕ) (e : Envelope) → c1 ≡ with_receipt c e → IsSender (sender_of c1)
+    → receipt ≡ length c1.entries → (a : Ack) × (ack_at (sender_of c1) receipt ≡ Some a)
+receipt_made c c1 receipt e got is last =
     let log : c1.entries ≡ c.entries ++ Recv e.from e.seq e.prev e.body e.signature ∷ [] =
-    ap (λ (x : NodeParts). x.entries) got.received in
+    ap (λ (x : NodeParts). x.entries) got in
     let place : receipt ≡ length c.entries + 1 =
     last ∙ ap length log ∙ length-append c.entries (Recv e.from e.seq e.prev e.body e.signature ∷ []) in
     let x = ack_shown (sender_of c1) c.entries [] e.from e.seq e.prev e.body e.signature is log in
@@ -153,7 +153,7 @@ pub brought_back : (c s c1 t : NodeParts) (number receipt : ℕ) (reply : List �
     → ((a : Ack) → ack_at (sender_of c1) receipt ≡ Some a → MayTakeAck s a (Ok tt) t)
     → IsReplied c s number reply c1 t
 brought_back c s c1 t number receipt reply e got is last says acknowledged =
-    let x = reply_ack_made c s c1 number receipt e got is last in
+    let x = receipt_made c c1 receipt e got.received is last in
     record {
       envelope = e;
       received = got;
@@ -169,7 +169,7 @@ pub not_brought : (c s c1 t : NodeParts) (number receipt : ℕ) (fault : LinkFau
     → ((a : Ack) → ack_at (sender_of c1) receipt ≡ Some a → MayTakeAck s a (Err fault) t)
     → MayStopAtReply c s number fault c1 t
 not_brought c s c1 t number receipt fault e got is last acknowledged =
-    let x = reply_ack_made c s c1 number receipt e got is last in
+    let x = receipt_made c c1 receipt e got.received is last in
     by fault x.0 (acknowledged x.0 x.1)
   where
     by : (f : LinkFault) (a : Ack) → MayTakeAck s a (Err f) t → MayStopAtReply c s number f c1 t
@@ -196,33 +196,32 @@ some_told true reply = (with_last_bit_changed reply, (refl, λ plain. absurd (cc
 three : (es : List Entry) (a b : Entry) → length (es ++ a ∷ b ∷ []) + 1 ≡ length es + 1 + 1 + 1
 three es a b = omega (arith, length-append es (a ∷ b ∷ []))
 
--- The reply that a receipt names is shown at its number.
-pub reply_shown : (c s c1 t : NodeParts) (time : Timeval) (body : List ℕ) (r : Receipt) (number : ℕ)
-    → IsAsked c s time body r c1 t → IsSender (sender_of t) → r.reply ≡ Some number → IsShown s t time body number
-reply_shown c s c1 t time body r number asked is owed =
-    by (reply_owed asked.heard.receives.world (reading_at s time) asked.heard.envelope.body) refl
+-- The reply that a receipt names is logged, and shown at its number.
+pub reply_logged : (s t : NodeParts) (time : Timeval) (body : List ℕ) (e : Envelope) (r : Receipt) (number : ℕ)
+    → e.body ≡ body → ReceivesEnvelope s time e r t → IsSender (sender_of t) → r.reply ≡ Some number
+    → IsShown s t time body number
+reply_logged s t time body e r number says receives is owed =
+    by (reply_owed receives.world (reading_at s time) e.body) refl
   where
-    by : (o : Option (List ℕ))
-        → reply_owed asked.heard.receives.world (reading_at s time) asked.heard.envelope.body ≡ o
+    by : (o : Option (List ℕ)) → reply_owed receives.world (reading_at s time) e.body ≡ o
         → IsShown s t time body number
     by None x =
         let none : r.reply ≡ None =
-        ap (λ (y : Receipt). y.reply) asked.heard.receives.receipt
+        ap (λ (y : Receipt). y.reply) receives.receipt
         ∙ ap (λ (o : Option (List ℕ)). (receipt_from (length s.entries + 1) o).reply) x in
         absurd (cc)
     by (Some reply) x =
         let some : r.reply ≡ Some (length s.entries + 1 + 2) =
-        ap (λ (y : Receipt). y.reply) asked.heard.receives.receipt
+        ap (λ (y : Receipt). y.reply) receives.receipt
         ∙ ap (λ (o : Option (List ℕ)). (receipt_from (length s.entries + 1) o).reply) x in
         let at : number ≡ length s.entries + 1 + 2 = some_same (sym owed ∙ some) in
-        let e = asked.heard.envelope in
         let reading = reading_at s time in
         let y = some_told s.lies reply in
         let recv = Recv e.from e.seq e.prev e.body e.signature in
         let clock = Clock reading.seconds reading.microseconds in
         let front = s.entries ++ recv ∷ clock ∷ [] in
         let log : t.entries ≡ front ++ Send e.from y.0 ∷ [] =
-        ap (λ (n : NodeParts). n.entries) asked.heard.receives.served
+        ap (λ (n : NodeParts). n.entries) receives.served
         ∙ ap (λ (o : Option (List ℕ)). s.entries ++ heard_entries e.from e.seq e.prev e.body e.signature reading o)
         (ap (reply_told s.lies) x ∙ y.1.0)
         ∙ sym (append_assoc s.entries (recv ∷ clock ∷ []) (Send e.from y.0 ∷ [])) in
@@ -235,8 +234,14 @@ reply_shown c s c1 t time body r number asked is owed =
           served = λ plain.
               subst (λ (o : Option (List ℕ)). IsServed s time body o t)
               (x ∙ ap (λ (b : List ℕ). Some b) (sym (f.1.says ∙ y.1.1 plain)))
-              (served_by s t time body e r asked.heard.call.says asked.heard.receives);
+              (served_by s t time body e r says receives);
         }
+
+-- The reply that a call's receipt names is shown at its number.
+pub reply_shown : (c s c1 t : NodeParts) (time : Timeval) (body : List ℕ) (r : Receipt) (number : ℕ)
+    → IsAsked c s time body r c1 t → IsSender (sender_of t) → r.reply ≡ Some number → IsShown s t time body number
+reply_shown c s c1 t time body r number asked is owed =
+    reply_logged s t time body asked.heard.envelope r number asked.heard.call.says asked.heard.receives is owed
 
 -- The reply that is brought back is the one that the server shows.
 pub served_it : (c1 s t c2 t2 : NodeParts) (time : Timeval) (body : List ℕ) (number : ℕ) (reply : List ℕ)

@@ -79,3 +79,12 @@ MayStop c s time body fault c' s' =
     MayAsk c s time body (Err fault) c' s'
     ⊎ ((number : ℕ) × ((d : NodeParts) × ((t : NodeParts) ×
     (IsOwed c s time body number d t × MayStopAtReply d t number fault c' s'))))
+
+-- ---- one step of an exchange
+
+-- Why a step stops: KeysUsedUp only where these keys lack, Failed only where this is refused, NoMemory where memory
+-- was refused.
+abbrev pub Because : (lacks refused : Type 0) → LinkFault → Type 0
+Because lacks refused KeysUsedUp = lacks
+Because lacks refused NoMemory = Unit {0}
+Because lacks refused Failed = refused

@@ -4,4 +4,5 @@ pub mod Delivery
 pub mod Faults
 pub mod Directs
 pub mod Shareds
+pub mod Sides
 pub use Rattle.gateway.specs as gateway

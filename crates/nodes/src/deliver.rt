@@ -14,10 +14,13 @@ ghost use Rattle.commitment.specs.Senders.Sender.{IsSender};
 ghost use Rattle.node_logs.specs.Steps.Nodes.{receiver_of, sender_of};
 ghost use Rattle.gateway.specs.declared.links.fault.LinkFault.TheVariants.{Failed};
 ghost use Rattle.nodes.specs.Exchanges.Reaching.{AckReaches, Reaches, ack_told};
+ghost use Rattle.nodes.specs.Exchanges.Laws.{IsAccepted};
 ghost use Rattle.nodes.specs.Delivery.{CopiesBody, MayReceive, MayTake, MayTakeAck, ReceivesNew, SendsBody};
 ghost use Rattle.nodes.specs.Delivery.{TakesAwaited, TakesNew, WritesText, fault_of};
 
 use crate::client::ClientNode;
+use crate::node::Node;
+use crate::role::Role;
 use crate::server::ServerNode;
 use authenticator::Number;
 use commitment::{Received, Refusal};
@@ -64,7 +67,11 @@ pub(crate) fn send(
 
 /// Writes the text of the envelope of the SEND with a number, in place of what the bytes were. `NoMemory`
 /// comes only where a growth was refused.
-fn write_envelope(node: &NodeLog, number: Number, text: &mut Vec<u8>) -> Result<(), LinkFault>
+pub(crate) fn write_envelope(
+    node: &NodeLog,
+    number: Number,
+    text: &mut Vec<u8>,
+) -> Result<(), LinkFault>
     ensures written { (e : Envelope) → envelope_at (sender_of node.now) number ≡ Some e →
         WritesText envelope_text (envelope_value e) result text.new.items }
     ensures sender { IsSender (sender_of node.now) }
@@ -81,7 +88,7 @@ fn write_envelope(node: &NodeLog, number: Number, text: &mut Vec<u8>) -> Result<
 }
 
 /// Writes the text of the acknowledgement that the RECV with a number makes, as `write_envelope`.
-fn write_ack(node: &NodeLog, number: Number, text: &mut Vec<u8>) -> Result<(), LinkFault>
+pub(crate) fn write_ack(node: &NodeLog, number: Number, text: &mut Vec<u8>) -> Result<(), LinkFault>
     ensures written { (a : Ack) → ack_at (sender_of node.now) number ≡ Some a →
         WritesText ack_text (ack_value a) result text.new.items }
     ensures sender { IsSender (sender_of node.now) }
@@ -113,7 +120,7 @@ pub(crate) fn body_of(node: &NodeLog, number: Number, alloc: Global) -> Result<V
 }
 
 /// The server receives an envelope's text, which is to be new to it: of another, `Failed`.
-fn receive(
+pub(crate) fn receive(
     server: &mut ServerNode,
     alloc: Global,
     time: Time,
@@ -123,6 +130,9 @@ fn receive(
         ReceivesNew server.old time e result server.new }
     ensures told { (e : Envelope) → IsText envelope_text (envelope_value e) text.now →
         MayReceive server.old time e result server.new }
+    ensures addressed { (e : Envelope) → IsText envelope_text (envelope_value e) text.now →
+        OnOk result (e.to ≡ server.old.node) }
+    ensures strayed { server.new.strayed ≡ server.old.strayed }
     ensures sender { IsSender (sender_of server.new) }
 {
     let received = server.receive(alloc, time, text);
@@ -135,7 +145,11 @@ fn receive(
 }
 
 /// The client takes a reply's text, which is to be new to it: of another, `Failed`.
-fn take_reply(client: &mut ClientNode, alloc: Global, text: &[u8]) -> Result<(), LinkFault>
+pub(crate) fn take_reply(
+    client: &mut ClientNode,
+    alloc: Global,
+    text: &[u8],
+) -> Result<(), LinkFault>
     ensures takes { (e : Envelope) → Finds (receiver_of client.old) text.now e None →
         TakesNew client.old e result client.new }
     ensures told { (e : Envelope) → IsText envelope_text (envelope_value e) text.now →
@@ -162,6 +176,20 @@ fn ack_taken(taken: Result<AckTaken, Refusal>) -> Result<(), LinkFault>
         Ok(AckTaken::Already) => Err(LinkFault::Failed),
         Err(refusal) => Err(fault_of(refusal)),
     }
+}
+
+/// A node takes an acknowledgement's text, which it is to await: of another, `Failed`.
+pub(crate) fn take_ack<R: Role>(
+    node: &mut Node<R>,
+    alloc: Global,
+    text: &[u8],
+) -> Result<(), LinkFault>
+    ensures takes { (a : Ack) → IsText ack_text (ack_value a) text.now → IsAccepted node.old a →
+        TakesAwaited node.old a result node.new }
+    ensures told { (a : Ack) → IsText ack_text (ack_value a) text.now → MayTakeAck node.old a result node.new }
+    ensures strayed { node.new.strayed ≡ node.old.strayed }
+{
+    ack_taken(node.take_ack(alloc, text))
 }
 
 /// Hands the envelope of the client's SEND with a number to the server.

@@ -1,15 +1,19 @@
 //! Servers that haven't strayed, to be shared.
 
-ghost use Rattle.std.specs.Prelude.{◌≡◌, ◌≤◌, ◌↔◌, false, IfErr, IfOk, IfSome, IsOk, OnOk, length};
+ghost use Rattle.std.specs.Prelude.{◌≡◌, ◌≤◌, ◌↔◌, false, IfErr, IfOk, IfSome, IsOk, length};
 ghost use Rattle.std.specs.Option.{option_map};
 ghost use Rattle.secure_log.specs.declared.log_entries.entry.TheConstants.{MAX_BODY};
-ghost use Rattle.nodes.specs.Exchanges.Exchanges.{IsCarried, IsJoined, IsServed};
-ghost use Rattle.nodes.specs.Faults.{MayStop, StopsCarrying};
+ghost use Rattle.envelopes.specs.declared.envelope.Envelope.{Envelope};
+ghost use Rattle.envelopes.specs.declared.acknowledgement.Ack.{Ack};
+ghost use Rattle.nodes.specs.Delivery.{MayTakeAck, TakesAwaited};
+ghost use Rattle.nodes.specs.Exchanges.Exchanges.{IsServed};
+ghost use Rattle.nodes.specs.Exchanges.Laws.{IsAccepted};
 ghost use Rattle.nodes.specs.Shareds.{HasNotStrayed};
+ghost use Rattle.nodes.specs.Sides.{IsAnswered, IsEnvelopeText, IsTextOfAck, StopsAnswering};
 
-use crate::client::ClientNode;
-use crate::exchange::exchange;
+use crate::deliver::take_ack;
 use crate::server::ServerNode;
+use crate::sides::answer;
 use gateway::links::LinkFault;
 use nfs_items::Time;
 use std::alloc::Global;
@@ -67,30 +71,46 @@ impl HonestServer {
         self.server
     }
 
-    /// An exchange with a client (`exchanges::exchange`): the reply is the one owed. The server stays one that
-    /// hasn't strayed.
-    pub(crate) fn exchange(
+    /// Receives an envelope's text at a time, and what it shows of it is written, in place of what the bytes were: its
+    /// acknowledgement's text, and that of its reply's envelope, if one is owed. Gives the reply's body, which is the
+    /// one owed. The server stays one that hasn't strayed. `KeysUsedUp` comes only where fewer than two keys are left,
+    /// `NoMemory` only where a growth was refused, `Failed` only where the message isn't new to the server, or refused
+    /// by it.
+    pub(crate) fn answer(
         &mut self,
-        client: &mut ClientNode,
-        text: &mut Vec<u8>,
         alloc: Global,
         time: Time,
-        bytes: &[u8],
+        call: &[u8],
+        ack: &mut Vec<u8>,
+        reply: &mut Vec<u8>,
     ) -> Result<Option<Vec<u8>>, LinkFault>
-        requires size { length bytes.now ≤ MAX_BODY }
         ensures straight { HasNotStrayed self.old }
         ensures stays { HasNotStrayed self.new }
-        ensures carried { IfOk result (λ r. IsCarried client.old self.old time
-            bytes.now (option_map (λ v. v.items) r) client.new self.new) }
-        ensures served { IfOk result (λ r.
-            IsServed self.old time bytes.now (option_map (λ v. v.items) r) self.new) }
-        ensures told { IfErr result (λ e. MayStop client.old self.old time bytes.now e client.new self.new) }
-        ensures stops { IsJoined client.old self.old → IfErr result (λ e.
-            StopsCarrying client.old self.old time bytes.now e client.new self.new) }
+        ensures answered { (e : Envelope) → IsEnvelopeText e call.now → IfOk result (λ r. IsAnswered self.old time e
+            (option_map (λ v. v.items) r) ack.new.items reply.new.items self.new) }
+        ensures served { (e : Envelope) → IsEnvelopeText e call.now → IfOk result (λ r.
+            IsServed self.old time e.body (option_map (λ v. v.items) r) self.new) }
+        ensures stops { (e : Envelope) → IsEnvelopeText e call.now → IfErr result (λ f.
+            StopsAnswering self.old time e call.now f self.new) }
         ensures size { IfOk result (λ r. IfSome r (λ v. length v.items ≤ MAX_BODY)) }
     {
         self.server.node().is_honest();
-        let result = exchange(client, &mut self.server, text, alloc, time, bytes);
+        let result = answer(&mut self.server, alloc, time, call, ack, reply);
+        self.server.node().is_honest();
+        result
+    }
+
+    /// Takes an acknowledgement's text, which it is to await: of another, `Failed`. The server stays one that hasn't
+    /// strayed. `NoMemory` comes only where a growth was refused.
+    pub(crate) fn take_ack(&mut self, alloc: Global, text: &[u8]) -> Result<(), LinkFault>
+        ensures straight { HasNotStrayed self.old }
+        ensures stays { HasNotStrayed self.new }
+        ensures takes { (a : Ack) → IsTextOfAck a text.now → IsAccepted self.old a →
+            TakesAwaited self.old a result self.new }
+        ensures told { (a : Ack) → IsTextOfAck a text.now → MayTakeAck self.old a result self.new }
+    {
+        self.server.node().is_honest();
+        let result = take_ack(&mut self.server, alloc, text);
         self.server.node().is_honest();
         result
     }

@@ -7,11 +7,13 @@ mod direct;
 mod exchange;
 pub mod exchanges;
 mod honest;
+mod locked;
 mod lookups;
 mod node;
 mod role;
 mod server;
 mod shared;
+mod sides;
 
 pub use client::ClientNode;
 pub use direct::Direct;

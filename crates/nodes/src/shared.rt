@@ -7,6 +7,7 @@ ghost use Rattle.nodes.specs.Shareds.{IsExchanged, StopsExchange, shared_of};
 
 use crate::client::ClientNode;
 use crate::honest::HonestServer;
+use crate::locked::{Texts, call};
 use gateway::links::{Link, LinkFault};
 use nfs_items::Time;
 use std::alloc::Global;
@@ -14,14 +15,15 @@ use std::marker::Model;
 use std::sync::{Mutex, Wait};
 
 /// A client of its own, and a server under a lock that others use too, joined to a link: each exchange is a call
-/// of the client, with all that the two log for it, made while the lock is held. It keeps its runtime, so that who
-/// uses it as a link has none. After a fault it has failed.
+/// of the client, with all that the two log for it. The lock is held for what the server does alone, and not while the
+/// client signs and checks. It keeps its runtime, so that who uses it as a link has none. After a fault it has failed.
 #[derive(Drop)]
 pub struct Shared<'a, R: Wait> {
     rt: &'a R,
     server: &'a Mutex<HonestServer>,
     client: ClientNode,
-    text: Vec<u8>,
+    to: u32,
+    texts: Texts,
     failed: bool,
 }
 
@@ -32,25 +34,32 @@ impl<'a, R: Wait> Model for Shared<'a, R> {
 
     ghost coded = { shared_code };
 
-    ghost view = { λ d. record { client = d.client; failed = d.failed } };
+    ghost view = { λ d. record { client = d.client; to = d.to; failed = d.failed } };
 }
 
 impl<'a, R: Wait> Shared<'a, R> {
-    /// A link of a client to the server that lies under a lock. The server isn't looked at: whether the two list
-    /// each other shows at the first exchange. Takes no memory and no lock.
+    /// A link of a client to the server of a number, `to`, that lies under a lock. The server isn't looked at: whether
+    /// it has the number, and whether the two list each other, shows at the first exchange. Takes no memory and no
+    /// lock.
     pub fn new(
         rt: &'a R,
         alloc: Global,
         client: ClientNode,
+        to: u32,
         server: &'a Mutex<HonestServer>,
     ) -> Shared<'a, R>
-        ensures { result ≡ shared_of client }
+        ensures { result ≡ shared_of client to }
     {
         Shared {
             rt,
             server,
             client,
-            text: Vec::new(alloc),
+            to,
+            texts: Texts {
+                call: Vec::new(alloc),
+                ack: Vec::new(alloc),
+                reply: Vec::new(alloc),
+            },
             failed: false,
         }
     }
@@ -69,12 +78,14 @@ impl<'a, R: Wait> Shared<'a, R> {
         self.client
     }
 
-    /// Carries a body of at most 12,288 bytes to the server at a time, and gives its reply, if one is owed
-    /// (`exchanges::exchange`). It waits for the lock once, and holds it for the whole exchange. `KeysUsedUp`
-    /// comes only where the client has no key left, or the server fewer than two, or the client none for the
-    /// reply; `NoMemory` only where a growth was refused; `Failed` where one of the two refuses the other, as
-    /// where it isn't listed there. What was done before any of them stands. After a fault `Failed` comes, no
-    /// lock is taken, and nothing changes.
+    /// Carries a body of at most 12,288 bytes to the server at a time, and gives its reply, if one is owed. The client
+    /// logs SEND, ACK and RECV, the server RECV, CLOCK and SEND, and later ACK; what the server logs of others may
+    /// stand before that ACK. It waits for the lock twice, and holds it for what the server does alone: it receives the
+    /// call and answers it, and, where a reply was owed, takes the client's acknowledgement. `KeysUsedUp` comes only
+    /// where the client has no key left, or the server fewer than two, or the client none for the reply; `NoMemory`
+    /// only where a growth was refused; `Failed` where one of the two refuses the other, as where it isn't listed
+    /// there, or the server has another number. What was done before any of them stands. After a fault `Failed` comes,
+    /// no lock is taken, and nothing changes.
     pub fn carry(
         &mut self,
         alloc: Global,
@@ -91,13 +102,16 @@ impl<'a, R: Wait> Shared<'a, R> {
         if self.failed {
             return Err(LinkFault::Failed);
         }
-        let client = &mut self.client;
-        let text = &mut self.text;
-        match self
-            .server
-            .lock(self.rt)
-            .exchange(client, text, alloc, time, bytes)
-        {
+        match call(
+            self.rt,
+            self.server,
+            &mut self.client,
+            self.to,
+            &mut self.texts,
+            alloc,
+            time,
+            bytes,
+        ) {
             Ok(reply) => Ok(reply),
             Err(fault) => {
                 self.failed = true;

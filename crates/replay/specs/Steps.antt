@@ -8,8 +8,8 @@ use Rattle.replay.specs.Faults.{fault_in}
 use Rattle.replay.specs.declared.steps.StepFault.{StepFault}
 use Rattle.replay.specs.declared.steps.StepFault.TheVariants.{NoMemory, Fault}
 
--- A step from a state answers as the reference machine does: it leaves the state after the entry, or names the
--- entry's fault and leaves the state before. That it leaves where memory is refused, too.
+-- A step from a state answers as the reference machine does: it leaves the state after the entry, or names
+-- the entry's fault and leaves the state before. That it leaves where memory is refused, too.
 abbrev pub Steps : {A : Type 0} → List Member → State → Placed → Result A StepFault → State → Type 0
 Steps ms s p (Ok done) t = step ms s p ≡ Ok t
 Steps ms s p (Err NoMemory) t = t ≡ s

@@ -54,8 +54,8 @@ fn work<G: Gate>(gate: &G, alloc: Global, hand_off: &HandOff, mut seat: WorkerSe
     seat
 }
 
-/// Starts a thread for each worker but the first, whose work is done here once the others are started. So is the
-/// work of one for which no thread is made.
+/// Starts a thread for each worker but the first, whose work is done here once the others are started. So is
+/// the work of one for which no thread is made.
 fn run_all<'s, E, R: Threads, G: Gate>(
     rt: &R,
     scope: &Scope<'s, E>,

@@ -152,8 +152,8 @@ impl<R: Threads + Wait + Sync, S: Shelf> Run<'_, '_, R, S> {
     }
 }
 
-/// A fault of an exchange as a node's refusal. One that isn't out of keys or memory is of a message that isn't
-/// for its receiver: no node of a script takes another's so.
+/// A fault of an exchange as a node's refusal. One that isn't out of keys or memory is of a message that
+/// isn't for its receiver: no node of a script takes another's so.
 fn refusal_of(fault: LinkFault) -> Refusal {
     match fault {
         LinkFault::KeysUsedUp => Refusal::KeysUsedUp,

@@ -37,8 +37,8 @@ pub enum ScriptFault {
 }
 
 /// Runs a script: reads it line by line, does what each line says, and writes what it prints before the next
-/// line is read. The nodes stand on its first lines; where a name is given for it, the file of their roster is
-/// put in its place before the next line runs. At the end it writes `closed ok`, or `closed fault 1` where
+/// line is read. The nodes stand on its first lines; where a name is given for it, the file of their roster
+/// is put in its place before the next line runs. At the end it writes `closed ok`, or `closed fault 1` where
 /// receipts and journal don't fit. After a bad line, and after a fault, what was printed before stands, and
 /// nothing more is written.
 pub fn run_script<R: Threads + Wait + Sync, I: Read, O: Write, S: Shelf>(

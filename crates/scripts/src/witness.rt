@@ -54,8 +54,8 @@ impl<R: Threads + Wait + Sync, S: Shelf> Run<'_, '_, R, S> {
         }
     }
 
-    /// Hands a packet over so many times, or until the witness says something else than that its signature is bad,
-    /// and then prints that.
+    /// Hands a packet over so many times, or until the witness says something else than that its signature is
+    /// bad, and then prints that.
     fn deliver_often(&mut self, packet: &[u8], times: u32) -> Result<(), Stop> {
         for _ in 0..times {
             let said = self.caller.deliver(packet);

@@ -1,1 +1,2 @@
 pub use Rattle.nodes.proofs as nodes
+pub mod Links

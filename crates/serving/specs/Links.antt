@@ -1,5 +1,5 @@
--- The link of a connection's client to the server: its exchanges are those of a client with a server under a lock, each
--- begun only where the client has a key for the call and one for its reply.
+-- The link of a connection's client to the server: its exchanges are those of a client with a server under a
+-- lock, each begun only where the client has a key for the call and one for its reply.
 use Rattle.std.specs.Prelude.{◌≡◌, ◌⊎◌, ◌+◌, ◌<◌, ◌^◌, List, ℕ, Option}
 use Rattle.nodes.specs.gateway.declared.links.fault.LinkFault.{LinkFault}
 use Rattle.nodes.specs.gateway.declared.links.fault.LinkFault.TheVariants.{KeysUsedUp}
@@ -16,7 +16,8 @@ pub record IsCall (d : SharedParts) (time : Timeval) (body : List ℕ) (reply : 
   pub left : ¬ LacksKeysOfACall d
   pub exchanged : IsExchanged d time body reply d'
 
--- Why a call isn't answered: the client lacks the keys of one, and nothing is done; or the exchange itself stops.
+-- Why a call isn't answered: the client lacks the keys of one, and nothing is done; or
+-- the exchange itself stops.
 abbrev pub StopsCall : SharedParts → Timeval → List ℕ → LinkFault → SharedParts → Type 0
 StopsCall d time body fault d' =
     (LacksKeysOfACall d × (fault ≡ KeysUsedUp) × (d' ≡ d))

@@ -5,8 +5,8 @@ use Rattle.sha2.specs.Sha256.{sha256}
 use Rattle.serving.specs.declared.keys.Masters.{Masters}
 use Rattle.serving.specs.declared.keys.Masters.TheVariants.{Known, Secret}
 
--- A node's master secret: 28 zero bytes and the node's number in four, high byte first; or the digest (FIPS 180-4) of the
--- secret bytes and that number.
+-- A node's master secret: 28 zero bytes and the node's number in four, high byte first; or the digest
+-- (FIPS 180-4) of the secret bytes and that number.
 abbrev pub master_of : Masters → ℕ → List ℕ
 master_of Known node = replicate 28 0 ++ to_be_bytes w32 node
 master_of (Secret bytes) node = sha256 (bytes ++ to_be_bytes w32 node)

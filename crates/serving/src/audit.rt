@@ -65,8 +65,8 @@ impl<'a, R: Threads + Wait + Sync, E: Write, S: Shelf> Auditor<'a, R, E, S> {
         self.office.desk.lock(self.office.rt).note_no_memory();
     }
 
-    /// Audits a node from the last number that was filed to its last signed entry, as far as it comes. `filed` is
-    /// the last number that is filed then, also where memory ran out.
+    /// Audits a node from the last number that was filed to its last signed entry, as far as it comes.
+    /// `filed` is the last number that is filed then, also where memory ran out.
     pub(crate) fn audit(
         &mut self,
         number: u32,
@@ -98,8 +98,8 @@ impl<'a, R: Threads + Wait + Sync, E: Write, S: Shelf> Auditor<'a, R, E, S> {
         }
     }
 
-    /// Audits the next segment of a node, up to this number at most: the last number that is filed then, or none
-    /// where it can't be filed.
+    /// Audits the next segment of a node, up to this number at most: the last number that is filed then, or
+    /// none where it can't be filed.
     fn audit_to(
         &mut self,
         number: u32,
@@ -140,8 +140,8 @@ impl<'a, R: Threads + Wait + Sync, E: Write, S: Shelf> Auditor<'a, R, E, S> {
         Ok(matches!(said, Said::Accepted))
     }
 
-    /// Has the segment that a node gave replayed, and files what was found: the last number that is filed then,
-    /// if it is sound.
+    /// Has the segment that a node gave replayed, and files what was found: the last number that is
+    /// filed then, if it is sound.
     fn replay(&mut self, number: u32, last: u64) -> Result<Option<u64>, AllocError> {
         let mut filed = None;
         for replayed in &self.caller.replay(&[number], WORKERS)? {
@@ -153,8 +153,8 @@ impl<'a, R: Threads + Wait + Sync, E: Write, S: Shelf> Auditor<'a, R, E, S> {
         Ok(filed)
     }
 
-    /// Hands the witness an authenticator, which shows what its node signed. One for which there is no room is
-    /// kept.
+    /// Hands the witness an authenticator, which shows what its node signed. One for which
+    /// there is no room is kept.
     pub(crate) fn learn(&mut self, authenticator: &Authenticator) -> Result<bool, AllocError> {
         let packet = learn_packet(self.office.alloc, authenticator)?;
         let said = self.caller.deliver(&packet);

@@ -3,8 +3,8 @@
 use nfs_items::Time;
 use nodes::gateway_code::links::Clock;
 
-/// The system's time since 1970, in microseconds. Where the system's clock fails, or reads a time past 2^32 seconds,
-/// it gives its last reading again; the first is 1970.
+/// The system's time since 1970, in microseconds. Where the system's clock fails, or reads a time past 2^32
+/// seconds, it gives its last reading again; the first is 1970.
 #[derive(Drop)]
 pub struct SystemClock<'a, T> {
     source: &'a T,

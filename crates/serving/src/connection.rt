@@ -3,6 +3,7 @@
 use crate::audit::{Auditor, Office};
 use crate::clock::SystemClock;
 use crate::link::ClientLink;
+use crate::members::SERVER;
 use authenticator::Authenticator;
 use nodes::gateway_code::{Gateway, StreamFault};
 use nodes::{ClientNode, HonestServer};
@@ -80,7 +81,7 @@ where
     let number = seat.client.number();
     // Where it can't be set, replies to calls that follow one another unasked come later, and that is all.
     let _ = stream.set_nodelay(true);
-    let mut link = ClientLink::new(office.rt, office.alloc, seat.client, stage.server);
+    let mut link = ClientLink::new(office.rt, office.alloc, seat.client, SERVER, stage.server);
     let served = serve_records(office.alloc, stage.clock, &mut link, &stream);
     let client = link.into_client();
     drop(stream);

@@ -79,7 +79,8 @@ impl<E: Write, S: Shelf> Desk<E, S> {
         }
     }
 
-    /// Says why a stream came to its end before its time. That memory was refused is the program's own failure.
+    /// Says why a stream came to its end before its time. That memory was refused is
+    /// the program's own failure.
     pub(crate) fn say_fault(&mut self, fault: StreamFault, line: Result<String, AllocError>) {
         if let StreamFault::NoMemory = fault {
             self.note_no_memory();

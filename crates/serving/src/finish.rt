@@ -50,8 +50,8 @@ impl<'a, R: Threads + Wait + Sync, E: Write, S: Shelf> Auditor<'a, R, E, S> {
         self.audit(number, log, filed)
     }
 
-    /// Audits each node to its last signed entry, and hands the witness what each showed of others. Where memory is
-    /// refused for one the others are audited, and the desk notes it.
+    /// Audits each node to its last signed entry, and hands the witness what each showed of others. Where
+    /// memory is refused for one the others are audited, and the desk notes it.
     pub(crate) fn finish(&mut self, nodes: &[Standing<'_>], kept: &[Authenticator]) {
         for standing in nodes {
             if self.finish_node(standing).is_err() {

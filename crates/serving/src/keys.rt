@@ -17,8 +17,8 @@ pub enum Masters {
 }
 
 impl Masters {
-    /// The master secret of a node: 28 zero bytes and the number in four; or the digest of the secret bytes and the
-    /// number in four.
+    /// The master secret of a node: 28 zero bytes and the number in four; or the digest of the secret
+    /// bytes and the number in four.
     pub fn of(&self, node: u32) -> [u8; 32]
         ensures { result ≡ master_of self.now node }
     {

@@ -1,5 +1,5 @@
-//! `nfsacc serve`: connections on a socket, each served by a thread of its own as one client of a server, and in the
-//! end everybody's log audited by a witness.
+//! `nfsacc serve`: connections on a socket, each served by a thread of its own as one client of a server, and
+//! in the end everybody's log audited by a witness.
 #![tactic(auto)]
 
 mod audit;

@@ -11,12 +11,13 @@ use std::alloc::Global;
 use std::marker::Model;
 use std::sync::{Mutex, Wait};
 
-/// The keys that a call may take of its client: one for the call, and one for the reply. It takes no more of the
-/// server.
+/// The keys that a call may take of its client: one for the call, and one for the reply. It
+/// takes no more of the server.
 const KEYS_OF_A_CALL: u32 = 2;
 
-/// A client of its own, and a server under a lock that others use too. A call is begun only where its client has
-/// keys for its reply too: so the calls of a client take no more keys of the server than the client has itself.
+/// A client of its own, and a server under a lock that others use too. A call is begun only where
+/// its client has keys for its reply too: so the calls of a client take no more keys of the server
+/// than the client has itself.
 #[derive(Drop)]
 pub(crate) struct ClientLink<'a, R: Wait> {
     shared: Shared<'a, R>,
@@ -33,17 +34,18 @@ impl<'a, R: Wait> Model for ClientLink<'a, R> {
 }
 
 impl<'a, R: Wait> ClientLink<'a, R> {
-    /// A link of a client to the server that lies under a lock.
+    /// A link of a client to the server of a number, `to`, that lies under a lock.
     pub(crate) fn new(
         rt: &'a R,
         alloc: Global,
         client: ClientNode,
+        to: u32,
         server: &'a Mutex<HonestServer>,
     ) -> ClientLink<'a, R>
-        ensures { result ≡ shared_of client }
+        ensures { result ≡ shared_of client to }
     {
         ClientLink {
-            shared: Shared::new(rt, alloc, client, server),
+            shared: Shared::new(rt, alloc, client, to, server),
         }
     }
 
@@ -62,8 +64,8 @@ impl<'a, R: Wait> ClientLink<'a, R> {
     }
 }
 
-/// Its exchanges are those of a `Shared` whose client has two keys left. Where it hasn't, `KeysUsedUp` comes, no lock
-/// is taken, and nothing changes.
+/// Its exchanges are those of a `Shared` whose client has two keys left. Where it hasn't, `KeysUsedUp` comes,
+/// no lock is taken, and nothing changes.
 impl<'a, R: Wait> Link for ClientLink<'a, R> {
     ghost exchanges = { λ d time bytes reply d'. IsCall d time bytes reply d' };
 

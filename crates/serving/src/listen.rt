@@ -41,9 +41,9 @@ fn accept<L: OpenListener<Stream = TcpStream>>(
     Err(io::Error::from(io::ErrorKind::ConnectionAborted))
 }
 
-/// Serves as many connections as there are seats, each by a thread of its own, in the order of the seats. Where no
-/// thread is made a connection is served before the next one is accepted. A seat for which none can be accepted stays
-/// without one.
+/// Serves as many connections as there are seats, each by a thread of its own, in the order of the seats.
+/// Where no thread is made a connection is served before the next one is accepted. A seat for which none can
+/// be accepted stays without one.
 pub(crate) fn serve_all<'a, R, T, L, E, S>(
     stage: Stage<'a, R, T, E, S>,
     listener: &L,

@@ -2,8 +2,8 @@
 
 use crate::keys::Masters;
 
-/// The heights of the trees of keys: so many keys as 2 to the height. A call takes two keys of its client, and two of
-/// the server.
+/// The heights of the trees of keys: so many keys as 2 to the height. A call takes two keys of its
+/// client, and two of the server.
 #[derive(Clone, Copy, Debug, PartialEq, Eq)]
 pub struct Heights {
     /// The server's, from 1 to 15.

@@ -1,3 +1,4 @@
 mod BlockRounds
 mod OneBlock
 mod DigestRows
+mod HashLanes

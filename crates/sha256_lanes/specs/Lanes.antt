@@ -7,9 +7,10 @@ pub record HasWords (b w : List ℕ) (t : ℕ) : Type 0 where
   pub size : length w ≡ 64
   pub words : (k : ℕ) → k < t → slice_index w k ≡ slice_index (schedule b 48) k
 
--- the words of lane l are those of the block b
-abbrev pub IsBlockOf : List ℕ → List ℕ → ℕ → Type 0
-IsBlockOf b words l = (k : ℕ) → k < 16 → slice_index words (4 * k + l) ≡ word_at b (4 * k)
+-- b is a block, and the words of lane l are its words
+pub record IsBlockOf (b words : List ℕ) (l : ℕ) : Type 0 where
+  pub size : length b ≡ 64
+  pub each : (k : ℕ) → k < 16 → slice_index words (4 * k + l) ≡ word_at b (4 * k)
 
 -- the words of lane l are the hash value h
 abbrev pub IsHashOf : List ℕ → List ℕ → ℕ → Type 0

@@ -1,18 +1,20 @@
 //! From a message to its block's words (FIPS 180-4, 5.1.1 and 5.2.1), and from a hash value to its bytes.
 
-ghost use Rattle.std.specs.Prelude.{◌≡◌, ℕ, ◌+◌, ◌≤◌, ◌<◌, List};
-ghost use Rattle.sha2.specs.Sha256.{compress, digest_bytes, initial_hash_256, sha256, word_at};
+ghost use Rattle.std.specs.Prelude.{◌≡◌, ℕ, ◌+◌, ◌-◌, ◌≤◌, ◌<◌, List, [], ◌∷◌, ◌++◌, replicate, slice_index_or};
+ghost use Rattle.std.specs.Int.{w64, to_be_bytes};
+ghost use Rattle.sha2.specs.Sha256.{digest_bytes, word_at};
 ghost use Rattle.sha256_lanes.specs.Lanes.{IsBlockOf, IsHashOf, KeepsOthers};
 
-/// The one block of a short message: the message, a bit 1, zeros, and the message's length in bits.
-pub(crate) fn padded<const N: usize>(message: &[u8; N]) -> [u8; 64]
+/// The last block of a message: up to 55 bytes that are left of it, a bit 1, zeros, and the length of the whole
+/// message in bits.
+pub(crate) fn last_block<const N: usize>(rest: &[u8; N], bits: u64) -> [u8; 64]
     requires { N ≤ 55 }
-    ensures { sha256 message.now ≡ digest_bytes (compress initial_hash_256 result) 8 }
+    ensures { result ≡ rest.now ++ (0x80 ∷ replicate (55 - N) 0 ++ to_be_bytes w64 bits) }
 {
     let mut block = [0u8; 64];
-    block[..N].copy_from_slice(message);
+    block[..N].copy_from_slice(rest);
     block[N] = 0x80;
-    block[56..].copy_from_slice(&(8 * N as u64).to_be_bytes());
+    block[56..].copy_from_slice(&bits.to_be_bytes());
     block
 }
 
@@ -24,8 +26,19 @@ fn word_at(block: &[u8; 64], at: usize) -> u32
     u32::from_be_bytes([block[at], block[at + 1], block[at + 2], block[at + 3]])
 }
 
+/// The words of four blocks, each in its lane.
+pub(crate) fn words_of(blocks: &[[u8; 64]; 4]) -> [u32; 64]
+    ensures { (l : ℕ) → l < 4 → IsBlockOf (slice_index_or blocks.now l []) result l }
+{
+    let mut words = [0u32; 64];
+    'lanes: for l in 0..4 {
+        set_block(&mut words, l, &blocks[l]);
+    }
+    words
+}
+
 /// Sets the words of a lane to those of a block.
-pub(crate) fn set_block(words: &mut [u32; 64], l: usize, block: &[u8; 64])
+fn set_block(words: &mut [u32; 64], l: usize, block: &[u8; 64])
     requires { l < 4 }
     ensures set { IsBlockOf block.now words.new l }
     ensures others { KeepsOthers l words.old words.new }

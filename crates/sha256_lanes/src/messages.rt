@@ -4,8 +4,7 @@ ghost use Rattle.std.specs.Prelude.{◌≡◌, ℕ, ◌+◌, ◌*◌, ◌/◌, �
 ghost use Rattle.sha2.specs.Sha256.{sha256};
 ghost use Rattle.sha256_lanes.specs.Rows.{HasDigests};
 
-use crate::blocks::{digest, padded, set_block};
-use crate::lanes::hash_values;
+use crate::long_messages::FourMessages;
 use sha2::{Digest, Sha256};
 
 /// The SHA-256 digests of four messages of one length, each in the place of its message. A message has at most 55
@@ -14,18 +13,7 @@ pub fn digest_4<const N: usize>(messages: &[[u8; N]; 4]) -> [[u8; 32]; 4]
     requires { N ≤ 55 }
     ensures { result ≡ map sha256 messages.now }
 {
-    let mut words = [0u32; 64];
-    set_block(&mut words, 0, &padded(&messages[0]));
-    set_block(&mut words, 1, &padded(&messages[1]));
-    set_block(&mut words, 2, &padded(&messages[2]));
-    set_block(&mut words, 3, &padded(&messages[3]));
-    let hashes = hash_values(&words);
-    [
-        digest(&hashes, 0),
-        digest(&hashes, 1),
-        digest(&hashes, 2),
-        digest(&hashes, 3),
-    ]
+    FourMessages::new().finalize(messages)
 }
 
 /// Sets the SHA-256 digests of a row of messages of one length, each in the place of its message: by fours, and of

@@ -2,12 +2,12 @@
 //! lanes around it runs on vectors.
 
 ghost use Rattle.std.specs.Prelude.{◌≡◌, ℕ, ◌+◌, ◌*◌, ◌<◌, ◌≤◌, List, slice_index, slice_set};
-ghost use Rattle.sha2.specs.Sha256.{add_state, big_sigma0, big_sigma1, ch, compress, initial_hash_256, maj};
+ghost use Rattle.sha2.specs.Sha256.{add_state, big_sigma0, big_sigma1, ch, compress, maj};
 ghost use Rattle.sha2.specs.Sha256.{next_word, round, round_constants, rounds, schedule, small_sigma0};
 ghost use Rattle.sha2.specs.Sha256.{small_sigma1, temp1, temp2, word_at};
 ghost use Rattle.sha256_lanes.specs.Lanes.{HasWords};
 
-use crate::constants::{INITIAL_HASH, ROUND_CONSTANTS};
+use crate::constants::ROUND_CONSTANTS;
 
 /// Ch (4.1.2).
 #[inline(always)]
@@ -158,13 +158,13 @@ fn eight_rounds(w: &[u32; 64], v: [u32; 8], t: usize) -> [u32; 8]
     round(w, v, t + 7)
 }
 
-/// The working variables after the 64 rounds of a message's first block, with the words of its schedule (steps 2
-/// and 3).
+/// The working variables after the 64 rounds of a block from a hash value, with the words of the block's schedule
+/// (steps 2 and 3).
 #[inline(always)]
-fn all_rounds(w: &[u32; 64]) -> [u32; 8]
-    ensures { result ≡ rounds initial_hash_256 w.now 64 }
+fn all_rounds(hash: [u32; 8], w: &[u32; 64]) -> [u32; 8]
+    ensures { result ≡ rounds hash w.now 64 }
 {
-    let v = eight_rounds(w, INITIAL_HASH, 0);
+    let v = eight_rounds(w, hash, 0);
     let v = eight_rounds(w, v, 8);
     let v = eight_rounds(w, v, 16);
     let v = eight_rounds(w, v, 24);
@@ -174,29 +174,29 @@ fn all_rounds(w: &[u32; 64]) -> [u32; 8]
     eight_rounds(w, v, 56)
 }
 
-/// The sum of the initial hash value and the working variables (step 4).
+/// The sum of a hash value and the working variables (step 4).
 #[inline(always)]
-fn add_initial_hash(v: [u32; 8]) -> [u32; 8]
-    ensures { result ≡ add_state initial_hash_256 v }
+fn add_hash(hash: [u32; 8], v: [u32; 8]) -> [u32; 8]
+    ensures { result ≡ add_state hash v }
 {
     [
-        INITIAL_HASH[0].wrapping_add(v[0]),
-        INITIAL_HASH[1].wrapping_add(v[1]),
-        INITIAL_HASH[2].wrapping_add(v[2]),
-        INITIAL_HASH[3].wrapping_add(v[3]),
-        INITIAL_HASH[4].wrapping_add(v[4]),
-        INITIAL_HASH[5].wrapping_add(v[5]),
-        INITIAL_HASH[6].wrapping_add(v[6]),
-        INITIAL_HASH[7].wrapping_add(v[7]),
+        hash[0].wrapping_add(v[0]),
+        hash[1].wrapping_add(v[1]),
+        hash[2].wrapping_add(v[2]),
+        hash[3].wrapping_add(v[3]),
+        hash[4].wrapping_add(v[4]),
+        hash[5].wrapping_add(v[5]),
+        hash[6].wrapping_add(v[6]),
+        hash[7].wrapping_add(v[7]),
     ]
 }
 
-/// The hash value of a message of one block, whose words stand in the first sixteen places.
+/// The hash value after a block, from the one before it. The block's words stand in the first sixteen places.
 #[inline(always)]
-pub(crate) fn hash_value(words: [u32; 64]) -> [u32; 8]
+pub(crate) fn hash_value(hash: [u32; 8], words: [u32; 64]) -> [u32; 8]
     ensures { (b : List ℕ) → ((k : ℕ) → k < 16 → slice_index words k ≡ word_at b (4 * k))
-        → result ≡ compress initial_hash_256 b }
+        → result ≡ compress hash b }
 {
     let w = schedule(words);
-    add_initial_hash(all_rounds(&w))
+    add_hash(hash, all_rounds(hash, &w))
 }

@@ -17,8 +17,8 @@ use Rattle.node_book.specs.Replies.{refusal_in}
 use Rattle.node_book.specs.declared.event.EventOf.{EventOf}
 use Rattle.node_book.specs.declared.refusal.Refusal.{Refusal}
 
--- What is delivered under a roster is this event: the same value, checked under the key of the member that signs
--- it, a segment under the roster itself.
+-- What is delivered under a roster is this event: the same value, checked under the key of the member that
+-- signs it, a segment under the roster itself.
 abbrev pub IsDelivery : List Member → Delivery → Event → Type 0
 IsDelivery ms (packets.Learn a) event =
     (m : Member) × ((member_of ms a.node ≡ Some m) × (event ≡ events.Learn a (key_of m)))
@@ -37,8 +37,8 @@ pub record Spell (ms : List Member) (bytes : List ℕ) (event : Event) : Type 0 
   -- it is the event
   pub is_event : IsDelivery ms delivery event
 
--- Reading bytes gives the event that they spell; or why they are nobody's step; being out of memory may come in
--- place of either.
+-- Reading bytes gives the event that they spell; or why they are nobody's step; being out of memory may
+-- come in place of either.
 abbrev pub ReadsEvent : List Member → List ℕ → Result (EventOf JobParts JobParts) Refusal → Type 0
 ReadsEvent ms bytes (Ok event) = Spell ms bytes (event_in event) × IsEvent (event_in event)
 ReadsEvent ms bytes (Err refusal) =

@@ -19,8 +19,8 @@ abbrev pub IsStepThatMay : Result OwnStep Refusal → Type 0
 IsStepThatMay (Err refusal) = ⊥
 IsStepThatMay (Ok o) = StepMayWant o.step
 
--- Memory may run out at bytes, and at a member's step other than a checked acknowledgement, a job that is put back
--- and a question for the indication: so at no other event that is nobody's step.
+-- Memory may run out at bytes, and at a member's step other than a checked acknowledgement, a job that is put
+-- back and a question for the indication: so at no other event that is nobody's step.
 abbrev pub MayRunOut : List Member → Event → Type 0
 MayRunOut ms event = AreBytes event ⊎ IsStepThatMay (whose ms event)
 

@@ -80,9 +80,9 @@ impl Books {
     /// One event, with its reply. An event that is nobody's step is refused: `UnknownNode` where a node that
     /// it is of is no member, else `BadSignature` where it was checked under another key or roster, or isn't
     /// signed; `Garbage` where bytes are no packet. A member's step is refused as its book owes. `NoMemory`
-    /// comes only where a growth was refused, never where a job is put back, an indication is asked for or a checked
-    /// acknowledgement is handed in, and of what is nobody's step only at bytes.
-    /// What is refused changes nothing: a job or a done value comes back with the refusal.
+    /// comes only where a growth was refused, never where a job is put back, an indication is asked for or a
+    /// checked acknowledgement is handed in, and of what is nobody's step only at bytes. What is refused
+    /// changes nothing: a job or a done value comes back with the refusal.
     pub fn step(&mut self, alloc: Global, event: Event) -> Reply
         ensures roster { self.new.roster ≡ self.old.roster }
         ensures steps { StepsTo self.old.roster (parts_in self.old) (event_in event) (reply_in result)
@@ -118,7 +118,8 @@ impl Books {
     /// One event, with its reply and two notes of both: one to keep, one to hand on. All notes are made
     /// before anything changes: where a growth was refused for them, or owners can't be counted further, the
     /// event is refused with `NoMemory`, whatever it is. There are no notes exactly where the reply is
-    /// `NoMemory`; any other reply is one that `step` owes, and refused as there. What is refused changes nothing.
+    /// `NoMemory`; any other reply is one that `step` owes, and refused as there. What is
+    /// refused changes nothing.
     pub fn noted_step(&mut self, alloc: Global, event: Event) -> (Reply, Option<(Note, Note)>)
         ensures roster { self.new.roster ≡ self.old.roster }
         ensures noted { IsNotedStep self.old.roster (parts_in self.old) (event_in event) (reply_in result.0)

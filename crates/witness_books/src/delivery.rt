@@ -14,8 +14,8 @@ use std::alloc::Global;
 
 /// The event that bytes spell, as `Deliver` of these bytes is taken: `Learn`, `SendChallenge`, `Answer` or
 /// `AckIn` of what they deliver, checked under this roster. `Garbage` where bytes are no packet, else
-/// `UnknownNode` where a node that it is of is no member, else `BadSignature` where it isn't signed. `NoMemory`
-/// comes only where a growth was refused.
+/// `UnknownNode` where a node that it is of is no member, else `BadSignature` where it isn't signed.
+/// `NoMemory` comes only where a growth was refused.
 #[tactic(auto, using(crate::proofs::Delivering::refused_is, crate::proofs::Delivering::spell_is))]
 pub fn read_event(alloc: Global, roster: &Roster, bytes: &[u8]) -> Result<Event, Refusal>
     ensures { ReadsEvent roster.now bytes.now result }

@@ -23,11 +23,11 @@ pub fn witnesses_agree()
     runs_are_histories();
 }
 
-/// A run keeps the headline, whatever the history was for which the books stood: each reply is the one that is
-/// owed by the node's own earlier steps, and the books hold what these say; lists of events that agree on a
-/// node answer alike; who keeps an honest log is never exposed, unless a signature is forged or two texts have
-/// one digest, and who differs in an audited log is; there is evidence exactly where a node is exposed, and it
-/// proves that.
+/// A run keeps the headline, whatever the history was for which the books stood: each reply is the one that
+/// is owed by the node's own earlier steps, and the books hold what these say; lists of events that agree
+/// on a node answer alike; who keeps an honest log is never exposed, unless a signature is forged or two
+/// texts have one digest, and who differs in an audited log is; there is evidence exactly where a node is
+/// exposed, and it proves that.
 pub fn runs_keep_the_headline()
     ensures { RunsKeepHeadline }
 {
@@ -47,9 +47,9 @@ pub fn steps_keep_the_headline()
 }
 
 /// Where one reply alone is owed to an event, a step of books that stand for the history gives it, or memory
-/// ran out. So the answer of a node to the audit that is open is accepted, and its acknowledgement of a message
-/// that it is challenged with closes the challenge: the laws of `witness_nodes` say that a node's own calls
-/// give such answers.
+/// ran out. So the answer of a node to the audit that is open is accepted, and its acknowledgement of a
+/// message that it is challenged with closes the challenge: the laws of `witness_nodes` say that a node's own
+/// calls give such answers.
 pub fn what_is_owed_is_given()
     ensures given { WhatIsOwedIsGiven }
     ensures answers { AnswersAreTaken }

@@ -16,7 +16,8 @@ pub struct Asked {
 }
 
 impl<'a, R: Wait> Caller<'a, R> {
-    /// What is asked of a node by the audit that is open, if one is. `AllocError` comes where memory was refused.
+    /// What is asked of a node by the audit that is open, if one is. `AllocError` comes
+    /// where memory was refused.
     pub fn asked(&mut self, node: u32) -> Result<Option<Asked>, AllocError> {
         let said = self.challenges(node);
         if said.is_no_memory() {

@@ -7,8 +7,8 @@ use std::sync::Wait;
 use witness_service::witness_books_code::node_book_code::{Event, EventOf, Question, Reply};
 use witness_service::{Pass, SignatureCache, WitnessService, admit};
 
-/// The most signatures that a caller's cache keeps: as many as a book learns above its audited end. They take some
-/// 4 MiB.
+/// The most signatures that a caller's cache keeps: as many as a book learns above its audited
+/// end. They take some 4 MiB.
 const SIGNATURES: usize = 256;
 
 /// A pass at a witness's service, with all that its steps need: whoever has it hands events over, one after

@@ -1,4 +1,5 @@
-//! Calls at a witness: a pass with all that its steps need, the packets that it is handed, and where its files go.
+//! Calls at a witness: a pass with all that its steps need, the packets that it is
+//! handed, and where its files go.
 #![tactic(auto)]
 
 mod asked;

@@ -5,8 +5,8 @@ use std::alloc::{AllocError, Global};
 use witness_service::witness_books_code::Books;
 use witness_service::{Pass, WitnessService};
 
-/// The service of a new witness of a roster's members, with so many passes. `AllocError` comes where memory was
-/// refused.
+/// The service of a new witness of a roster's members, with so many passes. `AllocError` comes
+/// where memory was refused.
 pub fn open_witness(
     alloc: Global,
     roster: &Roster,

@@ -47,9 +47,9 @@ impl Replayed {
 }
 
 impl<R: Threads + Wait + Sync> Caller<'_, R> {
-    /// Begins each segment that these nodes gave, in their order, has so many workers replay them at once, and
-    /// files what they found: that of each node comes back, in the same order. A node that gave none is passed
-    /// over. `AllocError` comes where memory ran out: a job that wasn't done is then put back.
+    /// Begins each segment that these nodes gave, in their order, has so many workers replay them at once,
+    /// and files what they found: that of each node comes back, in the same order. A node that gave none is
+    /// passed over. `AllocError` comes where memory ran out: a job that wasn't done is then put back.
     pub fn replay(&mut self, nodes: &[u32], workers: usize) -> Result<Vec<Replayed>, AllocError>
         requires some { 1 ≤ workers }
         requires most { workers ≤ 16 }

@@ -42,8 +42,8 @@ use Rattle.witness_nodes.specs.Logs.{IsListedAs, ShowsItsOwn}
 
 -- ---- who is never exposed
 
--- A node that didn't stray is never exposed under its roster, where none of its signatures is forged and no two
--- texts have one digest.
+-- A node that didn't stray is never exposed under its roster, where none of its signatures is forged and no
+-- two texts have one digest.
 abbrev pub IsNeverExposed : NodeParts → Type 0
 IsNeverExposed n =
     n.strayed ≡ false → (m : Member) (history : History)

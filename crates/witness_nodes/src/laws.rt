@@ -18,9 +18,9 @@ use std::alloc::Global;
 use witness_laws::answers::laws::{acknowledgements_close, answers_are_accepted};
 use witness_laws::trust::laws::honest_is_never_exposed;
 
-/// A node's log is one that the laws on witnesses speak of: its entries have texts, unless the node strayed it is
-/// honest from the state that a member like this node begins with, and each authenticator that the node makes is of it.
-/// Takes memory once for each signature in it, and tells a caller's proof.
+/// A node's log is one that the laws on witnesses speak of: its entries have texts, unless the node strayed
+/// it is honest from the state that a member like this node begins with, and each authenticator that the node
+/// makes is of it. Takes memory once for each signature in it, and tells a caller's proof.
 pub fn a_node_keeps_a_log(alloc: Global, node: &NodeLog)
     ensures { KeepsALog node.now }
 {
@@ -30,8 +30,8 @@ pub fn a_node_keeps_a_log(alloc: Global, node: &NodeLog)
     a_log_has_one_pair_for_each_place();
 }
 
-/// A node that didn't stray is never exposed under its roster, where none of its signatures is forged and no two texts have
-/// one digest.
+/// A node that didn't stray is never exposed under its roster, where none of its signatures is forged and no
+/// two texts have one digest.
 pub fn a_node_is_never_exposed(alloc: Global, node: &NodeLog)
     ensures { IsNeverExposed node.now }
 {

@@ -47,8 +47,8 @@ pub record IsSignedKey (bytes : List ℕ) : Type 0 where
 
 -- ---- what is kept
 
--- What a caller sees of a cache: how many keys it may keep, and the bytes of those that it keeps, the one that was
--- used last first.
+-- What a caller sees of a cache: how many keys it may keep, and the bytes of those that it keeps, the one
+-- that was used last first.
 pub record CacheParts : Type 0 where
   pub capacity : ℕ
   pub keys : List (List ℕ)
@@ -91,7 +91,8 @@ abbrev pub without : (key : List ℕ) → List (List ℕ) → List (List ℕ)
 without key [] = []
 without key (k ∷ keys) = if pointwise nat_eq key k then keys else k ∷ without key keys
 
--- A key that is used goes first. One that wasn't kept is put there, and the last one goes where there are too many.
+-- A key that is used goes first. One that wasn't kept is put there, and the last one goes
+-- where there are too many.
 abbrev pub used : (capacity : ℕ) → (key : List ℕ) → List (List ℕ) → List (List ℕ)
 used capacity key keys =
     key ∷ (if is_kept keys key then without key keys else take (capacity - 1) keys)
@@ -102,8 +103,9 @@ MayUse key old new =
     (new ≡ old) ⊎
     ((0 < old.capacity) × (new ≡ record { capacity = old.capacity; keys = used old.capacity key old.keys }))
 
--- What a cache holds after a packet is taken or refused: where it is refused, what it held; else the key of the
--- authenticator that the packet shows may have been used, under the root and the height of the member that signs it.
+-- What a cache holds after a packet is taken or refused: where it is refused, what it held; else the
+-- key of the authenticator that the packet shows may have been used, under the root and the height of
+-- the member that signs it.
 abbrev pub MayKeep : List Member → Result Delivery Refusal → (old new : CacheParts) → Type 0
 MayKeep ms (Ok d) old new =
     IfSome (member_of ms (delivery_shows d).node) (λ m. MayUse (key_text m.root m.height (delivery_shows d)) old new)

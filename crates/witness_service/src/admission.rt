@@ -17,9 +17,9 @@ use witness_books::authenticator_code::Roster;
 use witness_books::node_book_code::{Event, EventOf, Refusal, SharedSegment};
 
 /// The event that bytes spell, which books take as `Deliver` of these bytes (`laws::spelled_is_taken` of
-/// `witness_books`), with its signature checked; it waits for nobody. `Garbage` where bytes are no packet, else
-/// `UnknownNode` where a node that it is of is no member of the roster, else `BadSignature` where it isn't
-/// signed. `NoMemory` comes only where a growth was refused. The answer is the same with any cache.
+/// `witness_books`), with its signature checked; it waits for nobody. `Garbage` where bytes are no packet,
+/// else `UnknownNode` where a node that it is of is no member of the roster, else `BadSignature` where it
+/// isn't signed. `NoMemory` comes only where a growth was refused. The answer is the same with any cache.
 #[tactic(auto, using(witness_books::proofs::Delivering::refused_is, witness_books::proofs::Delivering::spell_is))]
 pub fn admit(
     alloc: Global,

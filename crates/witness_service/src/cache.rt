@@ -18,9 +18,9 @@ use xdr::laws::no_spelling_begins_another;
 /// The keys that are kept.
 type Kept = LruCache<Key, ()>;
 
-/// Signatures that were checked: at most so many, of which the one that wasn't used for longest makes room. It keeps
-/// each by the root and the height under which it was checked and the authenticator's whole text, some 17 KiB, and
-/// keeps none that wasn't checked.
+/// Signatures that were checked: at most so many, of which the one that wasn't used for longest makes room.
+/// It keeps each by the root and the height under which it was checked and the authenticator's whole text,
+/// some 17 KiB, and keeps none that wasn't checked.
 #[derive(Drop)]
 pub struct SignatureCache {
     capacity: usize,
@@ -55,8 +55,8 @@ impl SignatureCache {
         self.capacity
     }
 
-    /// Whether it keeps the authenticator of this text, checked under this root and height. The order in which
-    /// signatures make room stays. `AllocError` comes only where a growth was refused.
+    /// Whether it keeps the authenticator of this text, checked under this root and height. The order in
+    /// which signatures make room stays. `AllocError` comes only where a growth was refused.
     pub fn known(
         &self,
         alloc: Global,
@@ -73,9 +73,9 @@ impl SignatureCache {
         }
     }
 
-    /// Whether a member signed that the log of this node has this hash at this number, as `authenticator::is_signed`
-    /// says: from what is kept, else by a check, and then it is kept. Where memory is refused for its key it is
-    /// checked and not kept.
+    /// Whether a member signed that the log of this node has this hash at this number, as
+    /// `authenticator::is_signed` says: from what is kept, else by a check, and then it is kept. Where memory
+    /// is refused for its key it is checked and not kept.
     pub(crate) fn is_signed(
         &mut self,
         alloc: Global,
@@ -107,8 +107,8 @@ impl SignatureCache {
         true
     }
 
-    /// Keeps what a member signed: that the log of this node has this hash at this number. Where memory is refused
-    /// for its key it isn't kept.
+    /// Keeps what a member signed: that the log of this node has this hash at this number. Where memory is
+    /// refused for its key it isn't kept.
     pub(crate) fn keep_signed(
         &mut self,
         alloc: Global,

@@ -20,7 +20,8 @@ use std::alloc::Global;
 use xdr::Reader;
 use xdr::texts::{TextFault, read_text};
 
-/// Reads and checks a packet, as `packets::read_packet` does; a signature that the cache keeps isn't checked again.
+/// Reads and checks a packet, as `packets::read_packet` does; a signature that the cache
+/// keeps isn't checked again.
 #[tactic(auto, using(packets::proofs::Judged::answers_after, packets::proofs::Judged::without_number, crate::proofs::Taking::keeps_after))]
 pub(crate) fn read_packet(
     alloc: Global,

@@ -18,8 +18,8 @@ pub(crate) struct Key {
     bytes: Vec<u8>,
 }
 
-/// The bytes by which keys are looked up: root, height, node, number, hash and leaf. A leaf signs once, so they tell
-/// signatures apart; what is found is compared by all bytes.
+/// The bytes by which keys are looked up: root, height, node, number, hash and leaf. A leaf signs once, so
+/// they tell signatures apart; what is found is compared by all bytes.
 const LOOKED_UP: usize = 84;
 
 /// The size of the longest key, whose path has 16 hashes.

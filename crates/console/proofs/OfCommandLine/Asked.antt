@@ -25,6 +25,7 @@ pub are_simple : (is_simple commands ≡ true) × (is_simple_and_free commands �
 unfolding clap_on_literals
 are_simple = (refl, refl)
 
+-- they are plain: a subcommand must be named, and the arguments of each but `help` are given once at most
 pub are_plain : is_plain_app (built commands) ≡ true
 are_plain = refl
 
@@ -102,6 +103,7 @@ some_of : {A : Type 0} (g : Text → A) (o : Option Text) → is_some o ≡ true
 some_of g None e = cc
 some_of g (Some t) e = refl
 
+-- `check` asks for the file, the two flags and the roster's file that its matches hold
 pub check_is : (words : List Text) (rows : List Row) (file : Text) (explain json : Bool) (roster : Option Text) → fault_of commands words ≡ [] → subcommand_of commands words ≡ Some (codes "check", rows)
     → file ≡ unwrap_or (first_of (codes "file") rows) [] → (is_told (codes "explain") rows ≡ true → explain ≡ is_set (codes "explain") rows)
     → (is_told (codes "json") rows ≡ true → json ≡ is_set (codes "json") rows) → roster ≡ first_of (codes "roster") rows
@@ -115,6 +117,7 @@ check_is words rows file explain json roster none is file_is explain_is json_is 
     (ap₂ (λ (b : Bool) (r : Option Text). (b, r)) (sym (json_is (flag_is commands words are_plain none (codes "check") (codes "json") rows refl is))) (sym roster_is))
     )
 
+-- `roster` asks for the file that its matches hold
 pub roster_is : (words : List Text) (rows : List Row) (file : Text) → fault_of commands words ≡ [] → subcommand_of commands words ≡ Some (codes "roster", rows)
     → file ≡ unwrap_or (first_of (codes "file") rows) [] → asked_in words ≡ Some (Roster file)
 roster_is words rows file none is file_is =
@@ -122,6 +125,7 @@ roster_is words rows file none is file_is =
     ∙ some_of _ _ (value_is commands words are_plain none (codes "roster") (codes "file") rows refl is)
     ∙ ap (λ (f : Text). Some (Roster f)) (sym file_is)
 
+-- `run` asks for the file, and the roster's file, that its matches hold
 pub run_is : (words : List Text) (rows : List Row) (file : Text) (roster_out : Option Text) → fault_of commands words ≡ [] → subcommand_of commands words ≡ Some (codes "run", rows)
     → file ≡ unwrap_or (first_of (codes "file") rows) [] → roster_out ≡ first_of (codes "roster-out") rows
     → asked_in words ≡ Some (Run (record { file = file; roster_out = roster_out }))

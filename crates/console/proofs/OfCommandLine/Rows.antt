@@ -1,6 +1,6 @@
--- What the matches of a command hold, where clap's rules find no fault in the words: each row is an argument's, and has
--- the values of one use of it, or its defaults. For commands whose arguments are each given once at most. The words are
--- followed from left to right.
+-- What the matches of a command hold, where clap's rules find no fault in the words: each row is an
+-- argument's, and has the values of one use of it, or its defaults. For commands whose arguments are each
+-- given once at most. The words are followed from left to right.
 -- Serves: request_by_rules, by way of Taken.
 use Rattle.std.proofs.Common.{◌≡◌, ◌∙◌, ℕ, zero, suc, Bool, true, false, List, [], ◌∷◌, ◌++◌, Option, Some, None}
 use Rattle.std.proofs.Common.{IfSome, append-nil, arith, length, option_map, refl, sym, ap, subst}
@@ -37,10 +37,12 @@ use Rattle.console.specs.CommandLine.CommandLine.{is_flag_text, is_told}
 
 -- ---- kinds of which there are none
 
+-- where there are none of either, there are none of the first
 pub none_first : (a b : Kinds) → or_else a b ≡ [] → a ≡ []
 none_first [] b none = refl
 none_first (k ∷ ks) b none = cc
 
+-- nor are there any of the second
 pub none_then : (a b : Kinds) → or_else a b ≡ [] → b ≡ []
 none_then [] b none = none
 none_then (k ∷ ks) b none = cc
@@ -88,10 +90,15 @@ pub data IsGiven (a : Rule) (values : List Text) : Type 0 where
 
 -- the row is one of an argument
 pub record IsRowOf (c : List Rule) (r : Row) : Type 0 where
+  -- the argument
   pub rule : Rule
+  -- it is one of the list
   pub is_one : IsOneOf c rule
+  -- the row has its id
   pub id : r.id ≡ rule.id
+  -- the row's values are read as the argument's are
   pub reading : r.reading ≡ reading_by rule
+  -- they are those of one use of the argument, or its defaults
   pub values : IsGiven rule r.values
 
 -- where no row has an id, a new one stands at the end
@@ -327,6 +334,7 @@ found_row c id (r ∷ rs) h = by (bytes_eq r.id id) refl (found_row c id rs h.1)
     by true e later = (h.0, e)
     by false e later = later
 
+-- where a fails or b holds, and a holds, b holds
 pub when : (a b : Bool) → (not a || b) ≡ true → a ≡ true → b ≡ true
 when true b e f = e
 when false b e f = cc
@@ -365,6 +373,7 @@ abbrev pub is_flag : Rule → Bool
 is_flag a = ((unwrap_or_range a.range).start_inclusive == 0) && ((most_values a == 0)
     && (list_all (λ t. is_flag_text (read_as (reading_by a) t)) a.missing && list_all (λ t. is_flag_text (read_as (reading_by a) t)) a.defaults))
 
+-- where each argument of the id is a flag, the rows tell whether it is set
 pub flag_is_told : (c : List Rule) (id : Text) (rows : List Row) → AllByRecursion (IsRowOf c) rows
     → list_all (λ a. not (bytes_eq a.id id) || is_flag a) c ≡ true → is_told id rows ≡ true
 flag_is_told c id rows h all = by (find (λ r. bytes_eq r.id id) rows) (found_row c id rows h)

@@ -11,14 +11,23 @@ use Rattle.console.proofs.OfCommandLine.Taken.{flag_is, value_is}
 
 -- the words are those that the matches hold
 pub record IsAsked (rows : List Row) (a : ServeAsked) : Type 0 where
+  -- the port
   pub port : a.port ≡ unwrap_or (first_of (codes "port") rows) []
+  -- the count of connections
   pub count : a.count ≡ unwrap_or (first_of (codes "count") rows) []
+  -- the address, if one is given
   pub address : a.address ≡ first_of (codes "address") rows
+  -- the height of the server's tree of keys, if one is given
   pub server : a.server_height ≡ first_of (codes "server-height") rows
+  -- the height of each client's tree of keys, if one is given
   pub client : a.client_height ≡ first_of (codes "client-height") rows
+  -- the file of the secret bytes, if one is given
   pub master : a.master ≡ first_of (codes "master") rows
+  -- the file that the roster goes to, if one is given
   pub roster_out : a.roster_out ≡ first_of (codes "roster-out") rows
+  -- the folder that evidence goes to, if one is given
   pub evidence : a.evidence ≡ first_of (codes "evidence") rows
+  -- whether progress is asked for, where the matches tell it
   pub progress : is_told (codes "progress") rows ≡ true → a.progress ≡ is_set (codes "progress") rows
 
 -- with both words there, what is asked is told by them
@@ -28,6 +37,7 @@ told None count g e f = cc
 told (Some p) None g e f = cc
 told (Some p) (Some c) g e f = refl
 
+-- where no fault is found, `serve` asks for the words that its matches hold
 pub serve_is : (words : List Text) (rows : List Row) (a : ServeAsked) → fault_of commands words ≡ [] → subcommand_of commands words ≡ Some (codes "serve", rows)
     → IsAsked rows a → asked_in words ≡ Some (Serve a)
 serve_is words rows a none is asks =

@@ -1,5 +1,6 @@
--- What clap's rules leave of the words that they take, for any commands whose arguments are each given once at most: a
--- subcommand is named, and it isn't `help`; an argument that it requires has a value; a flag is set or isn't.
+-- What clap's rules leave of the words that they take, for any commands whose arguments are each
+-- given once at most: a subcommand is named, and it isn't `help`; an argument that it requires has a
+-- value; a flag is set or isn't.
 -- Serves: request_by_rules.
 use Rattle.std.proofs.Common.{◌≡◌, ◌∙◌, ℕ, Bool, true, false, List, [], ◌∷◌, Option, Some, None, IfSome}
 use Rattle.std.proofs.Common.{codes, option_map, refl, sym, ap, subst, unwrap_or}
@@ -166,11 +167,17 @@ is_plain_app a = a.top.subcommand_required && (not a.top.disable_help_subcommand
 
 -- a subcommand of b with its matches, of some words
 pub record Entered (b : App) (o : Option (Text × List Row)) : Type 0 where
+  -- the subcommand
   pub sub : Shape
+  -- the words after its name
   pub rest : List Text
+  -- it is one of those of b
   pub is_one : IsOneOf b.subs sub
+  -- it isn't `help`
   pub no_help : is_help sub.name ≡ false
+  -- what was found is its name, with the matches of these words
   pub is : o ≡ Some (sub.name, rows_after sub.rules [] rest)
+  -- its rules find no fault in these words
   pub none : level_fault sub [] nothing_held rest false [] ≡ []
 
 of_not : (b : Bool) → not b ≡ true → b ≡ false

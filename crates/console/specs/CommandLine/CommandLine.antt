@@ -63,8 +63,8 @@ commands =
 
 -- ---- what is asked for
 
--- what `check` is asked: a file's name, whether what the file shows is asked for, too, whether one JSON object with
--- both is, and the name of the file with the roster that is trusted
+-- what `check` is asked: a file's name, whether what the file shows is asked for, too, whether one JSON
+-- object with both is, and the name of the file with the roster that is trusted
 pub record CheckAsked : Type 0 where
   pub file : Text
   pub explain : Bool
@@ -155,6 +155,7 @@ abbrev pub asked_without : Kinds → Option (Text × List Row) → Option Asked
 asked_without [] found = option_and_then asked_of found
 asked_without (kind ∷ kinds) found = None
 
--- what the words of a command line ask for, the program's name first: nothing where clap's rules find a fault in them
+-- what the words of a command line ask for, the program's name first: nothing where clap's
+-- rules find a fault in them
 abbrev pub asked_in : List Text → Option Asked
 asked_in words = asked_without (fault_of commands words) (subcommand_of commands words)

@@ -247,12 +247,12 @@ fn request_by_rules(alloc: Global, words: &[String]) -> Result<Request<'_>, Erro
 
 /// The request that the words of a command line make, the program's name first: `rpc` alone, or with `--`
 /// after it, is `Rpc`; `check` with a file's name is `Check`, with or without `--explain`, `--json` and
-/// `--roster` with another name, in any order; `roster` with a file's name is `Roster`; `run` with a file's name
-/// is `Run`, with `--roster-out` and another name before it or after it, or without; `serve` with two words is
-/// `Serve`, with its options before, between or after them. After `--` each word is a name. It comes exactly where clap's rules find no fault in
-/// the words, memory aside, and has what they say the words hold. The error says what is wrong with other
-/// words, or is the help or the version that they ask for: its kind is one of those that the rules give, or
-/// OutOfMemory where memory was refused.
+/// `--roster` with another name, in any order; `roster` with a file's name is `Roster`; `run` with a file's
+/// name is `Run`, with `--roster-out` and another name before it or after it, or without; `serve` with two
+/// words is `Serve`, with its options before, between or after them. After `--` each word is a name. It comes
+/// exactly where clap's rules find no fault in the words, memory aside, and has what they say the words hold.
+/// The error says what is wrong with other words, or is the help or the version that they ask for: its kind
+/// is one of those that the rules give, or OutOfMemory where memory was refused.
 pub fn parse(alloc: Global, words: &[String]) -> Result<Request<'_>, Error>
     ensures ok { IfOk result (λ r. asked_in (map string_bytes words.now) ≡ Some (asked_by r)) }
     ensures err { IfErr result (λ e.

@@ -55,23 +55,24 @@ const PROGRESS_HELP: &str =
 const SERVE_HELP: &str =
     "A call takes two keys of its client and two of the server. Once keys of height H are used up no more calls are answered:
    H   calls   seconds     MiB
-   1       1     0.001    0.06
-   2       2     0.002     0.1
-   3       4     0.003     0.3
-   4       8     0.006     0.5
-   5      16      0.01     1.0
-   6      32      0.03     2.1
-   7      64      0.05     4.1
-   8     128       0.1     8.3
-   9     256       0.2      17
-  10     512       0.4      33
-  11    1024       0.8      66
-  12    2048       1.6     132
-  13    4096       3.3     264
-  14    8192       6.6     529
-  15   16384        13    1058
-The seconds are what it takes to make the keys, and the MiB what the node's log has once all are used by short calls; by
-the longest records it has up to 1.4 times as much. The witness keeps a copy of it.
+   1       1     0.001     0.6
+   2       2     0.001     1.2
+   3       4     0.002     2.4
+   4       8     0.004     4.8
+   5      16      0.01      10
+   6      32      0.02      19
+   7      64      0.03      38
+   8     128      0.06      77
+   9     256       0.1     154
+  10     512       0.3     307
+  11    1024       0.5     614
+  12    2048       1.1    1229
+  13    4096       2.1    2458
+  14    8192       4.2    4915
+  15   16384       8.4    9830
+The seconds are what one processor takes to make the keys, which up to four do at once. The MiB are what a run takes in its
+end once that many short calls were made: the logs of both nodes, what the witness keeps of them, and its journal. The
+longest records take up to 1.4 times as much.
 
 A client takes no more keys of the server than it has itself, whatever it sends. So no client can use up the server's keys
 where COUNT times 2 to the client's height is at most 2 to the server's: with the heights that aren't named, where COUNT is

@@ -23,8 +23,8 @@ pub struct ServeOrder<'a> {
     pub server_height: u32,
     /// The height of each client's tree of keys, 1 to 15; 10 where none is named.
     pub client_height: u32,
-    /// The name of the file with the secret bytes of which all keys are made. There is one unless the address is a
-    /// loopback one: without it anybody can sign for each node.
+    /// The name of the file with the secret bytes of which all keys are made. There is one unless the address
+    /// is a loopback one: without it anybody can sign for each node.
     pub master: Option<&'a str>,
     /// The name of the file that the roster's text goes to, if one is named.
     pub roster_out: Option<&'a str>,
@@ -120,9 +120,9 @@ fn is_guarded(address: &IpAddr, master: Option<&str>) -> bool
     address.is_loopback() || master.is_some()
 }
 
-/// The order that a request makes: with its numbers read, and what isn't named as it is by itself. It is refused
-/// where a number is none or out of range, where the address is none, or is one that others reach though no file of
-/// secret bytes is named.
+/// The order that a request makes: with its numbers read, and what isn't named as it is by itself. It is
+/// refused where a number is none or out of range, where the address is none, or is one that others reach
+/// though no file of secret bytes is named.
 pub fn serve_order<'a>(request: &ServeRequest<'a>) -> Result<ServeOrder<'a>, ServeRefusal>
     ensures order { IfOk result (Orders request.now) }
     ensures bounds { IfOk result IsBounded }

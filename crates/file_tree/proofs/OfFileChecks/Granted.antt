@@ -61,6 +61,10 @@ module _ (w : Files) (who : Caller) (now : Timeval) (n : ℕ) where
     granted_write : WriteOk w who now n offset new x.1
     granted_write = write_ok w who now n offset new x.1 h
 
+    -- the file is there
+    pub write_file : (f : File) × (file_at w n ≡ Some f)
+    write_file = (granted_write.file, granted_write.there)
+
     -- no bytes leave the files as they were
     pub write_does_nothing : (length new == 0) ≡ true → write w who now n offset new ≡ Ok (tt, w)
     write_does_nothing none = h ∙ ap (λ (v : Files). Ok (tt, v))

@@ -46,7 +46,7 @@ changed_alike w k f c d there same =
 
 module _ (es es' : List (ℕ × Inode)) (k : ℕ) (w : Option Inode)
     (at : (n : ℕ) → inode_at es' n ≡ cond (eq_by_cmp nat_cmp k n) w (inode_at es n)) where
-  here : inode_at es' k ≡ w
+  pub here : inode_at es' k ≡ w
   here = at k ∙ ap (λ b. cond b w (inode_at es k)) (cmp_same k k refl)
 
   other : (n : ℕ) → n ≢ k → inode_at es' n ≡ inode_at es n
@@ -156,6 +156,11 @@ module _ (es es' : List (ℕ × Inode)) (k : ℕ) (w : Option Inode)
     links = others_by (λ o. option_map_or (λ i. i.nlink) o 0);
     above = others_by (λ o. option_map_or (λ i. parent_in i.body) o 1);
   }
+
+-- the file of a number whose inode is there is the inode's
+pub its_file : (es : List (ℕ × Inode)) (k : ℕ) (i : Inode) (f : File) → inode_at es k ≡ Some i
+    → stored_at es k ≡ Some f → file_in i ≡ f
+its_file es k i f there at = some_same (sym (ap (option_map file_in) there) ∙ at)
 
 -- equal maps have the same inodes
 pub entries_same : (m n : BTreeMap ℕ Inode) → m ≡ n → m.entries ≡ n.entries

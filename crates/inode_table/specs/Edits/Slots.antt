@@ -7,6 +7,7 @@ use Rattle.fs_model.specs.Files.{File, is_directory}
 use Rattle.fs_model.specs.Trees.{IsBody}
 use Rattle.fs_model.specs.Changes.Edits.{with_changed_file, with_new_file, without_file, with_name}
 use Rattle.fs_model.specs.Changes.Edits.{without_name}
+use Rattle.fs_model.specs.Changes.Limits.{blocks_in}
 use Rattle.nfs_counts.specs.nfs_spec.Changes.{after_unlink}
 use Rattle.nfs_counts.specs.nfs_spec.Procedures.{add_file}
 use Rattle.nfs_counts.specs.CountChanges.{is_last_name, blocks_freed, CountsUnlinked}
@@ -28,6 +29,11 @@ pub record ChangesFile (number : FileNumber) (change : File → File)
       → files_of fsid next new ≡ with_changed_file (files_of fsid next old) number change
   pub links : (n : FileNumber) → links_at new n ≡ links_at old n
   pub above : (n : FileNumber) → above_at new n ≡ above_at old n
+
+-- the blocks of a number's file before and after it changed
+pub record IsBlockChange (number : FileNumber) (was is : ℕ) (old new : List (ℕ × Inode)) : Type 0 where
+  pub before : (f : File) → stored_at old number ≡ Some f → was ≡ blocks_in f.body
+  pub after : (f : File) → stored_at new number ≡ Some f → is ≡ blocks_in f.body
 
 -- the files stay, and so does what is kept, but for the nlink of a number
 pub record ChangesLinks (number : FileNumber) (old new : List (ℕ × Inode)) : Type 0 where

@@ -40,10 +40,9 @@ fn drop_replaced(inodes: &mut BTreeMap<u32, Inode>, now: Time, dir: u32, number:
     ensures { (f : File) → stored_at inodes.old.entries number ≡ Some f →
         LosesName now dir number f result inodes.old.entries inodes.new.entries }
 {
-    let of_directory = slots::is_directory(inodes, number);
-    let is_last = slots::goes_with_name(inodes, number);
-    drop_subdirectory(inodes, dir, of_directory);
-    slots::drop_name(inodes, now, number, is_last)
+    let named = slots::named(inodes, number);
+    drop_subdirectory(inodes, dir, named.is_directory);
+    slots::drop_name(inodes, now, number, named.goes)
 }
 
 /// The same of what stood under the name, if anything did.

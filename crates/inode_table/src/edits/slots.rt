@@ -1,6 +1,6 @@
 //! Edits of the inode of a number; where it has none, nothing changes.
 
-ghost use Rattle.std.specs.Prelude.{◌≡◌, ◌<◌, ◌+◌, ◌-◌, ◌^◌, ℕ, IsSome, OnOk, OnErr, Some, None, length};
+ghost use Rattle.std.specs.Prelude.{◌≡◌, ◌<◌, ◌+◌, ◌-◌, ◌^◌, ℕ, IfOk, IsSome, OnOk, OnErr, Some, None, length};
 ghost use Rattle.std.specs.Prelude.{true, if◌then◌else◌};
 ghost use Rattle.fs_model.specs.Files.{File, is_directory, listing_in};
 ghost use Rattle.fs_model.specs.Listing.{with_entry, without_entry};
@@ -13,12 +13,12 @@ ghost use Rattle.nfs_counts.specs.nfs_laws.Sizes.Bounds.{HasWords};
 ghost use Rattle.tree_rules.specs.inodes.Contents.{body_with_bytes_at};
 ghost use Rattle.tree_rules.specs.inodes.Given.{given_in};
 ghost use Rattle.tree_rules.specs.inodes.declared.inode.Inode as stored;
-ghost use Rattle.tree_rules.specs.inodes.Inodes.{body_in, file_in, inode_at, parent_in, links_at, stored_at};
+ghost use Rattle.tree_rules.specs.inodes.Inodes.{body_in, fattr_of, file_in, inode_at, links_at, parent_in, stored_at};
 ghost use Rattle.inode_table.specs.Edits.Slots.{AddsEntry, AddsInode, AddsNamed, AreAlike, ChangesFile};
-ghost use Rattle.inode_table.specs.Edits.Slots.{ChangesLinks, DropsName, MayUnname, RemovesInode, SetsParent};
-ghost use Rattle.inode_table.specs.Edits.Slots.{TakesEntry, Unnames};
+ghost use Rattle.inode_table.specs.Edits.Slots.{ChangesLinks, DropsName, IsBlockChange, MayUnname};
+ghost use Rattle.inode_table.specs.Edits.Slots.{RemovesInode, SetsParent, TakesEntry, Unnames};
 
-use fs_model::nfs_items_code::Time;
+use fs_model::nfs_items_code::{Fattr, Time};
 use std::alloc::AllocError;
 use std::collections::BTreeMap;
 use tree_rules::inodes_code::{Given, Inode};
@@ -41,40 +41,144 @@ pub fn set_ctime(inodes: &mut BTreeMap<u32, Inode>, number: u32, now: Time)
     }
 }
 
-/// Sets the attributes that are given, as `Inode::set`. Where memory is refused nothing changes.
-pub fn set(
-    inodes: &mut BTreeMap<u32, Inode>,
+/// The blocks that a file takes before and after an edit of it, and its attributes after it.
+#[derive(Clone, Copy)]
+pub struct Edited {
+    pub before: u32,
+    pub after: u32,
+    pub attributes: Fattr,
+}
+
+/// Owner, group and seconds of an inode are words: does nothing, and tells a caller's proof.
+fn inode_has_words(inode: &Inode)
+    ensures { HasWords (file_in inode.now) }
+{
+    let _uid = inode.uid;
+    let _gid = inode.gid;
+    let _atime = inode.atime.seconds();
+    let _mtime = inode.mtime.seconds();
+    let _ctime = inode.ctime.seconds();
+}
+
+/// Sets the attributes of an inode that are given, as `Inode::set`, and gives its blocks and attributes.
+fn set_inode(
+    inode: &mut Inode,
+    fsid: u32,
     number: u32,
     now: Time,
     given: &Given,
-) -> Result<(), AllocError>
-    ensures ok { OnOk result (ChangesFile number (apply_fields now (given_in given.now))
-        inodes.old.entries inodes.new.entries) }
-    ensures err { OnErr result (AreAlike inodes.old.entries inodes.new.entries) }
+) -> Result<Edited, AllocError>
+    requires old { IsBody (body_in inode.old.body) }
+    requires new { IsBody (apply_fields now (given_in given.now) (file_in inode.old)).body }
+    ensures file { OnOk result (file_in inode.new
+        ≡ apply_fields now (given_in given.now) (file_in inode.old)) }
+    ensures nlink { inode.new.nlink ≡ inode.old.nlink }
+    ensures parent { parent_in inode.new.body ≡ parent_in inode.old.body }
+    ensures blocks { IfOk result (λ edited. (edited.before ≡ blocks_in (body_in inode.old.body))
+        × (edited.after ≡ blocks_in (body_in inode.new.body))) }
+    ensures attributes { IfOk result (λ edited. edited.attributes ≡ fattr_of fsid number inode.new) }
+    ensures words { OnOk result (HasWords (file_in inode.new)) }
+    ensures err { OnErr result (file_in inode.new ≡ file_in inode.old) }
 {
-    match inodes.get_mut(&number) {
-        Some(inode) => inode.set(now, given),
-        None => Ok(()),
-    }
+    let before = inode.body.blocks();
+    inode.set(now, given)?;
+    inode_has_words(inode);
+    Ok(Edited {
+        before,
+        after: inode.body.blocks(),
+        attributes: inode.attributes(fsid, number),
+    })
 }
 
-/// Writes bytes at an offset, as `Inode::write`. Where memory is refused nothing changes.
-pub fn write(
-    inodes: &mut BTreeMap<u32, Inode>,
+/// Writes bytes into an inode at an offset, as `Inode::write`, and gives its blocks and attributes.
+fn write_inode(
+    inode: &mut Inode,
+    fsid: u32,
     number: u32,
     now: Time,
     offset: u32,
     bytes: &[u8],
-) -> Result<(), AllocError>
-    requires { length bytes.now < 2 ^ 32 }
-    ensures ok { OnOk result (ChangesFile number
-        (λ f. with_mtime now (record f { body = body_with_bytes_at offset bytes.now f.body }))
+) -> Result<Edited, AllocError>
+    requires bytes { length bytes.now < 2 ^ 32 }
+    requires old { IsBody (body_in inode.old.body) }
+    requires new { IsBody (body_with_bytes_at offset bytes.now (body_in inode.old.body)) }
+    ensures file { OnOk result (file_in inode.new ≡ with_mtime now (record (file_in inode.old) {
+      body = body_with_bytes_at offset bytes.now (body_in inode.old.body);
+    })) }
+    ensures nlink { inode.new.nlink ≡ inode.old.nlink }
+    ensures parent { parent_in inode.new.body ≡ parent_in inode.old.body }
+    ensures blocks { IfOk result (λ edited. (edited.before ≡ blocks_in (body_in inode.old.body))
+        × (edited.after ≡ blocks_in (body_in inode.new.body))) }
+    ensures attributes { IfOk result (λ edited. edited.attributes ≡ fattr_of fsid number inode.new) }
+    ensures words { OnOk result (HasWords (file_in inode.new)) }
+    ensures err { OnErr result (file_in inode.new ≡ file_in inode.old) }
+{
+    let before = inode.body.blocks();
+    inode.write(now, offset, bytes)?;
+    inode_has_words(inode);
+    Ok(Edited {
+        before,
+        after: inode.body.blocks(),
+        attributes: inode.attributes(fsid, number),
+    })
+}
+
+/// Sets the attributes that are given, as `Inode::set`, and gives the blocks and attributes of the file, for a
+/// server's number; its owner, group and seconds are words. Where memory is refused nothing changes.
+pub fn set(
+    inodes: &mut BTreeMap<u32, Inode>,
+    fsid: u32,
+    number: u32,
+    now: Time,
+    given: &Given,
+) -> Result<Edited, AllocError>
+    requires there { IsSome (inode_at inodes.old.entries number) }
+    requires old { (f : File) → stored_at inodes.old.entries number ≡ Some f → IsBody f.body }
+    requires new { (f : File) → stored_at inodes.old.entries number ≡ Some f →
+        IsBody (apply_fields now (given_in given.now) f).body }
+    ensures ok { OnOk result (ChangesFile number (apply_fields now (given_in given.now))
         inodes.old.entries inodes.new.entries) }
+    ensures blocks { IfOk result (λ edited.
+        IsBlockChange number edited.before edited.after inodes.old.entries inodes.new.entries) }
+    ensures attributes { IfOk result (λ edited. (inode : stored.Inode) →
+        inode_at inodes.new.entries number ≡ Some inode → edited.attributes ≡ fattr_of fsid number inode) }
+    ensures words { OnOk result ((f : File) → stored_at inodes.new.entries number ≡ Some f → HasWords f) }
     ensures err { OnErr result (AreAlike inodes.old.entries inodes.new.entries) }
 {
     match inodes.get_mut(&number) {
-        Some(inode) => inode.write(now, offset, bytes),
-        None => Ok(()),
+        Some(inode) => set_inode(inode, fsid, number, now, given),
+        None => unreachable!(),
+    }
+}
+
+/// Writes bytes at an offset, as `Inode::write`, and gives the blocks and attributes of the file, for a server's
+/// number; its owner, group and seconds are words. Where memory is refused nothing changes.
+pub fn write(
+    inodes: &mut BTreeMap<u32, Inode>,
+    fsid: u32,
+    number: u32,
+    now: Time,
+    offset: u32,
+    bytes: &[u8],
+) -> Result<Edited, AllocError>
+    requires bytes { length bytes.now < 2 ^ 32 }
+    requires there { IsSome (inode_at inodes.old.entries number) }
+    requires old { (f : File) → stored_at inodes.old.entries number ≡ Some f → IsBody f.body }
+    requires new { (f : File) → stored_at inodes.old.entries number ≡ Some f →
+        IsBody (body_with_bytes_at offset bytes.now f.body) }
+    ensures ok { OnOk result (ChangesFile number
+        (λ f. with_mtime now (record f { body = body_with_bytes_at offset bytes.now f.body }))
+        inodes.old.entries inodes.new.entries) }
+    ensures blocks { IfOk result (λ edited.
+        IsBlockChange number edited.before edited.after inodes.old.entries inodes.new.entries) }
+    ensures attributes { IfOk result (λ edited. (inode : stored.Inode) →
+        inode_at inodes.new.entries number ≡ Some inode → edited.attributes ≡ fattr_of fsid number inode) }
+    ensures words { OnOk result ((f : File) → stored_at inodes.new.entries number ≡ Some f → HasWords f) }
+    ensures err { OnErr result (AreAlike inodes.old.entries inodes.new.entries) }
+{
+    match inodes.get_mut(&number) {
+        Some(inode) => write_inode(inode, fsid, number, now, offset, bytes),
+        None => unreachable!(),
     }
 }
 
@@ -155,34 +259,15 @@ pub fn remove(inodes: &mut BTreeMap<u32, Inode>, number: u32)
     inodes.remove(&number);
 }
 
-/// The blocks of the file of a number.
-pub fn blocks(inodes: &BTreeMap<u32, Inode>, number: u32) -> u32
-    requires { (f : File) → stored_at inodes.now.entries number ≡ Some f → IsBody f.body }
-    ensures { (f : File) → stored_at inodes.now.entries number ≡ Some f → result ≡ blocks_in f.body }
+/// Takes an inode out, and gives the blocks of its file.
+fn remove_file(inodes: &mut BTreeMap<u32, Inode>, number: u32) -> u32
+    requires { (f : File) → stored_at inodes.old.entries number ≡ Some f → IsBody f.body }
+    ensures change { RemovesInode number inodes.old.entries inodes.new.entries }
+    ensures freed { (f : File) → stored_at inodes.old.entries number ≡ Some f → result ≡ blocks_in f.body }
 {
-    match inodes.get(&number) {
+    match inodes.remove(&number) {
         Some(inode) => inode.body.blocks(),
         None => 0,
-    }
-}
-
-/// Owner, group and seconds of an inode are words: does nothing, and tells a caller's proof.
-fn inode_has_words(inode: &Inode)
-    ensures { HasWords (file_in inode.now) }
-{
-    let _uid = inode.uid;
-    let _gid = inode.gid;
-    let _atime = inode.atime.seconds();
-    let _mtime = inode.mtime.seconds();
-    let _ctime = inode.ctime.seconds();
-}
-
-/// The same of the file of a number.
-pub fn has_words(inodes: &BTreeMap<u32, Inode>, number: u32)
-    ensures { (f : File) → stored_at inodes.now.entries number ≡ Some f → HasWords f }
-{
-    if let Some(inode) = inodes.get(&number) {
-        inode_has_words(inode);
     }
 }
 
@@ -196,25 +281,34 @@ pub fn is_directory(inodes: &BTreeMap<u32, Inode>, number: u32) -> bool
     }
 }
 
-/// The links of the file of a number.
-pub fn links(inodes: &BTreeMap<u32, Inode>, number: u32) -> u32
-    ensures { result ≡ links_at inodes.now.entries number }
-{
-    match inodes.get(&number) {
-        Some(inode) => inode.nlink,
-        None => 0,
-    }
+/// What a name stands for that goes.
+#[derive(Clone, Copy)]
+pub struct NamedFile {
+    pub is_directory: bool,
+    /// Whether the file goes with the name: a directory always, another file with its only one.
+    pub goes: bool,
 }
 
-/// Whether a file goes with a name of it: a directory always, another file with its only one.
-pub fn goes_with_name(inodes: &BTreeMap<u32, Inode>, number: u32) -> bool
-    ensures { (f : File) → stored_at inodes.now.entries number ≡ Some f →
-        result ≡ is_last_name f.body (links_at inodes.now.entries number) }
+/// What a name of the file of a number stands for.
+pub fn named(inodes: &BTreeMap<u32, Inode>, number: u32) -> NamedFile
+    ensures directory { (f : File) → stored_at inodes.now.entries number ≡ Some f →
+        result.is_directory ≡ is_directory f.body }
+    ensures goes { (f : File) → stored_at inodes.now.entries number ≡ Some f →
+        result.goes ≡ is_last_name f.body (links_at inodes.now.entries number) }
 {
-    if is_directory(inodes, number) {
-        return true;
+    match inodes.get(&number) {
+        Some(inode) => {
+            let is_directory = inode.body.is_directory();
+            NamedFile {
+                is_directory,
+                goes: is_directory || inode.nlink == 1,
+            }
+        }
+        None => NamedFile {
+            is_directory: false,
+            goes: false,
+        },
     }
-    links(inodes, number) == 1
 }
 
 /// Takes a name out of a directory, which has one link less if the name was a directory's.
@@ -238,9 +332,7 @@ pub fn drop_name(inodes: &mut BTreeMap<u32, Inode>, now: Time, number: u32, is_l
         result ≡ (if is_last then blocks_in f.body else 0) }
 {
     if is_last {
-        let freed = blocks(inodes, number);
-        remove(inodes, number);
-        return freed;
+        return remove_file(inodes, number);
     }
     drop_link(inodes, number);
     set_ctime(inodes, number, now);
@@ -260,10 +352,9 @@ pub fn unlink(
     ensures { (f : File) → stored_at inodes.old.entries number ≡ Some f →
         Unnames now dir name.now number f result inodes.old.entries inodes.new.entries }
 {
-    let of_directory = is_directory(inodes, number);
-    let is_last = goes_with_name(inodes, number);
-    take_entry(inodes, dir, name, of_directory);
-    drop_name(inodes, now, number, is_last)
+    let named = named(inodes, number);
+    take_entry(inodes, dir, name, named.is_directory);
+    drop_name(inodes, now, number, named.goes)
 }
 
 /// Puts a name last in a directory, which has one link more if the name is a directory's. Where memory is

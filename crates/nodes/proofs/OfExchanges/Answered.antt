@@ -282,23 +282,26 @@ reply_due c s c1 t time body r number joined asked is owed =
               (x ∙ ap (λ (b : List ℕ). Some b) (sym y.1)) serves;
         }
 
--- No reply is owed.
+-- A receipt that names no reply owes none.
+pub none_owed : (s t : NodeParts) (time : Timeval) (body : List ℕ) (e : Envelope) (r : Receipt) → e.body ≡ body
+    → ReceivesEnvelope s time e r t → r.reply ≡ None → IsServed s time body None t
+none_owed s t time body e r says receives none = by (reply_owed receives.world (reading_at s time) e.body) refl
+  where
+    by : (o : Option (List ℕ)) → reply_owed receives.world (reading_at s time) e.body ≡ o
+        → IsServed s time body None t
+    by None x =
+        subst (λ (o : Option (List ℕ)). IsServed s time body o t) x (served_by s t time body e r says receives)
+    by (Some reply) x =
+        let some : r.reply ≡ Some (length s.entries + 1 + 2) =
+        ap (λ (y : Receipt). y.reply) receives.receipt
+        ∙ ap (λ (o : Option (List ℕ)). (receipt_from (length s.entries + 1) o).reply) x in
+        absurd (cc)
+
+-- No reply is owed to the call.
 pub none_due : (c s c1 t : NodeParts) (time : Timeval) (body : List ℕ) (r : Receipt)
     → IsAsked c s time body r c1 t → r.reply ≡ None → IsServed s time body None t
 none_due c s c1 t time body r asked none =
-    by (reply_owed asked.heard.receives.world (reading_at s time) asked.heard.envelope.body) refl
-  where
-    by : (o : Option (List ℕ))
-        → reply_owed asked.heard.receives.world (reading_at s time) asked.heard.envelope.body ≡ o
-        → IsServed s time body None t
-    by None x =
-        subst (λ (o : Option (List ℕ)). IsServed s time body o t) x
-        (served_by s t time body asked.heard.envelope r asked.heard.call.says asked.heard.receives)
-    by (Some reply) x =
-        let some : r.reply ≡ Some (length s.entries + 1 + 2) =
-        ap (λ (y : Receipt). y.reply) asked.heard.receives.receipt
-        ∙ ap (λ (o : Option (List ℕ)). (receipt_from (length s.entries + 1) o).reply) x in
-        absurd (cc)
+    none_owed s t time body asked.heard.envelope r asked.heard.call.says asked.heard.receives none
 
 -- ---- after a reply
 

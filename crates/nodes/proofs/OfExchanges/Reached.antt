@@ -32,6 +32,7 @@ use Rattle.commitment.specs.declared.outcome.Received.TheVariants.{New}
 use Rattle.node_logs.specs.declared.outcome.AckTaken.{AckTaken}
 use Rattle.node_logs.specs.declared.outcome.AckTaken.TheVariants.{Logged, Already}
 use Rattle.node_logs.specs.declared.outcome.Receipt.{Receipt}
+use Rattle.nodes.specs.Exchanges.Laws.{IsAccepted}
 use Rattle.nodes.specs.Exchanges.Members.{IsListed, IsMemberAs}
 use Rattle.nodes.specs.Exchanges.Reaching.{AckReaches, IsTaken, Reaches, ack_told}
 use Rattle.nodes.proofs.OfExchanges.Texts.{one_ack, one_envelope, reads_back}
@@ -108,21 +109,17 @@ received_as n n' time bytes e r h f is receives =
 
 -- ---- acknowledgements
 
--- The text of an acknowledgement that reaches a node is taken there, unless memory is refused.
-taken : {F : Type 0} (told : Refusal → F) (twice : F) (a b b' : NodeParts) (kind : Kind) (number : ℕ) (k : Ack)
-    (bytes : List ℕ) (result : Result AckTaken Refusal) → IsSender (sender_of a) → AckReaches a kind number b k
-    → IsText ack_text (ack_value k) bytes → TakesAck b bytes result b'
-    → IsTaken told b k (ack_told told twice result) b'
-taken told twice a b b' kind number k bytes result is h text takes = by result takes
+-- The text of an acknowledgement that a node accepts is taken there, unless memory is refused.
+pub accepted : {F : Type 0} (told : Refusal → F) (twice : F) (b b' : NodeParts) (k : Ack) (bytes : List ℕ)
+    (result : Result AckTaken Refusal) → IsText ack_text (ack_value k) bytes → IsAccepted b k
+    → TakesAck b bytes result b' → IsTaken told b k (ack_told told twice result) b'
+accepted told twice b b' k bytes result text h takes = by result takes
   where
     read : IsAckText bytes k
     read = reads_back ack_text (ack_value k) bytes text
 
     same : (x : Ack) → IsAckText bytes x → x ≡ k
     same x t = one_ack bytes x k t read
-
-    signed : IsSignedIn b.roster (ack_shows k)
-    signed = ack_signed a b kind number k is h
 
     none_some : {X : Type 0} (o : Option X) → o ≡ None → IsSome o → ⊥
     none_some None e s = absurd (cc)
@@ -137,9 +134,23 @@ taken told twice a b b' kind number k bytes result is h text takes = by result t
     by (Err Garbage) t = absurd (let text = read in let none = t.0 in cc)
     by (Err NotForMe) t = absurd (t.1.1 (subst (λ (x : Ack). FitsSend (sender_of b) x) (sym (same t.0 t.1.0)) h.fits))
     by (Err BadSignature) t =
-        absurd (t.1.1 (subst (λ (x : Ack). IsSignedIn b.roster (ack_shows x)) (sym (same t.0 t.1.0.text)) signed))
+        absurd (t.1.1 (subst (λ (x : Ack). IsSignedIn b.roster (ack_shows x)) (sym (same t.0 t.1.0.text)) h.signed))
     by (Err NoMemory) t = inr (refl, t)
     by (Err KeysUsedUp) t = absurd t
+
+-- The same, by what a call made of it.
+pub accepted_by : {F : Type 0} (told : Refusal → F) (twice : F) (b b' : NodeParts) (k : Ack) (bytes : List ℕ)
+    (result : Result AckTaken Refusal) (answer : Result (Unit {0}) F) → IsText ack_text (ack_value k) bytes
+    → IsAccepted b k → TakesAck b bytes result b' → answer ≡ ack_told told twice result → IsTaken told b k answer b'
+accepted_by {F = F} told twice b b' k bytes result answer text h takes answered =
+    subst (λ (r : Result (Unit {0}) F). IsTaken told b k r b') (sym answered)
+    (accepted told twice b b' k bytes result text h takes)
+
+-- An acknowledgement that reaches a node is accepted there.
+pub ack_accepted : (a b : NodeParts) (kind : Kind) (number : ℕ) (k : Ack) → IsSender (sender_of a)
+    → AckReaches a kind number b k → IsAccepted b k
+ack_accepted a b kind number k is h =
+    record { fits = h.fits; signed = ack_signed a b kind number k is h; awaited = h.awaited }
 
 -- The same, by the text that a call wrote.
 pub taken_by : {F : Type 0} (told : Refusal → F) (twice : F) (a n b b' : NodeParts) (kind : Kind) (number : ℕ) (k : Ack)
@@ -148,9 +159,8 @@ pub taken_by : {F : Type 0} (told : Refusal → F) (twice : F) (a n b b' : NodeP
     → ((x : Ack) → ack_at (sender_of n) number ≡ Some x → IsText ack_text (ack_value x) text) → bytes ≡ text
     → TakesAck b bytes result b' → answer ≡ ack_told told twice result → AckReaches a kind number b k
     → IsTaken told b k answer b'
-taken_by {F = F} told twice a n b b' kind number k bytes text result answer node is written same takes answered h =
+taken_by told twice a n b b' kind number k bytes text result answer node is written same takes answered h =
     let shown : ack_at (sender_of n) number ≡ Some k =
     ap (λ (x : NodeParts). ack_at (sender_of x) number) node ∙ h.ack in
-    subst (λ (r : Result (Unit {0}) F). IsTaken told b k r b') (sym answered)
-    (taken told twice a b b' kind number k bytes result (subst (λ (x : NodeParts). IsSender (sender_of x)) node is) h
-    (subst (IsText ack_text (ack_value k)) (sym same) (written k shown)) takes)
+    accepted_by told twice b b' k bytes result answer (subst (IsText ack_text (ack_value k)) (sym same) (written k shown))
+    (ack_accepted a b kind number k (subst (λ (x : NodeParts). IsSender (sender_of x)) node is) h) takes answered

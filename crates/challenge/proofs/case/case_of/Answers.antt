@@ -20,6 +20,7 @@ returns-in_err-evidence c =
     let p = err_from_is_err_and c.from_residual-in_err-evidence.result c.from_residual-in_err-evidence.ensures.1 in
     rw (p.1, p.2) (no_evidence_no_case c.args.source c.take_members.new.source c.in_ok-members.members.items (is_garbage c.in_err-evidence.field-0.0) c.in_ok-members.ensures c.in_err-evidence.ensures)
 
+-- the bytes are the text of a case: of the roster and the evidence that were read
 pub returns : goal.returns
 returns c =
     rw c.in-Ok.ensures.members (is_case c.args.source c.take_members.new.source c.in_ok-members.members.items (evidence_value c.in_ok-evidence.evidence) (c.in-Ok.ensures.exact.0 refl) c.in_ok-members.ensures c.in_ok-evidence.ensures)

@@ -3,6 +3,7 @@ use Rattle.console.specs.Checking.{words_of}
 use Rattle.console.proofs.Telling.{closed_is_shown, closing, five_parts}
 use Rattle.console.proofs.checking.json.Goals as goal
 
+-- the five parts that were written are the object, and a terminal shows what follows its words as it is
 pub returns : goal.returns
 returns c =
     let begun : c.extend_from_slice.new.self.items ≡ (123 ∷ 34 ∷ codes "verdict") ++ (34 ∷ 58 ∷ 34 ∷ []) = search rules in

@@ -5,6 +5,7 @@ use Rattle.hand_off.specs.declared.view.Workers.{Workers}
 use Rattle.hand_off.proofs.Keeping.{same_job}
 use Rattle.hand_off.proofs.laws.a_held_job_is_the_posted_one.Goals as goal
 
+-- where a worker's seat names a job, the poster's seat names it too, and no other
 pub returns : goal.returns
 returns c = λ s k i w t at.
     let mine = (k.named i w t at).1 in (

@@ -1,11 +1,11 @@
 use Rattle.std.proofs.Common.{refl}
-use Rattle.sha2.specs.Sha256.{initial_hash_256, rounds}
+use Rattle.sha2.specs.Sha256.{rounds}
 use Rattle.sha256_lanes.proofs.rounds.all_rounds.Goals as goal
 
 pub returns : goal.returns
 unfolding rounds
 returns c =
-    let h = initial_hash_256 in
+    let h = c.args.hash in
     let v8 = c.eight_rounds-v.ensures h refl in
     let v16 = c.eight_rounds-v-2.ensures h v8 in
     let v24 = c.eight_rounds-v-3.ensures h v16 in

@@ -1,10 +1,10 @@
 use Rattle.std.proofs.Common.{List, ℕ, ap, ◌∙◌}
-use Rattle.sha2.specs.Sha256.{add_state, compress, initial_hash_256, rounds}
+use Rattle.sha2.specs.Sha256.{add_state, compress, rounds}
 use Rattle.sha256_lanes.proofs.rounds.hash_value.Goals as goal
 
 pub returns : goal.returns
 unfolding compress
 returns c = λ b own.
-    let h = initial_hash_256 in
+    let h = c.args.hash in
     let words = ap (λ (w : List ℕ). rounds h w 64) (c.schedule-w.ensures b own) in
-    c.add_initial_hash.ensures ∙ ap (add_state h) (c.all_rounds.ensures ∙ words)
+    c.add_hash.ensures ∙ ap (add_state h) (c.all_rounds.ensures ∙ words)

@@ -27,6 +27,7 @@ step-requires c =
     c.unwrap-place.ensures)
     c.index_mut.ensures.value
 
+-- the book at the place that was found makes the member's step; the others stay
 pub returns : goal.returns
 returns c =
     here_does c.args.roster.now c.args.member.now.node c.args.books.now.items c.unwrap-place.result

@@ -3,6 +3,7 @@ use Rattle.std.proofs.Common.{inr}
 use Rattle.node_book.specs.witness_spec.Watched.{watched}
 use Rattle.witness_books.proofs.laws.runs_keep_the_headline.Goals as goal
 
+-- each part of the headline follows from a law, at the history that the run leads to
 pub returns : goal.returns
 returns c ms old new events replies run history is stands =
     let kept = run.keeps history is stands in

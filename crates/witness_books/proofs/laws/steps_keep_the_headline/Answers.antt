@@ -2,6 +2,7 @@
 use Rattle.std.proofs.Common.{◌∷◌, [], refl}
 use Rattle.witness_books.proofs.laws.steps_keep_the_headline.Goals as goal
 
+-- so it keeps the headline, as each run does
 pub returns : goal.returns
 returns c ms old new event reply step =
     c.runs_keep_the_headline.ensures ms old new (event ∷ []) (reply ∷ [])

@@ -2,5 +2,6 @@ use Rattle.std.proofs.Common.{◌∙◌}
 use Rattle.witness_service.proofs.Keys.{kept_as}
 use Rattle.witness_service.proofs.cache.is_there.Goals as goal
 
+-- the key is found exactly where its bytes are kept
 pub returns : goal.returns
 returns c = c.contains.ensures ∙ kept_as c.args.key.now.bytes.items c.args.kept.now.entries

@@ -7,5 +7,6 @@ are_read : AreRead
 unfolding clap_on_literals
 are_read = (refl, (refl, (refl, (refl, (refl, (refl, (refl, (refl, (refl, (refl, (refl, (refl, (refl, (refl, (refl, (refl, (refl, (refl, (refl, (refl, (refl, (refl, (refl, (refl, (refl, tt)))))))))))))))))))))))))
 
+-- each line asks for what is said of it
 pub returns : goal.returns
 returns c = are_read

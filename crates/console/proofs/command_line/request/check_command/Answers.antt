@@ -14,6 +14,7 @@ with_json = with_rule explained (flag (codes "json"))
 abbrev with_roster : App
 with_roster = with_rule with_json (file_option (codes "roster"))
 
+-- with the file's argument after these it is that command
 pub returns : goal.returns
 returns c =
     let empty : app_of c.about.result ≡ new_app (codes "check") = search rules in

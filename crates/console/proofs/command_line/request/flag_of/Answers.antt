@@ -4,6 +4,7 @@ use Rattle.clap.proofs.WalkLemmas.{one_text-rows}
 use Rattle.console.proofs.OfCommandLine.Asked.{flag_is_answered}
 use Rattle.console.proofs.command_line.request.flag_of.Goals as goal
 
+-- where the matches tell whether the flag is set, that is the answer
 pub returns : goal.returns
 returns c told =
     let text = one_text-rows (found_of c.args.matches.now) c.args.id.now in

@@ -45,6 +45,7 @@ returns-in-Some-subcommand_matches-3 c words none found =
       progress = asks.progress;
     })
 
+-- no other subcommand was found: `rpc` is asked for
 pub returns : goal.returns
 returns c words none found =
     let name = name_is c.args.matches.now _ found in

@@ -4,6 +4,7 @@ use Rattle.clap.proofs.WalkLemmas.{first_value-rows}
 use Rattle.console.proofs.OfCommandLine.Asked.{text_is_answered}
 use Rattle.console.proofs.command_line.request.text_of.Goals as goal
 
+-- the text is the first that was found for the argument, or empty
 pub returns : goal.returns
 returns c =
     ap (λ (t : Bor (List ℕ)). t.now) c.unwrap_or.ensures

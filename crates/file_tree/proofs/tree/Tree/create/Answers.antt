@@ -5,7 +5,7 @@ use Rattle.nfs_spec.specs.ProcedureChecks.{◌>>=◌}
 use Rattle.nfs_spec.specs.Procedures.{set_attributes, create}
 use Rattle.inode_table.specs.inodes.Given.{given_in}
 use Rattle.file_tree.specs.FileChecks.Creates.{DecidesCreate}
-use Rattle.file_tree.specs.Performs.{Does}
+use Rattle.file_tree.specs.Performs.{DoesAt}
 use Rattle.file_tree.proofs.tree.Tree.create.Goals as goal
 
 pub create_new-requires-clause-granted : goal.create_new-requires-clause-granted
@@ -27,12 +27,13 @@ returns-in-Ok-clause-effect c =
     subst (λ w. DecidesCreate w (caller_of c.args.who.now) c.args.now c.args.dir c.args.name.now a
     (Ok (Some c.in-Ok-Some.number))) c.self.view_is (rw c.in-Ok-Some.field-0-is at found) in
     let set =
-    subst (λ r. Does (set_attributes c.args.self.now
-    (caller_of c.args.who.now) c.args.now c.in-Ok-Some.number a) c.args.self.now r c.set.new.self) c.in-Ok.is
-    c.in_ok-set-in-Ok-Some.ensures in
+    subst (λ r. DoesAt (set_attributes c.args.self.now
+    (caller_of c.args.who.now) c.args.now c.in-Ok-Some.number a) c.in-Ok-Some.number c.args.self.now r
+    c.set.new.self) c.in-Ok.is
+    c.in_ok-_attributes-in-Ok-Some.ensures in
     ap (λ a. create c.args.self.now (caller_of c.args.who.now) c.args.now c.args.dir c.args.name.now a)
     (sym c.of-given.ensures)
-    ∙ over.1 ∙ ap (λ r. r >>= λ after. Ok (c.in-Ok-Some.number, after.1)) set
+    ∙ over.1 ∙ ap (λ r. r >>= λ after. Ok (c.in-Ok-Some.number, after.1)) set.0
 
 pub returns-in-Ok-clause-paths : goal.returns-in-Ok-clause-paths
 returns-in-Ok-clause-paths c =
@@ -55,9 +56,10 @@ returns-in-Err-2-clause-effect c =
     subst (λ w. DecidesCreate w (caller_of c.args.who.now) c.args.now c.args.dir c.args.name.now a
     (Ok (Some c.in-Ok-Some.number))) c.self.view_is (rw c.in-Ok-Some.field-0-is at found) in
     let set =
-    subst (λ r. Does (set_attributes c.args.self.now
-    (caller_of c.args.who.now) c.args.now c.in-Ok-Some.number a) c.args.self.now r c.set.new.self)
-    c.in-Err-2.is c.in_ok-set-in-Ok-Some.ensures in (
+    subst (λ r. DoesAt (set_attributes c.args.self.now
+    (caller_of c.args.who.now) c.args.now c.in-Ok-Some.number a) c.in-Ok-Some.number c.args.self.now r
+    c.set.new.self)
+    c.in-Err-2.is c.in_ok-_attributes-in-Ok-Some.ensures in (
       ap (λ a. create c.args.self.now (caller_of c.args.who.now) c.args.now c.args.dir c.args.name.now a)
           (sym c.of-given.ensures)
           ∙ over.1 ∙ ap (λ r. r >>= λ after. Ok (c.in-Ok-Some.number, after.1)) set.0,

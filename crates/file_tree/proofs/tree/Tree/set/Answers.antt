@@ -17,32 +17,36 @@ set-requires-clause-sized c =
 -- the table takes what the check granted
 pub returns : goal.returns
 returns c =
-    let granted = c.in_default.ensures c.args.now in
-    rw (← c.self.view_is) (set_does c.self.inside.table (caller_of c.args.who.now) c.args.now c.args.number
-    (given_in c.args.given.now) granted.0 granted.1 c.set.new.self c.in_ok-set.ensures.ok)
+    let granted = c.in_default.ensures c.args.now in (
+      rw (← c.self.view_is) (set_does c.self.inside.table (caller_of c.args.who.now) c.args.now c.args.number
+          (given_in c.args.given.now) granted.0 granted.1 c.set.new.self c.in_ok-attributes.ensures.ok),
+      c.in_ok-attributes.ensures.attributes,
+    )
 
 pub invariant_of-self : goal.invariant_of-self
 invariant_of-self c = same_kept c.self.inside.table c.set.new.self c.self.inside.digests c.self.invariant
-    (λ n. ap (λ (w : Files). file_at w n) c.in_err-set.ensures.err)
+    (λ n. ap (λ (w : Files). file_at w n) c.in_err-attributes.ensures.err)
 
 -- nothing was given, and nothing changed
 pub invariant_of-self-then-not-is_any : goal.invariant_of-self-then-not-is_any
 invariant_of-self-then-not-is_any c =
     same_kept c.self.inside.table c.set.new.self c.self.inside.digests c.self.invariant
-    (λ n. ap (λ (w : Files). file_at w n) c.in_ok-set.ensures.ok
+    (λ n. ap (λ (w : Files). file_at w n) c.in_ok-attributes.ensures.ok
     ∙ nothing_set c.self.inside.table c.args.number c.args.now (given_in c.args.given.now)
     (sym c.if-not-is_any.ensures) n)
 
 pub returns-then-not-is_any : goal.returns-then-not-is_any
 returns-then-not-is_any c =
-    let granted = c.in_default.ensures c.args.now in
-    rw (← c.self.view_is) (set_does c.self.inside.table (caller_of c.args.who.now) c.args.now c.args.number
-    (given_in c.args.given.now) granted.0 granted.1 c.set.new.self c.in_ok-set.ensures.ok)
+    let granted = c.in_default.ensures c.args.now in (
+      rw (← c.self.view_is) (set_does c.self.inside.table (caller_of c.args.who.now) c.args.now c.args.number
+          (given_in c.args.given.now) granted.0 granted.1 c.set.new.self c.in_ok-attributes.ensures.ok),
+      c.in_ok-attributes.ensures.attributes,
+    )
 
 pub invariant_of-self-2 : goal.invariant_of-self-2
 invariant_of-self-2 c =
     let change = apply_fields c.args.now (given_in c.args.given.now) in
     one_kept c.self.inside.table c.set.new.self c.self.inside.digests c.self.invariant c.args.number
     c.forget.new.self c.forget.ensures
-    (λ n ne. ap (λ (w : Files). file_at w n) c.in_ok-set.ensures.ok
+    (λ n ne. ap (λ (w : Files). file_at w n) c.in_ok-attributes.ensures.ok
     ∙ changed_other c.self.inside.table c.args.number change n ne)

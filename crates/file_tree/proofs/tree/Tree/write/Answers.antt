@@ -1,18 +1,24 @@
 use Rattle.std.proofs.Common.{sym, ◌∙◌, ap}
 use Rattle.nfs_spec.specs.nfs_items.CallerOf.{caller_of}
-use Rattle.file_tree.proofs.OfFileChecks.Granted.{may_write_at, write_does, write_does_nothing}
+use Rattle.file_tree.proofs.OfFileChecks.Granted.{may_write_at, write_does, write_does_nothing, write_file}
+use Rattle.file_tree.proofs.FilesSeen.{told_there}
 use Rattle.nfs_spec.specs.fs_model.Files.{Files, file_at}
 use Rattle.nfs_spec.proofs.fs_model.OfChanges.Finite.{changed_other}
-use Rattle.nfs_spec.specs.Procedures.{with_bytes_written}
+use Rattle.nfs_spec.specs.Procedures.{with_bytes_written, write}
 use Rattle.file_tree.proofs.KeptDigests.{one_kept}
 use Rattle.file_tree.proofs.tree.Tree.write.Goals as goal
 
 pub returns-then-is_empty : goal.returns-then-is_empty
 returns-then-is_empty c =
     let granted = c.in_default.ensures c.args.now in
-    rw (← c.self.view_is) (write_does_nothing c.self.inside.table
+    let file = write_file c.self.inside.table
+    (caller_of c.args.who.now) c.args.now c.args.number c.args.offset c.args.bytes.now granted.0 granted.1 in
+    told_there (write c.args.self.now (caller_of c.args.who.now) c.args.now c.args.number c.args.offset
+    c.args.bytes.now) c.args.self.now c.args.number file.0
+    (ap (λ w. file_at w c.args.number) (sym c.self.view_is) ∙ file.1) c.attributes.result
+    (rw (← c.self.view_is) (write_does_nothing c.self.inside.table
     (caller_of c.args.who.now) c.args.now c.args.number c.args.offset c.args.bytes.now granted.0 granted.1
-    (sym c.if-is_empty.ensures))
+    (sym c.if-is_empty.ensures))) c.attributes.ensures
 
 pub write-requires : goal.write-requires
 write-requires c =
@@ -24,10 +30,12 @@ write-requires c =
 -- the table takes the bytes that the check granted
 pub returns : goal.returns
 returns c =
-    let granted = c.in_default.ensures c.args.now in
-    rw (← c.self.view_is) (write_does c.self.inside.table
-    (caller_of c.args.who.now) c.args.now c.args.number c.args.offset c.args.bytes.now granted.0 granted.1
-    (sym c.if-is_empty.ensures) c.write.new.self c.in_ok-write.ensures.ok)
+    let granted = c.in_default.ensures c.args.now in (
+      rw (← c.self.view_is) (write_does c.self.inside.table
+          (caller_of c.args.who.now) c.args.now c.args.number c.args.offset c.args.bytes.now granted.0 granted.1
+          (sym c.if-is_empty.ensures) c.write.new.self c.in_ok-attributes.ensures.ok),
+      c.in_ok-attributes.ensures.attributes,
+    )
 
 pub invariant_of-self-2 : goal.invariant_of-self-2
 invariant_of-self-2 c =
@@ -37,6 +45,6 @@ invariant_of-self-2 c =
     (sym c.if-is_empty.ensures) in
     one_kept c.self.inside.table c.write.new.self c.self.inside.digests c.self.invariant c.args.number
     c.forget.new.self c.forget.ensures
-    (λ n ne. ap (λ (w : Files). file_at w n) (c.in_ok-write.ensures.ok may.0 may.1)
+    (λ n ne. ap (λ (w : Files). file_at w n) (c.in_ok-attributes.ensures.ok may.0 may.1)
     ∙ changed_other c.self.inside.table c.args.number
     (with_bytes_written c.args.now c.args.offset c.args.bytes.now may.0) n ne)

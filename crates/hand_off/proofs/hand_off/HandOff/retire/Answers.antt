@@ -11,6 +11,7 @@ retire_places-requires-clause-idle c =
     (c.worker.view_is ∙ (c.requires.idle ∙ ap idle_at (sym c.self.view_is)))
     ∙ ap (λ (x : List Slot). map (λ s. idle_place (slot_id s)) x) (sym c.deref.ensures.value)
 
+-- the poster's seat counts one worker more as retired at each slot, and is else as before
 pub returns : goal.returns
 returns c =
     ap posting_of c.retire_places.ensures

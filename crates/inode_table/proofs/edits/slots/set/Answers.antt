@@ -1,34 +1,69 @@
-use Rattle.std.proofs.Common.{is_some, refl, sym, ap, ◌∙◌}
+use Rattle.std.proofs.Common.{is_some, option_map, refl, sym, ap, subst, ◌∙◌}
 use Rattle.std.specs.Option.{option_copied_mut}
-use Rattle.std.proofs.lemmas.Result.{on_ok_weaker, on_err_weaker}
+use Rattle.std.proofs.lemmas.Result.{IfOk-weaker, on_ok_weaker, on_err_weaker}
+use Rattle.fs_model.specs.Files.{File}
+use Rattle.fs_model.proofs.Walks.{some_same}
 use Rattle.nfs_counts.specs.nfs_spec.Changes.{apply_fields}
 use Rattle.tree_rules.specs.inodes.Given.{given_in}
-use Rattle.inode_table.proofs.OfEdits.EditedInodes.{changes_file, alike, nothing_there, entries_same}
+use Rattle.inode_table.proofs.OfEdits.EditedInodes.{changes_file, alike}
+use Rattle.tree_rules.specs.inodes.Inodes.{fattr_of, file_in}
+use Rattle.inode_table.proofs.OfEdits.EditedInodes.{here, its_file}
+use Rattle.nfs_counts.specs.nfs_laws.Sizes.Bounds.{HasWords}
+use Rattle.fs_model.specs.Changes.Limits.{blocks_in}
 use Rattle.inode_table.proofs.edits.slots.set.Goals as goal
 
-pub returns-in-Some-clause-ok : goal.returns-in-Some-clause-ok
-returns-in-Some-clause-ok c =
+pub returns-clause-ok : goal.returns-clause-ok
+returns-clause-ok c =
     let there = sym c.get_mut.ensures.value ∙ ap option_copied_mut c.in-Some.is in
-    let held = c.get_mut.follows.holds c.set.new.self in
-    on_ok_weaker c.set.result
+    let held = c.get_mut.follows.holds c.set_inode.new.inode in
+    on_ok_weaker c.set_inode.result
     (λ file. changes_file c.args.inodes.now.entries _ c.args.number _ (held.3 (ap is_some there)).0
-    c.in-Some.inode.now c.set.new.self there refl (apply_fields c.args.now (given_in c.args.given.now))
-    file c.set.ensures.nlink c.set.ensures.parent)
-    c.set.ensures.file
+    c.in-Some.inode.now c.set_inode.new.inode there refl (apply_fields c.args.now (given_in c.args.given.now))
+    file c.set_inode.ensures.nlink c.set_inode.ensures.parent)
+    c.set_inode.ensures.file
 
-pub returns-in-Some-clause-err : goal.returns-in-Some-clause-err
-returns-in-Some-clause-err c =
+pub returns-clause-err : goal.returns-clause-err
+returns-clause-err c =
     let there = sym c.get_mut.ensures.value ∙ ap option_copied_mut c.in-Some.is in
-    let held = c.get_mut.follows.holds c.set.new.self in
-    on_err_weaker c.set.result
+    let held = c.get_mut.follows.holds c.set_inode.new.inode in
+    on_err_weaker c.set_inode.result
     (λ file. alike c.args.inodes.now.entries _ c.args.number _ (held.3 (ap is_some there)).0
-    c.in-Some.inode.now c.set.new.self there refl
-    file c.set.ensures.nlink c.set.ensures.parent)
-    c.set.ensures.err
+    c.in-Some.inode.now c.set_inode.new.inode there refl
+    file c.set_inode.ensures.nlink c.set_inode.ensures.parent)
+    c.set_inode.ensures.err
 
-pub returns-in-None-clause-ok : goal.returns-in-None-clause-ok
-returns-in-None-clause-ok c =
-    let none = sym c.get_mut.ensures.value ∙ ap option_copied_mut c.in-None.is in
-    nothing_there c.args.inodes.now.entries _ c.args.number
-    (apply_fields c.args.now (given_in c.args.given.now)) none
-    (entries_same _ _ c.get_mut.follows.holds-at-none)
+pub set_inode-requires-clause-old : goal.set_inode-requires-clause-old
+set_inode-requires-clause-old c = c.requires.old _ (ap (option_map file_in) (sym c.get_mut.ensures.value ∙ ap option_copied_mut c.in-Some.is))
+
+pub set_inode-requires-clause-new : goal.set_inode-requires-clause-new
+set_inode-requires-clause-new c = c.requires.new _ (ap (option_map file_in) (sym c.get_mut.ensures.value ∙ ap option_copied_mut c.in-Some.is))
+
+pub returns-clause-blocks : goal.returns-clause-blocks
+returns-clause-blocks c =
+    let there = sym c.get_mut.ensures.value ∙ ap option_copied_mut c.in-Some.is in
+    let held = c.get_mut.follows.holds c.set_inode.new.inode in
+    let after = here c.args.inodes.now.entries _ c.args.number _ (held.3 (ap is_some there)).0 in
+    IfOk-weaker c.set_inode.result _ _
+    (λ blocks told. record {
+      before = λ f at. told.0 ∙ ap (λ (g : File). blocks_in g.body) (its_file c.args.inodes.now.entries c.args.number c.in-Some.inode.now f there at);
+      after = λ f at. told.1 ∙ ap (λ (g : File). blocks_in g.body) (its_file (c.get_mut.follows.lender c.set_inode.new.inode).entries c.args.number c.set_inode.new.inode f after at);
+    })
+    c.set_inode.ensures.blocks
+
+pub returns-clause-words : goal.returns-clause-words
+returns-clause-words c =
+    let there = sym c.get_mut.ensures.value ∙ ap option_copied_mut c.in-Some.is in
+    let held = c.get_mut.follows.holds c.set_inode.new.inode in
+    let after = here c.args.inodes.now.entries _ c.args.number _ (held.3 (ap is_some there)).0 in
+    on_ok_weaker c.set_inode.result
+    (λ words f at. subst HasWords (its_file (c.get_mut.follows.lender c.set_inode.new.inode).entries c.args.number c.set_inode.new.inode f after at) words)
+    c.set_inode.ensures.words
+
+pub returns-clause-attributes : goal.returns-clause-attributes
+returns-clause-attributes c =
+    let there = sym c.get_mut.ensures.value ∙ ap option_copied_mut c.in-Some.is in
+    let held = c.get_mut.follows.holds c.set_inode.new.inode in
+    let after = here c.args.inodes.now.entries _ c.args.number _ (held.3 (ap is_some there)).0 in
+    IfOk-weaker c.set_inode.result _ _
+    (λ edited told inode at. told ∙ ap (fattr_of c.args.fsid c.args.number) (some_same (sym after ∙ at)))
+    c.set_inode.ensures.attributes

@@ -11,7 +11,7 @@ pub drop_name-requires-clause-body : goal.drop_name-requires-clause-body
 drop_name-requires-clause-body c =
     let may = c.requires.1 in
     let same = taken_other c.args.inodes.now.entries c.take_entry.new.inodes.entries c.args.dir
-    c.args.name.now c.is_directory-of_directory.result c.take_entry.ensures c.args.number
+    c.args.name.now c.named-named.result.is_directory c.take_entry.ensures c.args.number
     (λ e. may.apart (sym e)) in
     λ f at. subst (λ (g : File). IsBody g.body) (some_same (sym may.there ∙ (sym same ∙ at))) may.body
 
@@ -22,9 +22,9 @@ returns c f at =
     let mid = c.take_entry.new.inodes.entries in
     let may = subst (MayUnname es c.args.dir c.args.number)
     (some_same (sym c.requires.1.there ∙ at)) c.requires.1 in
-    let of_directory = c.is_directory-of_directory.ensures f at in
-    let is_last = c.goes_with_name-is_last.ensures f at in
-    let same = taken_other es mid c.args.dir c.args.name.now c.is_directory-of_directory.result
+    let of_directory = c.named-named.ensures.directory f at in
+    let is_last = c.named-named.ensures.goes f at in
+    let same = taken_other es mid c.args.dir c.args.name.now c.named-named.result.is_directory
     c.take_entry.ensures c.args.number (λ e. may.apart (sym e)) in
     unnamed es mid c.drop_name.new.inodes.entries c.args.now c.args.dir c.args.name.now c.args.number f
     c.drop_name.result may

@@ -1,38 +1,71 @@
-use Rattle.std.proofs.Common.{is_some, refl, sym, ap, ◌∙◌}
+use Rattle.std.proofs.Common.{is_some, option_map, refl, sym, ap, subst, ◌∙◌}
 use Rattle.std.specs.Option.{option_copied_mut}
-use Rattle.std.proofs.lemmas.Result.{on_ok_weaker, on_err_weaker}
+use Rattle.std.proofs.lemmas.Result.{IfOk-weaker, on_ok_weaker, on_err_weaker}
 use Rattle.fs_model.specs.Files.{File}
+use Rattle.fs_model.proofs.Walks.{some_same}
 use Rattle.nfs_counts.specs.nfs_spec.Changes.{with_mtime}
 use Rattle.tree_rules.specs.inodes.Contents.{body_with_bytes_at}
-use Rattle.inode_table.proofs.OfEdits.EditedInodes.{changes_file, alike, nothing_there, entries_same}
+use Rattle.inode_table.proofs.OfEdits.EditedInodes.{changes_file, alike}
+use Rattle.tree_rules.specs.inodes.Inodes.{fattr_of, file_in}
+use Rattle.inode_table.proofs.OfEdits.EditedInodes.{here, its_file}
+use Rattle.nfs_counts.specs.nfs_laws.Sizes.Bounds.{HasWords}
+use Rattle.fs_model.specs.Changes.Limits.{blocks_in}
 use Rattle.inode_table.proofs.edits.slots.write.Goals as goal
 
-pub returns-in-Some-clause-ok : goal.returns-in-Some-clause-ok
-returns-in-Some-clause-ok c =
+pub returns-clause-ok : goal.returns-clause-ok
+returns-clause-ok c =
     let there = sym c.get_mut.ensures.value ∙ ap option_copied_mut c.in-Some.is in
-    let held = c.get_mut.follows.holds c.write.new.self in
-    on_ok_weaker c.write.result
+    let held = c.get_mut.follows.holds c.write_inode.new.inode in
+    on_ok_weaker c.write_inode.result
     (λ file. changes_file c.args.inodes.now.entries _ c.args.number _ (held.3 (ap is_some there)).0
-    c.in-Some.inode.now c.write.new.self there refl
+    c.in-Some.inode.now c.write_inode.new.inode there refl
     (λ (f : File). with_mtime c.args.now (record f
     { body = body_with_bytes_at c.args.offset c.args.bytes.now f.body }))
-    file c.write.ensures.nlink c.write.ensures.parent)
-    c.write.ensures.file
+    file c.write_inode.ensures.nlink c.write_inode.ensures.parent)
+    c.write_inode.ensures.file
 
-pub returns-in-Some-clause-err : goal.returns-in-Some-clause-err
-returns-in-Some-clause-err c =
+pub returns-clause-err : goal.returns-clause-err
+returns-clause-err c =
     let there = sym c.get_mut.ensures.value ∙ ap option_copied_mut c.in-Some.is in
-    let held = c.get_mut.follows.holds c.write.new.self in
-    on_err_weaker c.write.result
+    let held = c.get_mut.follows.holds c.write_inode.new.inode in
+    on_err_weaker c.write_inode.result
     (λ file. alike c.args.inodes.now.entries _ c.args.number _ (held.3 (ap is_some there)).0
-    c.in-Some.inode.now c.write.new.self there refl
-    file c.write.ensures.nlink c.write.ensures.parent)
-    c.write.ensures.err
+    c.in-Some.inode.now c.write_inode.new.inode there refl
+    file c.write_inode.ensures.nlink c.write_inode.ensures.parent)
+    c.write_inode.ensures.err
 
-pub returns-in-None-clause-ok : goal.returns-in-None-clause-ok
-returns-in-None-clause-ok c =
-    let none = sym c.get_mut.ensures.value ∙ ap option_copied_mut c.in-None.is in
-    nothing_there c.args.inodes.now.entries _ c.args.number
-    (λ (f : File). with_mtime c.args.now (record f
-    { body = body_with_bytes_at c.args.offset c.args.bytes.now f.body })) none
-    (entries_same _ _ c.get_mut.follows.holds-at-none)
+pub write_inode-requires-clause-old : goal.write_inode-requires-clause-old
+write_inode-requires-clause-old c = c.requires.old _ (ap (option_map file_in) (sym c.get_mut.ensures.value ∙ ap option_copied_mut c.in-Some.is))
+
+pub write_inode-requires-clause-new : goal.write_inode-requires-clause-new
+write_inode-requires-clause-new c = c.requires.new _ (ap (option_map file_in) (sym c.get_mut.ensures.value ∙ ap option_copied_mut c.in-Some.is))
+
+pub returns-clause-blocks : goal.returns-clause-blocks
+returns-clause-blocks c =
+    let there = sym c.get_mut.ensures.value ∙ ap option_copied_mut c.in-Some.is in
+    let held = c.get_mut.follows.holds c.write_inode.new.inode in
+    let after = here c.args.inodes.now.entries _ c.args.number _ (held.3 (ap is_some there)).0 in
+    IfOk-weaker c.write_inode.result _ _
+    (λ blocks told. record {
+      before = λ f at. told.0 ∙ ap (λ (g : File). blocks_in g.body) (its_file c.args.inodes.now.entries c.args.number c.in-Some.inode.now f there at);
+      after = λ f at. told.1 ∙ ap (λ (g : File). blocks_in g.body) (its_file (c.get_mut.follows.lender c.write_inode.new.inode).entries c.args.number c.write_inode.new.inode f after at);
+    })
+    c.write_inode.ensures.blocks
+
+pub returns-clause-words : goal.returns-clause-words
+returns-clause-words c =
+    let there = sym c.get_mut.ensures.value ∙ ap option_copied_mut c.in-Some.is in
+    let held = c.get_mut.follows.holds c.write_inode.new.inode in
+    let after = here c.args.inodes.now.entries _ c.args.number _ (held.3 (ap is_some there)).0 in
+    on_ok_weaker c.write_inode.result
+    (λ words f at. subst HasWords (its_file (c.get_mut.follows.lender c.write_inode.new.inode).entries c.args.number c.write_inode.new.inode f after at) words)
+    c.write_inode.ensures.words
+
+pub returns-clause-attributes : goal.returns-clause-attributes
+returns-clause-attributes c =
+    let there = sym c.get_mut.ensures.value ∙ ap option_copied_mut c.in-Some.is in
+    let held = c.get_mut.follows.holds c.write_inode.new.inode in
+    let after = here c.args.inodes.now.entries _ c.args.number _ (held.3 (ap is_some there)).0 in
+    IfOk-weaker c.write_inode.result _ _
+    (λ edited told inode at. told ∙ ap (fattr_of c.args.fsid c.args.number) (some_same (sym after ∙ at)))
+    c.write_inode.ensures.attributes

@@ -1,37 +1,49 @@
 use Rattle.std.proofs.Common.{arith, ◌∙◌}
-use Rattle.inode_table.proofs.KeptContents.{set_bodies, set_among, set_most, set_kept}
+use Rattle.inode_table.proofs.KeptContents.{set_bodies, set_among, set_most, set_kept, set_there}
+use Rattle.inode_table.proofs.KeptContents.{set_attributes}
 use Rattle.inode_table.proofs.Tables.{on_any_error, kept_body, alike_kept}
 use Rattle.inode_table.proofs.table.InodeTable.set.Goals as goal
 
-pub blocks-old-requires : goal.blocks-old-requires
-blocks-old-requires c = kept_body c.self.inside c.self.invariant c.args.number
+pub set-requires-clause-old : goal.set-requires-clause-old
+set-requires-clause-old c = kept_body c.self.inside c.self.invariant c.args.number
 
 pub invariant_of-self : goal.invariant_of-self
-invariant_of-self c = alike_kept c.self.inside c.self.invariant c.in_err-set.ensures.err
+invariant_of-self c = alike_kept c.self.inside c.self.invariant c.in_err-edited.ensures.err
 
-pub returns-in_err-set-clause-err : goal.returns-in_err-set-clause-err
-returns-in_err-set-clause-err c =
+pub returns-in_err-edited-clause-err : goal.returns-in_err-edited-clause-err
+returns-in_err-edited-clause-err c =
     on_any_error c.from_residual.result
-    (c.in_err-set.ensures.err.files c.self.inside.fsid c.self.inside.next ∙ c.self.view_is)
+    (c.in_err-edited.ensures.err.files c.self.inside.fsid c.self.inside.next ∙ c.self.view_is)
 
-pub blocks-new-requires : goal.blocks-new-requires
-blocks-new-requires c =
+pub set-requires-clause-new : goal.set-requires-clause-new
+set-requires-clause-new c =
     set_bodies c.self.inside c.self.invariant c.self.view_is c.args.now c.requires.valid c.requires.sized
-    c.in_ok-set.ensures.ok
 
 pub overflow_sub-self : goal.overflow_sub-self
 overflow_sub-self c =
     set_among c.self.inside c.self.invariant c.self.view_is c.args.now c.requires.valid c.requires.sized
-    c.in_ok-set.ensures.ok c.blocks-old.ensures c.blocks-new.ensures
+    c.in_ok-edited.ensures.ok c.in_ok-edited.ensures.blocks.before c.in_ok-edited.ensures.blocks.after
 
 pub overflow_add-self : goal.overflow_add-self
 overflow_add-self c =
     let most = set_most c.self.inside c.self.invariant c.self.view_is c.args.now c.requires.valid
-    c.requires.sized c.in_ok-set.ensures.ok c.blocks-old.ensures c.blocks-new.ensures in
+    c.requires.sized c.in_ok-edited.ensures.ok c.in_ok-edited.ensures.blocks.before c.in_ok-edited.ensures.blocks.after in
     omega (arith, most)
 
 pub invariant_of-self-2 : goal.invariant_of-self-2
 invariant_of-self-2 c =
     set_kept c.self.inside c.self.invariant c.self.view_is c.args.now c.requires.valid c.requires.sized
-    c.in_ok-set.ensures.ok c.blocks-old.ensures c.blocks-new.ensures c.time_is_valid.ensures.time
-    c.has_words.ensures
+    c.in_ok-edited.ensures.ok c.in_ok-edited.ensures.blocks.before c.in_ok-edited.ensures.blocks.after c.time_is_valid.ensures.time
+    c.in_ok-edited.ensures.words
+
+pub set-requires-clause-there : goal.set-requires-clause-there
+set-requires-clause-there c = set_there c.self.inside c.self.invariant c.self.view_is c.args.now c.requires.valid
+    c.requires.sized
+
+pub returns-clause-attributes : goal.returns-clause-attributes
+returns-clause-attributes c =
+    set_attributes c.self.inside c.self.invariant c.self.view_is c.args.now c.requires.valid
+    c.requires.sized
+    c.in_ok-edited.ensures.ok c.in_ok-edited.ensures.blocks.before c.in_ok-edited.ensures.blocks.after
+    c.time_is_valid.ensures.time c.in_ok-edited.ensures.words c.in_ok-edited.edited.attributes
+    c.in_ok-edited.ensures.attributes

@@ -5,7 +5,7 @@ use Rattle.envelopes.specs.declared.acknowledgement.Ack.{Ack}
 use Rattle.nodes.specs.Exchanges.Reaching.{AckReaches, Reaches}
 use Rattle.nodes.specs.Exchanges.Exchanges.{having_called}
 use Rattle.nodes.proofs.OfExchanges.Texts.{some_same}
-use Rattle.nodes.proofs.OfExchanges.Reached.{ack_signed, found}
+use Rattle.nodes.proofs.OfExchanges.Reached.{ack_accepted, found}
 use Rattle.nodes.proofs.OfExchanges.Called.{call_acknowledged, call_reaches}
 use Rattle.nodes.proofs.exchanges.laws.calls_are_accepted.Goals as goal
 
@@ -21,8 +21,4 @@ returns-clause-acks g = λ c s t body e time r a joined call receives is made.
     let x = call_acknowledged c s t body e time r joined call receives is in
     let same : x.0 ≡ a = some_same (sym x.1.ack ∙ made) in
     let reaches = subst (λ (k : Ack). AckReaches t kinds.Server r.ack (having_called c s body) k) same x.1 in
-    record {
-      fits = reaches.fits;
-      signed = ack_signed t (having_called c s body) kinds.Server r.ack a is reaches;
-      awaited = reaches.awaited;
-    }
+    ack_accepted t (having_called c s body) kinds.Server r.ack a is reaches

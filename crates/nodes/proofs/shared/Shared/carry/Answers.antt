@@ -7,16 +7,16 @@ use Rattle.nodes.proofs.shared.Shared.carry.Goals as goal
 pub returns-in-Ok-clause-exchanged : goal.returns-in-Ok-clause-exchanged
 returns-in-Ok-clause-exchanged g c =
     subst (λ (d : SharedParts). IsExchanged d c.args.time c.args.bytes.now (option_map (λ v. v.items) c.in-Ok.reply)
-    (record { client = c.exchange.new.client; failed = c.self.inside.failed })) c.self.view_is
-    (exchanged (record { client = c.self.inside.client; failed = c.self.inside.failed }) c.args.time c.args.bytes.now
-    (option_map (λ v. v.items) c.in-Ok.reply) c.exchange.new.client c.deref_mut.result.now c.exchange.new.self
-    c.self.inside.failed c.if-self.false c.if-self.false c.in-Ok.ensures.straight c.in-Ok.ensures.stays
-    c.in-Ok.ensures.carried c.in-Ok.ensures.served)
+    (record { client = c.call.new.client; to = c.self.inside.to; failed = c.self.inside.failed })) c.self.view_is
+    (exchanged
+    (record { client = c.self.inside.client; to = c.self.inside.to; failed = c.self.inside.failed }) c.args.time
+    c.args.bytes.now (option_map (λ v. v.items) c.in-Ok.reply) c.call.new.client c.self.inside.failed c.if-self.false
+    c.if-self.false c.in-Ok.ensures.called)
 
-pub returns-clause-stops : goal.returns-clause-stops
-returns-clause-stops g c =
+pub returns-in-Err-clause-stops : goal.returns-in-Err-clause-stops
+returns-in-Err-clause-stops g c =
     subst (λ (d : SharedParts). StopsExchange d c.args.time c.args.bytes.now c.in-Err.fault
-    (record { client = c.exchange.new.client; failed = true })) c.self.view_is
-    (stopped (record { client = c.self.inside.client; failed = c.self.inside.failed }) c.args.time c.args.bytes.now
-    c.in-Err.fault c.exchange.new.client c.deref_mut.result.now c.exchange.new.self c.if-self.false
-    c.in-Err.ensures.straight c.in-Err.ensures.stays c.in-Err.ensures.told c.in-Err.ensures.stops)
+    (record { client = c.call.new.client; to = c.self.inside.to; failed = true })) c.self.view_is
+    (stopped
+    (record { client = c.self.inside.client; to = c.self.inside.to; failed = c.self.inside.failed }) c.args.time
+    c.args.bytes.now c.in-Err.fault c.call.new.client c.if-self.false c.in-Err.ensures.stops)

@@ -1,0 +1,8 @@
+use Rattle.std.proofs.Common.{map, ap, ◌∙◌}
+use Rattle.sha2.specs.Sha256.{sha256}
+use Rattle.lamport.specs.Lamport.{public_hash}
+use Rattle.lamport.proofs.leaves.public_hashes.Goals as goal
+
+pub returns : goal.returns
+unfolding public_hash
+returns c = c.digest_4.ensures ∙ ap (map sha256) c.secrets.ensures

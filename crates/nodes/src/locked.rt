@@ -1,0 +1,107 @@
+//! An exchange between a client and a server under a lock, which is held for what the server does alone.
+
+ghost use Rattle.std.specs.Prelude.{◌≡◌, ◌≤◌, IfErr, IfOk, IfSome, OnOk, length};
+ghost use Rattle.std.specs.Option.{option_map};
+ghost use Rattle.secure_log.specs.declared.log_entries.entry.TheConstants.{MAX_BODY};
+ghost use Rattle.envelopes.specs.declared.envelope.Envelope.{Envelope};
+ghost use Rattle.nodes.specs.Shareds.{IsCalled, StopsCalling};
+ghost use Rattle.nodes.specs.Sides.{IsAskedOf, IsEnvelopeText, IsReturnedAs, StopsReturning};
+
+use crate::client::ClientNode;
+use crate::deliver::take_ack;
+use crate::honest::HonestServer;
+use crate::sides::{receive_reply, send_text};
+use gateway::links::LinkFault;
+use nfs_items::Time;
+use std::alloc::Global;
+use std::sync::{Mutex, Wait};
+
+/// What goes between a client and a server under a lock.
+#[derive(Drop)]
+pub(crate) struct Texts {
+    /// What the client hands to the server: the call's envelope, and then the acknowledgement of the reply.
+    pub(crate) call: Vec<u8>,
+    /// The server's acknowledgement.
+    pub(crate) ack: Vec<u8>,
+    /// The reply's envelope.
+    pub(crate) reply: Vec<u8>,
+}
+
+/// A client's call to the server of a number, which lies under a lock.
+pub(crate) fn call<R: Wait>(
+    rt: &R,
+    server: &Mutex<HonestServer>,
+    client: &mut ClientNode,
+    to: u32,
+    texts: &mut Texts,
+    alloc: Global,
+    time: Time,
+    bytes: &[u8],
+) -> Result<Option<Vec<u8>>, LinkFault>
+    requires size { length bytes.now ≤ MAX_BODY }
+    ensures called { IfOk result (λ r.
+        IsCalled client.old to time bytes.now (option_map (λ v. v.items) r) client.new) }
+    ensures stops { IfErr result (λ f. StopsCalling client.old to time bytes.now f client.new) }
+    ensures size { IfOk result (λ r. IfSome r (λ v. length v.items ≤ MAX_BODY)) }
+{
+    match ask(rt, server, client, to, texts, alloc, time, bytes) {
+        Err(fault) => Err(fault),
+        Ok(None) => Ok(None),
+        Ok(Some(reply)) => match bring_back(rt, server, client, texts, alloc) {
+            Ok(()) => Ok(Some(reply)),
+            Err(fault) => Err(fault),
+        },
+    }
+}
+
+/// The client sends, the server answers under the lock, and the client takes its acknowledgement. Gives the body of
+/// the reply, if one is owed, whose envelope's text stands in `texts`.
+fn ask<R: Wait>(
+    rt: &R,
+    server: &Mutex<HonestServer>,
+    client: &mut ClientNode,
+    to: u32,
+    texts: &mut Texts,
+    alloc: Global,
+    time: Time,
+    bytes: &[u8],
+) -> Result<Option<Vec<u8>>, LinkFault>
+    requires size { length bytes.now ≤ MAX_BODY }
+    ensures asked { IfOk result (λ r. IsAskedOf client.old to time bytes.now (option_map (λ v. v.items) r)
+        texts.new.reply.items client.new) }
+    ensures stops { IfErr result (λ f. StopsCalling client.old to time bytes.now f client.new) }
+    ensures size { IfOk result (λ r. IfSome r (λ v. length v.items ≤ MAX_BODY)) }
+{
+    send_text(client, to, alloc, bytes, &mut texts.call)?;
+    let answered = server
+        .lock(rt)
+        .answer(alloc, time, &texts.call, &mut texts.ack, &mut texts.reply);
+    let reply = match answered {
+        Ok(reply) => reply,
+        Err(fault) => return Err(fault),
+    };
+    match take_ack(client, alloc, &texts.ack) {
+        Ok(()) => Ok(reply),
+        Err(fault) => Err(fault),
+    }
+}
+
+/// The client receives the reply whose envelope's text stands in `texts`, and the server takes its acknowledgement
+/// under the lock.
+fn bring_back<R: Wait>(
+    rt: &R,
+    server: &Mutex<HonestServer>,
+    client: &mut ClientNode,
+    texts: &mut Texts,
+    alloc: Global,
+) -> Result<(), LinkFault>
+    ensures returned { (e : Envelope) → IsEnvelopeText e texts.old.reply.items →
+        OnOk result (IsReturnedAs client.old e client.new) }
+    ensures stops { (e : Envelope) → IsEnvelopeText e texts.old.reply.items → IfErr result (λ f.
+        StopsReturning client.old e texts.old.reply.items f client.new) }
+{
+    match receive_reply(client, alloc, &texts.reply, &mut texts.call) {
+        Ok(()) => server.lock(rt).take_ack(alloc, &texts.call),
+        Err(fault) => Err(fault),
+    }
+}

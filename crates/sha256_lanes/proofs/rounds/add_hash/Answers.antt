@@ -1,0 +1,5 @@
+use Rattle.std.proofs.Common.{refl}
+use Rattle.sha256_lanes.proofs.rounds.add_hash.Goals as goal
+
+pub returns : goal.returns
+returns c = refl

@@ -1,5 +1,0 @@
-use Rattle.std.proofs.Common.{refl}
-use Rattle.sha256_lanes.proofs.rounds.add_initial_hash.Goals as goal
-
-pub returns : goal.returns
-returns c = refl
