@@ -1,8 +1,8 @@
 #!/usr/bin/env bash
 # The program nfsacc from outside: what it writes to streams of records, each of its statuses, the lines that it prints,
-# a device that fails, and want of memory. It tries the programs that the gate left in crates/nfsacc/out, one for each
-# compiler; where none is there, or a source is newer, rt run makes one. Want of memory is shown on a copy, built without
-# proofs.
+# a device that fails, and memory that is refused. It tries the programs that the gate left in crates/nfsacc/out, one for
+# each compiler; where none is there, or a source is newer, rt run makes one. Needs a C compiler, for what is preloaded to
+# refuse memory.
 set -euo pipefail
 cd "$(dirname "$0")/.."
 . checks/scratch_crate.sh
@@ -15,6 +15,7 @@ built_programs
 work=$(mktemp -d)
 trap 'rm -rf "$work"' EXIT
 mkdir "$work/run"
+"${CC:-cc}" -shared -fPIC -o "$work/refused_request.so" checks/refused_request.c
 cd "$work/run"
 
 # run STATUS WORD.. runs the program on the file `in` and wants this status; it writes to `out` and to `said`.
@@ -269,40 +270,34 @@ check_devices() {
     [ $got -eq 1 ] || fail "status $got of a record fault that can't be told"
 }
 
-# Out of memory the run ends with status 3 and a line. A copy of the program reads a byte first and makes as many requests
-# for memory; of all its requests the one of number $most is refused: so in each run another one of the program's own. A
-# few can be refused without harm, as those for the words of an error's text: such a run ends as it would with memory.
-check_memory() (
-    local most=150 try words last step usual least request name module
-    # Words of a command line, the last request that is refused, how many from one to the next, the status with memory, and
-    # in how many runs at least memory runs out.
-    local tries=('rpc 80 1 0 60' 'serve-all 149 4 2 20')
-    mkdir memory
-    for module in "$top"/crates/nfsacc/src/*.rt; do cp "$module" "memory/$(basename "$module").txt"; done
-    sed -e "/^fn main(rt: HostRuntime) -> ExitCode {\$/r $cases/take_memory.txt" "$top/crates/nfsacc/src/main.rt" > memory/main.rt.txt
-    cd "$top"
-    scratch_crate nfsacc_memory "$OLDPWD/memory" scripts console rpc_streams rpc clap
-    mkdir "$work/cases"
+# Where the program's request for memory of this number is refused it ends with status 3 and a line, or as with memory.
+without_request() {
+    local request=$1 usual=$2 words=$3 status=0
+    REFUSED_REQUEST=$request LD_PRELOAD=$work/refused_request.so "$program" "$words" < in > out 2> said || status=$?
+    case $status in
+        3) [ "$(cat said)" = 'nfsacc: out of memory' ] || fail "$words without request $request" said ;;
+        "$usual") ;;
+        *) fail "status $status of $words without request $request" said ;;
+    esac
+    echo "$status"
+}
+
+# Of each request of a run in turn. A few can be refused without harm, as those for the words of an error's text.
+check_memory() {
+    local try words last usual least
+    # Words of a command line, more requests than its run makes, the status with memory, and in how many runs at least
+    # memory runs out.
+    local tries=('rpc 80 0 60' 'serve-all 160 2 80')
     for try in "${tries[@]}"; do
-        read -r words last step usual least <<< "$try"
-        for ((request = 1; request <= last; request += step)); do
-            name=$work/cases/$words.$(printf %03d "$request")
-            { printf "\\x$(printf %x $((most - request)))"; cat "$top/crates/nfsacc/stdin"; } > "$name"
-            echo "$words" > "$name.args"
-        done
+        read -r words last usual least <<< "$try"
+        cp "$top/crates/nfsacc/stdin" in
+        for ((request = 1; request <= last; request++)); do
+            without_request "$request" "$usual" "$words"
+        done > statuses
+        [ "$(tail -1 statuses)" = "$usual" ] || fail "$words makes more requests" statuses
+        [ "$(grep -cx 3 statuses)" -ge "$least" ] || fail "$words ran out of memory too seldom" statuses
     done
-    rt try --steps 1 --fail-alloc "$most" --cases "$work/cases" > "$work/log" 2>&1 || { cat "$work/log" >&2; exit 1; }
-    for try in "${tries[@]}"; do
-        read -r words last step usual least <<< "$try"
-        grep -a "^case=$words\." "$work/log" | sed -E 's/.* run=ended status=([0-9]+) .*/\1/' > "$work/statuses"
-        if grep -qvx "[3$usual]" "$work/statuses" || [ "$(tail -1 "$work/statuses")" != "$usual" ] \
-            || [ "$(grep -cx 3 "$work/statuses")" -lt "$least" ]; then
-            cat "$work/log" >&2
-            exit 1
-        fi
-    done
-    [ "$(grep -ac '^nfsacc: out of memory$' "$work/log")" -eq "$(grep -ac ' status=3 ' "$work/log")" ]
-)
+}
 
 for program in "${made[@]}"; do
     check_streams
@@ -313,6 +308,6 @@ for program in "${made[@]}"; do
     check_many_fragments
     check_words
     check_devices
+    check_memory
 done
-check_memory
 echo "the program answers, says and ends as it should, as ${#made[@]} of the compilers build it"

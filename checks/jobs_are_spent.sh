@@ -6,6 +6,7 @@
 set -euo pipefail
 cd "$(dirname "$0")/.."
 . checks/scratch_crate.sh
+. checks/refused_lines.sh
 
 good=$(mktemp)
 cat > "$good" <<'END'
@@ -71,26 +72,7 @@ compiles() {
 }
 
 for program in "$bad" "$ugly"; do
-    if compiles "$program"; then
-        echo "compiles, and must not:" >&2
-        cat src/lib.rt >&2
-        exit 1
-    fi
-    grep -n 'refused: ' src/lib.rt | while IFS= read -r line; do
-        place=src/lib.rt:${line%%:*}:
-        words=${line##*refused: }
-        if ! grep -F "$place" "$log" | grep -qF "$words"; then
-            echo "$place not refused by '$words':" >&2
-            cat "$log" >&2
-            exit 1
-        fi
-        echo "refused, as it must be: ${line%% //*}"
-    done
-    grep -oE '^src/lib\.rt:[0-9]+:[0-9]+: error' "$log" | cut -d: -f2 | sort -u | while IFS= read -r line; do
-        if ! sed -n "${line}p" src/lib.rt | grep -q 'refused: '; then
-            echo "line $line is refused beside those that must be:" >&2
-            cat "$log" >&2
-            exit 1
-        fi
-    done
+    status=0
+    compiles "$program" || status=$?
+    must_be_refused "$status"
 done

@@ -6,6 +6,7 @@
 set -euo pipefail
 cd "$(dirname "$0")/.."
 . checks/scratch_crate.sh
+. checks/refused_lines.sh
 
 work=$(mktemp -d)
 trap 'rm -rf "$work"' EXIT
@@ -22,37 +23,11 @@ compiles() {
     (cd "$copy" && rt try --test) > "$log" 2>&1
 }
 
-# Ends where a line without a mark is refused.
-refused_beside() {
-    local place
-    grep -oE '^src/[a-z_]+\.rt:[0-9]+:[0-9]+: error' "$log" | cut -d: -f1,2 | sort -u | while IFS=: read -r file place; do
-        if ! sed -n "${place}p" "$copy/$file" | grep -q 'refused: '; then
-            echo "$file:$place is refused beside those that must be:" >&2
-            cat "$log" >&2
-            exit 1
-        fi
-    done
-}
-
 # Each line with a mark must be refused by the mark's words, and no other line.
 refused() {
-    local line place words
-    if compiles; then
-        echo "compiles, and must not:" >&2
-        cat "$copy/src/lib.rt" >&2
-        exit 1
-    fi
-    grep -n 'refused: ' "$copy/src/lib.rt" | while IFS= read -r line; do
-        place=src/lib.rt:${line%%:*}:
-        words=${line##*refused: }
-        if ! grep -F "$place" "$log" | grep -qF "$words"; then
-            echo "$place not refused by '$words':" >&2
-            cat "$log" >&2
-            exit 1
-        fi
-        echo "refused, as it must be: ${line%% //*}"
-    done
-    refused_beside
+    local status=0
+    compiles || status=$?
+    (cd "$copy" && must_be_refused "$status")
 }
 
 # Programs stand after a copy of the crate, and one that signs once.

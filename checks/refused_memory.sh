@@ -1,5 +1,5 @@
 #!/usr/bin/env bash
-# Want of memory at each request inside the calls that take memory leaves all as it was, gives no answer, and the same
+# Memory refused at any request inside the calls that take memory leaves all as it was, gives no answer, and the same
 # call gives what it should when it is made once more: `checks/refused_memory.sh [SUBJECT..]`, all subjects if none is named.
 # The program of checks/refused_memory has them as modules. It is built once, and run with each request of a subject's calls
 # refused in turn. Three subjects have no request that is refused: `stored` makes ten files of checks/evidence again, byte

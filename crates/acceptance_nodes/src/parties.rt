@@ -84,8 +84,8 @@ pub fn joined(alloc: Global, height: u32) -> Option<Direct>
     }
 }
 
-/// Whether a function holds of a value, where there is one. The value's type is a parameter, so that the proof knows
-/// nothing of what it owns.
+/// Whether a function holds of a value, where there is one. The value's type is a parameter, so that the
+/// proof knows nothing of what it owns.
 pub fn holds_of<T: Drop, F: FnOnce(Global, &mut T) -> bool>(
     alloc: Global,
     value: Option<T>,

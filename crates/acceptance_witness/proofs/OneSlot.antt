@@ -58,4 +58,5 @@ pub both_retired : (ids : List TableId)
     → All AreRetired (map one_retired (map one_retired (map (λ _. count 2 0) ids)))
 both_retired [] = All-nil AreRetired
 both_retired (x ∷ xs) =
-    All-cons AreRetired (count 2 2) (map one_retired (map one_retired (map (λ _. count 2 0) xs))) refl (both_retired xs)
+    All-cons AreRetired (count 2 2) (map one_retired (map one_retired (map (λ _. count 2 0) xs))) refl
+    (both_retired xs)

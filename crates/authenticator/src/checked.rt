@@ -83,8 +83,8 @@ impl Signs for Authenticator {
     }
 }
 
-/// A value, which has a text, with the member that signed what it shows, under the root and height that it was
-/// checked under.
+/// A value, which has a text, with the member that signed what it shows, under the root and height that it
+/// was checked under.
 #[derive(Drop)]
 pub struct Checked<T: Signs> {
     value: T,
@@ -131,8 +131,8 @@ impl<T: Signs> Checked<T> {
         is_same_member(&self.member, &other.member) && self.value.is_same(&other.value)
     }
 
-    /// A copy, checked under the same member; nothing is checked again. `AllocError` comes only where a growth
-    /// was refused.
+    /// A copy, checked under the same member; nothing is checked again. `AllocError` comes only where a
+    /// growth was refused.
     pub fn try_clone(&self, alloc: Global) -> Result<Checked<T>, AllocError>
         ensures value { IfOk result (λ c. c.value ≡ self.now.value) }
         ensures member { IfOk result (λ c. c.member ≡ self.now.member) }

@@ -40,7 +40,8 @@ case_at bytes rest ms e = by_evidence (read_at evidence_item rest) refl
     by_evidence (Err d) f = rw (e, f) refl
 
 -- without members at its front it is none
-pub no_members_no_case : (bytes : List ℕ) (e : ReadFault) → IfSome (xdr_fault e) (λ f. read_at roster_item bytes ≡ Err f)
+pub no_members_no_case : (bytes : List ℕ) (e : ReadFault)
+    → IfSome (xdr_fault e) (λ f. read_at roster_item bytes ≡ Err f)
     → OnTrue (is_garbage (fault_of e)) (text_at case_text bytes ≡ None)
 unfolding text_at
 no_members_no_case bytes NoMemory e = tt
@@ -51,7 +52,8 @@ pub no_roster_no_case : (bytes rest : List ℕ) (ms : List Member) → IsBytes b
     → read_at roster_item bytes ≡ Ok (roster_value ms, rest) → ¬ IsRoster ms → text_at case_text bytes ≡ None
 no_roster_no_case bytes rest ms bound e broken = by_test (rises_above 0 (roster_value ms)) refl
   where
-    none : (o : Option (Value evidence_item)) → rises_above 0 (roster_value ms) ≡ false → with_members ms o ≡ None
+    none : (o : Option (Value evidence_item)) → rises_above 0 (roster_value ms) ≡ false
+        → with_members ms o ≡ None
     none None h = refl
     none (Some v) h = rw h refl
 
@@ -67,7 +69,8 @@ is_case bytes rest ms v roster e f = case_at bytes rest ms e ∙ rw (f, roster.1
 
 -- without evidence after its roster it is none
 pub no_evidence_no_case : (bytes rest : List ℕ) (ms : List Member) (garbage : Bool)
-    → read_at roster_item bytes ≡ Ok (roster_value ms, rest) → OnTrue garbage (text_at evidence_text rest ≡ None)
+    → read_at roster_item bytes ≡ Ok (roster_value ms, rest)
+    → OnTrue garbage (text_at evidence_text rest ≡ None)
     → OnTrue garbage (text_at case_text bytes ≡ None)
 no_evidence_no_case bytes rest ms true e f = case_at bytes rest ms e ∙ rw f refl
 no_evidence_no_case bytes rest ms false e f = tt

@@ -81,21 +81,26 @@ fork_exact ms node fork_at a b (found.Fault fault number) h = absurd h
 fork_exact ms node fork_at a b (found.NotAccepted reason) h =
     ((λ t. absurd cc), (λ accepted. absurd (fork_lacks ms node fork_at a b reason h accepted)))
 
-log_exact : (ms : List Member) (node : ℕ) (s : SegmentParts) (f : Finding) → FindsInLog ms node s f → IsTrue (is_accepted f) ↔ AcceptsReplay ms node s
+log_exact : (ms : List Member) (node : ℕ) (s : SegmentParts) (f : Finding) → FindsInLog ms node s f
+    → IsTrue (is_accepted f) ↔ AcceptsReplay ms node s
 log_exact ms node s (found.TwoHashes at one other) h = absurd h
 log_exact ms node s (found.Fault fault number) h = ((λ t. h.accepted), (λ accepted. refl))
-log_exact ms node s (found.NotAccepted reason) h = ((λ t. absurd cc), (λ accepted. absurd (log_lacks ms node s reason h accepted)))
+log_exact ms node s (found.NotAccepted reason) h =
+    ((λ t. absurd cc), (λ accepted. absurd (log_lacks ms node s reason h accepted)))
 
-charge_exact : (ms : List Member) (node : ℕ) (c : Charge) (f : Finding) → FindsInCharge ms node c f → IsTrue (is_accepted f) ↔ AcceptsCharge ms node c
+charge_exact : (ms : List Member) (node : ℕ) (c : Charge) (f : Finding) → FindsInCharge ms node c f
+    → IsTrue (is_accepted f) ↔ AcceptsCharge ms node c
 charge_exact ms node (Fork fork) f h = fork_exact ms node fork.at fork.a fork.b f h
 charge_exact ms node (Replay s) f h = log_exact ms node s f h
 
 -- evidence is accepted exactly where what is found says so
-finds_exact : (ms : List Member) (e : EvidenceParts) (f : Finding) → Finds ms e f → IsTrue (is_accepted f) ↔ Accepts ms e
+finds_exact : (ms : List Member) (e : EvidenceParts) (f : Finding) → Finds ms e f
+    → IsTrue (is_accepted f) ↔ Accepts ms e
 finds_exact ms e f h = charge_exact ms e.node e.charge f h
 
 -- where a call gives a finding, that tells whether the evidence is accepted
-pub result_exact : {E : Type 0} (ms : List Member) (e : EvidenceParts) (r : Result Finding E) → IfOk r (λ f. Finds ms e f)
+pub result_exact : {E : Type 0} (ms : List Member) (e : EvidenceParts) (r : Result Finding E)
+    → IfOk r (λ f. Finds ms e f)
     → IfOk r (λ f. IsTrue (is_accepted f) ↔ Accepts ms e)
 result_exact ms e (Ok f) h = finds_exact ms e f h
 result_exact ms e (Err error) h = tt
@@ -108,32 +113,38 @@ Answers s number answer = (hash : List ℕ) → (answer ≡ Some hash) ↔ Shows
 
 -- a showing without a hash there shows no two
 pub no_first : (at : ℕ) (a b : ShowingParts) → Answers a at None → HasNoTwo at a (Some b)
-no_first at a b answers one other shown shown_other = let none : None ≡ Some one = (answers one).1 shown in absurd cc
+no_first at a b answers one other shown shown_other = let none : None ≡ Some one =
+    (answers one).1 shown in absurd cc
 
 -- nor do two showings of which the second has no hash there
 pub no_second : (at : ℕ) (a b : ShowingParts) → Answers b at None → HasNoTwo at a (Some b)
-no_second at a b answers one other shown shown_other = let none : None ≡ Some other = (answers other).1 shown_other in absurd cc
+no_second at a b answers one other shown shown_other = let none : None ≡ Some other =
+    (answers other).1 shown_other in absurd cc
 
 -- a showing alone without a hash at 0 shows none but zeros there
 pub no_hash : (at : ℕ) (a : ShowingParts) → Answers a 0 None → HasNoTwo at a None
 no_hash at a answers hash shown = let none : None ≡ Some hash = (answers hash).1 shown in absurd cc
 
 -- nor do two that show the same
-pub same_hashes : (at : ℕ) (a b : ShowingParts) (one other : List ℕ) → Answers a at (Some one) → Answers b at (Some other) → one ≡ other → HasNoTwo at a (Some b)
+pub same_hashes : (at : ℕ) (a b : ShowingParts) (one other : List ℕ) → Answers a at (Some one)
+    → Answers b at (Some other) → one ≡ other → HasNoTwo at a (Some b)
 same_hashes at a b one other first second same x y shown shown_other =
     let is_one : Some one ≡ Some x = (first x).1 shown in
     let is_other : Some other ≡ Some y = (second y).1 shown_other in
     cc
 
 -- nor does one that shows 32 zero bytes at 0
-pub same_zeros : (at : ℕ) (a : ShowingParts) (one : List ℕ) → Answers a 0 (Some one) → one ≡ zeros → HasNoTwo at a None
+pub same_zeros : (at : ℕ) (a : ShowingParts) (one : List ℕ) → Answers a 0 (Some one) → one ≡ zeros
+    → HasNoTwo at a None
 same_zeros at a one answers same x shown =
     let is_one : Some one ≡ Some x = (answers x).1 shown in
     cc
 
 -- two that differ are accepted
-pub accepts_two : (ms : List Member) (node at : ℕ) (a b : ShowingParts) (one other : List ℕ) → IsClosedOf ms node a → IsClosedOf ms node b
-    → Answers a at (Some one) → Answers b at (Some other) → ¬ (one ≡ other) → AcceptsTwo ms node at a b one other
+pub accepts_two : (ms : List Member) (node at : ℕ) (a b : ShowingParts) (one other : List ℕ)
+    → IsClosedOf ms node a → IsClosedOf ms node b
+    → Answers a at (Some one) → Answers b at (Some other) → ¬ (one ≡ other)
+    → AcceptsTwo ms node at a b one other
 accepts_two ms node at a b one other closed closed_other first second differ = record {
   accepted = record {
     a_node = closed.of_node;
@@ -151,7 +162,8 @@ accepts_two ms node at a b one other closed closed_other first second differ = r
 }
 
 -- a closed showing of another hash at 0 is accepted
-pub accepts_one : (ms : List Member) (node : ℕ) (a : ShowingParts) (one : List ℕ) → IsClosedOf ms node a → Answers a 0 (Some one) → ¬ (one ≡ zeros) → AcceptsOne ms node a one
+pub accepts_one : (ms : List Member) (node : ℕ) (a : ShowingParts) (one : List ℕ) → IsClosedOf ms node a
+    → Answers a 0 (Some one) → ¬ (one ≡ zeros) → AcceptsOne ms node a one
 accepts_one ms node a one closed answers differs = record {
   accepted = record {
     a_node = closed.of_node;
@@ -166,7 +178,8 @@ accepts_one ms node a one closed answers differs = record {
 -- ---- replays
 
 -- what a replay finds in a member's closed log
-pub outcome_finds : (ms : List Member) (node : ℕ) (s : SegmentParts) (m : Member) (o : Outcome) → IsAudited ms node s m
+pub outcome_finds : (ms : List Member) (node : ℕ) (s : SegmentParts) (m : Member) (o : Outcome)
+    → IsAudited ms node s m
     → IsOutcome o (verdict_of ms (opening_of m) (placed_in s)) → FindsInLog ms node s (finding_in o)
 outcome_finds ms node s m (outcomes.Fault fault number) audited is = record {
   accepted = record {

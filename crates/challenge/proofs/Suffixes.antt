@@ -10,9 +10,13 @@ use Rattle.xdr.proofs.Exact.{takes}
 pub is_end : (text rest bytes : List ℕ) → bytes ≡ text ++ rest
     → (length rest ≤ length bytes) × (drop (length bytes - length rest) bytes ≡ rest)
 is_end text rest bytes e =
-    let sum : length bytes ≡ length text + length rest = ap (λ (x : List ℕ). length x) e ∙ length-append text rest in
-    let front : length text ≡ length bytes - length rest = omega (arith, sum) in
-    (omega (arith, sum), ap (λ (x : List ℕ). drop (length bytes - length rest) x) e ∙ drop_at text rest (length bytes - length rest) front)
+    let sum : length bytes ≡ length text + length rest = ap (λ (x : List ℕ). length x) e
+    ∙ length-append text rest in
+    let front : length text ≡ length bytes - length rest = omega (arith, sum) in (
+      omega (arith, sum),
+      ap (λ (x : List ℕ). drop (length bytes - length rest) x) e
+          ∙ drop_at text rest (length bytes - length rest) front,
+    )
 
 -- an item leaves the end of the bytes
 pub leaves : (a : Item) (bytes rest : List ℕ) (v : Value a) → IsBytes bytes → read_at a bytes ≡ Ok (v, rest)

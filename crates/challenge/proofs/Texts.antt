@@ -10,7 +10,8 @@ use Rattle.challenge.specs.declared.fault.EvidenceFault.TheVariants.{Garbage, No
 use Rattle.challenge.specs.FaultNumbers.{is_garbage}
 
 -- the value of the text is what a call gives, unless it is out of memory
-pub only_by_text : {X : Type 0} (t : Text) (view : X → Value t.item) (bytes : List ℕ) (r : Result X EvidenceFault)
+pub only_by_text : {X : Type 0} (t : Text) (view : X → Value t.item) (bytes : List ℕ)
+    (r : Result X EvidenceFault)
     → IsBytes bytes → GivesText is_garbage t view bytes r → (v : Value t.item) → IsText t v bytes
     → MatchResult r (λ x. view x ≡ v) (λ e. e ≡ NoMemory)
 only_by_text t view bytes (Ok x) bound given v h = text_only is_garbage t view bytes (Ok x) bound given v h

@@ -141,7 +141,8 @@ none_unless None never = refl
 
 -- a roster's text has no more bytes than its members
 roster_of_text : (bytes : List ℕ) (v : Value roster_item) → text_at roster_text bytes ≡ Some v
-    → (count : ℕ) × (number_at 4 bytes ≡ Ok (count, drop 4 bytes)) × (count ≤ 64) × (length bytes ≡ 4 + count * 44)
+    → (count : ℕ) × (number_at 4 bytes ≡ Ok (count, drop 4 bytes)) × (count ≤ 64)
+    × (length bytes ≡ 4 + count * 44)
 roster_of_text bytes v e =
     let t = text_read roster_text bytes v e in
     let r = roster_read bytes (t.0, []) t.1 in
@@ -161,14 +162,18 @@ record OfCase (bytes : List ℕ) : Type 0 where
 case_of_text : (bytes : List ℕ) (v : Value case_item) → text_at case_text bytes ≡ Some v → OfCase bytes
 case_of_text bytes v e =
     let t = text_read case_text bytes v e in
-    let p = bind_ok (read_at roster_item bytes) (λ y. read_at evidence_item y.1 >>= λ z. Ok ((y.0, z.0), z.1)) (t.0, []) t.1 in
+    let p = bind_ok (read_at roster_item bytes) (λ y. read_at evidence_item y.1 >>= λ z. Ok ((y.0, z.0), z.1))
+    (t.0, []) t.1 in
     let q = bind_ok (read_at evidence_item p.0.1) (λ z. Ok ((p.0.0, z.0), z.1)) (t.0, []) p.2 in
     let r = roster_read bytes p.0 p.1 in
-    let n = bind_ok (number_at 4 p.0.1) (λ y. read_at (choice is_charge charge_item) y.1 >>= λ z. Ok ((y.0, z.0), z.1)) q.0 q.1 in
+    let n = bind_ok (number_at 4 p.0.1)
+    (λ y. read_at (choice is_charge charge_item) y.1 >>= λ z. Ok ((y.0, z.0), z.1)) q.0 q.1 in
     let c = bind_ok (read_at (choice is_charge charge_item) n.0.1) (λ z. Ok ((n.0.0, z.0), z.1)) q.0 n.2 in
     let k = bind_ok (number_at 4 n.0.1)
-    (λ k. cond (is_charge k.0) (read_at (charge_item k.0) k.1 >>= λ w. Ok ((k.0, w.0), w.1)) (Err BadEnum)) c.0 c.1 in
-    let g = guard_true (is_charge k.0.0) BadEnum (read_at (charge_item k.0.0) k.0.1 >>= λ w. Ok ((k.0.0, w.0), w.1)) c.0 k.2 in
+    (λ k. cond (is_charge k.0) (read_at (charge_item k.0) k.1 >>= λ w. Ok ((k.0, w.0), w.1)) (Err BadEnum))
+    c.0 c.1 in
+    let g = guard_true (is_charge k.0.0) BadEnum
+    (read_at (charge_item k.0.0) k.0.1 >>= λ w. Ok ((k.0.0, w.0), w.1)) c.0 k.2 in
     let after = (number_just 4 p.0.1 n.0 n.1).1 in
     let at : drop 4 (drop (4 + r.count * 44) bytes) ≡ drop (8 + r.count * 44) bytes =
     drop-drop 4 (4 + r.count * 44) bytes ∙ ap (λ i. drop i bytes) (omega arith) in
@@ -188,7 +193,8 @@ word_more : (front more : List ℕ) (at n m : ℕ) (rest : List ℕ) → IsWordA
     → number_at 4 (drop at (front ++ more)) ≡ Ok (m, rest) → n ≡ m
 word_more front more at n m rest is e =
     let whole : number_at 4 (drop at (front ++ more)) ≡ Ok (n, is.rest ++ more) =
-    ap (number_at 4) (drop-append-le at front more is.inside) ∙ number_more 4 (drop at front) more (n, is.rest) is.word in
+    ap (number_at 4) (drop-append-le at front more is.inside)
+    ∙ number_more 4 (drop at front) more (n, is.rest) is.word in
     ap (λ (p : ℕ × List ℕ). p.0) (ok_is (n, is.rest ++ more) (m, rest) (sym whole ∙ e))
 
 -- a count of more than 64 members

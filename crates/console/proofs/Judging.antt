@@ -12,8 +12,11 @@ use Rattle.console.specs.declared.checking.Reason.TheVariants as reason
 
 -- what judges the case that bytes hold judges the bytes
 pub of_case : (trusted : Option (List Member)) (bytes : List ℕ) (c : Case) (judgement : Judgement)
-    → text_at case_text bytes ≡ Some (case_value c) → JudgesCase trusted c judgement → Judges trusted bytes judgement
+    → text_at case_text bytes ≡ Some (case_value c) → JudgesCase trusted c judgement
+    → Judges trusted bytes judgement
 of_case trusted bytes c (Exposed node) text says = record { case = c; text = text; judged = says }
 of_case trusted bytes c (NoEvidence (reason.NoCase at)) text says = absurd says
-of_case trusted bytes c (NoEvidence reason.AnotherRoster) text says = record { case = c; text = text; judged = says }
-of_case trusted bytes c (NoEvidence (reason.NotAccepted why)) text says = record { case = c; text = text; judged = says }
+of_case trusted bytes c (NoEvidence reason.AnotherRoster) text says =
+    record { case = c; text = text; judged = says }
+of_case trusted bytes c (NoEvidence (reason.NotAccepted why)) text says =
+    record { case = c; text = text; judged = says }

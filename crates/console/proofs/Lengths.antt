@@ -63,7 +63,8 @@ tested_just len test bytes x e =
     (t.0, sym (ap (λ (p : ℕ × List ℕ). p.1) (ok_is a.0 x g.1)) ∙ t.1)
 
 flag_rest : (z o : Bool) (after : List ℕ) (x : Bool × List ℕ)
-    → cond {A = Read Bool} z (Ok (false, after)) (cond {A = Read Bool} o (Ok (true, after)) (Err BadBool)) ≡ Ok x
+    → cond {A = Read Bool} z (Ok (false, after))
+    (cond {A = Read Bool} o (Ok (true, after)) (Err BadBool)) ≡ Ok x
     → x.1 ≡ after
 flag_rest true o after x e = sym (ap (λ (p : Bool × List ℕ). p.1) (ok_is (false, after) x e))
 flag_rest false true after x e = sym (ap (λ (p : Bool × List ℕ). p.1) (ok_is (true, after) x e))
@@ -105,7 +106,8 @@ fixed_just len bytes x e =
 opaque_up : (max : ℕ) → TakesUpTo (4 + 4 * ((max + 3) / 4)) (opaque_at max)
 unfolding opaque_at
 opaque_up max bytes x e =
-    let a = bind_ok (number_at 4 bytes) (λ len. cond (ltb max len.0) (Err TooLong) (fixed_at len.0 len.1)) x e in
+    let a = bind_ok (number_at 4 bytes) (λ len. cond (ltb max len.0) (Err TooLong) (fixed_at len.0 len.1)) x
+    e in
     let g = guard_ok (ltb max a.0.0) TooLong (fixed_at a.0.0 a.0.1) x a.2 in
     let first = at_most 4 (number_at 4) (number_just 4) bytes a.0 a.1 in
     let len : ℕ = a.0.0 in
@@ -136,7 +138,8 @@ items_up {A} read n up (suc count) bytes x e =
     let same = ap (λ (r : List A × List ℕ). length r.1) (ok_is (p.0.0 ∷ q.0.0, q.0.1) x q.2) in
     omega (arith, up bytes p.0 p.1, items_up read n up count p.0.1 q.0 q.1, same)
 
-array_up : (max : ℕ) (a : Item) (n : ℕ) → TakesUpTo n (read_at a) → TakesUpTo (4 + max * n) (read_at (array max a))
+array_up : (max : ℕ) (a : Item) (n : ℕ) → TakesUpTo n (read_at a)
+    → TakesUpTo (4 + max * n) (read_at (array max a))
 array_up max a n up bytes x e =
     let p = bind_ok (number_at 4 bytes)
     (λ count. cond (ltb max count.0) (Err TooLong) (items_at (read_at a) count.0 count.1)) x e in
@@ -151,7 +154,8 @@ choice_up : (known : ℕ → Bool) (body : ℕ → Item) (n : ℕ)
 choice_up known body n up bytes x e =
     let p = bind_ok (number_at 4 bytes)
     (λ k. cond (known k.0) (read_at (body k.0) k.1 >>= λ v. Ok ((k.0, v.0), v.1)) (Err BadEnum)) x e in
-    let g = guard_true (known p.0.0) BadEnum (read_at (body p.0.0) p.0.1 >>= λ v. Ok ((p.0.0, v.0), v.1)) x p.2 in
+    let g = guard_true (known p.0.0) BadEnum (read_at (body p.0.0) p.0.1 >>= λ v. Ok ((p.0.0, v.0), v.1)) x
+    p.2 in
     let q = bind_ok (read_at (body p.0.0) p.0.1) (λ v. Ok ((p.0.0, v.0), v.1)) x g.1 in
     let same = ap (λ (r : Value (choice known body) × List ℕ). length r.1)
     (ok_is ((p.0.0, q.0.0), q.0.1) x q.2) in
@@ -238,7 +242,8 @@ optional_up : {A : Type 0} (read : List ℕ → Read A) (n : ℕ) → TakesUpTo 
 unfolding optional_at
 optional_up {A} read n up bytes x e =
     let p = bind_ok (flag_at bytes)
-    (λ more. cond {A = Read (Option A)} more.0 (read more.1 >>= λ v. Ok (Some v.0, v.1)) (Ok (None, more.1))) x e in
+    (λ more. cond {A = Read (Option A)} more.0 (read more.1 >>= λ v. Ok (Some v.0, v.1)) (Ok (None, more.1)))
+    x e in
     let first = at_most 4 flag_at flag_just bytes p.0 p.1 in
     omega (arith, first, optional_rest read n up p.0.0 p.0.1 x p.2)
   where
@@ -255,7 +260,8 @@ optional_up {A} read n up bytes x e =
         omega (arith, same)
 
 link_up : IsWithin 36 link_item
-link_up = within_pair 4 32 (record { takes = at_most 4 (tested_at 4 is_kind) (tested_just 4 is_kind) }) hash_up
+link_up = within_pair 4 32 (record { takes = at_most 4 (tested_at 4 is_kind) (tested_just 4 is_kind) })
+    hash_up
 
 hyper_up : IsWithin 8 hyper
 hyper_up = record { takes = at_most 8 (number_at 8) (number_just 8) }
@@ -268,7 +274,8 @@ showing_up =
 fork_up : IsWithin 328916 fork_item
 fork_up =
     within_pair 8 328908 number_up
-    (within_pair 164452 164456 showing_up (record { takes = optional_up (read_at showing_item) 164452 showing_up.takes }))
+    (within_pair 164452 164456 showing_up
+    (record { takes = optional_up (read_at showing_item) 164452 showing_up.takes }))
 
 charge_up : (is_fork : Bool) → IsWithin 1916551780 (cond is_fork fork_item (bounded_item 65536))
 charge_up true = within 328916 1916551780 (lit≤ tt) fork_up

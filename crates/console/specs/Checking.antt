@@ -84,7 +84,8 @@ line_form judgement more = words_of judgement ++ (10 ∷ more)
 
 -- a JSON object whose first member is `verdict` (123 is a brace, 34 a quote, 58 a colon)
 abbrev pub json_form : Judgement → List ℕ → List ℕ
-json_form judgement more = (123 ∷ 34 ∷ codes "verdict") ++ (34 ∷ 58 ∷ 34 ∷ (words_of judgement ++ (34 ∷ more)))
+json_form judgement more = (123 ∷ 34 ∷ codes "verdict")
+    ++ (34 ∷ 58 ∷ 34 ∷ (words_of judgement ++ (34 ∷ more)))
 
 -- what is told in a format
 abbrev pub IsTold : Format → Judgement → List ℕ → Type 0
@@ -93,13 +94,15 @@ IsTold Lines judgement text = IsFormed (line_form judgement) text
 IsTold Json judgement text = IsFormed (json_form judgement) text
 
 -- such a text was written
-pub record WritesTold (format : Format) (judgement : Judgement) (before after : Option (List ℕ)) : Type 0 where
+pub record WritesTold (format : Format) (judgement : Judgement)
+    (before after : Option (List ℕ)) : Type 0 where
   pub text : List ℕ
   pub told : IsTold format judgement text
   pub written : Appends before after text
 
 -- a write failed: what an input shows was written in part, and not all of it
-pub record TellsPart (trusted : Option (List Member)) (format : Format) (input before after : Option (List ℕ)) : Type 0 where
+pub record TellsPart (trusted : Option (List Member)) (format : Format)
+    (input before after : Option (List ℕ)) : Type 0 where
   pub judgement : Judgement
   pub text : List ℕ
   pub judged : IfSome input (λ bytes. Judges trusted bytes judgement)

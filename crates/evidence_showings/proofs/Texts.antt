@@ -8,5 +8,6 @@ use Rattle.evidence_spec.specs.Showing.{ShowingParts, showing_item, showing_valu
 use Rattle.evidence_showings.specs.Showings.{HasText}
 
 -- what was read has a text
-pub read_fits : (bytes rest : List ℕ) (s : ShowingParts) → IsBytes bytes → read_at showing_item bytes ≡ Ok (showing_value s, rest) → HasText s
+pub read_fits : (bytes rest : List ℕ) (s : ShowingParts) → IsBytes bytes
+    → read_at showing_item bytes ≡ Ok (showing_value s, rest) → HasText s
 read_fits bytes rest s bound e = (takes showing_item bytes (showing_value s, rest) bound e).1

@@ -33,8 +33,10 @@ use Rattle.evidence_spec.proofs.Shown.{showing_in_log, segment_is_part}
 -- ---- replays
 
 -- the first entries of honest ones are honest
-front_honest : (ms : List Member) (s : State) (first : ℕ) (before : List ℕ) (es fs : List Entry) (ts : List State)
-    → Honest ms s (placed first before (es ++ fs)) ts → (us : List State) × Honest ms s (placed first before es) us
+front_honest : (ms : List Member) (s : State) (first : ℕ) (before : List ℕ) (es fs : List Entry)
+    (ts : List State)
+    → Honest ms s (placed first before (es ++ fs)) ts
+    → (us : List State) × Honest ms s (placed first before es) us
 front_honest ms s first before [] fs ts h = ([], tt)
 front_honest ms s first before (e ∷ es) fs [] h = absurd h
 front_honest ms s first before (e ∷ es) fs (t ∷ ts) h =
@@ -51,7 +53,8 @@ SoundWhereHonest ms =
 -- a part of a log from its first entry on is its beginning
 from_first : (log : List Entry) (s : SegmentParts) → IsPartOf log s → s.first ≡ 1
     → (rest : List Entry) × (log ≡ s.entries ++ rest)
-from_first log s part first = (part.rest, part.whole ∙ ap (λ es. es ++ (s.entries ++ part.rest)) (none part.before count))
+from_first log s part first =
+    (part.rest, part.whole ∙ ap (λ es. es ++ (s.entries ++ part.rest)) (none part.before count))
   where
     count : length part.before ≡ 0
     count = omega (arith, part.place, first)
@@ -66,12 +69,15 @@ module _ (ms : List Member) (member : Member) (node : ℕ) (same : member.node �
   replay_stands sound s fits a there w =
       let shown : IsAmong (s.closing.number, s.closing.hash) (log_pairs log) =
       w.unforged.0 (a.closed.ends.node ∙ a.of_node ∙ sym same) a.closed.signed in
-      let part = segment_is_part ms log s w.is_log fits (omega (arith, a.first)) a.closed shown w.no_collision in
+      let part = segment_is_part ms log s w.is_log fits
+      (omega (arith, a.first)) a.closed shown w.no_collision in
       let front = from_first log s part a.first in
-      let honest = subst (λ es. Honest ms (opening_of member) (placed 1 zeros es) w.honest.states) front.1 w.honest.honest in
+      let honest = subst (λ es. Honest ms (opening_of member) (placed 1 zeros es) w.honest.states) front.1
+      w.honest.honest in
       let run = front_honest ms (opening_of member) 1 zeros s.entries front.0 w.honest.states honest in
       let places = placed 1 zeros s.entries in
-      let verdict = (sound (opening_of member) (last_state (opening_of member) run.0) places (found (opening_of member) places run.0)).1
+      let verdict = (sound (opening_of member) (last_state (opening_of member) run.0) places
+      (found (opening_of member) places run.0)).1
       (run.0, run.1, refl, refl) in
       let one : Some a.member ≡ Some member = sym a.is_member ∙ there in
       let first = a.first in
@@ -82,7 +88,8 @@ module _ (ms : List Member) (member : Member) (node : ℕ) (same : member.node �
   -- ---- forks
 
   -- what one showing of the node shows is the log's
-  one_shown : (s : ShowingParts) → IsLog log → Fits showing_item (showing_value s) → s.node ≡ node → IsClosedShowing ms s
+  one_shown : (s : ShowingParts) → IsLog log → Fits showing_item (showing_value s) → s.node ≡ node
+      → IsClosedShowing ms s
       → IsUnforged ms member.node log s.closing → NoCollision (log_texts log ++ showing_texts s)
       → (number : ℕ) (hash : List ℕ) → Shows s number hash → IsAmong (number, hash) (log_pairs log)
   one_shown s is fits of closed unforged unlike =
@@ -93,7 +100,8 @@ module _ (ms : List Member) (member : Member) (node : ℕ) (same : member.node �
   first_pair [] = inl refl
   first_pair (e ∷ es) = inl refl
 
-  fork_stands : (at : ℕ) (a : ShowingParts) (b : Option ShowingParts) → IsLog log → Fits showing_item (showing_value a)
+  fork_stands : (at : ℕ) (a : ShowingParts) (b : Option ShowingParts) → IsLog log
+      → Fits showing_item (showing_value a)
       → Fits (optional showing_item) (option_map showing_value b) → AcceptsFork ms node at a b
       → AllByRecursion (IsUnforged ms member.node log) (a.closing ∷ option_closings b)
       → NoCollision (log_texts log ++ (showing_texts a ++ option_texts b)) → ⊥
@@ -101,10 +109,12 @@ module _ (ms : List Member) (member : Member) (node : ℕ) (same : member.node �
       let ls = log_texts log in
       let as' = showing_texts a in
       let within : Within (ls ++ as') (ls ++ (as' ++ [])) =
-      both ls as' (ls ++ (as' ++ [])) (left ls (as' ++ [])) (λ t k. right ls (as' ++ []) t (left as' [] t k)) in
+      both ls as' (ls ++ (as' ++ [])) (left ls (as' ++ []))
+      (λ t k. right ls (as' ++ []) t (left as' [] t k)) in
       let x = one_shown a is fits two.a_node two.closed unforged.0
       (fewer (ls ++ as') (ls ++ (as' ++ [])) within unlike) 0 two.hash two.shown in
-      two.differs (one_hash 0 zeros (links_from 1 log) 0 two.hash zeros (entries_numbered 1 log) x (first_pair log))
+      two.differs (one_hash 0 zeros (links_from 1 log) 0 two.hash zeros (entries_numbered 1 log) x
+      (first_pair log))
   fork_stands at a (Some b) is fits fits' two unforged unlike =
       let ls = log_texts log in
       let as' = showing_texts a in
@@ -114,14 +124,17 @@ module _ (ms : List Member) (member : Member) (node : ℕ) (same : member.node �
       both ls as' all (left ls (as' ++ bs)) (λ t k. right ls (as' ++ bs) t (left as' bs t k)) in
       let of_b : Within (ls ++ bs) all =
       both ls bs all (left ls (as' ++ bs)) (λ t k. right ls (as' ++ bs) t (right as' bs t k)) in
-      let x = one_shown a is fits two.a_node two.a_closed unforged.0 (fewer (ls ++ as') all of_a unlike) at two.one two.one_shown in
-      let y = one_shown b is fits' two.b_node two.b_closed unforged.1.0 (fewer (ls ++ bs) all of_b unlike) at two.other two.other_shown in
+      let x = one_shown a is fits two.a_node two.a_closed unforged.0
+      (fewer (ls ++ as') all of_a unlike) at two.one two.one_shown in
+      let y = one_shown b is fits' two.b_node two.b_closed unforged.1.0
+      (fewer (ls ++ bs) all of_b unlike) at two.other two.other_shown in
       two.differ (one_hash 0 zeros (links_from 1 log) at two.one two.other (entries_numbered 1 log) x y)
 
 -- ---- evidence
 
 -- the member that signed
-signer : (ms : List Member) (a : Authenticator) → IsSignedIn ms a → (m : Member) × (member_of ms a.node ≡ Some m)
+signer : (ms : List Member) (a : Authenticator) → IsSignedIn ms a
+    → (m : Member) × (member_of ms a.node ≡ Some m)
 signer ms a h = by (member_of ms a.node) refl h
   where
     by : (o : Option Member) → member_of ms a.node ≡ o → IsSomeAnd o (λ m. IsSignedBy m a)
@@ -136,7 +149,8 @@ shower ms node s of closed =
     let there = signer ms s.closing closed.signed in
     (there.0, ap (member_of ms) (sym (closed.node ∙ of)) ∙ there.1)
 
-forker : (ms : List Member) (node at : ℕ) (a : ShowingParts) (b : Option ShowingParts) → AcceptsFork ms node at a b
+forker : (ms : List Member) (node at : ℕ) (a : ShowingParts) (b : Option ShowingParts)
+    → AcceptsFork ms node at a b
     → (m : Member) × (member_of ms node ≡ Some m)
 forker ms node at a None two = shower ms node a two.a_node two.closed
 forker ms node at a (Some b) two = shower ms node a two.a_node two.a_closed

@@ -23,6 +23,7 @@ pub record IsPartOfChain (log : List Link) (first : ℕ) (opening : List ℕ) (l
   -- the hash after the links before them is `opening`
   pub hash : last_hash zeros before ≡ opening
 
+-- the hash before the first entry has 32 bytes
 pub zeros-length : length zeros ≡ 32
 unfolding zeros
 zeros-length = length-replicate {A = ℕ} 32 0
@@ -33,14 +34,19 @@ last_hash-append opening [] ys = refl
 last_hash-append opening (x ∷ xs) ys = last_hash-append (hash_after opening x) xs ys
 
 -- the first links of a chain are a chain
-front_chain : (opening : List ℕ) (links front rest : List Link) → links ≡ front ++ rest → IsChain opening links
+front_chain : (opening : List ℕ) (links front rest : List Link) → links ≡ front ++ rest
+    → IsChain opening links
     → IsChain opening front
 front_chain opening links front rest whole chain =
-    record { opened = chain.opened; each = all_front IsLink front rest (subst (AllByRecursion IsLink) whole chain.each) }
+    record {
+      opened = chain.opened;
+      each = all_front IsLink front rest (subst (AllByRecursion IsLink) whole chain.each);
+    }
 
 module _ (log links : List Link) (first : ℕ) (opening : List ℕ) where
   -- a chain that ends in a pair of a log's is a part of it
-  pub ends_in_log : (number : ℕ) (hash : List ℕ) → AreNumbered 1 log → IsChain zeros log → IsChain opening links
+  pub ends_in_log : (number : ℕ) (hash : List ℕ) → AreNumbered 1 log → IsChain zeros log
+      → IsChain opening links
       → 0 < first → number + 1 ≡ first + length links → hash ≡ last_hash opening links
       → NoCollision (chain_texts zeros log ++ chain_texts opening links)
       → IsAmong (number, hash) (pairs 0 zeros log) → IsPartOfChain log first opening links

@@ -23,7 +23,8 @@ use Rattle.evidence_spec.proofs.Shown.{next_fits}
 -- ---- an authenticator
 
 -- a signed authenticator, as a showing without links, shows its own pair
-pub one_pair : (ms : List Member) (a : Authenticator) → Fits authenticator_item (authenticator_value a) → IsSignedIn ms a
+pub one_pair : (ms : List Member) (a : Authenticator) → Fits authenticator_item (authenticator_value a)
+    → IsSignedIn ms a
     → ShowsPairs ms (authenticator_showing a) ((a.number, a.hash) ∷ [])
 one_pair ms a fits signed =
     let small : a.number + 1 < 2 ^ 64 = next_fits a.number fits.1.0.1 in
@@ -67,8 +68,12 @@ own_pairs ms s fits some closed =
     let values : length (map link_value links) ≡ length links = length-map links link_value in
     let entries : length (map entry_value s.entries) ≡ length s.entries = length-map s.entries entry_value in
     let few = fits.1.1.1.0 in
-    let fit : Fits (array MAX_ENTRIES link_item) (map link_value links) =
-    (omega (arith, shown, values, entries, few.0), omega (arith, shown, values, entries, few.1), links_fit s.entries) in
+    let fit : Fits (array MAX_ENTRIES link_item) (map link_value links) = (
+      omega (arith, shown, values, entries, few.0),
+      omega
+          (arith, shown, values, entries, few.1),
+      links_fit s.entries,
+    ) in
     record {
       closed = record {
         first = some;

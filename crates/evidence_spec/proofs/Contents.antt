@@ -37,10 +37,12 @@ abbrev recv_seen : Item
 recv_seen = pair word (pair hyper (pair (fixed 32) (pair (fixed 32) (fixed 32))))
 
 abbrev recv_value : (from seq : ℕ) (prev body : List ℕ) → SignatureParts → Value recv_seen
-recv_value from seq prev body signature = (from, (seq, (prev, (sha256 body, sha256 (signature_text signature)))))
+recv_value from seq prev body signature =
+    (from, (seq, (prev, (sha256 body, sha256 (signature_text signature)))))
 
 recv_content_is : (from seq : ℕ) (prev body : List ℕ) (signature : SignatureParts)
-    → content (Recv from seq prev body signature) ≡ spelling recv_seen (recv_value from seq prev body signature)
+    → content (Recv from seq prev body signature) ≡ spelling recv_seen
+    (recv_value from seq prev body signature)
 unfolding content signature_digest
 recv_content_is from seq prev body signature = simp (append-nil, append_assoc)
 
@@ -114,7 +116,8 @@ module _ (all : List (List ℕ)) (unlike : NoCollision all) where
   one_ack to to' seq seq' mine mine' number number' prev prev' s t f g i j e =
       let a = f.2 in
       let b = g.2 in
-      let same = one_value ack_seen (ack_value to seq mine number prev s) (ack_value to' seq' mine' number' prev' t)
+      let same = one_value ack_seen (ack_value to seq mine number prev s)
+      (ack_value to' seq' mine' number' prev' t)
       (a.0, (a.1.0.0, (a.1.1.0, (a.1.1.1.0.0, (a.1.1.1.1.0, length-sha256 (signature_text s))))))
       (b.0, (b.1.0.0, (b.1.1.0, (b.1.1.1.0.0, (b.1.1.1.1.0, length-sha256 (signature_text t))))))
       (sym (ack_content_is to seq mine number prev s) ∙ e ∙ ack_content_is to' seq' mine' number' prev' t) in
@@ -127,7 +130,8 @@ module _ (all : List (List ℕ)) (unlike : NoCollision all) where
       → content (Clock a b) ≡ content (Clock a' b') → Clock a b ≡ Clock a' b'
   unfolding content
   one_clock a a' b b' f f' g g' e =
-      ap (λ (v : Value (pair word word)). Clock v.0 v.1) (one_value (pair word word) (a, b) (a', b') (f, g) (f', g') e)
+      ap (λ (v : Value (pair word word)). Clock v.0 v.1)
+      (one_value (pair word word) (a, b) (a', b') (f, g) (f', g') e)
 
   one_check : (a b : List ℕ) → content (Check a) ≡ content (Check b) → Check a ≡ Check b
   unfolding content
@@ -137,21 +141,27 @@ module _ (all : List (List ℕ)) (unlike : NoCollision all) where
   pub one_entry : (e f : Entry) → Fits entry_item (entry_value e) → Fits entry_item (entry_value f)
       → Within (entry_texts e) all → Within (entry_texts f) all → SameContent e f → e ≡ f
   one_entry (Send to body) (Send to' body') f g i j same =
-      one_send to to' body body' f.2.0 g.2.0 (λ x k. i x (inr k)) (λ x k. j x (inr k)) (unlike _ _ (i _ (inl refl)) (j _ (inl refl)) same.digest)
+      one_send to to' body body' f.2.0 g.2.0 (λ x k. i x (inr k)) (λ x k. j x (inr k))
+      (unlike _ _ (i _ (inl refl)) (j _ (inl refl)) same.digest)
   one_entry (Send to body) (Recv from' seq' prev' body' s') f g i j same = absurd (omega (arith, same.kind))
-  one_entry (Send to body) (Ack to' seq' mine' number' prev' s') f g i j same = absurd (omega (arith, same.kind))
+  one_entry (Send to body) (Ack to' seq' mine' number' prev' s') f g i j same =
+      absurd (omega (arith, same.kind))
   one_entry (Send to body) (Clock a' b') f g i j same = absurd (omega (arith, same.kind))
   one_entry (Send to body) (Check d') f g i j same = absurd (omega (arith, same.kind))
   one_entry (Recv from seq prev body s) (Send to' body') f g i j same = absurd (omega (arith, same.kind))
   one_entry (Recv from seq prev body s) (Recv from' seq' prev' body' s') f g i j same =
-      one_recv from from' seq seq' prev prev' body body' s s' f g (λ x k. i x (inr k)) (λ x k. j x (inr k)) (unlike _ _ (i _ (inl refl)) (j _ (inl refl)) same.digest)
-  one_entry (Recv from seq prev body s) (Ack to' seq' mine' number' prev' s') f g i j same = absurd (omega (arith, same.kind))
+      one_recv from from' seq seq' prev prev' body body' s s' f g (λ x k. i x (inr k)) (λ x k. j x (inr k))
+      (unlike _ _ (i _ (inl refl)) (j _ (inl refl)) same.digest)
+  one_entry (Recv from seq prev body s) (Ack to' seq' mine' number' prev' s') f g i j same =
+      absurd (omega (arith, same.kind))
   one_entry (Recv from seq prev body s) (Clock a' b') f g i j same = absurd (omega (arith, same.kind))
   one_entry (Recv from seq prev body s) (Check d') f g i j same = absurd (omega (arith, same.kind))
   one_entry (Ack to seq mine number prev s) (Send to' body') f g i j same = absurd (omega (arith, same.kind))
-  one_entry (Ack to seq mine number prev s) (Recv from' seq' prev' body' s') f g i j same = absurd (omega (arith, same.kind))
+  one_entry (Ack to seq mine number prev s) (Recv from' seq' prev' body' s') f g i j same =
+      absurd (omega (arith, same.kind))
   one_entry (Ack to seq mine number prev s) (Ack to' seq' mine' number' prev' s') f g i j same =
-      one_ack to to' seq seq' mine mine' number number' prev prev' s s' f g (λ x k. i x (inr k)) (λ x k. j x (inr k)) (unlike _ _ (i _ (inl refl)) (j _ (inl refl)) same.digest)
+      one_ack to to' seq seq' mine mine' number number' prev prev' s s' f g (λ x k. i x (inr k))
+      (λ x k. j x (inr k)) (unlike _ _ (i _ (inl refl)) (j _ (inl refl)) same.digest)
   one_entry (Ack to seq mine number prev s) (Clock a' b') f g i j same = absurd (omega (arith, same.kind))
   one_entry (Ack to seq mine number prev s) (Check d') f g i j same = absurd (omega (arith, same.kind))
   one_entry (Clock a b) (Send to' body') f g i j same = absurd (omega (arith, same.kind))

@@ -52,13 +52,22 @@ each_unforged ms node log None h = tt
 each_unforged ms node log (Some a) h = (λ of signed. absurd (h signed), tt)
 
 -- a fork of authenticators that the node didn't sign proves nothing
-pub unsigned : (ms : List Member) (member : Member) (node at : ℕ) (a : Authenticator) (b : Option Authenticator)
+pub unsigned : (ms : List Member) (member : Member) (node at : ℕ) (a : Authenticator)
+    (b : Option Authenticator)
     → IsHonestLog ms (opening_of member) [] (opening_of member)
     → member_of ms node ≡ Some member → ¬ IsSignedIn ms a → IfSome b (λ c. ¬ IsSignedIn ms c)
-    → let showings : ForkParts = record { at = at; a = authenticator_showing a; b = option_map authenticator_showing b } in
+    → let showings : ForkParts = record {
+      at = at;
+      a = authenticator_showing a;
+      b = option_map authenticator_showing b;
+    } in
     ¬ Proves ms (record { node = node; charge = Fork showings })
 unsigned ms member node at a b honest there h k =
-    let showings : ForkParts = record { at = at; a = authenticator_showing a; b = option_map authenticator_showing b } in
+    let showings : ForkParts = record {
+      at = at;
+      a = authenticator_showing a;
+      b = option_map authenticator_showing b;
+    } in
     own_texts ms member (record { node = node; charge = Fork showings }) [] (opening_of member) there
     (record { each = tt; few = omega arith }) honest
     (λ of signed. absurd (h signed), each_unforged ms member.node [] b k)

@@ -39,7 +39,8 @@ reading_honest ms node = record {
 
 -- its two texts have two digests, as they are worked out
 two_digests : sha256 (chain_text zeros (link_of 1 (Clock 1 0))) ≡ sha256 (content (Clock 1 0)) → ⊥
-unfolding first_words schedule rounds compress sha.hash_after digest_bytes sha256 chain_text zeros content number_spelling
+unfolding first_words schedule rounds compress sha.hash_after digest_bytes sha256 chain_text zeros content
+    number_spelling
 two_digests e = absurd (omega (arith, ap (λ xs. slice_index xs 0) e))
 
 reading_texts : NoCollision (log_texts reading)
@@ -56,10 +57,14 @@ reading_log = record { each = ((omega arith, refl, (omega arith, omega arith)), 
 
 -- a client's segment of one clock reading proves nothing, whatever signature closes it
 pub reading_proves_nothing : (ms : List Member) (member : Member) (node : ℕ) (closing : Authenticator)
-    → member_of ms node ≡ Some member → member.kind ≡ Client → closing.number ≡ 1 → closing.hash ≡ log_hash reading
+    → member_of ms node ≡ Some member → member.kind ≡ Client → closing.number ≡ 1
+    → closing.hash ≡ log_hash reading
     → ¬ Proves ms (record { node = node; charge = Replay (one_reading node closing) })
 reading_proves_nothing ms member node closing there kind number hash =
-    let opening : opening_client member.node ≡ opening_of member = sym (ap (λ k. opening_by k member.node) kind) in
-    own_texts ms member (record { node = node; charge = Replay (one_reading node closing) }) reading (read_once member.node)
-    there reading_log (subst (λ o. IsHonestLog ms o reading (read_once member.node)) opening (reading_honest ms member.node))
+    let opening : opening_client member.node ≡ opening_of member =
+    sym (ap (λ k. opening_by k member.node) kind) in
+    own_texts ms member (record { node = node; charge = Replay (one_reading node closing) }) reading
+    (read_once member.node)
+    there reading_log (subst (λ o. IsHonestLog ms o reading (read_once member.node)) opening
+    (reading_honest ms member.node))
     ((λ of signed. inr (inl (ap₂ (λ n h. (n, h)) number hash))), tt) (λ t i. i) reading_texts

@@ -41,7 +41,8 @@ pub record Splits (first : ℕ) (es : List Entry) (xs ys : List Link) : Type 0 w
   -- the links of the second part, numbered on from the first
   pub other : (next : ℕ) → next ≡ first + length xs → links_from next back ≡ ys
 
-split : (first : ℕ) (es : List Entry) (xs ys : List Link) → links_from first es ≡ xs ++ ys → Splits first es xs ys
+split : (first : ℕ) (es : List Entry) (xs ys : List Link) → links_from first es ≡ xs ++ ys
+    → Splits first es xs ys
 split first es [] ys h = record {
   front = [];
   back = es;
@@ -63,7 +64,8 @@ split first (e ∷ es) (x ∷ xs) ys h =
     }
 
 -- entries with the same links are the same
-same_entries : (all : List (List ℕ)) → NoCollision all → (first : ℕ) (es fs : List Entry) → EachFits es → EachFits fs
+same_entries : (all : List (List ℕ)) → NoCollision all → (first : ℕ) (es fs : List Entry) → EachFits es
+    → EachFits fs
     → Within (flat_map entry_texts es) all → Within (flat_map entry_texts fs) all
     → links_from first es ≡ links_from first fs → es ≡ fs
 same_entries all unlike first [] [] a b i j h = refl
@@ -84,7 +86,8 @@ same_entries all unlike first (e ∷ es) (f ∷ fs) a b i j h =
     ap₂ (λ z zs. z ∷ zs) one others
 
 -- the texts of the middle of some entries are among those of all
-middle_texts : (xs ys zs : List Entry) → Within (flat_map entry_texts ys) (flat_map entry_texts (xs ++ (ys ++ zs)))
+middle_texts : (xs ys zs : List Entry)
+    → Within (flat_map entry_texts ys) (flat_map entry_texts (xs ++ (ys ++ zs)))
 middle_texts xs ys zs t i =
     let us = flat_map entry_texts xs in
     let vs = flat_map entry_texts ys in
@@ -107,8 +110,10 @@ pub record AreEntries (log : List Entry) (count : ℕ) (es : List Entry) : Type 
   pub place : length before ≡ count
 
 -- Entries whose links stand among those of a log are the log's there.
-pub entries_in_log : (all : List (List ℕ)) → NoCollision all → (log es : List Entry) (first : ℕ) (before rest : List Link)
-    → EachFits log → EachFits es → Within (flat_map entry_texts log) all → Within (flat_map entry_texts es) all
+pub entries_in_log : (all : List (List ℕ)) → NoCollision all
+    → (log es : List Entry) (first : ℕ) (before rest : List Link)
+    → EachFits log → EachFits es → Within (flat_map entry_texts log) all
+    → Within (flat_map entry_texts es) all
     → links_from 1 log ≡ before ++ (links_from first es ++ rest) → length before + 1 ≡ first
     → AreEntries log (length before) es
 entries_in_log all unlike log es first before rest fits fits' i j h n =
@@ -116,12 +121,15 @@ entries_in_log all unlike log es first before rest fits fits' i j h n =
     let a = split 1 log before (links ++ rest) h in
     let b = split first a.back links rest (a.other first (omega (arith, n))) in
     let whole : log ≡ a.front ++ (b.front ++ b.back) = a.whole ∙ ap (λ zs. a.front ++ zs) b.whole in
-    let each : EachFits (b.front ++ b.back) = each_back a.front (b.front ++ b.back) (subst EachFits whole fits) in
+    let each : EachFits (b.front ++ b.back) =
+    each_back a.front (b.front ++ b.back) (subst EachFits whole fits) in
     let texts : Within (flat_map entry_texts b.front) (flat_map entry_texts log) =
     subst (λ zs. Within (flat_map entry_texts b.front) (flat_map entry_texts zs)) (sym whole)
     (middle_texts a.front b.front b.back) in
     let same : b.front ≡ es =
-    same_entries all unlike first b.front es (all_front (λ e. Fits entry_item (entry_value e)) b.front b.back each) fits' (λ t k. i t (texts t k)) j b.one in
+    same_entries all unlike first b.front es
+    (all_front (λ e. Fits entry_item (entry_value e)) b.front b.back each) fits'
+    (λ t k. i t (texts t k)) j b.one in
     record {
       before = a.front;
       rest = b.back;

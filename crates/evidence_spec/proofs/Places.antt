@@ -22,10 +22,12 @@ pub shown_numbered : (first : ℕ) (ls : List ShownLink) → AreNumbered first (
 shown_numbered first [] = tt
 shown_numbered first (l ∷ ls) = (refl, shown_numbered (first + 1) ls)
 
+-- numbering keeps how many there are
 pub length-numbered : (first : ℕ) (ls : List ShownLink) → length (numbered first ls) ≡ length ls
 length-numbered first [] = refl
 length-numbered first (l ∷ ls) = ap suc (length-numbered (first + 1) ls)
 
+-- there is a link for each entry
 pub length-links : (first : ℕ) (es : List Entry) → length (links_from first es) ≡ length es
 length-links first [] = refl
 length-links first (e ∷ es) = ap suc (length-links (first + 1) es)
@@ -33,7 +35,8 @@ length-links first (e ∷ es) = ap suc (length-links (first + 1) es)
 -- ---- a pair's place
 
 -- a number and a hash are those after the first links of a chain
-pub record IsAfter (before : ℕ) (opening : List ℕ) (links : List Link) (number : ℕ) (hash : List ℕ) : Type 0 where
+pub record IsAfter (before : ℕ) (opening : List ℕ) (links : List Link) (number : ℕ)
+    (hash : List ℕ) : Type 0 where
   -- the links up to there
   pub front : List Link
   -- the links after them
@@ -77,8 +80,10 @@ behind before opening (l ∷ links) number hash n (inr i) =
 pub among : (before : ℕ) (opening : List ℕ) (front rest : List Link) (number : ℕ)
     → AreNumbered (before + 1) (front ++ rest) → number ≡ before + length front
     → IsAmong (number, last_hash opening front) (pairs before opening (front ++ rest))
-among before opening [] [] number n h = let same : number ≡ before = omega (arith, h) in inl (ap (λ k. (k, opening)) same)
-among before opening [] (l ∷ rest) number n h = let same : number ≡ before = omega (arith, h) in inl (ap (λ k. (k, opening)) same)
+among before opening [] [] number n h = let same : number ≡ before =
+    omega (arith, h) in inl (ap (λ k. (k, opening)) same)
+among before opening [] (l ∷ rest) number n h = let same : number ≡ before =
+    omega (arith, h) in inl (ap (λ k. (k, opening)) same)
 among before opening (l ∷ front) rest number n h =
     let rising : AreNumbered (l.number + 1) (front ++ rest) =
     subst (λ k. AreNumbered (k + 1) (front ++ rest)) (sym n.0) n.1 in
@@ -87,7 +92,8 @@ among before opening (l ∷ front) rest number n h =
 -- ---- one hash at a number
 
 -- lists that begin one list, and are of one length, are the same
-pub one_beginning : {A : Type 0} (xs ys us vs : List A) → xs ++ us ≡ ys ++ vs → length xs ≡ length ys → xs ≡ ys
+pub one_beginning : {A : Type 0} (xs ys us vs : List A) → xs ++ us ≡ ys ++ vs → length xs ≡ length ys
+    → xs ≡ ys
 one_beginning [] [] us vs e n = refl
 one_beginning [] (y ∷ ys) us vs e n = absurd (omega arith)
 one_beginning (x ∷ xs) [] us vs e n = absurd (omega arith)
@@ -97,7 +103,8 @@ one_beginning (x ∷ xs) (y ∷ ys) us vs e n =
     ap₂ (λ z zs. z ∷ zs) heads (one_beginning xs ys us vs tails (omega arith))
 
 -- what holds of each of a list holds of each of its first
-pub all_front : {A : Type 0} (P : A → Type 0) (xs ys : List A) → AllByRecursion P (xs ++ ys) → AllByRecursion P xs
+pub all_front : {A : Type 0} (P : A → Type 0) (xs ys : List A) → AllByRecursion P (xs ++ ys)
+    → AllByRecursion P xs
 all_front P [] ys each = tt
 all_front P (x ∷ xs) ys each = (each.0, all_front P xs ys each.1)
 

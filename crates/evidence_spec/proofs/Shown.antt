@@ -36,30 +36,40 @@ log_chain log is = record { opened = zeros-length; each = links-are-links 1 log 
 each_link : (first : ℕ) (ls : List ShownLink) → AllByRecursion (Fits link_item) (map link_value ls)
     → first + length ls ≤ 2 ^ 64 → AllByRecursion IsLink (numbered first ls)
 each_link first [] each few = tt
-each_link first (l ∷ ls) each few =
-    (record { number = omega (arith, few); kind = each.0.0.0; content = each.0.1 }, each_link (first + 1) ls each.1 (omega (arith, few)))
+each_link first (l ∷ ls) each few = (
+  record { number = omega (arith, few); kind = each.0.0.0; content = each.0.1 },
+  each_link
+      (first + 1) ls each.1 (omega (arith, few)),
+)
 
 module _ (ms : List Member) (log : List Entry) (s : ShowingParts) where
   -- what a closed showing shows is in the log, where its closing's pair is and no two texts have one digest
   pub showing_in_log : IsLog log → Fits showing_item (showing_value s) → IsClosedShowing ms s
-      → IsAmong (s.closing.number, s.closing.hash) (log_pairs log) → NoCollision (log_texts log ++ showing_texts s)
+      → IsAmong (s.closing.number, s.closing.hash) (log_pairs log)
+      → NoCollision (log_texts log ++ showing_texts s)
       → (number : ℕ) (hash : List ℕ) → Shows s number hash → IsAmong (number, hash) (log_pairs log)
   showing_in_log is fits closed i unlike number hash shown =
       let links = numbered s.first s.links in
       let whole = links_from 1 log in
       let small : s.closing.number + 1 < 2 ^ 64 = next_fits s.closing.number fits.1.1.1.1.1.0.1 in
       let chain : IsChain s.opening links =
-      record { opened = fits.1.1.0; each = each_link s.first s.links fits.1.1.1.0.2 (omega (arith, small, closed.number)) } in
+      record {
+        opened = fits.1.1.0;
+        each = each_link s.first s.links fits.1.1.1.0.2 (omega (arith, small, closed.number));
+      } in
       let count : s.closing.number + 1 ≡ s.first + length links =
       omega (arith, closed.number, length-numbered s.first s.links) in
-      let within : Within (chain_texts zeros whole ++ chain_texts s.opening links) (log_texts log ++ showing_texts s) =
+      let within : Within (chain_texts zeros whole ++ chain_texts s.opening links)
+      (log_texts log ++ showing_texts s) =
       both (chain_texts zeros whole) (showing_texts s) (log_texts log ++ showing_texts s)
-      (λ t k. left (log_texts log) (showing_texts s) t (left (chain_texts zeros whole) (flat_map entry_texts log) t k))
+      (λ t k. left (log_texts log) (showing_texts s) t
+      (left (chain_texts zeros whole) (flat_map entry_texts log) t k))
       (right (log_texts log) (showing_texts s)) in
       let part : IsPartOfChain whole s.first s.opening links =
       ends_in_log whole links s.first s.opening s.closing.number s.closing.hash (entries_numbered 1 log)
       (log_chain log is) chain closed.first count closed.hash
-      (fewer (chain_texts zeros whole ++ chain_texts s.opening links) (log_texts log ++ showing_texts s) within unlike) i in
+      (fewer (chain_texts zeros whole ++ chain_texts s.opening links)
+      (log_texts log ++ showing_texts s) within unlike) i in
       shown_in_log whole links s.first s.opening number hash (entries_numbered 1 log)
       (shown_numbered s.first s.links) closed.first part shown
 
@@ -76,13 +86,17 @@ module _ (ms : List Member) (log : List Entry) (s : SegmentParts) (is : IsLog lo
       let small : s.closing.number + 1 < 2 ^ 64 = next_fits s.closing.number fits.1.1.1.1.1.0.1 in
       let count : s.closing.number + 1 ≡ s.first + length links =
       omega (arith, closed.ends.number, length-links s.first s.entries) in
-      let within : Within (chain_texts zeros whole ++ chain_texts s.opening links) (log_texts log ++ segment_texts s) =
+      let within : Within (chain_texts zeros whole ++ chain_texts s.opening links)
+      (log_texts log ++ segment_texts s) =
       both (chain_texts zeros whole) (chain_texts s.opening links) (log_texts log ++ segment_texts s)
-      (λ t k. left (log_texts log) (segment_texts s) t (left (chain_texts zeros whole) (flat_map entry_texts log) t k))
-      (λ t k. right (log_texts log) (segment_texts s) t (left (chain_texts s.opening links) (flat_map entry_texts s.entries) t k)) in
+      (λ t k. left (log_texts log) (segment_texts s) t
+      (left (chain_texts zeros whole) (flat_map entry_texts log) t k))
+      (λ t k. right (log_texts log) (segment_texts s) t
+      (left (chain_texts s.opening links) (flat_map entry_texts s.entries) t k)) in
       ends_in_log whole links s.first s.opening s.closing.number s.closing.hash (entries_numbered 1 log)
       (log_chain log is) (is_chain ms s fits.1.1.0 small closed) (omega (arith, some)) count closed.ends.hash
-      (fewer (chain_texts zeros whole ++ chain_texts s.opening links) (log_texts log ++ segment_texts s) within unlike) i
+      (fewer (chain_texts zeros whole ++ chain_texts s.opening links)
+      (log_texts log ++ segment_texts s) within unlike) i
 
   -- the segment's pairs are the log's
   pub segment_in_log : (number : ℕ) (hash : List ℕ) → IsAmong (number, hash) (segment_pairs s)
@@ -95,10 +109,17 @@ module _ (ms : List Member) (log : List Entry) (s : SegmentParts) (is : IsLog lo
   pub segment_is_part : IsPartOf log s
   segment_is_part =
       let part = segment_part in
-      let found = entries_in_log (log_texts log ++ segment_texts s) unlike log s.entries s.first part.before part.rest
+      let found = entries_in_log (log_texts log ++ segment_texts s) unlike log s.entries s.first part.before
+      part.rest
       is.each (each_of_values s.entries fits.1.1.1.0.2)
-      (λ t k. left (log_texts log) (segment_texts s) t (right (chain_texts zeros (links_from 1 log)) (flat_map entry_texts log) t k))
+      (λ t k. left (log_texts log) (segment_texts s) t
+      (right (chain_texts zeros (links_from 1 log)) (flat_map entry_texts log) t k))
       (λ t k. right (log_texts log) (segment_texts s) t
       (right (chain_texts s.opening (links_from s.first s.entries)) (flat_map entry_texts s.entries) t k))
       part.whole part.place in
-      record { before = found.before; rest = found.rest; whole = found.whole; place = omega (arith, found.place, part.place) }
+      record {
+        before = found.before;
+        rest = found.rest;
+        whole = found.whole;
+        place = omega (arith, found.place, part.place);
+      }

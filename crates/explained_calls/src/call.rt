@@ -14,8 +14,8 @@ use std::alloc::{AllocError, Global};
 const AUTH_SYS: u32 = 1;
 
 /// Adds what a call to a server says: its number, the credential, the procedure and what it is asked of. The
-/// bytes are a call's (RFC 5531, section 9); what doesn't decode is told as such, with its bytes. `AllocError`
-/// comes only where a growth was refused.
+/// bytes are a call's (RFC 5531, section 9); what doesn't decode is told as such, with its bytes.
+/// `AllocError` comes only where a growth was refused.
 pub fn add_call(
     alloc: Global,
     facts: &mut Facts,

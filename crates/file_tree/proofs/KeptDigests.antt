@@ -21,7 +21,8 @@ still number k k' forgets n d kept =
     (other, sym (forgets.others n other) ∙ kept)
 
 -- a digest is that of a file's text while the file stays
-stays : (w w' : Files) (n : ℕ) (d : List ℕ) → file_at w' n ≡ file_at w n → IsDigestAt w n d → IsDigestAt w' n d
+stays : (w w' : Files) (n : ℕ) (d : List ℕ) → file_at w' n ≡ file_at w n → IsDigestAt w n d
+    → IsDigestAt w' n d
 stays w w' n d same is = (is.0, same ∙ is.1, is.2)
 
 module _ (w w' : Files) (k : FileDigests) (kept : AreKept k w) where

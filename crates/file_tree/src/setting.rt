@@ -15,9 +15,9 @@ use nfs_spec::nfs_items_code::{Fattr, Sattr, Stat, Time, Who};
 use std::alloc::AllocError;
 
 impl Tree {
-    /// Sets the attributes of a file that are given (RFC 1094, section 2.2.3), and gives all of them after it.
-    /// Stale, then Perm, then IsDir, NxIo, Acces, FBig and NoSpc where a size is given. A refusal, or running
-    /// out of memory, leaves the files as they were.
+    /// Sets the attributes of a file that are given (RFC 1094, section 2.2.3), and gives all of them after
+    /// it. Stale, then Perm, then IsDir, NxIo, Acces, FBig and NoSpc where a size is given. A refusal, or
+    /// running out of memory, leaves the files as they were.
     pub fn set_attributes(
         &mut self,
         who: &Who,

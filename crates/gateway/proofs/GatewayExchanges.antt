@@ -193,10 +193,12 @@ module _ {Link : Type 0} (Exchanges : Link → Timeval → List ℕ → Option (
         (one_more_taken readings readings₁ readings' (length rs) taken_so_far rest)
 
     -- a record was read at a reading of the clock, and exchanged
-    asked_one : {A : Type 0} (result : Result A StreamFault) (link' : Link) (readings' : Option Readings) (e : Exchange)
+    asked_one : {A : Type 0} (result : Result A StreamFault) (link' : Link) (readings' : Option Readings)
+        (e : Exchange)
         → IfSome readings₁ (λ g. e.time ≡ g 0) → IfSome readings₁ (λ g. IsAfter 1 g readings')
         → Exchanges between e.time e.bytes e.reply link'
-        → IsAsked Exchanges Fails link link' readings readings' (made ++ e ∷ []) result (rs ++ e.bytes ∷ []) []
+        → IsAsked Exchanges Fails link link' readings readings' (made ++ e ∷ []) result
+        (rs ++ e.bytes ∷ []) []
     asked_one result link' readings' e reading rest step = record {
       readings_taken =
           let same : length ((rs ++ e.bytes ∷ []) ++ []) ≡ length (rs ++ e.bytes ∷ []) =
@@ -209,7 +211,8 @@ module _ {Link : Type 0} (Exchanges : Link → Timeval → List ℕ → Option (
     }
 
     -- a record was read at a reading of the clock, and the link failed
-    asked_last : {A : Type 0} (result : Result A StreamFault) (link' : Link) (readings' : Option Readings) (time : Timeval)
+    asked_last : {A : Type 0} (result : Result A StreamFault) (link' : Link) (readings' : Option Readings)
+        (time : Timeval)
         (r : List ℕ) (fault : LinkFault)
         → IfSome readings₁ (λ g. time ≡ g 0) → IfSome readings₁ (λ g. IsAfter 1 g readings')
         → Fails between time r fault link' → result ≡ Err (of_link fault)
@@ -245,7 +248,8 @@ module _ {Link : Type 0} (Exchanges : Link → Timeval → List ℕ → Option (
         made',
         pushes (owes_too p (text_given made') (given_before a (e ∷ [])))
             (Asked link link' readings readings' made') written' (record_of reply) reads
-            (given_after a e ∙ ap (λ (t : List ℕ). t ++ record_of reply) (sym (given_before a (e ∷ [])))) wrote
+            (given_after a e ∙ ap (λ (t : List ℕ). t ++ record_of reply) (sym (given_before a (e ∷ []))))
+            wrote
             (asked_one p.leaves (Ok tt) link' readings' e reading rest step),
       )
 
@@ -350,8 +354,10 @@ module _ {Link : Type 0} (Exchanges : Link → Timeval → List ℕ → Option (
       let a = p.leaves.exchanged refl in (
         made',
         rw (device, fresh) (stops_in_reply (owes_too p (text_given made') (given_before a (x ∷ [])))
-            (IsAsked Exchanges Fails link link' readings readings' made' result) written' (record_of reply) reads
-            (given_after a x ∙ ap (λ (t : List ℕ). t ++ record_of reply) (sym (given_before a (x ∷ [])))) wrote
+            (IsAsked Exchanges Fails link link' readings readings' made' result) written'
+            (record_of reply) reads
+            (given_after a x ∙ ap (λ (t : List ℕ). t ++ record_of reply) (sym (given_before a (x ∷ []))))
+            wrote
             (asked_one p.leaves result link' readings' x reading rest step)),
       )
   asks_answering result e failed link between link' readings readings₁ readings' k before mid mid'

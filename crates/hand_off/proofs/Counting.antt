@@ -21,10 +21,12 @@ at_end : {A : Type 0} (l : List A) (a b : A) (j : ℕ) → get_elem? (l ++ a ∷
 at_end [] a b zero e = inr (refl, some-injective a b e)
 at_end [] a b (suc j) e = absurd (some-ne-none b (sym e))
 at_end (x ∷ xs) a b zero e = inl e
-at_end (x ∷ xs) a b (suc j) e = elim (at_end xs a b j e) [ inl h ↦ inl h | inr h ↦ inr (omega (arith, h.0), h.1) ]
+at_end (x ∷ xs) a b (suc j) e =
+    elim (at_end xs a b j e) [ inl h ↦ inl h | inr h ↦ inr (omega (arith, h.0), h.1) ]
 
 -- a phase stays where a worker's view that names the job stays
-phase_moves : (s s' : SlotState) (job job' : Option JobParts) (home home' : Bool) (n : ℕ) → job ≡ job' → home ≡ home'
+phase_moves : (s s' : SlotState) (job job' : Option JobParts) (home home' : Bool) (n : ℕ) → job ≡ job'
+    → home ≡ home'
     → s.homes ≡ s'.homes → ((j w : ℕ) (t : JobParts) → Sees s j (Holds w t) → Sees s' j (Holds w t))
     → Phase s job home n → Phase s' job' home' n
 phase_moves s s' job job' home home' n jobs at_homes homes sees phase = elim phase [
@@ -32,7 +34,17 @@ phase_moves s s' job job' home home' n jobs at_homes homes sees phase = elim pha
   | inr h ↦ elim h [
     | inl e ↦ inr (inl (e.0, (e.1.0, sym jobs ∙ e.1.1, subst (Q (Some (Job e.1.0))) homes e.1.2)))
     | inr g ↦ elim g [
-      | inl e ↦ inr (inr (inl (e.0, (e.1.0, e.1.1, sym jobs ∙ e.1.2, subst (Q (Some e.1.1)) homes e.1.3, e.1.4))))
+      | inl e ↦ inr (inr (inl (
+        e.0,
+        (
+          e.1.0,
+          e.1.1,
+          sym jobs
+              ∙ e.1.2,
+          subst (Q (Some e.1.1)) homes e.1.3,
+          e.1.4,
+        ),
+      )))
       | inr e ↦ inr (inr (inr (e.0, e.1, e.2, e.3, sym jobs ∙ e.4, sees e.0 e.1 e.2 e.5)))
     ]
   ]
@@ -79,12 +91,17 @@ module _ (id : ℕ) (job : Option JobParts) (home : Bool) (c : Workers) where
           | inl f ↦ elim (at_set s.views id j more v f) [ inl h ↦ h.0 | inr h ↦ k.only j v h.1 p ∙ sym mine ]
           | inr h ↦ absurd (plain v h.1 p)
         ];
-        phase = phase_moves s record { words = s.words; homes = s.homes; views = vs ++ new ∷ [] } k.job job k.home
+        phase = phase_moves s record {
+          words = s.words;
+          homes = s.homes;
+          views = vs ++ new ∷ [];
+        } k.job job k.home
             home (word_of s) jobs at_homes refl
             (λ j w t e. at_longer vs (new ∷ []) j (Holds w t)
             (set_else s.views id j more
             (λ q. not_a_holder job home c w t
-            (one_view s id before (Holds w t) at (subst (λ (x : ℕ). Sees s x (Holds w t)) q e))) ∙ e)) k.phase;
+            (one_view s id before (Holds w t) at (subst (λ (x : ℕ). Sees s x (Holds w t)) q e))) ∙ e))
+            k.phase;
         named = λ j w t e. elim (at_end vs new (Holds w t) j e) [
           | inl f ↦ elim (at_set s.views id j more (Holds w t) f) [
             | inl h ↦ absurd (not_a_holder _ _ _ w t h.1)
@@ -141,7 +158,8 @@ module _ (id : ℕ) (job : Option JobParts) (home : Bool) (c : Workers) where
       no_number v w h p = let g : number more ≡ Some w = ap number h ∙ p in none_some w g
 
       number_is : (v : View) (w : ℕ) → Idle c.made ≡ v → number v ≡ Some w → w ≡ c.made
-      number_is v w h p = let g : number (Idle c.made) ≡ Some w = ap number h ∙ p in let f : c.made ≡ w = cc in sym f
+      number_is v w h p = let g : number (Idle c.made) ≡ Some w = ap number h ∙ p in let f : c.made ≡ w =
+          cc in sym f
 
   -- the poster's view with one worker retired
   abbrev fewer : View
@@ -157,7 +175,8 @@ module _ (id : ℕ) (job : Option JobParts) (home : Bool) (c : Workers) where
       let vs : List View = set s.views id fewer in
       let mine : id ≡ k.seat = k.only id before at refl in
       let spent : Sees s other (Idle x) = sym (set_else s.views id other fewer apart) ∙ at' in
-      let back = (λ (j : ℕ) (v : View) (e : get_elem? (set vs other Retired) j ≡ some v). seen s other j v e) in
+      let back = (λ (j : ℕ) (v : View) (e : get_elem? (set vs other Retired) j ≡ some v). seen s other j v
+      e) in
       record {
         seat = id;
         job = job;
@@ -168,9 +187,19 @@ module _ (id : ℕ) (job : Option JobParts) (home : Bool) (c : Workers) where
         posts = set_else vs other id Retired (λ e. apart (sym e))
             ∙ set_here s.views id fewer (there_at s.views id before at);
         only = λ j v e p.
-            elim (back j v e)
-            [ inl h ↦ absurd (gone v h p) | inr h ↦ elim h [ inl g ↦ g.0 | inr g ↦ k.only j v g p ∙ sym mine ] ];
-        phase = phase_moves s record { words = s.words; homes = s.homes; views = set vs other Retired } k.job job
+            elim (back j v e) [
+              | inl h ↦ absurd (gone v h p)
+              | inr h ↦ elim h [
+                | inl g ↦ g.0
+                | inr g ↦ k.only j v g p
+                    ∙ sym mine
+              ]
+            ];
+        phase = phase_moves s record {
+          words = s.words;
+          homes = s.homes;
+          views = set vs other Retired;
+        } k.job job
             k.home home (word_of s) jobs at_homes refl
             (λ j w t e.
             set_else vs other j Retired
@@ -178,7 +207,8 @@ module _ (id : ℕ) (job : Option JobParts) (home : Bool) (c : Workers) where
             (one_view s other (Idle x) (Holds w t) spent (subst (λ (y : ℕ). Sees s y (Holds w t)) q e)))
             ∙ (set_else s.views id j fewer
             (λ q. not_a_holder job home c w t
-            (one_view s id before (Holds w t) at (subst (λ (y : ℕ). Sees s y (Holds w t)) q e))) ∙ e)) k.phase;
+            (one_view s id before (Holds w t) at (subst (λ (y : ℕ). Sees s y (Holds w t)) q e))) ∙ e))
+            k.phase;
         named = λ j w t e.
             elim (back j (Holds w t) e) [
               | inl h ↦ absurd (gone_holds w t h)

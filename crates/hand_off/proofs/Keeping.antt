@@ -37,7 +37,8 @@ pub one_view : (s : SlotState) (j : ℕ) (v u : View) → Sees s j v → Sees s 
 one_view s j v u a b = some-injective v u (sym a ∙ b)
 
 -- how many workers are not retired
-live_cons : (x : View) (xs : List View) → count_by is_worker (x ∷ xs) ≡ cond (is_worker x) 1 0 + count_by is_worker xs
+live_cons : (x : View) (xs : List View)
+    → count_by is_worker (x ∷ xs) ≡ cond (is_worker x) 1 0 + count_by is_worker xs
 live_cons x xs = sum_by-cons (λ (v : View). cond (is_worker v) 1 0) x xs
 
 -- as many, where a view is replaced by one of the same kind
@@ -45,7 +46,8 @@ pub live_set : (vs : List View) (id : ℕ) (v u : View) → get_elem? vs id ≡ 
     → count_by is_worker (set vs id u) ≡ count_by is_worker vs
 live_set [] id v u at same = absurd (some-ne-none v (sym at))
 live_set (x ∷ xs) zero v u at same = live_cons u xs
-    ∙ (ap (λ (b : Bool). cond b 1 0 + count_by is_worker xs) (sym same ∙ ap is_worker (sym (some-injective x v at)))
+    ∙ (ap (λ (b : Bool). cond b 1 0 + count_by is_worker xs) (sym same
+    ∙ ap is_worker (sym (some-injective x v at)))
     ∙ sym (live_cons x xs))
 live_set (x ∷ xs) (suc id) v u at same = live_cons x (set xs id u)
     ∙ (ap (λ (n : ℕ). cond (is_worker x) 1 0 + n) (live_set xs id v u at same) ∙ sym (live_cons x xs))
@@ -81,10 +83,15 @@ a_worker (Holds x t) w h = refl
 a_worker Retired w h = absurd (none_some w h)
 
 -- the poster steps
-poster_moves : (s : SlotState) (k : Kept s) (id : ℕ) (v : View) (job : Option JobParts) (home : Bool) (c : Workers)
+poster_moves : (s : SlotState) (k : Kept s) (id : ℕ) (v : View) (job : Option JobParts) (home : Bool)
+    (c : Workers)
     (n : ℕ) (homes : List (mathlib.Core.Option.Option Content))
     → Sees s id v → is_poster v ≡ true → c.made ≡ k.who.made → c.retired ≡ k.who.retired → 0 < length homes
-    → Phase record { words = set s.words 0 n; homes = homes; views = set s.views id (Poster job home c) } job home n
+    → Phase record {
+      words = set s.words 0 n;
+      homes = homes;
+      views = set s.views id (Poster job home c);
+    } job home n
     → ((j w : ℕ) (t : JobParts) → Sees s j (Holds w t) → (n ≡ w + 3) × (job ≡ Some t))
     → ((x : ℕ) → c.noted ≡ Some x → (n ≡ x) × (c.retired ≡ c.made))
     → Kept record { words = set s.words 0 n; homes = homes; views = set s.views id (Poster job home c) }
@@ -102,11 +109,21 @@ poster_moves s k id v job home c n homes at is same gone room phase named noted 
       wide = omega (arith, length-set s.words 0 n, k.wide);
       roomy = room;
       posts = set_here s.views id new (there_at s.views id v at);
-      only = λ j u e p. elim (at_set s.views id j new u e) [ inl h ↦ h.0 | inr h ↦ k.only j u h.1 p ∙ sym mine ];
+      only = λ j u e p. elim (at_set s.views id j new u e) [
+        | inl h ↦ h.0
+        | inr h ↦ k.only j u h.1 p
+            ∙ sym mine
+      ];
       phase = rw word phase;
       named = λ j w t e.
-          elim (at_set s.views id j new (Holds w t) e)
-          [ inl h ↦ absurd (not_holds job home c w t h.1) | inr h ↦ let g = named j w t h.1 in (word ∙ g.0, g.1) ];
+          elim (at_set s.views id j new (Holds w t) e) [
+            | inl h ↦ absurd (not_holds job home c w t h.1)
+            | inr h ↦ let g = named j w t h.1 in (
+              word
+                  ∙ g.0,
+              g.1,
+            )
+          ];
       apart = λ j i w u x e f a b. elim (at_set s.views id j new u e) [
         | inl h ↦ absurd (no_number job home c u w h.1 a)
         | inr h ↦ elim (at_set s.views id i new x f)
@@ -139,7 +156,8 @@ poster_moves s k id v job home c n homes at is same gone room phase named noted 
 -- a worker steps
 worker_moves : (s : SlotState) (k : Kept s) (id w : ℕ) (v u : View) (n : ℕ)
     (homes : List (mathlib.Core.Option.Option Content))
-    → Sees s id v → number v ≡ Some w → is_poster v ≡ false → number u ≡ Some w → is_poster u ≡ false → 0 < length homes
+    → Sees s id v → number v ≡ Some w → is_poster v ≡ false → number u ≡ Some w → is_poster u ≡ false
+    → 0 < length homes
     → Phase record { words = set s.words 0 n; homes = homes; views = set s.views id u } k.job k.home n
     → ((j x : ℕ) (t : JobParts) → j ≢ id → Sees s j (Holds x t) → (n ≡ x + 3) × (k.job ≡ Some t))
     → ((t : JobParts) → u ≡ Holds w t → (n ≡ w + 3) × (k.job ≡ Some t))
@@ -161,12 +179,19 @@ worker_moves s k id w v u n homes at is plain is' plain' room phase others own =
       roomy = room;
       posts = set_else s.views id k.seat u away ∙ k.posts;
       only = λ j x e p.
-          elim (at_set s.views id j u x e)
-          [ inl h ↦ absurd (true_not_false (sym p ∙ (ap is_poster (sym h.1) ∙ plain'))) | inr h ↦ k.only j x h.1 p ];
+          elim (at_set s.views id j u x e) [
+            | inl h ↦ absurd (true_not_false (sym p ∙ (ap is_poster (sym h.1) ∙ plain')))
+            | inr h ↦ k.only j x
+                h.1 p
+          ];
       phase = rw word phase;
       named = λ j x t e. elim (at_set s.views id j u (Holds x t) e) [
         | inl h ↦ let same : w ≡ x = some_same w x (sym is' ∙ ap number h.1) in let g =
-            own t (h.1 ∙ ap (λ (y : ℕ). Holds y t) (sym same)) in (word ∙ (g.0 ∙ ap (λ (y : ℕ). y + 3) same), g.1)
+            own t (h.1 ∙ ap (λ (y : ℕ). Holds y t) (sym same)) in (
+              word
+                  ∙ (g.0 ∙ ap (λ (y : ℕ). y + 3) same),
+              g.1,
+            )
         | inr h ↦ let g = others j x t h.0 h.1 in (word ∙ g.0, g.1)
       ];
       apart = λ j i x a b e f p q. elim (at_set s.views id j u a e) [
@@ -203,7 +228,8 @@ pub same_job : (s : SlotState) (k : Kept s) (id : ℕ) (job : Option JobParts) (
     → Sees s id (Poster job home c) → Poster k.job k.home k.who ≡ Poster job home c
 same_job s k id job home c at =
     one_view s id (Poster k.job k.home k.who) (Poster job home c)
-    (subst (λ (x : ℕ). Sees s x (Poster k.job k.home k.who)) (sym (k.only id (Poster job home c) at refl)) k.posts) at
+    (subst (λ (x : ℕ). Sees s x (Poster k.job k.home k.who))
+    (sym (k.only id (Poster job home c) at refl)) k.posts) at
 
 -- the rule's phase, where the poster names no job
 is_empty : (s : SlotState) (k : Kept s) → k.job ≡ None → IsEmpty s k.job k.home (word_of s)
@@ -211,8 +237,11 @@ is_empty s k job = elim k.phase [
   | inl e ↦ e
   | inr h ↦ elim h [
     | inl e ↦ absurd (none_some e.1.0 (sym job ∙ e.1.1))
-    | inr g ↦ elim g
-        [ inl e ↦ absurd (none_some e.1.0 (sym job ∙ e.1.2)) | inr e ↦ absurd (none_some e.2 (sym job ∙ e.4)) ]
+    | inr g ↦ elim g [
+      | inl e ↦ absurd (none_some e.1.0 (sym job ∙ e.1.2))
+      | inr e ↦ absurd
+          (none_some e.2 (sym job ∙ e.4))
+    ]
   ]
 ]
 
@@ -261,7 +290,8 @@ takes_out_from slots id c s k long at small =
         (g.0, ap (λ (y : Workers). y.retired) (sym who) ∙ (g.1 ∙ ap (λ (y : Workers). y.made) who))
 
 -- so from any seat with that view
-pub takes_out_keeps : (slots id : ℕ) (c : Workers) (me : Seated) → me ≡ (Poster None true c, []) → Takes_out slots id me
+pub takes_out_keeps : (slots id : ℕ) (c : Workers) (me : Seated) → me ≡ (Poster None true c, [])
+    → Takes_out slots id me
 takes_out_keeps slots id c me is = subst (Takes_out slots id) (sym is) (takes_out_from slots id c)
 
 -- what the rule says of the noted word holds of the same workers
@@ -291,11 +321,13 @@ brings_back_from slots id c s k long at small =
           (inl (empty.0, refl, λ h. set_here s.homes 0 (some None) k.roomy))
           (λ j w t e. absurd (none_some t (sym job ∙ (k.named j w t e).1)))
           (λ x e. same_noted s k c who x e),
-      λ d q. ap (λ (x : Workers). (Poster None true x, [])) (same_workers _ _ _ _ c d (ap (λ (x : Seated). x.0) q)),
+      λ d q. ap (λ (x : Workers). (Poster None true x, []))
+          (same_workers _ _ _ _ c d (ap (λ (x : Seated). x.0) q)),
     )
 
 -- so from any seat with that view
-pub brings_back_keeps : (slots id : ℕ) (c : Workers) (me : Seated) → me ≡ (Poster None false c, (0, None) ∷ [])
+pub brings_back_keeps : (slots id : ℕ) (c : Workers) (me : Seated)
+    → me ≡ (Poster None false c, (0, None) ∷ [])
     → Brings_back slots id me
 brings_back_keeps slots id c me is = subst (Brings_back slots id) (sym is) (brings_back_from slots id c)
 
@@ -318,7 +350,8 @@ unfolding first_of
 same_first x y h = ap first_of h
 
 -- it may, where it names no job
-posts_from : (slots id : ℕ) (c : Workers) (t : JobParts) → Posts slots id (Poster None false c, (0, Some (Job t)) ∷ [])
+posts_from : (slots id : ℕ) (c : Workers) (t : JobParts)
+    → Posts slots id (Poster None false c, (0, Some (Job t)) ∷ [])
 posts_from slots id c t s k long at small =
     let v : View = Poster None false c in
     let same = same_job s k id None false c at in
@@ -390,7 +423,15 @@ takes_from slots id w s k long at small =
       ready.1.2,
       worker_moves s k id w (Idle w) (Holds w t) (w + 3) (set s.homes 0 none) at refl refl refl refl
           (omega (arith, length-set s.homes 0 none, k.roomy))
-          (inr (inr (inr (id, w, t, refl, job, set_here s.views id (Holds w t) (there_at s.views id (Idle w) at)))))
+          (inr (inr (inr (
+            id,
+            w,
+            t,
+            refl,
+            job,
+            set_here s.views id (Holds w t)
+                (there_at s.views id (Idle w) at),
+          ))))
           (λ j x u ne e. absurd (omega (arith, hit, (k.named j x u e).0)))
           (λ u q. (refl, job ∙ ap (λ (x : JobParts). Some x) (task_of w t u q))),
       λ x q.
@@ -418,7 +459,8 @@ abbrev Dones : ℕ → ℕ → Seated → Type 0
 Dones slots id me = Allows Kept slots id me 0 (λ _. 2) (λ r m. dones me m)
 
 -- it may, where what it gives back is of the job that it names
-dones_from : (slots id w : ℕ) (t : JobParts) (b : Back) → (job_in b ≡ t) → Dones slots id (Holds w t, (0, Some b) ∷ [])
+dones_from : (slots id w : ℕ) (t : JobParts) (b : Back) → (job_in b ≡ t)
+    → Dones slots id (Holds w t, (0, Some b) ∷ [])
 dones_from slots id w t b back s k long at small =
     let mine = k.named id w t at in (
       Idle w,
@@ -472,7 +514,8 @@ phase_same s id n v u job home words at is phase = elim phase [
             e.4,
             set_else s.views id e.0 u
                 (λ q. away v is e.1 e.2
-                (one_view s id v (Holds e.1 e.2) at (subst (λ (j : ℕ). Sees s j (Holds e.1 e.2)) q e.5))) ∙ e.5,
+                (one_view s id v (Holds e.1 e.2) at (subst (λ (j : ℕ). Sees s j (Holds e.1 e.2)) q e.5)))
+                ∙ e.5,
           )))
     ]
   ]
@@ -488,7 +531,8 @@ phase_same s id n v u job home words at is phase = elim phase [
 noted_is : (c : Workers) (n x : ℕ) → (noted_by c n).noted ≡ Some x → (n ≡ x) × (c.retired ≡ c.made)
 noted_is c n x h = at (c.retired == c.made) refl h
   where
-    at : (b : Bool) → (c.retired == c.made) ≡ b → cond b (Some n) None ≡ Some x → (n ≡ x) × (c.retired ≡ c.made)
+    at : (b : Bool) → (c.retired == c.made) ≡ b → cond b (Some n) None ≡ Some x
+        → (n ≡ x) × (c.retired ≡ c.made)
     at true is e = let g : n ≡ x = cc in (g, eqb-true c.retired c.made is)
     at false is e = absurd (none_some x e)
 
@@ -501,7 +545,8 @@ all_gone s k t job gone = elim k.phase [
     | inl e ↦ (omega (arith, e.0), omega (arith, e.0))
     | inr g ↦ elim g [
       | inl e ↦ (omega (arith, e.0), omega (arith, e.0))
-      | inr e ↦ let h = live_some s.views e.0 (Holds e.1 e.2) e.5 refl in absurd (omega (arith, h, gone, k.live))
+      | inr e ↦ let h = live_some s.views e.0 (Holds e.1 e.2) e.5 refl in absurd
+          (omega (arith, h, gone, k.live))
     ]
   ]
 ]
@@ -519,9 +564,11 @@ notes_from slots id c t s k long at small =
       Poster (Some t) false now,
       keeps,
       tt,
-      poster_moves s k id v (Some t) false now (word_of s) s.homes at refl (ap (λ (x : Workers). x.made) (sym who))
+      poster_moves s k id v (Some t) false now (word_of s) s.homes at refl
+          (ap (λ (x : Workers). x.made) (sym who))
           (ap (λ (x : Workers). x.retired) (sym who)) k.roomy
-          (phase_same s id (word_of s) v (Poster (Some t) false now) (Some t) false (set s.words 0 (word_of s)) at
+          (phase_same s id (word_of s) v (Poster (Some t) false now) (Some t) false
+          (set s.words 0 (word_of s)) at
           refl (subst P (λ i. (job i, home i)) k.phase))
           (λ j w u e. let g = k.named j w u e in (g.0, sym job ∙ g.1))
           (noted_is c (word_of s)),
@@ -531,7 +578,8 @@ notes_from slots id c t s k long at small =
             ap (λ (x : JobParts). (Poster (Some x) false now, [])) f
                 ∙ ap (λ (x : Workers). (Poster (Some u) false (noted_by x (word_of s)), [])) e,
             λ gone. all_gone s k t job
-                (ap (λ (x : Workers). x.retired) (who ∙ e) ∙ (gone ∙ ap (λ (x : Workers). x.made) (sym (who ∙ e)))),
+                (ap (λ (x : Workers). x.retired) (who ∙ e)
+                ∙ (gone ∙ ap (λ (x : Workers). x.made) (sym (who ∙ e)))),
           ),
     )
   where
@@ -539,24 +587,32 @@ notes_from slots id c t s k long at small =
     same_posted t u c d h = cc
 
 -- so from any seat with that view
-pub notes_keeps : (slots id : ℕ) (c : Workers) (t : JobParts) (me : Seated) → me ≡ (Poster (Some t) false c, [])
+pub notes_keeps : (slots id : ℕ) (c : Workers) (t : JobParts) (me : Seated)
+    → me ≡ (Poster (Some t) false c, [])
     → Notes slots id me
 notes_keeps slots id c t me is = subst (Notes slots id) (sym is) (notes_from slots id c t)
 
 -- The poster may try to collect at the word that it read.
 abbrev Collects : ℕ → ℕ → ℕ → Seated → Type 0
-Collects slots id old me = Allows Kept slots id me 0 (λ n. either (eqb n old) 0 n) (λ r m. collects old me r m)
+Collects slots id old me = Allows Kept slots id me 0 (λ n. either (eqb n old) 0 n)
+    (λ r m. collects old me r m)
 
 -- what lies in a slot that is ready or done is a Back of the poster's job
 abbrev Back_of : SlotState → JobParts → Type 0
 Back_of s t = (b : Back) × (job_in b ≡ t) × Lies s (Some b)
 
 -- it lies there, whether the slot is ready or done
-back_there : (s : SlotState) (k : Kept s) (t : JobParts) → k.job ≡ Some t → 0 < word_of s → word_of s < 3 → Back_of s t
+back_there : (s : SlotState) (k : Kept s) (t : JobParts) → k.job ≡ Some t → 0 < word_of s → word_of s < 3
+    → Back_of s t
 back_there s k t job some_ low = elim k.phase [
   | inl e ↦ absurd (none_some t (sym e.1 ∙ job))
   | inr h ↦ elim h [
-    | inl e ↦ (Job t, refl, subst (λ (x : JobParts). Lies s (Some (Job x))) (same_task (sym e.1.1 ∙ job)) e.1.2)
+    | inl e ↦ (
+      Job t,
+      refl,
+      subst (λ (x : JobParts). Lies s (Some (Job x)))
+          (same_task (sym e.1.1 ∙ job)) e.1.2,
+    )
     | inr g ↦ elim g [
       | inl e ↦ (e.1.1, subst (λ (x : JobParts). job_in e.1.1 ≡ x) (same_task (sym e.1.2 ∙ job)) e.1.4, e.1.3)
       | inr e ↦ absurd (omega (arith, e.3))
@@ -650,8 +706,10 @@ opening_keeps = record {
     view_of zero v e = some-injective (Poster None true (workers 0 0 None)) v e
     view_of (suc j) v e = absurd (some-ne-none v (sym e))
 
-    not_holds : (j w : ℕ) (t : JobParts) → get_elem? (Poster None true (workers 0 0 None) ∷ []) j ≡ some (Holds w t) → ⊥
-    not_holds j w t e = let h : Poster None true (workers 0 0 None) ≡ Holds w t = view_of j (Holds w t) e in cc
+    not_holds : (j w : ℕ) (t : JobParts)
+        → get_elem? (Poster None true (workers 0 0 None) ∷ []) j ≡ some (Holds w t) → ⊥
+    not_holds j w t e = let h : Poster None true (workers 0 0 None) ≡ Holds w t =
+        view_of j (Holds w t) e in cc
 
 -- where all are retired, the word that is read is noted
 pub noted_all : (c : Workers) (n : ℕ) → c.retired ≡ c.made → (noted_by c n).noted ≡ Some n

@@ -28,7 +28,8 @@ counted_of me n is = ap (λ (m : Seated). workers_counted m.0) is
 
 -- the poster knows what it knew
 pub poster_same : (now : PostedPlace) (id id' : TableId) (me me' : Seated) → posted_by id me ≡ now → id' ≡ id
-    → job_named me'.0 ≡ job_named me.0 → workers_counted me'.0 ≡ workers_counted me.0 → posted_by id' me' ≡ now
+    → job_named me'.0 ≡ job_named me.0 → workers_counted me'.0 ≡ workers_counted me.0
+    → posted_by id' me' ≡ now
 poster_same now id id' me me' is same job counted =
     (λ i. record { slot = same i; job = job i; workers = counted i }) ∙ is
 
@@ -83,7 +84,8 @@ posted_is now id me job c is own = sym (ap (λ (p : PostedPlace). p.job) is) ∙
 
 -- and the workers that it counts are the rule's
 pub counted_is : (now : PostedPlace) (id : TableId) (me : Seated) (job : JobParts) (c : Workers)
-    → posted_by id me ≡ now → me ≡ (poster (Some job) false c, []) → AreRetired now.workers → c.retired ≡ c.made
+    → posted_by id me ≡ now → me ≡ (poster (Some job) false c, []) → AreRetired now.workers
+    → c.retired ≡ c.made
 counted_is now id me job c is own retired =
     let w : now.workers ≡ count c.made c.retired =
     sym (ap (λ (p : PostedPlace). p.workers) is) ∙ counted_of _ _ own in

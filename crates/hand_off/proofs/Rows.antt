@@ -21,7 +21,8 @@ same_long : {X : Type 0} (f : X → TableId) (places : List X) (ids : List Table
 same_long f places ids same = sym (length-map places f) ∙ ap (λ (x : List TableId). length x) same
 
 -- so a slot's number is that of a place
-pub places_long : {X : Type 0} (f : X → TableId) (places : List X) (ids : List TableId) (i : ℕ) → map f places ≡ ids
+pub places_long : {X : Type 0} (f : X → TableId) (places : List X) (ids : List TableId) (i : ℕ)
+    → map f places ≡ ids
     → i < length ids → i < length places
 places_long f places ids i same lt = omega (arith, same_long f places ids same)
 
@@ -35,8 +36,10 @@ none_then None p f = f p
 none_then (Some x) p f = tt
 
 -- the slot of a place is the one of its number
-pub slot_there : {X : Type 0} (f : X → TableId) (places : List X) (slots : List Slot) (i : ℕ) (p d : X) (s e : Slot)
-    → map f places ≡ slot_ids slots → i < length (slot_ids slots) → p ≡ get_or places i d → s ≡ get_or slots i e
+pub slot_there : {X : Type 0} (f : X → TableId) (places : List X) (slots : List Slot) (i : ℕ) (p d : X)
+    (s e : Slot)
+    → map f places ≡ slot_ids slots → i < length (slot_ids slots) → p ≡ get_or places i d
+    → s ≡ get_or slots i e
     → f p ≡ slot_id s
 slot_there f places slots i p d s e same lt is it =
     let a : i < length places = omega (arith, same_long f places (slot_ids slots) same) in
@@ -82,13 +85,15 @@ retired_there places ids i p d same lt is all =
 
 -- the poster names another job at a slot, or none
 pub names_there : (places : List PostedPlace) (i : ℕ) (p q d : PostedPlace) (job : Option JobParts)
-    → q ≡ naming p job → p ≡ get_or places i d → posting_of (set places i q) ≡ posting (posting_of places) i job
+    → q ≡ naming p job → p ≡ get_or places i d
+    → posting_of (set places i q) ≡ posting (posting_of places) i job
 names_there places i p q d job new is = λ k. record {
   slots = map-set_same (λ (x : PostedPlace). x.slot) places i q d (ap (λ (x : PostedPlace). x.slot) now) k;
   jobs = (map-set (λ (x : PostedPlace). x.job) places i q
       ∙ ap (λ (j : Option JobParts). set (map (λ (x : PostedPlace). x.job) places) i j)
       (ap (λ (x : PostedPlace). x.job) new)) k;
-  workers = map-set_same (λ (x : PostedPlace). x.workers) places i q d (ap (λ (x : PostedPlace). x.workers) now) k;
+  workers = map-set_same (λ (x : PostedPlace). x.workers) places i q d
+      (ap (λ (x : PostedPlace). x.workers) now) k;
 }
   where
     now : q ≡ naming (get_or places i d) job
@@ -96,7 +101,8 @@ names_there places i p q d job new is = λ k. record {
 
 -- so does a worker
 pub holds_there : (places : List WorkedPlace) (i : ℕ) (p q d : WorkedPlace) (job : Option JobParts)
-    → q ≡ holding p job → p ≡ get_or places i d → working_of (set places i q) ≡ working (working_of places) i job
+    → q ≡ holding p job → p ≡ get_or places i d
+    → working_of (set places i q) ≡ working (working_of places) i job
 holds_there places i p q d job new is = λ k. record {
   slots = map-set_same (λ (x : WorkedPlace). x.slot) places i q d (ap (λ (x : WorkedPlace). x.slot) now) k;
   jobs = (map-set (λ (x : WorkedPlace). x.job) places i q
@@ -120,7 +126,8 @@ pub vacant_jobs : (made : ℕ) (slots : List Slot)
     → All (λ (p : PostedPlace). p.job ≡ None) (map (λ s. vacant (slot_id s) made) slots)
 vacant_jobs made [] = All-nil (λ (p : PostedPlace). p.job ≡ None)
 vacant_jobs made (s ∷ ss) =
-    All-cons (λ (p : PostedPlace). p.job ≡ None) (vacant (slot_id s) made) (map (λ t. vacant (slot_id t) made) ss) refl
+    All-cons (λ (p : PostedPlace). p.job ≡ None) (vacant (slot_id s) made)
+    (map (λ t. vacant (slot_id t) made) ss) refl
     (vacant_jobs made ss)
 
 -- the poster's seat at slots that were opened
@@ -135,13 +142,15 @@ opened_seat made (s ∷ ss) =
     }) (opened_seat made ss)
 
 -- a worker's seat at them
-pub idle_seat : (slots : List Slot) → working_of (map (λ s. idle_place (slot_id s)) slots) ≡ idle_at (slot_ids slots)
+pub idle_seat : (slots : List Slot)
+    → working_of (map (λ s. idle_place (slot_id s)) slots) ≡ idle_at (slot_ids slots)
 idle_seat [] = refl
 idle_seat (s ∷ ss) =
     ap (λ (w : Working). record { slots = slot_id s ∷ w.slots; jobs = None ∷ w.jobs }) (idle_seat ss)
 
 -- a worker's seat that holds nothing has these places
-pub idle_places : (places : List WorkedPlace) (slots : List Slot) → working_of places ≡ idle_at (slot_ids slots)
+pub idle_places : (places : List WorkedPlace) (slots : List Slot)
+    → working_of places ≡ idle_at (slot_ids slots)
     → places ≡ map (λ s. idle_place (slot_id s)) slots
 idle_places [] [] h = refl
 idle_places [] (s ∷ ss) h = absurd (none_is (ap (λ (w : Working). w.slots) h))
@@ -153,7 +162,8 @@ idle_places (p ∷ ps) [] h = absurd (some_is (ap (λ (w : Working). w.slots) h)
     some_is : ◌≡◌ {A = List TableId} (p.slot ∷ map (λ (q : WorkedPlace). q.slot) ps) [] → ⊥
     some_is e = cc
 idle_places (p ∷ ps) (s ∷ ss) h =
-    let a : p.slot ∷ map (λ (q : WorkedPlace). q.slot) ps ≡ slot_id s ∷ slot_ids ss = ap (λ (w : Working). w.slots) h in
+    let a : p.slot ∷ map (λ (q : WorkedPlace). q.slot) ps ≡ slot_id s ∷ slot_ids ss =
+    ap (λ (w : Working). w.slots) h in
     let b : p.job ∷ map (λ (q : WorkedPlace). q.job) ps ≡ None ∷ none_at (slot_ids ss) =
     ap (λ (w : Working). w.jobs) h in
     let slot : p.slot ≡ slot_id s = cc in
@@ -177,7 +187,8 @@ none_named (p ∷ ps) (x ∷ xs) h =
     All-cons (λ (q : PostedPlace). q.job ≡ None) p ps job (none_named ps xs jobs)
 
 -- one worker more is retired at each place
-pub retired_seat : (places : List PostedPlace) → posting_of (map with_one_retired places) ≡ retiring (posting_of places)
+pub retired_seat : (places : List PostedPlace)
+    → posting_of (map with_one_retired places) ≡ retiring (posting_of places)
 retired_seat [] = refl
 retired_seat (p ∷ ps) =
     ap (λ (q : Posting). record {
@@ -189,23 +200,27 @@ retired_seat (p ∷ ps) =
 -- ---- a row that is changed from its front on
 
 -- what stands at the first place that isn't changed
-pub front_there : (f g : Slot → PostedPlace) (slots : List Slot) (i : ℕ) (d : PostedPlace) (e : Slot) → i < length slots
+pub front_there : (f g : Slot → PostedPlace) (slots : List Slot) (i : ℕ) (d : PostedPlace) (e : Slot)
+    → i < length slots
     → get_or (map g (take i slots) ++ map f (drop i slots)) i d ≡ f (get_or slots i e)
 front_there f g [] i d e lt = absurd (omega (arith, lt))
 front_there f g (s ∷ ss) zero d e lt = refl
 front_there f g (s ∷ ss) (suc i) d e lt = front_there f g ss i d e (omega (arith, lt))
 
 -- that place is changed like those before it
-front_set : (f g : Slot → PostedPlace) (slots : List Slot) (i : ℕ) (y : PostedPlace) (e : Slot) → i < length slots
+front_set : (f g : Slot → PostedPlace) (slots : List Slot) (i : ℕ) (y : PostedPlace) (e : Slot)
+    → i < length slots
     → y ≡ g (get_or slots i e)
-    → set (map g (take i slots) ++ map f (drop i slots)) i y ≡ map g (take (suc i) slots) ++ map f (drop (suc i) slots)
+    → set (map g (take i slots) ++ map f (drop i slots)) i y ≡ map g (take (suc i) slots)
+    ++ map f (drop (suc i) slots)
 front_set f g [] i y e lt is = absurd (omega (arith, lt))
 front_set f g (s ∷ ss) zero y e lt is = ap (λ (x : PostedPlace). x ∷ map f ss) is
 front_set f g (s ∷ ss) (suc i) y e lt is =
     ap (λ (x : List PostedPlace). g s ∷ x) (front_set f g ss i y e (omega (arith, lt)) is)
 
 -- one more is changed
-pub front_more : (f g : Slot → PostedPlace) (slots : List Slot) (i : ℕ) (row : List PostedPlace) (y : PostedPlace)
+pub front_more : (f g : Slot → PostedPlace) (slots : List Slot) (i : ℕ) (row : List PostedPlace)
+    (y : PostedPlace)
     (e : Slot)
     → i < length slots → row ≡ map g (take i slots) ++ map f (drop i slots) → y ≡ g (get_or slots i e)
     → set row i y ≡ map g (take (i + 1) slots) ++ map f (drop (i + 1) slots)
@@ -213,7 +228,8 @@ front_more f g slots i row y e lt is new =
     ap (λ (x : List PostedPlace). set x i y) is ∙ (front_set f g slots i y e lt new ∙ rw add-one refl)
 
 -- one seat more of a worker
-pub seats_more : (slots : List Slot) (i : ℕ) (row : List WorkedPlace) (y : WorkedPlace) (e : Slot) → i < length slots
+pub seats_more : (slots : List Slot) (i : ℕ) (row : List WorkedPlace) (y : WorkedPlace) (e : Slot)
+    → i < length slots
     → row ≡ map (λ s. idle_place (slot_id s)) (take i slots) → y ≡ idle_place (slot_id (get_or slots i e))
     → row ++ y ∷ [] ≡ map (λ s. idle_place (slot_id s)) (take (i + 1) slots)
 seats_more slots i row y e lt is new =
@@ -225,11 +241,14 @@ seats_more slots i row y e lt is new =
 
 -- the last seat of some is that of the last slot
 pub last_seat : (slots : List Slot) (n i : ℕ) (e : Slot) (left rest : List WorkedPlace) (p : WorkedPlace)
-    → i < length slots → n ≡ i + 1 → left ≡ rest ++ p ∷ [] → left ≡ map (λ s. idle_place (slot_id s)) (take n slots)
-    → (rest ≡ map (λ s. idle_place (slot_id s)) (take i slots)) × (p ≡ idle_place (slot_id (get_or slots i e)))
+    → i < length slots → n ≡ i + 1 → left ≡ rest ++ p ∷ []
+    → left ≡ map (λ s. idle_place (slot_id s)) (take n slots)
+    → (rest ≡ map (λ s. idle_place (slot_id s)) (take i slots))
+    × (p ≡ idle_place (slot_id (get_or slots i e)))
 last_seat slots n i e left rest p lt next split is =
     let after : n ≡ suc i = omega (arith, next) in
-    same_from_push rest (map (λ s. idle_place (slot_id s)) (take i slots)) p (idle_place (slot_id (get_or slots i e)))
+    same_from_push rest (map (λ s. idle_place (slot_id s)) (take i slots)) p
+    (idle_place (slot_id (get_or slots i e)))
     (sym split
     ∙ (is
     ∙ (ap (λ (k : ℕ). map (λ s. idle_place (slot_id s)) (take k slots)) after
@@ -237,7 +256,8 @@ last_seat slots n i e left rest p lt next split is =
     ∙ map-append (λ s. idle_place (slot_id s)) (take i slots) (get_or slots i e ∷ [])))))
 
 -- the first of the changed places is read as it was
-read_last : (f : PostedPlace → PostedPlace) (row : List PostedPlace) (i : ℕ) (d : PostedPlace) → i < length row
+read_last : (f : PostedPlace → PostedPlace) (row : List PostedPlace) (i : ℕ) (d : PostedPlace)
+    → i < length row
     → get_or (take (suc i) row ++ map f (drop (suc i) row)) i d ≡ get_or row i d
 read_last f [] i d lt = absurd (omega (arith, lt))
 read_last f (x ∷ xs) zero d lt = refl
@@ -245,10 +265,12 @@ read_last f (x ∷ xs) (suc i) d lt = read_last f xs i d (omega (arith, lt))
 
 -- that place is changed like those after it
 set_last : (f : PostedPlace → PostedPlace) (row : List PostedPlace) (i : ℕ) (d : PostedPlace) → i < length row
-    → set (take (suc i) row ++ map f (drop (suc i) row)) i (f (get_or row i d)) ≡ take i row ++ map f (drop i row)
+    → set (take (suc i) row ++ map f (drop (suc i) row)) i (f (get_or row i d)) ≡ take i row
+    ++ map f (drop i row)
 set_last f [] i d lt = absurd (omega (arith, lt))
 set_last f (x ∷ xs) zero d lt = refl
-set_last f (x ∷ xs) (suc i) d lt = ap (λ (ys : List PostedPlace). x ∷ ys) (set_last f xs i d (omega (arith, lt)))
+set_last f (x ∷ xs) (suc i) d lt =
+    ap (λ (ys : List PostedPlace). x ∷ ys) (set_last f xs i d (omega (arith, lt)))
 
 -- the same by the number of the places that are left
 last_is : (f : PostedPlace → PostedPlace) (row first : List PostedPlace) (n i : ℕ) → n ≡ i + 1
@@ -259,7 +281,8 @@ last_is f row first n i next is =
 
 -- what stands at the last place that isn't changed
 pub last_there : (f : PostedPlace → PostedPlace) (row first : List PostedPlace) (n i : ℕ) (d : PostedPlace)
-    → i < length first → n ≡ i + 1 → row ≡ take n first ++ map f (drop n first) → get_or row i d ≡ get_or first i d
+    → i < length first → n ≡ i + 1 → row ≡ take n first ++ map f (drop n first)
+    → get_or row i d ≡ get_or first i d
 last_there f row first n i d lt next is =
     ap (λ (x : List PostedPlace). get_or x i d) (last_is f row first n i next is) ∙ read_last f first i d lt
 

@@ -15,7 +15,8 @@ lies_first [] d = d
 lies_first (x ∷ xs) d = x.1
 
 -- what was read is what lay there
-pub found_in : (m : Seated) (v : View) (x r : Content) → m ≡ (v, (0, x) ∷ []) → m.1 ≡ (0, r) ∷ rest m.1 → r ≡ x
+pub found_in : (m : Seated) (v : View) (x r : Content) → m ≡ (v, (0, x) ∷ []) → m.1 ≡ (0, r) ∷ rest m.1
+    → r ≡ x
 unfolding lies_first
 found_in m v x r is read =
     let e : (0, r) ∷ rest m.1 ≡ (0, x) ∷ [] = sym read ∙ ap (λ (n : Seated). n.1) is in
@@ -27,7 +28,8 @@ pub put_in : (m n : Seated) (v : View) (x y : Content) → m ≡ (v, (0, x) ∷ 
 put_in m n v x y is put = put ∙ ap (λ (k : Seated). (k.0, (0, y) ∷ rest k.1)) is
 
 -- a seat is its view and what it has out
-pub both_parts : (m n : Seated) (v u : View) (l : List (ℕ × Content)) → n ≡ (v, l) → m.0 ≡ u → m.1 ≡ n.1 → m ≡ (u, l)
+pub both_parts : (m n : Seated) (v u : View) (l : List (ℕ × Content)) → n ≡ (v, l) → m.0 ≡ u → m.1 ≡ n.1
+    → m ≡ (u, l)
 both_parts m n v u l is a b = let c : m.1 ≡ l = b ∙ ap (λ (x : Seated). x.1) is in λ i. (a i, c i)
 
 -- its view is the first part

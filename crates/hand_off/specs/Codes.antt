@@ -41,5 +41,6 @@ posting_code =
 -- of what a worker's seat knows
 abbrev pub working_code : Coded Working
 working_code =
-    code_by (List TableId × List (Option JobParts)) (coded× (coded_list table_id_coded) (coded_list named_code))
+    code_by (List TableId × List (Option JobParts))
+    (coded× (coded_list table_id_coded) (coded_list named_code))
     (λ w. (w.slots, w.jobs)) (λ q. record { slots = q.0; jobs = q.1 }) (λ _. refl)

@@ -15,4 +15,5 @@ abbrev pub HeldIsPosted : Type 0
 HeldIsPosted =
     (s : SlotState) → Kept s → (i w : ℕ) (t : JobParts) → Sees s i (holds w t)
     → ((j : ℕ) × (home : Bool) × (c : Workers) × Sees s j (poster (Some t) home c))
-    × ((j : ℕ) (job : Option JobParts) (home : Bool) (c : Workers) → Sees s j (poster job home c) → job ≡ Some t)
+    × ((j : ℕ) (job : Option JobParts) (home : Bool) (c : Workers) → Sees s j (poster job home c)
+    → job ≡ Some t)

@@ -59,7 +59,11 @@ vacant id made = record { slot = id; job = None; workers = count made 0 }
 
 -- there is one worker more
 abbrev pub with_one_more : PostedPlace → PostedPlace
-with_one_more p = record { slot = p.slot; job = p.job; workers = count (p.workers.made + 1) p.workers.retired }
+with_one_more p = record {
+  slot = p.slot;
+  job = p.job;
+  workers = count (p.workers.made + 1) p.workers.retired;
+}
 
 -- one more of them is retired
 abbrev pub with_one_retired : PostedPlace → PostedPlace

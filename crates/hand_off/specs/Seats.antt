@@ -44,7 +44,11 @@ none_at slots = map (λ _. None) slots
 
 -- a poster that posted nothing, and this many workers, of whom none is retired
 abbrev pub opened : List TableId → ℕ → Posting
-opened slots workers = record { slots = slots; jobs = none_at slots; workers = map (λ _. count workers 0) slots }
+opened slots workers = record {
+  slots = slots;
+  jobs = none_at slots;
+  workers = map (λ _. count workers 0) slots;
+}
 
 -- a worker that holds no slot
 abbrev pub idle_at : List TableId → Working

@@ -121,7 +121,8 @@ pub record Kept (s : SlotState) : Type 0 where
   -- a worker's view names a job only while the slot is with that worker; it is the poster's job
   pub named : (j w : ℕ) (t : JobParts) → Sees s j (Holds w t) → (word_of s ≡ w + 3) × (job ≡ Some t)
   -- two workers have two numbers
-  pub apart : (j k w : ℕ) (v u : View) → Sees s j v → Sees s k u → number v ≡ Some w → number u ≡ Some w → j ≡ k
+  pub apart : (j k w : ℕ) (v u : View) → Sees s j v → Sees s k u → number v ≡ Some w → number u ≡ Some w
+      → j ≡ k
   -- below the count of those that were made
   pub low : (j w : ℕ) (v : View) → Sees s j v → number v ≡ Some w → w < who.made
   -- who was made is a worker or retired
@@ -148,7 +149,8 @@ posts m r n = (t : JobParts) (c : Workers) → m ≡ (Poster None false c, (0, S
 
 -- a worker names the job and has the slot out, or nothing changed
 abbrev pub takes : Seated → ℕ → Seated → Type 0
-takes m r n = (w : ℕ) → m ≡ (Idle w, []) → (r ≡ 1 → (t : JobParts) × (n ≡ (Holds w t, (0, Some (Job t)) ∷ [])))
+takes m r n = (w : ℕ) → m ≡ (Idle w, [])
+    → (r ≡ 1 → (t : JobParts) × (n ≡ (Holds w t, (0, Some (Job t)) ∷ [])))
     × (r ≢ 1 → n ≡ m)
 
 -- it names none, and the slot is at home

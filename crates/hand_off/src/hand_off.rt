@@ -115,7 +115,8 @@ impl HandOff {
         ensures own { IfSome result (λ back. job_at poster.old.jobs slot ≡ Some (job_in back)) }
         ensures empty { IfSome result (λ _. poster.new ≡ posting poster.old slot None) }
         ensures same { IfNone result (poster.new ≡ poster.old) }
-        ensures sure { IfNone result (All AreRetired poster.old.workers → job_at poster.old.jobs slot ≡ None) }
+        ensures sure { IfNone result (All AreRetired poster.old.workers
+            → job_at poster.old.jobs slot ≡ None) }
     {
         poster.places[slot].collect(&self.slots[slot])
     }

@@ -83,7 +83,8 @@ fn recruit(
     requires few { worker < 16 }
     requires vacant { places.old.items ≡ map (λ s. vacant (slot_id s) worker) slots.now }
     ensures idle { IfOk result (λ w. w ≡ idle_at (slot_ids slots.now)) }
-    ensures vacant { IfOk result (λ _. places.new.items ≡ map (λ s. vacant (slot_id s) (worker + 1)) slots.now) }
+    ensures vacant { IfOk result (λ _. places.new.items ≡ map
+        (λ s. vacant (slot_id s) (worker + 1)) slots.now) }
     ensures same { IfErr result (λ _. places.new.items ≡ places.old.items) }
 {
     let row = Vec::with_capacity(alloc, slots.len())?;

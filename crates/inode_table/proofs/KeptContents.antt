@@ -94,7 +94,8 @@ module _ (t : Inside) (whole : IsWhole t) {w : Files} (view : files_in t ≡ w) 
 
     -- the body is within its limit after attributes are set
     pub set_bodies : (f : File) → stored_at t.inodes.entries n ≡ Some f → IsBody (apply_fields now a f).body
-    set_bodies f at = subst (λ (g : File). IsBody (apply_fields now a g).body) (some_same (sym set_at ∙ at)) set_body
+    set_bodies f at = subst (λ (g : File). IsBody (apply_fields now a g).body)
+        (some_same (sym set_at ∙ at)) set_body
 
     set_room : block_count (files_in t) + blocks_in (apply_fields now a may.file).body
         ≤ 32768 + blocks_in may.file.body
@@ -162,7 +163,8 @@ module _ (t : Inside) (whole : IsWhole t) {w : Files} (view : files_in t ≡ w) 
         → IsBody (body_with_bytes_at offset bytes g.body)
     write_bodies time g at =
         subst (λ (g : File). IsBody (body_with_bytes_at offset bytes g.body)) (some_same (sym write_at ∙ at))
-        (subst (λ b. IsBody (body_with_bytes_at offset bytes b)) (sym may_write.regular) (write_file time).body)
+        (subst (λ b. IsBody (body_with_bytes_at offset bytes b)) (sym may_write.regular)
+        (write_file time).body)
 
     module _ {es' : List (ℕ × Inode)}
         (c : ChangesFile n (λ f. with_mtime now (record f { body = body_with_bytes_at offset bytes f.body }))

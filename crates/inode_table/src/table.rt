@@ -181,8 +181,8 @@ impl InodeTable {
     }
 
     /// Sets the attributes of a file that are given (RFC 1094, section 2.2.3): ctime becomes now if there are
-    /// any, and mtime if a size is given, before a given mtime. Gives the attributes of the file after it. Where
-    /// memory is refused nothing changes.
+    /// any, and mtime if a size is given, before a given mtime. Gives the attributes of the file after it.
+    /// Where memory is refused nothing changes.
     pub fn set(&mut self, now: Time, number: u32, given: &Given) -> Result<Fattr, AllocError>
         requires valid { AreValidFields (given_in given.now) }
         requires sized { MaySet self.old number (given_in given.now) }

@@ -1,6 +1,7 @@
 -- A leaf's text and a signature's two texts, as far as the first n places: each is empty (or the byte 0) at
 -- first, grows by one place's piece, and is the whole at PLACES.
--- Serves: OneTimeKey::leaf_hash, OneTimeKey::texts, add_four, add_four_pairs, piece_hashes, shown_key (lamport).
+-- Serves: OneTimeKey::leaf_hash, OneTimeKey::texts, add_four, add_four_pairs, piece_hashes, shown_key
+-- (lamport).
 use Rattle.std.proofs.Common.{◌≡◌, ℕ, zero, suc, ◌+◌, ◌*◌, ◌<◌, Bool, true, false, not, cond, List, [], ◌∷◌, ◌++◌}
 use Rattle.std.proofs.Common.{take, drop, get_or, map, refl, sym, ap, ◌∙◌, append_assoc, add-one, arith}
 use Rattle.std.proofs.lemmas.List.{drop-drop}
@@ -28,7 +29,8 @@ end_to_end_four f n =
     let n3 : n + 3 ≡ n + 2 + 1 = omega arith in
     let n4 : n + 4 ≡ n + 3 + 1 = omega arith in
     let to = λ (k : ℕ). end_to_end f k in
-    let two = ap to n2 ∙ end_to_end_more f (n + 1) ∙ ap (λ (l : List ℕ). l ++ f (n + 1)) (end_to_end_more f n) in
+    let two = ap to n2 ∙ end_to_end_more f (n + 1)
+    ∙ ap (λ (l : List ℕ). l ++ f (n + 1)) (end_to_end_more f n) in
     let three = ap to n3 ∙ end_to_end_more f (n + 2) ∙ ap (λ (l : List ℕ). l ++ f (n + 2)) two in
     ap to n4 ∙ end_to_end_more f (n + 3) ∙ ap (λ (l : List ℕ). l ++ f (n + 3)) three
 

@@ -52,8 +52,9 @@ impl LeafKeys {
         hash
     }
 
-    /// The hashes of four leaves from `first` on, each as `leaf_hash` gives it. The 1,281 compressions of each leaf run
-    /// side by side with those of the others, so that the four take less time where a compiler makes vectors.
+    /// The hashes of four leaves from `first` on, each as `leaf_hash` gives it. The 1,281 compressions of
+    /// each leaf run side by side with those of the others, so that the four take less time where a compiler
+    /// makes vectors.
     pub fn four_leaf_hashes(&self, first: u32) -> [[u8; 32]; 4]
         requires { first + 4 ≤ 2 ^ 32 }
         ensures { result ≡ four

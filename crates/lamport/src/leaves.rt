@@ -10,8 +10,8 @@ use crate::key::PLACES;
 use crate::secrets::secret_text;
 use sha256_lanes::{FourMessages, digest_4};
 
-/// The texts of four leaves, as far as they are made. Each begins with a byte before its first place, so that it has
-/// whole blocks and one byte after them.
+/// The texts of four leaves, as far as they are made. Each begins with a byte before its first place, so that
+/// it has whole blocks and one byte after them.
 #[derive(Drop)]
 struct LeafTexts {
     blocks: FourMessages,
@@ -79,7 +79,8 @@ fn secrets(master: &[u8; 32], first: u32, place: u32, bit: bool) -> [[u8; 32]; 4
 /// The public hashes of a place and bit value, of four leaves from `first` on.
 fn public_hashes(master: &[u8; 32], first: u32, place: u32, bit: bool) -> [[u8; 32]; 4]
     requires { first + 4 ≤ 2 ^ 32 }
-    ensures { result ≡ four (λ leaf. public_hash (record { master = master.now; leaf = leaf }) place bit) first }
+    ensures { result ≡ four (λ leaf. public_hash (record { master = master.now; leaf = leaf }) place bit)
+        first }
 {
     digest_4(&secrets(master, first, place, bit))
 }
@@ -87,7 +88,8 @@ fn public_hashes(master: &[u8; 32], first: u32, place: u32, bit: bool) -> [[u8; 
 /// The hashes of four leaves from `first` on.
 pub(crate) fn leaf_hashes(master: &[u8; 32], first: u32) -> [[u8; 32]; 4]
     requires { first + 4 ≤ 2 ^ 32 }
-    ensures { result ≡ four (λ leaf. leaf_hash (public_hash (record { master = master.now; leaf = leaf }))) first }
+    ensures { result ≡ four (λ leaf. leaf_hash (public_hash (record { master = master.now; leaf = leaf })))
+        first }
 {
     let mut texts = LeafTexts::new();
     for place in 0..PLACES {

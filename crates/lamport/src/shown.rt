@@ -98,8 +98,8 @@ pub(crate) fn leaf_start() -> Sha256
     text
 }
 
-/// The leaf hash of the key that a signature shows: each secret is hashed, and stands beside the other value's
-/// hash in the key's public text.
+/// The leaf hash of the key that a signature shows: each secret is hashed, and stands beside the other
+/// value's hash in the key's public text.
 pub fn shown_key(digest: &[u8; 32], shown: &[u8], other: &[u8]) -> [u8; 32]
     requires shown { length shown.now ≡ TEXT_SIZE }
     requires other { length other.now ≡ TEXT_SIZE }

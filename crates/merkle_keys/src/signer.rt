@@ -86,8 +86,9 @@ impl Signer {
         })
     }
 
-    /// A signer as `new` makes it, whose leaves' hashes are made by as many threads as there are processors, up to
-    /// four. It has the same keys for any number of threads. Takes memory once, as `new`, and what threads take.
+    /// A signer as `new` makes it, whose leaves' hashes are made by as many threads as there are processors,
+    /// up to four. It has the same keys for any number of threads. Takes memory once, as `new`, and what
+    /// threads take.
     pub fn new_by<R: Threads + Sync>(
         rt: &R,
         alloc: Global,

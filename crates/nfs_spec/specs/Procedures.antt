@@ -193,8 +193,8 @@ move_entry now fs n from from_name to to_name target =
     let moved = with_name left to to_name n in
     touch now (touch now (touch_ctime now moved n) from) to
 
--- RENAME (section 2.2.12): of either directory STALE, NOTDIR, ACCES; NOENT; where the target is the same file,
--- nothing changes; ACCES into itself; NOTDIR, ISDIR, NOTEMPTY of the target; NOSPC for a cookie
+-- RENAME (section 2.2.12): of either directory STALE, NOTDIR, ACCES; NOENT; where the target is the same
+-- file, nothing changes; ACCES into itself; NOTDIR, ISDIR, NOTEMPTY of the target; NOSPC for a cookie
 abbrev pub rename : Files → Caller → Timeval → FileNumber → Name → FileNumber → Name → Effect (Unit {0})
 rename fs who now from from_name to to_name = do
   d ← dir_of fs from

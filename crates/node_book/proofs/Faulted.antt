@@ -102,7 +102,8 @@ pub exposed_by : (b : Book) (c : ClosedParts) (before : ℕ) → FitsTogether b 
     (Some (record { node = b.node; charge = Replay (audited_with b c.segment) }))
     ≡ Some (record { node = b.node; charge = Replay (replayed_log b.node b.segments before c.segment) })
 exposed_by b c before fits out none is =
-    ap (λ e. first_evidence e (Some (record { node = b.node; charge = Replay (audited_with b c.segment) }))) none
+    ap (λ e. first_evidence e (Some (record { node = b.node; charge = Replay (audited_with b c.segment) })))
+    none
     ∙ sym (ap (λ n. Some (record {
       node = b.node;
       charge = Replay (replayed_log b.node b.segments n c.segment);

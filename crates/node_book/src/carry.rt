@@ -70,7 +70,8 @@ impl Rows {
         requires room { length self.old.challenges.items < vec_capacity self.old.challenges }
         requires keeps { KeepsExposure (segments_in self.old.segments.items) self.old.exposure }
         ensures reply { result ≡ reply_opening opening }
-        ensures after { book_in self.new ≡ after_send_challenge (book_in self.old) envelope (reply_in result) }
+        ensures after { book_in self.new ≡ after_send_challenge (book_in self.old) envelope
+            (reply_in result) }
         ensures keeps { KeepsExposure (segments_in self.new.segments.items) self.new.exposure }
     {
         match opening {

@@ -16,7 +16,8 @@ use Rattle.nodes.specs.Delivery.{ReceivesNew, TakesAwaited}
 use Rattle.nodes.specs.Faults.{Asks, heard, sent}
 
 -- the server doesn't receive it
-pub asks_err : (c s : NodeParts) (time : Timeval) (body : List ℕ) (c1 s1 : NodeParts) (number : ℕ) (fault : LinkFault)
+pub asks_err : (c s : NodeParts) (time : Timeval) (body : List ℕ) (c1 s1 : NodeParts) (number : ℕ)
+    (fault : LinkFault)
     → (h : IsSentBy c s body c1 number)
     → ((e : Envelope) → Reaches c1 kinds.Client number s e → ReceivesNew s time e (Err fault) s1)
     → Asks c s time body (Err fault) c1 s1
@@ -28,16 +29,20 @@ asks_err c s time body c1 s1 number fault h receives = by fault (receives h.enve
     by Failed x = absurd x
 
 -- it receives it
-pub is_heard : (c s : NodeParts) (time : Timeval) (body : List ℕ) (c1 s1 : NodeParts) (number : ℕ) (r : ServerReceipt)
+pub is_heard : (c s : NodeParts) (time : Timeval) (body : List ℕ) (c1 s1 : NodeParts) (number : ℕ)
+    (r : ServerReceipt)
     → IsSentBy c s body c1 number
-    → ((e : Envelope) → Reaches c1 kinds.Client number s e → ReceivesNew s time e (Ok r) s1) → IsHeard c s time body r s1
+    → ((e : Envelope) → Reaches c1 kinds.Client number s e → ReceivesNew s time e (Ok r) s1)
+    → IsHeard c s time body r s1
 is_heard c s time body c1 s1 number r h receives =
     let x = receives h.envelope h.reaches in
     record { left = h.left; envelope = h.envelope; call = h.call; server_left = x.0; receives = x.1 }
 
 -- and the client takes its acknowledgement, or is refused memory
-pub asks_answered : (c s : NodeParts) (time : Timeval) (body : List ℕ) (c1 s1 c2 : NodeParts) (number : ℕ) (r : ServerReceipt)
-    (answer : Result (Unit {0}) LinkFault) → IsJoined c s → IsSentBy c s body c1 number → IsHeard c s time body r s1
+pub asks_answered : (c s : NodeParts) (time : Timeval) (body : List ℕ) (c1 s1 c2 : NodeParts) (number : ℕ)
+    (r : ServerReceipt)
+    (answer : Result (Unit {0}) LinkFault) → IsJoined c s → IsSentBy c s body c1 number
+    → IsHeard c s time body r s1
     → IsSender (sender_of s1)
     → ((a : Ack) → AckReaches s1 kinds.Server r.ack c1 a → TakesAwaited c1 a answer c2)
     → (a : Ack) × (AckReaches s1 kinds.Server r.ack (having_called c s body) a
@@ -49,7 +54,8 @@ asks_answered c s time body c1 s1 c2 number r answer joined h done is takes =
     (x.0, (x.1, subst (λ (n : NodeParts). TakesAwaited n x.0 answer c2) h.is (takes x.0 there)))
 
 -- With the acknowledgement taken, the call is asked.
-pub asks_ok : (c s : NodeParts) (time : Timeval) (body : List ℕ) (c1 s1 c2 : NodeParts) (number : ℕ) (r : ServerReceipt)
+pub asks_ok : (c s : NodeParts) (time : Timeval) (body : List ℕ) (c1 s1 c2 : NodeParts) (number : ℕ)
+    (r : ServerReceipt)
     → IsJoined c s → IsSentBy c s body c1 number → IsHeard c s time body r s1 → IsSender (sender_of s1)
     → ((a : Ack) → AckReaches s1 kinds.Server r.ack c1 a → TakesAwaited c1 a (Ok tt) c2)
     → IsAsked c s time body r c2 s1
@@ -58,7 +64,8 @@ asks_ok c s time body c1 s1 c2 number r joined h done is takes =
     record { heard = done; ack = x.0; made = x.1.0.ack; taken = x.1.1 }
 
 -- Where the client was refused memory for the acknowledgement, the call stops there.
-pub asks_refused : (c s : NodeParts) (time : Timeval) (body : List ℕ) (c1 s1 c2 : NodeParts) (number : ℕ) (r : ServerReceipt)
+pub asks_refused : (c s : NodeParts) (time : Timeval) (body : List ℕ) (c1 s1 c2 : NodeParts) (number : ℕ)
+    (r : ServerReceipt)
     (fault : LinkFault) → IsJoined c s → IsSentBy c s body c1 number → IsHeard c s time body r s1
     → IsSender (sender_of s1)
     → ((a : Ack) → AckReaches s1 kinds.Server r.ack c1 a → TakesAwaited c1 a (Err fault) c2)

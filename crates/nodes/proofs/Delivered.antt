@@ -8,7 +8,8 @@ use Rattle.nodes.specs.Exchanges.Reaching.{IsTaken}
 use Rattle.nodes.specs.Delivery.{TakesAwaited, fault_of}
 
 -- What is taken, as the fault of a link tells it.
-pub awaited : (n n' : NodeParts) (a : Ack) (answer : Result (Unit {0}) LinkFault) → IsTaken fault_of n a answer n'
+pub awaited : (n n' : NodeParts) (a : Ack) (answer : Result (Unit {0}) LinkFault)
+    → IsTaken fault_of n a answer n'
     → TakesAwaited n a answer n'
 awaited n n' a answer (inl h) =
     subst (λ (r : Result (Unit {0}) LinkFault). TakesAwaited n a r n') (sym h.0) h.1

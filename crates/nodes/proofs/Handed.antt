@@ -30,14 +30,16 @@ use Rattle.nodes.proofs.OfExchanges.Texts.{one_ack, one_envelope, reads_back}
 
 -- the text that a call wrote of an envelope
 pub envelope_written : (a n : NodeParts) (number : ℕ) (e : Envelope) (bytes text : List ℕ) → n ≡ a
-    → ((x : Envelope) → envelope_at (sender_of n) number ≡ Some x → IsText envelope_text (envelope_value x) text)
+    → ((x : Envelope) → envelope_at (sender_of n) number ≡ Some x
+    → IsText envelope_text (envelope_value x) text)
     → bytes ≡ text → envelope_at (sender_of a) number ≡ Some e → IsText envelope_text (envelope_value e) bytes
 envelope_written a n number e bytes text node written same h =
     subst (IsText envelope_text (envelope_value e)) (sym same)
     (written e (ap (λ (x : NodeParts). envelope_at (sender_of x) number) node ∙ h))
 
 -- What a server receives by it is that envelope.
-pub received_new : (n n' : NodeParts) (time : Timeval) (bytes : List ℕ) (e : Envelope) (r : Receipt) (h : Received Receipt)
+pub received_new : (n n' : NodeParts) (time : Timeval) (bytes : List ℕ) (e : Envelope) (r : Receipt)
+    (h : Received Receipt)
     → IsText envelope_text (envelope_value e) bytes → h ≡ New r → Receives n time bytes (Ok h) n'
     → (LacksKeys 2 n → ⊥) × ReceivesEnvelope n time e r n'
 received_new n n' time bytes e r h text is receives =
@@ -46,23 +48,28 @@ received_new n n' time bytes e r h text is receives =
     by : Receives n time bytes (Ok (New r)) n' → (LacksKeys 2 n → ⊥) × ReceivesEnvelope n time e r n'
     by x =
         let same : x.0 ≡ e =
-        one_envelope bytes x.0 e x.1.0.opened.0.text (reads_back envelope_text (envelope_value e) bytes text) in
+        one_envelope bytes x.0 e x.1.0.opened.0.text
+        (reads_back envelope_text (envelope_value e) bytes text) in
         (x.1.1, subst (λ (y : Envelope). ReceivesEnvelope n time y r n') same x.1.2)
 
 -- It is to that server.
-pub received_to : (n n' : NodeParts) (time : Timeval) (bytes : List ℕ) (e : Envelope) (r : Receipt) (h : Received Receipt)
-    → IsText envelope_text (envelope_value e) bytes → h ≡ New r → Receives n time bytes (Ok h) n' → e.to ≡ n.node
+pub received_to : (n n' : NodeParts) (time : Timeval) (bytes : List ℕ) (e : Envelope) (r : Receipt)
+    (h : Received Receipt)
+    → IsText envelope_text (envelope_value e) bytes → h ≡ New r → Receives n time bytes (Ok h) n'
+    → e.to ≡ n.node
 received_to n n' time bytes e r h text is receives =
     by (subst (λ (x : Received Receipt). Receives n time bytes (Ok x) n') is receives)
   where
     by : Receives n time bytes (Ok (New r)) n' → e.to ≡ n.node
     by x =
         let same : x.0 ≡ e =
-        one_envelope bytes x.0 e x.1.0.opened.0.text (reads_back envelope_text (envelope_value e) bytes text) in
+        one_envelope bytes x.0 e x.1.0.opened.0.text
+        (reads_back envelope_text (envelope_value e) bytes text) in
         ap (λ (y : Envelope). y.to) (sym same) ∙ x.1.0.opened.0.receiver
 
 -- A server doesn't stray by what it receives.
-pub receives_straight : (n n' : NodeParts) (time : Timeval) (bytes : List ℕ) (result : Result (Received Receipt) Refusal)
+pub receives_straight : (n n' : NodeParts) (time : Timeval) (bytes : List ℕ)
+    (result : Result (Received Receipt) Refusal)
     → Receives n time bytes result n' → n'.strayed ≡ n.strayed
 receives_straight n n' time bytes (Ok (New r)) x = ap (λ (m : NodeParts). m.strayed) x.1.2.served
 receives_straight n n' time bytes (Ok (Repeat r)) x = ap (λ (m : NodeParts). m.strayed) x.1.2
@@ -93,7 +100,8 @@ taken_new n n' bytes e number h text new takes =
     by : TakesReply n bytes (Ok (New number)) n' → (LacksKeys 1 n → ⊥) × (n' ≡ with_receipt n e)
     by x =
         let same : x.0 ≡ e =
-        one_envelope bytes x.0 e x.1.0.opened.0.text (reads_back envelope_text (envelope_value e) bytes text) in
+        one_envelope bytes x.0 e x.1.0.opened.0.text
+        (reads_back envelope_text (envelope_value e) bytes text) in
         (x.1.1, x.1.2 ∙ ap (with_receipt n) same)
 
 -- What a node does with the text of an acknowledgement.
@@ -106,7 +114,8 @@ ack_read b b' k bytes result answer text takes answered =
     read : IsAckText bytes k
     read = reads_back ack_text (ack_value k) bytes text
 
-    by : (r : Result AckTaken Refusal) → TakesAck b bytes r b' → MayTakeAck b k (ack_told fault_of Failed r) b'
+    by : (r : Result AckTaken Refusal) → TakesAck b bytes r b'
+        → MayTakeAck b k (ack_told fault_of Failed r) b'
     by (Ok (Logged m)) t = t.1.3 ∙ ap (with_ack b) (one_ack bytes t.0 k t.1.0.text read)
     by (Ok Already) t = t.1.3
     by (Err Garbage) t = t.1
@@ -116,10 +125,12 @@ ack_read b b' k bytes result answer text takes answered =
     by (Err KeysUsedUp) t = absurd t
 
 -- The same, by the text that a call wrote.
-pub ack_handed : (a n b b' : NodeParts) (number : ℕ) (k : Ack) (bytes text : List ℕ) (result : Result AckTaken Refusal)
+pub ack_handed : (a n b b' : NodeParts) (number : ℕ) (k : Ack) (bytes text : List ℕ)
+    (result : Result AckTaken Refusal)
     (answer : Result (Unit {0}) LinkFault) → n ≡ a
     → ((x : Ack) → ack_at (sender_of n) number ≡ Some x → IsText ack_text (ack_value x) text) → bytes ≡ text
-    → TakesAck b bytes result b' → answer ≡ ack_told fault_of Failed result → ack_at (sender_of a) number ≡ Some k
+    → TakesAck b bytes result b' → answer ≡ ack_told fault_of Failed result
+    → ack_at (sender_of a) number ≡ Some k
     → MayTakeAck b k answer b'
 ack_handed a n b b' number k bytes text result answer node written same takes answered h =
     ack_read b b' k bytes result answer

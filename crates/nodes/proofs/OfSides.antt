@@ -32,7 +32,8 @@ use Rattle.nodes.proofs.Unjoined.{ack_made, receipt_made, reply_logged}
 -- ---- faults
 
 -- A text is refused only where memory is.
-pub only_memory : (t : Text) (v : Value t.item) (fault : LinkFault) (bytes : List ℕ) → WritesText t v (Err fault) bytes
+pub only_memory : (t : Text) (v : Value t.item) (fault : LinkFault) (bytes : List ℕ)
+    → WritesText t v (Err fault) bytes
     → Because ⊥ ⊥ fault
 only_memory t v KeysUsedUp bytes h = h
 only_memory t v NoMemory bytes h = tt
@@ -45,7 +46,8 @@ weaker lacks refused NoMemory h = tt
 weaker lacks refused Failed h = absurd h
 
 -- A step stops for a weaker reason too.
-pub because : {a b x y : Type 0} (fault : LinkFault) → (a → b) → (x → y) → Because a x fault → Because b y fault
+pub because : {a b x y : Type 0} (fault : LinkFault) → (a → b) → (x → y) → Because a x fault
+    → Because b y fault
 because KeysUsedUp f g h = f h
 because NoMemory f g h = tt
 because Failed f g h = g h
@@ -62,7 +64,8 @@ not_sent c to body Failed c1 h = absurd h
 -- What it sent, and the text of its envelope.
 pub sent_as : (c : NodeParts) (to : ℕ) (body : List ℕ) (c1 n : NodeParts) (number : ℕ) (text : List ℕ)
     → SendsBody c to body (Ok number) c1 → IsSender (sender_of c1) → n ≡ c1
-    → ((e : Envelope) → envelope_at (sender_of n) number ≡ Some e → IsEnvelopeText e text) → IsSentAs c to body text c1
+    → ((e : Envelope) → envelope_at (sender_of n) number ≡ Some e → IsEnvelopeText e text)
+    → IsSentAs c to body text c1
 sent_as c to body c1 n number text sends is node written =
     let same = sends.1 in
     let x = envelope_shown (sender_of (with_send c to body)) c.entries [] to body
@@ -88,7 +91,8 @@ sent_as c to body c1 n number text sends is node written =
 
 -- It sent, and the text was written, or memory was refused.
 pub sent_or_stops : (c : NodeParts) (to : ℕ) (body : List ℕ) (c1 n : NodeParts) (number : ℕ) (text : List ℕ)
-    (result : Result (Unit {0}) LinkFault) → SendsBody c to body (Ok number) c1 → IsSender (sender_of c1) → n ≡ c1
+    (result : Result (Unit {0}) LinkFault) → SendsBody c to body (Ok number) c1 → IsSender (sender_of c1)
+    → n ≡ c1
     → ((e : Envelope) → envelope_at (sender_of n) number ≡ Some e
     → WritesText envelope_text (envelope_value e) result text)
     → OnOk result (IsSentAs c to body text c1) × IfErr result (λ f. StopsSending c to body f c1)
@@ -105,8 +109,10 @@ sent_or_stops c to body c1 n number text (Err f) sends is node written =
 -- ---- the server answers
 
 -- It received nothing.
-pub not_received_by : (s : NodeParts) (time : Timeval) (e : Envelope) (bytes : List ℕ) (fault : LinkFault) (s1 : NodeParts)
-    → (Finds (receiver_of s) bytes e None → ReceivesNew s time e (Err fault) s1) → MayReceive s time e (Err fault) s1
+pub not_received_by : (s : NodeParts) (time : Timeval) (e : Envelope) (bytes : List ℕ) (fault : LinkFault)
+    (s1 : NodeParts)
+    → (Finds (receiver_of s) bytes e None → ReceivesNew s time e (Err fault) s1)
+    → MayReceive s time e (Err fault) s1
     → StopsAnswering s time e bytes fault s1
 not_received_by s time e bytes KeysUsedUp s1 new may = inl may
 not_received_by s time e bytes NoMemory s1 new may = inl (tt, may)
@@ -118,7 +124,8 @@ pub has_received : (s s1 : NodeParts) (time : Timeval) (e : Envelope) (r : Recei
 has_received s s1 time e r receiver may = record { receiver = receiver; left = may.0; receives = may.1 }
 
 -- what a server shows of a receipt, and what it did then, unless it lies
-pub record IsServedAs (s : NodeParts) (time : Timeval) (e : Envelope) (r : Receipt) (t : NodeParts) : Type 0 where
+pub record IsServedAs (s : NodeParts) (time : Timeval) (e : Envelope) (r : Receipt)
+    (t : NodeParts) : Type 0 where
   -- its acknowledgement
   pub ack : Ack
   -- the envelope of its reply, if there is one
@@ -131,29 +138,36 @@ pub record IsServedAs (s : NodeParts) (time : Timeval) (e : Envelope) (r : Recei
 
 -- no reply is owed
 nothing : (s t : NodeParts) (time : Timeval) (e : Envelope) → IsServed s time e.body None t
-    → (reply : Option (List ℕ)) (bytes : List ℕ) → IsReplyText None reply bytes → IsServed s time e.body reply t
+    → (reply : Option (List ℕ)) (bytes : List ℕ) → IsReplyText None reply bytes
+    → IsServed s time e.body reply t
 nothing s t time e h None bytes text = h
 nothing s t time e h (Some reply) bytes text = absurd text
 
 -- the reply is the envelope's body
 something : (s t : NodeParts) (time : Timeval) (e f : Envelope) → IsServed s time e.body (Some f.body) t
-    → (reply : Option (List ℕ)) (bytes : List ℕ) → IsReplyText (Some f) reply bytes → IsServed s time e.body reply t
+    → (reply : Option (List ℕ)) (bytes : List ℕ) → IsReplyText (Some f) reply bytes
+    → IsServed s time e.body reply t
 something s t time e f h None bytes text = absurd text
 something s t time e f h (Some reply) bytes text =
     subst (λ (b : List ℕ). IsServed s time e.body (Some b) t) (sym text.1) h
 
 -- What a server shows of a receipt, and what it did.
-pub served_as : (s t : NodeParts) (time : Timeval) (e : Envelope) (r : Receipt) → ReceivesEnvelope s time e r t
+pub served_as : (s t : NodeParts) (time : Timeval) (e : Envelope) (r : Receipt)
+    → ReceivesEnvelope s time e r t
     → IsSender (sender_of t) → IsServedAs s time e r t
 served_as s t time e r receives is =
     let a = ack_made s t e time r receives is in
     by a.0 a.1 r.reply refl
   where
-    by : (a : Ack) → ack_at (sender_of t) r.ack ≡ Some a → (o : Option ℕ) → r.reply ≡ o → IsServedAs s time e r t
+    by : (a : Ack) → ack_at (sender_of t) r.ack ≡ Some a → (o : Option ℕ) → r.reply ≡ o
+        → IsServedAs s time e r t
     by a made None none = record {
       ack = a;
       envelope = None;
-      shown = record { made = made; at = subst (λ (o : Option ℕ). IsReplyAt (sender_of t) o None) (sym none) tt };
+      shown = record {
+        made = made;
+        at = subst (λ (o : Option ℕ). IsReplyAt (sender_of t) o None) (sym none) tt;
+      };
       served = λ plain. nothing s t time e (none_owed s t time e.body e r refl receives none);
     }
     by a made (Some number) some =
@@ -169,8 +183,10 @@ served_as s t time e r receives is =
         }
 
 -- It received the envelope, and the texts of what it shows were written.
-pub answered : {X : Type 0} (items : X → List ℕ) (s s1 n : NodeParts) (time : Timeval) (e : Envelope) (r : Receipt)
-    (result : Result (Option X) LinkFault) (ack bytes : List ℕ) → HasReceived s time e r s1 → IsSender (sender_of s1)
+pub answered : {X : Type 0} (items : X → List ℕ) (s s1 n : NodeParts) (time : Timeval) (e : Envelope)
+    (r : Receipt)
+    (result : Result (Option X) LinkFault) (ack bytes : List ℕ) → HasReceived s time e r s1
+    → IsSender (sender_of s1)
     → n ≡ s1
     → ((a : Ack) (f : Option Envelope) → IsShownOf n r.ack r.reply a f
     → IfOk result (λ o. IsWrittenOf a f (option_map items o) ack bytes))
@@ -186,7 +202,8 @@ answered items s s1 n time e r (Ok o) ack bytes has is node written =
       envelope = x.envelope;
       shown = x.shown;
       written =
-          written x.ack x.envelope (subst (λ (m : NodeParts). IsShownOf m r.ack r.reply x.ack x.envelope) (sym node) x.shown);
+          written x.ack x.envelope (subst (λ (m : NodeParts). IsShownOf m r.ack r.reply x.ack x.envelope)
+          (sym node) x.shown);
     }
 
 -- The reply is the one owed.
@@ -199,18 +216,21 @@ pub answered_plainly : {X : Type 0} (items : X → List ℕ) (s s1 n : NodeParts
 answered_plainly items s s1 n time e r (Err f) ack bytes plain has is node written = tt
 answered_plainly items s s1 n time e r (Ok o) ack bytes plain has is node written =
     let x = served_as s s1 time e r has.receives is in
-    let w = written x.ack x.envelope (subst (λ (m : NodeParts). IsShownOf m r.ack r.reply x.ack x.envelope) (sym node) x.shown) in
+    let w = written x.ack x.envelope
+    (subst (λ (m : NodeParts). IsShownOf m r.ack r.reply x.ack x.envelope) (sym node) x.shown) in
     x.served plain (option_map items o) bytes w.replies
 
 -- It received the envelope, and memory was refused for the texts.
-pub not_answered : {X : Type 0} (s s1 n : NodeParts) (time : Timeval) (e : Envelope) (r : Receipt) (call : List ℕ)
+pub not_answered : {X : Type 0} (s s1 n : NodeParts) (time : Timeval) (e : Envelope) (r : Receipt)
+    (call : List ℕ)
     (result : Result X LinkFault) → HasReceived s time e r s1 → IsSender (sender_of s1) → n ≡ s1
     → ((a : Ack) (f : Option Envelope) → IsShownOf n r.ack r.reply a f → IfErr result (λ g. g ≡ NoMemory))
     → IfErr result (λ g. StopsAnswering s time e call g s1)
 not_answered s s1 n time e r call (Ok o) has is node refused = tt
 not_answered s s1 n time e r call (Err f) has is node refused =
     let x = served_as s s1 time e r has.receives is in
-    let why = refused x.ack x.envelope (subst (λ (m : NodeParts). IsShownOf m r.ack r.reply x.ack x.envelope) (sym node) x.shown) in
+    let why = refused x.ack x.envelope
+    (subst (λ (m : NodeParts). IsShownOf m r.ack r.reply x.ack x.envelope) (sym node) x.shown) in
     inr (r, (has, subst (Because ⊥ ⊥) (sym why) tt))
 
 -- ---- the client receives the reply

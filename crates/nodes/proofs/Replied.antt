@@ -23,7 +23,8 @@ is_received c s c1 number h takes =
     record { envelope = h.reaches.envelope; left = x.0; received = x.1 }
 
 -- Where the server was refused memory for the acknowledgement, the reply stops there.
-pub stops_replying : (c s c1 t : NodeParts) (number receipt : ℕ) (fault : LinkFault) (h : IsReplyReady c s number)
+pub stops_replying : (c s c1 t : NodeParts) (number receipt : ℕ) (fault : LinkFault)
+    (h : IsReplyReady c s number)
     → ((e : Envelope) → Reaches s kinds.Server number c e → TakesNew c e (Ok tt) c1) → IsSender (sender_of c1)
     → receipt ≡ length c1.entries
     → ((a : Ack) → AckReaches c1 kinds.Client receipt s a → TakesAwaited s a (Err fault) t)

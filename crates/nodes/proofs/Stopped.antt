@@ -13,7 +13,8 @@ abbrev pub failed_of : NodeParts → NodeParts → DirectParts
 failed_of c s = record { client = c; server = s; failed = true }
 
 -- what was carried so far, with a fault, as the exchange tells it
-pub stops : (d : DirectParts) (time : Timeval) (body : List ℕ) (fault : LinkFault) (c s : NodeParts) → d.failed ≡ false
+pub stops : (d : DirectParts) (time : Timeval) (body : List ℕ) (fault : LinkFault) (c s : NodeParts)
+    → d.failed ≡ false
     → StopsCarrying d.client d.server time body fault c s → StopsExchange d time body fault (failed_of c s)
 stops d time body KeysUsedUp c s none h = record { before = none; after = refl; stops = h }
 stops d time body NoMemory c s none h = record { before = none; after = refl; stops = h }

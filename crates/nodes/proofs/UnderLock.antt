@@ -35,7 +35,8 @@ use Rattle.nodes.proofs.OfSides.{because, weaker}
 -- ---- texts
 
 -- What holds of an acknowledgement whose text was handed over holds of one whose text was written.
-pub handed : {F : Ack → Type 0} (bytes text : List ℕ) → bytes ≡ text → ((a : Ack) → IsTextOfAck a bytes → F a) → (a : Ack)
+pub handed : {F : Ack → Type 0} (bytes text : List ℕ) → bytes ≡ text → ((a : Ack) → IsTextOfAck a bytes → F a)
+    → (a : Ack)
     → IsTextOfAck a text → F a
 handed bytes text same f a h = f a (subst (IsTextOfAck a) (sym same) h)
 
@@ -48,7 +49,8 @@ not_begun c to time body fault c1 (inl x) = unsent x.0 x.1
 not_begun c to time body fault c1 (inr x) = sent x.0 x.1 x.2
 
 -- what the server heard of a client that sent
-pub record IsHeardOf (c s : NodeParts) (to : ℕ) (time : Timeval) (body : List ℕ) (c1 s1 : NodeParts) (r : Receipt)
+pub record IsHeardOf (c s : NodeParts) (to : ℕ) (time : Timeval) (body : List ℕ) (c1 s1 : NodeParts)
+    (r : Receipt)
     : Type 0 where
   -- it has the number that the client sent to
   pub number : s.node ≡ to
@@ -58,8 +60,10 @@ pub record IsHeardOf (c s : NodeParts) (to : ℕ) (time : Timeval) (body : List 
   pub heard : IsHeard c s time body r s1
 
 -- A server that received what the client sent is the one that it called.
-pub heard_of : (c s : NodeParts) (to : ℕ) (time : Timeval) (body text : List ℕ) (c1 s1 : NodeParts) (r : Receipt)
-    → (out : IsSentAs c to body text c1) → HasReceived s time out.envelope r s1 → IsHeardOf c s to time body c1 s1 r
+pub heard_of : (c s : NodeParts) (to : ℕ) (time : Timeval) (body text : List ℕ) (c1 s1 : NodeParts)
+    (r : Receipt)
+    → (out : IsSentAs c to body text c1) → HasReceived s time out.envelope r s1
+    → IsHeardOf c s to time body c1 s1 r
 heard_of c s to time body text c1 s1 r out has =
     let number : s.node ≡ to = sym has.receiver ∙ out.receiver in
     let is : c1 ≡ having_called c s body = out.sends ∙ ap (λ (k : ℕ). with_send c k body) (sym number) in
@@ -70,7 +74,8 @@ heard_of c s to time body text c1 s1 r out has =
         left = out.left;
         envelope = out.envelope;
         call = record {
-          shown = ap (λ (n : NodeParts). envelope_at (sender_of n) (length c.entries + 1)) (sym is) ∙ out.shown;
+          shown = ap (λ (n : NodeParts). envelope_at (sender_of n) (length c.entries + 1)) (sym is)
+              ∙ out.shown;
           sender = out.from;
           receiver = has.receiver;
           numbered = out.numbered;
@@ -82,7 +87,8 @@ heard_of c s to time body text c1 s1 r out has =
     }
 
 -- Where the two are joined, the server finds what the client sent.
-sent_found : (c s : NodeParts) (to : ℕ) (body text : List ℕ) (c1 : NodeParts) (out : IsSentAs c to body text c1)
+sent_found : (c s : NodeParts) (to : ℕ) (body text : List ℕ) (c1 : NodeParts)
+    (out : IsSentAs c to body text c1)
     → s.node ≡ to → IsJoined c s → Finds (receiver_of s) text out.envelope None
 sent_found c s to body text c1 out number joined =
     let is : c1 ≡ having_called c s body = out.sends ∙ ap (λ (k : ℕ). with_send c k body) (sym number) in
@@ -101,7 +107,8 @@ pub not_answered_under : (c s : NodeParts) (to : ℕ) (time : Timeval) (body tex
     → StopsAnswering s time out.envelope text fault s1 → StopsCalling c to time body fault c1
 not_answered_under c s to time body text fault c1 s1 out straight stays (inl x) =
     unheard s straight out.left
-    (because fault (λ lacks. lacks) (λ refuses joined. refuses (sent_found c s to body text c1 out joined.0 joined.1)) x.0)
+    (because fault (λ lacks. lacks)
+    (λ refuses joined. refuses (sent_found c s to body text c1 out joined.0 joined.1)) x.0)
     out.sends
 not_answered_under c s to time body text fault c1 s1 out straight stays (inr x) =
     let h = heard_of c s to time body text c1 s1 x.0 out x.1.0 in
@@ -109,7 +116,8 @@ not_answered_under c s to time body text fault c1 s1 out straight stays (inr x) 
     (weaker ⊥ (IsJoined c s → ⊥) fault x.1.1) h.is
 
 -- Where the two are joined, the client accepts the acknowledgement.
-accepts_ack : (c s : NodeParts) (to : ℕ) (time : Timeval) (body : List ℕ) (c1 s1 : NodeParts) (r : Receipt) (a : Ack)
+accepts_ack : (c s : NodeParts) (to : ℕ) (time : Timeval) (body : List ℕ) (c1 s1 : NodeParts) (r : Receipt)
+    (a : Ack)
     (h : IsHeardOf c s to time body c1 s1 r) → IsSender (sender_of s1) → ack_at (sender_of s1) r.ack ≡ Some a
     → IsJoined c s → IsAccepted c1 a
 accepts_ack c s to time body c1 s1 r a h is made joined =
@@ -120,7 +128,8 @@ accepts_ack c s to time body c1 s1 r a h is made joined =
     (ack_accepted s1 (having_called c s body) kinds.Server r.ack x.0 is x.1))
 
 -- The client didn't take the acknowledgement.
-pub not_asked_under : (c s : NodeParts) (to : ℕ) (time : Timeval) (body text : List ℕ) (reply : Option (List ℕ))
+pub not_asked_under : (c s : NodeParts) (to : ℕ) (time : Timeval) (body text : List ℕ)
+    (reply : Option (List ℕ))
     (ack bytes : List ℕ) (fault : LinkFault) (c1 s1 c2 : NodeParts) (out : IsSentAs c to body text c1)
     → HasNotStrayed s → HasNotStrayed s1 → IsAnswered s time out.envelope reply ack bytes s1
     → ((a : Ack) → IsTextOfAck a ack → IsAccepted c1 a → TakesAwaited c1 a (Err fault) c2)
@@ -145,7 +154,8 @@ not_asked_under c s to time body text reply ack bytes fault c1 s1 c2 out straigh
 
 -- The client took it.
 pub asked_under : (c s : NodeParts) (to : ℕ) (time : Timeval) (body text : List ℕ) (reply : Option (List ℕ))
-    (ack bytes : List ℕ) (c1 s1 c2 : NodeParts) (out : IsSentAs c to body text c1) → HasNotStrayed s → HasNotStrayed s1
+    (ack bytes : List ℕ) (c1 s1 c2 : NodeParts) (out : IsSentAs c to body text c1) → HasNotStrayed s
+    → HasNotStrayed s1
     → IsAnswered s time out.envelope reply ack bytes s1 → IsServed s time out.envelope.body reply s1
     → ((a : Ack) → IsTextOfAck a ack → MayTakeAck c1 a (Ok tt) c2) → IsAskedOf c to time body reply bytes c2
 asked_under c s to time body text reply ack bytes c1 s1 c2 out straight stays answer served told =
@@ -159,7 +169,8 @@ asked_under c s to time body text reply ack bytes c1 s1 c2 out straight stays an
         heard = h.heard;
         ack = answer.ack;
         made = answer.shown.made;
-        taken = told answer.ack answer.written.acknowledges ∙ ap (λ (n : NodeParts). with_ack n answer.ack) h.is;
+        taken = told answer.ack answer.written.acknowledges
+            ∙ ap (λ (n : NodeParts). with_ack n answer.ack) h.is;
       };
       sender = answer.sender;
       envelope = answer.envelope;
@@ -215,7 +226,9 @@ pub mapped_none : {X : Type 0} (items : X → List ℕ) (o : Option X) (F : Opti
     → F (option_map items o) → F None
 mapped_none {X = X} items o F same h = subst (λ (p : Option X). F (option_map items p)) same h
 
-pub mapped_some : {X : Type 0} (items : X → List ℕ) (o : Option X) (v : X) (F : Option (List ℕ) → Type 0) → o ≡ Some v
+-- what holds of the items of an option that is there holds of its mapped value
+pub mapped_some : {X : Type 0} (items : X → List ℕ) (o : Option X) (v : X) (F : Option (List ℕ) → Type 0)
+    → o ≡ Some v
     → F (option_map items o) → F (Some (items v))
 mapped_some {X = X} items o v F same h = subst (λ (p : Option X). F (option_map items p)) same h
 
@@ -271,7 +284,8 @@ called_without c to time body bytes c1 h = record {
 -- A call whose reply came back is whole.
 pub called_with : (c : NodeParts) (to : ℕ) (time : Timeval) (body reply bytes : List ℕ) (c1 c2 : NodeParts)
     → IsAskedOf c to time body (Some reply) bytes c1
-    → ((e : Envelope) → IsEnvelopeText e bytes → IsReturnedAs c1 e c2) → IsCalled c to time body (Some reply) c2
+    → ((e : Envelope) → IsEnvelopeText e bytes → IsReturnedAs c1 e c2)
+    → IsCalled c to time body (Some reply) c2
 called_with c to time body reply bytes c1 c2 h returns =
     let x = some_reply (sender_of h.left) h.receipt.reply h.envelope reply bytes h.shown h.written in
     let back = returns x.envelope x.written in
@@ -298,7 +312,8 @@ called_with c to time body reply bytes c1 c2 h returns =
     }
 
 -- Where the two are joined, the client finds the reply.
-reply_found : (c s c1 s1 : NodeParts) (time : Timeval) (body bytes : List ℕ) (r : Receipt) (number : ℕ) (e : Envelope)
+reply_found : (c s c1 s1 : NodeParts) (time : Timeval) (body bytes : List ℕ) (r : Receipt) (number : ℕ)
+    (e : Envelope)
     → IsAsked c s time body r c1 s1 → IsSender (sender_of s1) → r.reply ≡ Some number
     → envelope_at (sender_of s1) number ≡ Some e → IsEnvelopeText e bytes → IsJoined c s
     → Finds (receiver_of c1) bytes e None
@@ -310,7 +325,8 @@ reply_found c s c1 s1 time body bytes r number e asks is owed there text joined 
     (subst (λ (x : Envelope). IsEnvelopeText x bytes) (sym same) text))
 
 -- A call whose reply didn't come back whole stops there.
-pub not_called_with : (c : NodeParts) (to : ℕ) (time : Timeval) (body reply bytes : List ℕ) (fault : LinkFault)
+pub not_called_with : (c : NodeParts) (to : ℕ) (time : Timeval) (body reply bytes : List ℕ)
+    (fault : LinkFault)
     (c1 c2 : NodeParts) → IsAskedOf c to time body (Some reply) bytes c1
     → ((e : Envelope) → IsEnvelopeText e bytes → StopsReturning c1 e bytes fault c2)
     → StopsCalling c to time body fault c2
@@ -327,7 +343,8 @@ not_called_with c to time body reply bytes fault c1 c2 h stops = by (stops x.env
         subst (λ (n : NodeParts). StopsCalling c to time body fault n) (sym y.1)
         (asked h.server h.left x.number h.lock owed
         (because fault (λ lacks. lacks)
-        (λ refuses joined. refuses (reply_found c h.server c1 h.left time body bytes h.receipt x.number x.envelope
+        (λ refuses joined. refuses (reply_found c h.server c1 h.left time body bytes h.receipt x.number
+        x.envelope
         h.asked h.sender x.named x.there x.written joined)) y.0))
     by (inr y) =
         received h.server h.left c1 x.number x.envelope h.lock owed
@@ -346,4 +363,5 @@ exchanged d time body reply c' failed none still called =
 pub stopped : (d : SharedParts) (time : Timeval) (body : List ℕ) (fault : LinkFault) (c' : NodeParts)
     → d.failed ≡ false → StopsCalling d.client d.to time body fault c'
     → StopsExchange d time body fault (record { client = c'; to = d.to; failed = true })
-stopped d time body fault c' none stops = inl (record { before = none; after = refl; same = refl; stops = stops })
+stopped d time body fault c' none stops =
+    inl (record { before = none; after = refl; same = refl; stops = stops })

@@ -45,7 +45,8 @@ pub record IsSent (c s : NodeParts) (body : List ℕ) (c1 : NodeParts) (number :
 
 -- What the client's SEND is, once it is logged: its envelope is the call.
 pub is_sent : (c s : NodeParts) (to : ℕ) (body : List ℕ) (c1 : NodeParts) (number : ℕ) → to ≡ s.node
-    → (¬ LacksKeys 1 c) × (c1 ≡ with_send c to body) × (number ≡ length c.entries + 1) → IsSender (sender_of c1)
+    → (¬ LacksKeys 1 c) × (c1 ≡ with_send c to body) × (number ≡ length c.entries + 1)
+    → IsSender (sender_of c1)
     → IsSent c s body c1 number
 is_sent c s to body c1 number at sends is =
     let same : c1 ≡ having_called c s body = sends.1 ∙ ap (λ (k : ℕ). with_send c k body) at in
@@ -68,7 +69,8 @@ is_sent c s to body c1 number at sends is =
     }
 
 -- The server doesn't receive it.
-pub not_heard : (c s : NodeParts) (time : Timeval) (body : List ℕ) (c1 s1 : NodeParts) (number : ℕ) (fault : LinkFault)
+pub not_heard : (c s : NodeParts) (time : Timeval) (body : List ℕ) (c1 s1 : NodeParts) (number : ℕ)
+    (fault : LinkFault)
     → (h : IsSent c s body c1 number)
     → ((e : Envelope) → envelope_at (sender_of c1) number ≡ Some e → MayReceive s time e (Err fault) s1)
     → MayAsk c s time body (Err fault) c1 s1
@@ -80,7 +82,8 @@ not_heard c s time body c1 s1 number fault h receives = by fault (receives h.env
     by Failed x = (h.is, sent h.left h.is x)
 
 -- It receives it.
-pub heard_it : (c s : NodeParts) (time : Timeval) (body : List ℕ) (c1 s1 : NodeParts) (number : ℕ) (r : Receipt)
+pub heard_it : (c s : NodeParts) (time : Timeval) (body : List ℕ) (c1 s1 : NodeParts) (number : ℕ)
+    (r : Receipt)
     → IsSent c s body c1 number
     → ((e : Envelope) → envelope_at (sender_of c1) number ≡ Some e → MayReceive s time e (Ok r) s1)
     → IsHeard c s time body r s1
@@ -100,16 +103,24 @@ ack_made s t e time r receives is =
     (x.0, ap (ack_at (sender_of t)) (ap (λ (x : Receipt). x.ack) receives.receipt) ∙ x.1.there)
 
 -- With the acknowledgement taken, the call is asked.
-pub asked_it : (c s : NodeParts) (time : Timeval) (body : List ℕ) (c1 s1 c2 : NodeParts) (number : ℕ) (r : Receipt)
+pub asked_it : (c s : NodeParts) (time : Timeval) (body : List ℕ) (c1 s1 c2 : NodeParts) (number : ℕ)
+    (r : Receipt)
     → IsSent c s body c1 number → IsHeard c s time body r s1 → IsSender (sender_of s1)
     → ((a : Ack) → ack_at (sender_of s1) r.ack ≡ Some a → MayTakeAck c1 a (Ok tt) c2)
     → IsAsked c s time body r c2 s1
 asked_it c s time body c1 s1 c2 number r h done is takes =
     let x = ack_made s s1 done.envelope time r done.receives is in
-    record { heard = done; ack = x.0; made = x.1; taken = takes x.0 x.1 ∙ ap (λ (n : NodeParts). with_ack n x.0) h.is }
+    record {
+      heard = done;
+      ack = x.0;
+      made = x.1;
+      taken = takes x.0 x.1
+          ∙ ap (λ (n : NodeParts). with_ack n x.0) h.is;
+    }
 
 -- Where the client doesn't take the acknowledgement, the call stops there.
-pub not_asked : (c s : NodeParts) (time : Timeval) (body : List ℕ) (c1 s1 c2 : NodeParts) (number : ℕ) (r : Receipt)
+pub not_asked : (c s : NodeParts) (time : Timeval) (body : List ℕ) (c1 s1 c2 : NodeParts) (number : ℕ)
+    (r : Receipt)
     (fault : LinkFault) → IsSent c s body c1 number → IsHeard c s time body r s1 → IsSender (sender_of s1)
     → ((a : Ack) → ack_at (sender_of s1) r.ack ≡ Some a → MayTakeAck c1 a (Err fault) c2)
     → MayAsk c s time body (Err fault) c2 s1
@@ -130,14 +141,16 @@ pub taken_it : (c s c1 : NodeParts) (number : ℕ) (e : Envelope) → envelope_a
 taken_it c s c1 number e there takes = record { envelope = there; left = takes.0; received = takes.1 }
 
 -- The client doesn't take it.
-pub not_taken : (c s c1 : NodeParts) (number : ℕ) (e : Envelope) (fault : LinkFault) → MayTake c e (Err fault) c1
+pub not_taken : (c s c1 : NodeParts) (number : ℕ) (e : Envelope) (fault : LinkFault)
+    → MayTake c e (Err fault) c1
     → MayStopAtReply c s number fault c1 s
 not_taken c s c1 number e KeysUsedUp t = (t.0, t.1, refl)
 not_taken c s c1 number e NoMemory t = unreceived t refl
 not_taken c s c1 number e Failed t = unreceived t refl
 
 -- It shows its acknowledgement.
-pub receipt_made : (c c1 : NodeParts) (receipt : ℕ) (e : Envelope) → c1 ≡ with_receipt c e → IsSender (sender_of c1)
+pub receipt_made : (c c1 : NodeParts) (receipt : ℕ) (e : Envelope) → c1 ≡ with_receipt c e
+    → IsSender (sender_of c1)
     → receipt ≡ length c1.entries → (a : Ack) × (ack_at (sender_of c1) receipt ≡ Some a)
 receipt_made c c1 receipt e got is last =
     let log : c1.entries ≡ c.entries ++ Recv e.from e.seq e.prev e.body e.signature ∷ [] =
@@ -197,7 +210,8 @@ three : (es : List Entry) (a b : Entry) → length (es ++ a ∷ b ∷ []) + 1 �
 three es a b = omega (arith, length-append es (a ∷ b ∷ []))
 
 -- The reply that a receipt names is logged, and shown at its number.
-pub reply_logged : (s t : NodeParts) (time : Timeval) (body : List ℕ) (e : Envelope) (r : Receipt) (number : ℕ)
+pub reply_logged : (s t : NodeParts) (time : Timeval) (body : List ℕ) (e : Envelope) (r : Receipt)
+    (number : ℕ)
     → e.body ≡ body → ReceivesEnvelope s time e r t → IsSender (sender_of t) → r.reply ≡ Some number
     → IsShown s t time body number
 reply_logged s t time body e r number says receives is owed =
@@ -222,7 +236,8 @@ reply_logged s t time body e r number says receives is owed =
         let front = s.entries ++ recv ∷ clock ∷ [] in
         let log : t.entries ≡ front ++ Send e.from y.0 ∷ [] =
         ap (λ (n : NodeParts). n.entries) receives.served
-        ∙ ap (λ (o : Option (List ℕ)). s.entries ++ heard_entries e.from e.seq e.prev e.body e.signature reading o)
+        ∙ ap (λ (o : Option (List ℕ)). s.entries
+        ++ heard_entries e.from e.seq e.prev e.body e.signature reading o)
         (ap (reply_told s.lies) x ∙ y.1.0)
         ∙ sym (append_assoc s.entries (recv ∷ clock ∷ []) (Send e.from y.0 ∷ [])) in
         let long = three s.entries recv clock in
@@ -239,9 +254,11 @@ reply_logged s t time body e r number says receives is owed =
 
 -- The reply that a call's receipt names is shown at its number.
 pub reply_shown : (c s c1 t : NodeParts) (time : Timeval) (body : List ℕ) (r : Receipt) (number : ℕ)
-    → IsAsked c s time body r c1 t → IsSender (sender_of t) → r.reply ≡ Some number → IsShown s t time body number
+    → IsAsked c s time body r c1 t → IsSender (sender_of t) → r.reply ≡ Some number
+    → IsShown s t time body number
 reply_shown c s c1 t time body r number asked is owed =
-    reply_logged s t time body asked.heard.envelope r number asked.heard.call.says asked.heard.receives is owed
+    reply_logged s t time body asked.heard.envelope r number asked.heard.call.says asked.heard.receives is
+    owed
 
 -- The reply that is brought back is the one that the server shows.
 pub served_it : (c1 s t c2 t2 : NodeParts) (time : Timeval) (body : List ℕ) (number : ℕ) (reply : List ℕ)

@@ -60,7 +60,8 @@ TakesAwaited n a (Err KeysUsedUp) n' = ⊥
 TakesAwaited n a (Err NoMemory) n' = n' ≡ n
 TakesAwaited n a (Err Failed) n' = ⊥
 
--- ---- the same between any two nodes, whatever either received before: Failed comes where one refuses what the
+-- ---- the same between any two nodes, whatever either received before: Failed comes where one refuses what
+-- the
 -- other shows, and then it is as it was
 
 -- A server is handed an envelope: KeysUsedUp only where fewer than two keys are left.

@@ -1,4 +1,5 @@
--- How far an exchange between a client and a server comes before a fault, and what is left: first of two that are
+-- How far an exchange between a client and a server comes before a fault, and what is left: first of two
+-- that are
 -- joined, then of any two.
 use Rattle.std.specs.Prelude.{◌≡◌, ◌⊎◌, ℕ, List, Result, Ok, Err}
 use Rattle.envelopes.specs.declared.envelope.Envelope.{Envelope}
@@ -55,9 +56,11 @@ StopsCarrying c s time body fault c' s' =
 
 -- ---- any two: where they aren't joined, one may refuse the other, and the fault is Failed
 
--- What a call gives and leaves. Failed comes only once the client has sent: the server refuses the call, or the
+-- What a call gives and leaves. Failed comes only once the client has sent: the server refuses the call, or
+-- the
 -- client the server's acknowledgement.
-abbrev pub MayAsk : (c s : NodeParts) → Timeval → List ℕ → Result ServerReceipt LinkFault → (c' s' : NodeParts)
+abbrev pub MayAsk : (c s : NodeParts) → Timeval → List ℕ → Result ServerReceipt LinkFault
+    → (c' s' : NodeParts)
     → Type 0
 MayAsk c s time body (Ok r) c' s' = IsAsked c s time body r c' s'
 MayAsk c s time body (Err KeysUsedUp) c' s' =
@@ -66,7 +69,8 @@ MayAsk c s time body (Err KeysUsedUp) c' s' =
 MayAsk c s time body (Err NoMemory) c' s' = StopsAsking c s time body c' s'
 MayAsk c s time body (Err Failed) c' s' = (c' ≡ having_called c s body) × StopsAsking c s time body c' s'
 
--- Why a reply isn't brought back, and what is left then: Failed where the client refuses the reply, or the server
+-- Why a reply isn't brought back, and what is left then: Failed where the client refuses the reply, or the
+-- server
 -- the client's acknowledgement.
 abbrev pub MayStopAtReply : (c s : NodeParts) (number : ℕ) → LinkFault → (c' s' : NodeParts) → Type 0
 MayStopAtReply c s number KeysUsedUp c' s' = LacksKeys 1 c × (c' ≡ c) × (s' ≡ s)
@@ -82,7 +86,8 @@ MayStop c s time body fault c' s' =
 
 -- ---- one step of an exchange
 
--- Why a step stops: KeysUsedUp only where these keys lack, Failed only where this is refused, NoMemory where memory
+-- Why a step stops: KeysUsedUp only where these keys lack, Failed only where this is refused, NoMemory where
+-- memory
 -- was refused.
 abbrev pub Because : (lacks refused : Type 0) → LinkFault → Type 0
 Because lacks refused KeysUsedUp = lacks

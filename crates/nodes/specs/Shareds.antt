@@ -1,5 +1,7 @@
--- A link of a client and a server under a lock, which others use too: what an exchange of it gives and leaves. The lock
--- is taken for what the server does alone: it receives the call, and, where it owed a reply, takes the client's
+-- A link of a client and a server under a lock, which others use too: what an exchange of it gives and
+-- leaves. The lock
+-- is taken for what the server does alone: it receives the call, and, where it owed a reply, takes the
+-- client's
 -- acknowledgement of it later. What others do to the server between the two is open.
 use Rattle.std.specs.Prelude.{◌≡◌, ◌⊎◌, Bool, true, false, List, ℕ, length, Option, Some, None, refl}
 use Rattle.std.specs.Coded.{Coded, code_by, coded×, coded_ℕ, coded_bool}
@@ -24,7 +26,8 @@ pub record HasNotStrayed (s : NodeParts) : Type 0 where
   pub plain : s.lies ≡ false
   pub honest : IsHonest s
 
--- what the link is of itself: its client, the number of the server that it calls, and whether an exchange had a fault
+-- what the link is of itself: its client, the number of the server that it calls, and whether an exchange
+-- had a fault
 pub record SharedParts : Type 0 where
   pub client : NodeParts
   pub to : ℕ
@@ -49,7 +52,8 @@ pub record IsUnderLock (to : ℕ) (s s' : NodeParts) : Type 0 where
   pub straight : HasNotStrayed s
   pub stays : HasNotStrayed s'
 
--- A server that lay under the lock took the acknowledgement that the client's log shows of its last entry, a RECV, and
+-- A server that lay under the lock took the acknowledgement that the client's log shows of its last entry, a
+-- RECV, and
 -- was left as `left`; neither has strayed.
 pub record IsAcknowledged (c : NodeParts) : Type 0 where
   pub ack : Ack
@@ -68,16 +72,19 @@ pub record IsReturned (c s : NodeParts) (number : ℕ) (reply : List ℕ) (c' : 
   pub body : reply ≡ envelope.body
   pub acknowledged : IsAcknowledged c'
 
--- The call was taken and its reply brought back, where one is owed: `s` is what lay under the lock first, and `s'` what
+-- The call was taken and its reply brought back, where one is owed: `s` is what lay under the lock first,
+-- and `s'` what
 -- it was left as. Where none is owed the lock isn't taken again.
 abbrev pub IsCarriedBy : (c s : NodeParts) → Timeval → List ℕ → Option (List ℕ) → (c' s' : NodeParts) → Type 0
 IsCarriedBy c s time body None c' s' = (r : Receipt) × (IsAsked c s time body r c' s' × (r.reply ≡ None))
 IsCarriedBy c s time body (Some reply) c' s' =
     (number : ℕ) × ((d : NodeParts) × (IsOwed c s time body number d s' × IsReturned d s' number reply c'))
 
--- A client's call to the server of a number, which lies under a lock: what it made of the server is this call and
+-- A client's call to the server of a number, which lies under a lock: what it made of the server is this
+-- call and
 -- nothing else, and the reply is the one owed.
-pub record IsCalled (c : NodeParts) (to : ℕ) (time : Timeval) (body : List ℕ) (reply : Option (List ℕ)) (c' : NodeParts)
+pub record IsCalled (c : NodeParts) (to : ℕ) (time : Timeval) (body : List ℕ) (reply : Option (List ℕ))
+    (c' : NodeParts)
     : Type 0 where
   pub server : NodeParts
   pub left : NodeParts
@@ -95,8 +102,10 @@ pub record IsExchanged (d : SharedParts) (time : Timeval) (body : List ℕ) (rep
 
 -- ---- faults
 
--- A server that lay under the lock doesn't accept the acknowledgement that the client's log shows of its last entry, a
--- RECV: it fits none of its SENDs, or isn't signed by a member of its roster, or isn't awaited. The server stays as it
+-- A server that lay under the lock doesn't accept the acknowledgement that the client's log shows of its
+-- last entry, a
+-- RECV: it fits none of its SENDs, or isn't signed by a member of its roster, or isn't awaited. The server
+-- stays as it
 -- is.
 pub record IsAckRefused (c : NodeParts) : Type 0 where
   pub ack : Ack
@@ -106,27 +115,34 @@ pub record IsAckRefused (c : NodeParts) : Type 0 where
   pub refuses : ¬ IsAccepted server ack
 
 -- How far a client's call came before its fault, with what lay under the lock, and what that was left as.
-pub data StopsCalling (c : NodeParts) (to : ℕ) (time : Timeval) (body : List ℕ) (fault : LinkFault) (c' : NodeParts)
+pub data StopsCalling (c : NodeParts) (to : ℕ) (time : Timeval) (body : List ℕ) (fault : LinkFault)
+    (c' : NodeParts)
     : Type 0 where
   -- Nothing was sent, and no lock taken.
   unsent : Because (LacksKeys 1 c) ⊥ fault → c' ≡ c → StopsCalling c to time body fault c'
   -- The client sent, and was out of memory for the text. No lock was taken.
-  sent : (¬ LacksKeys 1 c) → Because ⊥ ⊥ fault → c' ≡ with_send c to body → StopsCalling c to time body fault c'
-  -- The server didn't receive it, and was left as it was. Where it has the number and the two are joined, it doesn't
+  sent : (¬ LacksKeys 1 c) → Because ⊥ ⊥ fault → c' ≡ with_send c to body
+      → StopsCalling c to time body fault c'
+  -- The server didn't receive it, and was left as it was. Where it has the number and the two are joined, it
+  -- doesn't
   -- refuse it.
   unheard : (server : NodeParts) → HasNotStrayed server → (¬ LacksKeys 1 c)
-      → Because (LacksKeys 2 server) (¬ ((server.node ≡ to) × IsJoined c server)) fault → c' ≡ with_send c to body
+      → Because (LacksKeys 2 server) (¬ ((server.node ≡ to) × IsJoined c server)) fault
+      → c' ≡ with_send c to body
       → StopsCalling c to time body fault c'
-  -- The server received it, and was out of memory for what it shows; or the client didn't take the acknowledgement.
+  -- The server received it, and was out of memory for what it shows; or the client didn't take the
+  -- acknowledgement.
   -- Where the two are joined, it doesn't refuse it.
-  heard : (server left : NodeParts) (r : Receipt) → IsUnderLock to server left → IsHeard c server time body r left
+  heard : (server left : NodeParts) (r : Receipt) → IsUnderLock to server left
+      → IsHeard c server time body r left
       → Because ⊥ (¬ IsJoined c server) fault → c' ≡ having_called c server body
       → StopsCalling c to time body fault c'
   -- The client took the acknowledgement, and not the reply. Where the two are joined, it doesn't refuse it.
   asked : (server left : NodeParts) (number : ℕ) → IsUnderLock to server left
       → IsOwed c server time body number c' left → Because (LacksKeys 1 c') (¬ IsJoined c server) fault
       → StopsCalling c to time body fault c'
-  -- It received the reply, and was out of memory for its acknowledgement's text, and took no lock; or what lay under
+  -- It received the reply, and was out of memory for its acknowledgement's text, and took no lock; or what
+  -- lay under
   -- the lock didn't take it.
   received : (server left d : NodeParts) (number : ℕ) (e : Envelope) → IsUnderLock to server left
       → IsOwed c server time body number d left → IsReceived d left number e c'
@@ -140,7 +156,8 @@ pub record IsStopped (d : SharedParts) (time : Timeval) (body : List ℕ) (fault
   pub same : d'.to ≡ d.to
   pub stops : StopsCalling d.client d.to time body fault d'.client
 
--- Why an exchange isn't answered, and what is left: after a fault each is Failed, no lock is taken, and nothing
+-- Why an exchange isn't answered, and what is left: after a fault each is Failed, no lock is taken, and
+-- nothing
 -- changes.
 abbrev pub StopsExchange : SharedParts → Timeval → List ℕ → LinkFault → SharedParts → Type 0
 StopsExchange d time body fault d' =

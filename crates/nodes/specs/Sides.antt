@@ -1,4 +1,5 @@
--- What the client and the server each do of an exchange alone, with texts between them: where it gives what is wanted,
+-- What the client and the server each do of an exchange alone, with texts between them: where it gives what
+-- is wanted,
 -- and where it stops.
 use Rattle.std.specs.Prelude.{◌≡◌, ◌⊎◌, ◌+◌, ℕ, List, length, Option, Some, None}
 use Rattle.xdr.specs.Texts.Text.{IsText}
@@ -51,7 +52,8 @@ StopsSending c to body fault c' =
 -- ---- the server answers
 
 -- The server received an envelope that is to it.
-pub record HasReceived (s : NodeParts) (time : Timeval) (e : Envelope) (r : Receipt) (s' : NodeParts) : Type 0 where
+pub record HasReceived (s : NodeParts) (time : Timeval) (e : Envelope) (r : Receipt)
+    (s' : NodeParts) : Type 0 where
   pub receiver : e.to ≡ s.node
   pub left : ¬ LacksKeys 2 s
   pub receives : ReceivesEnvelope s time e r s'
@@ -70,7 +72,8 @@ IsReplyText None (Some reply) text = ⊥
 IsReplyText (Some e) None text = ⊥
 IsReplyText (Some e) (Some reply) text = IsEnvelopeText e text × (reply ≡ e.body)
 
--- What a node shows by the numbers of a RECV and of its reply's SEND, if there is one: the acknowledgement, and the
+-- What a node shows by the numbers of a RECV and of its reply's SEND, if there is one: the acknowledgement,
+-- and the
 -- reply's envelope.
 pub record IsShownOf (s : NodeParts) (number : ℕ) (reply : Option ℕ) (ack : Ack) (envelope : Option Envelope)
     : Type 0 where
@@ -78,12 +81,14 @@ pub record IsShownOf (s : NodeParts) (number : ℕ) (reply : Option ℕ) (ack : 
   pub at : IsReplyAt (sender_of s) reply envelope
 
 -- The texts of both, and the reply's body.
-pub record IsWrittenOf (ack : Ack) (envelope : Option Envelope) (reply : Option (List ℕ)) (ack_bytes bytes : List ℕ)
+pub record IsWrittenOf (ack : Ack) (envelope : Option Envelope) (reply : Option (List ℕ))
+    (ack_bytes bytes : List ℕ)
     : Type 0 where
   pub acknowledges : IsTextOfAck ack ack_bytes
   pub replies : IsReplyText envelope reply bytes
 
--- The server received an envelope that is to it, and these are the texts of its acknowledgement and of its reply's
+-- The server received an envelope that is to it, and these are the texts of its acknowledgement and of its
+-- reply's
 -- envelope, and the reply's body.
 pub record IsAnswered (s : NodeParts) (time : Timeval) (e : Envelope) (reply : Option (List ℕ))
     (ack_bytes bytes : List ℕ) (s' : NodeParts) : Type 0 where
@@ -96,7 +101,8 @@ pub record IsAnswered (s : NodeParts) (time : Timeval) (e : Envelope) (reply : O
   pub written : IsWrittenOf ack envelope reply ack_bytes bytes
 
 -- It stopped before the RECV, or, out of memory for what it shows, after it.
-abbrev pub StopsAnswering : (s : NodeParts) → Timeval → Envelope → (bytes : List ℕ) → LinkFault → (s' : NodeParts)
+abbrev pub StopsAnswering : (s : NodeParts) → Timeval → Envelope → (bytes : List ℕ) → LinkFault
+    → (s' : NodeParts)
     → Type 0
 StopsAnswering s time e bytes fault s' =
     (Because (LacksKeys 2 s) (¬ Finds (receiver_of s) bytes e None) fault × (s' ≡ s))
@@ -129,7 +135,8 @@ pub record IsReceivedAs (c : NodeParts) (e : Envelope) (bytes : List ℕ) (c' : 
   pub written : IsTextOfAck ack bytes
 
 -- It stopped before the RECV, or, out of memory for the acknowledgement's text, after it.
-abbrev pub StopsReceiving : (c : NodeParts) → Envelope → (bytes : List ℕ) → LinkFault → (c' : NodeParts) → Type 0
+abbrev pub StopsReceiving : (c : NodeParts) → Envelope → (bytes : List ℕ) → LinkFault → (c' : NodeParts)
+    → Type 0
 StopsReceiving c e bytes fault c' =
     (Because (LacksKeys 1 c) (¬ Finds (receiver_of c) bytes e None) fault × (c' ≡ c))
     ⊎ ((¬ LacksKeys 1 c) × (c' ≡ with_receipt c e) × Because ⊥ ⊥ fault)
@@ -141,7 +148,8 @@ pub record IsReturnedAs (c : NodeParts) (e : Envelope) (c' : NodeParts) : Type 0
   pub acknowledged : IsAcknowledged c'
 
 -- It stopped before the RECV, or with the acknowledgement after it.
-abbrev pub StopsReturning : (c : NodeParts) → Envelope → (bytes : List ℕ) → LinkFault → (c' : NodeParts) → Type 0
+abbrev pub StopsReturning : (c : NodeParts) → Envelope → (bytes : List ℕ) → LinkFault → (c' : NodeParts)
+    → Type 0
 StopsReturning c e bytes fault c' =
     (Because (LacksKeys 1 c) (¬ Finds (receiver_of c) bytes e None) fault × (c' ≡ c))
     ⊎ ((¬ LacksKeys 1 c) × (c' ≡ with_receipt c e) × Because ⊥ (IsAckRefused c') fault)

@@ -186,7 +186,8 @@ pub(crate) fn take_ack<R: Role>(
 ) -> Result<(), LinkFault>
     ensures takes { (a : Ack) → IsText ack_text (ack_value a) text.now → IsAccepted node.old a →
         TakesAwaited node.old a result node.new }
-    ensures told { (a : Ack) → IsText ack_text (ack_value a) text.now → MayTakeAck node.old a result node.new }
+    ensures told { (a : Ack) → IsText ack_text (ack_value a) text.now
+        → MayTakeAck node.old a result node.new }
     ensures strayed { node.new.strayed ≡ node.old.strayed }
 {
     ack_taken(node.take_ack(alloc, text))

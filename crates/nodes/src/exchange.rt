@@ -22,12 +22,13 @@ use nfs_items::Time;
 use node_logs::Receipt;
 use std::alloc::Global;
 
-/// Carries a body of at most 12,288 bytes from a client to a server at a time, and its reply, if one is owed, back:
-/// a call of the client, with all that the two log for it (specs/Exchanges/Exchanges.antt). What either logged with
-/// others before, and whether it strayed, doesn't matter; `text` is used for what goes between the two. The reply is
-/// the one owed, unless the server was told to lie. Where they are joined, neither refuses the other but for want of
-/// keys, `KeysUsedUp`, or memory, `NoMemory`; else `Failed` comes where one refuses the other, as where it doesn't
-/// list it. After a fault what was done before it stands, and nothing else was done (specs/Faults.antt).
+/// Carries a body of at most 12,288 bytes from a client to a server at a time, and its reply, if one is owed,
+/// back: a call of the client, with all that the two log for it (specs/Exchanges/Exchanges.antt). What either
+/// logged with others before, and whether it strayed, doesn't matter; `text` is used for what goes between
+/// the two. The reply is the one owed, unless the server was told to lie. Where they are joined, neither
+/// refuses the other: a fault is then `KeysUsedUp` or `NoMemory`, for keys that are used up or memory that
+/// was refused. Else `Failed` comes where one refuses the other, as where it doesn't list it. After a fault
+/// what was done before it stands, and nothing else was done (specs/Faults.antt).
 pub fn exchange(
     client: &mut ClientNode,
     server: &mut ServerNode,
@@ -69,7 +70,8 @@ fn ask(
 ) -> Result<Receipt, LinkFault>
     requires size { length bytes.now ≤ MAX_BODY }
     ensures told { MayAsk client.old server.old time bytes.now result client.new server.new }
-    ensures asks { IsJoined client.old server.old → Asks client.old server.old time bytes.now result client.new server.new }
+    ensures asks { IsJoined client.old server.old
+        → Asks client.old server.old time bytes.now result client.new server.new }
     ensures sender { OnOk result (IsSender (sender_of server.new)) }
 {
     let number = send(client, server.number(), alloc, bytes)?;

@@ -19,8 +19,8 @@ use nfs_items::Time;
 use std::alloc::Global;
 use std::marker::Model;
 
-/// A server that hasn't strayed, as its type keeps it, also under a lock: its log is honest, and it won't lie. It
-/// is joined to nobody in particular.
+/// A server that hasn't strayed, as its type keeps it, also under a lock: its log is honest, and it won't
+/// lie. It is joined to nobody in particular.
 #[derive(Drop)]
 pub struct HonestServer {
     server: ServerNode,
@@ -71,11 +71,11 @@ impl HonestServer {
         self.server
     }
 
-    /// Receives an envelope's text at a time, and what it shows of it is written, in place of what the bytes were: its
-    /// acknowledgement's text, and that of its reply's envelope, if one is owed. Gives the reply's body, which is the
-    /// one owed. The server stays one that hasn't strayed. `KeysUsedUp` comes only where fewer than two keys are left,
-    /// `NoMemory` only where a growth was refused, `Failed` only where the message isn't new to the server, or refused
-    /// by it.
+    /// Receives an envelope's text at a time, and what it shows of it is written, in place of what the bytes
+    /// were: its acknowledgement's text, and that of its reply's envelope, if one is owed. Gives the reply's
+    /// body, which is the one owed. The server stays one that hasn't strayed. `KeysUsedUp` comes only where
+    /// fewer than two keys are left, `NoMemory` only where a growth was refused, `Failed` only where the
+    /// message isn't new to the server, or refused by it.
     pub(crate) fn answer(
         &mut self,
         alloc: Global,
@@ -86,7 +86,8 @@ impl HonestServer {
     ) -> Result<Option<Vec<u8>>, LinkFault>
         ensures straight { HasNotStrayed self.old }
         ensures stays { HasNotStrayed self.new }
-        ensures answered { (e : Envelope) → IsEnvelopeText e call.now → IfOk result (λ r. IsAnswered self.old time e
+        ensures answered { (e : Envelope) → IsEnvelopeText e call.now
+            → IfOk result (λ r. IsAnswered self.old time e
             (option_map (λ v. v.items) r) ack.new.items reply.new.items self.new) }
         ensures served { (e : Envelope) → IsEnvelopeText e call.now → IfOk result (λ r.
             IsServed self.old time e.body (option_map (λ v. v.items) r) self.new) }
@@ -100,8 +101,8 @@ impl HonestServer {
         result
     }
 
-    /// Takes an acknowledgement's text, which it is to await: of another, `Failed`. The server stays one that hasn't
-    /// strayed. `NoMemory` comes only where a growth was refused.
+    /// Takes an acknowledgement's text, which it is to await: of another, `Failed`. The server stays one that
+    /// hasn't strayed. `NoMemory` comes only where a growth was refused.
     pub(crate) fn take_ack(&mut self, alloc: Global, text: &[u8]) -> Result<(), LinkFault>
         ensures straight { HasNotStrayed self.old }
         ensures stays { HasNotStrayed self.new }

@@ -54,8 +54,8 @@ pub(crate) fn call<R: Wait>(
     }
 }
 
-/// The client sends, the server answers under the lock, and the client takes its acknowledgement. Gives the body of
-/// the reply, if one is owed, whose envelope's text stands in `texts`.
+/// The client sends, the server answers under the lock, and the client takes its acknowledgement. Gives the
+/// body of the reply, if one is owed, whose envelope's text stands in `texts`.
 fn ask<R: Wait>(
     rt: &R,
     server: &Mutex<HonestServer>,
@@ -86,8 +86,8 @@ fn ask<R: Wait>(
     }
 }
 
-/// The client receives the reply whose envelope's text stands in `texts`, and the server takes its acknowledgement
-/// under the lock.
+/// The client receives the reply whose envelope's text stands in `texts`, and the server takes its
+/// acknowledgement under the lock.
 fn bring_back<R: Wait>(
     rt: &R,
     server: &Mutex<HonestServer>,

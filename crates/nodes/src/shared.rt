@@ -14,9 +14,10 @@ use std::alloc::Global;
 use std::marker::Model;
 use std::sync::{Mutex, Wait};
 
-/// A client of its own, and a server under a lock that others use too, joined to a link: each exchange is a call
-/// of the client, with all that the two log for it. The lock is held for what the server does alone, and not while the
-/// client signs and checks. It keeps its runtime, so that who uses it as a link has none. After a fault it has failed.
+/// A client of its own, and a server under a lock that others use too, joined to a link: each exchange is a
+/// call of the client, with all that the two log for it. The lock is held for what the server does alone, and
+/// not while the client signs and checks. It keeps its runtime, so that who uses it as a link has none. After
+/// a fault it has failed.
 #[derive(Drop)]
 pub struct Shared<'a, R: Wait> {
     rt: &'a R,
@@ -38,9 +39,9 @@ impl<'a, R: Wait> Model for Shared<'a, R> {
 }
 
 impl<'a, R: Wait> Shared<'a, R> {
-    /// A link of a client to the server of a number, `to`, that lies under a lock. The server isn't looked at: whether
-    /// it has the number, and whether the two list each other, shows at the first exchange. Takes no memory and no
-    /// lock.
+    /// A link of a client to the server of a number, `to`, that lies under a lock. The server isn't looked
+    /// at: whether it has the number, and whether the two list each other, shows at the first exchange. Takes
+    /// no memory and no lock.
     pub fn new(
         rt: &'a R,
         alloc: Global,
@@ -78,14 +79,15 @@ impl<'a, R: Wait> Shared<'a, R> {
         self.client
     }
 
-    /// Carries a body of at most 12,288 bytes to the server at a time, and gives its reply, if one is owed. The client
-    /// logs SEND, ACK and RECV, the server RECV, CLOCK and SEND, and later ACK; what the server logs of others may
-    /// stand before that ACK. It waits for the lock twice, and holds it for what the server does alone: it receives the
-    /// call and answers it, and, where a reply was owed, takes the client's acknowledgement. `KeysUsedUp` comes only
-    /// where the client has no key left, or the server fewer than two, or the client none for the reply; `NoMemory`
-    /// only where a growth was refused; `Failed` where one of the two refuses the other, as where it isn't listed
-    /// there, or the server has another number. What was done before any of them stands. After a fault `Failed` comes,
-    /// no lock is taken, and nothing changes.
+    /// Carries a body of at most 12,288 bytes to the server at a time, and gives its reply, if one is owed.
+    /// The client logs SEND, ACK and RECV, the server RECV, CLOCK and SEND, and later ACK; what the server
+    /// logs of others may stand before that ACK. It waits for the lock twice, and holds it for what the
+    /// server does alone: it receives the call and answers it, and, where a reply was owed, takes the
+    /// client's acknowledgement. `KeysUsedUp` comes only where the client has no key left, or the server
+    /// fewer than two, or the client none for the reply; `NoMemory` only where a growth was refused; `Failed`
+    /// where one of the two refuses the other, as where it isn't listed there, or the server has another
+    /// number. What was done before any of them stands. After a fault `Failed` comes, no lock is taken, and
+    /// nothing changes.
     pub fn carry(
         &mut self,
         alloc: Global,
@@ -121,8 +123,8 @@ impl<'a, R: Wait> Shared<'a, R> {
     }
 }
 
-/// Its exchanges are what `carry` says, and so are its faults. Others move its server's world besides, so it tells
-/// none; any fault may come. It has failed after a fault.
+/// Its exchanges are what `carry` says, and so are its faults. Others move its server's world besides, so it
+/// tells none; any fault may come. It has failed after a fault.
 impl<'a, R: Wait> Link for Shared<'a, R> {
     ghost exchanges = { λ d time bytes reply d'. IsExchanged d time bytes reply d' };
 

@@ -19,8 +19,9 @@ use nfs_items::Time;
 use node_logs::NodeLog;
 use std::alloc::Global;
 
-/// The client sends a body of at most 12,288 bytes to a node, and the text of its envelope is written, in place of
-/// what the bytes were. `KeysUsedUp` comes only where no key is left, `NoMemory` only where a growth was refused.
+/// The client sends a body of at most 12,288 bytes to a node, and the text of its envelope is written, in
+/// place of what the bytes were. `KeysUsedUp` comes only where no key is left, `NoMemory` only where a growth
+/// was refused.
 pub(crate) fn send_text(
     client: &mut ClientNode,
     to: u32,
@@ -36,9 +37,9 @@ pub(crate) fn send_text(
     write_envelope(client.node(), number, text)
 }
 
-/// Writes the text of the acknowledgement that the RECV with a number makes, and that of the envelope of its reply's
-/// SEND, if there is one, in place of what the bytes were. Gives a copy of the reply's body. `NoMemory` comes only
-/// where a growth was refused.
+/// Writes the text of the acknowledgement that the RECV with a number makes, and that of the envelope of its
+/// reply's SEND, if there is one, in place of what the bytes were. Gives a copy of the reply's body.
+/// `NoMemory` comes only where a growth was refused.
 fn write_answer(
     node: &NodeLog,
     number: Number,
@@ -47,7 +48,8 @@ fn write_answer(
     ack: &mut Vec<u8>,
     reply: &mut Vec<u8>,
 ) -> Result<Option<Vec<u8>>, LinkFault>
-    ensures written { (a : Ack) (e : Option Envelope) → IsShownOf node.now number reply_number a e → IfOk result (λ r.
+    ensures written { (a : Ack) (e : Option Envelope) → IsShownOf node.now number reply_number a e
+        → IfOk result (λ r.
         IsWrittenOf a e (option_map (λ v. v.items) r) ack.new.items reply.new.items) }
     ensures refused { (a : Ack) (e : Option Envelope) → IsShownOf node.now number reply_number a e →
         IfErr result (λ f. f ≡ NoMemory) }
@@ -64,11 +66,11 @@ fn write_answer(
     }
 }
 
-/// The server receives an envelope's text at a time, and what it shows of it is written, in place of what the bytes
-/// were: its acknowledgement's text, and the text of its reply's envelope, if one is owed. Gives the reply's body,
-/// which is the one owed unless the server was told to lie. `KeysUsedUp` comes only where fewer than two keys are
-/// left, `NoMemory` only where a growth was refused, `Failed` only where the message isn't new to the server, or
-/// refused by it.
+/// The server receives an envelope's text at a time, and what it shows of it is written, in place of what the
+/// bytes were: its acknowledgement's text, and the text of its reply's envelope, if one is owed. Gives the
+/// reply's body, which is the one owed unless the server was told to lie. `KeysUsedUp` comes only where fewer
+/// than two keys are left, `NoMemory` only where a growth was refused, `Failed` only where the message isn't
+/// new to the server, or refused by it.
 pub(crate) fn answer(
     server: &mut ServerNode,
     alloc: Global,
@@ -78,7 +80,8 @@ pub(crate) fn answer(
     reply: &mut Vec<u8>,
 ) -> Result<Option<Vec<u8>>, LinkFault>
     ensures strayed { server.new.strayed ≡ server.old.strayed }
-    ensures answered { (e : Envelope) → IsEnvelopeText e call.now → IfOk result (λ r. IsAnswered server.old time e
+    ensures answered { (e : Envelope) → IsEnvelopeText e call.now
+        → IfOk result (λ r. IsAnswered server.old time e
         (option_map (λ v. v.items) r) ack.new.items reply.new.items server.new) }
     ensures served { server.old.lies ≡ false → (e : Envelope) → IsEnvelopeText e call.now → IfOk result (λ r.
         IsServed server.old time e.body (option_map (λ v. v.items) r) server.new) }
@@ -90,9 +93,9 @@ pub(crate) fn answer(
     write_answer(server.node(), receipt.ack, receipt.reply, alloc, ack, reply)
 }
 
-/// The client receives the text of a reply's envelope, and its acknowledgement's text is written, in place of what
-/// the bytes were. `KeysUsedUp` comes only where no key is left, `NoMemory` only where a growth was refused, `Failed`
-/// only where the message isn't new to the client, or refused by it.
+/// The client receives the text of a reply's envelope, and its acknowledgement's text is written, in place of
+/// what the bytes were. `KeysUsedUp` comes only where no key is left, `NoMemory` only where a growth was
+/// refused, `Failed` only where the message isn't new to the client, or refused by it.
 pub(crate) fn receive_reply(
     client: &mut ClientNode,
     alloc: Global,

@@ -49,7 +49,8 @@ pub of_strangers : (ms : List Member) (d : Delivery) → may_be d ≡ true → i
 of_strangers ms d may of = rw (may, of) refl
 
 -- what fails the first is garbage
-pub cannot_be : (ms : List Member) (d : Delivery) → may_be d ≡ false → judged_delivery ms d ≡ Err refusal.Garbage
+pub cannot_be : (ms : List Member) (d : Delivery) → may_be d ≡ false
+    → judged_delivery ms d ≡ Err refusal.Garbage
 cannot_be ms d may = rw may refl
 
 -- ---- members
@@ -63,13 +64,15 @@ unknown ms node e = rw e refl
 -- ---- an authenticator
 
 -- what its check answers is what is owed to its packet
-pub learned : {C : Type 0} (ms : List Member) (bytes : List ℕ) (value : C → Authenticator) (member : C → Member)
+pub learned : {C : Type 0} (ms : List Member) (bytes : List ℕ) (value : C → Authenticator) (member : C
+    → Member)
     (r : Result C Refusal) → Checks ms bytes value member r
     → GivesDelivery (judged_option ms (content_at 1 bytes)) (λ c. Learn (value c)) r
 learned ms bytes value member (Ok c) h =
     let a : Authenticator = value c in
     rw h.0.text
-    (taken ms (Learn a) refl (known ms a.node (member c) h.0.member) (signed_by_member ms a (member c) h.0.member h.1))
+    (taken ms (Learn a) refl (known ms a.node (member c) h.0.member)
+    (signed_by_member ms a (member c) h.0.member h.1))
 learned ms bytes value member (Err refusal.Garbage) h = rw h refl
 learned ms bytes value member (Err refusal.UnknownNode) h =
     rw h.1.text (of_strangers ms (Learn h.0) refl (unknown ms h.0.node h.1.stranger))
@@ -77,7 +80,8 @@ learned ms bytes value member (Err refusal.BadSignature) h =
     let a : Authenticator = h.0 in
     let m : Member = h.1.0 in
     rw h.1.1.0.text
-    (unsigned ms (Learn a) refl (known ms a.node m h.1.1.0.member) (unsigned_by_member ms a m h.1.1.0.member h.1.1.1))
+    (unsigned ms (Learn a) refl (known ms a.node m h.1.1.0.member)
+    (unsigned_by_member ms a m h.1.1.0.member h.1.1.1))
 learned ms bytes value member (Err refusal.NoMemory) h = tt
 
 -- ---- an envelope
@@ -90,7 +94,8 @@ to_itself : (e : Envelope) → e.from ≡ e.to → may_be (SendChallenge e) ≡ 
 to_itself e same = ap not (eq-eqb e.from e.to same)
 
 -- it is of members exactly where both are
-of_two : (ms : List Member) (e : Envelope) (m : Member) → member_of ms e.from ≡ Some m → IsSome (member_of ms e.to)
+of_two : (ms : List Member) (e : Envelope) (m : Member) → member_of ms e.from ≡ Some m
+    → IsSome (member_of ms e.to)
     → is_of_members ms (SendChallenge e) ≡ true
 of_two ms e m sender receiver = rw sender receiver
 
@@ -132,18 +137,22 @@ challenged ms bytes value member (Err refusal.NoMemory) h = tt
 -- the test whether it ends in its closing is what that means
 pub ends_of : (s : SegmentParts) → Ends s → ends s ≡ true
 ends_of s e =
-    let number_hash = (s.closing.number + 1 == s.first + length s.entries) && is_same s.closing.hash (last_hash s.opening (links_from s.first s.entries)) in
+    let number_hash = (s.closing.number + 1 == s.first + length s.entries) && is_same s.closing.hash
+    (last_hash s.opening (links_from s.first s.entries)) in
     and_from (s.closing.node == s.node) number_hash (eq-eqb s.closing.node s.node e.node)
-    (and_from (s.closing.number + 1 == s.first + length s.entries) (is_same s.closing.hash (last_hash s.opening (links_from s.first s.entries)))
+    (and_from (s.closing.number + 1 == s.first + length s.entries)
+    (is_same s.closing.hash (last_hash s.opening (links_from s.first s.entries)))
     (eq-eqb (s.closing.number + 1) (s.first + length s.entries) e.number)
     (list_same s.closing.hash (last_hash s.opening (links_from s.first s.entries)) e.hash))
 
 -- a segment that passes the tests of its end ends as its closing says
 pub of_ends : (s : SegmentParts) → ends s ≡ true → Ends s
 of_ends s h =
-    let number_hash = (s.closing.number + 1 == s.first + length s.entries) && is_same s.closing.hash (last_hash s.opening (links_from s.first s.entries)) in
+    let number_hash = (s.closing.number + 1 == s.first + length s.entries) && is_same s.closing.hash
+    (last_hash s.opening (links_from s.first s.entries)) in
     let one = and_parts (s.closing.node == s.node) number_hash h in
-    let two = and_parts (s.closing.number + 1 == s.first + length s.entries) (is_same s.closing.hash (last_hash s.opening (links_from s.first s.entries))) one.1 in
+    let two = and_parts (s.closing.number + 1 == s.first + length s.entries)
+    (is_same s.closing.hash (last_hash s.opening (links_from s.first s.entries))) one.1 in
     record {
       node = eqb-true s.closing.node s.node one.0;
       number = eqb-true (s.closing.number + 1) (s.first + length s.entries) two.0;
@@ -156,7 +165,8 @@ segment_at : (ms : List Member) (bytes : List ℕ) (s : SegmentParts) → IsOf b
 segment_at ms bytes s of = rw of (ap (λ (t : SegmentParts). judged_delivery ms (Answer t)) (segment_back s))
 
 -- the member that its closing names
-closer : (ms : List Member) (s : SegmentParts) (o : Option Member) → Ends s → member_of ms s.node ≡ o → member_of ms s.closing.node ≡ o
+closer : (ms : List Member) (s : SegmentParts) (o : Option Member) → Ends s → member_of ms s.node ≡ o
+    → member_of ms s.closing.node ≡ o
 closer ms s o e is = ap (member_of ms) e.node ∙ is
 
 -- a member signed it, so it is of one
@@ -173,7 +183,8 @@ pub given : (ms : List Member) (bytes : List ℕ) (c : ClosedParts) → ChecksSe
 given ms bytes c h =
     let s : SegmentParts = c.segment in
     segment_at ms bytes s h.0
-    ∙ taken ms (Answer s) (ends_of s h.2.ends) (member_of_signed ms s.closing h.2.signed) (of_signed_in ms s.closing h.2.signed)
+    ∙ taken ms (Answer s) (ends_of s h.2.ends) (member_of_signed ms s.closing h.2.signed)
+    (of_signed_in ms s.closing h.2.signed)
 
 -- the refusal that a fault of a segment is; the first two are no answers of a check
 abbrev pub refusal_of : SegmentFault → Refusal
@@ -190,7 +201,8 @@ pub answered : (ms : List Member) (bytes : List ℕ) (f : SegmentFault) → Chec
     → Refuses (judged_option ms (content_at 3 bytes)) (refusal_of f)
 answered ms bytes fault.Garbage h = rw h refl
 answered ms bytes fault.BrokenChain h =
-    segment_at ms bytes h.0 h.1.0 ∙ cannot_be ms (Answer h.0) (is_false (ends h.0) (λ e. h.1.1 (of_ends h.0 e)))
+    segment_at ms bytes h.0 h.1.0
+    ∙ cannot_be ms (Answer h.0) (is_false (ends h.0) (λ e. h.1.1 (of_ends h.0 e)))
 answered ms bytes fault.UnknownNode h =
     let s : SegmentParts = h.0 in
     segment_at ms bytes s h.1.0
@@ -215,7 +227,8 @@ pub acknowledged : {C : Type 0} (ms : List Member) (bytes : List ℕ) (value : C
 acknowledged ms bytes value member (Ok c) h =
     let a : Ack = value c in
     rw h.0
-    (taken ms (AckIn a) refl (known ms a.by (member c) h.1) (signed_by_member ms (delivery_shows (AckIn a)) (member c) h.1 h.2))
+    (taken ms (AckIn a) refl (known ms a.by (member c) h.1)
+    (signed_by_member ms (delivery_shows (AckIn a)) (member c) h.1 h.2))
 acknowledged ms bytes value member (Err refusal.Garbage) h = rw h refl
 acknowledged ms bytes value member (Err refusal.UnknownNode) h =
     rw h.1.0 (of_strangers ms (AckIn h.0) refl (unknown ms h.0.by h.1.1))
@@ -223,7 +236,8 @@ acknowledged ms bytes value member (Err refusal.BadSignature) h =
     let a : Ack = h.0 in
     let m : Member = h.1.0 in
     rw h.1.1.0
-    (unsigned ms (AckIn a) refl (known ms a.by m h.1.1.1) (unsigned_by_member ms (delivery_shows (AckIn a)) m h.1.1.1 h.1.1.2))
+    (unsigned ms (AckIn a) refl (known ms a.by m h.1.1.1)
+    (unsigned_by_member ms (delivery_shows (AckIn a)) m h.1.1.1 h.1.1.2))
 acknowledged ms bytes value member (Err refusal.NoMemory) h = tt
 
 -- ---- its number
@@ -241,7 +255,9 @@ unfolding judged delivery_of
 without_number ms bytes f e = rw e refl
 
 -- what is owed to what stands after its number is owed to the packet
-pub answers_after : {P : Type 0} (ms : List Member) (bytes : List ℕ) (n : ℕ) (rest : List ℕ) (delivery : P → Delivery)
+pub answers_after : {P : Type 0} (ms : List Member) (bytes : List ℕ) (n : ℕ) (rest : List ℕ) (delivery : P
+    → Delivery)
     (r : Result P Refusal) → number_at 4 bytes ≡ Ok (n, rest)
-    → GivesDelivery (judged_option ms (content_at n rest)) delivery r → GivesDelivery (judged ms bytes) delivery r
+    → GivesDelivery (judged_option ms (content_at n rest)) delivery r
+    → GivesDelivery (judged ms bytes) delivery r
 answers_after ms bytes n rest delivery r e h = rw (behind ms bytes n rest e) h

@@ -34,21 +34,25 @@ says_back (suc (suc (suc zero))) v known = refl
 says_back (suc (suc (suc (suc zero)))) v known = refl
 says_back (suc (suc (suc (suc (suc zero))))) v known = refl
 says_back (suc (suc (suc (suc (suc (suc n)))))) v known =
-    let both = and_parts (nat_lt 0 (suc (suc (suc (suc (suc (suc n))))))) (nat_lt (suc (suc (suc (suc (suc (suc n)))))) 6) known in
+    let both = and_parts (nat_lt 0 (suc (suc (suc (suc (suc (suc n)))))))
+    (nat_lt (suc (suc (suc (suc (suc (suc n)))))) 6) known in
     let lt = ltb-true (suc (suc (suc (suc (suc (suc n)))))) 6 both.1 in absurd (omega (arith, lt))
 
-all_say_back : (vs : List (Value entry_item)) → AllByRecursion (Fits entry_item) vs → map entry_value (map entry_said vs) ≡ vs
+all_say_back : (vs : List (Value entry_item)) → AllByRecursion (Fits entry_item) vs
+    → map entry_value (map entry_said vs) ≡ vs
 all_say_back [] fit = refl
 all_say_back (v ∷ vs) fit = ap₂ (λ x xs. x ∷ xs) (says_back v.0 v.1 fit.0.1) (all_say_back vs fit.1)
 
 -- a segment says its value
 segment_says : (v : Value segment_item) → Fits segment_item v → segment_value (segment_said v) ≡ v
-segment_says v fit = ap (λ (es : List (Value entry_item)). (v.0, (v.1.0, (v.1.1.0, (es, v.1.1.1.1))))) (all_say_back v.1.1.1.0 fit.1.1.1.0.2)
+segment_says v fit = ap (λ (es : List (Value entry_item)). (v.0, (v.1.0, (v.1.1.0, (es, v.1.1.1.1)))))
+    (all_say_back v.1.1.1.0 fit.1.1.1.0.2)
 
 -- ---- what is read is spelled
 
 -- what is made of an option's value
-mapped : {A B : Type 0} (f : A → B) (o : Option A) (b : B) → option_map f o ≡ Some b → (a : A) × ((o ≡ Some a) × (f a ≡ b))
+mapped : {A B : Type 0} (f : A → B) (o : Option A) (b : B) → option_map f o ≡ Some b
+    → (a : A) × ((o ≡ Some a) × (f a ≡ b))
 mapped f None b e = absurd cc
 mapped f (Some a) b e = (a, (refl, cc))
 
@@ -57,36 +61,62 @@ record IsOf (n : ℕ) (text : List ℕ) (d : Delivery) : Type 0 where
   number : packet_number d ≡ n
   content : IsContent d text
 
-read_is_of : (n : ℕ) (text : List ℕ) (d : Delivery) → IsBytes text → content_at n text ≡ Some d → IsOf n text d
+read_is_of : (n : ℕ) (text : List ℕ) (d : Delivery) → IsBytes text → content_at n text ≡ Some d
+    → IsOf n text d
 read_is_of n text d bound e = first (n == 1) refl e
   where
-    fourth : (b : Bool) → (n == 4) ≡ b → cond b (option_map (λ v. AckIn (ack_said v)) (text_at ack_text text)) None ≡ Some d → IsOf n text d
+    fourth : (b : Bool) → (n == 4) ≡ b
+        → cond b (option_map (λ v. AckIn (ack_said v)) (text_at ack_text text)) None ≡ Some d → IsOf n text d
     fourth true h e =
         let m = mapped (λ v. AckIn (ack_said v)) (text_at ack_text text) d e in
         let four : 4 ≡ n = sym (eqb-true n 4 h) in
-        subst (IsOf n text) m.1.1 (record { number = four; content = (is_text ack_text m.0 text bound).0 m.1.0 })
+        subst (IsOf n text) m.1.1 (record {
+          number = four;
+          content = (is_text ack_text m.0 text bound).0 m.1.0;
+        })
     fourth false h e = absurd cc
 
-    third : (b : Bool) → (n == 3) ≡ b → cond b (option_map (λ v. Answer (segment_said v)) (text_at segment_text text)) (cond (n == 4) (option_map (λ v. AckIn (ack_said v)) (text_at ack_text text)) None) ≡ Some d → IsOf n text d
+    third : (b : Bool) → (n == 3) ≡ b
+        → cond b (option_map (λ v. Answer (segment_said v)) (text_at segment_text text))
+        (cond (n == 4) (option_map (λ v. AckIn (ack_said v)) (text_at ack_text text)) None) ≡ Some d
+        → IsOf n text d
     third true h e =
         let m = mapped (λ v. Answer (segment_said v)) (text_at segment_text text) d e in
         let three : 3 ≡ n = sym (eqb-true n 3 h) in
         let is = (is_text segment_text m.0 text bound).0 m.1.0 in
-        subst (IsOf n text) m.1.1 (record { number = three; content = subst (λ v. IsText segment_text v text) (sym (segment_says m.0 is.0)) is })
+        subst (IsOf n text) m.1.1 (record {
+          number = three;
+          content = subst (λ v. IsText segment_text v text) (sym (segment_says m.0 is.0)) is;
+        })
     third false h e = fourth (n == 4) refl e
 
-    second : (b : Bool) → (n == 2) ≡ b → cond b (option_map (λ v. SendChallenge (envelope_said v)) (text_at envelope_text text)) (cond (n == 3) (option_map (λ v. Answer (segment_said v)) (text_at segment_text text)) (cond (n == 4) (option_map (λ v. AckIn (ack_said v)) (text_at ack_text text)) None)) ≡ Some d → IsOf n text d
+    second : (b : Bool) → (n == 2) ≡ b
+        → cond b (option_map (λ v. SendChallenge (envelope_said v)) (text_at envelope_text text))
+        (cond (n == 3) (option_map (λ v. Answer (segment_said v)) (text_at segment_text text))
+        (cond (n == 4) (option_map (λ v. AckIn (ack_said v)) (text_at ack_text text)) None)) ≡ Some d
+        → IsOf n text d
     second true h e =
         let m = mapped (λ v. SendChallenge (envelope_said v)) (text_at envelope_text text) d e in
         let two : 2 ≡ n = sym (eqb-true n 2 h) in
-        subst (IsOf n text) m.1.1 (record { number = two; content = (is_text envelope_text m.0 text bound).0 m.1.0 })
+        subst (IsOf n text) m.1.1 (record {
+          number = two;
+          content = (is_text envelope_text m.0 text bound).0 m.1.0;
+        })
     second false h e = third (n == 3) refl e
 
-    first : (b : Bool) → (n == 1) ≡ b → cond b (option_map (λ v. Learn (authenticator_said v)) (text_at authenticator_text text)) (cond (n == 2) (option_map (λ v. SendChallenge (envelope_said v)) (text_at envelope_text text)) (cond (n == 3) (option_map (λ v. Answer (segment_said v)) (text_at segment_text text)) (cond (n == 4) (option_map (λ v. AckIn (ack_said v)) (text_at ack_text text)) None))) ≡ Some d → IsOf n text d
+    first : (b : Bool) → (n == 1) ≡ b
+        → cond b (option_map (λ v. Learn (authenticator_said v)) (text_at authenticator_text text))
+        (cond (n == 2) (option_map (λ v. SendChallenge (envelope_said v)) (text_at envelope_text text))
+        (cond (n == 3) (option_map (λ v. Answer (segment_said v)) (text_at segment_text text))
+        (cond (n == 4) (option_map (λ v. AckIn (ack_said v)) (text_at ack_text text))
+        None))) ≡ Some d → IsOf n text d
     first true h e =
         let m = mapped (λ v. Learn (authenticator_said v)) (text_at authenticator_text text) d e in
         let one : 1 ≡ n = sym (eqb-true n 1 h) in
-        subst (IsOf n text) m.1.1 (record { number = one; content = (is_text authenticator_text m.0 text bound).0 m.1.0 })
+        subst (IsOf n text) m.1.1 (record {
+          number = one;
+          content = (is_text authenticator_text m.0 text bound).0 m.1.0;
+        })
     first false h e = second (n == 2) refl e
 
 -- what is read is said
@@ -107,9 +137,12 @@ read_is_said bytes d bound e = by_read (number_at 4 bytes) refl e
 
 -- ---- what is spelled is read
 
-content_read : (d : Delivery) (text : List ℕ) → IsBytes text → IsContent d text → content_at (packet_number d) text ≡ Some d
-content_read (Learn a) text bound is = rw ((is_text authenticator_text (authenticator_value a) text bound).1 is) refl
-content_read (SendChallenge e) text bound is = rw ((is_text envelope_text (envelope_value e) text bound).1 is) refl
+content_read : (d : Delivery) (text : List ℕ) → IsBytes text → IsContent d text
+    → content_at (packet_number d) text ≡ Some d
+content_read (Learn a) text bound is =
+    rw ((is_text authenticator_text (authenticator_value a) text bound).1 is) refl
+content_read (SendChallenge e) text bound is =
+    rw ((is_text envelope_text (envelope_value e) text bound).1 is) refl
 content_read (Answer s) text bound is =
     rw ((is_text segment_text (segment_value s) text bound).1 is) (ap (λ t. Some (Answer t)) (segment_back s))
 content_read (AckIn a) text bound is = rw ((is_text ack_text (ack_value a) text bound).1 is) refl
@@ -126,7 +159,8 @@ unfolding delivery_of
 said_is_read bytes d bound says =
     let e : number_at 4 bytes ≡ Ok (packet_number d, says.content) =
     ap (number_at 4) says.whole ∙ number_again 4 (packet_number d) says.content (small d) in
-    let rest : IsBytes says.content = (takes word bytes (packet_number d, says.content) bound e).0.rest_fits in
+    let rest : IsBytes says.content =
+    (takes word bytes (packet_number d, says.content) bound e).0.rest_fits in
     rw e (content_read d says.content rest says.is_content)
 
 -- both at once

@@ -22,7 +22,8 @@ use Rattle.packets.proofs.Spelled.{exact, one_delivery}
 -- ---- the tests are what they mean
 
 differ : (a b : ℕ) → not (a == b) ≡ true → ¬ (a ≡ b)
-differ a b h e = let same : (a == b) ≡ true = eq-eqb a b e in let nay : not true ≡ true = subst (λ (t : Bool). not t ≡ true) same h in absurd cc
+differ a b h e = let same : (a == b) ≡ true = eq-eqb a b e in let nay : not true ≡ true =
+    subst (λ (t : Bool). not t ≡ true) same h in absurd cc
 
 may_of : (d : Delivery) → may_be d ≡ true → MayBe d
 may_of (Learn a) h = tt
@@ -53,7 +54,8 @@ members_of ms (AckIn a) h = some_of (member_of ms a.by) h
 of_members : (ms : List Member) (d : Delivery) → IsOfMembers ms d → is_of_members ms d ≡ true
 of_members ms (Learn a) h = of_some (member_of ms a.node) h
 of_members ms (SendChallenge e) h =
-    and_from (is_member ms e.from) (is_member ms e.to) (of_some (member_of ms e.from) h.0) (of_some (member_of ms e.to) h.1)
+    and_from (is_member ms e.from) (is_member ms e.to) (of_some (member_of ms e.from) h.0)
+    (of_some (member_of ms e.to) h.1)
 of_members ms (Answer s) h = of_some (member_of ms s.closing.node) h
 of_members ms (AckIn a) h = of_some (member_of ms a.by) h
 
@@ -77,9 +79,13 @@ module _ (ms : List Member) (bytes : List ℕ) (bound : IsBytes bytes) where
 
   by_tests : (d : Delivery) → Says bytes d → (may of signed : Bool) → may_be d ≡ may → is_of_members ms d ≡ of
       → is_signed_in ms (delivery_shows d) ≡ signed
-      → Means ms bytes (cond may (cond of (cond signed (Ok d) (Err BadSignature)) (Err UnknownNode)) (Err Garbage))
+      → Means ms bytes (cond may (cond of (cond signed (Ok d) (Err BadSignature)) (Err UnknownNode))
+      (Err Garbage))
   by_tests d says true true true may of signed = record {
-    of_members = record { well = record { says = says; may_be = may_of d may }; members = members_of ms d of };
+    of_members = record {
+      well = record { says = says; may_be = may_of d may };
+      members = members_of ms d of;
+    };
     signed = signed_in_of ms (delivery_shows d) signed;
   }
   by_tests d says true true false may of signed = (
@@ -89,14 +95,21 @@ module _ (ms : List Member) (bytes : List ℕ) (bound : IsBytes bytes) where
       (λ s. failed (is_signed_in ms (delivery_shows d)) signed (of_signed_in ms (delivery_shows d) s)),
     ),
   )
-  by_tests d says true false signed may of s =
-      (d, (record { says = says; may_be = may_of d may }, λ m. failed (is_of_members ms d) of (of_members ms d m)))
+  by_tests d says true false signed may of s = (
+    d,
+    (
+      record { says = says; may_be = may_of d may },
+      λ m. failed (is_of_members ms d) of
+          (of_members ms d m),
+    ),
+  )
   by_tests d says false of signed may o s = garbage_some d says may
 
   by_delivery : (o : Option Delivery) → delivery_of bytes ≡ o → Means ms bytes (judged_option ms o)
   by_delivery None e = garbage_none e
   by_delivery (Some d) e =
-      by_tests d ((exact bytes d bound).0 e) (may_be d) (is_of_members ms d) (is_signed_in ms (delivery_shows d)) refl refl refl
+      by_tests d ((exact bytes d bound).0 e) (may_be d) (is_of_members ms d)
+      (is_signed_in ms (delivery_shows d)) refl refl refl
 
   -- what they are taken for holds
   means : Means ms bytes (judged ms bytes)
@@ -157,4 +170,5 @@ pub written_back : (ms : List Member) (bytes : List ℕ) (d : Delivery) → IsBy
 written_back ms bytes d bound e =
     let taken_as = subst (Means ms bytes) e (means ms bytes bound) in
     let says = taken_as.of_members.well.says in
-    says.whole ∙ ap (λ text. number_spelling 4 (packet_number d) ++ text) (content_is d says.content says.is_content)
+    says.whole ∙ ap (λ text. number_spelling 4 (packet_number d) ++ text)
+    (content_is d says.content says.is_content)

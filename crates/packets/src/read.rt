@@ -30,7 +30,8 @@ pub fn read_packet(alloc: Global, roster: &Roster, bytes: &[u8]) -> Result<Packe
 
 /// What a packet with this number delivers, where the bytes are what stands after the number.
 fn read_content(alloc: Global, roster: &Roster, number: u32, text: &[u8]) -> Result<Packet, Refusal>
-    ensures answers { GivesDelivery (judged_option roster.now (content_at number text.now)) delivery_in result }
+    ensures answers { GivesDelivery (judged_option roster.now (content_at number text.now)) delivery_in
+        result }
     ensures under { IfOk result (IsUnder roster.now) }
 {
     match number {

@@ -14,13 +14,15 @@ use Rattle.replay_pool.specs.Rounds.{IsBackAt, IsBackOf, some_jobs}
 
 -- ---- a worker
 
-set_back : (ids : List TableId) (i : ℕ) (job : Option JobParts) → set (set (none_at ids) i job) i None ≡ none_at ids
+set_back : (ids : List TableId) (i : ℕ) (job : Option JobParts)
+    → set (set (none_at ids) i job) i None ≡ none_at ids
 set_back [] i job = refl
 set_back (x ∷ xs) zero job = refl
 set_back (x ∷ xs) (suc i) job = ap (λ (ys : List (Option JobParts)). None ∷ ys) (set_back xs i job)
 
 -- a worker that gave back what it took holds nothing, as before
-pub given_back : (ids : List TableId) (i : ℕ) (job : Option JobParts) (old held new : Working) → old ≡ idle_at ids
+pub given_back : (ids : List TableId) (i : ℕ) (job : Option JobParts) (old held new : Working)
+    → old ≡ idle_at ids
     → held ≡ working old i job → new ≡ working held i None → new ≡ old
 given_back ids i job old held new idle took gave =
     gave
@@ -35,7 +37,8 @@ none_last [] i more lt = absurd (omega (arith, lt))
 none_last (x ∷ xs) zero more lt = refl
 none_last (x ∷ xs) (suc i) more lt = none_last xs i more (omega (arith, lt))
 
-set_last : (ids : List TableId) (i : ℕ) (job : Option JobParts) (more : List (Option JobParts)) → i < length ids
+set_last : (ids : List TableId) (i : ℕ) (job : Option JobParts) (more : List (Option JobParts))
+    → i < length ids
     → set (take (suc i) (none_at ids) ++ more) i job ≡ take i (none_at ids) ++ job ∷ more
 set_last [] i job more lt = absurd (omega (arith, lt))
 set_last (x ∷ xs) zero job more lt = refl
@@ -50,7 +53,8 @@ one_last ids jobs n i names next is =
     is ∙ ap (λ (k : ℕ). take k (none_at ids) ++ some_jobs (drop k jobs)) after
 
 -- the slot of the next job names none
-pub not_posted : (ids : List TableId) (jobs : List JobParts) (n i : ℕ) (names : List (Option JobParts)) → n ≡ i + 1
+pub not_posted : (ids : List TableId) (jobs : List JobParts) (n i : ℕ) (names : List (Option JobParts))
+    → n ≡ i + 1
     → i < length ids → names ≡ take n (none_at ids) ++ some_jobs (drop n jobs) → get_or names i None ≡ None
 not_posted ids jobs n i names next lt is =
     ap (λ (x : List (Option JobParts)). get_or x i None) (one_last ids jobs n i names next is)
@@ -88,17 +92,21 @@ posted_more ids jobs job n i names next low lt own is =
 -- ---- workers are retired
 
 -- no worker is retired at first
-pub none_retired : (ids : List TableId) (made : ℕ) → All (λ (c : Count). c ≡ count made 0) (map (λ _. count made 0) ids)
+pub none_retired : (ids : List TableId) (made : ℕ)
+    → All (λ (c : Count). c ≡ count made 0) (map (λ _. count made 0) ids)
 none_retired [] made = All-nil (λ (c : Count). c ≡ count made 0)
 none_retired (x ∷ xs) made =
-    All-cons (λ (c : Count). c ≡ count made 0) (count made 0) (map (λ _. count made 0) xs) refl (none_retired xs made)
+    All-cons (λ (c : Count). c ≡ count made 0) (count made 0) (map (λ _. count made 0) xs) refl
+    (none_retired xs made)
 
 -- one more is
-pub retired_more : (made retired : ℕ) (counts : List Count) → All (λ (c : Count). c ≡ count made retired) counts
+pub retired_more : (made retired : ℕ) (counts : List Count)
+    → All (λ (c : Count). c ≡ count made retired) counts
     → All (λ (c : Count). c ≡ count made (retired + 1)) (map one_retired counts)
 retired_more made retired counts all =
     All-map (λ (c : Count). c ≡ count made (retired + 1)) one_retired counts
-    (All-weaker (λ (c : Count). c ≡ count made retired) (λ (c : Count). one_retired c ≡ count made (retired + 1))
+    (All-weaker (λ (c : Count). c ≡ count made retired)
+    (λ (c : Count). one_retired c ≡ count made (retired + 1))
     (λ c is. ap one_retired is) counts all)
 
 -- all are
@@ -115,11 +123,14 @@ collected_at : (ids : List TableId) (first : List (Option JobParts)) (i : ℕ) �
 collected_at [] first i long lt = absurd (omega (arith, lt))
 collected_at (x ∷ xs) [] i long lt = absurd (omega (arith, long))
 collected_at (x ∷ xs) (y ∷ ys) zero long lt = refl
-collected_at (x ∷ xs) (y ∷ ys) (suc i) long lt = collected_at xs ys i (omega (arith, long)) (omega (arith, lt))
+collected_at (x ∷ xs) (y ∷ ys) (suc i) long lt =
+    collected_at xs ys i (omega (arith, long)) (omega (arith, lt))
 
 -- what the next slot names
-pub next_named : (ids : List TableId) (first names : List (Option JobParts)) (i : ℕ) → length first ≡ length ids
-    → i < length ids → names ≡ take i (none_at ids) ++ drop i first → get_or names i None ≡ get_or first i None
+pub next_named : (ids : List TableId) (first names : List (Option JobParts)) (i : ℕ)
+    → length first ≡ length ids
+    → i < length ids → names ≡ take i (none_at ids) ++ drop i first
+    → get_or names i None ≡ get_or first i None
 next_named ids first names i long lt is =
     ap (λ (x : List (Option JobParts)). get_or x i None) is ∙ collected_at ids first i long lt
 
@@ -130,10 +141,12 @@ set_next [] first i long lt = absurd (omega (arith, lt))
 set_next (x ∷ xs) [] i long lt = absurd (omega (arith, long))
 set_next (x ∷ xs) (y ∷ ys) zero long lt = refl
 set_next (x ∷ xs) (y ∷ ys) (suc i) long lt =
-    ap (λ (zs : List (Option JobParts)). None ∷ zs) (set_next xs ys i (omega (arith, long)) (omega (arith, lt)))
+    ap (λ (zs : List (Option JobParts)). None ∷ zs)
+    (set_next xs ys i (omega (arith, long)) (omega (arith, lt)))
 
 -- one slot more names none
-pub collected_more : (ids : List TableId) (first names : List (Option JobParts)) (i : ℕ) → length first ≡ length ids
+pub collected_more : (ids : List TableId) (first names : List (Option JobParts)) (i : ℕ)
+    → length first ≡ length ids
     → i < length ids → names ≡ take i (none_at ids) ++ drop i first
     → set names i None ≡ take (i + 1) (none_at ids) ++ drop (i + 1) first
 collected_more ids first names i long lt is =
@@ -147,7 +160,8 @@ zip_push (q ∷ qs) [] p b all own = absurd all
 zip_push (q ∷ qs) (c ∷ cs) p b all own = (all.0, zip_push qs cs p b all.1 own)
 
 -- and what came back there is its own
-pub backs_more : (first : List (Option JobParts)) (i : ℕ) (backs backs' : List Back) (b : Back) → i < length first
+pub backs_more : (first : List (Option JobParts)) (i : ℕ) (backs backs' : List Back) (b : Back)
+    → i < length first
     → IsBackAt (get_or first i None) b → backs' ≡ backs ++ b ∷ [] → AllZip IsBackAt (take i first) backs
     → AllZip IsBackAt (take (i + 1) first) backs'
 backs_more first i backs backs' b lt own more all =

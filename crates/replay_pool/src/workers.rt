@@ -114,7 +114,8 @@ pub fn run_workers<R: Threads + Wait, G: Gate>(
         |scope| -> Vec<WorkerSeat>
             requires sync { IsSync G.row }
             requires idle { All (λ w. w ≡ idle_at hand_off.now) waiting.items }
-            requires room { (ended.items ≡ []) × (vec_len ended ≡ 0) × (vec_len waiting ≤ vec_capacity ended) }
+            requires room { (ended.items ≡ []) × (vec_len ended ≡ 0)
+                × (vec_len waiting ≤ vec_capacity ended) }
             ensures same { result.items ≡ waiting.items }
             ensures len { vec_len result ≡ vec_len waiting }
         { run_all(rt, scope, gate, alloc, hand_off, waiting, ended) },

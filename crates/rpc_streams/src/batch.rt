@@ -116,8 +116,8 @@ impl Batch {
         Ok(())
     }
 
-    /// How many bytes the records take up to the first whose reply isn't whole in the first `written` bytes of
-    /// the replies, that record included; all of them where each reply is whole.
+    /// How many bytes the records take up to the first whose reply isn't whole in the first `written` bytes
+    /// of the replies, that record included; all of them where each reply is whole.
     pub fn taken(&self, written: usize) -> usize
         ensures { result ≡ taken_by written 0 self.now.ends.items }
     {

@@ -11,7 +11,8 @@ abbrev pub LacksKeysOfACall : SharedParts → Type 0
 LacksKeysOfACall d = 2 ^ d.client.signer.height < d.client.signer.used + 2
 
 -- An exchange without a fault: the client had the keys of a call.
-pub record IsCall (d : SharedParts) (time : Timeval) (body : List ℕ) (reply : Option (List ℕ)) (d' : SharedParts)
+pub record IsCall (d : SharedParts) (time : Timeval) (body : List ℕ) (reply : Option (List ℕ))
+    (d' : SharedParts)
     : Type 0 where
   pub left : ¬ LacksKeysOfACall d
   pub exchanged : IsExchanged d time body reply d'

@@ -6,7 +6,8 @@ use Rattle.sha2.specs.Sha256.{compress}
 use Rattle.sha256_lanes.specs.Lanes.{IsHashOf, KeepsOthers}
 
 -- a lane has one hash value
-same_hash : (l : ℕ) (g h words : List ℕ) → length g ≡ 8 → length h ≡ 8 → IsHashOf g words l → IsHashOf h words l
+same_hash : (l : ℕ) (g h words : List ℕ) → length g ≡ 8 → length h ≡ 8 → IsHashOf g words l
+    → IsHashOf h words l
     → g ≡ h
 same_hash l g h words sg sh lg lh =
     same_number_lists g h (sg ∙ sym sh) (λ k low. sym (lg k (omega arith)) ∙ lh k (omega arith))
@@ -22,5 +23,6 @@ pub set_lane : (l : ℕ) (own h b next before after : List ℕ) → length own �
     → IsHashOf own before l → IsHashOf h before l → next ≡ compress own b → IsHashOf next after l
     → IsHashOf (compress h b) after l
 set_lane l own h b next before after so sh lo lh is set =
-    let same : next ≡ compress h b = is ∙ ap (λ (g : List ℕ). compress g b) (same_hash l own h before so sh lo lh) in
+    let same : next ≡ compress h b = is
+    ∙ ap (λ (g : List ℕ). compress g b) (same_hash l own h before so sh lo lh) in
     λ k low. set k low ∙ ap (λ (g : List ℕ). slice_index g k) same

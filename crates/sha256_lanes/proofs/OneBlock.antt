@@ -1,4 +1,5 @@
--- The last block of a message, and the hash value after each. A block in one lane is kept while another is set.
+-- The last block of a message, and the hash value after each. A block in one lane is kept while another is
+-- set.
 -- Serves: last_block, words_of, FourMessages, digest_4.
 use Rattle.std.proofs.Common.{◌≡◌, ◌≢◌, ℕ, zero, suc, ◌+◌, ◌-◌, ◌*◌, ◌/◌, ◌%◌, ◌^◌, ◌<◌, ◌≤◌, List, [], ◌∷◌, ◌++◌}
 use Rattle.std.proofs.Common.{length, take, drop, replicate, get_or, slice_set, refl, sym, ap, ◌∙◌, arith}
@@ -93,7 +94,8 @@ length-hash_after m (suc n) = refl
 
 -- the digest of whole blocks and a rest, from the hash value after the blocks and the last block
 digest_of_rest : (m rest block : List ℕ) (n size : ℕ) → length m % 64 ≡ 0 → length block ≡ 64 → n ≤ 55
-    → size ≡ (length m + n) * 8 % 2 ^ 64 → block ≡ rest ++ (0x80 ∷ replicate (55 - n) 0 ++ to_be_bytes w64 size)
+    → size ≡ (length m + n) * 8 % 2 ^ 64
+    → block ≡ rest ++ (0x80 ∷ replicate (55 - n) 0 ++ to_be_bytes w64 size)
     → sha256 (m ++ rest) ≡ digest_bytes (compress (hash_after initial_hash_256 m (length m / 64)) block) 8
 unfolding sha256
 digest_of_rest m rest block n size whole lb short es eb =

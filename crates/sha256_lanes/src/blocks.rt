@@ -5,8 +5,8 @@ ghost use Rattle.std.specs.Int.{w64, to_be_bytes};
 ghost use Rattle.sha2.specs.Sha256.{digest_bytes, word_at};
 ghost use Rattle.sha256_lanes.specs.Lanes.{IsBlockOf, IsHashOf, KeepsOthers};
 
-/// The last block of a message: up to 55 bytes that are left of it, a bit 1, zeros, and the length of the whole
-/// message in bits.
+/// The last block of a message: up to 55 bytes that are left of it, a bit 1, zeros, and the length of the
+/// whole message in bits.
 pub(crate) fn last_block<const N: usize>(rest: &[u8; N], bits: u64) -> [u8; 64]
     requires { N ≤ 55 }
     ensures { result ≡ rest.now ++ (0x80 ∷ replicate (55 - N) 0 ++ to_be_bytes w64 bits) }

@@ -56,11 +56,12 @@ pub(crate) fn initial_hashes() -> [u32; 32]
     hashes
 }
 
-/// The hash values of four messages after a block of each, from those before it and the blocks' words. The loop is
-/// over the lanes, and what stands in it has no other: so it runs on vectors.
+/// The hash values of four messages after a block of each, from those before it and the blocks' words. The
+/// loop is over the lanes, and what stands in it has no other: so it runs on vectors.
 #[inline(never)]
 pub(crate) fn hash_values(before: &[u32; 32], words: &[u32; 64]) -> [u32; 32]
-    ensures { (l : ℕ) (h b : List ℕ) → l < 4 → length h ≡ 8 → IsHashOf h before.now l → IsBlockOf b words.now l
+    ensures { (l : ℕ) (h b : List ℕ) → l < 4 → length h ≡ 8 → IsHashOf h before.now l
+        → IsBlockOf b words.now l
         → IsHashOf (compress h b) result l }
 {
     let mut hashes = [0u32; 32];

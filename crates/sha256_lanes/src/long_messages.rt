@@ -7,8 +7,8 @@ ghost use Rattle.sha256_lanes.specs.LongMessages.{HoldsBlocks};
 use crate::blocks::{digest, last_block, words_of};
 use crate::lanes::{hash_values, initial_hashes};
 
-/// Four messages of one length, which are taken in side by side: a block of 64 bytes of each at a time, and at the end
-/// up to 55 bytes that are left of each.
+/// Four messages of one length, which are taken in side by side: a block of 64 bytes of each at a time, and
+/// at the end up to 55 bytes that are left of each.
 #[derive(Drop)]
 pub struct FourMessages {
     hashes: [u32; 32],
@@ -35,8 +35,8 @@ impl FourMessages {
         self.length = self.length.wrapping_add(64);
     }
 
-    /// The SHA-256 digests of the four messages, with what is left of each: at most 55 bytes. Each digest stands in the
-    /// place of its message. Takes no memory.
+    /// The SHA-256 digests of the four messages, with what is left of each: at most 55 bytes. Each digest
+    /// stands in the place of its message. Takes no memory.
     pub fn finalize<const N: usize>(self, rest: &[[u8; N]; 4]) -> [[u8; 32]; 4]
         requires { N ≤ 55 }
         ensures { (l : ℕ) (m : List ℕ) → l < 4 → HoldsBlocks self l m →

@@ -7,8 +7,8 @@ ghost use Rattle.sha256_lanes.specs.Rows.{HasDigests};
 use crate::long_messages::FourMessages;
 use sha2::{Digest, Sha256};
 
-/// The SHA-256 digests of four messages of one length, each in the place of its message. A message has at most 55
-/// bytes. Takes no memory.
+/// The SHA-256 digests of four messages of one length, each in the place of its message. A message has at
+/// most 55 bytes. Takes no memory.
 pub fn digest_4<const N: usize>(messages: &[[u8; N]; 4]) -> [[u8; 32]; 4]
     requires { N ≤ 55 }
     ensures { result ≡ map sha256 messages.now }
@@ -16,8 +16,8 @@ pub fn digest_4<const N: usize>(messages: &[[u8; N]; 4]) -> [[u8; 32]; 4]
     FourMessages::new().finalize(messages)
 }
 
-/// Sets the SHA-256 digests of a row of messages of one length, each in the place of its message: by fours, and of
-/// up to three that are left one by one. A message has at most 55 bytes. Takes no memory.
+/// Sets the SHA-256 digests of a row of messages of one length, each in the place of its message: by fours,
+/// and of up to three that are left one by one. A message has at most 55 bytes. Takes no memory.
 pub fn digest_row<const N: usize>(messages: &[[u8; N]], digests: &mut [[u8; 32]])
     requires short { N ≤ 55 }
     requires count { length digests.old ≡ length messages.now }

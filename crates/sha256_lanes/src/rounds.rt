@@ -1,5 +1,5 @@
-//! The hash computation of one block (FIPS 180-4, 6.2.2), without a loop or a call left in it: so the loop over
-//! lanes around it runs on vectors.
+//! The hash computation of one block (FIPS 180-4, 6.2.2), without a loop or a call left in it: so the loop
+//! over lanes around it runs on vectors.
 
 ghost use Rattle.std.specs.Prelude.{◌≡◌, ℕ, ◌+◌, ◌*◌, ◌<◌, ◌≤◌, List, slice_index, slice_set};
 ghost use Rattle.sha2.specs.Sha256.{add_state, big_sigma0, big_sigma1, ch, compress, maj};
@@ -158,8 +158,8 @@ fn eight_rounds(w: &[u32; 64], v: [u32; 8], t: usize) -> [u32; 8]
     round(w, v, t + 7)
 }
 
-/// The working variables after the 64 rounds of a block from a hash value, with the words of the block's schedule
-/// (steps 2 and 3).
+/// The working variables after the 64 rounds of a block from a hash value, with the words of the block's
+/// schedule (steps 2 and 3).
 #[inline(always)]
 fn all_rounds(hash: [u32; 8], w: &[u32; 64]) -> [u32; 8]
     ensures { result ≡ rounds hash w.now 64 }

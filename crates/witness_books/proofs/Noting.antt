@@ -68,7 +68,7 @@ pub record Laws : Type 0 where
   pub step : ReadyBooksStep
   -- of steps that are noted
   pub noted : StepsAreNoted
-  -- of want of memory
+  -- of memory that was refused
   pub want : OutOfMemoryLeavesBooks
 
 -- the laws together

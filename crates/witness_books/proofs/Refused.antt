@@ -80,7 +80,8 @@ one_stays b after step reply refused (inr out) = out.1.stays
 
 -- so does a step of which notes were made
 one_noted_stays : (b after : Book) (step : steps.Step) (reply : ReplyOf JobParts JobParts)
-    (notes : Option (ReplyOf JobParts JobParts × ReplyOf JobParts JobParts)) → is_refusal (reply_in reply) ≡ true
+    (notes : Option (ReplyOf JobParts JobParts × ReplyOf JobParts JobParts))
+    → is_refusal (reply_in reply) ≡ true
     → NotedSteps b step reply notes after → after ≡ b
 one_noted_stays b after step reply None refused out = out.stays
 one_noted_stays b after step reply (Some notes) refused made =

@@ -69,25 +69,26 @@ pub has_run_more : OneStepMore → (old mid new : BooksParts) (events rest later
     → new.roster ≡ mid.roster
     → StepsTo mid.roster (parts_in mid) (event_in event) (reply_in reply) (parts_in new)
     → SaysWhereItMay mid.roster event reply → HasRun old events later after new
-has_run_more law old mid new events rest later replies after event reply was next grown roster step may = record {
-  roster = roster ∙ was.roster;
-  done = was.done ++ event ∷ [];
-  all = was.all ∙ ap (λ l. was.done ++ l) next ∙ sym (append_assoc was.done (event ∷ []) later);
-  run = subst (λ (es : List spec.Event). RunsTo old.roster (parts_in old) es (map reply_in after)
-      (parts_in new))
-      (sym (map-append event_in was.done (event ∷ [])))
-      (subst (λ (rs : List answers.Reply). RunsTo old.roster (parts_in old)
-      (map event_in was.done ++ event_in event ∷ []) rs (parts_in new))
-      (sym (ap (map reply_in) grown ∙ map-append reply_in replies (reply ∷ [])))
-      (law old.roster (parts_in old) (parts_in mid) (parts_in new) (map event_in was.done)
-      (map reply_in replies) (event_in event) (reply_in reply) was.run
-      (subst (λ ms. StepsTo ms (parts_in mid) (event_in event) (reply_in reply) (parts_in new)) was.roster
-      step)));
-  memory = subst (λ (rs : List Reply). AllZip (SaysWhereItMay old.roster) (was.done ++ event ∷ []) rs)
-      (sym grown)
-      (zip_more (SaysWhereItMay old.roster) was.done replies event reply was.memory
-      (subst (λ (ms : List Member). SaysWhereItMay ms event reply) was.roster may));
-}
+has_run_more law old mid new events rest later replies after event reply was next grown roster step may =
+    record {
+      roster = roster ∙ was.roster;
+      done = was.done ++ event ∷ [];
+      all = was.all ∙ ap (λ l. was.done ++ l) next ∙ sym (append_assoc was.done (event ∷ []) later);
+      run = subst (λ (es : List spec.Event). RunsTo old.roster (parts_in old) es (map reply_in after)
+          (parts_in new))
+          (sym (map-append event_in was.done (event ∷ [])))
+          (subst (λ (rs : List answers.Reply). RunsTo old.roster (parts_in old)
+          (map event_in was.done ++ event_in event ∷ []) rs (parts_in new))
+          (sym (ap (map reply_in) grown ∙ map-append reply_in replies (reply ∷ [])))
+          (law old.roster (parts_in old) (parts_in mid) (parts_in new) (map event_in was.done)
+          (map reply_in replies) (event_in event) (reply_in reply) was.run
+          (subst (λ ms. StepsTo ms (parts_in mid) (event_in event) (reply_in reply) (parts_in new)) was.roster
+          step)));
+      memory = subst (λ (rs : List Reply). AllZip (SaysWhereItMay old.roster) (was.done ++ event ∷ []) rs)
+          (sym grown)
+          (zip_more (SaysWhereItMay old.roster) was.done replies event reply was.memory
+          (subst (λ (ms : List Member). SaysWhereItMay ms event reply) was.roster may));
+    }
 
 -- after the last
 pub has_run_all : (old : BooksParts) (events rest : List Event) (replies : List Reply) (new : BooksParts)

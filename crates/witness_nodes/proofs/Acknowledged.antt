@@ -27,7 +27,8 @@ pub record IsAckOf (node : ℕ) (message : Message) (a : Ack) : Type 0 where
   -- it is this message
   pub of : acked_message a ≡ message
 
-of_entry : (node number : ℕ) (prev : List ℕ) (signature : SignatureParts) (e : Entry) (message : Message) (k : ℕ)
+of_entry : (node number : ℕ) (prev : List ℕ) (signature : SignatureParts) (e : Entry) (message : Message)
+    (k : ℕ)
     → receipts_of node k e ≡ (message, k) ∷ []
     → IsSomeAnd (ack_from node number prev signature e) (IsAckOf node message)
 of_entry node number prev signature (Send to body) message k h = absurd (cc)
@@ -36,7 +37,8 @@ of_entry node number prev signature (Recv from seq sender_prev body sender_signa
     record { from = from; seq = seq; hash = message_hash node seq sender_prev (sha256 body) } in
     let pair : ◌≡◌ {A = Message × ℕ} (made, k) (message, k) = cc in
     record { by = refl; of = ap (λ (p : Message × ℕ). p.0) pair }
-of_entry node number prev signature (Acked to seq mine theirs their_prev their_signature) message k h = absurd (cc)
+of_entry node number prev signature (Acked to seq mine theirs their_prev their_signature) message k h =
+    absurd (cc)
 of_entry node number prev signature (Clock seconds microseconds) message k h = absurd (cc)
 of_entry node number prev signature (Check digest) message k h = absurd (cc)
 
@@ -65,6 +67,7 @@ acknowledged s message number is r = by (signed_at s number) refl
         ap (λ (es : List Entry). get_or es (number - 1) g.entry) r.whole
         ∙ ap (λ (k : ℕ). get_or (r.before ++ r.entry ∷ r.rest) k g.entry) place
         ∙ get_or-append_seam r.before r.entry r.rest g.entry in
-        let same : r.entry ≡ g.entry = sym stands ∙ entry_signed s number g g.entry (signing_is s number g is at) in
+        let same : r.entry ≡ g.entry = sym stands
+        ∙ entry_signed s number g g.entry (signing_is s number g is at) in
         of_entry s.log.node g.number g.prev g.signature g.entry message number
         (subst (λ (x : Entry). receipts_of s.log.node number x ≡ (message, number) ∷ []) same r.is)

@@ -43,7 +43,8 @@ pub texts_of_part : (before entries rest : List Entry) (first : ℕ) → length 
     → Within (hashed_texts first (log_hash before) entries) (log_texts (before ++ (entries ++ rest)))
 texts_of_part before entries rest first place =
     let all : List Entry = before ++ (entries ++ rest) in
-    both (chain_texts (log_hash before) (links_from first entries)) (flat_map entry_texts entries) (log_texts all)
+    both (chain_texts (log_hash before) (links_from first entries)) (flat_map entry_texts entries)
+    (log_texts all)
     (λ t i. left (chain_texts zeros (links_from 1 all)) (flat_map entry_texts all) t
     (chain_after zeros 1 before (entries ++ rest) first (omega (arith, place)) t
     (chain_begins (log_hash before) first entries rest t i)))

@@ -40,7 +40,8 @@ module _ (each : EachPlace) (of_log : OfItsLog) (n : NodeParts) where
   closing_in_log : (s : SegmentParts) → IsAnswered n s
       → IsAmong (s.closing.number, s.closing.hash) (log_pairs n.entries)
   closing_in_log s h =
-      subst (λ (x : SegmentParts). IsAmong (x.closing.number, x.closing.hash) (log_pairs n.entries)) (sym h.is)
+      subst (λ (x : SegmentParts). IsAmong (x.closing.number, x.closing.hash) (log_pairs n.entries))
+      (sym h.is)
       (made_in_log h.before h.went_on h.last h.answers.answer.closing h.answers.answer.made)
 
   -- the texts of a segment that a node answered are among those of its log

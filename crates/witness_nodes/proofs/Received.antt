@@ -75,10 +75,12 @@ new_call n n' time e r to h =
     let there = recv_at (log_of after) n.entries (behind e reading o) e to
     (ap (λ (es : List Entry). n.entries ++ es) (heard_is e reading o)) in
     subst (IsReceiptAt (log_of n') (envelope_message e)) (sym (ap (λ (x : Receipt). x.ack) h.receipt))
-    (subst (λ (x : NodeParts). IsReceiptAt (log_of x) (envelope_message e) (length n.entries + 1)) (sym h.served) there)
+    (subst (λ (x : NodeParts). IsReceiptAt (log_of x) (envelope_message e) (length n.entries + 1))
+    (sym h.served) there)
 
 -- What a server received, now or before, stands in its log at the number that it gives.
-pub call_logged : Stands → (n n' : NodeParts) (time : Timeval) (bytes : List ℕ) (e : Envelope) (h : Received Receipt)
+pub call_logged : Stands → (n n' : NodeParts) (time : Timeval) (bytes : List ℕ) (e : Envelope)
+    (h : Received Receipt)
     → Receives n time bytes (Ok h) n' → IsTextOf bytes e
     → IsReceiptAt (log_of n') (envelope_message e) (call_number h)
 call_logged stands n n' time bytes e (received.New r) h text =
@@ -100,7 +102,8 @@ reply_logged stands n n' bytes e (received.New number) h text =
     let there = recv_at (log_of (with_receipt n h.0)) n.entries [] h.0 h.1.0.opened.0.receiver refl in
     subst (λ x. IsReceiptAt (log_of n') (envelope_message x) number) same
     (subst (IsReceiptAt (log_of n') (envelope_message h.0)) (sym h.1.3)
-    (subst (λ (x : NodeParts). IsReceiptAt (log_of x) (envelope_message h.0) (length n.entries + 1)) (sym h.1.2) there))
+    (subst (λ (x : NodeParts). IsReceiptAt (log_of x) (envelope_message h.0) (length n.entries + 1))
+    (sym h.1.2) there))
 reply_logged stands n n' bytes e (received.Repeat number) h text =
     let same : h.0 ≡ e = one_envelope bytes h.0 e h.1.0.opened.0.text text in
     subst (λ x. IsReceiptAt (log_of n') (envelope_message x) number) same

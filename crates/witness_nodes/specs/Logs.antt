@@ -38,7 +38,8 @@ pub record IsListedAs (n : NodeParts) (m : Member) : Type 0 where
 -- that the node makes has its number and hash in it.
 pub record KeepsALog (n : NodeParts) : Type 0 where
   pub is_log : IsLog n.entries
-  pub honest : n.strayed ≡ false → (m : Member) → IsListedAs n m → IsHonestLog n.roster (opening_of m) n.entries n.state
+  pub honest : n.strayed ≡ false → (m : Member) → IsListedAs n m
+      → IsHonestLog n.roster (opening_of m) n.entries n.state
   pub shown : (number : ℕ) (a : Authenticator) → authenticator_at (sender_of n) number ≡ Some a
       → IsAmong (a.number, a.hash) (log_pairs n.entries)
 

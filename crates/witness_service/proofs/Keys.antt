@@ -30,7 +30,8 @@ same_key a b = has a.bytes.items b
 -- ---- what is found
 
 -- a look-up says whether bytes are kept
-pub kept_as : (bytes : List ℕ) (es : List Entry) → is_some (lookup (has bytes) es) ≡ is_kept (bytes_of es) bytes
+pub kept_as : (bytes : List ℕ) (es : List Entry)
+    → is_some (lookup (has bytes) es) ≡ is_kept (bytes_of es) bytes
 kept_as bytes [] = refl
 kept_as bytes (e ∷ es) = at (kept_as bytes es) (has bytes e.0) refl
   where
@@ -87,12 +88,15 @@ promoted_keys capacity bytes es there is = at (lookup_entry (has bytes) es) refl
     is_there = is ∙ kept_as bytes es
 
     at : (o : Option Entry) → lookup_entry (has bytes) es ≡ o
-        → bytes_of (promoted (has bytes) es) ≡ (if there then used capacity bytes (bytes_of es) else bytes_of es)
+        → bytes_of (promoted (has bytes) es) ≡
+        (if there then used capacity bytes (bytes_of es) else bytes_of es)
     at None none =
-        let not_there : is_kept (bytes_of es) bytes ≡ false = sym (entry_as bytes es) ∙ ap (λ (o : Option Entry). is_some o) none in
+        let not_there : is_kept (bytes_of es) bytes ≡ false = sym (entry_as bytes es)
+        ∙ ap (λ (o : Option Entry). is_some o) none in
         rw (none, is_there, not_there) refl
     at (Some e) some =
-        let is_among : is_kept (bytes_of es) bytes ≡ true = sym (entry_as bytes es) ∙ ap (λ (o : Option Entry). is_some o) some in
+        let is_among : is_kept (bytes_of es) bytes ≡ true = sym (entry_as bytes es)
+        ∙ ap (λ (o : Option Entry). is_some o) some in
         let own : bytes ≡ e.0.bytes.items =
         same_list bytes e.0.bytes.items (Contains-lookup_entry (has bytes) es e some).1 in
         rw (some, is_there, is_among, removed bytes es, ← own) refl
@@ -106,8 +110,10 @@ put_keys c key absent = at (lookup_entry (has key.bytes.items) c.entries) refl
         → bytes_of (put_entries same_key c key tt) ≡ used c.cap key.bytes.items (bytes_of c.entries)
     at None none =
         rw (none, absent)
-        (ap (λ (l : List (List ℕ)). key.bytes.items ∷ l) (sym (take-map (λ (e : Entry). e.0.bytes.items) (c.cap - 1) c.entries)))
-    at (Some e) some = absurd (never (sym absent ∙ (sym (entry_as key.bytes.items c.entries) ∙ ap (λ (o : Option Entry). is_some o) some)))
+        (ap (λ (l : List (List ℕ)). key.bytes.items ∷ l)
+        (sym (take-map (λ (e : Entry). e.0.bytes.items) (c.cap - 1) c.entries)))
+    at (Some e) some = absurd (never (sym absent
+        ∙ (sym (entry_as key.bytes.items c.entries) ∙ ap (λ (o : Option Entry). is_some o) some)))
       where
         never : false ≡ true → ⊥
         never h = cc
@@ -127,7 +133,8 @@ promoted_holds capacity bytes old new holds is =
 -- what is held after a key was put
 pub put_holds : {E : Type 0} (r : Result (Option (Unit {0})) E) (capacity : ℕ) (old new : Entries) (key : Key)
     → Holds capacity old → IsSignedKey key.bytes.items
-    → OnOk r (new ≡ lru_cache (put_entries same_key old key tt) old.cap) → OnErr r (new ≡ old) → Holds capacity new
+    → OnOk r (new ≡ lru_cache (put_entries same_key old key tt) old.cap) → OnErr r (new ≡ old)
+    → Holds capacity new
 put_holds (Ok x) capacity old new key holds own put same =
     subst (Holds capacity) (sym put) (record {
       some = holds.some;

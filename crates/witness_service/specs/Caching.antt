@@ -108,5 +108,6 @@ MayUse key old new =
 -- the member that signs it.
 abbrev pub MayKeep : List Member → Result Delivery Refusal → (old new : CacheParts) → Type 0
 MayKeep ms (Ok d) old new =
-    IfSome (member_of ms (delivery_shows d).node) (λ m. MayUse (key_text m.root m.height (delivery_shows d)) old new)
+    IfSome (member_of ms (delivery_shows d).node)
+    (λ m. MayUse (key_text m.root m.height (delivery_shows d)) old new)
 MayKeep ms (Err refusal) old new = new ≡ old

@@ -118,7 +118,8 @@ impl SignatureCache {
         hash: &[u8; 32],
         signature: &Signature,
     )
-        requires { Signed member.now.root member.now.height (signed_digest node number hash.now) signature.now }
+        requires { Signed member.now.root member.now.height
+            (signed_digest node number hash.now) signature.now }
         ensures { MayUse (key_text member.now.root member.now.height
             (record { node = node; number = number; hash = hash.now; signature = signature.now }))
             self.old self.new }

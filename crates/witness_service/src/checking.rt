@@ -48,9 +48,11 @@ fn read_content(
     number: u32,
     text: &[u8],
 ) -> Result<Packet, Refusal>
-    ensures answers { GivesDelivery (judged_option roster.now (content_at number text.now)) delivery_in result }
+    ensures answers { GivesDelivery (judged_option roster.now (content_at number text.now)) delivery_in
+        result }
     ensures under { IfOk result (IsUnder roster.now) }
-    ensures kept { MayKeep roster.now (judged_option roster.now (content_at number text.now)) cache.old cache.new }
+    ensures kept { MayKeep roster.now (judged_option roster.now (content_at number text.now)) cache.old
+        cache.new }
 {
     match number {
         1 => learned(alloc, roster, cache, text),

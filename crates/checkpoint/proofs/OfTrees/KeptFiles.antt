@@ -6,6 +6,7 @@ use Rattle.fs_model.proofs.Walks.{some_same}
 use Rattle.file_tree.specs.KeptDigests.{IsDigestAt}
 use Rattle.state_machine.specs.file_texts.FileItems.{file_digest}
 
+-- a digest that is kept for a file is that of the file there
 pub kept_is : (w : Files) (n : ℕ) (f : File) (digest : List ℕ) → file_at w n ≡ Some f → IsDigestAt w n digest
     → digest ≡ file_digest (n, f)
 kept_is w n f digest there is = is.2 ∙ ap (λ (g : File). file_digest (n, g)) (some_same (sym is.1 ∙ there))

@@ -31,24 +31,29 @@ pub record IsAsked (rows : List Row) (a : ServeAsked) : Type 0 where
   pub progress : is_told (codes "progress") rows ≡ true → a.progress ≡ is_set (codes "progress") rows
 
 -- with both words there, what is asked is told by them
-told : {A : Type 0} (port count : Option Text) (g : Text → Text → A) → is_some port ≡ true → is_some count ≡ true
+told : {A : Type 0} (port count : Option Text) (g : Text → Text → A) → is_some port ≡ true
+    → is_some count ≡ true
     → option_and_then (λ p. option_map (g p) count) port ≡ Some (g (unwrap_or port []) (unwrap_or count []))
 told None count g e f = cc
 told (Some p) None g e f = cc
 told (Some p) (Some c) g e f = refl
 
 -- where no fault is found, `serve` asks for the words that its matches hold
-pub serve_is : (words : List Text) (rows : List Row) (a : ServeAsked) → fault_of commands words ≡ [] → subcommand_of commands words ≡ Some (codes "serve", rows)
+pub serve_is : (words : List Text) (rows : List Row) (a : ServeAsked) → fault_of commands words ≡ []
+    → subcommand_of commands words ≡ Some (codes "serve", rows)
     → IsAsked rows a → asked_in words ≡ Some (Serve a)
 serve_is words rows a none is asks =
     let port = value_is commands words are_plain none (codes "serve") (codes "port") rows refl is in
     let count = value_is commands words are_plain none (codes "serve") (codes "count") rows refl is in
-    let progress = asks.progress (flag_is commands words are_plain none (codes "serve") (codes "progress") rows refl is) in
+    let progress = asks.progress (flag_is commands words are_plain none (codes "serve")
+    (codes "progress") rows refl is) in
     asked_is words (codes "serve") rows none is
-    ∙ ap (option_map Serve) (told (first_of (codes "port") rows) (first_of (codes "count") rows) (asked_with rows) port count ∙ ap (λ (x : ServeAsked). Some x) (same progress))
+    ∙ ap (option_map Serve) (told (first_of (codes "port") rows) (first_of (codes "count") rows)
+    (asked_with rows) port count ∙ ap (λ (x : ServeAsked). Some x) (same progress))
   where
     same : a.progress ≡ is_set (codes "progress") rows
-        → asked_with rows (unwrap_or (first_of (codes "port") rows) []) (unwrap_or (first_of (codes "count") rows) []) ≡ a
+        → asked_with rows (unwrap_or (first_of (codes "port") rows) [])
+        (unwrap_or (first_of (codes "count") rows) []) ≡ a
     same progress = rw (
       sym asks.port,
       sym asks.count,

@@ -46,7 +46,8 @@ file_option name = record (new_rule name) { long = Some name; value_names = 1 }
 -- `check`, with the options `--explain`, `--json` and `--roster` and a file
 abbrev pub check_command : App
 check_command =
-    with_rule (with_rule (with_rule (with_rule (new_app (codes "check")) (flag (codes "explain"))) (flag (codes "json"))) (file_option (codes "roster"))) file_argument
+    with_rule (with_rule (with_rule (with_rule (new_app (codes "check")) (flag (codes "explain")))
+    (flag (codes "json"))) (file_option (codes "roster"))) file_argument
 
 -- `roster`, with a file
 abbrev pub roster_command : App
@@ -59,7 +60,9 @@ run_command = with_rule (with_rule (new_app (codes "run")) (file_option (codes "
 -- `nfsacc`, with its subcommands `rpc`, `check`, `roster`, `run` and `serve`
 abbrev pub commands : App
 commands =
-    with_subcommand (with_subcommand (with_subcommand (with_subcommand (with_subcommand nfsacc rpc_command) check_command.top) roster_command.top) run_command.top) serve_command.top
+    with_subcommand (with_subcommand
+    (with_subcommand (with_subcommand (with_subcommand nfsacc rpc_command) check_command.top)
+    roster_command.top) run_command.top) serve_command.top
 
 -- ---- what is asked for
 
@@ -90,9 +93,15 @@ pub data Asked : Type 0 where
 abbrev pub asked_by : Request → Asked
 asked_by requests.Rpc = Rpc
 asked_by (requests.Check r) =
-    Check (record { file = r.file.now; explain = r.explain; json = r.json; roster = option_map (λ s. s.now) r.roster })
+    Check (record {
+      file = r.file.now;
+      explain = r.explain;
+      json = r.json;
+      roster = option_map (λ s. s.now) r.roster;
+    })
 asked_by (requests.Roster name) = Roster name.now
-asked_by (requests.Run r) = Run (record { file = r.file.now; roster_out = option_map (λ s. s.now) r.roster_out })
+asked_by (requests.Run r) = Run
+    (record { file = r.file.now; roster_out = option_map (λ s. s.now) r.roster_out })
 asked_by (requests.Serve r) = Serve (record {
   port = r.port.now;
   count = r.count.now;
@@ -138,7 +147,8 @@ roster_asked rows = option_map Roster (first_of (codes "file") rows)
 -- what `run` is asked
 abbrev pub run_asked : List Row → Option Asked
 run_asked rows =
-    option_map (λ file. Run (record { file = file; roster_out = first_of (codes "roster-out") rows })) (first_of (codes "file") rows)
+    option_map (λ file. Run (record { file = file; roster_out = first_of (codes "roster-out") rows }))
+    (first_of (codes "file") rows)
 
 -- what a subcommand is asked, by its name and what was found for its arguments
 abbrev pub asked_of : Text × List Row → Option Asked

@@ -17,12 +17,16 @@ word_option name = record (new_rule name) { long = Some name; value_names = 1 }
 -- `serve`, with its options, a port and a count of connections
 abbrev pub serve_options : App
 serve_options =
-    with_rule (with_rule (with_rule (with_rule (with_rule (with_rule (with_rule (new_app (codes "serve")) (word_option (codes "address"))) (word_option (codes "server-height")))
-    (word_option (codes "client-height"))) (word_option (codes "master"))) (word_option (codes "roster-out"))) (word_option (codes "evidence")))
+    with_rule (with_rule (with_rule
+    (with_rule (with_rule (with_rule (with_rule (new_app (codes "serve")) (word_option (codes "address")))
+    (word_option (codes "server-height")))
+    (word_option (codes "client-height"))) (word_option (codes "master"))) (word_option (codes "roster-out")))
+    (word_option (codes "evidence")))
     (record (new_rule (codes "progress")) { long = Some (codes "progress"); action = Some SetTrue })
 
 abbrev pub serve_command : App
-serve_command = with_rule (with_rule serve_options (word_argument (codes "port"))) (word_argument (codes "count"))
+serve_command = with_rule (with_rule serve_options (word_argument (codes "port")))
+    (word_argument (codes "count"))
 
 -- what `serve` is asked, word by word
 pub record ServeAsked : Type 0 where
@@ -53,4 +57,5 @@ asked_with rows port count = record {
 -- the same, by what was found for its arguments
 abbrev pub serve_asked : List Row → Option ServeAsked
 serve_asked rows =
-    option_and_then (λ port. option_map (asked_with rows port) (first_of (codes "count") rows)) (first_of (codes "port") rows)
+    option_and_then (λ port. option_map (asked_with rows port) (first_of (codes "count") rows))
+    (first_of (codes "port") rows)

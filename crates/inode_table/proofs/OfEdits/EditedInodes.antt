@@ -46,9 +46,11 @@ changed_alike w k f c d there same =
 
 module _ (es es' : List (ℕ × Inode)) (k : ℕ) (w : Option Inode)
     (at : (n : ℕ) → inode_at es' n ≡ cond (eq_by_cmp nat_cmp k n) w (inode_at es n)) where
+  -- the number has what it was given
   pub here : inode_at es' k ≡ w
   here = at k ∙ ap (λ b. cond b w (inode_at es k)) (cmp_same k k refl)
 
+  -- the others have what they had
   other : (n : ℕ) → n ≢ k → inode_at es' n ≡ inode_at es n
   other n ne = at n ∙ ap (λ b. cond b w (inode_at es n)) (cmp_other k n (λ e. ne (sym e)))
 

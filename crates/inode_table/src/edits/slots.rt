@@ -123,8 +123,8 @@ fn write_inode(
     })
 }
 
-/// Sets the attributes that are given, as `Inode::set`, and gives the blocks and attributes of the file, for a
-/// server's number; its owner, group and seconds are words. Where memory is refused nothing changes.
+/// Sets the attributes that are given, as `Inode::set`, and gives the blocks and attributes of the file, for
+/// a server's number; its owner, group and seconds are words. Where memory is refused nothing changes.
 pub fn set(
     inodes: &mut BTreeMap<u32, Inode>,
     fsid: u32,
@@ -151,8 +151,8 @@ pub fn set(
     }
 }
 
-/// Writes bytes at an offset, as `Inode::write`, and gives the blocks and attributes of the file, for a server's
-/// number; its owner, group and seconds are words. Where memory is refused nothing changes.
+/// Writes bytes at an offset, as `Inode::write`, and gives the blocks and attributes of the file, for a
+/// server's number; its owner, group and seconds are words. Where memory is refused nothing changes.
 pub fn write(
     inodes: &mut BTreeMap<u32, Inode>,
     fsid: u32,

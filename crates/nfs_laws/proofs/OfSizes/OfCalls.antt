@@ -91,7 +91,8 @@ of_entries : (r : Result Page Stat) → ((p : Page) → r ≡ Ok p → AllByRecu
 of_entries (Ok p) fits =
     record {
       fits =
-          outcome_fits (pair (linked entry) flag) page_value (Ok p) (λ q h. (entries_fit q.entries (fits q h), tt));
+          outcome_fits (pair (linked entry) flag) page_value (Ok p)
+          (λ q h. (entries_fit q.entries (fits q h), tt));
       cookies = cookies_fit p.entries (fits p refl);
     }
 of_entries (Err e) fits =

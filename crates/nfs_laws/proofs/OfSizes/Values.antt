@@ -155,7 +155,10 @@ attributes_fit w h n f there =
                           number_fits w h n (ap is_some there),
                           (
                             (words.atime, omega (arith, own.atime)),
-                            ((words.mtime, omega (arith, own.mtime)), (words.ctime, omega (arith, own.ctime))),
+                            (
+                              (words.mtime, omega (arith, own.mtime)),
+                              (words.ctime, omega (arith, own.ctime)),
+                            ),
                           ),
                         ),
                       ),

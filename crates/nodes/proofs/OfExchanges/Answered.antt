@@ -89,7 +89,8 @@ same_world : (w : World) (time : Timeval) (body : List ℕ)
 unfolding world_after
 same_world w time body = rw (same_time w time) refl
 
-machine_stays : (s : State) (k : ℕ) (h : List ℕ) (to : ℕ) (o : Option (List ℕ)) → (with_reply s k h to o).machine ≡ s.machine
+machine_stays : (s : State) (k : ℕ) (h : List ℕ) (to : ℕ) (o : Option (List ℕ))
+    → (with_reply s k h to o).machine ≡ s.machine
 machine_stays s k h to None = refl
 machine_stays s k h to (Some reply) = refl
 
@@ -105,11 +106,13 @@ served_by s t time body e r says h =
       world = w;
       idle = h.idle;
       owed =
-          ap (λ (x : Timeval). reply_owed w x e.body) reading ∙ same_reply w time e.body ∙ ap (reply_owed w time) says;
+          ap (λ (x : Timeval). reply_owed w x e.body) reading ∙ same_reply w time e.body
+          ∙ ap (reply_owed w time) says;
       after =
           ap (λ (x : NodeParts). x.state.machine) h.served
           ∙ machine_stays
-          (state_heard s.state w e (reading_at s time)) _ _ e.from (reply_told s.lies (reply_owed w (reading_at s time) e.body))
+          (state_heard s.state w e (reading_at s time)) _ _ e.from
+          (reply_told s.lies (reply_owed w (reading_at s time) e.body))
           ∙ ap (λ (x : Timeval). Server (world_after w x e.body) Idle) reading
           ∙ ap (λ (x : World). Server x Idle) (same_world w time e.body ∙ ap (world_after w time) says);
     }
@@ -124,16 +127,19 @@ client_up_to c s c1 t time body r from limit asked few =
     (up_to_both from limit (c.entries ++ Send s.node body ∷ []) _
     (up_to_both from limit c.entries _ few (omega arith, tt)) (omega arith, tt))
 
-server_up_to : (from limit : ℕ) (es : List Entry) (e : Envelope) (time : Timeval) (o : Option (List ℕ)) → e.seq ≤ limit
+server_up_to : (from limit : ℕ) (es : List Entry) (e : Envelope) (time : Timeval) (o : Option (List ℕ))
+    → e.seq ≤ limit
     → ReceivesUpTo from limit es
     → ReceivesUpTo from limit (es ++ heard_entries e.from e.seq e.prev e.body e.signature time o)
 server_up_to from limit es e time None h few =
-    up_to_both from limit es _ few (recv_up_to from limit e.from e.seq e.prev e.body e.signature h, (omega arith, tt))
+    up_to_both from limit es _ few
+    (recv_up_to from limit e.from e.seq e.prev e.body e.signature h, (omega arith, tt))
 server_up_to from limit es e time (Some reply) h few =
     up_to_both from limit es _ few
     (recv_up_to from limit e.from e.seq e.prev e.body e.signature h, (omega arith, (omega arith, tt)))
 
-client_long : (c s c1 t : NodeParts) (time : Timeval) (body : List ℕ) (r : Receipt) → IsAsked c s time body r c1 t
+client_long : (c s c1 t : NodeParts) (time : Timeval) (body : List ℕ) (r : Receipt)
+    → IsAsked c s time body r c1 t
     → length c1.entries ≡ length c.entries + 2
 client_long c s c1 t time body r asked =
     let log = ap (λ (n : NodeParts). length n.entries) asked.taken in
@@ -167,16 +173,21 @@ asked_joined c s c1 t time body r joined asked =
     (server_long s.entries e (reading_at s time) o) in
     record {
       two = λ same. joined.two (sym client ∙ same ∙ server);
-      client = subst (λ (ms : List Member). IsListed ms kinds.Client c1) (sym (ap (λ (n : NodeParts). n.roster) h.served))
-          (listed_stays s.roster kinds.Client c c1 client (ap (λ (n : NodeParts). n.signer.master) asked.taken)
+      client = subst (λ (ms : List Member). IsListed ms kinds.Client c1)
+          (sym (ap (λ (n : NodeParts). n.roster) h.served))
+          (listed_stays s.roster kinds.Client c c1 client
+          (ap (λ (n : NodeParts). n.signer.master) asked.taken)
           (ap (λ (n : NodeParts). n.signer.height) asked.taken) joined.client);
-      server = subst (λ (ms : List Member). IsListed ms kinds.Server t) (sym (ap (λ (n : NodeParts). n.roster) asked.taken))
+      server = subst (λ (ms : List Member). IsListed ms kinds.Server t)
+          (sym (ap (λ (n : NodeParts). n.roster) asked.taken))
           (listed_stays c.roster kinds.Server s t server (ap (λ (n : NodeParts). n.signer.master) h.served)
           (ap (λ (n : NodeParts). n.signer.height) h.served) joined.server);
       heard = subst (λ (k : ℕ). ReceivesUpTo k (length c1.entries) t.entries) (sym client)
           (subst (λ (n : NodeParts). ReceivesUpTo c.node (length c1.entries) n.entries) (sym h.served)
-          (server_up_to c.node (length c1.entries) s.entries e (reading_at s time) o (omega (arith, long, numbered))
-          (up_to_more c.node (length c.entries) (length c1.entries) s.entries (omega (arith, long)) joined.heard)));
+          (server_up_to c.node (length c1.entries) s.entries e (reading_at s time) o
+          (omega (arith, long, numbered))
+          (up_to_more c.node (length c.entries) (length c1.entries) s.entries
+          (omega (arith, long)) joined.heard)));
       received = subst (λ (k : ℕ). ReceivesUpTo k (length t.entries) c1.entries) (sym server)
           (client_up_to c s c1 t time body r s.node (length t.entries) asked
           (up_to_more s.node (length s.entries) (length t.entries) c.entries longer joined.received));
@@ -196,8 +207,10 @@ three : (es : List Entry) (a b : Entry) → length (es ++ a ∷ b ∷ []) + 1 �
 three es a b = omega (arith, length-append es (a ∷ b ∷ []))
 
 -- what is ready of a reply that the server logged
-reply_ready : (c s c1 t : NodeParts) (time : Timeval) (body : List ℕ) (r : Receipt) (number : ℕ) (reply : List ℕ)
-    → IsJoined c s → (asked : IsAsked c s time body r c1 t) → IsSender (sender_of t) → number ≡ length s.entries + 1 + 2
+reply_ready : (c s c1 t : NodeParts) (time : Timeval) (body : List ℕ) (r : Receipt) (number : ℕ)
+    (reply : List ℕ)
+    → IsJoined c s → (asked : IsAsked c s time body r c1 t) → IsSender (sender_of t)
+    → number ≡ length s.entries + 1 + 2
     → t ≡ with_answer s asked.heard.receives.world asked.heard.envelope (reading_at s time) (Some reply)
     → (ready : IsReplyReady c1 t number) × (ready.envelope.body ≡ reply)
 reply_ready c s c1 t time body r number reply joined asked is at heard_it =
@@ -207,7 +220,8 @@ reply_ready c s c1 t time body r number reply joined asked is at heard_it =
     let clock = Clock reading.seconds reading.microseconds in
     let front = s.entries ++ recv ∷ clock ∷ [] in
     let log : t.entries ≡ front ++ Send e.from reply ∷ [] =
-    ap (λ (n : NodeParts). n.entries) heard_it ∙ sym (append_assoc s.entries (recv ∷ clock ∷ []) (Send e.from reply ∷ [])) in
+    ap (λ (n : NodeParts). n.entries) heard_it
+    ∙ sym (append_assoc s.entries (recv ∷ clock ∷ []) (Send e.from reply ∷ [])) in
     let node : t.node ≡ s.node = ap (λ (n : NodeParts). n.node) heard_it in
     let client : c1.node ≡ c.node = ap (λ (n : NodeParts). n.node) asked.taken in
     let joined1 = asked_joined c s c1 t time body r joined asked in
@@ -249,8 +263,10 @@ reply_ready c s c1 t time body r number reply joined asked is at heard_it =
     )
 
 -- A reply that the receipt names is ready at its number, and is the one owed.
-pub reply_due : (c s c1 t : NodeParts) (time : Timeval) (body : List ℕ) (r : Receipt) (number : ℕ) → IsJoined c s
-    → IsAsked c s time body r c1 t → IsSender (sender_of t) → r.reply ≡ Some number → IsDue c1 s t time body number
+pub reply_due : (c s c1 t : NodeParts) (time : Timeval) (body : List ℕ) (r : Receipt) (number : ℕ)
+    → IsJoined c s
+    → IsAsked c s time body r c1 t → IsSender (sender_of t) → r.reply ≡ Some number
+    → IsDue c1 s t time body number
 reply_due c s c1 t time body r number joined asked is owed =
     by (reply_owed asked.heard.receives.world (reading_at s time) asked.heard.envelope.body) refl
   where
@@ -271,7 +287,8 @@ reply_due c s c1 t time body r number joined asked is owed =
         ap (λ (y : Receipt). y.reply) asked.heard.receives.receipt
         ∙ ap (λ (o : Option (List ℕ)). (receipt_from (length s.entries + 1) o).reply) x in
         let at : number ≡ length s.entries + 1 + 2 = some_same (sym owed ∙ some) in
-        let heard_it : t ≡ with_answer s asked.heard.receives.world asked.heard.envelope (reading_at s time) (Some reply) =
+        let heard_it : t ≡ with_answer s asked.heard.receives.world asked.heard.envelope (reading_at s time)
+        (Some reply) =
         plainly s t time asked.heard.envelope r joined.plain asked.heard.receives
         ∙ ap (with_answer s asked.heard.receives.world asked.heard.envelope (reading_at s time)) x in
         let y = reply_ready c s c1 t time body r number reply joined asked is at heard_it in
@@ -283,14 +300,17 @@ reply_due c s c1 t time body r number joined asked is owed =
         }
 
 -- A receipt that names no reply owes none.
-pub none_owed : (s t : NodeParts) (time : Timeval) (body : List ℕ) (e : Envelope) (r : Receipt) → e.body ≡ body
+pub none_owed : (s t : NodeParts) (time : Timeval) (body : List ℕ) (e : Envelope) (r : Receipt)
+    → e.body ≡ body
     → ReceivesEnvelope s time e r t → r.reply ≡ None → IsServed s time body None t
-none_owed s t time body e r says receives none = by (reply_owed receives.world (reading_at s time) e.body) refl
+none_owed s t time body e r says receives none =
+    by (reply_owed receives.world (reading_at s time) e.body) refl
   where
     by : (o : Option (List ℕ)) → reply_owed receives.world (reading_at s time) e.body ≡ o
         → IsServed s time body None t
     by None x =
-        subst (λ (o : Option (List ℕ)). IsServed s time body o t) x (served_by s t time body e r says receives)
+        subst (λ (o : Option (List ℕ)). IsServed s time body o t) x
+        (served_by s t time body e r says receives)
     by (Some reply) x =
         let some : r.reply ≡ Some (length s.entries + 1 + 2) =
         ap (λ (y : Receipt). y.reply) receives.receipt
@@ -324,7 +344,8 @@ served_replied c1 s t c2 t2 time body number reply due k =
     }
 
 -- Both stay joined.
-pub replied_joined : (c1 t c2 t2 : NodeParts) (number : ℕ) (reply : List ℕ) → IsJoined c1 t → IsReplyReady c1 t number
+pub replied_joined : (c1 t c2 t2 : NodeParts) (number : ℕ) (reply : List ℕ) → IsJoined c1 t
+    → IsReplyReady c1 t number
     → IsReplied c1 t number reply c2 t2 → IsJoined c2 t2
 replied_joined c1 t c2 t2 number reply joined h k =
     let e = k.envelope in
@@ -341,21 +362,28 @@ replied_joined c1 t c2 t2 number reply joined h k =
     let within = h.within in
     record {
       two = λ same. joined.two (sym client ∙ same ∙ server);
-      client = subst (λ (ms : List Member). IsListed ms kinds.Client c2) (sym (ap (λ (n : NodeParts). n.roster) k.taken))
+      client = subst (λ (ms : List Member). IsListed ms kinds.Client c2)
+          (sym (ap (λ (n : NodeParts). n.roster) k.taken))
           (listed_stays t.roster kinds.Client c1 c2 client (ap (λ (n : NodeParts). n.signer.master) got)
           (ap (λ (n : NodeParts). n.signer.height) got) joined.client);
-      server = subst (λ (ms : List Member). IsListed ms kinds.Server t2) (sym (ap (λ (n : NodeParts). n.roster) got))
+      server = subst (λ (ms : List Member). IsListed ms kinds.Server t2)
+          (sym (ap (λ (n : NodeParts). n.roster) got))
           (listed_stays c1.roster kinds.Server t t2 server (ap (λ (n : NodeParts). n.signer.master) k.taken)
           (ap (λ (n : NodeParts). n.signer.height) k.taken) joined.server);
       heard = subst (λ (j : ℕ). ReceivesUpTo j (length c2.entries) t2.entries) (sym client)
           (subst (λ (n : NodeParts). ReceivesUpTo c1.node (length c2.entries) n.entries) (sym k.taken)
           (up_to_both c1.node (length c2.entries) t.entries (ack_entry k.ack ∷ [])
-          (up_to_more c1.node (length c1.entries) (length c2.entries) t.entries (omega (arith, long)) joined.heard)
+          (up_to_more c1.node (length c1.entries) (length c2.entries) t.entries
+          (omega (arith, long)) joined.heard)
           (omega arith, tt)));
       received = subst (λ (j : ℕ). ReceivesUpTo j (length t2.entries) c2.entries) (sym server)
           (subst (λ (n : NodeParts). ReceivesUpTo t.node (length t2.entries) n.entries) (sym got)
           (up_to_both t.node (length t2.entries) c1.entries (recv ∷ [])
-          (up_to_more t.node (length t.entries) (length t2.entries) c1.entries (omega (arith, longer)) joined.received)
-          (recv_up_to t.node (length t2.entries) e.from e.seq e.prev e.body e.signature (omega (arith, seq, within, longer)), tt)));
+          (up_to_more t.node (length t.entries) (length t2.entries) c1.entries
+          (omega (arith, longer)) joined.received) (
+            recv_up_to t.node (length t2.entries) e.from e.seq e.prev e.body e.signature
+                (omega (arith, seq, within, longer)),
+            tt,
+          )));
       plain = ap (λ (n : NodeParts). n.lies) k.taken ∙ joined.plain;
     }

@@ -39,7 +39,8 @@ use Rattle.nodes.proofs.OfExchanges.Fresh.{not_received}
 
 -- A node that keeps its number and its keys stays listed.
 pub listed_stays : (ms : List Member) (kind : Kind) (n t : NodeParts) → t.node ≡ n.node
-    → t.signer.master ≡ n.signer.master → t.signer.height ≡ n.signer.height → IsListed ms kind n → IsListed ms kind t
+    → t.signer.master ≡ n.signer.master → t.signer.height ≡ n.signer.height → IsListed ms kind n
+    → IsListed ms kind t
 listed_stays ms kind n t node master height h =
     subst (λ (k : ℕ). IsSomeAnd (member_of ms k) (IsMemberAs kind t)) (sym node) (by (member_of ms n.node) h)
   where
@@ -47,7 +48,8 @@ listed_stays ms kind n t node master height h =
     turned m x = record {
       kind_of = x.kind_of;
       keys = record {
-        root = x.keys.root ∙ sym (ap (λ (k : List ℕ). root k t.signer.height) master ∙ ap (root n.signer.master) height);
+        root = x.keys.root ∙ sym (ap (λ (k : List ℕ). root k t.signer.height) master
+            ∙ ap (root n.signer.master) height);
         height = x.keys.height ∙ sym height;
       };
     }
@@ -71,8 +73,10 @@ sent_there sends k m =
 -- ---- the call
 
 -- The envelope of a call reaches the server.
-pub call_reaches : (c s : NodeParts) (body : List ℕ) → IsJoined c s → IsSender (sender_of (having_called c s body))
-    → (e : Envelope) × (IsCall c s body e × Reaches (having_called c s body) kinds.Client (length c.entries + 1) s e)
+pub call_reaches : (c s : NodeParts) (body : List ℕ) → IsJoined c s
+    → IsSender (sender_of (having_called c s body))
+    → (e : Envelope) × (IsCall c s body e
+    × Reaches (having_called c s body) kinds.Client (length c.entries + 1) s e)
 call_reaches c s body joined is =
     let x = envelope_shown (sender_of (having_called c s body)) c.entries [] s.node body is refl in
     let e = x.0 in
@@ -98,7 +102,8 @@ call_reaches c s body joined is =
                 seq = e.seq;
                 hash = message_hash e.to e.seq e.prev (sha256 e.body);
               })
-              (subst (λ (k : ℕ). ReceivesUpTo k (length c.entries) s.entries) (sym h.sender) joined.heard) past;
+              (subst (λ (k : ℕ). ReceivesUpTo k (length c.entries) s.entries) (sym h.sender) joined.heard)
+              past;
         },
       ),
     )
@@ -119,8 +124,10 @@ pub record IsSentBy (c s : NodeParts) (body : List ℕ) (c1 : NodeParts) (number
   pub reaches : Reaches c1 kinds.Client number s envelope
 
 -- What the client's SEND is, once it is logged: its envelope is the call, and it reaches the server.
-pub sent_by : (c s : NodeParts) (to : ℕ) (body : List ℕ) (c1 : NodeParts) (number : ℕ) → IsJoined c s → to ≡ s.node
-    → (¬ LacksKeys 1 c) × (c1 ≡ with_send c to body) × (number ≡ length c.entries + 1) → IsSender (sender_of c1)
+pub sent_by : (c s : NodeParts) (to : ℕ) (body : List ℕ) (c1 : NodeParts) (number : ℕ) → IsJoined c s
+    → to ≡ s.node
+    → (¬ LacksKeys 1 c) × (c1 ≡ with_send c to body) × (number ≡ length c.entries + 1)
+    → IsSender (sender_of c1)
     → IsSentBy c s body c1 number
 sent_by c s to body c1 number joined at sends is =
     let same : c1 ≡ having_called c s body = sends.1 ∙ ap (λ (k : ℕ). with_send c k body) at in
@@ -145,18 +152,21 @@ pub plainly : (s t : NodeParts) (time : Timeval) (e : Envelope) (r : Receipt) �
 plainly s t time e r plain h =
     let o = reply_owed h.world (reading_at s time) e.body in
     h.served
-    ∙ ap (λ (b : Bool). straying (lies_still b o) s.strayed (with_told b s h.world e (reading_at s time))) plain
+    ∙ ap (λ (b : Bool). straying (lies_still b o) s.strayed (with_told b s h.world e (reading_at s time)))
+    plain
     ∙ ap (λ (b : Bool). straying b s.strayed (with_answer s h.world e (reading_at s time) o)) (sym plain)
 
 -- its RECV stands first
 pub recv_first : (e : Envelope) (time : Timeval) (o : Option (List ℕ))
     → (rest : List Entry)
-    × (heard_entries e.from e.seq e.prev e.body e.signature time o ≡ Recv e.from e.seq e.prev e.body e.signature ∷ rest)
+    × (heard_entries e.from e.seq e.prev e.body e.signature time o ≡ Recv e.from e.seq e.prev e.body
+    e.signature ∷ rest)
 recv_first e time None = (Clock time.seconds time.microseconds ∷ [], refl)
 recv_first e time (Some reply) = (Clock time.seconds time.microseconds ∷ Send e.from reply ∷ [], refl)
 
 -- The acknowledgement of a call reaches the client.
-pub call_acknowledged : (c s t : NodeParts) (body : List ℕ) (e : Envelope) (time : Timeval) (r : Receipt) → IsJoined c s
+pub call_acknowledged : (c s t : NodeParts) (body : List ℕ) (e : Envelope) (time : Timeval) (r : Receipt)
+    → IsJoined c s
     → IsCall c s body e → ReceivesEnvelope s time e r t → IsSender (sender_of t)
     → (a : Ack) × AckReaches t kinds.Server r.ack (having_called c s body) a
 call_acknowledged c s t body e time r joined call receives is =
@@ -185,7 +195,8 @@ call_acknowledged c s t body e time r joined call receives is =
         fits = subst (λ (o : Option Envelope). IsSomeAnd o (FitsEnvelope a))
             (sym (ap (envelope_at (sender_of c1)) seq ∙ call.shown)) fits;
         listed = listed_stays c.roster kinds.Server s t node
-            (ap (λ (x : NodeParts). x.signer.master) receives.served) (ap (λ (x : NodeParts). x.signer.height) receives.served)
+            (ap (λ (x : NodeParts). x.signer.master) receives.served)
+            (ap (λ (x : NodeParts). x.signer.height) receives.served)
             joined.server;
         awaited = subst (λ (k : ℕ). IsSome (finite.get c1.state.sends k)) (sym seq)
             (sent_there c.state.sends (length c.entries + 1) _);

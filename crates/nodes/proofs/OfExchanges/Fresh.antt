@@ -43,8 +43,10 @@ other_sender m x h =
     let tied : (m.from == x.from) ≡ false = grind (arith, nat_tests, h) in
     apart _ _ (unsigned_tied m.from x.from ∙ tied)
 
--- A message with a number past those that were received from its sender isn't found among the messages of entries.
-pub not_received : (node k limit : ℕ) (es : List Entry) (m : Message) → ReceivesUpTo m.from limit es → limit < m.seq
+-- A message with a number past those that were received from its sender isn't found among the messages of
+-- entries.
+pub not_received : (node k limit : ℕ) (es : List Entry) (m : Message) → ReceivesUpTo m.from limit es
+    → limit < m.seq
     → lookup (is_at (message_cmp m)) (receipts_from node k es) ≡ None
 unfolding receipts_from
 not_received node k limit [] m few h = refl
@@ -55,23 +57,27 @@ not_received node k limit (Recv from seq prev body signature ∷ es) m few h =
     (by x (x.from == m.from) refl few.0)
     ∙ not_received node (k + 1) limit es m few.1 h
   where
-    by : (x : Message) (b : Bool) → (x.from == m.from) ≡ b → cond b x.seq 0 ≤ limit → is_at (message_cmp m) x ≡ false
+    by : (x : Message) (b : Bool) → (x.from == m.from) ≡ b → cond b x.seq 0 ≤ limit
+        → is_at (message_cmp m) x ≡ false
     by x true same below = let past : x.seq < m.seq = omega (arith, below, h) in other m x past
     by x false another below = other_sender m x another
 not_received node k limit (Ack to seq mine theirs prev signature ∷ es) m few h =
     not_received node (k + 1) limit es m few.1 h
-not_received node k limit (Clock seconds microseconds ∷ es) m few h = not_received node (k + 1) limit es m few.1 h
+not_received node k limit (Clock seconds microseconds ∷ es) m few h =
+    not_received node (k + 1) limit es m few.1 h
 not_received node k limit (Check digest ∷ es) m few h = not_received node (k + 1) limit es m few.1 h
 
 -- ---- logs that grow
 
 -- The numbers that entries received lie within any higher limit too.
-pub up_to_more : (from low high : ℕ) (es : List Entry) → low ≤ high → ReceivesUpTo from low es → ReceivesUpTo from high es
+pub up_to_more : (from low high : ℕ) (es : List Entry) → low ≤ high → ReceivesUpTo from low es
+    → ReceivesUpTo from high es
 up_to_more from low high [] h few = tt
 up_to_more from low high (e ∷ es) h few = (omega (arith, few.0, h), up_to_more from low high es h few.1)
 
 -- Entries joined have received no further than both of them.
-pub up_to_both : (from limit : ℕ) (es fs : List Entry) → ReceivesUpTo from limit es → ReceivesUpTo from limit fs
+pub up_to_both : (from limit : ℕ) (es fs : List Entry) → ReceivesUpTo from limit es
+    → ReceivesUpTo from limit fs
     → ReceivesUpTo from limit (es ++ fs)
 up_to_both from limit [] fs few more = more
 up_to_both from limit (e ∷ es) fs few more = (few.0, up_to_both from limit es fs few.1 more)

@@ -57,7 +57,8 @@ made_envelope n number e is h =
 
 made_ack : (n : NodeParts) (number : ℕ) (a : Ack) → IsSender (sender_of n)
     → ack_at (sender_of n) number ≡ Some a → IsAuthenticatorAt (sender_of n) number (ack_shows a)
-made_ack n number a is h = authenticator_law (sender_of n) number (ack_shows a) is (ack_law (sender_of n) number a h)
+made_ack n number a is h = authenticator_law (sender_of n) number (ack_shows a) is
+    (ack_law (sender_of n) number a h)
 
 -- What an acknowledgement that reaches a node shows is signed in that node's roster.
 pub ack_signed : (a b : NodeParts) (kind : Kind) (number : ℕ) (k : Ack) → IsSender (sender_of a)
@@ -68,8 +69,10 @@ ack_signed a b kind number k is h =
 -- ---- envelopes
 
 -- The text of an envelope that reaches a node opens there, and its message is new.
-pub found : (a b : NodeParts) (kind : Kind) (number : ℕ) (e : Envelope) (bytes : List ℕ) → IsSender (sender_of a)
-    → Reaches a kind number b e → IsText envelope_text (envelope_value e) bytes → Finds (receiver_of b) bytes e None
+pub found : (a b : NodeParts) (kind : Kind) (number : ℕ) (e : Envelope) (bytes : List ℕ)
+    → IsSender (sender_of a)
+    → Reaches a kind number b e → IsText envelope_text (envelope_value e) bytes
+    → Finds (receiver_of b) bytes e None
 found a b kind number e bytes is h text =
     let made = made_envelope a number e is h.envelope in
     record {
@@ -96,7 +99,8 @@ call_found a n b kind number e bytes text node is written same h =
     (subst (IsText envelope_text (envelope_value e)) (sym same) (written e shown))
 
 -- What a server receives by it.
-pub received_as : (n n' : NodeParts) (time : Timeval) (bytes : List ℕ) (e : Envelope) (r : Receipt) (h : Received Receipt)
+pub received_as : (n n' : NodeParts) (time : Timeval) (bytes : List ℕ) (e : Envelope) (r : Receipt)
+    (h : Received Receipt)
     → Finds (receiver_of n) bytes e None → h ≡ New r → Receives n time bytes (Ok h) n'
     → (LacksKeys 2 n → ⊥) × ReceivesEnvelope n time e r n'
 received_as n n' time bytes e r h f is receives =
@@ -132,16 +136,19 @@ accepted told twice b b' k bytes result text h takes = by result takes
         sym (ap (λ (x : Ack). get b.state.sends x.seq) (same t.0 t.1.0.text)) ∙ t.1.2 in
         absurd (none_some (get b.state.sends k.seq) none h.awaited)
     by (Err Garbage) t = absurd (let text = read in let none = t.0 in cc)
-    by (Err NotForMe) t = absurd (t.1.1 (subst (λ (x : Ack). FitsSend (sender_of b) x) (sym (same t.0 t.1.0)) h.fits))
+    by (Err NotForMe) t = absurd (t.1.1
+        (subst (λ (x : Ack). FitsSend (sender_of b) x) (sym (same t.0 t.1.0)) h.fits))
     by (Err BadSignature) t =
-        absurd (t.1.1 (subst (λ (x : Ack). IsSignedIn b.roster (ack_shows x)) (sym (same t.0 t.1.0.text)) h.signed))
+        absurd (t.1.1 (subst (λ (x : Ack). IsSignedIn b.roster (ack_shows x))
+        (sym (same t.0 t.1.0.text)) h.signed))
     by (Err NoMemory) t = inr (refl, t)
     by (Err KeysUsedUp) t = absurd t
 
 -- The same, by what a call made of it.
 pub accepted_by : {F : Type 0} (told : Refusal → F) (twice : F) (b b' : NodeParts) (k : Ack) (bytes : List ℕ)
     (result : Result AckTaken Refusal) (answer : Result (Unit {0}) F) → IsText ack_text (ack_value k) bytes
-    → IsAccepted b k → TakesAck b bytes result b' → answer ≡ ack_told told twice result → IsTaken told b k answer b'
+    → IsAccepted b k → TakesAck b bytes result b' → answer ≡ ack_told told twice result
+    → IsTaken told b k answer b'
 accepted_by {F = F} told twice b b' k bytes result answer text h takes answered =
     subst (λ (r : Result (Unit {0}) F). IsTaken told b k r b') (sym answered)
     (accepted told twice b b' k bytes result text h takes)
@@ -153,7 +160,8 @@ ack_accepted a b kind number k is h =
     record { fits = h.fits; signed = ack_signed a b kind number k is h; awaited = h.awaited }
 
 -- The same, by the text that a call wrote.
-pub taken_by : {F : Type 0} (told : Refusal → F) (twice : F) (a n b b' : NodeParts) (kind : Kind) (number : ℕ) (k : Ack)
+pub taken_by : {F : Type 0} (told : Refusal → F) (twice : F) (a n b b' : NodeParts) (kind : Kind) (number : ℕ)
+    (k : Ack)
     (bytes text : List ℕ) (result : Result AckTaken Refusal) (answer : Result (Unit {0}) F) → n ≡ a
     → IsSender (sender_of n)
     → ((x : Ack) → ack_at (sender_of n) number ≡ Some x → IsText ack_text (ack_value x) text) → bytes ≡ text
@@ -162,5 +170,7 @@ pub taken_by : {F : Type 0} (told : Refusal → F) (twice : F) (a n b b' : NodeP
 taken_by told twice a n b b' kind number k bytes text result answer node is written same takes answered h =
     let shown : ack_at (sender_of n) number ≡ Some k =
     ap (λ (x : NodeParts). ack_at (sender_of x) number) node ∙ h.ack in
-    accepted_by told twice b b' k bytes result answer (subst (IsText ack_text (ack_value k)) (sym same) (written k shown))
-    (ack_accepted a b kind number k (subst (λ (x : NodeParts). IsSender (sender_of x)) node is) h) takes answered
+    accepted_by told twice b b' k bytes result answer
+    (subst (IsText ack_text (ack_value k)) (sym same) (written k shown))
+    (ack_accepted a b kind number k (subst (λ (x : NodeParts). IsSender (sender_of x)) node is) h) takes
+    answered

@@ -26,11 +26,13 @@ pub record IsSigningOf (s : SenderParts) (number : ℕ) (e : Entry) (g : Signing
   pub of_entry : g.entry ≡ e
 
 -- A SEND or RECV that stands in a log is signed at its number.
-pub signed_there : (s : SenderParts) (before rest : List Entry) (e : Entry) → IsSender s → s.log.entries ≡ before ++ e ∷ rest
+pub signed_there : (s : SenderParts) (before rest : List Entry) (e : Entry) → IsSender s
+    → s.log.entries ≡ before ++ e ∷ rest
     → is_signed_entry e ≡ true → (g : Signing) × IsSigningOf s (length before + 1) e g
 signed_there s before rest e is whole kind = by (signed_at s (length before + 1)) refl
   where
-    by : (o : Option Signing) → signed_at s (length before + 1) ≡ o → (g : Signing) × IsSigningOf s (length before + 1) e g
+    by : (o : Option Signing) → signed_at s (length before + 1) ≡ o
+        → (g : Signing) × IsSigningOf s (length before + 1) e g
     by None none =
         let unsigned = unsigned_is s (length before + 1) before rest e none whole refl in
         absurd (cc)
@@ -83,7 +85,8 @@ envelope_shown s before rest to body is whole =
     )
 
 -- the acknowledgement of a RECV
-pub record IsAckAt (s : SenderParts) (number from seq : ℕ) (prev body : List ℕ) (signature : SignatureParts) (a : Ack)
+pub record IsAckAt (s : SenderParts) (number from seq : ℕ) (prev body : List ℕ) (signature : SignatureParts)
+    (a : Ack)
     : Type 0 where
   -- the node shows this acknowledgement at the number
   pub there : ack_at s number ≡ Some a
@@ -102,7 +105,8 @@ pub record IsAckAt (s : SenderParts) (number from seq : ℕ) (prev body : List �
 
 -- The acknowledgement that is shown of a RECV is of the message that it received.
 pub ack_shown : (s : SenderParts) (before rest : List Entry) (from seq : ℕ) (prev body : List ℕ)
-    (signature : SignatureParts) → IsSender s → s.log.entries ≡ before ++ Recv from seq prev body signature ∷ rest
+    (signature : SignatureParts) → IsSender s
+    → s.log.entries ≡ before ++ Recv from seq prev body signature ∷ rest
     → (a : Ack) × IsAckAt s (length before + 1) from seq prev body signature a
 ack_shown s before rest from seq prev body signature is whole =
     let x = signed_there s before rest (Recv from seq prev body signature) is whole refl in

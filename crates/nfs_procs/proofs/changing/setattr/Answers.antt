@@ -16,6 +16,7 @@ returns c =
     let a = given_fields c.args.now c.args.attributes.now in (
       tt,
       attributes_told fs c.set_attributes.new.self n (set_attributes fs who c.args.now n a) c.in_ok-done.done
-          (subst (λ k. DoesAt (set_attributes fs who c.args.now k a) k fs c.in_ok-done.done c.set_attributes.new.self)
+          (subst (λ k. DoesAt (set_attributes fs who c.args.now k a) k fs c.in_ok-done.done
+          c.set_attributes.new.self)
           c.number_for-number.ensures c.in_ok-done.ensures),
     )

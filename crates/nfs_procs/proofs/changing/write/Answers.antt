@@ -14,6 +14,7 @@ returns c =
     let who = caller_of c.args.who.now in (
       tt,
       attributes_told fs c.write.new.self n (write fs who c.args.now n c.args.offset c.args.bytes.now) c.in_ok-done.done
-          (subst (λ k. DoesAt (write fs who c.args.now k c.args.offset c.args.bytes.now) k fs c.in_ok-done.done c.write.new.self)
+          (subst (λ k. DoesAt (write fs who c.args.now k c.args.offset c.args.bytes.now) k fs
+          c.in_ok-done.done c.write.new.self)
           c.number_for-number.ensures c.in_ok-done.ensures),
     )

@@ -2,6 +2,7 @@ use Rattle.std.proofs.Common.{◌≡◌, length, arith, refl, ◌∙◌}
 use Rattle.sha256_lanes.proofs.OneBlock.{block_is_last}
 use Rattle.sha256_lanes.proofs.blocks.last_block.Goals as goal
 
+-- the block ends the padded message
 pub returns : goal.returns
 returns g c =
     let rest = c.args.rest.now in

@@ -2,6 +2,7 @@ use Rattle.std.proofs.Common.{refl}
 use Rattle.sha2.specs.Sha256.{rounds}
 use Rattle.sha256_lanes.proofs.rounds.all_rounds.Goals as goal
 
+-- eight times eight rounds are the 64 of the standard
 pub returns : goal.returns
 unfolding rounds
 returns c =

@@ -2,6 +2,7 @@ use Rattle.std.proofs.Common.{◌+◌, arith}
 use Rattle.sha256_lanes.proofs.BlockRounds.{one_more_round}
 use Rattle.sha256_lanes.proofs.rounds.eight_rounds.Goals as goal
 
+-- eight single rounds, one after the other
 pub returns : goal.returns
 returns c = λ h held.
     let t = c.args.t in

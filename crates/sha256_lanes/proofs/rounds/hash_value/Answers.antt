@@ -2,6 +2,7 @@ use Rattle.std.proofs.Common.{List, ℕ, ap, ◌∙◌}
 use Rattle.sha2.specs.Sha256.{add_state, compress, rounds}
 use Rattle.sha256_lanes.proofs.rounds.hash_value.Goals as goal
 
+-- the hash value is that of the standard after the block
 pub returns : goal.returns
 unfolding compress
 returns c = λ b own.

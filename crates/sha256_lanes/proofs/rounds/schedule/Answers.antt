@@ -2,6 +2,7 @@ use Rattle.std.proofs.Common.{◌≡◌, length, arith}
 use Rattle.sha256_lanes.proofs.BlockRounds.{block_words_held, whole_schedule}
 use Rattle.sha256_lanes.proofs.rounds.schedule.Goals as goal
 
+-- six times eight words end the schedule
 pub returns : goal.returns
 returns c = λ b own.
     let size : length c.args.words ≡ 64 = omega arith in

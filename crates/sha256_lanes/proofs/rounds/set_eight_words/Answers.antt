@@ -2,6 +2,7 @@ use Rattle.std.proofs.Common.{◌+◌, arith}
 use Rattle.sha256_lanes.proofs.BlockRounds.{one_more_word}
 use Rattle.sha256_lanes.proofs.rounds.set_eight_words.Goals as goal
 
+-- eight words more are those of the schedule
 pub returns : goal.returns
 returns c = λ b held.
     let t = c.args.t in

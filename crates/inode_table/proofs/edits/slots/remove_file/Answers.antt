@@ -4,7 +4,9 @@ use Rattle.inode_table.proofs.OfEdits.EditedInodes.{removes_inode}
 use Rattle.inode_table.proofs.edits.slots.remove_file.Goals as goal
 
 pub blocks-requires : goal.blocks-requires
-blocks-requires c = c.requires (file_in c.in-Some.inode) (ap (option_map file_in) (sym c.remove.ensures.value ∙ c.in-Some.is))
+blocks-requires c =
+    c.requires (file_in c.in-Some.inode)
+    (ap (option_map file_in) (sym c.remove.ensures.value ∙ c.in-Some.is))
 
 pub returns-in-Some-clause-change : goal.returns-in-Some-clause-change
 returns-in-Some-clause-change c =

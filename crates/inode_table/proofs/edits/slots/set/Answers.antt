@@ -33,10 +33,14 @@ returns-clause-err c =
     c.set_inode.ensures.err
 
 pub set_inode-requires-clause-old : goal.set_inode-requires-clause-old
-set_inode-requires-clause-old c = c.requires.old _ (ap (option_map file_in) (sym c.get_mut.ensures.value ∙ ap option_copied_mut c.in-Some.is))
+set_inode-requires-clause-old c =
+    c.requires.old _
+    (ap (option_map file_in) (sym c.get_mut.ensures.value ∙ ap option_copied_mut c.in-Some.is))
 
 pub set_inode-requires-clause-new : goal.set_inode-requires-clause-new
-set_inode-requires-clause-new c = c.requires.new _ (ap (option_map file_in) (sym c.get_mut.ensures.value ∙ ap option_copied_mut c.in-Some.is))
+set_inode-requires-clause-new c =
+    c.requires.new _
+    (ap (option_map file_in) (sym c.get_mut.ensures.value ∙ ap option_copied_mut c.in-Some.is))
 
 pub returns-clause-blocks : goal.returns-clause-blocks
 returns-clause-blocks c =
@@ -45,8 +49,11 @@ returns-clause-blocks c =
     let after = here c.args.inodes.now.entries _ c.args.number _ (held.3 (ap is_some there)).0 in
     IfOk-weaker c.set_inode.result _ _
     (λ blocks told. record {
-      before = λ f at. told.0 ∙ ap (λ (g : File). blocks_in g.body) (its_file c.args.inodes.now.entries c.args.number c.in-Some.inode.now f there at);
-      after = λ f at. told.1 ∙ ap (λ (g : File). blocks_in g.body) (its_file (c.get_mut.follows.lender c.set_inode.new.inode).entries c.args.number c.set_inode.new.inode f after at);
+      before = λ f at. told.0 ∙ ap (λ (g : File). blocks_in g.body)
+          (its_file c.args.inodes.now.entries c.args.number c.in-Some.inode.now f there at);
+      after = λ f at. told.1 ∙ ap (λ (g : File). blocks_in g.body)
+          (its_file (c.get_mut.follows.lender c.set_inode.new.inode).entries c.args.number
+          c.set_inode.new.inode f after at);
     })
     c.set_inode.ensures.blocks
 
@@ -56,7 +63,9 @@ returns-clause-words c =
     let held = c.get_mut.follows.holds c.set_inode.new.inode in
     let after = here c.args.inodes.now.entries _ c.args.number _ (held.3 (ap is_some there)).0 in
     on_ok_weaker c.set_inode.result
-    (λ words f at. subst HasWords (its_file (c.get_mut.follows.lender c.set_inode.new.inode).entries c.args.number c.set_inode.new.inode f after at) words)
+    (λ words f at. subst HasWords
+    (its_file (c.get_mut.follows.lender c.set_inode.new.inode).entries c.args.number
+    c.set_inode.new.inode f after at) words)
     c.set_inode.ensures.words
 
 pub returns-clause-attributes : goal.returns-clause-attributes

@@ -35,10 +35,14 @@ returns-clause-err c =
     c.write_inode.ensures.err
 
 pub write_inode-requires-clause-old : goal.write_inode-requires-clause-old
-write_inode-requires-clause-old c = c.requires.old _ (ap (option_map file_in) (sym c.get_mut.ensures.value ∙ ap option_copied_mut c.in-Some.is))
+write_inode-requires-clause-old c =
+    c.requires.old _
+    (ap (option_map file_in) (sym c.get_mut.ensures.value ∙ ap option_copied_mut c.in-Some.is))
 
 pub write_inode-requires-clause-new : goal.write_inode-requires-clause-new
-write_inode-requires-clause-new c = c.requires.new _ (ap (option_map file_in) (sym c.get_mut.ensures.value ∙ ap option_copied_mut c.in-Some.is))
+write_inode-requires-clause-new c =
+    c.requires.new _
+    (ap (option_map file_in) (sym c.get_mut.ensures.value ∙ ap option_copied_mut c.in-Some.is))
 
 pub returns-clause-blocks : goal.returns-clause-blocks
 returns-clause-blocks c =
@@ -47,8 +51,11 @@ returns-clause-blocks c =
     let after = here c.args.inodes.now.entries _ c.args.number _ (held.3 (ap is_some there)).0 in
     IfOk-weaker c.write_inode.result _ _
     (λ blocks told. record {
-      before = λ f at. told.0 ∙ ap (λ (g : File). blocks_in g.body) (its_file c.args.inodes.now.entries c.args.number c.in-Some.inode.now f there at);
-      after = λ f at. told.1 ∙ ap (λ (g : File). blocks_in g.body) (its_file (c.get_mut.follows.lender c.write_inode.new.inode).entries c.args.number c.write_inode.new.inode f after at);
+      before = λ f at. told.0 ∙ ap (λ (g : File). blocks_in g.body)
+          (its_file c.args.inodes.now.entries c.args.number c.in-Some.inode.now f there at);
+      after = λ f at. told.1 ∙ ap (λ (g : File). blocks_in g.body)
+          (its_file (c.get_mut.follows.lender c.write_inode.new.inode).entries c.args.number
+          c.write_inode.new.inode f after at);
     })
     c.write_inode.ensures.blocks
 
@@ -58,7 +65,9 @@ returns-clause-words c =
     let held = c.get_mut.follows.holds c.write_inode.new.inode in
     let after = here c.args.inodes.now.entries _ c.args.number _ (held.3 (ap is_some there)).0 in
     on_ok_weaker c.write_inode.result
-    (λ words f at. subst HasWords (its_file (c.get_mut.follows.lender c.write_inode.new.inode).entries c.args.number c.write_inode.new.inode f after at) words)
+    (λ words f at. subst HasWords
+    (its_file (c.get_mut.follows.lender c.write_inode.new.inode).entries c.args.number
+    c.write_inode.new.inode f after at) words)
     c.write_inode.ensures.words
 
 pub returns-clause-attributes : goal.returns-clause-attributes

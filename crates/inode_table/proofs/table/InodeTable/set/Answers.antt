@@ -27,14 +27,15 @@ overflow_sub-self c =
 pub overflow_add-self : goal.overflow_add-self
 overflow_add-self c =
     let most = set_most c.self.inside c.self.invariant c.self.view_is c.args.now c.requires.valid
-    c.requires.sized c.in_ok-edited.ensures.ok c.in_ok-edited.ensures.blocks.before c.in_ok-edited.ensures.blocks.after in
+    c.requires.sized c.in_ok-edited.ensures.ok c.in_ok-edited.ensures.blocks.before
+    c.in_ok-edited.ensures.blocks.after in
     omega (arith, most)
 
 pub invariant_of-self-2 : goal.invariant_of-self-2
 invariant_of-self-2 c =
     set_kept c.self.inside c.self.invariant c.self.view_is c.args.now c.requires.valid c.requires.sized
-    c.in_ok-edited.ensures.ok c.in_ok-edited.ensures.blocks.before c.in_ok-edited.ensures.blocks.after c.time_is_valid.ensures.time
-    c.in_ok-edited.ensures.words
+    c.in_ok-edited.ensures.ok c.in_ok-edited.ensures.blocks.before c.in_ok-edited.ensures.blocks.after
+    c.time_is_valid.ensures.time c.in_ok-edited.ensures.words
 
 pub set-requires-clause-there : goal.set-requires-clause-there
 set-requires-clause-there c = set_there c.self.inside c.self.invariant c.self.view_is c.args.now c.requires.valid

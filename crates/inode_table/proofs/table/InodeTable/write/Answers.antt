@@ -1,6 +1,6 @@
 use Rattle.std.proofs.Common.{arith, ◌∙◌}
-use Rattle.inode_table.proofs.KeptContents.{written_files, write_bodies, write_among, write_most, write_kept, write_there}
-use Rattle.inode_table.proofs.KeptContents.{write_attributes}
+use Rattle.inode_table.proofs.KeptContents.{written_files, write_bodies, write_among, write_most}
+use Rattle.inode_table.proofs.KeptContents.{write_kept, write_there, write_attributes}
 use Rattle.inode_table.proofs.Tables.{on_any_error, kept_body, alike_kept}
 use Rattle.inode_table.proofs.table.InodeTable.write.Goals as goal
 
@@ -37,7 +37,8 @@ overflow_add-self c =
 pub invariant_of-self-2 : goal.invariant_of-self-2
 invariant_of-self-2 c =
     write_kept c.self.inside c.self.invariant c.self.view_is c.args.now c.requires.1 c.in_ok-edited.ensures.ok
-    c.in_ok-edited.ensures.blocks.before c.in_ok-edited.ensures.blocks.after c.time_is_valid.ensures.time c.in_ok-edited.ensures.words
+    c.in_ok-edited.ensures.blocks.before c.in_ok-edited.ensures.blocks.after
+    c.time_is_valid.ensures.time c.in_ok-edited.ensures.words
 
 pub returns-clause-ok : goal.returns-clause-ok
 returns-clause-ok c old may =

@@ -3,6 +3,7 @@ use Rattle.sha2.specs.Sha256.{sha256}
 use Rattle.lamport.specs.Lamport.{public_hash}
 use Rattle.lamport.proofs.key.OneTimeKey.public_hash.Goals as goal
 
+-- the hash is that of the secret of the place and bit
 pub returns : goal.returns
 unfolding public_hash
 returns c =

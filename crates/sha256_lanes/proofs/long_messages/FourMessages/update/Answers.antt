@@ -3,6 +3,7 @@ use Rattle.sha2.specs.Sha256.{hash_after, initial_hash_256}
 use Rattle.sha256_lanes.proofs.OneBlock.{length-hash_after, one_more_block}
 use Rattle.sha256_lanes.proofs.long_messages.FourMessages.update.Goals as goal
 
+-- each lane holds its message with its block
 pub returns : goal.returns
 returns c = λ l m lane held.
     let b = slice_index_or c.args.blocks.now l [] in
