@@ -1,8 +1,8 @@
 //! Evidence against node 2, made, written, read and examined. Each function is small, and gives none or
 //! false where memory is refused.
 
-use crate::lone::{keys, roster};
-use authenticator::{Number, Roster};
+use crate::made::{keys_of_two, roster_of_two};
+use authenticator::{Authenticator, Number, Roster};
 use challenge::evidence_showings_code::Showing;
 use challenge::replay_code::ReplayFault;
 use challenge::{
@@ -46,21 +46,27 @@ fn at_zero(alloc: Global, signer: &mut Signer, hash: [u8; 32]) -> Option<Evidenc
     Evidence::new(2, Charge::Fork(Fork { at, a, b: None }))
 }
 
+/// The log of one entry, closed by this authenticator.
+fn log_of_one(alloc: Global, entry: Entry, closing: &Authenticator) -> Option<AuditedLog> {
+    let mut entries = Vec::new(alloc);
+    match entries.push(entry) {
+        Ok(()) => AuditedLog::from_start(alloc, 2, entries, closing).ok(),
+        Err(_) => None,
+    }
+}
+
 fn clock(alloc: Global, signer: &mut Signer, microseconds: u32) -> Option<Evidence> {
     let entry = Entry::Clock {
         seconds: 1,
         microseconds,
     };
     let hash = entry_hash(&[0; 32], 1, &entry);
-    let closing = signed(signer, 2, Number::new(1), hash)?;
-    let mut entries = Vec::new(alloc);
-    let pushed = entries.push(entry);
-    if pushed.is_err() {
-        return None;
-    }
-    match AuditedLog::from_start(alloc, 2, entries, &closing) {
-        Ok(log) => Evidence::new(2, Charge::Replay(log)),
-        Err(_) => None,
+    match signed(signer, 2, Number::new(1), hash) {
+        Some(closing) => {
+            let log = log_of_one(alloc, entry, &closing)?;
+            Evidence::new(2, Charge::Replay(log))
+        }
+        None => None,
     }
 }
 
@@ -132,8 +138,8 @@ pub struct Made {
 }
 
 pub fn made_of(alloc: Global, content: Content) -> Option<Made> {
-    let mut signer = keys(alloc)?;
-    let roster = roster(alloc, &signer)?;
+    let mut signer = keys_of_two(alloc)?;
+    let roster = roster_of_two(alloc, &signer)?;
     let evidence = evidence_of(alloc, &mut signer, content)?;
     Some(Made { roster, evidence })
 }

@@ -2,15 +2,9 @@
 #![tactic(auto)]
 
 #[cfg(test)]
-mod changed;
-#[cfg(test)]
 mod copies;
 #[cfg(test)]
-mod cut;
-#[cfg(test)]
 mod evidence;
-#[cfg(test)]
-mod lone;
 #[cfg(test)]
 mod made;
 #[cfg(test)]

@@ -1,5 +1,6 @@
-//! Packets of node 1, made by hand, each signed by its first key. Each function is small, and gives none
-//! where memory is refused: the proof of a function takes its time by what it owns at how many exits.
+//! Packets of node 1, made by hand, each signed by its first key, and node 2 alone. Each function is small,
+//! and gives none where memory is refused: the proof of a function takes its time by what it owns at how many
+//! exits.
 
 use authenticator::{Authenticator, Number, Roster, signed_digest};
 use envelopes::{Ack, Envelope};
@@ -22,6 +23,19 @@ pub enum Content {
     /// An acknowledgement of node 2's first message, its body's digest 32 bytes 7, its signature's 32 bytes
     /// 8.
     Acknowledgement,
+}
+
+/// The keys of node 2 alone, a client, of height 1: two signatures.
+pub fn keys_of_two(alloc: Global) -> Option<Signer> {
+    match Signer::new(alloc, [1; 32], 1) {
+        Ok(signer) => Some(signer),
+        Err(_) => None,
+    }
+}
+
+/// The roster of it with these keys.
+pub fn roster_of_two(alloc: Global, signer: &Signer) -> Option<Roster> {
+    roster_of(alloc, &[client(signer.root(), 1)])
 }
 
 /// A packet's bytes, and the roster of nodes 1 and 2 under which they are taken.

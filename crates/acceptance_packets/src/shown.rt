@@ -1,6 +1,6 @@
 //! What is shown of a log, made, written and read.
 
-use crate::lone::{keys, roster};
+use crate::made::{keys_of_two, roster_of_two};
 use authenticator::{Authenticator, Number, Roster};
 use challenge::evidence_showings_code::{EntryKind, Showing};
 use merkle_keys::Signer;
@@ -25,8 +25,8 @@ fn is_shown(alloc: Global, roster: &Roster, authenticator: &Authenticator) -> bo
 
 /// Whether that holds of one that is signed.
 fn is_shown_signed(alloc: Global) -> Option<bool> {
-    let mut signer = keys(alloc)?;
-    let roster = roster(alloc, &signer)?;
+    let mut signer = keys_of_two(alloc)?;
+    let roster = roster_of_two(alloc, &signer)?;
     let authenticator = signed(&mut signer, 2, Number::new(5), [7; 32])?;
     Some(is_shown(alloc, &roster, &authenticator))
 }
@@ -62,7 +62,7 @@ fn closed_text(alloc: Global, log: &Log, closing: &Authenticator) -> Option<Vec<
 
 /// The segment of a log, closed.
 fn segment(alloc: Global, signer: &mut Signer, log: &Log) -> Option<ClosedSegment> {
-    let roster = roster(alloc, signer)?;
+    let roster = roster_of_two(alloc, signer)?;
     let closing = signed(signer, 2, Number::new(2), log.hash_at(2)?)?;
     let text = closed_text(alloc, log, &closing)?;
     check_segment(alloc, &roster, &text).ok()
@@ -105,7 +105,7 @@ fn shows(alloc: Global, log: &Log, segment: &ClosedSegment) -> bool {
 
 /// Whether a closed segment shows its log.
 fn shows_log(alloc: Global) -> Option<bool> {
-    let mut signer = keys(alloc)?;
+    let mut signer = keys_of_two(alloc)?;
     let log = log(alloc)?;
     let segment = segment(alloc, &mut signer, &log)?;
     Some(shows(alloc, &log, &segment))

@@ -1,6 +1,8 @@
-//! Packets that are taken, against another program's, and written back.
+//! Packets that are taken, against another program's, and written back; and those that are not, since they
+//! are cut, have a byte more, a bit changed, or are an envelope to another.
 
 use crate::made::{Content, Made, packet_of};
+use authenticator::{Refusal, Roster};
 use packets::{Packet, read_packet};
 use sha2::{Digest, Sha256};
 use std::alloc::Global;
@@ -66,5 +68,117 @@ fn packets_are_taken(rt: HostRuntime) {
     ] {
         let owed = is_as_owed(rt.alloc(), content, len, &digest, node);
         assert!(rt; owed, "{content:?}");
+    }
+}
+
+/// Whether bytes aren't taken as garbage.
+fn is_garbage(alloc: Global, roster: &Roster, bytes: &[u8]) -> bool {
+    read_packet(alloc, roster, bytes).err() == Some(Refusal::Garbage)
+}
+
+/// Whether a packet is garbage that is cut at any length.
+fn is_garbage_cut(alloc: Global, made: &Made) -> bool {
+    for len in 0..made.bytes.len() {
+        if !is_garbage(alloc, &made.roster, &made.bytes[..len]) {
+            return false;
+        }
+    }
+    true
+}
+
+/// Whether a packet is garbage with a byte more after it.
+fn is_garbage_with_more(alloc: Global, made: &mut Made) -> bool {
+    made.bytes.push(0).is_ok() && is_garbage(alloc, &made.roster, &made.bytes)
+}
+
+/// Whether both hold of a packet with this content.
+fn is_garbage_changed(alloc: Global, content: Content) -> bool {
+    match packet_of(alloc, content) {
+        Some(mut made) => is_garbage_cut(alloc, &made) && is_garbage_with_more(alloc, &mut made),
+        None => false,
+    }
+}
+
+#[test]
+fn a_packet_cut_or_with_more_is_garbage(rt: HostRuntime) {
+    for content in [
+        Content::Learn,
+        Content::Challenge { of: 2 },
+        Content::Answer,
+        Content::Acknowledgement,
+    ] {
+        let garbage = is_garbage_changed(rt.alloc(), content);
+        assert!(rt; garbage, "{content:?}");
+    }
+}
+
+/// Whether a packet isn't taken, by the refusal with this number.
+fn is_refused(alloc: Global, made: &Made, number: u32) -> bool {
+    match read_packet(alloc, &made.roster, &made.bytes).err() {
+        Some(refusal) => refusal.number() == Some(number),
+        None => false,
+    }
+}
+
+/// Whether a packet isn't taken with the lowest bit of a byte changed, by the refusal with this number.
+fn is_refused_changed(alloc: Global, made: &mut Made, place: usize, number: u32) -> bool {
+    if place >= made.bytes.len() {
+        return false;
+    }
+    made.bytes[place] ^= 1;
+    let refused = is_refused(alloc, made, number);
+    made.bytes[place] ^= 1;
+    refused
+}
+
+/// The number of the refusal owed to an authenticator's packet that is changed at a place: its number is
+/// none, then its node no member, then it isn't signed.
+fn owed(place: usize) -> u32 {
+    if place < 4 {
+        2
+    } else if place < 8 {
+        1
+    } else {
+        3
+    }
+}
+
+/// The first place at which a changed packet gets another refusal than is owed.
+fn first_other(alloc: Global, made: &mut Made) -> Option<usize> {
+    for place in 0..52 {
+        if !is_refused_changed(alloc, made, place, owed(place)) {
+            return Some(place);
+        }
+    }
+    None
+}
+
+/// Whether that of an authenticator is none.
+fn are_refused(alloc: Global) -> bool {
+    match packet_of(alloc, Content::Learn) {
+        Some(mut made) => first_other(alloc, &mut made) == None,
+        None => false,
+    }
+}
+
+#[test]
+fn a_changed_authenticator_is_refused(rt: HostRuntime) {
+    assert!(rt; are_refused(rt.alloc()));
+}
+
+/// Whether a challenge of a node isn't taken, by this refusal.
+fn is_challenge_refused(alloc: Global, of: u32, refusal: Refusal) -> bool {
+    match packet_of(alloc, Content::Challenge { of }) {
+        Some(made) => read_packet(alloc, &made.roster, &made.bytes).err() == Some(refusal),
+        None => false,
+    }
+}
+
+// In turn of its sender, and of a stranger.
+#[test]
+fn a_challenge_of_another_is_refused(rt: HostRuntime) {
+    for (of, refusal) in [(1, Refusal::Garbage), (3, Refusal::UnknownNode)] {
+        let refused = is_challenge_refused(rt.alloc(), of, refusal);
+        assert!(rt; refused, "of {of}");
     }
 }

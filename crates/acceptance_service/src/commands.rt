@@ -38,12 +38,19 @@ nfsacc run
 nfsacc run --roster-out f
 ";
 
+/// Whether a word is added.
+fn adds(alloc: Global, words: &mut Vec<String>, word: &str) -> bool {
+    match String::from_str(alloc, word) {
+        Ok(word) => words.push(word).is_ok(),
+        Err(_) => false,
+    }
+}
+
 /// The words of a line.
 fn words_of(alloc: Global, line: &str) -> Option<Vec<String>> {
     let mut words = Vec::new(alloc);
     for word in line.split_whitespace() {
-        let word = String::from_str(alloc, word).ok()?;
-        if words.push(word).is_err() {
+        if !adds(alloc, &mut words, word) {
             return None;
         }
     }
@@ -72,74 +79,65 @@ fn first_wrong(
     None
 }
 
-/// A check of a file.
-fn check(file: &str, explain: bool) -> Option<Request<'_>> {
-    Some(Request::Check(CheckRequest {
+/// A line, and what it asks for.
+type Asking = (&'static str, Option<Request<'static>>);
+
+/// The first line that asks for something else than is said beside it.
+fn first_other(alloc: Global, rows: &[Asking]) -> Option<&'static str> {
+    for (line, request) in rows {
+        if !asks(alloc, line, *request) {
+            return Some(*line);
+        }
+    }
+    None
+}
+
+/// A line that asks for a check of a file.
+const fn check(line: &'static str, file: &'static str, explain: bool) -> Asking {
+    let request = CheckRequest {
         file,
         explain,
         json: false,
         roster: None,
-    }))
+    };
+    (line, Some(Request::Check(request)))
 }
 
-/// A check of a file under a roster, to be told as JSON.
-fn check_under<'a>(roster: &'a str, file: &'a str) -> Option<Request<'a>> {
-    Some(Request::Check(CheckRequest {
-        file,
+/// A line that asks for a check of the file `f` under the roster `r`, to be told as JSON.
+const fn check_under(line: &'static str) -> Asking {
+    let request = CheckRequest {
+        file: "f",
         explain: false,
         json: true,
-        roster: Some(roster),
-    }))
+        roster: Some("r"),
+    };
+    (line, Some(Request::Check(request)))
 }
 
-/// A run of a script.
-fn run<'a>(file: &'a str, roster_out: Option<&'a str>) -> Option<Request<'a>> {
-    Some(Request::Run(RunRequest { file, roster_out }))
+/// A line that asks for a run of a script.
+const fn run(line: &'static str, file: &'static str, roster_out: Option<&'static str>) -> Asking {
+    (line, Some(Request::Run(RunRequest { file, roster_out })))
 }
 
 #[test]
 fn runs_are_asked_for(rt: HostRuntime) {
-    assert!(rt; asks(rt.alloc(), "nfsacc run -", run("-", None)));
-    assert!(rt;
-        asks(
-            rt.alloc(),
-            "nfsacc run f --roster-out g",
-            run("f", Some("g"))
-        )
-    );
-    assert!(rt;
-        asks(
-            rt.alloc(),
-            "nfsacc run --roster-out=g f",
-            run("f", Some("g"))
-        )
-    );
+    let rows = [
+        run("nfsacc run -", "-", None),
+        run("nfsacc run f --roster-out g", "f", Some("g")),
+        run("nfsacc run --roster-out=g f", "f", Some("g")),
+    ];
+    none_wrong(&rt, first_other(rt.alloc(), &rows));
 }
 
 #[test]
 fn rosters_are_asked_for(rt: HostRuntime) {
-    assert!(rt; asks(rt.alloc(), "nfsacc roster f", Some(Request::Roster("f"))));
-    assert!(rt;
-        asks(
-            rt.alloc(),
-            "nfsacc roster -- -f",
-            Some(Request::Roster("-f"))
-        )
-    );
-    assert!(rt;
-        asks(
-            rt.alloc(),
-            "nfsacc check --json f --roster=r",
-            check_under("r", "f")
-        )
-    );
-    assert!(rt;
-        asks(
-            rt.alloc(),
-            "nfsacc check --roster r --json f",
-            check_under("r", "f")
-        )
-    );
+    let rows = [
+        ("nfsacc roster f", Some(Request::Roster("f"))),
+        ("nfsacc roster -- -f", Some(Request::Roster("-f"))),
+        check_under("nfsacc check --json f --roster=r"),
+        check_under("nfsacc check --roster r --json f"),
+    ];
+    none_wrong(&rt, first_other(rt.alloc(), &rows));
 }
 
 #[test]
@@ -154,15 +152,12 @@ fn other_lines_are_refused(rt: HostRuntime) {
 
 #[test]
 fn checks_are_asked_for(rt: HostRuntime) {
-    assert!(rt; asks(rt.alloc(), "nfsacc check f", check("f", false)));
-    assert!(rt; asks(rt.alloc(), "nfsacc check -", check("-", false)));
-    assert!(rt; asks(rt.alloc(), "nfsacc check --explain f", check("f", true)));
-    assert!(rt; asks(rt.alloc(), "nfsacc check f --explain", check("f", true)));
-    assert!(rt;
-        asks(
-            rt.alloc(),
-            "nfsacc check --explain -- -f",
-            check("-f", true)
-        )
-    );
+    let rows = [
+        check("nfsacc check f", "f", false),
+        check("nfsacc check -", "-", false),
+        check("nfsacc check --explain f", "f", true),
+        check("nfsacc check f --explain", "f", true),
+        check("nfsacc check --explain -- -f", "-f", true),
+    ];
+    none_wrong(&rt, first_other(rt.alloc(), &rows));
 }

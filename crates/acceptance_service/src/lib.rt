@@ -2,33 +2,19 @@
 #![tactic(auto)]
 
 #[cfg(test)]
+mod calls;
+#[cfg(test)]
 mod commands;
-#[cfg(test)]
-mod counting;
-#[cfg(test)]
-mod credentials;
 #[cfg(test)]
 mod devices;
 #[cfg(test)]
 mod items;
 #[cfg(test)]
-mod kept_digests;
+mod kept_states;
 #[cfg(test)]
 mod limits;
 #[cfg(test)]
-mod mounts;
-#[cfg(test)]
-mod names;
-#[cfg(test)]
-mod numbered;
-#[cfg(test)]
-mod pages;
-#[cfg(test)]
-mod reads_and_writes;
-#[cfg(test)]
 mod server;
-#[cfg(test)]
-mod shared_states;
 #[cfg(test)]
 mod state_limits;
 #[cfg(test)]
@@ -37,5 +23,3 @@ mod state_texts;
 mod steps;
 #[cfg(test)]
 mod streams;
-#[cfg(test)]
-mod texts;

@@ -162,28 +162,40 @@ impl Server {
         })
     }
 
+    /// Whether the reply to such a call is appended.
+    fn looks(&mut self, look: &str, all: &mut Vec<u8>) -> bool {
+        match self.seen(look) {
+            Some(seen) => extends(all, &seen),
+            None => false,
+        }
+    }
+
     /// All that is looked at.
     fn look(&mut self) -> Option<Vec<u8>> {
         let mut all = Vec::new(self.alloc);
         for look in LOOKS {
-            let seen = self.seen(look)?;
-            if !extends(&mut all, &seen) {
+            if !self.looks(look, &mut all) {
                 return None;
             }
         }
         Some(all)
     }
 
+    /// Whether all that is looked at is as it was.
+    fn is_as_before(&mut self, before: &[u8]) -> bool {
+        match self.look() {
+            Some(after) => after.as_slice() == before,
+            None => false,
+        }
+    }
+
     /// Whether a row of NFS is answered to user 0 twice, and changes nothing that is looked at.
     pub fn refuses(&mut self, row: &str) -> bool {
         match self.look() {
             Some(before) => {
-                let is_answered = self.answers(Program::Nfs, SUPERUSER, row)
-                    && self.answers(Program::Nfs, SUPERUSER, row);
-                match self.look() {
-                    Some(after) => is_answered && after.as_slice() == before.as_slice(),
-                    None => false,
-                }
+                self.answers(Program::Nfs, SUPERUSER, row)
+                    && self.answers(Program::Nfs, SUPERUSER, row)
+                    && self.is_as_before(&before)
             }
             None => false,
         }

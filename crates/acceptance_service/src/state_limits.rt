@@ -1,7 +1,7 @@
 //! States at each limit on messages, mounts, files, entries and blocks, and one past it.
 
-use crate::numbered::name;
 use crate::state_texts::is_given;
+use crate::steps::name;
 use checkpoint::StateFault;
 use std::alloc::Global;
 use test_helpers::{of_text, push_text, push_words};

@@ -1,8 +1,7 @@
 //! Jobs of nodes.
 
 use crate::answers::end;
-use crate::four_nodes::{Shown, roster, shown_by};
-use crate::handed::delivered;
+use crate::members::{Shown, books_of, delivered, roster, shown_by};
 use std::alloc::Global;
 use witness_service::witness_books_code::Books;
 use witness_service::witness_books_code::node_book_code::{Event, EventOf, ReplayJob, ReplyOf};
@@ -27,32 +26,37 @@ pub fn job_of(alloc: Global, books: &mut Books, node: u8, shown: &Shown) -> Opti
     }
 }
 
+/// The same of what the node hands over.
+fn job_by(alloc: Global, books: &mut Books, node: u8) -> Option<ReplayJob> {
+    match shown_by(alloc, node) {
+        Some(shown) => job_of(alloc, books, node, &shown),
+        None => None,
+    }
+}
+
 /// Adds the job of a node, if there is one and room for it.
 fn add_job(alloc: Global, books: &mut Books, node: u8, jobs: &mut Vec<ReplayJob>) {
     if jobs.reserve(1).is_err() {
         return;
     }
-    match shown_by(alloc, node) {
-        Some(shown) => match job_of(alloc, books, node, &shown) {
-            Some(job) => jobs.push_reserved(job),
-            None => {}
-        },
+    match job_by(alloc, books, node) {
+        Some(job) => jobs.push_reserved(job),
         None => {}
+    }
+}
+
+/// Adds the job of each of these nodes, in their order.
+fn add_jobs(alloc: Global, books: &mut Books, nodes: &[u8], jobs: &mut Vec<ReplayJob>) {
+    for node in nodes {
+        add_job(alloc, books, *node, jobs);
     }
 }
 
 /// The job of each of these nodes, in their order, as far as there is one and room for it.
 pub fn jobs_of(alloc: Global, nodes: &[u8]) -> Vec<ReplayJob> {
     let mut jobs = Vec::new(alloc);
-    match roster(alloc) {
-        Some(roster) => match Books::new(alloc, roster) {
-            Ok(mut books) => {
-                for node in nodes {
-                    add_job(alloc, &mut books, *node, &mut jobs);
-                }
-            }
-            Err(_) => {}
-        },
+    match books_of(alloc, roster(alloc)) {
+        Some(mut books) => add_jobs(alloc, &mut books, nodes, &mut jobs),
         None => {}
     }
     jobs

@@ -1,10 +1,10 @@
 //! Challenges with messages, and the acknowledgements that close them; bytes that are no member's.
 
 use crate::answers::{Answer, acknowledges, are_open, challenges, refuses, tells};
+use crate::logs::{ack_text, changed, first_call, learn_packet, message, message_text};
 use crate::members::{Parties, new_parties};
-use crate::messages::{ack_text, first_call, message, message_text};
-use crate::packed::{changed, learn_packet};
 use authenticator::Number;
+use envelopes::Envelope;
 use merkle_keys::Signer;
 use secure_log::log_entries::Body;
 use std::alloc::Global;
@@ -37,20 +37,21 @@ fn opens_and_closes(alloc: Global, books: &mut Books, text: &[u8], ack: &[u8]) -
         && closes(alloc, books, ack)
 }
 
-/// The texts of a call and of the server's acknowledgement of it.
-fn call_and_ack(alloc: Global, parties: &mut Parties) -> Option<(Vec<u8>, Vec<u8>)> {
-    let call = first_call(alloc, &mut parties.client, 1)?;
-    let ack = ack_text(alloc, &mut parties.server, &call)?;
-    match message_text(alloc, &call) {
-        Some(text) => Some((text, ack)),
-        None => None,
+/// Whether both go so with the texts of a call and of the server's acknowledgement of it.
+fn call_opens_and_closes(alloc: Global, parties: &mut Parties, call: &Envelope) -> bool {
+    match (
+        message_text(alloc, call),
+        ack_text(alloc, &mut parties.server, call),
+    ) {
+        (Some(text), Some(ack)) => opens_and_closes(alloc, &mut parties.books, &text, &ack),
+        _ => false,
     }
 }
 
 /// Whether a call that the server doesn't acknowledge at once is a challenge until it does.
 fn is_suspected_until(alloc: Global, parties: &mut Parties) -> bool {
-    match call_and_ack(alloc, parties) {
-        Some((text, ack)) => opens_and_closes(alloc, &mut parties.books, &text, &ack),
+    match first_call(alloc, &mut parties.client, 1) {
+        Some(call) => call_opens_and_closes(alloc, parties, &call),
         None => false,
     }
 }

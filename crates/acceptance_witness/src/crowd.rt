@@ -1,11 +1,9 @@
 //! Events of others than node 5: forgeries, forks, floods past each limit, an audit and forwards.
 
-use crate::four_nodes::{Shown, keys_of, roster_with, shown_of_log};
-use crate::handed::{Handed, delivered, handed_in};
-use crate::logs::answers_call;
-use crate::members::{CLIENT, keys};
-use crate::messages::{call_body, message};
-use crate::packed::{challenge_packet, learn};
+use crate::logs::{answers_call, call_body, challenge_packet, learn, message};
+use crate::members::{
+    CLIENT, Handed, Shown, delivered, handed_in, keys, keys_of, roster_with, shown_of_log,
+};
 use authenticator::{Number, Roster};
 use merkle_keys::Signer;
 use secure_log::Log;
@@ -82,14 +80,30 @@ fn log_of_call(alloc: Global, client: &mut Signer) -> Option<Log> {
     }
 }
 
-/// What node 1 hands over: that log, and another hash at its last number.
-fn of_server(alloc: Global, client: &mut Signer) -> Option<(Shown, Vec<u8>)> {
-    let log = log_of_call(alloc, client)?;
-    let mut server = keys_of(alloc, 1)?;
-    let fork = learn(alloc, &mut server, 1, 3, [3; 32])?;
-    match shown_of_log(alloc, &log, &mut server, 3) {
-        Some(shown) => Some((shown, fork)),
-        None => None,
+/// Another hash at the last number of that log, and what is handed over of it.
+fn fork_and_shown(
+    alloc: Global,
+    log: &Log,
+    server: &mut Signer,
+) -> (Option<Vec<u8>>, Option<Shown>) {
+    let fork = learn(alloc, server, 1, 3, [3; 32]);
+    let shown = shown_of_log(alloc, log, server, 3);
+    (fork, shown)
+}
+
+/// The same of node 1's keys.
+fn of_log(alloc: Global, log: &Log) -> (Option<Vec<u8>>, Option<Shown>) {
+    match keys_of(alloc, 1) {
+        Some(mut server) => fork_and_shown(alloc, log, &mut server),
+        None => (None, None),
+    }
+}
+
+/// What node 1 hands over: another hash at the last number of that log, and the log.
+fn of_server(alloc: Global, client: &mut Signer) -> (Option<Vec<u8>>, Option<Shown>) {
+    match log_of_call(alloc, client) {
+        Some(log) => of_log(alloc, &log),
+        None => (None, None),
     }
 }
 
@@ -103,31 +117,39 @@ fn of_sixth(alloc: Global) -> Option<Vec<u8>> {
 
 /// What all hand over, with the keys of node 2.
 fn with_client(alloc: Global, handed: Handed, client: &mut Signer) -> Option<Crowd> {
-    let other = of_sixth(alloc)?;
-    let (server, fork) = of_server(alloc, client)?;
-    Some(Crowd {
-        handed,
-        other,
-        server,
-        fork,
-        challenges: challenges(alloc, client),
-        flood: flood(alloc, client),
-    })
+    match (of_sixth(alloc), of_server(alloc, client)) {
+        (Some(other), (Some(fork), Some(server))) => Some(Crowd {
+            handed,
+            other,
+            server,
+            fork,
+            challenges: challenges(alloc, client),
+            flood: flood(alloc, client),
+        }),
+        _ => None,
+    }
 }
 
 /// The same of their roster.
-fn in_roster(alloc: Global, roster: Option<Roster>, client: &mut Signer) -> Option<Crowd> {
-    let handed = handed_in(alloc, roster?)?;
-    with_client(alloc, handed, client)
+fn in_roster(alloc: Global, roster: Roster, client: &mut Signer) -> Option<Crowd> {
+    match handed_in(alloc, roster) {
+        Some(handed) => with_client(alloc, handed, client),
+        None => None,
+    }
+}
+
+/// The same of the root of node 2's keys.
+fn with_keys(alloc: Global, signer: &mut Signer) -> Option<Crowd> {
+    match roster_with(alloc, client(signer.root(), 9)) {
+        Some(roster) => in_roster(alloc, roster, signer),
+        None => None,
+    }
 }
 
 /// What all hand over. Node 2, which floods, has 512 keys.
 pub fn all_crowd(alloc: Global) -> Option<Crowd> {
     match keys(alloc, CLIENT, 9) {
-        Some(mut signer) => {
-            let roster = roster_with(alloc, client(signer.root(), 9));
-            in_roster(alloc, roster, &mut signer)
-        }
+        Some(mut signer) => with_keys(alloc, &mut signer),
         None => None,
     }
 }

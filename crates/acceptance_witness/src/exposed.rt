@@ -1,10 +1,13 @@
 //! What an exposed member's book still does: a late replay clears nobody, and the first evidence stays.
 
-use crate::answers::{Answer, answers, are_open, audited, challenges, learns, refuses, tells};
-use crate::audits::{Found, done, evidence, files, is_asked, is_given_to};
-use crate::logs::{closing_at, reads_clock, reads_clocks, receives, segment_text};
+use crate::answers::{
+    Answer, Found, answers, are_open, audited, challenges, done, evidence, files, is_asked,
+    is_given_to, learns, refuses, tells,
+};
+use crate::logs::{
+    closing_at, message, message_text, reads_clock, reads_clocks, receives, segment_text,
+};
 use crate::members::{Parties, new_parties};
-use crate::messages::{message, message_text};
 use authenticator::{Authenticator, Number};
 use challenge::Evidence;
 use envelopes::Envelope;
@@ -166,11 +169,18 @@ enum Trial {
 }
 
 /// Whether it goes as it should.
+fn goes_well_with(alloc: Global, trial: Trial, parties: &mut Parties) -> bool {
+    match trial {
+        Trial::LateReplay => a_late_replay_clears_nobody(alloc, parties),
+        Trial::GoesOn => an_exposed_book_goes_on(alloc, parties),
+    }
+}
+
+/// The same of new books.
 fn goes_well(alloc: Global, trial: Trial) -> bool {
-    match (new_parties(alloc, 2), trial) {
-        (Some(mut parties), Trial::LateReplay) => a_late_replay_clears_nobody(alloc, &mut parties),
-        (Some(mut parties), Trial::GoesOn) => an_exposed_book_goes_on(alloc, &mut parties),
-        (None, _) => false,
+    match new_parties(alloc, 2) {
+        Some(mut parties) => goes_well_with(alloc, trial, &mut parties),
+        None => false,
     }
 }
 

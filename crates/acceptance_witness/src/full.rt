@@ -1,8 +1,9 @@
 //! The limits of a book, each reached and with the refusal past it: the outbox, the audited entries, and the
 //! members of a roster. What is learned has its limit in `learned.rt`, challenges in `challenged.rt`.
 
-use crate::answers::{Answer, answers, learns, refuses, tells};
-use crate::audits::{Found, is_asked, is_given_to, replays};
+use crate::answers::{
+    Answer, Found, answers, is_asked, is_given_to, learns, refuses, replays, tells,
+};
 use crate::logs::{answers_call, reads_clocks};
 use crate::members::{CLIENT, Parties, books_of, keys, member, new_parties};
 use authenticator::{Authenticator, Number, Roster};
@@ -95,11 +96,18 @@ enum Trial {
 }
 
 /// Whether it goes as it should.
+fn goes_well_with(alloc: Global, trial: Trial, parties: &mut Parties) -> bool {
+    match trial {
+        Trial::OutboxFull => outbox_is_full(alloc, parties),
+        Trial::BookFull => book_is_full(alloc, parties),
+    }
+}
+
+/// The same of new books.
 fn goes_well(alloc: Global, trial: Trial) -> bool {
-    match (new_parties(alloc, 5), trial) {
-        (Some(mut parties), Trial::OutboxFull) => outbox_is_full(alloc, &mut parties),
-        (Some(mut parties), Trial::BookFull) => book_is_full(alloc, &mut parties),
-        (None, _) => false,
+    match new_parties(alloc, 5) {
+        Some(mut parties) => goes_well_with(alloc, trial, &mut parties),
+        None => false,
     }
 }
 

@@ -6,27 +6,15 @@ mod admitted;
 #[cfg(test)]
 mod answers;
 #[cfg(test)]
-mod audits;
-#[cfg(test)]
 mod begun_jobs;
 #[cfg(test)]
-mod cached;
-#[cfg(test)]
 mod challenged;
-#[cfg(test)]
-mod closed;
 #[cfg(test)]
 mod crowd;
 #[cfg(test)]
 mod exposed;
 #[cfg(test)]
-mod forking;
-#[cfg(test)]
-mod four_nodes;
-#[cfg(test)]
 mod full;
-#[cfg(test)]
-mod handed;
 #[cfg(test)]
 mod handing;
 #[cfg(test)]
@@ -40,17 +28,11 @@ mod meeting;
 #[cfg(test)]
 mod members;
 #[cfg(test)]
-mod messages;
-#[cfg(test)]
 mod others;
 #[cfg(test)]
 mod own_jobs;
 #[cfg(test)]
-mod packed;
-#[cfg(test)]
 mod running;
-#[cfg(test)]
-mod shown;
 #[cfg(test)]
 mod strangers;
 #[cfg(test)]

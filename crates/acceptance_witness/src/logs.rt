@@ -1,13 +1,162 @@
-//! Logs made by hand, what closes them, and the texts of their segments.
+//! Messages and acknowledgements of a client and a server, logs made by hand, what closes them and the texts
+//! of their segments, and packets of what is signed. Each function is small, and gives none where memory is
+//! refused.
 
-use crate::messages::{first_call, recv_of, reply_body};
-use authenticator::{Authenticator, Number};
-use envelopes::Envelope;
+use authenticator::{Authenticator, Number, signed_digest};
+use envelopes::{Ack, Envelope};
 use merkle_keys::Signer;
+use packets::{write_answer_text, write_challenge, write_learn};
 use secure_log::Log;
-use secure_log::log_entries::{Body, Entry};
+use secure_log::log_entries::{Body, Entry, Receipt, SignatureText, message_hash, receipt_hash};
 use std::alloc::Global;
-use test_helpers::signed;
+use test_helpers::{of_words, signed};
+
+/// A body of these words, ten at most.
+fn body(alloc: Global, words: &[u32]) -> Option<Body> {
+    match of_words(alloc, words) {
+        Some(bytes) if bytes.len() <= 40 => Some(Body::new(bytes)),
+        _ => None,
+    }
+}
+
+/// NULL of NFS version 2 with this transaction.
+pub fn call_body(alloc: Global, transaction: u32) -> Option<Body> {
+    body(alloc, &[transaction, 0, 2, 0x186a3, 2, 0, 0, 0, 0, 0])
+}
+
+/// Its reply with this last word, which is 0 in the one that is owed.
+pub fn reply_body(alloc: Global, transaction: u32, last: u32) -> Option<Body> {
+    body(alloc, &[transaction, 1, 0, 0, 0, last])
+}
+
+/// A node's signature of a message to another, which its log has at a number after a hash of zeros.
+fn message_signature(
+    signer: &mut Signer,
+    from: u32,
+    to: u32,
+    seq: Number,
+    body: &Body,
+) -> Option<SignatureText> {
+    let hash = message_hash(to, seq, &[0; 32], &body.digest());
+    match signer.sign(&signed_digest(from, seq, &hash)) {
+        Ok(signature) => Some(SignatureText::new(signature)),
+        Err(_) => None,
+    }
+}
+
+/// That message.
+pub fn message(
+    signer: &mut Signer,
+    from: u32,
+    to: u32,
+    seq: Number,
+    body: Body,
+) -> Option<Envelope> {
+    match message_signature(signer, from, to, seq, &body) {
+        Some(signature) => Some(Envelope {
+            from,
+            to,
+            seq,
+            prev: [0; 32],
+            body,
+            signature,
+        }),
+        None => None,
+    }
+}
+
+/// The client's first message, a call with this transaction.
+pub fn first_call(alloc: Global, client: &mut Signer, transaction: u32) -> Option<Envelope> {
+    match call_body(alloc, transaction) {
+        Some(body) => message(client, 2, 1, Number::new(1), body),
+        None => None,
+    }
+}
+
+/// A message's text.
+pub fn message_text(alloc: Global, message: &Envelope) -> Option<Vec<u8>> {
+    let mut text = Vec::new(alloc);
+    match message.write(&mut text) {
+        Ok(()) => Some(text),
+        Err(_) => None,
+    }
+}
+
+/// A message as its receiver logs it.
+pub fn recv_of(message: Envelope) -> Entry {
+    let Envelope {
+        from,
+        to: _,
+        seq,
+        prev,
+        body,
+        signature,
+    } = message;
+    Entry::Recv {
+        from,
+        seq,
+        prev,
+        body,
+        signature,
+    }
+}
+
+/// What its receiver acknowledges.
+fn receipt_of(message: &Envelope) -> Receipt {
+    Receipt {
+        from: message.from,
+        seq: message.seq,
+        sender_prev: message.prev,
+        body: message.body.digest(),
+        signature: message.signature.digest(),
+    }
+}
+
+/// The receiver's signature of this, which its log has at 1.
+fn receipt_signature(signer: &mut Signer, by: u32, receipt: &Receipt) -> Option<SignatureText> {
+    let number = Number::new(1);
+    let hash = receipt_hash(receipt, number, &[0; 32]);
+    match signer.sign(&signed_digest(by, number, &hash)) {
+        Ok(signature) => Some(SignatureText::new(signature)),
+        Err(_) => None,
+    }
+}
+
+/// The receiver's acknowledgement of a message, the first that it had.
+fn ack_of(signer: &mut Signer, message: &Envelope) -> Option<Ack> {
+    let receipt = receipt_of(message);
+    match receipt_signature(signer, message.to, &receipt) {
+        Some(signature) => Some(Ack {
+            by: message.to,
+            number: Number::new(1),
+            prev: [0; 32],
+            from: receipt.from,
+            seq: receipt.seq,
+            sender_prev: receipt.sender_prev,
+            body_hash: receipt.body,
+            signature_hash: receipt.signature,
+            signature,
+        }),
+        None => None,
+    }
+}
+
+/// An acknowledgement's text.
+fn text_of_ack(alloc: Global, ack: &Ack) -> Option<Vec<u8>> {
+    let mut text = Vec::new(alloc);
+    match ack.write(&mut text) {
+        Ok(()) => Some(text),
+        Err(_) => None,
+    }
+}
+
+/// The text of the receiver's acknowledgement of a message.
+pub fn ack_text(alloc: Global, signer: &mut Signer, message: &Envelope) -> Option<Vec<u8>> {
+    match ack_of(signer, message) {
+        Some(ack) => text_of_ack(alloc, &ack),
+        None => None,
+    }
+}
 
 /// Whether a reading of a clock is appended.
 pub fn reads_clock(log: &mut Log, seconds: u32) -> bool {
@@ -81,4 +230,63 @@ pub fn segment_text(
         },
         Err(_) => None,
     }
+}
+
+/// An authenticator's text.
+pub fn authenticator_text(alloc: Global, authenticator: &Authenticator) -> Option<Vec<u8>> {
+    let mut text = Vec::new(alloc);
+    match authenticator.write(&mut text) {
+        Ok(()) => Some(text),
+        Err(_) => None,
+    }
+}
+
+/// The packet of an authenticator.
+pub fn learn_packet(alloc: Global, authenticator: &Authenticator) -> Option<Vec<u8>> {
+    let mut bytes = Vec::new(alloc);
+    match write_learn(authenticator, &mut bytes) {
+        Ok(()) => Some(bytes),
+        Err(_) => None,
+    }
+}
+
+/// The packet of what a node signs for a hash at a number.
+pub fn learn(
+    alloc: Global,
+    signer: &mut Signer,
+    node: u32,
+    number: u32,
+    hash: [u8; 32],
+) -> Option<Vec<u8>> {
+    match signed(signer, node, Number::new(number as u64), hash) {
+        Some(authenticator) => learn_packet(alloc, &authenticator),
+        None => None,
+    }
+}
+
+/// The packet of a segment's text.
+pub fn answer_packet(alloc: Global, text: &[u8]) -> Option<Vec<u8>> {
+    let mut bytes = Vec::new(alloc);
+    match write_answer_text(text, &mut bytes) {
+        Ok(()) => Some(bytes),
+        Err(_) => None,
+    }
+}
+
+/// The packet by which a message's receiver is challenged to acknowledge it.
+pub fn challenge_packet(alloc: Global, message: &Envelope) -> Option<Vec<u8>> {
+    let mut bytes = Vec::new(alloc);
+    match write_challenge(&message.view(), &mut bytes) {
+        Ok(()) => Some(bytes),
+        Err(_) => None,
+    }
+}
+
+/// A packet with the lowest bit of its last byte changed.
+pub fn changed(packet: Option<Vec<u8>>) -> Option<Vec<u8>> {
+    let mut bytes = packet?;
+    if let Some(last) = bytes.last_mut() {
+        *last ^= 1;
+    }
+    Some(bytes)
 }

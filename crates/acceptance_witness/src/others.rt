@@ -2,12 +2,10 @@
 //! floods past each limit, a late filing and repeated forwards. They are answered as they should,
 //! and the same, line by line.
 
-use crate::answers::Answer;
-use crate::audits::ran;
+use crate::answers::{Answer, ran};
 use crate::begun_jobs::job_of;
 use crate::crowd::{ALL_OTHERS, BEFORE_EACH, Crowd, all_crowd, noise};
-use crate::handed::{OWN_STEPS, Way, delivered, own};
-use crate::members::books_of;
+use crate::members::{OWN_STEPS, Way, books_of, delivered, own};
 use crate::running::{answers_of_run, hand, is_at, noted};
 use std::alloc::Global;
 use std::ops::Range;

@@ -1,7 +1,6 @@
 //! Jobs of two books of one roster: each takes its own back, and no other's.
 
-use crate::answers::{Answer, answers, end, refuses};
-use crate::audits::{begun, done, is_given};
+use crate::answers::{Answer, answers, begun, done, end, is_given, refuses};
 use crate::logs::{closing_at, reads_clock};
 use crate::members::{Parties, new_parties, pair_books};
 use authenticator::Authenticator;

@@ -1,11 +1,11 @@
 //! Events of a node that is no member, or has other keys, in each of their forms.
 
-use crate::answers::{Answer, answers, refuses, shared};
-use crate::audits::{begun, done, is_given_to};
-use crate::logs::{closing_at, reads_clock, segment_text};
+use crate::answers::{Answer, answers, begun, done, is_given_to, refuses, shared};
+use crate::logs::{
+    ack_text, authenticator_text, closing_at, first_call, message, message_text, reads_clock,
+    segment_text,
+};
 use crate::members::{Parties, new_parties, pair_books, server_books};
-use crate::messages::{ack_text, first_call, message, message_text};
-use crate::packed::authenticator_text;
 use authenticator::{Authenticator, Number, Roster, check};
 use envelopes::{check_ack, check_envelope};
 use merkle_keys::Signer;

@@ -11,12 +11,10 @@ use clap::error::ErrorKind;
 use console::authenticator_code::Roster;
 use console::command_line::{CheckRequest, Request, RunRequest, ServeRefusal, parse, serve_order};
 use console::{CheckFault, Format, Judgement, Reason, check, read_roster, write_roster};
-use devices::Remembering;
-use errors::ErrorWriter;
+use devices::{Devices, Remembering};
 use rpc::records::{Counting, RecordFault, RecordReader};
 use rpc_streams::run_rpc;
-use scripts::serving_code::serve;
-use scripts::{ScriptEnd, ScriptFault, run_script};
+use scripts::{ScriptEnd, ScriptFault, run_script, serve};
 use serve::{open, order_of, report_served};
 use shelf::FileShelf;
 use std::io::{BufReader, Read};
@@ -309,16 +307,14 @@ fn main(rt: HostRuntime) -> ExitCode {
                 Ok(opened) => {
                     let asked = order_of(&order, opened.masters);
                     let mut lines = io::writer(&rt);
-                    let errors = ErrorWriter::new(&rt);
-                    let shelf = FileShelf::new(&rt, alloc);
+                    let devices = Devices::new(&rt, alloc);
                     let served = serve(
                         &rt,
                         alloc,
                         &opened.listener,
                         &rt,
                         &mut lines,
-                        errors,
-                        shelf,
+                        devices,
                         &asked,
                     );
                     report_served(&rt, &order, served)

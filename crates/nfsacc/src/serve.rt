@@ -6,7 +6,7 @@ ghost use Rattle.scripts.specs.serving.Orders.{IsOrder};
 use crate::master::{MasterFault, read_master};
 use crate::{COMMAND_LINE, DEVICE, INPUT_FAULT, report_file, report_no_memory};
 use console::command_line::ServeOrder;
-use scripts::serving_code::{Finished, Heights, Masters, Order, ServeFault};
+use scripts::{Finished, Heights, Masters, Order, ServeFault};
 use std::fs::File;
 use std::net::{Net, SocketAddr, TcpListener, TcpStream};
 use std::rt::Files;

@@ -17,35 +17,35 @@ use witness_calls::{Asked, Caller, Outcome, Said, Shelf};
 const WORKERS: usize = 2;
 
 /// What all threads of a run share to audit.
-pub(crate) struct Office<'a, R, E, S> {
+pub(crate) struct Office<'a, R, D> {
     pub(crate) rt: &'a R,
     pub(crate) alloc: Global,
     pub(crate) service: &'a WitnessService,
     pub(crate) roster: &'a Roster,
-    pub(crate) desk: &'a Mutex<Desk<E, S>>,
+    pub(crate) desk: &'a Mutex<Desk<D>>,
     pub(crate) progress: bool,
 }
 
-impl<'a, R, E, S> Clone for Office<'a, R, E, S> {
-    fn clone(&self) -> Result<Office<'a, R, E, S>, AllocError> {
+impl<'a, R, D> Clone for Office<'a, R, D> {
+    fn clone(&self) -> Result<Office<'a, R, D>, AllocError> {
         Ok(*self)
     }
 }
 
-impl<'a, R, E, S> Copy for Office<'a, R, E, S> {}
+impl<'a, R, D> Copy for Office<'a, R, D> {}
 
 /// A pass at the witness, by which a thread audits nodes.
 #[derive(Drop)]
-pub(crate) struct Auditor<'a, R, E, S> {
-    pub(crate) office: Office<'a, R, E, S>,
+pub(crate) struct Auditor<'a, R, D> {
+    pub(crate) office: Office<'a, R, D>,
     pub(crate) caller: Caller<'a, R>,
     /// What was found of other nodes and not learned, since their books had no room for it.
     pub(crate) kept: Vec<Authenticator>,
 }
 
-impl<'a, R: Threads + Wait + Sync, E: Write, S: Shelf> Auditor<'a, R, E, S> {
+impl<'a, R: Threads + Wait + Sync, D: Write + Shelf> Auditor<'a, R, D> {
     /// Who audits by a pass.
-    pub(crate) fn new(office: Office<'a, R, E, S>, pass: Pass) -> Auditor<'a, R, E, S> {
+    pub(crate) fn new(office: Office<'a, R, D>, pass: Pass) -> Auditor<'a, R, D> {
         let caller = Caller::new(office.rt, office.alloc, office.service, office.roster, pass);
         let kept = Vec::new(office.alloc);
         Auditor {
@@ -106,17 +106,9 @@ impl<'a, R: Threads + Wait + Sync, E: Write, S: Shelf> Auditor<'a, R, E, S> {
         log: &NodeLog,
         last: u64,
     ) -> Result<Option<u64>, AllocError> {
-        if let Some(authenticator) = log.authenticator(self.office.alloc, last)? {
-            self.learn(&authenticator)?;
-        }
-        let said = self.caller.audit(number);
-        let Said::Asked { first, last } = said else {
-            no_more(&said)?;
+        self.learn_at(log, last)?;
+        let Some(asked) = asked_for(&self.caller.audit(number))? else {
             return Ok(None);
-        };
-        let asked = Asked {
-            first: first.get(),
-            last: last.get(),
         };
         if !self.answer(number, log, asked)? {
             return Ok(None);
@@ -124,20 +116,32 @@ impl<'a, R: Threads + Wait + Sync, E: Write, S: Shelf> Auditor<'a, R, E, S> {
         self.replay(number, asked.last)
     }
 
+    /// Hands the witness what a node signed at a number, if it signed there.
+    fn learn_at(&mut self, log: &NodeLog, last: u64) -> Result<(), AllocError> {
+        match log.authenticator(self.office.alloc, last)? {
+            Some(authenticator) => self.learn(&authenticator).map(|_| ()),
+            None => Ok(()),
+        }
+    }
+
     /// Hands the witness the segment that it asks for. Tells whether it took it.
     fn answer(&mut self, number: u32, log: &NodeLog, asked: Asked) -> Result<bool, AllocError> {
-        let text = match log.answer_challenge(self.office.alloc, asked.first, asked.last) {
-            Ok(text) => text,
-            Err(SegmentFault::NoMemory) => return Err(AllocError),
-            Err(_) => return Ok(false),
-        };
-        let packet = answer_packet(self.office.alloc, &text)?;
-        let said = self.caller.deliver(&packet);
-        if said.is_no_memory() {
-            return Err(AllocError);
+        match segment_packet(self.office.alloc, log, asked)? {
+            Some(packet) => self.hand_segment(number, &packet),
+            None => Ok(false),
         }
+    }
+
+    /// Hands the witness a segment's packet of a node. Tells whether it took it.
+    fn hand_segment(&mut self, number: u32, packet: &[u8]) -> Result<bool, AllocError> {
+        let answered = self.deliver(packet)?;
         self.look_at(number)?;
-        Ok(matches!(said, Said::Accepted))
+        Ok(answered == Answered::Accepted)
+    }
+
+    /// Hands the witness a packet.
+    fn deliver(&mut self, packet: &[u8]) -> Result<Answered, AllocError> {
+        Answered::of(&self.caller.deliver(packet))
     }
 
     /// Has the segment that a node gave replayed, and files what was found: the last number that is
@@ -157,14 +161,15 @@ impl<'a, R: Threads + Wait + Sync, E: Write, S: Shelf> Auditor<'a, R, E, S> {
     /// there is no room is kept.
     pub(crate) fn learn(&mut self, authenticator: &Authenticator) -> Result<bool, AllocError> {
         let packet = learn_packet(self.office.alloc, authenticator)?;
-        let said = self.caller.deliver(&packet);
-        if said.is_no_memory() {
-            return Err(AllocError);
-        }
-        if said.is_learned_full() {
+        self.hand_signed(authenticator.node, &packet)
+    }
+
+    /// Hands the witness the packet of an authenticator of a node. Tells whether there was room for it.
+    fn hand_signed(&mut self, number: u32, packet: &[u8]) -> Result<bool, AllocError> {
+        if self.deliver(packet)? == Answered::Full {
             return Ok(false);
         }
-        self.look_at(authenticator.node)?;
+        self.look_at(number)?;
         Ok(true)
     }
 
@@ -195,11 +200,10 @@ impl<'a, R: Threads + Wait + Sync, E: Write, S: Shelf> Auditor<'a, R, E, S> {
         if !self.office.desk.lock(self.office.rt).wants(number) {
             return Ok(());
         }
-        let said = self.caller.indication(number);
-        if said.is_exposed() {
+        if is_exposed(&self.caller.indication(number))? {
             self.show(number)
         } else {
-            no_more(&said)
+            Ok(())
         }
     }
 
@@ -220,6 +224,64 @@ impl<'a, R: Threads + Wait + Sync, E: Write, S: Shelf> Auditor<'a, R, E, S> {
             .desk
             .lock(self.office.rt)
             .show(self.office.roster, number, evidence);
+    }
+}
+
+/// What a witness answered to a packet, as far as an audit asks.
+#[derive(Clone, Copy, PartialEq, Eq)]
+enum Answered {
+    /// It took the segment.
+    Accepted,
+    /// It has no room for the authenticator.
+    Full,
+    /// Something else.
+    Other,
+}
+
+impl Answered {
+    /// What it said: an error where that is that memory ran out.
+    fn of(said: &Said) -> Result<Answered, AllocError> {
+        no_more(said)?;
+        if said.is_learned_full() {
+            return Ok(Answered::Full);
+        }
+        match said {
+            Said::Accepted => Ok(Answered::Accepted),
+            _ => Ok(Answered::Other),
+        }
+    }
+}
+
+/// What an audit asks for, where a witness said that: an error where it said that memory ran out.
+fn asked_for(said: &Said) -> Result<Option<Asked>, AllocError> {
+    match said {
+        Said::Asked { first, last } => Ok(Some(Asked {
+            first: first.get(),
+            last: last.get(),
+        })),
+        other => {
+            no_more(other)?;
+            Ok(None)
+        }
+    }
+}
+
+/// Whether a witness said that a node is exposed: an error where it said that memory ran out.
+fn is_exposed(said: &Said) -> Result<bool, AllocError> {
+    no_more(said)?;
+    Ok(said.is_exposed())
+}
+
+/// The packet of the segment that is asked for, if a node has it.
+fn segment_packet(
+    alloc: Global,
+    log: &NodeLog,
+    asked: Asked,
+) -> Result<Option<Vec<u8>>, AllocError> {
+    match log.answer_challenge(alloc, asked.first, asked.last) {
+        Ok(text) => answer_packet(alloc, &text).map(Some),
+        Err(SegmentFault::NoMemory) => Err(AllocError),
+        Err(_) => Ok(None),
     }
 }
 

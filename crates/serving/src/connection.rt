@@ -20,19 +20,19 @@ use witness_calls::witness_service_code::Pass;
 const READ_AHEAD: usize = 65536;
 
 /// What all connections of a run share.
-pub(crate) struct Stage<'a, R, T, E, S> {
-    pub(crate) office: Office<'a, R, E, S>,
+pub(crate) struct Stage<'a, R, T, D> {
+    pub(crate) office: Office<'a, R, D>,
     pub(crate) clock: &'a T,
     pub(crate) server: &'a Mutex<HonestServer>,
 }
 
-impl<'a, R, T, E, S> Clone for Stage<'a, R, T, E, S> {
-    fn clone(&self) -> Result<Stage<'a, R, T, E, S>, AllocError> {
+impl<'a, R, T, D> Clone for Stage<'a, R, T, D> {
+    fn clone(&self) -> Result<Stage<'a, R, T, D>, AllocError> {
         Ok(*self)
     }
 }
 
-impl<'a, R, T, E, S> Copy for Stage<'a, R, T, E, S> {}
+impl<'a, R, T, D> Copy for Stage<'a, R, T, D> {}
 
 /// A client that waits for its connection, with its pass at the witness.
 #[derive(Drop)]
@@ -65,8 +65,8 @@ impl Ended {
 }
 
 /// Serves a connection to its end, and audits its client.
-pub(crate) fn serve_connection<'a, R, T, E, S>(
-    stage: Stage<'a, R, T, E, S>,
+pub(crate) fn serve_connection<'a, R, T, D>(
+    stage: Stage<'a, R, T, D>,
     seat: Seat,
     stream: TcpStream,
     address: SocketAddr,
@@ -74,25 +74,50 @@ pub(crate) fn serve_connection<'a, R, T, E, S>(
 where
     R: Threads + Wait + Sync,
     T: std::time::Clock,
-    E: Write,
-    S: Shelf,
+    D: Write + Shelf,
+{
+    let Seat { client, pass } = seat;
+    let client = serve_client(stage, client, stream, address);
+    audit_client(stage.office, client, pass)
+}
+
+/// Answers a client's records to the end of its stream, and says why that came before its time. Gives the
+/// client back.
+fn serve_client<'a, R, T, D>(
+    stage: Stage<'a, R, T, D>,
+    client: ClientNode,
+    stream: TcpStream,
+    address: SocketAddr,
+) -> ClientNode
+where
+    R: Threads + Wait + Sync,
+    T: std::time::Clock,
+    D: Write + Shelf,
 {
     let office = stage.office;
-    let number = seat.client.number();
+    let number = client.number();
     // Where it can't be set, replies to calls that follow one another unasked come later, and that is all.
     let _ = stream.set_nodelay(true);
-    let mut link = ClientLink::new(office.rt, office.alloc, seat.client, SERVER, stage.server);
+    let mut link = ClientLink::new(office.rt, office.alloc, client, SERVER, stage.server);
     let served = serve_records(office.alloc, stage.clock, &mut link, &stream);
-    let client = link.into_client();
     drop(stream);
     if let Err(fault) = served {
-        let code = fault.number();
-        let line = format!(in office.alloc;
-            "nfsacc: node {number} ({address}): fault {code}: {fault}\n"
-        );
-        office.desk.lock(office.rt).say_fault(fault, line);
+        say_fault(office, number, address, fault);
     }
-    audit_client(office, client, seat.pass)
+    link.into_client()
+}
+
+/// Says why a stream came to its end before its time.
+fn say_fault<R, D>(office: Office<'_, R, D>, number: u32, address: SocketAddr, fault: StreamFault)
+where
+    R: Wait,
+    D: Write + Shelf,
+{
+    let code = fault.number();
+    let line = format!(in office.alloc;
+        "nfsacc: node {number} ({address}): fault {code}: {fault}\n"
+    );
+    office.desk.lock(office.rt).say_fault(fault, line);
 }
 
 /// Answers the records of a stream to its end.
@@ -116,11 +141,10 @@ fn serve_records<R: Wait, T: std::time::Clock>(
 }
 
 /// Audits a client to its last signed entry.
-fn audit_client<'a, R, E, S>(office: Office<'a, R, E, S>, client: ClientNode, pass: Pass) -> Ended
+fn audit_client<'a, R, D>(office: Office<'a, R, D>, client: ClientNode, pass: Pass) -> Ended
 where
     R: Threads + Wait + Sync,
-    E: Write,
-    S: Shelf,
+    D: Write + Shelf,
 {
     let mut auditor = Auditor::new(office, pass);
     let mut filed = 0;

@@ -31,23 +31,21 @@ impl Trouble {
 
 /// Where the threads of a run say what isn't one of its lines, and put evidence: it lies under a lock.
 #[derive(Drop)]
-pub(crate) struct Desk<E, S> {
+pub(crate) struct Desk<D> {
     alloc: Global,
-    errors: E,
-    shelf: S,
+    devices: D,
     folder: Option<String>,
     /// The nodes whose evidence was put in its place.
     shown: Vec<u32>,
     trouble: Trouble,
 }
 
-impl<E: Write, S: Shelf> Desk<E, S> {
+impl<D: Write + Shelf> Desk<D> {
     /// A desk at which nothing was said yet.
-    pub(crate) fn new(alloc: Global, errors: E, shelf: S, folder: Option<String>) -> Desk<E, S> {
+    pub(crate) fn new(alloc: Global, devices: D, folder: Option<String>) -> Desk<D> {
         Desk {
             alloc,
-            errors,
-            shelf,
+            devices,
             folder,
             shown: Vec::new(alloc),
             trouble: Trouble::None,
@@ -73,7 +71,7 @@ impl<E: Write, S: Shelf> Desk<E, S> {
     pub(crate) fn say(&mut self, line: Result<String, AllocError>) {
         match line {
             Ok(line) => {
-                let _ = self.errors.write_all(line.as_bytes());
+                let _ = self.devices.write_all(line.as_bytes());
             }
             Err(AllocError) => self.note_no_memory(),
         }
@@ -96,7 +94,7 @@ impl<E: Write, S: Shelf> Desk<E, S> {
 
     /// Puts a file in its place.
     pub(crate) fn put(&mut self, name: &str, bytes: &[u8]) -> io::Result<()> {
-        self.shelf.put(name, bytes)
+        self.devices.put(name, bytes)
     }
 
     /// Whether a node's evidence is to be put in its place: a folder is named for it, and it isn't there yet.

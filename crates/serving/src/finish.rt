@@ -1,6 +1,7 @@
 //! The end of a run: everybody's log is audited, and what the witness says of each is written.
 
 use crate::audit::{Auditor, last_signed};
+use crate::connection::Ended;
 use crate::lines::{LineFault, write_line};
 use authenticator::Authenticator;
 use nodes::node_logs_code::NodeLog;
@@ -20,7 +21,7 @@ pub(crate) struct Standing<'n> {
     pub(crate) filed: u64,
 }
 
-impl<'a, R: Threads + Wait + Sync, E: Write, S: Shelf> Auditor<'a, R, E, S> {
+impl<'a, R: Threads + Wait + Sync, D: Write + Shelf> Auditor<'a, R, D> {
     /// Audits a node to its last signed entry, and names it where it can't be.
     fn finish_node(&mut self, standing: &Standing<'_>) -> Result<(), AllocError> {
         let Standing { number, log, filed } = *standing;
@@ -50,15 +51,16 @@ impl<'a, R: Threads + Wait + Sync, E: Write, S: Shelf> Auditor<'a, R, E, S> {
         self.audit(number, log, filed)
     }
 
-    /// Audits each node to its last signed entry, and hands the witness what each showed of others. Where
-    /// memory is refused for one the others are audited, and the desk notes it.
-    pub(crate) fn finish(&mut self, nodes: &[Standing<'_>], kept: &[Authenticator]) {
+    /// Audits each node to its last signed entry, and hands the witness what each showed of others, with what
+    /// the clients' audits kept. Where memory is refused for one the others are audited, and the desk notes
+    /// it.
+    pub(crate) fn finish(&mut self, nodes: &[Standing<'_>], ended: &[Ended]) {
         for standing in nodes {
             if self.finish_node(standing).is_err() {
                 self.note_no_memory();
             }
         }
-        if self.pass_on_all(nodes).is_err() || self.learn_each(kept).is_err() {
+        if self.pass_on_all(nodes).is_err() || self.learn_kept(ended).is_err() {
             self.note_no_memory();
         }
     }
@@ -72,6 +74,14 @@ impl<'a, R: Threads + Wait + Sync, E: Write, S: Shelf> Auditor<'a, R, E, S> {
         self.learn_each(&kept)
     }
 
+    /// Hands the witness what the clients' audits kept.
+    fn learn_kept(&mut self, ended: &[Ended]) -> Result<(), AllocError> {
+        for one in ended {
+            self.learn_each(&one.kept)?;
+        }
+        Ok(())
+    }
+
     /// Hands the witness these authenticators.
     fn learn_each(&mut self, kept: &[Authenticator]) -> Result<(), AllocError> {
         for authenticator in kept {
@@ -80,19 +90,41 @@ impl<'a, R: Threads + Wait + Sync, E: Write, S: Shelf> Auditor<'a, R, E, S> {
         Ok(())
     }
 
+    /// Writes what the witness says of each node.
+    pub(crate) fn tell_all<O: Write>(
+        &mut self,
+        writer: &mut O,
+        nodes: &[Standing<'_>],
+    ) -> Result<(), LineFault> {
+        for standing in nodes {
+            self.tell(writer, standing.number)?;
+        }
+        Ok(())
+    }
+
     /// Writes what the witness says of a node: `N INDICATION OPEN`.
-    pub(crate) fn tell<O: Write>(&mut self, writer: &mut O, number: u32) -> Result<(), LineFault> {
-        let Said::Told(indication) = self.caller.indication(number) else {
-            return Err(LineFault::NoMemory);
-        };
-        let Said::Open(challenges) = self.caller.challenges(number) else {
-            return Err(LineFault::NoMemory);
-        };
-        let word = indication_word(indication);
-        let open = challenges.len();
+    fn tell<O: Write>(&mut self, writer: &mut O, number: u32) -> Result<(), LineFault> {
+        let word = indication_in(&self.caller.indication(number))?;
+        let open = count_in(&self.caller.challenges(number))?;
         write_line(
             writer,
             format!(in self.office.alloc; "{number} {word} {open}\n"),
         )
+    }
+}
+
+/// The word of the indication that a witness told.
+fn indication_in(said: &Said) -> Result<&'static str, LineFault> {
+    match said {
+        Said::Told(indication) => Ok(indication_word(*indication)),
+        _ => Err(LineFault::NoMemory),
+    }
+}
+
+/// How many challenges a witness told that are open.
+fn count_in(said: &Said) -> Result<usize, LineFault> {
+    match said {
+        Said::Open(challenges) => Ok(challenges.len()),
+        _ => Err(LineFault::NoMemory),
     }
 }

@@ -44,8 +44,8 @@ fn accept<L: OpenListener<Stream = TcpStream>>(
 /// Serves as many connections as there are seats, each by a thread of its own, in the order of the seats.
 /// Where no thread is made a connection is served before the next one is accepted. A seat for which none can
 /// be accepted stays without one.
-pub(crate) fn serve_all<'a, R, T, L, E, S>(
-    stage: Stage<'a, R, T, E, S>,
+pub(crate) fn serve_all<'a, R, T, L, D>(
+    stage: Stage<'a, R, T, D>,
     listener: &L,
     seats: Vec<Seat>,
 ) -> Result<Vec<Ended>, AllocError>
@@ -53,8 +53,7 @@ where
     R: Threads + Wait + Sync,
     T: std::time::Clock + Sync,
     L: OpenListener<Stream = TcpStream>,
-    E: Write + Send,
-    S: Shelf + Send,
+    D: Write + Shelf + Send,
 {
     thread::scope(
         thread::scope_env(),
@@ -64,8 +63,8 @@ where
 }
 
 /// As `serve_all`, in a scope.
-fn serve_in<'s, V, R, T, L, E, S>(
-    stage: Stage<'s, R, T, E, S>,
+fn serve_in<'s, V, R, T, L, D>(
+    stage: Stage<'s, R, T, D>,
     listener: &L,
     seats: Vec<Seat>,
     scope: &Scope<'s, V>,
@@ -74,8 +73,7 @@ where
     R: Threads + Wait + Sync,
     T: std::time::Clock + Sync,
     L: OpenListener<Stream = TcpStream>,
-    E: Write + Send,
-    S: Shelf + Send,
+    D: Write + Shelf + Send,
 {
     let count = seats.len();
     let mut left = seats;
@@ -104,8 +102,8 @@ fn end_of<R: Threads + Wait>(rt: &R, started: Started) -> Ended {
 }
 
 /// Accepts the next connection, and starts its thread.
-fn start<'s, V, R, T, L, E, S>(
-    stage: Stage<'s, R, T, E, S>,
+fn start<'s, V, R, T, L, D>(
+    stage: Stage<'s, R, T, D>,
     listener: &L,
     seat: Seat,
     scope: &Scope<'s, V>,
@@ -114,8 +112,7 @@ where
     R: Threads + Wait + Sync,
     T: std::time::Clock + Sync,
     L: OpenListener<Stream = TcpStream>,
-    E: Write + Send,
-    S: Shelf + Send,
+    D: Write + Shelf + Send,
 {
     let office = stage.office;
     match accept(listener) {

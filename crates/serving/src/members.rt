@@ -8,7 +8,7 @@ use crate::order::Order;
 use crate::run::ServeFault;
 use authenticator::{Kind, Member, Roster};
 use merkle_keys::Signer;
-use nodes::{ClientNode, Node, ServerNode};
+use nodes::{ClientNode, HonestServer, Node};
 use std::alloc::{AllocError, Global};
 use std::io::Write;
 use std::marker::Model;
@@ -22,7 +22,7 @@ pub(crate) const SERVER: u32 = 1;
 #[derive(Drop)]
 pub(crate) struct Nodes {
     pub(crate) roster: Roster,
-    pub(crate) server: ServerNode,
+    pub(crate) server: HonestServer,
     pub(crate) clients: Vec<ClientNode>,
 }
 
@@ -58,13 +58,13 @@ impl Keyed {
 }
 
 /// Makes a node's keys, and tells of it.
-fn make_keys<R: Threads + Sync, E: Write, S: Shelf>(
+fn make_keys<R: Threads + Sync, D: Write + Shelf>(
     rt: &R,
     alloc: Global,
     order: &Order<'_>,
     number: u32,
     height: u32,
-    desk: &mut Desk<E, S>,
+    desk: &mut Desk<D>,
 ) -> Result<Keyed, AllocError>
     requires some { 1 ≤ height }
     requires low { height ≤ 15 }
@@ -82,25 +82,47 @@ fn make_keys<R: Threads + Sync, E: Write, S: Shelf>(
 }
 
 /// Makes all nodes of a run, with new keys.
-pub(crate) fn make_nodes<R: Threads + Sync, E: Write, S: Shelf>(
+pub(crate) fn make_nodes<R: Threads + Sync, D: Write + Shelf>(
     rt: &R,
     alloc: Global,
     order: &Order<'_>,
-    desk: &mut Desk<E, S>,
+    desk: &mut Desk<D>,
 ) -> Result<Nodes, ServeFault>
     requires { IsOrder order.now }
 {
     let server = make_keys(rt, alloc, order, SERVER, order.heights.server, desk)?;
+    match client_keys(rt, alloc, order, desk) {
+        Ok(clients) => nodes_of(alloc, server, clients),
+        Err(AllocError) => Err(ServeFault::NoMemory),
+    }
+}
+
+/// Makes the keys of the clients, by rising numbers.
+fn client_keys<R: Threads + Sync, D: Write + Shelf>(
+    rt: &R,
+    alloc: Global,
+    order: &Order<'_>,
+    desk: &mut Desk<D>,
+) -> Result<Vec<Keyed>, AllocError>
+    requires { IsOrder order.now }
+{
     let mut clients = Vec::with_capacity(alloc, order.connections as usize)?;
     for place in 0..order.connections {
         let number = SERVER + 1 + place;
         clients.push(make_keys(rt, alloc, order, number, order.heights.client, desk)?)?;
     }
+    Ok(clients)
+}
+
+/// The nodes that have these keys.
+fn nodes_of(alloc: Global, server: Keyed, clients: Vec<Keyed>) -> Result<Nodes, ServeFault> {
     let roster = roster_of(alloc, &server, &clients)?;
+    let server = server_of(alloc, &roster, server)?;
+    let clients = clients_of(alloc, &roster, clients)?;
     Ok(Nodes {
-        server: server_of(alloc, &roster, server)?,
-        clients: clients_of(alloc, &roster, clients)?,
         roster,
+        server,
+        clients,
     })
 }
 
@@ -115,9 +137,10 @@ fn roster_of(alloc: Global, server: &Keyed, clients: &[Keyed]) -> Result<Roster,
 }
 
 /// The server, made with a roster.
-fn server_of(alloc: Global, roster: &Roster, keyed: Keyed) -> Result<ServerNode, AllocError> {
+fn server_of(alloc: Global, roster: &Roster, keyed: Keyed) -> Result<HonestServer, ServeFault> {
     let roster = roster.try_clone(alloc)?;
-    Node::with_signer(alloc, roster, keyed.number, keyed.signer, keyed.height)
+    let server = Node::with_signer(alloc, roster, keyed.number, keyed.signer, keyed.height)?;
+    HonestServer::new(server).map_err(|_| ServeFault::NoMemory)
 }
 
 /// The clients, made with a roster.

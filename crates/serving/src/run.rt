@@ -10,7 +10,7 @@ use crate::lines::{LineFault, write_line};
 use crate::listen::serve_all;
 use crate::members::{Nodes, SERVER, make_nodes};
 use crate::order::Order;
-use authenticator::{Authenticator, Roster};
+use authenticator::Roster;
 use nodes::{ClientNode, HonestServer, ServerNode};
 use std::alloc::{AllocError, AllocFailed, Global};
 use std::io::{self, Write};
@@ -72,21 +72,42 @@ impl From<LineFault> for ServeFault {
 struct Ready {
     roster: Roster,
     server: HonestServer,
+    seating: Seating,
+}
+
+/// The witness of a run, and those who have a pass there.
+#[derive(Drop)]
+struct Seating {
     service: WitnessService,
     seats: Vec<Seat>,
     /// The pass by which everybody is audited in the end.
     last: Pass,
 }
 
-/// Serves connections, and audits everybody.
-pub fn serve<R, T, L, O, E, S>(
+/// What came of the connections.
+#[derive(Drop)]
+struct Served {
+    server: ServerNode,
+    ended: Vec<Ended>,
+}
+
+/// The nodes and the passes of a run that was told.
+#[derive(Drop)]
+struct Told {
+    server: ServerNode,
+    clients: Vec<ClientNode>,
+    passes: Vec<Pass>,
+}
+
+/// Serves connections, and audits everybody. The lines go to `writer`. What is said beside them is written to
+/// `devices`, and the files are put there.
+pub fn serve<R, T, L, O, D>(
     rt: &R,
     alloc: Global,
     listener: &L,
     clock: &T,
     writer: &mut O,
-    errors: E,
-    shelf: S,
+    devices: D,
     order: &Order<'_>,
 ) -> Result<Finished, ServeFault>
 where
@@ -94,17 +115,13 @@ where
     T: std::time::Clock + Sync,
     L: OpenListener<Stream = TcpStream>,
     O: Write,
-    E: Write + Send + Drop,
-    S: Shelf + Send + Drop,
+    D: Write + Shelf + Send + Drop,
     requires { IsOrder order.now }
 {
-    let port = match listener.local_addr() {
-        Ok(address) => address.port(),
-        Err(error) => return Err(ServeFault::Listener(error)),
-    };
-    let mut desk = Desk::new(alloc, errors, shelf, folder_of(alloc, order)?);
+    let port = port_of(listener)?;
+    let mut desk = Desk::new(alloc, devices, folder_of(alloc, order)?);
     let ready = prepare(rt, alloc, order, &mut desk)?;
-    write_line(writer, format!(in alloc; "listening {port}\n"))?;
+    let ready = kept(ready, announce(alloc, writer, port))?;
     let desk = Mutex::new(desk);
     let finished = play(
         rt,
@@ -116,14 +133,25 @@ where
         order.progress,
         ready,
     )?;
-    match desk.into_inner().trouble() {
-        Trouble::NoMemory => Err(ServeFault::NoMemory),
-        Trouble::Device => Ok(Finished {
-            whole: false,
-            ..finished
-        }),
-        Trouble::None => Ok(finished),
+    whole(finished, desk.into_inner().trouble())
+}
+
+/// The port of a listener.
+fn port_of<L: OpenListener<Stream = TcpStream>>(listener: &L) -> Result<u16, ServeFault> {
+    match listener.local_addr() {
+        Ok(address) => Ok(address.port()),
+        Err(error) => Err(ServeFault::Listener(error)),
     }
+}
+
+/// A run that came to its end, where no memory was refused on the way.
+fn whole(mut finished: Finished, trouble: Trouble) -> Result<Finished, ServeFault> {
+    let done = match trouble {
+        Trouble::NoMemory => Err(ServeFault::NoMemory),
+        Trouble::None | Trouble::Device => Ok(()),
+    };
+    finished.whole = trouble == Trouble::None;
+    kept(finished, done)
 }
 
 /// The name of the folder that evidence goes to.
@@ -135,46 +163,77 @@ fn folder_of(alloc: Global, order: &Order<'_>) -> Result<Option<String>, AllocEr
 }
 
 /// Makes all keys, puts the roster in its place if it is to be, and opens the witness.
-fn prepare<R: Threads + Sync, E: Write, S: Shelf>(
+fn prepare<R: Threads + Sync, D: Write + Shelf>(
     rt: &R,
     alloc: Global,
     order: &Order<'_>,
-    desk: &mut Desk<E, S>,
+    desk: &mut Desk<D>,
 ) -> Result<Ready, ServeFault>
     requires { IsOrder order.now }
 {
+    let nodes = make_nodes(rt, alloc, order, desk)?;
+    let put = put_roster(alloc, desk, order, &nodes.roster);
+    ready_of(alloc, kept(nodes, put)?)
+}
+
+/// A value, where what was to be done beside it is done. Its type is a parameter, so that the proof knows
+/// nothing of what it owns.
+fn kept<T: Drop>(value: T, done: Result<(), ServeFault>) -> Result<T, ServeFault> {
+    match done {
+        Ok(()) => Ok(value),
+        Err(fault) => Err(fault),
+    }
+}
+
+/// What a run has whose nodes are made.
+fn ready_of(alloc: Global, nodes: Nodes) -> Result<Ready, ServeFault> {
     let Nodes {
         roster,
         server,
         clients,
-    } = make_nodes(rt, alloc, order, desk)?;
-    if let Some(name) = order.roster_out {
-        put_roster(alloc, desk, name, &roster)?;
-    }
-    let Ok(server) = HonestServer::new(server) else {
-        return Err(ServeFault::NoMemory);
-    };
-    let (service, mut passes) = open_witness(alloc, &roster, clients.len() + 1)?;
-    let Some(last) = passes.pop() else {
-        return Err(ServeFault::NoMemory);
-    };
-    let seats = seats_of(alloc, clients, passes)?;
+    } = nodes;
+    let seating = seating_of(alloc, &roster, clients)?;
     Ok(Ready {
         roster,
         server,
+        seating,
+    })
+}
+
+/// Opens the witness, and gives each client a pass there.
+fn seating_of(
+    alloc: Global,
+    roster: &Roster,
+    clients: Vec<ClientNode>,
+) -> Result<Seating, AllocError> {
+    let (service, mut passes) = open_witness(alloc, roster, clients.len() + 1)?;
+    let Some(last) = passes.pop() else {
+        return Err(AllocError);
+    };
+    let seats = seats_of(alloc, clients, passes)?;
+    Ok(Seating {
         service,
         seats,
         last,
     })
 }
 
-/// Puts the file of a roster in its place.
-fn put_roster<E: Write, S: Shelf>(
+/// Writes that the run listens.
+fn announce<O: Write>(alloc: Global, writer: &mut O, port: u16) -> Result<(), ServeFault> {
+    write_line(writer, format!(in alloc; "listening {port}\n"))?;
+    Ok(())
+}
+
+/// Puts the file of a roster in its place, if one is named.
+fn put_roster<D: Write + Shelf>(
     alloc: Global,
-    desk: &mut Desk<E, S>,
-    name: &str,
+    desk: &mut Desk<D>,
+    order: &Order<'_>,
     roster: &Roster,
 ) -> Result<(), ServeFault> {
+    let Some(name) = order.roster_out else {
+        return Ok(());
+    };
     let mut text = Vec::new(alloc);
     roster.write(&mut text)?;
     match desk.put(name, &text) {
@@ -187,25 +246,23 @@ fn put_roster<E: Write, S: Shelf>(
 fn seats_of(
     alloc: Global,
     clients: Vec<ClientNode>,
-    mut passes: Vec<Pass>,
+    passes: Vec<Pass>,
 ) -> Result<Vec<Seat>, AllocError> {
-    let mut seats = Vec::with_capacity(alloc, clients.len())?;
-    for client in clients {
-        if let Some(pass) = passes.pop() {
-            seats.push(Seat { client, pass })?;
-        }
-    }
-    Ok(seats)
+    clients
+        .into_iter()
+        .zip(passes)
+        .map(|(client, pass)| Seat { client, pass })
+        .collect(alloc)
 }
 
 /// Serves the connections, audits everybody and writes what the witness says of each.
-fn play<R, T, L, O, E, S>(
+fn play<R, T, L, O, D>(
     rt: &R,
     alloc: Global,
     listener: &L,
     clock: &T,
     writer: &mut O,
-    desk: &Mutex<Desk<E, S>>,
+    desk: &Mutex<Desk<D>>,
     progress: bool,
     ready: Ready,
 ) -> Result<Finished, ServeFault>
@@ -214,16 +271,18 @@ where
     T: std::time::Clock + Sync,
     L: OpenListener<Stream = TcpStream>,
     O: Write,
-    E: Write + Send,
-    S: Shelf + Send,
+    D: Write + Shelf + Send,
 {
     let Ready {
         roster,
         server,
+        seating,
+    } = ready;
+    let Seating {
         service,
         seats,
         last,
-    } = ready;
+    } = seating;
     let office = Office {
         rt,
         alloc,
@@ -232,6 +291,31 @@ where
         desk,
         progress,
     };
+    let served = serve_seats(office, listener, clock, server, seats)?;
+    let told = finish(office, writer, last, served)?;
+    let closed = service.close(told.passes).is_ok();
+    Ok(Finished {
+        server: told.server,
+        clients: told.clients,
+        closed,
+        whole: true,
+    })
+}
+
+/// Serves the connections.
+fn serve_seats<R, T, L, D>(
+    office: Office<'_, R, D>,
+    listener: &L,
+    clock: &T,
+    server: HonestServer,
+    seats: Vec<Seat>,
+) -> Result<Served, AllocError>
+where
+    R: Threads + Wait + Sync,
+    T: std::time::Clock + Sync,
+    L: OpenListener<Stream = TcpStream>,
+    D: Write + Shelf + Send,
+{
     let server = Mutex::new(server);
     let stage = Stage {
         office,
@@ -239,106 +323,107 @@ where
         server: &server,
     };
     let ended = serve_all(stage, listener, seats)?;
-    let server = server.into_inner().into_server();
-    let mut gathered = Gathered::new(alloc, ended)?;
-    let last = finish(office, last, writer, &server, &gathered)?;
-    gathered.passes.push(last)?;
-    let closed = service.close(gathered.passes).is_ok();
-    Ok(Finished {
-        server,
-        clients: gathered.clients,
-        closed,
-        whole: true,
+    Ok(Served {
+        server: server.into_inner().into_server(),
+        ended,
     })
 }
 
-/// What came of the connections.
-#[derive(Drop)]
-struct Gathered {
-    clients: Vec<ClientNode>,
-    /// How far the log of each client was filed.
-    filed: Vec<u64>,
-    kept: Vec<Authenticator>,
-    passes: Vec<Pass>,
+/// Audits everybody by a pass, and writes what the witness says of each.
+fn finish<R, O, D>(
+    office: Office<'_, R, D>,
+    writer: &mut O,
+    last: Pass,
+    served: Served,
+) -> Result<Told, ServeFault>
+where
+    R: Threads + Wait + Sync,
+    O: Write,
+    D: Write + Shelf,
+{
+    match tell(office, writer, last, &served) {
+        Ok(last) => Ok(told_of(office.alloc, served, last)?),
+        Err(fault) => Err(fault),
+    }
 }
 
-impl Gathered {
-    /// What came of these connections.
-    fn new(alloc: Global, ended: Vec<Ended>) -> Result<Gathered, AllocError> {
-        let mut gathered = Gathered {
-            clients: Vec::new(alloc),
-            filed: Vec::new(alloc),
-            kept: Vec::new(alloc),
-            passes: Vec::new(alloc),
-        };
-        for one in ended {
-            gathered.add(one)?;
-        }
-        Ok(gathered)
+/// Audits everybody by a pass, which comes back, and writes what the witness says of each.
+fn tell<R, O, D>(
+    office: Office<'_, R, D>,
+    writer: &mut O,
+    last: Pass,
+    served: &Served,
+) -> Result<Pass, ServeFault>
+where
+    R: Threads + Wait + Sync,
+    O: Write,
+    D: Write + Shelf,
+{
+    let mut auditor = Auditor::new(office, last);
+    match tell_by(&mut auditor, writer, served) {
+        Ok(()) => Ok(auditor.caller.into_pass()),
+        Err(fault) => Err(fault),
     }
+}
 
-    /// One more.
-    fn add(&mut self, ended: Ended) -> Result<(), AllocError> {
-        let Ended {
-            client,
-            pass,
-            filed,
-            kept,
-        } = ended;
-        self.filed.push(filed)?;
-        for authenticator in kept {
-            if self.kept.push(authenticator).is_err() {
-                return Err(AllocError);
-            }
-        }
-        if self.clients.push(client).is_err() || self.passes.push(pass).is_err() {
-            return Err(AllocError);
-        }
-        Ok(())
-    }
+/// Audits everybody to the last signed entry, and writes what the witness says of each.
+fn tell_by<R, O, D>(
+    auditor: &mut Auditor<'_, R, D>,
+    writer: &mut O,
+    served: &Served,
+) -> Result<(), ServeFault>
+where
+    R: Threads + Wait + Sync,
+    O: Write,
+    D: Write + Shelf,
+{
+    let standings = served.standings(auditor.office.alloc)?;
+    auditor.finish(&standings, &served.ended);
+    auditor.tell_all(writer, &standings)?;
+    Ok(())
+}
 
+impl Served {
     /// How far the log of each node was filed, the server first.
-    fn standings<'n>(
-        &'n self,
-        alloc: Global,
-        server: &'n ServerNode,
-    ) -> Result<Vec<Standing<'n>>, AllocError> {
-        let mut standings = Vec::with_capacity(alloc, self.clients.len() + 1)?;
+    fn standings(&self, alloc: Global) -> Result<Vec<Standing<'_>>, AllocError> {
+        let mut standings = Vec::with_capacity(alloc, self.ended.len() + 1)?;
         standings.push(Standing {
             number: SERVER,
-            log: server.node(),
+            log: self.server.node(),
             filed: 0,
         })?;
-        for (client, filed) in self.clients.iter().zip(&self.filed) {
+        for one in &self.ended {
             standings.push(Standing {
-                number: client.number(),
-                log: client.node(),
-                filed: *filed,
+                number: one.client.number(),
+                log: one.client.node(),
+                filed: one.filed,
             })?;
         }
         Ok(standings)
     }
 }
 
-/// Audits everybody to the last signed entry, and writes what the witness says of each. Gives the pass back.
-fn finish<'a, R, O, E, S>(
-    office: Office<'a, R, E, S>,
+/// The nodes that were served, and all passes, of which one is the last.
+fn told_of(alloc: Global, served: Served, last: Pass) -> Result<Told, AllocError> {
+    let Served { server, ended } = served;
+    let (clients, passes) = parted(alloc, ended, last)?;
+    Ok(Told {
+        server,
+        clients,
+        passes,
+    })
+}
+
+/// The clients, and their passes with one more.
+fn parted(
+    alloc: Global,
+    ended: Vec<Ended>,
     last: Pass,
-    writer: &mut O,
-    server: &ServerNode,
-    gathered: &Gathered,
-) -> Result<Pass, ServeFault>
-where
-    R: Threads + Wait + Sync,
-    O: Write,
-    E: Write,
-    S: Shelf,
-{
-    let mut auditor = Auditor::new(office, last);
-    let standings = gathered.standings(office.alloc, server)?;
-    auditor.finish(&standings, &gathered.kept);
-    for standing in &standings {
-        auditor.tell(writer, standing.number)?;
-    }
-    Ok(auditor.caller.into_pass())
+) -> Result<(Vec<ClientNode>, Vec<Pass>), AllocError> {
+    let (clients, mut passes): (Vec<ClientNode>, Vec<Pass>) = ended
+        .into_iter()
+        .map(|one| (one.client, one.pass))
+        .unzip(alloc)?;
+    passes.push(last)?;
+    Ok((clients, passes))
 }

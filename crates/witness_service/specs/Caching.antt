@@ -11,7 +11,6 @@ use Rattle.authenticator.specs.declared.authenticator.Authenticator.{Authenticat
 use Rattle.authenticator.specs.declared.member.Member.{Member}
 use Rattle.authenticator.specs.declared.refusal.Refusal.{Refusal}
 use Rattle.packets.specs.Packet.{Delivery, delivery_shows}
-use Rattle.witness_service.specs.declared.key.Key.{Key}
 
 -- ---- keys
 
@@ -53,21 +52,21 @@ pub record CacheParts : Type 0 where
   pub capacity : ℕ
   pub keys : List (List ℕ)
 
--- what is kept
+-- what is kept, each key seen as its bytes
 abbrev pub Entries : Type 0
-Entries = LruCache Key (Unit {0})
+Entries = LruCache (List ℕ) (Unit {0})
 
 -- the bytes of the keys
-abbrev pub bytes_of : List (Key × Unit {0}) → List (List ℕ)
-bytes_of entries = map (λ e. e.0.bytes.items) entries
+abbrev pub bytes_of : List (List ℕ × Unit {0}) → List (List ℕ)
+bytes_of entries = map (λ e. e.0) entries
 
 abbrev pub keys_of : Option Entries → List (List ℕ)
 keys_of None = []
 keys_of (Some kept) = bytes_of kept.entries
 
 -- each key that is kept is that of a signature
-abbrev pub AreSigned : List (Key × Unit {0}) → Type 0
-AreSigned entries = (e : Key × Unit {0}) → Contains entries e → IsSignedKey e.0.bytes.items
+abbrev pub AreSigned : List (List ℕ × Unit {0}) → Type 0
+AreSigned entries = (e : List ℕ × Unit {0}) → Contains entries e → IsSignedKey e.0
 
 -- So many keys may be kept, and each that is kept is that of a signature.
 pub record Holds (capacity : ℕ) (kept : Entries) : Type 0 where

@@ -1,13 +1,16 @@
 //! Signatures that were checked, so that they aren't checked again.
 
 ghost use Rattle.std.specs.Prelude.{◌≡◌, ◌↔◌, ◌⊎◌, ◌<◌, [], IfOk, IsTrue, MatchBool, false, if◌then◌else◌};
+ghost use Rattle.xdr.specs.Texts.Text.{IsText};
 ghost use Rattle.merkle_keys.specs.Signing.{Signed};
+ghost use Rattle.authenticator.specs.Signed.{IsSignedBy, authenticator_text, authenticator_value};
 ghost use Rattle.authenticator.specs.Signed.{signed_digest};
-ghost use Rattle.witness_service.specs.Caching.{AreSigned, Holds, IsSignedKey, MayHold, MayUse, bytes_of, is_kept};
-ghost use Rattle.witness_service.specs.Caching.{key_bytes, key_text, keys_of, used, without};
+ghost use Rattle.witness_service.specs.Caching.{AreSigned, Holds, IsSignedKey, MayHold, MayUse, bytes_of};
+ghost use Rattle.witness_service.specs.Caching.{is_kept, key_bytes, key_text, keys_of, used, without};
+ghost use Rattle.witness_service.specs.Hashing.{ref_bytes};
 
-use crate::key::Key;
-use authenticator::{Member, Number, is_signed};
+use crate::key::{Key, KeyRef};
+use authenticator::{Authenticator, Member, Number, is_signed, is_signed_by};
 use lru::LruCache;
 use merkle_keys::Signature;
 use std::alloc::{AllocError, Global};
@@ -56,19 +59,18 @@ impl SignatureCache {
     }
 
     /// Whether it keeps the authenticator of this text, checked under this root and height. The order in
-    /// which signatures make room stays. `AllocError` comes only where a growth was refused.
+    /// which signatures make room stays. Takes no memory, so it is Ok.
     pub fn known(
         &self,
-        alloc: Global,
+        _alloc: Global,
         root: &[u8; 32],
         height: u32,
         text: &[u8],
     ) -> Result<bool, AllocError>
         ensures { IfOk result (λ known. known ≡ is_kept self.now.keys (key_bytes root.now height text.now)) }
     {
-        let key = Key::of_text(alloc, root, height, text)?;
         match &self.kept {
-            Some(kept) => Ok(is_there(kept, &key)),
+            Some(kept) => Ok(is_there(kept, KeyRef::new(root, height, text))),
             None => Ok(false),
         }
     }
@@ -96,7 +98,7 @@ impl SignatureCache {
         let Ok(key) = Key::of_parts(alloc, member, node, number, hash, signature) else {
             return is_signed(member, node, number, hash, signature);
         };
-        if is_used(&mut self.kept, self.capacity, &key) {
+        if is_used(&mut self.kept, self.capacity, key.borrowed()) {
             no_spelling_begins_another();
             return true;
         }
@@ -104,6 +106,35 @@ impl SignatureCache {
             return false;
         }
         keep(&mut self.kept, alloc, self.capacity, key);
+        true
+    }
+
+    /// The same of an authenticator whose text is at hand: it is looked up by that, and only what was checked
+    /// takes memory for its key.
+    pub(crate) fn is_signed_text(
+        &mut self,
+        alloc: Global,
+        member: &Member,
+        authenticator: &Authenticator,
+        text: &[u8],
+    ) -> bool
+        requires { IsText authenticator_text (authenticator_value authenticator.now) text.now }
+        ensures signed { IsTrue result ↔ IsSignedBy member.now authenticator.now }
+        ensures kept { MatchBool result
+            (MayUse (key_bytes member.now.root member.now.height text.now) self.old self.new)
+            (self.new ≡ self.old) }
+    {
+        let key = KeyRef::new(&member.root, member.height, text);
+        if is_used(&mut self.kept, self.capacity, key) {
+            no_spelling_begins_another();
+            return true;
+        }
+        if !is_signed_by(member, authenticator) {
+            return false;
+        }
+        if let Ok(key) = key.to_key(alloc) {
+            keep(&mut self.kept, alloc, self.capacity, key);
+        }
         true
     }
 
@@ -127,21 +158,21 @@ impl SignatureCache {
         let Ok(key) = Key::of_parts(alloc, member, node, number, hash, signature) else {
             return;
         };
-        if !is_used(&mut self.kept, self.capacity, &key) {
+        if !is_used(&mut self.kept, self.capacity, key.borrowed()) {
             keep(&mut self.kept, alloc, self.capacity, key);
         }
     }
 }
 
 /// Whether a key is kept; it goes first then.
-fn is_used(kept: &mut Option<Kept>, capacity: usize, key: &Key) -> bool
+fn is_used(kept: &mut Option<Kept>, capacity: usize, key: KeyRef<'_>) -> bool
     requires { MayHold capacity kept.old }
     ensures holds { MayHold capacity kept.new }
-    ensures own { IsTrue result → IsSignedKey key.now.bytes.items }
-    ensures there { result ≡ is_kept (keys_of kept.old) key.now.bytes.items }
+    ensures own { IsTrue result → IsSignedKey (ref_bytes key.entry) }
+    ensures there { result ≡ is_kept (keys_of kept.old) (ref_bytes key.entry) }
     ensures some { IsTrue result → 0 < capacity }
     ensures keys { keys_of kept.new ≡
-        (if result then used capacity key.now.bytes.items (keys_of kept.old) else keys_of kept.old) }
+        (if result then used capacity (ref_bytes key.entry) (keys_of kept.old) else keys_of kept.old) }
 {
     match kept {
         Some(kept) => is_promoted(kept, capacity, key),
@@ -150,13 +181,13 @@ fn is_used(kept: &mut Option<Kept>, capacity: usize, key: &Key) -> bool
 }
 
 /// The same where something may be kept.
-fn is_promoted(kept: &mut Kept, capacity: usize, key: &Key) -> bool
+fn is_promoted(kept: &mut Kept, capacity: usize, key: KeyRef<'_>) -> bool
     requires { Holds capacity kept.old }
     ensures holds { Holds capacity kept.new }
-    ensures own { IsTrue result → IsSignedKey key.now.bytes.items }
-    ensures there { result ≡ is_kept (bytes_of kept.old.entries) key.now.bytes.items }
+    ensures own { IsTrue result → IsSignedKey (ref_bytes key.entry) }
+    ensures there { result ≡ is_kept (bytes_of kept.old.entries) (ref_bytes key.entry) }
     ensures keys { bytes_of kept.new.entries ≡
-        (if result then used capacity key.now.bytes.items (bytes_of kept.old.entries)
+        (if result then used capacity (ref_bytes key.entry) (bytes_of kept.old.entries)
         else bytes_of kept.old.entries) }
 {
     kept.promote(key)
@@ -165,11 +196,11 @@ fn is_promoted(kept: &mut Kept, capacity: usize, key: &Key) -> bool
 /// Keeps a key that isn't kept, if there may be one and memory is enough.
 fn keep(kept: &mut Option<Kept>, alloc: Global, capacity: usize, key: Key)
     requires holds { MayHold capacity kept.old }
-    requires own { IsSignedKey key.bytes.items }
-    requires new { is_kept (keys_of kept.old) key.bytes.items ≡ false }
+    requires own { IsSignedKey key }
+    requires new { is_kept (keys_of kept.old) key ≡ false }
     ensures holds { MayHold capacity kept.new }
     ensures keys { (keys_of kept.new ≡ keys_of kept.old) ⊎
-        ((0 < capacity) × (keys_of kept.new ≡ used capacity key.bytes.items (keys_of kept.old))) }
+        ((0 < capacity) × (keys_of kept.new ≡ used capacity key (keys_of kept.old))) }
 {
     let Some(room) = NonZeroUsize::new(capacity) else {
         return;
@@ -189,18 +220,18 @@ fn keep(kept: &mut Option<Kept>, alloc: Global, capacity: usize, key: Key)
 /// The same where something may be kept.
 fn put(kept: &mut Kept, capacity: usize, key: Key)
     requires holds { Holds capacity kept.old }
-    requires own { IsSignedKey key.bytes.items }
-    requires new { is_kept (bytes_of kept.old.entries) key.bytes.items ≡ false }
+    requires own { IsSignedKey key }
+    requires new { is_kept (bytes_of kept.old.entries) key ≡ false }
     ensures holds { Holds capacity kept.new }
     ensures keys { (bytes_of kept.new.entries ≡ bytes_of kept.old.entries) ⊎
-        (bytes_of kept.new.entries ≡ used capacity key.bytes.items (bytes_of kept.old.entries)) }
+        (bytes_of kept.new.entries ≡ used capacity key (bytes_of kept.old.entries)) }
 {
     let _ = kept.put(key, ());
 }
 
 /// Whether a key is kept.
-fn is_there(kept: &Kept, key: &Key) -> bool
-    ensures { result ≡ is_kept (bytes_of kept.now.entries) key.now.bytes.items }
+fn is_there(kept: &Kept, key: KeyRef<'_>) -> bool
+    ensures { result ≡ is_kept (bytes_of kept.now.entries) (ref_bytes key.entry) }
 {
     kept.contains(key)
 }

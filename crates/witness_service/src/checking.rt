@@ -139,6 +139,7 @@ fn acknowledged(
 }
 
 /// As `authenticator::check`.
+#[tactic(auto, using(crate::proofs::Keys::text_key))]
 fn check(
     alloc: Global,
     roster: &Roster,
@@ -158,15 +159,7 @@ fn check(
     let Some(member) = roster.member(authenticator.node) else {
         return Err(Refusal::UnknownNode);
     };
-    let signed = cache.is_signed(
-        alloc,
-        &member,
-        authenticator.node,
-        authenticator.number,
-        &authenticator.hash,
-        &authenticator.signature,
-    );
-    if !signed {
+    if !cache.is_signed_text(alloc, &member, &authenticator, bytes) {
         return Err(Refusal::BadSignature);
     }
     Ok(Checked::vouch(roster, authenticator))

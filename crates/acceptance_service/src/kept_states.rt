@@ -1,10 +1,11 @@
-//! Digests of files that a state keeps: how many are missing after each call, and that the state's digest is
-//! that of the same state read from its text.
+//! States that are kept: how many digests of files are missing after each call, and that the state's digest
+//! is that of the same state read from its text; a state that several own, with memory at hand, is made,
+//! given to one more, and read.
 
 use crate::server::SUPERUSER;
 use crate::steps::none_wrong;
 use checkpoint::state_machine_code::State;
-use checkpoint::{read_state, renew, state_digest, state_text};
+use checkpoint::{SharedState, read_state, renew, state_digest, state_text};
 use nfs_items::Time;
 use std::alloc::Global;
 use test_helpers::push_text;
@@ -44,17 +45,27 @@ STATFS: 11: 1 1 0*6 -> 0: 0
 GETATTR /: 1: 1 1 0*6 -> 0: 0
 ";
 
-/// Whether a state's digest is that of the same state read from its text, which keeps none.
-fn has_its_digest(alloc: Global, state: &State) -> bool {
-    let Ok(text) = state_text(alloc, state) else {
-        return false;
-    };
-    let Ok(read) = read_state(alloc, &text) else {
-        return false;
-    };
-    match (state_digest(alloc, state), state_digest(alloc, &read)) {
+/// Whether two states have the same digest.
+fn have_one_digest(alloc: Global, state: &State, read: &State) -> bool {
+    match (state_digest(alloc, state), state_digest(alloc, read)) {
         (Ok(own), Ok(other)) => own == other,
         _ => false,
+    }
+}
+
+/// Whether a state's digest is that of the state of a text, which keeps none.
+fn has_digest_of(alloc: Global, state: &State, text: &[u8]) -> bool {
+    match read_state(alloc, text) {
+        Ok(read) => have_one_digest(alloc, state, &read),
+        Err(_) => false,
+    }
+}
+
+/// The same of its own text.
+fn has_its_digest(alloc: Global, state: &State) -> bool {
+    match state_text(alloc, state) {
+        Ok(text) => has_digest_of(alloc, state, &text),
+        Err(_) => false,
     }
 }
 
@@ -88,14 +99,21 @@ fn stat_of(alloc: Global, state: &mut State, record: &[u8]) -> Option<u32> {
     Some(u32::from_be_bytes(*word))
 }
 
+/// The stat of the reply to a call of NFS.
+fn answered(alloc: Global, state: &mut State, procedure: &str, arguments: &str) -> Option<u32> {
+    match record_of(alloc, procedure, arguments) {
+        Some(record) => stat_of(alloc, state, &record),
+        None => None,
+    }
+}
+
 /// Whether a row's call is answered with its stat, and leaves so many digests missing.
 fn holds(alloc: Global, state: &mut State, row: &str) -> Option<bool> {
     let (call, owed) = row.split_once(" -> ")?;
     let (_, call) = call.split_once(": ")?;
     let (procedure, arguments) = call.split_once(": ")?;
     let (stat, count) = owed.split_once(": ")?;
-    let record = record_of(alloc, procedure, arguments)?;
-    let is_answered = stat_of(alloc, state, &record)? == stat.parse().ok()?;
+    let is_answered = answered(alloc, state, procedure, arguments)? == stat.parse().ok()?;
     Some(is_answered && misses(alloc, state, count.parse().ok()?))
 }
 
@@ -109,18 +127,28 @@ fn first_wrong(alloc: Global, state: &mut State) -> Option<&'static str> {
     None
 }
 
+/// What is wrong first of a state that begins with two files.
+fn first_of_two(alloc: Global, state: &mut State) -> Option<&'static str> {
+    if misses(alloc, state, 2) {
+        first_wrong(alloc, state)
+    } else {
+        Some("the opening")
+    }
+}
+
+/// The same of a new server's.
+fn first_of_opening(alloc: Global) -> Option<&'static str> {
+    match State::opening_server(alloc, 1) {
+        Ok(mut state) => first_of_two(alloc, &mut state),
+        Err(_) => Some("no state"),
+    }
+}
+
 /// A state begins with no digest kept: two files. Each call leaves those missing of the files that it changes
 /// and makes, and no others.
 #[test]
 fn calls_drop_the_digests_of_what_they_change(rt: HostRuntime) {
-    let alloc = rt.alloc();
-    match State::opening_server(alloc, 1) {
-        Ok(mut state) => {
-            assert!(rt; misses(alloc, &mut state, 2));
-            none_wrong(&rt, first_wrong(alloc, &mut state));
-        }
-        Err(_) => assert!(rt; false),
-    }
+    none_wrong(&rt, first_of_opening(rt.alloc()));
 }
 
 /// A client has no files.
@@ -128,4 +156,60 @@ fn calls_drop_the_digests_of_what_they_change(rt: HostRuntime) {
 fn a_client_misses_none(rt: HostRuntime) {
     let mut state = State::opening_client(rt.alloc(), 2);
     assert!(rt; misses(rt.alloc(), &mut state, 0));
+}
+
+/// The state that the server of a number begins with, to be shared.
+fn opening(alloc: Global, node: u32) -> Option<SharedState> {
+    let state = State::opening_server(alloc, node).ok()?;
+    SharedState::new(alloc, &state).ok()
+}
+
+/// Whether one owner more has the same state.
+fn is_cloned(state: &SharedState) -> bool {
+    match state.try_clone() {
+        Ok(other) => other.is_same(state),
+        Err(_) => false,
+    }
+}
+
+/// Whether the state that is read has this state's text.
+fn is_written(alloc: Global, state: &State, shared: &SharedState) -> bool {
+    match state_text(alloc, state) {
+        Ok(text) => text.as_slice() == shared.text(),
+        Err(_) => false,
+    }
+}
+
+/// Whether the state is read, and is the one that is shared.
+fn is_read(alloc: Global, shared: &SharedState) -> bool {
+    match shared.state(alloc) {
+        Ok(state) => is_written(alloc, &state, shared),
+        Err(_) => false,
+    }
+}
+
+/// Whether a state is the one that a server begins with.
+fn is_opening(alloc: Global, state: &SharedState, node: u32) -> Option<bool> {
+    match opening(alloc, node) {
+        Some(other) => Some(state.is_same(&other)),
+        None => None,
+    }
+}
+
+/// Whether a state is shared, made again the same one, and another than the next server's.
+fn is_shared(alloc: Global) -> bool {
+    match opening(alloc, 1) {
+        Some(state) => {
+            is_opening(alloc, &state, 1) == Some(true)
+                && is_opening(alloc, &state, 2) == Some(false)
+                && is_cloned(&state)
+                && is_read(alloc, &state)
+        }
+        None => false,
+    }
+}
+
+#[test]
+fn a_state_is_shared(rt: HostRuntime) {
+    assert!(rt; is_shared(rt.alloc()));
 }
