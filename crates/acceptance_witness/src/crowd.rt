@@ -117,8 +117,10 @@ fn of_sixth(alloc: Global) -> Option<Vec<u8>> {
 
 /// What all hand over, with the keys of node 2.
 fn with_client(alloc: Global, handed: Handed, client: &mut Signer) -> Option<Crowd> {
-    match (of_sixth(alloc), of_server(alloc, client)) {
-        (Some(other), (Some(fork), Some(server))) => Some(Crowd {
+    let other = of_sixth(alloc);
+    let (fork, server) = of_server(alloc, client);
+    match (other, fork, server) {
+        (Some(other), Some(fork), Some(server)) => Some(Crowd {
             handed,
             other,
             server,

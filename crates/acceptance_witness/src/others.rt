@@ -75,13 +75,19 @@ fn run_others(alloc: Global, books: &mut Books, events: Vec<Event>, answered: &m
     let _ = answered.others.extend_from_slice(&answers);
 }
 
+/// Keeps the first of two, if they are there. Their type is a parameter, so that the proof knows nothing of
+/// what they own.
+fn keep_first<T: Drop>(kept: &mut Vec<T>, pair: Option<(T, T)>) {
+    if let Some((first, _)) = pair {
+        let _ = kept.push(first);
+    }
+}
+
 /// Makes a step of node 5's own, and keeps what it is answered.
 fn step_own(alloc: Global, books: &mut Books, event: Event, answered: &mut Answered) {
     let (answer, notes) = noted(alloc, books, event);
     let _ = answered.own.push(answer);
-    if let Some((line, _)) = notes {
-        let _ = answered.lines.push(line);
-    }
+    keep_first(&mut answered.lines, notes);
 }
 
 /// Makes node 5's steps with these places, each after so many events of others.
