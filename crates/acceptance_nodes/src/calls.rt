@@ -7,9 +7,7 @@ use crate::parties::{
 use authenticator::Number;
 use commitment::{Received, Refusal};
 use nfs_items::Time;
-use nodes::gateway_code::links::{Link, LinkFault};
-use nodes::node_logs_code::{AckTaken, NodeLog, Receipt};
-use nodes::{ClientNode, Direct, ServerNode};
+use nodes::{AckTaken, ClientNode, Direct, Link, LinkFault, NodeLog, Receipt, ServerNode};
 use secure_log::log_entries::{Body, Entry};
 use secure_log::{SegmentFault, check_segment};
 use std::alloc::Global;

@@ -3,9 +3,7 @@
 
 use crate::parties::{holds_of, joined};
 use nfs_items::Time;
-use nodes::Direct;
-use nodes::gateway_code::links::FixedClock;
-use nodes::gateway_code::{Gateway, StreamFault};
+use nodes::{Direct, FixedClock, Gateway, StreamFault};
 use rpc::records::{Counting, RecordReader};
 use std::alloc::Global;
 use test_helpers::{Refusal, SlowReader, SlowWriter, of_text};

@@ -14,8 +14,6 @@ mod replays;
 #[cfg(test)]
 mod rows;
 #[cfg(test)]
-mod shared;
-#[cfg(test)]
 mod strays;
 #[cfg(test)]
 mod streams;

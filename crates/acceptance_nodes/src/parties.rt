@@ -6,8 +6,7 @@ ghost use Rattle.std.specs.Prelude.{◌≤◌};
 
 use authenticator::Roster;
 use commitment::senders::Sender;
-use nodes::node_logs_code::NodeLog;
-use nodes::{ClientNode, Direct, ServerNode};
+use nodes::{ClientNode, Direct, NodeLog, ServerNode};
 use secure_log::log_entries::Body;
 use std::alloc::Global;
 use test_helpers::{client, roster_of, server};

@@ -2,9 +2,9 @@
 //! is left after a fault.
 
 use nfs_items::Time;
-use nodes::gateway_code::links::{Clock, FixedClock, Link, LinkFault, ScriptedClock};
-use nodes::gateway_code::{Gateway, Served, StreamFault};
-use nodes::service_code::Service;
+use nodes::{
+    Clock, FixedClock, Gateway, Link, LinkFault, ScriptedClock, Served, Service, StreamFault,
+};
 use rpc::records::{Counting, RecordReader};
 use std::alloc::Global;
 use std::collections::VecDeque;

@@ -4,8 +4,7 @@
 use crate::evidence::{Content as Charged, made_of};
 use crate::made::{Content, packet_of};
 use authenticator::{Checked, Number, Roster, Signs};
-use challenge::evidence_showings_code::Showing;
-use challenge::{AuditedLog, Charge, Evidence, Fork};
+use challenge::{AuditedLog, Charge, Evidence, Fork, Showing};
 use envelopes::Envelope;
 use packets::{Packet, read_packet};
 use secure_log::log_entries::{Body, Entry, SignatureText, are_same_entries, copies_of};

@@ -3,11 +3,9 @@
 
 use crate::made::{keys_of_two, roster_of_two};
 use authenticator::{Authenticator, Number, Roster};
-use challenge::evidence_showings_code::Showing;
-use challenge::replay_code::ReplayFault;
 use challenge::{
-    AuditedLog, Case, Charge, Evidence, EvidenceFault, Finding, Fork, NotAccepted, check_evidence,
-    examine, read_case, read_evidence, write_case,
+    AuditedLog, Case, Charge, Evidence, EvidenceFault, Finding, Fork, NotAccepted, ReplayFault,
+    Showing, check_evidence, examine, read_case, read_evidence, write_case,
 };
 use merkle_keys::Signer;
 use secure_log::log_entries::{Entry, entry_hash};

@@ -2,7 +2,7 @@
 
 use crate::made::{keys_of_two, roster_of_two};
 use authenticator::{Authenticator, Number, Roster};
-use challenge::evidence_showings_code::{EntryKind, Showing};
+use challenge::{EntryKind, Showing};
 use merkle_keys::Signer;
 use secure_log::log_entries::Entry;
 use secure_log::{ClosedSegment, Log, check_segment};

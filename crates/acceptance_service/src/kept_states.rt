@@ -4,8 +4,7 @@
 
 use crate::server::SUPERUSER;
 use crate::steps::none_wrong;
-use checkpoint::state_machine_code::State;
-use checkpoint::{SharedState, read_state, renew, state_digest, state_text};
+use checkpoint::{SharedState, State, read_state, renew, state_digest, state_text};
 use nfs_items::Time;
 use std::alloc::Global;
 use test_helpers::push_text;

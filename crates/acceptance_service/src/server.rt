@@ -4,7 +4,7 @@
 //! its xid, all as texts of words.
 
 use nfs_items::Time;
-use rpc_streams::service_code::Service;
+use rpc_streams::Service;
 use std::alloc::Global;
 use test_helpers::{of_text, of_words};
 

@@ -2,8 +2,7 @@
 //! each row a name stands before the words of the text.
 
 use crate::steps::none_wrong;
-use checkpoint::state_machine_code::State;
-use checkpoint::{StateFault, read_state, state_digest, state_text};
+use checkpoint::{State, StateFault, read_state, state_digest, state_text};
 use std::alloc::Global;
 use test_helpers::of_text;
 

@@ -2,8 +2,7 @@
 
 use nfs_items::Time;
 use rpc::records::{Counting, MAX_RECORD, RecordFault, RecordReader};
-use rpc_streams::run_rpc;
-use rpc_streams::service_code::Service;
+use rpc_streams::{Service, run_rpc};
 use std::alloc::Global;
 use std::io::BufReader;
 use test_helpers::{of_words, push_words};

@@ -10,8 +10,7 @@ use packets::write_ack;
 use secure_log::log_entries::{Body, Receipt, SignatureText, message_hash, receipt_hash};
 use std::alloc::Global;
 use test_helpers::signed;
-use witness_service::witness_books_code::node_book_code::{Event, EventOf, Refusal};
-use witness_service::{SignatureCache, admit};
+use witness_service::{Event, EventOf, Refusal, SignatureCache, admit};
 
 /// A packet of node 5, and the text of the authenticator that it shows.
 #[derive(Drop)]

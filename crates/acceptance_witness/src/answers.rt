@@ -3,17 +3,15 @@
 
 use crate::logs::{closing_at, segment_text};
 use authenticator::{Authenticator, Roster, check};
-use challenge::Evidence;
-use challenge::replay_code::ReplayFault;
+use challenge::{Evidence, ReplayFault};
 use envelopes::{check_ack, check_envelope};
 use merkle_keys::Signer;
 use secure_log::{Log, check_segment};
 use std::alloc::Global;
 use std::sync::Arc;
-use witness_service::witness_books_code::Books;
-use witness_service::witness_books_code::node_book_code::{
-    Back, Event, EventOf, Indication, JobVerdict, Question, Refusal, ReplayDone, ReplayJob, Reply,
-    ReplyOf, SharedSegment,
+use witness_service::{
+    Back, Books, Event, EventOf, Indication, JobVerdict, Question, Refusal, ReplayDone, ReplayJob,
+    Reply, ReplyOf, SharedSegment,
 };
 
 /// What a reply says; of a list how many there are, of evidence whether there is some.

@@ -3,8 +3,7 @@
 use crate::answers::end;
 use crate::members::{Shown, books_of, delivered, roster, shown_by};
 use std::alloc::Global;
-use witness_service::witness_books_code::Books;
-use witness_service::witness_books_code::node_book_code::{Event, EventOf, ReplayJob, ReplyOf};
+use witness_service::{Books, Event, EventOf, ReplayJob, ReplyOf};
 
 /// Hands over bytes.
 fn hand(alloc: Global, books: &mut Books, bytes: &[u8]) {

@@ -9,8 +9,7 @@ use merkle_keys::Signer;
 use secure_log::log_entries::Body;
 use std::alloc::Global;
 use test_helpers::signed;
-use witness_service::witness_books_code::Books;
-use witness_service::witness_books_code::node_book_code::{EventOf, Indication, Refusal};
+use witness_service::{Books, EventOf, Indication, Refusal};
 
 /// Whether a challenge with a message to the server is opened once, and the server suspected.
 fn opens(alloc: Global, books: &mut Books, text: &[u8]) -> bool {

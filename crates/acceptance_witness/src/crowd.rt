@@ -9,7 +9,7 @@ use merkle_keys::Signer;
 use secure_log::Log;
 use std::alloc::Global;
 use test_helpers::client;
-use witness_service::witness_books_code::node_book_code::{Event, EventOf, Question};
+use witness_service::{Event, EventOf, Question};
 
 /// What is handed over by all nodes.
 #[derive(Drop)]

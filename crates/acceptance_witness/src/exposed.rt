@@ -17,10 +17,7 @@ use secure_log::log_entries::Body;
 use std::alloc::Global;
 use std::sync::Arc;
 use test_helpers::signed;
-use witness_service::witness_books_code::Books;
-use witness_service::witness_books_code::node_book_code::{
-    EventOf, Indication, Refusal, ReplayDone,
-};
+use witness_service::{Books, EventOf, Indication, Refusal, ReplayDone};
 
 /// Whether the client is exposed.
 fn is_exposed(alloc: Global, books: &mut Books) -> bool {

@@ -11,8 +11,7 @@ use merkle_keys::Signer;
 use secure_log::Log;
 use std::alloc::Global;
 use test_helpers::signed;
-use witness_service::witness_books_code::Books;
-use witness_service::witness_books_code::node_book_code::{EventOf, Indication, Refusal};
+use witness_service::{Books, EventOf, Indication, Refusal};
 
 /// Whether an audit of the server that could find 4,096 more waits until what was found is forwarded.
 fn waits(alloc: Global, books: &mut Books, far: &Authenticator) -> bool {

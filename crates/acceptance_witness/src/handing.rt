@@ -4,9 +4,9 @@ ghost use Rattle.std.specs.Prelude.{◌≡◌, All, length};
 ghost use Rattle.replay_pool.specs.hand_off.Seats.{AreRetired, idle_at, none_at, opened};
 
 use crate::begun_jobs::{jobs_of, spend_jobs};
-use replay_pool::hand_off_code::{HandOff, PosterSeat, WorkerSeat};
+use replay_pool::{HandOff, PosterSeat, WorkerSeat};
 use std::alloc::Global;
-use witness_service::witness_books_code::node_book_code::{Back, ReplayJob};
+use witness_service::{Back, ReplayJob};
 
 /// What came back.
 #[derive(Clone, Copy, PartialEq, Eq)]

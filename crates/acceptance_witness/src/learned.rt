@@ -5,7 +5,7 @@ use crate::members::{Parties, new_parties};
 use authenticator::Number;
 use std::alloc::Global;
 use test_helpers::signed;
-use witness_service::witness_books_code::node_book_code::{EventOf, Indication, Refusal};
+use witness_service::{EventOf, Indication, Refusal};
 
 /// Whether node 1's authenticator of a number and a hash, bytes all the same, is answered so.
 fn learns_at(alloc: Global, parties: &mut Parties, number: u32, byte: u8, answer: Answer) -> bool {

@@ -11,8 +11,7 @@ use challenge::check_evidence;
 use merkle_keys::Signer;
 use secure_log::Log;
 use std::alloc::Global;
-use witness_service::witness_books_code::Books;
-use witness_service::witness_books_code::node_book_code::{EventOf, Indication, ReplyOf};
+use witness_service::{Books, EventOf, Indication, ReplyOf};
 
 /// Whether there is evidence against the server, and it is accepted.
 fn has_evidence(alloc: Global, books: &mut Books) -> bool {

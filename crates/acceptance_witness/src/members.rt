@@ -13,9 +13,7 @@ use merkle_keys::Signer;
 use secure_log::Log;
 use std::alloc::Global;
 use test_helpers::{client, roster_of, server};
-use witness_service::witness_books_code::Books;
-use witness_service::witness_books_code::node_book_code::{Event, EventOf, Question};
-use witness_service::{SignatureCache, admit};
+use witness_service::{Books, Event, EventOf, Question, SignatureCache, admit};
 
 /// The master secret of the server's keys, node 1, and of the client's, node 2.
 pub const SERVER: [u8; 32] = [1; 32];

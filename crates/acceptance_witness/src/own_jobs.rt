@@ -6,8 +6,7 @@ use crate::members::{Parties, new_parties, pair_books};
 use authenticator::Authenticator;
 use secure_log::Log;
 use std::alloc::Global;
-use witness_service::witness_books_code::Books;
-use witness_service::witness_books_code::node_book_code::{EventOf, Refusal, ReplayDone, ReplyOf};
+use witness_service::{Books, EventOf, Refusal, ReplayDone, ReplyOf};
 
 /// Whether the first job is put back, and another can't begin before.
 fn puts_back(alloc: Global, books: &mut Books) -> bool {

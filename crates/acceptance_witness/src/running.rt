@@ -3,10 +3,7 @@
 use crate::answers::{Answer, answer_of, spend};
 use crate::members::new_parties;
 use std::alloc::Global;
-use witness_service::witness_books_code::node_book_code::{
-    Event, EventOf, Indication, Question, Refusal, Reply,
-};
-use witness_service::witness_books_code::{Books, Note, run};
+use witness_service::{Books, Event, EventOf, Indication, Note, Question, Refusal, Reply, run};
 
 /// Events that came back are spent, and nothing is told.
 fn spend_all(alloc: Global, events: Vec<Event>) -> Vec<Answer> {

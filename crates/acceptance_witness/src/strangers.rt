@@ -12,10 +12,7 @@ use merkle_keys::Signer;
 use secure_log::log_entries::Body;
 use secure_log::{Log, check_segment};
 use std::alloc::Global;
-use witness_service::witness_books_code::Books;
-use witness_service::witness_books_code::node_book_code::{
-    Event, EventOf, Question, Refusal, SharedSegment,
-};
+use witness_service::{Books, Event, EventOf, Question, Refusal, SharedSegment};
 
 /// What the client signed.
 #[derive(Clone, Copy)]

@@ -13,11 +13,10 @@ use authenticator::Roster;
 use std::alloc::Global;
 use std::sync::Wait;
 use std::thread::{Threads, join};
-use witness_service::witness_books_code::node_book_code::{
-    Back, EventOf, Indication, Question, Refusal, Reply, ReplyOf,
+use witness_service::{
+    Back, Books, Closed, EventOf, Indication, Note, Pass, Question, ReceiptFault, Refusal, Reply,
+    ReplyOf, WitnessService,
 };
-use witness_service::witness_books_code::{Books, Note};
-use witness_service::{Closed, Pass, ReceiptFault, WitnessService};
 
 /// A service with three passes, before any step.
 pub fn opened(alloc: Global, roster: Roster, passes: usize) -> Option<(WitnessService, Vec<Pass>)> {

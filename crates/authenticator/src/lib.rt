@@ -14,7 +14,7 @@ pub use authenticator::{Authenticator, is_signed, is_signed_by, signed_digest};
 pub use checked::{Checked, Signs, check};
 pub use hash::is_same_hash;
 pub use member::{Kind, MAX_NODE, Member};
-pub use merkle_keys as merkle_keys_code;
+pub use merkle_keys::Signature;
 pub use number::Number;
 pub use refusal::{Refusal, RosterFault};
 pub use roster::{MAX_MEMBERS, Roster};

@@ -7,7 +7,7 @@ ghost use Rattle.evidence_showings.specs.evidence_spec.Proving.{Proves};
 use crate::evidence::Evidence;
 use crate::find::examine;
 use authenticator::Roster;
-use evidence_showings::evidence_spec_code::laws::accepted_evidence_proves;
+use evidence_showings::accepted_evidence_proves;
 use std::alloc::{AllocError, Global};
 
 /// Whether evidence is accepted under a roster. Where it is, it proves that no log of the node is honest

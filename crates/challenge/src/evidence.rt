@@ -9,8 +9,7 @@ ghost use Rattle.evidence_showings.specs.evidence_spec.Evidence as spec;
 ghost use Rattle.challenge.specs.Charges.{charge_in, fork_in};
 
 use authenticator::Number;
-use evidence_showings::Showing;
-use evidence_showings::evidence_spec_code::MAX_AUDITED;
+use evidence_showings::{MAX_AUDITED, Showing};
 use secure_log::BoundedSegment;
 use std::marker::Model;
 

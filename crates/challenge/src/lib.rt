@@ -18,10 +18,11 @@ pub use case::{Case, read_case, write_case};
 pub use challenge::Challenge;
 pub use check::check_evidence;
 pub use evidence::{AuditedLog, Charge, Evidence, Fork};
-pub use evidence_showings as evidence_showings_code;
+pub use evidence_showings::{EntryKind, Showing, ShownLink, accepted_evidence_proves};
 pub use fault::EvidenceFault;
 pub use find::{examine, one_finding};
 pub use finding::{Finding, NotAccepted};
 pub use read::read_evidence;
-pub use replay as replay_code;
-pub use replay::SharedState;
+pub use replay::{
+    Outcome, ReplayFault, SharedState, Verdict, opening_state, replay_entries, replay_outcome,
+};

@@ -15,6 +15,6 @@ pub use digest::state_digest;
 pub use read::{StateFault, read_state};
 pub use renewal::renew;
 pub use shared::SharedState;
-pub use state_machine as state_machine_code;
-pub use state_machine::state_spec_code;
+pub use state_machine::states::{ReceivedMessage, SentMessage};
+pub use state_machine::{Machine, MessageBody, Stage, State, a_text_has_one_state};
 pub use text::state_text;

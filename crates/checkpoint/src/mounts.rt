@@ -8,7 +8,7 @@ ghost use Rattle.mount_types.specs.declared.limits.TheConstants.{MNTNAMLEN};
 ghost use Rattle.mount_types.specs.Mounts.{max_mounts, root_of};
 ghost use Rattle.state_machine.specs.state_spec.StateItems.{mount_item};
 
-use state_machine::mount_code::MountTable;
+use state_machine::MountTable;
 use std::alloc::AllocError;
 use xdr::Writer;
 

@@ -21,9 +21,8 @@ use crate::parts::{
 };
 use crate::trees::tree_of;
 use nfs_items::Time;
-use state_machine::service_code::Service;
 use state_machine::states::{Received, Sends};
-use state_machine::{MessageBody, Stage, State};
+use state_machine::{MessageBody, Service, Stage, State};
 use std::alloc::{AllocError, Global};
 use thiserror::Error;
 

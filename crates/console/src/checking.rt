@@ -13,11 +13,11 @@ ghost use Rattle.console.specs.declared.fault.CheckFault.TheVariants.{NoMemory, 
 use crate::fault::CheckFault;
 use crate::input::{Contents, read_contents};
 use authenticator::Roster;
-use challenge::evidence_showings_code::evidence_spec_code::laws::accepted_evidence_proves;
-use challenge::{Case, EvidenceFault, Finding, NotAccepted, examine, read_case};
-use explained_evidence::explained_calls_code::{Facts, Text};
+use challenge::{
+    Case, EvidenceFault, Finding, NotAccepted, accepted_evidence_proves, examine, read_case,
+};
 use explained_evidence::{
-    File, VERSION, case_facts, first_undecodable, no_case_facts, rejected_facts,
+    Facts, File, Text, VERSION, case_facts, first_undecodable, no_case_facts, rejected_facts,
 };
 use rpc::records::{Counting, write_bytes};
 use std::alloc::{AllocError, Global};

@@ -7,7 +7,7 @@ mod fault;
 mod input;
 mod rosters;
 
-pub use authenticator as authenticator_code;
+pub use authenticator::Roster;
 pub use checking::{Format, Judgement, Reason, check, judge};
 pub use fault::CheckFault;
 pub use rosters::{read_roster, write_roster};

@@ -4,8 +4,8 @@ ghost use Rattle.std.specs.Prelude.{◌≡◌, IfOk};
 ghost use Rattle.envelopes.specs.Acknowledgement.{ack_in, ack_item, ack_shows, ack_value, acked_message};
 
 use crate::message::Message;
-use secure_log::authenticator_code::{Authenticator, Number, Signs, is_same_hash};
 use secure_log::log_entries::{Receipt, SignatureText, message_hash, receipt_hash};
+use secure_log::{Authenticator, Number, Signs, is_same_hash};
 use std::alloc::{AllocError, Global};
 
 /// That a node logged a message, with its signature of the RECV. Nothing is checked of it: `check_ack` makes

@@ -8,7 +8,7 @@ ghost use Rattle.envelopes.specs.Checking.{ChecksEnvelope, ChecksAck};
 
 use crate::acknowledgement::Ack;
 use crate::envelope::Envelope;
-use secure_log::authenticator_code::{Checked, Member, Refusal, Roster, is_signed};
+use secure_log::{Checked, Member, Refusal, Roster, is_signed};
 use std::alloc::Global;
 use xdr::texts::{TextFault, read_text};
 

@@ -5,8 +5,8 @@ ghost use Rattle.envelopes.specs.Envelope.{envelope_in, envelope_item, envelope_
 ghost use Rattle.envelopes.specs.Envelope.{envelope_value};
 
 use crate::message::Message;
-use secure_log::authenticator_code::{Number, Signs, is_same_hash};
 use secure_log::log_entries::{Body, SignatureText, message_hash};
+use secure_log::{Number, Signs, is_same_hash};
 use std::alloc::{AllocError, Global};
 
 /// A message from one node to another, with its sender's signature of the SEND that it logged for it. Nothing

@@ -12,4 +12,7 @@ pub use acknowledgement::{Ack, AckRef};
 pub use checks::{acknowledged_by, check_ack, check_envelope, sent_by};
 pub use envelope::{Envelope, EnvelopeRef};
 pub use message::Message;
-pub use secure_log as secure_log_code;
+pub use secure_log::{
+    Authenticator, Checked, ClosedSegment, Refusal, Roster, Segment, SegmentFault, check,
+    check_segment,
+};

@@ -11,7 +11,8 @@ mod showing;
 mod write;
 
 pub use closing::is_signed_in;
-pub use evidence_spec as evidence_spec_code;
+pub use evidence_spec::MAX_AUDITED;
+pub use evidence_spec::laws::accepted_evidence_proves;
 pub use kind::EntryKind;
 pub use link::ShownLink;
 pub use showing::Showing;

@@ -5,8 +5,7 @@ use crate::fields::add_fields;
 use crate::names::{FLAVORS, PROGRAMS};
 use crate::procedures::{Procedure, procedure_of};
 use crate::text::Text;
-use nfs_items::read_credential;
-use nfs_items::xdr_code::{ReadFault, Reader};
+use nfs_items::{ReadFault, Reader, read_credential};
 use rpc::{CallBody, Header, OpaqueAuth, read_call};
 use std::alloc::{AllocError, Global};
 

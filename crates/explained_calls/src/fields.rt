@@ -3,8 +3,7 @@
 use crate::facts::Facts;
 use crate::names::{BOOLEANS, FILE_TYPES, NumberName};
 use crate::text::Text;
-use nfs_items::FileHandle;
-use nfs_items::xdr_code::{ReadFault, Reader, XdrFault};
+use nfs_items::{FileHandle, ReadFault, Reader, XdrFault};
 use std::alloc::{AllocError, Global};
 
 /// What an item says.

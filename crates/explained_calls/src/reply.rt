@@ -9,7 +9,7 @@ use crate::names::{
 use crate::procedures::{
     DATA_READ, ENTRY, EXPORTED, GROUP, HANDLE, MOUNT, Procedure, Results, procedure_of,
 };
-use nfs_items::xdr_code::{ReadFault, Reader, XdrFault};
+use nfs_items::{ReadFault, Reader, XdrFault};
 use rpc::{CallBody, read_call};
 use std::alloc::{AllocError, Global};
 

@@ -5,10 +5,9 @@ use crate::file::File;
 use crate::fork::{add_showings, add_signed};
 use crate::log::{add_fault, add_premises};
 use crate::roster::{add_roster, node_fact, roster_digest};
-use challenge::replay_code::ReplayFault;
-use challenge::{AuditedLog, Case, Charge, Evidence, Finding, Fork, NotAccepted};
+use challenge::{AuditedLog, Case, Charge, Evidence, Finding, Fork, NotAccepted, ReplayFault};
 use explained_calls::Facts;
-use secure_log::authenticator_code::Roster;
+use secure_log::Roster;
 use std::alloc::{AllocError, Global};
 
 /// What a file shows that holds a case with a finding: its roster, who is accused of what, what was signed,

@@ -5,13 +5,11 @@ ghost use Rattle.challenge.specs.evidence_spec.Evidence.{MAX_AUDITED};
 
 use crate::entry::{Log, add_time, call_before, kind_name, reply_group};
 use crate::roster::node_fact;
-use challenge::replay_code::{Outcome, ReplayFault, opening_state, replay_outcome};
-use checkpoint::state_digest;
-use checkpoint::state_machine_code::states::SentMessage;
-use checkpoint::state_machine_code::{Machine, Stage, State};
+use challenge::{Outcome, ReplayFault, opening_state, replay_outcome};
+use checkpoint::{Machine, SentMessage, Stage, State, state_digest};
 use explained_calls::Facts;
-use secure_log::authenticator_code::{Number, Roster};
 use secure_log::log_entries::{Entry, Receipt, receipt_hash};
+use secure_log::{Number, Roster};
 use std::alloc::{AllocError, Global};
 
 /// Adds what was owed at a faulty entry, and what was given.

@@ -2,8 +2,8 @@
 
 use crate::roster::node_fact;
 use explained_calls::{Facts, Text, add_call, add_reply};
-use secure_log::authenticator_code::{Kind, Number, Roster};
 use secure_log::log_entries::{Body, Entry, SignatureText, message_hash};
+use secure_log::{Kind, Number, Roster};
 use std::alloc::{AllocError, Global};
 
 /// The log that entries are of.

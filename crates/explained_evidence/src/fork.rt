@@ -1,10 +1,9 @@
 //! Two logs of a node, in words.
 
 use crate::entry::kind_name;
-use challenge::Fork;
-use challenge::evidence_showings_code::{Showing, ShownLink};
+use challenge::{Fork, Showing, ShownLink};
 use explained_calls::Facts;
-use secure_log::authenticator_code::Authenticator;
+use secure_log::Authenticator;
 use std::alloc::{AllocError, Global};
 
 /// Adds what the showings of a fork say.

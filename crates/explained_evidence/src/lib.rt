@@ -12,6 +12,6 @@ mod roster;
 
 pub use case::{case_facts, no_case_facts, rejected_facts};
 pub use decoding::first_undecodable;
-pub use explained_calls as explained_calls_code;
+pub use explained_calls::{Facts, Text};
 pub use file::{File, VERSION};
 pub use roster::{roster_digest, roster_facts};

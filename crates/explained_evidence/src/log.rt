@@ -5,7 +5,7 @@ ghost use Rattle.challenge.specs.evidence_spec.Evidence.{MAX_AUDITED};
 
 use crate::comparison::add_comparison;
 use crate::entry::{Log, add_entry};
-use challenge::replay_code::ReplayFault;
+use challenge::ReplayFault;
 use explained_calls::{Facts, Text};
 use secure_log::log_entries::Entry;
 use std::alloc::{AllocError, Global};

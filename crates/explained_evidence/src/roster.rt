@@ -1,7 +1,7 @@
 //! Rosters in words.
 
 use explained_calls::{Facts, Text};
-use secure_log::authenticator_code::{Kind, Member, Roster};
+use secure_log::{Kind, Member, Roster};
 use sha2::{Digest, Sha256};
 use std::alloc::{AllocError, Global};
 

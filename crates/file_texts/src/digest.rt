@@ -8,7 +8,7 @@ ghost use Rattle.file_texts.specs.FileItems.{file_digest};
 use crate::write::add_file;
 use sha2::{Digest, Sha256};
 use std::alloc::AllocError;
-use tree_rules::inodes_code::Inode;
+use tree_rules::Inode;
 
 /// The digest of the text of a file with its number. `buffer` is room for the text: what it holds before and
 /// after means nothing.

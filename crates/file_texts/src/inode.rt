@@ -8,10 +8,9 @@ ghost use Rattle.file_texts.specs.Bounds.{IsWritable};
 ghost use Rattle.file_texts.specs.Parts.{time_of, body_of, file_of};
 
 use crate::parts::{BodyPart, FilePart, TimePart};
-use fs_model::nfs_items_code::Time;
+use fs_model::Time;
 use std::alloc::{AllocError, Global};
-use tree_rules::directory_of;
-use tree_rules::inodes_code::{Body, Inode};
+use tree_rules::{Body, Inode, directory_of};
 
 /// The first number that is no mode: a mode has twelve bits.
 const MODES: u32 = 0o10000;

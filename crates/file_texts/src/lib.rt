@@ -13,4 +13,3 @@ pub use inode::inode_of;
 pub use numbered::inodes_of;
 pub use parts::{AttributesPart, BodyPart, FilePart, TimePart};
 pub use write::add_file;
-pub use xdr as xdr_code;

@@ -10,7 +10,7 @@ ghost use Rattle.file_texts.specs.Parts.{body_of, files_given};
 use crate::inode::inode_of;
 use crate::parts::FilePart;
 use std::alloc::{AllocError, Global};
-use tree_rules::inodes_code::Inode;
+use tree_rules::Inode;
 
 /// The inodes of files by rising number. None exactly where the numbers don't rise strictly from 1 to below
 /// `next`, or a file breaks a rule that it keeps by itself. What they keep beside their files, their links

@@ -15,11 +15,10 @@ ghost use Rattle.file_texts.specs.Bounds.{IsWritable};
 ghost use Rattle.file_texts.specs.Stored.{entry_in};
 ghost use Rattle.file_texts.specs.declared.read.TheConstants.{MAX_ENTRIES};
 
-use fs_model::nfs_items_code::Time;
+use fs_model::Time;
 use indexmap::map::Slice;
 use std::alloc::AllocError;
-use tree_rules::inodes_code::directories::{Directory, Entry};
-use tree_rules::inodes_code::{Body, Inode};
+use tree_rules::{Body, Directory, Entry, Inode};
 use xdr::Writer;
 
 /// Appends the text of a file with its number; where memory is refused a part of it may stand.

@@ -13,8 +13,7 @@ ghost use Rattle.file_texts.specs.FileItems.{file_digest};
 ghost use Rattle.file_tree.specs.KeptDigests.{AreKept, Forgets, kept_at, missing};
 
 use file_texts::file_digest;
-use inode_table::InodeTable;
-use inode_table::inodes_code::Inode;
+use inode_table::{Inode, InodeTable};
 use std::alloc::{AllocError, Global};
 use std::collections::BTreeMap;
 use std::collections::btree_map::Iter;

@@ -15,7 +15,7 @@ mod renaming;
 mod setting;
 mod tree;
 
-pub use inode_table::tree_rules_code;
+pub use inode_table::{is_tree, total_usage};
 pub use limits::{MAX_BLOCKS, MAX_ENTRIES, MAX_FILES, MAX_NUMBER};
-pub use nfs_spec::nfs_types_code;
+pub use nfs_spec::{DirOpArgs, DirOpOk, NfsArgs, NfsResult, SHORT_ANSWER, write_result};
 pub use tree::Tree;

@@ -9,7 +9,7 @@ ghost use Rattle.file_tree.specs.Performs.{Performs, IfDone};
 
 use crate::file_checks::check_link;
 use crate::tree::Tree;
-use nfs_spec::nfs_items_code::{Stat, Time, Who};
+use nfs_spec::{Stat, Time, Who};
 use std::alloc::{AllocError, Global};
 
 impl Tree {

@@ -15,9 +15,8 @@ ghost use Rattle.file_tree.specs.Performs.{Performs, IfDone};
 
 use crate::file_checks::{check_make, find_to_create};
 use crate::tree::Tree;
-use inode_table::inodes_code::directories::Directory;
-use inode_table::inodes_code::{Body, Given, Inode};
-use nfs_spec::nfs_items_code::{Sattr, Stat, Time, Who};
+use inode_table::{Body, Directory, Given, Inode};
+use nfs_spec::{Sattr, Stat, Time, Who};
 use std::alloc::{AllocError, Global};
 
 /// Attributes of which none is given.

@@ -13,8 +13,7 @@ ghost use Rattle.file_tree.specs.KeptDigests.{IsDigestAt};
 
 use crate::digests::FileDigests;
 use crate::tree::Tree;
-use inode_table::InodeTable;
-use inode_table::inodes_code::Inode;
+use inode_table::{Inode, InodeTable};
 use std::alloc::{AllocError, Global};
 use std::collections::btree_map::Iter;
 

@@ -5,7 +5,7 @@ ghost use Rattle.nfs_spec.specs.fs_model.Listing.{file_number};
 ghost use Rattle.nfs_spec.specs.fs_model.Files.{directory_entries};
 
 use crate::tree::Tree;
-use inode_table::inodes_code::Body;
+use inode_table::Body;
 
 impl Tree {
     /// The number that a directory lists under a name, whoever asks; none where the directory's number is no

@@ -9,9 +9,8 @@ ghost use Rattle.nfs_spec.specs.Procedures.{read_link, read, read_dir, stat_fs};
 
 use crate::limits::MAX_BLOCKS;
 use crate::tree::Tree;
-use inode_table::inodes_code::{BLOCK_SIZE, Body};
-use nfs_spec::nfs_items_code::{Stat, Who};
-use nfs_spec::nfs_types_code::{FsStats, MAXDATA, Page, ReadOk};
+use inode_table::{BLOCK_SIZE, Body};
+use nfs_spec::{FsStats, MAXDATA, Page, ReadOk, Stat, Who};
 use std::alloc::{AllocError, Global};
 
 /// The bytes from an offset on, at most a count of them and `MAXDATA`; none past the end.

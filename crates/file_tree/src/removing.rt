@@ -8,7 +8,7 @@ ghost use Rattle.file_tree.specs.Performs.{Does};
 
 use crate::name_checks::{check_remove, check_remove_dir};
 use crate::tree::Tree;
-use nfs_spec::nfs_items_code::{Stat, Time, Who};
+use nfs_spec::{Stat, Time, Who};
 
 impl Tree {
     /// Takes a name of a file or symbolic link out (RFC 1094, section 2.2.11), and with its last name the

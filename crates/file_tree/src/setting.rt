@@ -10,8 +10,8 @@ ghost use Rattle.file_tree.specs.Performs.{PerformsAt};
 
 use crate::file_checks::{check_set, check_write};
 use crate::tree::Tree;
-use inode_table::inodes_code::Given;
-use nfs_spec::nfs_items_code::{Fattr, Sattr, Stat, Time, Who};
+use inode_table::Given;
+use nfs_spec::{Fattr, Sattr, Stat, Time, Who};
 use std::alloc::AllocError;
 
 impl Tree {

@@ -13,7 +13,7 @@ ghost use Rattle.file_tree.specs.LookUps.{LeadsOn, LeadsBack};
 
 use crate::digests::FileDigests;
 use inode_table::InodeTable;
-use nfs_spec::nfs_items_code::{Fattr, Stat, Who};
+use nfs_spec::{Fattr, Stat, Who};
 use std::alloc::{AllocError, Global};
 use std::marker::Model;
 

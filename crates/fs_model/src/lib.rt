@@ -5,4 +5,4 @@ pub mod changes;
 pub mod edited_trees;
 pub mod laws;
 
-pub use nfs_items as nfs_items_code;
+pub use nfs_items::{Fattr, FileType, RawTime, Sattr, Stat, Time, Who};

@@ -7,4 +7,4 @@ mod serve;
 
 pub use fault::StreamFault;
 pub use serve::{Gateway, Served};
-pub use service as service_code;
+pub use service::Service;

@@ -8,5 +8,7 @@ mod opening;
 mod table;
 
 pub use table::InodeTable;
-pub use tree_rules as tree_rules_code;
-pub use tree_rules::inodes_code;
+pub use tree_rules::{
+    BLOCK_SIZE, Body, Directory, Given, Inode, MAX_BLOCKS, MAX_ENTRIES, MAX_FILE_SIZE, MAX_FILES,
+    is_name, is_tree, total_usage,
+};

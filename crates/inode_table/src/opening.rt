@@ -4,10 +4,9 @@ ghost use Rattle.std.specs.Prelude.{◌≡◌, IfOk};
 ghost use Rattle.nfs_counts.specs.nfs_spec.Opening.{first_file, opening_root, opening_hello};
 ghost use Rattle.tree_rules.specs.inodes.Inodes.{body_in, file_in, KeepsParent};
 
-use fs_model::nfs_items_code::Time;
+use fs_model::Time;
 use std::alloc::{AllocError, Global};
-use tree_rules::inodes_code::directories::Directory;
-use tree_rules::inodes_code::{Body, Inode};
+use tree_rules::{Body, Directory, Inode};
 
 /// A file of user and group 0 whose times are 0.
 fn first_inode(mode: u16, nlink: u32, body: Body) -> Inode

@@ -30,13 +30,12 @@ ghost use Rattle.tree_rules.specs.inodes.Edits.{MaySet, MayWriteAt};
 use crate::edits::{renaming, slots};
 use crate::links::linked_inodes;
 use crate::opening::{hello_inode, root_inode};
-use fs_model::nfs_items_code::{Fattr, Time};
+use fs_model::{Fattr, Time};
 use std::alloc::{AllocError, Global};
 use std::collections::BTreeMap;
 use std::collections::btree_map::Iter;
 use std::marker::Model;
-use tree_rules::inodes_code::{Given, Inode};
-use tree_rules::total_usage;
+use tree_rules::{Given, Inode, total_usage};
 
 /// The files of a server under their numbers, of which the root's is 1. A number is never used again.
 #[derive(Drop)]

@@ -3,7 +3,7 @@
 use crate::directories::{Directory, is_name};
 use crate::given::Given;
 use crate::inode::{Body, Inode, MAX_FILE_SIZE};
-use nfs_spec::nfs_items_code::{Stat, Who};
+use nfs_spec::{Stat, Who};
 
 impl Inode {
     ghost use Rattle.std.specs.Prelude.{◌≡◌, ◌==◌, ◌||◌, ◌&&◌};

@@ -1,7 +1,7 @@
 //! Edits of an inode by what becomes of other files.
 
 use crate::inode::{Body, Inode};
-use nfs_spec::nfs_items_code::Time;
+use nfs_spec::Time;
 use std::alloc::AllocError;
 
 impl Inode {

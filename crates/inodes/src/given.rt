@@ -3,7 +3,7 @@
 ghost use Rattle.std.specs.Prelude.{◌≡◌};
 ghost use Rattle.nfs_spec.specs.Sattr.{given_word, given_mode, given_time};
 
-use nfs_spec::nfs_items_code::{RawTime, Sattr, Time};
+use nfs_spec::{RawTime, Sattr, Time};
 
 /// The word that gives nothing.
 const NOT_GIVEN: u32 = 0xffff_ffff;

@@ -3,7 +3,7 @@
 use crate::content;
 use crate::directories::Directory;
 use crate::given::Given;
-use nfs_spec::nfs_items_code::{Fattr, FileType, Stat, Time, Who};
+use nfs_spec::{Fattr, FileType, Stat, Time, Who};
 use std::alloc::AllocError;
 
 /// The greatest size of a regular file in bytes.

@@ -2,7 +2,7 @@
 
 use crate::given::Given;
 use crate::inode::{Body, Inode};
-use nfs_spec::nfs_items_code::{Time, Who};
+use nfs_spec::{Time, Who};
 use std::alloc::{AllocError, Global};
 
 impl Body {

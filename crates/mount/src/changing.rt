@@ -9,8 +9,7 @@ ghost use Rattle.mount.specs.Performs.{Performs};
 use crate::paths::{ROOT, is_root, is_there};
 use crate::table::MountTable;
 use file_tree::Tree;
-use mount_types::MountResult;
-use mount_types::nfs_items_code::{FileHandle, Stat};
+use mount_types::{FileHandle, MountResult, Stat};
 use std::alloc::{AllocError, Global};
 
 /// A machine mounts the root (RFC 1094, appendix A.5.2): NoSpc where 40 others have it mounted.

@@ -20,9 +20,9 @@ mod table;
 pub mod worked;
 
 use changing::{mount, unmount};
-use file_tree::Tree;
-use mount_types::nfs_items_code::Who;
-use mount_types::{MNT_ANSWER, MountArgs, MountResult, write_mount_result};
+pub use file_tree::Tree;
+use mount_types::{MNT_ANSWER, MountResult, Who, write_mount_result};
+pub use mount_types::{MountArgs, MountProcedure, read_mount_args};
 use paths::root_path;
 use std::alloc::{AllocError, Global};
 pub use table::MountTable;
@@ -102,6 +102,3 @@ pub fn mount_call(
         MountArgs::Export => export(out),
     }
 }
-
-pub use file_tree as file_tree_code;
-pub use mount_types as mount_types_code;

@@ -11,7 +11,7 @@ mod writing;
 
 pub use arguments::{MountArgs, MountProcedure};
 pub use limits::{MNT_ANSWER, MNTNAMLEN, MNTPATHLEN};
-pub use nfs_items as nfs_items_code;
+pub use nfs_items::{FileHandle, Stat, Who};
 pub use reading::read_mount_args;
 pub use results::MountResult;
 pub use writing::write_mount_result;

@@ -9,7 +9,7 @@ ghost use Rattle.mount_types.specs.declared.arguments.MountProcedure.TheVariants
 
 use crate::arguments::{MountArgs, MountProcedure};
 use crate::limits::MNTPATHLEN;
-use nfs_items::xdr_code::{Reader, XdrFault};
+use nfs_items::{Reader, XdrFault};
 
 /// Reads a procedure's arguments from the front of bytes, and ignores what follows them (RFC 1094, appendix
 /// A.5). The fault is the first from left to right.

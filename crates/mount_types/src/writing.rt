@@ -12,8 +12,7 @@ ghost use Rattle.mount_types.specs.Results.{answer_of, HasLengths, IsShort, answ
 
 use crate::limits::MNT_ANSWER;
 use crate::results::MountResult;
-use nfs_items::FileHandle;
-use nfs_items::xdr_code::{Writer, all_or_nothing};
+use nfs_items::{FileHandle, Writer, all_or_nothing};
 use std::alloc::AllocError;
 
 /// The status of a directory that was mounted (RFC 1094, appendix A.4.2).

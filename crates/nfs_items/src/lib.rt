@@ -18,4 +18,4 @@ pub use sattr::{RawTime, Sattr};
 pub use stat::Stat;
 pub use time::Time;
 pub use who::{Groups, Who};
-pub use xdr as xdr_code;
+pub use xdr::{ReadFault, Reader, Writer, XdrFault, all_or_nothing};

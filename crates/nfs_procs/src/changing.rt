@@ -11,8 +11,7 @@ ghost use Rattle.nfs_laws.specs.Steps.Answers.{only_reads};
 ghost use Rattle.nfs_procs.specs.Changed.{IsDone, IsChanged};
 
 use crate::handles::{file_after, number_for};
-use file_tree::Tree;
-use file_tree::nfs_types_code::{DirOpArgs, NfsArgs, NfsResult};
+use file_tree::{DirOpArgs, NfsArgs, NfsResult, Tree};
 use nfs_items::{FileHandle, Sattr, Time, Who};
 use std::alloc::{AllocError, Global};
 

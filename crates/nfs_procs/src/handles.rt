@@ -6,8 +6,7 @@ ghost use Rattle.file_tree.specs.nfs_types.Results.{dir_op_of};
 ghost use Rattle.nfs_laws.specs.nfs_spec.NfsCalls.{number_for};
 ghost use Rattle.nfs_procs.specs.Changed.{file_then};
 
-use file_tree::Tree;
-use file_tree::nfs_types_code::DirOpOk;
+use file_tree::{DirOpOk, Tree};
 use nfs_items::{FileHandle, Stat};
 
 /// The file number that a handle names here; another handle names 0, which no file has.

@@ -10,17 +10,16 @@ ghost use Rattle.file_tree.specs.nfs_types.Arguments.{call_of};
 ghost use Rattle.nfs_laws.specs.nfs_spec.NfsCalls.{call_does};
 ghost use Rattle.nfs_laws.specs.Steps.Answers.{only_reads};
 
-pub use nfs_items as nfs_items_code;
-
 mod changing;
 mod handles;
 mod reading;
 
 use changing::change;
-use file_tree::Tree;
-use file_tree::nfs_types_code::result_texts::write_result;
-use file_tree::nfs_types_code::{NfsArgs, SHORT_ANSWER};
-use nfs_items::{Time, Who};
+use file_tree::{NfsArgs, SHORT_ANSWER, Tree, write_result};
+pub use nfs_items::{Time, Who, read_credential};
+pub use nfs_laws::frames::laws::calls_keep_the_files_they_do_not_name;
+pub use nfs_laws::laws::{no_limit_is_passed, trees_stay_trees};
+pub use nfs_laws::sizes::laws::{answers_have_a_spelling, read_calls_are_bounded};
 use reading::answer_read;
 use std::alloc::{AllocError, Global};
 
@@ -67,5 +66,3 @@ pub fn nfs_call(
     let answer = change(tree, alloc, who, now, args)?;
     write_result(&answer, out)
 }
-
-pub use nfs_laws as nfs_laws_code;

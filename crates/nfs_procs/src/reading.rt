@@ -14,9 +14,7 @@ ghost use Rattle.nfs_laws.specs.nfs_spec.Procedures.{read_link, read, read_dir, 
 ghost use Rattle.nfs_laws.specs.Steps.Answers.{only_reads};
 
 use crate::handles::number_for;
-use file_tree::Tree;
-use file_tree::nfs_types_code::result_texts::write_result;
-use file_tree::nfs_types_code::{DirOpArgs, DirOpOk, NfsArgs, NfsResult};
+use file_tree::{DirOpArgs, DirOpOk, NfsArgs, NfsResult, Tree, write_result};
 use nfs_items::{Fattr, FileHandle, Stat, Time, Who};
 use std::alloc::{AllocError, Global};
 

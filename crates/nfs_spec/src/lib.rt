@@ -3,5 +3,8 @@
 
 pub mod laws;
 
-pub use fs_model::nfs_items_code;
-pub use nfs_types as nfs_types_code;
+pub use fs_model::{Fattr, FileType, RawTime, Sattr, Stat, Time, Who};
+pub use nfs_types::result_texts::write_result;
+pub use nfs_types::{
+    DirOpArgs, DirOpOk, FsStats, MAXDATA, NfsArgs, NfsResult, Page, PageEntry, ReadOk, SHORT_ANSWER,
+};

@@ -11,8 +11,7 @@ ghost use Rattle.nfs_types.specs.declared.arguments.NfsProcedure.TheVariants as 
 
 use crate::arguments::{DirOpArgs, NfsArgs, NfsProcedure};
 use crate::limits::{MAXDATA, MAXNAMLEN, MAXPATHLEN};
-use nfs_items::xdr_code::{Reader, XdrFault};
-use nfs_items::{FileHandle, Sattr};
+use nfs_items::{FileHandle, Reader, Sattr, XdrFault};
 
 /// Reads a procedure's arguments from the front of bytes, and ignores what follows them (RFC 1094,
 /// section 2.2). The fault is the first from left to right.

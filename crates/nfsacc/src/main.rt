@@ -8,9 +8,8 @@ mod serve;
 mod shelf;
 
 use clap::error::ErrorKind;
-use console::authenticator_code::Roster;
 use console::command_line::{CheckRequest, Request, RunRequest, ServeRefusal, parse, serve_order};
-use console::{CheckFault, Format, Judgement, Reason, check, read_roster, write_roster};
+use console::{CheckFault, Format, Judgement, Reason, Roster, check, read_roster, write_roster};
 use devices::{Devices, Remembering};
 use rpc::records::{Counting, RecordFault, RecordReader};
 use rpc_streams::run_rpc;

@@ -16,8 +16,7 @@ use crate::reply::{PlainReply, Reply, ReplyOf};
 use crate::rows::{Exposure, Rows, Stage};
 use crate::step::Step;
 use authenticator::Member;
-use challenge::SharedState;
-use challenge::replay_code::opening_state;
+use challenge::{SharedState, opening_state};
 use std::alloc::{AllocError, Global};
 use std::marker::Model;
 

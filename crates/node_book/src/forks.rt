@@ -19,8 +19,7 @@ use crate::looking::{ShownHash, learned_at, segment_holding};
 use crate::rows::Rows;
 use crate::segment::SharedSegment;
 use authenticator::{Authenticator, Number, is_same_hash};
-use challenge::evidence_showings_code::Showing;
-use challenge::{Charge, Evidence, Fork};
+use challenge::{Charge, Evidence, Fork, Showing};
 use secure_log::ClosedSegment;
 use std::alloc::{AllocError, Global};
 

@@ -32,7 +32,6 @@ pub use book::Book;
 pub use challenge::SharedState;
 pub use done::{PlainDone, ReplayDone};
 pub use event::{Event, EventOf, PlainEvent, Question};
-pub use evidence_spec as evidence_spec_code;
 pub use job::{Back, ReplayJob};
 pub use plain::PlainJob;
 pub use refusal::Refusal;
@@ -40,6 +39,9 @@ pub use reply::{Indication, PlainReply, Reply, ReplyOf};
 pub use segment::SharedSegment;
 pub use step::Step;
 pub use verdict::JobVerdict;
-pub use witness_spec as witness_spec_code;
-pub use witness_steps as witness_steps_code;
-pub use witness_steps::witness_laws_code;
+pub use witness_steps::laws::books_are_ready;
+pub use witness_steps::{
+    books_can_stand, evidence_proves, evidence_where_exposed, exposed_exactly_if,
+    honest_is_never_exposed, journals_are_histories, left_out_changes_nothing, runs_are_histories,
+    what_leaves_books,
+};

@@ -7,8 +7,7 @@ ghost use Rattle.node_book.specs.Jobs.{HasRoom, job_verdict, verdict_told};
 
 use crate::plain::PlainJob;
 use authenticator::{Authenticator, Number};
-use challenge::SharedState;
-use challenge::replay_code::{ReplayFault, Verdict, replay_entries};
+use challenge::{ReplayFault, SharedState, Verdict, replay_entries};
 use std::alloc::{AllocError, Global};
 use std::sync::Arc;
 

@@ -17,12 +17,11 @@ mod sides;
 
 pub use client::ClientNode;
 pub use direct::Direct;
-pub use gateway as gateway_code;
-pub use gateway::service_code;
+pub use gateway::links::{Clock, FixedClock, Link, LinkFault, ScriptedClock};
+pub use gateway::{Gateway, Served, Service, StreamFault};
 pub use honest::HonestServer;
 pub use node::Node;
-pub use node_logs as node_logs_code;
-pub use node_logs::Forked;
+pub use node_logs::{AckTaken, Forked, NodeLog, Receipt};
 pub use role::{Client, Role, Server};
 pub use server::ServerNode;
 pub use shared::Shared;

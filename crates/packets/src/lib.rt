@@ -6,7 +6,6 @@ mod packet;
 mod read;
 mod write;
 
-pub use envelopes as envelopes_code;
 pub use packet::Packet;
 pub use read::read_packet;
 pub use write::{write_ack, write_answer, write_answer_text, write_challenge, write_learn};

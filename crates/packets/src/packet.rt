@@ -4,9 +4,7 @@ ghost use Rattle.std.specs.Prelude.{◌≡◌};
 ghost use Rattle.packets.specs.Packet.{delivery_node};
 ghost use Rattle.packets.specs.Delivered.{delivery_in};
 
-use envelopes::secure_log_code::ClosedSegment;
-use envelopes::secure_log_code::authenticator_code::{Authenticator, Checked};
-use envelopes::{Ack, Envelope};
+use envelopes::{Ack, Authenticator, Checked, ClosedSegment, Envelope};
 
 /// What a witness is sent, checked under a roster. `read_packet` makes it of bytes.
 #[derive(Drop)]

@@ -6,9 +6,7 @@ ghost use Rattle.packets.specs.Judging.{GivesDelivery, judged, judged_option};
 ghost use Rattle.packets.specs.Delivered.{IsUnder, delivery_in};
 
 use crate::packet::Packet;
-use envelopes::secure_log_code::authenticator_code::{Refusal, Roster, check};
-use envelopes::secure_log_code::{SegmentFault, check_segment};
-use envelopes::{check_ack, check_envelope};
+use envelopes::{Refusal, Roster, SegmentFault, check, check_ack, check_envelope, check_segment};
 use std::alloc::Global;
 use xdr::Reader;
 

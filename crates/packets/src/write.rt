@@ -11,9 +11,7 @@ ghost use Rattle.packets.specs.Packet.{Learn, SendChallenge, Answer, AckIn, Says
 ghost use Rattle.packets.specs.Delivered.{delivery_in};
 
 use crate::packet::Packet;
-use envelopes::secure_log_code::authenticator_code::Authenticator;
-use envelopes::secure_log_code::{ClosedSegment, Segment};
-use envelopes::{AckRef, EnvelopeRef};
+use envelopes::{AckRef, Authenticator, ClosedSegment, EnvelopeRef, Segment};
 use std::alloc::AllocError;
 use xdr::{Writer, all_or_nothing};
 

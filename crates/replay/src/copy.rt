@@ -2,8 +2,7 @@
 
 ghost use Rattle.std.specs.Prelude.{◌≡◌, IfOk};
 
-use checkpoint::state_machine_code::State;
-use checkpoint::{read_state, state_text};
+use checkpoint::{State, read_state, state_text};
 use std::alloc::{AllocError, Global};
 
 /// A copy of a state, read from its text.

@@ -7,7 +7,7 @@ ghost use Rattle.replay_spec.specs.Replay.{with_shown};
 
 use crate::shown::shown_by;
 use authenticator::Authenticator;
-use checkpoint::state_machine_code::State;
+use checkpoint::State;
 use secure_log::log_entries::Entry;
 use std::alloc::{AllocError, Global};
 

@@ -13,9 +13,7 @@ ghost use Rattle.replay.specs.Kinds.{kind_of};
 
 use crate::steps::{StepFault, step};
 use authenticator::{Kind, Number, Roster};
-use checkpoint::state_machine_code::{self, State};
-use checkpoint::state_spec_code::laws as state_laws;
-use checkpoint::state_text;
+use checkpoint::{State, a_text_has_one_state, state_text};
 use secure_log::log_entries::Entry;
 use std::alloc::{AllocError, Global};
 use std::marker::{Model, PhantomData};
@@ -60,12 +58,12 @@ pub trait Machine: Drop {
 }
 
 /// The kind of a machine's node.
-pub(crate) fn kind_of(machine: &state_machine_code::Machine) -> Kind
+pub(crate) fn kind_of(machine: &checkpoint::Machine) -> Kind
     ensures { result ≡ kind_of (machine_in machine.now) }
 {
     match machine {
-        state_machine_code::Machine::Server(_, _) => Kind::Server,
-        state_machine_code::Machine::Client(_) => Kind::Client,
+        checkpoint::Machine::Server(_, _) => Kind::Server,
+        checkpoint::Machine::Client(_) => Kind::Client,
     }
 }
 
@@ -173,6 +171,6 @@ impl<K: NodeKind> Machine for KindMachine<K> {
     }
 
     fn a_text_has_one_state() {
-        state_laws::a_text_has_one_state();
+        a_text_has_one_state();
     }
 }

@@ -8,9 +8,7 @@ ghost use Rattle.replay_spec.specs.Stepping.{is_bad_ack, is_bad_receive, is_repe
 
 use crate::turns::is_same;
 use authenticator::{Number, Roster, is_signed};
-use checkpoint::state_digest;
-use checkpoint::state_machine_code::State;
-use checkpoint::state_machine_code::states::{ReceivedMessage, SentMessage};
+use checkpoint::{ReceivedMessage, SentMessage, State, state_digest};
 use merkle_keys::Signature;
 use replay_spec::laws::tests_as_it_is_signed;
 use secure_log::log_entries::{Body, Entry, Receipt, message_hash, receipt_hash};

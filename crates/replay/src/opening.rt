@@ -5,7 +5,7 @@ ghost use Rattle.std.specs.FinMap.{len};
 ghost use Rattle.replay_spec.specs.Opening.{opening_of};
 
 use authenticator::{Kind, Member};
-use checkpoint::state_machine_code::State;
+use checkpoint::State;
 use std::alloc::{AllocError, Global};
 
 /// The state that a member begins with, before the first entry of its log: a server's files are the directory

@@ -12,7 +12,7 @@ use crate::fault::ReplayFault;
 use crate::kept::NoneKept;
 use crate::run::{Ending, ending_of};
 use authenticator::{Number, Roster};
-use checkpoint::state_machine_code::State;
+use checkpoint::State;
 use secure_log::log_entries::Entry;
 use std::alloc::{AllocError, Global};
 

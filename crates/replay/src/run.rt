@@ -16,7 +16,7 @@ use crate::kept::Keeps;
 use crate::machine::{FreeMachine, Machine, ServerMachine, kind_of};
 use crate::steps::StepFault;
 use authenticator::{Kind, Number, Roster};
-use checkpoint::state_machine_code::State;
+use checkpoint::State;
 use replay_spec::laws::steps_as_it_takes;
 use secure_log::log_entries::{Entry, entry_hash};
 use std::alloc::{AllocError, Global};

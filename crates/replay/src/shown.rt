@@ -5,7 +5,7 @@ ghost use Rattle.replay_spec.specs.Stepping.{shown_by};
 
 use crate::messages::acknowledged_hash;
 use authenticator::Authenticator;
-use checkpoint::state_machine_code::State;
+use checkpoint::State;
 use secure_log::log_entries::{Entry, message_hash};
 use std::alloc::{AllocError, Global};
 

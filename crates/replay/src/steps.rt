@@ -16,8 +16,7 @@ use crate::messages::{is_bad_ack, is_bad_receive, is_repeated, is_wrong_checkpoi
 use crate::take::take;
 use crate::turns::{is_bad_form, is_clock_back, is_wrong_reply};
 use authenticator::{Number, Roster};
-use checkpoint::renew;
-use checkpoint::state_machine_code::State;
+use checkpoint::{State, renew};
 use secure_log::log_entries::Entry;
 use std::alloc::{AllocError, Global};
 use thiserror::Error;

@@ -11,8 +11,7 @@ ghost use Rattle.replay_spec.specs.Stepping.{shows_no_time};
 
 use crate::messages::received_message;
 use authenticator::Number;
-use checkpoint::state_machine_code::states::SentMessage;
-use checkpoint::state_machine_code::{MessageBody, Stage, State};
+use checkpoint::{MessageBody, SentMessage, Stage, State};
 use nfs_items::Time;
 use secure_log::log_entries::{Body, Entry};
 use std::alloc::{AllocError, Global};

@@ -7,7 +7,7 @@ ghost use Rattle.checkpoint.specs.state_spec.State.{clock_in};
 ghost use Rattle.replay_spec.specs.Stepping.{is_bad_form, is_clock, is_clock_back, is_out_of_turn};
 ghost use Rattle.replay_spec.specs.Stepping.{is_send, is_send_of, is_wrong_reply, shows_no_time};
 
-use checkpoint::state_machine_code::{Machine, Stage};
+use checkpoint::{Machine, Stage};
 use secure_log::log_entries::Entry;
 
 /// A server heard a message and the entry isn't CLOCK, or it heard none and the entry is CLOCK; or a CLOCK's

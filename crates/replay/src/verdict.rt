@@ -12,7 +12,7 @@ use crate::copy::copy_of;
 use crate::fault::ReplayFault;
 use crate::run::{Ending, ending_of};
 use authenticator::{Authenticator, Number, Roster};
-use checkpoint::state_machine_code::State;
+use checkpoint::State;
 use replay_spec::laws::sound_exactly_if;
 use secure_log::ClosedSegment;
 use secure_log::log_entries::Entry;

@@ -7,5 +7,5 @@ mod slots;
 mod workers;
 
 pub use gate::{Gate, NoGate};
-pub use hand_off as hand_off_code;
+pub use hand_off::{HandOff, PosterSeat, WorkerSeat};
 pub use round::replay_round;

@@ -6,8 +6,7 @@ ghost use Rattle.hand_off.specs.node_book.Backs.{job_in};
 ghost use Rattle.hand_off.specs.Seats.{AreRetired, count, idle_at, none_at};
 ghost use Rattle.replay_pool.specs.Rounds.{IsBackAt, some_jobs};
 
-use hand_off::node_book_code::{Back, ReplayJob};
-use hand_off::{HandOff, PosterSeat, WorkerSeat};
+use hand_off::{Back, HandOff, PosterSeat, ReplayJob, WorkerSeat};
 use std::alloc::Global;
 
 /// Posts each job to the slot of its place, the last one first.

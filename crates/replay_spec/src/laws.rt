@@ -15,7 +15,7 @@ ghost use Rattle.replay_spec.specs.Laws.{PartsAreHonest, PlacesAreJoined, Places
 ghost use Rattle.replay_spec.specs.Laws.{OpeningsHaveNoMessages, NoEntries, OneEntryMore, EntriesMore};
 ghost use Rattle.replay_spec.specs.Laws.{OneLastState, NodeStays};
 
-pub use secure_log::authenticator_code::laws::tests_as_it_is_signed;
+pub use secure_log::tests_as_it_is_signed;
 
 /// The step that computes is the one that the rules say: it gives a state exactly where an entry leads to it.
 pub fn steps_as_it_takes()

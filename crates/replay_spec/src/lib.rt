@@ -4,5 +4,5 @@
 pub mod laws;
 pub mod log_laws;
 
-pub use secure_log as secure_log_code;
-pub use secure_log::authenticator_code;
+pub use secure_log::log_entries::{Entry, link_hash};
+pub use secure_log::{ClosedSegment, MAX_ENTRIES, copy_of};

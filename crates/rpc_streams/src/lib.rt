@@ -4,5 +4,5 @@
 mod batch;
 mod stream;
 
-pub use service as service_code;
+pub use service::Service;
 pub use stream::run_rpc;

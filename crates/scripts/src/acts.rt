@@ -6,7 +6,7 @@ use crate::parties::Parties;
 use crate::stop::Stop;
 use authenticator::Roster;
 use nfs_items::Time;
-use serving::witness_calls_code::{Caller, Said, Shelf};
+use serving::{Caller, Said, Shelf};
 use std::alloc::Global;
 use std::sync::Wait;
 use std::thread::Threads;

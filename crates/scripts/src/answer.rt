@@ -1,7 +1,7 @@
 //! What a line of a script prints.
 
 use authenticator::Authenticator;
-use serving::witness_calls_code::{Outcome, Replayed, Said, indication_word};
+use serving::{Outcome, Replayed, Said, indication_word};
 use std::alloc::{AllocError, Global};
 
 /// What a line prints: words with one space between, line by line.

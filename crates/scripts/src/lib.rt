@@ -14,5 +14,4 @@ mod witness;
 mod words;
 
 pub use script::{ScriptEnd, ScriptFault, run_script};
-pub use serving::witness_calls_code::Shelf;
-pub use serving::{Finished, Heights, Masters, Order, ServeFault, serve};
+pub use serving::{Finished, Heights, Masters, Order, ServeFault, Shelf, serve};

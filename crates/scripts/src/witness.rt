@@ -5,9 +5,7 @@ use crate::line::{OneToSixteen, Place};
 use crate::stop::Stop;
 use authenticator::Authenticator;
 use secure_log::SegmentFault;
-use serving::witness_calls_code::challenge_code::write_case;
-use serving::witness_calls_code::packet_texts::{answer_packet, learn_packet};
-use serving::witness_calls_code::{Said, Shelf, indication_word};
+use serving::{Said, Shelf, answer_packet, indication_word, learn_packet, write_case};
 use std::sync::Wait;
 use std::thread::Threads;
 

@@ -8,8 +8,8 @@ ghost use Rattle.service.specs.Replies.{machine_or_refusal, nfs_call_or_refusal,
 ghost use Rattle.service.specs.Replies.{program_call_or_refusal, call_or_refusal};
 ghost use Rattle.service.specs.Views.{view_of_caller, view_of_served, view_of_call, HasShortName, IsBounded};
 
-use mount::mount_types_code::{MountArgs, MountProcedure, read_mount_args};
-use nfs_procs::nfs_items_code::{Who, read_credential};
+use mount::{MountArgs, MountProcedure, read_mount_args};
+use nfs_procs::{Who, read_credential};
 use nfs_types::{NfsArgs, NfsProcedure, read_args};
 use rpc::{AuthStat, Header, OpaqueAuth, ReplyBody};
 

@@ -13,9 +13,10 @@ ghost use Rattle.worlds.specs.IsWorld.{IsWorld};
 ghost use Rattle.service.specs.Replies.{Answers, reply_owed, world_after};
 
 use mount::laws::mounts_stay_mounts;
-use nfs_procs::nfs_laws_code::frames::laws::calls_keep_the_files_they_do_not_name;
-use nfs_procs::nfs_laws_code::laws::{no_limit_is_passed, trees_stay_trees};
-use nfs_procs::nfs_laws_code::sizes::laws::{answers_have_a_spelling, read_calls_are_bounded};
+use nfs_procs::{
+    answers_have_a_spelling, calls_keep_the_files_they_do_not_name, no_limit_is_passed,
+    read_calls_are_bounded, trees_stay_trees,
+};
 use nfs_types::laws::calls_are_bounded;
 
 /// A record at a time has one answer: the reply owed, or none, and the world after it.

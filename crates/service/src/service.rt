@@ -17,10 +17,8 @@ ghost use Rattle.service.specs.Owed.{IsReplied};
 ghost use Rattle.service.specs.Views.{served_of, view_of_call, HasShortName, IsBounded};
 
 use crate::checks::{ServedArgs, check_call};
-use mount::file_tree_code::Tree;
-use mount::{MountTable, mount_call};
-use nfs_procs::nfs_call;
-use nfs_procs::nfs_items_code::{Time, Who};
+use mount::{MountTable, Tree, mount_call};
+use nfs_procs::{Time, Who, nfs_call};
 use rpc::{Call, CallBody, Reply, ReplyBody, read_call, write_reply};
 use std::alloc::{AllocError, Global};
 use std::marker::Model;

@@ -2,16 +2,14 @@
 
 use crate::desk::Desk;
 use authenticator::{Authenticator, Roster};
-use nodes::node_logs_code::NodeLog;
+use nodes::NodeLog;
 use secure_log::SegmentFault;
 use std::alloc::{AllocError, Global};
 use std::io::Write;
 use std::sync::{Arc, Mutex, Wait};
 use std::thread::Threads;
-use witness_calls::challenge_code::Evidence;
 use witness_calls::packet_texts::{answer_packet, learn_packet};
-use witness_calls::witness_service_code::{Pass, WitnessService};
-use witness_calls::{Asked, Caller, Outcome, Said, Shelf};
+use witness_calls::{Asked, Caller, Evidence, Outcome, Pass, Said, Shelf, WitnessService};
 
 /// How many workers replay a segment.
 const WORKERS: usize = 2;

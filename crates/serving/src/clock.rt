@@ -1,7 +1,7 @@
 //! The time that a server logs.
 
 use nfs_items::Time;
-use nodes::gateway_code::links::Clock;
+use nodes::Clock;
 
 /// The system's time since 1970, in microseconds. Where the system's clock fails, or reads a time past 2^32
 /// seconds, it gives its last reading again; the first is 1970.

@@ -5,16 +5,14 @@ use crate::clock::SystemClock;
 use crate::link::ClientLink;
 use crate::members::SERVER;
 use authenticator::Authenticator;
-use nodes::gateway_code::{Gateway, StreamFault};
-use nodes::{ClientNode, HonestServer};
+use nodes::{ClientNode, Gateway, HonestServer, StreamFault};
 use rpc::records::{Counting, RecordReader};
 use std::alloc::{AllocError, Global};
 use std::io::{BufReader, Write};
 use std::net::{SocketAddr, TcpStream};
 use std::sync::{Mutex, Wait};
 use std::thread::Threads;
-use witness_calls::Shelf;
-use witness_calls::witness_service_code::Pass;
+use witness_calls::{Pass, Shelf};
 
 /// The bytes that are read of a stream at once.
 const READ_AHEAD: usize = 65536;

@@ -1,12 +1,11 @@
 //! What a run says beside its lines, and the files that it leaves: one thread at a time.
 
 use authenticator::Roster;
-use nodes::gateway_code::StreamFault;
+use nodes::StreamFault;
 use std::alloc::{AllocError, Global};
 use std::io;
 use std::io::Write;
-use witness_calls::Shelf;
-use witness_calls::challenge_code::{Evidence, write_case};
+use witness_calls::{Evidence, Shelf, write_case};
 
 /// What went wrong with the program itself. The service and the audits go on; the status tells it in the end.
 #[derive(Clone, Copy, Debug, PartialEq, Eq)]

@@ -4,7 +4,7 @@ use crate::audit::{Auditor, last_signed};
 use crate::connection::Ended;
 use crate::lines::{LineFault, write_line};
 use authenticator::Authenticator;
-use nodes::node_logs_code::NodeLog;
+use nodes::NodeLog;
 use std::alloc::AllocError;
 use std::io::Write;
 use std::mem;

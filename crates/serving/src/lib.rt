@@ -17,7 +17,12 @@ mod run;
 
 pub use clock::SystemClock;
 pub use keys::Masters;
-pub use nodes as nodes_code;
+pub use nodes::exchanges::exchange;
+pub use nodes::{ClientNode, LinkFault, Node, NodeLog, Receipt, Role, ServerNode};
 pub use order::{Heights, Order};
 pub use run::{Finished, ServeFault, serve};
-pub use witness_calls as witness_calls_code;
+pub use witness_calls::packet_texts::{ack_packet, answer_packet, challenge_packet, learn_packet};
+pub use witness_calls::{
+    Caller, Outcome, Pass, Replayed, Said, Shelf, WitnessService, indication_word, open_witness,
+    write_case,
+};

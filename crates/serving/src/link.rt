@@ -5,8 +5,7 @@ ghost use Rattle.nodes.specs.Shareds.{shared_of};
 ghost use Rattle.serving.specs.Links.{IsCall, LacksKeysOfACall, StopsCall};
 
 use nfs_items::Time;
-use nodes::gateway_code::links::{Link, LinkFault};
-use nodes::{ClientNode, HonestServer, Shared};
+use nodes::{ClientNode, HonestServer, Link, LinkFault, Shared};
 use std::alloc::Global;
 use std::marker::Model;
 use std::sync::{Mutex, Wait};

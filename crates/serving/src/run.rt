@@ -17,8 +17,7 @@ use std::io::{self, Write};
 use std::net::{OpenListener, TcpStream};
 use std::sync::{Mutex, Wait};
 use std::thread::Threads;
-use witness_calls::witness_service_code::{Pass, WitnessService};
-use witness_calls::{Shelf, open_witness};
+use witness_calls::{Pass, Shelf, WitnessService, open_witness};
 
 /// A run that came to its end: each line was written.
 #[derive(Drop)]

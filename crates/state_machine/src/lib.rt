@@ -11,9 +11,8 @@ mod steps;
 
 pub use body::{MAX_BODY, MessageBody};
 pub use machine::Machine;
-pub use service as service_code;
-pub use service::mount_code;
+pub use service::{MountTable, Service};
 pub use stage::Stage;
 pub use state::State;
-pub use state_spec as state_spec_code;
-pub use state_spec::file_texts_code;
+pub use state_spec::laws::a_text_has_one_state;
+pub use state_spec::{FilePart, TimePart, add_file, file_digest, inodes_of};

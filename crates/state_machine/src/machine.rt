@@ -6,8 +6,7 @@ ghost use Rattle.state_spec.specs.State.{clock_in, IsMachine};
 ghost use Rattle.state_machine.specs.Machines.{machine_in, IsOf, MachineFits};
 
 use crate::stage::Stage;
-use service::Service;
-use service::nfs_items_code::Time;
+use service::{Service, Time};
 use std::alloc::{AllocError, Global};
 
 /// The reference machine of a node: what its next entries depend on beside its messages.

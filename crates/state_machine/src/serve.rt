@@ -16,7 +16,7 @@ ghost use Rattle.state_machine.specs.Steps.{HasPlaceFor};
 use crate::machine::Machine;
 use crate::state::State;
 use crate::states::{ReceivedMessage, SentMessage};
-use service::nfs_items_code::Time;
+use service::Time;
 use std::alloc::{AllocError, Global};
 
 impl State {

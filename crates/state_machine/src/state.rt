@@ -13,8 +13,7 @@ ghost use Rattle.state_machine.specs.Machines.{machine_in, server_state, client_
 use crate::machine::Machine;
 use crate::stage::{Stage, is_word};
 use crate::states::{Received, Sends};
-use service::Service;
-use service::nfs_items_code::Time;
+use service::{Service, Time};
 use std::alloc::{AllocError, Global};
 use std::marker::Model;
 

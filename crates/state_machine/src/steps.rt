@@ -14,8 +14,7 @@ use crate::machine::Machine;
 use crate::stage::Stage;
 use crate::state::State;
 use crate::states::{ReceivedMessage, SentMessage};
-use service::Service;
-use service::nfs_items_code::Time;
+use service::{Service, Time};
 use std::alloc::{AllocError, Global};
 
 impl State {

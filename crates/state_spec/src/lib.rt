@@ -3,4 +3,4 @@
 
 pub mod laws;
 
-pub use file_texts as file_texts_code;
+pub use file_texts::{FilePart, TimePart, add_file, file_digest, inodes_of};

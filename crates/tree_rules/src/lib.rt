@@ -9,7 +9,8 @@ mod names;
 mod rules;
 
 pub use entries::{GivenEntry, directory_of};
-pub use inodes as inodes_code;
+pub use inodes::directories::{Directory, Entry, is_name};
+pub use inodes::{BLOCK_SIZE, Body, Given, Inode, MAX_FILE_SIZE};
 pub use limits::{MAX_BLOCKS, MAX_ENTRIES, MAX_FILES, Usage, total_usage};
 pub use names::{Counts, count_names, numbers_in, place_of};
 pub use rules::is_tree;

@@ -18,10 +18,10 @@ use crate::laws::steps_keep_the_headline;
 use crate::note::{Note, event_twice, note_refusal};
 use crate::route::{Routed, refuse_event, route};
 use authenticator::{Member, Roster};
-use node_book::witness_laws_code::books::{journals_are_histories, what_leaves_books};
-use node_book::witness_laws_code::laws::left_out_changes_nothing;
-use node_book::witness_steps_code::laws::books_are_ready;
-use node_book::{Book, Event, PlainReply, Refusal, Reply, Step};
+use node_book::{
+    Book, Event, PlainReply, Refusal, Reply, Step, books_are_ready, journals_are_histories,
+    left_out_changes_nothing, what_leaves_books,
+};
 use std::alloc::{AllocError, AllocFailed, Global};
 use std::marker::Model;
 

@@ -6,12 +6,10 @@ ghost use Rattle.witness_books.specs.Delivering.{SpelledIsOwed, SpelledIsTaken, 
 ghost use Rattle.witness_books.specs.Headline.{RunsKeepHeadline};
 ghost use Rattle.witness_books.specs.Witnessed.{OpeningIsJournal, WitnessesAgree};
 
-use node_book::witness_laws_code::books::{
-    books_can_stand, journals_are_histories, runs_are_histories,
+use node_book::{
+    books_can_stand, evidence_proves, evidence_where_exposed, exposed_exactly_if,
+    honest_is_never_exposed, journals_are_histories, runs_are_histories,
 };
-use node_book::witness_laws_code::evidence::laws::{evidence_proves, evidence_where_exposed};
-use node_book::witness_laws_code::laws::exposed_exactly_if;
-use node_book::witness_laws_code::trust::laws::honest_is_never_exposed;
 
 /// Two witnesses of one roster, from their first events on, agree on a member where its steps, in all that
 /// was handed to each, are the same and in the same order: the replies to these are the same, and both say

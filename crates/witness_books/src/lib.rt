@@ -8,10 +8,13 @@ mod note;
 mod route;
 mod runs;
 
-pub use authenticator as authenticator_code;
+pub use authenticator::Roster;
 pub use books::Books;
 pub use delivery::read_event;
-pub use node_book as node_book_code;
+pub use node_book::{
+    Back, Event, EventOf, Indication, JobVerdict, Question, Refusal, ReplayDone, ReplayJob, Reply,
+    ReplyOf, SharedSegment,
+};
 pub use note::Note;
 pub use route::refuse_event;
 pub use runs::run;

@@ -12,8 +12,7 @@ ghost use Rattle.witness_books.specs.Witnessed.{AreOpening, IsWitnessed};
 
 use crate::books::Books;
 use crate::laws::runs_keep_the_headline;
-use node_book::witness_laws_code::books::runs_are_histories;
-use node_book::{Event, Reply};
+use node_book::{Event, Reply, runs_are_histories};
 use std::alloc::{AllocError, Global};
 
 /// Hands these events to the books, one after the other, the oldest first, and gives their replies in the

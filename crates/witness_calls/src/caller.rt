@@ -4,8 +4,9 @@ use crate::said::Said;
 use authenticator::Roster;
 use std::alloc::Global;
 use std::sync::Wait;
-use witness_service::witness_books_code::node_book_code::{Event, EventOf, Question, Reply};
-use witness_service::{Pass, SignatureCache, WitnessService, admit};
+use witness_service::{
+    Event, EventOf, Pass, Question, Reply, SignatureCache, WitnessService, admit,
+};
 
 /// The most signatures that a caller's cache keeps: as many as a book learns above its audited
 /// end. They take some 4 MiB.

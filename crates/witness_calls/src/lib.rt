@@ -12,10 +12,9 @@ mod shelf;
 
 pub use asked::Asked;
 pub use caller::Caller;
-pub use challenge as challenge_code;
+pub use challenge::{Evidence, write_case};
 pub use opening::open_witness;
 pub use replays::{Outcome, Replayed};
 pub use said::{Said, indication_word};
 pub use shelf::Shelf;
-pub use witness_service as witness_service_code;
-pub use witness_service::witness_books_code;
+pub use witness_service::{Pass, WitnessService};

@@ -2,8 +2,7 @@
 
 use authenticator::Roster;
 use std::alloc::{AllocError, Global};
-use witness_service::witness_books_code::Books;
-use witness_service::{Pass, WitnessService};
+use witness_service::{Books, Pass, WitnessService};
 
 /// The service of a new witness of a roster's members, with so many passes. `AllocError` comes
 /// where memory was refused.

@@ -5,14 +5,12 @@ ghost use Rattle.std.specs.Prelude.{◌≤◌};
 use crate::caller::Caller;
 use crate::said::Said;
 use authenticator::Number;
-use challenge::replay_code::ReplayFault;
+use challenge::ReplayFault;
 use replay_pool::{NoGate, replay_round};
 use std::alloc::AllocError;
 use std::sync::Wait;
 use std::thread::Threads;
-use witness_service::witness_books_code::node_book_code::{
-    Back, EventOf, JobVerdict, ReplayDone, ReplayJob, ReplyOf,
-};
+use witness_service::{Back, EventOf, JobVerdict, ReplayDone, ReplayJob, ReplyOf};
 
 /// What the replay of a node's segment found.
 #[derive(Clone, Copy)]

@@ -3,7 +3,7 @@
 use authenticator::{Authenticator, Number};
 use challenge::{Challenge, Evidence};
 use std::sync::Arc;
-use witness_service::witness_books_code::node_book_code::{Indication, Refusal, Reply, ReplyOf};
+use witness_service::{Indication, Refusal, Reply, ReplyOf};
 
 /// What a witness answered to an event that asks for no job and brings none back.
 #[derive(Drop)]

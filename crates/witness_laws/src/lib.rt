@@ -6,6 +6,3 @@ pub mod books;
 pub mod evidence;
 pub mod laws;
 pub mod trust;
-
-pub use witness_spec as witness_spec_code;
-pub use witness_spec::{evidence_spec_code, packets_code, state_spec_code};

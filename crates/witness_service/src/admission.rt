@@ -13,8 +13,7 @@ use crate::cache::SignatureCache;
 use crate::checking::read_packet;
 use packets::Packet;
 use std::alloc::Global;
-use witness_books::authenticator_code::Roster;
-use witness_books::node_book_code::{Event, EventOf, Refusal, SharedSegment};
+use witness_books::{Event, EventOf, Refusal, Roster, SharedSegment};
 
 /// The event that bytes spell, which books take as `Deliver` of these bytes (`laws::spelled_is_taken` of
 /// `witness_books`), with its signature checked; it waits for nobody. `Garbage` where bytes are no packet,

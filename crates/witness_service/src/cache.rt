@@ -1,6 +1,6 @@
 //! Signatures that were checked, so that they aren't checked again.
 
-ghost use Rattle.std.specs.Prelude.{◌≡◌, ◌↔◌, ◌⊎◌, ◌<◌, [], IfOk, IsTrue, MatchBool, false, if◌then◌else◌};
+ghost use Rattle.std.specs.Prelude.{◌≡◌, ◌↔◌, ◌⊎◌, ◌<◌, [], IsTrue, MatchBool, Ok, false, if◌then◌else◌};
 ghost use Rattle.xdr.specs.Texts.Text.{IsText};
 ghost use Rattle.merkle_keys.specs.Signing.{Signed};
 ghost use Rattle.authenticator.specs.Signed.{IsSignedBy, authenticator_text, authenticator_value};
@@ -67,7 +67,7 @@ impl SignatureCache {
         height: u32,
         text: &[u8],
     ) -> Result<bool, AllocError>
-        ensures { IfOk result (λ known. known ≡ is_kept self.now.keys (key_bytes root.now height text.now)) }
+        ensures { result ≡ Ok (is_kept self.now.keys (key_bytes root.now height text.now)) }
     {
         match &self.kept {
             Some(kept) => Ok(is_there(kept, KeyRef::new(root, height, text))),

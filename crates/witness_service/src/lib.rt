@@ -15,4 +15,7 @@ pub use cache::SignatureCache;
 pub use journal::Journal;
 pub use pass::{Pass, Receipt};
 pub use shared::{Closed, ReceiptFault, WitnessService};
-pub use witness_books as witness_books_code;
+pub use witness_books::{
+    Back, Books, Event, EventOf, Indication, JobVerdict, Note, Question, Refusal, ReplayDone,
+    ReplayJob, Reply, ReplyOf, SharedSegment, run,
+};

@@ -11,7 +11,7 @@ ghost use Rattle.checkpoint.specs.Parts.SaidParts.{mount_said, mounts_given};
 ghost use Rattle.checkpoint.specs.Parts.Taking.{may_take};
 
 use crate::parts::parts::MountPart;
-use state_machine::mount_code::MountTable;
+use state_machine::MountTable;
 use std::alloc::{AllocError, Global};
 
 /// The one directory that can be mounted.

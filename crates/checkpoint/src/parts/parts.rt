@@ -1,8 +1,8 @@
 //! The parts of a state's text, lent by the bytes that they were read from. Nothing is tested in them but
 //! their bounds.
 
-use state_machine::file_texts_code::{FilePart, TimePart};
 use state_machine::states::{NumberedSend, ReceivedMessage};
+use state_machine::{FilePart, TimePart};
 
 /// What a server owes next: nothing, a clock reading for a body that was heard, or a reply.
 #[derive(Clone, Copy)]

@@ -12,7 +12,7 @@ ghost use Rattle.checkpoint.specs.Parts.SaidParts.{world_said, kind_said, machin
 
 use crate::parts::parts::{MachinePart, StatePart, WorldPart};
 use crate::parts::world::read_world;
-use state_machine::file_texts_code::TimePart;
+use state_machine::TimePart;
 use state_machine::states::{NumberedSend, ReceivedMessage};
 use std::alloc::Global;
 use xdr::{FromXdr, ReadFault, Reader, XdrFault, put_back_on_err, read_array};

@@ -12,10 +12,9 @@ ghost use Rattle.state_machine.specs.file_texts.Bounds.{IsWritable};
 ghost use Rattle.state_machine.specs.file_texts.Parts.{body_of, files_given};
 ghost use Rattle.checkpoint.specs.Trees.ServedTrees.{IsServedTree};
 
-use file_tree::Tree;
-use file_tree::tree_rules_code::{is_tree, total_usage};
+use file_tree::{Tree, is_tree, total_usage};
 use inodes::Inode;
-use state_machine::file_texts_code::{FilePart, inodes_of};
+use state_machine::{FilePart, inodes_of};
 use std::alloc::{AllocError, Global};
 
 /// The tree of a server's files, for the server of a number. None exactly where the files are no tree within

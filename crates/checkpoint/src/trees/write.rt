@@ -15,7 +15,7 @@ ghost use Rattle.state_machine.specs.file_texts.FileItems.{file_digest, file_ite
 
 use file_tree::Tree;
 use inodes::Inode;
-use state_machine::file_texts_code::{add_file, file_digest};
+use state_machine::{add_file, file_digest};
 use std::alloc::AllocError;
 use std::collections::btree_map::Iter;
 use xdr::Writer;

@@ -9,10 +9,8 @@ ghost use Rattle.inode_table.specs.inodes.Inodes.{file_in};
 ghost use Rattle.file_tree.specs.FileChecks.Creates.{regular_number, check_new, DecidesCreate};
 
 use crate::file_checks::room::check_file;
-use inode_table::InodeTable;
-use inode_table::inodes_code::directories::{Directory, is_name};
-use inode_table::inodes_code::{BLOCK_SIZE, Inode, MAX_FILE_SIZE};
-use nfs_spec::nfs_items_code::{Stat, Who};
+use inode_table::{BLOCK_SIZE, Directory, Inode, InodeTable, MAX_FILE_SIZE, is_name};
+use nfs_spec::{Stat, Who};
 
 /// A number, where it is a regular file's: else Stale, or Exist.
 fn regular_number(table: &InodeTable, number: u32) -> Result<Option<u32>, Stat>

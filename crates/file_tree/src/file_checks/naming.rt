@@ -12,9 +12,8 @@ ghost use Rattle.file_tree.specs.FileChecks.Decides.{Decides};
 ghost use Rattle.file_tree.specs.FileChecks.FreeNames.{free_name};
 
 use crate::file_checks::room::{check_entry, check_file};
-use inode_table::InodeTable;
-use inode_table::inodes_code::directories::Directory;
-use nfs_spec::nfs_items_code::{Stat, Who};
+use inode_table::{Directory, InodeTable};
+use nfs_spec::{Stat, Who};
 
 /// What a directory lists, where a caller may put a name into it that is free: Stale, NotDir, Acces and
 /// Exist, in this order.

@@ -8,9 +8,8 @@ ghost use Rattle.inode_table.specs.nfs_laws.Room.{HasRoomToMake, HasRoomToLink};
 ghost use Rattle.file_tree.specs.FileChecks.Decides.{IsCheckOf};
 
 use crate::file_checks::limits::{MAX_BLOCKS, MAX_ENTRIES, MAX_FILES, MAX_NUMBER};
-use inode_table::InodeTable;
-use inode_table::inodes_code::directories::Directory;
-use nfs_spec::nfs_items_code::Stat;
+use inode_table::{Directory, InodeTable};
+use nfs_spec::Stat;
 
 /// Room for other bytes of a file, told by the blocks that it takes before and after.
 pub fn check_blocks(table: &InodeTable, before: u32, after: u32) -> Result<(), Stat>

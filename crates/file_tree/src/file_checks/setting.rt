@@ -8,9 +8,8 @@ ghost use Rattle.inode_table.specs.inodes.Given.{given_in};
 ghost use Rattle.file_tree.specs.FileChecks.Decides.{Decides};
 
 use crate::file_checks::room::check_blocks;
-use inode_table::InodeTable;
-use inode_table::inodes_code::{BLOCK_SIZE, Given, MAX_FILE_SIZE};
-use nfs_spec::nfs_items_code::{Stat, Who};
+use inode_table::{BLOCK_SIZE, Given, InodeTable, MAX_FILE_SIZE};
+use nfs_spec::{Stat, Who};
 
 /// SETATTR (RFC 1094, section 2.2.3): Stale, then Perm, then IsDir, NxIo, Acces, FBig and NoSpc where a size
 /// is given.

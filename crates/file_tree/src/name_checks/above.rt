@@ -4,8 +4,7 @@ ghost use Rattle.std.specs.Prelude.{◌≡◌};
 ghost use Rattle.nfs_spec.specs.fs_model.Files.{parent_of, IsDirectory};
 ghost use Rattle.nfs_spec.specs.Procedures.{is_above};
 
-use inode_table::InodeTable;
-use inode_table::inodes_code::{Body, Inode};
+use inode_table::{Body, Inode, InodeTable};
 
 /// The number of the directory above a directory; the root's is the root.
 fn parent_of(table: &InodeTable, dir: u32) -> u32

@@ -6,10 +6,8 @@ ghost use Rattle.nfs_spec.specs.nfs_items.CallerOf.{caller_of};
 ghost use Rattle.nfs_spec.specs.ProcedureChecks.{dir_of};
 ghost use Rattle.file_tree.specs.NameChecks.Names.{numbered_dir, number_listed, number_to_edit};
 
-use inode_table::InodeTable;
-use inode_table::inodes_code::Inode;
-use inode_table::inodes_code::directories::Directory;
-use nfs_spec::nfs_items_code::{Stat, Who};
+use inode_table::{Directory, Inode, InodeTable};
+use nfs_spec::{Stat, Who};
 
 /// A directory that was found.
 #[derive(Clone, Copy)]

@@ -12,9 +12,8 @@ ghost use Rattle.inode_table.specs.inodes.Inodes.{file_in};
 ghost use Rattle.file_tree.specs.NameChecks.Names.{check_empty, unnamed};
 
 use crate::name_checks::found::find_to_edit;
-use inode_table::InodeTable;
-use inode_table::inodes_code::Inode;
-use nfs_spec::nfs_items_code::{Stat, Who};
+use inode_table::{Inode, InodeTable};
+use nfs_spec::{Stat, Who};
 
 /// NotDir where a file is no directory, NotEmpty where it is one with entries.
 pub fn check_empty(inode: &Inode) -> Result<(), Stat>

@@ -15,10 +15,8 @@ ghost use Rattle.file_tree.specs.NameChecks.Moves.{names_to_edit, ends_found, mo
 use crate::name_checks::above::is_above;
 use crate::name_checks::found::{find_directory, find_number};
 use crate::name_checks::removing::check_empty;
-use inode_table::InodeTable;
-use inode_table::inodes_code::Inode;
-use inode_table::inodes_code::directories::Directory;
-use nfs_spec::nfs_items_code::{Stat, Who};
+use inode_table::{Directory, Inode, InodeTable};
+use nfs_spec::{Stat, Who};
 
 /// The greatest cookie that is given.
 const MAX_COOKIE: u32 = 4_294_967_294;

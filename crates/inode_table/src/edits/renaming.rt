@@ -8,9 +8,9 @@ ghost use Rattle.tree_rules.specs.inodes.Inodes.{links_at, stored_at};
 ghost use Rattle.inode_table.specs.Edits.Moves.{DropsTarget, GainsLink, LosesLink, LosesName};
 
 use crate::edits::slots;
-use fs_model::nfs_items_code::Time;
+use fs_model::Time;
 use std::collections::BTreeMap;
-use tree_rules::inodes_code::Inode;
+use tree_rules::Inode;
 
 /// One link less of a directory, if it lost a subdirectory.
 fn drop_subdirectory(inodes: &mut BTreeMap<u32, Inode>, dir: u32, of_directory: bool)

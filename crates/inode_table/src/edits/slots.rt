@@ -18,10 +18,10 @@ ghost use Rattle.inode_table.specs.Edits.Slots.{AddsEntry, AddsInode, AddsNamed,
 ghost use Rattle.inode_table.specs.Edits.Slots.{ChangesLinks, DropsName, IsBlockChange, MayUnname};
 ghost use Rattle.inode_table.specs.Edits.Slots.{RemovesInode, SetsParent, TakesEntry, Unnames};
 
-use fs_model::nfs_items_code::{Fattr, Time};
+use fs_model::{Fattr, Time};
 use std::alloc::AllocError;
 use std::collections::BTreeMap;
-use tree_rules::inodes_code::{Given, Inode};
+use tree_rules::{Given, Inode};
 
 /// mtime and ctime become now.
 pub fn touch(inodes: &mut BTreeMap<u32, Inode>, number: u32, now: Time)

@@ -12,9 +12,7 @@ ghost use Rattle.inode_table.specs.Links.Linked.{AreLinked, IsLinks};
 ghost use Rattle.tree_rules.specs.Listed.{AreTree, entries_among, files_in};
 
 use std::alloc::{AllocError, Global};
-use tree_rules::inodes_code::directories::Directory;
-use tree_rules::inodes_code::{Body, Inode};
-use tree_rules::{Counts, count_names, numbers_in, place_of};
+use tree_rules::{Body, Counts, Directory, Inode, count_names, numbers_in, place_of};
 
 /// What is kept beside a file.
 #[derive(Clone, Copy)]

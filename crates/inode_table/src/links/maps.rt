@@ -12,7 +12,7 @@ ghost use Rattle.tree_rules.specs.Listed.{AreTree, entries_among, files_in};
 use crate::links::links::set_links;
 use std::alloc::{AllocError, Global};
 use std::collections::BTreeMap;
-use tree_rules::inodes_code::Inode;
+use tree_rules::Inode;
 
 /// Puts an inode first in a map, under a number below the first there is.
 fn put_first(map: &mut BTreeMap<u32, Inode>, number: u32, inode: Inode) -> Result<(), AllocError>

@@ -17,7 +17,7 @@ use crate::directories::names::is_name;
 use crate::directories::page::Filling;
 use indexmap::IndexMap;
 use indexmap::map::Slice;
-use nfs_spec::nfs_types_code::{Page, PageEntry};
+use nfs_spec::{Page, PageEntry};
 use std::alloc::{AllocError, Global};
 use std::marker::Model;
 

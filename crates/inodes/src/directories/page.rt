@@ -10,7 +10,7 @@ ghost use Rattle.inodes.specs.Directories.Pages.{above, front_page, page_with};
 
 use crate::directories::directory::Entry;
 use indexmap::map::Slice;
-use nfs_spec::nfs_types_code::{MAXDATA, Page, PageEntry};
+use nfs_spec::{MAXDATA, Page, PageEntry};
 use std::alloc::{AllocError, Global};
 
 /// A page that is being filled, in the order of the cookies.

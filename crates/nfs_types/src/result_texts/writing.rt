@@ -12,8 +12,7 @@ ghost use Rattle.nfs_types.specs.Texts.{entry_value, fs_stats_value, answer_text
 ghost use Rattle.nfs_types.specs.Results.{answer_of, entry_of, HasLengths, IsShort, answer_bytes};
 
 use crate::{DirOpOk, FsStats, NfsResult, Page, PageEntry, ReadOk, SHORT_ANSWER};
-use nfs_items::Fattr;
-use nfs_items::xdr_code::{Writer, all_or_nothing};
+use nfs_items::{Fattr, Writer, all_or_nothing};
 use std::alloc::AllocError;
 
 /// The stat of a call that was done (RFC 1094, section 2.3.1).

@@ -2,7 +2,7 @@
 
 ghost use Rattle.witness_spec.specs.Laws.{EvidenceWhereExposed, EvidenceProves};
 
-use witness_spec::evidence_spec_code::laws::accepted_evidence_proves;
+use witness_spec::accepted_evidence_proves;
 
 /// There is evidence against a node exactly where the node is Exposed.
 pub fn evidence_where_exposed()
