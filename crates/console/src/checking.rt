@@ -133,7 +133,7 @@ fn explain(
     match read_case(alloc, bytes) {
         Ok(case) => explain_case(alloc, trusted, &file, &case),
         Err(EvidenceFault::Garbage) => {
-            let facts = no_case_facts(alloc, &file, at)?;
+            let facts = no_case_facts(alloc, &file, at);
             Ok((Judgement::NoEvidence(Reason::NoCase(at)), facts))
         }
         Err(EvidenceFault::NoMemory) => Err(AllocError),
@@ -151,12 +151,12 @@ fn explain_case(
 {
     match trusted {
         Some(trusted) if !trusted.is_same(&case.roster) => {
-            let facts = rejected_facts(alloc, file, case, trusted)?;
+            let facts = rejected_facts(alloc, file, case, trusted);
             Ok((Judgement::NoEvidence(Reason::AnotherRoster), facts))
         }
         _ => {
             let (judgement, finding) = found(alloc, case)?;
-            let facts = case_facts(alloc, file, case, finding)?;
+            let facts = case_facts(alloc, file, case, finding);
             Ok((judgement, facts))
         }
     }
@@ -223,34 +223,30 @@ fn told_of_whole(
         }
         Format::Lines => {
             let (judgement, facts) = explain(alloc, trusted, bytes)?;
-            let more = facts.lines(alloc)?;
+            let more = facts.lines()?;
             Ok((judgement, lines(alloc, judgement, &more)?))
         }
         Format::Json => {
             let (judgement, facts) = explain(alloc, trusted, bytes)?;
-            let more = facts.members(alloc)?;
+            let more = facts.members()?;
             Ok((judgement, json(alloc, judgement, &more)?))
         }
     }
 }
 
 /// What a file shows that wasn't read to its end: the item that begins at this byte doesn't decode.
-fn front_facts(alloc: Global, at: usize) -> Result<Facts, AllocError> {
+fn front_facts(alloc: Global, at: usize) -> Facts {
     let mut facts = Facts::new(alloc);
-    facts.group("file")?;
-    facts.words(alloc, "read", "not to its end")?;
-    facts.end()?;
-    let mut program = Text::new(alloc);
-    program.words("nfsacc ")?;
-    program.words(VERSION)?;
-    facts.text("program", program)?;
-    facts.words(
-        alloc,
-        "reason",
-        "the file is not a roster with evidence after it",
-    )?;
-    facts.number("first byte that does not decode", at as u64)?;
-    Ok(facts)
+    facts.group("file");
+    facts.words("read", "not to its end");
+    facts.end();
+    let mut program = facts.draft();
+    program.words("nfsacc ");
+    program.words(VERSION);
+    facts.text("program", program);
+    facts.words("reason", "the file is not a roster with evidence after it");
+    facts.number("first byte that does not decode", at as u64);
+    facts
 }
 
 /// What is said of a file that begins with these bytes, and holds no evidence whatever follows.
@@ -267,12 +263,12 @@ fn told_of_front(
     if format == Format::Line {
         return Ok((judgement, line(alloc, judgement)?));
     }
-    let facts = front_facts(alloc, at)?;
+    let facts = front_facts(alloc, at);
     if format == Format::Lines {
-        let more = facts.lines(alloc)?;
+        let more = facts.lines()?;
         return Ok((judgement, lines(alloc, judgement, &more)?));
     }
-    let more = facts.members(alloc)?;
+    let more = facts.members()?;
     Ok((judgement, json(alloc, judgement, &more)?))
 }
 

@@ -90,7 +90,7 @@ pub fn write_roster<W: Write>(
     ensures memory { IsErrOf result NoMemory → writer.new ≡ writer.old }
     ensures write { IsErrOf result Write → Rises writer.old.count writer.new.count }
 {
-    let lines = roster_facts(alloc, roster)?.lines(alloc)?;
+    let lines = roster_facts(alloc, roster).lines()?;
     match write_bytes(writer, lines.as_bytes()) {
         Ok(()) => Ok(()),
         Err(_) => Err(CheckFault::Write),

@@ -1,5 +1,6 @@
 //! What is said, as a list of names with values.
 
+use crate::draft::Draft;
 use crate::text::Text;
 use std::alloc::{AllocError, Global};
 
@@ -28,99 +29,124 @@ enum Open {
     List,
 }
 
-/// Facts in their order. They are shown as lines or as JSON, from the same list.
+/// Facts in their order. They are shown as lines or as JSON, from the same list. Once memory is refused
+/// nothing more is added, and nothing is shown.
 #[derive(Drop)]
 pub struct Facts {
+    alloc: Global,
     facts: Vec<Fact>,
     open: Vec<Open>,
+    /// Whether memory was refused.
+    is_refused: bool,
 }
 
 impl Facts {
     /// No facts.
     pub fn new(alloc: Global) -> Facts {
         Facts {
+            alloc,
             facts: Vec::new(alloc),
             open: Vec::new(alloc),
+            is_refused: false,
         }
     }
 
-    fn add(&mut self, fact: Fact) -> Result<(), AllocError> {
-        self.facts.push(fact)?;
-        Ok(())
+    /// What gives them their memory.
+    pub fn alloc(&self) -> Global {
+        self.alloc
     }
 
-    fn begin(&mut self, fact: Fact, open: Open) -> Result<(), AllocError> {
-        self.open.push(open)?;
-        self.add(fact)
+    /// Says that memory was refused for what is to be added.
+    pub fn refuse(&mut self) {
+        self.is_refused = true;
+    }
+
+    fn add(&mut self, fact: Fact) {
+        self.is_refused = self.is_refused || self.facts.push(fact).is_err();
+    }
+
+    fn begin(&mut self, fact: Fact, open: Open) {
+        self.is_refused = self.is_refused || self.open.push(open).is_err();
+        self.add(fact);
+    }
+
+    /// A text to be added, with nothing in it.
+    pub fn draft(&self) -> Draft {
+        Draft::new(self.alloc, self.is_refused)
     }
 
     /// Adds a text under a name.
-    pub fn text(&mut self, name: &'static str, text: Text) -> Result<(), AllocError> {
-        self.add(Fact::Text(name, text))
+    pub fn text(&mut self, name: &'static str, draft: Draft) {
+        match draft.finish() {
+            Ok(text) => self.add(Fact::Text(name, text)),
+            Err(AllocError) => self.refuse(),
+        }
     }
 
     /// Adds a number under a name.
-    pub fn number(&mut self, name: &'static str, number: u64) -> Result<(), AllocError> {
-        self.add(Fact::Number(name, number))
+    pub fn number(&mut self, name: &'static str, number: u64) {
+        self.add(Fact::Number(name, number));
     }
 
     /// Adds words of the program's own under a name.
-    pub fn words(
-        &mut self,
-        alloc: Global,
-        name: &'static str,
-        words: &str,
-    ) -> Result<(), AllocError> {
-        let mut text = Text::new(alloc);
-        text.words(words)?;
-        self.text(name, text)
+    pub fn words(&mut self, name: &'static str, words: &str) {
+        let mut draft = self.draft();
+        draft.words(words);
+        self.text(name, draft);
     }
 
     /// Adds bytes as hexadecimal digits.
-    pub fn hex(
-        &mut self,
-        alloc: Global,
-        name: &'static str,
-        bytes: &[u8],
-    ) -> Result<(), AllocError> {
-        let mut text = Text::new(alloc);
-        text.hex(bytes)?;
-        self.text(name, text)
+    pub fn hex(&mut self, name: &'static str, bytes: &[u8]) {
+        let mut draft = self.draft();
+        draft.hex(bytes);
+        self.text(name, draft);
+    }
+
+    /// Adds an octal number.
+    pub(crate) fn octal(&mut self, name: &'static str, number: u32) {
+        let mut draft = self.draft();
+        draft.octal(number);
+        self.text(name, draft);
     }
 
     /// Adds bytes of somebody else's, quoted.
-    pub fn quoted(
-        &mut self,
-        alloc: Global,
-        name: &'static str,
-        bytes: &[u8],
-    ) -> Result<(), AllocError> {
-        let mut text = Text::new(alloc);
-        text.quoted(bytes)?;
-        self.text(name, text)
+    pub fn quoted(&mut self, name: &'static str, bytes: &[u8]) {
+        let mut draft = self.draft();
+        draft.quoted(bytes);
+        self.text(name, draft);
+    }
+
+    /// Adds seconds and microseconds.
+    pub fn time(&mut self, name: &'static str, seconds: u32, microseconds: u32) {
+        let mut draft = self.draft();
+        draft.number(u64::from(seconds));
+        draft.words(" s ");
+        draft.number(u64::from(microseconds));
+        draft.words(" us");
+        self.text(name, draft);
     }
 
     /// Begins facts under a name, up to `end`.
-    pub fn group(&mut self, name: &'static str) -> Result<(), AllocError> {
-        self.begin(Fact::Group(name), Open::Group)
+    pub fn group(&mut self, name: &'static str) {
+        self.begin(Fact::Group(name), Open::Group);
     }
 
     /// Begins items under a name, up to `end`.
-    pub fn list(&mut self, name: &'static str) -> Result<(), AllocError> {
-        self.begin(Fact::List(name), Open::List)
+    pub fn list(&mut self, name: &'static str) {
+        self.begin(Fact::List(name), Open::List);
     }
 
     /// Begins an item of a list, up to `end`.
-    pub fn item(&mut self) -> Result<(), AllocError> {
-        self.begin(Fact::Item, Open::Group)
+    pub fn item(&mut self) {
+        self.begin(Fact::Item, Open::Group);
     }
 
     /// Ends the group, the list or the item that was begun last; nothing where none is left.
-    pub fn end(&mut self) -> Result<(), AllocError> {
+    pub fn end(&mut self) {
         match self.open.pop() {
             Some(Open::Group) => self.add(Fact::End),
             Some(Open::List) => self.add(Fact::ListEnd),
-            None => Ok(()),
+            None => {}
         }
     }
 
@@ -130,43 +156,44 @@ impl Facts {
     }
 
     /// Ends those that were begun last, until no more than so many are left.
-    pub fn end_to(&mut self, depth: usize) -> Result<(), AllocError> {
+    pub fn end_to(&mut self, depth: usize) {
         for _ in depth..self.open.len() {
-            self.end()?;
+            self.end();
         }
-        Ok(())
     }
 
     /// The facts as lines, each `name: value`; those of a group or an item stand two blanks further in.
-    pub fn lines(&self, alloc: Global) -> Result<Text, AllocError> {
+    /// `AllocError` comes where memory was refused, for them or for the lines.
+    pub fn lines(&self) -> Result<Text, AllocError> {
         let mut lines = Lines {
-            text: Text::new(alloc),
+            draft: self.draft(),
             depth: 0,
             begins_item: false,
         };
         for fact in &self.facts {
-            lines.add(fact)?;
+            lines.add(fact);
         }
-        Ok(lines.text)
+        lines.draft.finish()
     }
 
     /// The facts as members of an object of JSON (RFC 8259), each after a comma, without the object's braces.
-    pub fn members(&self, alloc: Global) -> Result<Text, AllocError> {
+    /// `AllocError` comes where memory was refused, for them or for the members.
+    pub fn members(&self) -> Result<Text, AllocError> {
         let mut members = Members {
-            text: Text::new(alloc),
+            draft: self.draft(),
             is_first: false,
         };
         for fact in &self.facts {
-            members.add(fact)?;
+            members.add(fact);
         }
-        Ok(members.text)
+        members.draft.finish()
     }
 }
 
 /// Facts as lines.
 #[derive(Drop)]
 struct Lines {
-    text: Text,
+    draft: Draft,
     /// How many groups, lists and items haven't ended.
     depth: u64,
     /// Whether the next line is the first of an item.
@@ -174,108 +201,99 @@ struct Lines {
 }
 
 impl Lines {
-    fn add(&mut self, fact: &Fact) -> Result<(), AllocError> {
+    fn add(&mut self, fact: &Fact) {
         match fact {
             Fact::Text(name, text) => {
-                self.name(name)?;
-                self.text.words(": ")?;
-                self.text.text(text)?;
-                self.text.end_line()
+                self.name(name);
+                self.draft.words(" ");
+                self.draft.text(text);
+                self.draft.end_line();
             }
             Fact::Number(name, number) => {
-                self.name(name)?;
-                self.text.words(": ")?;
-                self.text.number(*number)?;
-                self.text.end_line()
+                self.name(name);
+                self.draft.words(" ");
+                self.draft.number(*number);
+                self.draft.end_line();
             }
-            Fact::Group(name) | Fact::List(name) => self.begin(name),
+            Fact::Group(name) | Fact::List(name) => {
+                self.name(name);
+                self.draft.end_line();
+                self.depth = self.depth.saturating_add(1);
+            }
             Fact::Item => {
                 self.depth = self.depth.saturating_add(1);
                 self.begins_item = true;
-                Ok(())
             }
             Fact::End | Fact::ListEnd => {
                 self.depth = self.depth.saturating_sub(1);
                 self.begins_item = false;
-                Ok(())
             }
         }
     }
 
-    fn begin(&mut self, name: &str) -> Result<(), AllocError> {
-        self.name(name)?;
-        self.text.words(":")?;
-        self.depth = self.depth.saturating_add(1);
-        self.text.end_line()
-    }
-
-    /// Begins a line with its name.
-    fn name(&mut self, name: &str) -> Result<(), AllocError> {
-        self.text.indent(self.depth, self.begins_item)?;
+    /// Begins a line with its name and a colon.
+    fn name(&mut self, name: &str) {
+        self.draft.indent(self.depth, self.begins_item);
         self.begins_item = false;
-        self.text.words(name)
+        self.draft.words(name);
+        self.draft.words(":");
     }
 }
 
 /// Facts as members of an object.
 #[derive(Drop)]
 struct Members {
-    text: Text,
+    draft: Draft,
     /// Whether the next one is the first after a brace or a bracket.
     is_first: bool,
 }
 
 impl Members {
-    fn add(&mut self, fact: &Fact) -> Result<(), AllocError> {
+    fn add(&mut self, fact: &Fact) {
         match fact {
             Fact::Text(name, text) => {
-                self.name(name)?;
-                self.text.words("\"")?;
-                self.text.json(text)?;
-                self.text.words("\"")
+                self.name(name);
+                self.draft.words("\"");
+                self.draft.json(text);
+                self.draft.words("\"");
             }
             Fact::Number(name, number) => {
-                self.name(name)?;
-                self.text.number(*number)
+                self.name(name);
+                self.draft.number(*number);
             }
             Fact::Group(name) => {
-                self.name(name)?;
-                self.begin("{")
+                self.name(name);
+                self.bracket("{", true);
             }
             Fact::List(name) => {
-                self.name(name)?;
-                self.begin("[")
+                self.name(name);
+                self.bracket("[", true);
             }
             Fact::Item => {
-                self.separate()?;
-                self.begin("{")
+                self.separate();
+                self.bracket("{", true);
             }
-            Fact::End => self.finish("}"),
-            Fact::ListEnd => self.finish("]"),
+            Fact::End => self.bracket("}", false),
+            Fact::ListEnd => self.bracket("]", false),
         }
     }
 
-    fn separate(&mut self) -> Result<(), AllocError> {
+    fn separate(&mut self) {
         if !self.is_first {
-            self.text.words(",")?;
+            self.draft.words(",");
         }
         self.is_first = false;
-        Ok(())
     }
 
-    fn name(&mut self, name: &str) -> Result<(), AllocError> {
-        self.separate()?;
-        self.text.json_name(name)?;
-        self.text.words(":")
+    fn name(&mut self, name: &str) {
+        self.separate();
+        self.draft.json_name(name);
+        self.draft.words(":");
     }
 
-    fn begin(&mut self, bracket: &str) -> Result<(), AllocError> {
-        self.is_first = true;
-        self.text.words(bracket)
-    }
-
-    fn finish(&mut self, bracket: &str) -> Result<(), AllocError> {
-        self.is_first = false;
-        self.text.words(bracket)
+    /// Appends a brace or a bracket, which begins something or ends it.
+    fn bracket(&mut self, bracket: &str, begins: bool) {
+        self.is_first = begins;
+        self.draft.words(bracket);
     }
 }

@@ -1,10 +1,8 @@
 //! Items of calls and replies (RFC 4506), each under its name.
 
 use crate::facts::Facts;
-use crate::names::{BOOLEANS, FILE_TYPES, NumberName};
-use crate::text::Text;
-use nfs_items::{FileHandle, ReadFault, Reader, XdrFault};
-use std::alloc::{AllocError, Global};
+use crate::names::{FILE_TYPES, NumberName};
+use nfs_items::{FileHandle, Reader, XdrFault};
 
 /// What an item says.
 #[derive(Clone, Copy)]
@@ -43,7 +41,7 @@ const NOT_GIVEN: u32 = u32::MAX;
 const NO_MODE: u32 = 0xffff;
 
 /// Attributes (section 2.3.5).
-pub(crate) const ATTRIBUTES: &[Field] = &[
+pub(crate) static ATTRIBUTES: [Field; 14] = [
     Field {
         name: "type",
         form: Form::Named(&FILE_TYPES),
@@ -102,145 +100,95 @@ pub(crate) const ATTRIBUTES: &[Field] = &[
     },
 ];
 
-/// A flag alone.
-pub(crate) const END_OF_LIST: &[Field] = &[Field {
-    name: "eof",
-    form: Form::Named(&BOOLEANS),
-}];
-
 /// Reads items of a server's call or reply, and adds them. The first that doesn't decode ends it.
 pub(crate) fn add_fields(
-    alloc: Global,
     facts: &mut Facts,
     server: u32,
     reader: &mut Reader<'_>,
     fields: &[Field],
-) -> Result<(), ReadFault> {
+) -> Result<(), XdrFault> {
     for field in fields {
-        add_field(alloc, facts, server, reader, *field)?;
+        add_field(facts, server, reader, field)?;
     }
-    Ok(())
-}
-
-/// Reads an item and adds it.
-fn add_field(
-    alloc: Global,
-    facts: &mut Facts,
-    server: u32,
-    reader: &mut Reader<'_>,
-    field: Field,
-) -> Result<(), ReadFault> {
-    if let Form::Word = field.form {
-        let word = reader.u32()?;
-        facts.number(field.name, u64::from(word))?;
-        return Ok(());
-    }
-    let mut text = Text::new(alloc);
-    read_text(&mut text, server, reader, field.form)?;
-    facts.text(field.name, text)?;
     Ok(())
 }
 
 /// Reads items of a list, each after TRUE and the last before FALSE, and adds them.
 pub(crate) fn add_items(
-    alloc: Global,
     facts: &mut Facts,
     server: u32,
     reader: &mut Reader<'_>,
     name: &'static str,
     fields: &[Field],
-) -> Result<(), ReadFault> {
-    facts.list(name)?;
+) -> Result<(), XdrFault> {
+    facts.list(name);
     // Each item takes a byte at least.
     for _ in 0..reader.rest().len() {
         if !reader.bool()? {
             break;
         }
-        facts.item()?;
-        add_fields(alloc, facts, server, reader, fields)?;
-        facts.end()?;
+        facts.item();
+        add_fields(facts, server, reader, fields)?;
+        facts.end();
     }
-    facts.end()?;
+    facts.end();
     Ok(())
 }
 
-/// Reads an item and appends it.
-fn read_text(
-    text: &mut Text,
+/// Reads an item and adds it.
+fn add_field(
+    facts: &mut Facts,
     server: u32,
     reader: &mut Reader<'_>,
-    form: Form,
-) -> Result<(), ReadFault> {
-    match form {
-        Form::Word => text.number(u64::from(reader.u32()?))?,
-        Form::Mode => text.octal(reader.u32()?)?,
-        Form::Named(table) => text.named(table, reader.u32()?)?,
-        Form::Given => add_given(text, reader.u32()?)?,
-        Form::GivenMode => add_given_mode(text, reader.u32()?)?,
-        Form::Time => {
-            let (seconds, microseconds) = read_time(reader)?;
-            add_time(text, seconds, microseconds)?
-        }
-        Form::GivenTime => {
-            let (seconds, microseconds) = read_time(reader)?;
-            add_given_time(text, seconds, microseconds)?
-        }
-        Form::Handle => add_handle(text, server, FileHandle::read(reader)?)?,
-        Form::Opaque(most) => text.quoted(reader.opaque(most)?)?,
+    field: &Field,
+) -> Result<(), XdrFault> {
+    match field.form {
+        Form::Handle => add_handle(facts, field.name, server, FileHandle::read(reader)?),
+        Form::Opaque(most) => facts.quoted(field.name, reader.opaque(most)?),
+        Form::Time | Form::GivenTime => add_time(facts, field, reader.u64()?),
+        _ => add_word(facts, field, reader.u32()?),
     }
     Ok(())
 }
 
-/// Reads seconds and microseconds. Where both aren't there the reader stays before them.
-fn read_time(reader: &mut Reader<'_>) -> Result<(u32, u32), XdrFault> {
-    let bytes = reader.fixed::<8>()?;
-    let seconds = u32::from_be_bytes([bytes[0], bytes[1], bytes[2], bytes[3]]);
-    let microseconds = u32::from_be_bytes([bytes[4], bytes[5], bytes[6], bytes[7]]);
-    Ok((seconds, microseconds))
-}
-
-fn add_given(text: &mut Text, word: u32) -> Result<(), AllocError> {
-    if word == NOT_GIVEN {
-        return text.words("not given");
+/// Adds a word in a form of one.
+fn add_word(facts: &mut Facts, field: &Field, word: u32) {
+    match field.form {
+        Form::Named(table) => facts.named(field.name, table, word),
+        Form::Given | Form::GivenMode if word == NOT_GIVEN => facts.words(field.name, "not given"),
+        Form::GivenMode if word == NO_MODE => facts.words(field.name, "not given"),
+        Form::Mode | Form::GivenMode => facts.octal(field.name, word),
+        // A text, as what stands in its place where none is given.
+        Form::Given => facts.named(field.name, &[], word),
+        _ => facts.number(field.name, u64::from(word)),
     }
-    text.number(u64::from(word))
 }
 
-fn add_given_mode(text: &mut Text, word: u32) -> Result<(), AllocError> {
-    if word == NOT_GIVEN || word == NO_MODE {
-        return text.words("not given");
+/// Adds a time: the word of its seconds with that of its microseconds after it.
+fn add_time(facts: &mut Facts, field: &Field, time: u64) {
+    let seconds = (time >> 32) as u32;
+    let microseconds = (time & 0xffff_ffff) as u32;
+    match field.form {
+        Form::GivenTime if seconds == NOT_GIVEN => facts.words(field.name, "not given"),
+        Form::GivenTime if microseconds > 999_999 => {
+            facts.words(field.name, "the time of the call");
+        }
+        _ => facts.time(field.name, seconds, microseconds),
     }
-    text.octal(word)
 }
 
-fn add_given_time(text: &mut Text, seconds: u32, microseconds: u32) -> Result<(), AllocError> {
-    if seconds == NOT_GIVEN {
-        return text.words("not given");
-    }
-    if microseconds > 999_999 {
-        return text.words("the time of the call");
-    }
-    add_time(text, seconds, microseconds)
-}
-
-/// Appends seconds and microseconds.
-pub(crate) fn add_time(text: &mut Text, seconds: u32, microseconds: u32) -> Result<(), AllocError> {
-    text.number(u64::from(seconds))?;
-    text.words(" s ")?;
-    text.number(u64::from(microseconds))?;
-    text.words(" us")
-}
-
-/// Appends the file that a handle names at a server.
-fn add_handle(text: &mut Text, server: u32, handle: FileHandle) -> Result<(), AllocError> {
+/// Adds the file that a handle names at a server.
+fn add_handle(facts: &mut Facts, name: &'static str, server: u32, handle: FileHandle) {
+    let mut draft = facts.draft();
     match handle.number_in(server) {
         Some(number) => {
-            text.words("file ")?;
-            text.number(u64::from(number))
+            draft.words("file ");
+            draft.number(u64::from(number));
         }
         None => {
-            text.words("no handle of this server: ")?;
-            text.hex(&handle.0)
+            draft.words("no handle of this server: ");
+            draft.hex(&handle.0);
         }
     }
+    facts.text(name, draft);
 }

@@ -2,6 +2,7 @@
 #![tactic(auto)]
 
 mod call;
+mod draft;
 mod facts;
 mod fields;
 mod names;
@@ -10,7 +11,7 @@ mod reply;
 mod text;
 
 pub use call::add_call;
+pub use draft::Draft;
 pub use facts::Facts;
-pub use names::NumberName;
 pub use reply::add_reply;
 pub use text::Text;

@@ -1,18 +1,17 @@
 //! Numbers of the protocols, by their names in the standards.
 
+use crate::draft::Draft;
 use crate::facts::Facts;
-use crate::text::Text;
-use std::alloc::{AllocError, Global};
 
 /// A number, with its name in a standard.
 #[derive(Clone, Copy)]
-pub struct NumberName {
+pub(crate) struct NumberName {
     pub number: u32,
     pub name: &'static str,
 }
 
 /// Stats of NFS (RFC 1094, section 2.3.1).
-pub(crate) const STATS: [NumberName; 18] = [
+pub(crate) static STATS: [NumberName; 18] = [
     NumberName {
         number: 0,
         name: "NFS_OK",
@@ -88,7 +87,7 @@ pub(crate) const STATS: [NumberName; 18] = [
 ];
 
 /// Statuses of MNT (RFC 1094, appendix A.5.2), numbers of UNIX errors.
-pub(crate) const MOUNT_STATUSES: [NumberName; 4] = [
+pub(crate) static MOUNT_STATUSES: [NumberName; 4] = [
     NumberName {
         number: 0,
         name: "mounted",
@@ -148,7 +147,7 @@ pub(crate) const BOOLEANS: [NumberName; 2] = [
 ];
 
 /// Programs that are served.
-pub(crate) const PROGRAMS: [NumberName; 2] = [
+pub(crate) static PROGRAMS: [NumberName; 2] = [
     NumberName {
         number: 100_003,
         name: "NFS",
@@ -160,7 +159,7 @@ pub(crate) const PROGRAMS: [NumberName; 2] = [
 ];
 
 /// Flavors of credentials (RFC 5531, section 8.2).
-pub(crate) const FLAVORS: [NumberName; 4] = [
+pub(crate) static FLAVORS: [NumberName; 4] = [
     NumberName {
         number: 0,
         name: "AUTH_NONE",
@@ -180,7 +179,7 @@ pub(crate) const FLAVORS: [NumberName; 4] = [
 ];
 
 /// Whether a call was accepted (RFC 5531, section 9, reply_stat).
-pub(crate) const REPLY_STATS: [NumberName; 2] = [
+pub(crate) static REPLY_STATS: [NumberName; 2] = [
     NumberName {
         number: 0,
         name: "MSG_ACCEPTED",
@@ -192,7 +191,7 @@ pub(crate) const REPLY_STATS: [NumberName; 2] = [
 ];
 
 /// What became of an accepted call (RFC 5531, section 9, accept_stat).
-pub(crate) const ACCEPT_STATS: [NumberName; 6] = [
+pub(crate) static ACCEPT_STATS: [NumberName; 6] = [
     NumberName {
         number: 0,
         name: "SUCCESS",
@@ -220,7 +219,7 @@ pub(crate) const ACCEPT_STATS: [NumberName; 6] = [
 ];
 
 /// Why a call was denied (RFC 5531, section 9, reject_stat).
-pub(crate) const REJECT_STATS: [NumberName; 2] = [
+pub(crate) static REJECT_STATS: [NumberName; 2] = [
     NumberName {
         number: 0,
         name: "RPC_MISMATCH",
@@ -232,7 +231,7 @@ pub(crate) const REJECT_STATS: [NumberName; 2] = [
 ];
 
 /// Why a credential was refused (RFC 5531, section 9, auth_stat).
-pub(crate) const AUTH_STATS: [NumberName; 3] = [
+pub(crate) static AUTH_STATS: [NumberName; 3] = [
     NumberName {
         number: 1,
         name: "AUTH_BADCRED",
@@ -257,30 +256,36 @@ fn name_in(table: &[NumberName], number: u32) -> Option<&'static str> {
     None
 }
 
-impl Text {
+impl Draft {
     /// Appends a number with its name in a table, as `NFS_OK (0)`, or the number alone.
-    pub(crate) fn named(&mut self, table: &[NumberName], number: u32) -> Result<(), AllocError> {
-        let Some(name) = name_in(table, number) else {
-            return self.number(u64::from(number));
-        };
-        self.words(name)?;
-        self.words(" (")?;
-        self.number(u64::from(number))?;
-        self.words(")")
+    fn named(&mut self, table: &[NumberName], number: u32) {
+        match name_in(table, number) {
+            Some(name) => self.name_and_number(name, number),
+            None => self.number(u64::from(number)),
+        }
+    }
+
+    /// Appends a name with its number.
+    fn name_and_number(&mut self, name: &str, number: u32) {
+        self.words(name);
+        self.words(" (");
+        self.number(u64::from(number));
+        self.words(")");
     }
 }
 
 impl Facts {
     /// Adds a number with its name in a table.
-    pub(crate) fn named(
-        &mut self,
-        alloc: Global,
-        name: &'static str,
-        table: &[NumberName],
-        number: u32,
-    ) -> Result<(), AllocError> {
-        let mut text = Text::new(alloc);
-        text.named(table, number)?;
-        self.text(name, text)
+    pub(crate) fn named(&mut self, name: &'static str, table: &[NumberName], number: u32) {
+        let mut draft = self.draft();
+        draft.named(table, number);
+        self.text(name, draft);
+    }
+
+    /// Adds a number with a name of its own.
+    pub(crate) fn name_and_number(&mut self, name: &'static str, own: &str, number: u32) {
+        let mut draft = self.draft();
+        draft.name_and_number(own, number);
+        self.text(name, draft);
     }
 }

@@ -1,28 +1,30 @@
 //! The procedures of NFS and MOUNT, with their arguments and results (RFC 1094, section 2.2 and appendix A).
 
 use crate::fields::{Field, Form};
+use crate::names::BOOLEANS;
 
-/// What a procedure answers.
+/// A part of what a procedure answers.
 #[derive(Clone, Copy)]
-pub(crate) enum Results {
-    /// Nothing.
-    None,
-    /// A stat, and attributes where it is OK.
-    Attributes,
-    /// A stat, and a file's handle and its attributes where it is OK.
-    File,
-    /// A stat, and these items where it is OK.
+pub(crate) enum Part {
+    /// These items.
     Items(&'static [Field]),
-    /// A stat, and attributes and data where it is OK.
-    Data,
-    /// A stat, and entries where it is OK.
-    Entries,
-    /// The status of MNT, and a handle where it is 0.
-    Mounted,
-    /// What is mounted.
-    Mounts,
+    /// A file's attributes.
+    Attributes,
+    /// A list under a name, each with these items.
+    List(&'static str, &'static [Field]),
     /// What may be mounted.
     Exports,
+}
+
+/// Stats by which procedures answer.
+#[derive(Clone, Copy)]
+pub(crate) enum Stats {
+    /// None: the results always come.
+    None,
+    /// Those of NFS.
+    Nfs,
+    /// Those of MNT.
+    Mount,
 }
 
 /// A procedure.
@@ -30,7 +32,9 @@ pub(crate) enum Results {
 pub(crate) struct Procedure {
     pub name: &'static str,
     pub arguments: &'static [Field],
-    pub results: Results,
+    /// Of which stats one stands first in what it answers: the results come where that is 0.
+    pub stats: Stats,
+    pub results: &'static [Part],
 }
 
 const NAME: Form = Form::Opaque(255);
@@ -282,17 +286,19 @@ const FREE: &[Field] = &[
     },
 ];
 
-const DIRECTORY: &[Field] = &[Field {
+const PATH_OF_DIRECTORY: Field = Field {
     name: "directory",
     form: PATH,
-}];
+};
 
-pub(crate) const DATA_READ: &[Field] = &[Field {
+const DIRECTORY: &[Field] = &[PATH_OF_DIRECTORY];
+
+const DATA_READ: &[Field] = &[Field {
     name: "data",
     form: DATA,
 }];
 
-pub(crate) const ENTRY: &[Field] = &[
+const ENTRY: &[Field] = &[
     Field {
         name: "fileid",
         form: Form::Word,
@@ -307,9 +313,7 @@ pub(crate) const ENTRY: &[Field] = &[
     },
 ];
 
-pub(crate) const HANDLE: &[Field] = FILE;
-
-pub(crate) const MOUNT: &[Field] = &[
+const MOUNT: &[Field] = &[
     Field {
         name: "hostname",
         form: NAME,
@@ -320,150 +324,178 @@ pub(crate) const MOUNT: &[Field] = &[
     },
 ];
 
-pub(crate) const EXPORTED: &[Field] = DIRECTORY;
+/// A flag alone.
+const END_OF_LIST: &[Field] = &[Field {
+    name: "eof",
+    form: Form::Named(&BOOLEANS),
+}];
 
-pub(crate) const GROUP: &[Field] = &[Field {
+/// Of what may be mounted.
+pub(crate) static EXPORTED: [Field; 1] = [PATH_OF_DIRECTORY];
+
+/// Of those that may mount it.
+pub(crate) static GROUP: [Field; 1] = [Field {
     name: "group",
     form: NAME,
 }];
 
 /// The procedures of NFS version 2, by their numbers.
-const NFS: [Procedure; 18] = [
+static NFS: [Procedure; 18] = [
     Procedure {
         name: "NULL",
         arguments: NOTHING,
-        results: Results::None,
+        stats: Stats::None,
+        results: &[],
     },
     Procedure {
         name: "GETATTR",
         arguments: FILE,
-        results: Results::Attributes,
+        stats: Stats::Nfs,
+        results: &[Part::Attributes],
     },
     Procedure {
         name: "SETATTR",
         arguments: SETATTR,
-        results: Results::Attributes,
+        stats: Stats::Nfs,
+        results: &[Part::Attributes],
     },
     Procedure {
         name: "ROOT",
         arguments: NOTHING,
-        results: Results::None,
+        stats: Stats::None,
+        results: &[],
     },
     Procedure {
         name: "LOOKUP",
         arguments: PLACE,
-        results: Results::File,
+        stats: Stats::Nfs,
+        results: &[Part::Items(FILE), Part::Attributes],
     },
     Procedure {
         name: "READLINK",
         arguments: FILE,
-        results: Results::Items(TARGET),
+        stats: Stats::Nfs,
+        results: &[Part::Items(TARGET)],
     },
     Procedure {
         name: "READ",
         arguments: READ,
-        results: Results::Data,
+        stats: Stats::Nfs,
+        results: &[Part::Attributes, Part::Items(DATA_READ)],
     },
     Procedure {
         name: "WRITECACHE",
         arguments: NOTHING,
-        results: Results::None,
+        stats: Stats::None,
+        results: &[],
     },
     Procedure {
         name: "WRITE",
         arguments: WRITE,
-        results: Results::Attributes,
+        stats: Stats::Nfs,
+        results: &[Part::Attributes],
     },
     Procedure {
         name: "CREATE",
         arguments: CREATE,
-        results: Results::File,
+        stats: Stats::Nfs,
+        results: &[Part::Items(FILE), Part::Attributes],
     },
     Procedure {
         name: "REMOVE",
         arguments: PLACE,
-        results: Results::Items(NOTHING),
+        stats: Stats::Nfs,
+        results: &[],
     },
     Procedure {
         name: "RENAME",
         arguments: RENAME,
-        results: Results::Items(NOTHING),
+        stats: Stats::Nfs,
+        results: &[],
     },
     Procedure {
         name: "LINK",
         arguments: LINK,
-        results: Results::Items(NOTHING),
+        stats: Stats::Nfs,
+        results: &[],
     },
     Procedure {
         name: "SYMLINK",
         arguments: SYMLINK,
-        results: Results::Items(NOTHING),
+        stats: Stats::Nfs,
+        results: &[],
     },
     Procedure {
         name: "MKDIR",
         arguments: CREATE,
-        results: Results::File,
+        stats: Stats::Nfs,
+        results: &[Part::Items(FILE), Part::Attributes],
     },
     Procedure {
         name: "RMDIR",
         arguments: PLACE,
-        results: Results::Items(NOTHING),
+        stats: Stats::Nfs,
+        results: &[],
     },
     Procedure {
         name: "READDIR",
         arguments: READDIR,
-        results: Results::Entries,
+        stats: Stats::Nfs,
+        results: &[Part::List("entries", ENTRY), Part::Items(END_OF_LIST)],
     },
     Procedure {
         name: "STATFS",
         arguments: FILE,
-        results: Results::Items(FREE),
+        stats: Stats::Nfs,
+        results: &[Part::Items(FREE)],
     },
 ];
 
 /// The procedures of MOUNT version 1, by their numbers.
-const MOUNTS: [Procedure; 6] = [
+static MOUNTS: [Procedure; 6] = [
     Procedure {
         name: "NULL",
         arguments: NOTHING,
-        results: Results::None,
+        stats: Stats::None,
+        results: &[],
     },
     Procedure {
         name: "MNT",
         arguments: DIRECTORY,
-        results: Results::Mounted,
+        stats: Stats::Mount,
+        results: &[Part::Items(FILE)],
     },
     Procedure {
         name: "DUMP",
         arguments: NOTHING,
-        results: Results::Mounts,
+        stats: Stats::None,
+        results: &[Part::List("mounts", MOUNT)],
     },
     Procedure {
         name: "UMNT",
         arguments: DIRECTORY,
-        results: Results::None,
+        stats: Stats::None,
+        results: &[],
     },
     Procedure {
         name: "UMNTALL",
         arguments: NOTHING,
-        results: Results::None,
+        stats: Stats::None,
+        results: &[],
     },
     Procedure {
         name: "EXPORT",
         arguments: NOTHING,
-        results: Results::Exports,
+        stats: Stats::None,
+        results: &[Part::Exports],
     },
 ];
 
 /// The procedure with a number of a program's version, if it is served.
-pub(crate) fn procedure_of(program: u32, version: u32, number: u32) -> Option<Procedure> {
+pub(crate) fn procedure_of(program: u32, version: u32, number: u32) -> Option<&'static Procedure> {
     match (program, version) {
-        (100_003, 2) => procedure_in(&NFS, number),
-        (100_005, 1) => procedure_in(&MOUNTS, number),
+        (100_003, 2) => NFS.get(number as usize),
+        (100_005, 1) => MOUNTS.get(number as usize),
         _ => None,
     }
-}
-
-fn procedure_in(procedures: &[Procedure], number: u32) -> Option<Procedure> {
-    procedures.get(number as usize).copied()
 }

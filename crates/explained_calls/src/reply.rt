@@ -2,16 +2,13 @@
 
 use crate::call::add_end;
 use crate::facts::Facts;
-use crate::fields::{ATTRIBUTES, END_OF_LIST, Field, Form, add_fields, add_items};
+use crate::fields::{ATTRIBUTES, Field, Form, add_fields, add_items};
 use crate::names::{
     ACCEPT_STATS, AUTH_STATS, FLAVORS, MOUNT_STATUSES, NumberName, REJECT_STATS, REPLY_STATS, STATS,
 };
-use crate::procedures::{
-    DATA_READ, ENTRY, EXPORTED, GROUP, HANDLE, MOUNT, Procedure, Results, procedure_of,
-};
-use nfs_items::{ReadFault, Reader, XdrFault};
+use crate::procedures::{EXPORTED, GROUP, Part, Procedure, Stats, procedure_of};
+use nfs_items::{Reader, XdrFault};
 use rpc::{CallBody, read_call};
-use std::alloc::{AllocError, Global};
 
 /// REPLY (RFC 5531, section 9, msg_type).
 const REPLY: u32 = 1;
@@ -20,7 +17,7 @@ const REPLY: u32 = 1;
 const MAX_AUTH: u32 = 400;
 
 /// The versions of RPC or of a program that are served, at a mismatch (RFC 5531, section 9).
-const VERSIONS: &[Field] = &[
+static VERSIONS: [Field; 2] = [
     Field {
         name: "lowest version",
         form: Form::Word,
@@ -32,24 +29,16 @@ const VERSIONS: &[Field] = &[
 ];
 
 /// Adds what a server's reply to a call says (RFC 5531, section 9): stats by their names, and the results of
-/// the call's procedure. What doesn't decode is told as such, with its bytes. `AllocError` comes only where a
-/// growth was refused.
-pub fn add_reply(
-    alloc: Global,
-    facts: &mut Facts,
-    server: u32,
-    call: &[u8],
-    bytes: &[u8],
-) -> Result<(), AllocError> {
+/// the call's procedure. What doesn't decode is told as such, with its bytes.
+pub fn add_reply(facts: &mut Facts, server: u32, call: &[u8], bytes: &[u8]) {
     let depth = facts.depth();
     let mut reader = Reader::new(bytes);
-    let read = add_message(alloc, facts, server, &mut reader, called(call));
-    facts.end_to(depth)?;
-    add_end(alloc, facts, &reader, read)
+    let read = add_message(facts, server, &mut reader, called(call));
+    add_end(facts, depth, &reader, read);
 }
 
 /// The procedure that a call asks for, if it is served.
-fn called(call: &[u8]) -> Option<Procedure> {
+fn called(call: &[u8]) -> Option<&'static Procedure> {
     match read_call(call).ok()?.body {
         CallBody::Version2(header, _) => {
             procedure_of(header.program, header.version, header.procedure)
@@ -60,160 +49,118 @@ fn called(call: &[u8]) -> Option<Procedure> {
 
 /// Adds a number that has a name in a standard, and answers it.
 fn add_named(
-    alloc: Global,
     facts: &mut Facts,
     reader: &mut Reader<'_>,
     name: &'static str,
     table: &[NumberName],
-) -> Result<u32, ReadFault> {
+) -> Result<u32, XdrFault> {
     let number = reader.u32()?;
-    facts.named(alloc, name, table, number)?;
+    facts.named(name, table, number);
     Ok(number)
 }
 
 /// Reads a reply and adds it.
 fn add_message(
-    alloc: Global,
     facts: &mut Facts,
     server: u32,
     reader: &mut Reader<'_>,
-    called: Option<Procedure>,
-) -> Result<(), ReadFault> {
+    called: Option<&Procedure>,
+) -> Result<(), XdrFault> {
     let xid = reader.u32()?;
-    facts.number("xid", u64::from(xid))?;
+    facts.number("xid", u64::from(xid));
     if reader.u32()? != REPLY {
-        facts.words(alloc, "reply", "none: the message's type is another")?;
+        facts.words("reply", "none: the message's type is another");
         return Ok(());
     }
-    match add_named(alloc, facts, reader, "reply", &REPLY_STATS)? {
-        0 => add_accepted(alloc, facts, server, reader, called),
-        1 => add_denied(alloc, facts, server, reader),
-        _ => Err(ReadFault::Fault(XdrFault::BadEnum)),
+    match add_named(facts, reader, "reply", &REPLY_STATS)? {
+        0 => add_accepted(facts, server, reader, called),
+        1 => add_denied(facts, server, reader),
+        _ => Err(XdrFault::BadEnum),
     }
 }
 
 /// Reads the reply to an accepted call.
 fn add_accepted(
-    alloc: Global,
     facts: &mut Facts,
     server: u32,
     reader: &mut Reader<'_>,
-    called: Option<Procedure>,
-) -> Result<(), ReadFault> {
-    add_named(alloc, facts, reader, "verifier", &FLAVORS)?;
+    called: Option<&Procedure>,
+) -> Result<(), XdrFault> {
+    add_named(facts, reader, "verifier", &FLAVORS)?;
     let body = reader.opaque(MAX_AUTH)?;
     if !body.is_empty() {
-        facts.hex(alloc, "verifier's body", body)?;
+        facts.hex("verifier's body", body);
     }
-    match (
-        add_named(alloc, facts, reader, "status", &ACCEPT_STATS)?,
-        called,
-    ) {
-        (0, Some(procedure)) => add_results(alloc, facts, server, reader, procedure.results),
-        (2, _) => add_fields(alloc, facts, server, reader, VERSIONS),
+    match (add_named(facts, reader, "status", &ACCEPT_STATS)?, called) {
+        (0, Some(procedure)) => add_results(facts, server, reader, procedure),
+        (2, _) => add_fields(facts, server, reader, &VERSIONS),
         _ => Ok(()),
     }
 }
 
 /// Reads the reply to a denied call.
-fn add_denied(
-    alloc: Global,
-    facts: &mut Facts,
-    server: u32,
-    reader: &mut Reader<'_>,
-) -> Result<(), ReadFault> {
-    if add_named(alloc, facts, reader, "status", &REJECT_STATS)? == 0 {
-        return add_fields(alloc, facts, server, reader, VERSIONS);
+fn add_denied(facts: &mut Facts, server: u32, reader: &mut Reader<'_>) -> Result<(), XdrFault> {
+    if add_named(facts, reader, "status", &REJECT_STATS)? == 0 {
+        return add_fields(facts, server, reader, &VERSIONS);
     }
-    add_named(alloc, facts, reader, "why", &AUTH_STATS)?;
+    add_named(facts, reader, "why", &AUTH_STATS)?;
     Ok(())
 }
 
 /// Reads the results of a procedure.
 fn add_results(
-    alloc: Global,
     facts: &mut Facts,
     server: u32,
     reader: &mut Reader<'_>,
-    results: Results,
-) -> Result<(), ReadFault> {
-    match results {
-        Results::None => Ok(()),
-        Results::Mounts => add_items(alloc, facts, server, reader, "mounts", MOUNT),
-        Results::Exports => add_exports(alloc, facts, server, reader),
-        Results::Mounted => {
-            if add_named(alloc, facts, reader, "stat", &MOUNT_STATUSES)? != 0 {
-                return Ok(());
-            }
-            add_fields(alloc, facts, server, reader, HANDLE)
-        }
-        _ => {
-            if add_named(alloc, facts, reader, "stat", &STATS)? != 0 {
-                return Ok(());
-            }
-            add_ok(alloc, facts, server, reader, results)
-        }
+    procedure: &Procedure,
+) -> Result<(), XdrFault> {
+    let stat = match procedure.stats {
+        Stats::None => 0,
+        Stats::Nfs => add_named(facts, reader, "stat", &STATS)?,
+        Stats::Mount => add_named(facts, reader, "stat", &MOUNT_STATUSES)?,
+    };
+    if stat != 0 {
+        return Ok(());
     }
-}
-
-/// Reads what follows a stat that is OK.
-fn add_ok(
-    alloc: Global,
-    facts: &mut Facts,
-    server: u32,
-    reader: &mut Reader<'_>,
-    results: Results,
-) -> Result<(), ReadFault> {
-    match results {
-        Results::Attributes => add_attributes(alloc, facts, server, reader),
-        Results::File => {
-            add_fields(alloc, facts, server, reader, HANDLE)?;
-            add_attributes(alloc, facts, server, reader)
-        }
-        Results::Data => {
-            add_attributes(alloc, facts, server, reader)?;
-            add_fields(alloc, facts, server, reader, DATA_READ)
-        }
-        Results::Entries => {
-            add_items(alloc, facts, server, reader, "entries", ENTRY)?;
-            add_fields(alloc, facts, server, reader, END_OF_LIST)
-        }
-        Results::Items(fields) => add_fields(alloc, facts, server, reader, fields),
-        _ => Ok(()),
+    for part in procedure.results {
+        add_part(facts, server, reader, *part)?;
     }
-}
-
-/// Reads a file's attributes.
-fn add_attributes(
-    alloc: Global,
-    facts: &mut Facts,
-    server: u32,
-    reader: &mut Reader<'_>,
-) -> Result<(), ReadFault> {
-    facts.group("attributes")?;
-    add_fields(alloc, facts, server, reader, ATTRIBUTES)?;
-    facts.end()?;
     Ok(())
 }
 
-/// Reads what may be mounted, each directory with its groups.
-fn add_exports(
-    alloc: Global,
+/// Reads a part of the results.
+fn add_part(
     facts: &mut Facts,
     server: u32,
     reader: &mut Reader<'_>,
-) -> Result<(), ReadFault> {
-    facts.list("exports")?;
+    part: Part,
+) -> Result<(), XdrFault> {
+    match part {
+        Part::Items(fields) => add_fields(facts, server, reader, fields),
+        Part::Attributes => {
+            facts.group("attributes");
+            let read = add_fields(facts, server, reader, &ATTRIBUTES);
+            facts.end();
+            read
+        }
+        Part::List(name, fields) => add_items(facts, server, reader, name, fields),
+        Part::Exports => add_exports(facts, server, reader),
+    }
+}
+
+/// Reads what may be mounted, each directory with its groups.
+fn add_exports(facts: &mut Facts, server: u32, reader: &mut Reader<'_>) -> Result<(), XdrFault> {
+    facts.list("exports");
     // Each takes a byte at least.
     for _ in 0..reader.rest().len() {
         if !reader.bool()? {
             break;
         }
-        facts.item()?;
-        add_fields(alloc, facts, server, reader, EXPORTED)?;
-        add_items(alloc, facts, server, reader, "groups", GROUP)?;
-        facts.end()?;
+        facts.item();
+        add_fields(facts, server, reader, &EXPORTED)?;
+        add_items(facts, server, reader, "groups", &GROUP)?;
+        facts.end();
     }
-    facts.end()?;
+    facts.end();
     Ok(())
 }

@@ -3,7 +3,7 @@
 ghost use Rattle.std.specs.Prelude.{◌≤◌, length};
 ghost use Rattle.challenge.specs.evidence_spec.Evidence.{MAX_AUDITED};
 
-use crate::entry::{Log, add_time, call_before, kind_name, reply_group};
+use crate::entry::{Log, call_before, kind_name, reply_group};
 use crate::roster::node_fact;
 use challenge::{Outcome, ReplayFault, opening_state, replay_outcome};
 use checkpoint::{Machine, SentMessage, Stage, State, state_digest};
@@ -13,57 +13,49 @@ use secure_log::{Number, Roster};
 use std::alloc::{AllocError, Global};
 
 /// Adds what was owed at a faulty entry, and what was given.
-pub(crate) fn add_comparison(
-    alloc: Global,
-    facts: &mut Facts,
-    log: &Log<'_>,
-    fault: ReplayFault,
-    at: usize,
-) -> Result<(), AllocError>
+pub(crate) fn add_comparison(facts: &mut Facts, log: &Log<'_>, fault: ReplayFault, at: usize)
     requires { length log.now.entries.now ≤ MAX_AUDITED }
 {
+    match outcome_before(facts.alloc(), log, at) {
+        Ok(Outcome::Sound(state)) => compare(facts, log, fault, at, &state),
+        Ok(Outcome::Fault(..)) => {}
+        Err(AllocError) => facts.refuse(),
+    }
+}
+
+/// Where the entries before a place end, which have no fault: in the state before that place.
+fn outcome_before(alloc: Global, log: &Log<'_>, at: usize) -> Result<Outcome, AllocError>
+    requires { length log.now.entries.now ≤ MAX_AUDITED }
+{
+    let entries = &log.entries[..at.min(log.entries.len())];
+    let start = opening_state(alloc, &log.member)?;
+    replay_outcome(alloc, log.roster, start, Number::new(1), &[0; 32], entries)
+}
+
+/// Adds what was owed after a state, and what the entry there gives.
+fn compare(facts: &mut Facts, log: &Log<'_>, fault: ReplayFault, at: usize, state: &State) {
     let Some(entry) = log.entries.get(at) else {
-        return Ok(());
-    };
-    let Some(state) = state_before(alloc, log, at)? else {
-        return Ok(());
+        return;
     };
     match fault {
-        ReplayFault::WrongReply => compare_replies(alloc, facts, log, at, &state, entry),
-        ReplayFault::BadForm => compare_forms(alloc, facts, &state, entry),
-        ReplayFault::ClockBack => compare_times(alloc, facts, &state, entry),
-        ReplayFault::WrongCheckpoint => compare_digests(alloc, facts, &state, entry),
-        ReplayFault::BadReceive => compare_senders(alloc, facts, log, entry),
+        ReplayFault::WrongReply => compare_replies(facts, log, at, state, entry),
+        ReplayFault::BadForm => say(facts, turn_words(state), kind_name(entry.kind())),
+        ReplayFault::ClockBack => compare_times(facts, state, entry),
+        ReplayFault::WrongCheckpoint => compare_digests(facts, state, entry),
+        ReplayFault::BadReceive => compare_senders(facts, log, entry),
         ReplayFault::Repeated => say(
-            alloc,
             facts,
             "a message that was not received before",
             "one that an earlier entry has: the same sender, number there, hash before it there and body",
         ),
-        ReplayFault::BadAck => compare_receipts(alloc, facts, log, &state, entry),
+        ReplayFault::BadAck => compare_receipts(facts, log, state, entry),
     }
 }
 
 /// Adds what was owed and what was given, in words of the program's own.
-fn say(alloc: Global, facts: &mut Facts, owed: &str, given: &str) -> Result<(), AllocError> {
-    facts.words(alloc, "owed", owed)?;
-    facts.words(alloc, "given", given)
-}
-
-/// The state before the entry at a place, after entries that have no fault.
-fn state_before(alloc: Global, log: &Log<'_>, at: usize) -> Result<Option<State>, AllocError>
-    requires { length log.now.entries.now ≤ MAX_AUDITED }
-{
-    let Some(member) = log.roster.member(log.node) else {
-        return Ok(None);
-    };
-    let entries = &log.entries[..at.min(log.entries.len())];
-    let start = opening_state(alloc, &member)?;
-    let outcome = replay_outcome(alloc, log.roster, start, Number::new(1), &[0; 32], entries)?;
-    match outcome {
-        Outcome::Sound(state) => Ok(Some(state)),
-        Outcome::Fault(..) => Ok(None),
-    }
+fn say(facts: &mut Facts, owed: &str, given: &str) {
+    facts.words("owed", owed);
+    facts.words("given", given);
 }
 
 /// What may stand after a state.
@@ -78,85 +70,52 @@ fn turn_words(state: &State) -> &'static str {
     }
 }
 
-fn compare_forms(
-    alloc: Global,
-    facts: &mut Facts,
-    state: &State,
-    entry: &Entry,
-) -> Result<(), AllocError> {
-    say(alloc, facts, turn_words(state), kind_name(entry.kind()))
-}
-
-fn compare_times(
-    alloc: Global,
-    facts: &mut Facts,
-    state: &State,
-    entry: &Entry,
-) -> Result<(), AllocError> {
+/// Adds the times, where an entry is a reading.
+fn compare_times(facts: &mut Facts, state: &State, entry: &Entry) {
     let clock = state.clock();
-    add_time(
-        alloc,
-        facts,
-        "owed at least",
-        clock.seconds(),
-        clock.microseconds(),
-    )?;
-    match entry {
-        Entry::Clock {
-            seconds,
-            microseconds,
-        } => add_time(alloc, facts, "given", *seconds, *microseconds),
-        _ => Ok(()),
+    facts.time("owed at least", clock.seconds(), clock.microseconds());
+    if let Entry::Clock {
+        seconds,
+        microseconds,
+    } = entry
+    {
+        facts.time("given", *seconds, *microseconds);
     }
 }
 
-fn compare_digests(
-    alloc: Global,
-    facts: &mut Facts,
-    state: &State,
-    entry: &Entry,
-) -> Result<(), AllocError> {
-    let owed = state_digest(alloc, state)?;
-    facts.hex(alloc, "owed", &owed)?;
-    match entry {
-        Entry::Check { digest } => {
-            facts.hex(alloc, "given", digest)?;
-            add_difference(alloc, facts, &owed, digest)
+/// Adds the digests, where an entry has one.
+fn compare_digests(facts: &mut Facts, state: &State, entry: &Entry) {
+    match state_digest(facts.alloc(), state) {
+        Ok(owed) => {
+            facts.hex("owed", &owed);
+            if let Entry::Check { digest } = entry {
+                facts.hex("given", digest);
+                add_difference(facts, &owed, digest);
+            }
         }
-        _ => Ok(()),
+        Err(AllocError) => facts.refuse(),
     }
 }
 
 /// Adds why a message isn't one of another member's.
-fn compare_senders(
-    alloc: Global,
-    facts: &mut Facts,
-    log: &Log<'_>,
-    entry: &Entry,
-) -> Result<(), AllocError> {
+fn compare_senders(facts: &mut Facts, log: &Log<'_>, entry: &Entry) {
     let Entry::Recv { from, .. } = entry else {
-        return Ok(());
+        return;
     };
-    let given = if *from == log.node {
+    let given = if *from == log.member.node {
         "a message whose sender is the node itself"
     } else if log.roster.member(*from).is_none() {
         "a message whose sender is no member of the roster"
     } else {
         "a message whose signature does not verify by the sender's key for its number and hash there"
     };
-    say(alloc, facts, "a message that another member signed", given)
+    say(facts, "a message that another member signed", given);
 }
 
 /// Adds why an acknowledgement is of no message.
-fn compare_receipts(
-    alloc: Global,
-    facts: &mut Facts,
-    log: &Log<'_>,
-    state: &State,
-    entry: &Entry,
-) -> Result<(), AllocError> {
+fn compare_receipts(facts: &mut Facts, log: &Log<'_>, state: &State, entry: &Entry) {
     let Entry::Ack { to, seq, .. } = entry else {
-        return Ok(());
+        return;
     };
     let given = match state.sends().get(seq.get()) {
         None => "one of a number under which no message waits for an acknowledgement",
@@ -165,26 +124,18 @@ fn compare_receipts(
             "one whose signature does not verify by the receiver's key for its number and hash there",
     };
     say(
-        alloc,
         facts,
         "an acknowledgement of a message that was sent to that node and has none yet, signed by it",
         given,
-    )?;
-    match state.sends().get(seq.get()) {
-        Some(sent) => add_receipt(alloc, facts, log, &sent, entry),
-        None => Ok(()),
+    );
+    if let Some(sent) = state.sends().get(seq.get()) {
+        add_receipt(facts, log, &sent, entry);
     }
 }
 
 /// Adds where a message went, and the hash that its receiver owes a signature of.
-fn add_receipt(
-    alloc: Global,
-    facts: &mut Facts,
-    log: &Log<'_>,
-    sent: &SentMessage,
-    entry: &Entry,
-) -> Result<(), AllocError> {
-    node_fact(alloc, facts, "message went to", log.roster, sent.to())?;
+fn add_receipt(facts: &mut Facts, log: &Log<'_>, sent: &SentMessage, entry: &Entry) {
+    node_fact(facts, "message went to", log.roster, sent.to());
     let Entry::Ack {
         seq,
         mine,
@@ -193,98 +144,64 @@ fn add_receipt(
         ..
     } = entry
     else {
-        return Ok(());
+        return;
     };
     let receipt = Receipt {
-        from: log.node,
+        from: log.member.node,
         seq: *seq,
         sender_prev: *sent.prev(),
         body: *sent.body_hash(),
         signature: *mine,
     };
-    facts.hex(alloc, "hash there", &receipt_hash(&receipt, *number, prev))
+    facts.hex("hash there", &receipt_hash(&receipt, *number, prev));
 }
 
 /// Adds the reply that was owed and what was given, and the first byte that differs.
-fn compare_replies(
-    alloc: Global,
-    facts: &mut Facts,
-    log: &Log<'_>,
-    at: usize,
-    state: &State,
-    entry: &Entry,
-) -> Result<(), AllocError> {
+fn compare_replies(facts: &mut Facts, log: &Log<'_>, at: usize, state: &State, entry: &Entry) {
     let call = call_before(log.entries, at);
     match state.machine() {
         Machine::Server(_, Stage::Owes { to, body }) => {
-            node_fact(alloc, facts, "owed to", log.roster, *to)?;
-            reply_group(alloc, facts, "owed", log.node, call, body.bytes())?;
-            add_given(alloc, facts, log, call, entry)?;
-            add_reply_difference(alloc, facts, body.bytes(), entry)
+            node_fact(facts, "owed to", log.roster, *to);
+            reply_group(facts, "owed", log.member.node, call, body.bytes());
+            add_given(facts, log, call, entry);
+            if let Entry::Send { body: given, .. } = entry {
+                add_difference(facts, body.bytes(), given.bytes());
+            }
         }
         _ => {
-            facts.words(alloc, "owed", "no reply")?;
-            add_given(alloc, facts, log, call, entry)
+            facts.words("owed", "no reply");
+            add_given(facts, log, call, entry);
         }
     }
 }
 
 /// Adds what stands in the place of a reply.
-fn add_given(
-    alloc: Global,
-    facts: &mut Facts,
-    log: &Log<'_>,
-    call: &[u8],
-    entry: &Entry,
-) -> Result<(), AllocError> {
+fn add_given(facts: &mut Facts, log: &Log<'_>, call: &[u8], entry: &Entry) {
     match entry {
         Entry::Send { to, body } => {
-            node_fact(alloc, facts, "given to", log.roster, *to)?;
-            reply_group(alloc, facts, "given", log.node, call, body.bytes())
+            node_fact(facts, "given to", log.roster, *to);
+            reply_group(facts, "given", log.member.node, call, body.bytes());
         }
-        _ => facts.words(alloc, "given", kind_name(entry.kind())),
-    }
-}
-
-/// Adds the first byte in which a reply differs from the one that was owed.
-fn add_reply_difference(
-    alloc: Global,
-    facts: &mut Facts,
-    owed: &[u8],
-    entry: &Entry,
-) -> Result<(), AllocError> {
-    match entry {
-        Entry::Send { body, .. } => add_difference(alloc, facts, owed, body.bytes()),
-        _ => Ok(()),
+        _ => facts.words("given", kind_name(entry.kind())),
     }
 }
 
 /// Adds the first byte, counted from 0, in which two texts differ.
-fn add_difference(
-    alloc: Global,
-    facts: &mut Facts,
-    owed: &[u8],
-    given: &[u8],
-) -> Result<(), AllocError> {
+fn add_difference(facts: &mut Facts, owed: &[u8], given: &[u8]) {
     let Some(at) = first_difference(owed, given) else {
-        return Ok(());
+        return;
     };
-    facts.group("first difference")?;
-    facts.number("byte", at as u64)?;
-    add_byte(alloc, facts, "owed", owed.get(at))?;
-    add_byte(alloc, facts, "given", given.get(at))?;
-    facts.end()
+    facts.group("first difference");
+    facts.number("byte", at as u64);
+    add_byte(facts, "owed", owed.get(at));
+    add_byte(facts, "given", given.get(at));
+    facts.end();
 }
 
-fn add_byte(
-    alloc: Global,
-    facts: &mut Facts,
-    name: &'static str,
-    byte: Option<&u8>,
-) -> Result<(), AllocError> {
+fn add_byte(facts: &mut Facts, name: &'static str, byte: Option<&u8>) {
     match byte {
-        Some(byte) => facts.hex(alloc, name, &[*byte]),
-        None => facts.words(alloc, name, "none, it ends there"),
+        Some(byte) => facts.hex(name, &[*byte]),
+        None => facts.words(name, "none, it ends there"),
     }
 }
 

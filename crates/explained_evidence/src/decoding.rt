@@ -1,6 +1,8 @@
 //! Where bytes stop being a roster's text with that of evidence after it.
 
-use xdr::{Reader, XdrFault};
+ghost use Rattle.std.specs.Prelude.{◌<◌, ◌^◌};
+
+use xdr::Reader;
 
 /// The most members of a roster, and the greatest number of one.
 const MEMBERS: u32 = 64;
@@ -17,152 +19,171 @@ const ENTRIES: u32 = 65536;
 /// The most bytes of a body.
 const BODY: u32 = 12288;
 
+/// The greatest number of a place: any but the greatest of 64 bits.
+const PLACE: u64 = u64::MAX - 1;
+
 /// Where the first item begins that doesn't decode, by the rules of docs/CHECKING.md, if there is one. Bytes
 /// after the evidence are such an item. It takes no memory.
 pub fn first_undecodable(bytes: &[u8]) -> Option<usize> {
-    let mut reader = Reader::new(bytes);
-    let read = pass_case(&mut reader);
-    let left = reader.rest().len();
-    match read {
-        Ok(()) if left == 0 => None,
-        _ => Some(bytes.len().saturating_sub(left)),
+    let mut passing = Passing {
+        reader: Reader::new(bytes),
+        has_stopped: false,
+    };
+    passing.case();
+    let left = passing.reader.rest().len();
+    if left == 0 && !passing.has_stopped {
+        return None;
     }
+    Some(bytes.len().saturating_sub(left))
 }
 
-fn pass_case(reader: &mut Reader<'_>) -> Result<(), XdrFault> {
-    pass_roster(reader)?;
-    reader.u32()?;
-    match pass_word(reader, 1, 2)? {
-        1 => pass_fork(reader),
-        _ => pass_log(reader),
-    }
+/// Items that are passed one after another. Before the first that doesn't decode the reader stops, and passes
+/// nothing more.
+#[derive(Drop)]
+struct Passing<'a> {
+    reader: Reader<'a>,
+    has_stopped: bool,
 }
 
-/// Passes a word from one number to another. Where it is none of these the reader stays before it.
-fn pass_word(reader: &mut Reader<'_>, first: u32, last: u32) -> Result<u32, XdrFault> {
-    let start = reader.rest();
-    let word = reader.u32()?;
-    if word < first || word > last {
-        *reader = Reader::new(start);
-        return Err(XdrFault::BadEnum);
-    }
-    Ok(word)
-}
-
-/// Passes a number of a place: any but the greatest of 64 bits, and from the first on.
-fn pass_number(reader: &mut Reader<'_>, first: u64) -> Result<(), XdrFault> {
-    let start = reader.rest();
-    let number = reader.u64()?;
-    if number < first || number == u64::MAX {
-        *reader = Reader::new(start);
-        return Err(XdrFault::BadEnum);
-    }
-    Ok(())
-}
-
-fn pass_roster(reader: &mut Reader<'_>) -> Result<(), XdrFault> {
-    let count = pass_word(reader, 0, MEMBERS)?;
-    let mut last = 0;
-    for _ in 0..count {
-        last = pass_member(reader, last)?;
-    }
-    Ok(())
-}
-
-/// Passes a member with a number above another, and answers its number.
-fn pass_member(reader: &mut Reader<'_>, last: u32) -> Result<u32, XdrFault> {
-    let node = pass_word(reader, last.saturating_add(1), MEMBERS)?;
-    pass_word(reader, 1, 2)?;
-    reader.fixed::<32>()?;
-    pass_word(reader, 1, HEIGHT)?;
-    Ok(node)
-}
-
-fn pass_signature(reader: &mut Reader<'_>) -> Result<(), XdrFault> {
-    reader.u32()?;
-    reader.fixed::<8192>()?;
-    reader.fixed::<8192>()?;
-    let count = pass_word(reader, 0, HEIGHT)?;
-    for _ in 0..count {
-        reader.fixed::<32>()?;
-    }
-    Ok(())
-}
-
-fn pass_authenticator(reader: &mut Reader<'_>) -> Result<(), XdrFault> {
-    reader.u32()?;
-    pass_number(reader, 0)?;
-    reader.fixed::<32>()?;
-    pass_signature(reader)
-}
-
-fn pass_fork(reader: &mut Reader<'_>) -> Result<(), XdrFault> {
-    pass_number(reader, 0)?;
-    pass_showing(reader)?;
-    if reader.bool()? {
-        pass_showing(reader)?;
-    }
-    Ok(())
-}
-
-fn pass_showing(reader: &mut Reader<'_>) -> Result<(), XdrFault> {
-    reader.u32()?;
-    reader.u64()?;
-    reader.fixed::<32>()?;
-    let count = pass_word(reader, 0, LINKS)?;
-    for _ in 0..count {
-        pass_word(reader, 1, 5)?;
-        reader.fixed::<32>()?;
-    }
-    pass_authenticator(reader)
-}
-
-fn pass_log(reader: &mut Reader<'_>) -> Result<(), XdrFault> {
-    reader.u32()?;
-    pass_number(reader, 1)?;
-    reader.fixed::<32>()?;
-    let count = pass_word(reader, 1, ENTRIES)?;
-    for _ in 0..count {
-        pass_entry(reader)?;
-    }
-    pass_authenticator(reader)
-}
-
-fn pass_entry(reader: &mut Reader<'_>) -> Result<(), XdrFault> {
-    match pass_word(reader, 1, 5)? {
-        1 => pass_send(reader),
-        2 => pass_recv(reader),
-        3 => pass_ack(reader),
-        4 => {
-            reader.u64()?;
-            Ok(())
-        }
-        _ => {
-            reader.fixed::<32>()?;
-            Ok(())
+impl<'a> Passing<'a> {
+    /// Passes a word from one number to another, and answers it; 0 where it stops.
+    fn word(&mut self, first: u32, last: u32) -> u32 {
+        let start = self.reader.rest();
+        match self.reader.u32() {
+            Ok(word) if !self.has_stopped && word >= first && word <= last => word,
+            _ => {
+                self.stop(start);
+                0
+            }
         }
     }
-}
 
-fn pass_send(reader: &mut Reader<'_>) -> Result<(), XdrFault> {
-    reader.u32()?;
-    reader.opaque(BODY)?;
-    Ok(())
-}
+    /// Passes a number of 64 bits from one to another.
+    fn number(&mut self, first: u64, last: u64) {
+        let start = self.reader.rest();
+        match self.reader.u64() {
+            Ok(number) if !self.has_stopped && number >= first && number <= last => {}
+            _ => self.stop(start),
+        }
+    }
 
-fn pass_recv(reader: &mut Reader<'_>) -> Result<(), XdrFault> {
-    reader.u32()?;
-    pass_number(reader, 0)?;
-    reader.fixed::<32>()?;
-    reader.opaque(BODY)?;
-    pass_signature(reader)
-}
+    /// Stops before these bytes.
+    fn stop(&mut self, start: &'a [u8]) {
+        self.reader = Reader::new(start);
+        self.has_stopped = true;
+    }
 
-fn pass_ack(reader: &mut Reader<'_>) -> Result<(), XdrFault> {
-    reader.u32()?;
-    pass_number(reader, 0)?;
-    reader.fixed::<32>()?;
-    pass_number(reader, 0)?;
-    reader.fixed::<32>()?;
-    pass_signature(reader)
+    fn fixed<const N: usize>(&mut self)
+        requires { N < 2 ^ 32 }
+    {
+        self.has_stopped = self.has_stopped || self.reader.fixed::<N>().is_err();
+    }
+
+    fn body(&mut self) {
+        self.has_stopped = self.has_stopped || self.reader.opaque(BODY).is_err();
+    }
+
+    fn case(&mut self) {
+        self.roster();
+        self.word(0, u32::MAX);
+        match self.word(1, 2) {
+            1 => self.fork(),
+            2 => self.log(),
+            _ => {}
+        }
+    }
+
+    fn roster(&mut self) {
+        let mut last = 0;
+        for _ in 0..self.word(0, MEMBERS) {
+            last = self.member(last);
+        }
+    }
+
+    /// Passes a member with a number above another, and answers its number.
+    fn member(&mut self, last: u32) -> u32 {
+        let node = self.word(last.saturating_add(1), MEMBERS);
+        self.word(1, 2);
+        self.fixed::<32>();
+        self.word(1, HEIGHT);
+        node
+    }
+
+    fn signature(&mut self) {
+        self.word(0, u32::MAX);
+        self.fixed::<8192>();
+        self.fixed::<8192>();
+        for _ in 0..self.word(0, HEIGHT) {
+            self.fixed::<32>();
+        }
+    }
+
+    fn authenticator(&mut self) {
+        self.word(0, u32::MAX);
+        self.number(0, PLACE);
+        self.fixed::<32>();
+        self.signature();
+    }
+
+    fn fork(&mut self) {
+        self.number(0, PLACE);
+        self.showing();
+        if self.word(0, 1) == 1 {
+            self.showing();
+        }
+    }
+
+    fn showing(&mut self) {
+        self.word(0, u32::MAX);
+        self.number(0, u64::MAX);
+        self.fixed::<32>();
+        for _ in 0..self.word(0, LINKS) {
+            self.word(1, 5);
+            self.fixed::<32>();
+        }
+        self.authenticator();
+    }
+
+    fn log(&mut self) {
+        self.word(0, u32::MAX);
+        self.number(1, PLACE);
+        self.fixed::<32>();
+        for _ in 0..self.word(1, ENTRIES) {
+            self.entry();
+        }
+        self.authenticator();
+    }
+
+    fn entry(&mut self) {
+        match self.word(1, 5) {
+            1 => self.send(),
+            2 => self.recv(),
+            3 => self.ack(),
+            4 => self.number(0, u64::MAX),
+            5 => self.fixed::<32>(),
+            _ => {}
+        }
+    }
+
+    fn send(&mut self) {
+        self.word(0, u32::MAX);
+        self.body();
+    }
+
+    fn recv(&mut self) {
+        self.word(0, u32::MAX);
+        self.number(0, PLACE);
+        self.fixed::<32>();
+        self.body();
+        self.signature();
+    }
+
+    fn ack(&mut self) {
+        self.word(0, u32::MAX);
+        self.number(0, PLACE);
+        self.fixed::<32>();
+        self.number(0, PLACE);
+        self.fixed::<32>();
+        self.signature();
+    }
 }

@@ -1,8 +1,7 @@
 //! What is said of a file and of the program.
 
-use explained_calls::{Facts, Text};
+use explained_calls::Facts;
 use sha2::{Digest, Sha256};
-use std::alloc::{AllocError, Global};
 
 /// The program's version.
 pub const VERSION: &str = "0.1.0";
@@ -24,14 +23,14 @@ impl File {
     }
 
     /// Adds the file's length and digest, and the program's version.
-    pub(crate) fn add(&self, alloc: Global, facts: &mut Facts) -> Result<(), AllocError> {
-        facts.group("file")?;
-        facts.number("length", self.length)?;
-        facts.hex(alloc, "sha256", &self.digest)?;
-        facts.end()?;
-        let mut program = Text::new(alloc);
-        program.words("nfsacc ")?;
-        program.words(VERSION)?;
-        facts.text("program", program)
+    pub(crate) fn add(&self, facts: &mut Facts) {
+        facts.group("file");
+        facts.number("length", self.length);
+        facts.hex("sha256", &self.digest);
+        facts.end();
+        let mut program = facts.draft();
+        program.words("nfsacc ");
+        program.words(VERSION);
+        facts.text("program", program);
     }
 }

@@ -4,48 +4,42 @@ use crate::entry::kind_name;
 use challenge::{Fork, Showing, ShownLink};
 use explained_calls::Facts;
 use secure_log::Authenticator;
-use std::alloc::{AllocError, Global};
 
 /// Adds what the showings of a fork say.
-pub(crate) fn add_showings(
-    alloc: Global,
-    facts: &mut Facts,
-    fork: &Fork,
-) -> Result<(), AllocError> {
-    facts.number("at", fork.at.get())?;
+pub(crate) fn add_showings(facts: &mut Facts, fork: &Fork) {
+    facts.number("at", fork.at.get());
     facts.words(
-        alloc,
         "contents",
         "not in the file: of the entries between it has the kinds and the digests of the contents alone",
-    )?;
-    facts.list("showings")?;
-    add_showing(alloc, facts, &fork.a)?;
+    );
+    facts.list("showings");
+    add_showing(facts, &fork.a);
     if let Some(b) = &fork.b {
-        add_showing(alloc, facts, b)?;
+        add_showing(facts, b);
     }
-    facts.end()
+    facts.end();
 }
 
-fn add_showing(alloc: Global, facts: &mut Facts, showing: &Showing) -> Result<(), AllocError> {
-    facts.item()?;
-    facts.number("node", u64::from(showing.node()))?;
-    facts.number("first", showing.first())?;
-    facts.hex(alloc, "hash before it", showing.opening())?;
-    add_links(alloc, facts, showing)?;
-    add_signed(alloc, facts, showing.closing())?;
-    facts.end()
+fn add_showing(facts: &mut Facts, showing: &Showing) {
+    facts.item();
+    facts.number("node", u64::from(showing.node()));
+    facts.number("first", showing.first());
+    facts.hex("hash before it", showing.opening());
+    add_links(facts, showing);
+    add_signed(facts, showing.closing());
+    facts.end();
 }
 
 /// Adds a showing's links, by their numbers. A showing may begin so high that a link has no number of 64
 /// bits: then nothing closes it.
-fn add_links(alloc: Global, facts: &mut Facts, showing: &Showing) -> Result<(), AllocError> {
-    facts.list("links")?;
+fn add_links(facts: &mut Facts, showing: &Showing) {
+    facts.list("links");
     let mut number = Some(showing.first());
     for link in showing.links() {
-        add_link(alloc, facts, number, link)?;
+        add_link(facts, number, link);
         number = next_number(number);
     }
-    facts.end()
+    facts.end();
 }
 
 /// The number after another, if it has 64 bits.
@@ -56,32 +50,23 @@ fn next_number(number: Option<u64>) -> Option<u64> {
     }
 }
 
-fn add_link(
-    alloc: Global,
-    facts: &mut Facts,
-    number: Option<u64>,
-    link: &ShownLink,
-) -> Result<(), AllocError> {
-    facts.item()?;
+fn add_link(facts: &mut Facts, number: Option<u64>, link: &ShownLink) {
+    facts.item();
     match number {
-        Some(number) => facts.number("number", number)?,
-        None => facts.words(alloc, "number", "above 18446744073709551615")?,
+        Some(number) => facts.number("number", number),
+        None => facts.words("number", "above 18446744073709551615"),
     }
-    facts.words(alloc, "kind", kind_name(link.kind().number()))?;
-    facts.hex(alloc, "digest of its content", link.content())?;
-    facts.end()
+    facts.words("kind", kind_name(link.kind().number()));
+    facts.hex("digest of its content", link.content());
+    facts.end();
 }
 
 /// Adds what a node signed.
-pub(crate) fn add_signed(
-    alloc: Global,
-    facts: &mut Facts,
-    signed: &Authenticator,
-) -> Result<(), AllocError> {
-    facts.group("signed")?;
-    facts.number("node", u64::from(signed.node))?;
-    facts.number("number", signed.number.get())?;
-    facts.hex(alloc, "hash", &signed.hash)?;
-    facts.number("leaf", u64::from(signed.signature.leaf()))?;
-    facts.end()
+pub(crate) fn add_signed(facts: &mut Facts, signed: &Authenticator) {
+    facts.group("signed");
+    facts.number("node", u64::from(signed.node));
+    facts.number("number", signed.number.get());
+    facts.hex("hash", &signed.hash);
+    facts.number("leaf", u64::from(signed.signature.leaf()));
+    facts.end();
 }

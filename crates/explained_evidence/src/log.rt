@@ -6,9 +6,8 @@ ghost use Rattle.challenge.specs.evidence_spec.Evidence.{MAX_AUDITED};
 use crate::comparison::add_comparison;
 use crate::entry::{Log, add_entry};
 use challenge::ReplayFault;
-use explained_calls::{Facts, Text};
+use explained_calls::Facts;
 use secure_log::log_entries::Entry;
-use std::alloc::{AllocError, Global};
 
 /// The name of a fault in the rules of a replay.
 fn fault_name(fault: ReplayFault) -> &'static str {
@@ -40,26 +39,19 @@ fn fault_words(fault: ReplayFault) -> &'static str {
 
 /// Adds the fault that the entry of a number has: the entries that it concerns, and what was owed and given
 /// there.
-pub(crate) fn add_fault(
-    alloc: Global,
-    facts: &mut Facts,
-    log: &Log<'_>,
-    fault: ReplayFault,
-    number: u64,
-) -> Result<(), AllocError>
+pub(crate) fn add_fault(facts: &mut Facts, log: &Log<'_>, fault: ReplayFault, number: u64)
     requires { length log.now.entries.now ≤ MAX_AUDITED }
 {
-    facts.group("fault")?;
-    facts.number("fault", u64::from(fault.number()))?;
-    facts.words(alloc, "name", fault_name(fault))?;
-    facts.words(alloc, "meaning", fault_words(fault))?;
-    facts.number("entry", number)?;
-    facts.end()?;
+    facts.group("fault");
+    facts.number("fault", u64::from(fault.number()));
+    facts.words("name", fault_name(fault));
+    facts.words("meaning", fault_words(fault));
+    facts.number("entry", number);
+    facts.end();
     if let Some(at) = place_of(number, log.entries) {
-        add_concerned(alloc, facts, log, fault, at)?;
-        add_comparison(alloc, facts, log, fault, at)?;
+        add_concerned(facts, log, fault, at);
+        add_comparison(facts, log, fault, at);
     }
-    Ok(())
 }
 
 /// Where the entry with a number stands among entries from the first on.
@@ -72,22 +64,16 @@ fn place_of(number: u64, entries: &[Entry]) -> Option<usize> {
 }
 
 /// Adds the entries that a fault concerns, the faulty one last.
-fn add_concerned(
-    alloc: Global,
-    facts: &mut Facts,
-    log: &Log<'_>,
-    fault: ReplayFault,
-    at: usize,
-) -> Result<(), AllocError> {
-    facts.list("entries")?;
+fn add_concerned(facts: &mut Facts, log: &Log<'_>, fault: ReplayFault, at: usize) {
+    facts.list("entries");
     if let Some(earlier) = earlier(fault, log.entries, at) {
-        add_entry(alloc, facts, log, earlier)?;
+        add_entry(facts, log, earlier);
     }
     for before in first_concerned(fault, at)..at {
-        add_entry(alloc, facts, log, before)?;
+        add_entry(facts, log, before);
     }
-    add_entry(alloc, facts, log, at)?;
-    facts.end()
+    add_entry(facts, log, at);
+    facts.end();
 }
 
 /// The first entry of those just before a faulty one that say what is owed there: a message and a reading.
@@ -119,20 +105,19 @@ fn acknowledged(entries: &[Entry], at: usize) -> Option<usize> {
 
 /// The place of the last reading before a place.
 fn last_clock(entries: &[Entry], at: usize) -> Option<usize> {
-    let mut last = None;
-    for (place, entry) in entries.iter().enumerate().take(at) {
-        if let Entry::Clock { .. } = entry {
-            last = Some(place);
+    for place in (0..at).rev() {
+        if let Some(Entry::Clock { .. }) = entries.get(place) {
+            return Some(place);
         }
     }
-    last
+    None
 }
 
 /// The place of the first entry that has the message of another, before it.
 fn same_message(entries: &[Entry], at: usize) -> Option<usize> {
     let repeated = entries.get(at)?;
-    for (place, entry) in entries.iter().enumerate().take(at) {
-        if is_same_message(entry, repeated) {
+    for place in 0..at {
+        if is_same_message(&entries[place], repeated) {
             return Some(place);
         }
     }
@@ -169,35 +154,23 @@ fn is_same_message(one: &Entry, other: &Entry) -> bool {
 }
 
 /// Adds what the verdict rests on.
-pub(crate) fn add_premises(
-    alloc: Global,
-    facts: &mut Facts,
-    rules: &str,
-) -> Result<(), AllocError> {
-    facts.list("rests on")?;
+pub(crate) fn add_premises(facts: &mut Facts, rules: &str) {
+    facts.list("rests on");
+    add_premise(facts, "the keys of the roster are those of its nodes");
     add_premise(
-        alloc,
-        facts,
-        "the keys of the roster are those of its nodes",
-    )?;
-    add_premise(
-        alloc,
         facts,
         "nobody forged a signature that the file shows: none verifies for a number and a hash that the node did not sign",
-    )?;
+    );
     add_premise(
-        alloc,
         facts,
         "no two of the texts that were hashed have the same SHA-256 digest",
-    )?;
-    add_premise(alloc, facts, rules)?;
-    facts.end()
+    );
+    add_premise(facts, rules);
+    facts.end();
 }
 
-fn add_premise(alloc: Global, facts: &mut Facts, premise: &str) -> Result<(), AllocError> {
-    let mut text = Text::new(alloc);
-    text.words(premise)?;
-    facts.item()?;
-    facts.text("premise", text)?;
-    facts.end()
+fn add_premise(facts: &mut Facts, premise: &str) {
+    facts.item();
+    facts.words("premise", premise);
+    facts.end();
 }

@@ -48,7 +48,7 @@ impl<R: Threads + Wait + Sync, S: Shelf> Run<'_, '_, R, S> {
 
     /// Prints one word.
     pub(crate) fn print(&mut self, word: &str) -> Result<(), Stop> {
-        self.answer.line(word)?;
+        self.answer.line(word);
         Ok(())
     }
 
@@ -57,7 +57,7 @@ impl<R: Threads + Wait + Sync, S: Shelf> Run<'_, '_, R, S> {
         if said.is_no_memory() {
             return Err(Stop::NoMemory);
         }
-        self.answer.said(said)?;
+        self.answer.said(said);
         Ok(())
     }
 

@@ -4,11 +4,13 @@ use authenticator::Authenticator;
 use serving::{Outcome, Replayed, Said, indication_word};
 use std::alloc::{AllocError, Global};
 
-/// What a line prints: words with one space between, line by line.
+/// What a line prints: words with one space between, line by line. Once memory was refused it takes no more,
+/// and there is no text.
 #[derive(Drop)]
 pub(crate) struct Answer {
     text: String,
     begun: bool,
+    is_whole: bool,
 }
 
 impl Answer {
@@ -17,118 +19,126 @@ impl Answer {
         Answer {
             text: String::new(alloc),
             begun: false,
+            is_whole: true,
         }
     }
 
     /// The text, each line of it ended.
-    pub(crate) fn text(&self) -> &str {
-        &self.text
+    pub(crate) fn text(&self) -> Result<&str, AllocError> {
+        if self.is_whole {
+            Ok(&self.text)
+        } else {
+            Err(AllocError)
+        }
     }
 
     /// Begins anew.
     pub(crate) fn clear(&mut self) {
         self.text.clear();
         self.begun = false;
+        self.is_whole = true;
+    }
+
+    /// Appends characters.
+    fn put(&mut self, characters: &str) {
+        self.is_whole = self.is_whole && self.text.push_str(characters).is_ok();
     }
 
     /// A word more in this line.
-    pub(crate) fn word(&mut self, word: &str) -> Result<(), AllocError> {
+    pub(crate) fn word(&mut self, word: &str) {
         if self.begun {
-            self.text.push(' ')?;
+            self.put(" ");
         }
         self.begun = true;
-        self.text.push_str(word)
+        self.put(word);
     }
 
     /// A number more in this line, in decimal.
-    pub(crate) fn number(&mut self, number: u64) -> Result<(), AllocError> {
+    pub(crate) fn number(&mut self, number: u64) {
         let mut digits = itoa::Buffer::new();
-        self.word(digits.format(number))
+        self.word(digits.format(number));
     }
 
     /// The line's end.
-    pub(crate) fn end(&mut self) -> Result<(), AllocError> {
+    pub(crate) fn end(&mut self) {
         self.begun = false;
-        self.text.push('\n')
+        self.put("\n");
     }
 
     /// A line of one word.
-    pub(crate) fn line(&mut self, word: &str) -> Result<(), AllocError> {
-        self.word(word)?;
-        self.end()
+    pub(crate) fn line(&mut self, word: &str) {
+        self.word(word);
+        self.end();
     }
 
     /// The line `refused R`.
-    pub(crate) fn refused(&mut self, number: u32) -> Result<(), AllocError> {
-        self.word("refused")?;
-        self.number(u64::from(number))?;
-        self.end()
+    pub(crate) fn refused(&mut self, number: u32) {
+        self.word("refused");
+        self.number(u64::from(number));
+        self.end();
     }
 
     /// The line `flooded T`.
-    pub(crate) fn flooded(&mut self, times: u32) -> Result<(), AllocError> {
-        self.word("flooded")?;
-        self.number(u64::from(times))?;
-        self.end()
+    pub(crate) fn flooded(&mut self, times: u32) {
+        self.word("flooded");
+        self.number(u64::from(times));
+        self.end();
     }
 
     /// The line of a reply: `reply HEX`, or `no reply`.
-    pub(crate) fn reply(&mut self, alloc: Global, reply: Option<&[u8]>) -> Result<(), AllocError> {
+    pub(crate) fn reply(&mut self, alloc: Global, reply: Option<&[u8]>) {
         let Some(bytes) = reply else {
             return self.line("no reply");
         };
-        let digits = hex::encode(alloc, bytes)?;
-        self.word("reply")?;
-        self.line(&digits)
+        self.word("reply");
+        match hex::encode(alloc, bytes) {
+            Ok(digits) => self.line(&digits),
+            Err(_) => self.is_whole = false,
+        }
     }
 
     /// The line of what a witness said.
-    pub(crate) fn said(&mut self, said: &Said) -> Result<(), AllocError> {
+    pub(crate) fn said(&mut self, said: &Said) {
         match said {
             Said::Refused(refusal) => return self.refused(refusal.number()),
             Said::Asked { first, last } => {
-                self.word("asked")?;
-                self.number(first.get())?;
-                self.number(last.get())?;
+                self.word("asked");
+                self.number(first.get());
+                self.number(last.get());
             }
-            Said::Forwarded(authenticator) => self.forwarded(authenticator)?,
-            other => self.word(word_of(other))?,
+            Said::Forwarded(authenticator) => self.forwarded(authenticator),
+            other => self.word(word_of(other)),
         }
-        self.end()
+        self.end();
     }
 
     /// The words `forwarded M K`.
-    pub(crate) fn forwarded(&mut self, authenticator: &Authenticator) -> Result<(), AllocError> {
-        self.word("forwarded")?;
-        self.number(u64::from(authenticator.node))?;
-        self.number(authenticator.number.get())
+    pub(crate) fn forwarded(&mut self, authenticator: &Authenticator) {
+        self.word("forwarded");
+        self.number(u64::from(authenticator.node));
+        self.number(authenticator.number.get());
     }
 
     /// The line of what a witness says of a node: `N INDICATION OPEN`.
-    pub(crate) fn told(
-        &mut self,
-        node: u32,
-        indication: &str,
-        open: usize,
-    ) -> Result<(), AllocError> {
-        self.number(u64::from(node))?;
-        self.word(indication)?;
-        self.number(open as u64)?;
-        self.end()
+    pub(crate) fn told(&mut self, node: u32, indication: &str, open: usize) {
+        self.number(u64::from(node));
+        self.word(indication);
+        self.number(open as u64);
+        self.end();
     }
 
     /// The line of a replay: `N sound`, or `N fault KIND AT`.
-    pub(crate) fn replayed(&mut self, replayed: &Replayed) -> Result<(), AllocError> {
-        self.number(u64::from(replayed.node))?;
+    pub(crate) fn replayed(&mut self, replayed: &Replayed) {
+        self.number(u64::from(replayed.node));
         match replayed.outcome {
-            Outcome::Sound => self.word("sound")?,
+            Outcome::Sound => self.word("sound"),
             Outcome::Fault(fault, at) => {
-                self.word("fault")?;
-                self.number(u64::from(fault.number()))?;
-                self.number(at.get())?;
+                self.word("fault");
+                self.number(u64::from(fault.number()));
+                self.number(at.get());
             }
         }
-        self.end()
+        self.end();
     }
 }
 

@@ -20,7 +20,7 @@ impl<R: Threads + Wait + Sync, S: Shelf> Run<'_, '_, R, S> {
         let text = &mut self.text;
         match exchange(client, server, text, self.alloc, time, body.bytes()) {
             Ok(reply) => {
-                self.answer.reply(self.alloc, reply.as_deref())?;
+                self.answer.reply(self.alloc, reply.as_deref());
                 Ok(())
             }
             Err(fault) => self.refuse(refusal_of(fault)),
@@ -79,7 +79,7 @@ impl<R: Threads + Wait + Sync, S: Shelf> Run<'_, '_, R, S> {
         match server.receive(self.alloc, time, text) {
             Ok(Received::New(receipt) | Received::Repeat(receipt)) => {
                 let reply = reply_of(self.alloc, server.node(), &receipt)?;
-                self.answer.reply(self.alloc, reply.as_deref())?;
+                self.answer.reply(self.alloc, reply.as_deref());
                 Ok(())
             }
             Err(refusal) => self.refuse(refusal),
@@ -89,7 +89,7 @@ impl<R: Threads + Wait + Sync, S: Shelf> Run<'_, '_, R, S> {
     /// Prints a node's refusal.
     pub(crate) fn refuse(&mut self, refusal: Refusal) -> Result<(), Stop> {
         let number = refusal.number().ok_or(Stop::NoMemory)?;
-        self.answer.refused(number)?;
+        self.answer.refused(number);
         Ok(())
     }
 

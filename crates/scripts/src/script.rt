@@ -194,7 +194,7 @@ fn run_line<R: Threads + Wait + Sync, I: Read, O: Write, S: Shelf>(
         Line::Node(_) => return Err(Stop::Bad),
         Line::Act(act) => run.act(cursor.time(), act)?,
     }
-    write_text(writer, run.answer.text())
+    write_text(writer, run.answer.text()?)
 }
 
 /// Writes a text.

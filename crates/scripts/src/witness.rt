@@ -61,7 +61,7 @@ impl<R: Threads + Wait + Sync, S: Shelf> Run<'_, '_, R, S> {
                 return self.say(&said);
             }
         }
-        self.answer.flooded(times)?;
+        self.answer.flooded(times);
         Ok(())
     }
 
@@ -113,7 +113,7 @@ impl<R: Threads + Wait + Sync, S: Shelf> Run<'_, '_, R, S> {
             return self.print("idle");
         }
         for one in &replayed {
-            self.answer.replayed(one)?;
+            self.answer.replayed(one);
         }
         Ok(())
     }
@@ -130,7 +130,7 @@ impl<R: Threads + Wait + Sync, S: Shelf> Run<'_, '_, R, S> {
     /// Hands an authenticator over, and prints whose it is and what the witness said.
     fn pass_on(&mut self, authenticator: &Authenticator) -> Result<(), Stop> {
         let packet = learn_packet(self.alloc, authenticator)?;
-        self.answer.forwarded(authenticator)?;
+        self.answer.forwarded(authenticator);
         self.deliver(&packet)
     }
 
@@ -147,7 +147,7 @@ impl<R: Threads + Wait + Sync, S: Shelf> Run<'_, '_, R, S> {
     fn tell(&mut self, node: u32, indication: &str) -> Result<(), Stop> {
         match self.caller.challenges(node) {
             Said::Open(challenges) => {
-                self.answer.told(node, indication, challenges.len())?;
+                self.answer.told(node, indication, challenges.len());
                 Ok(())
             }
             said => self.say(&said),

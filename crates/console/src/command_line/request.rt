@@ -5,7 +5,8 @@ ghost use Rattle.std.specs.Prelude.{ℕ, List, [], true, false, unwrap_or, optio
 ghost use Rattle.clap.specs.Faults.{fault_of};
 ghost use Rattle.clap.specs.Kinds.{FailsBy};
 ghost use Rattle.clap.specs.Walk.{first_of};
-ghost use Rattle.clap.specs.Words.{app_of, kind_of, rule_of, subcommand_of, subcommand_rows_of};
+ghost use Rattle.clap.specs.Words.{App, app_of, kind_of, rule_of, subcommand_of, subcommand_rows_of};
+ghost use Rattle.clap.specs.Words.{with_subcommand};
 ghost use Rattle.console.specs.CommandLine.CommandLine.{commands, check_command, roster_command, run_command};
 ghost use Rattle.console.specs.CommandLine.CommandLine.{asked_by, asked_in, file_argument, file_option, flag};
 ghost use Rattle.console.specs.CommandLine.CommandLine.{is_set, is_told, rows_in};
@@ -64,6 +65,12 @@ const RUN_EXAMPLE: &str = "Example:
 
 Statuses: 0 done, 1 a fault in the input, 2 the command line, 3 no memory, 4 a device";
 
+const TRUSTED_HELP: &str = "Takes evidence under the roster of this file alone";
+
+const ROSTER_HELP: &str = "A roster's text, alone or with that of evidence after it";
+
+const ROSTER_OUT_HELP: &str = "Writes the text of the nodes' roster to this file";
+
 /// A file that must be named.
 fn file_argument<'a>(alloc: Global, help: &'a str) -> Arg<'a>
     ensures rule { rule_of result ≡ file_argument }
@@ -76,7 +83,7 @@ fn file_argument<'a>(alloc: Global, help: &'a str) -> Arg<'a>
 }
 
 /// A flag.
-fn flag<'a>(alloc: Global, name: &'a str, help: &'a str) -> Arg<'a>
+pub(crate) fn flag<'a>(alloc: Global, name: &'a str, help: &'a str) -> Arg<'a>
     ensures rule { rule_of result ≡ flag name.now }
     ensures local { result.global ≡ false }
 {
@@ -101,50 +108,46 @@ fn file_option<'a>(alloc: Global, name: &'a str, help: &'a str) -> Arg<'a>
 fn check_command<'a>(alloc: Global) -> Result<Command<'a>, AllocError>
     ensures { IfOk result (λ c. app_of c ≡ check_command) }
 {
-    let explain = flag(alloc, "explain", "Says what the file shows, too");
-    let json = flag(alloc, "json", "Says both as one JSON object");
-    let roster = file_option(
-        alloc,
-        "roster",
-        "Takes evidence under the roster of this file alone",
-    );
-    let file = file_argument(alloc, "A roster's text, and after it that of evidence");
     Command::new(alloc, "check")
         .about("Says whether a file is evidence that its roster accepts")
-        .arg(explain)?
-        .arg(json)?
-        .arg(roster)?
-        .arg(file)
+        .arg(flag(alloc, "explain", "Says what the file shows, too"))?
+        .arg(flag(alloc, "json", "Says both as one JSON object"))?
+        .arg(file_option(alloc, "roster", TRUSTED_HELP))?
+        .arg(file_argument(alloc, "A roster's text, and after it that of evidence"))
 }
 
 /// The subcommand `roster`.
 fn roster_command<'a>(alloc: Global) -> Result<Command<'a>, AllocError>
     ensures { IfOk result (λ c. app_of c ≡ roster_command) }
 {
-    let file = file_argument(
-        alloc,
-        "A roster's text, alone or with that of evidence after it",
-    );
     Command::new(alloc, "roster")
         .about("Says whose keys a roster has, and the digest of its text")
-        .arg(file)
+        .arg(file_argument(alloc, ROSTER_HELP))
 }
 
 /// The subcommand `run`.
 fn run_command<'a>(alloc: Global) -> Result<Command<'a>, AllocError>
     ensures { IfOk result (λ c. app_of c ≡ run_command) }
 {
-    let roster_out = file_option(
-        alloc,
-        "roster-out",
-        "Writes the text of the nodes' roster to this file",
-    );
-    let file = file_argument(alloc, "The script; `-` reads it from standard input");
     Command::new(alloc, "run")
         .about("Runs a script of nodes, lies, forks and audits; `-` reads it from standard input")
         .after_help(RUN_EXAMPLE)
-        .arg(roster_out)?
-        .arg(file)
+        .arg(file_option(alloc, "roster-out", ROSTER_OUT_HELP))?
+        .arg(file_argument(alloc, "The script; `-` reads it from standard input"))
+}
+
+/// A command with one subcommand more.
+fn with_subcommand<'a>(
+    command: Command<'a>,
+    more: Result<Command<'a>, AllocError>,
+) -> Result<Command<'a>, AllocError>
+    ensures { (a b : App) → app_of command.entry ≡ a → IfOk more.entry (λ m. app_of m ≡ b) →
+        b.top.is_plain ≡ true → IfOk result (λ r. app_of r ≡ with_subcommand a b.top) }
+{
+    match more {
+        Ok(more) => command.subcommand(more),
+        Err(error) => Err(error),
+    }
 }
 
 /// What `nfsacc` takes on its command line.
@@ -154,20 +157,16 @@ fn commands<'a>(alloc: Global) -> Result<Command<'a>, AllocError>
     let rpc = Command::new(alloc, "rpc").about(
         "Answers the RPC records of standard input on standard output, as the server of node 1",
     );
-    let check = check_command(alloc)?;
-    let roster = roster_command(alloc)?;
-    let run = run_command(alloc)?;
-    let serve = serve_command(alloc)?;
-    Command::new(alloc, "nfsacc")
+    let nfsacc = Command::new(alloc, "nfsacc")
         .version("0.1.0")
         .about("An accountable file service: NFS version 2 whose servers can be held to account")
         .subcommand_required(true)
         .arg_required_else_help(true)
-        .subcommand(rpc)?
-        .subcommand(check)?
-        .subcommand(roster)?
-        .subcommand(run)?
-        .subcommand(serve)
+        .subcommand(rpc)?;
+    let nfsacc = with_subcommand(nfsacc, check_command(alloc))?;
+    let nfsacc = with_subcommand(nfsacc, roster_command(alloc))?;
+    let nfsacc = with_subcommand(nfsacc, run_command(alloc))?;
+    with_subcommand(nfsacc, serve_command(alloc))
 }
 
 /// The text of an argument that must be given.

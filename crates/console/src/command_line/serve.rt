@@ -6,8 +6,8 @@ ghost use Rattle.clap.specs.Words.{app_of, rule_of};
 ghost use Rattle.console.specs.CommandLine.CommandLine.{is_set, is_told, rows_in};
 ghost use Rattle.console.specs.CommandLine.Serve.{serve_command, serve_options, word_argument, word_option};
 
-use super::request::{flag_of, text_of};
-use clap::{Arg, ArgAction, ArgMatches, Command};
+use super::request::{flag, flag_of, text_of};
+use clap::{Arg, ArgMatches, Command};
 use std::alloc::{AllocError, Global};
 
 /// What `nfsacc serve` is asked, word by word. `ServeOrder::read` reads the numbers among them.
@@ -32,6 +32,10 @@ pub struct ServeRequest<'a> {
     /// Whether it is told how far the keys and the audits are.
     pub progress: bool,
 }
+
+const PORT_HELP: &str = "The port; 0 lets the system choose";
+
+const COUNT_HELP: &str = "How many connections are served, 1 to 16";
 
 const ADDRESS_HELP: &str = "The address that is listened on; 127.0.0.1 where none is named";
 
@@ -114,40 +118,25 @@ fn word_argument<'a>(alloc: Global, name: &'a str, value: &'a str, help: &'a str
 fn serve_options<'a>(alloc: Global) -> Result<Command<'a>, AllocError>
     ensures { IfOk result (λ c. app_of c ≡ serve_options) }
 {
-    let address = word_option(alloc, "address", "ADDRESS", ADDRESS_HELP);
-    let server = word_option(alloc, "server-height", "H", SERVER_HEIGHT_HELP);
-    let client = word_option(alloc, "client-height", "H", CLIENT_HEIGHT_HELP);
-    let master = word_option(alloc, "master", "FILE", MASTER_HELP);
-    let roster_out = word_option(alloc, "roster-out", "FILE", ROSTER_OUT_HELP);
-    let evidence = word_option(alloc, "evidence", "DIR", EVIDENCE_HELP);
-    let progress = Arg::new(alloc, "progress")
-        .long("progress")
-        .help(PROGRESS_HELP)
-        .action(ArgAction::SetTrue);
     Command::new(alloc, "serve")
         .about("Serves clients over TCP, and audits each of them")
         .after_help(SERVE_HELP)
-        .arg(address)?
-        .arg(server)?
-        .arg(client)?
-        .arg(master)?
-        .arg(roster_out)?
-        .arg(evidence)?
-        .arg(progress)
+        .arg(word_option(alloc, "address", "ADDRESS", ADDRESS_HELP))?
+        .arg(word_option(alloc, "server-height", "H", SERVER_HEIGHT_HELP))?
+        .arg(word_option(alloc, "client-height", "H", CLIENT_HEIGHT_HELP))?
+        .arg(word_option(alloc, "master", "FILE", MASTER_HELP))?
+        .arg(word_option(alloc, "roster-out", "FILE", ROSTER_OUT_HELP))?
+        .arg(word_option(alloc, "evidence", "DIR", EVIDENCE_HELP))?
+        .arg(flag(alloc, "progress", PROGRESS_HELP))
 }
 
 /// The subcommand `serve`.
 pub(crate) fn serve_command<'a>(alloc: Global) -> Result<Command<'a>, AllocError>
     ensures { IfOk result (λ c. app_of c ≡ serve_command) }
 {
-    let port = word_argument(alloc, "port", "PORT", "The port; 0 lets the system choose");
-    let count = word_argument(
-        alloc,
-        "count",
-        "COUNT",
-        "How many connections are served, 1 to 16",
-    );
-    serve_options(alloc)?.arg(port)?.arg(count)
+    serve_options(alloc)?
+        .arg(word_argument(alloc, "port", "PORT", PORT_HELP))?
+        .arg(word_argument(alloc, "count", "COUNT", COUNT_HELP))
 }
 
 /// What `serve` is asked.

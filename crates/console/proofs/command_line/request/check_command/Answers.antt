@@ -18,7 +18,7 @@ with_roster = with_rule with_json (file_option (codes "roster"))
 pub returns : goal.returns
 returns c =
     let empty : app_of c.about.result ≡ new_app (codes "check") = search rules in
-    let one : app_of c.in_ok-arg.field-0 ≡ explained = c.in_ok-arg.ensures.shape (search rules) ∙ ap₂ with_rule empty c.flag-explain.ensures.rule in
-    let two : app_of c.in_ok-arg-2.field-0 ≡ with_json = c.in_ok-arg-2.ensures.shape (search rules) ∙ ap₂ with_rule one c.flag-json.ensures.rule in
-    let three : app_of c.in_ok-arg-3.field-0 ≡ with_roster = c.in_ok-arg-3.ensures.shape (search rules) ∙ ap₂ with_rule two c.file_option-roster.ensures.rule in
-    IfOk-weaker c.arg-4.result _ _ (λ r added. added.shape (search rules) ∙ ap₂ with_rule three c.file_argument-file.ensures.rule) c.arg-4.ensures
+    let one : app_of c.in_ok-arg.field-0 ≡ explained = c.in_ok-arg.ensures.shape (search rules) ∙ ap₂ with_rule empty c.flag.ensures.rule in
+    let two : app_of c.in_ok-arg-2.field-0 ≡ with_json = c.in_ok-arg-2.ensures.shape (search rules) ∙ ap₂ with_rule one c.flag-2.ensures.rule in
+    let three : app_of c.in_ok-arg-3.field-0 ≡ with_roster = c.in_ok-arg-3.ensures.shape (search rules) ∙ ap₂ with_rule two c.file_option.ensures.rule in
+    IfOk-weaker c.arg-4.result _ _ (λ r added. added.shape (search rules) ∙ ap₂ with_rule three c.file_argument.ensures.rule) c.arg-4.ensures
