@@ -18,9 +18,10 @@ const ACK: [u8; 32] = [
 
 /// The acknowledgement of the client's message, received.
 fn acknowledged(alloc: Global, server: &mut Receiver, text: &[u8]) -> Option<Vec<u8>> {
-    match server.receive(alloc, text) {
-        Ok(_) => ack_text(alloc, server.sender(), 1),
-        Err(_) => None,
+    if server.receive(alloc, text).is_ok() {
+        ack_text(alloc, server.sender(), 1)
+    } else {
+        None
     }
 }
 
@@ -131,13 +132,18 @@ fn wrong_of(alloc: Global, client: &mut Sender, server: &mut Receiver) -> &'stat
     }
 }
 
+/// The same of a new client.
+fn wrong_of_client(alloc: Global, server: &mut Receiver) -> &'static str {
+    match new_client(alloc) {
+        Some(mut client) => wrong_of(alloc, &mut client, server),
+        None => "memory",
+    }
+}
+
 /// The same of a new client and a new server.
 fn wrong_of_both(alloc: Global) -> &'static str {
     match new_server(alloc) {
-        Some(mut server) => match new_client(alloc) {
-            Some(mut client) => wrong_of(alloc, &mut client, &mut server),
-            None => "memory",
-        },
+        Some(mut server) => wrong_of_client(alloc, &mut server),
         None => "memory",
     }
 }

@@ -144,20 +144,23 @@ fn is_garbage_cut(alloc: Global, roster: &Roster, text: &mut [u8]) -> bool {
     true
 }
 
-/// The first that doesn't hold of node 1's authenticator; empty where all holds.
+/// The first that doesn't hold of the text of node 1's authenticator; empty where all holds.
+fn wrong_of_text(alloc: Global, roster: &Roster, text: &mut [u8]) -> &'static str {
+    if text.len() != 16_468 || !is_checked(alloc, roster, text) {
+        "checked, with its text"
+    } else if !is_refused_changed(alloc, roster, text) {
+        "refused where it is changed"
+    } else if !is_garbage_cut(alloc, roster, text) {
+        "garbage where it is cut"
+    } else {
+        ""
+    }
+}
+
+/// The same of its first one.
 fn wrong_of_first(alloc: Global) -> &'static str {
     match signed_text(alloc) {
-        Some(SignedText { roster, mut text }) => {
-            if text.len() != 16_468 || !is_checked(alloc, &roster, &text) {
-                "checked, with its text"
-            } else if !is_refused_changed(alloc, &roster, &mut text) {
-                "refused where it is changed"
-            } else if !is_garbage_cut(alloc, &roster, &mut text) {
-                "garbage where it is cut"
-            } else {
-                ""
-            }
-        }
+        Some(mut signed) => wrong_of_text(alloc, &signed.roster, &mut signed.text),
         None => "memory",
     }
 }

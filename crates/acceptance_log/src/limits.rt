@@ -4,7 +4,7 @@
 ghost use Rattle.std.specs.Prelude.{◌≤◌};
 
 use crate::closed::{ClosedText, closed_text};
-use crate::logs::has_length;
+use crate::logs::{appends, has_length};
 use merkle_keys::{SignFault, Signer, verify};
 use secure_log::log_entries::{Body, Entry};
 use secure_log::{ClosedSegment, Log, check_segment};
@@ -70,11 +70,16 @@ fn is_read_back(alloc: Global, len: usize, length: usize) -> bool {
 
 #[test]
 fn whole_bodies_are_read_back(rt: HostRuntime) {
-    assert!(rt; is_read_back(rt.alloc(), 0, 12));
-    assert!(rt; is_read_back(rt.alloc(), 64, 76));
-    assert!(rt; is_read_back(rt.alloc(), 65, 80));
-    assert!(rt; is_read_back(rt.alloc(), 12_287, 12_300));
-    assert!(rt; is_read_back(rt.alloc(), 12_288, 12_300));
+    for (len, length) in [
+        (0, 12),
+        (64, 76),
+        (65, 80),
+        (12_287, 12_300),
+        (12_288, 12_300),
+    ] {
+        let read = is_read_back(rt.alloc(), len, length);
+        assert!(rt; read, "of {len} bytes");
+    }
 }
 
 /// The text of a SEND with a body of 12,289 bytes and three of padding.
@@ -87,28 +92,32 @@ fn longer_text(alloc: Global) -> Option<Vec<u8>> {
     Some(text)
 }
 
-/// Whether it is too long.
-fn is_too_long(alloc: Global) -> bool {
+/// Whether a text is too long for an entry's.
+fn is_too_long(alloc: Global, text: &[u8]) -> bool {
+    match Entry::read(alloc, &mut Reader::new(text)) {
+        Ok(_) => false,
+        Err(error) => matches!(&error, ReadFault::Fault(XdrFault::TooLong)),
+    }
+}
+
+/// Whether that one is.
+fn is_longer_too_long(alloc: Global) -> bool {
     match longer_text(alloc) {
-        Some(text) => match Entry::read(alloc, &mut Reader::new(&text)) {
-            Ok(_) => false,
-            Err(error) => matches!(&error, ReadFault::Fault(XdrFault::TooLong)),
-        },
+        Some(text) => is_too_long(alloc, &text),
         None => false,
     }
 }
 
 #[test]
 fn a_longer_body_is_none(rt: HostRuntime) {
-    assert!(rt; is_too_long(rt.alloc()));
+    assert!(rt; is_longer_too_long(rt.alloc()));
 }
 
 /// A log of this many SENDs with bodies of this many bytes.
 fn log_of_sends(alloc: Global, count: u32, body: usize) -> Option<Log> {
     let mut log = Log::new(alloc, 1);
     for _ in 0..count {
-        let entry = send_of(alloc, body)?;
-        if log.append(entry).is_err() {
+        if !appends(&mut log, send_of(alloc, body)) {
             return None;
         }
     }

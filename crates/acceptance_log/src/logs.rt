@@ -35,7 +35,7 @@ fn clock(seconds: u32) -> Entry {
 pub fn log_of_clocks(alloc: Global, count: u32) -> Option<Log> {
     let mut log = Log::new(alloc, 1);
     for number in 1..=count {
-        if log.append(clock(number)).is_err() {
+        if !appends(&mut log, Some(clock(number))) {
             return None;
         }
     }
@@ -167,7 +167,8 @@ fn ack(alloc: Global) -> Option<Entry> {
     })
 }
 
-fn appends(log: &mut Log, entry: Option<Entry>) -> bool {
+/// Appends an entry, where there is one.
+pub fn appends(log: &mut Log, entry: Option<Entry>) -> bool {
     match entry {
         Some(entry) => log.append(entry).is_ok(),
         None => false,
@@ -191,13 +192,16 @@ fn text_of(alloc: Global, entry: &Entry) -> Option<Vec<u8>> {
     }
 }
 
+/// Whether an entry has this text.
+fn has_text(alloc: Global, entry: &Entry, text: &[u8]) -> bool {
+    let mut again = Vec::new(alloc);
+    entry.write(&mut again).is_ok() && again.as_slice() == text
+}
+
 /// Whether a text is an entry's that has the same text.
 fn reads_back(alloc: Global, text: &[u8]) -> bool {
     match Entry::read(alloc, &mut Reader::new(text)) {
-        Ok(entry) => match text_of(alloc, &entry) {
-            Some(again) => again.as_slice() == text,
-            None => false,
-        },
+        Ok(entry) => has_text(alloc, &entry, text),
         Err(_) => false,
     }
 }
@@ -212,9 +216,10 @@ pub fn has_length(alloc: Global, entry: &Entry, length: usize) -> bool {
 
 /// Whether the entries of a log of each kind have texts of these lengths.
 fn have_lengths(alloc: Global, log: &Log) -> bool {
-    for (entry, length) in log.entries().iter().zip([16, 16_448, 16_480, 12, 36]) {
-        if !has_length(alloc, entry, length) {
-            return false;
+    for (place, length) in [(0, 16), (1, 16_448), (2, 16_480), (3, 12), (4, 36)] {
+        match log.entries().get(place) {
+            Some(entry) if has_length(alloc, entry, length) => {}
+            _ => return false,
         }
     }
     true

@@ -197,13 +197,18 @@ fn goes_well_from_first(
     }
 }
 
+/// The same of a new client.
+fn goes_well_of_client(alloc: Global, trial: Trial, server: &mut Receiver) -> bool {
+    match new_client(alloc) {
+        Some(mut client) => goes_well_from_first(alloc, trial, &mut client, server),
+        None => false,
+    }
+}
+
 /// The same of a new client and a new server.
 fn goes_well_of_both(alloc: Global, trial: Trial) -> bool {
     match new_server(alloc) {
-        Some(mut server) => match new_client(alloc) {
-            Some(mut client) => goes_well_from_first(alloc, trial, &mut client, &mut server),
-            None => false,
-        },
+        Some(mut server) => goes_well_of_client(alloc, trial, &mut server),
         None => false,
     }
 }

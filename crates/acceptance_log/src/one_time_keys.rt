@@ -35,14 +35,24 @@ fn next_public_hash(keys: &mut LeafKeys, place: u8, bit: bool) -> Option<[u8; 32
     Some(hash)
 }
 
+/// The first that isn't another program's of the hash of leaf 0, and a hash of each of the first two keys;
+/// empty where all are.
+fn wrong_of(keys: &mut LeafKeys) -> &'static str {
+    if keys.leaf_hash(0) != LEAF_HASH_0 {
+        "the leaf's hash"
+    } else if next_public_hash(keys, 0, false) != Some(PUBLIC_HASH_OF_LEAF_0) {
+        "a hash of the first key"
+    } else if next_public_hash(keys, 255, true) != Some(PUBLIC_HASH_OF_LEAF_1) {
+        "a hash of the second key"
+    } else {
+        ""
+    }
+}
+
 #[test]
 fn public_parts_are_another_programs(rt: HostRuntime) {
-    let mut keys = LeafKeys::new(MASTER);
-    assert_eq!(rt; keys.leaf_hash(0), LEAF_HASH_0);
-    let first = next_public_hash(&mut keys, 0, false);
-    assert_eq!(rt; first, Some(PUBLIC_HASH_OF_LEAF_0));
-    let second = next_public_hash(&mut keys, 255, true);
-    assert_eq!(rt; second, Some(PUBLIC_HASH_OF_LEAF_1));
+    let wrong = wrong_of(&mut LeafKeys::new(MASTER));
+    assert!(rt; wrong.is_empty(), "{wrong}");
 }
 
 /// Whether a signature of zeros has the length and the secret of leaf 0, and shows its key.

@@ -37,12 +37,17 @@ fn members_of_a_roster(rt: HostRuntime) {
 #[test]
 fn members_out_of_bounds(rt: HostRuntime) {
     let (number, height) = (Some(RosterFault::BadNumber), Some(RosterFault::BadHeight));
-    assert!(rt; has_fault(rt.alloc(), (0, 1), (2, 1), number));
-    assert!(rt; has_fault(rt.alloc(), (1, 1), (65, 1), number));
-    assert!(rt; has_fault(rt.alloc(), (1, 0), (2, 1), height));
-    assert!(rt; has_fault(rt.alloc(), (1, 1), (2, 17), height));
-    assert!(rt; has_fault(rt.alloc(), (2, 17), (0, 1), height));
-    assert!(rt; has_fault(rt.alloc(), (2, 1), (1, 17), height));
+    for (first, second, fault) in [
+        ((0, 1), (2, 1), number),
+        ((1, 1), (65, 1), number),
+        ((1, 0), (2, 1), height),
+        ((1, 1), (2, 17), height),
+        ((2, 17), (0, 1), height),
+        ((2, 1), (1, 17), height),
+    ] {
+        let owed = has_fault(rt.alloc(), first, second, fault);
+        assert!(rt; owed, "{first:?} {second:?}");
+    }
 }
 
 #[test]

@@ -73,20 +73,23 @@ fn is_unknown(alloc: Global, roster: &Roster, text: &mut [u8]) -> bool {
     fault == Some(SegmentFault::UnknownNode)
 }
 
-/// The first that doesn't hold of a segment of one CLOCK; empty where all holds.
+/// The first that doesn't hold of a segment's text; empty where all holds.
+fn wrong_of_text(alloc: Global, roster: &Roster, text: &mut [u8]) -> &'static str {
+    if text.len() != 16_528 || !is_garbage_cut(alloc, roster, text) {
+        "garbage where it is cut"
+    } else if !is_refused_changed(alloc, roster, text) {
+        "refused where it is changed"
+    } else if !is_unknown(alloc, roster, text) {
+        "refused of a stranger"
+    } else {
+        ""
+    }
+}
+
+/// The same of a segment of one CLOCK.
 fn wrong_of_one(alloc: Global) -> &'static str {
     match one_clock(alloc) {
-        Some(ClosedText { roster, mut text }) => {
-            if text.len() != 16_528 || !is_garbage_cut(alloc, &roster, &text) {
-                "garbage where it is cut"
-            } else if !is_refused_changed(alloc, &roster, &mut text) {
-                "refused where it is changed"
-            } else if !is_unknown(alloc, &roster, &mut text) {
-                "refused of a stranger"
-            } else {
-                ""
-            }
-        }
+        Some(mut closed) => wrong_of_text(alloc, &closed.roster, &mut closed.text),
         None => "memory",
     }
 }

@@ -220,22 +220,25 @@ fn have_left(client: &ClientNode, server: &ServerNode, of_client: u32, of_server
     client.node().left() == of_client && server.node().left() == of_server
 }
 
+/// Whether a client has a key left that has called, and a server two.
+fn have_called(_: Global, nodes: &mut (ClientNode, ServerNode)) -> bool {
+    have_left(&nodes.0, &nodes.1, 1, 2)
+}
+
 /// Whether a client calls, and then it and a server come back from a join as they were.
 fn come_back(alloc: Global, mut client: ClientNode, server: ServerNode) -> bool {
     let refusal = refusal(alloc, &mut client);
-    match Direct::join(alloc, client, server).err() {
-        Some(nodes) => refusal == None && have_left(&nodes.0, &nodes.1, 1, 2),
-        None => false,
-    }
+    holds_of(
+        alloc,
+        Direct::join(alloc, client, server).err(),
+        have_called,
+    ) && refusal == None
 }
 
 /// The same of a new client and a new server.
 fn both_come_back(alloc: Global) -> bool {
-    match new_server(alloc, 1) {
-        Some(server) => match new_client(alloc, 1) {
-            Some(client) => come_back(alloc, client, server),
-            None => false,
-        },
+    match new_client(alloc, 1).zip(new_server(alloc, 1)) {
+        Some((client, server)) => come_back(alloc, client, server),
         None => false,
     }
 }
@@ -245,11 +248,15 @@ fn nodes_that_are_not_joined_come_back(rt: HostRuntime) {
     assert!(rt; both_come_back(rt.alloc()));
 }
 
+/// Whether each has two of four keys left.
+fn have_exchanged(_: Global, nodes: &mut (ClientNode, ServerNode)) -> bool {
+    have_left(&nodes.0, &nodes.1, 2, 2)
+}
+
 /// Whether a call is answered, and both have two of four keys left when they are taken apart.
 fn is_taken_apart(alloc: Global, mut link: Direct) -> bool {
     let answer = exchanged(alloc, &mut link);
-    let (client, server) = link.into_nodes();
-    answer == Ok(24) && have_left(&client, &server, 2, 2)
+    holds_of(alloc, Some(link.into_nodes()), have_exchanged) && answer == Ok(24)
 }
 
 /// The same of a new client and a new server, with four keys each.

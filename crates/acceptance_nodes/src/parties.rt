@@ -74,13 +74,8 @@ pub fn joined(alloc: Global, height: u32) -> Option<Direct>
     requires some { 1 ≤ height }
     requires low { height ≤ 16 }
 {
-    match new_server(alloc, height) {
-        Some(server) => match new_client(alloc, height) {
-            Some(client) => Direct::join(alloc, client, server).ok(),
-            None => None,
-        },
-        None => None,
-    }
+    let (client, server) = new_client(alloc, height).zip(new_server(alloc, height))?;
+    Direct::join(alloc, client, server).ok()
 }
 
 /// Whether a function holds of a value, where there is one. The value's type is a parameter, so that the

@@ -33,7 +33,7 @@ enum Found {
 
 /// What a verdict says.
 fn told(verdict: Verdict) -> Found {
-    match verdict {
+    match &verdict {
         Verdict::Sound(_, found) => Found::Sound(found.len()),
         Verdict::Fault(fault, number) => Found::Fault(fault.number(), number.get()),
     }
@@ -122,12 +122,12 @@ fn answered(alloc: Global, client: &mut Signer, count: usize) -> Option<Vec<Entr
 
 /// What a replay of at most nine entries finds after the state that a node begins with.
 fn found_after(alloc: Global, roster: &Roster, node: &Member, entries: &[Entry]) -> Option<Found> {
-    let Ok(start) = opening_state(alloc, node) else {
-        return None;
-    };
     if entries.len() > 9 {
         return None;
     }
+    let Ok(start) = opening_state(alloc, node) else {
+        return None;
+    };
     match replay_entries(alloc, roster, start, Number::new(1), &[0; 32], entries) {
         Ok(verdict) => Some(told(verdict)),
         Err(_) => None,
@@ -153,16 +153,30 @@ fn found_with(alloc: Global, count: usize, next: Option<Entry>) -> Option<Found>
     }
 }
 
-/// What it finds where a call is heard after the first three, under this number, and then the clock read.
-fn found_with_call(alloc: Global, seq: u64, read: Entry) -> Option<Found> {
-    let mut client = signer(alloc, 2)?;
-    let mut entries = answered(alloc, &mut client, 3)?;
-    if pushes(&mut entries, call_received(alloc, &mut client, seq))
-        && pushes(&mut entries, Some(read))
+/// What it finds where this client's call is heard after the first three, under this number, and then the
+/// clock read.
+fn found_with_call_of(
+    alloc: Global,
+    client: &mut Signer,
+    seq: u64,
+    seconds: u32,
+    microseconds: u32,
+) -> Option<Found> {
+    let mut entries = answered(alloc, client, 3)?;
+    if pushes(&mut entries, call_received(alloc, client, seq))
+        && pushes(&mut entries, Some(clock(seconds, microseconds)))
     {
-        found_in(alloc, &client, &entries)
+        found_in(alloc, client, &entries)
     } else {
         None
+    }
+}
+
+/// The same of a call of client 2.
+fn found_with_call(alloc: Global, seq: u64, seconds: u32, microseconds: u32) -> Option<Found> {
+    match signer(alloc, 2) {
+        Some(mut client) => found_with_call_of(alloc, &mut client, seq, seconds, microseconds),
+        None => None,
     }
 }
 
@@ -202,17 +216,17 @@ fn another_checkpoint(rt: HostRuntime) {
 
 #[test]
 fn a_message_again(rt: HostRuntime) {
-    let found = found_with_call(rt.alloc(), 1, clock(2, 0));
+    let found = found_with_call(rt.alloc(), 1, 2, 0);
     assert!(rt; is_fault(found, 3, 4));
 }
 
 #[test]
 fn the_clock(rt: HostRuntime) {
-    let back = found_with_call(rt.alloc(), 2, clock(0, 5));
+    let back = found_with_call(rt.alloc(), 2, 0, 5);
     assert!(rt; is_fault(back, 5, 5));
-    let no_time = found_with_call(rt.alloc(), 2, clock(2, 1_000_000));
+    let no_time = found_with_call(rt.alloc(), 2, 2, 1_000_000);
     assert!(rt; is_fault(no_time, 1, 5));
-    let later = found_with_call(rt.alloc(), 2, clock(2, 0));
+    let later = found_with_call(rt.alloc(), 2, 2, 0);
     assert!(rt; is_sound(later, 2));
 }
 
@@ -282,17 +296,11 @@ fn logs(log: &mut Log, entry: Option<Entry>) -> bool {
     }
 }
 
-/// The log of server 1 that heard the call, read its clock and replied.
-fn log_of_call(alloc: Global, client: &mut Signer) -> Option<Log> {
-    let mut log = Log::new(alloc, 1);
-    if logs(&mut log, call_received(alloc, client, 1))
-        && logs(&mut log, Some(clock(1, 0)))
-        && logs(&mut log, sent(alloc, &REPLY))
-    {
-        Some(log)
-    } else {
-        None
-    }
+/// Whether server 1's log has that it heard the call, read its clock and replied.
+fn logs_call(alloc: Global, client: &mut Signer, log: &mut Log) -> bool {
+    logs(log, call_received(alloc, client, 1))
+        && logs(log, Some(clock(1, 0)))
+        && logs(log, sent(alloc, &REPLY))
 }
 
 /// The text of its three entries.
@@ -307,15 +315,52 @@ fn segment_text(alloc: Global, log: &Log, closing: &Authenticator) -> Option<Vec
     }
 }
 
+/// The same, closed by the server.
+fn closed_text(alloc: Global, server: &mut Signer, log: &Log) -> Option<Vec<u8>> {
+    match closing(server, log) {
+        Some(closing) => segment_text(alloc, log, &closing),
+        None => None,
+    }
+}
+
 /// It as a closed segment.
+fn segment_of(
+    alloc: Global,
+    server: &mut Signer,
+    client: &Signer,
+    log: &Log,
+) -> Option<ClosedSegment> {
+    let roster = roster(alloc, server, client)?;
+    match closed_text(alloc, server, log) {
+        Some(text) => check_segment(alloc, &roster, &text).ok(),
+        None => None,
+    }
+}
+
+/// The same by the keys of server 1.
+fn signed_segment(alloc: Global, client: &Signer, log: &Log) -> Option<ClosedSegment> {
+    match signer(alloc, 1) {
+        Some(mut server) => segment_of(alloc, &mut server, client, log),
+        None => None,
+    }
+}
+
+/// The same of the call of this client.
+fn segment_of_call(alloc: Global, client: &mut Signer) -> Option<ClosedSegment> {
+    let mut log = Log::new(alloc, 1);
+    if logs_call(alloc, client, &mut log) {
+        signed_segment(alloc, client, &log)
+    } else {
+        None
+    }
+}
+
+/// The same of the call of client 2.
 fn closed_segment(alloc: Global) -> Option<ClosedSegment> {
-    let mut client = signer(alloc, 2)?;
-    let mut server = signer(alloc, 1)?;
-    let roster = roster(alloc, &server, &client)?;
-    let log = log_of_call(alloc, &mut client)?;
-    let closing = closing(&mut server, &log)?;
-    let text = segment_text(alloc, &log, &closing)?;
-    check_segment(alloc, &roster, &text).ok()
+    match signer(alloc, 2) {
+        Some(mut client) => segment_of_call(alloc, &mut client),
+        None => None,
+    }
 }
 
 /// What a replay of a segment of a node finds after the state that the node begins with.

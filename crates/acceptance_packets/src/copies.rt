@@ -1,7 +1,7 @@
 //! Copies of what packets and evidence hold: each is the same as what it was made of, by the exact equality
 //! of its type.
 
-use crate::evidence::{Content as Charged, made_of};
+use crate::evidence::{Content as Charged, Made as MadeEvidence, holds_of};
 use crate::made::{Content, packet_of};
 use authenticator::{Checked, Number, Roster, Signs};
 use challenge::{AuditedLog, Charge, Evidence, Fork, Showing};
@@ -172,10 +172,15 @@ fn packet_is_copied(alloc: Global, content: Content) -> bool {
 
 #[test]
 fn packets_are_copied(rt: HostRuntime) {
-    assert!(rt; packet_is_copied(rt.alloc(), Content::Learn));
-    assert!(rt; packet_is_copied(rt.alloc(), Content::Challenge { of: 2 }));
-    assert!(rt; packet_is_copied(rt.alloc(), Content::Answer));
-    assert!(rt; packet_is_copied(rt.alloc(), Content::Acknowledgement));
+    for content in [
+        Content::Learn,
+        Content::Challenge { of: 2 },
+        Content::Answer,
+        Content::Acknowledgement,
+    ] {
+        let copied = packet_is_copied(rt.alloc(), content);
+        assert!(rt; copied, "{content:?}");
+    }
 }
 
 fn fork_is_copied(alloc: Global, fork: &Fork) -> bool {
@@ -214,17 +219,19 @@ fn evidence_is_copied(alloc: Global, evidence: &Evidence) -> bool {
     }
 }
 
-/// Whether evidence with this content is.
-fn made_is_copied(alloc: Global, content: Charged) -> bool {
-    match made_of(alloc, content) {
-        Some(made) => evidence_is_copied(alloc, &made.evidence),
-        None => false,
-    }
+/// Whether evidence that was made is.
+fn made_is_copied(alloc: Global, made: &MadeEvidence) -> bool {
+    evidence_is_copied(alloc, &made.evidence)
 }
 
 #[test]
 fn evidence_is_copied_whole(rt: HostRuntime) {
-    assert!(rt; made_is_copied(rt.alloc(), Charged::TwoHashes));
-    assert!(rt; made_is_copied(rt.alloc(), Charged::AtZero(1)));
-    assert!(rt; made_is_copied(rt.alloc(), Charged::Clock(1_000_000)));
+    for content in [
+        Charged::TwoHashes,
+        Charged::AtZero(1),
+        Charged::Clock(1_000_000),
+    ] {
+        let copied = holds_of(rt.alloc(), content, made_is_copied);
+        assert!(rt; copied, "{content:?}");
+    }
 }

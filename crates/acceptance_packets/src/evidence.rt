@@ -4,8 +4,8 @@
 use crate::made::{keys_of_two, roster_of_two};
 use authenticator::{Authenticator, Number, Roster};
 use challenge::{
-    AuditedLog, Case, Charge, Evidence, EvidenceFault, Finding, Fork, NotAccepted, ReplayFault,
-    Showing, check_evidence, examine, read_case, read_evidence, write_case,
+    AuditedLog, Charge, Evidence, EvidenceFault, Finding, Fork, NotAccepted, ReplayFault, Showing,
+    check_evidence, examine, read_case, read_evidence, write_case,
 };
 use merkle_keys::Signer;
 use secure_log::log_entries::{Entry, entry_hash};
@@ -110,7 +110,7 @@ fn finds_in_text(alloc: Global, roster: &Roster, text: Vec<u8>, finding: &Findin
 /// Whether this is found in a case that is read from a text.
 fn finds_in_case(alloc: Global, text: Vec<u8>, finding: &Finding) -> bool {
     match read_case(alloc, text) {
-        Ok(Case { roster, evidence }) => finds(alloc, &roster, &evidence, finding),
+        Ok(case) => finds(alloc, &case.roster, &case.evidence, finding),
         Err(_) => false,
     }
 }
@@ -135,22 +135,29 @@ pub struct Made {
     pub evidence: Evidence,
 }
 
-pub fn made_of(alloc: Global, content: Content) -> Option<Made> {
+fn made_of(alloc: Global, content: Content) -> Option<Made> {
     let mut signer = keys_of_two(alloc)?;
     let roster = roster_of_two(alloc, &signer)?;
     let evidence = evidence_of(alloc, &mut signer, content)?;
     Some(Made { roster, evidence })
 }
 
-/// Whether this is found in evidence with this content, also where it is read back.
-fn is_found(alloc: Global, content: Content, finding: &Finding) -> bool {
+/// Whether a function holds of evidence with this content, which is owned here alone.
+pub fn holds_of<F: FnOnce(Global, &Made) -> bool>(alloc: Global, content: Content, holds: F) -> bool
+    requires { F.IsAlwaysCallable holds }
+{
     match made_of(alloc, content) {
-        Some(Made { roster, evidence }) => {
-            finds(alloc, &roster, &evidence, finding)
-                && finds_again(alloc, &roster, &evidence, finding)
-        }
+        Some(made) => holds(alloc, &made),
         None => false,
     }
+}
+
+/// Whether this is found in evidence with this content, also where it is read back.
+fn is_found(alloc: Global, content: Content, finding: &Finding) -> bool {
+    holds_of(alloc, content, |alloc, made| {
+        finds(alloc, &made.roster, &made.evidence, finding)
+            && finds_again(alloc, &made.roster, &made.evidence, finding)
+    })
 }
 
 /// The finding of two hashes.
@@ -229,39 +236,25 @@ fn is_garbage_changed(alloc: Global, kind: Kind, mut text: Vec<u8>) -> bool {
     text.push(0).is_ok() && is_garbage(alloc, kind, &text)
 }
 
-/// Whether evidence of two hashes isn't signed with its text's last bit changed.
-fn is_last_bit_signed(alloc: Global) -> bool {
-    match made_of(alloc, Content::TwoHashes) {
-        Some(made) => is_not_signed(alloc, &made),
-        None => false,
-    }
-}
-
 /// Whether the text of evidence is refused where it is changed.
-fn is_evidence_refused(alloc: Global) -> bool {
-    match made_of(alloc, Content::AtZero(1)) {
-        Some(made) => match made.evidence.evidence_text(alloc) {
-            Ok(text) => is_garbage_changed(alloc, Kind::Evidence, text),
-            Err(_) => false,
-        },
-        None => false,
+fn is_evidence_refused(alloc: Global, made: &Made) -> bool {
+    match made.evidence.evidence_text(alloc) {
+        Ok(text) => is_garbage_changed(alloc, Kind::Evidence, text),
+        Err(_) => false,
     }
 }
 
 /// Whether the text of a case is refused where it is changed.
-fn is_case_refused(alloc: Global) -> bool {
-    match made_of(alloc, Content::Clock(1_000_000)) {
-        Some(made) => match case_text(alloc, &made.roster, &made.evidence) {
-            Some(text) => is_garbage_changed(alloc, Kind::Case, text),
-            None => false,
-        },
+fn is_case_refused(alloc: Global, made: &Made) -> bool {
+    match case_text(alloc, &made.roster, &made.evidence) {
+        Some(text) => is_garbage_changed(alloc, Kind::Case, text),
         None => false,
     }
 }
 
 #[test]
 fn changed_evidence_is_refused(rt: HostRuntime) {
-    assert!(rt; is_last_bit_signed(rt.alloc()));
-    assert!(rt; is_evidence_refused(rt.alloc()));
-    assert!(rt; is_case_refused(rt.alloc()));
+    assert!(rt; holds_of(rt.alloc(), Content::TwoHashes, is_not_signed));
+    assert!(rt; holds_of(rt.alloc(), Content::AtZero(1), is_evidence_refused));
+    assert!(rt; holds_of(rt.alloc(), Content::Clock(1_000_000), is_case_refused));
 }

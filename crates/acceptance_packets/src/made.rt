@@ -109,23 +109,19 @@ fn challenge(alloc: Global, signer: &mut Signer, of: u32) -> Option<Vec<u8>> {
     }
 }
 
-/// A log whose one entry is CLOCK (1, 0).
-fn log_of_one(alloc: Global) -> Option<Log> {
-    let mut log = Log::new(alloc, 1);
-    let entry = Entry::Clock {
+/// Appends CLOCK (1, 0) to a log.
+pub fn reads_clock(log: &mut Log) -> bool {
+    log.append(Entry::Clock {
         seconds: 1,
         microseconds: 0,
-    };
-    match log.append(entry) {
-        Ok(_) => Some(log),
-        Err(_) => None,
-    }
+    })
+    .is_ok()
 }
 
-/// The text of the segment of its first entry, with the authenticator that closes it.
+/// The text of the segment of a log, with the authenticator that closes it.
 fn segment_text(alloc: Global, log: &Log, closing: &Authenticator) -> Option<Vec<u8>> {
     let mut text = Vec::new(alloc);
-    match log.segment(1, 1) {
+    match log.segment(1, closing.number.get()) {
         Ok(segment) => match segment.write(closing, &mut text) {
             Ok(()) => Some(text),
             Err(_) => None,
@@ -134,19 +130,44 @@ fn segment_text(alloc: Global, log: &Log, closing: &Authenticator) -> Option<Vec
     }
 }
 
-/// The text of that log's segment.
-fn closed_text(alloc: Global, signer: &mut Signer) -> Option<Vec<u8>> {
-    let log = log_of_one(alloc)?;
-    let closing = signed(signer, 1, Number::new(1), log.hash_at(1)?)?;
-    segment_text(alloc, &log, &closing)
+/// The text of the segment of a node's log from its first entry to this one, closed there.
+pub fn closed_text(
+    alloc: Global,
+    signer: &mut Signer,
+    node: u32,
+    log: &Log,
+    last: Number,
+) -> Option<Vec<u8>> {
+    let hash = log.hash_at(last.get())?;
+    match signed(signer, node, last, hash) {
+        Some(closing) => segment_text(alloc, log, &closing),
+        None => None,
+    }
 }
 
-fn answer(alloc: Global, signer: &mut Signer) -> Option<Vec<u8>> {
-    let text = closed_text(alloc, signer)?;
+fn answer_of(alloc: Global, text: &[u8]) -> Option<Vec<u8>> {
     let mut bytes = Vec::new(alloc);
-    match write_answer_text(&text, &mut bytes) {
+    match write_answer_text(text, &mut bytes) {
         Ok(()) => Some(bytes),
         Err(_) => None,
+    }
+}
+
+/// The answer of this log.
+fn answer_with(alloc: Global, signer: &mut Signer, log: &Log) -> Option<Vec<u8>> {
+    match closed_text(alloc, signer, 1, log, Number::new(1)) {
+        Some(text) => answer_of(alloc, &text),
+        None => None,
+    }
+}
+
+/// The answer of a log whose one entry is CLOCK (1, 0).
+fn answer(alloc: Global, signer: &mut Signer) -> Option<Vec<u8>> {
+    let mut log = Log::new(alloc, 1);
+    if reads_clock(&mut log) {
+        answer_with(alloc, signer, &log)
+    } else {
+        None
     }
 }
 

@@ -1,6 +1,6 @@
 //! What is shown of a log, made, written and read.
 
-use crate::made::{keys_of_two, roster_of_two};
+use crate::made::{closed_text, keys_of_two, reads_clock, roster_of_two};
 use authenticator::{Authenticator, Number, Roster};
 use challenge::{EntryKind, Showing};
 use merkle_keys::Signer;
@@ -23,49 +23,42 @@ fn is_shown(alloc: Global, roster: &Roster, authenticator: &Authenticator) -> bo
     }
 }
 
-/// Whether that holds of one that is signed.
-fn is_shown_signed(alloc: Global) -> Option<bool> {
-    let mut signer = keys_of_two(alloc)?;
-    let roster = roster_of_two(alloc, &signer)?;
-    let authenticator = signed(&mut signer, 2, Number::new(5), [7; 32])?;
-    Some(is_shown(alloc, &roster, &authenticator))
+/// Whether that holds of one that these keys sign.
+fn is_shown_by(alloc: Global, signer: &mut Signer) -> bool {
+    match roster_of_two(alloc, signer) {
+        Some(roster) => match signed(signer, 2, Number::new(5), [7; 32]) {
+            Some(authenticator) => is_shown(alloc, &roster, &authenticator),
+            None => false,
+        },
+        None => false,
+    }
+}
+
+/// The same by new keys.
+fn is_shown_signed(alloc: Global) -> bool {
+    match keys_of_two(alloc) {
+        Some(mut signer) => is_shown_by(alloc, &mut signer),
+        None => false,
+    }
 }
 
 #[test]
 fn an_authenticator_shows_its_pair(rt: HostRuntime) {
-    assert_eq!(rt; is_shown_signed(rt.alloc()), Some(true));
+    assert!(rt; is_shown_signed(rt.alloc()));
 }
 
-/// The log of node 2 that read its clock and kept a digest.
-fn log(alloc: Global) -> Option<Log> {
-    let mut log = Log::new(alloc, 2);
-    let clock = Entry::Clock {
-        seconds: 1,
-        microseconds: 0,
-    };
-    let read = log.append(clock).is_ok();
-    let kept = log.append(Entry::Check { digest: [3; 32] }).is_ok();
-    if read && kept { Some(log) } else { None }
+/// Keeps a digest in a log.
+fn keeps_digest(log: &mut Log) -> bool {
+    log.append(Entry::Check { digest: [3; 32] }).is_ok()
 }
 
-/// The text of the segment of that log, closed.
-fn closed_text(alloc: Global, log: &Log, closing: &Authenticator) -> Option<Vec<u8>> {
-    let mut text = Vec::new(alloc);
-    match log.segment(1, 2) {
-        Ok(segment) => match segment.write(closing, &mut text) {
-            Ok(()) => Some(text),
-            Err(_) => None,
-        },
-        Err(_) => None,
-    }
-}
-
-/// The segment of a log, closed.
+/// The segment of node 2's log of two entries, closed.
 fn segment(alloc: Global, signer: &mut Signer, log: &Log) -> Option<ClosedSegment> {
     let roster = roster_of_two(alloc, signer)?;
-    let closing = signed(signer, 2, Number::new(2), log.hash_at(2)?)?;
-    let text = closed_text(alloc, log, &closing)?;
-    check_segment(alloc, &roster, &text).ok()
+    match closed_text(alloc, signer, 2, log, Number::new(2)) {
+        Some(text) => check_segment(alloc, &roster, &text).ok(),
+        None => None,
+    }
 }
 
 /// Whether what is shown has the hashes of a log.
@@ -103,15 +96,29 @@ fn shows(alloc: Global, log: &Log, segment: &ClosedSegment) -> bool {
     }
 }
 
-/// Whether a closed segment shows its log.
-fn shows_log(alloc: Global) -> Option<bool> {
-    let mut signer = keys_of_two(alloc)?;
-    let log = log(alloc)?;
-    let segment = segment(alloc, &mut signer, &log)?;
-    Some(shows(alloc, &log, &segment))
+/// Whether a log's segment, closed by these keys, shows it.
+fn shows_closed(alloc: Global, signer: &mut Signer, log: &Log) -> bool {
+    match segment(alloc, signer, log) {
+        Some(segment) => shows(alloc, log, &segment),
+        None => false,
+    }
+}
+
+/// The same by new keys.
+fn shows_signed(alloc: Global, log: &Log) -> bool {
+    match keys_of_two(alloc) {
+        Some(mut signer) => shows_closed(alloc, &mut signer, log),
+        None => false,
+    }
+}
+
+/// The same of the log of node 2 that read its clock and kept a digest.
+fn shows_log(alloc: Global) -> bool {
+    let mut log = Log::new(alloc, 2);
+    reads_clock(&mut log) && keeps_digest(&mut log) && shows_signed(alloc, &log)
 }
 
 #[test]
 fn a_segment_shows_its_log(rt: HostRuntime) {
-    assert_eq!(rt; shows_log(rt.alloc()), Some(true));
+    assert!(rt; shows_log(rt.alloc()));
 }

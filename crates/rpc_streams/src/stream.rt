@@ -7,6 +7,7 @@ ghost use Rattle.rpc.specs.Records.Count.{Rises};
 ghost use Rattle.rpc.specs.Records.Writing.{WritesFront};
 ghost use Rattle.service.specs.Replies.{reply_owed, world_after};
 ghost use Rattle.service.specs.Owed.{record_of};
+ghost use Rattle.worlds.specs.World.{opening_world};
 ghost use Rattle.rpc.specs.declared.records.fault.RecordFault.TheVariants.{Device, NoMemory};
 ghost use Rattle.record_streams.specs.Streams.{Serves};
 ghost use Rattle.record_streams.specs.Faults.{EndsWith, LeavesOff, StandsAfter};
@@ -89,6 +90,48 @@ fn serve_at_hand<R: Ahead + Drop, W: Write>(
     Ok(batch.ends.len() as u64)
 }
 
+/// As `run_rpc`, by a server as it begins, and with room for a record and for a batch.
+fn serve_stream<R: Ahead + Drop, W: Write>(
+    alloc: Global,
+    service: &mut Service,
+    reader: &mut RecordReader<R>,
+    writer: &mut Counting<W>,
+    record: &mut Vec<u8>,
+    batch: &mut Batch,
+) -> Result<u64, RecordFault>
+    requires opening { service.old ≡ opening_world NODE }
+    requires fresh { reader.old.fault ≡ None }
+    requires record { MAX_RECORD ≤ vec_capacity record.old }
+    requires room { MOST_RECORDS ≤ vec_capacity batch.old.ends }
+    ensures served { IfOk result (λ count. IfSome (R.remaining reader.old.reader.inner) (λ input.
+        Serves text_owed SaysNothing count input
+        (W.contents writer.old.inner) (W.contents writer.new.inner))) }
+    ensures fault { IfErr result (λ e. IfSome (R.remaining reader.old.reader.inner) (λ input.
+        EndsWith e text_owed input (W.contents writer.old.inner) (W.contents writer.new.inner))) }
+    ensures taken { IfErr result (λ e. LeavesOff e reader.new.fault text_owed SaysNothing
+        (R.remaining reader.old.reader.inner) (R.remaining reader.new.reader.inner)
+        (W.contents writer.old.inner) (W.contents writer.new.inner)) }
+    ensures end { OnOk result (IsAtEnd (R.remaining reader.new.reader.inner)) }
+    ensures kept { OnOk result ((reader.new.fault ≡ None)
+        × (reader.new.reader.count ≡ reader.old.reader.count) × (writer.new.count ≡ writer.old.count)) }
+    ensures stands { IfErr result (λ e. StandsAfter e reader.new.fault
+        reader.old.reader.count reader.new.reader.count writer.old.count writer.new.count) }
+    ensures device { IsErrOf result Device →
+        Rises reader.old.reader.count reader.new.reader.count ⊎ Rises writer.old.count writer.new.count }
+{
+    let mut k = 1;
+    while k < u64::MAX {
+        if !reader.next_into(record)? {
+            return Ok(k - 1);
+        }
+        let time = time_of_record(k);
+        serve(alloc, service, writer, &mut batch.replies, time, record)?;
+        k += 1;
+        k += serve_at_hand(alloc, service, reader, writer, batch, k)?;
+    }
+    Err(RecordFault::NoMemory)
+}
+
 /// Answers each record of a stream as the server of node 1 would, from the files that it begins with. The
 /// k-th record has the time (k, 0), at most (4294967295, 0). Replies to records that were read ahead are
 /// held, and written together; all are written before it waits for input, and at the end.
@@ -130,16 +173,5 @@ pub fn run_rpc<R: Ahead + Drop, W: Write>(
     let Ok(mut batch) = Batch::new(alloc) else {
         return Err(RecordFault::NoMemory);
     };
-    let mut k = 1;
-    while k < u64::MAX {
-        if !reader.next_into(&mut record)? {
-            return Ok(k - 1);
-        }
-        let time = time_of_record(k);
-        let replies = &mut batch.replies;
-        serve(alloc, &mut service, writer, replies, time, &record)?;
-        k += 1;
-        k += serve_at_hand(alloc, &mut service, reader, writer, &mut batch, k)?;
-    }
-    Err(RecordFault::NoMemory)
+    serve_stream(alloc, &mut service, reader, writer, &mut record, &mut batch)
 }
