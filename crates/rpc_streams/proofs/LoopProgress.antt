@@ -3,7 +3,7 @@
 -- (serves), no record could be read (ends, leaves_off_reading), a record was read and its reply not wholly
 -- written (unanswered, leaves_off_answering), memory was refused before the first (nothing_yet,
 -- stops_at_once).
--- Serves: run_rpc, serve_stream.
+-- Serves: run_rpc, serve_records.
 use Rattle.std.proofs.Common.{◌≡◌, ◌⊎◌, inl, inr, ℕ, ◌+◌, List, [], ◌∷◌, ◌++◌, length, sym, ap, ◌∙◌, refl}
 use Rattle.std.specs.Prelude.{Option, None, IfSome, Err}
 use Rattle.std.specs.Io.KnownBytes.{Appends}

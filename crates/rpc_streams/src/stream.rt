@@ -91,7 +91,7 @@ fn serve_at_hand<R: Ahead + Drop, W: Write>(
 }
 
 /// As `run_rpc`, by a server as it begins, and with room for a record and for a batch.
-fn serve_stream<R: Ahead + Drop, W: Write>(
+fn serve_records<R: Ahead + Drop, W: Write>(
     alloc: Global,
     service: &mut Service,
     reader: &mut RecordReader<R>,
@@ -173,5 +173,5 @@ pub fn run_rpc<R: Ahead + Drop, W: Write>(
     let Ok(mut batch) = Batch::new(alloc) else {
         return Err(RecordFault::NoMemory);
     };
-    serve_stream(alloc, &mut service, reader, writer, &mut record, &mut batch)
+    serve_records(alloc, &mut service, reader, writer, &mut record, &mut batch)
 }

@@ -3,7 +3,7 @@ use Rattle.std.specs.Prelude.{vec_capacity}
 use Rattle.rpc.specs.declared.records.record.TheConstants.{MAX_RECORD}
 use Rattle.rpc_streams.specs.declared.batch.TheConstants.{MOST_RECORDS}
 use Rattle.rpc_streams.proofs.LoopProgress.{Turn}
-use Rattle.rpc_streams.proofs.stream.serve_stream.Given as goal
+use Rattle.rpc_streams.proofs.stream.serve_records.Given as goal
 
 abbrev pub invariant-loop-k : goal.invariant-loop-k
 invariant-loop-k g l =

@@ -3,7 +3,7 @@ use Rattle.std.proofs.lemmas.Result.{err_from_is_err_and}
 use Rattle.rpc_streams.proofs.LoopProgress.{ends, unanswered, pushes, answers, stops_behind, leaves_off_after}
 use Rattle.rpc_streams.proofs.LoopProgress.{stops_between, leaves_off_reading}
 use Rattle.rpc_streams.proofs.LoopProgress.{leaves_off_answering}
-use Rattle.rpc_streams.proofs.stream.serve_stream.Goals as goal
+use Rattle.rpc_streams.proofs.stream.serve_records.Goals as goal
 
 pub returns-in_err-next_into-clause-fault : goal.returns-in_err-next_into-clause-fault
 returns-in_err-next_into-clause-fault g c =
