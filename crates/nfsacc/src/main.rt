@@ -203,26 +203,34 @@ where
     let mut shelf = FileShelf::new(rt, rt.alloc());
     let mut reader = Remembering::new(input);
     let mut writer = Remembering::new(io::writer(rt));
-    match run_script(
+    let ended = run_script(
         rt,
         rt.alloc(),
         &mut reader,
         &mut writer,
         &mut shelf,
         request.roster_out,
-    ) {
-        Ok(ScriptEnd::Closed) => 0,
-        Ok(ScriptEnd::NotInJournal) => INPUT_FAULT,
-        Ok(ScriptEnd::Bad(line)) => {
-            let _ = eprintln!(rt; "line {line}: bad");
-            INPUT_FAULT
-        }
+    );
+    match &ended {
+        Ok(end) => report_end(rt, end),
         Err(ScriptFault::NoMemory) => report_no_memory(rt),
         Err(ScriptFault::Device) => match reader.last() {
             Some(error) => report_file(rt, name, &error),
             None => report_output(rt, writer.last()),
         },
-        Err(ScriptFault::File(name, error)) => report_file(rt, &name, &error),
+        Err(ScriptFault::File(name, error)) => report_file(rt, name, error),
+    }
+}
+
+/// The status of a script that came to this end. A bad line is said on standard error.
+fn report_end(rt: &impl Eprint, end: &ScriptEnd) -> u8 {
+    match end {
+        ScriptEnd::Closed(_) => 0,
+        ScriptEnd::NotInJournal(_) => INPUT_FAULT,
+        ScriptEnd::Bad(line) => {
+            let _ = eprintln!(rt; "line {line}: bad");
+            INPUT_FAULT
+        }
     }
 }
 

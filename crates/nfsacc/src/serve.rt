@@ -1,5 +1,6 @@
 //! `nfsacc serve`.
 
+ghost use Rattle.std.specs.Prelude.{◌≡◌};
 ghost use Rattle.console.specs.CommandLine.ServeOrders.{IsBounded};
 ghost use Rattle.scripts.specs.serving.Orders.{IsOrder};
 
@@ -66,7 +67,13 @@ fn nothing<R: Files<File = File>>(rt: &R) -> Option<File> {
 /// What a run is asked.
 pub fn order_of<'a>(order: &ServeOrder<'a>, masters: Masters) -> Order<'a>
     requires { IsBounded order.now }
-    ensures { IsOrder result }
+    ensures order { IsOrder result }
+    ensures connections { result.connections ≡ order.now.connections }
+    ensures heights { (result.heights.server ≡ order.now.server_height)
+        × (result.heights.client ≡ order.now.client_height) }
+    ensures masters { result.masters ≡ masters }
+    ensures files { (result.roster_out ≡ order.now.roster_out) × (result.evidence ≡ order.now.evidence) }
+    ensures progress { result.progress ≡ order.now.progress }
 {
     Order {
         connections: order.connections,
@@ -87,9 +94,9 @@ pub fn report_served(
     order: &ServeOrder<'_>,
     served: Result<Finished, ServeFault>,
 ) -> u8 {
-    match served {
-        Ok(finished) => status_of(rt, &finished),
-        Err(fault) => report_fault(rt, order, &fault),
+    match &served {
+        Ok(finished) => status_of(rt, finished),
+        Err(fault) => report_fault(rt, order, fault),
     }
 }
 
@@ -119,7 +126,7 @@ fn report_master(rt: &impl Eprint, name: &str, fault: &MasterFault) -> u8 {
 
 /// The status of a run that came to its end.
 fn status_of(rt: &impl Eprint, finished: &Finished) -> u8 {
-    if !finished.closed {
+    if finished.closed.is_err() {
         let _ = rt.eprintln("nfsacc: what the witness answered does not stand in its journal");
         return INPUT_FAULT;
     }

@@ -15,6 +15,7 @@ use Rattle.commitment.specs.declared.refusal.Refusal.TheVariants.{Garbage, NotFo
 use Rattle.commitment.specs.declared.refusal.Refusal.TheVariants.{NoMemory}
 use Rattle.nfs_items.specs.Timeval.{Timeval}
 use Rattle.gateway.specs.declared.links.fault.LinkFault.{LinkFault}
+use Rattle.gateway.specs.declared.links.fault.LinkFault.TheVariants as faults
 use Rattle.gateway.specs.declared.links.fault.LinkFault.TheVariants.{Failed}
 use Rattle.node_logs.specs.Steps.Nodes.{NodeParts, sender_of}
 use Rattle.node_logs.specs.Nodes.{LacksKeys}
@@ -25,8 +26,11 @@ use Rattle.node_logs.specs.declared.outcome.AckTaken.{AckTaken}
 use Rattle.node_logs.specs.declared.outcome.AckTaken.TheVariants.{Logged, Already}
 use Rattle.node_logs.specs.declared.outcome.Receipt.{Receipt}
 use Rattle.nodes.specs.Exchanges.Reaching.{ack_told}
-use Rattle.nodes.specs.Delivery.{MayTakeAck, fault_of}
+use Rattle.nodes.specs.Exchanges.Laws.{IsAccepted}
+use Rattle.nodes.specs.Delivery.{MayTakeAck, TakesAwaited, fault_of}
 use Rattle.nodes.proofs.OfExchanges.Texts.{one_ack, one_envelope, reads_back}
+use Rattle.nodes.proofs.OfExchanges.Reached.{accepted_by}
+use Rattle.nodes.proofs.Delivered.{awaited}
 
 -- the text that a call wrote of an envelope
 pub envelope_written : (a n : NodeParts) (number : ℕ) (e : Envelope) (bytes text : List ℕ) → n ≡ a
@@ -104,18 +108,37 @@ taken_new n n' bytes e number h text new takes =
         (reads_back envelope_text (envelope_value e) bytes text) in
         (x.1.1, x.1.2 ∙ ap (with_receipt n) same)
 
+-- what a node that is handed an acknowledgement is then, whatever it refused
+abbrev Stays : NodeParts → Ack → Result (Unit {0}) LinkFault → NodeParts → Type 0
+Stays n a (Ok x) n' = n' ≡ with_ack n a
+Stays n a (Err faults.KeysUsedUp) n' = ⊥
+Stays n a (Err faults.NoMemory) n' = n' ≡ n
+Stays n a (Err Failed) n' = n' ≡ n
+
+-- where it takes each that it awaits, it refuses no other
+may_take : (n n' : NodeParts) (a : Ack) (answer : Result (Unit {0}) LinkFault)
+    → (IsAccepted n a → TakesAwaited n a answer n') → Stays n a answer n' → MayTakeAck n a answer n'
+may_take n n' a (Ok x) takes is = is
+may_take n n' a (Err faults.KeysUsedUp) takes is = is
+may_take n n' a (Err faults.NoMemory) takes is = is
+may_take n n' a (Err Failed) takes is = (is, takes)
+
 -- What a node does with the text of an acknowledgement.
 pub ack_read : (b b' : NodeParts) (k : Ack) (bytes : List ℕ) (result : Result AckTaken Refusal)
     (answer : Result (Unit {0}) LinkFault) → IsText ack_text (ack_value k) bytes → TakesAck b bytes result b'
     → answer ≡ ack_told fault_of Failed result → MayTakeAck b k answer b'
 ack_read b b' k bytes result answer text takes answered =
-    subst (λ (r : Result (Unit {0}) LinkFault). MayTakeAck b k r b') (sym answered) (by result takes)
+    may_take b b' k answer
+    (λ h.
+    awaited b b' k answer
+    (accepted_by fault_of Failed b b' k bytes result answer text h takes answered))
+    (subst (λ (r : Result (Unit {0}) LinkFault). Stays b k r b') (sym answered) (by result takes))
   where
     read : IsAckText bytes k
     read = reads_back ack_text (ack_value k) bytes text
 
     by : (r : Result AckTaken Refusal) → TakesAck b bytes r b'
-        → MayTakeAck b k (ack_told fault_of Failed r) b'
+        → Stays b k (ack_told fault_of Failed r) b'
     by (Ok (Logged m)) t = t.1.3 ∙ ap (with_ack b) (one_ack bytes t.0 k t.1.0.text read)
     by (Ok Already) t = t.1.3
     by (Err Garbage) t = t.1

@@ -112,16 +112,17 @@ sent_or_stops c to body c1 n number text (Err f) sends is node written =
 pub not_received_by : (s : NodeParts) (time : Timeval) (e : Envelope) (bytes : List ℕ) (fault : LinkFault)
     (s1 : NodeParts)
     → (Finds (receiver_of s) bytes e None → ReceivesNew s time e (Err fault) s1)
-    → MayReceive s time e (Err fault) s1
+    → MayReceive s time bytes e (Err fault) s1
     → StopsAnswering s time e bytes fault s1
 not_received_by s time e bytes KeysUsedUp s1 new may = inl may
 not_received_by s time e bytes NoMemory s1 new may = inl (tt, may)
-not_received_by s time e bytes Failed s1 new may = inl (new, may)
+not_received_by s time e bytes Failed s1 new may = inl (new, may.0)
 
 -- It received an envelope.
-pub has_received : (s s1 : NodeParts) (time : Timeval) (e : Envelope) (r : Receipt) → e.to ≡ s.node
-    → MayReceive s time e (Ok r) s1 → HasReceived s time e r s1
-has_received s s1 time e r receiver may = record { receiver = receiver; left = may.0; receives = may.1 }
+pub has_received : (s s1 : NodeParts) (time : Timeval) (bytes : List ℕ) (e : Envelope) (r : Receipt)
+    → e.to ≡ s.node
+    → MayReceive s time bytes e (Ok r) s1 → HasReceived s time e r s1
+has_received s s1 time bytes e r receiver may = record { receiver = receiver; left = may.0; receives = may.1 }
 
 -- what a server shows of a receipt, and what it did then, unless it lies
 pub record IsServedAs (s : NodeParts) (time : Timeval) (e : Envelope) (r : Receipt)
@@ -237,15 +238,15 @@ not_answered s s1 n time e r call (Err f) has is node refused =
 
 -- It received nothing.
 pub not_taken_by : (c : NodeParts) (e : Envelope) (bytes : List ℕ) (fault : LinkFault) (c1 : NodeParts)
-    → (Finds (receiver_of c) bytes e None → TakesNew c e (Err fault) c1) → MayTake c e (Err fault) c1
+    → (Finds (receiver_of c) bytes e None → TakesNew c e (Err fault) c1) → MayTake c bytes e (Err fault) c1
     → StopsReceiving c e bytes fault c1
 not_taken_by c e bytes KeysUsedUp c1 new may = inl may
 not_taken_by c e bytes NoMemory c1 new may = inl (tt, may)
-not_taken_by c e bytes Failed c1 new may = inl (new, may)
+not_taken_by c e bytes Failed c1 new may = inl (new, may.0)
 
 -- It received the reply, and the text of its acknowledgement was written, or memory was refused.
 pub received_or_stops : (c c1 n : NodeParts) (e : Envelope) (number : ℕ) (bytes text : List ℕ)
-    (result : Result (Unit {0}) LinkFault) → MayTake c e (Ok tt) c1 → IsSender (sender_of c1) → n ≡ c1
+    (result : Result (Unit {0}) LinkFault) → MayTake c bytes e (Ok tt) c1 → IsSender (sender_of c1) → n ≡ c1
     → number ≡ length c1.entries
     → ((a : Ack) → ack_at (sender_of n) number ≡ Some a → WritesText ack_text (ack_value a) result text)
     → OnOk result (IsReceivedAs c e text c1) × IfErr result (λ f. StopsReceiving c e bytes f c1)

@@ -150,7 +150,7 @@ not_asked_under c s to time body text reply ack bytes fault c1 s1 c2 out straigh
     by Failed new may =
         heard s s1 answer.receipt lock h.heard
         (λ joined. new (accepts_ack c s to time body c1 s1 answer.receipt answer.ack h answer.sender
-        answer.shown.made joined)) (may ∙ h.is)
+        answer.shown.made joined)) (may.0 ∙ h.is)
 
 -- The client took it.
 pub asked_under : (c s : NodeParts) (to : ℕ) (time : Timeval) (body text : List ℕ) (reply : Option (List ℕ))

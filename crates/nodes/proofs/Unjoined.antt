@@ -22,7 +22,9 @@ use Rattle.node_logs.specs.AckTaking.{with_ack}
 use Rattle.node_logs.specs.declared.outcome.Receipt.{Receipt}
 use Rattle.nodes.specs.Exchanges.Exchanges.{IsAsked, IsCall, IsHeard, IsReceived, IsReplied, IsServed, having_called}
 use Rattle.nodes.specs.Delivery.{MayReceive, MayTake, MayTakeAck}
-use Rattle.nodes.specs.Faults.{MayAsk, MayStopAtReply, heard, received, sent, unreceived}
+use Rattle.nodes.specs.Exchanges.Laws.{IsAccepted}
+use Rattle.nodes.specs.Faults.{MayAsk, MayStopAtReply, ack_refused, call_refused, heard, received}
+use Rattle.nodes.specs.Faults.{receipt_refused, reply_refused, sent, unreceived}
 use Rattle.nodes.proofs.OfExchanges.Texts.{some_same}
 use Rattle.nodes.proofs.OfExchanges.Shown.{ack_shown, envelope_shown}
 use Rattle.nodes.proofs.OfExchanges.Called.{recv_first}
@@ -70,24 +72,24 @@ is_sent c s to body c1 number at sends is =
 
 -- The server doesn't receive it.
 pub not_heard : (c s : NodeParts) (time : Timeval) (body : List ℕ) (c1 s1 : NodeParts) (number : ℕ)
-    (fault : LinkFault)
+    (bytes : List ℕ) (fault : LinkFault)
     → (h : IsSent c s body c1 number)
-    → ((e : Envelope) → envelope_at (sender_of c1) number ≡ Some e → MayReceive s time e (Err fault) s1)
+    → ((e : Envelope) → envelope_at (sender_of c1) number ≡ Some e → MayReceive s time bytes e (Err fault) s1)
     → MayAsk c s time body (Err fault) c1 s1
-not_heard c s time body c1 s1 number fault h receives = by fault (receives h.envelope h.shown)
+not_heard c s time body c1 s1 number bytes fault h receives = by fault (receives h.envelope h.shown)
   where
-    by : (f : LinkFault) → MayReceive s time h.envelope (Err f) s1 → MayAsk c s time body (Err f) c1 s1
+    by : (f : LinkFault) → MayReceive s time bytes h.envelope (Err f) s1 → MayAsk c s time body (Err f) c1 s1
     by KeysUsedUp x = inr (h.left, x.0, h.is, x.1)
     by NoMemory x = sent h.left h.is x
-    by Failed x = (h.is, sent h.left h.is x)
+    by Failed x = (h.is, call_refused h.envelope bytes h.left h.call x.1 x.0)
 
 -- It receives it.
 pub heard_it : (c s : NodeParts) (time : Timeval) (body : List ℕ) (c1 s1 : NodeParts) (number : ℕ)
-    (r : Receipt)
+    (bytes : List ℕ) (r : Receipt)
     → IsSent c s body c1 number
-    → ((e : Envelope) → envelope_at (sender_of c1) number ≡ Some e → MayReceive s time e (Ok r) s1)
+    → ((e : Envelope) → envelope_at (sender_of c1) number ≡ Some e → MayReceive s time bytes e (Ok r) s1)
     → IsHeard c s time body r s1
-heard_it c s time body c1 s1 number r h receives =
+heard_it c s time body c1 s1 number bytes r h receives =
     let x = receives h.envelope h.shown in
     record { left = h.left; envelope = h.envelope; call = h.call; server_left = x.0; receives = x.1 }
 
@@ -126,27 +128,31 @@ pub not_asked : (c s : NodeParts) (time : Timeval) (body : List ℕ) (c1 s1 c2 :
     → MayAsk c s time body (Err fault) c2 s1
 not_asked c s time body c1 s1 c2 number r fault h done is takes =
     let x = ack_made s s1 done.envelope time r done.receives is in
-    by fault x.0 (takes x.0 x.1)
+    by fault x.0 x.1 (takes x.0 x.1)
   where
-    by : (f : LinkFault) (a : Ack) → MayTakeAck c1 a (Err f) c2 → MayAsk c s time body (Err f) c2 s1
-    by KeysUsedUp a t = absurd t
-    by NoMemory a t = heard r done (t ∙ h.is)
-    by Failed a t = (t ∙ h.is, heard r done (t ∙ h.is))
+    by : (f : LinkFault) (a : Ack) → ack_at (sender_of s1) r.ack ≡ Some a → MayTakeAck c1 a (Err f) c2
+        → MayAsk c s time body (Err f) c2 s1
+    by KeysUsedUp a made t = absurd t
+    by NoMemory a made t = heard r done (t ∙ h.is)
+    by Failed a made t =
+        (t.0 ∙ h.is, ack_refused r a done made (subst (λ (n : NodeParts). ¬ IsAccepted n a) (sym t.0) t.1))
 
 -- ---- the reply
 
 -- the client that has received the reply
-pub taken_it : (c s c1 : NodeParts) (number : ℕ) (e : Envelope) → envelope_at (sender_of s) number ≡ Some e
-    → MayTake c e (Ok tt) c1 → IsReceived c s number e c1
-taken_it c s c1 number e there takes = record { envelope = there; left = takes.0; received = takes.1 }
+pub taken_it : (c s c1 : NodeParts) (number : ℕ) (bytes : List ℕ) (e : Envelope)
+    → envelope_at (sender_of s) number ≡ Some e
+    → MayTake c bytes e (Ok tt) c1 → IsReceived c s number e c1
+taken_it c s c1 number bytes e there takes = record { envelope = there; left = takes.0; received = takes.1 }
 
 -- The client doesn't take it.
-pub not_taken : (c s c1 : NodeParts) (number : ℕ) (e : Envelope) (fault : LinkFault)
-    → MayTake c e (Err fault) c1
+pub not_taken : (c s c1 : NodeParts) (number : ℕ) (bytes : List ℕ) (e : Envelope) (fault : LinkFault)
+    → envelope_at (sender_of s) number ≡ Some e
+    → MayTake c bytes e (Err fault) c1
     → MayStopAtReply c s number fault c1 s
-not_taken c s c1 number e KeysUsedUp t = (t.0, t.1, refl)
-not_taken c s c1 number e NoMemory t = unreceived t refl
-not_taken c s c1 number e Failed t = unreceived t refl
+not_taken c s c1 number bytes e KeysUsedUp there t = (t.0, t.1, refl)
+not_taken c s c1 number bytes e NoMemory there t = unreceived t refl
+not_taken c s c1 number bytes e Failed there t = reply_refused e bytes there t.1 t.0 refl
 
 -- It shows its acknowledgement.
 pub receipt_made : (c c1 : NodeParts) (receipt : ℕ) (e : Envelope) → c1 ≡ with_receipt c e
@@ -183,12 +189,13 @@ pub not_brought : (c s c1 t : NodeParts) (number receipt : ℕ) (fault : LinkFau
     → MayStopAtReply c s number fault c1 t
 not_brought c s c1 t number receipt fault e got is last acknowledged =
     let x = receipt_made c c1 receipt e got.received is last in
-    by fault x.0 (acknowledged x.0 x.1)
+    by fault x.0 x.1 (acknowledged x.0 x.1)
   where
-    by : (f : LinkFault) (a : Ack) → MayTakeAck s a (Err f) t → MayStopAtReply c s number f c1 t
-    by KeysUsedUp a k = absurd k
-    by NoMemory a k = received e got k
-    by Failed a k = received e got k
+    by : (f : LinkFault) (a : Ack) → ack_at (sender_of c1) receipt ≡ Some a → MayTakeAck s a (Err f) t
+        → MayStopAtReply c s number f c1 t
+    by KeysUsedUp a made k = absurd k
+    by NoMemory a made k = received e got k
+    by Failed a made k = receipt_refused e a got (ap (ack_at (sender_of c1)) (sym last) ∙ made) k.1 k.0
 
 -- ---- what the server did
 

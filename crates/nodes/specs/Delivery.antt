@@ -1,18 +1,21 @@
 -- Handing what one node shows to another that awaits it, refused only when keys or memory run out.
-use Rattle.std.specs.Prelude.{◌≡◌, ◌+◌, ◌≤◌, ℕ, List, length, Result, Ok, Err}
+use Rattle.std.specs.Prelude.{◌≡◌, ◌+◌, ◌≤◌, ℕ, List, length, None, Result, Ok, Err}
 use Rattle.xdr.specs.Texts.Text.{Text, IsText}
 use Rattle.xdr.specs.Item.{Value}
 use Rattle.secure_log.specs.declared.log_entries.entry.TheConstants.{MAX_BODY}
+use Rattle.envelopes.specs.Envelope.{envelope_text, envelope_value}
 use Rattle.envelopes.specs.declared.envelope.Envelope.{Envelope}
 use Rattle.envelopes.specs.declared.acknowledgement.Ack.{Ack}
+use Rattle.commitment.specs.Receiver.{Finds}
 use Rattle.commitment.specs.declared.refusal.Refusal.{Refusal}
 use Rattle.commitment.specs.declared.refusal.Refusal.TheVariants as refusals
 use Rattle.nfs_items.specs.Timeval.{Timeval}
-use Rattle.node_logs.specs.Steps.Nodes.{NodeParts}
+use Rattle.node_logs.specs.Steps.Nodes.{NodeParts, receiver_of}
 use Rattle.node_logs.specs.Nodes.{LacksKeys}
 use Rattle.node_logs.specs.Receiving.{ReceivesEnvelope}
 use Rattle.node_logs.specs.Steps.Logging.{with_receipt, with_send}
 use Rattle.node_logs.specs.AckTaking.{with_ack}
+use Rattle.nodes.specs.Exchanges.Laws.{IsAccepted}
 use Rattle.nodes.specs.Exchanges.Reaching.{ServerReceipt}
 use Rattle.gateway.specs.declared.links.fault.LinkFault.{LinkFault}
 use Rattle.gateway.specs.declared.links.fault.LinkFault.TheVariants.{KeysUsedUp, NoMemory, Failed}
@@ -64,26 +67,33 @@ TakesAwaited n a (Err Failed) n' = ⊥
 -- the
 -- other shows, and then it is as it was
 
--- A server is handed an envelope: KeysUsedUp only where fewer than two keys are left.
-abbrev pub MayReceive : NodeParts → Timeval → Envelope → Result ServerReceipt LinkFault → NodeParts → Type 0
-MayReceive s time e (Ok r) s' = (¬ LacksKeys 2 s) × ReceivesEnvelope s time e r s'
-MayReceive s time e (Err KeysUsedUp) s' = LacksKeys 2 s × (s' ≡ s)
-MayReceive s time e (Err NoMemory) s' = s' ≡ s
-MayReceive s time e (Err Failed) s' = s' ≡ s
+-- The bytes are an envelope's text, by which a node finds no message that is new to it, to it and signed.
+abbrev pub IsRefused : NodeParts → (bytes : List ℕ) → Envelope → Type 0
+IsRefused n bytes e =
+    IsText envelope_text (envelope_value e) bytes × (¬ Finds (receiver_of n) bytes e None)
 
--- A client is handed an envelope: KeysUsedUp only where no key is left.
-abbrev pub MayTake : NodeParts → Envelope → Result (Unit {0}) LinkFault → NodeParts → Type 0
-MayTake c e (Ok x) c' = (¬ LacksKeys 1 c) × (c' ≡ with_receipt c e)
-MayTake c e (Err KeysUsedUp) c' = LacksKeys 1 c × (c' ≡ c)
-MayTake c e (Err NoMemory) c' = c' ≡ c
-MayTake c e (Err Failed) c' = c' ≡ c
+-- A server is handed an envelope by its text: KeysUsedUp only where fewer than two keys are left.
+abbrev pub MayReceive : NodeParts → Timeval → (bytes : List ℕ) → Envelope → Result ServerReceipt LinkFault
+    → NodeParts
+    → Type 0
+MayReceive s time bytes e (Ok r) s' = (¬ LacksKeys 2 s) × ReceivesEnvelope s time e r s'
+MayReceive s time bytes e (Err KeysUsedUp) s' = LacksKeys 2 s × (s' ≡ s)
+MayReceive s time bytes e (Err NoMemory) s' = s' ≡ s
+MayReceive s time bytes e (Err Failed) s' = (s' ≡ s) × IsRefused s bytes e
+
+-- A client is handed an envelope by its text: KeysUsedUp only where no key is left.
+abbrev pub MayTake : NodeParts → (bytes : List ℕ) → Envelope → Result (Unit {0}) LinkFault → NodeParts → Type 0
+MayTake c bytes e (Ok x) c' = (¬ LacksKeys 1 c) × (c' ≡ with_receipt c e)
+MayTake c bytes e (Err KeysUsedUp) c' = LacksKeys 1 c × (c' ≡ c)
+MayTake c bytes e (Err NoMemory) c' = c' ≡ c
+MayTake c bytes e (Err Failed) c' = (c' ≡ c) × IsRefused c bytes e
 
 -- A node is handed an acknowledgement. No key is needed.
 abbrev pub MayTakeAck : NodeParts → Ack → Result (Unit {0}) LinkFault → NodeParts → Type 0
 MayTakeAck n a (Ok x) n' = n' ≡ with_ack n a
 MayTakeAck n a (Err KeysUsedUp) n' = ⊥
 MayTakeAck n a (Err NoMemory) n' = n' ≡ n
-MayTakeAck n a (Err Failed) n' = n' ≡ n
+MayTakeAck n a (Err Failed) n' = (n' ≡ n) × (¬ IsAccepted n a)
 
 -- ---- refusals
 

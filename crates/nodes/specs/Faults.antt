@@ -1,15 +1,19 @@
 -- How far an exchange between a client and a server comes before a fault, and what is left: first of two
 -- that are
 -- joined, then of any two.
-use Rattle.std.specs.Prelude.{◌≡◌, ◌⊎◌, ℕ, List, Result, Ok, Err}
+use Rattle.std.specs.Prelude.{◌≡◌, ◌⊎◌, ℕ, List, length, Some, Result, Ok, Err}
 use Rattle.envelopes.specs.declared.envelope.Envelope.{Envelope}
+use Rattle.envelopes.specs.declared.acknowledgement.Ack.{Ack}
+use Rattle.commitment.specs.Senders.LookUps.{ack_at, envelope_at}
 use Rattle.gateway.specs.declared.links.fault.LinkFault.{LinkFault}
 use Rattle.gateway.specs.declared.links.fault.LinkFault.TheVariants.{KeysUsedUp, NoMemory, Failed}
 use Rattle.nfs_items.specs.Timeval.{Timeval}
-use Rattle.node_logs.specs.Steps.Nodes.{NodeParts}
+use Rattle.node_logs.specs.Steps.Nodes.{NodeParts, sender_of}
 use Rattle.node_logs.specs.Nodes.{LacksKeys}
 use Rattle.nodes.specs.Exchanges.Reaching.{ServerReceipt}
-use Rattle.nodes.specs.Exchanges.Exchanges.{IsAsked, IsHeard, IsOwed, IsReceived, having_called}
+use Rattle.nodes.specs.Exchanges.Exchanges.{IsAsked, IsCall, IsHeard, IsOwed, IsReceived, having_called}
+use Rattle.nodes.specs.Exchanges.Laws.{IsAccepted}
+use Rattle.nodes.specs.Delivery.{IsRefused}
 
 -- ---- the call
 
@@ -56,9 +60,16 @@ StopsCarrying c s time body fault c' s' =
 
 -- ---- any two: where they aren't joined, one may refuse the other, and the fault is Failed
 
--- What a call gives and leaves. Failed comes only once the client has sent: the server refuses the call, or
--- the
--- client the server's acknowledgement.
+-- Who refused what the other showed of a call, once the client had sent it: the server the call, or the
+-- client the server's acknowledgement, after which the server's entries stand.
+pub data RefusesAsking (c s : NodeParts) (time : Timeval) (body : List ℕ) (c' s' : NodeParts) : Type 0 where
+  call_refused : (e : Envelope) (bytes : List ℕ) → (¬ LacksKeys 1 c) → IsCall c s body e → IsRefused s bytes e
+      → s' ≡ s → RefusesAsking c s time body c' s'
+  ack_refused : (r : ServerReceipt) (a : Ack) → IsHeard c s time body r s'
+      → ack_at (sender_of s') r.ack ≡ Some a → (¬ IsAccepted c' a) → RefusesAsking c s time body c' s'
+
+-- What a call gives and leaves. Failed comes only once the client has sent, and where one refuses what the
+-- other shows.
 abbrev pub MayAsk : (c s : NodeParts) → Timeval → List ℕ → Result ServerReceipt LinkFault
     → (c' s' : NodeParts)
     → Type 0
@@ -67,15 +78,22 @@ MayAsk c s time body (Err KeysUsedUp) c' s' =
     (LacksKeys 1 c × (c' ≡ c) × (s' ≡ s))
     ⊎ ((¬ LacksKeys 1 c) × LacksKeys 2 s × (c' ≡ having_called c s body) × (s' ≡ s))
 MayAsk c s time body (Err NoMemory) c' s' = StopsAsking c s time body c' s'
-MayAsk c s time body (Err Failed) c' s' = (c' ≡ having_called c s body) × StopsAsking c s time body c' s'
+MayAsk c s time body (Err Failed) c' s' = (c' ≡ having_called c s body) × RefusesAsking c s time body c' s'
 
--- Why a reply isn't brought back, and what is left then: Failed where the client refuses the reply, or the
--- server
--- the client's acknowledgement.
+-- Who refused what the other showed of a reply: the client the reply, or the server the client's
+-- acknowledgement, after which the client's entry stands.
+pub data RefusesReplying (c s : NodeParts) (number : ℕ) (c' s' : NodeParts) : Type 0 where
+  reply_refused : (e : Envelope) (bytes : List ℕ) → envelope_at (sender_of s) number ≡ Some e
+      → IsRefused c bytes e → c' ≡ c → s' ≡ s → RefusesReplying c s number c' s'
+  receipt_refused : (e : Envelope) (a : Ack) → IsReceived c s number e c'
+      → ack_at (sender_of c') (length c'.entries) ≡ Some a → (¬ IsAccepted s a) → s' ≡ s
+      → RefusesReplying c s number c' s'
+
+-- Why a reply isn't brought back, and what is left then: Failed only where one refuses what the other shows.
 abbrev pub MayStopAtReply : (c s : NodeParts) (number : ℕ) → LinkFault → (c' s' : NodeParts) → Type 0
 MayStopAtReply c s number KeysUsedUp c' s' = LacksKeys 1 c × (c' ≡ c) × (s' ≡ s)
 MayStopAtReply c s number NoMemory c' s' = StopsReplying c s number c' s'
-MayStopAtReply c s number Failed c' s' = StopsReplying c s number c' s'
+MayStopAtReply c s number Failed c' s' = RefusesReplying c s number c' s'
 
 -- A fault with the call, or with the reply that the call owes.
 abbrev pub MayStop : (c s : NodeParts) → Timeval → List ℕ → LinkFault → (c' s' : NodeParts) → Type 0

@@ -129,7 +129,7 @@ pub(crate) fn receive(
     ensures receives { (e : Envelope) → Finds (receiver_of server.old) text.now e None →
         ReceivesNew server.old time e result server.new }
     ensures told { (e : Envelope) → IsText envelope_text (envelope_value e) text.now →
-        MayReceive server.old time e result server.new }
+        MayReceive server.old time text.now e result server.new }
     ensures addressed { (e : Envelope) → IsText envelope_text (envelope_value e) text.now →
         OnOk result (e.to ≡ server.old.node) }
     ensures strayed { server.new.strayed ≡ server.old.strayed }
@@ -153,7 +153,7 @@ pub(crate) fn take_reply(
     ensures takes { (e : Envelope) → Finds (receiver_of client.old) text.now e None →
         TakesNew client.old e result client.new }
     ensures told { (e : Envelope) → IsText envelope_text (envelope_value e) text.now →
-        MayTake client.old e result client.new }
+        MayTake client.old text.now e result client.new }
     ensures sender { IsSender (sender_of client.new) }
 {
     let taken = client.take_reply(alloc, text);
@@ -205,7 +205,7 @@ pub(crate) fn deliver_call(
     ensures receives { (e : Envelope) → Reaches client.now kinds.Client number server.old e →
         ReceivesNew server.old time e result server.new }
     ensures told { (e : Envelope) → envelope_at (sender_of client.now) number ≡ Some e →
-        MayReceive server.old time e result server.new }
+        MayReceive server.old time text.new.items e result server.new }
     ensures sender { OnOk result (IsSender (sender_of server.new)) }
 {
     write_envelope(client.node(), number, text)?;
@@ -223,7 +223,7 @@ pub(crate) fn deliver_reply(
     ensures takes { (e : Envelope) → Reaches server.now kinds.Server number client.old e →
         TakesNew client.old e result client.new }
     ensures told { (e : Envelope) → envelope_at (sender_of server.now) number ≡ Some e →
-        MayTake client.old e result client.new }
+        MayTake client.old text.new.items e result client.new }
     ensures sender { OnOk result (IsSender (sender_of client.new)) }
 {
     write_envelope(server.node(), number, text)?;

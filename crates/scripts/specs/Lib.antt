@@ -1,1 +1,2 @@
+pub mod Ends
 pub use Rattle.serving.specs as serving

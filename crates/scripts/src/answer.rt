@@ -1,7 +1,7 @@
 //! What a line of a script prints.
 
 use authenticator::Authenticator;
-use serving::{Outcome, Replayed, Said, indication_word};
+use serving::{Outcome, Replayed, Said, Told, indication_word};
 use std::alloc::{AllocError, Global};
 
 /// What a line prints: words with one space between, line by line. Once memory was refused it takes no more,
@@ -120,10 +120,10 @@ impl Answer {
     }
 
     /// The line of what a witness says of a node: `N INDICATION OPEN`.
-    pub(crate) fn told(&mut self, node: u32, indication: &str, open: usize) {
-        self.number(u64::from(node));
-        self.word(indication);
-        self.number(open as u64);
+    pub(crate) fn told(&mut self, told: &Told) {
+        self.number(u64::from(told.node));
+        self.word(told.word());
+        self.number(told.open as u64);
         self.end();
     }
 

@@ -29,7 +29,9 @@ impl<R: Threads + Wait + Sync, S: Shelf> Run<'_, '_, R, S> {
 
     /// `lie S`: the server's next reply will be changed.
     pub(crate) fn lie(&mut self, server: u32) -> Result<(), Stop> {
-        self.parties.server(server).ok_or(Stop::Bad)?.lie();
+        if !self.parties.lie(server) {
+            return Err(Stop::Bad);
+        }
         self.print("ok")
     }
 
@@ -44,18 +46,27 @@ impl<R: Threads + Wait + Sync, S: Shelf> Run<'_, '_, R, S> {
     ) -> Result<(), Stop> {
         let (client, _) = self.parties.pair(pair).ok_or(Stop::Bad)?;
         match client.fork(pair.server, first, second) {
-            Ok(forked) => {
-                self.hand_first(time, pair, forked.number)?;
-                match forked.second {
-                    Some(envelope) => self.hand_second(time, pair.server, &envelope),
-                    None => self.refuse(Refusal::KeysUsedUp),
-                }
-            }
-            Err(refusal) => {
-                self.refuse(refusal)?;
-                self.refuse(refusal)
-            }
+            Ok(forked) => self.hand_both(time, pair, forked.number, forked.second.as_ref()),
+            Err(refusal) => self.refuse_both(refusal),
         }
+    }
+
+    /// Prints a node's refusal of each of two messages.
+    fn refuse_both(&mut self, refusal: Refusal) -> Result<(), Stop> {
+        self.refuse(refusal)?;
+        self.refuse(refusal)
+    }
+
+    /// Hands the server the message that a client logged under a number, and then the other one.
+    fn hand_both(
+        &mut self,
+        time: Time,
+        pair: Pair,
+        number: Number,
+        second: Option<&Envelope>,
+    ) -> Result<(), Stop> {
+        self.hand_first(time, pair, number)?;
+        self.hand_second(time, pair.server, second)
     }
 
     /// Hands the server the message that a client logged under a number.
@@ -66,8 +77,16 @@ impl<R: Threads + Wait + Sync, S: Shelf> Run<'_, '_, R, S> {
         }
     }
 
-    /// Hands a server a message that its client didn't log.
-    fn hand_second(&mut self, time: Time, server: u32, envelope: &Envelope) -> Result<(), Stop> {
+    /// Hands a server a message that its client didn't log, if there was a key for it.
+    fn hand_second(
+        &mut self,
+        time: Time,
+        server: u32,
+        envelope: Option<&Envelope>,
+    ) -> Result<(), Stop> {
+        let Some(envelope) = envelope else {
+            return self.refuse(Refusal::KeysUsedUp);
+        };
         let mut text = Vec::new(self.alloc);
         envelope.view().write(&mut text)?;
         self.hand(time, server, &text)
@@ -75,14 +94,33 @@ impl<R: Threads + Wait + Sync, S: Shelf> Run<'_, '_, R, S> {
 
     /// Hands a server a message's text, and prints its reply.
     fn hand(&mut self, time: Time, server: u32, text: &[u8]) -> Result<(), Stop> {
-        let server = self.parties.server(server).ok_or(Stop::Bad)?;
-        match server.receive(self.alloc, time, text) {
-            Ok(Received::New(receipt) | Received::Repeat(receipt)) => {
-                let reply = reply_of(self.alloc, server.node(), &receipt)?;
-                self.answer.reply(self.alloc, reply.as_deref());
-                Ok(())
+        let Some(receipt) = self.received(time, server, text)? else {
+            return Ok(());
+        };
+        let node = self.parties.node(server).ok_or(Stop::Bad)?;
+        let reply = reply_of(self.alloc, node, &receipt)?;
+        self.answer.reply(self.alloc, reply.as_deref());
+        Ok(())
+    }
+
+    /// What a server makes of a message's text: its receipt; or none, where it refuses it, which is printed.
+    fn received(&mut self, time: Time, server: u32, text: &[u8]) -> Result<Option<Receipt>, Stop> {
+        let node = self.parties.server(server).ok_or(Stop::Bad)?;
+        match node.receive(self.alloc, time, text) {
+            Ok(Received::New(receipt) | Received::Repeat(receipt)) => Ok(Some(receipt)),
+            Err(refusal) => {
+                self.refuse(refusal)?;
+                Ok(None)
             }
-            Err(refusal) => self.refuse(refusal),
+        }
+    }
+
+    /// That there are a client and a server with these numbers.
+    fn known_pair(&self, pair: Pair) -> Result<(), Stop> {
+        if self.parties.has(pair) {
+            Ok(())
+        } else {
+            Err(Stop::Bad)
         }
     }
 
@@ -108,7 +146,7 @@ impl<R: Threads + Wait + Sync, S: Shelf> Run<'_, '_, R, S> {
 
     /// `challenge C S K`: the witness gets the message, which the server is to acknowledge.
     pub(crate) fn challenge(&mut self, pair: Pair, number: u32) -> Result<(), Stop> {
-        self.parties.pair(pair).ok_or(Stop::Bad)?;
+        self.known_pair(pair)?;
         match self.challenge_packet(pair, u64::from(number))? {
             Some(packet) => self.deliver(&packet),
             None => self.print("none"),
@@ -128,7 +166,7 @@ impl<R: Threads + Wait + Sync, S: Shelf> Run<'_, '_, R, S> {
 
     /// `ack C S K`: the server receives the message again, and the witness gets its acknowledgement.
     pub(crate) fn acknowledge(&mut self, time: Time, pair: Pair, number: u32) -> Result<(), Stop> {
-        self.parties.pair(pair).ok_or(Stop::Bad)?;
+        self.known_pair(pair)?;
         match self.message_text(pair, u64::from(number))? {
             Some(text) => self.receive_again(time, pair.server, &text),
             None => self.print("none"),
@@ -137,14 +175,12 @@ impl<R: Threads + Wait + Sync, S: Shelf> Run<'_, '_, R, S> {
 
     /// Hands a server a message's text, and the witness the acknowledgement.
     fn receive_again(&mut self, time: Time, server: u32, text: &[u8]) -> Result<(), Stop> {
-        let server = self.parties.server(server).ok_or(Stop::Bad)?;
-        match server.receive(self.alloc, time, text) {
-            Ok(Received::New(receipt) | Received::Repeat(receipt)) => {
-                let packet = receipt_packet(self.alloc, server.node(), &receipt)?;
-                self.deliver(&packet)
-            }
-            Err(refusal) => self.refuse(refusal),
-        }
+        let Some(receipt) = self.received(time, server, text)? else {
+            return Ok(());
+        };
+        let node = self.parties.node(server).ok_or(Stop::Bad)?;
+        let packet = receipt_packet(self.alloc, node, &receipt)?;
+        self.deliver(&packet)
     }
 }
 

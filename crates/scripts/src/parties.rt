@@ -182,6 +182,23 @@ impl Parties {
         Some(&mut self.servers[place])
     }
 
+    /// Whether there are a client and a server with these numbers.
+    pub(crate) fn has(&self, pair: Pair) -> bool {
+        place_in(&self.clients, pair.client).is_some()
+            && place_in(&self.servers, pair.server).is_some()
+    }
+
+    /// Tells the server with a number to lie, if there is one.
+    pub(crate) fn lie(&mut self, number: u32) -> bool {
+        match place_in(&self.servers, number) {
+            Some(place) => {
+                self.servers[place].lie();
+                true
+            }
+            None => false,
+        }
+    }
+
     /// A client and a server.
     pub(crate) fn pair(&mut self, pair: Pair) -> Option<(&mut ClientNode, &mut ServerNode)> {
         let client = place_in(&self.clients, pair.client)?;

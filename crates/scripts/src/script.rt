@@ -1,5 +1,8 @@
 //! Running a script.
 
+ghost use Rattle.std.specs.Prelude.{IfOk};
+ghost use Rattle.scripts.specs.Ends.{IsEnd};
+
 use crate::acts::Run;
 use crate::answer::Answer;
 use crate::cursor::Cursor;
@@ -7,19 +10,21 @@ use crate::line::{Line, read_line};
 use crate::parties::{Listed, Parties};
 use crate::stop::Stop;
 use authenticator::Roster;
-use serving::{Caller, Pass, Shelf, WitnessService, open_witness};
+use serving::{
+    Caller, Closed, Pass, ReceiptFault, Shelf, WitnessService, close as close_witness, open_witness,
+};
 use std::alloc::Global;
 use std::io::{self, Read, Write};
 use std::sync::Wait;
 use std::thread::Threads;
 
 /// How a script came to its end.
-#[derive(Clone, Copy, Debug, PartialEq, Eq)]
+#[derive(Drop)]
 pub enum ScriptEnd {
-    /// Each line ran, and what the witness answered stands once in its journal.
-    Closed,
+    /// Each line ran, and what the witness answered stands once in its journal, and no other step does.
+    Closed(Closed),
     /// Each line ran, but what the witness answered doesn't stand in its journal.
-    NotInJournal,
+    NotInJournal(ReceiptFault),
     /// This line, counted from 1, is bad: it did nothing, and no line after it was read.
     Bad(u64),
 }
@@ -47,7 +52,9 @@ pub fn run_script<R: Threads + Wait + Sync, I: Read, O: Write, S: Shelf>(
     writer: &mut O,
     shelf: &mut S,
     roster_file: Option<&str>,
-) -> Result<ScriptEnd, ScriptFault> {
+) -> Result<ScriptEnd, ScriptFault>
+    ensures { IfOk result IsEnd }
+{
     let mut cursor = Cursor::new(alloc, reader);
     match run_all(rt, alloc, &mut cursor, writer, shelf, roster_file) {
         Ok(end) => Ok(end),
@@ -66,7 +73,9 @@ fn run_all<R: Threads + Wait + Sync, I: Read, O: Write, S: Shelf>(
     writer: &mut O,
     shelf: &mut S,
     roster_file: Option<&str>,
-) -> Result<ScriptEnd, Stop> {
+) -> Result<ScriptEnd, Stop>
+    ensures { IfOk result IsEnd }
+{
     let (listed, more) = read_nodes(rt, alloc, cursor)?;
     let roster = Roster::new(listed.members(alloc)?).map_err(|_| Stop::Bad)?;
     if let Some(name) = roster_file {
@@ -205,25 +214,34 @@ fn write_text<O: Write>(writer: &mut O, text: &str) -> Result<(), Stop> {
     }
 }
 
+/// The last line of a script that came to this end; none where a line was bad.
+fn last_line(end: &ScriptEnd) -> &'static str {
+    match end {
+        ScriptEnd::Closed(_) => "closed ok\n",
+        ScriptEnd::NotInJournal(_) => "closed fault 1\n",
+        ScriptEnd::Bad(_) => "",
+    }
+}
+
 /// Closes the witness, and writes whether its journal has each receipt of the pass, and no step besides.
 fn close<O: Write>(
     alloc: Global,
     service: WitnessService,
     pass: Pass,
     writer: &mut O,
-) -> Result<ScriptEnd, Stop> {
+) -> Result<ScriptEnd, Stop>
+    ensures { IfOk result IsEnd }
+{
     let mut passes = Vec::new(alloc);
     if passes.push(pass).is_err() {
         return Err(Stop::NoMemory);
     }
-    match service.close(passes) {
-        Ok(_) => {
-            write_text(writer, "closed ok\n")?;
-            Ok(ScriptEnd::Closed)
-        }
-        Err(_) => {
-            write_text(writer, "closed fault 1\n")?;
-            Ok(ScriptEnd::NotInJournal)
-        }
+    let end = match close_witness(service, passes) {
+        Ok(closed) => ScriptEnd::Closed(closed),
+        Err(fault) => ScriptEnd::NotInJournal(fault),
+    };
+    match write_text(writer, last_line(&end)) {
+        Ok(()) => Ok(end),
+        Err(stop) => Err(stop),
     }
 }

@@ -5,7 +5,7 @@ use crate::line::{OneToSixteen, Place};
 use crate::stop::Stop;
 use authenticator::Authenticator;
 use secure_log::SegmentFault;
-use serving::{Said, Shelf, answer_packet, indication_word, learn_packet, write_case};
+use serving::{Said, Shelf, answer_packet, learn_packet, write_case};
 use std::sync::Wait;
 use std::thread::Threads;
 
@@ -137,20 +137,12 @@ impl<R: Threads + Wait + Sync, S: Shelf> Run<'_, '_, R, S> {
     /// `ask N`: prints the node's failure indication, and how many challenges are open.
     pub(crate) fn ask(&mut self, node: u32) -> Result<(), Stop> {
         self.known(node)?;
-        match self.caller.indication(node) {
-            Said::Told(indication) => self.tell(node, indication_word(indication)),
-            said => self.say(&said),
-        }
-    }
-
-    /// Prints a node's failure indication, by its word, and how many challenges are open.
-    fn tell(&mut self, node: u32, indication: &str) -> Result<(), Stop> {
-        match self.caller.challenges(node) {
-            Said::Open(challenges) => {
-                self.answer.told(node, indication, challenges.len());
+        match self.caller.told(node) {
+            Ok(told) => {
+                self.answer.told(&told);
                 Ok(())
             }
-            said => self.say(&said),
+            Err(said) => self.say(&said),
         }
     }
 

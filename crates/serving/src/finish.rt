@@ -10,7 +10,7 @@ use std::io::Write;
 use std::mem;
 use std::sync::Wait;
 use std::thread::Threads;
-use witness_calls::{Said, Shelf, indication_word};
+use witness_calls::Shelf;
 
 /// A node whose log is to be audited, and how far it was.
 #[derive(Clone, Copy)]
@@ -104,27 +104,12 @@ impl<'a, R: Threads + Wait + Sync, D: Write + Shelf> Auditor<'a, R, D> {
 
     /// Writes what the witness says of a node: `N INDICATION OPEN`.
     fn tell<O: Write>(&mut self, writer: &mut O, number: u32) -> Result<(), LineFault> {
-        let word = indication_in(&self.caller.indication(number))?;
-        let open = count_in(&self.caller.challenges(number))?;
+        let Ok(told) = self.caller.told(number) else {
+            return Err(LineFault::NoMemory);
+        };
         write_line(
             writer,
-            format!(in self.office.alloc; "{number} {word} {open}\n"),
+            format!(in self.office.alloc; "{} {} {}\n", told.node, told.word(), told.open),
         )
-    }
-}
-
-/// The word of the indication that a witness told.
-fn indication_in(said: &Said) -> Result<&'static str, LineFault> {
-    match said {
-        Said::Told(indication) => Ok(indication_word(*indication)),
-        _ => Err(LineFault::NoMemory),
-    }
-}
-
-/// How many challenges a witness told that are open.
-fn count_in(said: &Said) -> Result<usize, LineFault> {
-    match said {
-        Said::Open(challenges) => Ok(challenges.len()),
-        _ => Err(LineFault::NoMemory),
     }
 }

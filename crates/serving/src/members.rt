@@ -117,13 +117,15 @@ fn client_keys<R: Threads + Sync, D: Write + Shelf>(
 /// The nodes that have these keys.
 fn nodes_of(alloc: Global, server: Keyed, clients: Vec<Keyed>) -> Result<Nodes, ServeFault> {
     let roster = roster_of(alloc, &server, &clients)?;
-    let server = server_of(alloc, &roster, server)?;
     let clients = clients_of(alloc, &roster, clients)?;
-    Ok(Nodes {
-        roster,
-        server,
-        clients,
-    })
+    match server_of(alloc, &roster, server) {
+        Ok(server) => Ok(Nodes {
+            roster,
+            server,
+            clients,
+        }),
+        Err(fault) => Err(fault),
+    }
 }
 
 /// The roster of a server and its clients.
@@ -140,7 +142,16 @@ fn roster_of(alloc: Global, server: &Keyed, clients: &[Keyed]) -> Result<Roster,
 fn server_of(alloc: Global, roster: &Roster, keyed: Keyed) -> Result<HonestServer, ServeFault> {
     let roster = roster.try_clone(alloc)?;
     let server = Node::with_signer(alloc, roster, keyed.number, keyed.signer, keyed.height)?;
-    HonestServer::new(server).map_err(|_| ServeFault::NoMemory)
+    made(HonestServer::new(server))
+}
+
+/// What was made. Its type is a parameter, and so is that of what comes back where it wasn't, so that the proof
+/// knows nothing of what they own.
+fn made<T: Drop, E: Drop>(outcome: Result<T, E>) -> Result<T, ServeFault> {
+    match outcome {
+        Ok(value) => Ok(value),
+        Err(_) => Err(ServeFault::NoMemory),
+    }
 }
 
 /// The clients, made with a roster.

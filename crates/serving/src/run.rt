@@ -1,6 +1,8 @@
 //! A run of the service.
 
+ghost use Rattle.std.specs.Prelude.{◌≡◌, IfOk};
 ghost use Rattle.serving.specs.Orders.{IsOrder};
+ghost use Rattle.serving.specs.witness_calls.Closing.{IsOneRun};
 
 use crate::audit::{Auditor, Office};
 use crate::connection::{Ended, Seat, Stage};
@@ -17,7 +19,7 @@ use std::io::{self, Write};
 use std::net::{OpenListener, TcpStream};
 use std::sync::{Mutex, Wait};
 use std::thread::Threads;
-use witness_calls::{Pass, Shelf, WitnessService, open_witness};
+use witness_calls::{Closed, Pass, ReceiptFault, Shelf, WitnessService, close, open_witness};
 
 /// A run that came to its end: each line was written.
 #[derive(Drop)]
@@ -26,8 +28,8 @@ pub struct Finished {
     pub server: ServerNode,
     /// The clients, with their logs, by rising numbers.
     pub clients: Vec<ClientNode>,
-    /// Whether what the witness answered stands once in its journal.
-    pub closed: bool,
+    /// The witness's journal, where what it answered stands once in it, and no other step does.
+    pub closed: Result<Closed, ReceiptFault>,
     /// Whether each file could be put in its place, and each connection was accepted.
     pub whole: bool,
 }
@@ -116,6 +118,7 @@ where
     O: Write,
     D: Write + Shelf + Send + Drop,
     requires { IsOrder order.now }
+    ensures { IfOk result (λ f. IfOk f.closed IsOneRun) }
 {
     let port = port_of(listener)?;
     let mut desk = Desk::new(alloc, devices, folder_of(alloc, order)?);
@@ -144,7 +147,9 @@ fn port_of<L: OpenListener<Stream = TcpStream>>(listener: &L) -> Result<u16, Ser
 }
 
 /// A run that came to its end, where no memory was refused on the way.
-fn whole(mut finished: Finished, trouble: Trouble) -> Result<Finished, ServeFault> {
+fn whole(mut finished: Finished, trouble: Trouble) -> Result<Finished, ServeFault>
+    ensures { IfOk result (λ f. f.closed ≡ finished.closed) }
+{
     let done = match trouble {
         Trouble::NoMemory => Err(ServeFault::NoMemory),
         Trouble::None | Trouble::Device => Ok(()),
@@ -177,7 +182,9 @@ fn prepare<R: Threads + Sync, D: Write + Shelf>(
 
 /// A value, where what was to be done beside it is done. Its type is a parameter, so that the proof knows
 /// nothing of what it owns.
-fn kept<T: Drop>(value: T, done: Result<(), ServeFault>) -> Result<T, ServeFault> {
+fn kept<T: Drop>(value: T, done: Result<(), ServeFault>) -> Result<T, ServeFault>
+    ensures { IfOk result (λ v. v ≡ value) }
+{
     match done {
         Ok(()) => Ok(value),
         Err(fault) => Err(fault),
@@ -191,12 +198,23 @@ fn ready_of(alloc: Global, nodes: Nodes) -> Result<Ready, ServeFault> {
         server,
         clients,
     } = nodes;
-    let seating = seating_of(alloc, &roster, clients)?;
-    Ok(Ready {
-        roster,
-        server,
-        seating,
-    })
+    let seating = seating_of(alloc, &roster, clients);
+    match paired(server, seating) {
+        Ok((server, seating)) => Ok(Ready {
+            roster,
+            server,
+            seating,
+        }),
+        Err(AllocError) => Err(ServeFault::NoMemory),
+    }
+}
+
+/// A value with what was made beside it, if it was. Their types are parameters, as in `kept`.
+fn paired<T: Drop, U: Drop, E: Drop>(value: T, made: Result<U, E>) -> Result<(T, U), E> {
+    match made {
+        Ok(other) => Ok((value, other)),
+        Err(error) => Err(error),
+    }
 }
 
 /// Opens the witness, and gives each client a pass there.
@@ -271,6 +289,7 @@ where
     L: OpenListener<Stream = TcpStream>,
     O: Write,
     D: Write + Shelf + Send,
+    ensures { IfOk result (λ f. IfOk f.closed IsOneRun) }
 {
     let Ready {
         roster,
@@ -292,7 +311,7 @@ where
     };
     let served = serve_seats(office, listener, clock, server, seats)?;
     let told = finish(office, writer, last, served)?;
-    let closed = service.close(told.passes).is_ok();
+    let closed = close(service, told.passes);
     Ok(Finished {
         server: told.server,
         clients: told.clients,
@@ -340,8 +359,9 @@ where
     O: Write,
     D: Write + Shelf,
 {
-    match tell(office, writer, last, &served) {
-        Ok(last) => Ok(told_of(office.alloc, served, last)?),
+    let told = tell(office, writer, last, &served);
+    match paired(served, told) {
+        Ok((served, last)) => told_of(office.alloc, served, last),
         Err(fault) => Err(fault),
     }
 }
@@ -403,14 +423,16 @@ impl Served {
 }
 
 /// The nodes that were served, and all passes, of which one is the last.
-fn told_of(alloc: Global, served: Served, last: Pass) -> Result<Told, AllocError> {
+fn told_of(alloc: Global, served: Served, last: Pass) -> Result<Told, ServeFault> {
     let Served { server, ended } = served;
-    let (clients, passes) = parted(alloc, ended, last)?;
-    Ok(Told {
-        server,
-        clients,
-        passes,
-    })
+    match paired(server, parted(alloc, ended, last)) {
+        Ok((server, (clients, passes))) => Ok(Told {
+            server,
+            clients,
+            passes,
+        }),
+        Err(AllocError) => Err(ServeFault::NoMemory),
+    }
 }
 
 /// The clients, and their passes with one more.

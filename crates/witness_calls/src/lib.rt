@@ -4,17 +4,21 @@
 
 mod asked;
 mod caller;
+mod closing;
 mod opening;
 pub mod packet_texts;
 mod replays;
 mod said;
 mod shelf;
+mod told;
 
 pub use asked::Asked;
 pub use caller::Caller;
 pub use challenge::{Evidence, write_case};
+pub use closing::close;
 pub use opening::open_witness;
 pub use replays::{Outcome, Replayed};
 pub use said::{Said, indication_word};
 pub use shelf::Shelf;
-pub use witness_service::{Pass, WitnessService};
+pub use told::Told;
+pub use witness_service::{Closed, Pass, ReceiptFault, WitnessService};

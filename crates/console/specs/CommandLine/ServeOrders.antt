@@ -1,7 +1,7 @@
 -- The numbers and the address in what `nfsacc serve` is asked.
-use Rattle.std.specs.Prelude.{◌≡◌, ℕ, ◌≤◌, Option, Some, None, IfSome, IsSome, option_map}
+use Rattle.std.specs.Prelude.{◌≡◌, ⊤, ℕ, ◌≤◌, Option, Some, None, [], ◌∷◌, IfSome, IsSome, option_map}
 use Rattle.std.specs.Str.Parse.{IsNumeral, digits_value}
-use Rattle.std.specs.Net.Addr.{IsLoopbackV4, IsLoopbackV6, MatchIp}
+use Rattle.std.specs.Net.Addr.{IsLoopbackV4, IsLoopbackV6, MatchIp, ipv4_octets}
 use Rattle.std.specs.Net.Grammar.{IsIpText}
 use Rattle.std.specs.declared.net.ip_addr.IpAddr.{IpAddr}
 use Rattle.clap.specs.Walk.{Text}
@@ -32,6 +32,10 @@ IsNotWithin least most (Some text) = ¬ (IsWithin least most text)
 abbrev pub IsLoopback : IpAddr → Type 0
 IsLoopback address = MatchIp address IsLoopbackV4 IsLoopbackV6
 
+-- it is 127.0.0.1
+abbrev pub IsLocalhost : IpAddr → Type 0
+IsLocalhost address = MatchIp address (λ a. ipv4_octets a ≡ 127 ∷ 0 ∷ 0 ∷ 1 ∷ []) (λ _. ⊥)
+
 -- an option is given, and its word is no address
 abbrev pub IsNoAddress : Option Text → Type 0
 IsNoAddress None = ⊥
@@ -51,7 +55,7 @@ pub record Orders (r : ServeRequest) (o : ServeOrder) : Type 0 where
   pub server : WritesOr 1 15 12 (option_map (λ s. s.now) r.server_height) o.server_height
   pub client : WritesOr 1 15 10 (option_map (λ s. s.now) r.client_height) o.client_height
   pub address : IfSome r.address (λ text. IsIpText text.now o.address)
-  pub own : r.address ≡ None → IsLoopback o.address
+  pub own : r.address ≡ None → IsLocalhost o.address
   pub guarded : ¬ (IsLoopback o.address) → IsSome r.master
   pub master : o.master ≡ r.master
   pub roster_out : o.roster_out ≡ r.roster_out
@@ -67,11 +71,33 @@ pub record IsBounded (o : ServeOrder) : Type 0 where
   pub client_some : 1 ≤ o.client_height
   pub client_most : o.client_height ≤ 15
 
--- why it makes none
+-- an option isn't given, or its word is a number from the one to the other
+abbrev pub IsWithinOr : ℕ → ℕ → Option Text → Type 0
+IsWithinOr least most None = ⊤
+IsWithinOr least most (Some text) = IsWithin least most text
+
+-- ---- the checks of a request, in their order
+
+-- its port and its count are numbers in their ranges
+pub record HasCounts (r : ServeRequest) : Type 0 where
+  pub port : IsWithin 0 65535 r.port.now
+  pub count : IsWithin 1 16 r.count.now
+
+-- and so are both heights, as far as they are given
+pub record HasNumbers (r : ServeRequest) : Type 0 where
+  pub counts : HasCounts r
+  pub server : IsWithinOr 1 15 (option_map (λ s. s.now) r.server_height)
+  pub client : IsWithinOr 1 15 (option_map (λ s. s.now) r.client_height)
+
+-- why it makes none: the first check that fails
 abbrev pub Refuses : ServeRequest → ServeRefusal → Type 0
 Refuses r refusals.Port = ¬ (IsWithin 0 65535 r.port.now)
-Refuses r refusals.Count = ¬ (IsWithin 1 16 r.count.now)
-Refuses r refusals.ServerHeight = IsNotWithin 1 15 (option_map (λ s. s.now) r.server_height)
-Refuses r refusals.ClientHeight = IsNotWithin 1 15 (option_map (λ s. s.now) r.client_height)
-Refuses r refusals.Address = IsNoAddress (option_map (λ s. s.now) r.address)
-Refuses r refusals.Unguarded = (r.master ≡ None) × IsOutside (option_map (λ s. s.now) r.address)
+Refuses r refusals.Count = IsWithin 0 65535 r.port.now × (¬ (IsWithin 1 16 r.count.now))
+Refuses r refusals.ServerHeight =
+    HasCounts r × IsNotWithin 1 15 (option_map (λ s. s.now) r.server_height)
+Refuses r refusals.ClientHeight =
+    HasCounts r × IsWithinOr 1 15 (option_map (λ s. s.now) r.server_height)
+    × IsNotWithin 1 15 (option_map (λ s. s.now) r.client_height)
+Refuses r refusals.Address = HasNumbers r × IsNoAddress (option_map (λ s. s.now) r.address)
+Refuses r refusals.Unguarded =
+    HasNumbers r × (r.master ≡ None) × IsOutside (option_map (λ s. s.now) r.address)

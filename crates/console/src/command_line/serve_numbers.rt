@@ -3,7 +3,8 @@
 ghost use Rattle.std.specs.Prelude.{◌≡◌, ◌↔◌, ◌≤◌, IsTrue, IfErr, IfOk, IfSome, IsSome, None, true, false, option_map};
 ghost use Rattle.std.specs.Str.Parse.{IsNumeral, digits_value};
 ghost use Rattle.std.specs.Net.Grammar.{IsIpText};
-ghost use Rattle.console.specs.CommandLine.ServeOrders.{IsBounded, IsLoopback, IsNotWithin, IsWithin, Orders, Refuses};
+ghost use Rattle.console.specs.CommandLine.ServeOrders.{HasNumbers, IsBounded, IsLocalhost, IsLoopback, IsNotWithin};
+ghost use Rattle.console.specs.CommandLine.ServeOrders.{IsWithin, IsWithinOr, Orders, Refuses};
 ghost use Rattle.console.specs.CommandLine.ServeOrders.{Writes, WritesOr};
 
 use super::serve::ServeRequest;
@@ -84,6 +85,7 @@ fn height_of(word: Option<&str>, other: u32) -> Option<u32>
     requires high { other ≤ 15 }
     ensures bounds { IfSome result (λ n. (1 ≤ n) × (n ≤ 15)) }
     ensures some { IfSome result (WritesOr 1 15 other (option_map (λ s. s.now) word.entry)) }
+    ensures within { IsSome result → IsWithinOr 1 15 (option_map (λ s. s.now) word.entry) }
     ensures none { result ≡ None → IsNotWithin 1 15 (option_map (λ s. s.now) word.entry) }
 {
     match word {
@@ -94,8 +96,9 @@ fn height_of(word: Option<&str>, other: u32) -> Option<u32>
 
 /// The address that is listened on: one that others reach only where the keys are made of something secret.
 fn address_of(request: &ServeRequest<'_>) -> Result<IpAddr, ServeRefusal>
+    requires { HasNumbers request.now }
     ensures address { IfOk result (λ a. IfSome request.now.address (λ text. IsIpText text.now a)) }
-    ensures own { IfOk result (λ a. request.now.address ≡ None → IsLoopback a) }
+    ensures own { IfOk result (λ a. request.now.address ≡ None → IsLocalhost a) }
     ensures guarded { IfOk result (λ a. ¬ (IsLoopback a) → IsSome request.now.master) }
     ensures refused { IfErr result (Refuses request.now) }
 {
@@ -121,8 +124,8 @@ fn is_guarded(address: &IpAddr, master: Option<&str>) -> bool
 }
 
 /// The order that a request makes: with its numbers read, and what isn't named as it is by itself. It is
-/// refused where a number is none or out of range, where the address is none, or is one that others reach
-/// though no file of secret bytes is named.
+/// refused where a number is none or out of range, of the port, the count and the two heights the first; then
+/// where the address is none, or is one that others reach though no file of secret bytes is named.
 pub fn serve_order<'a>(request: &ServeRequest<'a>) -> Result<ServeOrder<'a>, ServeRefusal>
     ensures order { IfOk result (Orders request.now) }
     ensures bounds { IfOk result IsBounded }

@@ -1,3 +1,5 @@
+use Rattle.std.proofs.Common.{List, ℕ, subst}
+use Rattle.nodes.specs.Delivery.{MayTake}
 use Rattle.nodes.proofs.OfExchanges.Reached.{call_found}
 use Rattle.nodes.proofs.Handed.{envelope_written}
 use Rattle.nodes.proofs.deliver.deliver_reply.Goals as goal
@@ -10,6 +12,8 @@ returns-clause-takes c e h =
 
 pub returns-clause-told : goal.returns-clause-told
 returns-clause-told c e h =
-    c.take_reply.ensures.told e
+    subst (λ (b : List ℕ). MayTake c.args.client.now b e c.take_reply.result c.take_reply.new.client)
+    c.deref.ensures.value
+    (c.take_reply.ensures.told e
     (envelope_written c.args.server.now c.node.result.now c.args.number e _ _ c.node.ensures.node
-    c.in_ok-write_envelope.ensures.written c.deref.ensures.value h)
+    c.in_ok-write_envelope.ensures.written c.deref.ensures.value h))

@@ -41,14 +41,15 @@ returns-in-Err-clause-told c =
     let sent = is_sent c.args.client.now c.args.server.now c.number.result c.args.bytes.now c.send.new.client
     c.in_ok-number.number c.number.ensures c.in_ok-number.ensures.sends c.in_ok-number.ensures.sender in
     not_heard c.args.client.now c.args.server.now c.args.time c.args.bytes.now c.send.new.client
-    c.deliver_call.new.server c.in_ok-number.number c.in-Err.fault sent c.in-Err.ensures.told
+    c.deliver_call.new.server c.in_ok-number.number c.deliver_call.new.text.items c.in-Err.fault sent c.in-Err.ensures.told
 
 pub returns-in-Ok-acknowledge_call-clause-told : goal.returns-in-Ok-acknowledge_call-clause-told
 returns-in-Ok-acknowledge_call-clause-told c =
     let sent = is_sent c.args.client.now c.args.server.now c.number.result c.args.bytes.now c.send.new.client
     c.in_ok-number.number c.number.ensures c.in_ok-number.ensures.sends c.in_ok-number.ensures.sender in
     let heard = heard_it c.args.client.now c.args.server.now c.args.time c.args.bytes.now c.send.new.client
-    c.deliver_call.new.server c.in_ok-number.number c.in-Ok.receipt sent c.in-Ok.ensures.told in
+    c.deliver_call.new.server c.in_ok-number.number c.deliver_call.new.text.items c.in-Ok.receipt sent
+    c.in-Ok.ensures.told in
     asked_it c.args.client.now c.args.server.now c.args.time c.args.bytes.now c.send.new.client
     c.deliver_call.new.server c.acknowledge_call.new.client c.in_ok-number.number c.in-Ok.receipt sent heard
     c.in-Ok.ensures.sender c.in-Ok-acknowledge_call.ensures.told
@@ -58,7 +59,8 @@ returns-in-Err-acknowledge_call-clause-told c =
     let sent = is_sent c.args.client.now c.args.server.now c.number.result c.args.bytes.now c.send.new.client
     c.in_ok-number.number c.number.ensures c.in_ok-number.ensures.sends c.in_ok-number.ensures.sender in
     let heard = heard_it c.args.client.now c.args.server.now c.args.time c.args.bytes.now c.send.new.client
-    c.deliver_call.new.server c.in_ok-number.number c.in-Ok.receipt sent c.in-Ok.ensures.told in
+    c.deliver_call.new.server c.in_ok-number.number c.deliver_call.new.text.items c.in-Ok.receipt sent
+    c.in-Ok.ensures.told in
     not_asked c.args.client.now c.args.server.now c.args.time c.args.bytes.now c.send.new.client
     c.deliver_call.new.server c.acknowledge_call.new.client c.in_ok-number.number c.in-Ok.receipt
     c.in-Err-acknowledge_call.fault sent heard c.in-Ok.ensures.sender c.in-Err-acknowledge_call.ensures.told

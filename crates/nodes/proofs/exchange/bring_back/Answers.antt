@@ -19,8 +19,8 @@ pub returns-in-Ok-acknowledge_reply-clause-replied : goal.returns-in-Ok-acknowle
 returns-in-Ok-acknowledge_reply-clause-replied c = λ e there.
     brought_back c.args.client.now c.args.server.now c.deliver_reply.new.client c.acknowledge_reply.new.server
     c.args.number c.last_number-receipt.result c.in_ok-reply.reply.items e
-    (taken_it c.args.client.now c.args.server.now c.deliver_reply.new.client c.args.number e there
-    (c.in-Ok.ensures.told e there))
+    (taken_it c.args.client.now c.args.server.now c.deliver_reply.new.client c.args.number
+    c.deliver_reply.new.text.items e there (c.in-Ok.ensures.told e there))
     c.in-Ok.ensures.sender
     (c.last_number-receipt.ensures ∙ ap (λ (n : NodeParts). length n.entries) c.node-2.ensures.node)
     (c.in_ok-reply.ensures.copied e
@@ -29,15 +29,15 @@ returns-in-Ok-acknowledge_reply-clause-replied c = λ e there.
 
 pub returns-in-Err-clause-told : goal.returns-in-Err-clause-told
 returns-in-Err-clause-told c = λ e there.
-    not_taken c.args.client.now c.args.server.now c.deliver_reply.new.client c.args.number e c.in-Err.fault
-    (c.in-Err.ensures.told e there)
+    not_taken c.args.client.now c.args.server.now c.deliver_reply.new.client c.args.number
+    c.deliver_reply.new.text.items e c.in-Err.fault there (c.in-Err.ensures.told e there)
 
 pub returns-in-Err-acknowledge_reply-clause-told : goal.returns-in-Err-acknowledge_reply-clause-told
 returns-in-Err-acknowledge_reply-clause-told c = λ e there.
     not_brought c.args.client.now c.args.server.now c.deliver_reply.new.client c.acknowledge_reply.new.server
     c.args.number c.last_number-receipt.result c.in-Err-acknowledge_reply.fault e
-    (taken_it c.args.client.now c.args.server.now c.deliver_reply.new.client c.args.number e there
-    (c.in-Ok.ensures.told e there))
+    (taken_it c.args.client.now c.args.server.now c.deliver_reply.new.client c.args.number
+    c.deliver_reply.new.text.items e there (c.in-Ok.ensures.told e there))
     c.in-Ok.ensures.sender
     (c.last_number-receipt.ensures ∙ ap (λ (n : NodeParts). length n.entries) c.node-2.ensures.node)
     c.in-Err-acknowledge_reply.ensures.told
