@@ -1,21 +1,21 @@
-# To be sourced at the top of the repository, after checks/scratch_crate.sh: the program nfsacc as it is built.
+# To be sourced at the top of the repository, after checks/scratch_crate.sh: a program of the repository as it is built.
 
-# built_programs
-# Names in `made` the programs that the gate left in crates/nfsacc/out, one for each compiler. Where none is there, or a
-# source is newer, rt run makes one.
+# built_programs [CRATE]
+# Names in `made` the programs that the gate left in the crate's folder out/, one for each compiler; the crate is nfsacc if
+# none is named. Where no program is there, or a source is newer, rt run makes one.
 built_programs() {
-    local program newer below
-    below=($(names_below nfsacc))
+    local crate=${1:-nfsacc} program newer below
+    below=($(names_below "$crate"))
     made=()
-    for program in crates/nfsacc/out/nfsacc crates/nfsacc/out/nfsacc.by-rattle; do
+    for program in crates/$crate/out/$crate crates/$crate/out/$crate.by-rattle; do
         if [ -f "$program" ]; then
             newer=$(find "${below[@]/#/crates/}" -name out -prune -o -newer "$program" \( -name '*.rt' -o -name '*.antt' \) -print)
             if [ -z "$newer" ]; then made+=("$PWD/$program"); fi
         fi
     done
     if [ ${#made[@]} -eq 0 ]; then
-        (cd crates/nfsacc && rt run -- --version)
-        made=("$PWD/crates/nfsacc/out/nfsacc")
+        (cd "crates/$crate" && rt run -- --version < /dev/null) || true
+        made=("$PWD/crates/$crate/out/$crate")
     fi
 }
 

@@ -14,7 +14,8 @@ built_programs
 
 work=$(mktemp -d)
 trap 'rm -rf "$work"' EXIT
-mkdir "$work/run"
+mkdir "$work/run" "$work/made"
+python3 "$cases/streams.py" "$work/made"
 "${CC:-cc}" -shared -fPIC -o "$work/refused_request.so" checks/refused_request.c
 cd "$work/run"
 
@@ -62,6 +63,20 @@ check_streams() {
         count=$((count + 1))
     done < "$cases/streams.txt"
     [ "$count" -eq 126 ] || fail "$count streams were tried"
+}
+
+# Longer streams, with what the second verifier owes to them: replies with more bytes than are held at once, the longest
+# list of mounts, thousands of random calls, and the rows of rows.txt, each limit of a server at its bound and past it among
+# them.
+check_made_streams() {
+    local input count=0
+    for input in "$work"/made/*.in; do
+        cp "$input" in
+        run 0 rpc
+        cmp -s out "${input%.in}.owed" || fail "$(basename "$input"): it wrote other replies than are owed"
+        count=$((count + 1))
+    done
+    [ "$count" -eq 22 ] || fail "$count made streams were tried"
 }
 
 # The record of NULL, cut anywhere, and its header, cut anywhere and a record again.
@@ -237,6 +252,51 @@ check_words() {
     says 2 'nfsacc: the command line is no text' $'\xff'
 }
 
+# Command lines that ask for nothing, as words after the program's name.
+REFUSED='rpc 1
+rpc -- --
+rpc -
+-- rpc
+check --explain
+check -f
+check f g
+check --explain --explain f
+check --roster f
+check --roster r --roster r f
+roster -f
+roster f g
+run --roster-out f'
+
+# same STATUS LINE..: each of these lines ends with this status, and writes what the first does.
+same() {
+    local status=$1 line
+    shift
+    run "$status" $1
+    cp out owed
+    for line in "$@"; do
+        run "$status" $line
+        cmp -s out owed || fail "it wrote something else: $line" out
+    done
+}
+
+# Options stand anywhere, with their words after a blank or a sign; and words after -- are no options.
+check_orders() {
+    local line
+    : > in
+    while IFS= read -r line; do
+        run 2 $line
+        [ ! -s out ] && [ -s said ] || fail "it said nothing of: $line" out said
+    done <<< "$REFUSED"
+    for file in f r ./-f; do cp "$top/checks/evidence/fork.evidence" "$file"; done
+    cp "$top/checks/scripts/lie.script" s
+    same 0 'check --explain f' 'check f --explain' 'check --explain -- -f'
+    same 0 'roster f' 'roster -- -f'
+    same 0 'check --roster r --json f' 'check --json f --roster=r' 'check --json --roster=f r'
+    same 0 'run s --roster-out g' 'run --roster-out=g s' 'run --roster-out g -- s'
+    cmp -s g <(head -c 92 lie.evidence) || fail 'the roster of a script' said
+    rm ./-f
+}
+
 # A device that fails ends the run with status 4 and a line that names it and says why, never with a signal: a full one, a
 # pipe that nobody reads any more, and a folder that is read as a file.
 check_devices() {
@@ -270,13 +330,14 @@ check_devices() {
     [ $got -eq 1 ] || fail "status $got of a record fault that can't be told"
 }
 
-# Where the program's request for memory of this number is refused it ends with status 3 and a line, or as with memory.
+# Where the program's request for memory of this number is refused it ends with status 3 and a line, or as with memory, and
+# then it wrote the same.
 without_request() {
     local request=$1 usual=$2 words=$3 status=0
-    REFUSED_REQUEST=$request LD_PRELOAD=$work/refused_request.so "$program" "$words" < in > out 2> said || status=$?
+    REFUSED_REQUEST=$request LD_PRELOAD=$work/refused_request.so "$program" $words < in > out 2> said || status=$?
     case $status in
         3) [ "$(cat said)" = 'nfsacc: out of memory' ] || fail "$words without request $request" said ;;
-        "$usual") ;;
+        "$usual") cmp -s out usual || fail "$words without request $request: it wrote" out ;;
         *) fail "status $status of $words without request $request" said ;;
     esac
     echo "$status"
@@ -284,13 +345,16 @@ without_request() {
 
 # Of each request of a run in turn. A few can be refused without harm, as those for the words of an error's text.
 check_memory() {
-    local try words last usual least
-    # Words of a command line, more requests than its run makes, the status with memory, and in how many runs at least
-    # memory runs out.
-    local tries=('rpc 80 0 60' 'serve-all 160 2 80')
+    local try words input last usual least
+    # The input, more requests than its run makes, the status with memory, in how many runs at least memory runs out, and
+    # the words of the command line.
+    local tries=('crates/nfsacc/stdin 80 0 60 rpc' 'crates/nfsacc/stdin 160 2 80 serve-all'
+        'checks/scripts/lie.script 400 0 250 run -')
     for try in "${tries[@]}"; do
-        read -r words last usual least <<< "$try"
-        cp "$top/crates/nfsacc/stdin" in
+        read -r input last usual least words <<< "$try"
+        cp "$top/$input" in
+        run "$usual" $words
+        cp out usual
         for ((request = 1; request <= last; request++)); do
             without_request "$request" "$usual" "$words"
         done > statuses
@@ -301,12 +365,14 @@ check_memory() {
 
 for program in "${made[@]}"; do
     check_streams
+    check_made_streams
     check_cuts
     check_many_records
     check_waiting
     check_fragments
     check_many_fragments
     check_words
+    check_orders
     check_devices
     check_memory
 done

@@ -95,11 +95,16 @@ why() {
     [ "$(wc -l < "$files/said")" -eq 1 ] || fail "more than a line of: $*" "$files/said"
 }
 
+# lacks WORDS FILE: it is told that the file's evidence isn't accepted, and what it lacks.
+lacks() {
+    why "nfsacc: .*: the evidence is not accepted: $1" "$2"
+}
+
 # A file that is no evidence is told as which of three it is: by the byte at which an item begins that doesn't decode, by
 # its roster, or by what it lacks. In fork.evidence the roster ends at 92, the charge is at 96, `at` at 100, the first
 # showing at 108 with its links at 152, its closing's signature at 200, its path at 16588, the second's flag at 16688.
 check_reasons() {
-    local case='' cut
+    local cut digest
     for cut in 0:0 3:0 4:4 8:8 12:12 43:12 44:44 48:48 92:92 96:96 99:96 100:100 107:100 108:108 116:112 124:120 \
         152:152 156:156 200:200 204:204 8395:204 8396:8396 16588:16588 16592:16592 16687:16656 16688:16688 33271:33240; do
         head -c "${cut%:*}" "$cases/fork.evidence" > "$files/case"
@@ -107,10 +112,22 @@ check_reasons() {
     done
     { cat "$cases/fork.evidence"; printf '\0'; } > "$files/case"
     why "nfsacc: $files/case: not a roster .* byte 33272 does not decode" "$files/case"
-    why "nfsacc: .*: the evidence is not accepted: the log has no fault" "$cases/no_fault.evidence"
+    lacks 'the log has no fault' "$cases/no_fault.evidence"
+    lacks 'what is shown does not end in what closes it' "$cases/first_0.evidence"
+    changed fork 95
+    lacks 'what is shown is of another node' "$files/case"
+    changed fork 107
+    lacks 'no two hashes are shown at the number' "$files/case"
+    changed fork 33271
+    lacks 'what closes it is not signed by the node' "$files/case"
+    changed wrong_reply 111
+    lacks 'the log is not shown from its first entry on' "$files/case"
     why "nfsacc: .*: its roster is not the one that is trusted" --roster "$cases/client_clock.evidence" "$cases/fork.evidence"
     judged 1 'no evidence' --explain "$cases/fork.evidence" --roster "$cases/client_clock.evidence"
     grep -qx 'reason: its roster is not the one that is trusted' "$files/out" || fail 'another roster' "$files/out"
+    # The roster of two members has 92 bytes.
+    digest=$(head -c 92 "$cases/client_clock.evidence" | sha256sum | cut -d ' ' -f 1)
+    grep -qx "trusted roster's sha256: $digest" "$files/out" || fail 'the trusted roster' "$files/out"
     [ ! -s "$files/said" ] || fail 'an explanation has its reason' "$files/said"
 }
 

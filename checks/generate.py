@@ -4,8 +4,9 @@ second verifier and the program `nfsacc check` both give it: the node that is ex
 fault and its entry's number. All that `--json` and `--explain` say of a file is compared, too, with what the
 second verifier finds in it.
 
-usage: checks/generate.py PROGRAM COUNT SEED [KIND..]    of all kinds, or of these alone; several programs, with a comma
-                                                         between them, must say the same
+usage: checks/generate.py PROGRAM COUNT SEED [KIND..]    of all kinds, after those of which each is made once; or of these
+                                                         kinds alone. Several programs, with a comma between them, must
+                                                         say the same
        checks/generate.py --show INDEX SEED [KIND..]     writes one of these files to standard output
        checks/generate.py --stored FOLDER                makes the files that checks/evidence keeps of it
        checks/generate.py --handed books|logs|replays    writes the texts that checks/refused_memory reads
@@ -17,11 +18,12 @@ import subprocess
 import sys
 import tempfile
 from collections import Counter
+from collections.abc import Iterator
 from random import Random
 
 sys.dont_write_bytecode = True
 from generator.handed import handed  # noqa: E402
-from generator.kinds import KINDS, Case  # noqa: E402
+from generator.kinds import EACH, KINDS, Case  # noqa: E402
 from generator.stored import STORED  # noqa: E402
 from verifier.evidence import Verdict, judge  # noqa: E402
 from verifier.explain import differences  # noqa: E402
@@ -35,6 +37,16 @@ def made(index: int, seed: str, names: list[str]) -> tuple[str, Case]:
     else:
         name = random.choices(names, [KINDS[name][1] for name in names])[0]
     return name, KINDS[name][0](random)
+
+
+def all_made(count: int, seed: str, names: list[str]) -> Iterator[tuple[str, int, Case]]:
+    """The files of which each is made once, and so many others; where kinds are named, others of these alone."""
+    for name, number, make in EACH if not names else []:
+        for place in range(number):
+            yield name, place, make(Random(f'{seed} {name} {place}'), place)
+    for index in range(count):
+        name, case = made(index, seed, names or list(KINDS))
+        yield name, index, case
 
 
 def said(program: str, option: str, path: str) -> str:
@@ -55,13 +67,13 @@ def verdict_in(json_text: str) -> Verdict:
                    (fault['fault'], fault['entry']) if fault else None)
 
 
-def compare(programs: list[str], count: int, seed: str, names: list[str]) -> int:
-    """Judges so many files; answers how many verdicts or explanations aren't as they are meant to be."""
+def compare(programs: list[str], count: int, seed: str, names: list[str]) -> tuple[int, int]:
+    """Judges so many files and those of which each is made once: how many they are, and how many verdicts or explanations
+    aren't as they are meant to be."""
     kinds, wrong = Counter(), 0
     with tempfile.TemporaryDirectory() as folder:
         path = os.path.join(folder, 'case')
-        for index in range(count):
-            name, case = made(index, seed, names)
+        for name, index, case in all_made(count, seed, names):
             with open(path, 'wb') as file:
                 file.write(case.data)
             texts = [(said(program, '--json', path), said(program, '--explain', path)) for program in programs]
@@ -73,7 +85,7 @@ def compare(programs: list[str], count: int, seed: str, names: list[str]) -> int
                 print(f'{name} {index}: meant {meant}, verify.py {judged}, {programs} {told}', *otherwise,
                       sep='\n  ', file=sys.stderr)
     print(', '.join(f'{name} {number}' for name, number in sorted(kinds.items())))
-    return wrong
+    return kinds.total(), wrong
 
 
 def store(folder: str):
@@ -93,12 +105,11 @@ def main() -> int:
         print(__doc__, file=sys.stderr)
         return 2
     programs, number, seed, *names = sys.argv[1:]
-    names = names or list(KINDS)
     if programs == '--show':
-        sys.stdout.buffer.write(made(int(number), seed, names)[1].data)
+        sys.stdout.buffer.write(made(int(number), seed, names or list(KINDS))[1].data)
         return 0
-    wrong = compare(programs.split(','), int(number), seed, names)
-    print(f'{number} files were judged, {wrong} otherwise than they are meant to be')
+    judged, wrong = compare(programs.split(','), int(number), seed, names)
+    print(f'{judged} files were judged, {wrong} otherwise than they are meant to be')
     return 1 if wrong else 0
 
 

@@ -195,7 +195,7 @@ check_subject() {
         # Each directory's map asks for more room than it needs, and goes on where that is refused.
         jobs) least_refused 30 ReplayJob::run ;;
         # What opens the round. A job to which memory is refused is run once more at the round's end, and is done then.
-        rounds) least_refused 16 replay_round ;;
+        rounds) exactly_refused 16 replay_round ;;
     esac
 }
 

@@ -29,7 +29,7 @@ said_is() {
 # Each story prints what stands beside it, from a file and from standard input.
 check_stories() {
     local story
-    for story in lie fork accusation no_keys any_order nothing flood; do
+    for story in lie later_lie fork accusation challenged challenges no_keys last_keys any_order nothing times round flood; do
         : > in
         run 0 run "$stories/$story.script"
         cmp -s out "$stories/$story.printed" || fail "$story: it printed" out
@@ -46,7 +46,7 @@ check_stories() {
     run 0 check fork.evidence
     [ "$(cat out)" = 'exposed 2' ] || fail 'the evidence of the fork' out
     [ ! -e none.evidence ] || fail 'there is evidence of a false accusation' out
-    echo 'seven stories print what they should, and leave evidence where somebody is exposed'
+    echo 'thirteen stories print what they should, and leave evidence where somebody is exposed'
 }
 
 # Lines that are bad, as the first one and after others; one of a megabyte; thousands that are passed over before one.
@@ -118,6 +118,38 @@ check_roster() {
     echo 'the roster is written before the first line runs, as it stands in the evidence'
 }
 
+# Evidence takes the place of a file that is there: another link to that file still leads to what it had.
+check_replaced() {
+    rm -f lie.evidence other
+    echo before > lie.evidence
+    ln lie.evidence other
+    : > in
+    run 0 run "$stories/lie.script"
+    [ "$(cat other)" = before ] || fail 'a file was written over, and not replaced' other
+    run 0 check lie.evidence
+    [ "$(cat out)" = 'exposed 1' ] || fail 'evidence in place of a file' out
+    rm other
+    echo 'evidence takes the place of a file, which another link still leads to'
+}
+
+# The processor time, in milliseconds, of a flood of so many packets that aren't signed.
+flood_time() {
+    local TIMEFORMAT=%U seconds
+    sed "s/^flood 1 3 .*/flood 1 3 $1/" "$stories/flood.script" > in
+    seconds=$({ time run 0 run - > /dev/null; } 2>&1)
+    grep -qx "flooded $1" out || fail "a flood of $1" out
+    echo $((10#${seconds/./}))
+}
+
+# Each packet of a flood is checked: to check a signature takes a thirtieth of a millisecond at least.
+check_floods() {
+    local few many
+    few=$(flood_time 1)
+    many=$(flood_time 10000)
+    [ $((many - few)) -ge 300 ] || fail "10,000 packets took $many milliseconds, and one $few"
+    echo 'each packet of a flood is checked'
+}
+
 # An answer comes before the next line is sent.
 check_answers_at_once() {
     local answer
@@ -142,5 +174,7 @@ for program in "${made[@]}"; do
     check_bad_lines
     check_ends
     check_roster
+    check_replaced
+    check_floods
     check_answers_at_once
 done

@@ -142,7 +142,6 @@ class Worker:
         handle = self.create()
         for _ in range(calls - 1):
             self.step(handle)
-        self.connection.close()
         return self.made
 
 
@@ -164,11 +163,11 @@ def comes_next(world: World, body: bytes, reply: bytes) -> int | None:
     return 2 if int.from_bytes(reply[32:36], 'big') == world.files.next_number else None
 
 
-def check_order(made: list[list[tuple[bytes, bytes]]]):
+def check_order(made: list[list[tuple[bytes, bytes]]], began: float, ended: float):
     """The replies are those that one service alone owes to the calls, in an order in which each connection's calls keep
-    theirs, and times don't fall."""
+    theirs, and times don't fall. They are the system's, between those at which the calls began and ended."""
     waiting = [[(time_in(*one), *one) for one in reversed(calls)] for calls in made]
-    world, before = new_world(), EPOCH
+    world, before = new_world(), (int(began), 0)
     for _ in range(sum(map(len, made))):
         heads = [(calls[-1][0], comes_next(world, *calls[-1][1:]), place)
                  for place, calls in enumerate(waiting) if calls]
@@ -179,16 +178,22 @@ def check_order(made: list[list[tuple[bytes, bytes]]]):
         owed = reply_to(world, body, moment)
         assert reply == owed, f'{body.hex()} got {reply.hex()}, and {owed.hex() if owed else None} is owed'
         before = now
+    assert before[0] <= ended, f'the last time is {before}, and the calls ended at {ended}'
 
 
 def check_thousands(program: str, calls: int = 125):
     service = Service(program, 16, *heights(12, 8))
     workers = [Worker(service.port, number, 1) for number in range(16)]
-    start = time.monotonic()
+    began, start = time.time(), time.monotonic()
     made = at_once([lambda worker=worker: worker.work(calls) for worker in workers])
-    seconds = time.monotonic() - start
+    seconds, before = time.monotonic() - start, service.spent()
+    for worker in workers:
+        worker.connection.close()
     all_good(service, 16)
-    check_order(made)
+    # The audits check four signatures a call, and to check one takes a twentieth of a millisecond at least.
+    audits = service.seconds - before
+    assert audits >= 16 * calls * 4 / 20000, f'the audits took {audits} seconds'
+    check_order(made, began, time.time())
     print(f'{16 * calls} calls by sixteen connections at once: each reply is the one that is owed '
           f'({16 * calls / seconds:.0f} a second)')
 
@@ -573,12 +578,16 @@ REFUSED = [
 ]
 
 
+# Modes and sizes of files that are no master secret, each with the status of `serve`. Nobody but the owner may use it.
+NO_MASTERS = [(0o600 | bit, 32, 2) for bit in (0o40, 0o20, 0o10, 0o4, 0o2, 0o1)] + [(0o600, size, 1) for size in (31, 33, 0)]
+
+
 def check_refused(program: str):
     for words in REFUSED:
         status, printed, said = run(program, 'serve', *words)
         assert (status, printed) == (2, b'') and said, (words, status, printed, said)
     with tempfile.TemporaryDirectory() as name:
-        for mode, size, wanted in ((0o640, 32, 2), (0o604, 32, 2), (0o600, 31, 1), (0o600, 33, 1), (0o600, 0, 1)):
+        for mode, size, wanted in NO_MASTERS:
             master = Path(name) / f'{mode}.{size}'
             master.write_bytes(bytes(size))
             master.chmod(mode)
@@ -588,7 +597,7 @@ def check_refused(program: str):
         assert (status, printed) == (4, b'') and f'{name}/none' in said, (status, said)
     status, printed, _ = run(program, 'serve', '--help')
     assert status == 0 and all(f'\n{height:>4} ' in printed.decode() for height in range(1, 16)), printed.decode()
-    print(f'{len(REFUSED) + 6} command lines are refused; the help tells of each height')
+    print(f'{len(REFUSED) + len(NO_MASTERS) + 1} command lines are refused; the help tells of each height')
 
 
 CHECKS = [check_refused, check_devices, check_closed_devices, check_roster, check_addresses, check_one_and_two,

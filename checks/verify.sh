@@ -1,7 +1,7 @@
 #!/usr/bin/env bash
 # Two programs judge the same evidence: `nfsacc check`, and checks/verify.py, which was written from
-# the pages of docs alone, without a look into the crates. The files are those of checks/evidence, and COUNT made ones (200
-# where none is said), of which the generator knows what each must give. All that is explained of each is compared, too, with
+# the pages of docs alone, without a look into the crates. The files are those of checks/evidence, made ones that show a call
+# of each kind, and COUNT others (200 where none is said), of which the generator knows what each must give. All that is explained of each is compared, too, with
 # what the second program finds in the file. PROGRAM is an nfsacc that is built already; without one those are tried that the
 # gate left in crates/nfsacc/out.
 # usage: checks/verify.sh [COUNT [PROGRAM]]
@@ -75,4 +75,4 @@ check_made_again() {
 check_stored
 check_made_again
 checks/generate.py "$(IFS=,; echo "${made[*]}")" "$count" evidence
-echo "the second verifier and nfsacc check agree on the stored files and on $count made ones, and on what each shows"
+echo "the second verifier and nfsacc check agree on the stored files and the made ones, and on what each shows"

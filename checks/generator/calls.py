@@ -23,6 +23,12 @@ PATHS = [b'/', b'/', b'///', b'', b'a', b'/a', b'/a/b', b'/hello', b'//a//', b'/
          b'/a/../b', b'/' + b'p' * 1023, b'/' * 1025]
 PROCEDURES = [1, 2, 2, 4, 5, 6, 6, 8, 8, 9, 9, 9, 10, 11, 11, 12, 13, 14, 14, 14, 15, 16, 16, 17]
 
+PARMS = word(0) + opaque(b'm') + word(0, 0)
+ODD_CREDENTIALS = [
+    word(AUTH_NONE) + opaque(b'ignored'), word(2) + opaque(b''), word(GREATEST) + opaque(bytes(400)),
+    word(AUTH_SYS) + opaque(b''), word(AUTH_SYS) + opaque(PARMS), word(AUTH_SYS) + opaque(PARMS + word(0) + word(0)),
+    word(AUTH_SYS) + opaque(PARMS + array([word(1)] * 17)), word(0) + opaque(bytes(401)), word(0, 1) + b'abcd']
+
 
 class Caller:
     """Makes random calls to a server, whose world it looks at to name files that are there."""
@@ -100,13 +106,7 @@ class Caller:
         return word(AUTH_SYS) + opaque(word(0) + opaque(machine) + word(uid, gid) + groups)
 
     def odd_credential(self) -> bytes:
-        parms = word(0) + opaque(b'm') + word(0, 0)
-        return self.random.choice([
-            word(AUTH_NONE) + opaque(b'ignored'), word(2) + opaque(b''), word(GREATEST) + opaque(bytes(400)),
-            word(AUTH_SYS) + opaque(b''), word(AUTH_SYS) + opaque(parms),
-            word(AUTH_SYS) + opaque(parms + word(0) + word(0)),
-            word(AUTH_SYS) + opaque(parms + array([word(1)] * 17)),
-            word(0) + opaque(bytes(401)), word(0, 1) + b'abcd'])
+        return self.random.choice(ODD_CREDENTIALS)
 
     def header(self, program: int, version: int, procedure: int, credential: bytes) -> bytes:
         verifier = self.random.choice([word(0, 0), word(0, 0), word(7) + opaque(b'any')])
@@ -117,19 +117,19 @@ class Caller:
         procedure = self.random.choice(PROCEDURES) if procedure is None else procedure
         return self.header(NFS, 2, procedure, self.credential()) + self.arguments(procedure)
 
-    def mount(self) -> bytes:
-        procedure = self.random.choice([0, 1, 1, 1, 2, 2, 3, 4, 5])
+    def mount(self, procedure: int | None = None) -> bytes:
+        procedure = self.random.choice([0, 1, 1, 1, 2, 2, 3, 4, 5]) if procedure is None else procedure
         path = opaque(self.random.choice(PATHS)) if procedure in (1, 3) else b''
         return self.header(MOUNT, 1, procedure, self.credential()) + path
 
-    def odd(self) -> bytes:
-        """A call with something unusual in its header, its arguments or its end."""
+    def odd_calls(self) -> list[bytes]:
+        """Calls with something unusual in their headers, their arguments or their ends."""
         random, good = self.random, self.nfs()
         procedure = random.choice([0, 3, 7, 18, GREATEST])
         program, version = random.choice([(NFS, 1), (NFS, 3), (MOUNT, 2), (100000, 2), (NFS + 1, 2),
                                           (GREATEST, 0)])
         padded = self.header(NFS, 2, 4, self.credential()) + self.handle((2,)) + word(1) + b'aaaa'
-        return random.choice([
+        return [
             b'', good[:random.randrange(12)], good[:random.randrange(len(good))],
             good + b'\0', good + b'more', word(1, 1, 2) + good[12:],
             word(1, 0, random.choice([0, 1, 3, GREATEST])), word(1, 0, 3) + good[12:],
@@ -139,7 +139,16 @@ class Caller:
             self.header(MOUNT, 1, 1, self.odd_credential()) + opaque(b'/'),
             self.header(NFS, 2, 1, self.odd_credential()) + self.handle(),
             self.header(MOUNT, 1, random.choice([1, 3, 4]), word(0, 0))
-            + random.choice([b'', b'x', opaque(b'/')])])
+            + random.choice([b'', b'x', opaque(b'/')])]
+
+    def odd(self) -> bytes:
+        return self.random.choice(self.odd_calls())
 
     def call(self) -> bytes:
         return self.random.choices([self.nfs, self.mount, self.odd], [80, 8, 12])[0]()
+
+    def each_call(self) -> list[bytes]:
+        """A call of each procedure, one with each odd credential, and odd ones."""
+        bodies = [self.nfs(procedure) for procedure in range(18)] + [self.mount(procedure) for procedure in range(6)]
+        bodies += [self.header(NFS, 2, 1, each) + self.handle() for each in ODD_CREDENTIALS]
+        return bodies + self.odd_calls()

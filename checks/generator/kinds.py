@@ -6,7 +6,8 @@ from random import Random
 from verifier.evidence import MAX_ENTRIES, MAX_LINKS, Fork, Replay, Showing, chain
 from verifier.keys import CLIENT, MAX_MEMBERS, SERVER, ZEROS, Member, digest
 from verifier.log import ACK, CHECK, CLOCK, RECV, SEND, Clock, Send
-from verifier.nfs import ROOT
+from verifier.mount import World
+from verifier.nfs import ROOT, Files
 from verifier.replay import Fault
 from verifier.rpc import AUTH_SYS, MOUNT, NFS
 from verifier.xdr import opaque, word
@@ -259,6 +260,34 @@ def other_handle(random: Random) -> Case:
     return ended(log, random)
 
 
+# Calls of each kind, which are shown where the entry after them has a fault.
+
+def shown_call(random: Random, place: int) -> Case:
+    """A server that heard one of all calls, and then says what it doesn't owe."""
+    log = honest_log(random, SERVER, 6, kept=2)
+    log.append(log.message(Caller(random, log.state.world).each_call()[place]))
+    log.append(log.clock())
+    owed = log.state.owed
+    if owed is None:
+        log.append(log.clock(), honest=False)
+        return replay_case(log, (Fault.BAD_FORM, len(log.entries)))
+    log.append(replace(owed, body=flipped(log, owed.body)), honest=False)
+    return replay_case(log, (Fault.WRONG_REPLY, len(log.entries)))
+
+
+def shown_by_client(random: Random, place: int) -> Case:
+    """A client that made one of all calls, and then reads no time."""
+    log = honest_log(random, CLIENT, 3, kept=2)
+    server = log.cast.members[1].node
+    world = World(Files(server))
+    log.append(Send(server, Caller(random, world).each_call()[place]))
+    log.append(Clock(log.state.clock[0], 1000000), honest=False)
+    return replay_case(log, (Fault.BAD_FORM, len(log.entries)))
+
+
+CALLS = len(Caller(Random(0), World(Files(1))).each_call())
+
+
 # Forks.
 
 def links_of(log: Log) -> list[tuple[int, bytes]]:
@@ -450,7 +479,10 @@ def long_roster(random: Random) -> Case:
     return Case(file_of(log.cast, node, Fork(0, [showing]), members + more), None if more else node)
 
 
-def no_text(random: Random) -> Case:
+NO_TEXTS = 9
+
+
+def no_text(random: Random, place: int | None = None) -> Case:
     """Words that have no such value: kinds, a charge, a flag, places of all ones, counts above bounds."""
     log, _ = with_fault(random, Fault.BAD_RECEIVE)
     node, charge = log.signer.node, log.replay()
@@ -461,15 +493,19 @@ def no_text(random: Random) -> Case:
     opening = ZEROS[:-1] + b'\1'
     claim = log.signer.sign(0, opening)
     fork, signed = good[:start + 4] + word(1), word(0) + authenticator_text(claim)
+    begun = word(node) + bytes(7) + b'\1' + opening
+    link = word(1, random.choice([0, 6, 2**32 - 1])) + bytes(32) + authenticator_text(claim)
     choices = [
         good[:start + 4] + word(random.choice([0, 3])) + good[start + 8:],
         good[:start + 12] + ones + good[start + 20:],
         good[:entries_at] + word(MAX_ENTRIES + 1) + good[entries_at + 4:],
         good[:entries_at + 4] + word(random.choice([0, 6, 2**32 - 1])) + good[entries_at + 8:],
         fork + bytes(8) + word(node) + bytes(8) + ZEROS + signed + word(2),
-        fork + ones + word(node) + bytes(7) + b'\1' + opening + signed + word(0),
+        fork + ones + begun + signed + word(0), fork + bytes(8) + begun + link + word(0),
+        file_of(log.cast, node, replace(charge, closing=replace(charge.closing, number=2**64 - 1))),
+        file_of(log.cast, node, Fork(0, [Showing(node, 1, opening, [], replace(claim, number=2**64 - 1))])),
     ]
-    return Case(random.choice(choices))
+    return Case(random.choice(choices) if place is None else choices[place])
 
 
 def long_body(random: Random) -> Case:
@@ -489,13 +525,14 @@ def long_body(random: Random) -> Case:
     return Case(data, node if decodes else None, (Fault.BAD_FORM, 3) if decodes else None)
 
 
-def greatest_places(random: Random) -> Case:
+def greatest_places(random: Random, place: int | None = None) -> Case:
     """Numbers of all ones in a RECV or an ACK, of a log that would be exposed by its last entry."""
     log = Log(Cast(random, CLIENT, least_height=3))
     log.append(Send(log.cast.members[1].node, b'body'))
     message, ack = log.message(b'abc'), log.acknowledgement(1)
     ones = 2**64 - 1
-    odd = random.choice([replace(message, seq=ones), replace(ack, seq=ones), replace(ack, number=ones)])
+    places = [replace(message, seq=ones), replace(ack, seq=ones), replace(ack, number=ones)]
+    odd = random.choice(places) if place is None else places[place]
     log.append(odd, honest=False)
     return replay_case(log)
 
@@ -546,3 +583,7 @@ KINDS = {
     'greatest_places': (greatest_places, 2),
     'long_path': (long_path, 2),
 }
+
+# Files of which each is made once, whatever the seed: a name, how many there are, and what makes one.
+EACH = [('shown_call', CALLS, shown_call), ('shown_by_client', CALLS, shown_by_client), ('no_text', NO_TEXTS, no_text),
+        ('greatest_places', 3, greatest_places)]

@@ -14,6 +14,7 @@ class Service:
     def __init__(self, program: str, count: int, *options: str, shell: str = ''):
         self.errors = tempfile.TemporaryFile()
         self.peak = 0.0
+        self.seconds = 0.0
         words = [program, 'serve', '0', str(count), *options]
         if shell:
             words = ['sh', '-c', f'exec "$@" {shell}', 'sh', *words]
@@ -29,12 +30,20 @@ class Service:
         self.errors.seek(0)
         return self.errors.read().decode()
 
+    def spent(self) -> float:
+        """The processor time that it has taken so far, in seconds."""
+        with open(f'/proc/{self.process.pid}/stat', encoding='ascii') as file:
+            fields = file.read().rpartition(')')[2].split()
+        return (int(fields[11]) + int(fields[12])) / os.sysconf('SC_CLK_TCK')
+
     def end(self) -> tuple[int, str, str]:
-        """Waits for its end: its status, its lines after the first one, and what it said. Keeps its peak memory, in MiB."""
+        """Waits for its end: its status, its lines after the first one, and what it said. Keeps its peak memory, in MiB, and
+        its processor time."""
         lines = self.process.stdout.read().decode()
         _, status, usage = os.wait4(self.process.pid, 0)
         self.process.returncode = os.waitstatus_to_exitcode(status)
         self.peak = usage.ru_maxrss / 1024
+        self.seconds = usage.ru_utime + usage.ru_stime
         self.watch.cancel()
         return self.process.returncode, lines, self.said()
 

@@ -132,9 +132,13 @@ class Files:
             raise Refused(NOTDIR)
         return directory
 
+    def directories(self) -> list[File]:
+        """Those that have entries."""
+        return [file for file in self.files.values() if file.entries]
+
     def names_of(self, number: int) -> int:
         """How many entries name a file."""
-        return sum(place[0] == number for file in self.files.values() for place in file.entries.values())
+        return sum([place for place, _ in file.entries.values()].count(number) for file in self.directories())
 
     def above(self, number: int) -> int:
         """The directory that has an entry of this directory; the root for the root."""
@@ -150,7 +154,7 @@ class Files:
         return 2 + sum(self.files[below].kind == DIRECTORY for below, _ in file.entries.values())
 
     def blocks_used(self) -> int:
-        return sum(blocks_of(len(file.data)) for file in self.files.values() if file.kind == REGULAR)
+        return sum([blocks_of(len(file.data)) for file in self.files.values() if file.data and file.kind == REGULAR])
 
     def attributes(self, number: int) -> bytes:
         file = self.files[number]
@@ -160,7 +164,7 @@ class Files:
 
     def check_room(self, files: int = 0, blocks: int = 0, directory: File | None = None):
         """NOSPC where so many files and blocks more, and an entry more of a directory, would pass a limit."""
-        entries = sum(len(file.entries) for file in self.files.values()) + (directory is not None)
+        entries = sum(len(file.entries) for file in self.directories()) + (directory is not None)
         cookie = directory.next_cookie + 1 if directory else 0
         if (len(self.files) + files > MAX_FILES or entries > MAX_ENTRIES
                 or self.blocks_used() + blocks > MAX_BLOCKS

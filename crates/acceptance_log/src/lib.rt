@@ -1,10 +1,8 @@
-//! Tests of keys, rosters, logs, segments and of messages between nodes.
+//! Tests of keys, logs, segments and of messages between nodes.
 #![tactic(auto)]
 
 #[cfg(test)]
 mod acks;
-#[cfg(test)]
-mod authenticators;
 #[cfg(test)]
 mod closed;
 #[cfg(test)]
@@ -22,8 +20,4 @@ mod nodes;
 #[cfg(test)]
 mod one_time_keys;
 #[cfg(test)]
-mod rosters;
-#[cfg(test)]
 mod segments;
-#[cfg(test)]
-mod signatures;

@@ -1,4 +1,4 @@
-//! Tests of a client and a server, joined or not, of a gateway over them, and of replays of their logs.
+//! Tests of a client and a server, joined or not, of a gateway over them, and of the first steps of a machine.
 #![tactic(auto)]
 
 #[cfg(test)]
@@ -8,12 +8,10 @@ mod devices;
 #[cfg(test)]
 mod exchanges;
 #[cfg(test)]
+mod machines;
+#[cfg(test)]
 mod parties;
 #[cfg(test)]
-mod replays;
-#[cfg(test)]
 mod rows;
-#[cfg(test)]
-mod strays;
 #[cfg(test)]
 mod streams;

@@ -8,7 +8,7 @@ use nodes::{
 use rpc::records::{Counting, RecordReader};
 use std::alloc::Global;
 use std::collections::VecDeque;
-use test_helpers::{Refusal, SlowReader, SlowWriter, of_words};
+use test_helpers::{Refusal, SlowReader, SlowWriter, of_words, push_words};
 
 /// NULL, GETATTR of the root and LOOKUP of `hello` in it, each as a record.
 const CALLS: [u32; 52] = [
@@ -83,7 +83,18 @@ fn three_calls(alloc: Global) -> Option<Streams> {
     Some(Streams { calls, replies })
 }
 
-/// Whether calls that come a byte at a time are answered by a server, at the times that a clock reads.
+/// Whether a device was asked once for each of its bytes, and once for the end.
+fn was_read_once(device: &SlowReader<'_>, bytes: usize) -> bool {
+    device.calls == (bytes as u64).saturating_add(1)
+}
+
+/// Whether a writer took three replies, each by one call.
+fn took_each(writer: &SlowWriter, replies: &[u8]) -> bool {
+    writer.taken.as_slice() == replies && writer.calls == 3
+}
+
+/// Whether calls that come a byte at a time are answered by a server, at the times that a clock reads: each
+/// reply by one write, since by two a connection would wait for the other side between them.
 fn is_answered(
     alloc: Global,
     link: &mut Service,
@@ -91,9 +102,11 @@ fn is_answered(
     streams: &Streams,
 ) -> bool {
     let mut reader = RecordReader::new(Counting::new(SlowReader::new(&streams.calls, 0)));
-    let mut writer = Counting::new(Vec::new(alloc));
+    let mut writer = Counting::new(SlowWriter::new(alloc, usize::MAX, 0, Refusal::Error));
     let done = Gateway::new().serve_stream(alloc, link, clock, &mut reader, &mut writer);
-    done == Ok(Served { records: 3 }) && writer.get_ref().as_slice() == streams.replies.as_slice()
+    done == Ok(Served { records: 3 })
+        && was_read_once(reader.get_ref().get_ref(), streams.calls.len())
+        && took_each(writer.get_ref(), &streams.replies)
 }
 
 /// Whether they are by a new server, whose clock is at the last call then.
@@ -119,6 +132,45 @@ fn are_answered(alloc: Global) -> bool {
 #[test]
 fn calls_are_answered_by_the_byte(rt: HostRuntime) {
     assert!(rt; are_answered(rt.alloc()));
+}
+
+/// How many calls one stream has at least.
+const MANY: u64 = 20_000;
+
+/// So many calls of NULL.
+fn many_calls(alloc: Global) -> Option<Vec<u8>> {
+    let mut calls = Vec::new(alloc);
+    for _ in 0..MANY {
+        if !push_words(&mut calls, &CALLS[..11]) {
+            return None;
+        }
+    }
+    Some(calls)
+}
+
+/// Whether a server answers them in one stream.
+fn answers_many(alloc: Global, link: &mut Service, calls: &[u8]) -> bool {
+    let mut clock = FixedClock {
+        time: Time::epoch(),
+    };
+    let mut reader = RecordReader::new(Counting::new(calls));
+    let mut writer = Counting::new(Vec::new(alloc));
+    let done = Gateway::new().serve_stream(alloc, link, &mut clock, &mut reader, &mut writer);
+    done == Ok(Served { records: MANY }) && writer.get_ref().len() as u64 == 28 * MANY
+}
+
+/// Whether a new server does.
+fn many_are_answered(alloc: Global) -> bool {
+    match (Service::opening(alloc, 1), many_calls(alloc)) {
+        (Ok(mut link), Some(calls)) => answers_many(alloc, &mut link, &calls),
+        _ => false,
+    }
+}
+
+/// A stream isn't given up after some number of records.
+#[test]
+fn many_calls_are_answered(rt: HostRuntime) {
+    assert!(rt; many_are_answered(rt.alloc()));
 }
 
 /// Whether a writer took these bytes a byte a call, and refused the call after them.

@@ -4,7 +4,7 @@
 use crate::made::{keys_of_two, roster_of_two};
 use authenticator::{Authenticator, Number, Roster};
 use challenge::{
-    AuditedLog, Charge, Evidence, EvidenceFault, Finding, Fork, NotAccepted, ReplayFault, Showing,
+    AuditedLog, Charge, Evidence, EvidenceFault, Finding, Fork, NotAccepted, Showing,
     check_evidence, examine, read_case, read_evidence, write_case,
 };
 use merkle_keys::Signer;
@@ -107,27 +107,6 @@ fn finds_in_text(alloc: Global, roster: &Roster, text: Vec<u8>, finding: &Findin
     }
 }
 
-/// Whether this is found in a case that is read from a text.
-fn finds_in_case(alloc: Global, text: Vec<u8>, finding: &Finding) -> bool {
-    match read_case(alloc, text) {
-        Ok(case) => finds(alloc, &case.roster, &case.evidence, finding),
-        Err(_) => false,
-    }
-}
-
-/// Whether this is found in evidence that is written and read back.
-fn finds_again(alloc: Global, roster: &Roster, evidence: &Evidence, finding: &Finding) -> bool {
-    let in_text = match evidence.evidence_text(alloc) {
-        Ok(text) => finds_in_text(alloc, roster, text, finding),
-        Err(_) => false,
-    };
-    let in_case = match case_text(alloc, roster, evidence) {
-        Some(text) => finds_in_case(alloc, text, finding),
-        None => false,
-    };
-    in_text && in_case
-}
-
 /// Node 2's roster, and evidence against it.
 #[derive(Drop)]
 pub struct Made {
@@ -149,47 +128,6 @@ pub fn holds_of<F: FnOnce(Global, &Made) -> bool>(alloc: Global, content: Conten
     match made_of(alloc, content) {
         Some(made) => holds(alloc, &made),
         None => false,
-    }
-}
-
-/// Whether this is found in evidence with this content, also where it is read back.
-fn is_found(alloc: Global, content: Content, finding: &Finding) -> bool {
-    holds_of(alloc, content, |alloc, made| {
-        finds(alloc, &made.roster, &made.evidence, finding)
-            && finds_again(alloc, &made.roster, &made.evidence, finding)
-    })
-}
-
-/// The finding of two hashes.
-fn two(at: u64, one: u8, other: u8) -> Finding {
-    Finding::TwoHashes {
-        at: Number::new(at.min(5)),
-        one: [one; 32],
-        other: [other; 32],
-    }
-}
-
-// A clock shows microseconds below 1,000,000.
-#[test]
-fn evidence_is_examined(rt: HostRuntime) {
-    for (content, finding) in [
-        (Content::TwoHashes, two(5, 1, 2)),
-        (Content::AtZero(1), two(0, 1, 0)),
-        (
-            Content::AtZero(0),
-            Finding::NotAccepted(NotAccepted::NoTwoHashes),
-        ),
-        (
-            Content::Clock(1_000_000),
-            Finding::Fault(ReplayFault::BadForm, Number::new(1)),
-        ),
-        (
-            Content::Clock(999_999),
-            Finding::NotAccepted(NotAccepted::NoFault),
-        ),
-    ] {
-        let found = is_found(rt.alloc(), content, &finding);
-        assert!(rt; found, "{content:?}");
     }
 }
 

@@ -1,4 +1,4 @@
-//! Tests of packets, of what is shown of logs, and of evidence.
+//! Tests of packets, and of evidence.
 #![tactic(auto)]
 
 #[cfg(test)]
@@ -7,7 +7,5 @@ mod copies;
 mod evidence;
 #[cfg(test)]
 mod made;
-#[cfg(test)]
-mod shown;
 #[cfg(test)]
 mod taken;

@@ -87,6 +87,11 @@ fn a_failed_write_ends_the_stream(rt: HostRuntime) {
     assert!(rt; writes_fail(rt.alloc(), Refusal::TakesNothing));
 }
 
+/// Whether a device was asked once for each of its bytes, and once for the end.
+fn was_read_once(device: &SlowReader<'_>, bytes: usize) -> bool {
+    device.calls == (bytes as u64).saturating_add(1)
+}
+
 /// Whether all replies go out by four writes where the calls come a byte at a time.
 fn writes_each(alloc: Global) -> bool {
     let Some(streams) = Streams::new(alloc) else {
@@ -94,7 +99,9 @@ fn writes_each(alloc: Global) -> bool {
     };
     let mut reader = RecordReader::new(Counting::new(SlowReader::new(&streams.calls.bytes, 0)));
     let mut writer = Counting::new(SlowWriter::new(alloc, usize::MAX, 0, Refusal::Error));
-    run_rpc(alloc, &mut reader, &mut writer) == Ok(4) && took(&writer, &streams.replies.bytes, 4, 0)
+    run_rpc(alloc, &mut reader, &mut writer) == Ok(4)
+        && was_read_once(reader.get_ref().get_ref(), streams.calls.bytes.len())
+        && took(&writer, &streams.replies.bytes, 4, 0)
 }
 
 /// A reply goes out by one write: by two, a connection would wait for the other side between them.

@@ -2,12 +2,14 @@
 //! is that of the same state read from its text; a state that several own, with memory at hand, is made,
 //! given to one more, and read.
 
-use crate::server::SUPERUSER;
-use crate::steps::none_wrong;
+use crate::state_texts::none_wrong;
 use checkpoint::{SharedState, State, read_state, renew, state_digest, state_text};
 use nfs_items::Time;
 use std::alloc::Global;
 use test_helpers::push_text;
+
+/// AUTH_SYS with a body of 24 bytes: stamp 0, the machine `m`, user 0, group 0, no further groups.
+const SUPERUSER: &str = "1 18 0 1 6d000000 0 0 0";
 
 /// What a record says before the procedure's number.
 const CALL_OF_NFS: &str = "1 0 2 186a3 2";

@@ -1,10 +1,15 @@
 //! States at each limit on messages, mounts, files, entries and blocks, and one past it.
 
 use crate::state_texts::is_given;
-use crate::steps::name;
 use checkpoint::StateFault;
 use std::alloc::Global;
 use test_helpers::{of_text, push_text, push_words};
+
+/// The bytes of a name of four, another for each number below 65,536.
+fn name(k: u32) -> u32 {
+    let nibbles = (k & 0xf) | (k & 0xf0) << 4 | (k & 0xf00) << 8 | (k & 0xf000) << 12;
+    0x40404040 | nibbles
+}
 
 /// The bytes, if all of them were appended.
 fn given(bytes: Vec<u8>, is_whole: bool) -> Option<Vec<u8>> {

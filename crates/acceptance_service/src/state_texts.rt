@@ -1,9 +1,9 @@
 //! Texts of states from outside: each is a state that is written as it was read, Garbage, or NotAState. In
 //! each row a name stands before the words of the text.
 
-use crate::steps::none_wrong;
 use checkpoint::{State, StateFault, read_state, state_digest, state_text};
 use std::alloc::Global;
+use std::process::Abort;
 use test_helpers::of_text;
 
 /// The state that the server of node 1 begins with.
@@ -168,6 +168,11 @@ fn opens(alloc: Global) -> bool {
         Ok(state) => is_known(alloc, &state, OPENING, OPENING_DIGEST),
         Err(_) => false,
     }
+}
+
+/// Asserts that nothing is wrong.
+pub fn none_wrong(rt: &impl Abort, wrong: Option<&str>) {
+    assert!(rt; wrong.is_none(), "{}", wrong.unwrap_or_default());
 }
 
 #[test]

@@ -4,7 +4,7 @@
 use crate::logs::{closing_at, segment_text};
 use authenticator::{Authenticator, Roster, check};
 use challenge::{Evidence, ReplayFault};
-use envelopes::{check_ack, check_envelope};
+use envelopes::check_envelope;
 use merkle_keys::Signer;
 use secure_log::{Log, check_segment};
 use std::alloc::Global;
@@ -185,14 +185,6 @@ fn learns_text(alloc: Global, books: &mut Books, text: &[u8], answer: Answer) ->
 pub fn challenges(alloc: Global, books: &mut Books, text: &[u8], answer: Answer) -> bool {
     match check_envelope(alloc, books.roster(), text) {
         Ok(checked) => answers(alloc, books, EventOf::SendChallenge(checked), answer),
-        Err(_) => false,
-    }
-}
-
-/// Whether an acknowledgement is answered so, by its text.
-pub fn acknowledges(alloc: Global, books: &mut Books, text: &[u8], answer: Answer) -> bool {
-    match check_ack(alloc, books.roster(), text) {
-        Ok(checked) => answers(alloc, books, EventOf::AckIn(checked), answer),
         Err(_) => false,
     }
 }

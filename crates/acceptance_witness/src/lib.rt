@@ -8,8 +8,6 @@ mod answers;
 #[cfg(test)]
 mod begun_jobs;
 #[cfg(test)]
-mod challenged;
-#[cfg(test)]
 mod crowd;
 #[cfg(test)]
 mod exposed;
@@ -22,8 +20,6 @@ mod learned;
 #[cfg(test)]
 mod logs;
 #[cfg(test)]
-mod lying;
-#[cfg(test)]
 mod meeting;
 #[cfg(test)]
 mod members;
@@ -33,7 +29,5 @@ mod others;
 mod own_jobs;
 #[cfg(test)]
 mod running;
-#[cfg(test)]
-mod strangers;
 #[cfg(test)]
 mod together;

@@ -1,13 +1,13 @@
-//! Messages and acknowledgements of a client and a server, logs made by hand, what closes them and the texts
+//! Messages of a client and a server, logs made by hand, what closes them and the texts
 //! of their segments, and packets of what is signed. Each function is small, and gives none where memory is
 //! refused.
 
 use authenticator::{Authenticator, Number, signed_digest};
-use envelopes::{Ack, Envelope};
+use envelopes::Envelope;
 use merkle_keys::Signer;
 use packets::{write_answer_text, write_challenge, write_learn};
 use secure_log::Log;
-use secure_log::log_entries::{Body, Entry, Receipt, SignatureText, message_hash, receipt_hash};
+use secure_log::log_entries::{Body, Entry, SignatureText, message_hash};
 use std::alloc::Global;
 use test_helpers::{of_words, signed};
 
@@ -98,63 +98,6 @@ pub fn recv_of(message: Envelope) -> Entry {
         prev,
         body,
         signature,
-    }
-}
-
-/// What its receiver acknowledges.
-fn receipt_of(message: &Envelope) -> Receipt {
-    Receipt {
-        from: message.from,
-        seq: message.seq,
-        sender_prev: message.prev,
-        body: message.body.digest(),
-        signature: message.signature.digest(),
-    }
-}
-
-/// The receiver's signature of this, which its log has at 1.
-fn receipt_signature(signer: &mut Signer, by: u32, receipt: &Receipt) -> Option<SignatureText> {
-    let number = Number::new(1);
-    let hash = receipt_hash(receipt, number, &[0; 32]);
-    match signer.sign(&signed_digest(by, number, &hash)) {
-        Ok(signature) => Some(SignatureText::new(signature)),
-        Err(_) => None,
-    }
-}
-
-/// The receiver's acknowledgement of a message, the first that it had.
-fn ack_of(signer: &mut Signer, message: &Envelope) -> Option<Ack> {
-    let receipt = receipt_of(message);
-    match receipt_signature(signer, message.to, &receipt) {
-        Some(signature) => Some(Ack {
-            by: message.to,
-            number: Number::new(1),
-            prev: [0; 32],
-            from: receipt.from,
-            seq: receipt.seq,
-            sender_prev: receipt.sender_prev,
-            body_hash: receipt.body,
-            signature_hash: receipt.signature,
-            signature,
-        }),
-        None => None,
-    }
-}
-
-/// An acknowledgement's text.
-fn text_of_ack(alloc: Global, ack: &Ack) -> Option<Vec<u8>> {
-    let mut text = Vec::new(alloc);
-    match ack.write(&mut text) {
-        Ok(()) => Some(text),
-        Err(_) => None,
-    }
-}
-
-/// The text of the receiver's acknowledgement of a message.
-pub fn ack_text(alloc: Global, signer: &mut Signer, message: &Envelope) -> Option<Vec<u8>> {
-    match ack_of(signer, message) {
-        Some(ack) => text_of_ack(alloc, &ack),
-        None => None,
     }
 }
 

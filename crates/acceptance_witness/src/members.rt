@@ -54,12 +54,7 @@ pub fn books_of(alloc: Global, roster: Option<Roster>) -> Option<Books> {
     }
 }
 
-/// Books of the server alone.
-pub fn server_books(alloc: Global, root: [u8; 32], height: u32) -> Option<Books> {
-    books_of(alloc, roster_of(alloc, &[server(root, height)]))
-}
-
-/// The same of both roots, under this height.
+/// Books of the server and the client with these roots, under this height.
 pub fn pair_books(alloc: Global, one: [u8; 32], two: [u8; 32], height: u32) -> Option<Books> {
     let members = [server(one, height), client(two, height)];
     books_of(alloc, roster_of(alloc, &members))

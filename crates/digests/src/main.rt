@@ -197,7 +197,10 @@ fn main(rt: HostRuntime) -> Result<()> {
     lengths_from_28(&mut reader, &mut seen);
     lengths_from_42(&mut reader, &mut seen);
     long_messages(&mut reader, &mut seen);
-    ensure!(seen.all_right, "a digest differs, or the input ends too early");
+    ensure!(
+        seen.all_right,
+        "a digest differs, or the input ends too early"
+    );
     println!(rt; "digests of all lengths from 0 to 55 and of long messages are right")?;
     Ok(())
 }
