@@ -120,7 +120,7 @@ check_reasons() {
     lacks 'no two hashes are shown at the number' "$files/case"
     changed fork 33271
     lacks 'what closes it is not signed by the node' "$files/case"
-    changed wrong_reply 111
+    changed wrong_reply 110
     lacks 'the log is not shown from its first entry on' "$files/case"
     why "nfsacc: .*: its roster is not the one that is trusted" --roster "$cases/client_clock.evidence" "$cases/fork.evidence"
     judged 1 'no evidence' --explain "$cases/fork.evidence" --roster "$cases/client_clock.evidence"

@@ -89,7 +89,7 @@ def name_of(number: int) -> bytes:
 
 
 class Rows(Stream):
-    """The calls of rows to one server, beside one at which it is always 0 o'clock."""
+    """The calls of rows to one server, beside the same server at which the time is always 0."""
 
     def __init__(self):
         super().__init__()
@@ -97,7 +97,7 @@ class Rows(Stream):
         self.who = 'nfs', text_of(CREDENTIALS['superuser'])
 
     def ask(self, words: bytes) -> bytes:
-        """Makes a call, by its procedure's number and arguments: what is owed at 0 o'clock, after the transaction."""
+        """Makes a call, by its procedure's number and arguments: what is owed at time 0, after the transaction."""
         (program, version), credential = PROGRAMS[self.who[0]], self.who[1]
         xid = word(len(self.records) + 1)
         body = xid + word(CALL, RPC_VERSION, program, version) + words[:4] + credential + word(0, 0) + words[4:]
@@ -129,7 +129,7 @@ class Rows(Stream):
         for number in range(first, end):
             words = word(len(self.records) + 1, CALL, RPC_VERSION, program, version, 9) + credential + word(0, 0)
             self.call(words + text_of('1 1 0*6') + name_of(number) + sattr)
-        # Twice as many calls would take the second verifier twice as long: at 0 o'clock the files are made at once.
+        # The second verifier would take twice as long for twice as many calls: at time 0 the files are made at once.
         self.still = copy.deepcopy(self.world)
         for file in self.still.files.files.values():
             file.atime = file.mtime = file.ctime = (0, 0)
