@@ -1,7 +1,7 @@
 #!/usr/bin/env python3
 """Writes, for each length from 0 to 55, sixteen rows of seven messages, each row with the digests of its messages by
-Python's hashlib after it; then four long messages at a time, as blocks and what is left after them. The messages are
-random, from a fixed seed; among the short ones stand the examples that FIPS 180-4 and its validation suite print, as
+Python's hashlib after it; then four long messages at a time, as blocks and what is left after them; then single
+messages of up to eighteen pieces of one length, and one of a thousand single bytes. The messages are random, from a fixed seed; among the short ones stand the examples that FIPS 180-4 and its validation suite print, as
 far as they have at most 55 bytes, and hashlib must give their printed digests."""
 import hashlib
 import random
@@ -35,6 +35,12 @@ def write_long(blocks: int, left: int) -> None:
     sys.stdout.buffer.write(b"".join(parts))
 
 
+def write_in_pieces(length: int, pieces: int) -> None:
+    """Writes a message of so many pieces of a length, and its digest."""
+    message = random.randbytes(length * pieces)
+    sys.stdout.buffer.write(message + hashlib.sha256(message).digest())
+
+
 def main() -> None:
     random.seed(34)
     for example, digest in PRINTED.items():
@@ -49,6 +55,10 @@ def main() -> None:
         for left in (0, 1, 32, 55):
             write_long(blocks, left)
     write_long(256, 1)
+    for pieces in range(19):
+        for length in (1, 7, 55, 64, 100, 255, 256, 257, 600):
+            write_in_pieces(length, pieces)
+    write_in_pieces(1, 1000)
 
 
 main()

@@ -1,4 +1,5 @@
-//! Tests of a client and a server, joined or not, of a gateway over them, and of the first steps of a machine.
+//! Tests of a client and a server, joined or not, of a gateway over them, and of the first steps of a
+//! machine.
 #![tactic(auto)]
 
 #[cfg(test)]

@@ -1,12 +1,13 @@
-//! Compares digests by lanes with those of another program. Standard input has, for each length from 0 to 55, rows of
-//! seven messages, one after the other, and after each row their digests. Then come four long messages at a time, a
-//! block of each after a block of each, what is left of each, and their digests.
+//! Compares digests by lanes with those of another program. Standard input has, for each length from 0 to 55,
+//! rows of seven messages, one after the other, and after each row their digests. Then come four long messages
+//! at a time, a block of each after a block of each, what is left of each, and their digests; then single
+//! messages, each with its digest after it.
 #![tactic(auto)]
 
 ghost use Rattle.std.specs.Prelude.{◌≤◌};
 
 use anyhow::{Result, ensure};
-use sha256_lanes::{FourMessages, digest_4, digest_row};
+use sha256_lanes::{FourMessages, OneMessage, digest_4, digest_row};
 use std::io::Read;
 
 /// The rows of each length.
@@ -17,6 +18,11 @@ const BLOCKS: u32 = 5;
 
 /// The blocks of a leaf's text, after which one byte is left.
 const LEAF_BLOCKS: u32 = 256;
+
+/// The most pieces of a single message, but for one of so many single bytes.
+const PIECES: u32 = 18;
+
+const SINGLE_BYTES: u32 = 1000;
 
 /// What was seen so far.
 #[derive(Drop)]
@@ -117,6 +123,43 @@ fn long_messages(reader: &mut impl Read, seen: &mut Seen) {
     long::<1>(reader, LEAF_BLOCKS, seen);
 }
 
+/// Whether the digest of the next message, which is taken in by pieces of a length, is the one after it.
+fn next_one_is_right<const N: usize>(reader: &mut impl Read, pieces: u32) -> Result<bool>
+    requires { N ≤ 600 }
+{
+    let mut message = OneMessage::new();
+    for _ in 0..pieces {
+        message.update(next::<N>(reader)?.as_slice());
+    }
+    let digest = message.finalize();
+    Ok(digest.as_slice() == next::<32>(reader)?.as_slice())
+}
+
+/// Compares a single message.
+fn one<const N: usize>(reader: &mut impl Read, pieces: u32, seen: &mut Seen)
+    requires { N ≤ 600 }
+{
+    if !matches!(next_one_is_right::<N>(reader, pieces), Ok(true)) {
+        seen.all_right = false;
+    }
+}
+
+/// Single messages of pieces that are shorter than what is taken in at once, as long, and longer.
+fn single_messages(reader: &mut impl Read, seen: &mut Seen) {
+    for pieces in 0..PIECES + 1 {
+        one::<1>(reader, pieces, seen);
+        one::<7>(reader, pieces, seen);
+        one::<55>(reader, pieces, seen);
+        one::<64>(reader, pieces, seen);
+        one::<100>(reader, pieces, seen);
+        one::<255>(reader, pieces, seen);
+        one::<256>(reader, pieces, seen);
+        one::<257>(reader, pieces, seen);
+        one::<600>(reader, pieces, seen);
+    }
+    one::<1>(reader, SINGLE_BYTES, seen);
+}
+
 /// The lengths from 0 to 13.
 fn lengths_from_0(reader: &mut impl Read, seen: &mut Seen) {
     rows::<0>(reader, seen);
@@ -197,10 +240,13 @@ fn main(rt: HostRuntime) -> Result<()> {
     lengths_from_28(&mut reader, &mut seen);
     lengths_from_42(&mut reader, &mut seen);
     long_messages(&mut reader, &mut seen);
+    single_messages(&mut reader, &mut seen);
     ensure!(
         seen.all_right,
         "a digest differs, or the input ends too early"
     );
-    println!(rt; "digests of all lengths from 0 to 55 and of long messages are right")?;
+    println!(rt;
+        "digests of all lengths from 0 to 55, of long messages and of single ones are right"
+    )?;
     Ok(())
 }

@@ -1,15 +1,16 @@
 -- A leaf's text and a signature's two texts, as far as the first n places: each is empty (or the byte 0) at
 -- first, grows by one place's piece, and is the whole at PLACES.
--- Serves: OneTimeKey::leaf_hash, OneTimeKey::texts, add_four, add_four_pairs, piece_hashes, shown_key
+-- Serves: OneTimeKey::leaf_hash, OneTimeKey::texts, add_four, add_four_pairs, pair, piece_hashes, shown_key
 -- (lamport).
 use Rattle.std.proofs.Common.{◌≡◌, ℕ, zero, suc, ◌+◌, ◌*◌, ◌<◌, Bool, true, false, not, cond, List, [], ◌∷◌, ◌++◌}
-use Rattle.std.proofs.Common.{take, drop, get_or, map, refl, sym, ap, ◌∙◌, append_assoc, add-one, arith}
-use Rattle.std.proofs.lemmas.List.{drop-drop}
+use Rattle.std.proofs.Common.{length, take, drop, get_or, map, refl, sym, ap, ◌∙◌, append_assoc, add-one, arith}
+use Rattle.std.proofs.lemmas.List.{append-nil, drop-drop, drop_all, drop_at, take_at}
 use Rattle.std.specs.Simd.{first_chunks}
 use Rattle.sha2.specs.Sha256.{sha256}
 use Rattle.lamport.specs.Lamport.{end_to_end, piece, LeafKey, secret, public_hash, digest_bit, leaf_text}
 use Rattle.lamport.specs.Lamport.{leaf_hash, shown_hash, shown_secrets, other_hashes}
 use Rattle.lamport.specs.declared.key.TheConstants.{PLACES}
+use borrow.Rule.Slice.PartMut.{put_mid}
 
 -- no pieces
 pub end_to_end_none : (f : ℕ → List ℕ) → end_to_end f 0 ≡ []
@@ -123,3 +124,13 @@ shown_pair digest shown other n = by_bit (digest_bit digest n) (sha256 (piece sh
         → cond b beside own ++ cond b own beside ≡ cond b (beside ++ own) (own ++ beside)
     by_bit true own beside = refl
     by_bit false own beside = refl
+
+-- two halves that are set after one another
+pub halves : (a b x y zeros : List ℕ) → length a ≡ 32 → length zeros ≡ 32 → x ≡ a → y ≡ b
+    → put_mid 32 32 (x ++ zeros) y ≡ a ++ b
+halves a b x y zeros la lz ex ey =
+    let front : take 32 (a ++ zeros) ≡ a = take_at a zeros 32 la in
+    let none : drop 32 (drop 32 (a ++ zeros)) ≡ [] = ap (drop 32) (drop_at a zeros 32 la)
+    ∙ drop_all 32 zeros (omega arith) in
+    (λ i. put_mid 32 32 (ex i ++ zeros) (ey i)) ∙ (λ i. front i ++ (b ++ none i))
+    ∙ ap (λ (l : List ℕ). a ++ l) (append-nil b)

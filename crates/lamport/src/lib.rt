@@ -12,4 +12,5 @@ mod shown;
 pub use buffers::TextBuffers;
 pub use key::{OneTimeKey, OneTimeSignature, PLACES, TEXT_SIZE};
 pub use keys::LeafKeys;
+pub use sha256_lanes::OneMessage;
 pub use shown::shown_key;

@@ -2,14 +2,13 @@
 
 ghost use Rattle.std.specs.Prelude.{◌≡◌, ℕ, ◌+◌, ◌*◌, ◌<◌, ◌≤◌, Bool, false, true, List, [], ◌∷◌, ◌++◌, length};
 ghost use Rattle.std.specs.Prelude.{if◌then◌else◌, slice_index_or};
-ghost use Rattle.sha2.specs.Hashers.{Holds256};
 ghost use Rattle.sha2.specs.Sha256.{sha256};
+ghost use Rattle.sha256_lanes.specs.OneMessage.{HoldsMessage};
 ghost use Rattle.lamport.specs.Fours.{four, four_bits};
 ghost use Rattle.lamport.specs.Lamport.{digest_bit, end_to_end, leaf_hash, shown_hash, piece};
 
 use crate::key::{PLACES, TEXT_SIZE};
-use sha2::{Digest, Sha256};
-use sha256_lanes::digest_row;
+use sha256_lanes::{OneMessage, digest_row};
 
 /// The bit of a digest at a place: place 0 is the highest bit of the first byte.
 pub(crate) fn digest_bit(digest: &[u8; 32], place: u32) -> bool
@@ -37,7 +36,8 @@ pub(crate) fn four_digest_bits(digest: &[u8; 32], first: u32) -> [bool; 4]
 #[tactic(auto, unfolding(crate::specs::Lamport::piece))]
 fn piece(bytes: &[u8], place: usize) -> &[u8]
     requires { 32 * place + 32 ≤ length bytes.now }
-    ensures { result.now ≡ piece bytes.now place }
+    ensures size { length result.now ≡ 32 }
+    ensures bytes { result.now ≡ piece bytes.now place }
 {
     &bytes[32 * place..32 * place + 32]
 }
@@ -55,11 +55,11 @@ fn piece_hashes(bytes: &[u8]) -> [[u8; 32]; 256]
 }
 
 /// Adds the public hashes of four places to a leaf's text, of each place value 0 before 1.
-pub(crate) fn add_four_pairs(text: &mut Sha256, zeros: &[[u8; 32]; 4], ones: &[[u8; 32]; 4])
+pub(crate) fn add_four_pairs(text: &mut OneMessage, zeros: &[[u8; 32]; 4], ones: &[[u8; 32]; 4])
     ensures { (hash : ℕ → Bool → List ℕ) (n : ℕ) →
         zeros.now ≡ four (λ place. hash place false) n → ones.now ≡ four (λ place. hash place true) n →
-        Holds256 text.old (0 ∷ end_to_end (λ place. hash place false ++ hash place true) n) →
-        Holds256 text.new (0 ∷ end_to_end (λ place. hash place false ++ hash place true) (n + 4)) }
+        HoldsMessage text.old (0 ∷ end_to_end (λ place. hash place false ++ hash place true) n) →
+        HoldsMessage text.new (0 ∷ end_to_end (λ place. hash place false ++ hash place true) (n + 4)) }
 {
     add_pair(text, &zeros[0], &ones[0]);
     add_pair(text, &zeros[1], &ones[1]);
@@ -67,34 +67,44 @@ pub(crate) fn add_four_pairs(text: &mut Sha256, zeros: &[[u8; 32]; 4], ones: &[[
     add_pair(text, &zeros[3], &ones[3]);
 }
 
-/// Adds two hashes to a leaf's text.
-fn add_pair(text: &mut Sha256, zero: &[u8; 32], one: &[u8; 32])
-    ensures { (m : List ℕ) → Holds256 text.old m → Holds256 text.new (m ++ (zero.now ++ one.now)) }
+/// Two hashes, one after the other.
+fn pair(first: &[u8], second: &[u8]) -> [u8; 64]
+    requires first { length first.now ≡ 32 }
+    requires second { length second.now ≡ 32 }
+    ensures { result ≡ first.now ++ second.now }
 {
-    text.update(zero);
-    text.update(one);
+    let mut both = [0u8; 64];
+    both[..32].copy_from_slice(first);
+    both[32..].copy_from_slice(second);
+    both
+}
+
+/// Adds two hashes to a leaf's text.
+fn add_pair(text: &mut OneMessage, zero: &[u8; 32], one: &[u8; 32])
+    ensures { (m : List ℕ) → HoldsMessage text.old m → HoldsMessage text.new (m ++ (zero.now ++ one.now)) }
+{
+    text.update(&pair(zero, one));
 }
 
 /// Adds both public hashes of a place to a leaf's text, value 0 before 1: `shown` is the digest's own bit's.
-fn add_place(text: &mut Sha256, bit: bool, shown: &[u8; 32], other: &[u8])
-    ensures { (m : List ℕ) → Holds256 text.old m →
-        Holds256 text.new (m ++ (if bit then other.now ++ shown.now else shown.now ++ other.now)) }
+fn add_place(text: &mut OneMessage, bit: bool, shown: &[u8; 32], other: &[u8])
+    requires { length other.now ≡ 32 }
+    ensures { (m : List ℕ) → HoldsMessage text.old m →
+        HoldsMessage text.new (m ++ (if bit then other.now ++ shown.now else shown.now ++ other.now)) }
 {
     if bit {
-        text.update(other);
-        text.update(shown);
+        text.update(&pair(other, shown));
     } else {
-        text.update(shown);
-        text.update(other);
+        text.update(&pair(shown, other));
     }
 }
 
 /// A leaf's text before its first place: the byte 0.
-pub(crate) fn leaf_start() -> Sha256
-    ensures { Holds256 result (0 ∷ []) }
+pub(crate) fn leaf_start() -> OneMessage
+    ensures { HoldsMessage result (0 ∷ []) }
 {
-    let mut text = Sha256::new();
-    text.update([0u8]);
+    let mut text = OneMessage::new();
+    text.update(&[0u8]);
     text
 }
 

@@ -1,6 +1,8 @@
--- The parts of a signature have a spelling.
--- Serves: add_fields, by it Signature::write (merkle_keys).
-use Rattle.std.proofs.Common.{◌≡◌, ℕ, suc, ◌^◌, ◌<◌, ◌≤◌, List, [], ◌∷◌, length, get_or, arith}
+-- The parts of a signature have a spelling, and stand one after the other in its text.
+-- Serves: add_fields, by it Signature::write; Signature::text_digest (merkle_keys).
+use Rattle.std.proofs.Common.{◌≡◌, ℕ, suc, ◌^◌, ◌<◌, ◌≤◌, List, [], ◌∷◌, ◌++◌, length, get_or, sym, ◌∙◌}
+use Rattle.std.proofs.Common.{append_assoc, arith}
+use Rattle.std.proofs.lemmas.List.{append-nil}
 use Rattle.std.specs.List.{AllByRecursion}
 use Rattle.lamport.specs.declared.key.TheConstants.{TEXT_SIZE}
 use Rattle.xdr.specs.Item.{Fits}
@@ -19,3 +21,11 @@ pub parts_fit : (leaf : ℕ) (shown other : List ℕ) (path : List (List ℕ)) �
     → ((i : ℕ) → i < length path → length (get_or path i []) ≡ 32)
     → Fits signature_item (leaf, (shown, (other, path)))
 parts_fit leaf shown other path a b c few each = (a, (b, (c, (omega arith, few, each_fits path each))))
+
+-- parts that are taken in one by one are the whole text
+pub one_by_one : (a b d e leaf shown other path : List ℕ) → a ≡ leaf → b ≡ shown → d ≡ other → e ≡ path
+    → ((([] ++ a) ++ b) ++ d) ++ e ≡ leaf ++ ((shown ++ []) ++ ((other ++ []) ++ path))
+one_by_one a b d e leaf shown other path ea eb ed ee =
+    let texts = λ (s o : List ℕ). leaf ++ (s ++ (o ++ path)) in
+    (λ i. (((ea i) ++ (eb i)) ++ (ed i)) ++ (ee i)) ∙ append_assoc (leaf ++ shown) other path
+    ∙ append_assoc leaf shown (other ++ path) ∙ (λ i. texts (sym (append-nil shown) i) (sym (append-nil other) i))

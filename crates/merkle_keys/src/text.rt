@@ -3,7 +3,7 @@
 ghost use Rattle.std.specs.Prelude.{◌≡◌, ◌≤◌, ◌++◌, ℕ, List, length, IfOk};
 ghost use Rattle.std.specs.List.{flat_map};
 ghost use Rattle.sha2.specs.Sha256.{sha256};
-ghost use Rattle.sha2.specs.Hashers.{Holds256};
+ghost use Rattle.lamport.specs.sha256_lanes.OneMessage.{HoldsMessage};
 ghost use Rattle.xdr.specs.Item.{Fits, Value, fixed, array, spelling};
 ghost use Rattle.xdr.specs.Reading.{GivesUnless, ReadsUnless};
 ghost use Rattle.xdr.specs.ReadFault.{xdr_fault};
@@ -11,8 +11,7 @@ ghost use Rattle.xdr.specs.Writing.{Writes, Adds};
 ghost use Rattle.merkle_keys.specs.Signing.{signature_item, signature_value};
 
 use crate::signature::{MAX_HEIGHT, Signature};
-use lamport::TEXT_SIZE;
-use sha2::{Digest, Sha256};
+use lamport::{OneMessage, TEXT_SIZE};
 use std::alloc::{AllocError, Global};
 use xdr::{FromXdr, ReadFault, Reader, Writer, XdrFault, all_or_nothing, put_back_on_err};
 
@@ -88,7 +87,8 @@ impl Signature {
     pub fn text_digest(&self) -> [u8; 32]
         ensures { result ≡ sha256 (spelling signature_item (signature_value self.now)) }
     {
-        let mut text = Sha256::new_with_prefix(self.leaf.to_be_bytes());
+        let mut text = OneMessage::new();
+        text.update(&self.leaf.to_be_bytes());
         text.update(&self.shown);
         text.update(&self.other);
         hash_path(&self.path, &mut text);
@@ -98,19 +98,19 @@ impl Signature {
 
 /// Adds the text of a path to what is hashed.
 #[tactic(auto, unfolding(xdr::specs::Item::number_spelling))]
-fn hash_path(path: &[[u8; 32]], text: &mut Sha256)
+fn hash_path(path: &[[u8; 32]], text: &mut OneMessage)
     requires { length path.now ≤ MAX_HEIGHT }
-    ensures { (front : List ℕ) → Holds256 text.old front →
-        Holds256 text.new (front ++ spelling (array MAX_HEIGHT (fixed 32)) path.now) }
+    ensures { (front : List ℕ) → HoldsMessage text.old front →
+        HoldsMessage text.new (front ++ spelling (array MAX_HEIGHT (fixed 32)) path.now) }
 {
-    text.update((path.len() as u32).to_be_bytes());
+    text.update(&(path.len() as u32).to_be_bytes());
     hash_each(path, text);
 }
 
 /// Adds hashes to what is hashed.
-fn hash_each(path: &[[u8; 32]], text: &mut Sha256)
-    ensures { (front : List ℕ) → Holds256 text.old front →
-        Holds256 text.new (front ++ flat_map (spelling (fixed 32)) path.now) }
+fn hash_each(path: &[[u8; 32]], text: &mut OneMessage)
+    ensures { (front : List ℕ) → HoldsMessage text.old front →
+        HoldsMessage text.new (front ++ flat_map (spelling (fixed 32)) path.now) }
 {
     for hash in path {
         text.update(hash);

@@ -2,7 +2,7 @@
 
 use crate::time::Time;
 use std::alloc::AllocError;
-use xdr::Writer;
+use xdr::{Writer, all_or_nothing};
 
 /// What a file is (RFC 1094, section 2.3.2, ftype), of the kinds that this server has.
 #[derive(Clone, Copy, Debug, PartialEq, Eq)]
@@ -38,7 +38,8 @@ pub struct Fattr {
 
 impl Fattr {
     ghost use Rattle.std.specs.Prelude.{◌-◌, vec_len, vec_capacity};
-    ghost use Rattle.xdr.specs.Writing.{Writes, Spends};
+    ghost use Rattle.xdr.specs.Item.{spelling};
+    ghost use Rattle.xdr.specs.Writing.{Adds, Writes, Spends};
     ghost use Rattle.nfs_items.specs.Attributes.{fattr, fattr_value};
 
     /// Appends the attributes, 68 bytes. Where memory is refused, the bytes stay as they were.
@@ -47,8 +48,20 @@ impl Fattr {
         ensures room { Spends 68 (vec_capacity out.old - vec_len out.old)
             result (vec_capacity out.new - vec_len out.new) }
     {
+        let start = out.len();
+        let written = self.add(out);
+        all_or_nothing(out, start, written)
+    }
+
+    /// Appends the attributes as far as memory allows. The words after the type stand in this order here, so
+    /// they are taken over as they are: with the type in front of them they would have to be moved first.
+    fn add(&self, out: &mut Vec<u8>) -> Result<(), AllocError>
+        ensures text { Adds (spelling fattr (fattr_value self.now)) out.old.items result out.new.items }
+        ensures room { Spends 68 (vec_capacity out.old - vec_len out.old)
+            result (vec_capacity out.new - vec_len out.new) }
+    {
+        out.put_u32(self.file_type as u32)?;
         out.put_u32s(&[
-            self.file_type as u32,
             self.mode,
             self.nlink,
             self.uid,

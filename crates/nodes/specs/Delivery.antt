@@ -82,7 +82,8 @@ MayReceive s time bytes e (Err NoMemory) s' = s' ≡ s
 MayReceive s time bytes e (Err Failed) s' = (s' ≡ s) × IsRefused s bytes e
 
 -- A client is handed an envelope by its text: KeysUsedUp only where no key is left.
-abbrev pub MayTake : NodeParts → (bytes : List ℕ) → Envelope → Result (Unit {0}) LinkFault → NodeParts → Type 0
+abbrev pub MayTake : NodeParts → (bytes : List ℕ) → Envelope → Result (Unit {0}) LinkFault → NodeParts
+    → Type 0
 MayTake c bytes e (Ok x) c' = (¬ LacksKeys 1 c) × (c' ≡ with_receipt c e)
 MayTake c bytes e (Err KeysUsedUp) c' = LacksKeys 1 c × (c' ≡ c)
 MayTake c bytes e (Err NoMemory) c' = c' ≡ c

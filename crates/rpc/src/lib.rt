@@ -9,4 +9,4 @@ pub mod records;
 mod reply;
 
 pub use call::{Call, CallBody, CallFault, Header, OpaqueAuth, RPC_VERSION, read_call};
-pub use reply::{AuthStat, Reply, ReplyBody, write_reply};
+pub use reply::{AuthStat, Reply, ReplyBody, write_reply, write_success};

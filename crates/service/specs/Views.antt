@@ -13,10 +13,10 @@ use Rattle.service.specs.declared.checks.ServedArgs.{ServedArgs}
 use Rattle.service.specs.declared.checks.ServedArgs.TheVariants as code
 use Rattle.service.specs.Replies.{OrRefusal, ServedCall, Nfs, Mount}
 
--- the caller that the program's value says, or the refusal
-abbrev pub view_of_caller : Result Who ReplyBody → OrRefusal Caller
-view_of_caller (Ok who) = Ok (caller_of who)
-view_of_caller (Err body) = Err body
+-- the caller that was set, or the refusal
+abbrev pub view_of_caller : Who → Result (Unit {0}) ReplyBody → OrRefusal Caller
+view_of_caller who (Ok x) = Ok (caller_of who)
+view_of_caller who (Err body) = Err body
 
 -- the name of a caller's machine, where it gave one, has at most MNTNAMLEN bytes (RFC 1094, section A.3)
 abbrev pub HasShortName : Who → Type 0
@@ -32,10 +32,10 @@ abbrev pub view_of_served : Result ServedArgs ReplyBody → OrRefusal ServedCall
 view_of_served (Ok args) = Ok (served_of args)
 view_of_served (Err body) = Err body
 
--- both together
-abbrev pub view_of_call : Result (Who × ServedArgs) ReplyBody → OrRefusal (Caller × ServedCall)
-view_of_call (Ok (who, args)) = Ok (caller_of who, served_of args)
-view_of_call (Err body) = Err body
+-- the caller that was set with the call, or the refusal
+abbrev pub view_of_call : Who → Result ServedArgs ReplyBody → OrRefusal (Caller × ServedCall)
+view_of_call who (Ok args) = Ok (caller_of who, served_of args)
+view_of_call who (Err body) = Err body
 
 -- the arguments are within the bounds of what is read from bytes
 abbrev pub IsBounded : ServedArgs → Type 0

@@ -1,6 +1,8 @@
 //! The checks of a call, in their order.
 
-ghost use Rattle.std.specs.Prelude.{◌≡◌, IfOk};
+ghost use Rattle.std.specs.Prelude.{◌≡◌, IfOk, OnOk};
+ghost use Rattle.nfs_procs.specs.nfs_items.Caller.{nobody};
+ghost use Rattle.nfs_procs.specs.nfs_items.CallerOf.{caller_of};
 ghost use Rattle.rpc.specs.CallValues.{header_of};
 ghost use Rattle.nfs_procs.specs.nfs_items.Credentials.{caller_in};
 ghost use Rattle.service.specs.Replies.{caller_or_refusal, caller_at, version_served, wants_machine};
@@ -38,26 +40,29 @@ pub enum ServedArgs<'a> {
     Mount(MountArgs<'a>),
 }
 
-/// The caller that the body of an AUTH_SYS credential says; a body that says none is a bad credential.
-fn sys_caller(body: &[u8]) -> Result<Who<'_>, ReplyBody>
-    ensures caller { view_of_caller result ≡ caller_or_refusal (caller_in body.now) }
-    ensures name { IfOk result HasShortName }
+/// Sets the caller that the body of an AUTH_SYS credential says; a body that says none is a bad credential.
+fn sys_caller<'a>(body: &'a [u8], who: &mut Who<'a>) -> Result<(), ReplyBody>
+    ensures caller { view_of_caller who.new result ≡ caller_or_refusal (caller_in body.now) }
+    ensures name { OnOk result (HasShortName who.new) }
 {
-    let Some(who) = read_credential(body) else {
+    let Some(says) = read_credential(body) else {
         return Err(ReplyBody::AuthError(AuthStat::BadCredential));
     };
-    Ok(who)
+    *who = says;
+    Ok(())
 }
 
-/// The caller that a credential stands for: AUTH_NONE, whatever its body; AUTH_SYS by its body; every other
-/// flavor is rejected.
-fn caller<'a>(credential: &OpaqueAuth<'a>) -> Result<Who<'a>, ReplyBody>
-    ensures caller { view_of_caller result ≡ caller_at credential.now.flavor credential.now.body.now }
-    ensures name { IfOk result HasShortName }
+/// Sets the caller that a credential stands for, where it was nobody: AUTH_NONE, whatever its body; AUTH_SYS by
+/// its body; every other flavor is rejected.
+fn set_caller<'a>(credential: &OpaqueAuth<'a>, who: &mut Who<'a>) -> Result<(), ReplyBody>
+    requires nobody { caller_of who.old ≡ nobody }
+    requires name { HasShortName who.old }
+    ensures caller { view_of_caller who.new result ≡ caller_at credential.now.flavor credential.now.body.now }
+    ensures name { OnOk result (HasShortName who.new) }
 {
     match credential.flavor {
-        AUTH_NONE => Ok(Who::nobody()),
-        AUTH_SYS => sys_caller(credential.body),
+        AUTH_NONE => Ok(()),
+        AUTH_SYS => sys_caller(credential.body, who),
         _ => Err(ReplyBody::AuthError(AuthStat::RejectedCredential)),
     }
 }
@@ -138,18 +143,19 @@ fn check_program<'a>(header: &Header<'a>, arguments: &'a [u8]) -> Result<ServedA
     }
 }
 
-/// The caller, and the procedure with its arguments, or the reply by the first check that fails.
+/// The procedure with its arguments, and in `who`, where it was nobody, the caller; or the reply by the first
+/// check that fails.
 pub fn check_call<'a>(
     header: &Header<'a>,
     arguments: &'a [u8],
-) -> Result<(Who<'a>, ServedArgs<'a>), ReplyBody>
-    ensures call { view_of_call result ≡ call_or_refusal (header_of header.now) arguments.now }
-    ensures bounds { IfOk result (λ x. IsBounded x.1) }
-    ensures name { IfOk result (λ x. HasShortName x.0) }
+    who: &mut Who<'a>,
+) -> Result<ServedArgs<'a>, ReplyBody>
+    requires nobody { caller_of who.old ≡ nobody }
+    requires name { HasShortName who.old }
+    ensures call { view_of_call who.new result ≡ call_or_refusal (header_of header.now) arguments.now }
+    ensures bounds { IfOk result IsBounded }
+    ensures name { OnOk result (HasShortName who.new) }
 {
-    let who = caller(&header.credential)?;
-    match check_program(header, arguments) {
-        Ok(args) => Ok((who, args)),
-        Err(body) => Err(body),
-    }
+    set_caller(&header.credential, who)?;
+    check_program(header, arguments)
 }

@@ -19,7 +19,7 @@ ghost use Rattle.service.specs.Views.{served_of, view_of_call, HasShortName, IsB
 use crate::checks::{ServedArgs, check_call};
 use mount::{MountTable, Tree, mount_call};
 use nfs_procs::{Time, Who, nfs_call};
-use rpc::{Call, CallBody, Reply, ReplyBody, read_call, write_reply};
+use rpc::{Call, CallBody, Reply, ReplyBody, read_call, write_reply, write_success};
 use std::alloc::{AllocError, Global};
 use std::marker::Model;
 
@@ -214,23 +214,24 @@ fn answer_call(
     mounts: &mut MountTable,
     now: Time,
     xid: u32,
-    checked: Result<(Who, ServedArgs), ReplyBody>,
+    who: &Who,
+    checked: &Result<ServedArgs, ReplyBody>,
 ) -> Result<(), AllocError>
-    requires bounds { IfOk checked (λ x. IsBounded x.1) }
-    requires name { IfOk checked (λ x. HasShortName x.0) }
+    requires bounds { IfOk checked.now IsBounded }
+    requires name { OnOk checked.now (HasShortName who.now) }
     ensures text { OnOk result (out.new.items ≡ out.old.items
-        ++ (call_reply (world_of tree.old now mounts.old) xid (view_of_call checked.entry)).0) }
+        ++ (call_reply (world_of tree.old now mounts.old) xid (view_of_call who.now checked.now)).0) }
     ensures world { OnOk result (world_of tree.new now mounts.new
-        ≡ (call_reply (world_of tree.old now mounts.old) xid (view_of_call checked.entry)).1) }
+        ≡ (call_reply (world_of tree.old now mounts.old) xid (view_of_call who.now checked.now)).1) }
     ensures err { OnErr result (world_of tree.new now mounts.new ≡ world_of tree.old now mounts.old) }
     ensures front { OnErr result (StartsWith out.new.items out.old.items) }
 {
     match checked {
-        Ok((who, args)) => {
-            add_bare_reply(out, xid, ReplyBody::Success)?;
-            add_results(alloc, out, tree, mounts, now, &who, &args)
+        Ok(args) => {
+            write_success(xid, out)?;
+            add_results(alloc, out, tree, mounts, now, who, args)
         }
-        Err(body) => add_bare_reply(out, xid, body),
+        Err(body) => add_bare_reply(out, xid, *body),
     }
 }
 
@@ -261,8 +262,9 @@ fn reply_to(
             },
         ),
         CallBody::Version2(header, arguments) => {
-            let checked = check_call(&header, arguments);
-            answer_call(alloc, out, tree, mounts, now, call.xid, checked)
+            let mut who = Who::nobody();
+            let checked = check_call(&header, arguments, &mut who);
+            answer_call(alloc, out, tree, mounts, now, call.xid, &who, &checked)
         }
     }
 }

@@ -145,8 +145,8 @@ fn server_of(alloc: Global, roster: &Roster, keyed: Keyed) -> Result<HonestServe
     made(HonestServer::new(server))
 }
 
-/// What was made. Its type is a parameter, and so is that of what comes back where it wasn't, so that the proof
-/// knows nothing of what they own.
+/// What was made. Its type is a parameter, and so is that of what comes back where it wasn't, so that the
+/// proof knows nothing of what they own.
 fn made<T: Drop, E: Drop>(outcome: Result<T, E>) -> Result<T, ServeFault> {
     match outcome {
         Ok(value) => Ok(value),

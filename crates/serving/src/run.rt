@@ -94,7 +94,7 @@ struct Served {
 
 /// The nodes and the passes of a run that was told.
 #[derive(Drop)]
-struct Told {
+struct Parts {
     server: ServerNode,
     clients: Vec<ClientNode>,
     passes: Vec<Pass>,
@@ -353,7 +353,7 @@ fn finish<R, O, D>(
     writer: &mut O,
     last: Pass,
     served: Served,
-) -> Result<Told, ServeFault>
+) -> Result<Parts, ServeFault>
 where
     R: Threads + Wait + Sync,
     O: Write,
@@ -423,10 +423,10 @@ impl Served {
 }
 
 /// The nodes that were served, and all passes, of which one is the last.
-fn told_of(alloc: Global, served: Served, last: Pass) -> Result<Told, ServeFault> {
+fn told_of(alloc: Global, served: Served, last: Pass) -> Result<Parts, ServeFault> {
     let Served { server, ended } = served;
     match paired(server, parted(alloc, ended, last)) {
-        Ok((server, (clients, passes))) => Ok(Told {
+        Ok((server, (clients, passes))) => Ok(Parts {
             server,
             clients,
             passes,

@@ -1,5 +1,5 @@
 -- A block's message schedule word by word, and the rounds one by one.
--- Serves: set_eight_words, schedule, eight_rounds.
+-- Serves: set_eight_words, schedule, eight_rounds, eight_lane_rounds.
 use Rattle.std.proofs.Common.{◌≡◌, ◌≢◌, ℕ, ◌+◌, ◌-◌, ◌*◌, ◌<◌, ◌≤◌, List, length, slice_index, slice_set}
 use Rattle.std.proofs.Common.{sym, ap, ◌∙◌, arith, inl, inr}
 use Rattle.std.proofs.lemmas.List.{get_or-set_same, get_or-set_other, length-set}

@@ -1,9 +1,9 @@
 -- The hash values of four lanes, while one after the other is set.
--- Serves: hash_values.
+-- Serves: hash_values, schedules.
 use Rattle.std.proofs.Common.{◌≡◌, ◌≢◌, ℕ, ◌+◌, ◌*◌, ◌%◌, ◌<◌, List, length, slice_index, sym, ◌∙◌, ap, arith}
 use Rattle.std.proofs.lemmas.Grind.{same_number_lists}
 use Rattle.sha2.specs.Sha256.{compress}
-use Rattle.sha256_lanes.specs.Lanes.{IsHashOf, KeepsOthers}
+use Rattle.sha256_lanes.specs.Lanes.{HasSums, IsHashOf, KeepsOthers}
 
 -- a lane has one hash value
 same_hash : (l : ℕ) (g h words : List ℕ) → length g ≡ 8 → length h ≡ 8 → IsHashOf g words l
@@ -26,3 +26,9 @@ set_lane l own h b next before after so sh lo lh is set =
     let same : next ≡ compress h b = is
     ∙ ap (λ (g : List ℕ). compress g b) (same_hash l own h before so sh lo lh) in
     λ k low. set k low ∙ ap (λ (g : List ℕ). slice_index g k) same
+
+-- setting lane n keeps the sums of lane l
+pub kept_sums : (l n size : ℕ) (w before after : List ℕ) → l < 4 → l ≢ n → KeepsOthers n before after
+    → HasSums w before l size → HasSums w after l size
+kept_sums l n size w before after lane other kept held =
+    λ k low. let apart : (4 * k + l) % 4 ≢ n = omega arith in kept (4 * k + l) apart ∙ held k low

@@ -2,3 +2,5 @@ mod BlockRounds
 mod OneBlock
 mod DigestRows
 mod HashLanes
+mod Choice
+mod PieceByPiece

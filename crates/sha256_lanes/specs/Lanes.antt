@@ -1,6 +1,6 @@
 -- Four messages side by side: word i of lane l stands at place 4 * i + l of a list of words.
 use Rattle.std.specs.Prelude.{◌≡◌, ◌≢◌, ℕ, ◌+◌, ◌*◌, ◌%◌, ◌<◌, List, length, slice_index}
-use Rattle.sha2.specs.Sha256.{schedule, word_at}
+use Rattle.sha2.specs.Sha256.{add32, round_constants, schedule, word_at}
 
 -- the first t of these 64 words are those of the message schedule of the block b
 pub record HasWords (b w : List ℕ) (t : ℕ) : Type 0 where
@@ -19,3 +19,8 @@ IsHashOf h words l = (k : ℕ) → k < 8 → slice_index words (4 * k + l) ≡ s
 -- the words of all other lanes are as before
 abbrev pub KeepsOthers : ℕ → List ℕ → List ℕ → Type 0
 KeepsOthers l before after = (k : ℕ) → k % 4 ≢ l → slice_index after k ≡ slice_index before k
+
+-- the first n words of lane l are the sums of K t and the words of w
+abbrev pub HasSums : List ℕ → List ℕ → ℕ → ℕ → Type 0
+HasSums w sums l n = (t : ℕ) → t < n
+    → slice_index sums (4 * t + l) ≡ add32 (slice_index round_constants t) (slice_index w t)

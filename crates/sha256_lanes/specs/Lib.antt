@@ -1,3 +1,4 @@
 pub mod Lanes
 pub mod Rows
 pub mod LongMessages
+pub mod OneMessage

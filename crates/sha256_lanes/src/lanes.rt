@@ -9,7 +9,7 @@ use crate::rounds::hash_value;
 
 /// The block's words of a lane, in the first sixteen places of a schedule.
 #[inline(always)]
-fn block_words(words: &[u32; 64], l: usize) -> [u32; 64]
+pub(crate) fn block_words(words: &[u32; 64], l: usize) -> [u32; 64]
     requires { l < 4 }
     ensures { (k : ℕ) → k < 16 → slice_index result k ≡ slice_index words.now (4 * k + l) }
 {

@@ -2,19 +2,19 @@
 //! over lanes around it runs on vectors.
 
 ghost use Rattle.std.specs.Prelude.{◌≡◌, ℕ, ◌+◌, ◌*◌, ◌<◌, ◌≤◌, List, slice_index, slice_set};
-ghost use Rattle.sha2.specs.Sha256.{add_state, big_sigma0, big_sigma1, ch, compress, maj};
+ghost use Rattle.sha2.specs.Sha256.{add32, add_state, big_sigma0, big_sigma1, ch, compress, maj};
 ghost use Rattle.sha2.specs.Sha256.{next_word, round, round_constants, rounds, schedule, small_sigma0};
 ghost use Rattle.sha2.specs.Sha256.{small_sigma1, temp1, temp2, word_at};
 ghost use Rattle.sha256_lanes.specs.Lanes.{HasWords};
 
 use crate::constants::ROUND_CONSTANTS;
 
-/// Ch (4.1.2).
+/// Ch (4.1.2), in one operation less than there.
 #[inline(always)]
 fn ch(x: u32, y: u32, z: u32) -> u32
     ensures { result ≡ ch x y z }
 {
-    (x & y) ^ (!x & z)
+    z ^ (x & (y ^ z))
 }
 
 /// Maj (4.1.2).
@@ -72,7 +72,7 @@ fn set_word(w: &mut [u32; 64], t: usize)
 
 /// Sets eight words from W_t on.
 #[inline(always)]
-fn set_eight_words(w: &mut [u32; 64], t: usize)
+pub(crate) fn set_eight_words(w: &mut [u32; 64], t: usize)
     requires low { 16 ≤ t }
     requires high { t + 8 ≤ 64 }
     ensures { (b : List ℕ) → HasWords b w.old t → HasWords b w.new (t + 8) }
@@ -87,7 +87,8 @@ fn set_eight_words(w: &mut [u32; 64], t: usize)
     set_word(w, t + 7);
 }
 
-/// The message schedule of a block, whose words stand in the first sixteen places (step 1).
+/// The message schedule of a block, whose words stand in the first sixteen places (step 1). Only one function
+/// may call it: so it is inlined there.
 #[inline(always)]
 fn schedule(words: [u32; 64]) -> [u32; 64]
     ensures { (b : List ℕ) → ((k : ℕ) → k < 16 → slice_index words k ≡ word_at b (4 * k))
@@ -122,13 +123,11 @@ fn temp2(v: &[u32; 8]) -> u32
     big_sigma0(v[0]).wrapping_add(maj(v[0], v[1], v[2]))
 }
 
-/// Round t on the working variables a to h (step 3).
+/// The working variables a to h after a round, from T_1 of the round (step 3).
 #[inline(always)]
-fn round(w: &[u32; 64], v: [u32; 8], t: usize) -> [u32; 8]
-    requires { t < 64 }
-    ensures { result ≡ round v (slice_index round_constants t) (slice_index w.now t) }
+fn round_from(v: [u32; 8], t1: u32) -> [u32; 8]
+    ensures { (k word : ℕ) → t1 ≡ temp1 v k word → result ≡ round v k word }
 {
-    let t1 = temp1(&v, ROUND_CONSTANTS[t], w[t]);
     let t2 = temp2(&v);
     [
         t1.wrapping_add(t2),
@@ -140,6 +139,27 @@ fn round(w: &[u32; 64], v: [u32; 8], t: usize) -> [u32; 8]
         v[5],
         v[6],
     ]
+}
+
+/// Round t on the working variables.
+#[inline(always)]
+fn round(w: &[u32; 64], v: [u32; 8], t: usize) -> [u32; 8]
+    requires { t < 64 }
+    ensures { result ≡ round v (slice_index round_constants t) (slice_index w.now t) }
+{
+    round_from(v, temp1(&v, ROUND_CONSTANTS[t], w[t]))
+}
+
+/// A round with the sum of K_t and W_t.
+#[inline(always)]
+pub(crate) fn round_with_sum(v: [u32; 8], sum: u32) -> [u32; 8]
+    ensures { (k word : ℕ) → sum ≡ add32 k word → result ≡ round v k word }
+{
+    let t1 = v[7]
+        .wrapping_add(big_sigma1(v[4]))
+        .wrapping_add(ch(v[4], v[5], v[6]))
+        .wrapping_add(sum);
+    round_from(v, t1)
 }
 
 /// Eight rounds from round t on, after which each working variable has been each of the eight.
@@ -176,7 +196,7 @@ fn all_rounds(hash: [u32; 8], w: &[u32; 64]) -> [u32; 8]
 
 /// The sum of a hash value and the working variables (step 4).
 #[inline(always)]
-fn add_hash(hash: [u32; 8], v: [u32; 8]) -> [u32; 8]
+pub(crate) fn add_hash(hash: [u32; 8], v: [u32; 8]) -> [u32; 8]
     ensures { result ≡ add_state hash v }
 {
     [

@@ -47,7 +47,8 @@ impl Replayed {
 impl<R: Threads + Wait + Sync> Caller<'_, R> {
     /// Begins each segment that these nodes gave, in their order, has so many workers replay them at once,
     /// and files what they found: that of each node comes back, in the same order. A node that gave none is
-    /// passed over. `AllocError` comes where memory ran out: a job that wasn't done is then put back.
+    /// passed over. `AllocError` comes where memory ran out: a job that wasn't done is then put back. Where
+    /// memory is refused for that too it is discarded, and its node's book waits for it for good.
     pub fn replay(&mut self, nodes: &[u32], workers: usize) -> Result<Vec<Replayed>, AllocError>
         requires some { 1 ≤ workers }
         requires most { workers ≤ 16 }
@@ -104,7 +105,7 @@ impl<R: Threads + Wait + Sync> Caller<'_, R> {
         }
     }
 
-    /// Puts a job back into its book.
+    /// Puts a job back into its book. Where memory is refused the job is discarded.
     fn put_back(&mut self, job: ReplayJob) {
         let _ = Said::of(self.step(EventOf::PutBack(job)));
     }

@@ -1,5 +1,5 @@
 use Rattle.std.proofs.Common.{◌≡◌, ℕ, ◌+◌, true, false, List, [], ◌∷◌, ◌++◌, get_or, ap, sym, ◌∙◌, subst}
-use Rattle.sha2.specs.Hashers.{Holds256}
+use Rattle.sha256_lanes.specs.OneMessage.{HoldsMessage}
 use Rattle.lamport.specs.Lamport.{end_to_end}
 use Rattle.lamport.proofs.LeafTexts.{end_to_end_four}
 use Rattle.lamport.proofs.shown.add_four_pairs.Goals as goal
@@ -20,4 +20,4 @@ returns c = λ hash n zeros ones held.
     let whole : (((so_far ++ pair 0) ++ pair 1) ++ pair 2) ++ pair 3 ≡ 0 ∷ end_to_end both (n + 4) =
     (λ i. (((so_far ++ is0 i) ++ is1 i) ++ is2 i) ++ is3 i)
     ∙ sym (ap (λ (l : List ℕ). 0 ∷ l) (end_to_end_four both n)) in
-    subst (λ (m : List ℕ). Holds256 c.add_pair-4.new.text m) whole added
+    subst (λ (m : List ℕ). HoldsMessage c.add_pair-4.new.text m) whole added

@@ -15,7 +15,7 @@ loop-place-preserved c =
       append_assoc,
       shown_pair,
       ← c.digest_bit-bit.ensures,
-      ← c.piece.ensures,
+      ← c.piece.ensures.bytes,
       ← hash,
     ) whole
 

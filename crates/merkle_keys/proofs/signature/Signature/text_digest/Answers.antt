@@ -1,0 +1,16 @@
+use Rattle.std.proofs.Common.{[], ap, ◌∙◌}
+use Rattle.sha2.specs.Sha256.{sha256}
+use Rattle.xdr.specs.Item.{array, fixed, number_spelling, spelling}
+use Rattle.merkle_keys.specs.declared.signature.TheConstants.{MAX_HEIGHT}
+use Rattle.merkle_keys.proofs.SignatureTexts.{one_by_one}
+use Rattle.merkle_keys.proofs.signature.Signature.text_digest.Goals as goal
+
+-- the parts of the text, one after the other
+pub returns : goal.returns
+unfolding number_spelling
+returns c =
+    let leaf = c.update.ensures [] c.new-text.ensures in
+    let other = c.update-3.ensures _ (c.update-2.ensures _ leaf) in
+    let path = ap (spelling (array MAX_HEIGHT (fixed 32))) c.deref-3.ensures.value in
+    rw (← c.self.view_is) (c.finalize.ensures _ (c.hash_path.ensures _ other)
+    ∙ ap sha256 (one_by_one _ _ _ _ _ _ _ _ c.to_be_bytes.ensures c.deref.ensures.value c.deref-2.ensures.value path))

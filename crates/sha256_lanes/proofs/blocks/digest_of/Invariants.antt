@@ -1,0 +1,9 @@
+use Rattle.std.proofs.Common.{◌≡◌, ◌*◌, length, take}
+use Rattle.sha2.specs.Sha256.{digest_bytes}
+use Rattle.sha256_lanes.proofs.blocks.digest_of.Given as goal
+
+abbrev pub invariant-words : goal.invariant-words
+invariant-words l = record {
+  size : length l.bytes ≡ 32;
+  written : take (4 * l.i) l.bytes ≡ digest_bytes l.hash l.i;
+}
