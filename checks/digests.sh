@@ -1,8 +1,8 @@
 #!/usr/bin/env bash
 # Digests by lanes beside another implementation: of messages of each length from 0 to 55, of long ones with up to five
-# blocks or a leaf's length, and of single ones in pieces, which checks/digests/messages.py makes with their digests by Python's hashlib, with the
-# standard's printed examples among them. The program of crates/digests reads them. It tries the programs that the gate
-# left there, one for each compiler; where none is there, rt run makes one.
+# blocks or a leaf's length, and of single ones in pieces. checks/digests/messages.py makes them with their digests by
+# Python's hashlib, with the standard's printed examples among them. The program of crates/digests reads them. It tries
+# the programs that the gate left there, one for each compiler; where none is there, rt run makes one.
 set -euo pipefail
 cd "$(dirname "$0")/.."
 . checks/scratch_crate.sh

@@ -1,8 +1,9 @@
 #!/usr/bin/env python3
 """Writes, for each length from 0 to 55, sixteen rows of seven messages, each row with the digests of its messages by
 Python's hashlib after it; then four long messages at a time, as blocks and what is left after them; then single
-messages of up to eighteen pieces of one length, and one of a thousand single bytes. The messages are random, from a fixed seed; among the short ones stand the examples that FIPS 180-4 and its validation suite print, as
-far as they have at most 55 bytes, and hashlib must give their printed digests."""
+messages of up to eighteen pieces of one length, and one of a thousand single bytes. The messages are random, from a
+fixed seed; among the short ones stand the examples that FIPS 180-4 and its validation suite print, as far as they have
+at most 55 bytes, and hashlib must give their printed digests."""
 import hashlib
 import random
 import sys

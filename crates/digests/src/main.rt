@@ -1,7 +1,7 @@
 //! Compares digests by lanes with those of another program. Standard input has, for each length from 0 to 55,
-//! rows of seven messages, one after the other, and after each row their digests. Then come four long messages
-//! at a time, a block of each after a block of each, what is left of each, and their digests; then single
-//! messages, each with its digest after it.
+//! rows of seven messages, one after the other, and after each row their digests. Then come four long
+//! messages at a time, a block of each after a block of each, what is left of each, and their digests; then
+//! single messages, each with its digest after it.
 #![tactic(auto)]
 
 ghost use Rattle.std.specs.Prelude.{◌≤◌};
@@ -19,9 +19,10 @@ const BLOCKS: u32 = 5;
 /// The blocks of a leaf's text, after which one byte is left.
 const LEAF_BLOCKS: u32 = 256;
 
-/// The most pieces of a single message, but for one of so many single bytes.
+/// The most pieces of a single message, but for one of single bytes.
 const PIECES: u32 = 18;
 
+/// The pieces of the message whose pieces are single bytes.
 const SINGLE_BYTES: u32 = 1000;
 
 /// What was seen so far.
