@@ -1,5 +1,5 @@
-//! The first steps of a server's and a client's machine. What replays find is compared with a second verifier,
-//! from outside (`checks/verify.sh`).
+//! The first steps of a server's and a client's machine. What replays find is compared with a second
+//! verifier, from outside (`checks/verify.sh`).
 
 use authenticator::{Kind, Member, Number, Roster};
 use replay::{FreeMachine, Machine, ReplayFault, ServerMachine, StepFault, opening_state};

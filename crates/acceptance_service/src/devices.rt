@@ -110,18 +110,18 @@ fn a_reply_is_one_write(rt: HostRuntime) {
     assert!(rt; writes_each(rt.alloc()));
 }
 
-/// Whether all replies go out by three writes where all calls are at hand.
+/// Whether all replies go out by two writes where all calls are at hand.
 fn writes_together(alloc: Global) -> bool {
     let Some(streams) = Streams::new(alloc) else {
         return false;
     };
     let mut reader = RecordReader::new(Counting::new(streams.calls.bytes.as_slice()));
     let mut writer = Counting::new(SlowWriter::new(alloc, usize::MAX, 0, Refusal::Error));
-    run_rpc(alloc, &mut reader, &mut writer) == Ok(4) && took(&writer, &streams.replies.bytes, 3, 0)
+    run_rpc(alloc, &mut reader, &mut writer) == Ok(4) && took(&writer, &streams.replies.bytes, 2, 0)
 }
 
-/// What is owed to records at hand goes out together: the first two are read by themselves, since the second
-/// is in two fragments.
+/// What is owed to a record and to those at hand after it goes out together: the first goes out alone, since the
+/// second is in two fragments, and so isn't answered where it lies.
 #[test]
 fn replies_to_records_at_hand_are_one_write(rt: HostRuntime) {
     assert!(rt; writes_together(rt.alloc()));

@@ -110,7 +110,7 @@ impl Tree {
         let given = Given::of(attributes, now);
         let body = Body::Directory {
             parent: dir,
-            listing: Directory::new(alloc),
+            listing: Directory::new(alloc)?,
         };
         self.make(
             alloc,

@@ -32,7 +32,7 @@ pub fn root_inode(alloc: Global) -> Result<Inode, AllocError>
     ensures nlink { IfOk result (λ inode. inode.nlink ≡ 2) }
     ensures parent { IfOk result (λ inode. KeepsParent inode.body 1) }
 {
-    let mut listing = Directory::new(alloc);
+    let mut listing = Directory::new(alloc)?;
     listing.put(b"hello".to_vec(alloc)?, 2)?;
     Ok(first_inode(0o777, 2, Body::Directory { parent: 1, listing }))
 }

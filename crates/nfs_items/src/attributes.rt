@@ -43,6 +43,7 @@ impl Fattr {
     ghost use Rattle.nfs_items.specs.Attributes.{fattr, fattr_value};
 
     /// Appends the attributes, 68 bytes. Where memory is refused, the bytes stay as they were.
+    #[inline(always)]
     pub fn write(&self, out: &mut Vec<u8>) -> Result<(), AllocError>
         ensures writes { Writes fattr (fattr_value self.now) out.old.items result out.new.items }
         ensures room { Spends 68 (vec_capacity out.old - vec_len out.old)

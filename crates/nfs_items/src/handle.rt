@@ -49,6 +49,7 @@ impl FileHandle {
     }
 
     /// Appends the file handle. Where memory is refused, the bytes stay as they were.
+    #[inline(always)]
     pub fn write(&self, out: &mut Vec<u8>) -> Result<(), AllocError>
         ensures writes { Writes fhandle self.now.0 out.old.items result out.new.items }
         ensures room { Spends 32 (vec_capacity out.old - vec_len out.old)

@@ -27,7 +27,7 @@ use commitment::{Received, Refusal};
 use gateway::links::LinkFault;
 use nfs_items::Time;
 use node_logs::{AckTaken, NodeLog, Receipt};
-use secure_log::log_entries::Body;
+use secure_log::log_entries::{Body, SignatureText};
 use std::alloc::Global;
 
 /// A refusal as a fault of the link. What is made by one node is refused by the other only when it is out of
@@ -87,6 +87,14 @@ pub(crate) fn write_envelope(
     }
 }
 
+/// The signature of the SEND with a number, if one stands there, to be handed on beside its envelope's text.
+pub(crate) fn signature_of(node: &NodeLog, number: Number) -> Option<&SignatureText> {
+    match node.envelope(number.get()) {
+        Some(envelope) => Some(envelope.signature),
+        None => None,
+    }
+}
+
 /// Writes the text of the acknowledgement that the RECV with a number makes, as `write_envelope`.
 pub(crate) fn write_ack(node: &NodeLog, number: Number, text: &mut Vec<u8>) -> Result<(), LinkFault>
     ensures written { (a : Ack) → ack_at (sender_of node.now) number ≡ Some a →
@@ -119,12 +127,14 @@ pub(crate) fn body_of(node: &NodeLog, number: Number, alloc: Global) -> Result<V
     }
 }
 
-/// The server receives an envelope's text, which is to be new to it: of another, `Failed`.
+/// The server receives an envelope's text, which is to be new to it: of another, `Failed`. For `shown`, see
+/// `ServerNode::receive_shown`.
 pub(crate) fn receive(
     server: &mut ServerNode,
     alloc: Global,
     time: Time,
     text: &[u8],
+    shown: Option<&SignatureText>,
 ) -> Result<Receipt, LinkFault>
     ensures receives { (e : Envelope) → Finds (receiver_of server.old) text.now e None →
         ReceivesNew server.old time e result server.new }
@@ -135,7 +145,7 @@ pub(crate) fn receive(
     ensures strayed { server.new.strayed ≡ server.old.strayed }
     ensures sender { IsSender (sender_of server.new) }
 {
-    let received = server.receive(alloc, time, text);
+    let received = server.receive_shown(alloc, time, text, shown);
     server.node().is_honest();
     match received {
         Ok(Received::New(receipt)) => Ok(receipt),
@@ -144,11 +154,13 @@ pub(crate) fn receive(
     }
 }
 
-/// The client takes a reply's text, which is to be new to it: of another, `Failed`.
+/// The client takes a reply's text, which is to be new to it: of another, `Failed`. For `shown`, see
+/// `ClientNode::take_shown`.
 pub(crate) fn take_reply(
     client: &mut ClientNode,
     alloc: Global,
     text: &[u8],
+    shown: Option<&SignatureText>,
 ) -> Result<(), LinkFault>
     ensures takes { (e : Envelope) → Finds (receiver_of client.old) text.now e None →
         TakesNew client.old e result client.new }
@@ -156,7 +168,7 @@ pub(crate) fn take_reply(
         MayTake client.old text.now e result client.new }
     ensures sender { IsSender (sender_of client.new) }
 {
-    let taken = client.take_reply(alloc, text);
+    let taken = client.take_shown(alloc, text, shown);
     client.node().is_honest();
     match taken {
         Ok(received) => match received {
@@ -209,7 +221,8 @@ pub(crate) fn deliver_call(
     ensures sender { OnOk result (IsSender (sender_of server.new)) }
 {
     write_envelope(client.node(), number, text)?;
-    receive(server, alloc, time, text)
+    let shown = signature_of(client.node(), number);
+    receive(server, alloc, time, text, shown)
 }
 
 /// Hands the envelope of the server's SEND with a number to the client.
@@ -227,7 +240,8 @@ pub(crate) fn deliver_reply(
     ensures sender { OnOk result (IsSender (sender_of client.new)) }
 {
     write_envelope(server.node(), number, text)?;
-    take_reply(client, alloc, text)
+    let shown = signature_of(server.node(), number);
+    take_reply(client, alloc, text, shown)
 }
 
 /// Hands the acknowledgement that the server's RECV with a number makes to the client.

@@ -16,6 +16,7 @@ use crate::server::ServerNode;
 use crate::sides::answer;
 use gateway::links::LinkFault;
 use nfs_items::Time;
+use secure_log::log_entries::SignatureText;
 use std::alloc::Global;
 use std::marker::Model;
 
@@ -75,12 +76,13 @@ impl HonestServer {
     /// were: its acknowledgement's text, and that of its reply's envelope, if one is owed. Gives the reply's
     /// body, which is the one owed. The server stays one that hasn't strayed. `KeysUsedUp` comes only where
     /// fewer than two keys are left, `NoMemory` only where a growth was refused, `Failed` only where the
-    /// message isn't new to the server, or refused by it.
+    /// message isn't new to the server, or refused by it. For `shown`, see `ServerNode::receive_shown`.
     pub(crate) fn answer(
         &mut self,
         alloc: Global,
         time: Time,
         call: &[u8],
+        shown: Option<&SignatureText>,
         ack: &mut Vec<u8>,
         reply: &mut Vec<u8>,
     ) -> Result<Option<Vec<u8>>, LinkFault>
@@ -96,7 +98,7 @@ impl HonestServer {
         ensures size { IfOk result (λ r. IfSome r (λ v. length v.items ≤ MAX_BODY)) }
     {
         self.server.node().is_honest();
-        let result = answer(&mut self.server, alloc, time, call, ack, reply);
+        let result = answer(&mut self.server, alloc, time, call, shown, ack, reply);
         self.server.node().is_honest();
         result
     }

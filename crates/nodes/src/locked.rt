@@ -8,7 +8,7 @@ ghost use Rattle.nodes.specs.Shareds.{IsCalled, StopsCalling};
 ghost use Rattle.nodes.specs.Sides.{IsAskedOf, IsEnvelopeText, IsReturnedAs, StopsReturning};
 
 use crate::client::ClientNode;
-use crate::deliver::take_ack;
+use crate::deliver::{last_number, signature_of, take_ack};
 use crate::honest::HonestServer;
 use crate::sides::{receive_reply, send_text};
 use gateway::links::LinkFault;
@@ -73,9 +73,15 @@ fn ask<R: Wait>(
     ensures size { IfOk result (λ r. IfSome r (λ v. length v.items ≤ MAX_BODY)) }
 {
     send_text(client, to, alloc, bytes, &mut texts.call)?;
-    let answered = server
-        .lock(rt)
-        .answer(alloc, time, &texts.call, &mut texts.ack, &mut texts.reply);
+    let shown = signature_of(client.node(), last_number(client.node()));
+    let answered = server.lock(rt).answer(
+        alloc,
+        time,
+        &texts.call,
+        shown,
+        &mut texts.ack,
+        &mut texts.reply,
+    );
     let reply = match answered {
         Ok(reply) => reply,
         Err(fault) => return Err(fault),

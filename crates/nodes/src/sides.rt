@@ -17,6 +17,7 @@ use authenticator::Number;
 use gateway::links::LinkFault;
 use nfs_items::Time;
 use node_logs::NodeLog;
+use secure_log::log_entries::SignatureText;
 use std::alloc::Global;
 
 /// The client sends a body of at most 12,288 bytes to a node, and the text of its envelope is written, in
@@ -70,12 +71,13 @@ fn write_answer(
 /// bytes were: its acknowledgement's text, and the text of its reply's envelope, if one is owed. Gives the
 /// reply's body, which is the one owed unless the server was told to lie. `KeysUsedUp` comes only where fewer
 /// than two keys are left, `NoMemory` only where a growth was refused, `Failed` only where the message isn't
-/// new to the server, or refused by it.
+/// new to the server, or refused by it. For `shown`, see `ServerNode::receive_shown`.
 pub(crate) fn answer(
     server: &mut ServerNode,
     alloc: Global,
     time: Time,
     call: &[u8],
+    shown: Option<&SignatureText>,
     ack: &mut Vec<u8>,
     reply: &mut Vec<u8>,
 ) -> Result<Option<Vec<u8>>, LinkFault>
@@ -89,7 +91,7 @@ pub(crate) fn answer(
         StopsAnswering server.old time e call.now f server.new) }
     ensures size { IfOk result (λ r. IfSome r (λ v. length v.items ≤ MAX_BODY)) }
 {
-    let receipt = receive(server, alloc, time, call)?;
+    let receipt = receive(server, alloc, time, call, shown)?;
     write_answer(server.node(), receipt.ack, receipt.reply, alloc, ack, reply)
 }
 
@@ -107,6 +109,6 @@ pub(crate) fn receive_reply(
     ensures stops { (e : Envelope) → IsEnvelopeText e reply.now → IfErr result (λ f.
         StopsReceiving client.old e reply.now f client.new) }
 {
-    take_reply(client, alloc, reply)?;
+    take_reply(client, alloc, reply, None)?;
     write_ack(client.node(), last_number(client.node()), ack)
 }

@@ -142,7 +142,8 @@ pub fn write_reply(reply: &Reply, out: &mut Vec<u8>) -> Result<(), AllocError>
     put_words(reply, out)
 }
 
-/// Appends the reply to a call that was done, before its results, as `write_reply` appends one with `Success`.
+/// Appends the reply to a call that was done, before its results, as `write_reply` appends one with
+/// `Success`.
 #[tactic(auto, using(crate::proofs::Replies::says_words))]
 pub fn write_success(xid: u32, out: &mut Vec<u8>) -> Result<(), AllocError>
     ensures { Appends (reply_text (record { xid = xid; body = ReplyBody.Success }))

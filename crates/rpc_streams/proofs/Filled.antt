@@ -97,45 +97,45 @@ length-ends_from w k a h (r ∷ rs) =
 -- ---- a batch that is filled
 
 -- the records so far end after so many bytes
-pub record Filled (w : World) (k : ℕ) (w' : World) (bytes replies : List ℕ) (ends : List End)
+pub record Filled (w : World) (k : ℕ) (w' : World) (held bytes replies : List ℕ) (ends : List End)
     (taken : ℕ) : Type 0 where
   -- the records so far, with their replies and ends, are a batch
-  pub batch : IsBatch w k w' bytes replies ends
+  pub batch : IsBatch w k w' held bytes replies ends
   -- so many bytes are their text
   pub taken_is : taken ≡ length (whole_text batch.records)
 
 -- there is an end for each
-pub counted : {w : World} {k : ℕ} {w' : World} {bytes replies : List ℕ} {ends : List End}
-    (b : IsBatch w k w' bytes replies ends) → length ends ≡ length b.records
-counted {w = w} {k = k} b = ap length b.ends_are ∙ length-ends_from w k 0 0 b.records
+pub counted : {w : World} {k : ℕ} {w' : World} {held bytes replies : List ℕ} {ends : List End}
+    (b : IsBatch w k w' held bytes replies ends) → length ends ≡ length b.records
+counted {w = w} {k = k} {held = held} b =
+    ap length b.ends_are ∙ length-ends_from w k 0 (length held) b.records
 
 -- before the first record a batch is filled by none
-pub nothing : (w : World) (k : ℕ) (bytes replies : List ℕ) (ends : List End) → replies ≡ [] → ends ≡ []
-    → Filled w k w bytes replies ends 0
-nothing w k bytes replies ends e f = record {
+pub nothing : (w : World) (k : ℕ) (bytes replies : List ℕ) (ends : List End) → ends ≡ []
+    → Filled w k w replies bytes replies ends 0
+nothing w k bytes replies ends f = record {
   batch = record {
     records = [];
     more = bytes;
     fit = tt;
     bytes_are = refl;
     world_is = refl;
-    replies_are =
-        e;
+    replies_are = sym (append-nil replies);
     ends_are = f;
   };
   taken_is = refl;
 }
 
 -- one more record in front of the rest, with its reply and its end, fills a batch further
-pub one_more : {w w' w'' : World} {k taken : ℕ} {bytes replies replies' : List ℕ} {ends : List End}
+pub one_more : {w w' w'' : World} {k taken : ℕ} {held bytes replies replies' : List ℕ} {ends : List End}
     (r : List ℕ) (taken' owed : ℕ)
-    → Filled w k w' bytes replies ends taken → IsInFront r (drop taken bytes)
+    → Filled w k w' held bytes replies ends taken → IsInFront r (drop taken bytes)
     → w'' ≡ world_after w' (time_of (k + length ends)) r
     → replies' ≡ replies ++ record_of (reply_owed w' (time_of (k + length ends)) r)
     → taken' ≡ taken + (4 + length r) → owed ≡ length replies'
-    → Filled w k w'' bytes replies' (ends ++ record { taken = taken'; owed = owed } ∷ []) taken'
-one_more {w = w} {w' = w'} {k = k} {taken = taken} {bytes = bytes} {replies = replies} {replies' =
-    replies'} r taken' owed f front next grown e size =
+    → Filled w k w'' held bytes replies' (ends ++ record { taken = taken'; owed = owed } ∷ []) taken'
+one_more {w = w} {w' = w'} {k = k} {taken = taken} {held = held} {bytes = bytes} {replies =
+    replies} {replies' = replies'} r taken' owed f front next grown e size =
     let b = f.batch in
     let text : List ℕ = whole_text b.records in
     let more_is : b.more ≡ fragment true r ++ front.1 =
@@ -146,11 +146,18 @@ one_more {w = w} {w' = w'} {k = k} {taken = taken} {bytes = bytes} {replies = re
     let next' : _ ≡ world_after (world_from w k b.records) (time_of (k + length b.records)) r =
     rw (n, b.world_is) at next in
     let grown' : replies' ≡ replies ++ owed_now = rw (n, b.world_is) at grown in
-    let replies_now : replies' ≡ owed_from w k b.records ++ owed_now =
-    grown' ∙ ap (λ (t : List ℕ). t ++ owed_now) b.replies_are in
-    let ends_now = ends_from-push w k 0 0 b.records r taken' owed
+    let owed_before : List ℕ = owed_from w k b.records in
+    let replies_now : replies' ≡ held ++ (owed_before ++ owed_now) =
+    grown' ∙ ap (λ (t : List ℕ). t ++ owed_now) b.replies_are ∙ append_assoc held owed_before owed_now in
+    let ends_now = ends_from-push w k 0 (length held) b.records r taken' owed
     (omega (arith, e, f.taken_is, length-fragment r))
-    (omega (arith, size, ap length replies_now, length-append (owed_from w k b.records) owed_now)) in
+    (omega (
+      arith,
+      size,
+      ap length replies_now,
+      length-append held (owed_before ++ owed_now),
+      length-append owed_before owed_now,
+    )) in
     record {
       batch = record {
         records = b.records ++ r ∷ [];
@@ -160,7 +167,8 @@ one_more {w = w} {w' = w'} {k = k} {taken = taken} {bytes = bytes} {replies = re
             ∙ sym (append_assoc text (fragment true r) front.1)
             ∙ ap (λ (t : List ℕ). t ++ front.1) (sym (whole_text-push b.records r));
         world_is = next' ∙ sym (world_from-push w k b.records r);
-        replies_are = replies_now ∙ sym (owed_from-push w k b.records r);
+        replies_are =
+            replies_now ∙ ap (λ (t : List ℕ). held ++ t) (sym (owed_from-push w k b.records r));
         ends_are = ap (λ (es : List End). es ++ record { taken = taken'; owed = owed } ∷ []) b.ends_are
             ∙ sym ends_now;
       };

@@ -20,7 +20,8 @@ use Rattle.record_streams.proofs.StreamProgress.{ReadsRecord}
 use Rattle.worlds.specs.World.{World, opening_world}
 use Rattle.service.specs.Replies.{reply_owed, world_after}
 use Rattle.service.specs.Owed.{record_of, world_after_all}
-use Rattle.rpc_streams.specs.Batches.{owed_from, world_from, AnswersRecords, AnswersAndStops, StopsAfter}
+use Rattle.rpc_streams.specs.Batches.{owed_from, world_from, AfterHeld, AnswersRecords, AnswersAndStops}
+use Rattle.rpc_streams.specs.Batches.{StopsAfter, StopsWithHeld}
 use Rattle.rpc_streams.proofs.InTurn.{owed_from-push, world_from-push, owed_from-append, world_from-append}
 use Rattle.rpc_streams.specs.RunRpc.{time_of, text_owed, SaysNothing}
 
@@ -256,3 +257,55 @@ leaves_off_after {e = e} {k = k} {before = before} {mid' = mid'} {written_before
         (record { device = λ d. wrote; memory = λ m. absurd cc; is_either = inl refl }) fresh
     by faults.RecordTooLong never = absurd never
     by faults.EndInRecord never = absurd never
+
+-- ---- a record was read and answered, its reply held, and those at hand answered after it
+
+-- a device isn't memory
+other : {e : RecordFault} → e ≡ faults.Device → e ≡ faults.NoMemory → ⊥
+other refl m = absurd cc
+
+-- memory was refused for it: what was written
+pub refused_one : {now : World} {k : ℕ} {before mid mid' written_before written : Option (List ℕ)}
+    {more r : List ℕ}
+    → Progress now k before mid written_before written → ReadsRecord mid mid' more r
+    → IfSome before (λ input. EndsWith faults.NoMemory text_owed input written_before written)
+refused_one p reads = streams.stays p
+
+-- memory was refused for it: what was taken
+pub leaves_off_refused : {now : World} {k : ℕ} {before mid mid' written_before written : Option (List ℕ)}
+    {more r : List ℕ} (failed : Option RecordFault)
+    → Progress now k before mid written_before written → ReadsRecord mid mid' more r → failed ≡ None
+    → LeavesOff faults.NoMemory failed text_owed SaysNothing before mid' written_before written
+leaves_off_refused failed p reads fresh =
+    leaves_off_answering failed p reads
+    (record { device = λ d. absurd cc; memory = λ m. refl; is_either = inr refl }) fresh
+
+-- it stopped: what was written
+pub stops_with_held : {e : RecordFault} {now next : World} {k : ℕ}
+    {before mid mid' mid'' written_before written written' : Option (List ℕ)} {more r : List ℕ}
+    → Progress now k before mid written_before written
+    → ReadsRecord mid mid' more r → next ≡ world_after now (time_of k) r
+    → StopsWithHeld e next (k + 1) (record_of (reply_owed now (time_of k) r)) mid' mid'' written written'
+    → IfSome before (λ input. EndsWith e text_owed input written_before written')
+stops_with_held p reads next (inl (device, (taken, wrote))) =
+    unanswered p reads (record {
+      device = λ d. wrote;
+      memory = λ m. absurd (other device m);
+      is_either =
+          inl device;
+    })
+stops_with_held p reads next (inr (between, (wrote, stopped))) = stops_behind (pushes p reads next wrote) stopped
+
+-- it stopped: what was taken
+pub leaves_off_with_held : {e : RecordFault} {now next : World} {k : ℕ}
+    {before mid mid' mid'' written_before written written' : Option (List ℕ)} {more r : List ℕ}
+    (failed : Option RecordFault) → failed ≡ None
+    → Progress now k before mid written_before written
+    → ReadsRecord mid mid' more r → next ≡ world_after now (time_of k) r
+    → StopsWithHeld e next (k + 1) (record_of (reply_owed now (time_of k) r)) mid' mid'' written written'
+    → LeavesOff e failed text_owed SaysNothing before mid'' written_before written'
+leaves_off_with_held failed fresh p reads next (inl (device, (taken, wrote))) =
+    rw taken (leaves_off_answering failed p reads
+    (record { device = λ d. wrote; memory = λ m. absurd (other device m); is_either = inl device }) fresh)
+leaves_off_with_held failed fresh p reads next (inr (between, (wrote, stopped))) =
+    leaves_off_after failed fresh (pushes p reads next wrote) stopped

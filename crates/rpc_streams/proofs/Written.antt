@@ -10,6 +10,7 @@ use Rattle.std.proofs.lemmas.Bool.{ltb-true, ltb-false, le-ltb}
 use Rattle.std.proofs.lemmas.List.Concat.{flat_map-cons, flat_map-append}
 use lib.Seq.{take-add, take-append-le}
 use Rattle.rpc.specs.Records.Record.{fragment}
+use Rattle.rpc.specs.Records.Writing.{WritesFront}
 use Rattle.rpc.specs.declared.records.fault.RecordFault.TheVariants as faults
 use Rattle.rpc.specs.declared.records.record.TheConstants.{MAX_RECORD}
 use Rattle.worlds.specs.World.{World}
@@ -17,7 +18,7 @@ use Rattle.service.specs.Replies.{reply_owed, world_after}
 use Rattle.service.specs.Owed.{record_of}
 use Rattle.rpc_streams.specs.RunRpc.{time_of}
 use Rattle.rpc_streams.specs.Batches.{owed_from, world_from, whole_text, ends_from, taken_by, IsBatch}
-use Rattle.rpc_streams.specs.Batches.{AnswersRecords, AnswersAndStops}
+use Rattle.rpc_streams.specs.Batches.{AfterHeld, AnswersRecords, AnswersAndStops}
 use Rattle.rpc_streams.specs.declared.batch.End.{End}
 use Rattle.rpc_streams.proofs.InTurn.{owed_from-append, owed_from-push}
 use Rattle.rpc_streams.proofs.Filled.{one_fragment, are_records, whole_text-push, counted}
@@ -63,11 +64,11 @@ within_all w k a h (r ∷ rs) n =
     by false e ih = rw e (omega (arith, text_more r rs, ih))
 
 -- the records whose replies were written end within the bytes
-pub within : {w w' : World} {k : ℕ} {bytes replies : List ℕ} {ends : List End} (n : ℕ)
-    → IsBatch w k w' bytes replies ends → taken_by n 0 ends ≤ length bytes
-within {w = w} {k = k} n b =
-    let few : taken_by n 0 (ends_from w k 0 0 b.records) ≤ 0 + length (whole_text b.records) =
-    within_all w k 0 0 b.records n in
+pub within : {w w' : World} {k : ℕ} {held bytes replies : List ℕ} {ends : List End} (n : ℕ)
+    → IsBatch w k w' held bytes replies ends → taken_by n 0 ends ≤ length bytes
+within {w = w} {k = k} {held = held} n b =
+    let few : taken_by n 0 (ends_from w k 0 (length held) b.records) ≤ 0 + length (whole_text b.records) =
+    within_all w k 0 (length held) b.records n in
     rw b.ends_are (omega (arith, few, ap length b.bytes_are, length-append (whole_text b.records) b.more))
 
 -- all, where all replies were written
@@ -140,19 +141,25 @@ split_at w k a h n (r ∷ rs) from to =
 -- ---- what was done
 
 -- all replies were written
-pub whole_batch : {w w' : World} {k : ℕ} {bytes replies : List ℕ} {ends : List End}
+pub whole_batch : {w w' : World} {k : ℕ} {held bytes replies : List ℕ} {ends : List End}
     (left left' before after : Option (List ℕ)) (n : ℕ)
-    → IsBatch w k w' bytes replies ends → length replies ≤ n
+    → IsBatch w k w' held bytes replies ends → length replies ≤ n
     → Consumes left left' (take (taken_by n 0 ends) bytes) → Appends before after (take n replies)
-    → AnswersRecords w k w' (length ends) left left' before after
-whole_batch {w = w} {k = k} {bytes = bytes} {replies = replies} left left' before after n b all taken wrote =
+    → AfterHeld held before (λ written. AnswersRecords w k w' (length ends) left left' written after)
+whole_batch {w = w} {w' = w'} {k = k} {held = held} {bytes = bytes} {replies = replies} {ends =
+    ends} left left' before after n b all taken wrote =
     let text : List ℕ = whole_text b.records in
-    let owed : length replies ≡ length (owed_from w k b.records) = ap length b.replies_are in
-    let size : taken_by n 0 (ends_from w k 0 0 b.records) ≡ 0 + length text =
-    taken_all w k 0 0 b.records n (omega (arith, owed, all)) in
-    let size' : length text ≡ taken_by n 0 (ends_from w k 0 0 b.records) = omega (arith, size) in
-    let front : take (taken_by n 0 (ends_from w k 0 0 b.records)) bytes ≡ text =
-    ap (take (taken_by n 0 (ends_from w k 0 0 b.records))) b.bytes_are ∙ take_at text b.more _ size' in
+    let h : ℕ = length held in
+    let owed : length replies ≡ h + length (owed_from w k b.records) =
+    ap length b.replies_are ∙ length-append held (owed_from w k b.records) in
+    let size : taken_by n 0 (ends_from w k 0 h b.records) ≡ 0 + length text =
+    taken_all w k 0 h b.records n (omega (arith, owed, all)) in
+    let size' : length text ≡ taken_by n 0 (ends_from w k 0 h b.records) = omega (arith, size) in
+    let front : take (taken_by n 0 (ends_from w k 0 h b.records)) bytes ≡ text =
+    ap (take (taken_by n 0 (ends_from w k 0 h b.records))) b.bytes_are ∙ take_at text b.more _ size' in
+    let writes = in_two_writes before after held (owed_from w k b.records)
+    (subst (Appends before after) (take_all n replies all ∙ b.replies_are) wrote) in
+    let answered : AnswersRecords w k w' (length ends) left left' writes.0 after =
     record {
       records = b.records;
       text = text;
@@ -160,8 +167,8 @@ whole_batch {w = w} {k = k} {bytes = bytes} {replies = replies} left left' befor
       count_is = sym (counted b);
       taken = subst (Consumes left left') front (rw b.ends_are at taken);
       world_is = b.world_is;
-      written = subst (Appends before after) (take_all n replies all ∙ b.replies_are) wrote;
-    }
+      written = writes.2;
+    } in (writes.0, (writes.1, answered))
 
 all_parts : (P : List ℕ → Type 0) (rs : List (List ℕ)) (r : List ℕ) (ss : List (List ℕ))
     → AllByRecursion P (rs ++ r ∷ ss) → AllByRecursion P rs × P r
@@ -179,22 +186,30 @@ front_of n m whole first second others e sum few =
     )
     (ap (λ (t : List ℕ). first ++ t) (take-append-le m second others few)))
 
+-- what was held, and then two parts
+after_held : (held first second whole rest : List ℕ) → whole ≡ held ++ rest → rest ≡ first ++ second
+    → whole ≡ (held ++ first) ++ second
+after_held held first second whole rest e f = e ∙ rw f (sym (append_assoc held first second))
+
 -- a beginning of them, but not all
-pub part_of_batch : {w w' : World} {k : ℕ} {bytes replies : List ℕ} {ends : List End}
+pub part_of_batch : {w w' : World} {k : ℕ} {held bytes replies : List ℕ} {ends : List End}
     (left left' before after : Option (List ℕ)) (n : ℕ)
-    → IsBatch w k w' bytes replies ends → n < length replies
+    → IsBatch w k w' held bytes replies ends → length held ≤ n → n < length replies
     → Consumes left left' (take (taken_by n 0 ends) bytes) → Appends before after (take n replies)
-    → AnswersAndStops faults.Device w k left left' before after
-part_of_batch {w = w} {k = k} {bytes = bytes} {replies =
-    replies} left left' before after n b some taken wrote =
-    let s : Split w k 0 0 n b.records =
-    split_at w k 0 0 n b.records (omega arith) (omega (arith, some, ap length b.replies_are)) in
+    → AfterHeld held before (λ written. AnswersAndStops faults.Device w k left left' written after)
+part_of_batch {w = w} {k = k} {held = held} {bytes = bytes} {replies =
+    replies} left left' before after n b past some taken wrote =
+    let h : ℕ = length held in
+    let all_owed : length replies ≡ h + length (owed_from w k b.records) =
+    ap length b.replies_are ∙ length-append held (owed_from w k b.records) in
+    let s : Split w k 0 h n b.records =
+    split_at w k 0 h n b.records past (omega (arith, some, all_owed)) in
     let first : List ℕ = whole_text s.answered in
     let text : List ℕ = fragment true s.last in
     let now : World = world_from w k s.answered in
     let reply : List ℕ = record_of (reply_owed now (time_of (k + length s.answered)) s.last) in
     let owed : List ℕ = owed_from w k s.answered in
-    let m : ℕ = n - length owed in
+    let m : ℕ = n - (h + length owed) in
     let few : m < length reply =
     omega (
       arith,
@@ -212,21 +227,26 @@ part_of_batch {w = w} {k = k} {bytes = bytes} {replies =
     ∙ ap (λ (t : List ℕ). first ++ t) (flat_map-cons (fragment true) s.last s.others)
     ∙ sym (append_assoc first text (whole_text s.others)))
     ∙ append_assoc (first ++ text) (whole_text s.others) b.more in
-    let size : length (first ++ text) ≡ taken_by n 0 (ends_from w k 0 0 b.records) =
+    let size : length (first ++ text) ≡ taken_by n 0 (ends_from w k 0 h b.records) =
     omega (arith, s.taken_is, ap length (whole_text-push s.answered s.last)) in
-    let front : take (taken_by n 0 (ends_from w k 0 0 b.records)) bytes ≡ first ++ text =
-    ap (take (taken_by n 0 (ends_from w k 0 0 b.records))) cut ∙ take_at (first ++ text) _ _ size in
-    let replies_are : replies ≡ owed ++ (reply ++ others) =
-    b.replies_are ∙ ap (owed_from w k) s.records_are
-    ∙ owed_from-append w k s.answered (s.last ∷ s.others) in
-    let sum : n ≡ length owed + m = omega (arith, s.from) in
-    let front' : take n replies ≡ owed ++ take m reply =
-    front_of n m replies owed reply others replies_are sum (omega (arith, few)) in
+    let front : take (taken_by n 0 (ends_from w k 0 h b.records)) bytes ≡ first ++ text =
+    ap (take (taken_by n 0 (ends_from w k 0 h b.records))) cut ∙ take_at (first ++ text) _ _ size in
+    let owed_are : owed_from w k b.records ≡ owed ++ (reply ++ others) =
+    ap (owed_from w k) s.records_are ∙ owed_from-append w k s.answered (s.last ∷ s.others) in
+    let replies_are : replies ≡ (held ++ owed) ++ (reply ++ others) =
+    after_held held owed (reply ++ others) replies (owed_from w k b.records) b.replies_are owed_are in
+    let sum : n ≡ length (held ++ owed) + m = omega (arith, s.from, length-append held owed) in
+    let front' : take n replies ≡ held ++ (owed ++ take m reply) =
+    front_of n m replies (held ++ owed) reply others replies_are sum (omega (arith, few))
+    ∙ append_assoc held owed (take m reply) in
     let takes = in_two_takes left left' first text
     (subst (Consumes left left') front (rw b.ends_are at taken)) in
-    let writes = in_two_writes before after owed (take m reply) (subst (Appends before after) front' wrote) in
+    let held_writes = in_two_writes before after held (owed ++ take m reply)
+    (subst (Appends before after) front' wrote) in
+    let writes = in_two_writes held_writes.0 after owed (take m reply) held_writes.2 in
     let fit = all_parts (λ r. length r ≤ MAX_RECORD) s.answered s.last s.others
     (subst (AllByRecursion (λ r. length r ≤ MAX_RECORD)) s.records_are b.fit) in
+    let stopped : AnswersAndStops faults.Device w k left left' held_writes.0 after =
     record {
       now = now;
       count = length s.answered;
@@ -254,11 +274,31 @@ part_of_batch {w = w} {k = k} {bytes = bytes} {replies =
           writes.2,
         ),
       );
-    }
+    } in (held_writes.0, (held_writes.1, stopped))
+
+-- a beginning of what was held, but not all
+pub part_of_held : {w w' : World} {k : ℕ} {held bytes replies : List ℕ} {ends : List End}
+    (before after : Option (List ℕ)) (n : ℕ)
+    → IsBatch w k w' held bytes replies ends → n < length held → Appends before after (take n replies)
+    → WritesFront before after held
+part_of_held {w = w} {k = k} {held = held} {replies = replies} before after n b some wrote =
+    let front : take n replies ≡ take n held =
+    ap (take n) b.replies_are
+    ∙ take-append-le n held (owed_from w k b.records) (omega (arith, some)) in (
+      take n held,
+      drop n held,
+      sym (take-append-drop n held),
+      omega (arith, length-drop n held, some),
+      subst (Appends before after) front wrote,
+    )
 
 -- memory was refused after them
-pub refused_after : {w w' : World} {k count : ℕ} {left left' before after : Option (List ℕ)}
-    → AnswersRecords w k w' count left left' before after
-    → AnswersAndStops faults.NoMemory w k left left' before after
-refused_after {w' = w'} {count = count} {left' = left'} {after = after} a =
-    record { now = w'; count = count; between = left'; written = after; answers = a; stops = (refl, refl) }
+pub refused_after : {w w' : World} {k count : ℕ} {left left' after : Option (List ℕ)}
+    (held : List ℕ) (before : Option (List ℕ))
+    → AfterHeld held before (λ written. AnswersRecords w k w' count left left' written after)
+    → AfterHeld held before (λ written. AnswersAndStops faults.NoMemory w k left left' written after)
+refused_after {w = w} {w' = w'} {k = k} {count = count} {left = left} {left' = left'} {after =
+    after} held before (written, (wrote, a)) =
+    let stopped : AnswersAndStops faults.NoMemory w k left left' written after =
+    record { now = w'; count = count; between = left'; written = after; answers = a; stops = (refl, refl) } in
+    (written, (wrote, stopped))

@@ -1,5 +1,5 @@
 -- Records that are answered together, from the k-th of a stream on, by a server in a world.
-use Rattle.std.specs.Prelude.{◌≡◌, ◌≤◌, ◌+◌, ℕ, nat_lt, true, List, [], ◌∷◌, ◌++◌, length, Option}
+use Rattle.std.specs.Prelude.{◌≡◌, ◌≤◌, ◌+◌, ◌⊎◌, ℕ, nat_lt, true, List, [], ◌∷◌, ◌++◌, length, Option}
 use Rattle.std.specs.Prelude.{if◌then◌else◌}
 use Rattle.std.specs.List.{flat_map, AllByRecursion}
 use Rattle.std.specs.Io.KnownBytes.{Appends, Consumes}
@@ -36,16 +36,17 @@ ends_from w k taken owed (r ∷ rs) =
     let owed' = owed + length (record_of (reply_owed w (time_of k) r)) in
     record { taken = taken'; owed = owed' } ∷ ends_from (world_after w (time_of k) r) (k + 1) taken' owed' rs
 
--- The bytes begin with records of one fragment each; these are their replies, and the ends of both.
-pub record IsBatch (w : World) (k : ℕ) (w' : World) (bytes replies : List ℕ) (ends : List End)
+-- The bytes begin with records of one fragment each; these are their replies, after those that were held, and
+-- the ends of both.
+pub record IsBatch (w : World) (k : ℕ) (w' : World) (held bytes replies : List ℕ) (ends : List End)
     : Type 0 where
   pub records : List (List ℕ)
   pub more : List ℕ
   pub fit : AllByRecursion (λ r. length r ≤ MAX_RECORD) records
   pub bytes_are : bytes ≡ whole_text records ++ more
   pub world_is : w' ≡ world_from w k records
-  pub replies_are : replies ≡ owed_from w k records
-  pub ends_are : ends ≡ ends_from w k 0 0 records
+  pub replies_are : replies ≡ held ++ owed_from w k records
+  pub ends_are : ends ≡ ends_from w k 0 (length held) records
 
 -- the end of the first record whose reply isn't whole within so many bytes of replies; where each is, the end
 -- of the last, and where there is none, what stands before
@@ -75,6 +76,10 @@ StopsAfter faults.Device w k left left' before after =
 StopsAfter faults.RecordTooLong w k left left' before after = ⊥
 StopsAfter faults.EndInRecord w k left left' before after = ⊥
 
+-- What was held was written first, and then the rest.
+abbrev pub AfterHeld : (held : List ℕ) (before : Option (List ℕ)) → (Option (List ℕ) → Type 0) → Type 0
+AfterHeld held before Rest = (written : Option (List ℕ)) × (Appends before written held × Rest written)
+
 -- Records were taken and their replies written, and then it stopped.
 pub record AnswersAndStops (e : RecordFault) (w : World) (k : ℕ) (left left' before after : Option (List ℕ))
     : Type 0 where
@@ -84,3 +89,11 @@ pub record AnswersAndStops (e : RecordFault) (w : World) (k : ℕ) (left left' b
   pub written : Option (List ℕ)
   pub answers : AnswersRecords w k now count left between before written
   pub stops : StopsAfter e now (k + count) between left' written after
+
+-- It stopped after what was held, or a write failed within that: then no record was taken, and a beginning of
+-- what was held written, but not all.
+abbrev pub StopsWithHeld : RecordFault → World → ℕ → (held : List ℕ) (left left' before after : Option (List ℕ))
+    → Type 0
+StopsWithHeld e w k held left left' before after =
+    ((e ≡ faults.Device) × ((left' ≡ left) × WritesFront before after held))
+    ⊎ AfterHeld held before (λ written. AnswersAndStops e w k left left' written after)

@@ -1,6 +1,6 @@
 //! Replies that are held until they are written together.
 
-ghost use Rattle.std.specs.Prelude.{◌≡◌, ◌<◌, ◌≤◌, ◌++◌, ◌+◌, ◌^◌, length, IfOk, OnOk, OnErr, vec_capacity};
+ghost use Rattle.std.specs.Prelude.{◌≡◌, ◌<◌, ◌≤◌, ◌++◌, ◌+◌, ◌^◌, [], length, IfOk, OnOk, OnErr, vec_capacity};
 ghost use Rattle.service.specs.Replies.{reply_owed, world_after};
 ghost use Rattle.service.specs.Owed.{record_of};
 ghost use Rattle.rpc_streams.specs.RunRpc.{time_of};
@@ -84,8 +84,28 @@ impl Batch {
         })
     }
 
-    /// Answers the records that stand in front of some bytes, as many as a batch has. The first is the k-th.
-    /// Where memory is refused, the records before are answered.
+    /// Answers a record at a time, in place of what is held: its reply is held now, if one is owed. Where
+    /// memory is refused, the server is as it was, and nothing is held.
+    pub fn hold(
+        &mut self,
+        alloc: Global,
+        service: &mut Service,
+        time: Time,
+        record: &[u8],
+    ) -> Result<(), AllocError>
+        ensures text { OnOk result
+            (self.new.replies.items ≡ record_of (reply_owed service.old time record.now)) }
+        ensures world { OnOk result (service.new ≡ world_after service.old time record.now) }
+        ensures err { OnErr result (service.new ≡ service.old) }
+        ensures none { OnErr result (self.new.replies.items ≡ []) }
+        ensures room { vec_capacity self.new.ends ≡ vec_capacity self.old.ends }
+    {
+        self.replies.clear();
+        answer_record(alloc, service, &mut self.replies, time, record)
+    }
+
+    /// Answers the records that stand in front of some bytes, as many as a batch has, after what is held. The
+    /// first is the k-th. Where memory is refused, the records before are answered.
     pub fn fill(
         &mut self,
         alloc: Global,
@@ -94,12 +114,11 @@ impl Batch {
         k: u64,
     ) -> Result<(), AllocError>
         requires room { MOST_RECORDS ≤ vec_capacity self.old.ends }
-        ensures batch { IsBatch service.old k service.new bytes.now self.new.replies.items
-            self.new.ends.items }
+        ensures batch { IsBatch service.old k service.new self.old.replies.items bytes.now
+            self.new.replies.items self.new.ends.items }
         ensures count { k + length self.new.ends.items < 2 ^ 64 }
         ensures room { MOST_RECORDS ≤ vec_capacity self.new.ends }
     {
-        self.replies.clear();
         self.ends.clear();
         let most = (u64::MAX - k).min(MOST_RECORDS as u64) as usize;
         let mut taken = 0;

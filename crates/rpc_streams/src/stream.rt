@@ -2,23 +2,17 @@
 
 ghost use Rattle.std.specs.Prelude.{◌≡◌, ◌<◌, ◌≤◌, ◌+◌, ◌^◌, ◌⊎◌, IfOk, IfErr, OnOk, IsErrOf, IfSome, None};
 ghost use Rattle.std.specs.Prelude.{vec_capacity};
-ghost use Rattle.std.specs.Io.KnownBytes.{Appends, IsAtEnd};
+ghost use Rattle.std.specs.Io.KnownBytes.{IsAtEnd};
 ghost use Rattle.rpc.specs.Records.Count.{Rises};
-ghost use Rattle.rpc.specs.Records.Writing.{WritesFront};
-ghost use Rattle.service.specs.Replies.{reply_owed, world_after};
-ghost use Rattle.service.specs.Owed.{record_of};
 ghost use Rattle.worlds.specs.World.{opening_world};
 ghost use Rattle.rpc.specs.declared.records.fault.RecordFault.TheVariants.{Device, NoMemory};
 ghost use Rattle.record_streams.specs.Streams.{Serves};
 ghost use Rattle.record_streams.specs.Faults.{EndsWith, LeavesOff, StandsAfter};
 ghost use Rattle.rpc_streams.specs.RunRpc.{text_owed, SaysNothing};
-ghost use Rattle.rpc_streams.specs.Batches.{AnswersRecords, AnswersAndStops};
+ghost use Rattle.rpc_streams.specs.Batches.{AfterHeld, AnswersRecords, StopsWithHeld};
 
-use crate::batch::{Batch, MOST_RECORDS, answer_record, time_of_record};
-use nfs_items::Time;
-use rpc::records::{
-    Ahead, Counting, MAX_RECORD, RecordFault, RecordReader, write_bytes, write_front,
-};
+use crate::batch::{Batch, MOST_RECORDS, time_of_record};
+use rpc::records::{Ahead, Counting, MAX_RECORD, RecordFault, RecordReader, write_front};
 use service::Service;
 use std::alloc::Global;
 use std::io::Write;
@@ -26,35 +20,8 @@ use std::io::Write;
 /// The node that serves.
 const NODE: u32 = 1;
 
-/// Answers a record at a time: the reply, if one is owed, is written. Where memory is refused, nothing is.
-fn serve<W: Write>(
-    alloc: Global,
-    service: &mut Service,
-    writer: &mut Counting<W>,
-    replies: &mut Vec<u8>,
-    time: Time,
-    bytes: &[u8],
-) -> Result<(), RecordFault>
-    ensures text { OnOk result (Appends (W.contents writer.old.inner) (W.contents writer.new.inner)
-        (record_of (reply_owed service.old time bytes.now))) }
-    ensures world { OnOk result (service.new ≡ world_after service.old time bytes.now) }
-    ensures kept { OnOk result (writer.new.count ≡ writer.old.count) }
-    ensures device { IsErrOf result Device →
-        WritesFront (W.contents writer.old.inner) (W.contents writer.new.inner)
-        (record_of (reply_owed service.old time bytes.now))
-        × Rises writer.old.count writer.new.count }
-    ensures memory { IsErrOf result NoMemory → writer.new ≡ writer.old }
-    ensures fault { IfErr result (λ e. (e ≡ RecordFault.Device) ⊎ (e ≡ RecordFault.NoMemory)) }
-{
-    replies.clear();
-    if answer_record(alloc, service, replies, time, bytes).is_err() {
-        return Err(RecordFault::NoMemory);
-    }
-    write_bytes(writer, replies)
-}
-
-/// Answers the records at hand, the first of them the k-th, and writes their replies together. It says how
-/// many there were. Where memory is refused, those before are answered.
+/// Answers the records at hand, the first of them the k-th, and writes their replies together, after those
+/// that are held. It says how many there were. Where memory is refused, those before are answered.
 fn serve_at_hand<R: Ahead + Drop, W: Write>(
     alloc: Global,
     service: &mut Service,
@@ -64,11 +31,13 @@ fn serve_at_hand<R: Ahead + Drop, W: Write>(
     k: u64,
 ) -> Result<u64, RecordFault>
     requires room { MOST_RECORDS ≤ vec_capacity batch.old.ends }
-    ensures answers { IfOk result (λ count. AnswersRecords service.old k service.new count
+    ensures answers { IfOk result (λ count.
+        AfterHeld batch.old.replies.items (W.contents writer.old.inner) (λ written.
+        AnswersRecords service.old k service.new count
         (R.remaining reader.old.reader.inner) (R.remaining reader.new.reader.inner)
-        (W.contents writer.old.inner) (W.contents writer.new.inner)) }
+        written (W.contents writer.new.inner))) }
     ensures count { IfOk result (λ count. k + count < 2 ^ 64) }
-    ensures stops { IfErr result (λ e. AnswersAndStops e service.old k
+    ensures stops { IfErr result (λ e. StopsWithHeld e service.old k batch.old.replies.items
         (R.remaining reader.old.reader.inner) (R.remaining reader.new.reader.inner)
         (W.contents writer.old.inner) (W.contents writer.new.inner)) }
     ensures reader { (reader.new.fault ≡ reader.old.fault)
@@ -78,8 +47,12 @@ fn serve_at_hand<R: Ahead + Drop, W: Write>(
     ensures memory { IsErrOf result NoMemory → writer.new.count ≡ writer.old.count }
     ensures room { MOST_RECORDS ≤ vec_capacity batch.new.ends }
 {
+    let held = batch.replies.len();
     let filled = batch.fill(alloc, service, reader.at_hand(), k);
     let written = write_front(writer, &batch.replies);
+    if written < held {
+        return Err(RecordFault::Device);
+    }
     reader.pass(batch.taken(written));
     if written < batch.replies.len() {
         return Err(RecordFault::Device);
@@ -124,8 +97,9 @@ fn serve_records<R: Ahead + Drop, W: Write>(
         if !reader.next_into(record)? {
             return Ok(k - 1);
         }
-        let time = time_of_record(k);
-        serve(alloc, service, writer, &mut batch.replies, time, record)?;
+        let Ok(()) = batch.hold(alloc, service, time_of_record(k), record) else {
+            return Err(RecordFault::NoMemory);
+        };
         k += 1;
         k += serve_at_hand(alloc, service, reader, writer, batch, k)?;
     }

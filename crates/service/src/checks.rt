@@ -52,8 +52,8 @@ fn sys_caller<'a>(body: &'a [u8], who: &mut Who<'a>) -> Result<(), ReplyBody>
     Ok(())
 }
 
-/// Sets the caller that a credential stands for, where it was nobody: AUTH_NONE, whatever its body; AUTH_SYS by
-/// its body; every other flavor is rejected.
+/// Sets the caller that a credential stands for, where it was nobody: AUTH_NONE, whatever its body; AUTH_SYS
+/// by its body; every other flavor is rejected.
 fn set_caller<'a>(credential: &OpaqueAuth<'a>, who: &mut Who<'a>) -> Result<(), ReplyBody>
     requires nobody { caller_of who.old ≡ nobody }
     requires name { HasShortName who.old }

@@ -29,7 +29,7 @@ pub fn directory_of(
         (λ d. (d ≡ record { next = next; entries = said_entries entries.now })
         × IsListing next (said_entries entries.now))) }
 {
-    let mut directory = Directory::new(alloc);
+    let mut directory = Directory::new(alloc)?;
     for entry in entries {
         if entry.cookie < directory.next() {
             return Ok(None);

@@ -6,9 +6,9 @@ ghost use Rattle.witness_calls.specs.Closing.{IsOneRun};
 
 use witness_service::{Closed, Pass, ReceiptFault, WitnessService};
 
-/// Closes a witness with all its passes. `Ok` has its journal and these passes: what each of them was answered
-/// stands there once, in its order, and no other step does; so all steps make one history. Else it is
-/// `NotInJournal`, with both. Takes no memory.
+/// Closes a witness with all its passes. `Ok` has its journal and these passes: what each of them was
+/// answered stands there once, in its order, and no other step does; so all steps make one history. Else it
+/// is `NotInJournal`, with both. Takes no memory.
 pub fn close(service: WitnessService, passes: Vec<Pass>) -> Result<Closed, ReceiptFault>
     ensures closed { IfOk result (IsClosed passes.items) }
     ensures run { IfOk result IsOneRun }

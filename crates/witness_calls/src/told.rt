@@ -24,8 +24,8 @@ impl Told {
 }
 
 impl<'a, R: Wait> Caller<'a, R> {
-    /// Asks what the witness says of a node, and for its open challenges. Where it doesn't tell these, what it
-    /// says comes back.
+    /// Asks what the witness says of a node, and for its open challenges. Where it doesn't tell these, what
+    /// it says comes back.
     pub fn told(&mut self, node: u32) -> Result<Told, Said> {
         match self.indication(node) {
             Said::Told(indication) => self.told_as(node, indication),

@@ -34,11 +34,12 @@ pub struct Entry {
     pub cookie: u32,
 }
 
-/// The entries of a directory.
+/// The entries of a directory. Their map lies elsewhere, so that an inode takes few bytes: most are no
+/// directory's, and a look-up among many files reads less memory.
 #[derive(Drop)]
 pub struct Directory {
     next: u32,
-    entries: IndexMap<Vec<u8>, Entry>,
+    entries: Box<IndexMap<Vec<u8>, Entry>>,
 }
 
 impl Model for Directory {
@@ -48,20 +49,20 @@ impl Model for Directory {
 
     ghost Value = { Listing };
 
-    ghost view = { λ a. record { next = a.next; entries = entries_of a.entries.entries } };
+    ghost view = { λ a. record { next = a.next; entries = entries_of a.entries.value.entries } };
 
-    ghost invariant = { λ a. IsRising FIRST_COOKIE (entries_of a.entries.entries) a.next };
+    ghost invariant = { λ a. IsRising FIRST_COOKIE (entries_of a.entries.value.entries) a.next };
 }
 
 impl Directory {
-    /// A directory with no entries, whose first gets `FIRST_COOKIE`.
-    pub fn new(alloc: Global) -> Self
-        ensures { result ≡ record { next = FIRST_COOKIE; entries = [] } }
+    /// A directory with no entries, whose first gets `FIRST_COOKIE`. Takes memory once.
+    pub fn new(alloc: Global) -> Result<Directory, AllocError>
+        ensures { IfOk result (λ directory. directory ≡ record { next = FIRST_COOKIE; entries = [] }) }
     {
-        Directory {
+        Ok(Directory {
             next: FIRST_COOKIE,
-            entries: IndexMap::new(alloc),
-        }
+            entries: Box::new(alloc, IndexMap::new(alloc))?,
+        })
     }
 
     /// The cookie that the next entry gets.
@@ -102,6 +103,7 @@ impl Directory {
     }
 
     /// The entry with a name.
+    #[inline(always)]
     pub fn find(&self, name: &[u8]) -> Option<Entry>
         ensures { option_map (λ e. (e.number, e.cookie)) result ≡ entry_at self.now name.now }
     {

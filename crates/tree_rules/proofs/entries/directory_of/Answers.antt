@@ -12,7 +12,7 @@ abbrev blank : GivenEntry
 blank = record { name = record { ref_ptr = (0, 0); now = [] }; number = 0; cookie = 0 }
 
 pub loop-entry-init : goal.loop-entry-init
-loop-entry-init c = read_none c.args.entries.now c.new-directory.result c.new-directory.ensures
+loop-entry-init c = read_none c.args.entries.now c.in_ok-directory.directory c.in_ok-directory.ensures
 
 pub returns-then-entry-next : goal.returns-then-entry-next
 returns-then-entry-next c = λ h.

@@ -11,5 +11,5 @@ make-requires-clause-file c =
     let time : IsTime c.args.now = search rules in
     let valid : AreValidFields (given_in c.of-given.result) =
     subst AreValidFields (sym c.of-given.ensures) (given_are_valid c.args.now c.args.attributes.now time) in
-    rw (c.new-2.ensures.file, c.new.ensures)
+    rw (c.new-2.ensures.file, c.in_ok-new.ensures)
     (directory_fits (caller_of c.args.who.now) c.args.now time (given_in c.of-given.result) valid)

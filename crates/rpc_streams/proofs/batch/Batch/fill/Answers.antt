@@ -5,7 +5,7 @@ use Rattle.rpc_streams.proofs.batch.Batch.fill.Goals as goal
 
 pub loop-self-init : goal.loop-self-init
 loop-self-init c =
-    (nothing _ _ _ _ _ c.clear.ensures.items c.clear-2.ensures.items, search rules, search rules)
+    (nothing _ _ _ _ _ c.clear.ensures.items, search rules, search rules)
 
 pub loop-self-preserved : goal.loop-self-preserved
 loop-self-preserved c =

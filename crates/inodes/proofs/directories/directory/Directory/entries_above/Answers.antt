@@ -12,7 +12,8 @@ use Rattle.inodes.proofs.directories.directory.Directory.entries_above.Goals as 
 pub returns : goal.returns
 returns c =
     let es = c.as_slice-entries.result in
-    let inside : es ≡ c.self.inside.entries.entries = c.as_slice-entries.ensures.entries in
+    let inside : es ≡ c.self.inside.entries.value.entries =
+    c.as_slice-entries.ensures.entries ∙ ap (λ m. m.entries) c.deref.ensures in
     let rising = subst (λ l. IsRising 3 (entries_of l) c.self.inside.next) (sym inside) c.self.invariant in
     let parts = IsPartitionedBy-leb (λ e. e.1.cookie) es c.args.cookie
     (in_order (λ e. (e.0.items, (e.1.number, e.1.cookie))) 3 es c.self.inside.next rising) in
