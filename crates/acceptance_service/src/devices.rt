@@ -120,8 +120,8 @@ fn writes_together(alloc: Global) -> bool {
     run_rpc(alloc, &mut reader, &mut writer) == Ok(4) && took(&writer, &streams.replies.bytes, 2, 0)
 }
 
-/// What is owed to a record and to those at hand after it goes out together: the first goes out alone, since the
-/// second is in two fragments, and so isn't answered where it lies.
+/// What is owed to a record and to those at hand after it goes out together: the first goes out alone, since
+/// the second is in two fragments, and so isn't answered where it lies.
 #[test]
 fn replies_to_records_at_hand_are_one_write(rt: HostRuntime) {
     assert!(rt; writes_together(rt.alloc()));

@@ -1,8 +1,9 @@
 -- The loop over records, as the one over any stream of records with this server's replies: what it has done
 -- before the k-th record (Progress, Turn), and what follows at each of its ends: the input is at its end
 -- (serves), no record could be read (ends, leaves_off_reading), a record was read and its reply not wholly
--- written (unanswered, leaves_off_answering), memory was refused before the first (nothing_yet,
--- stops_at_once).
+-- written (unanswered, leaves_off_answering), memory was refused for it (refused_one, leaves_off_refused) or
+-- before the first (nothing_yet, stops_at_once), or it stopped among the records at hand after it
+-- (stops_with_held, leaves_off_with_held).
 -- Serves: run_rpc, serve_records.
 use Rattle.std.proofs.Common.{◌≡◌, ◌⊎◌, inl, inr, ℕ, ◌+◌, List, [], ◌∷◌, ◌++◌, length, sym, ap, ◌∙◌, refl}
 use Rattle.std.specs.Prelude.{Option, None, IfSome, Err}
@@ -294,7 +295,8 @@ stops_with_held p reads next (inl (device, (taken, wrote))) =
       is_either =
           inl device;
     })
-stops_with_held p reads next (inr (between, (wrote, stopped))) = stops_behind (pushes p reads next wrote) stopped
+stops_with_held p reads next (inr (between, (wrote, stopped))) =
+    stops_behind (pushes p reads next wrote) stopped
 
 -- it stopped: what was taken
 pub leaves_off_with_held : {e : RecordFault} {now next : World} {k : ℕ}

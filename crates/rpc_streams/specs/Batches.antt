@@ -92,8 +92,8 @@ pub record AnswersAndStops (e : RecordFault) (w : World) (k : ℕ) (left left' b
 
 -- It stopped after what was held, or a write failed within that: then no record was taken, and a beginning of
 -- what was held written, but not all.
-abbrev pub StopsWithHeld : RecordFault → World → ℕ → (held : List ℕ) (left left' before after : Option (List ℕ))
-    → Type 0
+abbrev pub StopsWithHeld : RecordFault → World → ℕ → (held : List ℕ)
+    → (left left' before after : Option (List ℕ)) → Type 0
 StopsWithHeld e w k held left left' before after =
     ((e ≡ faults.Device) × ((left' ≡ left) × WritesFront before after held))
     ⊎ AfterHeld held before (λ written. AnswersAndStops e w k left left' written after)

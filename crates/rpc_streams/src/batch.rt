@@ -1,6 +1,7 @@
 //! Replies that are held until they are written together.
 
-ghost use Rattle.std.specs.Prelude.{◌≡◌, ◌<◌, ◌≤◌, ◌++◌, ◌+◌, ◌^◌, [], length, IfOk, OnOk, OnErr, vec_capacity};
+ghost use Rattle.std.specs.Prelude.{◌≡◌, ◌<◌, ◌≤◌, ◌++◌, ◌+◌, ◌^◌, [], length, IfOk, OnOk, OnErr};
+ghost use Rattle.std.specs.Prelude.{vec_capacity};
 ghost use Rattle.service.specs.Replies.{reply_owed, world_after};
 ghost use Rattle.service.specs.Owed.{record_of};
 ghost use Rattle.rpc_streams.specs.RunRpc.{time_of};

@@ -30,7 +30,8 @@ returns-in_default-clause-taken g c =
     let one : c.in_ok-next_into.field-0 ≡ true = search (rules, c.if-not-branch.false) in
     let found = rw one at c.in_ok-next_into.ensures.found in
     let failed = rw c.loop-k.invariant.0.fresh at c.in_ok-next_into.ensures.failed in
-    leaves_off_refused _ c.loop-k.invariant.0.progress (record { is_record = found.1; taken = found.2 }) failed
+    leaves_off_refused _ c.loop-k.invariant.0.progress
+    (record { is_record = found.1; taken = found.2 }) failed
 
 pub returns-in_err-k-clause-fault : goal.returns-in_err-k-clause-fault
 returns-in_err-k-clause-fault g c =
