@@ -43,6 +43,7 @@ impl Fattr {
     ghost use Rattle.nfs_items.specs.Attributes.{fattr, fattr_value};
 
     /// Appends the attributes, 68 bytes. Where memory is refused, the bytes stay as they were.
+    // Inlined, as `add` is, the words go from registers to the reply (docs/SPEED.md).
     #[inline(always)]
     pub fn write(&self, out: &mut Vec<u8>) -> Result<(), AllocError>
         ensures writes { Writes fattr (fattr_value self.now) out.old.items result out.new.items }
@@ -56,6 +57,7 @@ impl Fattr {
 
     /// Appends the attributes as far as memory allows. The words after the type stand in this order here, so
     /// they are taken over as they are: with the type in front of them they would have to be moved first.
+    #[inline(always)]
     fn add(&self, out: &mut Vec<u8>) -> Result<(), AllocError>
         ensures text { Adds (spelling fattr (fattr_value self.now)) out.old.items result out.new.items }
         ensures room { Spends 68 (vec_capacity out.old - vec_len out.old)

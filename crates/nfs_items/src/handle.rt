@@ -28,16 +28,10 @@ impl FileHandle {
     }
 
     /// The file number, or none where these aren't the bytes that the node fsid gives to a file.
-    #[tactic(auto, unfolding(crate::specs::Handle::number_in))]
     pub fn number_in(&self, fsid: u32) -> Option<u32>
         ensures { result ≡ number_in fsid self.now.0 }
     {
-        let number = BigEndian::read_u32(&self.0[4..]);
-        if *self == FileHandle::new(fsid, number) {
-            Some(number)
-        } else {
-            None
-        }
+        FileHandleRef(&self.0).number_in(fsid)
     }
 
     /// Reads a file handle from the front, 32 bytes of any kind. After an `Err` (`Short`) the reader is as it
@@ -49,6 +43,7 @@ impl FileHandle {
     }
 
     /// Appends the file handle. Where memory is refused, the bytes stay as they were.
+    // Inlined, the words go from registers to the reply (docs/SPEED.md).
     #[inline(always)]
     pub fn write(&self, out: &mut Vec<u8>) -> Result<(), AllocError>
         ensures writes { Writes fhandle self.now.0 out.old.items result out.new.items }
@@ -56,5 +51,36 @@ impl FileHandle {
             result (vec_capacity out.new - vec_len out.new) }
     {
         out.put_fixed(&self.0)
+    }
+}
+
+/// A file handle where it lies, as in the bytes of a call.
+#[derive(Clone, Copy, Debug)]
+pub struct FileHandleRef<'a>(pub &'a [u8; 32]);
+
+impl<'a> FileHandleRef<'a> {
+    ghost use Rattle.xdr.specs.Reading.{Reads};
+    ghost use Rattle.nfs_items.specs.Handle.{fhandle, number_in};
+
+    /// The file number, or none where these aren't the bytes that the node fsid gives to a file.
+    #[tactic(auto, unfolding(crate::specs::Handle::number_in))]
+    pub fn number_in(self, fsid: u32) -> Option<u32>
+        ensures { result ≡ number_in fsid self.entry.0.now }
+    {
+        let FileHandleRef(bytes) = self;
+        let number = BigEndian::read_u32(&bytes[4..]);
+        if *bytes == FileHandle::new(fsid, number).0 {
+            Some(number)
+        } else {
+            None
+        }
+    }
+
+    /// Reads a file handle from the front, 32 bytes of any kind. After an `Err` (`Short`) the reader is as it
+    /// was.
+    pub fn read(reader: &mut Reader<'a>) -> Result<FileHandleRef<'a>, XdrFault>
+        ensures { Reads fhandle (λ h. h.0.now) reader.old result reader.new }
+    {
+        Ok(FileHandleRef(reader.fixed::<32>()?))
     }
 }

@@ -13,7 +13,7 @@ pub mod worked;
 
 pub use attributes::{Fattr, FileType};
 pub use credential::read_credential;
-pub use handle::FileHandle;
+pub use handle::{FileHandle, FileHandleRef};
 pub use sattr::{RawTime, Sattr};
 pub use stat::Stat;
 pub use time::Time;

@@ -12,7 +12,7 @@ ghost use Rattle.nfs_procs.specs.Changed.{IsDone, IsChanged};
 
 use crate::handles::{file_after, number_for};
 use file_tree::{DirOpArgs, NfsArgs, NfsResult, Tree};
-use nfs_items::{FileHandle, Sattr, Time, Who};
+use nfs_items::{FileHandleRef, Sattr, Time, Who};
 use std::alloc::{AllocError, Global};
 
 /// SETATTR (section 2.2.3).
@@ -20,10 +20,11 @@ fn setattr(
     tree: &mut Tree,
     who: &Who,
     now: Time,
-    file: FileHandle,
+    file: FileHandleRef,
     attributes: &Sattr,
 ) -> Result<NfsResult<'static>, AllocError>
-    ensures { IsChanged tree.old (caller_of who.now) now (Setattr file.0 attributes.now) result tree.new }
+    ensures { IsChanged tree.old (caller_of who.now) now
+        (Setattr file.entry.0.now attributes.now) result tree.new }
 {
     let number = number_for(tree, file);
     let done = tree.set_attributes(who, now, number, attributes)?;
@@ -35,11 +36,12 @@ fn write(
     tree: &mut Tree,
     who: &Who,
     now: Time,
-    file: FileHandle,
+    file: FileHandleRef,
     offset: u32,
     bytes: &[u8],
 ) -> Result<NfsResult<'static>, AllocError>
-    ensures { IsChanged tree.old (caller_of who.now) now (Write file.0 offset bytes.now) result tree.new }
+    ensures { IsChanged tree.old (caller_of who.now) now
+        (Write file.entry.0.now offset bytes.now) result tree.new }
 {
     let number = number_for(tree, file);
     let done = tree.write(who, now, number, offset, bytes)?;
@@ -57,7 +59,7 @@ fn create(
 ) -> Result<NfsResult<'static>, AllocError>
     requires { length place.name.now ≤ max_name }
     ensures { IsChanged tree.old (caller_of who.now) now
-        (Create place.entry.dir.0 place.entry.name.now attributes.now) result tree.new }
+        (Create place.entry.dir.0.now place.entry.name.now attributes.now) result tree.new }
 {
     let dir = number_for(tree, place.dir);
     let made = tree.create(alloc, who, now, dir, place.name, attributes)?;
@@ -67,7 +69,7 @@ fn create(
 /// REMOVE (section 2.2.11).
 fn remove(tree: &mut Tree, who: &Who, now: Time, place: DirOpArgs) -> NfsResult<'static>
     ensures { IsDone tree.old (caller_of who.now) now
-        (Remove place.entry.dir.0 place.entry.name.now) result tree.new }
+        (Remove place.entry.dir.0.now place.entry.name.now) result tree.new }
 {
     let dir = number_for(tree, place.dir);
     NfsResult::Status(tree.remove(who, now, dir, place.name))
@@ -76,7 +78,7 @@ fn remove(tree: &mut Tree, who: &Who, now: Time, place: DirOpArgs) -> NfsResult<
 /// RMDIR (section 2.2.16).
 fn remove_dir(tree: &mut Tree, who: &Who, now: Time, place: DirOpArgs) -> NfsResult<'static>
     ensures { IsDone tree.old (caller_of who.now) now
-        (Rmdir place.entry.dir.0 place.entry.name.now) result tree.new }
+        (Rmdir place.entry.dir.0.now place.entry.name.now) result tree.new }
 {
     let dir = number_for(tree, place.dir);
     NfsResult::Status(tree.remove_dir(who, now, dir, place.name))
@@ -93,7 +95,7 @@ fn rename(
 ) -> Result<NfsResult<'static>, AllocError>
     requires { length to.name.now ≤ max_name }
     ensures { IsChanged tree.old (caller_of who.now) now
-        (Rename from.entry.dir.0 from.entry.name.now to.entry.dir.0 to.entry.name.now) result tree.new }
+        (Rename from.entry.dir.0.now from.entry.name.now to.entry.dir.0.now to.entry.name.now) result tree.new }
 {
     let (source, target) = (number_for(tree, from.dir), number_for(tree, to.dir));
     let done = tree.rename(alloc, who, now, source, from.name, target, to.name)?;
@@ -106,12 +108,12 @@ fn link(
     alloc: Global,
     who: &Who,
     now: Time,
-    file: FileHandle,
+    file: FileHandleRef,
     place: DirOpArgs,
 ) -> Result<NfsResult<'static>, AllocError>
     requires { length place.name.now ≤ max_name }
     ensures { IsChanged tree.old (caller_of who.now) now
-        (Link file.0 place.entry.dir.0 place.entry.name.now) result tree.new }
+        (Link file.entry.0.now place.entry.dir.0.now place.entry.name.now) result tree.new }
 {
     let (number, dir) = (number_for(tree, file), number_for(tree, place.dir));
     let done = tree.link(alloc, who, now, number, dir, place.name)?;
@@ -131,7 +133,7 @@ fn symlink(
     requires name { length place.name.now ≤ max_name }
     requires target { length target.now ≤ max_target }
     ensures { IsChanged tree.old (caller_of who.now) now
-        (Symlink place.entry.dir.0 place.entry.name.now target.now attributes.now) result tree.new }
+        (Symlink place.entry.dir.0.now place.entry.name.now target.now attributes.now) result tree.new }
 {
     let dir = number_for(tree, place.dir);
     let made = tree.symlink(alloc, who, now, dir, place.name, target)?;
@@ -149,7 +151,7 @@ fn make_dir(
 ) -> Result<NfsResult<'static>, AllocError>
     requires { length place.name.now ≤ max_name }
     ensures { IsChanged tree.old (caller_of who.now) now
-        (Mkdir place.entry.dir.0 place.entry.name.now attributes.now) result tree.new }
+        (Mkdir place.entry.dir.0.now place.entry.name.now attributes.now) result tree.new }
 {
     let dir = number_for(tree, place.dir);
     let made = tree.make_dir(alloc, who, now, dir, place.name, attributes)?;

@@ -7,11 +7,11 @@ ghost use Rattle.nfs_laws.specs.nfs_spec.NfsCalls.{number_for};
 ghost use Rattle.nfs_procs.specs.Changed.{file_then};
 
 use file_tree::{DirOpOk, Tree};
-use nfs_items::{FileHandle, Stat};
+use nfs_items::{FileHandle, FileHandleRef, Stat};
 
 /// The file number that a handle names here; another handle names 0, which no file has.
-pub(crate) fn number_for(tree: &Tree, file: FileHandle) -> u32
-    ensures { result ≡ number_for tree.now file.0 }
+pub(crate) fn number_for(tree: &Tree, file: FileHandleRef) -> u32
+    ensures { result ≡ number_for tree.now file.entry.0.now }
 {
     file.number_in(tree.fsid()).unwrap_or(0)
 }

@@ -1,7 +1,7 @@
 //! The procedures of NFS version 2 over a tree of files (RFC 1094, section 2.2).
 #![tactic(auto)]
 
-ghost use Rattle.std.specs.Prelude.{◌≡◌, OnOk, OnErr};
+ghost use Rattle.std.specs.Prelude.{◌≡◌, OnOk, OnErr, false};
 ghost use Rattle.xdr.specs.Writing.{Appends};
 ghost use Rattle.nfs_items.specs.CallerOf.{caller_of};
 ghost use Rattle.file_tree.specs.nfs_types.Bounds.{HasBounds};
@@ -41,6 +41,30 @@ fn only_reads(args: &NfsArgs) -> bool
     }
 }
 
+/// As `nfs_call`, for a call that changes files. It isn't inlined, so that a call that reads alone has no room
+/// made for an answer that it doesn't give.
+#[inline(never)]
+fn answer_change(
+    tree: &mut Tree,
+    alloc: Global,
+    who: &Who,
+    now: Time,
+    args: &NfsArgs,
+    out: &mut Vec<u8>,
+) -> Result<(), AllocError>
+    requires changes { only_reads (call_of args.now) ≡ false }
+    requires bounds { HasBounds (call_of args.now) }
+    ensures text { Appends (answer_text (call_does tree.old (caller_of who.now) now (call_of args.now)).0)
+        out.old.items result out.new.items }
+    ensures files { OnOk result (tree.new
+        ≡ (call_does tree.old (caller_of who.now) now (call_of args.now)).1) }
+    ensures err { OnErr result (tree.new ≡ tree.old) }
+{
+    out.reserve(SHORT_ANSWER)?;
+    let answer = change(tree, alloc, who, now, args)?;
+    write_result(&answer, out)
+}
+
 /// Does what a caller's call at a time asks for, and appends the answer. A refusal is a stat within the
 /// answer, and leaves the files as they were. Where memory is refused, the files and the bytes are as they
 /// were: a call that changes files makes room for its answer first.
@@ -60,9 +84,8 @@ pub fn nfs_call(
     ensures err { OnErr result (tree.new ≡ tree.old) }
 {
     if only_reads(args) {
-        return answer_read(tree, alloc, who, now, args, out);
+        answer_read(tree, alloc, who, now, args, out)
+    } else {
+        answer_change(tree, alloc, who, now, args, out)
     }
-    out.reserve(SHORT_ANSWER)?;
-    let answer = change(tree, alloc, who, now, args)?;
-    write_result(&answer, out)
 }

@@ -14,13 +14,15 @@ ghost use Rattle.nfs_laws.specs.nfs_spec.Procedures.{read_link, read, read_dir, 
 ghost use Rattle.nfs_laws.specs.Steps.Answers.{only_reads};
 
 use crate::handles::number_for;
-use file_tree::{DirOpArgs, DirOpOk, NfsArgs, NfsResult, Tree, write_result};
-use nfs_items::{Fattr, FileHandle, Stat, Time, Who};
+use file_tree::{
+    DirOpArgs, DirOpOk, NfsArgs, NfsResult, Tree, write_attributes, write_dir_op, write_result,
+};
+use nfs_items::{Fattr, FileHandle, FileHandleRef, Stat, Time, Who};
 use std::alloc::{AllocError, Global};
 
 /// GETATTR (section 2.2.2). Stale where the file handle names no file here.
-fn getattr(tree: &Tree, file: FileHandle) -> Result<Fattr, Stat>
-    ensures { result ≡ getattr tree.now file.0 }
+fn getattr(tree: &Tree, file: FileHandleRef) -> Result<Fattr, Stat>
+    ensures { result ≡ getattr tree.now file.entry.0.now }
 {
     match file.number_in(tree.fsid()) {
         Some(number) => tree.attributes(number),
@@ -31,7 +33,7 @@ fn getattr(tree: &Tree, file: FileHandle) -> Result<Fattr, Stat>
 /// LOOKUP (section 2.2.5). Stale where the file handle names no file here.
 fn lookup(tree: &Tree, who: &Who, args: DirOpArgs) -> Result<DirOpOk, Stat>
     ensures { outcome_of dir_op_of result
-        ≡ lookup tree.now (caller_of who.now) args.entry.dir.0 args.entry.name.now }
+        ≡ lookup tree.now (caller_of who.now) args.entry.dir.0.now args.entry.name.now }
 {
     let Some(dir) = args.dir.number_in(tree.fsid()) else {
         return Err(Stat::Stale);
@@ -45,25 +47,25 @@ fn lookup(tree: &Tree, who: &Who, args: DirOpArgs) -> Result<DirOpOk, Stat>
 }
 
 /// The answer to GETATTR.
-fn add_attributes(tree: &Tree, file: FileHandle, out: &mut Vec<u8>) -> Result<(), AllocError>
-    ensures { Appends (answer_text (Attributes (getattr tree.now file.0)))
+fn add_attributes(tree: &Tree, file: FileHandleRef, out: &mut Vec<u8>) -> Result<(), AllocError>
+    ensures { Appends (answer_text (Attributes (getattr tree.now file.entry.0.now)))
         out.old.items result out.new.items }
 {
-    write_result(&NfsResult::Attributes(getattr(tree, file)), out)
+    write_attributes(&getattr(tree, file), out)
 }
 
 /// The answer to LOOKUP.
 fn add_found(tree: &Tree, who: &Who, args: DirOpArgs, out: &mut Vec<u8>) -> Result<(), AllocError>
     ensures { Appends
-        (answer_text (DirOp (lookup tree.now (caller_of who.now) args.entry.dir.0 args.entry.name.now)))
+        (answer_text (DirOp (lookup tree.now (caller_of who.now) args.entry.dir.0.now args.entry.name.now)))
         out.old.items result out.new.items }
 {
-    write_result(&NfsResult::DirOp(lookup(tree, who, args)), out)
+    write_dir_op(&lookup(tree, who, args), out)
 }
 
 /// READLINK (section 2.2.6).
-fn add_target(tree: &Tree, file: FileHandle, out: &mut Vec<u8>) -> Result<(), AllocError>
-    ensures { Appends (answer_text (Target (read_link tree.now (number_for tree.now file.0))))
+fn add_target(tree: &Tree, file: FileHandleRef, out: &mut Vec<u8>) -> Result<(), AllocError>
+    ensures { Appends (answer_text (Target (read_link tree.now (number_for tree.now file.entry.0.now))))
         out.old.items result out.new.items }
 {
     let target = tree.read_link(number_for(tree, file));
@@ -74,13 +76,14 @@ fn add_target(tree: &Tree, file: FileHandle, out: &mut Vec<u8>) -> Result<(), Al
 fn add_bytes(
     tree: &Tree,
     who: &Who,
-    file: FileHandle,
+    file: FileHandleRef,
     offset: u32,
     count: u32,
     out: &mut Vec<u8>,
 ) -> Result<(), AllocError>
     ensures { Appends
-        (answer_text (Bytes (read tree.now (caller_of who.now) (number_for tree.now file.0) offset count)))
+        (answer_text (Bytes
+        (read tree.now (caller_of who.now) (number_for tree.now file.entry.0.now) offset count)))
         out.old.items result out.new.items }
 {
     let read = tree.read(who, number_for(tree, file), offset, count);
@@ -92,13 +95,13 @@ fn add_entries(
     tree: &Tree,
     alloc: Global,
     who: &Who,
-    dir: FileHandle,
+    dir: FileHandleRef,
     cookie: u32,
     count: u32,
     out: &mut Vec<u8>,
 ) -> Result<(), AllocError>
     ensures { Appends (answer_text
-        (Entries (read_dir tree.now (caller_of who.now) (number_for tree.now dir.0) cookie count)))
+        (Entries (read_dir tree.now (caller_of who.now) (number_for tree.now dir.entry.0.now) cookie count)))
         out.old.items result out.new.items }
 {
     let page = tree.list(alloc, who, number_for(tree, dir), cookie, count)?;
@@ -106,8 +109,8 @@ fn add_entries(
 }
 
 /// STATFS (section 2.2.18).
-fn add_figures(tree: &Tree, file: FileHandle, out: &mut Vec<u8>) -> Result<(), AllocError>
-    ensures { Appends (answer_text (Free (stat_fs tree.now (number_for tree.now file.0))))
+fn add_figures(tree: &Tree, file: FileHandleRef, out: &mut Vec<u8>) -> Result<(), AllocError>
+    ensures { Appends (answer_text (Free (stat_fs tree.now (number_for tree.now file.entry.0.now))))
         out.old.items result out.new.items }
 {
     let figures = tree.figures(number_for(tree, file));

@@ -2,7 +2,7 @@
 
 ghost use Rattle.std.specs.Prelude.{◌≡◌};
 
-use nfs_items::{FileHandle, Sattr};
+use nfs_items::{FileHandleRef, Sattr};
 
 /// A procedure of NFS version 2 (RFC 1094, section 2.2), with its number.
 #[derive(Clone, Copy, Debug, PartialEq, Eq)]
@@ -63,7 +63,7 @@ impl NfsProcedure {
 /// A name in a directory (RFC 1094, section 2.3.10, diropargs).
 #[derive(Clone, Copy, Debug)]
 pub struct DirOpArgs<'a> {
-    pub dir: FileHandle,
+    pub dir: FileHandleRef<'a>,
     /// At most 255 bytes.
     pub name: &'a [u8],
 }
@@ -72,16 +72,16 @@ pub struct DirOpArgs<'a> {
 #[derive(Clone, Copy, Debug)]
 pub enum NfsArgs<'a> {
     Null,
-    Getattr(FileHandle),
+    Getattr(FileHandleRef<'a>),
     Setattr {
-        file: FileHandle,
+        file: FileHandleRef<'a>,
         attributes: Sattr,
     },
     Root,
     Lookup(DirOpArgs<'a>),
-    Readlink(FileHandle),
+    Readlink(FileHandleRef<'a>),
     Read {
-        file: FileHandle,
+        file: FileHandleRef<'a>,
         /// In bytes from the start.
         offset: u32,
         /// In bytes.
@@ -89,7 +89,7 @@ pub enum NfsArgs<'a> {
     },
     Writecache,
     Write {
-        file: FileHandle,
+        file: FileHandleRef<'a>,
         /// In bytes from the start.
         offset: u32,
         /// At most 8,192 bytes.
@@ -105,7 +105,7 @@ pub enum NfsArgs<'a> {
         to: DirOpArgs<'a>,
     },
     Link {
-        file: FileHandle,
+        file: FileHandleRef<'a>,
         place: DirOpArgs<'a>,
     },
     Symlink {
@@ -120,11 +120,11 @@ pub enum NfsArgs<'a> {
     },
     Rmdir(DirOpArgs<'a>),
     Readdir {
-        dir: FileHandle,
+        dir: FileHandleRef<'a>,
         /// That of the last entry before the page; 0 for the first page.
         cookie: u32,
         /// In bytes, of the entries of the page.
         count: u32,
     },
-    Statfs(FileHandle),
+    Statfs(FileHandleRef<'a>),
 }

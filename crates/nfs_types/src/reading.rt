@@ -11,7 +11,7 @@ ghost use Rattle.nfs_types.specs.declared.arguments.NfsProcedure.TheVariants as 
 
 use crate::arguments::{DirOpArgs, NfsArgs, NfsProcedure};
 use crate::limits::{MAXDATA, MAXNAMLEN, MAXPATHLEN};
-use nfs_items::{FileHandle, Reader, Sattr, XdrFault};
+use nfs_items::{FileHandleRef, Reader, Sattr, XdrFault};
 
 /// Reads a procedure's arguments from the front of bytes, and ignores what follows them (RFC 1094,
 /// section 2.2). The fault is the first from left to right.
@@ -57,7 +57,7 @@ fn read_arguments<'a>(
 fn read_dir_op<'a>(reader: &mut Reader<'a>) -> Result<DirOpArgs<'a>, XdrFault>
     ensures { Gives diropargs diropargs_value reader.old result reader.new }
 {
-    let dir = FileHandle::read(reader)?; // before the name
+    let dir = FileHandleRef::read(reader)?; // before the name
     let name = reader.opaque(MAXNAMLEN)?;
     Ok(DirOpArgs { dir, name })
 }
@@ -65,13 +65,13 @@ fn read_dir_op<'a>(reader: &mut Reader<'a>) -> Result<DirOpArgs<'a>, XdrFault>
 fn read_getattr<'a>(reader: &mut Reader<'a>) -> Result<NfsArgs<'a>, XdrFault>
     ensures { GivesCall procedures.Getattr reader.old result reader.new }
 {
-    Ok(NfsArgs::Getattr(FileHandle::read(reader)?))
+    Ok(NfsArgs::Getattr(FileHandleRef::read(reader)?))
 }
 
 fn read_setattr<'a>(reader: &mut Reader<'a>) -> Result<NfsArgs<'a>, XdrFault>
     ensures { GivesCall procedures.Setattr reader.old result reader.new }
 {
-    let file = FileHandle::read(reader)?;
+    let file = FileHandleRef::read(reader)?;
     let attributes = Sattr::read(reader)?;
     Ok(NfsArgs::Setattr { file, attributes })
 }
@@ -85,14 +85,14 @@ fn read_lookup<'a>(reader: &mut Reader<'a>) -> Result<NfsArgs<'a>, XdrFault>
 fn read_readlink<'a>(reader: &mut Reader<'a>) -> Result<NfsArgs<'a>, XdrFault>
     ensures { GivesCall procedures.Readlink reader.old result reader.new }
 {
-    Ok(NfsArgs::Readlink(FileHandle::read(reader)?))
+    Ok(NfsArgs::Readlink(FileHandleRef::read(reader)?))
 }
 
 /// READ's totalcount means nothing.
 fn read_read<'a>(reader: &mut Reader<'a>) -> Result<NfsArgs<'a>, XdrFault>
     ensures { GivesCall procedures.Read reader.old result reader.new }
 {
-    let file = FileHandle::read(reader)?;
+    let file = FileHandleRef::read(reader)?;
     let offset = reader.u32()?;
     let count = reader.u32()?;
     let _totalcount = reader.u32()?;
@@ -107,7 +107,7 @@ fn read_read<'a>(reader: &mut Reader<'a>) -> Result<NfsArgs<'a>, XdrFault>
 fn read_write<'a>(reader: &mut Reader<'a>) -> Result<NfsArgs<'a>, XdrFault>
     ensures { GivesCall procedures.Write reader.old result reader.new }
 {
-    let file = FileHandle::read(reader)?;
+    let file = FileHandleRef::read(reader)?;
     let _beginoffset = reader.u32()?;
     let offset = reader.u32()?; // of the data
     let _totalcount = reader.u32()?;
@@ -140,7 +140,7 @@ fn read_rename<'a>(reader: &mut Reader<'a>) -> Result<NfsArgs<'a>, XdrFault>
 fn read_link<'a>(reader: &mut Reader<'a>) -> Result<NfsArgs<'a>, XdrFault>
     ensures { GivesCall procedures.Link reader.old result reader.new }
 {
-    let file = FileHandle::read(reader)?;
+    let file = FileHandleRef::read(reader)?;
     let place = read_dir_op(reader)?;
     Ok(NfsArgs::Link { file, place })
 }
@@ -175,7 +175,7 @@ fn read_rmdir<'a>(reader: &mut Reader<'a>) -> Result<NfsArgs<'a>, XdrFault>
 fn read_readdir<'a>(reader: &mut Reader<'a>) -> Result<NfsArgs<'a>, XdrFault>
     ensures { GivesCall procedures.Readdir reader.old result reader.new }
 {
-    let dir = FileHandle::read(reader)?;
+    let dir = FileHandleRef::read(reader)?;
     let cookie = u32::from_be_bytes(*reader.fixed::<4>()?);
     let count = reader.u32()?;
     Ok(NfsArgs::Readdir { dir, cookie, count })
@@ -184,5 +184,5 @@ fn read_readdir<'a>(reader: &mut Reader<'a>) -> Result<NfsArgs<'a>, XdrFault>
 fn read_statfs<'a>(reader: &mut Reader<'a>) -> Result<NfsArgs<'a>, XdrFault>
     ensures { GivesCall procedures.Statfs reader.old result reader.new }
 {
-    Ok(NfsArgs::Statfs(FileHandle::read(reader)?))
+    Ok(NfsArgs::Statfs(FileHandleRef::read(reader)?))
 }

@@ -4,4 +4,4 @@ pub mod laws;
 pub mod worked;
 mod writing;
 
-pub use writing::write_result;
+pub use writing::{write_attributes, write_dir_op, write_result};

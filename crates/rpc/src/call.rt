@@ -63,6 +63,8 @@ pub enum CallFault {
 }
 
 /// A credential or a verifier. After an `Err` the reader may stand within it.
+// Inlined, what is read stays in registers (docs/SPEED.md).
+#[inline(always)]
 fn read_auth<'a>(reader: &mut Reader<'a>) -> Result<OpaqueAuth<'a>, XdrFault>
     ensures { Gives opaque_auth auth_value_of reader.old result reader.new }
 {

@@ -83,6 +83,8 @@ impl<'a> Reader<'a> {
     /// Opaque data or a string of at most `max` bytes (sections 4.10 and 4.11): `Short` where the length
     /// isn't there, `TooLong` where it is above `max`, `Short` where the bytes or their padding aren't there,
     /// `Padding` where that isn't zero.
+    // Each call has a few: inlined, what is read stays in registers (docs/SPEED.md).
+    #[inline(always)]
     #[tactic(auto, unfolding(crate::specs::Reading::opaque_at))]
     pub fn opaque(&mut self, max: u32) -> Result<&'a [u8], XdrFault>
         ensures { Reads (opaque max) (λ b. b.now) self.old result self.new }

@@ -103,6 +103,7 @@ impl Directory {
     }
 
     /// The entry with a name.
+    // Inlined, the hash of a short name needs no call (docs/SPEED.md).
     #[inline(always)]
     pub fn find(&self, name: &[u8]) -> Option<Entry>
         ensures { option_map (λ e. (e.number, e.cookie)) result ≡ entry_at self.now name.now }

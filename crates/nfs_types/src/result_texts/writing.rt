@@ -6,13 +6,15 @@ ghost use Rattle.std.specs.List.{flat_map};
 ghost use Rattle.nfs_items.specs.xdr.Item.{word, flag, linked, spelling};
 ghost use Rattle.nfs_items.specs.xdr.Writing.{Adds, Appends, Spends};
 ghost use Rattle.nfs_items.specs.Handle.{fhandle};
-ghost use Rattle.nfs_items.specs.Attributes.{fattr, fattr_value};
+ghost use Rattle.nfs_items.specs.Attributes.{fattr, fattr_value, outcome_text};
 ghost use Rattle.nfs_types.specs.Items.{path, nfsdata, entry, fs_stats};
 ghost use Rattle.nfs_types.specs.Texts.{entry_value, fs_stats_value, answer_text};
-ghost use Rattle.nfs_types.specs.Results.{answer_of, entry_of, HasLengths, IsShort, answer_bytes};
+ghost use Rattle.nfs_types.specs.Calls.{Attributes, DirOp};
+ghost use Rattle.nfs_types.specs.Results.{answer_of, dir_op_of, entry_of, outcome_of};
+ghost use Rattle.nfs_types.specs.Results.{HasLengths, IsShort, answer_bytes};
 
 use crate::{DirOpOk, FsStats, NfsResult, Page, PageEntry, ReadOk, SHORT_ANSWER};
-use nfs_items::{Fattr, Writer, all_or_nothing};
+use nfs_items::{Fattr, Stat, Writer, all_or_nothing};
 use std::alloc::AllocError;
 
 /// The stat of a call that was done (RFC 1094, section 2.3.1).
@@ -32,6 +34,51 @@ pub fn write_result(answer: &NfsResult, out: &mut Vec<u8>) -> Result<(), AllocEr
     all_or_nothing(out, start, written)
 }
 
+/// Appends what GETATTR answers (attrstat, section 2.3.9), as `write_result` does, and needs no `NfsResult`.
+pub fn write_attributes(
+    attributes: &Result<Fattr, Stat>,
+    out: &mut Vec<u8>,
+) -> Result<(), AllocError>
+    ensures { Appends (answer_text (Attributes attributes.now)) out.old.items result out.new.items }
+{
+    let start = out.len();
+    let written = add_attrstat(attributes, out);
+    all_or_nothing(out, start, written)
+}
+
+fn add_attrstat(attributes: &Result<Fattr, Stat>, out: &mut Vec<u8>) -> Result<(), AllocError>
+    ensures adds { Adds (outcome_text (λ a. spelling fattr (fattr_value a)) attributes.now)
+        out.old.items result out.new.items }
+    ensures room { SHORT_ANSWER ≤ vec_capacity out.old - vec_len out.old → IsOk result }
+{
+    match attributes {
+        Ok(attributes) => add_attributes(attributes, out),
+        Err(stat) => stat.write(out),
+    }
+}
+
+/// Appends what LOOKUP answers (diropres, section 2.3.11), as `write_result` does, and needs no `NfsResult`.
+pub fn write_dir_op(found: &Result<DirOpOk, Stat>, out: &mut Vec<u8>) -> Result<(), AllocError>
+    ensures { Appends (answer_text (DirOp (outcome_of dir_op_of found.now)))
+        out.old.items result out.new.items }
+{
+    let start = out.len();
+    let written = add_diropres(found, out);
+    all_or_nothing(out, start, written)
+}
+
+fn add_diropres(found: &Result<DirOpOk, Stat>, out: &mut Vec<u8>) -> Result<(), AllocError>
+    ensures adds { Adds
+        (outcome_text (λ x. spelling fhandle x.file.0 ++ spelling fattr (fattr_value x.attributes)) found.now)
+        out.old.items result out.new.items }
+    ensures room { SHORT_ANSWER ≤ vec_capacity out.old - vec_len out.old → IsOk result }
+{
+    match found {
+        Ok(found) => add_dir_op(found, out),
+        Err(stat) => stat.write(out),
+    }
+}
+
 fn add_result(answer: &NfsResult, out: &mut Vec<u8>) -> Result<(), AllocError>
     requires { HasLengths answer.now }
     ensures adds { Adds (answer_bytes answer.now) out.old.items result out.new.items }
@@ -39,16 +86,14 @@ fn add_result(answer: &NfsResult, out: &mut Vec<u8>) -> Result<(), AllocError>
 {
     match answer {
         NfsResult::Nothing => Ok(()),
-        NfsResult::Attributes(Ok(attributes)) => add_attributes(attributes, out),
-        NfsResult::DirOp(Ok(found)) => add_dir_op(found, out),
+        NfsResult::Attributes(attributes) => add_attrstat(attributes, out),
+        NfsResult::DirOp(found) => add_diropres(found, out),
         NfsResult::Target(Ok(target)) => add_target(target, out),
         NfsResult::Bytes(Ok(read)) => add_read(read, out),
         NfsResult::Status(Ok(())) => out.put_u32(OK),
         NfsResult::Entries(Ok(page)) => add_page(page, out),
         NfsResult::Free(Ok(fs_stats)) => add_fs_stats(fs_stats, out),
-        NfsResult::Attributes(Err(stat))
-        | NfsResult::DirOp(Err(stat))
-        | NfsResult::Target(Err(stat))
+        NfsResult::Target(Err(stat))
         | NfsResult::Bytes(Err(stat))
         | NfsResult::Status(Err(stat))
         | NfsResult::Entries(Err(stat))

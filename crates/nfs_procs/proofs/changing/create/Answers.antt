@@ -15,7 +15,7 @@ use Rattle.nfs_procs.proofs.changing.create.Goals as goal
 pub returns : goal.returns
 returns c =
     let fs = c.args.tree.now in
-    let d = number_for fs c.args.place.dir.0 in
+    let d = number_for fs c.args.place.dir.0.now in
     let who = caller_of c.args.who.now in
     let a = given_fields c.args.now c.args.attributes.now in (
       tt,

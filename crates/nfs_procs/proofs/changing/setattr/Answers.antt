@@ -11,7 +11,7 @@ use Rattle.nfs_procs.proofs.changing.setattr.Goals as goal
 pub returns : goal.returns
 returns c =
     let fs = c.args.tree.now in
-    let n = number_for fs c.args.file.0 in
+    let n = number_for fs c.args.file.0.now in
     let who = caller_of c.args.who.now in
     let a = given_fields c.args.now c.args.attributes.now in (
       tt,

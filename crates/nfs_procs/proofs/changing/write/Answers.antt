@@ -10,7 +10,7 @@ use Rattle.nfs_procs.proofs.changing.write.Goals as goal
 pub returns : goal.returns
 returns c =
     let fs = c.args.tree.now in
-    let n = number_for fs c.args.file.0 in
+    let n = number_for fs c.args.file.0.now in
     let who = caller_of c.args.who.now in (
       tt,
       attributes_told fs c.write.new.self n (write fs who c.args.now n c.args.offset c.args.bytes.now) c.in_ok-done.done

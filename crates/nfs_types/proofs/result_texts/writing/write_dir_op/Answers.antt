@@ -1,0 +1,15 @@
+use Rattle.std.proofs.Common.{List, ℕ, sym, subst, ◌∙◌}
+use Rattle.nfs_items.specs.xdr.Writing.{Appends}
+use Rattle.nfs_types.specs.Results.{answer_bytes}
+use Rattle.nfs_types.specs.declared.results.NfsResult.TheVariants as code
+use Rattle.nfs_types.proofs.OfResultTexts.AnswersSaid.{answers_say}
+use Rattle.nfs_types.proofs.result_texts.writing.write_dir_op.Goals as goal
+
+-- the bytes are those of the answer that has it
+pub returns : goal.returns
+returns c =
+    subst (λ (t : List ℕ). Appends t c.args.out.now.items
+    c.all_or_nothing.result c.all_or_nothing.new.out.items)
+    (sym (answers_say (code.DirOp c.args.found.now)))
+    (c.all_or_nothing.ensures.text (answer_bytes (code.DirOp c.args.found.now))
+    c.args.out.now.items (sym (c.len-start.ensures ∙ c.args.out.now.ok.0)) c.add_diropres-written.ensures.adds)
