@@ -17,7 +17,7 @@ use std::alloc::{AllocError, Global};
 /// The digest of a state: that of its text with each file's digest in the place of the file's text.
 #[tactic(auto, unfolding(state_spec::specs::StateText::state_digest))]
 pub fn state_digest(alloc: Global, state: &State) -> Result<[u8; 32], AllocError>
-    ensures { IfOk result (λ digest. digest ≡ state_digest state.now) }
+    ensures { IfOk result (λ digest. digest ≡ state_digest state.now.state) }
 {
     let mut out = Vec::new(alloc);
     add_front(state, &mut out)?;

@@ -21,7 +21,7 @@ const VERSION: u32 = 1;
 
 /// Appends all of a state's text up to its files; where memory is refused a part may stand.
 pub fn add_front(state: &State, out: &mut Vec<u8>) -> Result<(), AllocError>
-    ensures { Adds (front_text state.now) out.old.items result out.new.items }
+    ensures { Adds (front_text state.now.state) out.old.items result out.new.items }
 {
     out.put_u32(VERSION)?;
     out.put_u32(state.node())?;

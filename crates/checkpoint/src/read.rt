@@ -69,11 +69,11 @@ impl From<AllocError> for StateFault {
 /// `NotAState` where they are spelled so and no state says what they say, `NoMemory` only where a growth was
 /// refused.
 pub fn read_state(alloc: Global, bytes: &[u8]) -> Result<State, StateFault>
-    ensures found { IfOk result (λ state. IsStateText state bytes.now) }
+    ensures found { IfOk result (λ state. IsStateText state.state bytes.now) }
     ensures garbage { IfErr result (λ error. error ≡ Garbage → IsGarbage bytes.now) }
     ensures not_a_state { IfErr result (λ error. error ≡ NotAState → IsNotAState bytes.now) }
     ensures only { (s : spec.State) → IsStateText s bytes.now →
-        MatchResult result (λ state. state ≡ s) (λ error. error ≡ NoMemory) }
+        MatchResult result (λ state. state.state ≡ s) (λ error. error ≡ NoMemory) }
 {
     match read_parts(alloc, bytes) {
         Ok(parts) => match state_of(alloc, &parts)? {
@@ -90,7 +90,7 @@ fn state_of(alloc: Global, parts: &StatePart) -> Result<Option<State>, AllocErro
     requires bounds { AreBounded parts.now }
     requires fits { Fits (state_item file_item) (state_said parts.now) }
     ensures { IfOk result (λ state. MatchOption state (KeepsRules (state_said parts.now) → ⊥)
-        (λ s. (s ≡ state_from (state_said parts.now)) × KeepsRules (state_said parts.now))) }
+        (λ s. (s.state ≡ state_from (state_said parts.now)) × KeepsRules (state_said parts.now))) }
 {
     let Some(received) = Received::of_rising(alloc, &parts.received)? else {
         return Ok(None);
@@ -137,7 +137,7 @@ fn service_of(
 ) -> Result<Option<Service>, AllocError>
     requires { IsBoundedWorld world.now }
     ensures { IfOk result (λ service. MatchOption service (IsServed node world.now → ⊥)
-        (λ s. (s ≡ world_given node clock world.now) × IsServed node world.now)) }
+        (λ s. (s.world ≡ world_given node clock world.now) × IsServed node world.now)) }
 {
     let Some(tree) = tree_of(alloc, node, world.next, &world.files)? else {
         return Ok(None);

@@ -1,6 +1,6 @@
 //! Digests of files that are kept from one digest of a state to the next.
 
-ghost use Rattle.std.specs.Prelude.{◌≡◌, ◌≤◌, IfOk};
+ghost use Rattle.std.specs.Prelude.{◌≡◌, ◌≤◌, [], IfOk, OnOk, length};
 ghost use Rattle.fs_model.specs.Maxima.{max_files};
 
 use state_machine::State;
@@ -11,8 +11,10 @@ use std::alloc::{AllocError, Global};
 /// `state_digest` takes those that are kept. The state stays. Where memory is refused, some more digests may
 /// be kept.
 pub fn renew(alloc: Global, state: &mut State) -> Result<u32, AllocError>
-    ensures same { state.new ≡ state.old }
-    ensures count { IfOk result (λ count. count ≤ max_files) }
+    ensures same { state.new.state ≡ state.old.state }
+    ensures count { IfOk result (λ count. count ≡ length state.old.missing) }
+    ensures few { IfOk result (λ count. count ≤ max_files) }
+    ensures whole { OnOk result (state.new.missing ≡ []) }
 {
     state.renew_digests(alloc)
 }

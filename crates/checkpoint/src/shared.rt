@@ -38,7 +38,7 @@ impl SharedState {
     /// A state to be shared, by its text. Takes memory for the text, and once for its owners' count;
     /// `AllocError` comes only where a growth was refused.
     pub fn new(alloc: Global, state: &State) -> Result<SharedState, AllocError>
-        ensures { IfOk result (λ s. s ≡ state.now) }
+        ensures { IfOk result (λ s. s ≡ state.now.state) }
     {
         let text = state_text(alloc, state)?;
         match Arc::new(alloc, text) {
@@ -72,7 +72,7 @@ impl SharedState {
 
     /// The state, read from its text. `AllocError` comes only where a growth was refused.
     pub fn state(&self, alloc: Global) -> Result<State, AllocError>
-        ensures { IfOk result (λ s. s ≡ self.now) }
+        ensures { IfOk result (λ s. s.state ≡ self.now) }
     {
         // The text is a state's: it is refused only where memory runs out.
         match read_state(alloc, self.text()) {

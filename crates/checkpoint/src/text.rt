@@ -14,7 +14,7 @@ use std::alloc::{AllocError, Global};
 
 /// The text of a state (RFC 4506), as docs/FORMATS.md has it.
 pub fn state_text(alloc: Global, state: &State) -> Result<Vec<u8>, AllocError>
-    ensures { IfOk result (λ bytes. IsStateText state.now bytes.items) }
+    ensures { IfOk result (λ bytes. IsStateText state.now.state bytes.items) }
 {
     state.is_a_state();
     let mut out = Vec::new(alloc);

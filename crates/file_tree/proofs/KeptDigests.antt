@@ -11,7 +11,11 @@ use Rattle.nfs_spec.proofs.fs_model.OfChanges.Finite.{changed_here, changed_othe
 use Rattle.nfs_spec.specs.Sattr.{GivenFields, gives_any}
 use Rattle.nfs_spec.specs.Changes.{apply_fields}
 use Rattle.file_tree.specs.declared.digests.FileDigests.{FileDigests}
-use Rattle.file_tree.specs.KeptDigests.{AreKept, Forgets, IsDigestAt, kept_at}
+use Rattle.file_tree.specs.KeptDigests.{AreKept, Forgets, IsDigestAt, KeptFiles, kept_at}
+
+-- the files of what is seen of a tree
+pub files_seen : {a b : KeptFiles} → a ≡ b → a.files ≡ b.files
+files_seen e = ap (λ (k : KeptFiles). k.files) e
 
 -- what is still kept is of another number, and was kept before
 still : (number : ℕ) (k k' : FileDigests) → Forgets number k k' → (n : ℕ) (d : List ℕ) → kept_at k' n ≡ Some d

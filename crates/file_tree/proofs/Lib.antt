@@ -4,6 +4,7 @@ mod OfNameChecks
 pub mod OfFileChecks
 mod FilesSeen
 mod KeptDigests
+mod MissingDigests
 mod RenewedDigests
 pub mod WritableFiles
 mod LookUpPaths

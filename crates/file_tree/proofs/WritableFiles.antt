@@ -55,7 +55,7 @@ distinct (e ∷ es) h =
     (apart e.0 es b.0, distinct es b.1)
 
 -- what stands at a place is there
-there : (w : Files) (k : ℕ) (e : ℕ × File) → slice_get (finite.entries w.files) k ≡ Some e
+pub there : (w : Files) (k : ℕ) (e : ℕ × File) → slice_get (finite.entries w.files) k ≡ Some e
     → file_at w e.0 ≡ Some e.1
 there w k e at =
     finite.get-entries w.files e.0

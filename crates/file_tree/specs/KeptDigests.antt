@@ -1,9 +1,13 @@
 -- Digests of the texts of files, kept beside the files.
-use Rattle.std.specs.Prelude.{◌≡◌, ◌≢◌, ℕ, List, Option, Some, None, is_none, count_by}
-use Rattle.std.specs.Ordering.{nat_cmp}
+use Rattle.std.specs.Prelude.{◌≡◌, ◌≢◌, ℕ, Bool, false, List, map, Option, Some, None, is_none, is_some, refl}
+use Rattle.std.specs.Prelude.{count_by}
+use Rattle.std.specs.List.{filter, list_any}
+use Rattle.std.specs.Ordering.{eq_by_cmp, nat_cmp}
 use Rattle.std.specs.BTreeMap.{get}
+use Rattle.std.specs.Coded.{Coded, code_by, coded×, coded_list, coded_ℕ}
+use Rattle.std.specs.FinMap as finite
 use Rattle.nfs_spec.specs.nfs_items.Terms.{FileNumber}
-use Rattle.nfs_spec.specs.fs_model.Files.{File, Files, file_at}
+use Rattle.nfs_spec.specs.fs_model.Files.{File, Files, file_at, files_code}
 use Rattle.inode_table.specs.inodes.Inodes.{file_in}
 use Rattle.inode_table.specs.inodes.declared.inode.Inode.{Inode}
 use Rattle.file_texts.specs.Bounds.{IsWritable}
@@ -28,9 +32,46 @@ pub record Forgets (number : FileNumber) (old new : FileDigests) : Type 0 where
   pub gone : kept_at new number ≡ None
   pub others : (n : FileNumber) → n ≢ number → kept_at new n ≡ kept_at old n
 
+-- a file has none
+abbrev pub has_none : FileDigests → FileNumber × File → Bool
+has_none digests e = is_none (kept_at digests e.0)
+
 -- how many files have none
-abbrev pub missing : FileDigests → List (FileNumber × File) → ℕ
-missing digests es = count_by (λ (e : FileNumber × File). is_none (kept_at digests e.0)) es
+abbrev pub count_missing : FileDigests → List (FileNumber × File) → ℕ
+count_missing digests es = count_by (has_none digests) es
+
+-- the numbers of the files that have none, which rise
+abbrev pub missing_in : FileDigests → Files → List FileNumber
+missing_in digests fs = map (λ (e : FileNumber × File). e.0)
+    (filter (has_none digests) (finite.entries fs.files))
+
+-- files, and the numbers of those whose digest isn't kept
+pub record KeptFiles : Type 0 where
+  pub files : Files
+  pub missing : List FileNumber
+
+-- they are told apart by both
+abbrev pub kept_files_code : Coded KeptFiles
+kept_files_code =
+    code_by (Files × List FileNumber) (coded× files_code (coded_list coded_ℕ)) (λ k. (k.files, k.missing))
+    (λ p. record { files = p.0; missing = p.1 }) (λ _. refl)
+
+-- a number's file has no digest that is kept
+abbrev pub is_missing : KeptFiles → FileNumber → Bool
+is_missing k n = list_any (eq_by_cmp nat_cmp n) k.missing
+
+-- no file has one
+abbrev pub AreAllMissing : KeptFiles → Type 0
+AreAllMissing k = (n : FileNumber) → is_missing k n ≡ is_some (file_at k.files n)
+
+-- all that is kept stays kept
+abbrev pub KeepsAll : KeptFiles → KeptFiles → Type 0
+KeepsAll old new = (n : FileNumber) → is_missing old n ≡ false → is_missing new n ≡ false
+
+-- what is kept of all other files than these stays as it is
+abbrev pub KeepsOthers : List FileNumber → KeptFiles → KeptFiles → Type 0
+KeepsOthers changed old new = (n : FileNumber) → list_any (eq_by_cmp nat_cmp n) changed ≡ false
+    → is_missing new n ≡ is_missing old n
 
 -- an inode is that of a number's file, and a text can hold it
 abbrev pub IsWritableAt : Files → FileNumber × Inode → Type 0

@@ -1,16 +1,16 @@
 //! Digests of the texts of files, kept beside the files.
 
-ghost use Rattle.std.specs.Prelude.{◌≡◌, ◌≤◌, ◌⊎◌, List, ℕ, IfOk, IsSome, OnOk, Some, None, length};
+ghost use Rattle.std.specs.Prelude.{◌≡◌, ◌≤◌, ◌⊎◌, [], List, ℕ, IfOk, IsSome, OnOk};
+ghost use Rattle.std.specs.Prelude.{Some, None, length};
 ghost use Rattle.std.specs.Option.{option_copied};
 ghost use Rattle.std.specs.FinMap as finite;
 ghost use Rattle.nfs_spec.specs.nfs_items.Terms.{FileNumber};
-ghost use Rattle.nfs_spec.specs.fs_model.Files.{file_at};
 ghost use Rattle.nfs_spec.specs.fs_model.Maxima.{max_files};
 ghost use Rattle.inode_table.specs.inodes.Inodes.{body_in, file_in};
 ghost use Rattle.inode_table.specs.tree_rules.Listed.{files_in};
 ghost use Rattle.file_texts.specs.Bounds.{IsWritable};
 ghost use Rattle.file_texts.specs.FileItems.{file_digest};
-ghost use Rattle.file_tree.specs.KeptDigests.{AreKept, Forgets, kept_at, missing};
+ghost use Rattle.file_tree.specs.KeptDigests.{AreKept, Forgets, count_missing, kept_at, missing_in};
 
 use file_texts::file_digest;
 use inode_table::{Inode, InodeTable};
@@ -52,10 +52,10 @@ impl FileDigests {
     /// kept stay. Where memory is refused, some more may be kept.
     pub fn renew(&mut self, alloc: Global, table: &InodeTable) -> Result<u32, AllocError>
         requires { AreKept self.old table.now }
-        ensures count { IfOk result (λ count. count ≡ missing self.old (finite.entries table.now.files)) }
+        ensures count { IfOk result (λ count. count ≡ length (missing_in self.old table.now)) }
         ensures few { IfOk result (λ count. count ≤ max_files) }
-        ensures whole { OnOk result ((n : FileNumber) → IsSome (file_at table.now n) →
-            IsSome (kept_at self.new n)) }
+        ensures whole { OnOk result (missing_in self.new table.now ≡ []) }
+        ensures stay { (n : FileNumber) → IsSome (kept_at self.old n) → IsSome (kept_at self.new n) }
         ensures kept { AreKept self.new table.now }
     {
         table.files_are_a_tree();
@@ -70,7 +70,7 @@ impl FileDigests {
     /// How many files have no digest.
     fn count_missing(&self, inodes: Iter<'_, u32, Inode>) -> u32
         requires { length inodes ≤ max_files }
-        ensures count { result ≡ missing self.now (files_in inodes.entry) }
+        ensures count { result ≡ count_missing self.now (files_in inodes.entry) }
         ensures few { result ≤ max_files }
     {
         let mut count = 0;

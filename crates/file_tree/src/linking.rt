@@ -1,11 +1,11 @@
 //! Calls that give a file one more name, or take one away.
 
-ghost use Rattle.std.specs.Prelude.{◌≡◌, ◌≤◌, length};
+ghost use Rattle.std.specs.Prelude.{◌≡◌, ◌≤◌, ◌∷◌, [], length};
 ghost use Rattle.nfs_spec.specs.nfs_items.CallerOf.{caller_of};
 ghost use Rattle.nfs_spec.specs.fs_model.Maxima.{max_name};
 ghost use Rattle.nfs_spec.specs.Procedures.{link};
 ghost use Rattle.inode_table.specs.nfs_laws.Laws.{NamesIn};
-ghost use Rattle.file_tree.specs.Performs.{Performs, IfDone};
+ghost use Rattle.file_tree.specs.Performs.{Performs, IfDone, KeepsDigests};
 
 use crate::file_checks::check_link;
 use crate::tree::Tree;
@@ -26,9 +26,10 @@ impl Tree {
         name: &[u8],
     ) -> Result<Result<(), Stat>, AllocError>
         requires { length name.now ≤ max_name }
-        ensures effect { Performs (link self.old (caller_of who.now) now number dir name.now)
-            self.old result self.new }
-        ensures paths { IfDone result (λ done. NamesIn self.old self.new dir name.now number) }
+        ensures effect { Performs (link self.old.files (caller_of who.now) now number dir name.now)
+            self.old.files result self.new.files }
+        ensures paths { IfDone result (λ done. NamesIn self.old.files self.new.files dir name.now number) }
+        ensures digests { KeepsDigests (λ _. number ∷ dir ∷ []) self.old result self.new }
     {
         self.table.files_are_a_tree();
         if let Err(stat) = check_link(&self.table, who, number, dir, name) {

@@ -1,6 +1,6 @@
 //! Calls that make files.
 
-ghost use Rattle.std.specs.Prelude.{◌≡◌, ◌≤◌, ◌+◌, [], Ok, None, length};
+ghost use Rattle.std.specs.Prelude.{◌≡◌, ◌≤◌, ◌+◌, [], ◌∷◌, Ok, None, length};
 ghost use Rattle.nfs_spec.specs.nfs_items.CallerOf.{caller_of};
 ghost use Rattle.nfs_spec.specs.fs_model.Files.{listing_in, directory_entries};
 ghost use Rattle.nfs_spec.specs.fs_model.Maxima.{max_name, max_number, max_target};
@@ -11,7 +11,7 @@ ghost use Rattle.inode_table.specs.nfs_laws.Laws.{AreValidFields, NamesIn};
 ghost use Rattle.inode_table.specs.inodes.Given.{given_in};
 ghost use Rattle.inode_table.specs.inodes.Inodes.{body_in, file_in};
 ghost use Rattle.file_tree.specs.FileChecks.Creates.{DecidesCreate};
-ghost use Rattle.file_tree.specs.Performs.{Performs, IfDone};
+ghost use Rattle.file_tree.specs.Performs.{Performs, IfDone, KeepsDigests};
 
 use crate::file_checks::{check_make, find_to_create};
 use crate::tree::Tree;
@@ -45,12 +45,15 @@ impl Tree {
     ) -> Result<Result<u32, Stat>, AllocError>
         requires { length name.now ≤ max_name }
         ensures effect { Performs
-            (create self.old (caller_of who.now) now dir name.now (given_fields now attributes.now))
-            self.old result self.new }
+            (create self.old.files (caller_of who.now) now dir name.now (given_fields now attributes.now))
+            self.old.files result self.new.files }
 
         // Where the name was free, there is one path more for each of the directory.
-        ensures paths { directory_entries self.old dir name.now ≡ None →
-            IfDone result (λ number. NamesIn self.old self.new dir name.now number) }
+        ensures paths { directory_entries self.old.files dir name.now ≡ None →
+            IfDone result (λ number. NamesIn self.old.files self.new.files dir name.now number) }
+
+        // The digests of all other files stay kept, as do all where nothing changed.
+        ensures digests { KeepsDigests (λ number. dir ∷ number ∷ []) self.old result self.new }
     {
         let given = Given::of(attributes, now);
         match find_to_create(&self.table, who, dir, name, given.size) {
@@ -75,12 +78,14 @@ impl Tree {
     ) -> Result<Result<u32, Stat>, AllocError>
         requires name { length name.now ≤ max_name }
         requires valid { AreValidFields (given_in given.now) }
-        requires granted { DecidesCreate self.old (caller_of who.now) now dir name.now (given_in given.now)
+        requires granted { DecidesCreate self.old.files (caller_of who.now) now dir name.now
+            (given_in given.now)
             (Ok None) }
         ensures effect { Performs
-            (create self.old (caller_of who.now) now dir name.now (given_in given.now))
-            self.old result self.new }
-        ensures paths { IfDone result (λ number. NamesIn self.old self.new dir name.now number) }
+            (create self.old.files (caller_of who.now) now dir name.now (given_in given.now))
+            self.old.files result self.new.files }
+        ensures paths { IfDone result (λ number. NamesIn self.old.files self.new.files dir name.now number) }
+        ensures digests { KeepsDigests (λ number. dir ∷ number ∷ []) self.old result self.new }
     {
         self.table.files_are_a_tree();
         let body = Body::zeros(alloc, given.size.unwrap_or(0))?;
@@ -103,9 +108,10 @@ impl Tree {
     ) -> Result<Result<u32, Stat>, AllocError>
         requires { length name.now ≤ max_name }
         ensures effect { Performs
-            (make_dir self.old (caller_of who.now) now dir name.now (given_fields now attributes.now))
-            self.old result self.new }
-        ensures paths { IfDone result (λ number. NamesIn self.old self.new dir name.now number) }
+            (make_dir self.old.files (caller_of who.now) now dir name.now (given_fields now attributes.now))
+            self.old.files result self.new.files }
+        ensures paths { IfDone result (λ number. NamesIn self.old.files self.new.files dir name.now number) }
+        ensures digests { KeepsDigests (λ number. dir ∷ number ∷ []) self.old result self.new }
     {
         let given = Given::of(attributes, now);
         let body = Body::Directory {
@@ -135,9 +141,10 @@ impl Tree {
     ) -> Result<Result<u32, Stat>, AllocError>
         requires name { length name.now ≤ max_name }
         requires target { length target.now ≤ max_target }
-        ensures effect { Performs (symlink self.old (caller_of who.now) now dir name.now target.now)
-            self.old result self.new }
-        ensures paths { IfDone result (λ number. NamesIn self.old self.new dir name.now number) }
+        ensures effect { Performs (symlink self.old.files (caller_of who.now) now dir name.now target.now)
+            self.old.files result self.new.files }
+        ensures paths { IfDone result (λ number. NamesIn self.old.files self.new.files dir name.now number) }
+        ensures digests { KeepsDigests (λ number. dir ∷ number ∷ []) self.old result self.new }
     {
         let body = Body::Symlink(target.to_vec(alloc)?);
         self.make(
@@ -164,9 +171,10 @@ impl Tree {
         requires file { IsFile (file_in inode) }
         requires empty { (listing_in (body_in inode.body)).entries ≡ [] }
         requires cookie { (listing_in (body_in inode.body)).next ≤ max_number + 1 }
-        ensures effect { Performs (make self.old (caller_of who.now) now dir name.now (file_in inode))
-            self.old result self.new }
-        ensures paths { IfDone result (λ number. NamesIn self.old self.new dir name.now number) }
+        ensures effect { Performs (make self.old.files (caller_of who.now) now dir name.now (file_in inode))
+            self.old.files result self.new.files }
+        ensures paths { IfDone result (λ number. NamesIn self.old.files self.new.files dir name.now number) }
+        ensures digests { KeepsDigests (λ number. dir ∷ number ∷ []) self.old result self.new }
     {
         self.table.files_are_a_tree();
         if let Err(stat) = check_make(&self.table, who, dir, name, inode.body.blocks()) {

@@ -11,7 +11,7 @@ impl Tree {
     /// The number that a directory lists under a name, whoever asks; none where the directory's number is no
     /// directory's, or it lists no such name. It lists neither `.` nor `..`.
     pub fn child(&self, dir: u32, name: &[u8]) -> Option<u32>
-        ensures { result ≡ option_map file_number (directory_entries self.now dir name.now) }
+        ensures { result ≡ option_map file_number (directory_entries self.now.files dir name.now) }
     {
         match &self.table.get(dir)?.body {
             Body::Directory { listing, .. } => listing.find(name).map(|entry| entry.number),

@@ -26,7 +26,7 @@ impl Tree {
     /// The target of a symbolic link (RFC 1094, section 2.2.6), at most 1,024 bytes. Stale where no file has
     /// the number, NxIo where that file is no symbolic link.
     pub fn read_link(&self, number: u32) -> Result<&[u8], Stat>
-        ensures value { outcome_of (λ target. target.now) result ≡ read_link self.now number }
+        ensures value { outcome_of (λ target. target.now) result ≡ read_link self.now.files number }
         ensures size { IfOk result (λ target. length target.now ≤ max_target) }
     {
         let Some(inode) = self.table.get(number) else {
@@ -39,7 +39,8 @@ impl Tree {
     /// section 2.2.7); none past its end. Stale where no file has the number, IsDir, NxIo for a symbolic
     /// link, and Acces where the caller may neither read nor execute it, in this order.
     pub fn read(&self, who: &Who, number: u32, offset: u32, count: u32) -> Result<ReadOk<'_>, Stat>
-        ensures value { outcome_of bytes_of result ≡ read self.now (caller_of who.now) number offset count }
+        ensures value { outcome_of bytes_of result
+            ≡ read self.now.files (caller_of who.now) number offset count }
         ensures size { IfOk result (λ read. length read.«data».now ≤ max_data) }
     {
         let Some(inode) = self.table.get(number) else {
@@ -68,7 +69,7 @@ impl Tree {
         count: u32,
     ) -> Result<Result<Page<'_>, Stat>, AllocError>
         ensures value { IfOk result (λ r.
-            outcome_of page_of r ≡ read_dir self.now (caller_of who.now) dir cookie count) }
+            outcome_of page_of r ≡ read_dir self.now.files (caller_of who.now) dir cookie count) }
         ensures names { IfOk result (λ r. IfOk r (λ page.
             All (λ e. length e.name.now ≤ max_name) page.entries.items)) }
     {
@@ -86,7 +87,7 @@ impl Tree {
         count: u32,
     ) -> Result<Result<Page<'_>, Stat>, AllocError>
         ensures { IfOk result (λ r.
-            outcome_of page_of r ≡ read_dir self.now (caller_of who.now) dir cookie count) }
+            outcome_of page_of r ≡ read_dir self.now.files (caller_of who.now) dir cookie count) }
     {
         let Some(inode) = self.table.get(dir) else {
             return Ok(Err(Stat::Stale));
@@ -103,7 +104,7 @@ impl Tree {
     /// The figures of the file system (RFC 1094, section 2.2.18): free is what the regular files leave. Stale
     /// where no file has the number.
     pub fn figures(&self, number: u32) -> Result<FsStats, Stat>
-        ensures { result ≡ stat_fs self.now number }
+        ensures { result ≡ stat_fs self.now.files number }
     {
         if self.table.get(number).is_none() {
             return Err(Stat::Stale);

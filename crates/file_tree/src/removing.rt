@@ -1,10 +1,10 @@
 //! Calls that take names out.
 
-ghost use Rattle.std.specs.Prelude.{◌≡◌, OnOk};
+ghost use Rattle.std.specs.Prelude.{◌≡◌, ◌∷◌, OnOk};
 ghost use Rattle.nfs_spec.specs.nfs_items.CallerOf.{caller_of};
 ghost use Rattle.nfs_spec.specs.Procedures.{remove, remove_dir};
 ghost use Rattle.inode_table.specs.nfs_laws.Laws.{UnnamesIn};
-ghost use Rattle.file_tree.specs.Performs.{Does};
+ghost use Rattle.file_tree.specs.Performs.{Does, Keeps, named_in};
 
 use crate::name_checks::{check_remove, check_remove_dir};
 use crate::tree::Tree;
@@ -14,11 +14,12 @@ impl Tree {
     /// Takes a name of a file or symbolic link out (RFC 1094, section 2.2.11), and with its last name the
     /// file. Stale, NotDir, Acces, NoEnt and IsDir, in this order. A refusal leaves the files as they were.
     pub fn remove(&mut self, who: &Who, now: Time, dir: u32, name: &[u8]) -> Result<(), Stat>
-        ensures effect { Does (remove self.old (caller_of who.now) now dir name.now)
-            self.old result self.new }
+        ensures effect { Does (remove self.old.files (caller_of who.now) now dir name.now)
+            self.old.files result self.new.files }
 
         // One path less for each of the directory.
-        ensures paths { OnOk result (UnnamesIn self.old self.new dir name.now) }
+        ensures paths { OnOk result (UnnamesIn self.old.files self.new.files dir name.now) }
+        ensures digests { Keeps (λ _. dir ∷ named_in self.old.files dir name.now) self.old result self.new }
     {
         self.table.files_are_a_tree();
         let number = check_remove(&self.table, who, dir, name)?;
@@ -32,9 +33,10 @@ impl Tree {
     /// then NotDir of what isn't a directory, and NotEmpty, in this order. A refusal leaves the files as they
     /// were.
     pub fn remove_dir(&mut self, who: &Who, now: Time, dir: u32, name: &[u8]) -> Result<(), Stat>
-        ensures effect { Does (remove_dir self.old (caller_of who.now) now dir name.now)
-            self.old result self.new }
-        ensures paths { OnOk result (UnnamesIn self.old self.new dir name.now) }
+        ensures effect { Does (remove_dir self.old.files (caller_of who.now) now dir name.now)
+            self.old.files result self.new.files }
+        ensures paths { OnOk result (UnnamesIn self.old.files self.new.files dir name.now) }
+        ensures digests { Keeps (λ _. dir ∷ named_in self.old.files dir name.now) self.old result self.new }
     {
         self.table.files_are_a_tree();
         let number = check_remove_dir(&self.table, who, dir, name)?;

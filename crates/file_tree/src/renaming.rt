@@ -1,12 +1,12 @@
 //! RENAME.
 
-ghost use Rattle.std.specs.Prelude.{◌≡◌, ◌≤◌, length};
+ghost use Rattle.std.specs.Prelude.{◌≡◌, ◌≤◌, ◌∷◌, ◌++◌, length};
 ghost use Rattle.nfs_spec.specs.nfs_items.CallerOf.{caller_of};
 ghost use Rattle.nfs_spec.specs.fs_model.Maxima.{max_name};
 ghost use Rattle.nfs_spec.specs.Procedures.{rename};
 ghost use Rattle.inode_table.specs.nfs_laws.Steps.Granted.{IsSameFile};
 ghost use Rattle.inode_table.specs.nfs_laws.Laws.{RenamesIn};
-ghost use Rattle.file_tree.specs.Performs.{Performs, IfDone};
+ghost use Rattle.file_tree.specs.Performs.{Performs, IfDone, KeepsDigests, named_in};
 
 use crate::name_checks::{Move, check_rename};
 use crate::tree::Tree;
@@ -30,13 +30,16 @@ impl Tree {
         to_name: &[u8],
     ) -> Result<Result<(), Stat>, AllocError>
         requires { length to_name.now ≤ max_name }
-        ensures effect { Performs (rename self.old (caller_of who.now) now from from_name.now to to_name.now)
-            self.old result self.new }
+        ensures effect { Performs
+            (rename self.old.files (caller_of who.now) now from from_name.now to to_name.now)
+            self.old.files result self.new.files }
 
         // All that was below the one path is below the other.
         ensures paths { IfDone result (λ done.
-            (IsSameFile self.old from from_name.now to to_name.now → ⊥) →
-            RenamesIn self.old self.new from from_name.now to to_name.now) }
+            (IsSameFile self.old.files from from_name.now to to_name.now → ⊥) →
+            RenamesIn self.old.files self.new.files from from_name.now to to_name.now) }
+        ensures digests { KeepsDigests (λ _. from ∷ to ∷ named_in self.old.files from from_name.now
+            ++ named_in self.old.files to to_name.now) self.old result self.new }
     {
         self.table.files_are_a_tree();
         let moved = match check_rename(&self.table, who, from, from_name, to, to_name) {

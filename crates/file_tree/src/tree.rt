@@ -9,6 +9,7 @@ ghost use Rattle.nfs_spec.specs.fs_model.Changes.Limits.{has_room};
 ghost use Rattle.nfs_spec.specs.Effects.{attributes_at, number_at_name};
 ghost use Rattle.nfs_spec.specs.Opening.{opening_files};
 ghost use Rattle.inode_table.specs.nfs_laws.Sizes.Bounds.{AreWords};
+ghost use Rattle.file_tree.specs.KeptDigests.{AreAllMissing};
 ghost use Rattle.file_tree.specs.LookUps.{LeadsOn, LeadsBack};
 
 use crate::digests::FileDigests;
@@ -26,15 +27,13 @@ pub struct Tree {
 }
 
 impl Model for Tree {
-    ghost use Rattle.nfs_spec.specs.fs_model.Files.{Files, files_code};
+    ghost use Rattle.file_tree.specs.KeptDigests.{AreKept, KeptFiles, kept_files_code, missing_in};
 
-    ghost Value = { Files };
+    ghost Value = { KeptFiles };
 
-    ghost coded = { files_code };
+    ghost coded = { kept_files_code };
 
-    ghost use Rattle.file_tree.specs.KeptDigests.{AreKept};
-
-    ghost view = { λ t. t.table };
+    ghost view = { λ t. record { files = t.table; missing = missing_in t.digests t.table } };
 
     ghost invariant = { λ t. AreKept t.digests t.table };
 }
@@ -43,7 +42,8 @@ impl Tree {
     /// The files that each server begins with, for the server of a number: the directory `/` and the file
     /// `/hello`.
     pub fn opening(alloc: Global, fsid: u32) -> Result<Tree, AllocError>
-        ensures { IfOk result (λ tree. tree ≡ opening_files fsid) }
+        ensures files { IfOk result (λ tree. tree.files ≡ opening_files fsid) }
+        ensures missing { IfOk result AreAllMissing }
     {
         Ok(Tree {
             table: InodeTable::opening(alloc, fsid)?,
@@ -53,7 +53,7 @@ impl Tree {
 
     /// The number of the server whose files these are.
     pub fn fsid(&self) -> u32
-        ensures { result ≡ self.now.fsid }
+        ensures { result ≡ self.now.files.fsid }
     {
         self.table.fsid()
     }
@@ -61,16 +61,16 @@ impl Tree {
     /// The files are a tree within its limits, as each call keeps them: does nothing, and tells a caller's
     /// proof.
     pub fn files_are_a_tree(&self)
-        ensures tree { IsFileTree self.now }
-        ensures room { IsTrue (has_room self.now) }
-        ensures words { AreWords self.now }
+        ensures tree { IsFileTree self.now.files }
+        ensures room { IsTrue (has_room self.now.files) }
+        ensures words { AreWords self.now.files }
     {
         self.table.files_are_a_tree();
     }
 
     /// The attributes of a file (RFC 1094, section 2.3.5). Stale where no file has the number.
     pub fn attributes(&self, number: u32) -> Result<Fattr, Stat>
-        ensures { result ≡ attributes_at self.now number }
+        ensures { result ≡ attributes_at self.now.files number }
     {
         let Some(inode) = self.table.get(number) else {
             return Err(Stat::Stale);
@@ -82,17 +82,17 @@ impl Tree {
     /// directory above, which for the root is the root. Stale where no file has the directory's number,
     /// NotDir where that file is none, Acces where the caller may not search it, and then NoEnt.
     pub fn lookup(&self, who: &Who, dir: u32, name: &[u8]) -> Result<u32, Stat>
-        ensures result { result ≡ number_at_name self.now (caller_of who.now) dir name.now }
+        ensures result { result ≡ number_at_name self.now.files (caller_of who.now) dir name.now }
 
         // A path to the directory, one name longer, leads to the number.
         ensures found { IfOk result (λ number. IsTrue (is_name name.now) →
-            LeadsOn (directory_entries self.now) dir name.now (Some number)) }
+            LeadsOn (directory_entries self.now.files) dir name.now (Some number)) }
         ensures absent { result ≡ Err Stat.NoEnt → IsTrue (is_name name.now) →
-            LeadsOn (directory_entries self.now) dir name.now None }
+            LeadsOn (directory_entries self.now.files) dir name.now None }
 
         // A path to the directory, one name shorter, leads to the one above.
         ensures above { name.now ≡ dot_dot → IfOk result (λ number.
-            LeadsBack (directory_entries self.now) dir number) }
+            LeadsBack (directory_entries self.now.files) dir number) }
     {
         self.table.files_are_a_tree();
         match self.table.get(dir) {

@@ -20,7 +20,7 @@ fn mount_root(
     host: &[u8],
 ) -> Result<MountResult<'static>, AllocError>
     requires { length host.now ≤ MNTNAMLEN }
-    ensures { Performs (mount_root tree.now mounts.old host.now) mounts.old result mounts.new }
+    ensures { Performs (mount_root tree.now.files mounts.old host.now) mounts.old result mounts.new }
 {
     let is_listed = mounts.contains(host) || mounts.push(alloc, host)?;
     let mounted = if is_listed {
@@ -41,7 +41,7 @@ pub fn mount(
     path: &[u8],
 ) -> Result<MountResult<'static>, AllocError>
     requires { length host.now ≤ MNTNAMLEN }
-    ensures { Performs (mount_at tree.now mounts.old host.now (names_on path.now))
+    ensures { Performs (mount_at tree.now.files mounts.old host.now (names_on path.now))
         mounts.old result mounts.new }
 {
     if is_root(path) {

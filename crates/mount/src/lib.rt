@@ -37,10 +37,10 @@ fn answer_mount(
     out: &mut Vec<u8>,
 ) -> Result<(), AllocError>
     requires { length host.now ≤ MNTNAMLEN }
-    ensures text { Appends (answer_text (mount_at tree.now mounts.old host.now (names_on path.now)).0)
+    ensures text { Appends (answer_text (mount_at tree.now.files mounts.old host.now (names_on path.now)).0)
         out.old.items result out.new.items }
     ensures mounts { OnOk result (mounts.new
-        ≡ (mount_at tree.now mounts.old host.now (names_on path.now)).1) }
+        ≡ (mount_at tree.now.files mounts.old host.now (names_on path.now)).1) }
     ensures err { OnErr result (mounts.new ≡ mounts.old) }
 {
     out.reserve(MNT_ANSWER)?;
@@ -80,10 +80,10 @@ pub fn mount_call(
     requires host { IfSome who.now.machine_name (λ name. length name.now ≤ MNTNAMLEN) }
     requires bounds { HasBounds (call_of args.now) }
     ensures text { Appends
-        (answer_text (mount_does tree.now mounts.old (caller_of who.now) (call_of args.now)).0)
+        (answer_text (mount_does tree.now.files mounts.old (caller_of who.now) (call_of args.now)).0)
         out.old.items result out.new.items }
     ensures mounts { OnOk result (mounts.new
-        ≡ (mount_does tree.now mounts.old (caller_of who.now) (call_of args.now)).1) }
+        ≡ (mount_does tree.now.files mounts.old (caller_of who.now) (call_of args.now)).1) }
     ensures err { OnErr result (mounts.new ≡ mounts.old) }
 {
     let host = who.machine_name.unwrap_or(b"");

@@ -39,7 +39,7 @@ pub fn is_root(path: &[u8]) -> bool
 
 /// The number of what stands between two slashes, in a directory; the directory's own where nothing does.
 fn number_after(tree: &Tree, dir: u32, name: &[u8]) -> Option<u32>
-    ensures { result ≡ number_after (directory_entries tree.now) dir name.now }
+    ensures { result ≡ number_after (directory_entries tree.now.files) dir name.now }
 {
     if name.is_empty() {
         Some(dir)
@@ -50,7 +50,7 @@ fn number_after(tree: &Tree, dir: u32, name: &[u8]) -> Option<u32>
 
 /// Whether the names between slashes lead from the root to something. Permissions aren't looked at.
 fn lead_somewhere(tree: &Tree, names: &[u8]) -> bool
-    ensures { result ≡ is_some (path_at (directory_entries tree.now) (names_between names.now)) }
+    ensures { result ≡ is_some (path_at (directory_entries tree.now.files) (names_between names.now)) }
 {
     let mut dir = ROOT;
     for name in names.split(|byte| *byte == SLASH) {
@@ -64,7 +64,7 @@ fn lead_somewhere(tree: &Tree, names: &[u8]) -> bool
 
 /// Whether a path begins with a slash and leads to something. Permissions aren't looked at.
 pub fn is_there(tree: &Tree, path: &[u8]) -> bool
-    ensures { result ≡ is_there (directory_entries tree.now) (names_on path.now) }
+    ensures { result ≡ is_there (directory_entries tree.now.files) (names_on path.now) }
 {
     match path.split_first() {
         Some((first, names)) => *first == SLASH && lead_somewhere(tree, names),

@@ -23,8 +23,8 @@ fn setattr(
     file: FileHandleRef,
     attributes: &Sattr,
 ) -> Result<NfsResult<'static>, AllocError>
-    ensures { IsChanged tree.old (caller_of who.now) now
-        (Setattr file.entry.0.now attributes.now) result tree.new }
+    ensures { IsChanged tree.old.files (caller_of who.now) now
+        (Setattr file.entry.0.now attributes.now) result tree.new.files }
 {
     let number = number_for(tree, file);
     let done = tree.set_attributes(who, now, number, attributes)?;
@@ -40,8 +40,8 @@ fn write(
     offset: u32,
     bytes: &[u8],
 ) -> Result<NfsResult<'static>, AllocError>
-    ensures { IsChanged tree.old (caller_of who.now) now
-        (Write file.entry.0.now offset bytes.now) result tree.new }
+    ensures { IsChanged tree.old.files (caller_of who.now) now
+        (Write file.entry.0.now offset bytes.now) result tree.new.files }
 {
     let number = number_for(tree, file);
     let done = tree.write(who, now, number, offset, bytes)?;
@@ -58,8 +58,8 @@ fn create(
     attributes: &Sattr,
 ) -> Result<NfsResult<'static>, AllocError>
     requires { length place.name.now ≤ max_name }
-    ensures { IsChanged tree.old (caller_of who.now) now
-        (Create place.entry.dir.0.now place.entry.name.now attributes.now) result tree.new }
+    ensures { IsChanged tree.old.files (caller_of who.now) now
+        (Create place.entry.dir.0.now place.entry.name.now attributes.now) result tree.new.files }
 {
     let dir = number_for(tree, place.dir);
     let made = tree.create(alloc, who, now, dir, place.name, attributes)?;
@@ -68,8 +68,8 @@ fn create(
 
 /// REMOVE (section 2.2.11).
 fn remove(tree: &mut Tree, who: &Who, now: Time, place: DirOpArgs) -> NfsResult<'static>
-    ensures { IsDone tree.old (caller_of who.now) now
-        (Remove place.entry.dir.0.now place.entry.name.now) result tree.new }
+    ensures { IsDone tree.old.files (caller_of who.now) now
+        (Remove place.entry.dir.0.now place.entry.name.now) result tree.new.files }
 {
     let dir = number_for(tree, place.dir);
     NfsResult::Status(tree.remove(who, now, dir, place.name))
@@ -77,8 +77,8 @@ fn remove(tree: &mut Tree, who: &Who, now: Time, place: DirOpArgs) -> NfsResult<
 
 /// RMDIR (section 2.2.16).
 fn remove_dir(tree: &mut Tree, who: &Who, now: Time, place: DirOpArgs) -> NfsResult<'static>
-    ensures { IsDone tree.old (caller_of who.now) now
-        (Rmdir place.entry.dir.0.now place.entry.name.now) result tree.new }
+    ensures { IsDone tree.old.files (caller_of who.now) now
+        (Rmdir place.entry.dir.0.now place.entry.name.now) result tree.new.files }
 {
     let dir = number_for(tree, place.dir);
     NfsResult::Status(tree.remove_dir(who, now, dir, place.name))
@@ -94,8 +94,9 @@ fn rename(
     to: DirOpArgs,
 ) -> Result<NfsResult<'static>, AllocError>
     requires { length to.name.now ≤ max_name }
-    ensures { IsChanged tree.old (caller_of who.now) now
-        (Rename from.entry.dir.0.now from.entry.name.now to.entry.dir.0.now to.entry.name.now) result tree.new }
+    ensures { IsChanged tree.old.files (caller_of who.now) now
+        (Rename from.entry.dir.0.now from.entry.name.now to.entry.dir.0.now to.entry.name.now)
+        result tree.new.files }
 {
     let (source, target) = (number_for(tree, from.dir), number_for(tree, to.dir));
     let done = tree.rename(alloc, who, now, source, from.name, target, to.name)?;
@@ -112,8 +113,8 @@ fn link(
     place: DirOpArgs,
 ) -> Result<NfsResult<'static>, AllocError>
     requires { length place.name.now ≤ max_name }
-    ensures { IsChanged tree.old (caller_of who.now) now
-        (Link file.entry.0.now place.entry.dir.0.now place.entry.name.now) result tree.new }
+    ensures { IsChanged tree.old.files (caller_of who.now) now
+        (Link file.entry.0.now place.entry.dir.0.now place.entry.name.now) result tree.new.files }
 {
     let (number, dir) = (number_for(tree, file), number_for(tree, place.dir));
     let done = tree.link(alloc, who, now, number, dir, place.name)?;
@@ -132,8 +133,8 @@ fn symlink(
 ) -> Result<NfsResult<'static>, AllocError>
     requires name { length place.name.now ≤ max_name }
     requires target { length target.now ≤ max_target }
-    ensures { IsChanged tree.old (caller_of who.now) now
-        (Symlink place.entry.dir.0.now place.entry.name.now target.now attributes.now) result tree.new }
+    ensures { IsChanged tree.old.files (caller_of who.now) now
+        (Symlink place.entry.dir.0.now place.entry.name.now target.now attributes.now) result tree.new.files }
 {
     let dir = number_for(tree, place.dir);
     let made = tree.symlink(alloc, who, now, dir, place.name, target)?;
@@ -150,8 +151,8 @@ fn make_dir(
     attributes: &Sattr,
 ) -> Result<NfsResult<'static>, AllocError>
     requires { length place.name.now ≤ max_name }
-    ensures { IsChanged tree.old (caller_of who.now) now
-        (Mkdir place.entry.dir.0.now place.entry.name.now attributes.now) result tree.new }
+    ensures { IsChanged tree.old.files (caller_of who.now) now
+        (Mkdir place.entry.dir.0.now place.entry.name.now attributes.now) result tree.new.files }
 {
     let dir = number_for(tree, place.dir);
     let made = tree.make_dir(alloc, who, now, dir, place.name, attributes)?;
@@ -168,7 +169,7 @@ pub(crate) fn change(
 ) -> Result<NfsResult<'static>, AllocError>
     requires changes { only_reads (call_of args.now) ≡ false }
     requires bounds { HasBounds (call_of args.now) }
-    ensures { IsChanged tree.old (caller_of who.now) now (call_of args.now) result tree.new }
+    ensures { IsChanged tree.old.files (caller_of who.now) now (call_of args.now) result tree.new.files }
 {
     match args {
         NfsArgs::Setattr { file, attributes } => setattr(tree, who, now, *file, attributes),

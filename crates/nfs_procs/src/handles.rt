@@ -11,14 +11,14 @@ use nfs_items::{FileHandle, FileHandleRef, Stat};
 
 /// The file number that a handle names here; another handle names 0, which no file has.
 pub(crate) fn number_for(tree: &Tree, file: FileHandleRef) -> u32
-    ensures { result ≡ number_for tree.now file.entry.0.now }
+    ensures { result ≡ number_for tree.now.files file.entry.0.now }
 {
     file.number_in(tree.fsid()).unwrap_or(0)
 }
 
 /// The handle and the attributes of a file that a call made or found.
 pub(crate) fn file_after(tree: &Tree, made: Result<u32, Stat>) -> Result<DirOpOk, Stat>
-    ensures { outcome_of dir_op_of result ≡ file_then tree.now made }
+    ensures { outcome_of dir_op_of result ≡ file_then tree.now.files made }
 {
     let number = made?;
     let attributes = tree.attributes(number)?;

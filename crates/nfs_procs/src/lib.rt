@@ -41,8 +41,8 @@ fn only_reads(args: &NfsArgs) -> bool
     }
 }
 
-/// As `nfs_call`, for a call that changes files. It isn't inlined, so that a call that reads alone has no room
-/// made for an answer that it doesn't give.
+/// As `nfs_call`, for a call that changes files. It isn't inlined, so that a call that reads alone has no
+/// room made for an answer that it doesn't give.
 #[inline(never)]
 fn answer_change(
     tree: &mut Tree,
@@ -54,11 +54,12 @@ fn answer_change(
 ) -> Result<(), AllocError>
     requires changes { only_reads (call_of args.now) ≡ false }
     requires bounds { HasBounds (call_of args.now) }
-    ensures text { Appends (answer_text (call_does tree.old (caller_of who.now) now (call_of args.now)).0)
+    ensures text { Appends
+        (answer_text (call_does tree.old.files (caller_of who.now) now (call_of args.now)).0)
         out.old.items result out.new.items }
-    ensures files { OnOk result (tree.new
-        ≡ (call_does tree.old (caller_of who.now) now (call_of args.now)).1) }
-    ensures err { OnErr result (tree.new ≡ tree.old) }
+    ensures files { OnOk result (tree.new.files
+        ≡ (call_does tree.old.files (caller_of who.now) now (call_of args.now)).1) }
+    ensures err { OnErr result (tree.new.files ≡ tree.old.files) }
 {
     out.reserve(SHORT_ANSWER)?;
     let answer = change(tree, alloc, who, now, args)?;
@@ -77,11 +78,12 @@ pub fn nfs_call(
     out: &mut Vec<u8>,
 ) -> Result<(), AllocError>
     requires { HasBounds (call_of args.now) }
-    ensures text { Appends (answer_text (call_does tree.old (caller_of who.now) now (call_of args.now)).0)
+    ensures text { Appends
+        (answer_text (call_does tree.old.files (caller_of who.now) now (call_of args.now)).0)
         out.old.items result out.new.items }
-    ensures files { OnOk result (tree.new
-        ≡ (call_does tree.old (caller_of who.now) now (call_of args.now)).1) }
-    ensures err { OnErr result (tree.new ≡ tree.old) }
+    ensures files { OnOk result (tree.new.files
+        ≡ (call_does tree.old.files (caller_of who.now) now (call_of args.now)).1) }
+    ensures err { OnErr result (tree.new.files ≡ tree.old.files) }
 {
     if only_reads(args) {
         answer_read(tree, alloc, who, now, args, out)

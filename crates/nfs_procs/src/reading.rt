@@ -22,7 +22,7 @@ use std::alloc::{AllocError, Global};
 
 /// GETATTR (section 2.2.2). Stale where the file handle names no file here.
 fn getattr(tree: &Tree, file: FileHandleRef) -> Result<Fattr, Stat>
-    ensures { result ≡ getattr tree.now file.entry.0.now }
+    ensures { result ≡ getattr tree.now.files file.entry.0.now }
 {
     match file.number_in(tree.fsid()) {
         Some(number) => tree.attributes(number),
@@ -33,7 +33,7 @@ fn getattr(tree: &Tree, file: FileHandleRef) -> Result<Fattr, Stat>
 /// LOOKUP (section 2.2.5). Stale where the file handle names no file here.
 fn lookup(tree: &Tree, who: &Who, args: DirOpArgs) -> Result<DirOpOk, Stat>
     ensures { outcome_of dir_op_of result
-        ≡ lookup tree.now (caller_of who.now) args.entry.dir.0.now args.entry.name.now }
+        ≡ lookup tree.now.files (caller_of who.now) args.entry.dir.0.now args.entry.name.now }
 {
     let Some(dir) = args.dir.number_in(tree.fsid()) else {
         return Err(Stat::Stale);
@@ -48,7 +48,7 @@ fn lookup(tree: &Tree, who: &Who, args: DirOpArgs) -> Result<DirOpOk, Stat>
 
 /// The answer to GETATTR.
 fn add_attributes(tree: &Tree, file: FileHandleRef, out: &mut Vec<u8>) -> Result<(), AllocError>
-    ensures { Appends (answer_text (Attributes (getattr tree.now file.entry.0.now)))
+    ensures { Appends (answer_text (Attributes (getattr tree.now.files file.entry.0.now)))
         out.old.items result out.new.items }
 {
     write_attributes(&getattr(tree, file), out)
@@ -57,7 +57,8 @@ fn add_attributes(tree: &Tree, file: FileHandleRef, out: &mut Vec<u8>) -> Result
 /// The answer to LOOKUP.
 fn add_found(tree: &Tree, who: &Who, args: DirOpArgs, out: &mut Vec<u8>) -> Result<(), AllocError>
     ensures { Appends
-        (answer_text (DirOp (lookup tree.now (caller_of who.now) args.entry.dir.0.now args.entry.name.now)))
+        (answer_text (DirOp
+        (lookup tree.now.files (caller_of who.now) args.entry.dir.0.now args.entry.name.now)))
         out.old.items result out.new.items }
 {
     write_dir_op(&lookup(tree, who, args), out)
@@ -65,7 +66,8 @@ fn add_found(tree: &Tree, who: &Who, args: DirOpArgs, out: &mut Vec<u8>) -> Resu
 
 /// READLINK (section 2.2.6).
 fn add_target(tree: &Tree, file: FileHandleRef, out: &mut Vec<u8>) -> Result<(), AllocError>
-    ensures { Appends (answer_text (Target (read_link tree.now (number_for tree.now file.entry.0.now))))
+    ensures { Appends
+        (answer_text (Target (read_link tree.now.files (number_for tree.now.files file.entry.0.now))))
         out.old.items result out.new.items }
 {
     let target = tree.read_link(number_for(tree, file));
@@ -83,7 +85,7 @@ fn add_bytes(
 ) -> Result<(), AllocError>
     ensures { Appends
         (answer_text (Bytes
-        (read tree.now (caller_of who.now) (number_for tree.now file.entry.0.now) offset count)))
+        (read tree.now.files (caller_of who.now) (number_for tree.now.files file.entry.0.now) offset count)))
         out.old.items result out.new.items }
 {
     let read = tree.read(who, number_for(tree, file), offset, count);
@@ -101,7 +103,8 @@ fn add_entries(
     out: &mut Vec<u8>,
 ) -> Result<(), AllocError>
     ensures { Appends (answer_text
-        (Entries (read_dir tree.now (caller_of who.now) (number_for tree.now dir.entry.0.now) cookie count)))
+        (Entries (read_dir tree.now.files (caller_of who.now)
+        (number_for tree.now.files dir.entry.0.now) cookie count)))
         out.old.items result out.new.items }
 {
     let page = tree.list(alloc, who, number_for(tree, dir), cookie, count)?;
@@ -110,7 +113,8 @@ fn add_entries(
 
 /// STATFS (section 2.2.18).
 fn add_figures(tree: &Tree, file: FileHandleRef, out: &mut Vec<u8>) -> Result<(), AllocError>
-    ensures { Appends (answer_text (Free (stat_fs tree.now (number_for tree.now file.entry.0.now))))
+    ensures { Appends
+        (answer_text (Free (stat_fs tree.now.files (number_for tree.now.files file.entry.0.now))))
         out.old.items result out.new.items }
 {
     let figures = tree.figures(number_for(tree, file));
@@ -128,9 +132,10 @@ pub(crate) fn answer_read(
     out: &mut Vec<u8>,
 ) -> Result<(), AllocError>
     requires { only_reads (call_of args.now) ≡ true }
-    ensures text { Appends (answer_text (call_does tree.now (caller_of who.now) now (call_of args.now)).0)
+    ensures text { Appends
+        (answer_text (call_does tree.now.files (caller_of who.now) now (call_of args.now)).0)
         out.old.items result out.new.items }
-    ensures files { (call_does tree.now (caller_of who.now) now (call_of args.now)).1 ≡ tree.now }
+    ensures files { (call_does tree.now.files (caller_of who.now) now (call_of args.now)).1 ≡ tree.now.files }
 {
     match args {
         NfsArgs::Getattr(file) => add_attributes(tree, *file, out),

@@ -3,6 +3,7 @@
 use Rattle.std.proofs.Common.{◌≡◌, ℕ, Result, Ok, Err, IfOk, ap, ◌∙◌}
 use Rattle.std.specs.FinMap as finite
 use Rattle.std.specs.Ordering.{nat_cmp}
+use Rattle.checkpoint.specs.state_machine.KeptState.{KeptState}
 use Rattle.checkpoint.specs.state_spec.State.{received_cmp, SentMessage, Machine, State, opened_with}
 
 module _ (node : ℕ) (machine : Machine) where
@@ -16,13 +17,13 @@ module _ (node : ℕ) (machine : Machine) where
 
   module _ {E : Type 0} where
     -- nor in the state that a call gives
-    pub gives_none_received : (r : Result State E) → IfOk r (λ s. s ≡ opened_with node machine)
-        → IfOk r (λ s. finite.len s.received ≡ 0)
-    gives_none_received (Ok s) is = none_received s is
+    pub gives_none_received : (r : Result KeptState E) → IfOk r (λ s. s.state ≡ opened_with node machine)
+        → IfOk r (λ s. finite.len s.state.received ≡ 0)
+    gives_none_received (Ok s) is = none_received s.state is
     gives_none_received (Err e) is = tt
 
     -- nor is any message sent there
-    pub gives_none_sent : (r : Result State E) → IfOk r (λ s. s ≡ opened_with node machine)
-        → IfOk r (λ s. finite.len s.sends ≡ 0)
-    gives_none_sent (Ok s) is = none_sent s is
+    pub gives_none_sent : (r : Result KeptState E) → IfOk r (λ s. s.state ≡ opened_with node machine)
+        → IfOk r (λ s. finite.len s.state.sends ≡ 0)
+    gives_none_sent (Ok s) is = none_sent s.state is
     gives_none_sent (Err e) is = tt

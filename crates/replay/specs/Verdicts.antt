@@ -14,7 +14,7 @@ use Rattle.replay.specs.declared.outcome.Outcome.TheVariants as outcomes
 
 -- the verdict on a segment
 abbrev pub verdict_in : Verdict → spec.Verdict
-verdict_in (Sound state found) = spec.Sound state found.items
+verdict_in (Sound state found) = spec.Sound state.state found.items
 verdict_in (Fault fault number) = spec.Fault (fault_in fault) number
 
 -- Some list of states makes entries honest after a state, with this last state, and the entries show these.
@@ -29,5 +29,5 @@ IsSoundWhereHonest ms s ps verdict =
 
 -- What a replay ends in is that of a verdict: a state, whatever the entries show, or a fault and its place.
 abbrev pub IsOutcome : Outcome → spec.Verdict → Type 0
-IsOutcome (outcomes.Sound t) verdict = (shown : List Authenticator) × (verdict ≡ spec.Sound t shown)
+IsOutcome (outcomes.Sound t) verdict = (shown : List Authenticator) × (verdict ≡ spec.Sound t.state shown)
 IsOutcome (outcomes.Fault fault number) verdict = verdict ≡ spec.Fault (fault_in fault) number

@@ -19,7 +19,7 @@ pub(crate) trait Keeps: Drop {
     /// Keeps what an entry after a state shows, if it shows something.
     fn keep(&mut self, alloc: Global, state: &State, entry: &Entry) -> Result<(), AllocError>
         ensures { OnOk result ((shown : List Authenticator) → IsKeptOf self.old shown →
-            IsKeptOf self.new (shown ++ with_shown (shown_by state.now entry.now) [])) };
+            IsKeptOf self.new (shown ++ with_shown (shown_by state.now.state entry.now) [])) };
 }
 
 /// All that entries show, copied.

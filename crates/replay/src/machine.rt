@@ -5,7 +5,7 @@ ghost use Rattle.std.specs.FinMap.{len};
 ghost use Rattle.checkpoint.specs.state_machine.declared.states.received.TheConstants.{MAX_RECEIVED};
 ghost use Rattle.checkpoint.specs.state_machine.declared.states.sends.TheConstants.{MAX_SENDS};
 ghost use Rattle.checkpoint.specs.state_machine.Machines.{machine_in};
-ghost use Rattle.checkpoint.specs.state_spec.State.{State};
+ghost use Rattle.checkpoint.specs.state_spec.State as spec;
 ghost use Rattle.checkpoint.specs.state_spec.StateText.{IsStateText};
 ghost use Rattle.replay_spec.specs.Placed.{place};
 ghost use Rattle.replay.specs.Steps.{Steps};
@@ -22,15 +22,15 @@ use std::marker::{Model, PhantomData};
 /// an entry is a function of its state and the entry, and equal texts mean equal states.
 pub trait Machine: Drop {
     /// The state that it is in.
-    ghost state: { Self → State };
+    ghost state: { Self → spec.State };
 
     /// The state that it is in.
     fn state(&self) -> &State
-        ensures { result.now ≡ state self.now };
+        ensures { result.now.state ≡ state self.now };
 
     /// Its state alone.
     fn into_state(self) -> State
-        ensures { result ≡ state self };
+        ensures { result.state ≡ state self };
 
     /// Takes an entry of the log of its node, a member of this roster, at a number and after the hash
     /// `before`. `Fault` comes exactly where the entry may not stand there, with the first fault that it has;
@@ -54,7 +54,7 @@ pub trait Machine: Drop {
 
     /// Equal texts mean equal states: does nothing, and tells a caller's proof.
     fn a_text_has_one_state()
-        ensures { (s t : State) (bytes : List ℕ) → IsStateText s bytes → IsStateText t bytes → s ≡ t };
+        ensures { (s t : spec.State) (bytes : List ℕ) → IsStateText s bytes → IsStateText t bytes → s ≡ t };
 }
 
 /// The kind of a machine's node.
@@ -118,16 +118,16 @@ impl<K: NodeKind> Model for KindMachine<K> {
 
     ghost coded = { state_code };
 
-    ghost view = { λ m. m.state };
+    ghost view = { λ m. m.state.state };
 
-    ghost invariant = { λ m. kind_of m.state.machine ≡ K.kind };
+    ghost invariant = { λ m. kind_of m.state.state.machine ≡ K.kind };
 }
 
 impl<K: NodeKind> KindMachine<K> {
     /// The machine in a state of a node of this kind.
     pub fn new(state: State) -> KindMachine<K>
-        requires { kind_of state.machine ≡ K.kind }
-        ensures { result ≡ state }
+        requires { kind_of state.state.machine ≡ K.kind }
+        ensures { result ≡ state.state }
     {
         KindMachine {
             state,
@@ -137,7 +137,7 @@ impl<K: NodeKind> KindMachine<K> {
 
     /// Its state, which is one of its kind.
     pub fn state(&self) -> &State
-        ensures state { result.now ≡ self.now }
+        ensures state { result.now.state ≡ self.now }
         ensures kind { kind_of self.now.machine ≡ K.kind }
     {
         &self.state

@@ -17,7 +17,7 @@ use std::alloc::{AllocError, Global};
 /// A RECV's sender is the node itself or a stranger, or its signature isn't the sender's, of the hash that is
 /// made from sender, number, hash before it and body.
 pub(crate) fn is_bad_receive(roster: &Roster, state: &State, entry: &Entry) -> bool
-    ensures { result ≡ is_bad_receive roster.now state.now entry.now }
+    ensures { result ≡ is_bad_receive roster.now state.now.state entry.now }
 {
     let Entry::Recv {
         from,
@@ -35,7 +35,7 @@ pub(crate) fn is_bad_receive(roster: &Roster, state: &State, entry: &Entry) -> b
 
 /// A RECV's sender, number and hash are among those received.
 pub(crate) fn is_repeated(state: &State, entry: &Entry) -> bool
-    ensures { result ≡ is_repeated state.now entry.now }
+    ensures { result ≡ is_repeated state.now.state entry.now }
 {
     let Entry::Recv {
         from,
@@ -54,7 +54,7 @@ pub(crate) fn is_repeated(state: &State, entry: &Entry) -> bool
 
 /// An ACK fits no message that was sent and has no ACK yet, or its signature isn't the receiver's.
 pub(crate) fn is_bad_ack(roster: &Roster, state: &State, entry: &Entry) -> bool
-    ensures { result ≡ is_bad_ack roster.now state.now entry.now }
+    ensures { result ≡ is_bad_ack roster.now state.now.state entry.now }
 {
     let Entry::Ack {
         to,
@@ -81,7 +81,7 @@ pub(crate) fn is_wrong_checkpoint(
     state: &State,
     entry: &Entry,
 ) -> Result<bool, AllocError>
-    ensures { IfOk result (λ wrong. wrong ≡ is_wrong_checkpoint state.now entry.now) }
+    ensures { IfOk result (λ wrong. wrong ≡ is_wrong_checkpoint state.now.state entry.now) }
 {
     let Entry::Check { digest } = entry else {
         return Ok(false);

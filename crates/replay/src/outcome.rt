@@ -37,10 +37,10 @@ pub fn replay_outcome(
     entries: &[Entry],
 ) -> Result<Outcome, AllocError>
     requires numbers { first + length entries.now < 2 ^ 64 }
-    requires few_received { len start.received + length entries.now ≤ MAX_RECEIVED }
-    requires few_sends { len start.sends + length entries.now ≤ MAX_SENDS }
+    requires few_received { len start.state.received + length entries.now ≤ MAX_RECEIVED }
+    requires few_sends { len start.state.sends + length entries.now ≤ MAX_SENDS }
     ensures { IfOk result (λ outcome. IsOutcome outcome
-        (verdict_of roster.now start (placed first opening.now entries.now))) }
+        (verdict_of roster.now start.state (placed first opening.now entries.now))) }
 {
     match ending_of(alloc, roster, start, NoneKept, first, opening, entries)? {
         Ending::Sound(state, NoneKept) => Ok(Outcome::Sound(state)),

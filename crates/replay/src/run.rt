@@ -44,10 +44,10 @@ pub(crate) fn ending_of<K: Keeps>(
 ) -> Result<Ending<K>, AllocError>
     requires none { K.IsKeptOf kept [] }
     requires numbers { first + length entries.now < 2 ^ 64 }
-    requires few_received { len start.received + length entries.now ≤ MAX_RECEIVED }
-    requires few_sends { len start.sends + length entries.now ≤ MAX_SENDS }
+    requires few_received { len start.state.received + length entries.now ≤ MAX_RECEIVED }
+    requires few_sends { len start.state.sends + length entries.now ≤ MAX_SENDS }
     ensures { IfOk result (λ ending. EndsBy K.IsKeptOf ending
-        (verdict_of roster.now start (placed first opening.now entries.now))) }
+        (verdict_of roster.now start.state (placed first opening.now entries.now))) }
 {
     match kind_of(start.machine()) {
         Kind::Server => {

@@ -16,7 +16,7 @@ pub(crate) fn shown_by(
     state: &State,
     entry: &Entry,
 ) -> Result<Option<Authenticator>, AllocError>
-    ensures { IfOk result (λ shown. shown ≡ shown_by state.now entry.now) }
+    ensures { IfOk result (λ shown. shown ≡ shown_by state.now.state entry.now) }
 {
     match entry {
         Entry::Recv {

@@ -51,9 +51,9 @@ pub fn step(
     before: &[u8; 32],
     entry: &Entry,
 ) -> Result<(), StepFault>
-    requires few_received { len state.old.received < MAX_RECEIVED }
-    requires few_sends { len state.old.sends < MAX_SENDS }
-    ensures { Steps roster.now state.old (place number before.now entry.now) result state.new }
+    requires few_received { len state.old.state.received < MAX_RECEIVED }
+    requires few_sends { len state.old.state.sends < MAX_SENDS }
+    ensures { Steps roster.now state.old.state (place number before.now entry.now) result state.new.state }
 {
     renew_at_check(alloc, state, entry)?;
     step_once(state, alloc, roster, number, before, entry)
@@ -68,9 +68,9 @@ fn step_once(
     before: &[u8; 32],
     entry: &Entry,
 ) -> Result<(), StepFault>
-    requires few_received { len state.old.received < MAX_RECEIVED }
-    requires few_sends { len state.old.sends < MAX_SENDS }
-    ensures { Steps roster.now state.old (place number before.now entry.now) result state.new }
+    requires few_received { len state.old.state.received < MAX_RECEIVED }
+    requires few_sends { len state.old.state.sends < MAX_SENDS }
+    ensures { Steps roster.now state.old.state (place number before.now entry.now) result state.new.state }
 {
     if let Some(fault) = fault_of(alloc, roster, state, entry)? {
         return Err(StepFault::Fault(fault));
@@ -82,7 +82,7 @@ fn step_once(
 /// Before a CHECK the digests of files that the state doesn't keep are computed, and kept for the next one;
 /// the state stays.
 fn renew_at_check(alloc: Global, state: &mut State, entry: &Entry) -> Result<(), AllocError>
-    ensures { state.new ≡ state.old }
+    ensures { state.new.state ≡ state.old.state }
 {
     if let Entry::Check { .. } = entry {
         renew(alloc, state)?;
@@ -97,7 +97,8 @@ fn fault_of(
     state: &State,
     entry: &Entry,
 ) -> Result<Option<ReplayFault>, AllocError>
-    ensures { IfOk result (λ fault. option_map fault_in fault ≡ fault_of roster.now state.now entry.now) }
+    ensures { IfOk result (λ fault. option_map fault_in fault
+        ≡ fault_of roster.now state.now.state entry.now) }
 {
     let machine = state.machine();
     if is_bad_form(machine, entry) {

@@ -24,11 +24,11 @@ pub(crate) fn take(
     before: &[u8; 32],
     entry: &Entry,
 ) -> Result<(), AllocError>
-    requires few_received { len state.old.received < MAX_RECEIVED }
-    requires few_sends { len state.old.sends < MAX_SENDS }
+    requires few_received { len state.old.state.received < MAX_RECEIVED }
+    requires few_sends { len state.old.state.sends < MAX_SENDS }
     requires time { shows_no_time entry.now ≡ false }
-    ensures ok { OnOk result (state.new ≡ after_entry state.old number before.now entry.now) }
-    ensures err { OnErr result (state.new ≡ state.old) }
+    ensures ok { OnOk result (state.new.state ≡ after_entry state.old.state number before.now entry.now) }
+    ensures err { OnErr result (state.new.state ≡ state.old.state) }
 {
     match entry {
         Entry::Send { to, body } => {
@@ -64,11 +64,11 @@ fn receive(
     prev: &[u8; 32],
     body: &Body,
 ) -> Result<(), AllocError>
-    requires { len state.old.received < MAX_RECEIVED }
-    ensures ok { OnOk result (state.new ≡ at_stage
-        (having_received state.old (received_message state.old.node from seq prev.now body.now))
+    requires { len state.old.state.received < MAX_RECEIVED }
+    ensures ok { OnOk result (state.new.state ≡ at_stage
+        (having_received state.old.state (received_message state.old.state.node from seq prev.now body.now))
         (Heard from body.now)) }
-    ensures err { OnErr result (state.new ≡ state.old) }
+    ensures err { OnErr result (state.new.state ≡ state.old.state) }
 {
     let heard = MessageBody::new(body.bytes().to_vec(alloc)?);
     state.add_received(received_message(state.node(), from, seq, prev, body))?;

@@ -31,11 +31,11 @@ pub enum Verdict {
 /// What a replay of a segment after a state finds. The state is copied once, by its text. `AllocError` comes
 /// only where a growth was refused.
 pub fn replay(alloc: Global, state: &State, segment: &ClosedSegment) -> Result<Verdict, AllocError>
-    requires few_received { len state.now.received + length segment.now.segment.entries ≤ MAX_RECEIVED }
-    requires few_sends { len state.now.sends + length segment.now.segment.entries ≤ MAX_SENDS }
+    requires few_received { len state.now.state.received + length segment.now.segment.entries ≤ MAX_RECEIVED }
+    requires few_sends { len state.now.state.sends + length segment.now.segment.entries ≤ MAX_SENDS }
     ensures verdict { IfOk result (λ verdict. verdict_in verdict
-        ≡ segment_verdict segment.now.roster state.now segment.now.segment) }
-    ensures sound { IfOk result (λ verdict. IsSoundWhereHonest segment.now.roster state.now
+        ≡ segment_verdict segment.now.roster state.now.state segment.now.segment) }
+    ensures sound { IfOk result (λ verdict. IsSoundWhereHonest segment.now.roster state.now.state
         (placed_in segment.now.segment) (verdict_in verdict)) }
 {
     sound_exactly_if();
@@ -67,11 +67,11 @@ pub fn replay_entries(
     entries: &[Entry],
 ) -> Result<Verdict, AllocError>
     requires numbers { first + length entries.now < 2 ^ 64 }
-    requires few_received { len start.received + length entries.now ≤ MAX_RECEIVED }
-    requires few_sends { len start.sends + length entries.now ≤ MAX_SENDS }
+    requires few_received { len start.state.received + length entries.now ≤ MAX_RECEIVED }
+    requires few_sends { len start.state.sends + length entries.now ≤ MAX_SENDS }
     ensures verdict { IfOk result (λ verdict. verdict_in verdict
-        ≡ verdict_of roster.now start (placed first opening.now entries.now)) }
-    ensures sound { IfOk result (λ verdict. IsSoundWhereHonest roster.now start
+        ≡ verdict_of roster.now start.state (placed first opening.now entries.now)) }
+    ensures sound { IfOk result (λ verdict. IsSoundWhereHonest roster.now start.state
         (placed first opening.now entries.now) (verdict_in verdict)) }
 {
     sound_exactly_if();

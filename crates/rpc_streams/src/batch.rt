@@ -40,9 +40,9 @@ pub fn answer_record(
     bytes: &[u8],
 ) -> Result<(), AllocError>
     ensures text { OnOk result (replies.new.items ≡ replies.old.items
-        ++ record_of (reply_owed service.old time bytes.now)) }
-    ensures world { OnOk result (service.new ≡ world_after service.old time bytes.now) }
-    ensures err { OnErr result (service.new ≡ service.old) }
+        ++ record_of (reply_owed service.old.world time bytes.now)) }
+    ensures world { OnOk result (service.new.world ≡ world_after service.old.world time bytes.now) }
+    ensures err { OnErr result (service.new.world ≡ service.old.world) }
     ensures front { OnErr result (replies.new.items ≡ replies.old.items) }
 {
     let start = replies.len();
@@ -95,9 +95,9 @@ impl Batch {
         record: &[u8],
     ) -> Result<(), AllocError>
         ensures text { OnOk result
-            (self.new.replies.items ≡ record_of (reply_owed service.old time record.now)) }
-        ensures world { OnOk result (service.new ≡ world_after service.old time record.now) }
-        ensures err { OnErr result (service.new ≡ service.old) }
+            (self.new.replies.items ≡ record_of (reply_owed service.old.world time record.now)) }
+        ensures world { OnOk result (service.new.world ≡ world_after service.old.world time record.now) }
+        ensures err { OnErr result (service.new.world ≡ service.old.world) }
         ensures none { OnErr result (self.new.replies.items ≡ []) }
         ensures room { vec_capacity self.new.ends ≡ vec_capacity self.old.ends }
     {
@@ -115,7 +115,7 @@ impl Batch {
         k: u64,
     ) -> Result<(), AllocError>
         requires room { MOST_RECORDS ≤ vec_capacity self.old.ends }
-        ensures batch { IsBatch service.old k service.new self.old.replies.items bytes.now
+        ensures batch { IsBatch service.old.world k service.new.world self.old.replies.items bytes.now
             self.new.replies.items self.new.ends.items }
         ensures count { k + length self.new.ends.items < 2 ^ 64 }
         ensures room { MOST_RECORDS ≤ vec_capacity self.new.ends }

@@ -33,11 +33,11 @@ fn serve_at_hand<R: Ahead + Drop, W: Write>(
     requires room { MOST_RECORDS ≤ vec_capacity batch.old.ends }
     ensures answers { IfOk result (λ count.
         AfterHeld batch.old.replies.items (W.contents writer.old.inner) (λ written.
-        AnswersRecords service.old k service.new count
+        AnswersRecords service.old.world k service.new.world count
         (R.remaining reader.old.reader.inner) (R.remaining reader.new.reader.inner)
         written (W.contents writer.new.inner))) }
     ensures count { IfOk result (λ count. k + count < 2 ^ 64) }
-    ensures stops { IfErr result (λ e. StopsWithHeld e service.old k batch.old.replies.items
+    ensures stops { IfErr result (λ e. StopsWithHeld e service.old.world k batch.old.replies.items
         (R.remaining reader.old.reader.inner) (R.remaining reader.new.reader.inner)
         (W.contents writer.old.inner) (W.contents writer.new.inner)) }
     ensures reader { (reader.new.fault ≡ reader.old.fault)
@@ -72,7 +72,7 @@ fn serve_records<R: Ahead + Drop, W: Write>(
     record: &mut Vec<u8>,
     batch: &mut Batch,
 ) -> Result<u64, RecordFault>
-    requires opening { service.old ≡ opening_world NODE }
+    requires opening { service.old.world ≡ opening_world NODE }
     requires fresh { reader.old.fault ≡ None }
     requires record { MAX_RECORD ≤ vec_capacity record.old }
     requires room { MOST_RECORDS ≤ vec_capacity batch.old.ends }

@@ -8,3 +8,4 @@ pub mod Named
 pub mod Replied
 pub mod Sizes
 pub mod Staying
+mod KeptWorlds

@@ -4,3 +4,4 @@ pub use Rattle.worlds.specs as worlds
 pub mod Replies
 pub mod Views
 pub mod Owed
+pub mod KeptWorld

@@ -1,6 +1,7 @@
 //! A server: its files, its mounts, its clock, and what it replies.
 
-ghost use Rattle.std.specs.Prelude.{◌≡◌, ◌≤◌, ◌++◌, List, ℕ, length, None, IfOk, IfSome, OnOk, OnErr, IsOk};
+ghost use Rattle.std.specs.Prelude.{◌≡◌, ◌≤◌, ◌++◌, [], List, ℕ, length, None, IfOk};
+ghost use Rattle.std.specs.Prelude.{IfSome, OnOk, OnErr, IsOk};
 ghost use Rattle.std.specs.Io.{StartsWith};
 ghost use Rattle.std.specs.Option.{option_map};
 ghost use Rattle.rpc.specs.declared.records.record.TheConstants.{MAX_RECORD};
@@ -39,19 +40,22 @@ pub struct Service {
 }
 
 impl Model for Service {
-    ghost use Rattle.worlds.specs.World.{World, world_code};
+    ghost use Rattle.service.specs.KeptWorld.{KeptWorld, kept_world_code};
 
-    ghost Value = { World };
+    ghost Value = { KeptWorld };
 
-    ghost coded = { world_code };
+    ghost coded = { kept_world_code };
 
-    ghost view = { λ s. record { files = s.tree; clock = s.clock; mounts = s.mounts } };
+    ghost view = { λ s. record {
+      world = record { files = s.tree.files; clock = s.clock; mounts = s.mounts };
+      missing = s.tree.missing;
+    } };
 }
 
 impl Service {
     /// The server as it begins, under its number.
     pub fn opening(alloc: Global, node: u32) -> Result<Service, AllocError>
-        ensures { IfOk result (λ service. service ≡ opening_world node) }
+        ensures { IfOk result (λ service. service.world ≡ opening_world node) }
     {
         Ok(Service {
             tree: Tree::opening(alloc, node)?,
@@ -62,7 +66,8 @@ impl Service {
 
     /// The server of a tree, a clock's last reading and mounts.
     pub fn from_parts(tree: Tree, clock: Time, mounts: MountTable) -> Service
-        ensures { result ≡ world_of tree clock mounts }
+        ensures world { result.world ≡ world_of tree.files clock mounts }
+        ensures missing { result.missing ≡ tree.missing }
     {
         Service {
             tree,
@@ -73,7 +78,8 @@ impl Service {
 
     /// The server's files.
     pub fn tree(&self) -> &Tree
-        ensures { result.now ≡ self.now.files }
+        ensures files { result.now.files ≡ self.now.world.files }
+        ensures missing { result.now.missing ≡ self.now.missing }
     {
         &self.tree
     }
@@ -81,22 +87,24 @@ impl Service {
     /// Computes the digests of files' texts that are missing, and gives how many they were; the world stays.
     /// Where memory is refused, some more may be kept.
     pub fn renew_digests(&mut self, alloc: Global) -> Result<u32, AllocError>
-        ensures same { self.new ≡ self.old }
-        ensures count { IfOk result (λ count. count ≤ max_files) }
+        ensures same { self.new.world ≡ self.old.world }
+        ensures count { IfOk result (λ count. count ≡ length self.old.missing) }
+        ensures few { IfOk result (λ count. count ≤ max_files) }
+        ensures whole { OnOk result (self.new.missing ≡ []) }
     {
         self.tree.renew_digests(alloc)
     }
 
     /// The last clock reading.
     pub fn clock(&self) -> Time
-        ensures { result ≡ self.now.clock }
+        ensures { result ≡ self.now.world.clock }
     {
         self.clock
     }
 
     /// What is mounted.
     pub fn mounts(&self) -> &MountTable
-        ensures { result.now ≡ self.now.mounts }
+        ensures { result.now ≡ self.now.world.mounts }
     {
         &self.mounts
     }
@@ -104,7 +112,7 @@ impl Service {
     /// Its world is one that a server can have, as each call keeps it: does nothing, and tells a caller's
     /// proof.
     pub fn is_a_world(&self)
-        ensures { IsWorld self.now.files.fsid self.now }
+        ensures { IsWorld self.now.world.files.fsid self.now.world }
     {
         self.tree.files_are_a_tree();
         self.mounts.are_mounts();
@@ -123,13 +131,14 @@ impl Service {
         time: Time,
         bytes: &[u8],
     ) -> Result<Option<Vec<u8>>, AllocError>
-        ensures reply { IfOk result (λ r. option_map (λ v. v.items) r ≡ reply_owed self.old time bytes.now) }
-        ensures world { OnOk result (self.new ≡ world_after self.old time bytes.now) }
+        ensures reply { IfOk result (λ r. option_map (λ v. v.items) r
+            ≡ reply_owed self.old.world time bytes.now) }
+        ensures world { OnOk result (self.new.world ≡ world_after self.old.world time bytes.now) }
         ensures size { IfOk result (λ r. IfSome r (λ v. length v.items ≤ MAX_RECORD)) }
-        ensures err { OnErr result (self.new ≡ self.old) }
+        ensures err { OnErr result (self.new.world ≡ self.old.world) }
 
         // Where no reply is owed, no memory is taken.
-        ensures silence { reply_owed self.old time bytes.now ≡ None → IsOk result }
+        ensures silence { reply_owed self.old.world time bytes.now ≡ None → IsOk result }
     {
         let mut out = Vec::new(alloc);
         if self.answer_into(alloc, time, bytes, &mut out)? {
@@ -151,13 +160,13 @@ impl Service {
         out: &mut Vec<u8>,
     ) -> Result<bool, AllocError>
         ensures reply { IfOk result (λ is_owed.
-            IsReplied is_owed (reply_owed self.old time bytes.now) out.old.items out.new.items) }
-        ensures world { OnOk result (self.new ≡ world_after self.old time bytes.now) }
-        ensures size { OnOk result (IfSome (reply_owed self.old time bytes.now)
+            IsReplied is_owed (reply_owed self.old.world time bytes.now) out.old.items out.new.items) }
+        ensures world { OnOk result (self.new.world ≡ world_after self.old.world time bytes.now) }
+        ensures size { OnOk result (IfSome (reply_owed self.old.world time bytes.now)
             (λ text. length text ≤ MAX_RECORD)) }
-        ensures err { OnErr result (self.new ≡ self.old) }
+        ensures err { OnErr result (self.new.world ≡ self.old.world) }
         ensures front { OnErr result (StartsWith out.new.items out.old.items) }
-        ensures silence { reply_owed self.old time bytes.now ≡ None → IsOk result }
+        ensures silence { reply_owed self.old.world time bytes.now ≡ None → IsOk result }
     {
         self.tree.files_are_a_tree();
         self.mounts.are_mounts();
@@ -194,10 +203,13 @@ fn add_results(
     requires bounds { IsBounded args.now }
     requires name { HasShortName who.now }
     ensures text { OnOk result (out.new.items ≡ out.old.items
-        ++ (call_results (world_of tree.old now mounts.old) (caller_of who.now) (served_of args.now)).0) }
-    ensures world { OnOk result (world_of tree.new now mounts.new
-        ≡ (call_results (world_of tree.old now mounts.old) (caller_of who.now) (served_of args.now)).1) }
-    ensures err { OnErr result (world_of tree.new now mounts.new ≡ world_of tree.old now mounts.old) }
+        ++ (call_results (world_of tree.old.files now mounts.old) (caller_of who.now)
+        (served_of args.now)).0) }
+    ensures world { OnOk result (world_of tree.new.files now mounts.new
+        ≡ (call_results (world_of tree.old.files now mounts.old) (caller_of who.now)
+        (served_of args.now)).1) }
+    ensures err { OnErr result (world_of tree.new.files now mounts.new
+        ≡ world_of tree.old.files now mounts.old) }
     ensures same { OnErr result (out.new.items ≡ out.old.items) }
 {
     match args {
@@ -220,10 +232,11 @@ fn answer_call(
     requires bounds { IfOk checked.now IsBounded }
     requires name { OnOk checked.now (HasShortName who.now) }
     ensures text { OnOk result (out.new.items ≡ out.old.items
-        ++ (call_reply (world_of tree.old now mounts.old) xid (view_of_call who.now checked.now)).0) }
-    ensures world { OnOk result (world_of tree.new now mounts.new
-        ≡ (call_reply (world_of tree.old now mounts.old) xid (view_of_call who.now checked.now)).1) }
-    ensures err { OnErr result (world_of tree.new now mounts.new ≡ world_of tree.old now mounts.old) }
+        ++ (call_reply (world_of tree.old.files now mounts.old) xid (view_of_call who.now checked.now)).0) }
+    ensures world { OnOk result (world_of tree.new.files now mounts.new
+        ≡ (call_reply (world_of tree.old.files now mounts.old) xid (view_of_call who.now checked.now)).1) }
+    ensures err { OnErr result (world_of tree.new.files now mounts.new
+        ≡ world_of tree.old.files now mounts.old) }
     ensures front { OnErr result (StartsWith out.new.items out.old.items) }
 {
     match checked {
@@ -245,10 +258,12 @@ fn reply_to(
     call: Call,
 ) -> Result<(), AllocError>
     ensures text { OnOk result ((m : Message) (rest : List ℕ) → IsCallOf call.entry m rest →
-        out.new.items ≡ out.old.items ++ (reply_to (world_of tree.old now mounts.old) m rest).0) }
+        out.new.items ≡ out.old.items ++ (reply_to (world_of tree.old.files now mounts.old) m rest).0) }
     ensures world { OnOk result ((m : Message) (rest : List ℕ) → IsCallOf call.entry m rest →
-        world_of tree.new now mounts.new ≡ (reply_to (world_of tree.old now mounts.old) m rest).1) }
-    ensures err { OnErr result (world_of tree.new now mounts.new ≡ world_of tree.old now mounts.old) }
+        world_of tree.new.files now mounts.new
+        ≡ (reply_to (world_of tree.old.files now mounts.old) m rest).1) }
+    ensures err { OnErr result (world_of tree.new.files now mounts.new
+        ≡ world_of tree.old.files now mounts.old) }
     ensures front { OnErr result (StartsWith out.new.items out.old.items) }
 {
     out.reserve(REPLY_ROOM)?;

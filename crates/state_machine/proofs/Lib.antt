@@ -5,3 +5,4 @@ pub mod OfStates
 pub mod StatesFit
 pub mod Numbers
 pub mod Served
+pub mod KeptStates

@@ -4,5 +4,6 @@ pub use Rattle.state_spec.specs as state_spec
 pub use Rattle.service.specs.worlds as worlds
 pub mod States
 pub mod Stages
+pub mod KeptState
 pub mod Machines
 pub mod Steps

@@ -1,9 +1,10 @@
 -- What a machine in memory says, and the states that are made of its parts.
-use Rattle.std.specs.Prelude.{◌≡◌, ℕ}
+use Rattle.std.specs.Prelude.{◌≡◌, ℕ, List, []}
 use Rattle.std.specs.Ordering.{nat_cmp}
 use Rattle.std.specs.FinMap as finite
 use Rattle.std.specs.FinSet.{FinSet}
 use Rattle.xdr.specs.Item.{Fits}
+use Rattle.service.specs.nfs_items.Terms.{FileNumber}
 use Rattle.service.specs.nfs_items.Timeval.{Timeval, timeval, timeval_value}
 use Rattle.service.specs.worlds.World.{World}
 use Rattle.state_spec.specs.file_texts.FileItems.{file_item, file_value}
@@ -16,8 +17,13 @@ use Rattle.state_machine.specs.Stages.{stage_in}
 
 -- the machine of a node
 abbrev pub machine_in : Machine → spec.Machine
-machine_in (Server service stage) = spec.Server service (stage_in stage)
+machine_in (Server service stage) = spec.Server service.world (stage_in stage)
 machine_in (Client clock) = spec.Client clock
+
+-- the numbers of the files of a machine whose digest isn't kept; a client has no files
+abbrev pub missing_in : Machine → List FileNumber
+missing_in (Server service stage) = service.missing
+missing_in (Client clock) = []
 
 -- a server's files have its number
 abbrev pub IsOf : ℕ → spec.Machine → Type 0

@@ -1,9 +1,9 @@
 //! The reference machine of a node.
 
-ghost use Rattle.std.specs.Prelude.{◌≡◌, ◌≤◌, ℕ, IfOk};
+ghost use Rattle.std.specs.Prelude.{◌≡◌, ◌≤◌, [], ℕ, IfOk, OnOk, length};
 ghost use Rattle.state_spec.specs.file_texts.fs_model.Maxima.{max_files};
 ghost use Rattle.state_spec.specs.State.{clock_in, IsMachine};
-ghost use Rattle.state_machine.specs.Machines.{machine_in, IsOf, MachineFits};
+ghost use Rattle.state_machine.specs.Machines.{machine_in, missing_in, IsOf, MachineFits};
 
 use crate::stage::Stage;
 use service::{Service, Time};
@@ -33,7 +33,9 @@ impl Machine {
     /// no files. It stays as it is seen. Where memory is refused, some more may be kept.
     pub(crate) fn renew_digests(&mut self, alloc: Global) -> Result<u32, AllocError>
         ensures same { machine_in self.new ≡ machine_in self.old }
-        ensures count { IfOk result (λ count. count ≤ max_files) }
+        ensures count { IfOk result (λ count. count ≡ length (missing_in self.old)) }
+        ensures few { IfOk result (λ count. count ≤ max_files) }
+        ensures whole { OnOk result (missing_in self.new ≡ []) }
     {
         match self {
             Machine::Server(service, _) => service.renew_digests(alloc),

@@ -22,7 +22,7 @@ use std::alloc::{AllocError, Global};
 impl State {
     /// Takes a message out of those received, if it is there.
     pub fn remove_received(&mut self, message: &ReceivedMessage)
-        ensures { self.new ≡ having_forgotten self.old message.now }
+        ensures { self.new.state ≡ having_forgotten self.old.state message.now }
     {
         self.received.remove(message);
     }
@@ -30,9 +30,9 @@ impl State {
     /// Puts a message that was sent under its number, in place of the one that has the number. No memory is
     /// taken.
     pub fn replace_send(&mut self, seq: u64, message: SentMessage)
-        requires there { IsSome (get self.old.sends seq) }
-        requires few { len self.old.sends < MAX_SENDS }
-        ensures { self.new ≡ having_sent self.old seq message }
+        requires there { IsSome (get self.old.state.sends seq) }
+        requires few { len self.old.state.sends < MAX_SENDS }
+        ensures { self.new.state ≡ having_sent self.old.state seq message }
     {
         self.sends.insert(seq, message).unwrap();
     }
@@ -46,11 +46,12 @@ impl State {
         body: &[u8],
     ) -> Result<Option<Vec<u8>>, AllocError>
         ensures reply { IfOk result (λ r.
-            option_map (λ v. v.items) r ≡ reply_by self.old.machine time body.now) }
+            option_map (λ v. v.items) r ≡ reply_by self.old.state.machine time body.now) }
         ensures size { IfOk result (λ r. IfSome r (λ v. length v.items ≤ MAX_BODY)) }
         ensures ok { OnOk result
-            (self.new ≡ record self.old { machine = having_answered self.old.machine time body.now }) }
-        ensures err { OnErr result (self.new ≡ self.old) }
+            (self.new.state ≡ record self.old.state
+            { machine = having_answered self.old.state.machine time body.now }) }
+        ensures err { OnErr result (self.new.state ≡ self.old.state) }
     {
         answer_by(&mut self.machine, alloc, time, body)
     }
@@ -67,17 +68,17 @@ impl State {
         body: &[u8],
         seq: u64,
     ) -> Result<Option<Vec<u8>>, AllocError>
-        requires idle { IsIdle self.old.machine }
-        requires fresh { is_received self.old.received message ≡ false }
-        requires unused { get self.old.sends seq ≡ None }
-        requires few_received { len self.old.received < MAX_RECEIVED }
-        requires few_sends { len self.old.sends < MAX_SENDS }
+        requires idle { IsIdle self.old.state.machine }
+        requires fresh { is_received self.old.state.received message ≡ false }
+        requires unused { get self.old.state.sends seq ≡ None }
+        requires few_received { len self.old.state.received < MAX_RECEIVED }
+        requires few_sends { len self.old.state.sends < MAX_SENDS }
         ensures reply { IfOk result (λ r.
-            option_map (λ v. v.items) r ≡ reply_by self.old.machine time body.now) }
+            option_map (λ v. v.items) r ≡ reply_by self.old.state.machine time body.now) }
         ensures size { IfOk result (λ r. IfSome r (λ v. length v.items ≤ MAX_BODY)) }
         ensures ok { IfOk result (λ r. HasPlaceFor (option_map (λ v. v.items) r)
-            (having_served self.old message time body.now) seq self.new) }
-        ensures err { OnErr result (self.new ≡ self.old) }
+            (having_served self.old.state message time body.now) seq self.new.state) }
+        ensures err { OnErr result (self.new.state ≡ self.old.state) }
     {
         self.make_place(message, seq)?;
         match self.answer(alloc, time, body) {
@@ -96,11 +97,11 @@ impl State {
 
     /// Takes in a message, and makes room for one that will be sent under a number.
     fn make_place(&mut self, message: ReceivedMessage, seq: u64) -> Result<(), AllocError>
-        requires fresh { is_received self.old.received message ≡ false }
-        requires few_received { len self.old.received < MAX_RECEIVED }
-        requires few_sends { len self.old.sends < MAX_SENDS }
-        ensures ok { OnOk result (HasPlace (having_received self.old message) seq self.new) }
-        ensures err { OnErr result (self.new ≡ self.old) }
+        requires fresh { is_received self.old.state.received message ≡ false }
+        requires few_received { len self.old.state.received < MAX_RECEIVED }
+        requires few_sends { len self.old.state.sends < MAX_SENDS }
+        ensures ok { OnOk result (HasPlace (having_received self.old.state message) seq self.new.state) }
+        ensures err { OnErr result (self.new.state ≡ self.old.state) }
     {
         self.add_received(message)?;
         match self.add_send(seq, SentMessage::new(0, [0; 32], [0; 32])) {

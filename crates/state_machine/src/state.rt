@@ -1,6 +1,6 @@
 //! The state of a node.
 
-ghost use Rattle.std.specs.Prelude.{◌≡◌, ◌≤◌, IfOk};
+ghost use Rattle.std.specs.Prelude.{◌≡◌, ◌≤◌, [], IfOk, OnOk, length};
 ghost use Rattle.xdr.specs.Item.{Fits};
 ghost use Rattle.state_spec.specs.State.{IsState, clock_in, opening_client, opening_server};
 ghost use Rattle.state_spec.specs.StateItems.{state_item};
@@ -8,7 +8,7 @@ ghost use Rattle.state_spec.specs.StateText.{said};
 ghost use Rattle.state_spec.specs.file_texts.FileItems.{file_item};
 ghost use Rattle.state_spec.specs.file_texts.fs_model.Maxima.{max_files};
 ghost use Rattle.state_machine.specs.Stages.{stage_in};
-ghost use Rattle.state_machine.specs.Machines.{machine_in, server_state, client_state};
+ghost use Rattle.state_machine.specs.Machines.{machine_in, missing_in, server_state, client_state};
 
 use crate::machine::Machine;
 use crate::stage::{Stage, is_word};
@@ -28,20 +28,22 @@ pub struct State {
 }
 
 impl Model for State {
-    ghost use Rattle.state_spec.specs.State.{State};
-    ghost use Rattle.state_spec.specs.Codes.{state_code};
+    ghost use Rattle.state_machine.specs.KeptState.{KeptState, kept_state_code};
 
-    ghost Value = { State };
+    ghost Value = { KeptState };
 
-    ghost coded = { state_code };
+    ghost coded = { kept_state_code };
 
-    ghost use Rattle.state_machine.specs.Machines.{machine_in, IsOf};
+    ghost use Rattle.state_machine.specs.Machines.{machine_in, missing_in, IsOf};
 
     ghost view = { λ s. record {
-      node = s.node;
-      received = s.received;
-      sends = s.sends;
-      machine = machine_in s.machine;
+      state = record {
+        node = s.node;
+        received = s.received;
+        sends = s.sends;
+        machine = machine_in s.machine;
+      };
+      missing = missing_in s.machine;
     } };
 
     ghost invariant = { λ s. IsOf s.node (machine_in s.machine) };
@@ -50,7 +52,7 @@ impl Model for State {
 impl State {
     /// The state that the server of a number begins with.
     pub fn opening_server(alloc: Global, node: u32) -> Result<State, AllocError>
-        ensures { IfOk result (λ state. state ≡ opening_server node) }
+        ensures { IfOk result (λ state. state.state ≡ opening_server node) }
     {
         let service = Service::opening(alloc, node)?;
         Ok(State {
@@ -63,7 +65,8 @@ impl State {
 
     /// The state that the client of a number begins with. No memory is taken.
     pub fn opening_client(alloc: Global, node: u32) -> State
-        ensures { result ≡ opening_client node }
+        ensures state { result.state ≡ opening_client node }
+        ensures missing { result.missing ≡ [] }
     {
         State {
             node,
@@ -75,7 +78,8 @@ impl State {
 
     /// The state of a server, whose number is that of its files.
     pub fn server(service: Service, stage: Stage, received: Received, sends: Sends) -> State
-        ensures { result ≡ server_state service (stage_in stage) received sends }
+        ensures state { result.state ≡ server_state service.world (stage_in stage) received sends }
+        ensures missing { result.missing ≡ service.missing }
     {
         State {
             node: service.tree().fsid(),
@@ -87,7 +91,8 @@ impl State {
 
     /// The state of a client.
     pub fn client(node: u32, clock: Time, received: Received, sends: Sends) -> State
-        ensures { result ≡ client_state node clock received sends }
+        ensures state { result.state ≡ client_state node clock received sends }
+        ensures missing { result.missing ≡ [] }
     {
         State {
             node,
@@ -99,35 +104,36 @@ impl State {
 
     /// The node's number.
     pub fn node(&self) -> u32
-        ensures { result ≡ self.now.node }
+        ensures { result ≡ self.now.state.node }
     {
         self.node
     }
 
     /// The messages that the node received.
     pub fn received(&self) -> &Received
-        ensures { result.now ≡ self.now.received }
+        ensures { result.now ≡ self.now.state.received }
     {
         &self.received
     }
 
     /// The messages that the node sent and that have no acknowledgement yet.
     pub fn sends(&self) -> &Sends
-        ensures { result.now ≡ self.now.sends }
+        ensures { result.now ≡ self.now.state.sends }
     {
         &self.sends
     }
 
     /// The node's machine.
     pub fn machine(&self) -> &Machine
-        ensures { machine_in result.now ≡ self.now.machine }
+        ensures machine { machine_in result.now ≡ self.now.state.machine }
+        ensures missing { missing_in result.now ≡ self.now.missing }
     {
         &self.machine
     }
 
     /// The last clock reading.
     pub fn clock(&self) -> Time
-        ensures { result ≡ clock_in self.now.machine }
+        ensures { result ≡ clock_in self.now.state.machine }
     {
         self.machine.clock()
     }
@@ -135,8 +141,10 @@ impl State {
     /// Computes the digests of a server's files that are missing, and gives how many they were; a client has
     /// no files. The state stays. Where memory is refused, some more may be kept.
     pub fn renew_digests(&mut self, alloc: Global) -> Result<u32, AllocError>
-        ensures same { self.new ≡ self.old }
-        ensures count { IfOk result (λ count. count ≤ max_files) }
+        ensures same { self.new.state ≡ self.old.state }
+        ensures count { IfOk result (λ count. count ≡ length self.old.missing) }
+        ensures few { IfOk result (λ count. count ≤ max_files) }
+        ensures whole { OnOk result (self.new.missing ≡ []) }
     {
         self.machine.renew_digests(alloc)
     }
@@ -144,8 +152,8 @@ impl State {
     /// It is one that a node can be in, and what is said of it can be spelled, as its types keep it: does
     /// nothing, and tells a caller's proof.
     pub fn is_a_state(&self)
-        ensures state { IsState self.now }
-        ensures fits { Fits (state_item file_item) (said self.now) }
+        ensures state { IsState self.now.state }
+        ensures fits { Fits (state_item file_item) (said self.now.state) }
     {
         is_word(self.node);
         self.received.are_bounded();

@@ -20,9 +20,9 @@ use std::alloc::{AllocError, Global};
 impl State {
     /// Takes a message in among those received. Where memory is refused nothing changes.
     pub fn add_received(&mut self, message: ReceivedMessage) -> Result<(), AllocError>
-        requires { len self.old.received < MAX_RECEIVED }
-        ensures ok { OnOk result (self.new ≡ having_received self.old message) }
-        ensures err { OnErr result (self.new ≡ self.old) }
+        requires { len self.old.state.received < MAX_RECEIVED }
+        ensures ok { OnOk result (self.new.state ≡ having_received self.old.state message) }
+        ensures err { OnErr result (self.new.state ≡ self.old.state) }
     {
         self.received.insert(message)
     }
@@ -30,23 +30,23 @@ impl State {
     /// Puts a message that was sent under its number, in place of the one that has the number. Where memory
     /// is refused nothing changes.
     pub fn add_send(&mut self, seq: u64, message: SentMessage) -> Result<(), AllocError>
-        requires { len self.old.sends < MAX_SENDS }
-        ensures ok { OnOk result (self.new ≡ having_sent self.old seq message) }
-        ensures err { OnErr result (self.new ≡ self.old) }
+        requires { len self.old.state.sends < MAX_SENDS }
+        ensures ok { OnOk result (self.new.state ≡ having_sent self.old.state seq message) }
+        ensures err { OnErr result (self.new.state ≡ self.old.state) }
     {
         self.sends.insert(seq, message)
     }
 
     /// Takes the message of a number out of those that were sent, if there is one.
     pub fn remove_send(&mut self, seq: u64)
-        ensures { self.new ≡ having_acknowledged self.old seq }
+        ensures { self.new.state ≡ having_acknowledged self.old.state seq }
     {
         self.sends.remove(seq);
     }
 
     /// What a server owes next is this. A client owes nothing, and stays as it is.
     pub fn set_stage(&mut self, stage: Stage)
-        ensures { self.new ≡ at_stage self.old (stage_in stage) }
+        ensures { self.new.state ≡ at_stage self.old.state (stage_in stage) }
     {
         match &mut self.machine {
             Machine::Server(_, old) => *old = stage,
@@ -58,8 +58,8 @@ impl State {
     /// if one is owed; one that heard none stays as it is. A client's clock shows this time. Where memory is
     /// refused nothing changes.
     pub fn read_clock(&mut self, alloc: Global, time: Time) -> Result<(), AllocError>
-        ensures ok { OnOk result (self.new ≡ having_read self.old time) }
-        ensures err { OnErr result (self.new ≡ self.old) }
+        ensures ok { OnOk result (self.new.state ≡ having_read self.old.state time) }
+        ensures err { OnErr result (self.new.state ≡ self.old.state) }
     {
         read_by(&mut self.machine, alloc, time)
     }
@@ -87,9 +87,10 @@ fn answer_heard(
     stage: &mut Stage,
 ) -> Result<(), AllocError>
     ensures ok { OnOk result
-        (Server service.new (stage_in stage.new) ≡ answered service.old (stage_in stage.old) time) }
+        (Server service.new.world (stage_in stage.new)
+        ≡ answered service.old.world (stage_in stage.old) time) }
     ensures err { OnErr result
-        (Server service.new (stage_in stage.new) ≡ Server service.old (stage_in stage.old)) }
+        (Server service.new.world (stage_in stage.new) ≡ Server service.old.world (stage_in stage.old)) }
 {
     let Stage::Heard { from, body } = &*stage else {
         return Ok(());

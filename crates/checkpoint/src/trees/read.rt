@@ -27,7 +27,7 @@ pub fn tree_of(
 ) -> Result<Option<Tree>, AllocError>
     requires { All (λ part. IsWritable (body_of part.body)) parts.now }
     ensures { IfOk result (λ tree. MatchOption tree (IsServedTree node next (files_given parts.now) → ⊥)
-        (λ t. (t ≡ files_listed node next (files_given parts.now))
+        (λ t. (t.files ≡ files_listed node next (files_given parts.now))
         × IsServedTree node next (files_given parts.now))) }
 {
     let Some(inodes) = inodes_of(alloc, next, parts)? else {

@@ -23,9 +23,9 @@ use xdr::Writer;
 /// Appends a server's files after their count, by rising number; where memory is refused a part may stand.
 pub fn add_tree(tree: &Tree, out: &mut Vec<u8>) -> Result<(), AllocError>
     ensures fits { OnOk result (Fits (array max_files file_item)
-        (map file_value (finite.entries tree.now.files))) }
+        (map file_value (finite.entries tree.now.files.files))) }
     ensures text { Adds (spelling (array max_files file_item)
-        (map file_value (finite.entries tree.now.files))) out.old.items result out.new.items }
+        (map file_value (finite.entries tree.now.files.files))) out.old.items result out.new.items }
 {
     tree.files_are_a_tree();
     out.put_u32(tree.inodes().len() as u32)?;
@@ -40,9 +40,9 @@ pub fn add_tree_digests(
     out: &mut Vec<u8>,
 ) -> Result<(), AllocError>
     ensures fits { OnOk result (Fits (array max_files (fixed 32))
-        (map file_digest (finite.entries tree.now.files))) }
+        (map file_digest (finite.entries tree.now.files.files))) }
     ensures text { Adds (spelling (array max_files (fixed 32))
-        (map file_digest (finite.entries tree.now.files))) out.old.items result out.new.items }
+        (map file_digest (finite.entries tree.now.files.files))) out.old.items result out.new.items }
 {
     tree.files_are_a_tree();
     out.put_u32(tree.inodes().len() as u32)?;
@@ -70,7 +70,7 @@ fn add_digests(
     buffer: &mut Vec<u8>,
     out: &mut Vec<u8>,
 ) -> Result<(), AllocError>
-    requires { AllByRecursion (IsWritableAt tree.now) inodes }
+    requires { AllByRecursion (IsWritableAt tree.now.files) inodes }
     ensures fits { OnOk result
         (AllByRecursion (Fits (fixed 32)) (map (λ e. file_digest (e.0, file_in e.1)) inodes.entry)) }
     ensures text { Adds (flat_map (λ e. spelling (fixed 32) (file_digest (e.0, file_in e.1))) inodes.entry)
@@ -90,7 +90,7 @@ fn add_digest(
     buffer: &mut Vec<u8>,
     out: &mut Vec<u8>,
 ) -> Result<(), AllocError>
-    requires there { file_at tree.now number ≡ Some (file_in inode.now) }
+    requires there { file_at tree.now.files number ≡ Some (file_in inode.now) }
     requires writable { IsWritable (body_in inode.now.body) }
     ensures fits { OnOk result (Fits (fixed 32) (file_digest (number, file_in inode.now))) }
     ensures text { Adds (spelling (fixed 32) (file_digest (number, file_in inode.now)))
@@ -107,7 +107,7 @@ fn digest_of(
     inode: &Inode,
     buffer: &mut Vec<u8>,
 ) -> Result<[u8; 32], AllocError>
-    requires there { file_at tree.now number ≡ Some (file_in inode.now) }
+    requires there { file_at tree.now.files number ≡ Some (file_in inode.now) }
     requires writable { IsWritable (body_in inode.now.body) }
     ensures { IfOk result (λ digest. digest ≡ file_digest (number, file_in inode.now)) }
 {

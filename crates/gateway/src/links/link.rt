@@ -65,11 +65,11 @@ pub trait Link {
 /// was.
 impl Link for Service {
     ghost exchanges = { λ s time bytes reply s'.
-        (reply ≡ reply_owed s time bytes) × (s' ≡ world_after s time bytes) };
+        (reply ≡ reply_owed s.world time bytes) × (s'.world ≡ world_after s.world time bytes) };
 
-    ghost fails = { λ s _ _ e s'. (e ≡ LinkFault.NoMemory) × (s' ≡ s) };
+    ghost fails = { λ s _ _ e s'. (e ≡ LinkFault.NoMemory) × (s'.world ≡ s.world) };
 
-    ghost world = { λ s. Some s };
+    ghost world = { λ s. Some s.world };
 
     ghost may_fault = { λ _ e. e ≡ LinkFault.NoMemory };
 

@@ -35,11 +35,13 @@ pub fn write_result(answer: &NfsResult, out: &mut Vec<u8>) -> Result<(), AllocEr
 }
 
 /// Appends what GETATTR answers (attrstat, section 2.3.9), as `write_result` does, and needs no `NfsResult`.
+/// Memory isn't refused where `out` has room for `SHORT_ANSWER` bytes more.
 pub fn write_attributes(
     attributes: &Result<Fattr, Stat>,
     out: &mut Vec<u8>,
 ) -> Result<(), AllocError>
-    ensures { Appends (answer_text (Attributes attributes.now)) out.old.items result out.new.items }
+    ensures appends { Appends (answer_text (Attributes attributes.now)) out.old.items result out.new.items }
+    ensures room { SHORT_ANSWER ≤ vec_capacity out.old - vec_len out.old → IsOk result }
 {
     let start = out.len();
     let written = add_attrstat(attributes, out);
@@ -58,9 +60,11 @@ fn add_attrstat(attributes: &Result<Fattr, Stat>, out: &mut Vec<u8>) -> Result<(
 }
 
 /// Appends what LOOKUP answers (diropres, section 2.3.11), as `write_result` does, and needs no `NfsResult`.
+/// Memory isn't refused where `out` has room for `SHORT_ANSWER` bytes more.
 pub fn write_dir_op(found: &Result<DirOpOk, Stat>, out: &mut Vec<u8>) -> Result<(), AllocError>
-    ensures { Appends (answer_text (DirOp (outcome_of dir_op_of found.now)))
+    ensures appends { Appends (answer_text (DirOp (outcome_of dir_op_of found.now)))
         out.old.items result out.new.items }
+    ensures room { SHORT_ANSWER ≤ vec_capacity out.old - vec_len out.old → IsOk result }
 {
     let start = out.len();
     let written = add_diropres(found, out);

@@ -11,5 +11,5 @@ pub returns : goal.returns
 unfolding state_digest
 returns c =
     c.digest.ensures
-    ∙ ap sha256 (c.as_slice.ensures.value ∙ made (fixed 32) file_digest c.args.state.now _ _ _ _
-    c.new-out.ensures.items c.in_ok-add_front.ensures c.machine.ensures c.in_ok-add_digests.ensures)
+    ∙ ap sha256 (c.as_slice.ensures.value ∙ made (fixed 32) file_digest c.args.state.now.state _ _ _ _
+    c.new-out.ensures.items c.in_ok-add_front.ensures c.machine.ensures.machine c.in_ok-add_digests.ensures)

@@ -13,13 +13,13 @@ use Rattle.checkpoint.proofs.front.add_front.Goals as goal
 -- each part stands after the ones before it
 pub returns : goal.returns
 returns c =
-    let s = c.args.state.now in
+    let s = c.args.state.now.state in
     added_after (number_spelling 4 1) _ _ _ _ c.add_rest.result c.in_ok-put_u32.ensures.writes
     (added_after (number_spelling 4 s.node) _ _ _ _ c.add_rest.result
     (instead (λ n. number_spelling 4 n) _ s.node _ _ c.in_ok-put_u32-2.ensures.writes c.node.ensures)
     (added_after (number_spelling 4 (kind_of s.machine)) _ _ _ _ c.add_rest.result
     (instead (λ n. number_spelling 4 n) _ (kind_of s.machine) _ _ c.in_ok-put_u32-3.ensures.writes
-    (c.kind_of.ensures ∙ ap kind_of c.machine.ensures))
+    (c.kind_of.ensures ∙ ap kind_of c.machine.ensures.machine))
     (added_after (spelling timeval (timeval_value (clock_in s.machine))) _ _ _ _ c.add_rest.result
     (instead (λ t. spelling timeval (timeval_value t)) _ (clock_in s.machine) _ _ c.in_ok-add_time.ensures
     c.clock.ensures)
@@ -32,4 +32,4 @@ returns c =
     (instead (λ r. spelling (array max_sends sent_item) (map sent_value (finite.entries r))) _ s.sends _ _
     c.in_ok-add_to-2.ensures.text c.sends.ensures)
     (subst (λ (m : Machine). Adds (rest_front m) c.add_to-2.new.out.items c.add_rest.result
-    c.add_rest.new.out.items) c.machine-2.ensures c.add_rest.ensures))))))
+    c.add_rest.new.out.items) c.machine-2.ensures.machine c.add_rest.ensures))))))

@@ -16,7 +16,7 @@ returns-in-Some-clause-found c =
     c.in-Ok.ensures.said both.1)
 
 pub returns-in-Some-clause-only : goal.returns-in-Some-clause-only
-returns-in-Some-clause-only c = λ s text. one_state_of c.in-Some.state s c.args.bytes.now
+returns-in-Some-clause-only c = λ s text. one_state_of c.in-Some.state.state s c.args.bytes.now
     (returns-in-Some-clause-found c) text
 
 pub returns-in-Ok-clause-not_a_state : goal.returns-in-Ok-clause-not_a_state

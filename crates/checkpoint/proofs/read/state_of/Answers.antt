@@ -60,17 +60,17 @@ returns-in_ok-stage-in-Server c =
     let service = served.0 ∙ ap (λ t. world_given p.node t c.in-Server.world) shown.0 in
     let messages = received.0 ∙ ap (set_from received_cmp) c.deref.ensures.value in
     let waiting = sends.0 ∙ ap (λ ms. map_from nat_cmp (numbered ms)) c.deref-2.ensures.value in
-    subst (λ (m : MachinePart). (c.server-state.result
+    subst (λ (m : MachinePart). (c.server-state.result.state
     ≡ state_from (saying p.node p.clock p.received.items p.sends.items m))
     × KeepsRules (saying p.node p.clock p.received.items p.sends.items m)) (sym c.in-Server.is)
     (server_kept p.node p.clock p.received.items p.sends.items
     (subst (IsStrictlySortedBy received_cmp) c.deref.ensures.value received.1)
     (subst (λ ms. IsStrictlySortedBy nat_cmp (keys_of (numbered ms))) c.deref-2.ensures.value sends.1)
-    c.in-Server.world c.server-state.result
+    c.in-Server.world c.server-state.result.state
     (subst (λ (m : MachinePart). Fits (state_item file_item)
     (saying p.node p.clock p.received.items p.sends.items m)) c.in-Server.is c.requires.fits)
     served.1 c.is_a_state.ensures.state
-    (c.server-state.ensures ∙ (λ i. server_state (service i) (c.in_ok-stage-in-Server.ensures i)
+    (c.server-state.ensures.state ∙ (λ i. server_state (service i) (c.in_ok-stage-in-Server.ensures i)
     (messages i) (waiting i))))
 
 pub returns-in-Client : goal.returns-in-Client
@@ -83,15 +83,15 @@ returns-in-Client c =
     let waiting = sends.0 ∙ ap (λ ms. map_from nat_cmp (numbered ms)) c.deref-2.ensures.value in
     let shown = when_some _ _ c.clock_of.result c.in-Some-clock_of.clock c.clock_of.ensures
     c.in-Some-clock_of.is in
-    subst (λ (m : MachinePart). (c.client-state.result
+    subst (λ (m : MachinePart). (c.client-state.result.state
     ≡ state_from (saying p.node p.clock p.received.items p.sends.items m))
     × KeepsRules (saying p.node p.clock p.received.items p.sends.items m)) (sym c.in-Client.is)
     (client_kept p.node p.clock p.received.items p.sends.items
     (subst (IsStrictlySortedBy received_cmp) c.deref.ensures.value received.1)
     (subst (λ ms. IsStrictlySortedBy nat_cmp (keys_of (numbered ms))) c.deref-2.ensures.value sends.1)
-    c.client-state.result
+    c.client-state.result.state
     (subst (λ (m : MachinePart). Fits (state_item file_item)
     (saying p.node p.clock p.received.items p.sends.items m)) c.in-Client.is c.requires.fits)
     c.is_a_state-in-Client.ensures.state
-    (c.client-state.ensures ∙ (λ i. client_state p.node (shown.0 i) (messages i)
+    (c.client-state.ensures.state ∙ (λ i. client_state p.node (shown.0 i) (messages i)
     (waiting i))))

@@ -7,6 +7,6 @@ pub returns : goal.returns
 returns c = record {
   state = c.is_a_state.ensures.state;
   fits = c.is_a_state.ensures.fits;
-  spelled = made file_item file_value c.args.state.now _ _ _ _ c.new-out.ensures.items
-      c.in_ok-add_front.ensures c.machine.ensures c.in_ok-add_files.ensures;
+  spelled = made file_item file_value c.args.state.now.state _ _ _ _ c.new-out.ensures.items
+      c.in_ok-add_front.ensures c.machine.ensures.machine c.in_ok-add_files.ensures;
 }

@@ -19,10 +19,10 @@ loop-name-preserved c =
       can = search rules;
       finite = tt;
       leads =
-          ap (λ (k : ℕ). lead_on (directory_entries c.args.tree.now) c.in-Some-number_after.number
+          ap (λ (k : ℕ). lead_on (directory_entries c.args.tree.now.files) c.in-Some-number_after.number
           (drop k parts))
           (length_push c.loop-name.yielded c.in-Some.name)
-          ∙ sym (leads_from (directory_entries c.args.tree.now) parts
+          ∙ sym (leads_from (directory_entries c.args.tree.now.files) parts
           (length c.loop-name.yielded) c.loop-name.dir c.in-Some.name.now turn.0 turn.1
           c.number_after.result _ c.number_after.ensures c.in-Some-number_after.is)
           ∙ c.loop-name.invariant.leads;
@@ -35,7 +35,7 @@ returns-in_default c =
     YieldsList-turn (YieldsList-from_slice_split _ (λ byte. byte == slash) c.args.names.now (cc) (cc) refl
     (λ x b q k. search (rules, tests))) c.loop-name.yielded _ c.loop-name.yielded_by _ _
     c.in-Some.name c.in-Some.is c.next.ensures.steps in
-    sym (leads_nowhere (directory_entries c.args.tree.now) parts
+    sym (leads_nowhere (directory_entries c.args.tree.now.files) parts
     (length c.loop-name.yielded) c.loop-name.dir c.in-Some.name.now turn.0 turn.1 c.number_after.result
     c.number_after.ensures c.in_default.is)
     ∙ c.loop-name.invariant.leads
@@ -48,6 +48,7 @@ returns c =
     YieldsList-end (YieldsList-from_slice_split _ (λ byte. byte == slash) c.args.names.now (cc) (cc) refl
     (λ x b q k. search (rules, tests))) c.loop-name.yielded _ c.loop-name.yielded_by _ _ c.in-None.is
     c.next.ensures.steps in
-    sym (leads_to_end (directory_entries c.args.tree.now) parts (length c.loop-name.yielded) c.loop-name.dir
+    sym (leads_to_end (directory_entries c.args.tree.now.files) parts
+    (length c.loop-name.yielded) c.loop-name.dir
     (sym end.1))
     ∙ c.loop-name.invariant.leads

@@ -9,7 +9,7 @@ abbrev pub invariant-loop-name : goal.invariant-loop-name
 invariant-loop-name l = record {
   can : (goal.iterator-loop-name).can_next l.name-iterator;
   finite : (goal.iterator-loop-name).is_finite l.name-iterator;
-  leads : lead_on (directory_entries l.tree) l.dir (drop (length l.yielded)
+  leads : lead_on (directory_entries l.tree.files) l.dir (drop (length l.yielded)
       (slice_split (λ byte. byte == slash) l.names))
-      ≡ lead_on (directory_entries l.tree) 1 (slice_split (λ byte. byte == slash) l.names);
+      ≡ lead_on (directory_entries l.tree.files) 1 (slice_split (λ byte. byte == slash) l.names);
 }

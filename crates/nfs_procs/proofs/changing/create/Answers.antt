@@ -14,15 +14,16 @@ use Rattle.nfs_procs.proofs.changing.create.Goals as goal
 -- CREATE answers as its effect says: the stat of a refusal, or the handle and the attributes
 pub returns : goal.returns
 returns c =
-    let fs = c.args.tree.now in
+    let fs = c.args.tree.now.files in
     let d = number_for fs c.args.place.dir.0.now in
     let who = caller_of c.args.who.now in
     let a = given_fields c.args.now c.args.attributes.now in (
       tt,
-      handle_told fs c.create.new.self (create fs who c.args.now d c.args.place.name.now a) c.in_ok-made.made
+      handle_told fs c.create.new.self.files (create fs who c.args.now d c.args.place.name.now a)
+          c.in_ok-made.made
           (outcome_of dir_op_of c.file_after.result)
           (subst (λ k. Does (create fs who c.args.now k c.args.place.name.now a) fs c.in_ok-made.made
-          c.create.new.self) c.number_for-dir.ensures c.in_ok-made.ensures.effect)
+          c.create.new.self.files) c.number_for-dir.ensures c.in_ok-made.ensures.effect)
           c.file_after.ensures
           (λ n after is. create_there fs who c.args.now d c.args.place.name.now a n after
           (create_ok fs who c.args.now d c.args.place.name.now a n after is)),

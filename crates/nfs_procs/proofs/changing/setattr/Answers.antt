@@ -10,13 +10,14 @@ use Rattle.nfs_procs.proofs.changing.setattr.Goals as goal
 -- SETATTR answers as its effect says: the stat of a refusal, or the attributes
 pub returns : goal.returns
 returns c =
-    let fs = c.args.tree.now in
+    let fs = c.args.tree.now.files in
     let n = number_for fs c.args.file.0.now in
     let who = caller_of c.args.who.now in
     let a = given_fields c.args.now c.args.attributes.now in (
       tt,
-      attributes_told fs c.set_attributes.new.self n (set_attributes fs who c.args.now n a) c.in_ok-done.done
+      attributes_told fs c.set_attributes.new.self.files n
+          (set_attributes fs who c.args.now n a) c.in_ok-done.done
           (subst (λ k. DoesAt (set_attributes fs who c.args.now k a) k fs c.in_ok-done.done
-          c.set_attributes.new.self)
-          c.number_for-number.ensures c.in_ok-done.ensures),
+          c.set_attributes.new.self.files)
+          c.number_for-number.ensures c.in_ok-done.ensures.effect),
     )

@@ -15,9 +15,10 @@ returns-in-Server-clause-none_sent c =
 pub returns-in-Client-clause-none_received : goal.returns-in-Client-clause-none_received
 returns-in-Client-clause-none_received c =
     let node = c.args.member.now.node in
-    none_received node (opening_client node).machine c.opening_client.result c.opening_client.ensures
+    none_received node (opening_client node).machine c.opening_client.result.state
+    c.opening_client.ensures.state
 
 pub returns-in-Client-clause-none_sent : goal.returns-in-Client-clause-none_sent
 returns-in-Client-clause-none_sent c =
     let node = c.args.member.now.node in
-    none_sent node (opening_client node).machine c.opening_client.result c.opening_client.ensures
+    none_sent node (opening_client node).machine c.opening_client.result.state c.opening_client.ensures.state

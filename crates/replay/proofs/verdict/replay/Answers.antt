@@ -21,9 +21,9 @@ replay_entries-requires-clause-numbers c =
 pub returns-clause-sound : goal.returns-clause-sound
 returns-clause-sound c =
     let ms = c.args.segment.now.roster in
-    let s = c.args.state.now in
+    let s = c.args.state.now.state in
     let ps = placed_in c.args.segment.now.segment in
-    let v = verdict_of c.roster-roster.result.now c.in_ok-copy.copy
+    let v = verdict_of c.roster-roster.result.now c.in_ok-copy.copy.state
     (placed c.first.result c.opening.result c.entries.result.now) in
     let copy = c.in_ok-copy.ensures in
     let roster = c.roster-roster.ensures in

@@ -8,16 +8,17 @@ use Rattle.replay.proofs.verdict.replay_entries.Goals as goal
 pub returns-in-Sound-clause-sound : goal.returns-in-Sound-clause-sound
 returns-in-Sound-clause-sound c =
     let ms = c.args.roster.now in
-    let s = c.args.start in
+    let s = c.args.start.state in
     let ps = placed c.args.first c.args.opening.now c.args.entries.now in
     let ends = rw c.in-Sound.is at c.in_ok-state.ensures in
     sound_by ms s ps (λ t shown. c.sound_exactly_if.ensures ms s t ps shown)
-    (Sound c.in-Sound.state c.in-Sound.found.items) (ends.1 ∙ ap (Sound c.in-Sound.state) (sym ends.2))
+    (Sound c.in-Sound.state.state c.in-Sound.found.items)
+    (ends.1 ∙ ap (Sound c.in-Sound.state.state) (sym ends.2))
 
 pub returns-in-Fault-clause-sound : goal.returns-in-Fault-clause-sound
 returns-in-Fault-clause-sound c =
     let ms = c.args.roster.now in
-    let s = c.args.start in
+    let s = c.args.start.state in
     let ps = placed c.args.first c.args.opening.now c.args.entries.now in
     sound_by ms s ps (λ t shown. c.sound_exactly_if.ensures ms s t ps shown)
     (Fault (fault_in c.in-Fault.fault) c.in-Fault.number) (rw c.in-Fault.is at c.in_ok-state.ensures)

@@ -7,7 +7,7 @@ use Rattle.rpc_streams.proofs.stream.serve_records.Given as goal
 
 abbrev pub invariant-loop-k : goal.invariant-loop-k
 invariant-loop-k g l =
-    Turn l.service l.k (g.R.Read.remaining l.initial.reader.reader.inner)
+    Turn l.service.world l.k (g.R.Read.remaining l.initial.reader.reader.inner)
     (g.R.Read.remaining l.reader.reader.inner) (g.W.Write.contents l.initial.writer.inner)
     (g.W.Write.contents l.writer.inner)
     l.reader.fault l.initial.reader.reader.count l.reader.reader.count l.initial.writer.count l.writer.count

@@ -12,5 +12,5 @@ abbrev pub invariant-loop-number : goal.invariant-loop-number
 invariant-loop-number l = record {
   added : AddsRest (fixed 32) (λ (e : ℕ × Inode). file_digest (e.0, file_in e.1)) l.fn.inodes
       l.number-iterator l.initial.out.items l.out.items;
-  writable : AllByRecursion (IsWritableAt l.tree) l.number-iterator;
+  writable : AllByRecursion (IsWritableAt l.tree.files) l.number-iterator;
 }

@@ -8,23 +8,25 @@ use Rattle.checkpoint.proofs.trees.write.add_tree_digests.Goals as goal
 
 pub overflow_cast-len : goal.overflow_cast-len
 overflow_cast-len c =
-    let few = few_files c.args.tree.now c.files_are_a_tree.ensures.tree c.files_are_a_tree.ensures.room in
-    let many = as_many c.inodes.result (finite.entries c.args.tree.now.files) c.inodes.ensures in
+    let few = few_files c.args.tree.now.files c.files_are_a_tree.ensures.tree c.files_are_a_tree.ensures.room
+    in
+    let many = as_many c.inodes.result (finite.entries c.args.tree.now.files.files) c.inodes.ensures in
     omega (arith, c.len.ensures.value, few, many)
 
 pub add_digests-requires : goal.add_digests-requires
-add_digests-requires c = writable_at c.args.tree.now c.files_are_a_tree.ensures.tree
+add_digests-requires c = writable_at c.args.tree.now.files c.files_are_a_tree.ensures.tree
     c.files_are_a_tree.ensures.room c.inodes-2.result c.inodes-2.ensures
 
 pub returns-clause-fits : goal.returns-clause-fits
 returns-clause-fits c =
-    let few = few_files c.args.tree.now c.files_are_a_tree.ensures.tree c.files_are_a_tree.ensures.room in
-    files_fit (fixed 32) file_digest c.inodes-2.result (finite.entries c.args.tree.now.files)
+    let few = few_files c.args.tree.now.files c.files_are_a_tree.ensures.tree c.files_are_a_tree.ensures.room
+    in
+    files_fit (fixed 32) file_digest c.inodes-2.result (finite.entries c.args.tree.now.files.files)
     c.inodes-2.ensures c.add_digests.result few c.add_digests.ensures.fits
 
 pub returns-clause-text : goal.returns-clause-text
 returns-clause-text c =
-    let es = finite.entries c.args.tree.now.files in
+    let es = finite.entries c.args.tree.now.files.files in
     let count : c.len.result ≡ length c.inodes-2.result = c.len.ensures.value
     ∙ as_many c.inodes.result es c.inodes.ensures
     ∙ sym (as_many c.inodes-2.result es c.inodes-2.ensures) in

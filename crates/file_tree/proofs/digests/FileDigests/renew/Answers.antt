@@ -1,7 +1,8 @@
-use Rattle.std.proofs.Common.{arith}
+use Rattle.std.proofs.Common.{arith, rules}
 use Rattle.std.specs.FinMap as finite
 use Rattle.inode_table.specs.inodes.Inodes.{file_in}
-use Rattle.file_tree.proofs.RenewedDigests.{all_left, one_less, one_more}
+use Rattle.file_tree.proofs.RenewedDigests.{all_left, as_many_missing, none_left, none_missing}
+use Rattle.file_tree.proofs.RenewedDigests.{one_less, one_more}
 use Rattle.file_tree.proofs.WritableFiles.{as_many, few_files, writable_at}
 use Rattle.file_tree.proofs.digests.FileDigests.renew.Goals as goal
 
@@ -18,6 +19,7 @@ loop-number-init c =
       kept = c.requires;
       covered = all_left c.args.self.now c.args.table.now c.inodes-number-items.result
           c.inodes-number-items.ensures;
+      stay = λ n is. is;
       left = writable_at c.args.table.now c.files_are_a_tree.ensures.tree c.files_are_a_tree.ensures.room
           c.inodes-number-items.result c.inodes-number-items.ensures;
     })
@@ -31,8 +33,20 @@ loop-number-preserved c =
       covered = one_less c.loop-number.self c.keep.new.self c.args.table.now c.loop-number.number-iterator
           c.next.new.self (c.in-Some.number.now, c.in-Some.inode.now) c.in-Some.ensures.steps
           c.in_ok-keep.ensures.here c.in_ok-keep.ensures.stay c.loop-number.invariant.covered;
+      stay = λ n is. c.in_ok-keep.ensures.stay n (c.loop-number.invariant.stay n is);
       left = left.1;
     }
+
+pub returns-clause-count : goal.returns-clause-count
+returns-clause-count c =
+    as_many_missing c.args.self.now c.args.table.now c.count_missing-count.result
+    (rw c.inodes.ensures at c.count_missing-count.ensures.count)
+
+pub returns-clause-whole : goal.returns-clause-whole
+returns-clause-whole c =
+    none_missing c.loop-number.self c.args.table.now
+    (none_left c.loop-number.self c.args.table.now c.loop-number.number-iterator (search rules)
+    c.loop-number.invariant.covered)
 
 pub returns-in_err-keep-clause-kept : goal.returns-in_err-keep-clause-kept
 returns-in_err-keep-clause-kept c =

@@ -6,6 +6,7 @@ use Rattle.nfs_spec.specs.Procedures.{set_attributes, create}
 use Rattle.inode_table.specs.inodes.Given.{given_in}
 use Rattle.file_tree.specs.FileChecks.Creates.{DecidesCreate}
 use Rattle.file_tree.specs.Performs.{DoesAt}
+use Rattle.file_tree.proofs.KeptDigests.{files_seen}
 use Rattle.file_tree.proofs.tree.Tree.create.Goals as goal
 
 pub create_new-requires-clause-granted : goal.create_new-requires-clause-granted
@@ -15,7 +16,7 @@ create_new-requires-clause-granted c =
     (caller_of c.args.who.now) c.args.now c.args.dir c.args.name.now a (Ok c.in-Ok-None.field-0) =
     c.in-Ok-None.ensures c.args.now a refl in
     subst (λ w. DecidesCreate w (caller_of c.args.who.now) c.args.now c.args.dir c.args.name.now a
-    (Ok None)) c.self.view_is (rw c.in-Ok-None.field-0-is at found)
+    (Ok None)) (files_seen c.self.view_is) (rw c.in-Ok-None.field-0-is at found)
 
 pub returns-in-Ok-clause-effect : goal.returns-in-Ok-clause-effect
 returns-in-Ok-clause-effect c =
@@ -25,13 +26,13 @@ returns-in-Ok-clause-effect c =
     c.in-Ok-Some.ensures c.args.now a refl in
     let over =
     subst (λ w. DecidesCreate w (caller_of c.args.who.now) c.args.now c.args.dir c.args.name.now a
-    (Ok (Some c.in-Ok-Some.number))) c.self.view_is (rw c.in-Ok-Some.field-0-is at found) in
+    (Ok (Some c.in-Ok-Some.number))) (files_seen c.self.view_is) (rw c.in-Ok-Some.field-0-is at found) in
     let set =
-    subst (λ r. DoesAt (set_attributes c.args.self.now
-    (caller_of c.args.who.now) c.args.now c.in-Ok-Some.number a) c.in-Ok-Some.number c.args.self.now r
-    c.set.new.self) c.in-Ok.is
-    c.in_ok-_attributes-in-Ok-Some.ensures in
-    ap (λ a. create c.args.self.now (caller_of c.args.who.now) c.args.now c.args.dir c.args.name.now a)
+    subst (λ r. DoesAt (set_attributes c.args.self.now.files
+    (caller_of c.args.who.now) c.args.now c.in-Ok-Some.number a) c.in-Ok-Some.number c.args.self.now.files r
+    c.set.new.self.files) c.in-Ok.is
+    c.in_ok-_attributes-in-Ok-Some.ensures.effect in
+    ap (λ a. create c.args.self.now.files (caller_of c.args.who.now) c.args.now c.args.dir c.args.name.now a)
     (sym c.of-given.ensures)
     ∙ over.1 ∙ ap (λ r. r >>= λ after. Ok (c.in-Ok-Some.number, after.1)) set.0
 
@@ -43,7 +44,7 @@ returns-in-Ok-clause-paths c =
     c.in-Ok-Some.ensures c.args.now a refl in
     let over =
     subst (λ w. DecidesCreate w (caller_of c.args.who.now) c.args.now c.args.dir c.args.name.now a
-    (Ok (Some c.in-Ok-Some.number))) c.self.view_is (rw c.in-Ok-Some.field-0-is at found) in
+    (Ok (Some c.in-Ok-Some.number))) (files_seen c.self.view_is) (rw c.in-Ok-Some.field-0-is at found) in
     λ none. absurd (none_some (sym none ∙ over.0.1))
 
 pub returns-in-Err-2-clause-effect : goal.returns-in-Err-2-clause-effect
@@ -54,13 +55,14 @@ returns-in-Err-2-clause-effect c =
     c.in-Ok-Some.ensures c.args.now a refl in
     let over =
     subst (λ w. DecidesCreate w (caller_of c.args.who.now) c.args.now c.args.dir c.args.name.now a
-    (Ok (Some c.in-Ok-Some.number))) c.self.view_is (rw c.in-Ok-Some.field-0-is at found) in
+    (Ok (Some c.in-Ok-Some.number))) (files_seen c.self.view_is) (rw c.in-Ok-Some.field-0-is at found) in
     let set =
-    subst (λ r. DoesAt (set_attributes c.args.self.now
-    (caller_of c.args.who.now) c.args.now c.in-Ok-Some.number a) c.in-Ok-Some.number c.args.self.now r
-    c.set.new.self)
-    c.in-Err-2.is c.in_ok-_attributes-in-Ok-Some.ensures in (
-      ap (λ a. create c.args.self.now (caller_of c.args.who.now) c.args.now c.args.dir c.args.name.now a)
+    subst (λ r. DoesAt (set_attributes c.args.self.now.files
+    (caller_of c.args.who.now) c.args.now c.in-Ok-Some.number a) c.in-Ok-Some.number c.args.self.now.files r
+    c.set.new.self.files)
+    c.in-Err-2.is c.in_ok-_attributes-in-Ok-Some.ensures.effect in (
+      ap (λ a. create c.args.self.now.files (caller_of c.args.who.now) c.args.now c.args.dir c.args.name.now
+          a)
           (sym c.of-given.ensures)
           ∙ over.1 ∙ ap (λ r. r >>= λ after. Ok (c.in-Ok-Some.number, after.1)) set.0,
       set.1,

@@ -11,6 +11,8 @@ use Rattle.nfs_spec.specs.fs_model.Files.{Files, file_at}
 use Rattle.inode_table.proofs.nfs_laws.OfTrees.FilesFit.{next_free}
 use Rattle.inode_table.proofs.nfs_laws.OfChanges.OtherFiles.{made_other}
 use Rattle.file_tree.proofs.KeptDigests.{made_kept, same_kept}
+use Rattle.file_tree.proofs.KeptDigests.{files_seen}
+use Rattle.file_tree.proofs.MissingDigests.{made_dropped}
 use Rattle.file_tree.proofs.tree.Tree.create_new.Goals as goal
 
 pub make-requires : goal.make-requires
@@ -25,7 +27,8 @@ make-requires c =
     (file_in c.new-inode.result)
     (new_regular_is who c.args.now a _ _ _ c.new-inode.ensures.file c.in_ok-body.ensures c.unwrap_or.ensures)
     words
-    (subst (λ w. DecidesCreate w who c.args.now c.args.dir c.args.name.now a (Ok None)) (sym c.self.view_is)
+    (subst (λ w. DecidesCreate w who c.args.now c.args.dir c.args.name.now a (Ok None))
+    (sym (files_seen c.self.view_is))
     c.requires.granted)
 
 pub returns-clause-effect : goal.returns-clause-effect
@@ -34,13 +37,14 @@ returns-clause-effect c =
     let a = given_in c.args.given.now in
     let words : HasWords (file_in c.new-inode.result) = search rules in
     let time : IsTime c.args.now = search rules in
-    rw (← c.self.view_is) (create_does c.self.inside.table c.files_are_a_tree.ensures.tree
+    rw (← files_seen c.self.view_is) (create_does c.self.inside.table c.files_are_a_tree.ensures.tree
     c.files_are_a_tree.ensures.room who c.args.now time c.args.dir c.args.name.now
     c.in_ok-to_vec.field-0.items c.requires.name (c.in_ok-to_vec.ensures.items_if_clones_equal (λ x y e. e)) a
     c.requires.valid (file_in c.new-inode.result)
     (new_regular_is who c.args.now a _ _ _ c.new-inode.ensures.file c.in_ok-body.ensures c.unwrap_or.ensures)
     words
-    (subst (λ w. DecidesCreate w who c.args.now c.args.dir c.args.name.now a (Ok None)) (sym c.self.view_is)
+    (subst (λ w. DecidesCreate w who c.args.now c.args.dir c.args.name.now a (Ok None))
+    (sym (files_seen c.self.view_is))
     c.requires.granted)
     c.in_ok-number.number c.make.new.self c.in_ok-number.ensures.number c.in_ok-number.ensures.ok)
 
@@ -50,14 +54,16 @@ returns-clause-paths c =
     let a = given_in c.args.given.now in
     let words : HasWords (file_in c.new-inode.result) = search rules in
     let time : IsTime c.args.now = search rules in
-    subst (λ w. NamesIn w c.make.new.self c.args.dir c.args.name.now c.in_ok-number.number) c.self.view_is
+    subst (λ w. NamesIn w c.make.new.self c.args.dir c.args.name.now c.in_ok-number.number)
+    (files_seen c.self.view_is)
     (create_names c.self.inside.table c.files_are_a_tree.ensures.tree c.files_are_a_tree.ensures.room who
     c.args.now time c.args.dir c.args.name.now c.in_ok-to_vec.field-0.items c.requires.name
     (c.in_ok-to_vec.ensures.items_if_clones_equal (λ x y e. e)) a c.requires.valid
     (file_in c.new-inode.result)
     (new_regular_is who c.args.now a _ _ _ c.new-inode.ensures.file c.in_ok-body.ensures c.unwrap_or.ensures)
     words
-    (subst (λ w. DecidesCreate w who c.args.now c.args.dir c.args.name.now a (Ok None)) (sym c.self.view_is)
+    (subst (λ w. DecidesCreate w who c.args.now c.args.dir c.args.name.now a (Ok None))
+    (sym (files_seen c.self.view_is))
     c.requires.granted)
     c.in_ok-number.number c.make.new.self c.in_ok-number.ensures.number c.in_ok-number.ensures.ok)
 
@@ -72,4 +78,14 @@ invariant_of-self-2 c =
     c.self.inside.table.next c.forget.new.self c.forget.ensures
     (next_free c.self.inside.table c.files_are_a_tree.ensures.tree)
     (λ n nd nn. ap (λ (w : Files). file_at w n) c.in_ok-number.ensures.ok
-    ∙ made_other c.args.now c.self.inside.table c.args.dir c.in_ok-to_vec.field-0.items (file_in c.new-inode.result) n nd nn)
+    ∙ made_other c.args.now c.self.inside.table c.args.dir c.in_ok-to_vec.field-0.items
+    (file_in c.new-inode.result) n nd nn)
+
+pub returns-clause-digests : goal.returns-clause-digests
+returns-clause-digests c =
+    rw (← c.self.view_is) (made_dropped c.self.inside.table c.make.new.self c.self.inside.digests c.args.dir
+    c.self.inside.table.next c.in_ok-number.number c.forget.new.self c.forget.ensures
+    c.in_ok-number.ensures.number
+    (λ n nd nn. ap (λ (w : Files). file_at w n) c.in_ok-number.ensures.ok
+    ∙ made_other c.args.now c.self.inside.table c.args.dir c.in_ok-to_vec.field-0.items
+    (file_in c.new-inode.result) n nd nn))

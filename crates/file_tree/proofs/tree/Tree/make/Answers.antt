@@ -11,6 +11,8 @@ use Rattle.nfs_spec.specs.fs_model.Files.{Files, file_at}
 use Rattle.inode_table.proofs.nfs_laws.OfTrees.FilesFit.{next_free}
 use Rattle.inode_table.proofs.nfs_laws.OfChanges.OtherFiles.{made_other}
 use Rattle.file_tree.proofs.KeptDigests.{made_kept}
+use Rattle.file_tree.proofs.KeptDigests.{files_seen}
+use Rattle.file_tree.proofs.MissingDigests.{made_dropped}
 use Rattle.file_tree.proofs.tree.Tree.make.Goals as goal
 
 pub make-requires : goal.make-requires
@@ -39,7 +41,7 @@ returns-clause-effect c =
     let does : c.make.new.self
     ≡ add_file c.args.now c.self.inside.table c.args.dir c.in_ok-to_vec.field-0.items f =
     c.in_ok-number.ensures.ok in
-    rw (← c.self.view_is)
+    rw (← files_seen c.self.view_is)
     (make_does c.self.inside.table c.files_are_a_tree.ensures.tree c.files_are_a_tree.ensures.room
     (caller_of c.args.who.now) c.args.now c.args.dir
     c.args.name.now c.requires.name f c.requires.empty c.requires.cookie
@@ -61,7 +63,8 @@ returns-clause-paths c =
     let does : c.make.new.self
     ≡ add_file c.args.now c.self.inside.table c.args.dir c.in_ok-to_vec.field-0.items f =
     c.in_ok-number.ensures.ok in
-    subst (λ w. NamesIn w c.make.new.self c.args.dir c.args.name.now c.in_ok-number.number) c.self.view_is
+    subst (λ w. NamesIn w c.make.new.self c.args.dir c.args.name.now c.in_ok-number.number)
+    (files_seen c.self.view_is)
     (make_names c.self.inside.table c.files_are_a_tree.ensures.tree c.files_are_a_tree.ensures.room
     (caller_of c.args.who.now) c.args.now c.args.dir
     c.args.name.now c.requires.name f c.requires.empty c.requires.cookie
@@ -76,4 +79,14 @@ invariant_of-self-2 c =
     c.self.inside.table.next c.forget.new.self c.forget.ensures
     (next_free c.self.inside.table c.files_are_a_tree.ensures.tree)
     (λ n nd nn. ap (λ (w : Files). file_at w n) c.in_ok-number.ensures.ok
-    ∙ made_other c.args.now c.self.inside.table c.args.dir c.in_ok-to_vec.field-0.items (file_in c.args.inode) n nd nn)
+    ∙ made_other c.args.now c.self.inside.table c.args.dir c.in_ok-to_vec.field-0.items
+    (file_in c.args.inode) n nd nn)
+
+pub returns-clause-digests : goal.returns-clause-digests
+returns-clause-digests c =
+    rw (← c.self.view_is) (made_dropped c.self.inside.table c.make.new.self c.self.inside.digests c.args.dir
+    c.self.inside.table.next c.in_ok-number.number c.forget.new.self c.forget.ensures
+    c.in_ok-number.ensures.number
+    (λ n nd nn. ap (λ (w : Files). file_at w n) c.in_ok-number.ensures.ok
+    ∙ made_other c.args.now c.self.inside.table c.args.dir c.in_ok-to_vec.field-0.items
+    (file_in c.args.inode) n nd nn))

@@ -1,11 +1,13 @@
 use Rattle.nfs_spec.specs.nfs_items.CallerOf.{caller_of}
 use Rattle.inode_table.specs.inodes.Given.{given_in}
 use Rattle.file_tree.proofs.OfFileChecks.Granted.{may_set, set_does}
-use Rattle.std.proofs.Common.{◌∙◌, ap, sym}
+use Rattle.std.proofs.Common.{◌∙◌, ◌∷◌, [], ap, refl, sym}
 use Rattle.nfs_spec.specs.fs_model.Files.{Files, file_at}
 use Rattle.nfs_spec.proofs.fs_model.OfChanges.Finite.{changed_other}
 use Rattle.nfs_spec.specs.Changes.{apply_fields}
 use Rattle.file_tree.proofs.KeptDigests.{one_kept, same_kept, nothing_set}
+use Rattle.file_tree.proofs.KeptDigests.{files_seen}
+use Rattle.file_tree.proofs.MissingDigests.{keeps_others, one_dropped}
 use Rattle.file_tree.proofs.tree.Tree.set.Goals as goal
 
 pub set-requires-clause-sized : goal.set-requires-clause-sized
@@ -15,10 +17,11 @@ set-requires-clause-sized c =
     (given_in c.args.given.now) granted.0 granted.1
 
 -- the table takes what the check granted
-pub returns : goal.returns
-returns c =
+pub returns-clause-effect : goal.returns-clause-effect
+returns-clause-effect c =
     let granted = c.in_default.ensures c.args.now in (
-      rw (← c.self.view_is) (set_does c.self.inside.table (caller_of c.args.who.now) c.args.now c.args.number
+      rw (← files_seen c.self.view_is) (set_does c.self.inside.table
+          (caller_of c.args.who.now) c.args.now c.args.number
           (given_in c.args.given.now) granted.0 granted.1 c.set.new.self c.in_ok-attributes.ensures.ok),
       c.in_ok-attributes.ensures.attributes,
     )
@@ -35,10 +38,11 @@ invariant_of-self-then-not-is_any c =
     ∙ nothing_set c.self.inside.table c.args.number c.args.now (given_in c.args.given.now)
     (sym c.if-not-is_any.ensures) n)
 
-pub returns-then-not-is_any : goal.returns-then-not-is_any
-returns-then-not-is_any c =
+pub returns-then-not-is_any-clause-effect : goal.returns-then-not-is_any-clause-effect
+returns-then-not-is_any-clause-effect c =
     let granted = c.in_default.ensures c.args.now in (
-      rw (← c.self.view_is) (set_does c.self.inside.table (caller_of c.args.who.now) c.args.now c.args.number
+      rw (← files_seen c.self.view_is) (set_does c.self.inside.table
+          (caller_of c.args.who.now) c.args.now c.args.number
           (given_in c.args.given.now) granted.0 granted.1 c.set.new.self c.in_ok-attributes.ensures.ok),
       c.in_ok-attributes.ensures.attributes,
     )
@@ -50,3 +54,22 @@ invariant_of-self-2 c =
     c.forget.new.self c.forget.ensures
     (λ n ne. ap (λ (w : Files). file_at w n) c.in_ok-attributes.ensures.ok
     ∙ changed_other c.self.inside.table c.args.number change n ne)
+
+pub returns-clause-digests : goal.returns-clause-digests
+returns-clause-digests c =
+    let change = apply_fields c.args.now (given_in c.args.given.now) in
+    rw (← c.self.view_is) (one_dropped c.self.inside.table c.set.new.self c.self.inside.digests c.args.number
+    c.forget.new.self c.forget.ensures
+    (λ n ne. ap (λ (w : Files). file_at w n) c.in_ok-attributes.ensures.ok
+    ∙ changed_other c.self.inside.table c.args.number change n ne))
+
+-- nothing was given, and all stays
+pub returns-then-not-is_any-clause-digests : goal.returns-then-not-is_any-clause-digests
+returns-then-not-is_any-clause-digests c =
+    rw (← c.self.view_is) (keeps_others c.self.inside.table c.set.new.self c.self.inside.digests
+    c.self.inside.digests (c.args.number ∷ []) (λ n others. (
+      ap (λ (w : Files). file_at w n) c.in_ok-attributes.ensures.ok
+          ∙ nothing_set c.self.inside.table c.args.number c.args.now (given_in c.args.given.now)
+          (sym c.if-not-is_any.ensures) n,
+      refl,
+    )))

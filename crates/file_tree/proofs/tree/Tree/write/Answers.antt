@@ -6,17 +6,19 @@ use Rattle.nfs_spec.specs.fs_model.Files.{Files, file_at}
 use Rattle.nfs_spec.proofs.fs_model.OfChanges.Finite.{changed_other}
 use Rattle.nfs_spec.specs.Procedures.{with_bytes_written, write}
 use Rattle.file_tree.proofs.KeptDigests.{one_kept}
+use Rattle.file_tree.proofs.KeptDigests.{files_seen}
+use Rattle.file_tree.proofs.MissingDigests.{one_dropped}
 use Rattle.file_tree.proofs.tree.Tree.write.Goals as goal
 
-pub returns-then-is_empty : goal.returns-then-is_empty
-returns-then-is_empty c =
+pub returns-then-is_empty-clause-effect : goal.returns-then-is_empty-clause-effect
+returns-then-is_empty-clause-effect c =
     let granted = c.in_default.ensures c.args.now in
     let file = write_file c.self.inside.table
     (caller_of c.args.who.now) c.args.now c.args.number c.args.offset c.args.bytes.now granted.0 granted.1 in
-    told_there (write c.args.self.now (caller_of c.args.who.now) c.args.now c.args.number c.args.offset
-    c.args.bytes.now) c.args.self.now c.args.number file.0
-    (ap (λ w. file_at w c.args.number) (sym c.self.view_is) ∙ file.1) c.attributes.result
-    (rw (← c.self.view_is) (write_does_nothing c.self.inside.table
+    told_there (write c.args.self.now.files (caller_of c.args.who.now) c.args.now c.args.number c.args.offset
+    c.args.bytes.now) c.args.self.now.files c.args.number file.0
+    (ap (λ w. file_at w c.args.number) (sym (files_seen c.self.view_is)) ∙ file.1) c.attributes.result
+    (rw (← files_seen c.self.view_is) (write_does_nothing c.self.inside.table
     (caller_of c.args.who.now) c.args.now c.args.number c.args.offset c.args.bytes.now granted.0 granted.1
     (sym c.if-is_empty.ensures))) c.attributes.ensures
 
@@ -28,11 +30,12 @@ write-requires c =
     (sym c.if-is_empty.ensures)
 
 -- the table takes the bytes that the check granted
-pub returns : goal.returns
-returns c =
+pub returns-clause-effect : goal.returns-clause-effect
+returns-clause-effect c =
     let granted = c.in_default.ensures c.args.now in (
-      rw (← c.self.view_is) (write_does c.self.inside.table
-          (caller_of c.args.who.now) c.args.now c.args.number c.args.offset c.args.bytes.now granted.0 granted.1
+      rw (← files_seen c.self.view_is) (write_does c.self.inside.table
+          (caller_of c.args.who.now) c.args.now c.args.number c.args.offset c.args.bytes.now granted.0
+          granted.1
           (sym c.if-is_empty.ensures) c.write.new.self c.in_ok-attributes.ensures.ok),
       c.in_ok-attributes.ensures.attributes,
     )
@@ -48,3 +51,16 @@ invariant_of-self-2 c =
     (λ n ne. ap (λ (w : Files). file_at w n) (c.in_ok-attributes.ensures.ok may.0 may.1)
     ∙ changed_other c.self.inside.table c.args.number
     (with_bytes_written c.args.now c.args.offset c.args.bytes.now may.0) n ne)
+
+pub returns-clause-digests : goal.returns-clause-digests
+returns-clause-digests c =
+    let granted = c.in_default.ensures c.args.now in
+    let may = may_write_at c.self.inside.table
+    (caller_of c.args.who.now) c.args.now c.args.number c.args.offset c.args.bytes.now granted.0 granted.1
+    (sym c.if-is_empty.ensures) in
+    rw (← c.self.view_is) (one_dropped c.self.inside.table c.write.new.self c.self.inside.digests
+    c.args.number
+    c.forget.new.self c.forget.ensures
+    (λ n ne. ap (λ (w : Files). file_at w n) (c.in_ok-attributes.ensures.ok may.0 may.1)
+    ∙ changed_other c.self.inside.table c.args.number
+    (with_bytes_written c.args.now c.args.offset c.args.bytes.now may.0) n ne))

@@ -6,8 +6,8 @@ use Rattle.nfs_types.proofs.OfResultTexts.AnswersSaid.{answers_say}
 use Rattle.nfs_types.proofs.result_texts.writing.write_attributes.Goals as goal
 
 -- the bytes are those of the answer that has it
-pub returns : goal.returns
-returns c =
+pub returns-clause-appends : goal.returns-clause-appends
+returns-clause-appends c =
     subst (λ (t : List ℕ). Appends t c.args.out.now.items
     c.all_or_nothing.result c.all_or_nothing.new.out.items)
     (sym (answers_say (code.Attributes c.args.attributes.now)))

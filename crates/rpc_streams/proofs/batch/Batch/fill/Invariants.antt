@@ -6,7 +6,8 @@ use Rattle.rpc_streams.proofs.batch.Batch.fill.Given as goal
 
 abbrev pub invariant-loop-self : goal.invariant-loop-self
 invariant-loop-self l =
-    Filled l.initial.service l.k l.service l.initial.self.replies.items l.bytes l.self.replies.items
+    Filled l.initial.service.world l.k l.service.world l.initial.self.replies.items l.bytes
+    l.self.replies.items
     l.self.ends.items l.taken
     × (length l.self.ends.items ≤ l.most) × (MOST_RECORDS ≤ vec_capacity l.self.ends)
 

@@ -1,4 +1,4 @@
-use Rattle.std.proofs.Common.{sym, ap, ◌∙◌}
+use Rattle.std.proofs.Common.{ap, ◌∙◌}
 use Rattle.state_spec.specs.State.{State}
 use Rattle.state_machine.specs.Steps.{having_sent, having_forgotten}
 use Rattle.state_machine.proofs.Served.{forgotten_again}
@@ -16,4 +16,4 @@ returns-in-Err-clause-err c =
     c.remove_received.ensures
     ∙ ap {A = State} (λ s. having_forgotten s c.args.message)
     (c.in-Err.ensures.err ∙ c.in_ok-add_received.ensures.ok)
-    ∙ forgotten_again c.args.self.now c.args.message c.requires.fresh
+    ∙ forgotten_again c.args.self.now.state c.args.message c.requires.fresh
