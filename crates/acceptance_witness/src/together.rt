@@ -318,7 +318,7 @@ fn one_step<R: Wait>(rt: &R, alloc: Global) -> Option<(WitnessService, Vec<Pass>
 /// Whether a service closes with these passes, with so many places.
 fn closes(service: WitnessService, passes: Vec<Pass>, places: usize) -> bool {
     match service.close(passes) {
-        Ok(Closed { passes: _, journal }) => journal.places().len() == places,
+        Ok(closed) => closed.journal.places().len() == places,
         Err(_) => false,
     }
 }

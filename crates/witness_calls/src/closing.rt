@@ -7,12 +7,13 @@ ghost use Rattle.witness_calls.specs.Closing.{IsOneRun};
 use witness_service::{Closed, Pass, ReceiptFault, WitnessService};
 
 /// Closes a witness with all its passes. `Ok` has its journal and these passes: what each of them was
-/// answered stands there once, in its order, and no other step does; so all steps make one history. Else it
-/// is `NotInJournal`, with both. Takes no memory.
+/// answered stands there once, in its order, and no other step does; so all steps make one history, under the
+/// roster with which the witness was opened. Else it is a fault, with all of these: `NotInJournal` where the
+/// passes don't fit. Takes no memory.
 pub fn close(service: WitnessService, passes: Vec<Pass>) -> Result<Closed, ReceiptFault>
-    ensures closed { IfOk result (IsClosed passes.items) }
+    ensures closed { IfOk result (IsClosed service passes.items) }
     ensures run { IfOk result IsOneRun }
-    ensures fault { IfErr result (IsFault passes.items) }
+    ensures fault { IfErr result (IsFault service passes.items) }
 {
     match service.close(passes) {
         Ok(closed) => Ok(closed),

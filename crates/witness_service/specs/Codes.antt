@@ -1,12 +1,14 @@
 -- Codes of claims, passes and journals, by which a proof tells them apart.
 use Rattle.std.specs.Prelude.{ℕ, List, refl}
 use Rattle.std.specs.Coded.{Coded, code_by, coded×, coded_ℕ, coded_list}
+use Rattle.authenticator.specs.declared.member.Member.{Member}
+use Rattle.authenticator.specs.contracts.member.Member as members
 use Rattle.witness_books.specs.Books.{BooksParts, books_code}
 use Rattle.witness_books.specs.node_book.NoteCodes.{note_code}
 use Rattle.witness_books.specs.witness_spec.Events.{Event}
 use Rattle.witness_books.specs.witness_spec.Replies.{Reply}
 use Rattle.witness_service.specs.Claims.{Claim, Held}
-use Rattle.witness_service.specs.Journals.{JournalParts}
+use Rattle.witness_service.specs.Journals.{JournalParts, ServiceParts}
 
 -- of a claim
 abbrev pub claim_code : Coded Claim
@@ -25,3 +27,9 @@ abbrev pub journal_code : Coded JournalParts
 journal_code =
     code_by (BooksParts × List (Event × Reply)) (coded× books_code (coded_list note_code))
     (λ j. (j.books, j.places)) (λ p. record { books = p.0; places = p.1 }) (λ _. refl)
+
+-- of what a service says
+abbrev pub service_code : Coded ServiceParts
+service_code =
+    code_by (List Member) (coded_list members.the_row.coded) (λ s. s.roster)
+    (λ ms. record { roster = ms }) (λ _. refl)
