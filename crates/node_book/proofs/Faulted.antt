@@ -1,7 +1,7 @@
 -- A book's accepted segments where a job is out: those that were audited, and the job's.
 -- Serves: the evidence of a fault.
-use Rattle.std.proofs.Common.{◌≡◌, inl, inr, ℕ, ◌+◌, ◌-◌, ◌<◌, ◌≤◌, List, [], ◌∷◌, ◌++◌, length, flat_map, take, filter, nat_lt}
-use Rattle.std.proofs.Common.{refl, sym, ap, subst, ◌∙◌, arith, rules}
+use Rattle.std.proofs.Common.{◌≡◌, inl, inr, ℕ, ◌+◌, ◌-◌, ◌≤◌, List, [], ◌∷◌, ◌++◌, length, take, filter, nat_lt}
+use Rattle.std.proofs.Common.{refl, sym, ap, subst, ◌∙◌, arith}
 use Rattle.std.proofs.Common.{Option, Some, None}
 use Rattle.std.proofs.lemmas.List.{length-append}
 use Rattle.std.proofs.Math.Seq.{take-append_seam}
@@ -12,7 +12,7 @@ use Rattle.witness_spec.specs.state_spec.State.{State}
 use Rattle.evidence_spec.specs.Evidence.{EvidenceParts, Replay}
 use Rattle.evidence_spec.specs.replay_spec.Replay.{Sound}
 use Rattle.witness_spec.specs.Limits.{MAX_AUDITED}
-use Rattle.witness_spec.specs.Standing.{Stage, NoAudit, Out}
+use Rattle.witness_spec.specs.Standing.{NoAudit, Out}
 use Rattle.witness_steps.specs.Books.{Book, exposed, book_audited}
 use Rattle.witness_steps.specs.Fitting.{IsWhole, Tile, AreTiles, IsOne, IsMore, FitsTogether}
 use Rattle.witness_steps.specs.Going.{audited_with, first_evidence, having_filed}

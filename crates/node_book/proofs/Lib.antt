@@ -6,6 +6,7 @@ pub mod Shown
 pub mod Searches
 pub mod LookUps
 pub mod SameReplies
+pub mod Wanting
 pub use Rattle.evidence_spec.proofs as evidence_spec
 pub use Rattle.witness_spec.proofs as witness_spec
 pub use Rattle.witness_steps.proofs.witness_laws as witness_laws

@@ -1,14 +1,11 @@
 -- What is decided of a step before the book changes: all that the reply and the change need beside the step.
-use Rattle.std.specs.Prelude.{◌≡◌, ◌≢◌, ◌<◌, Bool, true, false, length, Option, Some, None, option_map, Ok, Err}
-use Rattle.std.specs.Prelude.{Result, List, map}
+use Rattle.std.specs.Prelude.{◌≡◌, ◌≢◌, ◌<◌, Bool, true, false, length, Option, Some, None, option_map}
 use Rattle.std.specs.Arc.{arc_value}
 use Rattle.std.specs.Vec.{vec_capacity}
 use Rattle.authenticator.specs.declared.authenticator.Authenticator.{Authenticator}
 use Rattle.secure_log.specs.Segment.{ClosedParts}
-use Rattle.envelopes.specs.Acknowledgement.{acked_message}
 use Rattle.envelopes.specs.declared.envelope.Envelope.{Envelope}
 use Rattle.envelopes.specs.declared.acknowledgement.Ack.{Ack}
-use Rattle.evidence_spec.specs.Evidence.{EvidenceParts}
 use Rattle.witness_spec.specs.Events.{JobParts}
 use Rattle.witness_spec.specs.Refusals as refusals
 use Rattle.witness_spec.specs.Replies as spec
@@ -18,10 +15,9 @@ use Rattle.witness_steps.specs.Replying.{reply_to_ack, reply_to_audit, reply_to_
 use Rattle.witness_steps.specs.Replying.{reply_to_ask}
 use Rattle.witness_steps.specs.Going.{evidence_noted, evidence_accepted, first_evidence}
 use Rattle.node_book.specs.Events.{question_in}
-use Rattle.node_book.specs.Replies.{refusal_in, reply_in}
+use Rattle.node_book.specs.Replies.{reply_in}
 use Rattle.node_book.specs.Outboxes.{HasPlace}
 use Rattle.node_book.specs.declared.event.Question.{Question}
-use Rattle.node_book.specs.declared.refusal.Refusal.{Refusal}
 use Rattle.node_book.specs.declared.refusal.Refusal.TheVariants as f
 use Rattle.node_book.specs.declared.reply.ReplyOf.{ReplyOf}
 use Rattle.node_book.specs.declared.reply.ReplyOf.TheVariants as r
@@ -185,11 +181,46 @@ Decides book step decided = ⊥
 
 -- ---- room
 
--- A book has room for what a step adds: one authenticator, challenge, segment or share of the outbox more.
-abbrev pub HasRoomFor : Rows → Step → Type 0
-HasRoomFor rows (s.Learn x) = length rows.learned.items < vec_capacity rows.learned
-HasRoomFor rows (s.SendChallenge x) = length rows.challenges.items < vec_capacity rows.challenges
-HasRoomFor rows (s.Answer x) = length rows.segments.items < vec_capacity rows.segments
-HasRoomFor rows s.Audit = length rows.challenges.items < vec_capacity rows.challenges
-HasRoomFor rows (s.File x) = HasPlace rows.outbox
-HasRoomFor rows step = Unit {0}
+-- What was decided of a step adds something to the book.
+abbrev pub AddsOne : Decided → Type 0
+AddsOne (d.Learn (l.Noted None)) = Unit {0}
+AddsOne (d.SendChallenge o.Opened) = Unit {0}
+AddsOne (d.Answer (a.Accepted share evidence)) = Unit {0}
+AddsOne (d.Audit (q.Asked first last)) = Unit {0}
+AddsOne (d.File c.IsOut) = Unit {0}
+AddsOne decided = ⊥
+
+-- A book has room for an authenticator that it is to keep.
+abbrev pub HasRoomToLearn : Rows → Learning → Type 0
+HasRoomToLearn rows (l.Noted None) = length rows.learned.items < vec_capacity rows.learned
+HasRoomToLearn rows learning = Unit {0}
+
+-- For a challenge with a message that is to be open.
+abbrev pub HasRoomToOpen : Rows → Opening → Type 0
+HasRoomToOpen rows o.Opened = length rows.challenges.items < vec_capacity rows.challenges
+HasRoomToOpen rows opening = Unit {0}
+
+-- For a segment that it accepts.
+abbrev pub HasRoomToAccept : Rows → Accepting → Type 0
+HasRoomToAccept rows (a.Accepted share evidence) = length rows.segments.items < vec_capacity rows.segments
+HasRoomToAccept rows a.NotAsked = Unit {0}
+
+-- For an audit that is to be open.
+abbrev pub HasRoomToAsk : Rows → Asking → Type 0
+HasRoomToAsk rows (q.Asked first last) = length rows.challenges.items < vec_capacity rows.challenges
+HasRoomToAsk rows (q.Refused refusal) = Unit {0}
+
+-- For what the job that is out found.
+abbrev pub HasRoomToFile : Rows → Coming → Type 0
+HasRoomToFile rows c.IsOut = HasPlace rows.outbox
+HasRoomToFile rows coming = Unit {0}
+
+-- A book has room for what is decided to be added: one authenticator, challenge, segment or share of the
+-- outbox more.
+abbrev pub HasRoomFor : Rows → Decided → Type 0
+HasRoomFor rows (d.Learn x) = HasRoomToLearn rows x
+HasRoomFor rows (d.SendChallenge x) = HasRoomToOpen rows x
+HasRoomFor rows (d.Answer x) = HasRoomToAccept rows x
+HasRoomFor rows (d.Audit x) = HasRoomToAsk rows x
+HasRoomFor rows (d.File x) = HasRoomToFile rows x
+HasRoomFor rows decided = Unit {0}

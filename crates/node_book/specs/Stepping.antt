@@ -1,16 +1,14 @@
 -- What a step of a book in memory does.
-use Rattle.std.specs.Prelude.{◌≡◌, ◌⊎◌, Option, Some, None}
-use Rattle.witness_spec.specs.Events.{JobParts, Question, ItsIndication}
+use Rattle.std.specs.Prelude.{◌≡◌, ◌⊎◌, Bool, true, false, Option, Some, None}
+use Rattle.witness_spec.specs.Events.{JobParts, ItsIndication}
 use Rattle.witness_spec.specs.Refusals as refusals
 use Rattle.witness_spec.specs.Replies as spec
 use Rattle.witness_spec.specs.Steps as steps
 use Rattle.witness_steps.specs.Books.{Book}
 use Rattle.witness_steps.specs.Replying.{BookOwes}
 use Rattle.witness_steps.specs.Going.{book_after}
-use Rattle.node_book.specs.Events.{step_in}
 use Rattle.node_book.specs.Replies.{reply_in}
 use Rattle.node_book.specs.declared.reply.ReplyOf.{ReplyOf}
-use Rattle.node_book.specs.declared.step.Step.{Step}
 
 -- A step may run out of memory: neither that an indication is asked for does, nor that a job is put back, nor
 -- that a message is acknowledged.
@@ -19,6 +17,26 @@ StepMayWant (steps.AckIn a) = ⊥
 StepMayWant (steps.PutBack j) = ⊥
 StepMayWant (steps.Ask ItsIndication) = ⊥
 StepMayWant _ = Unit {0}
+
+-- the reply is a refusal, or says that what came is known already
+abbrev pub is_refusal_or_already : spec.Reply → Bool
+is_refusal_or_already spec.Already = true
+is_refusal_or_already (spec.Refused refusal) = true
+is_refusal_or_already (spec.FileRefused refusal d) = true
+is_refusal_or_already (spec.PutBackRefused refusal j) = true
+is_refusal_or_already _ = false
+
+-- A book may run out of memory at a step: at one that may, where what the book owes is neither a refusal nor
+-- Already.
+pub record MayRunOut (book : Book) (step : steps.Step) : Type 0 where
+  -- the step is one that may
+  pub may : StepMayWant step
+  -- what is owed
+  pub owed : spec.Reply
+  -- by the book
+  pub owes : BookOwes book step owed
+  -- it is neither
+  pub is_more : is_refusal_or_already owed ≡ false
 
 -- a step is refused: a job or a done value comes back with the refusal
 abbrev pub step_refused : steps.Step → refusals.Refusal → spec.Reply
@@ -43,9 +61,9 @@ pub record RanOut (old : Book) (step : steps.Step) (reply : spec.Reply) (new : B
   pub refused : reply ≡ step_refused step refusals.NoMemory
   pub stays : new ≡ old
 
--- A step was made; or it ran out of memory, if it may.
+-- A step was made; or it ran out of memory, if the book may at this step.
 abbrev pub Steps : (old : Book) → steps.Step → spec.Reply → (new : Book) → Type 0
-Steps old step reply new = IsStep old step reply new ⊎ (StepMayWant step × RanOut old step reply new)
+Steps old step reply new = IsStep old step reply new ⊎ (MayRunOut old step × RanOut old step reply new)
 
 -- A step of which notes were made: two copies of the very reply, before the book changed. There are none
 -- where memory was refused, and then nothing changed.

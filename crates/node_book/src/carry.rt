@@ -13,7 +13,8 @@ ghost use Rattle.witness_spec.specs.Standing as standing;
 ghost use Rattle.node_book.specs.Jobs.{verdict_told};
 ghost use Rattle.node_book.specs.Deciding.{DecidesLearning, DecidesOpening, DecidesAccepting, DecidesAcked};
 ghost use Rattle.node_book.specs.Deciding.{DecidesAsking, DecidesBeginning, DecidesComing, DecidesForwarding};
-ghost use Rattle.node_book.specs.Deciding.{Decides, HasRoomFor, reply_of};
+ghost use Rattle.node_book.specs.Deciding.{Decides, HasRoomFor, HasRoomToAccept, HasRoomToAsk, HasRoomToFile};
+ghost use Rattle.node_book.specs.Deciding.{HasRoomToLearn, HasRoomToOpen, reply_of};
 ghost use Rattle.node_book.specs.Deciding.{reply_learning, reply_opening, reply_accepting, reply_acked};
 ghost use Rattle.node_book.specs.Deciding.{reply_asking, reply_beginning, reply_filing, reply_returning};
 ghost use Rattle.node_book.specs.Deciding.{reply_forwarding, reply_telling};
@@ -43,7 +44,7 @@ impl Rows {
     /// Learns an authenticator.
     fn carry_learn(&mut self, authenticator: Authenticator, learning: Learning) -> Reply
         requires decided { DecidesLearning (book_in self.old) authenticator learning }
-        requires room { length self.old.learned.items < vec_capacity self.old.learned }
+        requires room { HasRoomToLearn self.old learning }
         requires keeps { KeepsExposure (segments_in self.old.segments.items) self.old.exposure }
         ensures reply { result ≡ reply_learning learning }
         ensures after { book_in self.new ≡ after_learn (book_in self.old) authenticator (reply_in result) }
@@ -67,7 +68,7 @@ impl Rows {
     /// Opens a challenge with a message.
     fn carry_send_challenge(&mut self, envelope: Envelope, opening: Opening) -> Reply
         requires decided { DecidesOpening (book_in self.old) envelope opening }
-        requires room { length self.old.challenges.items < vec_capacity self.old.challenges }
+        requires room { HasRoomToOpen self.old opening }
         requires keeps { KeepsExposure (segments_in self.old.segments.items) self.old.exposure }
         ensures reply { result ≡ reply_opening opening }
         ensures after { book_in self.new ≡ after_send_challenge (book_in self.old) envelope
@@ -87,7 +88,7 @@ impl Rows {
     /// Accepts a segment.
     fn carry_answer(&mut self, segment: SharedSegment, accepting: Accepting) -> Reply
         requires decided { DecidesAccepting (book_in self.old) segment accepting }
-        requires room { length self.old.segments.items < vec_capacity self.old.segments }
+        requires room { HasRoomToAccept self.old accepting }
         requires keeps { KeepsExposure (segments_in self.old.segments.items) self.old.exposure }
         ensures reply { result ≡ reply_accepting accepting }
         ensures after { book_in self.new ≡ after_answer (book_in self.old) segment (reply_in result) }
@@ -123,7 +124,7 @@ impl Rows {
     /// Asks for a segment.
     fn carry_audit(&mut self, asking: Asking) -> Reply
         requires decided { DecidesAsking (book_in self.old) asking }
-        requires room { length self.old.challenges.items < vec_capacity self.old.challenges }
+        requires room { HasRoomToAsk self.old asking }
         requires keeps { KeepsExposure (segments_in self.old.segments.items) self.old.exposure }
         ensures reply { result ≡ reply_asking asking }
         ensures after { book_in self.new ≡ after_audit (book_in self.old) (reply_in result) }
@@ -184,7 +185,7 @@ impl Rows {
     fn carry_file(&mut self, done: ReplayDone, coming: Coming) -> Reply
         requires ready { IsReady (book_in self.old) }
         requires decided { DecidesComing (book_in self.old) done coming }
-        requires room { HasPlace self.old.outbox }
+        requires room { HasRoomToFile self.old coming }
         requires keeps { KeepsExposure (segments_in self.old.segments.items) self.old.exposure }
         ensures reply { result ≡ reply_filing done coming }
         ensures after { book_in self.new ≡
@@ -300,7 +301,7 @@ impl Rows {
     pub fn carry_out(&mut self, step: Step, decided: Decided) -> Reply
         requires ready { IsReady (book_in self.old) }
         requires decided { Decides (book_in self.old) step decided }
-        requires room { HasRoomFor self.old step }
+        requires room { HasRoomFor self.old decided }
         requires keeps { KeepsExposure (segments_in self.old.segments.items) self.old.exposure }
         ensures reply { result ≡ reply_of step decided }
         ensures after { book_in self.new ≡ book_after (book_in self.old) (step_in step) (reply_in result) }

@@ -1,6 +1,6 @@
 //! What a step is to do is decided: nothing changes here.
 
-ghost use Rattle.std.specs.Prelude.{◌≡◌, ◌↔◌, ◌+◌, ◌≤◌, ◌&&◌, nat_le, nat_lt, IfErr, IfOk, IsTrue, length, option_map};
+ghost use Rattle.std.specs.Prelude.{◌≡◌, ◌↔◌, ◌+◌, ◌≤◌, ◌&&◌, false, nat_le, nat_lt, IfErr, IfOk, IsTrue, length, option_map};
 ghost use Rattle.std.specs.Arc.{arc_value};
 ghost use Rattle.witness_spec.specs.Limits as limits;
 ghost use Rattle.witness_spec.specs.Owing as owing;
@@ -8,14 +8,16 @@ ghost use Rattle.witness_spec.specs.Owing.{ask_reply};
 ghost use Rattle.witness_spec.specs.Steps as steps;
 ghost use Rattle.witness_steps.specs.Books.{book_indication, exposed, job_of};
 ghost use Rattle.witness_steps.specs.Ready.{IsReady};
-ghost use Rattle.witness_steps.specs.Replying.{BookOwes};
+ghost use Rattle.witness_spec.specs.Replies as spec;
+ghost use Rattle.witness_steps.specs.Replying.{BookOwes, reply_to_answer, reply_to_begin, reply_to_forward};
+ghost use Rattle.witness_steps.specs.Replying.{reply_to_learn};
 ghost use Rattle.node_book.specs.Deciding.{DecidesLearning, DecidesOpening, DecidesAccepting, DecidesAcked};
 ghost use Rattle.node_book.specs.Deciding.{DecidesAsking, DecidesBeginning, DecidesComing, DecidesForwarding};
 ghost use Rattle.node_book.specs.Deciding.{Decides, DecidesTelling, reply_asking, reply_of};
 ghost use Rattle.node_book.specs.Events.{question_in, step_in};
 ghost use Rattle.node_book.specs.Replies.{indication_in, reply_in};
 ghost use Rattle.node_book.specs.Rows.{KeepsExposure, book_in, segments_in};
-ghost use Rattle.node_book.specs.Stepping.{StepMayWant};
+ghost use Rattle.node_book.specs.Stepping.{MayRunOut, StepMayWant, is_refusal_or_already};
 
 use crate::challenges::{copies_of, count_sends, is_open};
 use crate::decided::{Accepting, Asking, Beginning, Coming, Decided, Learning, Opening, Telling};
@@ -64,7 +66,8 @@ impl Rows {
         authenticator: &Authenticator,
     ) -> Result<Learning, AllocError>
         requires { IsReady (book_in self.now) }
-        ensures { IfOk result (DecidesLearning (book_in self.now) authenticator.now) }
+        ensures ok { IfOk result (DecidesLearning (book_in self.now) authenticator.now) }
+        ensures err { IfErr result (λ _. reply_to_learn (book_in self.now) authenticator.now ≡ spec.Noted) }
     {
         if self.is_exposed() {
             return Ok(Learning::Ignored);
@@ -104,7 +107,8 @@ impl Rows {
     /// Of a segment.
     fn decide_answer(&self, alloc: Global, segment: &SharedSegment) -> Result<Accepting, AllocError>
         requires { IsReady (book_in self.now) }
-        ensures { IfOk result (DecidesAccepting (book_in self.now) segment.now) }
+        ensures ok { IfOk result (DecidesAccepting (book_in self.now) segment.now) }
+        ensures err { IfErr result (λ _. reply_to_answer (book_in self.now) segment.now ≡ spec.Accepted) }
     {
         let Stage::Wanted(first, last) = &self.stage else {
             return Ok(Accepting::NotAsked);
@@ -164,7 +168,9 @@ impl Rows {
     /// Of a job that is to begin. `AllocError` comes only where owners can't be counted further, or after as
     /// many jobs as 64 bits count.
     fn decide_begin(&self) -> Result<Beginning, AllocError>
-        ensures { IfOk result (DecidesBeginning (book_in self.now)) }
+        ensures ok { IfOk result (DecidesBeginning (book_in self.now)) }
+        ensures err { IfErr result
+            (λ _. is_refusal_or_already (reply_to_begin (book_in self.now) (book_in self.now).stage) ≡ false) }
     {
         match &self.stage {
             Stage::Given(_) if self.is_exposed() => Ok(Beginning::Refused(Refusal::NothingToAudit)),
@@ -214,7 +220,9 @@ impl Rows {
 
     /// Of what is to be forwarded: a copy of the oldest.
     fn decide_forward(&self, alloc: Global) -> Result<Option<Authenticator>, AllocError>
-        ensures { IfOk result (DecidesForwarding (book_in self.now)) }
+        ensures ok { IfOk result (DecidesForwarding (book_in self.now)) }
+        ensures err { IfErr result
+            (λ _. is_refusal_or_already (reply_to_forward (book_in self.now)) ≡ false) }
     {
         match self.outbox.first() {
             Some(authenticator) => Ok(Some(authenticator.try_clone(alloc)?)),
@@ -269,15 +277,15 @@ impl Rows {
         }
     }
 
-    /// Of a step. `AllocError` comes only where memory was refused, and never for a job that is put back, an
-    /// acknowledgement or a question for the indication.
+    /// Of a step. `AllocError` comes only where memory was refused, and never where what is owed is a refusal
+    /// or `Already`, nor for a job that is put back, an acknowledgement or a question for the indication.
     pub fn decide(&self, alloc: Global, step: &Step) -> Result<Decided, AllocError>
         requires ready { IsReady (book_in self.now) }
         requires keeps { KeepsExposure (segments_in self.now.segments.items) self.now.exposure }
         ensures ok { IfOk result (Decides (book_in self.now) step.now) }
         ensures owes { IfOk result
             (λ d. BookOwes (book_in self.now) (step_in step.now) (reply_in (reply_of step.now d))) }
-        ensures err { IfErr result (λ _. StepMayWant (step_in step.now)) }
+        ensures err { IfErr result (λ _. MayRunOut (book_in self.now) (step_in step.now)) }
     {
         match step {
             Step::Learn(a) => Ok(Decided::Learn(self.decide_learn(alloc, a)?)),

@@ -3,40 +3,43 @@
 ghost use Rattle.std.specs.Prelude.{◌≡◌, IfErr, IfOk, OnOk};
 ghost use Rattle.witness_steps.specs.Ready.{IsReady};
 ghost use Rattle.witness_steps.specs.Replying.{BookOwes};
-ghost use Rattle.node_book.specs.Deciding.{Decides, HasRoomFor, reply_of};
+ghost use Rattle.node_book.specs.Deciding.{AddsOne, Decides, HasRoomFor, reply_of};
 ghost use Rattle.node_book.specs.Events.{step_in};
 ghost use Rattle.node_book.specs.Replies.{reply_in};
 ghost use Rattle.node_book.specs.Rows.{KeepsExposure, book_in, segments_in};
-ghost use Rattle.node_book.specs.Stepping.{StepMayWant};
+ghost use Rattle.node_book.specs.Stepping.{MayRunOut};
 
-use crate::decided::Decided;
+use crate::decided::{Accepting, Asking, Coming, Decided, Learning, Opening};
 use crate::rows::Rows;
 use crate::step::Step;
 use std::alloc::{AllocError, Global};
 
 impl Rows {
-    /// Takes memory for what a step adds to the book: one authenticator, challenge, segment or share of the
-    /// outbox more. The book stays in any case. Neither a job that is put back nor a question adds anything.
-    pub fn make_room_for(&mut self, step: &Step) -> Result<(), AllocError>
+    /// Takes memory for what a step adds to the book, of which this was decided: one authenticator,
+    /// challenge, segment or share of the outbox more. The book stays in any case. Where nothing is added,
+    /// none is taken, and the answer is `Ok`.
+    fn make_room_for(&mut self, decided: &Decided) -> Result<(), AllocError>
         ensures stays { book_in self.new ≡ book_in self.old }
         ensures segments { self.new.segments.items ≡ self.old.segments.items }
         ensures exposure { self.new.exposure ≡ self.old.exposure }
-        ensures room { OnOk result (HasRoomFor self.new step.now) }
-        ensures err { IfErr result (λ _. StepMayWant (step_in step.now)) }
+        ensures room { OnOk result (HasRoomFor self.new decided.now) }
+        ensures err { IfErr result (λ _. AddsOne decided.now) }
     {
-        match step {
-            Step::Learn(_) => self.learned.try_reserve(1)?,
-            Step::SendChallenge(_) | Step::Audit => self.challenges.try_reserve(1)?,
-            Step::Answer(_) => self.segments.try_reserve(1)?,
-            Step::File(_) => self.outbox.reserve()?,
-            Step::AckIn(_) | Step::Begin | Step::PutBack(_) | Step::Forward | Step::Ask(_) => {}
+        match decided {
+            Decided::Learn(Learning::Noted(None)) => self.learned.try_reserve(1)?,
+            Decided::SendChallenge(Opening::Opened) | Decided::Audit(Asking::Asked(_, _)) => {
+                self.challenges.try_reserve(1)?
+            }
+            Decided::Answer(Accepting::Accepted(_, _)) => self.segments.try_reserve(1)?,
+            Decided::File(Coming::IsOut) => self.outbox.reserve()?,
+            _ => {}
         }
         Ok(())
     }
 
-    /// Takes the memory for a step, and decides what it is to do. The book stays in any case. `AllocError`
-    /// comes only where memory was refused, and never for a job that is put back, an acknowledgement or a
-    /// question for the indication.
+    /// Decides what a step is to do, and takes the memory for it. The book stays in any case. `AllocError`
+    /// comes only where memory was refused: so never where what is owed is a refusal or `Already`, nor for a
+    /// job that is put back, an acknowledgement or a question for the indication.
     pub fn prepare(&mut self, alloc: Global, step: &Step) -> Result<Decided, AllocError>
         requires ready { IsReady (book_in self.old) }
         requires keeps { KeepsExposure (segments_in self.old.segments.items) self.old.exposure }
@@ -45,10 +48,11 @@ impl Rows {
         ensures decided { IfOk result (Decides (book_in self.new) step.now) }
         ensures owes { IfOk result
             (λ d. BookOwes (book_in self.new) (step_in step.now) (reply_in (reply_of step.now d))) }
-        ensures room { OnOk result (HasRoomFor self.new step.now) }
-        ensures err { IfErr result (λ _. StepMayWant (step_in step.now)) }
+        ensures room { IfOk result (HasRoomFor self.new) }
+        ensures err { IfErr result (λ _. MayRunOut (book_in self.old) (step_in step.now)) }
     {
-        self.make_room_for(step)?;
-        self.decide(alloc, step)
+        let decided = self.decide(alloc, step)?;
+        self.make_room_for(&decided)?;
+        Ok(decided)
     }
 }

@@ -1,6 +1,6 @@
 -- Memory runs out only where it may.
 -- Serves: Books::step.
-use Rattle.std.proofs.Common.{◌≡◌, ◌⊎◌, inl, inr, ◌≤◌, false, true≢false, List}
+use Rattle.std.proofs.Common.{◌≡◌, ◌⊎◌, inl, inr, ◌≤◌, true, false, true≢false, List, [], ◌∷◌, map}
 use Rattle.std.proofs.Common.{refl, sym, ap, subst, ◌∙◌, arith}
 use Rattle.authenticator.specs.Roster.{IsRoster}
 use Rattle.authenticator.specs.declared.member.Member.{Member}
@@ -11,15 +11,20 @@ use Rattle.node_book.specs.witness_spec.Events.{Event, IsEvent}
 use Rattle.node_book.specs.witness_spec.Events as events
 use Rattle.node_book.specs.witness_spec.Replies.{Reply, refused, is_want, is_want_of_memory}
 use Rattle.node_book.specs.witness_spec.Steps as steps
-use Rattle.node_book.specs.witness_spec.Histories.{IsWanting}
+use Rattle.node_book.specs.witness_spec.Histories.{History, IsOwed, IsWanting, BookParts}
 use Rattle.node_book.specs.witness_spec.Laws.{LeftOutChangesNothing}
-use Rattle.node_book.specs.witness_steps.Books.{Book}
+use Rattle.node_book.specs.witness_steps.Books.{Book, parts_of}
+use Rattle.node_book.specs.witness_steps.Going.{book_after}
+use Rattle.node_book.specs.witness_steps.ReadyLaws.{ReadyBooksStep}
+use Rattle.node_book.specs.witness_steps.Together.{with_book_at}
 use Rattle.node_book.specs.witness_steps.Ready.{AreReady}
-use Rattle.node_book.specs.Stepping.{Steps}
-use Rattle.witness_books.specs.Memory.{AreBytes, IsStepThatMay, MayRunOut, RunsOutWhereItMay}
+use Rattle.node_book.specs.Stepping.{Steps, is_refusal_or_already}
+use Rattle.witness_books.specs.Memory.{AreBytes, IsStepThatMay, MayRunOut, RunsOutWhereItMay, RunsOutForMore}
+use Rattle.witness_books.specs.Memory.{RunOutForMore}
 use Rattle.witness_books.specs.Places.{OneDoes}
 use Rattle.witness_books.specs.Routing.{IsStepOf, IsNobodys}
 use Rattle.witness_books.proofs.Noting.{owed_enough}
+use Rattle.witness_books.proofs.Stepping.{made_goes}
 
 -- a refusal with a small number doesn't say that memory ran out
 small_is_none : (f : Refusal) → refusal_number f ≤ 3 → is_want f ≡ false
@@ -72,4 +77,66 @@ step_runs_out ms m old new event step reply roster ready is of one wants = by on
     by (inl made) =
         let enough = owed_enough ms m old one.book event step reply roster ready is of one.there made.owes in
         absurd (true≢false (sym wants ∙ enough))
-    by (inr out) = inr (subst IsStepThatMay (sym of.whose_is) out.0)
+    by (inr out) = inr (subst IsStepThatMay (sym of.whose_is) out.0.may)
+
+-- ---- where more is owed
+
+-- an event that is refused before it is a step says it of bytes alone
+pub refused_for_more : LeftOutChangesNothing → (ms : List Member) (old : List BookParts) (event : Event)
+    (reply : Reply) → IsNobodys ms event reply ⊎ (AreBytes event × IsWanting event reply)
+    → RunOutForMore ms old (event ∷ []) (reply ∷ [])
+refused_for_more law ms old event reply why history h stands = (by why, tt)
+  where
+    by : IsNobodys ms event reply ⊎ (AreBytes event × IsWanting event reply)
+        → RunsOutForMore ms history event reply
+    by (inl nobodys) wants =
+        let few = (law ms event nobodys.why nobodys.whose_is).few in
+        let none : is_want_of_memory reply ≡ false =
+        ap is_want_of_memory nobodys.is ∙ refused_wants event nobodys.why ∙ small_is_none nobodys.why few in
+        absurd (true≢false (sym wants ∙ none))
+    by (inr bytes) wants = inl bytes.0
+
+-- an event that is refused is refused
+refused_is_refusal : (event : Event) (f : Refusal) → is_refusal_or_already (refused event f) ≡ true
+refused_is_refusal (events.Deliver bytes) f = refl
+refused_is_refusal (events.Learn a key) f = refl
+refused_is_refusal (events.SendChallenge e key) f = refl
+refused_is_refusal (events.Answer c) f = refl
+refused_is_refusal (events.AckIn a key) f = refl
+refused_is_refusal (events.Audit node) f = refl
+refused_is_refusal (events.Begin node) f = refl
+refused_is_refusal (events.File d) f = refl
+refused_is_refusal (events.PutBack j) f = refl
+refused_is_refusal (events.Forward node) f = refl
+refused_is_refusal (events.Ask node question) f = refl
+
+-- what isn't a refusal is owed where memory is enough
+more_is_owed : (ms : List Member) (history : History) (event : Event) (owed : Reply)
+    → is_refusal_or_already owed ≡ false → IsOwed ms history event owed ⊎ IsWanting event owed
+    → IsOwed ms history event owed
+more_is_owed ms history event owed more (inl is) = is
+more_is_owed ms history event owed more (inr wants) =
+    absurd (true≢false (sym (refused_is_refusal event NoMemory)
+    ∙ (sym (ap is_refusal_or_already wants.is) ∙ more)))
+
+-- a member's step says it where its book owes more
+pub step_for_more : ReadyBooksStep → (ms : List Member) (m : Member) (old new : List Book) (event : Event)
+    (step : steps.Step) (reply : Reply) → IsRoster ms → AreReady ms old → IsEvent event
+    → IsStepOf ms event m step → OneDoes ms m.node old (λ b after. Steps b step reply after) new
+    → RunOutForMore ms (map parts_of old) (event ∷ []) (reply ∷ [])
+step_for_more law ms m old new event step reply roster ready is of one history h stands = (by one.does, tt)
+  where
+    by : Steps one.book step reply one.after → RunsOutForMore ms history event reply
+    by (inl made) wants =
+        let enough = owed_enough ms m old one.book event step reply roster ready is of one.there made.owes in
+        absurd (true≢false (sym wants ∙ enough))
+    by (inr out) wants =
+        let owed = out.0.owed in
+        let after = book_after one.book step owed in
+        let goes = made_goes law ms m old (with_book_at ms m.node after old) one.book after event step owed
+        roster ready is of one.there (record { owes = out.0.owes; after = refl }) refl in
+        inr (record {
+          owed = owed;
+          owes = more_is_owed ms history event owed out.0.is_more (goes.steps history h stands).0.1;
+          is_more = out.0.is_more;
+        })

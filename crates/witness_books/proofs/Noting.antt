@@ -1,6 +1,6 @@
 -- A step of which notes are made.
--- Serves: Books::step_noting.
-use Rattle.std.proofs.Common.{◌≡◌, ◌⊎◌, inl, inr, false, List, map, Option, Some, None}
+-- Serves: Books::step_noting, Books::noted_step.
+use Rattle.std.proofs.Common.{◌≡◌, ◌⊎◌, inl, inr, false, List, [], ◌∷◌, map, Option, Some, None}
 use Rattle.std.proofs.Common.{refl, sym, ap, subst, ◌∙◌}
 use Rattle.authenticator.specs.Roster.{IsRoster}
 use Rattle.authenticator.specs.declared.member.Member.{Member}
@@ -10,8 +10,8 @@ use Rattle.node_book.specs.witness_spec.Events as events
 use Rattle.node_book.specs.witness_spec.Replies.{Reply, refused, is_want_of_memory}
 use Rattle.node_book.specs.witness_spec.Steps as steps
 use Rattle.node_book.specs.witness_spec.Watched.{Watched, watched}
-use Rattle.node_book.specs.witness_spec.Histories.{own_of, IsWanting}
-use Rattle.node_book.specs.witness_spec.Contract.{IsNotedStep}
+use Rattle.node_book.specs.witness_spec.Histories.{own_of, IsWanting, BookParts}
+use Rattle.node_book.specs.witness_spec.Contract.{StepsTo, IsNotedStep}
 use Rattle.node_book.specs.witness_spec.ContractLaws.{LeftOutLeavesBooks, WantLeavesBooks, OutOfMemoryLeavesBooks}
 use Rattle.node_book.specs.witness_spec.ContractLaws.{StepsAreNoted}
 use Rattle.node_book.proofs.witness_laws.Replied.{owed_good, good_want, want_refused}
@@ -25,6 +25,8 @@ use Rattle.node_book.proofs.witness_steps.AnyBook.{any_owes}
 use Rattle.node_book.specs.Replies.{reply_in}
 use Rattle.node_book.specs.Stepping.{NotedSteps}
 use Rattle.node_book.specs.declared.reply.ReplyOf.{ReplyOf}
+use Rattle.witness_books.specs.Given.{StepsKeepHeadline}
+use Rattle.witness_books.specs.Headline.{KeepsHeadline}
 use Rattle.witness_books.specs.Memory.{AreBytes}
 use Rattle.witness_books.specs.Routing.{IsStepOf, IsNobodys}
 use Rattle.witness_books.specs.Places.{OneDoes}
@@ -108,6 +110,20 @@ noting_goes laws ms m old new event step reply notes roster ready is of one = by
           ready = goes.ready;
           say = record { enough = enough; is_one = made.0; is_two = made.1 };
         }
+
+-- where memory was enough, a noted step is a step
+noted_is_step : (ms : List Member) (old new : List BookParts) (event : Event) (reply : Reply)
+    → is_want_of_memory reply ≡ false → IsNotedStep ms old event reply new → StepsTo ms old event reply new
+noted_is_step ms old new event reply enough noted history h stands =
+    let all = noted.noted history enough h stands in
+    ((all.0, inl all.1, h), all.2)
+
+-- so it keeps the headline
+pub noted_keeps : StepsKeepHeadline → (ms : List Member) (old new : List BookParts) (event : Event)
+    (reply : Reply) → IsNotedStep ms old event reply new → is_want_of_memory reply ≡ false
+    → KeepsHeadline ms old (event ∷ []) (reply ∷ []) new
+noted_keeps law ms old new event reply noted enough =
+    law ms old new event reply (noted_is_step ms old new event reply enough noted)
 
 -- ---- what is refused before it is a step
 

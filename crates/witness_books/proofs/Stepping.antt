@@ -88,8 +88,8 @@ step_goes law want ms m old new event step reply roster ready is of one = by one
         made_goes law ms m old new one.book one.after event step reply roster ready is of one.there made
         one.are
     by (inr out) =
-        ran_out_goes want ms m old new one.book one.after event step reply ready is of one.there out.0 out.1
-        one.are
+        ran_out_goes want ms m old new one.book one.after event step reply ready is of one.there out.0.may
+        out.1 one.are
 
 -- what is refused before it is a step leaves the books
 pub refused_steps : LeftOutLeavesBooks → WantLeavesBooks → (ms : List Member) (books : List Book)

@@ -1,5 +1,5 @@
 -- At which events memory may run out.
-use Rattle.std.specs.Prelude.{◌≡◌, ◌⊎◌, true, List, Result, Ok, Err}
+use Rattle.std.specs.Prelude.{◌≡◌, ◌⊎◌, true, false, List, [], ◌∷◌, Result, Ok, Err}
 use Rattle.authenticator.specs.declared.member.Member.{Member}
 use Rattle.node_book.specs.witness_spec.Refusals.{Refusal}
 use Rattle.node_book.specs.witness_spec.Events.{Event}
@@ -7,7 +7,8 @@ use Rattle.node_book.specs.witness_spec.Events as events
 use Rattle.node_book.specs.witness_spec.Replies.{Reply, is_want_of_memory}
 use Rattle.node_book.specs.witness_spec.Steps.{OwnStep}
 use Rattle.node_book.specs.witness_spec.Whose.{whose}
-use Rattle.node_book.specs.Stepping.{StepMayWant}
+use Rattle.node_book.specs.witness_spec.Histories.{History, IsOwed, IsHistory, BookParts, Stands}
+use Rattle.node_book.specs.Stepping.{StepMayWant, is_refusal_or_already}
 
 -- The event is bytes, which are read.
 abbrev pub AreBytes : Event → Type 0
@@ -27,3 +28,30 @@ MayRunOut ms event = AreBytes event ⊎ IsStepThatMay (whose ms event)
 -- The reply says that memory ran out only where it may.
 abbrev pub RunsOutWhereItMay : List Member → Event → Reply → Type 0
 RunsOutWhereItMay ms event reply = is_want_of_memory reply ≡ true → MayRunOut ms event
+
+-- More is owed to an event after a history than a refusal or Already.
+pub record IsOwedMore (ms : List Member) (history : History) (event : Event) : Type 0 where
+  -- what is owed
+  pub owed : Reply
+  -- after that history
+  pub owes : IsOwed ms history event owed
+  -- it is neither
+  pub is_more : is_refusal_or_already owed ≡ false
+
+-- The reply says that memory ran out only at bytes, or where more is owed.
+abbrev pub RunsOutForMore : List Member → History → Event → Reply → Type 0
+RunsOutForMore ms history event reply =
+    is_want_of_memory reply ≡ true → AreBytes event ⊎ IsOwedMore ms history event
+
+-- The same of each of some events, the oldest first: after the history and those before it.
+abbrev pub EachRunsOutForMore : List Member → History → List Event → List Reply → Type 0
+EachRunsOutForMore ms history [] replies = Unit {0}
+EachRunsOutForMore ms history (e ∷ events) [] = Unit {0}
+EachRunsOutForMore ms history (e ∷ events) (r ∷ replies) =
+    RunsOutForMore ms history e r × EachRunsOutForMore ms ((e, r) ∷ history) events replies
+
+-- The same whatever the history was for which the books stood.
+abbrev pub RunOutForMore : List Member → (old : List BookParts) → List Event → List Reply → Type 0
+RunOutForMore ms old events replies =
+    (history : History) → IsHistory ms history → Stands ms old history
+    → EachRunsOutForMore ms history events replies

@@ -1,8 +1,9 @@
 //! The books of all members.
 
-ghost use Rattle.std.specs.Prelude.{◌≡◌, ◌∷◌, [], true, IfErr, IfOk, Some, map};
+ghost use Rattle.std.specs.Prelude.{◌≡◌, ◌∷◌, [], false, true, IfErr, IfOk, Some, map};
 ghost use Rattle.authenticator.specs.Roster.{IsRoster, member_of};
 ghost use Rattle.node_book.specs.witness_spec.Contract.{AreBooks, IsNotedStep, StepsTo, opening_books};
+ghost use Rattle.node_book.specs.witness_spec.Replies.{is_want_of_memory};
 ghost use Rattle.node_book.specs.witness_steps.Books.{book_opening};
 ghost use Rattle.node_book.specs.witness_steps.Ready.{AreReady};
 ghost use Rattle.node_book.specs.Events.{event_in, step_in};
@@ -10,7 +11,7 @@ ghost use Rattle.node_book.specs.Replies.{reply_in};
 ghost use Rattle.node_book.specs.Stepping.{NotedSteps, Steps};
 ghost use Rattle.witness_books.specs.Books.{is_refusal, parts_in};
 ghost use Rattle.witness_books.specs.Headline.{KeepsHeadline};
-ghost use Rattle.witness_books.specs.Memory.{RunsOutWhereItMay};
+ghost use Rattle.witness_books.specs.Memory.{RunOutForMore, RunsOutWhereItMay};
 ghost use Rattle.witness_books.specs.Notes.{AreNotes, AreNotesOf};
 ghost use Rattle.witness_books.specs.Places.{OneDoes, place_from};
 
@@ -80,9 +81,10 @@ impl Books {
     /// One event, with its reply. An event that is nobody's step is refused: `UnknownNode` where a node that
     /// it is of is no member, else `BadSignature` where it was checked under another key or roster, or isn't
     /// signed; `Garbage` where bytes are no packet. A member's step is refused as its book owes. `NoMemory`
-    /// comes only where a growth was refused, never where a job is put back, an indication is asked for or a
-    /// checked acknowledgement is handed in, and of what is nobody's step only at bytes. What is refused
-    /// changes nothing: a job or a done value comes back with the refusal.
+    /// comes only where a growth was refused: of a member's step only where what is owed is neither a refusal
+    /// nor `Already`, and never where a job is put back, an indication is asked for or a checked
+    /// acknowledgement is handed in; of what is nobody's step only at bytes, which it may come to whatever is
+    /// owed. What is refused changes nothing: a job or a done value comes back with the refusal.
     pub fn step(&mut self, alloc: Global, event: Event) -> Reply
         ensures roster { self.new.roster ≡ self.old.roster }
         ensures steps { StepsTo self.old.roster (parts_in self.old) (event_in event) (reply_in result)
@@ -91,6 +93,8 @@ impl Books {
             (reply_in result ∷ []) (parts_in self.new) }
         ensures stays { is_refusal (reply_in result) ≡ true → self.new ≡ self.old }
         ensures memory { RunsOutWhereItMay self.old.roster (event_in event) (reply_in result) }
+        ensures more { RunOutForMore self.old.roster (parts_in self.old) (event_in event ∷ [])
+            (reply_in result ∷ []) }
     {
         steps_keep_the_headline();
         self.make_step(alloc, event)
@@ -103,6 +107,8 @@ impl Books {
             (parts_in self.new) }
         ensures stays { is_refusal (reply_in result) ≡ true → self.new ≡ self.old }
         ensures memory { RunsOutWhereItMay self.old.roster (event_in event) (reply_in result) }
+        ensures more { RunOutForMore self.old.roster (parts_in self.old) (event_in event ∷ [])
+            (reply_in result ∷ []) }
     {
         books_are_ready();
         what_leaves_books();
@@ -117,10 +123,25 @@ impl Books {
 
     /// One event, with its reply and two notes of both: one to keep, one to hand on. All notes are made
     /// before anything changes: where a growth was refused for them, or owners can't be counted further, the
-    /// event is refused with `NoMemory`, whatever it is. There are no notes exactly where the reply is
-    /// `NoMemory`; any other reply is one that `step` owes, and refused as there. What is
-    /// refused changes nothing.
+    /// event is refused with `NoMemory`, whatever it is and whatever is owed to it. There are no notes exactly
+    /// where the reply is `NoMemory`; any other reply is one that `step` owes, refused as there, and keeps the
+    /// headline. What is refused changes nothing.
     pub fn noted_step(&mut self, alloc: Global, event: Event) -> (Reply, Option<(Note, Note)>)
+        ensures roster { self.new.roster ≡ self.old.roster }
+        ensures noted { IsNotedStep self.old.roster (parts_in self.old) (event_in event) (reply_in result.0)
+            (parts_in self.new) }
+        ensures headline { is_want_of_memory (reply_in result.0) ≡ false →
+            KeepsHeadline self.old.roster (parts_in self.old) (event_in event ∷ [])
+            (reply_in result.0 ∷ []) (parts_in self.new) }
+        ensures notes { AreNotes (event_in event) (reply_in result.0) result.1 }
+        ensures stays { is_refusal (reply_in result.0) ≡ true → self.new ≡ self.old }
+    {
+        steps_keep_the_headline();
+        self.make_noted_step(alloc, event)
+    }
+
+    /// One event, with its reply and two notes of both.
+    fn make_noted_step(&mut self, alloc: Global, event: Event) -> (Reply, Option<(Note, Note)>)
         ensures roster { self.new.roster ≡ self.old.roster }
         ensures noted { IsNotedStep self.old.roster (parts_in self.old) (event_in event) (reply_in result.0)
             (parts_in self.new) }

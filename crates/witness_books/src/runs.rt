@@ -7,7 +7,7 @@ ghost use Rattle.node_book.specs.Events.{event_in};
 ghost use Rattle.node_book.specs.Replies.{reply_in};
 ghost use Rattle.witness_books.specs.Books.{parts_in};
 ghost use Rattle.witness_books.specs.Headline.{KeepsHeadline};
-ghost use Rattle.witness_books.specs.Memory.{RunsOutWhereItMay};
+ghost use Rattle.witness_books.specs.Memory.{RunOutForMore, RunsOutWhereItMay};
 ghost use Rattle.witness_books.specs.Witnessed.{AreOpening, IsWitnessed};
 
 use crate::books::Books;
@@ -29,6 +29,8 @@ pub fn run(alloc: Global, books: &mut Books, events: Vec<Event>) -> Result<Vec<R
     ensures memory { IfOk result (λ replies. AllZip
         (λ event reply. RunsOutWhereItMay books.old.roster (event_in event) (reply_in reply))
         events.items replies.items) }
+    ensures more { IfOk result (λ replies. RunOutForMore books.old.roster (parts_in books.old)
+        (map event_in events.items) (map reply_in replies.items)) }
     ensures witnessed { IfOk result (λ replies. AreOpening books.old → IsWitnessed books.old.roster
         (map event_in events.items) (map reply_in replies.items) books.new) }
     ensures back { IfErr result (λ e. e ≡ events) }
@@ -57,6 +59,8 @@ fn run_all(
     ensures memory { AllZip
         (λ event reply. RunsOutWhereItMay books.old.roster (event_in event) (reply_in reply))
         events.items result.items }
+    ensures more { RunOutForMore books.old.roster (parts_in books.old) (map event_in events.items)
+        (map reply_in result.items) }
 {
     runs_are_histories();
     let mut rest = events.into_iter();

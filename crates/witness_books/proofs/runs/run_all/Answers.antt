@@ -1,7 +1,18 @@
 use Rattle.std.proofs.Common.{arith}
 use Rattle.std.specs.Vec.Iter.{into_iter_items}
-use Rattle.witness_books.proofs.Running.{has_run_more}
+use Rattle.witness_books.proofs.Running.{has_run_more, has_run_none}
 use Rattle.witness_books.proofs.runs.run_all.Goals as goal
+
+pub steps-init : goal.steps-init
+steps-init c =
+    let room = c.requires.room in
+    let len = c.into_iter-rest.ensures.len in
+    record {
+      run = has_run_none c.runs_are_histories.ensures.none c.args.books.now c.args.events.items
+          (into_iter_items c.into_iter-rest.result) c.args.replies.items c.into_iter-rest.ensures.rest
+          c.requires.none;
+      room = omega (arith, room, len);
+    }
 
 pub steps-preserved : goal.steps-preserved
 steps-preserved c =
@@ -15,6 +26,6 @@ steps-preserved c =
           (into_iter_items c.next.new.self) c.steps.replies.items c.push_reserved.new.self.items
           c.in-Some.event c.step-reply.result c.steps.invariant.run c.in-Some.ensures.items
           c.push_reserved.ensures.items c.step-reply.ensures.roster c.step-reply.ensures.steps
-          c.step-reply.ensures.memory;
+          c.step-reply.ensures.memory c.step-reply.ensures.more;
       room = omega (arith, room, rest, len, capacity);
     }

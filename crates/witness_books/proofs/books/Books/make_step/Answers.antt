@@ -1,11 +1,11 @@
-use Rattle.std.proofs.Common.{List, map, ap, subst, ◌∙◌}
+use Rattle.std.proofs.Common.{List, [], ◌∷◌, map, ap, subst, ◌∙◌}
 use Rattle.node_book.specs.witness_spec.Contract.{StepsTo}
 use Rattle.node_book.specs.witness_steps.Books.{Book, parts_of}
 use Rattle.node_book.specs.Events.{event_in, step_in}
 use Rattle.node_book.specs.Replies.{reply_in}
 use Rattle.witness_books.specs.Books.{BooksParts, parts_in}
-use Rattle.witness_books.specs.Memory.{RunsOutWhereItMay}
-use Rattle.witness_books.proofs.Memory.{refused_runs_out, step_runs_out}
+use Rattle.witness_books.specs.Memory.{RunsOutWhereItMay, RunOutForMore}
+use Rattle.witness_books.proofs.Memory.{refused_for_more, refused_runs_out, step_for_more, step_runs_out}
 use Rattle.witness_books.proofs.Refused.{all_stay}
 use Rattle.witness_books.proofs.Stepping.{its_member, step_goes}
 use Rattle.witness_books.proofs.books.Books.make_step.Goals as goal
@@ -53,3 +53,20 @@ returns-in-Step-clause-memory c =
     (step_runs_out c.self.inside.roster c.in-Step.member c.self.inside.books.items c.step_of.new.books.items
     (event_in c.args.event) (step_in c.in-Step.step) (reply_in c.step_of.result) c.self.invariant.roster
     c.self.invariant.ready c.route.ensures.is_event c.in-Step.ensures.goes c.step_of.ensures)
+
+pub returns-in-Refused-clause-more : goal.returns-in-Refused-clause-more
+returns-in-Refused-clause-more c =
+    subst (λ (b : BooksParts). RunOutForMore b.roster (parts_in b) (event_in c.args.event ∷ [])
+    (reply_in c.in-Refused.reply ∷ [])) c.self.view_is
+    (refused_for_more c.left_out_changes_nothing.ensures.out c.self.inside.roster
+    (map parts_of c.self.inside.books.items) (event_in c.args.event) (reply_in c.in-Refused.reply)
+    c.in-Refused.ensures.goes)
+
+pub returns-in-Step-clause-more : goal.returns-in-Step-clause-more
+returns-in-Step-clause-more c =
+    subst (λ (b : BooksParts). RunOutForMore b.roster (parts_in b) (event_in c.args.event ∷ [])
+    (reply_in c.step_of.result ∷ [])) c.self.view_is
+    (step_for_more c.books_are_ready.ensures.step c.self.inside.roster c.in-Step.member
+    c.self.inside.books.items c.step_of.new.books.items (event_in c.args.event) (step_in c.in-Step.step)
+    (reply_in c.step_of.result) c.self.invariant.roster c.self.invariant.ready c.route.ensures.is_event
+    c.in-Step.ensures.goes c.step_of.ensures)
