@@ -3,6 +3,7 @@
 ghost use Rattle.witness_spec.specs.Laws.{OneReply, OwnStepsAreOwed, OwnStepsAlone};
 ghost use Rattle.witness_spec.specs.Laws.{LeftOutChangesNothing, WantChangesNothing, OthersAreTaken};
 ghost use Rattle.witness_spec.specs.Laws.{ExposedExactlyIf, SuspectedExactlyIf, FaultStays, ExposedStays};
+ghost use Rattle.witness_laws.specs.Challenges.{OpenExactlyIf};
 
 /// A step is owed one reply at most.
 pub fn one_reply()
@@ -36,4 +37,9 @@ pub fn exposed_exactly_if()
 pub fn exposed_stays()
     ensures fault { FaultStays }
     ensures any { ExposedStays }
+{}
+
+/// A challenge is open exactly if it was accepted and not answered since.
+pub fn open_exactly_if()
+    ensures { OpenExactlyIf }
 {}

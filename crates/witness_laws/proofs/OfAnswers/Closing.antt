@@ -27,7 +27,7 @@ use Rattle.witness_laws.proofs.OfAnswers.Answering.{passes, message_same}
 -- ---- lists
 
 -- what is left of a list was in it
-was_among : {A : Type 0} (test : A → Bool) (x : A) (xs : List A) → IsAmong x (filter test xs) → IsAmong x xs
+pub was_among : {A : Type 0} (test : A → Bool) (x : A) (xs : List A) → IsAmong x (filter test xs) → IsAmong x xs
 was_among test x [] i = absurd i
 was_among test x (y ∷ ys) i = by (test y) i (λ j. was_among test x ys j)
   where
@@ -38,7 +38,7 @@ was_among test x (y ∷ ys) i = by (test y) i (λ j. was_among test x ys j)
     by false j rest = inr (rest j)
 
 -- what passes the test is left
-is_left : {A : Type 0} (test : A → Bool) (x : A) (xs : List A) → test x ≡ true → IsAmong x xs
+pub is_left : {A : Type 0} (test : A → Bool) (x : A) (xs : List A) → test x ≡ true → IsAmong x xs
     → IsAmong x (filter test xs)
 is_left test x [] pass i = absurd i
 is_left test x (y ∷ ys) pass i = by (test y) refl i (λ j. is_left test x ys pass j)
