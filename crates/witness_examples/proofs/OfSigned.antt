@@ -3,3 +3,4 @@ pub mod Signing
 pub mod Auditing
 pub mod Showing
 pub mod Booking
+pub mod Faulting

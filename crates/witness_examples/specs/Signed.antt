@@ -1,3 +1,4 @@
 pub mod Audited
 pub mod Shown
 pub mod Books
+pub mod Faulty

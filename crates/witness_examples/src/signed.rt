@@ -2,4 +2,5 @@
 
 pub mod audits;
 pub mod books;
+pub mod faults;
 pub mod messages;
