@@ -252,6 +252,51 @@ check_words() {
     says 2 'nfsacc: the command line is no text' $'\xff'
 }
 
+# harmless STATUS WORD..: what is written ends with this status, and is lines of printed ASCII, none of which a word made.
+harmless() {
+    local status=$1
+    shift
+    run "$status" "$@"
+    [ -z "$(cat out said | LC_ALL=C tr -d '\n -~')" ] || fail "bytes that a terminal would take for commands, of: $*" out said
+    ! grep -qx 'exposed 7' out said || fail "a line that a name made, of: $*" out said
+}
+
+# A file's name, and any other word, may have an end of a line, and what a terminal takes for a command: both are escaped.
+check_names() {
+    local name=$'a\e[2K\nexposed 7' shown='a\\x1b\[2K\\x0aexposed.7' words
+    : > in
+    for words in check roster run 'check --explain' 'check --json' 'check f --roster' 'serve 0 1 --master' 'serve 0 1 --evidence'; do
+        harmless 4 $words "$name"
+        grep -qx "nfsacc: $shown: No such file.*" said || fail "$words of a name that is escaped" said
+    done
+    says 4 'nfsacc: \\xc3\\xa4\\\\x0a: No such file.*' check $'\xc3\xa4\\x0a'
+    for words in '' rpc check 'check f' 'check --roster f f' roster 'roster f' run 'run f' serve 'serve 0' 'serve 0 1' help; do
+        harmless 2 $words "--$name"
+        harmless 2 $words "--$name=$name"
+        case $words in check | roster | run | serve | 'serve 0') continue ;; esac
+        harmless 2 $words "$name"
+    done
+    says 2 "error: unrecognized subcommand '\"?$shown\"?'" "${name/ /_}"
+    says 2 "error: unrecognized subcommand ''" ''
+    harmless 2 serve "$name" 1
+    printf x > "$name"
+    harmless 1 check "$name"
+    grep -qx "nfsacc: $shown: not a roster .*" said || fail 'a file that is escaped' said
+    harmless 1 roster "$name"
+    harmless 1 run "$name"
+    sed "s|^evidence 1 .*|evidence 1 /none/$(printf 'a\e[2K')|" "$top/checks/scripts/lie.script" > in
+    cp in script
+    harmless 4 run script
+    grep -qx 'nfsacc: /none/a\\x1b\[2K: No such file.*' said || fail 'a file of a script that is escaped' said
+    rm "$name"
+    cp "$program" "$name"
+    local program=$PWD/$name
+    harmless 0 --help
+    harmless 0 check --help
+    harmless 2 check
+    rm "$name"
+}
+
 # Command lines that ask for nothing, as words after the program's name.
 REFUSED='rpc 1
 rpc -- --
@@ -372,6 +417,7 @@ for program in "${made[@]}"; do
     check_fragments
     check_many_fragments
     check_words
+    check_names
     check_orders
     check_devices
     check_memory

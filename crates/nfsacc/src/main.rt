@@ -6,8 +6,8 @@ mod errors;
 mod master;
 mod serve;
 mod shelf;
+mod words;
 
-use clap::error::ErrorKind;
 use console::command_line::{CheckRequest, Request, RunRequest, ServeRefusal, parse, serve_order};
 use console::{CheckFault, Format, Judgement, Reason, Roster, check, read_roster, write_roster};
 use devices::{Devices, Remembering};
@@ -16,12 +16,14 @@ use rpc_streams::run_rpc;
 use scripts::{ScriptEnd, ScriptFault, run_script, serve};
 use serve::{open, order_of, report_served};
 use shelf::FileShelf;
+use shown_names::ShownName;
 use std::io::{BufReader, Read};
 use std::process::ExitCode;
-use std::rt::{Env, Files};
+use std::rt::Files;
 use std::sync::Wait;
 use std::thread::Threads;
-use std::{env, fs, io};
+use std::{fs, io};
+use words::{report_words, words_of};
 
 /// The statuses of the program beside 0, which is done. A fault in the input: the records end with one, a
 /// file is no evidence or has no roster, or a script has a bad line.
@@ -119,6 +121,7 @@ fn check_under<R: Files + Print + Eprint + AllocGlobal>(
 
 /// Says on standard error why a file is no evidence.
 fn report_reason(rt: &impl Eprint, name: &str, reason: Reason) {
+    let name = ShownName::new(name);
     let _ = match reason {
         Reason::NoCase(at) => eprintln!(rt;
             "nfsacc: {name}: not a roster with evidence after it: the item at byte {at} does not decode"
@@ -156,8 +159,9 @@ fn roster_of<R: Files + Eprint + AllocGlobal>(rt: &R, name: &str) -> Result<Rost
     match read_roster(rt.alloc(), &mut file) {
         Ok(Some(roster)) => Ok(roster),
         Ok(None) => {
+            let shown = ShownName::new(name);
             let _ = eprintln!(rt;
-                "nfsacc: {name}: neither a roster nor one with evidence after it"
+                "nfsacc: {shown}: neither a roster nor one with evidence after it"
             );
             Err(INPUT_FAULT)
         }
@@ -239,14 +243,14 @@ pub(crate) fn report_file(rt: &impl Eprint, name: &str, error: &io::Error) -> u8
     if error.kind() == io::ErrorKind::OutOfMemory {
         return report_no_memory(rt);
     }
-    let name = if name.is_empty() { "''" } else { name };
+    let name = ShownName::new(name);
     let _ = eprintln!(rt; "nfsacc: {name}: {error}");
     DEVICE
 }
 
 /// Says on standard error that standard output takes no more, and why: where no error was
 /// answered, a write took nothing.
-fn report_output(rt: &impl Eprint, error: Option<io::Error>) -> u8 {
+pub(crate) fn report_output(rt: &impl Eprint, error: Option<io::Error>) -> u8 {
     match error {
         Some(error) => report_file(rt, STANDARD_OUTPUT, &error),
         None => {
@@ -259,36 +263,6 @@ fn report_output(rt: &impl Eprint, error: Option<io::Error>) -> u8 {
 pub(crate) fn report_no_memory(rt: &impl Eprint) -> u8 {
     let _ = rt.eprintln("nfsacc: out of memory");
     NO_MEMORY
-}
-
-/// The words of the command line, or the status where there are none to be had.
-fn words_of<R: Env + Eprint + AllocGlobal>(rt: &R) -> Result<Vec<String>, u8> {
-    let args = match env::args(rt) {
-        Ok(args) => args,
-        Err(error) if error.kind() == io::ErrorKind::OutOfMemory => {
-            return Err(report_no_memory(rt));
-        }
-        Err(_) => {
-            let _ = rt.eprintln("nfsacc: the command line is no text");
-            return Err(COMMAND_LINE);
-        }
-    };
-    args.collect::<Vec<String>>(rt.alloc())
-        .map_err(|_| report_no_memory(rt))
-}
-
-/// The status of a command line that asks for nothing that there is, or for help.
-fn report_words<R: Print + Eprint>(rt: &R, error: &clap::Error) -> u8 {
-    if error.kind() == ErrorKind::OutOfMemory {
-        return report_no_memory(rt);
-    }
-    let status = error.exit_code();
-    match error.print(rt) {
-        Ok(()) if status == 0 => 0,
-        Ok(()) => COMMAND_LINE,
-        Err(error) if status == 0 => report_output(rt, Some(error)),
-        Err(_) => DEVICE,
-    }
 }
 
 /// Says on standard error what can't be served, and gives the status for it.
@@ -330,7 +304,7 @@ fn main(rt: HostRuntime) -> ExitCode {
             },
             Err(refusal) => report_order(&rt, refusal),
         },
-        Err(error) => report_words(&rt, &error),
+        Err(error) => report_words(&rt, words.as_slice(), &error),
     };
     ExitCode::from(status)
 }
