@@ -284,10 +284,9 @@ check_names() {
     grep -qx "nfsacc: $shown: not a roster .*" said || fail 'a file that is escaped' said
     harmless 1 roster "$name"
     harmless 1 run "$name"
-    sed "s|^evidence 1 .*|evidence 1 /none/$(printf 'a\e[2K')|" "$top/checks/scripts/lie.script" > in
-    cp in script
-    harmless 4 run script
-    grep -qx 'nfsacc: /none/a\\x1b\[2K: No such file.*' said || fail 'a file of a script that is escaped' said
+    # A script has no such bytes, in names neither.
+    sed "s|^evidence 1 .*|evidence 1 /none/$(printf 'a\e[2K')|" "$top/checks/scripts/lie.script" > script
+    harmless 1 run script
     rm "$name"
     cp "$program" "$name"
     local program=$PWD/$name

@@ -38,7 +38,7 @@ check_whole() {
         cmp -s "$files/out" "$name.said" || fail "$name is explained otherwise" "$files/out"
         count=$((count + 1))
     done
-    [ "$count" -eq 18 ] || fail "$count files were tried"
+    [ "$count" -eq 20 ] || fail "$count files were tried"
 }
 
 # Files that are cut, at each of the first 208 bytes, at each 64th after them, by the last byte and in each part, and one
@@ -113,13 +113,20 @@ check_reasons() {
     { cat "$cases/fork.evidence"; printf '\0'; } > "$files/case"
     why "nfsacc: $files/case: not a roster .* byte 33272 does not decode" "$files/case"
     lacks 'the log has no fault' "$cases/no_fault.evidence"
-    lacks 'what is shown does not end in what closes it' "$cases/first_0.evidence"
+    lacks "a showing begins at number 0, and a log's first entry is number 1" "$cases/first_0.evidence"
     changed fork 95
     lacks 'what is shown is of another node' "$files/case"
     changed fork 107
     lacks 'no two hashes are shown at the number' "$files/case"
+    changed fork 111
+    lacks 'what is shown is of another node' "$files/case"
+    changed fork 199
+    lacks 'what is shown does not end in what closes it' "$files/case"
     changed fork 33271
-    lacks 'what closes it is not signed by the node' "$files/case"
+    lacks "what closes it does not verify by the node's key" "$files/case"
+    # The roster has node 3 in the place of node 1, whom the evidence and its closings name.
+    { printf '\0\0\0\1\0\0\0\3'; tail -c +9 "$cases/fork.evidence" | head -c 40; tail -c +93 "$cases/fork.evidence"; } > "$files/case"
+    lacks 'the roster has no key of the node, so nobody can tell who signed' "$files/case"
     changed wrong_reply 110
     lacks 'the log is not shown from its first entry on' "$files/case"
     why "nfsacc: .*: its roster is not the one that is trusted" --roster "$cases/client_clock.evidence" "$cases/fork.evidence"
@@ -133,7 +140,7 @@ check_reasons() {
 
 # The roster that is trusted: that of another file, or a roster alone. What `nfsacc roster` says is the same of both.
 check_trusted() {
-    local got=0
+    local name got=0
     head -c 92 "$cases/fork.evidence" > "$files/roster"
     judged 0 'exposed 1' --roster "$files/roster" "$cases/fork.evidence"
     judged 0 'exposed 1' --roster "$cases/wrong_reply.evidence" "$cases/fork.evidence"
@@ -144,8 +151,83 @@ check_trusted() {
     head -c 91 "$cases/fork.evidence" > "$files/case"
     "$program" roster "$files/case" > "$files/out" 2> "$files/said" || got=$?
     [ $got -eq 1 ] && [ ! -s "$files/out" ] || fail "status $got of no roster" "$files/said"
-    judged 1 '' --roster "$files/case" "$cases/fork.evidence"
+    # No roster to trust is a fault of the command line, and not of the file.
+    judged 2 '' --roster "$files/case" "$cases/fork.evidence"
+    grep -qx "nfsacc: $files/case: neither a roster nor one with evidence after it" "$files/said" || fail 'no roster' "$files/said"
     judged 4 '' --roster "$files" "$cases/fork.evidence"
+    # The file's own roster is no other word than the file's.
+    ln -s "$cases/fork.evidence" "$files/link"
+    for name in "$cases/fork.evidence" "$files/link"; do
+        judged 0 'exposed 1' --roster "$name" "$cases/fork.evidence"
+        grep -qx "nfsacc: $name: the roster that is trusted is the file's own" "$files/said" || fail 'its own roster' "$files/said"
+    done
+    judged 0 'exposed 1' --explain --roster "$files/roster" "$cases/fork.evidence"
+    [ ! -s "$files/said" ] || fail 'a remark on another roster' "$files/said"
+    grep -qx "trusted roster's sha256: $(sha256sum < "$files/roster" | cut -d ' ' -f 1)" "$files/out" || fail 'the trusted roster' "$files/out"
+}
+
+# `-` is standard input, of the file and of the roster, of one of them at a time.
+check_standard_input() {
+    local got=0
+    head -c 92 "$cases/fork.evidence" > "$files/roster"
+    judged 0 'exposed 1' - < "$cases/fork.evidence"
+    judged 0 'exposed 1' --roster "$files/roster" - < "$cases/fork.evidence"
+    judged 0 'exposed 1' --roster - "$cases/fork.evidence" < "$files/roster"
+    judged 1 'no evidence' --roster - "$cases/first_0.evidence" < "$files/roster"
+    judged 2 '' --roster - "$cases/fork.evidence" < /dev/null
+    grep -qx 'nfsacc: standard input: neither a roster nor one .*' "$files/said" || fail 'no roster' "$files/said"
+    judged 2 '' --roster - - < "$cases/fork.evidence"
+    judged 1 'no evidence' - < /dev/null
+    grep -qx 'nfsacc: standard input: not a roster .* byte 0 does not decode' "$files/said" || fail 'nothing' "$files/said"
+    judged 4 '' - < "$files"
+    grep -qx 'nfsacc: standard input: Is a directory.*' "$files/said" || fail 'a folder' "$files/said"
+    "$program" roster - < "$files/roster" > "$files/out"
+    "$program" roster "$files/roster" | cmp - "$files/out"
+    "$program" roster - < /dev/null > "$files/out" 2> "$files/said" || got=$?
+    [ $got -eq 1 ] && [ ! -s "$files/out" ] || fail "status $got of no roster" "$files/said"
+    # A file of that name is named with its folder.
+    cp "$cases/fork.evidence" "$files/-"
+    (cd "$files" && judged 0 'exposed 1' ./- < /dev/null)
+}
+
+# All entries of a log, and the state before one of them: there is none past a fault, nor past the log.
+check_details() {
+    local number
+    judged 0 'exposed 1' --entries "$cases/wrong_reply.evidence"
+    grep -qx 'all entries:' "$files/out" && grep -qx 'accused: node 1, a server' "$files/out" || fail --entries "$files/out"
+    [ "$(grep -c '^    hash after it: ' "$files/out")" -eq 3 ] || fail 'the hashes after the entries' "$files/out"
+    # The last is the one that the closing has.
+    [ "$(grep '^    hash after it: ' "$files/out" | tail -1 | cut -d ' ' -f 8)" = \
+        "$(grep -m 1 '^    hash: ' "$files/out" | cut -d ' ' -f 6)" ] || fail 'the hash of the closing' "$files/out"
+    judged 0 'exposed 1' --state 1 "$cases/wrong_reply.evidence"
+    # As docs/CHECKING.md has the opening state of server 1.
+    grep -qx '  digest: f76828427b61afa0d539d5f3cb0c584a77a911f1e87222bb1ba03c8148b496fe' "$files/out" || fail 'the opening state' "$files/out"
+    grep -qx '  length of its text: 172' "$files/out" || fail 'the opening state' "$files/out"
+    "$program" check --state 3 --json "$cases/wrong_reply.evidence" > "$files/out"
+    grep -q '"stage":"it owes a reply"' "$files/out" || fail 'the state before a reply' "$files/out"
+    judged 0 'exposed 1' --state=4 "$cases/wrong_reply.evidence"
+    grep -qx '  none: an entry before it has a fault' "$files/out" || fail 'a state past a fault' "$files/out"
+    judged 1 'no evidence' --state 9 "$cases/no_fault.evidence"
+    grep -qx '  none: the file does not have all entries before it' "$files/out" || fail 'a state past the log' "$files/out"
+    for number in 0 65538 +1 -1 x '' 1.5; do
+        judged 2 '' "--state=$number" "$cases/no_fault.evidence"
+        grep -qx 'nfsacc: --state is a number from 1 to 65537' "$files/said" || fail "--state=$number" "$files/said"
+    done
+    judged 1 'no evidence' --state 65537 "$cases/no_fault.evidence"
+}
+
+# Two honest nodes under rosters that anybody can make of a service's own: without another member, and with another kind of
+# the accused. The first premise is what isn't so, and the roster that is trusted shows it.
+check_other_rosters() {
+    local name own
+    for name in member_left_out:other_handle kind_changed:client_clock; do
+        own=$cases/${name#*:}.evidence
+        name=$cases/${name%:*}.evidence
+        judged 0 'exposed 1' --explain "$name"
+        grep -q "premise: the roster is the service's own: all of its members, each with its own number, kind, " "$files/out" ||
+            fail "what $name rests on" "$files/out"
+        why "nfsacc: $name: its roster is not the one that is trusted" --roster "$own" "$name"
+    done
 }
 
 # One JSON object and nothing else, with the status of plain `check`.
@@ -159,7 +241,7 @@ check_json() {
         python3 -c 'import json, sys; assert list(json.load(sys.stdin))[0] == "verdict"' < "$files/out"
     done
     printf x > "$files/case"
-    judged 1 '{"verdict":"no evidence","file":{"length":1,"sha256":"2d711642b726b04401627ca9fbac32f5c8530fb1903cc4db02258717921a4881"},"program":"nfsacc 0.1.0","reason":"the file is not a roster with evidence after it","first_byte_that_does_not_decode":0}' --json "$files/case"
+    judged 1 '{"verdict":"no evidence","file":{"length":1,"sha256":"2d711642b726b04401627ca9fbac32f5c8530fb1903cc4db02258717921a4881"},"program":"nfsacc 0.1.0","reason":"the file is not a roster with evidence after it","first_byte_that_does_not_decode":0,"note":"no evidence clears nobody: it does not say that a node is honest"}' --json "$files/case"
 }
 
 # Files that are no text at all, and those that can't be read.
@@ -207,7 +289,7 @@ unread() {
     [ $got -eq 1 ] && [ ! -s "$files/out" ] || fail "status $got of the roster of $name" "$files/said"
     got=0
     timeout 60 "$program" check --roster "$name" "$cases/fork.evidence" > "$files/out" 2> "$files/said" || got=$?
-    [ $got -eq 1 ] && [ ! -s "$files/out" ] || fail "status $got under the roster $name" "$files/said"
+    [ $got -eq 2 ] && [ ! -s "$files/out" ] || fail "status $got under the roster $name" "$files/said"
 }
 
 # Files without an end are refused by the count of members or the charge, once 65,536 bytes were read: a device of zeros, a
@@ -253,6 +335,9 @@ for program in "${made[@]}"; do
     check_rosters
     check_reasons
     check_trusted
+    check_other_rosters
+    check_standard_input
+    check_details
     check_json
     check_others
     check_endless

@@ -2,7 +2,7 @@
 """Makes files of evidence of many kinds, each with the verdict that it is meant to have, and sees that the
 second verifier and the program `nfsacc check` both give it: the node that is exposed, and of a replay the
 fault and its entry's number. All that `--json` and `--explain` say of a file is compared, too, with what the
-second verifier finds in it.
+second verifier finds in it, and of every third file what they say with `--entries` and `--state`.
 
 usage: checks/generate.py PROGRAM COUNT SEED [KIND..]    of all kinds, after those of which each is made once; or of these
                                                          kinds alone. Several programs, with a comma between them, must
@@ -26,7 +26,7 @@ from generator.handed import handed  # noqa: E402
 from generator.kinds import EACH, KINDS, Case  # noqa: E402
 from generator.stored import STORED  # noqa: E402
 from verifier.evidence import Verdict, judge  # noqa: E402
-from verifier.explain import differences  # noqa: E402
+from verifier.explain import Detail, differences  # noqa: E402
 
 
 def made(index: int, seed: str, names: list[str]) -> tuple[str, Case]:
@@ -49,9 +49,9 @@ def all_made(count: int, seed: str, names: list[str]) -> Iterator[tuple[str, int
         yield name, index, case
 
 
-def said(program: str, option: str, path: str) -> str:
+def said(program: str, path: str, *options: str) -> str:
     """What the program says of a file, with the status for it."""
-    run = subprocess.run([program, 'check', option, path], capture_output=True, check=False)
+    run = subprocess.run([program, 'check', *options, path], capture_output=True, check=False)
     text = run.stdout.decode()
     exposes = text.startswith(('exposed ', '{"verdict":"exposed '))
     if run.returncode != (0 if exposes else 1) or run.stderr:
@@ -64,7 +64,15 @@ def verdict_in(json_text: str) -> Verdict:
     told = json.loads(json_text)
     words, fault = told['verdict'].split(), told.get('fault')
     return Verdict(int(words[1]) if words[0] == 'exposed' else None,
-                   (fault['fault'], fault['entry']) if fault else None)
+                   (fault['fault'], int(fault['entry'])) if fault else None)
+
+
+def told_otherwise(programs: list[str], path: str, data: bytes, index: int) -> list[str]:
+    """What is said otherwise than the file shows where all entries are asked for, and the state before one."""
+    detail = Detail(entries=True, state=1 + index % 11)
+    options = '--entries', '--state', str(detail.state)
+    texts = [(said(program, path, '--json', *options), said(program, path, *options)) for program in programs]
+    return differences(data, *texts[0], detail) + ['programs that differ'] * (texts.count(texts[0]) != len(texts))
 
 
 def compare(programs: list[str], count: int, seed: str, names: list[str]) -> tuple[int, int]:
@@ -76,9 +84,11 @@ def compare(programs: list[str], count: int, seed: str, names: list[str]) -> tup
         for name, index, case in all_made(count, seed, names):
             with open(path, 'wb') as file:
                 file.write(case.data)
-            texts = [(said(program, '--json', path), said(program, '--explain', path)) for program in programs]
+            texts = [(said(program, path, '--json'), said(program, path, '--explain')) for program in programs]
             meant, judged, told = Verdict(case.exposed, case.fault), judge(case.data), verdict_in(texts[0][0])
             otherwise = differences(case.data, *texts[0])
+            if index % 3 == 0:
+                otherwise += told_otherwise(programs, path, case.data, index // 3)
             kinds[name] += 1
             if not meant == judged == told or otherwise or texts.count(texts[0]) != len(texts):
                 wrong += 1

@@ -37,14 +37,18 @@ judged() {
     fi
 }
 
-# explained NAME: what the program shows of a stored file, in lines and as JSON, is what the second verifier finds in it.
+# explained NAME: what the program shows of a stored file, in lines and as JSON, is what the second verifier finds in it, and
+# so with each option.
 explained() {
-    "$program" check --json "$cases/$1.evidence" > "$files/json" 2> /dev/null || true
-    "$program" check --explain "$cases/$1.evidence" > "$files/lines" 2> /dev/null || true
-    checks/verify.py "$cases/$1.evidence" "$files/json" "$files/lines" || {
-        echo "$1 is explained otherwise than it shows" >&2
-        exit 1
-    }
+    local options
+    for options in '' "--roster $cases/fork.evidence" --entries '--state 1' '--state 3 --entries' '--state 9'; do
+        "$program" check --json $options "$cases/$1.evidence" > "$files/json" 2> /dev/null || true
+        "$program" check --explain $options "$cases/$1.evidence" > "$files/lines" 2> /dev/null || true
+        checks/verify.py "$cases/$1.evidence" "$files/json" "$files/lines" $options || {
+            echo "$1 is explained otherwise than it shows, with the options: $options" >&2
+            exit 1
+        }
+    done
 }
 
 check_stored() {

@@ -37,6 +37,21 @@ def client_clock() -> bytes:
     return replay_of(log)
 
 
+def member_left_out() -> bytes:
+    """A server's honest log of an exchange, and a roster without the client: what it received is a stranger's there."""
+    log = Log(Pair(SERVER))
+    log.exchange(nfs_as_user_0(4, log.state.world.files.handle(ROOT) + opaque(b'hello')))
+    return file_of(log.cast, 1, log.replay(), [log.signer.member()])
+
+
+def kind_changed() -> bytes:
+    """A client's honest log, and a roster that has the client as a server: its CLOCK is out of turn there."""
+    log = Log(Pair(CLIENT))
+    log.append(Clock(1, 0))
+    members = [replace(member, kind=SERVER) if member.node == 1 else member for member in log.cast.roster().values()]
+    return file_of(log.cast, 1, log.replay(), members)
+
+
 def acknowledged() -> Log:
     """A client's log of a message and its ACK."""
     log = Log(Pair(CLIENT))
@@ -102,4 +117,4 @@ def long_write() -> bytes:
 
 
 STORED = [client_clock, check_after_ack, wrong_check_after_ack, second_ack, first_0, other_handle, odd_name,
-          long_write]
+          long_write, member_left_out, kind_changed]

@@ -1,13 +1,15 @@
 """What `nfsacc check --json` says of a file, worked out a second time from the file: a dictionary in its order."""
 
 import json
+from dataclasses import dataclass
 
 from .evidence import Fork, Replay, Showing, chain, fault_shown, hashes_shown, is_fork, read_file
-from .keys import SERVER, ZEROS, Authenticator, Roster, digest, is_signed
-from .log import ACK, CHECK, CLOCK, RECV, SEND, Entry, hash_after, message_hash, recv_content
-from .replay import Fault, State, is_acknowledged, opening_state, step
+from .keys import SERVER, ZEROS, Authenticator, Roster, Signature, digest, is_signed, roster_text
+from .log import ACK, CHECK, CLOCK, RECV, SEND, Entry, Recv, hash_after, message_hash, recv_content
+from .nfs import DIRECTORY, REGULAR, Time
+from .replay import Fault, State, fault_of, is_acknowledged, opening_state, step
 from .rpc import AUTH_SYS, MAX_AUTH, MOUNT, NFS
-from .xdr import Reader, Undecodable
+from .xdr import Reader, Undecodable, hyper, word
 
 KINDS = {SEND: 'SEND', RECV: 'RECV', ACK: 'ACK', CLOCK: 'CLOCK', CHECK: 'CHECK'}
 FAULTS = {
@@ -28,14 +30,25 @@ TYPES = {0: 'NFNON', 1: 'NFREG', 2: 'NFDIR', 3: 'NFBLK', 4: 'NFCHR', 5: 'NFLNK'}
 FLAVORS = {0: 'AUTH_NONE', 1: 'AUTH_SYS', 2: 'AUTH_SHORT', 3: 'AUTH_DH'}
 ACCEPT = {0: 'SUCCESS', 1: 'PROG_UNAVAIL', 2: 'PROG_MISMATCH', 3: 'PROC_UNAVAIL', 4: 'GARBAGE_ARGS', 5: 'SYSTEM_ERR'}
 AUTH = {1: 'AUTH_BADCRED', 2: 'AUTH_REJECTEDCRED', 5: 'AUTH_TOOWEAK'}
-PREMISES = ['the keys of the roster are those of its nodes',
+PREMISES = ["the roster is the service's own: all of its members, each with its own number, kind, height and key",
             'nobody forged a signature that the file shows: none verifies for a number and a hash that the node did '
             'not sign',
             'no two of the texts that were hashed have the same SHA-256 digest']
 
 
+@dataclass(frozen=True)
+class Detail:
+    """What is asked beside what a finding rests on: all entries of a log, the state before an entry."""
+    entries: bool = False
+    state: int | None = None
+
+
 def named(table: dict[int, str], number: int):
     return f'{table[number]} ({number})' if number in table else str(number)
+
+
+def octal(mode: int) -> str:
+    return f'{"0" if mode else ""}{mode:o} (octal)'
 
 
 def quoted(data: bytes) -> str:
@@ -66,15 +79,15 @@ class Items:
         return self.reader.word()
 
     def mode(self):
-        return f'{self.reader.word():o}'
+        return octal(self.reader.word())
 
     def given(self):
         word = self.reader.word()
-        return 'not given' if word == 0xffffffff else str(word)
+        return None if word == 0xffffffff else word
 
     def given_mode(self):
         word = self.reader.word()
-        return 'not given' if word in (0xffffffff, 0xffff) else f'{word:o}'
+        return None if word in (0xffffffff, 0xffff) else octal(word)
 
     def time(self):
         seconds = self.reader.word()
@@ -83,7 +96,7 @@ class Items:
     def given_time(self):
         seconds, microseconds = self.reader.word(), self.reader.word()
         if seconds == 0xffffffff:
-            return 'not given'
+            return None
         return 'the time of the call' if microseconds > 999999 else f'{seconds} s {microseconds} us'
 
     def handle(self):
@@ -165,9 +178,7 @@ def header_of(reader: Reader):
         if reader.word() != 2:
             return xid, None
         numbers = reader.word(), reader.word(), reader.word()
-        credential = reader.word(), reader.opaque(MAX_AUTH)
-        reader.word(), reader.opaque(MAX_AUTH)
-        return xid, (numbers, credential)
+        return xid, (numbers, (reader.word(), reader.opaque(MAX_AUTH)), (reader.word(), reader.opaque(MAX_AUTH)))
     except Undecodable:
         return None
 
@@ -178,25 +189,34 @@ def credential_of(flavor: int, body: bytes) -> dict:
         return said | ({'body': body.hex()} if body else {})
     reader = Reader(body)
     try:
-        _, machine, uid, gid = reader.word(), reader.opaque(255), reader.word(), reader.word()
+        stamp, machine, uid, gid = reader.word(), reader.opaque(255), reader.word(), reader.word()
         gids = reader.array(16, Reader.word)
         reader.end()
     except Undecodable:
         return said | {'body_that_does_not_decode': body.hex()}
-    return said | {'machine': quoted(machine), 'uid': uid, 'gid': gid, 'gids': [{'gid': each} for each in gids]}
+    return said | {'stamp': stamp, 'machine': quoted(machine), 'uid': uid, 'gid': gid,
+                   'gids': [{'gid': each} for each in gids]}
+
+
+def verifier_of(flavor: int, body: bytes) -> dict:
+    return {'verifier': named(FLAVORS, flavor)} | ({"verifier's_body": body.hex()} if body else {})
 
 
 def call_of(server: int, body: bytes) -> dict:
-    said, reader = {'length': len(body)}, Reader(body)
+    return {'length': len(body)} | call_words(server, body) | {'bytes': body.hex()}
+
+
+def call_words(server: int, body: bytes) -> dict:
+    reader = Reader(body)
     header = header_of(reader)
     if header is None:
-        return said | {'call': 'none: its header does not decode', 'bytes': body.hex()}
-    said['xid'] = header[0]
+        return {'call': 'none: its header does not decode'}
+    said = {'xid': header[0]}
     if header[1] is None:
         return said | {'call': 'of another RPC version than 2'}
-    (program, version, number), (flavor, credential) = header[1]
-    said |= {'credential': credential_of(flavor, credential), 'program': named({NFS: 'NFS', MOUNT: 'MOUNT'}, program),
-             'version': version}
+    (program, version, number), credential, verifier = header[1]
+    said |= {'credential': credential_of(*credential)} | verifier_of(*verifier)
+    said |= {'program': named({NFS: 'NFS', MOUNT: 'MOUNT'}, program), 'version': version}
     procedure = procedure_of(program, version, number)
     if procedure is None:
         return said | {'procedure': number}
@@ -245,10 +265,9 @@ def add_reply(said: dict, items: Items, procedure):
     stat = items.take('word')
     said['reply'] = named({0: 'MSG_ACCEPTED', 1: 'MSG_DENIED'}, stat)
     if stat == 0:
-        said['verifier'] = named(FLAVORS, items.take('word'))
-        body = items.reader.opaque(MAX_AUTH)
-        if body:
-            said["verifier's_body"] = body.hex()
+        flavor = items.take('word')
+        said |= {'verifier': named(FLAVORS, flavor)}
+        said |= verifier_of(flavor, items.reader.opaque(MAX_AUTH))
         status = items.take('word')
         said['status'] = named(ACCEPT, status)
         if status == 0 and procedure is not None:
@@ -279,19 +298,47 @@ def reply_of(server: int, call: bytes, body: bytes) -> dict:
     return said
 
 
+# ---- what is signed
+
+def joined(*parts: bytes | str) -> str:
+    """How a digest is made, of bytes and of what has a name."""
+    return f'SHA-256({" | ".join(part if isinstance(part, str) else part.hex() for part in parts)})'
+
+
+def signed_digest(node: int, number: int, at: bytes, name: str) -> dict:
+    return {'signed_digest': digest(word(node) + hyper(number) + at).hex(),
+            'signed_digest_is': joined(word(node), hyper(number), name)}
+
+
+def verdict_on(roster: Roster, node: int, number: int, at: bytes, signature: Signature) -> dict:
+    return {'verifies': 'yes' if is_signed(roster, Authenticator(node, number, at, signature)) else 'no'}
+
+
+def closing_of(roster: Roster, closing: Authenticator) -> dict:
+    said = {'node': closing.node, 'number': str(closing.number), 'hash': closing.hash.hex()}
+    said |= signed_digest(closing.node, closing.number, closing.hash, 'hash')
+    return said | {'leaf': closing.signature.leaf, 'key_of': node_words(roster, closing.node)} | verdict_on(
+        roster, closing.node, closing.number, closing.hash, closing.signature)
+
+
 # ---- entries
 
 class Log:
-    """A log with a fault, and the state before the entry that has it."""
+    """A log under what a roster says of its node."""
 
-    def __init__(self, roster: Roster, node: int, entries: list[Entry], number: int):
-        self.roster, self.node, self.entries, self.at = roster, node, entries, number - 1
-        self.kind = roster[node].kind
-        self.state: State = opening_state(node, self.kind)
-        before = ZEROS
-        for place, entry in enumerate(entries[:self.at], start=1):
-            step(self.state, place, before, entry)
+    def __init__(self, roster: Roster, node: int, entries: list[Entry]):
+        self.roster, self.node, self.entries = roster, node, entries
+        self.kind = roster[node].kind if node in roster else None
+
+    def state_before(self, at: int) -> State | None:
+        """The state before an entry, where those before it have no fault."""
+        state, before = opening_state(self.node, self.kind), ZEROS
+        for place, entry in enumerate(self.entries[:at], start=1):
+            if fault_of(state, self.roster, entry) is not None:
+                return None
+            step(state, place, before, entry)
             before = hash_after(before, place, entry.kind, digest(entry.content()))
+        return state
 
     def node_words(self, node: int) -> str:
         return node_words(self.roster, node)
@@ -300,27 +347,48 @@ class Log:
         bodies = [entry.body for entry in self.entries[:at] if entry.kind == RECV]
         return bodies[-1] if bodies else b''
 
+    def all_entries(self, first: int, opening: bytes) -> list[dict]:
+        links = [(entry.kind, digest(entry.content())) for entry in self.entries]
+        return [self.entry(at) | {'number': place(first + at), 'hash_after_it': after.hex()}
+                for at, after in enumerate(chain(opening, first, links)[1:])]
+
     def entry(self, at: int) -> dict:
         entry = self.entries[at]
-        said = {'number': at + 1, 'kind': KINDS[entry.kind]}
+        said = {'number': str(at + 1), 'kind': KINDS[entry.kind]}
         if entry.kind == SEND:
             said['to'] = self.node_words(entry.to)
             if self.kind == SERVER:
                 return said | {'reply': reply_of(self.node, self.call_before(at), entry.body)}
-            return said | {'call': call_of(entry.to, entry.body)}
+            return said | ({'call': call_of(entry.to, entry.body)} if self.kind else {'body': entry.body.hex()})
         if entry.kind == RECV:
-            said |= {'from': self.node_words(entry.sender)} | origin(entry.seq, entry.prev, entry.signature.leaf)
-            said['hash_there'] = message_hash(self.node, entry).hex()
-            if self.kind == SERVER:
-                return said | {'call': call_of(self.node, entry.body)}
-            return said | {'body': entry.body.hex()}
+            return said | self.received(entry)
         if entry.kind == ACK:
-            return said | {'of_message_to': self.node_words(entry.to), 'its_number': entry.seq,
-                           'digest_of_its_signature': entry.mine.hex()} | origin(entry.number, entry.prev,
-                                                                                entry.signature.leaf)
+            return said | {'of_message_to': self.node_words(entry.to), 'its_number': str(entry.seq),
+                           'digest_of_its_signature': entry.mine.hex()} | place_there(entry.number, entry.prev) | {
+                               'leaf': entry.signature.leaf, "signature's_sha256": digest(entry.signature.text).hex()}
         if entry.kind == CLOCK:
             return said | {'time': f'{entry.seconds} s {entry.microseconds} us'}
         return said | {'digest': entry.digest.hex()}
+
+    def received(self, entry: Recv) -> dict:
+        at, is_server = message_hash(self.node, entry), self.kind == SERVER
+        body = joined('bytes' if is_server else 'body')
+        said = {'from': self.node_words(entry.sender)} | place_there(entry.seq, entry.prev)
+        said |= {'hash_there': at.hex(), 'hash_there_is': joined('hash before it there', hyper(entry.seq), word(SEND),
+                                                                joined(word(self.node), body))}
+        said |= signed_digest(entry.sender, entry.seq, at, 'hash there')
+        said |= {'leaf': entry.signature.leaf, "signature's_sha256": digest(entry.signature.text).hex()}
+        said |= verdict_on(self.roster, entry.sender, entry.seq, at, entry.signature)
+        return said | ({'call': call_of(self.node, entry.body)} if is_server else {'body': entry.body.hex()})
+
+
+class Faulty(Log):
+    """A log with a fault, and the state before the entry that has it."""
+
+    def __init__(self, roster: Roster, node: int, entries: list[Entry], number: int):
+        super().__init__(roster, node, entries)
+        self.at = number - 1
+        self.state: State = self.state_before(self.at)
 
     def concerned(self, fault: Fault) -> list[int]:
         """The entries that a fault concerns, the faulty one last."""
@@ -379,8 +447,14 @@ class Log:
         said['given'] = ('one of a message that went to another node' if sent.to != entry.to else
                          "one whose signature does not verify by the receiver's key for its number and hash there")
         content = recv_content(self.node, entry.seq, sent.prev, sent.body_hash, entry.mine)
-        return said | {'message_went_to': self.node_words(sent.to),
-                       'hash_there': hash_after(entry.prev, entry.number, RECV, digest(content)).hex()}
+        at = hash_after(entry.prev, entry.number, RECV, digest(content))
+        made = joined(word(self.node), hyper(entry.seq), 'hash before its SEND', 'digest of its body',
+                      'digest of its signature')
+        said |= {'message_went_to': self.node_words(sent.to), 'hash_before_its_SEND': sent.prev.hex(),
+                 'digest_of_its_body': sent.body_hash.hex(), 'hash_there': at.hex(),
+                 'hash_there_is': joined('hash before it there', hyper(entry.number), word(RECV), made)}
+        return said | signed_digest(entry.to, entry.number, at, 'hash there') | verdict_on(
+            self.roster, entry.to, entry.number, at, entry.signature)
 
     def replies(self, entry: Entry) -> dict:
         call, owed = self.call_before(self.at), self.state.owed
@@ -389,11 +463,19 @@ class Log:
         if entry.kind != SEND:
             return said | {'given': KINDS[entry.kind]}
         said |= {'given_to': self.node_words(entry.to), 'given': reply_of(self.node, call, entry.body)}
-        return said | (difference(owed.body, entry.body) if owed is not None else {})
+        if owed is None:
+            return said
+        if owed.to != entry.to:
+            said['difference'] = 'it went to another node than the one that it is owed to'
+        return said | difference(owed.body, entry.body)
 
 
-def origin(number: int, prev: bytes, leaf: int) -> dict:
-    return {'number_there': number, 'hash_before_it_there': prev.hex(), 'signed_with_leaf': leaf}
+def place(number: int) -> str:
+    return str(number) if number < 2**64 else f'above {2**64 - 1}'
+
+
+def place_there(number: int, prev: bytes) -> dict:
+    return {'number_there': str(number), 'hash_before_it_there': prev.hex()}
 
 
 def difference(owed: bytes, given: bytes) -> dict:
@@ -418,65 +500,132 @@ def kind_word(kind: int) -> str:
     return 'server' if kind == SERVER else 'client'
 
 
-def signed(closing: Authenticator) -> dict:
-    return {'node': closing.node, 'number': closing.number, 'hash': closing.hash.hex(), 'leaf': closing.signature.leaf}
-
-
 def roster_facts(data: bytes, roster: Roster) -> dict:
     members = [{'node': member.node, 'kind': kind_word(member.kind), 'key': member.root.hex(), 'height': member.height}
                for member in roster.values()]
-    return {'sha256': digest(data).hex(), 'members': members}
+    return {'sha256': digest(data).hex(), 'count': len(members), 'members': members}
 
 
 HEAD = 65_536
 LONGEST = 1_916_554_608
 MEMBER_LENGTH = 44
+ADVICE = ("to be compared as a whole with the service's own roster: by its sha256, or by the count of its members and "
+          "each one's number, kind, height and key")
 ANOTHER_NODE = 'what is shown is of another node'
+BEGINS_AT_ZERO = "a showing begins at number 0, and a log's first entry is number 1"
 NOT_CLOSED = 'what is shown does not end in what closes it'
-NOT_SIGNED = 'what closes it is not signed by the node'
+NO_KEY = 'the roster has no key of the node, so nobody can tell who signed'
+NOT_SIGNED = "what closes it does not verify by the node's key"
+UNDATED = 'a signature has no date: nothing here says when the node signed'
+CLEARS_NOBODY = 'no evidence clears nobody: it does not say that a node is honest'
 
 
-def rests_on(rules: str) -> list[dict]:
-    return [{'premise': premise} for premise in [*PREMISES, rules]]
+def rests_on(rules: str) -> dict:
+    return {'rests_on': [{'premise': premise} for premise in [*PREMISES, 'the rules of docs/CHECKING.md' + rules]],
+            'note': UNDATED}
 
 
-def fork_facts(fork: Fork) -> dict:
+def no_evidence(reason: str) -> dict:
+    return {'reason': reason, 'note': CLEARS_NOBODY}
+
+
+def fork_facts(roster: Roster, fork: Fork, detail: Detail) -> dict:
     def showing(each) -> dict:
-        links = [{'number': number if number < 2**64 else f'above {2**64 - 1}', 'kind': KINDS[kind],
-                  'digest_of_its_content': content.hex()}
+        links = [{'number': place(number), 'kind': KINDS[kind], 'digest_of_its_content': content.hex()}
                  for number, (kind, content) in enumerate(each.links, start=each.first)]
-        return {'node': each.node, 'first': each.first, 'hash_before_it': each.opening.hex(), 'links': links,
-                'signed': signed(each.closing)}
-    return {'charge': 'it keeps two logs', 'at': fork.at,
-            'contents': 'not in the file: of the entries between it has the kinds and the digests of the contents alone',
-            'showings': [showing(each) for each in fork.showings]}
+        return {'node': each.node, 'first': str(each.first), 'hash_before_it': each.opening.hex(), 'links': links,
+                'closing': closing_of(roster, each.closing)}
+    said = {'charge': 'it keeps two logs', 'at': str(fork.at)} if len(fork.showings) == 2 else {
+        'charge': 'its log begins after another hash than 32 zero bytes'}
+    return said | {'contents': 'not in the file: of the entries between it has the kinds and the digests of the contents '
+                               'alone',
+                   'showings': [showing(each) for each in fork.showings]} | state_facts(None, detail)
 
 
-def log_facts(replay: Replay) -> dict:
-    return {'charge': 'its log has a fault', 'log': {
-        'node': replay.node, 'first': replay.first, 'hash_before_it': replay.opening.hex(),
-        'count': len(replay.entries), 'signed': signed(replay.closing)}}
+def log_facts(roster: Roster, replay: Replay, detail: Detail) -> dict:
+    log, count = Log(roster, replay.node, replay.entries), len(replay.entries)
+    contents = (f'all entries from 1 to {count}, which --entries lists; what is owed at an entry follows from those '
+                'before it, and --state K shows the state before entry K' if replay.first == 1
+                else 'its entries, which --entries lists, without those before them')
+    said = {'charge': 'its log has a fault', 'log': {
+        'node': replay.node, 'first': str(replay.first), 'hash_before_it': replay.opening.hex(), 'count': count,
+        'contents': contents, 'closing': closing_of(roster, replay.closing)}}
+    if detail.entries:
+        said['all_entries'] = log.all_entries(replay.first, replay.opening)
+    return said | state_facts(log if replay.first == 1 else None, detail)
+
+
+def state_facts(log: Log | None, detail: Detail) -> dict:
+    """The state before an entry, where it is asked for."""
+    if detail.state is None:
+        return {}
+    said, at = {'before_entry': str(detail.state)}, detail.state - 1
+    if log is None or at > len(log.entries):
+        return {'state': said | {'none': 'the file does not have all entries before it'}}
+    if log.kind is None:
+        return {'state': said | {'none': 'the roster does not say what the node is'}}
+    state = log.state_before(at)
+    if state is None:
+        return {'state': said | {'none': 'an entry before it has a fault'}}
+    return {'state': said | state_words(log, at, state)}
+
+
+def state_words(log: Log, at: int, state: State) -> dict:
+    def time(at: Time) -> str:
+        return f'{at[0]} s {at[1]} us'
+
+    def file_words(number: int, file) -> dict:
+        said = {'fileid': number, 'type': named(TYPES, file.kind), 'mode': octal(file.mode), 'uid': file.uid,
+                'gid': file.gid, 'atime': time(file.atime), 'mtime': time(file.mtime), 'ctime': time(file.ctime)}
+        if file.kind == DIRECTORY:
+            entries = [{'fileid': below, 'name': quoted(name), 'cookie': cookie}
+                       for name, (below, cookie) in file.entries.items()]
+            return said | {'next_cookie': file.next_cookie, 'entries': entries}
+        if file.kind == REGULAR:
+            return said | {'size': len(file.data), 'data': quoted(file.data)}
+        return said | {'target': quoted(file.data)}
+
+    said = {'digest': state.digest().hex(), 'length_of_its_text': len(state.text()), 'clock': time(state.clock)}
+    said['received'] = [{'from': log.node_words(sender), 'number_there': str(seq), 'hash_there': there.hex()}
+                        for sender, seq, there in sorted(state.received)]
+    said['sent_without_acknowledgement'] = [
+        {'number': str(number), 'to': log.node_words(sent.to), 'hash_before_its_SEND': sent.prev.hex(),
+         'digest_of_its_body': sent.body_hash.hex()} for number, sent in sorted(state.sent.items())]
+    if state.kind != SERVER:
+        return said
+    if state.heard is not None:
+        said |= {'stage': 'it heard a message', 'from': log.node_words(state.heard.sender),
+                 'call': call_of(log.node, state.heard.body)}
+    elif state.owed is not None:
+        said |= {'stage': 'it owes a reply', 'to': log.node_words(state.owed.to),
+                 'reply': reply_of(log.node, log.call_before(at), state.owed.body)}
+    else:
+        said['stage'] = 'it owes nothing'
+    said['next_fileid'] = state.world.files.next_number
+    said['mounts'] = [{'hostname': quoted(machine), 'directory': quoted(path)} for machine, path in state.world.mounts]
+    return said | {'files': [file_words(number, file) for number, file in sorted(state.world.files.files.items())]}
 
 
 def fork_finding(roster: Roster, node: int, fork: Fork) -> dict:
     shown = [hashes_shown(roster, node, showing) for showing in fork.showings]
-    at = fork.at if len(shown) == 2 else 0
-    hashes = {'number': at, 'first_showing': shown[0][at].hex()}
-    if len(shown) == 2:
-        hashes['second_showing'] = shown[1][at].hex()
-    else:
-        hashes['hash_before_any_first_entry'] = ZEROS.hex()
-    return {'two_hashes': hashes,
-            'rests_on': rests_on('the rules of docs/CHECKING.md: a log has one hash at each number')}
+    if len(shown) == 1:
+        return {'hash_before_entry_1': {'owed': ZEROS.hex(), 'given': shown[0][0].hex()}} | rests_on(
+            ': a log begins after 32 zero bytes')
+    hashes = {'number': str(fork.at), 'first_showing': shown[0][fork.at].hex(),
+              'second_showing': shown[1][fork.at].hex()}
+    return {'two_hashes': hashes} | rests_on(': a log has one hash at each number')
 
 
 def fault_finding(roster: Roster, node: int, replay: Replay, fault: Fault, number: int) -> dict:
-    log = Log(roster, node, replay.entries, number)
+    log = Faulty(roster, node, replay.entries, number)
     name, meaning = FAULTS[fault]
-    said = {'fault': {'fault': int(fault), 'name': name, 'meaning': meaning, 'entry': number},
+    said = {'fault': {'fault': int(fault), 'name': name, 'meaning': meaning, 'entry': str(number)},
             'entries': [log.entry(at) for at in log.concerned(fault)]}
-    rules = 'the rules of docs/CHECKING.md, which stand on RFC 1094, RFC 4506 and RFC 5531'
-    return said | log.comparison(fault) | {'rests_on': rests_on(rules)}
+    return said | log.comparison(fault) | rests_on(', which stand on RFC 1094, RFC 4506 and RFC 5531')
+
+
+def not_signed(roster: Roster, node: int) -> str:
+    return NOT_SIGNED if node in roster else NO_KEY
 
 
 def showing_lack(roster: Roster, node: int, showing: Showing) -> str | None:
@@ -484,11 +633,13 @@ def showing_lack(roster: Roster, node: int, showing: Showing) -> str | None:
     closing, last = showing.closing, showing.first + len(showing.links) - 1
     if showing.node != node:
         return ANOTHER_NODE
-    if showing.first == 0 or closing.node != node or closing.number != last:
+    if showing.first == 0:
+        return BEGINS_AT_ZERO
+    if closing.node != node or closing.number != last:
         return NOT_CLOSED
     if closing.hash != chain(showing.opening, showing.first, showing.links)[-1]:
         return NOT_CLOSED
-    return None if is_signed(roster, closing) else NOT_SIGNED
+    return None if is_signed(roster, closing) else not_signed(roster, node)
 
 
 def log_lack(roster: Roster, node: int, replay: Replay) -> str:
@@ -500,7 +651,7 @@ def log_lack(roster: Roster, node: int, replay: Replay) -> str:
         return 'the log is not shown from its first entry on'
     if closing.node != node or closing.number != len(links) or closing.hash != chain(ZEROS, 1, links)[-1]:
         return NOT_CLOSED
-    return 'the log has no fault' if is_signed(roster, closing) else NOT_SIGNED
+    return 'the log has no fault' if is_signed(roster, closing) else not_signed(roster, node)
 
 
 def finding(roster: Roster, node: int, charge: Fork | Replay) -> dict:
@@ -509,10 +660,10 @@ def finding(roster: Roster, node: int, charge: Fork | Replay) -> dict:
         if is_fork(roster, node, charge):
             return fork_finding(roster, node, charge)
         lacks = [showing_lack(roster, node, showing) for showing in charge.showings]
-        return {'reason': next(filter(None, lacks), 'no two hashes are shown at the number')}
+        return no_evidence(next(filter(None, lacks), 'no two hashes are shown at the number'))
     fault = fault_shown(roster, node, charge)
     if fault is None:
-        return {'reason': log_lack(roster, node, charge)}
+        return no_evidence(log_lack(roster, node, charge))
     return fault_finding(roster, node, charge, *fault)
 
 
@@ -526,8 +677,8 @@ def is_read_in_part(data: bytes) -> bool:
     return len(data) > LONGEST or count > 64 or charge not in (1, 2)
 
 
-def explain(data: bytes, program: str) -> dict:
-    """All that a program of this name and version says of a file."""
+def explain(data: bytes, program: str, detail: Detail = Detail(), trusted: Roster | None = None) -> dict:
+    """All that a program of this name and version says of a file, under a roster that is trusted or under its own."""
     file = {'read': 'not to its end'} if is_read_in_part(data) else {'length': len(data), 'sha256': digest(data).hex()}
     said = {'verdict': 'no evidence', 'file': file, 'program': program}
     reader = Reader(data)
@@ -535,22 +686,26 @@ def explain(data: bytes, program: str) -> dict:
         roster, node, charge = read_file(reader)
     except Undecodable:
         return said | {'reason': 'the file is not a roster with evidence after it',
-                       'first_byte_that_does_not_decode': reader.at}
+                       'first_byte_that_does_not_decode': reader.at, 'note': CLEARS_NOBODY}
     text = data[:4 + MEMBER_LENGTH * len(roster)]
-    said['roster'] = {'advice': 'to be compared, member by member, with the keys that one holds'} | roster_facts(
-        text, roster)
+    said['roster'] = {'advice': ADVICE} | roster_facts(text, roster)
+    if trusted is not None:
+        said["trusted_roster's_sha256"] = digest(roster_text(trusted)).hex()
     said['accused'] = node_words(roster, node)
-    said |= fork_facts(charge) if isinstance(charge, Fork) else log_facts(charge)
+    said |= fork_facts(roster, charge, detail) if isinstance(charge, Fork) else log_facts(roster, charge, detail)
+    if trusted not in (None, roster):
+        return said | no_evidence('its roster is not the one that is trusted')
     found = finding(roster, node, charge)
     if 'reason' not in found:
         said['verdict'] = f'exposed {node}'
     return said | found
 
 
-def differences(data: bytes, json_text: str, lines: str) -> list[str]:
+def differences(data: bytes, json_text: str, lines: str, detail: Detail = Detail(),
+                trusted: Roster | None = None) -> list[str]:
     """What a program says of a file, as JSON and in lines, otherwise than the file shows."""
     said = json.loads(json_text)
-    own = explain(data, said['program'])
+    own = explain(data, said['program'], detail, trusted)
     wrong = [f'{name}: {said.get(name)!r}, where it is {own.get(name)!r}'
              for name in own | said if own.get(name) != said.get(name)]
     if list(said) != list(own):
@@ -577,5 +732,5 @@ def lines_of(said: dict, depth: int = 0) -> list[str]:
                 if inner:
                     lines += ['  ' * (depth + 1) + '- ' + inner[0].lstrip(' '), *inner[1:]]
         else:
-            lines.append(f'{start} {value}')
+            lines.append(f'{start} {"not given" if value is None else value}')
     return lines

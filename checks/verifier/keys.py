@@ -3,7 +3,7 @@
 from dataclasses import dataclass
 from hashlib import sha256
 
-from .xdr import Reader, Undecodable, hyper, word
+from .xdr import Reader, Undecodable, array, hyper, word
 
 SERVER, CLIENT = 1, 2
 MAX_MEMBERS = 64
@@ -57,6 +57,10 @@ def read_roster(reader: Reader) -> Roster:
         member = read_member(reader, least)
         roster[member.node], least = member, member.node + 1
     return roster
+
+
+def roster_text(roster: Roster) -> bytes:
+    return array([word(member.node, member.kind) + member.root + word(member.height) for member in roster.values()])
 
 
 def read_place(reader: Reader, least: int = 0) -> int:

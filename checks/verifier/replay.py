@@ -1,5 +1,6 @@
 """The replay of a log: the state of a node, the faults of an entry in their order, and what an entry does."""
 
+from collections.abc import Callable
 from dataclasses import dataclass, field
 from enum import IntEnum
 
@@ -49,23 +50,34 @@ class State:
         return self.kind == SERVER and self.heard is None and self.owed is None
 
     def digest(self) -> bytes:
-        """The digest at the stage idle, which is where CHECK may stand."""
+        """H of the text in which each file's text stands as its H, at the stage that it has."""
+        return digest(self.text(digest))
+
+    def text(self, of_file: Callable[[bytes], bytes] = bytes) -> bytes:
+        """The text, or one that has something else of each file's text."""
         received = [word(sender) + hyper(seq) + at for sender, seq, at in sorted(self.received)]
         sent = [hyper(number) + word(message.to) + message.prev + message.body_hash
                 for number, message in sorted(self.sent.items())]
         head = word(STATE_VERSION, self.node, self.kind, *self.clock)
-        world = world_text(self.world) if self.kind == SERVER else b''
-        return digest(head + array(received) + array(sent) + word(0) + world)
+        world = world_text(self.world, of_file) if self.kind == SERVER else b''
+        return head + array(received) + array(sent) + self.stage() + world
+
+    def stage(self) -> bytes:
+        if self.heard is not None:
+            return word(1, self.heard.sender) + opaque(self.heard.body)
+        if self.owed is not None:
+            return word(2, self.owed.to) + opaque(self.owed.body)
+        return word(0)
 
 
 def opening_state(node: int, kind: int) -> State:
     return State(node, kind, World(Files(node)))
 
 
-def world_text(world: World) -> bytes:
-    """The rest of a server's text, in which each file's text stands as its digest."""
+def world_text(world: World, of_file: Callable[[bytes], bytes]) -> bytes:
+    """The rest of a server's text."""
     mounts = array([opaque(machine) + opaque(path) for machine, path in world.mounts])
-    files = [digest(file_text(number, file)) for number, file in sorted(world.files.files.items())]
+    files = [of_file(file_text(number, file)) for number, file in sorted(world.files.files.items())]
     return word(world.files.next_number) + mounts + array(files)
 
 

@@ -10,9 +10,9 @@ use Rattle.challenge.specs.evidence_spec.Proving.{Proves}
 use Rattle.challenge.specs.Cases.{case_text, case_value}
 use Rattle.challenge.specs.Findings.{Finds}
 use Rattle.challenge.specs.declared.case.Case.{Case}
-use Rattle.challenge.specs.declared.finding.Finding.{Finding}
 use Rattle.challenge.specs.declared.finding.Finding.TheVariants as finding
 use Rattle.explained_evidence.specs.explained_calls.Shown.{IsShown}
+use Rattle.explained_evidence.specs.Lacks.{IsLack, lacking}
 use Rattle.console.specs.declared.checking.Judgement.{Judgement}
 use Rattle.console.specs.declared.checking.Judgement.TheVariants.{Exposed, NoEvidence}
 use Rattle.console.specs.declared.checking.Reason.{Reason}
@@ -28,24 +28,20 @@ IsTrusted trusted roster = IfSome trusted (λ t. t ≡ roster)
 
 -- ---- what is said of a case
 
--- it is of the trusted roster, and its evidence is accepted, or not
+-- it is of the trusted roster, and its evidence is accepted, or not: then it lacks this first
 abbrev pub JudgesReason : Option (List Member) → Case → Reason → Type 0
 JudgesReason trusted c (reason.NoCase at) = ⊥
 JudgesReason trusted c reason.AnotherRoster = ¬ IsTrusted trusted c.roster
 JudgesReason trusted c (reason.NotAccepted why) =
     IsTrusted trusted c.roster × (¬ Accepts c.roster c.evidence)
-    × Finds c.roster c.evidence (finding.NotAccepted why)
+    × Finds c.roster c.evidence (finding.NotAccepted (lacking why))
+    × IsLack c.roster c.evidence why
 
 abbrev pub JudgesCase : Option (List Member) → Case → Judgement → Type 0
 JudgesCase trusted c (Exposed node) =
     IsTrusted trusted c.roster × (c.evidence.node ≡ node) × Accepts c.roster c.evidence
     × Proves c.roster c.evidence
 JudgesCase trusted c (NoEvidence why) = JudgesReason trusted c why
-
--- what a finding says of evidence against a node
-abbrev pub judgement_of : ℕ → Finding → Judgement
-judgement_of node (finding.NotAccepted why) = NoEvidence (reason.NotAccepted why)
-judgement_of node _ = Exposed node
 
 -- ---- what is said of bytes
 

@@ -6,18 +6,17 @@ ghost use Rattle.rpc.specs.Records.Count.{Rises};
 ghost use Rattle.console.specs.Checking.{IsRead, IsTold, IsTrusted, Judges, JudgesCase, TellsPart};
 ghost use Rattle.std.specs.Prelude.{[], None};
 ghost use Rattle.console.specs.declared.checking.Format.TheVariants as Format;
-ghost use Rattle.console.specs.Checking.{IsNoCase, WritesTold, judgement_of, line_form, words_of};
+ghost use Rattle.console.specs.Checking.{IsNoCase, WritesTold, line_form, words_of};
 ghost use Rattle.console.specs.Contents.{IsContents};
 ghost use Rattle.console.specs.declared.fault.CheckFault.TheVariants.{NoMemory, Write};
 
 use crate::fault::CheckFault;
 use crate::input::{Contents, read_contents};
 use authenticator::Roster;
-use challenge::{
-    Case, EvidenceFault, Finding, NotAccepted, accepted_evidence_proves, examine, read_case,
-};
+use challenge::{Case, EvidenceFault, Finding, accepted_evidence_proves, examine, read_case};
 use explained_evidence::{
-    Facts, File, Text, VERSION, case_facts, first_undecodable, no_case_facts, rejected_facts,
+    CLEARS_NOBODY, Detail, Facts, File, Lack, Text, VERSION, case_facts, first_undecodable,
+    lack_of, no_case_facts, rejected_facts,
 };
 use rpc::records::{Counting, write_bytes};
 use std::alloc::{AllocError, Global};
@@ -42,7 +41,7 @@ pub enum Reason {
     /// Its roster isn't the one that is trusted.
     AnotherRoster,
     /// The evidence isn't accepted under its roster.
-    NotAccepted(NotAccepted),
+    NotAccepted(Lack),
 }
 
 /// How a judgement is told.
@@ -66,16 +65,6 @@ fn is_trusted(trusted: Option<&Roster>, roster: &Roster) -> bool
     }
 }
 
-/// What a finding says of evidence against a node.
-fn judgement_of(node: u32, finding: &Finding) -> Judgement
-    ensures { result ≡ judgement_of node finding.now }
-{
-    match finding {
-        Finding::NotAccepted(reason) => Judgement::NoEvidence(Reason::NotAccepted(*reason)),
-        _ => Judgement::Exposed(node),
-    }
-}
-
 /// What is found in a case whose roster is trusted, and what that says.
 fn found(alloc: Global, case: &Case) -> Result<(Judgement, Finding), AllocError>
     ensures { IfOk result (λ x. JudgesCase None case.now x.0) }
@@ -83,8 +72,14 @@ fn found(alloc: Global, case: &Case) -> Result<(Judgement, Finding), AllocError>
     accepted_evidence_proves();
     case.evidence.has_text();
     let finding = examine(alloc, &case.roster, &case.evidence)?;
-    let judgement = judgement_of(case.evidence.node(), &finding);
-    Ok((judgement, finding))
+    match finding {
+        Finding::NotAccepted(why) => {
+            let lack = lack_of(&case.roster, &case.evidence, why);
+            let judgement = Judgement::NoEvidence(Reason::NotAccepted(lack));
+            Ok((judgement, finding))
+        }
+        _ => Ok((Judgement::Exposed(case.evidence.node()), finding)),
+    }
 }
 
 /// What is said of a file's bytes, which are given back to memory while they are read: `Exposed` exactly
@@ -124,6 +119,7 @@ fn judge_case(alloc: Global, trusted: Option<&Roster>, case: &Case) -> Result<Ju
 fn explain(
     alloc: Global,
     trusted: Option<&Roster>,
+    detail: Detail,
     bytes: Vec<u8>,
 ) -> Result<(Judgement, Facts), AllocError>
     ensures { IfOk result (λ x. Judges (option_map (λ r. r.now) trusted.entry) bytes.items x.0) }
@@ -131,7 +127,7 @@ fn explain(
     let file = File::new(&bytes);
     let at = first_undecodable(&bytes).unwrap_or(bytes.len());
     match read_case(alloc, bytes) {
-        Ok(case) => explain_case(alloc, trusted, &file, &case),
+        Ok(case) => explain_case(alloc, trusted, detail, &file, &case),
         Err(EvidenceFault::Garbage) => {
             let facts = no_case_facts(alloc, &file, at);
             Ok((Judgement::NoEvidence(Reason::NoCase(at)), facts))
@@ -144,6 +140,7 @@ fn explain(
 fn explain_case(
     alloc: Global,
     trusted: Option<&Roster>,
+    detail: Detail,
     file: &File,
     case: &Case,
 ) -> Result<(Judgement, Facts), AllocError>
@@ -151,12 +148,12 @@ fn explain_case(
 {
     match trusted {
         Some(trusted) if !trusted.is_same(&case.roster) => {
-            let facts = rejected_facts(alloc, file, case, trusted);
+            let facts = rejected_facts(alloc, file, case, trusted, detail);
             Ok((Judgement::NoEvidence(Reason::AnotherRoster), facts))
         }
         _ => {
             let (judgement, finding) = found(alloc, case)?;
-            let facts = case_facts(alloc, file, case, finding);
+            let facts = case_facts(alloc, file, case, trusted, detail, finding);
             Ok((judgement, facts))
         }
     }
@@ -211,6 +208,7 @@ fn told_of_whole(
     alloc: Global,
     trusted: Option<&Roster>,
     format: Format,
+    detail: Detail,
     bytes: Vec<u8>,
 ) -> Result<(Judgement, Vec<u8>), AllocError>
     ensures { IfOk result (λ x. Judges (option_map (λ r. r.now) trusted.entry) bytes.items x.0
@@ -222,12 +220,12 @@ fn told_of_whole(
             Ok((judgement, line(alloc, judgement)?))
         }
         Format::Lines => {
-            let (judgement, facts) = explain(alloc, trusted, bytes)?;
+            let (judgement, facts) = explain(alloc, trusted, detail, bytes)?;
             let more = facts.lines()?;
             Ok((judgement, lines(alloc, judgement, &more)?))
         }
         Format::Json => {
-            let (judgement, facts) = explain(alloc, trusted, bytes)?;
+            let (judgement, facts) = explain(alloc, trusted, detail, bytes)?;
             let more = facts.members()?;
             Ok((judgement, json(alloc, judgement, &more)?))
         }
@@ -246,6 +244,7 @@ fn front_facts(alloc: Global, at: usize) -> Facts {
     facts.text("program", program);
     facts.words("reason", "the file is not a roster with evidence after it");
     facts.number("first byte that does not decode", at as u64);
+    facts.words("note", CLEARS_NOBODY);
     facts
 }
 
@@ -277,6 +276,7 @@ fn told(
     alloc: Global,
     trusted: Option<&Roster>,
     format: Format,
+    detail: Detail,
     contents: Contents,
 ) -> Result<(Judgement, Vec<u8>), AllocError>
     ensures judged { (input : List ℕ) → IsContents contents input →
@@ -284,7 +284,7 @@ fn told(
     ensures told { IfOk result (λ x. IsTold format x.0 x.1.items) }
 {
     match contents {
-        Contents::Whole(bytes) => told_of_whole(alloc, trusted, format, bytes),
+        Contents::Whole(bytes) => told_of_whole(alloc, trusted, format, detail, bytes),
         Contents::Front(front) => told_of_front(alloc, format, &front),
     }
 }
@@ -292,7 +292,8 @@ fn told(
 /// Reads a file to its end, or up to where no evidence can have so many bytes or such first words, judges its
 /// bytes under the roster that is trusted, if one is, and writes in a format what is said of it: the line
 /// `exposed N`, with the node's number, or `no evidence`; after that line what the file shows, in plain
-/// words; or one JSON object with both, the line's words first as `verdict`. `Read` comes where a read
+/// words, and what else is asked of its log; or one JSON object with both, the line's words first as
+/// `verdict`. `Read` comes where a read
 /// failed, and then the reader's count rose and nothing was written; `Write` where a write failed: then a
 /// part of that text was written, and the writer's count rose. `NoMemory` comes where memory was refused, and
 /// then nothing was written.
@@ -300,6 +301,7 @@ pub fn check<R: Read, W: Write>(
     alloc: Global,
     trusted: Option<&Roster>,
     format: Format,
+    detail: Detail,
     reader: &mut Counting<R>,
     writer: &mut Counting<W>,
 ) -> Result<Judgement, CheckFault>
@@ -319,7 +321,7 @@ pub fn check<R: Read, W: Write>(
         × Rises writer.old.count writer.new.count × (reader.new.count ≡ reader.old.count) }
 {
     let contents = read_contents(alloc, reader)?;
-    let (judgement, text) = told(alloc, trusted, format, contents)?;
+    let (judgement, text) = told(alloc, trusted, format, detail, contents)?;
     match write_bytes(writer, &text) {
         Ok(()) => Ok(judgement),
         Err(_) => Err(CheckFault::Write),

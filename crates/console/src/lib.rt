@@ -9,5 +9,6 @@ mod rosters;
 
 pub use authenticator::Roster;
 pub use checking::{Format, Judgement, Reason, check, judge};
+pub use explained_evidence::{Detail, Lack};
 pub use fault::CheckFault;
 pub use rosters::{read_roster, write_roster};

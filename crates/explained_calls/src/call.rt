@@ -10,8 +10,8 @@ use rpc::{CallBody, Header, OpaqueAuth, read_call};
 /// AUTH_SYS (RFC 5531, section 8.2).
 const AUTH_SYS: u32 = 1;
 
-/// Adds what a call to a server says: its number, the credential, the procedure and what it is asked of. The
-/// bytes are a call's (RFC 5531, section 9); what doesn't decode is told as such, with its bytes.
+/// Adds what a call to a server says: its number, the credential, the verifier, the procedure and what it is
+/// asked of. The bytes are a call's (RFC 5531, section 9); what doesn't decode is told as such.
 pub fn add_call(facts: &mut Facts, server: u32, bytes: &[u8]) {
     match read_call(bytes) {
         Ok(call) => {
@@ -21,16 +21,14 @@ pub fn add_call(facts: &mut Facts, server: u32, bytes: &[u8]) {
                 CallBody::OtherVersion => facts.words("call", "of another RPC version than 2"),
             }
         }
-        Err(_) => {
-            facts.words("call", "none: its header does not decode");
-            facts.hex("bytes", bytes);
-        }
+        Err(_) => facts.words("call", "none: its header does not decode"),
     }
 }
 
 /// Adds what a header and the arguments after it say.
 fn add_header(facts: &mut Facts, server: u32, header: &Header<'_>, arguments: &[u8]) {
     add_credential(facts, &header.credential);
+    add_verifier(facts, &header.verifier);
     facts.named("program", &PROGRAMS, header.program);
     facts.number("version", u64::from(header.version));
     match procedure_of(header.program, header.version, header.procedure) {
@@ -54,10 +52,21 @@ fn add_credential(facts: &mut Facts, credential: &OpaqueAuth<'_>) {
     facts.end();
 }
 
-/// Adds the caller that AUTH_SYS names (RFC 5531, appendix A).
+/// Adds a verifier, which no reply depends on.
+fn add_verifier(facts: &mut Facts, verifier: &OpaqueAuth<'_>) {
+    facts.named("verifier", &FLAVORS, verifier.flavor);
+    if !verifier.body.is_empty() {
+        facts.hex("verifier's body", verifier.body);
+    }
+}
+
+/// Adds the caller that AUTH_SYS names (RFC 5531, appendix A), after the stamp that it chose.
 fn add_caller(facts: &mut Facts, body: &[u8]) {
     match read_credential(body) {
         Some(who) => {
+            if let Ok(stamp) = Reader::new(body).u32() {
+                facts.number("stamp", u64::from(stamp));
+            }
             if let Some(name) = who.machine_name {
                 facts.quoted("machine", name);
             }

@@ -69,8 +69,11 @@ impl Draft {
         self.digits(&digits);
     }
 
-    /// Appends an octal number.
+    /// Appends a number in octal digits after a 0, and says that they are.
     pub(crate) fn octal(&mut self, number: u32) {
+        if number != 0 {
+            self.put(b'0');
+        }
         let mut digits = [b'0'; 11];
         let mut rest = number;
         for at in (0..11).rev() {
@@ -78,6 +81,7 @@ impl Draft {
             rest /= 8;
         }
         self.digits(&digits);
+        self.words(" (octal)");
     }
 
     /// Appends digits without the zeros before the first other one; `0` where there is none.

@@ -11,6 +11,8 @@ enum Fact {
     Text(&'static str, Text),
     /// A number under a name.
     Number(&'static str, u64),
+    /// Nothing under a name, and the words that say so.
+    Absent(&'static str, &'static str),
     /// Facts under a name, up to their `End`.
     Group(&'static str),
     /// Items under a name, up to `ListEnd`.
@@ -88,6 +90,20 @@ impl Facts {
         self.add(Fact::Number(name, number));
     }
 
+    /// Adds a number of 64 bits, as a place in a log has it. It is a text: not every reader of JSON keeps all
+    /// digits of such a number.
+    pub fn place(&mut self, name: &'static str, number: u64) {
+        let mut draft = self.draft();
+        draft.number(number);
+        self.text(name, draft);
+    }
+
+    /// Adds that there is nothing under a name where there may be something, in the program's own words; as
+    /// JSON it is null.
+    pub fn absent(&mut self, name: &'static str, words: &'static str) {
+        self.add(Fact::Absent(name, words));
+    }
+
     /// Adds words of the program's own under a name.
     pub fn words(&mut self, name: &'static str, words: &str) {
         let mut draft = self.draft();
@@ -102,8 +118,8 @@ impl Facts {
         self.text(name, draft);
     }
 
-    /// Adds an octal number.
-    pub(crate) fn octal(&mut self, name: &'static str, number: u32) {
+    /// Adds a mode in octal digits, and says so.
+    pub fn octal(&mut self, name: &'static str, number: u32) {
         let mut draft = self.draft();
         draft.octal(number);
         self.text(name, draft);
@@ -215,6 +231,12 @@ impl Lines {
                 self.draft.number(*number);
                 self.draft.end_line();
             }
+            Fact::Absent(name, words) => {
+                self.name(name);
+                self.draft.words(" ");
+                self.draft.words(words);
+                self.draft.end_line();
+            }
             Fact::Group(name) | Fact::List(name) => {
                 self.name(name);
                 self.draft.end_line();
@@ -260,6 +282,10 @@ impl Members {
             Fact::Number(name, number) => {
                 self.name(name);
                 self.draft.number(*number);
+            }
+            Fact::Absent(name, _) => {
+                self.name(name);
+                self.draft.words("null");
             }
             Fact::Group(name) => {
                 self.name(name);

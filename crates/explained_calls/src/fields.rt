@@ -40,6 +40,9 @@ const NOT_GIVEN: u32 = u32::MAX;
 /// A mode that gives nothing, as some clients write it.
 const NO_MODE: u32 = 0xffff;
 
+/// The words for that.
+const ABSENT: &str = "not given";
+
 /// Attributes (section 2.3.5).
 pub(crate) static ATTRIBUTES: [Field; 14] = [
     Field {
@@ -155,11 +158,9 @@ fn add_field(
 fn add_word(facts: &mut Facts, field: &Field, word: u32) {
     match field.form {
         Form::Named(table) => facts.named(field.name, table, word),
-        Form::Given | Form::GivenMode if word == NOT_GIVEN => facts.words(field.name, "not given"),
-        Form::GivenMode if word == NO_MODE => facts.words(field.name, "not given"),
+        Form::Given | Form::GivenMode if word == NOT_GIVEN => facts.absent(field.name, ABSENT),
+        Form::GivenMode if word == NO_MODE => facts.absent(field.name, ABSENT),
         Form::Mode | Form::GivenMode => facts.octal(field.name, word),
-        // A text, as what stands in its place where none is given.
-        Form::Given => facts.named(field.name, &[], word),
         _ => facts.number(field.name, u64::from(word)),
     }
 }
@@ -169,7 +170,7 @@ fn add_time(facts: &mut Facts, field: &Field, time: u64) {
     let seconds = (time >> 32) as u32;
     let microseconds = (time & 0xffff_ffff) as u32;
     match field.form {
-        Form::GivenTime if seconds == NOT_GIVEN => facts.words(field.name, "not given"),
+        Form::GivenTime if seconds == NOT_GIVEN => facts.absent(field.name, ABSENT),
         Form::GivenTime if microseconds > 999_999 => {
             facts.words(field.name, "the time of the call");
         }

@@ -3,7 +3,7 @@
 ghost use Rattle.std.specs.Prelude.{◌≤◌, length};
 ghost use Rattle.challenge.specs.evidence_spec.Evidence.{MAX_AUDITED};
 
-use crate::entry::{Log, call_before, kind_name, reply_group};
+use crate::entry::{Log, add_signed_digest, add_verdict, call_before, kind_name, reply_group};
 use crate::roster::node_fact;
 use challenge::{Outcome, ReplayFault, opening_state, replay_outcome};
 use checkpoint::{Machine, SentMessage, Stage, State, state_digest};
@@ -16,20 +16,30 @@ use std::alloc::{AllocError, Global};
 pub(crate) fn add_comparison(facts: &mut Facts, log: &Log<'_>, fault: ReplayFault, at: usize)
     requires { length log.now.entries.now ≤ MAX_AUDITED }
 {
-    match outcome_before(facts.alloc(), log, at) {
-        Ok(Outcome::Sound(state)) => compare(facts, log, fault, at, &state),
-        Ok(Outcome::Fault(..)) => {}
+    match state_before(facts.alloc(), log, at) {
+        Ok(Some(state)) => compare(facts, log, fault, at, &state),
+        Ok(None) => {}
         Err(AllocError) => facts.refuse(),
     }
 }
 
-/// Where the entries before a place end, which have no fault: in the state before that place.
-fn outcome_before(alloc: Global, log: &Log<'_>, at: usize) -> Result<Outcome, AllocError>
+/// The state before a place of a member's log, if the entries before it have no fault.
+pub(crate) fn state_before(
+    alloc: Global,
+    log: &Log<'_>,
+    at: usize,
+) -> Result<Option<State>, AllocError>
     requires { length log.now.entries.now ≤ MAX_AUDITED }
 {
+    let Some(member) = log.member else {
+        return Ok(None);
+    };
     let entries = &log.entries[..at.min(log.entries.len())];
-    let start = opening_state(alloc, &log.member)?;
-    replay_outcome(alloc, log.roster, start, Number::new(1), &[0; 32], entries)
+    let start = opening_state(alloc, &member)?;
+    match replay_outcome(alloc, log.roster, start, Number::new(1), &[0; 32], entries)? {
+        Outcome::Sound(state) => Ok(Some(state)),
+        Outcome::Fault(..) => Ok(None),
+    }
 }
 
 /// Adds what was owed after a state, and what the entry there gives.
@@ -102,7 +112,7 @@ fn compare_senders(facts: &mut Facts, log: &Log<'_>, entry: &Entry) {
     let Entry::Recv { from, .. } = entry else {
         return;
     };
-    let given = if *from == log.member.node {
+    let given = if *from == log.node {
         "a message whose sender is the node itself"
     } else if log.roster.member(*from).is_none() {
         "a message whose sender is no member of the roster"
@@ -133,27 +143,55 @@ fn compare_receipts(facts: &mut Facts, log: &Log<'_>, state: &State, entry: &Ent
     }
 }
 
-/// Adds where a message went, and the hash that its receiver owes a signature of.
+/// Adds where a message went, the hash that its receiver owes a signature of, and whether the signature that
+/// is given verifies for it.
 fn add_receipt(facts: &mut Facts, log: &Log<'_>, sent: &SentMessage, entry: &Entry) {
-    node_fact(facts, "message went to", log.roster, sent.to());
     let Entry::Ack {
+        to,
         seq,
         mine,
         number,
         prev,
-        ..
+        signature,
     } = entry
     else {
         return;
     };
+    node_fact(facts, "message went to", log.roster, sent.to());
+    facts.hex("hash before its SEND", sent.prev());
+    facts.hex("digest of its body", sent.body_hash());
     let receipt = Receipt {
-        from: log.member.node,
+        from: log.node,
         seq: *seq,
         sender_prev: *sent.prev(),
         body: *sent.body_hash(),
         signature: *mine,
     };
-    facts.hex("hash there", &receipt_hash(&receipt, *number, prev));
+    let hash = receipt_hash(&receipt, *number, prev);
+    add_receipt_hash(facts, log.node, *seq, *number, &hash);
+    add_signed_digest(facts, *to, *number, &hash, "hash there");
+    add_verdict(
+        facts,
+        log.roster,
+        *to,
+        *number,
+        &hash,
+        signature.signature(),
+    );
+}
+
+/// Adds the hash after a RECV in its receiver's log, and what it is made of.
+fn add_receipt_hash(facts: &mut Facts, from: u32, seq: Number, number: Number, hash: &[u8; 32]) {
+    facts.hex("hash there", hash);
+    let mut draft = facts.draft();
+    draft.words("SHA-256(hash before it there | ");
+    draft.hex(&number.get().to_be_bytes());
+    draft.words(" | 00000002 | SHA-256(");
+    draft.hex(&from.to_be_bytes());
+    draft.words(" | ");
+    draft.hex(&seq.get().to_be_bytes());
+    draft.words(" | hash before its SEND | digest of its body | digest of its signature))");
+    facts.text("hash there is", draft);
 }
 
 /// Adds the reply that was owed and what was given, and the first byte that differs.
@@ -162,9 +200,19 @@ fn compare_replies(facts: &mut Facts, log: &Log<'_>, at: usize, state: &State, e
     match state.machine() {
         Machine::Server(_, Stage::Owes { to, body }) => {
             node_fact(facts, "owed to", log.roster, *to);
-            reply_group(facts, "owed", log.member.node, call, body.bytes());
+            reply_group(facts, "owed", log.node, call, body.bytes());
             add_given(facts, log, call, entry);
-            if let Entry::Send { body: given, .. } = entry {
+            if let Entry::Send {
+                to: receiver,
+                body: given,
+            } = entry
+            {
+                if receiver != to {
+                    facts.words(
+                        "difference",
+                        "it went to another node than the one that it is owed to",
+                    );
+                }
                 add_difference(facts, body.bytes(), given.bytes());
             }
         }
@@ -180,7 +228,7 @@ fn add_given(facts: &mut Facts, log: &Log<'_>, call: &[u8], entry: &Entry) {
     match entry {
         Entry::Send { to, body } => {
             node_fact(facts, "given to", log.roster, *to);
-            reply_group(facts, "given", log.member.node, call, body.bytes());
+            reply_group(facts, "given", log.node, call, body.bytes());
         }
         _ => facts.words("given", kind_name(entry.kind())),
     }

@@ -159,7 +159,7 @@ impl<'a> Passing<'a> {
             1 => self.send(),
             2 => self.recv(),
             3 => self.ack(),
-            4 => self.number(0, u64::MAX),
+            4 => self.clock(),
             5 => self.fixed::<32>(),
             _ => {}
         }
@@ -176,6 +176,11 @@ impl<'a> Passing<'a> {
         self.fixed::<32>();
         self.body();
         self.signature();
+    }
+
+    fn clock(&mut self) {
+        self.word(0, u32::MAX);
+        self.word(0, u32::MAX);
     }
 
     fn ack(&mut self) {

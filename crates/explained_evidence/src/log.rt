@@ -46,7 +46,7 @@ pub(crate) fn add_fault(facts: &mut Facts, log: &Log<'_>, fault: ReplayFault, nu
     facts.number("fault", u64::from(fault.number()));
     facts.words("name", fault_name(fault));
     facts.words("meaning", fault_words(fault));
-    facts.number("entry", number);
+    facts.place("entry", number);
     facts.end();
     if let Some(at) = place_of(number, log.entries) {
         add_concerned(facts, log, fault, at);
@@ -156,7 +156,10 @@ fn is_same_message(one: &Entry, other: &Entry) -> bool {
 /// Adds what the verdict rests on.
 pub(crate) fn add_premises(facts: &mut Facts, rules: &str) {
     facts.list("rests on");
-    add_premise(facts, "the keys of the roster are those of its nodes");
+    add_premise(
+        facts,
+        "the roster is the service's own: all of its members, each with its own number, kind, height and key",
+    );
     add_premise(
         facts,
         "nobody forged a signature that the file shows: none verifies for a number and a hash that the node did not sign",
@@ -167,6 +170,10 @@ pub(crate) fn add_premises(facts: &mut Facts, rules: &str) {
     );
     add_premise(facts, rules);
     facts.end();
+    facts.words(
+        "note",
+        "a signature has no date: nothing here says when the node signed",
+    );
 }
 
 fn add_premise(facts: &mut Facts, premise: &str) {

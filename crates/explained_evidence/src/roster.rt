@@ -25,7 +25,7 @@ pub(crate) fn add_roster(facts: &mut Facts, roster: &Roster) {
     facts.group("roster");
     facts.words(
         "advice",
-        "to be compared, member by member, with the keys that one holds",
+        "to be compared as a whole with the service's own roster: by its sha256, or by the count of its members and each one's number, kind, height and key",
     );
     add_members(facts, roster);
     facts.end();
@@ -42,6 +42,7 @@ pub(crate) fn add_digest(facts: &mut Facts, name: &'static str, roster: &Roster)
 /// Adds a roster's digest and its members.
 fn add_members(facts: &mut Facts, roster: &Roster) {
     add_digest(facts, "sha256", roster);
+    facts.number("count", roster.members().len() as u64);
     facts.list("members");
     for member in roster.members() {
         add_member(facts, member);

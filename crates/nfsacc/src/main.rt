@@ -3,14 +3,15 @@
 
 mod devices;
 mod errors;
+mod evidence;
 mod master;
 mod serve;
 mod shelf;
 mod words;
 
-use console::command_line::{CheckRequest, Request, RunRequest, ServeRefusal, parse, serve_order};
-use console::{CheckFault, Format, Judgement, Reason, Roster, check, read_roster, write_roster};
+use console::command_line::{Request, RunRequest, ServeRefusal, parse, serve_order};
 use devices::{Devices, Remembering};
+use evidence::{check_file, show_roster};
 use rpc::records::{Counting, RecordFault, RecordReader};
 use rpc_streams::run_rpc;
 use scripts::{ScriptEnd, ScriptFault, run_script, serve};
@@ -38,8 +39,11 @@ const NO_MEMORY: u8 = 3;
 /// A read or a write failed.
 pub(crate) const DEVICE: u8 = 4;
 
+/// How a command line names standard input where it takes a file to read.
+pub(crate) const DASH: &str = "-";
+
 /// How lines on standard error name the devices that have no name of their own.
-const STANDARD_INPUT: &str = "standard input";
+pub(crate) const STANDARD_INPUT: &str = "standard input";
 
 const STANDARD_OUTPUT: &str = "standard output";
 
@@ -77,113 +81,12 @@ fn report_fault(rt: &impl Eprint, fault: RecordFault) -> u8 {
     }
 }
 
-/// Says on standard output whether a file is evidence, and gives the status for it.
-fn check_file<R: Files + Print + Eprint + AllocGlobal>(rt: &R, request: CheckRequest<'_>) -> u8 {
-    match request.roster {
-        Some(name) => match roster_of(rt, name) {
-            Ok(trusted) => check_under(rt, request, Some(&trusted)),
-            Err(status) => status,
-        },
-        None => check_under(rt, request, None),
-    }
-}
-
-/// The same under the roster that is trusted, if one is.
-fn check_under<R: Files + Print + Eprint + AllocGlobal>(
-    rt: &R,
-    request: CheckRequest<'_>,
-    trusted: Option<&Roster>,
-) -> u8 {
-    let mut file = match fs::open(rt, request.file) {
-        Ok(file) => Counting::new(file),
-        Err(error) => return report_file(rt, request.file, &error),
-    };
-    let format = if request.json {
-        Format::Json
-    } else if request.explain {
-        Format::Lines
-    } else {
-        Format::Line
-    };
-    let mut writer = Counting::new(Remembering::new(io::writer(rt)));
-    match check(rt.alloc(), trusted, format, &mut file, &mut writer) {
-        Ok(Judgement::Exposed(_)) => 0,
-        Ok(Judgement::NoEvidence(reason)) => {
-            if format == Format::Line {
-                report_reason(rt, request.file, reason);
-            }
-            INPUT_FAULT
-        }
-        Err(CheckFault::Write) => report_output(rt, writer.get_ref().last()),
-        Err(fault) => report_check(rt, request.file, fault),
-    }
-}
-
-/// Says on standard error why a file is no evidence.
-fn report_reason(rt: &impl Eprint, name: &str, reason: Reason) {
-    let name = ShownName::new(name);
-    let _ = match reason {
-        Reason::NoCase(at) => eprintln!(rt;
-            "nfsacc: {name}: not a roster with evidence after it: the item at byte {at} does not decode"
-        ),
-        Reason::AnotherRoster => {
-            eprintln!(rt; "nfsacc: {name}: its roster is not the one that is trusted")
-        }
-        Reason::NotAccepted(why) => {
-            eprintln!(rt; "nfsacc: {name}: the evidence is not accepted: {why}")
-        }
-    };
-}
-
-/// Says on standard output who is in the roster of a file, and gives the status for it.
-fn show_roster<R: Files + Print + Eprint + AllocGlobal>(rt: &R, name: &str) -> u8 {
-    match roster_of(rt, name) {
-        Ok(roster) => {
-            let mut writer = Counting::new(Remembering::new(io::writer(rt)));
-            match write_roster(rt.alloc(), &roster, &mut writer) {
-                Ok(()) => 0,
-                Err(CheckFault::Write) => report_output(rt, writer.get_ref().last()),
-                Err(fault) => report_check(rt, name, fault),
-            }
-        }
-        Err(status) => status,
-    }
-}
-
-/// The roster in a file, or the status where it has none.
-fn roster_of<R: Files + Eprint + AllocGlobal>(rt: &R, name: &str) -> Result<Roster, u8> {
-    let mut file = match fs::open(rt, name) {
-        Ok(file) => Counting::new(file),
-        Err(error) => return Err(report_file(rt, name, &error)),
-    };
-    match read_roster(rt.alloc(), &mut file) {
-        Ok(Some(roster)) => Ok(roster),
-        Ok(None) => {
-            let shown = ShownName::new(name);
-            let _ = eprintln!(rt;
-                "nfsacc: {shown}: neither a roster nor one with evidence after it"
-            );
-            Err(INPUT_FAULT)
-        }
-        Err(fault) => Err(report_check(rt, name, fault)),
-    }
-}
-
-/// Says on standard error why nothing is said of a file, and gives the status for it.
-fn report_check(rt: &impl Eprint, name: &str, fault: CheckFault) -> u8 {
-    match fault {
-        CheckFault::NoMemory => report_no_memory(rt),
-        CheckFault::Read(error) => report_file(rt, name, &error),
-        CheckFault::Write => report_output(rt, None),
-    }
-}
-
 /// Runs the script in a file, or the one on standard input.
 fn run_file<R>(rt: &R, request: RunRequest<'_>) -> u8
 where
     R: Files + Input + Print + Eprint + AllocGlobal + Threads + Wait + Sync,
 {
-    if request.file == "-" {
+    if request.file == DASH {
         return match BufReader::with_capacity(rt.alloc(), READ_AHEAD, rt.reader()) {
             Ok(reader) => run_lines(rt, reader, STANDARD_INPUT, request),
             Err(_) => report_no_memory(rt),

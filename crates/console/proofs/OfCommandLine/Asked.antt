@@ -15,7 +15,8 @@ use Rattle.clap.specs.declared.error.Error.{Error}
 use Rattle.clap.specs.declared.error.kind.ErrorKind.TheVariants.{OutOfMemory}
 use Rattle.clap.specs.declared.parser.matches.ArgMatches.{ArgMatches}
 use Rattle.clap.proofs.OnLiterals.{clap_on_literals}
-use Rattle.console.specs.CommandLine.CommandLine.{Check, Roster, Rpc, Run, asked_in, asked_of, asked_without, commands}
+use Rattle.console.specs.CommandLine.CommandLine.{Check, CheckAsked, Roster, Rpc, Run, asked_in, asked_of, asked_without}
+use Rattle.console.specs.CommandLine.CommandLine.{check_of, commands}
 use Rattle.console.specs.CommandLine.CommandLine.{is_flag_text, is_set, is_told}
 use Rattle.console.specs.declared.command_line.request.Request.{Request}
 use Rattle.console.proofs.OfCommandLine.Taken.{entered_is, flag_is, is_plain_app, name_is_one, value_is}
@@ -123,28 +124,46 @@ some_of : {A : Type 0} (g : Text → A) (o : Option Text) → is_some o ≡ true
 some_of g None e = cc
 some_of g (Some t) e = refl
 
--- `check` asks for the file, the two flags and the roster's file that its matches hold
-pub check_is : (words : List Text) (rows : List Row) (file : Text) (explain json : Bool)
-    (roster : Option Text) → fault_of commands words ≡ []
+-- the words are those that the matches of `check` hold
+pub record IsCheckAsked (rows : List Row) (a : CheckAsked) : Type 0 where
+  -- the file
+  pub file : a.file ≡ unwrap_or (first_of (codes "file") rows) []
+  -- whether what it shows is asked for, where the matches tell it
+  pub explain : is_told (codes "explain") rows ≡ true → a.explain ≡ is_set (codes "explain") rows
+  -- whether all entries are, where the matches tell it
+  pub entries : is_told (codes "entries") rows ≡ true → a.entries ≡ is_set (codes "entries") rows
+  -- the number of the entry before which the state is shown, if one is given
+  pub state : a.state ≡ first_of (codes "state") rows
+  -- whether JSON is asked for, where the matches tell it
+  pub json : is_told (codes "json") rows ≡ true → a.json ≡ is_set (codes "json") rows
+  -- the file with the roster that is trusted, if one is given
+  pub roster : a.roster ≡ first_of (codes "roster") rows
+
+-- `check` asks for what its matches hold
+pub check_is : (words : List Text) (rows : List Row) (a : CheckAsked) → fault_of commands words ≡ []
     → subcommand_of commands words ≡ Some (codes "check", rows)
-    → file ≡ unwrap_or (first_of (codes "file") rows) []
-    → (is_told (codes "explain") rows ≡ true → explain ≡ is_set (codes "explain") rows)
-    → (is_told (codes "json") rows ≡ true → json ≡ is_set (codes "json") rows)
-    → roster ≡ first_of (codes "roster") rows
-    → asked_in words ≡ Some (Check (record { file = file; explain = explain; json = json; roster = roster }))
-check_is words rows file explain json roster none is file_is explain_is json_is roster_is =
+    → IsCheckAsked rows a → asked_in words ≡ Some (Check a)
+check_is words rows a none is asks =
+    let explain = asks.explain (flag_is commands words are_plain none (codes "check")
+    (codes "explain") rows refl is) in
+    let entries = asks.entries (flag_is commands words are_plain none (codes "check")
+    (codes "entries") rows refl is) in
+    let json = asks.json (flag_is commands words are_plain none (codes "check") (codes "json") rows refl is) in
     asked_is words (codes "check") rows none is
     ∙ some_of _ _ (value_is commands words are_plain none (codes "check") (codes "file") rows refl is)
-    ∙ ap₂ (λ f (o : Bool × (Bool × Option Text)). Some
-    (Check (record { file = f; explain = o.0; json = o.1.0; roster = o.1.1 }))) (sym file_is)
-    (
-    ap₂ (λ (b : Bool) (o : Bool × Option Text). (b, o))
-    (sym (explain_is (flag_is commands words are_plain none (codes "check")
-    (codes "explain") rows refl is)))
-    (ap₂ (λ (b : Bool) (r : Option Text). (b, r))
-    (sym (json_is (flag_is commands words are_plain none (codes "check") (codes "json") rows refl is)))
-    (sym roster_is))
-    )
+    ∙ ap (λ (x : CheckAsked). Some (Check x)) (same explain entries json)
+  where
+    same : a.explain ≡ is_set (codes "explain") rows → a.entries ≡ is_set (codes "entries") rows
+        → a.json ≡ is_set (codes "json") rows
+        → check_of rows (unwrap_or (first_of (codes "file") rows) []) ≡ a
+    same explain entries json = rw (
+      sym asks.file,
+      sym explain,
+      sym entries,
+      sym asks.state,
+      sym json,
+      sym asks.roster,
+    ) refl
 
 -- `roster` asks for the file that its matches hold
 pub roster_is : (words : List Text) (rows : List Row) (file : Text) → fault_of commands words ≡ []

@@ -43,10 +43,15 @@ file_argument = record (new_rule (codes "file")) { value_names = 1; required = t
 abbrev pub file_option : Text → Rule
 file_option name = record (new_rule name) { long = Some name; value_names = 1 }
 
--- `check`, with the options `--explain`, `--json` and `--roster` and a file
+-- an option with a number, given as `--` and its own name
+abbrev pub number_option : Text → Rule
+number_option name = record (new_rule name) { long = Some name; value_names = 1 }
+
+-- `check`, with the options `--explain`, `--entries`, `--state`, `--json` and `--roster` and a file
 abbrev pub check_command : App
 check_command =
-    with_rule (with_rule (with_rule (with_rule (new_app (codes "check")) (flag (codes "explain")))
+    with_rule (with_rule (with_rule (with_rule (with_rule (with_rule (new_app (codes "check"))
+    (flag (codes "explain"))) (flag (codes "entries"))) (number_option (codes "state")))
     (flag (codes "json"))) (file_option (codes "roster"))) file_argument
 
 -- `roster`, with a file
@@ -66,11 +71,14 @@ commands =
 
 -- ---- what is asked for
 
--- what `check` is asked: a file's name, whether what the file shows is asked for, too, whether one JSON
--- object with both is, and the name of the file with the roster that is trusted
+-- what `check` is asked: a file's name, whether what the file shows is asked for, too, whether all entries
+-- of the log are, before which of them the state is, whether one JSON object with all that is, and the name
+-- of the file with the roster that is trusted
 pub record CheckAsked : Type 0 where
   pub file : Text
   pub explain : Bool
+  pub entries : Bool
+  pub state : Option Text
   pub json : Bool
   pub roster : Option Text
 
@@ -96,6 +104,8 @@ asked_by (requests.Check r) =
     Check (record {
       file = r.file.now;
       explain = r.explain;
+      entries = r.entries;
+      state = option_map (λ s. s.now) r.state;
       json = r.json;
       roster = option_map (λ s. s.now) r.roster;
     })
@@ -130,15 +140,20 @@ is_flag_text text = bytes_eq (codes "true") text || bytes_eq (codes "false") tex
 abbrev pub is_told : Text → List Row → Bool
 is_told name rows = option_map_or is_flag_text (one_of name rows) true
 
+-- what `check` of a file is asked, by what was found for its options
+abbrev pub check_of : List Row → Text → CheckAsked
+check_of rows file = record {
+  file = file;
+  explain = is_set (codes "explain") rows;
+  entries = is_set (codes "entries") rows;
+  state = first_of (codes "state") rows;
+  json = is_set (codes "json") rows;
+  roster = first_of (codes "roster") rows;
+}
+
 -- what `check` is asked
 abbrev pub check_asked : List Row → Option Asked
-check_asked rows =
-    option_map (λ file. Check (record {
-      file = file;
-      explain = is_set (codes "explain") rows;
-      json = is_set (codes "json") rows;
-      roster = first_of (codes "roster") rows;
-    })) (first_of (codes "file") rows)
+check_asked rows = option_map (λ file. Check (check_of rows file)) (first_of (codes "file") rows)
 
 -- what `roster` is asked
 abbrev pub roster_asked : List Row → Option Asked

@@ -10,7 +10,14 @@ words_of line = slice_split (λ x. x == 32) line
 
 -- what `check` of a file is asked, without an option
 abbrev of_file : Text → CheckAsked
-of_file name = record { file = name; explain = false; json = false; roster = None }
+of_file name = record {
+  file = name;
+  explain = false;
+  entries = false;
+  state = None;
+  json = false;
+  roster = None;
+}
 
 -- `check` of the file `f`
 abbrev plain : Option Asked
@@ -18,6 +25,10 @@ plain = Some (Check (of_file (codes "f")))
 
 abbrev explained : Option Asked
 explained = Some (Check (record (of_file (codes "f")) { explain = true }))
+
+-- with all entries, and the state before the one that is named `2`
+abbrev with_state : Option Asked
+with_state = Some (Check (record (of_file (codes "f")) { entries = true; state = Some (codes "2") }))
 
 -- the same as JSON, under the roster in the file `r`
 abbrev under_r : Option Asked
@@ -34,6 +45,8 @@ lines =
     ∷ (codes "nfsacc check f", plain)
     ∷ (codes "nfsacc check --explain f", explained)
     ∷ (codes "nfsacc check f --explain", explained)
+    ∷ (codes "nfsacc check --entries --state 2 f", with_state)
+    ∷ (codes "nfsacc check f --state=2 --entries", with_state)
     ∷ (codes "nfsacc check -- --explain", Some (Check (of_file (codes "--explain"))))
     ∷ (codes "nfsacc check -", Some (Check (of_file (codes "-"))))
     ∷ (codes "nfsacc check --json f --roster r", under_r)
@@ -49,6 +62,8 @@ lines =
     ∷ (codes "nfsacc check -f", None)
     ∷ (codes "nfsacc check --explain --explain f", None)
     ∷ (codes "nfsacc check --roster f", None)
+    ∷ (codes "nfsacc check --state f", None)
+    ∷ (codes "nfsacc check --entries --entries f", None)
     ∷ (codes "nfsacc check --help", None)
     ∷ (codes "nfsacc help check", None)
     ∷ (codes "nfsacc roster", None)

@@ -9,6 +9,7 @@ ghost use Rattle.clap.specs.Words.{App, app_of, kind_of, rule_of, subcommand_of,
 ghost use Rattle.clap.specs.Words.{with_subcommand};
 ghost use Rattle.console.specs.CommandLine.CommandLine.{commands, check_command, roster_command, run_command};
 ghost use Rattle.console.specs.CommandLine.CommandLine.{asked_by, asked_in, file_argument, file_option, flag};
+ghost use Rattle.console.specs.CommandLine.CommandLine.{number_option};
 ghost use Rattle.console.specs.CommandLine.CommandLine.{is_set, is_told, rows_in};
 
 use super::serve::{ServeRequest, serve_command, serve_request};
@@ -23,7 +24,7 @@ pub enum Request<'a> {
     Rpc,
     /// `nfsacc check FILE`: whether a file is evidence.
     Check(CheckRequest<'a>),
-    /// `nfsacc roster FILE`: the members of the roster in the file of this name.
+    /// `nfsacc roster FILE`: the members of the roster in the file of this name; `-` is standard input.
     Roster(&'a str),
     /// `nfsacc run FILE`: the lines of a script.
     Run(RunRequest<'a>),
@@ -34,13 +35,17 @@ pub enum Request<'a> {
 /// What `nfsacc check` is asked.
 #[derive(Clone, Copy, Debug, PartialEq, Eq)]
 pub struct CheckRequest<'a> {
-    /// The name of the file.
+    /// The name of the file; `-` is standard input.
     pub file: &'a str,
     /// Whether what it shows is asked for, too.
     pub explain: bool,
+    /// Whether all entries of the log are, too.
+    pub entries: bool,
+    /// The number of the entry before which the node's state is shown, as it is written, if one is named.
+    pub state: Option<&'a str>,
     /// Whether one JSON object with both is asked for.
     pub json: bool,
-    /// The name of the file with the roster that is trusted, if one is named.
+    /// The name of the file with the roster that is trusted, if one is named; `-` is standard input.
     pub roster: Option<&'a str>,
 }
 
@@ -65,9 +70,28 @@ const RUN_EXAMPLE: &str = "Example:
 
 Statuses: 0 done, 1 a fault in the input, 2 the command line, 3 no memory, 4 a device";
 
-const TRUSTED_HELP: &str = "Takes evidence under the roster of this file alone";
+/// What the help of `check` ends with.
+const CHECK_NOTES: &str =
+    "The first line is `exposed N`, of the node N that the evidence names, or `no evidence`.
 
-const ROSTER_HELP: &str = "A roster's text, alone or with that of evidence after it";
+`exposed N` holds for whom the roster in the file is the service's own, with all its members, each with its
+number, kind, height and key: --roster compares it as a whole. `no evidence` clears nobody.
+
+Statuses: 0 exposed, 1 no evidence, 2 the command line or --roster, 3 no memory, 4 a device";
+
+const CHECKED_HELP: &str =
+    "A roster's text, and after it that of evidence; `-` reads it from standard input";
+
+const ENTRIES_HELP: &str = "Says what the file shows, with all entries of the log";
+
+const STATE_HELP: &str =
+    "Says what the file shows, with the state of the node before entry K, from 1 on";
+
+const TRUSTED_HELP: &str =
+    "Takes evidence under the roster of this file alone; `-` reads it from standard input";
+
+const ROSTER_HELP: &str =
+    "A roster's text, alone or with that of evidence after it; `-` reads it from standard input";
 
 const ROSTER_OUT_HELP: &str = "Writes the text of the nodes' roster to this file";
 
@@ -104,16 +128,30 @@ fn file_option<'a>(alloc: Global, name: &'a str, help: &'a str) -> Arg<'a>
         .help(help)
 }
 
+/// An option with a number.
+fn number_option<'a>(alloc: Global, name: &'a str, value: &'a str, help: &'a str) -> Arg<'a>
+    ensures rule { rule_of result ≡ number_option name.now }
+    ensures local { result.global ≡ false }
+{
+    Arg::new(alloc, name)
+        .long(name)
+        .value_name(value)
+        .help(help)
+}
+
 /// The subcommand `check`.
 fn check_command<'a>(alloc: Global) -> Result<Command<'a>, AllocError>
     ensures { IfOk result (λ c. app_of c ≡ check_command) }
 {
     Command::new(alloc, "check")
         .about("Says whether a file is evidence that its roster accepts")
+        .after_help(CHECK_NOTES)
         .arg(flag(alloc, "explain", "Says what the file shows, too"))?
-        .arg(flag(alloc, "json", "Says both as one JSON object"))?
+        .arg(flag(alloc, "entries", ENTRIES_HELP))?
+        .arg(number_option(alloc, "state", "K", STATE_HELP))?
+        .arg(flag(alloc, "json", "Says all of it as one JSON object"))?
         .arg(file_option(alloc, "roster", TRUSTED_HELP))?
-        .arg(file_argument(alloc, "A roster's text, and after it that of evidence"))
+        .arg(file_argument(alloc, CHECKED_HELP))
 }
 
 /// The subcommand `roster`.
@@ -189,6 +227,10 @@ fn check_request<'a>(matches: &ArgMatches<'a>) -> CheckRequest<'a>
     ensures file { result.file.now ≡ unwrap_or (first_of (codes "file") (rows_in matches.now)) [] }
     ensures explain { is_told (codes "explain") (rows_in matches.now) ≡ true
         → result.explain ≡ is_set (codes "explain") (rows_in matches.now) }
+    ensures entries { is_told (codes "entries") (rows_in matches.now) ≡ true
+        → result.entries ≡ is_set (codes "entries") (rows_in matches.now) }
+    ensures state { option_map (λ s. s.now) result.state
+        ≡ first_of (codes "state") (rows_in matches.now) }
     ensures json { is_told (codes "json") (rows_in matches.now) ≡ true
         → result.json ≡ is_set (codes "json") (rows_in matches.now) }
     ensures roster { option_map (λ s. s.now) result.roster
@@ -197,6 +239,8 @@ fn check_request<'a>(matches: &ArgMatches<'a>) -> CheckRequest<'a>
     CheckRequest {
         file: text_of(matches, "file"),
         explain: flag_of(matches, "explain"),
+        entries: flag_of(matches, "entries"),
+        state: matches.get_str("state"),
         json: flag_of(matches, "json"),
         roster: matches.get_str("roster"),
     }
@@ -245,8 +289,8 @@ fn request_by_rules(alloc: Global, words: &[String]) -> Result<Request<'_>, Erro
 }
 
 /// The request that the words of a command line make, the program's name first: `rpc` alone, or with `--`
-/// after it, is `Rpc`; `check` with a file's name is `Check`, with or without `--explain`, `--json` and
-/// `--roster` with another name, in any order; `roster` with a file's name is `Roster`; `run` with a file's
+/// after it, is `Rpc`; `check` with a file's name is `Check`, with or without `--explain`, `--entries`, `--json`,
+/// `--state` with a word and `--roster` with another name, in any order; `roster` with a file's name is `Roster`; `run` with a file's
 /// name is `Run`, with `--roster-out` and another name before it or after it, or without; `serve` with two
 /// words is `Serve`, with its options before, between or after them. After `--` each word is a name. It comes
 /// exactly where clap's rules find no fault in the words, memory aside, and has what they say the words hold.

@@ -65,7 +65,7 @@ const MOST_CONNECTIONS: u32 = 16;
 const MOST_HEIGHT: u32 = 15;
 
 /// A number from the one to the other, if a word is its decimal digits.
-fn number_within(word: &str, least: u32, most: u32) -> Option<u32>
+pub(crate) fn number_within(word: &str, least: u32, most: u32) -> Option<u32>
     ensures some { IfSome result (Writes least most word.now) }
     ensures bounds { IfSome result (λ n. (least ≤ n) × (n ≤ most)) }
     ensures none { result ≡ None → ¬ (IsWithin least most word.now) }

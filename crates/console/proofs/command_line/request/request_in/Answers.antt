@@ -7,7 +7,14 @@ pub returns-in-Some : goal.returns-in-Some
 returns-in-Some c words none found =
     let is = found_is c.args.matches.now _ _ _ found (c.in-Some.ensures.found.0 refl) c.in-Some.ensures.rows in
     let asked = c.check_request.ensures in
-    check_is words _ _ _ _ _ none is asked.file asked.explain asked.json asked.roster
+    check_is words _ (record { file = _; explain = _; entries = _; state = _; json = _; roster = _ }) none is (record {
+      file = asked.file;
+      explain = asked.explain;
+      entries = asked.entries;
+      state = asked.state;
+      json = asked.json;
+      roster = asked.roster;
+    })
 
 pub returns-in-Some-subcommand_matches : goal.returns-in-Some-subcommand_matches
 returns-in-Some-subcommand_matches c words none found =
