@@ -223,6 +223,8 @@ check_words() {
     says 0 'Usage: nfsacc[^ ]* check.*' check --help
     says 0 ' *--roster <FILE> .*' check --help
     says 0 ' *--json .*' check --help
+    says 0 ' *--entries .*' check --help
+    says 0 ' *--state <K> .*' check --help
     says 0 'Usage: nfsacc[^ ]* roster.*' roster --help
     says 0 'Usage: nfsacc[^ ]* run.*' run --help
     says 0 '  node 1 server 4' run --help
@@ -265,7 +267,8 @@ harmless() {
 check_names() {
     local name=$'a\e[2K\nexposed 7' shown='a\\x1b\[2K\\x0aexposed.7' words
     : > in
-    for words in check roster run 'check --explain' 'check --json' 'check f --roster' 'serve 0 1 --master' 'serve 0 1 --evidence'; do
+    for words in check roster run 'check --explain' 'check --json' 'check f --roster' 'serve 0 1 --master' \
+        'serve 0 1 --evidence'; do
         harmless 4 $words "$name"
         grep -qx "nfsacc: $shown: No such file.*" said || fail "$words of a name that is escaped" said
     done
@@ -306,6 +309,8 @@ check -f
 check f g
 check --explain --explain f
 check --roster f
+check --state f
+check --entries --entries f
 check --roster r --roster r f
 roster -f
 roster f g
@@ -335,6 +340,7 @@ check_orders() {
     cp "$top/checks/scripts/lie.script" s
     same 0 'check --explain f' 'check f --explain' 'check --explain -- -f'
     same 0 'roster f' 'roster -- -f'
+    same 0 'check --entries --state 1 f' 'check f --state=1 --entries' 'check --explain --state 1 --entries -- -f'
     same 0 'check --roster r --json f' 'check --json f --roster=r' 'check --json --roster=f r'
     same 0 'run s --roster-out g' 'run --roster-out=g s' 'run --roster-out g -- s'
     cmp -s g <(head -c 92 lie.evidence) || fail 'the roster of a script' said

@@ -112,6 +112,11 @@ check_reasons() {
     done
     { cat "$cases/fork.evidence"; printf '\0'; } > "$files/case"
     why "nfsacc: $files/case: not a roster .* byte 33272 does not decode" "$files/case"
+    # A CLOCK at 148: its kind, and at 152 and 156 its seconds and its microseconds.
+    for cut in 154:152 156:156 158:156; do
+        head -c "${cut%:*}" "$cases/bad_form.evidence" > "$files/case"
+        why "nfsacc: $files/case: not a roster .* byte ${cut#*:} does not decode" "$files/case"
+    done
     lacks 'the log has no fault' "$cases/no_fault.evidence"
     lacks "a showing begins at number 0, and a log's first entry is number 1" "$cases/first_0.evidence"
     changed fork 95
@@ -125,7 +130,11 @@ check_reasons() {
     changed fork 33271
     lacks "what closes it does not verify by the node's key" "$files/case"
     # The roster has node 3 in the place of node 1, whom the evidence and its closings name.
-    { printf '\0\0\0\1\0\0\0\3'; tail -c +9 "$cases/fork.evidence" | head -c 40; tail -c +93 "$cases/fork.evidence"; } > "$files/case"
+    {
+        printf '\0\0\0\1\0\0\0\3'
+        head -c 48 "$cases/fork.evidence" | tail -c 40
+        tail -c +93 "$cases/fork.evidence"
+    } > "$files/case"
     lacks 'the roster has no key of the node, so nobody can tell who signed' "$files/case"
     changed wrong_reply 110
     lacks 'the log is not shown from its first entry on' "$files/case"

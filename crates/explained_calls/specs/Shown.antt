@@ -1,12 +1,9 @@
 -- What a terminal shows as it is.
-use Rattle.std.specs.Prelude.{◌==◌, ◌&&◌, ◌||◌, ℕ, Bool, List, nat_lt, IsTrue}
+use Rattle.std.specs.Prelude.{◌==◌, ◌||◌, ℕ, Bool, List, IsTrue}
 use Rattle.std.specs.List.{All}
+use Rattle.shown_names.specs.Names.{is_printed}
 
--- a printed character of ASCII, or a blank
-abbrev pub is_printed : ℕ → Bool
-is_printed byte = nat_lt 31 byte && nat_lt byte 127
-
--- these, and the end of a line (10)
+-- printed characters of ASCII, blanks, and the end of a line (10)
 abbrev pub is_shown : ℕ → Bool
 is_shown byte = byte == 10 || is_printed byte
 

@@ -1,7 +1,8 @@
 //! Text that a terminal can show.
 
 ghost use Rattle.std.specs.Prelude.{◌≡◌, IsTrue};
-ghost use Rattle.explained_calls.specs.Shown.{IsShown, is_printed, is_shown};
+ghost use Rattle.shown_names.specs.Names.{is_printed};
+ghost use Rattle.explained_calls.specs.Shown.{IsShown, is_shown};
 
 use std::alloc::{AllocError, Global};
 use std::marker::Model;

@@ -23,10 +23,12 @@ pub fn roster_digest(alloc: Global, roster: &Roster) -> Result<[u8; 32], AllocEr
 /// Adds a roster that evidence stands under.
 pub(crate) fn add_roster(facts: &mut Facts, roster: &Roster) {
     facts.group("roster");
-    facts.words(
-        "advice",
-        "to be compared as a whole with the service's own roster: by its sha256, or by the count of its members and each one's number, kind, height and key",
+    let mut advice = facts.draft();
+    advice.words(
+        "to be compared as a whole with the service's own roster: by its sha256, or by the ",
     );
+    advice.words("count of its members and each one's number, kind, height and key");
+    facts.text("advice", advice);
     add_members(facts, roster);
     facts.end();
 }

@@ -41,7 +41,7 @@ where
             Err(error) if error.kind() == ErrorKind::OutOfMemory => report_no_memory(rt),
             Err(error) => print_error(rt, &error),
             Ok(_) => {
-                let _ = rt.eprintln("nfsacc: the command line has bytes that no option has");
+                let _ = rt.eprintln("nfsacc: the command line asks for nothing that there is");
                 COMMAND_LINE
             }
         },

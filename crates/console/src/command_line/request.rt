@@ -74,8 +74,8 @@ Statuses: 0 done, 1 a fault in the input, 2 the command line, 3 no memory, 4 a d
 const CHECK_NOTES: &str =
     "The first line is `exposed N`, of the node N that the evidence names, or `no evidence`.
 
-`exposed N` holds for whom the roster in the file is the service's own, with all its members, each with its
-number, kind, height and key: --roster compares it as a whole. `no evidence` clears nobody.
+`exposed N` is worth as much as the file's roster: it must be the service's own, with all of its members, each
+with its number, kind, height and key. --roster compares it as a whole. `no evidence` clears nobody.
 
 Statuses: 0 exposed, 1 no evidence, 2 the command line or --roster, 3 no memory, 4 a device";
 
@@ -289,11 +289,11 @@ fn request_by_rules(alloc: Global, words: &[String]) -> Result<Request<'_>, Erro
 }
 
 /// The request that the words of a command line make, the program's name first: `rpc` alone, or with `--`
-/// after it, is `Rpc`; `check` with a file's name is `Check`, with or without `--explain`, `--entries`, `--json`,
-/// `--state` with a word and `--roster` with another name, in any order; `roster` with a file's name is `Roster`; `run` with a file's
-/// name is `Run`, with `--roster-out` and another name before it or after it, or without; `serve` with two
-/// words is `Serve`, with its options before, between or after them. After `--` each word is a name. It comes
-/// exactly where clap's rules find no fault in the words, memory aside, and has what they say the words hold.
+/// after it, is `Rpc`; `check` with a file's name is `Check`, with or without `--explain`, `--entries`,
+/// `--json`, `--state` with a word and `--roster` with another name, in any order; `roster` with a file's
+/// name is `Roster`; `run` with a file's name is `Run`, with `--roster-out` and another name before it or
+/// after it, or without; `serve` with two words is `Serve`, with its options before, between or after them.
+/// After `--` each word is a name. It comes exactly where clap's rules find no fault in the words, memory aside, and has what they say the words hold.
 /// The error says what is wrong with other words, or is the help or the version that they ask for: its kind
 /// is one of those that the rules give, or OutOfMemory where memory was refused.
 pub fn parse(alloc: Global, words: &[String]) -> Result<Request<'_>, Error>
