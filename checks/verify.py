@@ -1,7 +1,7 @@
 #!/usr/bin/env python3
 """A second verifier: says of a file of evidence what `nfsacc check FILE` says, `exposed N` (status 0) or
-`no evidence` (status 1). It was written from the pages of docs, CHECKING.md and FORMATS.md
-above all, by somebody who hadn't read the crates.
+`no evidence` (status 1). What judges was written from the pages of docs, CHECKING.md and FORMATS.md above all, by somebody
+who hadn't read the crates.
 
 With two files more, of what `nfsacc check --json` and `--explain` say of that file, it works out by itself what the
 file shows, and tells each thing that they say otherwise (status 1 where there is one). The options are those that
