@@ -7,6 +7,7 @@ use scripts::Shelf;
 use std::alloc::Global;
 use std::io;
 use std::io::{Read, Write};
+use std::random::RandomSource;
 use std::rt::Files;
 
 /// Where a service writes beside its lines: standard error, and the files that the system has.
@@ -16,7 +17,7 @@ pub struct Devices<'a, R> {
     files: FileShelf<'a, R>,
 }
 
-impl<'a, R: Files + Eprint> Devices<'a, R> {
+impl<'a, R: Files + Eprint + RandomSource> Devices<'a, R> {
     /// Those that a runtime reaches.
     pub fn new(runtime: &'a R, alloc: Global) -> Devices<'a, R> {
         Devices {
@@ -26,7 +27,7 @@ impl<'a, R: Files + Eprint> Devices<'a, R> {
     }
 }
 
-impl<'a, R: Files + Eprint> Write for Devices<'a, R> {
+impl<'a, R: Files + Eprint + RandomSource> Write for Devices<'a, R> {
     fn write(&mut self, bytes: &[u8]) -> io::Result<usize> {
         self.errors.write(bytes)
     }
@@ -36,7 +37,7 @@ impl<'a, R: Files + Eprint> Write for Devices<'a, R> {
     }
 }
 
-impl<'a, R: Files + Eprint> Shelf for Devices<'a, R> {
+impl<'a, R: Files + Eprint + RandomSource> Shelf for Devices<'a, R> {
     fn put(&mut self, name: &str, bytes: &[u8]) -> io::Result<()> {
         self.files.put(name, bytes)
     }

@@ -16,10 +16,12 @@ use rpc::records::{Counting, RecordFault, RecordReader};
 use rpc_streams::run_rpc;
 use scripts::{ScriptEnd, ScriptFault, run_script, serve};
 use serve::{open, order_of, report_served};
-use shelf::FileShelf;
+use shelf::{FileShelf, leads_to};
 use shown_names::ShownName;
+use std::fs::{Metadata, OpenFile};
 use std::io::{BufReader, Read};
 use std::process::ExitCode;
+use std::random::RandomSource;
 use std::rt::Files;
 use std::sync::Wait;
 use std::thread::Threads;
@@ -46,6 +48,9 @@ pub(crate) const DASH: &str = "-";
 pub(crate) const STANDARD_INPUT: &str = "standard input";
 
 const STANDARD_OUTPUT: &str = "standard output";
+
+/// The name of the file that standard input is read from.
+pub(crate) const INPUT_FILE: &str = "/dev/stdin";
 
 /// The bytes that are read at once: as many as a pipe holds.
 const READ_AHEAD: usize = 65536;
@@ -84,15 +89,19 @@ fn report_fault(rt: &impl Eprint, fault: RecordFault) -> u8 {
 /// Runs the script in a file, or the one on standard input.
 fn run_file<R>(rt: &R, request: RunRequest<'_>) -> u8
 where
-    R: Files + Input + Print + Eprint + AllocGlobal + Threads + Wait + Sync,
+    R: Files + Input + Print + Eprint + AllocGlobal + RandomSource + Threads + Wait + Sync,
 {
     if request.file == DASH {
+        if is_roster_out(rt, request, fs::metadata(rt, INPUT_FILE)) {
+            return report_roster_out(rt, request);
+        }
         return match BufReader::with_capacity(rt.alloc(), READ_AHEAD, rt.reader()) {
             Ok(reader) => run_lines(rt, reader, STANDARD_INPUT, request),
             Err(_) => report_no_memory(rt),
         };
     }
     match fs::open(rt, request.file) {
+        Ok(file) if is_roster_out(rt, request, file.metadata()) => report_roster_out(rt, request),
         Ok(file) => match BufReader::with_capacity(rt.alloc(), READ_AHEAD, file) {
             Ok(reader) => run_lines(rt, reader, request.file, request),
             Err(_) => report_no_memory(rt),
@@ -101,10 +110,25 @@ where
     }
 }
 
+/// Whether the roster is to go to the file that the script stands in, by whichever name.
+fn is_roster_out<R: Files>(rt: &R, request: RunRequest<'_>, script: io::Result<Metadata>) -> bool {
+    match (request.roster_out, script) {
+        (Some(name), Ok(script)) => leads_to(rt, name, &script),
+        _ => false,
+    }
+}
+
+/// Says on standard error that the roster would take the script's place.
+fn report_roster_out(rt: &impl Eprint, request: RunRequest<'_>) -> u8 {
+    let name = request.roster_out.unwrap_or("");
+    let _ = eprintln!(rt; "nfsacc: {name}: the roster would take the place of the script");
+    COMMAND_LINE
+}
+
 /// Runs the lines of the script with a name, and gives the status for how it came to its end.
 fn run_lines<R, I>(rt: &R, input: I, name: &str, request: RunRequest<'_>) -> u8
 where
-    R: Files + Print + Eprint + AllocGlobal + Threads + Wait + Sync,
+    R: Files + Print + Eprint + AllocGlobal + RandomSource + Threads + Wait + Sync,
     I: Read + Drop,
 {
     let mut shelf = FileShelf::new(rt, rt.alloc());

@@ -5,11 +5,13 @@ ghost use Rattle.console.specs.CommandLine.ServeOrders.{IsBounded};
 ghost use Rattle.scripts.specs.serving.Orders.{IsOrder};
 
 use crate::master::{MasterFault, read_master};
-use crate::{COMMAND_LINE, DEVICE, INPUT_FAULT, report_file, report_no_memory};
+use crate::shelf::FileShelf;
+use crate::{COMMAND_LINE, DEVICE, INPUT_FAULT, STANDARD_INPUT, report_file, report_no_memory};
 use console::command_line::ServeOrder;
 use scripts::{Finished, Heights, Masters, Order, ServeFault};
 use std::fs::File;
 use std::net::{Net, SocketAddr, TcpListener, TcpStream};
+use std::random::RandomSource;
 use std::rt::Files;
 use std::{fs, io};
 
@@ -30,7 +32,8 @@ pub struct Opened {
 /// status where that can't be.
 pub fn open<R>(rt: &R, order: &ServeOrder<'_>) -> Result<Opened, u8>
 where
-    R: Files<File = File> + Eprint + Net<Listener = TcpListener, Stream = TcpStream>,
+    R: Files<File = File> + Input + Eprint + AllocGlobal + RandomSource,
+    R: Net<Listener = TcpListener, Stream = TcpStream>,
 {
     let stand_ins = [nothing(rt), nothing(rt), nothing(rt)];
     let masters = match order.master {
@@ -41,7 +44,7 @@ where
         },
     };
     if let Some(name) = order.evidence {
-        if let Err(error) = find_folder(rt, name) {
+        if let Err(error) = try_folder(rt, name) {
             return Err(report_file(rt, name, &error));
         }
     }
@@ -100,19 +103,20 @@ pub fn report_served(
     }
 }
 
-/// That a folder is there: before anybody is served, since evidence may come at any time.
-fn find_folder<R: Files>(rt: &R, name: &str) -> io::Result<()> {
-    if fs::metadata(rt, name)?.is_dir() {
-        Ok(())
-    } else {
-        Err(io::Error::from(io::ErrorKind::NotADirectory))
-    }
+/// That a folder is there and takes files: before anybody is served, since evidence may come at any time.
+fn try_folder<R: Files + AllocGlobal + RandomSource>(rt: &R, name: &str) -> io::Result<()> {
+    FileShelf::new(rt, rt.alloc()).try_folder(name)
 }
 
 /// Says on standard error what is wrong with a file of secret bytes.
 fn report_master(rt: &impl Eprint, name: &str, fault: &MasterFault) -> u8 {
+    let name = if name == "-" { STANDARD_INPUT } else { name };
     match fault {
         MasterFault::File(error) => report_file(rt, name, error),
+        MasterFault::Device => {
+            let _ = eprintln!(rt; "nfsacc: {name}: it is a device, and no file");
+            COMMAND_LINE
+        }
         MasterFault::Open => {
             let _ = eprintln!(rt; "nfsacc: {name}: others than its owner may use it");
             COMMAND_LINE
