@@ -132,6 +132,100 @@ check_replaced() {
     echo 'evidence takes the place of a file, which another link still leads to'
 }
 
+# What a script puts goes by way of a file that wasn't there: what lies beside FILE stays, a link at FILE gives way and is
+# not written through, a name may have as many bytes as the system allows, and after a failure nothing is left.
+check_beside() {
+    local name size=0
+    rm -rf beside && mkdir beside && cd beside
+    cp "$stories/lie.script" s
+    echo mine > lie.evidence.part
+    mkdir roster.part
+    echo target > target
+    ln -s target linked
+    ln -s nowhere lost
+    ls -A > before
+    : > in
+    run 0 run --roster-out roster s
+    [ "$(cat lie.evidence.part)" = mine ] && [ -d roster.part ] || fail 'what lay beside a file' said
+    ls -A | grep -vx -e lie.evidence -e roster -e in -e out -e said | cmp -s before - || fail 'a file was left' before
+    for name in linked lost; do
+        run 0 run --roster-out "$name" s
+        [ -f "$name" ] && [ ! -L "$name" ] && cmp -s "$name" roster || fail "a link at $name" said
+    done
+    [ "$(cat target)" = target ] && [ ! -e nowhere ] || fail 'a link was written through' target
+    for size in 251 255; do
+        name=$(printf "%${size}s" '' | tr ' ' n)
+        run 0 run --roster-out "$name" s
+        cmp -s "$name" roster || fail "a name of $size bytes" said
+        rm "$name"
+    done
+    mkdir folder
+    ln -s folder to_folder
+    ls -A > before
+    for name in folder to_folder; do
+        run 4 run --roster-out "$name" s
+        grep -q "^nfsacc: $name: Is a directory" said || fail 'a folder in the place of the roster' said
+    done
+    run 4 run --roster-out "$(printf '%256s' '' | tr ' ' n)" s
+    grep -q 'File name too long' said || fail 'a name of 256 bytes' said
+    run 4 run --roster-out none/roster s
+    grep -q '^nfsacc: none/roster: No such file' said || fail 'a folder that is not there' said
+    ls -A | cmp -s before - || fail 'a file was left after a failure' before
+    cd ..
+    echo 'what lies beside a file stays, links give way to it, names may be long, and failures leave nothing'
+}
+
+# What is there and is no file is written to, also by a link; a name of /dev that leads to a file stays.
+check_no_files() {
+    local size
+    cp "$stories/lie.script" s
+    : > in
+    run 0 run --roster-out roster s
+    size=$(wc -c < roster)
+    run 0 run --roster-out /dev/null s
+    ln -sf /dev/null to_null
+    run 0 run --roster-out to_null s
+    [ -L to_null ] && [ -c /dev/null ] || fail 'a link to a device' said
+    rm -f pipe && mkfifo pipe
+    timeout 60 cat pipe > piped &
+    run 0 run --roster-out pipe s
+    wait $!
+    cmp -s piped roster || fail 'a pipe' said
+    "$program" run --roster-out /dev/stdout s 2> said | cat > piped
+    cmp -s <(head -c "$size" piped) roster || fail 'standard output, a pipe' said
+    if [ -L /dev/stdout ]; then
+        run 4 run --roster-out /dev/stdout s
+        [ -L /dev/stdout ] && [ ! -s out ] || fail 'standard output, a file' out
+        grep -q '^nfsacc: /dev/stdout: ' said || fail 'standard output, a file' said
+    fi
+    echo 'what is no file is written to, also by way of a link'
+}
+
+# The roster doesn't take the place of the script, by whichever name.
+check_own_name() {
+    local name
+    mkdir -p folder
+    cp "$stories/lie.script" s
+    cp s before
+    ln -f s hard
+    ln -sf s soft
+    for name in s ./s folder/../s "$PWD/s" hard soft; do
+        : > in
+        run 2 run --roster-out "$name" s
+        said_is "nfsacc: $name: the roster would take the place of the script"
+        [ ! -s out ] && cmp -s s before || fail "the roster in place of the script: $name" out
+    done
+    got=0
+    "$program" run --roster-out s - < s > out 2> said || got=$?
+    [ "$got" -eq 2 ] && cmp -s s before || fail 'the roster in place of the script on standard input' said
+    cp s other
+    : > in
+    run 0 run --roster-out other s
+    cmp -s other roster || fail 'the roster in place of another file' said
+    rm -f hard soft other
+    echo 'the roster does not take the place of the script, by whichever name'
+}
+
 # The processor time, in milliseconds, of a flood of so many packets that aren't signed.
 flood_time() {
     local TIMEFORMAT=%U seconds
@@ -175,6 +269,9 @@ for program in "${made[@]}"; do
     check_ends
     check_roster
     check_replaced
+    check_beside
+    check_no_files
+    check_own_name
     check_floods
     check_answers_at_once
 done
