@@ -1,47 +1,7 @@
-//! Devices as they are handed on: readers and writers that remember why they failed, and where a service
-//! writes beside its lines.
+//! Readers and writers that remember why they failed.
 
-use crate::errors::ErrorWriter;
-use crate::shelf::FileShelf;
-use scripts::Shelf;
-use std::alloc::Global;
 use std::io;
 use std::io::{Read, Write};
-use std::random::RandomSource;
-use std::rt::Files;
-
-/// Where a service writes beside its lines: standard error, and the files that the system has.
-#[derive(Drop)]
-pub struct Devices<'a, R> {
-    errors: ErrorWriter<'a, R>,
-    files: FileShelf<'a, R>,
-}
-
-impl<'a, R: Files + Eprint + RandomSource> Devices<'a, R> {
-    /// Those that a runtime reaches.
-    pub fn new(runtime: &'a R, alloc: Global) -> Devices<'a, R> {
-        Devices {
-            errors: ErrorWriter::new(runtime),
-            files: FileShelf::new(runtime, alloc),
-        }
-    }
-}
-
-impl<'a, R: Files + Eprint + RandomSource> Write for Devices<'a, R> {
-    fn write(&mut self, bytes: &[u8]) -> io::Result<usize> {
-        self.errors.write(bytes)
-    }
-
-    fn flush(&mut self) -> io::Result<()> {
-        self.errors.flush()
-    }
-}
-
-impl<'a, R: Files + Eprint + RandomSource> Shelf for Devices<'a, R> {
-    fn put(&mut self, name: &str, bytes: &[u8]) -> io::Result<()> {
-        self.files.put(name, bytes)
-    }
-}
 
 /// A reader or a writer, with the last error that it answered.
 #[derive(Drop)]

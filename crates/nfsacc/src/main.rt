@@ -10,7 +10,8 @@ mod shelf;
 mod words;
 
 use console::command_line::{Request, RunRequest, ServeRefusal, parse, serve_order};
-use devices::{Devices, Remembering};
+use devices::Remembering;
+use errors::ErrorWriter;
 use evidence::{check_file, show_roster};
 use rpc::records::{Counting, RecordFault, RecordReader};
 use rpc_streams::run_rpc;
@@ -215,14 +216,16 @@ fn main(rt: HostRuntime) -> ExitCode {
                 Ok(opened) => {
                     let asked = order_of(&order, opened.masters);
                     let mut lines = io::writer(&rt);
-                    let devices = Devices::new(&rt, alloc);
+                    let errors = ErrorWriter::new(&rt);
+                    let shelf = FileShelf::new(&rt, alloc);
                     let served = serve(
                         &rt,
                         alloc,
                         &opened.listener,
                         &rt,
                         &mut lines,
-                        devices,
+                        errors,
+                        shelf,
                         &asked,
                     );
                     report_served(&rt, &order, served)

@@ -92,10 +92,10 @@ pub fn order_of<'a>(order: &ServeOrder<'a>, masters: Masters) -> Order<'a>
 }
 
 /// The status of a run, whether it came to its end or not.
-pub fn report_served(
+pub fn report_served<S: Drop>(
     rt: &impl Eprint,
     order: &ServeOrder<'_>,
-    served: Result<Finished, ServeFault>,
+    served: Result<Finished<S>, ServeFault>,
 ) -> u8 {
     match &served {
         Ok(finished) => status_of(rt, finished),
@@ -129,7 +129,7 @@ fn report_master(rt: &impl Eprint, name: &str, fault: &MasterFault) -> u8 {
 }
 
 /// The status of a run that came to its end.
-fn status_of(rt: &impl Eprint, finished: &Finished) -> u8 {
+fn status_of<S>(rt: &impl Eprint, finished: &Finished<S>) -> u8 {
     if finished.closed.is_err() {
         let _ = rt.eprintln("nfsacc: what the witness answered does not stand in its journal");
         return INPUT_FAULT;
@@ -150,5 +150,11 @@ fn report_fault(rt: &impl Eprint, order: &ServeOrder<'_>, fault: &ServeFault) ->
             DEVICE
         }
         ServeFault::Roster(error) => report_file(rt, order.roster_out.unwrap_or(""), error),
+        ServeFault::Unaudited => {
+            let _ = rt.eprintln(
+                "nfsacc: the witness's journal does not show that everybody was audited",
+            );
+            INPUT_FAULT
+        }
     }
 }

@@ -6,7 +6,7 @@ use crate::line::{NodeLine, Pair};
 use crate::stop::Stop;
 use authenticator::{Kind, Member, Roster};
 use merkle_keys::Signer;
-use serving::{ClientNode, Node, NodeLog, Role, ServerNode};
+use serving::{ClientNode, Masters, Node, NodeLog, Role, ServerNode};
 use std::alloc::{AllocError, Global};
 use std::marker::Model;
 use std::thread::Threads;
@@ -23,12 +23,15 @@ struct Keyed {
 impl Model for Keyed {
     ghost use Rattle.std.specs.Prelude.{◌≡◌, ◌≤◌};
     ghost use Rattle.merkle_keys.specs.Signing.{SignerState};
+    ghost use Rattle.serving.specs.Masters.{master_of};
+    ghost use Rattle.serving.specs.declared.keys.Masters.TheVariants.{Known};
 
     ghost Value = { SignerState };
 
     ghost view = { λ k. k.signer };
 
-    ghost invariant = { λ k. (k.signer.used ≡ 0) × (k.signer.height ≡ k.height) × (k.height ≤ 16) };
+    ghost invariant = { λ k. (k.signer.used ≡ 0) × (k.signer.height ≡ k.height) × (k.height ≤ 16)
+        × (k.signer.master ≡ master_of Known k.number) };
 }
 
 impl Keyed {
@@ -47,13 +50,6 @@ impl Keyed {
 #[derive(Drop)]
 pub(crate) struct Listed {
     nodes: Vec<Keyed>,
-}
-
-/// The master secret of a node of a script: 28 zero bytes, and its number in four.
-fn master_of(node: u32) -> [u8; 32] {
-    let mut master = [0; 32];
-    master[28..].copy_from_slice(&node.to_be_bytes());
-    master
 }
 
 impl Listed {
@@ -76,7 +72,7 @@ impl Listed {
             return Err(Stop::Bad);
         }
         let height = line.height.get();
-        let signer = Signer::new_by(rt, alloc, master_of(line.number), height)?;
+        let signer = Signer::new_by(rt, alloc, Masters::Known.of(line.number), height)?;
         let keyed = Keyed {
             number: line.number,
             kind: line.kind,

@@ -1,2 +1,3 @@
 pub use Rattle.nodes.proofs as nodes
 pub mod Links
+mod Runs

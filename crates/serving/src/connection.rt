@@ -1,9 +1,9 @@
 //! One connection: its client's records, and then the client's audit.
 
-use crate::audit::{Auditor, Office};
 use crate::clock::SystemClock;
 use crate::link::ClientLink;
 use crate::members::SERVER;
+use auditing::{Auditor, Audits, Office, Pass, Shelf};
 use authenticator::Authenticator;
 use nodes::{ClientNode, Gateway, HonestServer, StreamFault};
 use rpc::records::{Counting, RecordReader};
@@ -12,25 +12,24 @@ use std::io::{BufReader, Write};
 use std::net::{SocketAddr, TcpStream};
 use std::sync::{Mutex, Wait};
 use std::thread::Threads;
-use witness_calls::{Pass, Shelf};
 
 /// The bytes that are read of a stream at once.
 const READ_AHEAD: usize = 65536;
 
 /// What all connections of a run share.
-pub(crate) struct Stage<'a, R, T, D> {
-    pub(crate) office: Office<'a, R, D>,
+pub(crate) struct Stage<'a, R, T, E, S> {
+    pub(crate) office: Office<'a, R, E, S>,
     pub(crate) clock: &'a T,
     pub(crate) server: &'a Mutex<HonestServer>,
 }
 
-impl<'a, R, T, D> Clone for Stage<'a, R, T, D> {
-    fn clone(&self) -> Result<Stage<'a, R, T, D>, AllocError> {
+impl<'a, R, T, E, S> Clone for Stage<'a, R, T, E, S> {
+    fn clone(&self) -> Result<Stage<'a, R, T, E, S>, AllocError> {
         Ok(*self)
     }
 }
 
-impl<'a, R, T, D> Copy for Stage<'a, R, T, D> {}
+impl<'a, R, T, E, S> Copy for Stage<'a, R, T, E, S> {}
 
 /// A client that waits for its connection, with its pass at the witness.
 #[derive(Drop)]
@@ -63,8 +62,8 @@ impl Ended {
 }
 
 /// Serves a connection to its end, and audits its client.
-pub(crate) fn serve_connection<'a, R, T, D>(
-    stage: Stage<'a, R, T, D>,
+pub(crate) fn serve_connection<'a, R, T, E, S>(
+    stage: Stage<'a, R, T, E, S>,
     seat: Seat,
     stream: TcpStream,
     address: SocketAddr,
@@ -72,7 +71,8 @@ pub(crate) fn serve_connection<'a, R, T, D>(
 where
     R: Threads + Wait + Sync,
     T: std::time::Clock,
-    D: Write + Shelf,
+    E: Write,
+    S: Shelf,
 {
     let Seat { client, pass } = seat;
     let client = serve_client(stage, client, stream, address);
@@ -81,8 +81,8 @@ where
 
 /// Answers a client's records to the end of its stream, and says why that came before its time. Gives the
 /// client back.
-fn serve_client<'a, R, T, D>(
-    stage: Stage<'a, R, T, D>,
+fn serve_client<'a, R, T, E, S>(
+    stage: Stage<'a, R, T, E, S>,
     client: ClientNode,
     stream: TcpStream,
     address: SocketAddr,
@@ -90,7 +90,8 @@ fn serve_client<'a, R, T, D>(
 where
     R: Threads + Wait + Sync,
     T: std::time::Clock,
-    D: Write + Shelf,
+    E: Write,
+    S: Shelf,
 {
     let office = stage.office;
     let number = client.number();
@@ -106,16 +107,25 @@ where
 }
 
 /// Says why a stream came to its end before its time.
-fn say_fault<R, D>(office: Office<'_, R, D>, number: u32, address: SocketAddr, fault: StreamFault)
+fn say_fault<R, E, S>(
+    office: Office<'_, R, E, S>,
+    number: u32,
+    address: SocketAddr,
+    fault: StreamFault,
+)
 where
     R: Wait,
-    D: Write + Shelf,
+    E: Write,
+    S: Shelf,
 {
     let code = fault.number();
     let line = format!(in office.alloc;
         "nfsacc: node {number} ({address}): fault {code}: {fault}\n"
     );
-    office.desk.lock(office.rt).say_fault(fault, line);
+    if let StreamFault::NoMemory = fault {
+        office.desk.lock(office.rt).note_no_memory();
+    }
+    office.desk.lock(office.rt).say(line);
 }
 
 /// Answers the records of a stream to its end.
@@ -139,10 +149,11 @@ fn serve_records<R: Wait, T: std::time::Clock>(
 }
 
 /// Audits a client to its last signed entry.
-fn audit_client<'a, R, D>(office: Office<'a, R, D>, client: ClientNode, pass: Pass) -> Ended
+fn audit_client<'a, R, E, S>(office: Office<'a, R, E, S>, client: ClientNode, pass: Pass) -> Ended
 where
     R: Threads + Wait + Sync,
-    D: Write + Shelf,
+    E: Write,
+    S: Shelf,
 {
     let mut auditor = Auditor::new(office, pass);
     let mut filed = 0;
@@ -152,10 +163,10 @@ where
     {
         auditor.note_no_memory();
     }
-    let Auditor { caller, kept, .. } = auditor;
+    let Audits { pass, kept } = auditor.into_audits();
     Ended {
         client,
-        pass: caller.into_pass(),
+        pass,
         filed,
         kept,
     }

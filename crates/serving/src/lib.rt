@@ -2,19 +2,16 @@
 //! in the end everybody's log audited by a witness.
 #![tactic(auto)]
 
-mod audit;
 mod clock;
 mod connection;
-mod desk;
-mod finish;
 mod keys;
-mod lines;
 mod link;
 mod listen;
 mod members;
 mod order;
 mod run;
 
+pub use auditing::NodeReport;
 pub use clock::SystemClock;
 pub use keys::Masters;
 pub use nodes::exchanges::exchange;

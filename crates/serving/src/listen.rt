@@ -1,13 +1,13 @@
 //! The connections of a run, each in a thread of its own.
 
 use crate::connection::{Ended, Seat, Stage, serve_connection};
+use auditing::Shelf;
 use std::alloc::AllocError;
 use std::io::{self, Write};
 use std::net::{OpenListener, SocketAddr, TcpStream};
 use std::sync::Wait;
 use std::thread;
 use std::thread::{JoinHandle, Scope, Threads};
-use witness_calls::Shelf;
 
 /// A connection that a thread serves, or one whose end has come.
 #[derive(Drop)]
@@ -44,8 +44,8 @@ fn accept<L: OpenListener<Stream = TcpStream>>(
 /// Serves as many connections as there are seats, each by a thread of its own, in the order of the seats.
 /// Where no thread is made a connection is served before the next one is accepted. A seat for which none can
 /// be accepted stays without one.
-pub(crate) fn serve_all<'a, R, T, L, D>(
-    stage: Stage<'a, R, T, D>,
+pub(crate) fn serve_all<'a, R, T, L, E, S>(
+    stage: Stage<'a, R, T, E, S>,
     listener: &L,
     seats: Vec<Seat>,
 ) -> Result<Vec<Ended>, AllocError>
@@ -53,7 +53,8 @@ where
     R: Threads + Wait + Sync,
     T: std::time::Clock + Sync,
     L: OpenListener<Stream = TcpStream>,
-    D: Write + Shelf + Send,
+    E: Write + Send,
+    S: Shelf + Send,
 {
     thread::scope(
         thread::scope_env(),
@@ -63,8 +64,8 @@ where
 }
 
 /// As `serve_all`, in a scope.
-fn serve_in<'s, V, R, T, L, D>(
-    stage: Stage<'s, R, T, D>,
+fn serve_in<'s, V, R, T, L, E, S>(
+    stage: Stage<'s, R, T, E, S>,
     listener: &L,
     seats: Vec<Seat>,
     scope: &Scope<'s, V>,
@@ -73,7 +74,8 @@ where
     R: Threads + Wait + Sync,
     T: std::time::Clock + Sync,
     L: OpenListener<Stream = TcpStream>,
-    D: Write + Shelf + Send,
+    E: Write + Send,
+    S: Shelf + Send,
 {
     let count = seats.len();
     let mut left = seats;
@@ -102,8 +104,8 @@ fn end_of<R: Threads + Wait>(rt: &R, started: Started) -> Ended {
 }
 
 /// Accepts the next connection, and starts its thread.
-fn start<'s, V, R, T, L, D>(
-    stage: Stage<'s, R, T, D>,
+fn start<'s, V, R, T, L, E, S>(
+    stage: Stage<'s, R, T, E, S>,
     listener: &L,
     seat: Seat,
     scope: &Scope<'s, V>,
@@ -112,7 +114,8 @@ where
     R: Threads + Wait + Sync,
     T: std::time::Clock + Sync,
     L: OpenListener<Stream = TcpStream>,
-    D: Write + Shelf + Send,
+    E: Write + Send,
+    S: Shelf + Send,
 {
     let office = stage.office;
     match accept(listener) {

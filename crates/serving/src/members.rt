@@ -3,9 +3,9 @@
 ghost use Rattle.std.specs.Prelude.{◌≡◌, ◌≤◌};
 ghost use Rattle.serving.specs.Orders.{IsOrder};
 
-use crate::desk::Desk;
 use crate::order::Order;
 use crate::run::ServeFault;
+use auditing::{Desk, Shelf};
 use authenticator::{Kind, Member, Roster};
 use merkle_keys::Signer;
 use nodes::{ClientNode, HonestServer, Node};
@@ -13,7 +13,6 @@ use std::alloc::{AllocError, Global};
 use std::io::Write;
 use std::marker::Model;
 use std::thread::Threads;
-use witness_calls::Shelf;
 
 /// The number of the server. The clients have those after it.
 pub(crate) const SERVER: u32 = 1;
@@ -58,13 +57,13 @@ impl Keyed {
 }
 
 /// Makes a node's keys, and tells of it.
-fn make_keys<R: Threads + Sync, D: Write + Shelf>(
+fn make_keys<R: Threads + Sync, E: Write, S: Shelf>(
     rt: &R,
     alloc: Global,
     order: &Order<'_>,
     number: u32,
     height: u32,
-    desk: &mut Desk<D>,
+    desk: &mut Desk<E, S>,
 ) -> Result<Keyed, AllocError>
     requires some { 1 ≤ height }
     requires low { height ≤ 15 }
@@ -82,11 +81,11 @@ fn make_keys<R: Threads + Sync, D: Write + Shelf>(
 }
 
 /// Makes all nodes of a run, with new keys.
-pub(crate) fn make_nodes<R: Threads + Sync, D: Write + Shelf>(
+pub(crate) fn make_nodes<R: Threads + Sync, E: Write, S: Shelf>(
     rt: &R,
     alloc: Global,
     order: &Order<'_>,
-    desk: &mut Desk<D>,
+    desk: &mut Desk<E, S>,
 ) -> Result<Nodes, ServeFault>
     requires { IsOrder order.now }
 {
@@ -98,11 +97,11 @@ pub(crate) fn make_nodes<R: Threads + Sync, D: Write + Shelf>(
 }
 
 /// Makes the keys of the clients, by rising numbers.
-fn client_keys<R: Threads + Sync, D: Write + Shelf>(
+fn client_keys<R: Threads + Sync, E: Write, S: Shelf>(
     rt: &R,
     alloc: Global,
     order: &Order<'_>,
-    desk: &mut Desk<D>,
+    desk: &mut Desk<E, S>,
 ) -> Result<Vec<Keyed>, AllocError>
     requires { IsOrder order.now }
 {

@@ -1,1 +1,3 @@
 pub mod Closing
+pub mod Shelves
+pub mod Telling

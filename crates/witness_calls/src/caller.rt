@@ -1,8 +1,16 @@
 //! A pass at a witness.
 
+ghost use Rattle.std.specs.Prelude.{◌≡◌};
+ghost use Rattle.node_book.specs.Events.{event_in, question_in};
+ghost use Rattle.node_book.specs.Replies.{reply_in};
+ghost use Rattle.node_book.specs.witness_spec.Events.{Ask, Audit, Forward, ItsChallenges, ItsEvidence, ItsIndication};
+ghost use Rattle.witness_service.specs.Claims.{Keeps};
+ghost use Rattle.witness_calls.specs.Telling.{Says};
+
 use crate::said::Said;
 use authenticator::Roster;
 use std::alloc::Global;
+use std::marker::Model;
 use std::sync::Wait;
 use witness_service::{
     Event, EventOf, Pass, Question, Reply, SignatureCache, WitnessService, admit,
@@ -24,6 +32,19 @@ pub struct Caller<'a, R> {
     pass: Pass,
 }
 
+impl<'a, R> Model for Caller<'a, R> {
+    ghost use Rattle.std.specs.Prelude.{List};
+    ghost use Rattle.std.specs.Coded.{coded_list};
+    ghost use Rattle.witness_service.specs.Claims.{Claim};
+    ghost use Rattle.witness_service.specs.Codes.{claim_code};
+
+    ghost Value = { List Claim };
+
+    ghost coded = { coded_list claim_code };
+
+    ghost view = { λ c. c.pass.claims };
+}
+
 impl<'a, R: Wait> Caller<'a, R> {
     /// The caller who has a pass. The roster is the witness's.
     pub fn new(
@@ -32,7 +53,9 @@ impl<'a, R: Wait> Caller<'a, R> {
         service: &'a WitnessService,
         roster: &'a Roster,
         pass: Pass,
-    ) -> Caller<'a, R> {
+    ) -> Caller<'a, R>
+        ensures { result ≡ pass.claims }
+    {
         Caller {
             runtime,
             alloc,
@@ -44,7 +67,9 @@ impl<'a, R: Wait> Caller<'a, R> {
     }
 
     /// Gives the pass back, with the receipts of all steps.
-    pub fn into_pass(self) -> Pass {
+    pub fn into_pass(self) -> Pass
+        ensures { result.claims ≡ self.entry }
+    {
         let Caller { pass, .. } = self;
         pass
     }
@@ -60,13 +85,17 @@ impl<'a, R: Wait> Caller<'a, R> {
     }
 
     /// One event, with its reply: one step of the witness's books.
-    pub fn step(&mut self, event: Event) -> Reply {
+    pub fn step(&mut self, event: Event) -> Reply
+        ensures { Keeps self.old (event_in event) (reply_in result) self.new }
+    {
         self.service
             .step(self.runtime, self.alloc, &mut self.pass, event)
     }
 
     /// One event that asks for no job and brings none back.
-    fn say(&mut self, event: Event) -> Said {
+    fn say(&mut self, event: Event) -> Said
+        ensures { Says self.old (event_in event) result self.new }
+    {
         Said::of(self.step(event))
     }
 
@@ -79,32 +108,44 @@ impl<'a, R: Wait> Caller<'a, R> {
     }
 
     /// Has the node asked for the next segment of its log.
-    pub fn audit(&mut self, node: u32) -> Said {
+    pub fn audit(&mut self, node: u32) -> Said
+        ensures { Says self.old (Audit node) result self.new }
+    {
         self.say(EventOf::Audit(node))
     }
 
     /// Takes the oldest authenticator that a node's log showed of another one.
-    pub fn forward(&mut self, node: u32) -> Said {
+    pub fn forward(&mut self, node: u32) -> Said
+        ensures { Says self.old (Forward node) result self.new }
+    {
         self.say(EventOf::Forward(node))
     }
 
     /// Asks for a node's failure indication.
-    pub fn indication(&mut self, node: u32) -> Said {
+    pub fn indication(&mut self, node: u32) -> Said
+        ensures { Says self.old (Ask node ItsIndication) result self.new }
+    {
         self.ask(node, Question::Indication)
     }
 
     /// Asks for the challenges to a node that are open.
-    pub fn challenges(&mut self, node: u32) -> Said {
+    pub fn challenges(&mut self, node: u32) -> Said
+        ensures { Says self.old (Ask node ItsChallenges) result self.new }
+    {
         self.ask(node, Question::Challenges)
     }
 
     /// Asks for the evidence against a node.
-    pub fn evidence(&mut self, node: u32) -> Said {
+    pub fn evidence(&mut self, node: u32) -> Said
+        ensures { Says self.old (Ask node ItsEvidence) result self.new }
+    {
         self.ask(node, Question::Evidence)
     }
 
     /// Asks what the witness says of a node.
-    fn ask(&mut self, node: u32, question: Question) -> Said {
+    fn ask(&mut self, node: u32, question: Question) -> Said
+        ensures { Says self.old (Ask node (question_in question)) result self.new }
+    {
         self.say(EventOf::Ask(node, question))
     }
 }

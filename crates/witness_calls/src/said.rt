@@ -1,5 +1,9 @@
 //! What a witness said.
 
+ghost use Rattle.std.specs.Prelude.{◌≡◌};
+ghost use Rattle.node_book.specs.Replies.{reply_in};
+ghost use Rattle.witness_calls.specs.Telling.{IsSaid, indication_word};
+
 use authenticator::{Authenticator, Number};
 use challenge::{Challenge, Evidence};
 use std::sync::Arc;
@@ -43,7 +47,9 @@ pub enum Said {
 
 impl Said {
     /// What a reply says. A job or a done value in it, which no event of these has, is spent without use.
-    pub fn of(reply: Reply) -> Said {
+    pub fn of(reply: Reply) -> Said
+        ensures { IsSaid (reply_in reply) result }
+    {
         match reply {
             ReplyOf::Noted => Said::Noted,
             ReplyOf::Already => Said::Already,
@@ -95,7 +101,9 @@ impl Said {
 }
 
 /// The word of an indication.
-pub fn indication_word(indication: Indication) -> &'static str {
+pub fn indication_word(indication: Indication) -> &'static str
+    ensures { result.now ≡ indication_word indication }
+{
     match indication {
         Indication::Trusted => "trusted",
         Indication::Suspected => "suspected",

@@ -1,5 +1,8 @@
 //! What a witness says of a node, in one line.
 
+ghost use Rattle.std.specs.Prelude.{◌≡◌, IfOk};
+ghost use Rattle.witness_calls.specs.Telling.{IsListed, Tells, indication_word};
+
 use crate::caller::Caller;
 use crate::said::{Said, indication_word};
 use std::sync::Wait;
@@ -18,7 +21,9 @@ pub struct Told {
 
 impl Told {
     /// The word of the indication.
-    pub fn word(&self) -> &'static str {
+    pub fn word(&self) -> &'static str
+        ensures { result.now ≡ indication_word self.now.indication }
+    {
         indication_word(self.indication)
     }
 }
@@ -26,7 +31,9 @@ impl Told {
 impl<'a, R: Wait> Caller<'a, R> {
     /// Asks what the witness says of a node, and for its open challenges. Where it doesn't tell these, what
     /// it says comes back.
-    pub fn told(&mut self, node: u32) -> Result<Told, Said> {
+    pub fn told(&mut self, node: u32) -> Result<Told, Said>
+        ensures { IfOk result (λ told. Tells self.old node told self.new) }
+    {
         match self.indication(node) {
             Said::Told(indication) => self.told_as(node, indication),
             said => Err(said),
@@ -34,7 +41,9 @@ impl<'a, R: Wait> Caller<'a, R> {
     }
 
     /// The same of a node with this indication.
-    fn told_as(&mut self, node: u32, indication: Indication) -> Result<Told, Said> {
+    fn told_as(&mut self, node: u32, indication: Indication) -> Result<Told, Said>
+        ensures { IfOk result (λ told. IsListed self.old node indication told self.new) }
+    {
         match self.challenges(node) {
             Said::Open(challenges) => Ok(Told {
                 node,

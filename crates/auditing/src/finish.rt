@@ -1,8 +1,7 @@
-//! The end of a run: everybody's log is audited, and what the witness says of each is written.
+//! The end of a run: everybody's log is audited, and the witness is asked what it says of each node.
 
-use crate::audit::{Auditor, last_signed};
-use crate::connection::Ended;
-use crate::lines::{LineFault, write_line};
+use crate::accounts::last_signed;
+use crate::audit::{Auditor, no_more};
 use authenticator::Authenticator;
 use nodes::NodeLog;
 use std::alloc::AllocError;
@@ -14,14 +13,16 @@ use witness_calls::Shelf;
 
 /// A node whose log is to be audited, and how far it was.
 #[derive(Clone, Copy)]
-pub(crate) struct Standing<'n> {
-    pub(crate) number: u32,
-    pub(crate) log: &'n NodeLog,
+pub struct Standing<'n> {
+    /// The node's number.
+    pub number: u32,
+    /// Its log.
+    pub log: &'n NodeLog,
     /// The last number that the witness has filed.
-    pub(crate) filed: u64,
+    pub filed: u64,
 }
 
-impl<'a, R: Threads + Wait + Sync, D: Write + Shelf> Auditor<'a, R, D> {
+impl<'a, R: Threads + Wait + Sync, E: Write, S: Shelf> Auditor<'a, R, E, S> {
     /// Audits a node to its last signed entry, and names it where it can't be.
     fn finish_node(&mut self, standing: &Standing<'_>) -> Result<(), AllocError> {
         let Standing { number, log, filed } = *standing;
@@ -51,18 +52,33 @@ impl<'a, R: Threads + Wait + Sync, D: Write + Shelf> Auditor<'a, R, D> {
         self.audit(number, log, filed)
     }
 
-    /// Audits each node to its last signed entry, and hands the witness what each showed of others, with what
-    /// the clients' audits kept. Where memory is refused for one the others are audited, and the desk notes
-    /// it.
-    pub(crate) fn finish(&mut self, nodes: &[Standing<'_>], ended: &[Ended]) {
+    /// Audits each node to its last signed entry, and hands the witness what each showed of others. Where
+    /// memory is refused for one the others are audited, and the desk notes it.
+    pub fn finish(&mut self, nodes: &[Standing<'_>]) {
         for standing in nodes {
             if self.finish_node(standing).is_err() {
-                self.note_no_memory();
+                self.note_unaudited(standing.number);
             }
         }
-        if self.pass_on_all(nodes).is_err() || self.learn_kept(ended).is_err() {
+        if self.pass_on_all(nodes).is_err() {
             self.note_no_memory();
         }
+    }
+
+    /// Hands the witness what an earlier audit found and their books had no room for. Where memory is refused
+    /// the desk notes it.
+    pub fn learn_kept(&mut self, kept: &[Authenticator]) {
+        if self.learn_each(kept).is_err() {
+            self.note_no_memory();
+        }
+    }
+
+    /// Says that memory was refused to the audit of a node, and notes it.
+    fn note_unaudited(&self, number: u32) {
+        self.note_no_memory();
+        self.say(format!(in self.office.alloc;
+            "nfsacc: node {number}: memory was refused to its audit: what is said of it accuses nobody\n"
+        ));
     }
 
     /// Hands the witness what each node's log showed of others.
@@ -74,14 +90,6 @@ impl<'a, R: Threads + Wait + Sync, D: Write + Shelf> Auditor<'a, R, D> {
         self.learn_each(&kept)
     }
 
-    /// Hands the witness what the clients' audits kept.
-    fn learn_kept(&mut self, ended: &[Ended]) -> Result<(), AllocError> {
-        for one in ended {
-            self.learn_each(&one.kept)?;
-        }
-        Ok(())
-    }
-
     /// Hands the witness these authenticators.
     fn learn_each(&mut self, kept: &[Authenticator]) -> Result<(), AllocError> {
         for authenticator in kept {
@@ -90,26 +98,19 @@ impl<'a, R: Threads + Wait + Sync, D: Write + Shelf> Auditor<'a, R, D> {
         Ok(())
     }
 
-    /// Writes what the witness says of each node.
-    pub(crate) fn tell_all<O: Write>(
-        &mut self,
-        writer: &mut O,
-        nodes: &[Standing<'_>],
-    ) -> Result<(), LineFault> {
+    /// Asks what the witness says of each node in the end: its failure indication, its open challenges and the
+    /// evidence against it, one node after the other. So these answers are the last places of its journal.
+    pub fn ask_all(&mut self, nodes: &[Standing<'_>]) -> Result<(), AllocError> {
         for standing in nodes {
-            self.tell(writer, standing.number)?;
+            self.ask(standing.number)?;
         }
         Ok(())
     }
 
-    /// Writes what the witness says of a node: `N INDICATION OPEN`.
-    fn tell<O: Write>(&mut self, writer: &mut O, number: u32) -> Result<(), LineFault> {
-        let Ok(told) = self.caller.told(number) else {
-            return Err(LineFault::NoMemory);
-        };
-        write_line(
-            writer,
-            format!(in self.office.alloc; "{} {} {}\n", told.node, told.word(), told.open),
-        )
+    /// Asks what the witness says of a node.
+    fn ask(&mut self, number: u32) -> Result<(), AllocError> {
+        no_more(&self.caller.indication(number))?;
+        no_more(&self.caller.challenges(number))?;
+        no_more(&self.caller.evidence(number))
     }
 }

@@ -15,35 +15,44 @@ use witness_calls::{Asked, Caller, Evidence, Outcome, Pass, Said, Shelf, Witness
 const WORKERS: usize = 2;
 
 /// What all threads of a run share to audit.
-pub(crate) struct Office<'a, R, D> {
-    pub(crate) rt: &'a R,
-    pub(crate) alloc: Global,
-    pub(crate) service: &'a WitnessService,
-    pub(crate) roster: &'a Roster,
-    pub(crate) desk: &'a Mutex<Desk<D>>,
-    pub(crate) progress: bool,
+pub struct Office<'a, R, E, S> {
+    pub rt: &'a R,
+    pub alloc: Global,
+    pub service: &'a WitnessService,
+    pub roster: &'a Roster,
+    pub desk: &'a Mutex<Desk<E, S>>,
+    pub progress: bool,
 }
 
-impl<'a, R, D> Clone for Office<'a, R, D> {
-    fn clone(&self) -> Result<Office<'a, R, D>, AllocError> {
+impl<'a, R, E, S> Clone for Office<'a, R, E, S> {
+    fn clone(&self) -> Result<Office<'a, R, E, S>, AllocError> {
         Ok(*self)
     }
 }
 
-impl<'a, R, D> Copy for Office<'a, R, D> {}
+impl<'a, R, E, S> Copy for Office<'a, R, E, S> {}
 
 /// A pass at the witness, by which a thread audits nodes.
 #[derive(Drop)]
-pub(crate) struct Auditor<'a, R, D> {
-    pub(crate) office: Office<'a, R, D>,
+pub struct Auditor<'a, R, E, S> {
+    pub(crate) office: Office<'a, R, E, S>,
     pub(crate) caller: Caller<'a, R>,
     /// What was found of other nodes and not learned, since their books had no room for it.
     pub(crate) kept: Vec<Authenticator>,
 }
 
-impl<'a, R: Threads + Wait + Sync, D: Write + Shelf> Auditor<'a, R, D> {
+/// What an auditor leaves when it is done.
+#[derive(Drop)]
+pub struct Audits {
+    /// The pass, with the receipts of all its steps.
+    pub pass: Pass,
+    /// What was found of other nodes and not learned, since their books had no room for it.
+    pub kept: Vec<Authenticator>,
+}
+
+impl<'a, R: Threads + Wait + Sync, E: Write, S: Shelf> Auditor<'a, R, E, S> {
     /// Who audits by a pass.
-    pub(crate) fn new(office: Office<'a, R, D>, pass: Pass) -> Auditor<'a, R, D> {
+    pub fn new(office: Office<'a, R, E, S>, pass: Pass) -> Auditor<'a, R, E, S> {
         let caller = Caller::new(office.rt, office.alloc, office.service, office.roster, pass);
         let kept = Vec::new(office.alloc);
         Auditor {
@@ -53,24 +62,33 @@ impl<'a, R: Threads + Wait + Sync, D: Write + Shelf> Auditor<'a, R, D> {
         }
     }
 
+    /// What takes memory takes it from here.
+    pub fn alloc(&self) -> Global {
+        self.office.alloc
+    }
+
+    /// The pass, with what was kept.
+    pub fn into_audits(self) -> Audits {
+        let Auditor { caller, kept, .. } = self;
+        Audits {
+            pass: caller.into_pass(),
+            kept,
+        }
+    }
+
     /// Says a line.
-    pub(crate) fn say(&self, line: Result<String, AllocError>) {
+    pub fn say(&self, line: Result<String, AllocError>) {
         self.office.desk.lock(self.office.rt).say(line);
     }
 
     /// Has the desk note that memory was refused.
-    pub(crate) fn note_no_memory(&self) {
+    pub fn note_no_memory(&self) {
         self.office.desk.lock(self.office.rt).note_no_memory();
     }
 
     /// Audits a node from the last number that was filed to its last signed entry, as far as it comes.
     /// `filed` is the last number that is filed then, also where memory ran out.
-    pub(crate) fn audit(
-        &mut self,
-        number: u32,
-        log: &NodeLog,
-        filed: &mut u64,
-    ) -> Result<(), AllocError> {
+    pub fn audit(&mut self, number: u32, log: &NodeLog, filed: &mut u64) -> Result<(), AllocError> {
         let mut begun = false;
         for _ in 0..u64::MAX {
             let Some(last) = log.signed_after(*filed) else {
@@ -284,22 +302,10 @@ fn segment_packet(
 }
 
 /// That there is no more after what a witness said: an error where that is that memory ran out.
-fn no_more(said: &Said) -> Result<(), AllocError> {
+pub(crate) fn no_more(said: &Said) -> Result<(), AllocError> {
     if said.is_no_memory() {
         Err(AllocError)
     } else {
         Ok(())
     }
-}
-
-/// The last number at which a node signed something, or 0.
-pub(crate) fn last_signed(log: &NodeLog) -> u64 {
-    let mut last = 0;
-    for _ in 0..u64::MAX {
-        match log.signed_after(last) {
-            Some(next) => last = next.get(),
-            None => return last,
-        }
-    }
-    last
 }

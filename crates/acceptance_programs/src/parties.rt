@@ -1,0 +1,98 @@
+//! A server and a client of it, and what they do that they shouldn't.
+
+use authenticator::Roster;
+use commitment::senders::Sender;
+use envelopes::Envelope;
+use nfs_items::Time;
+use nodes::exchanges::exchange;
+use nodes::{ClientNode, ServerNode};
+use secure_log::log_entries::Body;
+use std::alloc::Global;
+use test_helpers::{client, roster_of, server};
+
+pub const SERVER: u32 = 1;
+
+pub const CLIENT: u32 = 2;
+
+const SERVER_MASTER: [u8; 32] = [1; 32];
+
+const CLIENT_MASTER: [u8; 32] = [2; 32];
+
+const HEIGHT: u32 = 3;
+
+/// The NULL call of NFS version 2 with the transaction 1.
+const CALL: [u8; 40] = [
+    0, 0, 0, 1, 0, 0, 0, 0, 0, 0, 0, 2, 0, 1, 0x86, 0xa3, 0, 0, 0, 2, 0, 0, 0, 0, 0, 0, 0, 0, 0, 0,
+    0, 0, 0, 0, 0, 0, 0, 0, 0, 0,
+];
+
+/// A server, and a client of it.
+#[derive(Drop)]
+pub struct Parties {
+    pub roster: Roster,
+    pub server: ServerNode,
+    pub client: ClientNode,
+}
+
+/// The roster of the two.
+fn roster(alloc: Global) -> Option<Roster> {
+    let one = Sender::new(alloc, SERVER, SERVER_MASTER, HEIGHT)
+        .ok()?
+        .root();
+    let two = Sender::new(alloc, CLIENT, CLIENT_MASTER, HEIGHT)
+        .ok()?
+        .root();
+    roster_of(alloc, &[server(one, HEIGHT), client(two, HEIGHT)])
+}
+
+/// The two, who have logged nothing.
+pub fn new_parties(alloc: Global) -> Option<Parties> {
+    let server = ServerNode::new(alloc, roster(alloc)?, SERVER, SERVER_MASTER, HEIGHT).ok()?;
+    let client = ClientNode::new(alloc, roster(alloc)?, CLIENT, CLIENT_MASTER, HEIGHT).ok()?;
+    Some(Parties {
+        roster: roster(alloc)?,
+        server,
+        client,
+    })
+}
+
+/// A message's body.
+fn body(alloc: Global) -> Option<Body> {
+    Vec::from_slice(alloc, &CALL).ok().map(Body::new)
+}
+
+impl Parties {
+    /// A call, which the server answers as it should.
+    pub fn call(&mut self, alloc: Global) -> bool {
+        let mut text = Vec::new(alloc);
+        exchange(
+            &mut self.client,
+            &mut self.server,
+            &mut text,
+            alloc,
+            Time::epoch(),
+            &CALL,
+        )
+        .is_ok()
+    }
+
+    /// A call, which the server answers wrongly.
+    pub fn lie(&mut self, alloc: Global) -> bool {
+        self.server.lie();
+        self.call(alloc)
+    }
+
+    /// Two messages of the client under one number, of which it logs the first alone: the second.
+    pub fn fork(&mut self, alloc: Global) -> Option<Envelope> {
+        let first = body(alloc)?;
+        let second = Body::new(Vec::new(alloc));
+        self.client.fork(SERVER, first, second).ok()?.second
+    }
+
+    /// The server receives a message, and logs it.
+    pub fn receive(&mut self, alloc: Global, envelope: &Envelope) -> bool {
+        let mut text = Vec::new(alloc);
+        envelope.view().write(&mut text).is_ok()
+            && self.server.receive(alloc, Time::epoch(), &text).is_ok()
+    }
+}

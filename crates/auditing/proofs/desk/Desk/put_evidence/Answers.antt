@@ -1,0 +1,8 @@
+use Rattle.std.proofs.Common.{◌∙◌}
+use Rattle.auditing.proofs.Putting.{evidence-put}
+use Rattle.auditing.proofs.desk.Desk.put_evidence.Goals as goal
+
+pub returns-in-Ok-clause-put : goal.returns-in-Ok-clause-put
+returns-in-Ok-clause-put g c h =
+    evidence-put _ _ c.args.folder.now _ _ _ _ _ (c.deref.ensures ∙ c.in-Ok.ensures.name)
+    (c.deref-in-Ok.ensures.value ∙ c.in-Ok.ensures.text) (c.put_file.ensures.put h)

@@ -1,0 +1,5 @@
+pub mod Desks
+pub mod Accounts
+pub mod Lines
+pub use Rattle.witness_calls.specs as witness_calls
+pub use Rattle.witness_reports.specs as witness_reports
