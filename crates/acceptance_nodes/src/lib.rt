@@ -9,6 +9,8 @@ mod devices;
 #[cfg(test)]
 mod exchanges;
 #[cfg(test)]
+mod long;
+#[cfg(test)]
 mod machines;
 #[cfg(test)]
 mod parties;
