@@ -74,13 +74,22 @@ check_bad_lines() {
     { head -c 10000 /dev/zero | tr '\0' '\n'; echo 'ask 1'; } > in
     run 1 run -
     said_is 'line 10001: bad'
+    { printf '#'; head -c 1048576 /dev/zero | tr '\0' a; echo; echo 'ask 1'; } > in
+    run 1 run -
+    said_is 'line 2: bad'
+    { printf 'node 1 server 1\n#'; head -c 65536 /dev/zero; printf '\nask 1\n#'; head -c 70000 /dev/zero; } > in
+    run 0 run -
+    [ "$(cat out)" = $'1 trusted 0\nclosed ok' ] || fail 'comments of more than 65,536 bytes' out
+    { printf ' #'; head -c 65536 /dev/zero | tr '\0' a; } > in
+    run 1 run -
+    said_is 'line 1: bad'
     printf 'node 1 server 1\nnode 2 client 1\ncall 2 1 %s\n' "$(head -c 24578 /dev/zero | tr '\0' 0)" > in
     run 1 run -
     said_is 'line 3: bad'
     : > in
     run 0 run -
     [ "$(cat out)" = 'closed ok' ] || fail 'an empty script' out
-    echo "$count bad lines, one of a megabyte, a body above the limit, and one after 10,000 empty lines are told by their numbers"
+    echo "$count bad lines, one of a megabyte, but no comment of any length, a body above the limit, and one after 10,000 empty lines are told by their numbers"
 }
 
 # Each way in which a script ends before its end.

@@ -6,10 +6,12 @@ usage: checks/serve.py PROGRAM
 """
 
 import os
+import socket
 import sys
 import tempfile
 import threading
 import time
+from datetime import datetime, timezone
 from hashlib import sha256
 from pathlib import Path
 from random import Random
@@ -27,6 +29,7 @@ EPOCH = (0, 0)
 NULL = bytes.fromhex('00000001 00000000 00000002 000186a3 00000002 00000000 00000000 00000000 00000000 00000000')
 NULL_REPLY = bytes.fromhex('00000001 00000001 00000000 00000000 00000000 00000000')
 PROMPT = 15
+FULL = 'nfsacc: standard output: No space left on device (os error 28)\n'
 
 
 def new_world() -> World:
@@ -81,15 +84,35 @@ def check_one_and_two(program: str):
 
 
 def check_one_more(program: str):
-    """A client past COUNT is never heard, and the end doesn't wait for it."""
+    """A client past COUNT is refused at once, or cut where it came before the last place was taken."""
     service = Service(program, 1, *heights(2, 2))
-    served, more = Connection(service.port), Connection(service.port)
-    more.send(record(NULL))
+    served, early = Connection(service.port), late_connection(service.port)
+    assert served.ask(NULL) == NULL_REPLY
+    assert early is None or early.is_cut()
+    assert refuses(service.port), 'a client past COUNT is not refused'
     assert served.ask(NULL) == NULL_REPLY
     served.finish()
     all_good(service, 1)
-    assert more.is_cut()
-    print('one client more than are served: it gets nothing, and the end comes without it')
+    print('one client more than are served: it is refused at once, and the one that is served goes on')
+
+
+def late_connection(port: int) -> Connection | None:
+    """A connection, if it isn't refused."""
+    try:
+        return Connection(port)
+    except ConnectionRefusedError:
+        return None
+
+
+def refuses(port: int) -> bool:
+    """Whether connections are refused, within five seconds."""
+    for _ in range(50):
+        connection = late_connection(port)
+        if connection is None:
+            return True
+        connection.close()
+        time.sleep(0.1)
+    return False
 
 
 def check_sixteen(program: str):
@@ -290,7 +313,7 @@ def check_hostile(program: str):
     assert (status, lines) == (0, trusted(6)), (status, lines, said)
     found = faults(said)
     assert found.get(2, '').startswith(('fault 4', 'fault 6')) and found.get(3, '').startswith('fault 5'), said
-    assert found.get(4, '').startswith(('fault 4', 'fault 5')), said
+    assert found.get(4) == 'fault 4: connection reset', said
     assert found.get(5, '').startswith('fault 3') and found.get(6, '').startswith('fault 3'), said
     assert 7 not in found, said
     print('a client that stops reading, half a record, a reset, garbage and an endless record: each loses only itself')
@@ -468,17 +491,122 @@ def check_closes_early(program: str):
     print('clients that go before their replies come: the others are served, and everybody is audited')
 
 
+# ---- times, patience and ends
+
+def write_once(connection: Connection, xid: int, handle: bytes) -> tuple[int, int]:
+    """The time at which the server heard a WRITE: its seconds and microseconds."""
+    body = call(xid, 8, handle + word(0, 0, 0) + opaque(b'x'))
+    return time_in(body, connection.ask(body))
+
+
+def check_times(program: str):
+    """The times of calls are the system's, to the microsecond, and don't fall."""
+    service = Service(program, 1, *heights(6, 6))
+    connection = Connection(service.port)
+    began = time.time_ns() // 1000
+    handle = connection.ask(call(1, 9, ROOT + opaque(b'f') + sattr(0o644)))[28:60]
+    times = [write_once(connection, xid, handle) for xid in range(2, 14)]
+    ended = time.time_ns() // 1000
+    assert times == sorted(times) and any(micros for _, micros in times), times
+    assert all(began <= seconds * 1000000 + micros <= ended for seconds, micros in times), (began, times, ended)
+    connection.finish()
+    all_good(service, 1)
+    print('the times of calls are the system\'s, to the microsecond')
+
+
+def check_shortage(program: str):
+    """Where the program may open no more files a connection waits until another one has ended, and takes no place before."""
+    service = Service(program, 4, *heights(4, 2), before='ulimit -n 9')
+    clients = [Connection(service.port) for _ in range(4)]
+    for client in clients:
+        assert client.ask(NULL) == NULL_REPLY
+        client.finish()
+    status, lines, said = service.end()
+    assert (status, lines) == (0, trusted(4)), (status, lines, said)
+    told = said.splitlines()
+    assert told and set(told) == {'nfsacc: no connection is accepted for now: Too many open files (os error 24)'}, said
+    print('where the program may open no more files, connections wait, and take no place before they are accepted')
+
+
+def check_idle(program: str):
+    """A silent connection ends in its time, within a record with fault 5; one that calls now and then stays."""
+    for options in ([], ['--control']):
+        with tempfile.TemporaryDirectory() as folder:
+            service = Service(program, 3, *heights(6, 4), '--idle', '2', *options, *([folder] if options else []))
+            silent, half, busy = (Connection(service.port) for _ in range(3))
+            half.send(record(NULL)[:20])
+            start = time.monotonic()
+            while time.monotonic() - start < 4:
+                assert busy.ask(NULL) == NULL_REPLY
+                time.sleep(0.8)
+            assert silent.ends() and half.ends()
+            busy.finish()
+            status, lines, said = service.end()
+            assert (status, lines) == (0, trusted(3)), (status, lines, said)
+            assert list(faults(said)) == [3] and faults(said)[3].startswith('fault 5'), said
+    print('with --idle silent connections end in their time, and others go on')
+
+
+def tell(folder: str, *words: bytes):
+    """Sends each of these to the control socket, by a connection of its own."""
+    for one in words:
+        with socket.socket(socket.AF_UNIX) as control:
+            control.connect(f'{folder}/control')
+            control.sendall(one)
+
+
+def check_control(program: str):
+    """The word of the control socket ends the run in order: silent clients and one that stops reading are cut, and everybody
+    is audited."""
+    with tempfile.TemporaryDirectory() as folder:
+        service = Service(program, 8, *heights(10, 7), '--control', folder)
+        silent, asking, deaf = Connection(service.port), Connection(service.port), stops_reading(service)
+        tell(folder, b'stop', b'start\n', b'stopp\n', b'\nstop\n', b'')
+        time.sleep(0.5)
+        assert asking.ask(NULL) == NULL_REPLY
+        status, _, said = run(program, 'serve', '0', '1', *heights(1, 1), '--control', folder)
+        assert status == 4 and said.startswith(f'nfsacc: {folder}/control: Address already in use'), (status, said)
+        start = time.monotonic()
+        tell(folder, b'stop\n')
+        assert silent.ends() and asking.ends()
+        assert refuses(service.port), 'a client is accepted after the end'
+        status, lines, said = service.end()
+        assert (status, lines) == (0, trusted(8)), (status, lines, said)
+        assert 'nfsacc: told to stop\n' in said and time.monotonic() - start < 60, said
+        assert not os.path.exists(f'{folder}/control'), 'the socket is left'
+        deaf.close()
+    print('the control socket ends a run in order, and everybody is audited')
+
+
+def check_left_control(program: str):
+    """A control socket that a killed run has left makes room; what isn't one stays."""
+    with tempfile.TemporaryDirectory() as folder:
+        killed = Service(program, 1, *heights(1, 1), '--control', folder)
+        killed.process.kill()
+        killed.process.wait()
+        killed.watch.cancel()
+        service = Service(program, 2, *heights(2, 1), '--control', folder)
+        assert null_client(service.port) == NULL_REPLY
+        tell(folder, b'stop\n')
+        status, lines, said = service.end()
+        assert (status, lines, said) == (0, trusted(2), 'nfsacc: told to stop\n'), (status, lines, said)
+        Path(folder, 'control').write_text('mine')
+        status, _, said = run(program, 'serve', '0', '1', *heights(1, 1), '--control', folder)
+        assert status == 4 and Path(folder, 'control').read_text() == 'mine', (status, said)
+    print('a control socket that a killed run has left makes room, and nothing else does')
+
+
 # ---- files and devices
 
 def check_devices(program: str):
     if os.path.exists('/dev/full'):
         status, _, said = run(program, 'serve', '0', '1', *heights(1, 1), output='/dev/full')
-        assert (status, said) == (4, 'nfsacc: a device failed\n'), (status, said)
+        assert (status, said) == (4, FULL), (status, said)
         status, printed, said = run(program, 'serve', '0', '1', *heights(1, 1), '--roster-out', '/dev/full')
         assert (status, printed) == (4, b'') and said.startswith('nfsacc: /dev/full: '), (status, printed, said)
     status, printed, said = run(program, 'serve', '0', '1', *heights(1, 1), '--roster-out', 'no folder/roster')
     assert (status, printed) == (4, b'') and said.startswith('nfsacc: no folder/roster: '), (status, printed, said)
-    for folder in ('no folder', sys.argv[0]):
+    for folder in ('no folder', sys.argv[0], '/proc'):
         status, printed, said = run(program, 'serve', '0', '1', *heights(1, 1), '--evidence', folder)
         assert (status, printed) == (4, b'') and said.startswith(f'nfsacc: {folder}: '), (status, printed, said)
     service = Service(program, 1, *heights(3, 2))
@@ -486,7 +614,8 @@ def check_devices(program: str):
     assert status == 4 and said.startswith(f'nfsacc: 127.0.0.1:{service.port}: '), (status, said)
     service.process.stdout.close()
     assert null_client(service.port) == NULL_REPLY
-    assert service.process.wait() == 4 and service.said() == 'nfsacc: a device failed\n', service.said()
+    assert service.process.wait() == 4, service.said()
+    assert service.said() == 'nfsacc: standard output: Broken pipe (os error 32)\n', service.said()
     service.watch.cancel()
     print('a full device, a folder that is none, a port that is taken and a closed pipe end with their status')
 
@@ -517,6 +646,14 @@ def root_of(master: bytes, height: int) -> bytes:
     return level[0]
 
 
+def untimed(lines: list[str]) -> list[str]:
+    """Lines without the times that they begin with, which are the system's and don't fall."""
+    times = [datetime.strptime(line.split(' ')[0], '%Y-%m-%dT%H:%M:%SZ') for line in lines]
+    now = datetime.now(timezone.utc).replace(tzinfo=None)
+    assert times == sorted(times) and all(abs(now - moment).total_seconds() < 600 for moment in times), lines
+    return [line.split(' ', 1)[1] for line in lines]
+
+
 def check_roster(program: str):
     secret = bytes(range(32))
     with tempfile.TemporaryDirectory() as name:
@@ -540,7 +677,7 @@ def check_roster(program: str):
             clients = [f'nfsacc: node {node}: audited to 3' for node in (2, 3)]
             # Its second reply, which may stand before or after the first one's acknowledgement.
             server = [f'nfsacc: node 1: audited to {number}' for number in (6, 7)]
-            told = said.splitlines()
+            told = untimed(said.splitlines())
             assert told[:3] == made and sorted(told[3:5]) == clients and told[5:] in ([one] for one in server), said
         outside = Service(program, 1, *heights(1, 1), '--address', '0.0.0.0', '--master', str(master))
         assert null_client(outside.port) == NULL_REPLY
@@ -556,7 +693,7 @@ def check_addresses(program: str):
         if status == 4 and said.startswith(f'nfsacc: [{address}]:0: '):
             print(f'skipped: {address} is no address of this machine')
             continue
-        assert (status, said) == (4, 'nfsacc: a device failed\n'), (address, status, said)
+        assert (status, said) == (4, FULL), (address, status, said)
         tried.append(address)
     service = Service(program, 1, *heights(1, 1), '--address', '127.0.0.2')
     connection = Connection(service.port, address='127.0.0.2')
@@ -575,6 +712,8 @@ REFUSED = [
     ['0', '1', '--client-height', 'x'], ['0', '1', '--server-height'], ['0', '1', '--progress', '--progress'],
     ['0', '1', '--address', '0.0.0.0'], ['0', '1', '--address', '::'], ['0', '1', '--address', 'localhost'],
     ['0', '1', '--address', '127.0.0.256'], ['0', '1', '--address', '10.0.0.1'], ['0', '1', '--no-such'],
+    ['0', '1', '--idle', '0'], ['0', '1', '--idle', '86401'], ['0', '1', '--idle', '1.5'], ['0', '1', '--idle'],
+    ['0', '1', '--control'],
 ]
 
 
@@ -595,6 +734,19 @@ def check_refused(program: str):
             assert (status, printed) == (wanted, b'') and str(master) in said, (mode, size, status, said)
         status, printed, said = run(program, 'serve', '0', '1', '--master', f'{name}/none')
         assert (status, printed) == (4, b'') and f'{name}/none' in said, (status, said)
+        status, printed, said = run(program, 'serve', '0', '1', '--master', name)
+        assert (status, printed) == (4, b'') and said.startswith(f'nfsacc: {name}: Is a directory'), (status, said)
+        status, printed, said = run(program, 'serve', '0', '1', '--master', '/dev/null')
+        assert (status, said) == (2, 'nfsacc: /dev/null: it is a device, and no file\n'), (status, said)
+        for size in (0, 31, 33):
+            status, printed, said = run(program, 'serve', '0', '1', '--master', '-', data=bytes(size))
+            assert (status, said) == (1, "nfsacc: standard input: it doesn't have 32 bytes\n"), (size, status, said)
+        Path(name).chmod(0o755)
+        status, printed, said = run(program, 'serve', '0', '1', '--control', name)
+        assert (status, said) == (2, f'nfsacc: {name}: others than its owner may use it\n'), (status, said)
+        for folder in (f'{name}/none', f'{name}/{0o600}.33'):
+            status, printed, said = run(program, 'serve', '0', '1', '--control', folder)
+            assert (status, printed) == (4, b'') and said.startswith(f'nfsacc: {folder}: '), (status, said)
     status, printed, _ = run(program, 'serve', '--help')
     assert status == 0 and all(f'\n{height:>4} ' in printed.decode() for height in range(1, 16)), printed.decode()
     print(f'{len(REFUSED) + len(NO_MASTERS) + 1} command lines are refused; the help tells of each height')
@@ -602,7 +754,7 @@ def check_refused(program: str):
 
 CHECKS = [check_refused, check_devices, check_closed_devices, check_roster, check_addresses, check_one_and_two,
           check_one_more, check_sixteen, check_cuts, check_keys_used_up, check_closes_early, check_hostile, check_crowd,
-          check_thousands]
+          check_thousands, check_times, check_shortage, check_idle, check_control, check_left_control]
 
 
 def main():

@@ -1,6 +1,6 @@
 #!/usr/bin/env python3
 """Sixteen clients at once, whose replies are those that one service alone owes in the order of the server's log. The
-program of checks/serve_log serves them, compares its log with the service, and prints the log's records and replies,
+program of crates/serve_log serves them, compares its log with the service, and prints the log's records and replies,
 which are compared here with what each client sent and got over TCP.
 
 usage: checks/serve_log.py PROGRAM [CALLS]    CALLS of each client, 125 if not given, with a record that is none after

@@ -9,15 +9,16 @@ PATIENCE = 600
 
 
 class Service:
-    """A program that serves, once it has said on which port. Words of a shell before it may close or replace devices."""
+    """A program that serves, once it has said on which port. Words of a shell may close or replace its devices, and lines of
+    one may stand before it."""
 
-    def __init__(self, program: str, count: int, *options: str, shell: str = ''):
+    def __init__(self, program: str, count: int, *options: str, shell: str = '', before: str = ':'):
         self.errors = tempfile.TemporaryFile()
         self.peak = 0.0
         self.seconds = 0.0
         words = [program, 'serve', '0', str(count), *options]
-        if shell:
-            words = ['sh', '-c', f'exec "$@" {shell}', 'sh', *words]
+        if shell or before != ':':
+            words = ['sh', '-c', f'{before}; exec "$@" {shell}', 'sh', *words]
         self.process = subprocess.Popen(words, stdin=subprocess.DEVNULL, stdout=subprocess.PIPE, stderr=self.errors)
         self.watch = threading.Timer(PATIENCE, self.process.kill)
         self.watch.start()
@@ -48,10 +49,10 @@ class Service:
         return self.process.returncode, lines, self.said()
 
 
-def run(program: str, *words: str, output: str | None = None) -> tuple[int, bytes, str]:
-    """A run of the program that is to end by itself: its status, what it printed and what it said."""
+def run(program: str, *words: str, output: str | None = None, data: bytes = b'') -> tuple[int, bytes, str]:
+    """A run of the program that is to end by itself: its status, what it printed and what it said. It reads these data."""
     with open(output or '/dev/null', 'wb') as device:
-        done = subprocess.run([program, *words], stdin=subprocess.DEVNULL, stdout=device if output else subprocess.PIPE,
+        done = subprocess.run([program, *words], input=data, stdout=device if output else subprocess.PIPE,
                               stderr=subprocess.PIPE, timeout=PATIENCE, check=False)
     return done.returncode, done.stdout or b'', done.stderr.decode()
 

@@ -4,7 +4,7 @@
 use crate::answers::spend;
 use crate::logs::{authenticator_text, challenge_packet};
 use crate::members::{HEIGHT, Handed, all_handed, keys_of};
-use authenticator::{Authenticator, Number};
+use authenticator::{Authenticator, Number, Roster};
 use envelopes::{Ack, Envelope};
 use packets::write_ack;
 use secure_log::log_entries::{Body, Receipt, SignatureText, message_hash, receipt_hash};
@@ -141,6 +141,19 @@ fn kind_of(event: Event) -> Admission {
     }
 }
 
+/// What a packet is admitted as under a roster.
+pub fn admitted_as(
+    alloc: Global,
+    roster: &Roster,
+    cache: &mut SignatureCache,
+    bytes: &[u8],
+) -> Admission {
+    match admit(alloc, roster, cache, bytes) {
+        Ok(event) => kind_of(event),
+        Err(refusal) => Admission::Refused(refusal),
+    }
+}
+
 /// What a packet is admitted as under the roster.
 pub fn taken(
     alloc: Global,
@@ -148,10 +161,7 @@ pub fn taken(
     cache: &mut SignatureCache,
     bytes: &[u8],
 ) -> Admission {
-    match admit(alloc, &handed.roster, cache, bytes) {
-        Ok(event) => kind_of(event),
-        Err(refusal) => Admission::Refused(refusal),
-    }
+    admitted_as(alloc, &handed.roster, cache, bytes)
 }
 
 /// Whether all packets are admitted or not as they should.

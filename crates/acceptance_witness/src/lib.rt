@@ -16,9 +16,13 @@ mod full;
 #[cfg(test)]
 mod handing;
 #[cfg(test)]
+mod largest;
+#[cfg(test)]
 mod learned;
 #[cfg(test)]
 mod logs;
+#[cfg(test)]
+mod many;
 #[cfg(test)]
 mod meeting;
 #[cfg(test)]

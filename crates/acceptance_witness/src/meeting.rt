@@ -76,6 +76,23 @@ fn gate(holds: Holds, wanted: u64) -> Meeting {
     }
 }
 
+/// The most places that a gate counts.
+const PLACES: usize = 7;
+
+/// A gate that counts how often each place is reached: the place's own byte, the lowest for place 0.
+#[derive(Drop)]
+struct Counts {
+    reached: AtomicU64,
+}
+
+impl Gate for Counts {
+    fn reached(&self, job: usize) {
+        if job <= PLACES {
+            self.reached.fetch_add(1 << (8 * job), Ordering::SeqCst);
+        }
+    }
+}
+
 /// Whether this is what came back of a node's job, done. It is spent.
 fn is_done(back: Back, node: u8) -> bool {
     match back {
@@ -137,6 +154,25 @@ fn miss<R: Threads + Wait + Sync>(rt: &R, alloc: Global, workers: usize, missed:
 fn meets_both_others<R: Threads + Wait + Sync>(rt: &R, alloc: Global, place: usize) -> bool {
     let gate = gate(Holds::One(place), 3);
     all_done(rt, alloc, &[5, 6, 2], 2, &gate) && gate.has_met(3, 0)
+}
+
+/// Whether three jobs reach the gate by their places from 1, each once, in a round with so many workers, and
+/// all come back done.
+fn places_are_counted<R: Threads + Wait + Sync>(rt: &R, alloc: Global, workers: usize) -> bool
+    requires least { 1 ≤ workers }
+    requires most { workers ≤ 16 }
+{
+    let gate = Counts {
+        reached: AtomicU64::new(0),
+    };
+    all_done(rt, alloc, &[5, 6, 2], workers, &gate)
+        && gate.reached.load(Ordering::SeqCst) == 0x0101_0100
+}
+
+#[test]
+fn a_gate_is_told_each_place_from_1_once(rt: HostRuntime) {
+    assert!(rt; places_are_counted(&rt, rt.alloc(), 1));
+    assert!(rt; places_are_counted(&rt, rt.alloc(), 2));
 }
 
 #[test]

@@ -1,22 +1,26 @@
 //! `nfsacc`: an accountable file service.
 #![tactic(auto)]
 
+ghost use Rattle.std.specs.Prelude.{◌≡◌, ◌⊎◌};
+
+mod control;
 mod devices;
 mod errors;
 mod evidence;
 mod master;
 mod serve;
 mod shelf;
+mod times;
 mod words;
 
 use console::command_line::{Request, RunRequest, ServeRefusal, parse, serve_order};
 use devices::Remembering;
-use errors::ErrorWriter;
+use errors::TimedErrors;
 use evidence::{check_file, show_roster};
 use rpc::records::{Counting, RecordFault, RecordReader};
 use rpc_streams::run_rpc;
 use scripts::{ScriptEnd, ScriptFault, run_script, serve};
-use serve::{open, order_of, report_served};
+use serve::{Opened, open, order_of, report_served};
 use shelf::{FileShelf, leads_to};
 use shown_names::ShownName;
 use std::fs::{Metadata, OpenFile};
@@ -167,7 +171,9 @@ fn report_end(rt: &impl Eprint, end: &ScriptEnd) -> u8 {
 }
 
 /// Says on standard error what is wrong with a file.
-pub(crate) fn report_file(rt: &impl Eprint, name: &str, error: &io::Error) -> u8 {
+pub(crate) fn report_file(rt: &impl Eprint, name: &str, error: &io::Error) -> u8
+    ensures { (result ≡ 3) ⊎ (result ≡ 4) }
+{
     if error.kind() == io::ErrorKind::OutOfMemory {
         return report_no_memory(rt);
     }
@@ -178,7 +184,9 @@ pub(crate) fn report_file(rt: &impl Eprint, name: &str, error: &io::Error) -> u8
 
 /// Says on standard error that standard output takes no more, and why: where no error was
 /// answered, a write took nothing.
-pub(crate) fn report_output(rt: &impl Eprint, error: Option<io::Error>) -> u8 {
+pub(crate) fn report_output(rt: &impl Eprint, error: Option<io::Error>) -> u8
+    ensures { (result ≡ 3) ⊎ (result ≡ 4) }
+{
     match error {
         Some(error) => report_file(rt, STANDARD_OUTPUT, &error),
         None => {
@@ -188,7 +196,10 @@ pub(crate) fn report_output(rt: &impl Eprint, error: Option<io::Error>) -> u8 {
     }
 }
 
-pub(crate) fn report_no_memory(rt: &impl Eprint) -> u8 {
+/// Says on standard error that memory was refused, and gives the status for it.
+pub(crate) fn report_no_memory(rt: &impl Eprint) -> u8
+    ensures { result ≡ 3 }
+{
     let _ = rt.eprintln("nfsacc: out of memory");
     NO_MEMORY
 }
@@ -214,21 +225,24 @@ fn main(rt: HostRuntime) -> ExitCode {
         Ok(Request::Serve(request)) => match serve_order(&request) {
             Ok(order) => match open(&rt, &order) {
                 Ok(opened) => {
-                    let asked = order_of(&order, opened.masters);
-                    let mut lines = io::writer(&rt);
-                    let errors = ErrorWriter::new(&rt);
+                    let Opened {
+                        listener,
+                        masters,
+                        control,
+                        stand_ins: _stand_ins,
+                    } = opened;
+                    let socket = control.as_ref().map(|control| &control.listener);
+                    let asked = order_of(&order, masters, socket);
+                    let mut lines = Remembering::new(io::writer(&rt));
+                    let errors = TimedErrors::new(&rt, alloc, order.progress);
                     let shelf = FileShelf::new(&rt, alloc);
                     let served = serve(
-                        &rt,
-                        alloc,
-                        &opened.listener,
-                        &rt,
-                        &mut lines,
-                        errors,
-                        shelf,
-                        &asked,
+                        &rt, alloc, listener, &rt, &mut lines, errors, shelf, &asked,
                     );
-                    report_served(&rt, &order, served)
+                    if let Some(control) = control {
+                        control.close(&rt);
+                    }
+                    report_served(&rt, &order, served, lines.last())
                 }
                 Err(status) => status,
             },

@@ -1,16 +1,21 @@
 //! `nfsacc serve`.
 
-ghost use Rattle.std.specs.Prelude.{◌≡◌};
+ghost use Rattle.std.specs.Prelude.{◌≡◌, ◌⊎◌, true, false, IsOk, IsErr, IfOk, IfErr};
 ghost use Rattle.console.specs.CommandLine.ServeOrders.{IsBounded};
 ghost use Rattle.scripts.specs.serving.Orders.{IsOrder};
 
+use crate::control::{Control, ControlFault};
 use crate::master::{MasterFault, read_master};
 use crate::shelf::FileShelf;
-use crate::{COMMAND_LINE, DEVICE, INPUT_FAULT, STANDARD_INPUT, report_file, report_no_memory};
+use crate::{
+    COMMAND_LINE, DEVICE, INPUT_FAULT, STANDARD_INPUT, report_file, report_no_memory, report_output,
+};
 use console::command_line::ServeOrder;
 use scripts::{Finished, Heights, Masters, Order, ServeFault};
+use shown_names::ShownName;
 use std::fs::File;
 use std::net::{Net, SocketAddr, TcpListener, TcpStream};
+use std::os::unix::net::UnixListener;
 use std::random::RandomSource;
 use std::rt::Files;
 use std::{fs, io};
@@ -18,18 +23,23 @@ use std::{fs, io};
 /// The device that has nothing to read.
 const NOTHING: &str = "/dev/null";
 
+/// What is said where the witness's journal isn't what it answered.
+const NOT_IN_JOURNAL: &str = "nfsacc: what the witness answered does not stand in its journal";
+
 /// What a run of the service has before its first key is made.
 #[derive(Drop)]
 pub struct Opened {
     pub listener: TcpListener,
     pub masters: Masters,
+    /// The socket at whose word the run comes to its end, if there is one.
+    pub control: Option<Control>,
     /// What stands in for standard input, output and error where they are closed. A socket would get their
     /// numbers else, and a client what is said of others.
     pub stand_ins: [Option<File>; 3],
 }
 
-/// Opens the port, and reads the secret bytes where a file of them is named; or the
-/// status where that can't be.
+/// Opens the port and the control socket, and reads the secret bytes where a file of them is named; or the
+/// status where that can't be. The folder for evidence is tried.
 pub fn open<R>(rt: &R, order: &ServeOrder<'_>) -> Result<Opened, u8>
 where
     R: Files<File = File> + Input + Eprint + AllocGlobal + RandomSource,
@@ -49,14 +59,40 @@ where
         }
     }
     let address = SocketAddr::new(order.address, order.port);
-    match TcpListener::bind(rt, address) {
-        Ok(listener) => Ok(Opened {
-            listener,
-            masters,
-            stand_ins,
-        }),
+    let listener = match TcpListener::bind(rt, address) {
+        Ok(listener) => listener,
         Err(error) => {
             let _ = eprintln!(rt; "nfsacc: {address}: {error}");
+            return Err(DEVICE);
+        }
+    };
+    Ok(Opened {
+        listener,
+        masters,
+        control: open_control(rt, order)?,
+        stand_ins,
+    })
+}
+
+/// Makes the control socket where a folder is named for it, or says why it can't be made and gives the status
+/// for that.
+fn open_control<R>(rt: &R, order: &ServeOrder<'_>) -> Result<Option<Control>, u8>
+where
+    R: Files + Net + Eprint + AllocGlobal,
+{
+    let Some(folder) = order.control else {
+        return Ok(None);
+    };
+    match Control::open(rt, rt.alloc(), folder) {
+        Ok(control) => Ok(Some(control)),
+        Err(ControlFault::NoMemory) => Err(report_no_memory(rt)),
+        Err(ControlFault::Open) => {
+            Err(report_words_of(rt, folder, "others than its owner may use it", COMMAND_LINE))
+        }
+        Err(ControlFault::Folder(error)) => Err(report_file(rt, folder, &error)),
+        Err(ControlFault::Socket(error)) => {
+            let name = ShownName::new(folder);
+            let _ = eprintln!(rt; "nfsacc: {name}/control: {error}");
             Err(DEVICE)
         }
     }
@@ -68,7 +104,11 @@ fn nothing<R: Files<File = File>>(rt: &R) -> Option<File> {
 }
 
 /// What a run is asked.
-pub fn order_of<'a>(order: &ServeOrder<'a>, masters: Masters) -> Order<'a>
+pub fn order_of<'a>(
+    order: &ServeOrder<'a>,
+    masters: Masters,
+    control: Option<&'a UnixListener>,
+) -> Order<'a>
     requires { IsBounded order.now }
     ensures order { IsOrder result }
     ensures connections { result.connections ≡ order.now.connections }
@@ -77,6 +117,8 @@ pub fn order_of<'a>(order: &ServeOrder<'a>, masters: Masters) -> Order<'a>
     ensures masters { result.masters ≡ masters }
     ensures files { (result.roster_out ≡ order.now.roster_out) × (result.evidence ≡ order.now.evidence) }
     ensures progress { result.progress ≡ order.now.progress }
+    ensures idle { result.idle ≡ order.now.idle }
+    ensures control { result.control ≡ control.entry }
 {
     Order {
         connections: order.connections,
@@ -88,18 +130,33 @@ pub fn order_of<'a>(order: &ServeOrder<'a>, masters: Masters) -> Order<'a>
         roster_out: order.roster_out,
         evidence: order.evidence,
         progress: order.progress,
+        idle: order.idle,
+        control,
     }
 }
 
-/// The status of a run, whether it came to its end or not.
+/// The status of a run, whether it came to its end or not; what is wrong is said on standard error. `last` is
+/// the last error of standard output, if it answered one.
 pub fn report_served<S: Drop>(
     rt: &impl Eprint,
     order: &ServeOrder<'_>,
     served: Result<Finished<S>, ServeFault>,
-) -> u8 {
+    last: Option<io::Error>,
+) -> u8
+    ensures open { IfOk served (λ f. IsErr f.closed → result ≡ 1) }
+    ensures part { IfOk served (λ f. IsOk f.closed → f.whole ≡ false → result ≡ 4) }
+    ensures done { IfOk served (λ f. IsOk f.closed → f.whole ≡ true → result ≡ 0) }
+    ensures fault { IfErr served (λ e. (result ≡ 1) ⊎ (result ≡ 3) ⊎ (result ≡ 4)) }
+{
     match &served {
-        Ok(finished) => status_of(rt, finished),
-        Err(fault) => report_fault(rt, order, fault),
+        Ok(finished) => {
+            let status = status_of(finished);
+            if status == INPUT_FAULT {
+                let _ = rt.eprintln(NOT_IN_JOURNAL);
+            }
+            status
+        }
+        Err(fault) => report_fault(rt, order, fault, last),
     }
 }
 
@@ -128,23 +185,38 @@ fn report_master(rt: &impl Eprint, name: &str, fault: &MasterFault) -> u8 {
     }
 }
 
-/// The status of a run that came to its end.
-fn status_of<S>(rt: &impl Eprint, finished: &Finished<S>) -> u8 {
+/// Says this of a file on standard error, and gives the status for it.
+fn report_words_of(rt: &impl Eprint, name: &str, words: &str, status: u8) -> u8 {
+    let name = ShownName::new(name);
+    let _ = eprintln!(rt; "nfsacc: {name}: {words}");
+    status
+}
+
+/// The status of a run that came to its end: a journal that isn't what the witness answered is the first
+/// fault.
+fn status_of<S>(finished: &Finished<S>) -> u8
+    ensures open { IsErr finished.now.closed → result ≡ 1 }
+    ensures part { IsOk finished.now.closed → finished.now.whole ≡ false → result ≡ 4 }
+    ensures done { IsOk finished.now.closed → finished.now.whole ≡ true → result ≡ 0 }
+{
     if finished.closed.is_err() {
-        let _ = rt.eprintln("nfsacc: what the witness answered does not stand in its journal");
         return INPUT_FAULT;
     }
     if finished.whole { 0 } else { DEVICE }
 }
 
 /// Says on standard error why a run came to no end.
-fn report_fault(rt: &impl Eprint, order: &ServeOrder<'_>, fault: &ServeFault) -> u8 {
+fn report_fault(
+    rt: &impl Eprint,
+    order: &ServeOrder<'_>,
+    fault: &ServeFault,
+    last: Option<io::Error>,
+) -> u8
+    ensures { (result ≡ 1) ⊎ (result ≡ 3) ⊎ (result ≡ 4) }
+{
     match fault {
         ServeFault::NoMemory => report_no_memory(rt),
-        ServeFault::Device => {
-            let _ = rt.eprintln("nfsacc: a device failed");
-            DEVICE
-        }
+        ServeFault::Device => report_output(rt, last),
         ServeFault::Listener(error) => {
             let _ = eprintln!(rt; "nfsacc: {error}");
             DEVICE

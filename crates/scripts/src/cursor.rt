@@ -1,6 +1,6 @@
 //! Where a script is read.
 
-use crate::lines::{Next, next_line};
+use crate::lines::{Next, next_line, pass_line};
 use crate::stop::Stop;
 use nfs_items::Time;
 use std::alloc::Global;
@@ -35,8 +35,8 @@ impl<'a, I: Read> Cursor<'a, I> {
         Time::new(seconds, 0).unwrap()
     }
 
-    /// Reads the next line that isn't passed over: empty lines are, and those that begin with `#`. Tells
-    /// whether there is one.
+    /// Reads the next line that isn't passed over: empty lines are, and those that begin with `#`, however long
+    /// they are. Tells whether there is one.
     pub(crate) fn next(&mut self) -> Result<bool, Stop> {
         for _ in 0..u64::MAX {
             self.number = self.number.saturating_add(1);
@@ -44,12 +44,22 @@ impl<'a, I: Read> Cursor<'a, I> {
                 Next::Line if self.is_passed_over() => {}
                 Next::Line => return Ok(true),
                 Next::End => return Ok(false),
+                Next::TooLong if self.is_passed_over() => self.pass_rest()?,
                 Next::TooLong => return Err(Stop::Bad),
                 Next::Device => return Err(Stop::Device),
                 Next::NoMemory => return Err(Stop::NoMemory),
             }
         }
         Err(Stop::Bad)
+    }
+
+    /// Reads on to the end of a line that is passed over.
+    fn pass_rest(&mut self) -> Result<(), Stop> {
+        match pass_line(self.reader) {
+            Next::Line | Next::End => Ok(()),
+            Next::Device => Err(Stop::Device),
+            Next::TooLong | Next::NoMemory => Err(Stop::Bad),
+        }
     }
 
     /// Whether the line is empty or begins with `#`.

@@ -11,7 +11,7 @@ const MAX_LINE: usize = 65536;
 pub(crate) enum Next {
     /// There is a line.
     Line,
-    /// There is one, which has more bytes than any that is good.
+    /// There is one, which has more bytes than any that is good, and isn't read to its end.
     TooLong,
     /// The script is at its end.
     End,
@@ -36,6 +36,21 @@ pub(crate) fn next_line<R: Read>(reader: &mut R, line: &mut Vec<u8>) -> Next {
         }
         if line.push(byte[0]).is_err() {
             return Next::NoMemory;
+        }
+    }
+    Next::TooLong
+}
+
+/// Reads on to the end of a line that is passed over, whatever its length, and keeps nothing of it: `Line`
+/// after its line feed, `End` where the script ends first. No byte after the line is read.
+pub(crate) fn pass_line<R: Read>(reader: &mut R) -> Next {
+    let mut byte = [0];
+    for _ in 0..u64::MAX {
+        match reader.read(&mut byte) {
+            Err(_) => return Next::Device,
+            Ok(0) => return Next::End,
+            Ok(_) if byte[0] == b'\n' => return Next::Line,
+            Ok(_) => {}
         }
     }
     Next::TooLong

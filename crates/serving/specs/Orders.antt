@@ -1,14 +1,15 @@
 -- What a run of the service may be asked.
-use Rattle.std.specs.Prelude.{ℕ, ◌≤◌}
+use Rattle.std.specs.Prelude.{ℕ, ◌≤◌, IfSome}
 use Rattle.serving.specs.declared.order.Order.{Order}
 
 -- a height of a tree of keys, with which a log has no more entries than a witness audits
 abbrev pub IsHeight : ℕ → Type 0
 IsHeight height = (1 ≤ height) × (height ≤ 15)
 
--- so many connections, and such heights
+-- so many connections, such heights, and at most a day of silence where there is an end to it
 pub record IsOrder (o : Order) : Type 0 where
   pub some : 1 ≤ o.connections
   pub most : o.connections ≤ 16
   pub server : IsHeight o.heights.server
   pub client : IsHeight o.heights.client
+  pub idle : IfSome o.idle (λ seconds. (1 ≤ seconds) × (seconds ≤ 86400))

@@ -4,12 +4,15 @@
 
 mod clock;
 mod connection;
+mod control;
 mod keys;
 mod link;
 mod listen;
 mod members;
 mod order;
+mod phase;
 mod run;
+mod stream;
 
 pub use auditing::NodeReport;
 pub use clock::SystemClock;

@@ -1,6 +1,7 @@
 //! What a run of the service is asked.
 
 use crate::keys::Masters;
+use std::os::unix::net::UnixListener;
 
 /// The heights of the trees of keys: so many keys as 2 to the height. A call takes two keys of its
 /// client, and two of the server.
@@ -27,4 +28,8 @@ pub struct Order<'a> {
     pub evidence: Option<&'a str>,
     /// Whether it is told how far the keys and the audits are.
     pub progress: bool,
+    /// How many seconds a connection may be silent, from 1 to 86,400; any number where none is given.
+    pub idle: Option<u32>,
+    /// The socket at whose word the run comes to its end, if there is one.
+    pub control: Option<&'a UnixListener>,
 }

@@ -15,6 +15,7 @@ use crate::connection::{Ended, Seat, Stage};
 use crate::listen::serve_all;
 use crate::members::{Nodes, SERVER, make_nodes};
 use crate::order::Order;
+use crate::phase::Phase;
 use auditing::{
     Auditor, Closed, Desk, LineFault, NodeReport, Office, Pass, ReceiptFault, Shelf, Standing,
     Trouble, WitnessService, are_forwarded, close, final_reports, has_account, open_witness,
@@ -125,13 +126,14 @@ struct Played {
     closed: Result<Closed, ReceiptFault>,
 }
 
-/// Serves connections, and audits everybody. The lines go to `writer`: in the end one for each node, of what
+/// Serves connections, and audits everybody. The listener is closed once so many connections as are served
+/// were accepted, or none is accepted any more. The lines go to `writer`: in the end one for each node, of what
 /// the last places of the closed witness's journal say of it. What is said beside them is written to `errors`,
 /// and the files are put on the shelf: in the end the evidence of each report, where a folder is named for it.
 pub fn serve<R, T, L, O, E, S>(
     rt: &R,
     alloc: Global,
-    listener: &L,
+    listener: L,
     clock: &T,
     writer: &mut O,
     errors: E,
@@ -141,7 +143,7 @@ pub fn serve<R, T, L, O, E, S>(
 where
     R: Threads + Wait + Sync,
     T: std::time::Clock + Sync,
-    L: OpenListener<Stream = TcpStream>,
+    L: OpenListener<Stream = TcpStream> + Drop,
     O: Write,
     E: Write + Send + Drop,
     S: Shelf + Send + Drop,
@@ -154,12 +156,12 @@ where
     ensures evidence { IfOk result (λ f. IsTrue f.whole → IfSome order.now.evidence (λ folder.
         IfOk f.closed (λ c. All (IsShown (S.files f.shelf) folder.now c.roster) f.reports.items))) }
 {
-    let port = port_of(listener)?;
+    let port = port_of(&listener)?;
     let mut desk = Desk::new(alloc, errors, shelf, folder_of(alloc, order)?);
     let ready = prepare(rt, alloc, order, &mut desk)?;
     let ready = kept(ready, announce(alloc, writer, port))?;
     let desk = Mutex::new(desk);
-    let played = play(rt, alloc, listener, clock, &desk, order.progress, ready)?;
+    let played = play(rt, alloc, listener, clock, &desk, order, ready)?;
     conclude(alloc, writer, desk.into_inner(), order.evidence, played)
 }
 
@@ -449,16 +451,16 @@ fn seats_of(
 fn play<R, T, L, E, S>(
     rt: &R,
     alloc: Global,
-    listener: &L,
+    listener: L,
     clock: &T,
     desk: &Mutex<Desk<E, S>>,
-    progress: bool,
+    order: &Order<'_>,
     ready: Ready,
 ) -> Result<Played, ServeFault>
 where
     R: Threads + Wait + Sync,
     T: std::time::Clock + Sync,
-    L: OpenListener<Stream = TcpStream>,
+    L: OpenListener<Stream = TcpStream> + Drop,
     E: Write + Send,
     S: Shelf + Send,
     ensures { IfOk result (λ p. IfOk p.closed IsOneRun) }
@@ -479,9 +481,9 @@ where
         service: &service,
         roster: &roster,
         desk,
-        progress,
+        progress: order.progress,
     };
-    let served = serve_seats(office, listener, clock, server, seats)?;
+    let served = serve_seats(office, listener, clock, order, server, seats)?;
     let parts = finish(office, last, served)?;
     let closed = close(service, parts.passes);
     Ok(Played {
@@ -494,23 +496,28 @@ where
 /// Serves the connections.
 fn serve_seats<R, T, L, E, S>(
     office: Office<'_, R, E, S>,
-    listener: &L,
+    listener: L,
     clock: &T,
+    order: &Order<'_>,
     server: HonestServer,
     seats: Vec<Seat>,
 ) -> Result<Served, AllocError>
 where
     R: Threads + Wait + Sync,
     T: std::time::Clock + Sync,
-    L: OpenListener<Stream = TcpStream>,
+    L: OpenListener<Stream = TcpStream> + Drop,
     E: Write + Send,
     S: Shelf + Send,
 {
     let server = Mutex::new(server);
+    let phase = Mutex::new(Phase::Serving);
     let stage = Stage {
         office,
         clock,
         server: &server,
+        phase: &phase,
+        idle: order.idle,
+        control: order.control,
     };
     let ended = serve_all(stage, listener, seats)?;
     Ok(Served {

@@ -27,6 +27,10 @@ pub record IsAsked (rows : List Row) (a : ServeAsked) : Type 0 where
   pub roster_out : a.roster_out ≡ first_of (codes "roster-out") rows
   -- the folder that evidence goes to, if one is given
   pub evidence : a.evidence ≡ first_of (codes "evidence") rows
+  -- the folder of the control socket, if one is given
+  pub control : a.control ≡ first_of (codes "control") rows
+  -- the seconds that a connection may be silent, if they are given
+  pub idle : a.idle ≡ first_of (codes "idle") rows
   -- whether progress is asked for, where the matches tell it
   pub progress : is_told (codes "progress") rows ≡ true → a.progress ≡ is_set (codes "progress") rows
 
@@ -63,5 +67,7 @@ serve_is words rows a none is asks =
       sym asks.master,
       sym asks.roster_out,
       sym asks.evidence,
+      sym asks.control,
+      sym asks.idle,
       sym progress,
     ) refl

@@ -121,6 +121,8 @@ asked_by (requests.Serve r) = Serve (record {
   master = option_map (λ s. s.now) r.master;
   roster_out = option_map (λ s. s.now) r.roster_out;
   evidence = option_map (λ s. s.now) r.evidence;
+  control = option_map (λ s. s.now) r.control;
+  idle = option_map (λ s. s.now) r.idle;
   progress = r.progress;
 })
 

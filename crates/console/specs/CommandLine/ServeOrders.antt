@@ -23,6 +23,11 @@ abbrev pub WritesOr : ℕ → ℕ → ℕ → Option Text → ℕ → Type 0
 WritesOr least most other None n = n ≡ other
 WritesOr least most other (Some text) n = Writes least most text n
 
+-- the same of an option for which no other number stands
+abbrev pub WritesIf : ℕ → ℕ → Option Text → Option ℕ → Type 0
+WritesIf least most None found = found ≡ None
+WritesIf least most (Some text) found = IsSome found × IfSome found (Writes least most text)
+
 -- an option is given, and its word isn't such a number
 abbrev pub IsNotWithin : ℕ → ℕ → Option Text → Type 0
 IsNotWithin least most None = ⊥
@@ -60,6 +65,8 @@ pub record Orders (r : ServeRequest) (o : ServeOrder) : Type 0 where
   pub master : o.master ≡ r.master
   pub roster_out : o.roster_out ≡ r.roster_out
   pub evidence : o.evidence ≡ r.evidence
+  pub control : o.control ≡ r.control
+  pub idle : WritesIf 1 86400 (option_map (λ s. s.now) r.idle) o.idle
   pub progress : o.progress ≡ r.progress
 
 -- its numbers are within their bounds
@@ -70,6 +77,7 @@ pub record IsBounded (o : ServeOrder) : Type 0 where
   pub server_most : o.server_height ≤ 15
   pub client_some : 1 ≤ o.client_height
   pub client_most : o.client_height ≤ 15
+  pub idle : IfSome o.idle (λ seconds. (1 ≤ seconds) × (seconds ≤ 86400))
 
 -- an option isn't given, or its word is a number from the one to the other
 abbrev pub IsWithinOr : ℕ → ℕ → Option Text → Type 0
@@ -84,10 +92,15 @@ pub record HasCounts (r : ServeRequest) : Type 0 where
   pub count : IsWithin 1 16 r.count.now
 
 -- and so are both heights, as far as they are given
-pub record HasNumbers (r : ServeRequest) : Type 0 where
+pub record HasHeights (r : ServeRequest) : Type 0 where
   pub counts : HasCounts r
   pub server : IsWithinOr 1 15 (option_map (λ s. s.now) r.server_height)
   pub client : IsWithinOr 1 15 (option_map (λ s. s.now) r.client_height)
+
+-- and so are the seconds of silence, if they are given
+pub record HasNumbers (r : ServeRequest) : Type 0 where
+  pub heights : HasHeights r
+  pub idle : IsWithinOr 1 86400 (option_map (λ s. s.now) r.idle)
 
 -- why it makes none: the first check that fails
 abbrev pub Refuses : ServeRequest → ServeRefusal → Type 0
@@ -98,6 +111,7 @@ Refuses r refusals.ServerHeight =
 Refuses r refusals.ClientHeight =
     HasCounts r × IsWithinOr 1 15 (option_map (λ s. s.now) r.server_height)
     × IsNotWithin 1 15 (option_map (λ s. s.now) r.client_height)
+Refuses r refusals.Idle = HasHeights r × IsNotWithin 1 86400 (option_map (λ s. s.now) r.idle)
 Refuses r refusals.Address = HasNumbers r × IsNoAddress (option_map (λ s. s.now) r.address)
 Refuses r refusals.Unguarded =
     HasNumbers r × (r.master ≡ None) × IsOutside (option_map (λ s. s.now) r.address)

@@ -29,6 +29,10 @@ pub struct ServeRequest<'a> {
     pub roster_out: Option<&'a str>,
     /// The name of the folder that evidence goes to, if one is named.
     pub evidence: Option<&'a str>,
+    /// The name of the folder that the control socket is made in, if one is named.
+    pub control: Option<&'a str>,
+    /// How many seconds a connection may be silent, if that is given.
+    pub idle: Option<&'a str>,
     /// Whether it is told how far the keys and the audits are.
     pub progress: bool,
 }
@@ -45,15 +49,22 @@ const SERVER_HEIGHT_HELP: &str =
 const CLIENT_HEIGHT_HELP: &str =
     "The height of each client's tree of keys, 1 to 15; 10 where none is named";
 
-const MASTER_HELP: &str = "A file of 32 secret bytes that all keys are made of; it serves one run";
+const MASTER_HELP: &str =
+    "A file of 32 secret bytes that all keys are made of, for one run; `-` is standard input";
 
 const ROSTER_OUT_HELP: &str =
     "Writes the text of the nodes' roster to this file, before it listens";
 
 const EVIDENCE_HELP: &str = "Writes node-N.evidence to this folder as soon as node N is exposed";
 
+const CONTROL_HELP: &str =
+    "Listens on the Unix socket DIR/control, at whose word `stop` the run comes to its end";
+
+const IDLE_HELP: &str =
+    "Ends a connection on which nothing came for so many seconds, 1 to 86400; none where it isn't given";
+
 const PROGRESS_HELP: &str =
-    "Tells on standard error which keys are made and which logs are audited";
+    "Tells on standard error which keys are made and which logs are audited, each line with its time";
 
 /// What the help of `serve` ends with.
 const SERVE_HELP: &str =
@@ -89,6 +100,10 @@ Without --master node N's master secret is 28 zero bytes and N: anybody can sign
 trials on this machine alone. With it that secret is the SHA-256 of the file's 32 bytes and N in four. A file serves one
 run: another one with the same bytes would use the same keys again, and two such logs look like a fork of honest nodes.
 Nobody but the file's owner may use it.
+
+With --control DIR the run ends in order once DIR/control is sent the word `stop` and a line feed: no further connection is
+accepted, those that stand end after the calls that were read of them, and everybody is audited. DIR must be there, and
+nobody but its owner may use it. A signal ends the run at once, and nobody is audited.
 
 Statuses: 0 done, 1 a fault in the input, 2 the command line, 3 no memory, 4 a device";
 
@@ -127,6 +142,8 @@ fn serve_options<'a>(alloc: Global) -> Result<Command<'a>, AllocError>
         .arg(word_option(alloc, "master", "FILE", MASTER_HELP))?
         .arg(word_option(alloc, "roster-out", "FILE", ROSTER_OUT_HELP))?
         .arg(word_option(alloc, "evidence", "DIR", EVIDENCE_HELP))?
+        .arg(word_option(alloc, "control", "DIR", CONTROL_HELP))?
+        .arg(word_option(alloc, "idle", "SECONDS", IDLE_HELP))?
         .arg(flag(alloc, "progress", PROGRESS_HELP))
 }
 
@@ -153,6 +170,9 @@ pub(crate) fn serve_request<'a>(matches: &ArgMatches<'a>) -> ServeRequest<'a>
         ≡ first_of (codes "roster-out") (rows_in matches.now) }
     ensures evidence { option_map (λ s. s.now) result.evidence
         ≡ first_of (codes "evidence") (rows_in matches.now) }
+    ensures control { option_map (λ s. s.now) result.control
+        ≡ first_of (codes "control") (rows_in matches.now) }
+    ensures idle { option_map (λ s. s.now) result.idle ≡ first_of (codes "idle") (rows_in matches.now) }
     ensures progress { is_told (codes "progress") (rows_in matches.now) ≡ true
         → result.progress ≡ is_set (codes "progress") (rows_in matches.now) }
 {
@@ -165,6 +185,8 @@ pub(crate) fn serve_request<'a>(matches: &ArgMatches<'a>) -> ServeRequest<'a>
         master: word_of(matches, "master"),
         roster_out: word_of(matches, "roster-out"),
         evidence: word_of(matches, "evidence"),
+        control: word_of(matches, "control"),
+        idle: word_of(matches, "idle"),
         progress: flag_of(matches, "progress"),
     }
 }

@@ -1,11 +1,12 @@
 //! The numbers and the address in what `serve` is asked.
 
-ghost use Rattle.std.specs.Prelude.{◌≡◌, ◌↔◌, ◌≤◌, IsTrue, IfErr, IfOk, IfSome, IsSome, None, true, false, option_map};
+ghost use Rattle.std.specs.Prelude.{◌≡◌, ◌↔◌, ◌≤◌, IsTrue, IfErr, IfOk, IfSome, IsOk, IsSome};
+ghost use Rattle.std.specs.Prelude.{None, true, false, option_map};
 ghost use Rattle.std.specs.Str.Parse.{IsNumeral, digits_value};
 ghost use Rattle.std.specs.Net.Grammar.{IsIpText};
 ghost use Rattle.console.specs.CommandLine.ServeOrders.{HasNumbers, IsBounded, IsLocalhost, IsLoopback, IsNotWithin};
 ghost use Rattle.console.specs.CommandLine.ServeOrders.{IsWithin, IsWithinOr, Orders, Refuses};
-ghost use Rattle.console.specs.CommandLine.ServeOrders.{Writes, WritesOr};
+ghost use Rattle.console.specs.CommandLine.ServeOrders.{Writes, WritesIf, WritesOr};
 
 use super::serve::ServeRequest;
 use std::net::{IpAddr, Ipv4Addr};
@@ -31,6 +32,10 @@ pub struct ServeOrder<'a> {
     pub roster_out: Option<&'a str>,
     /// The name of the folder that evidence goes to, if one is named.
     pub evidence: Option<&'a str>,
+    /// The name of the folder that the control socket is made in, if one is named.
+    pub control: Option<&'a str>,
+    /// How many seconds a connection may be silent, 1 to 86,400; any number where none is given.
+    pub idle: Option<u32>,
     /// Whether it is told how far the keys and the audits are.
     pub progress: bool,
 }
@@ -50,6 +55,9 @@ pub enum ServeRefusal {
     /// The height of each client's tree of keys is no decimal number from 1 to 15.
     #[error("--client-height is a number from 1 to 15")]
     ClientHeight,
+    /// The seconds that a connection may be silent are no decimal number from 1 to 86,400.
+    #[error("--idle is a number of seconds from 1 to 86400")]
+    Idle,
     /// The address is none.
     #[error("--address is an IP address")]
     Address,
@@ -63,6 +71,9 @@ const MOST_CONNECTIONS: u32 = 16;
 
 /// The greatest height of a tree of keys: with it a server's log has as many entries as a witness audits.
 const MOST_HEIGHT: u32 = 15;
+
+/// The most seconds that a connection may be silent, where a number is given: a day.
+const MOST_IDLE: u32 = 86400;
 
 /// A number from the one to the other, if a word is its decimal digits.
 pub(crate) fn number_within(word: &str, least: u32, most: u32) -> Option<u32>
@@ -91,6 +102,23 @@ fn height_of(word: Option<&str>, other: u32) -> Option<u32>
     match word {
         Some(word) => number_within(word, 1, MOST_HEIGHT),
         None => Some(other),
+    }
+}
+
+/// The seconds in an option's word, if it is given.
+fn idle_of(word: Option<&str>) -> Result<Option<u32>, ServeRefusal>
+    ensures bounds { IfOk result (λ o. IfSome o (λ n. (1 ≤ n) × (n ≤ 86400))) }
+    ensures ok { IfOk result (WritesIf 1 86400 (option_map (λ s. s.now) word.entry)) }
+    ensures within { IsOk result → IsWithinOr 1 86400 (option_map (λ s. s.now) word.entry) }
+    ensures err { IfErr result (λ e. (e ≡ ServeRefusal.Idle)
+        × IsNotWithin 1 86400 (option_map (λ s. s.now) word.entry)) }
+{
+    let Some(word) = word else {
+        return Ok(None);
+    };
+    match number_within(word, 1, MOST_IDLE) {
+        Some(seconds) => Ok(Some(seconds)),
+        None => Err(ServeRefusal::Idle),
     }
 }
 
@@ -124,8 +152,9 @@ fn is_guarded(address: &IpAddr, master: Option<&str>) -> bool
 }
 
 /// The order that a request makes: with its numbers read, and what isn't named as it is by itself. It is
-/// refused where a number is none or out of range, of the port, the count and the two heights the first; then
-/// where the address is none, or is one that others reach though no file of secret bytes is named.
+/// refused where a number is none or out of range, of the port, the count, the two heights and the seconds of
+/// silence the first; then where the address is none, or is one that others reach though no file of secret
+/// bytes is named.
 pub fn serve_order<'a>(request: &ServeRequest<'a>) -> Result<ServeOrder<'a>, ServeRefusal>
     ensures order { IfOk result (Orders request.now) }
     ensures bounds { IfOk result IsBounded }
@@ -135,6 +164,7 @@ pub fn serve_order<'a>(request: &ServeRequest<'a>) -> Result<ServeOrder<'a>, Ser
     let connections = number_within(request.count, 1, MOST_CONNECTIONS).ok_or(ServeRefusal::Count)?;
     let server_height = height_of(request.server_height, 12).ok_or(ServeRefusal::ServerHeight)?;
     let client_height = height_of(request.client_height, 10).ok_or(ServeRefusal::ClientHeight)?;
+    let idle = idle_of(request.idle)?;
     Ok(ServeOrder {
         port: port as u16,
         connections,
@@ -144,6 +174,8 @@ pub fn serve_order<'a>(request: &ServeRequest<'a>) -> Result<ServeOrder<'a>, Ser
         master: request.master,
         roster_out: request.roster_out,
         evidence: request.evidence,
+        control: request.control,
+        idle,
         progress: request.progress,
     })
 }

@@ -39,6 +39,8 @@ returns-in-Some-subcommand_matches-3 c words none found =
       master = _;
       roster_out = _;
       evidence = _;
+      control = _;
+      idle = _;
       progress = _;
     }) none is (record {
       port = asks.port;
@@ -49,6 +51,8 @@ returns-in-Some-subcommand_matches-3 c words none found =
       master = asks.master;
       roster_out = asks.roster_out;
       evidence = asks.evidence;
+      control = asks.control;
+      idle = asks.idle;
       progress = asks.progress;
     })
 

@@ -16,4 +16,6 @@ returns c =
     let four = c.in_ok-arg-4.ensures.shape (search rules) ∙ ap₂ with_rule three c.word_option-4.ensures.rule in
     let five = c.in_ok-arg-5.ensures.shape (search rules) ∙ ap₂ with_rule four c.word_option-5.ensures.rule in
     let six = c.in_ok-arg-6.ensures.shape (search rules) ∙ ap₂ with_rule five c.word_option-6.ensures.rule in
-    IfOk-weaker c.arg-7.result _ _ (λ r added. added.shape (search rules) ∙ ap₂ with_rule six c.flag.ensures.rule) c.arg-7.ensures
+    let seven = c.in_ok-arg-7.ensures.shape (search rules) ∙ ap₂ with_rule six c.word_option-7.ensures.rule in
+    let eight = c.in_ok-arg-8.ensures.shape (search rules) ∙ ap₂ with_rule seven c.word_option-8.ensures.rule in
+    IfOk-weaker c.arg-9.result _ _ (λ r added. added.shape (search rules) ∙ ap₂ with_rule eight c.flag.ensures.rule) c.arg-9.ensures

@@ -1,8 +1,9 @@
-//! Serves sixteen clients as `nfsacc serve` does, and then sees that each reply in the server's log is the one that one
-//! service alone owes, asked in the log's order and at the times that stand there, and that nothing else was sent. It
-//! prints a line for each record after the run's lines, in the log's order: the node that it is from, the record, and
-//! the reply in the log, or a dash where none was sent. The arguments are the heights of the trees of keys, the
-//! server's and a client's, and the port; without them nothing is done.
+//! Serves sixteen clients as `nfsacc serve` does, and then sees that each reply in the server's log is the
+//! one that one service alone owes, asked in the log's order and at the times that stand there, that nothing
+//! else was sent, and that each reply was acknowledged. It prints a line for each record after the run's
+//! lines, in the log's order: the node that it is from, the record, and the reply in the log, or a dash where
+//! none was sent. The arguments are the heights of the trees of keys, the server's and a client's, and the
+//! port; without them nothing is done.
 #![tactic(auto)]
 
 ghost use Rattle.std.specs.Prelude.{◌<◌, IfOk};
@@ -12,8 +13,7 @@ use anyhow::{Context, Result, bail, ensure};
 use nfs_items::Time;
 use secure_log::log_entries::Entry;
 use service::Service;
-use serving::Shelf;
-use serving::{Heights, Masters, Order, ServeFault, serve};
+use serving::{Heights, Masters, Order, ServeFault, Shelf, serve};
 use std::alloc::Global;
 use std::io::Write;
 use std::net::{IpAddr, Ipv4Addr, SocketAddr, TcpListener};
@@ -54,6 +54,8 @@ struct Walk<'a> {
     alloc: Global,
     entries: &'a [Entry],
     service: Service,
+    /// How many replies aren't acknowledged so far.
+    open: u64,
 }
 
 /// A record, the node that it is from, and the reply that was sent, if one was.
@@ -65,11 +67,15 @@ struct Heard<'a> {
 }
 
 impl<'a> Walk<'a> {
-    /// Goes past an acknowledgement, or past a record with its clock reading and its reply, which is the one that is
-    /// owed; gives the record.
+    /// Goes past an acknowledgement, or past a record with its clock reading and its reply, which is the one
+    /// that is owed; gives the record.
     fn next(&mut self) -> Result<Option<Heard<'a>>> {
         match self.entries {
             [Entry::Ack { .. }, rest @ ..] => {
+                self.open = self
+                    .open
+                    .checked_sub(1)
+                    .context("an acknowledgement of nothing")?;
                 self.entries = rest;
                 Ok(None)
             }
@@ -97,7 +103,8 @@ impl<'a> Walk<'a> {
         }
     }
 
-    /// The reply to a node at the front of what comes after its record's clock reading: it is the one that is owed.
+    /// The reply to a node at the front of what comes after its record's clock reading: it is the one that is
+    /// owed.
     fn reply(
         &mut self,
         from: u32,
@@ -111,6 +118,7 @@ impl<'a> Walk<'a> {
             }
             (Some(owed), [Entry::Send { to, body }, rest @ ..])
                 if *to == from && body.bytes() == owed.as_slice() => {
+                self.open = self.open.saturating_add(1);
                 self.entries = rest;
                 Ok(Some(body.bytes()))
             }
@@ -139,6 +147,7 @@ fn walk_log<P: Print>(rt: &P, alloc: Global, entries: &[Entry]) -> Result<()> {
         alloc,
         entries,
         service: Service::opening(alloc, SERVER)?,
+        open: 0,
     };
     for _ in 0..entries.len() {
         if walk.entries.is_empty() {
@@ -148,6 +157,7 @@ fn walk_log<P: Print>(rt: &P, alloc: Global, entries: &[Entry]) -> Result<()> {
             tell(rt, alloc, heard)?;
         }
     }
+    ensure!(walk.open == 0, "replies are not acknowledged");
     Ok(())
 }
 
@@ -175,6 +185,8 @@ fn order_of(words: &[String]) -> Result<Order<'static>>
         roster_out: None,
         evidence: None,
         progress: false,
+        idle: None,
+        control: None,
     })
 }
 
@@ -189,8 +201,10 @@ fn main(rt: HostRuntime) -> Result<()> {
     let address = SocketAddr::new(IpAddr::V4(Ipv4Addr::new(127, 0, 0, 1)), port);
     let listener = TcpListener::bind(&rt, address)?;
     let mut lines = io::writer(&rt);
-    match serve(&rt, alloc, &listener, &rt, &mut lines, Nowhere, &order) {
-        Ok(finished) if finished.closed && finished.whole => {
+    match serve(
+        &rt, alloc, listener, &rt, &mut lines, Nowhere, Nowhere, &order,
+    ) {
+        Ok(finished) if finished.closed.is_ok() && finished.whole => {
             walk_log(&rt, alloc, finished.server.node().log().entries())
         }
         Ok(_) => bail!("the run was not whole"),

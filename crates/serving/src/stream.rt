@@ -1,0 +1,134 @@
+//! The stream of a connection, as its records are read and its replies written.
+
+use crate::phase::Phase;
+use std::io::{self, Read, Write};
+use std::net::TcpStream;
+use std::sync::{Mutex, Wait};
+use std::time::Duration;
+
+/// How many milliseconds a read or a write of a run that may be told to end waits between two looks.
+const LOOK: u64 = 250;
+
+/// So many looks in a second.
+const LOOKS_OF_A_SECOND: u64 = 4;
+
+/// How many looks a write has in all once the run is to end: ten seconds.
+const LAST_LOOKS: u64 = 40;
+
+/// How long a stream waits for bytes, and for room for bytes.
+#[derive(Clone, Copy)]
+pub(crate) struct Patience {
+    /// How long the system waits at once, if not for ever.
+    wait: Option<Duration>,
+    /// How often it waits so long.
+    turns: u64,
+}
+
+impl Patience {
+    /// That of a run whose connections may be silent for so many seconds, if a number is given. Where it may be
+    /// told to end, it looks for that now and then.
+    pub(crate) fn new(idle: Option<u32>, has_control: bool) -> Patience {
+        let seconds = idle.map(u64::from);
+        if has_control {
+            return Patience {
+                wait: Some(Duration::from_millis(LOOK)),
+                turns: seconds.map_or(u64::MAX, |s| s.saturating_mul(LOOKS_OF_A_SECOND)),
+            };
+        }
+        Patience {
+            wait: seconds.map(Duration::from_secs),
+            turns: 1,
+        }
+    }
+
+    /// Has the system wait so long at a stream. Where that can't be set it waits for ever.
+    pub(crate) fn set(self, stream: &TcpStream) {
+        let _ = stream.set_read_timeout(self.wait);
+        let _ = stream.set_write_timeout(self.wait);
+    }
+}
+
+/// A client's stream. A read that nothing came for in its time, and each read once the run is to end, finds
+/// the end of the stream. It keeps the last error of a read or a write.
+#[derive(Drop)]
+pub(crate) struct ClientStream<'a, R> {
+    rt: &'a R,
+    stream: &'a TcpStream,
+    phase: &'a Mutex<Phase>,
+    patience: Patience,
+    last: Option<io::Error>,
+}
+
+impl<'a, R: Wait> ClientStream<'a, R> {
+    /// A stream of a run that is in this phase, with the patience that was set for it.
+    pub(crate) fn new(
+        rt: &'a R,
+        stream: &'a TcpStream,
+        phase: &'a Mutex<Phase>,
+        patience: Patience,
+    ) -> ClientStream<'a, R> {
+        ClientStream {
+            rt,
+            stream,
+            phase,
+            patience,
+            last: None,
+        }
+    }
+
+    /// The last error, if there was one.
+    pub(crate) fn last(&self) -> Option<io::Error> {
+        self.last
+    }
+
+    /// Whether the run is to end.
+    fn is_stopping(&self) -> bool {
+        *self.phase.lock(self.rt) != Phase::Serving
+    }
+
+    /// Keeps an error, and gives it.
+    fn noted(&mut self, error: io::Error) -> io::Error {
+        self.last = Some(error);
+        error
+    }
+}
+
+impl<'a, R: Wait> Read for ClientStream<'a, R> {
+    fn read(&mut self, buf: &mut [u8]) -> io::Result<usize> {
+        for turn in 1..u64::MAX {
+            if self.is_stopping() {
+                return Ok(0);
+            }
+            match (&mut self.stream).read(buf) {
+                Ok(count) => return Ok(count),
+                Err(error) if error.kind() != io::ErrorKind::WouldBlock => {
+                    return Err(self.noted(error));
+                }
+                Err(_) if turn >= self.patience.turns => return Ok(0),
+                Err(_) => {}
+            }
+        }
+        Ok(0)
+    }
+}
+
+impl<'a, R: Wait> Write for ClientStream<'a, R> {
+    fn write(&mut self, bytes: &[u8]) -> io::Result<usize> {
+        for turn in 1..u64::MAX {
+            match (&mut self.stream).write(bytes) {
+                Ok(count) => return Ok(count),
+                Err(error) if error.kind() != io::ErrorKind::WouldBlock => {
+                    return Err(self.noted(error));
+                }
+                Err(_) if turn >= self.patience.turns => break,
+                Err(_) if turn >= LAST_LOOKS && self.is_stopping() => break,
+                Err(_) => {}
+            }
+        }
+        Err(self.noted(io::Error::from(io::ErrorKind::TimedOut)))
+    }
+
+    fn flush(&mut self) -> io::Result<()> {
+        Ok(())
+    }
+}
