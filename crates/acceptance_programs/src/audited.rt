@@ -1,10 +1,10 @@
 //! Audits of nodes that lie, fork or don't answer, and what is written of them.
 
 use crate::files::Files;
-use crate::parties::{CLIENT, Parties, SERVER, new_parties};
+use crate::parties::{CLIENT, Parties, SERVER, new_parties, paired};
 use auditing::{
-    Auditor, Closed, Desk, NodeReport, Office, Standing, WitnessService, close, final_reports,
-    open_witness, put_evidence, write_reports,
+    Auditor, Closed, Desk, Office, Standing, WitnessService, close, final_reports, open_witness,
+    put_evidence, write_reports,
 };
 use challenge::{check_evidence, read_case};
 use envelopes::Envelope;
@@ -22,7 +22,7 @@ type TestDesk = Desk<Vec<u8>, Files>;
 
 /// What came of audits.
 #[derive(Drop)]
-struct Outcome {
+struct Told {
     lines: Vec<u8>,
     files: Files,
 }
@@ -71,6 +71,22 @@ fn audit_both<R: Threads + Wait + Sync>(
     }
 }
 
+/// The passes of a witness that has audited both, of which there is one.
+fn audited<R: Threads + Wait + Sync>(
+    office: Office<'_, R, Vec<u8>, Files>,
+    both: &Parties,
+    message: Option<&Envelope>,
+    passes: Vec<Pass>,
+) -> Option<Vec<Pass>> {
+    let mut passes = passes;
+    let Some(pass) = passes.pop() else {
+        return None;
+    };
+    let pass = challenge(office.rt, office.alloc, office.service, both, message, pass)?;
+    passes.push(audit_both(office, both, pass)?).ok()?;
+    Some(passes)
+}
+
 /// A witness that was closed after it audited both.
 fn closed<R: Threads + Wait + Sync>(
     rt: &R,
@@ -79,8 +95,7 @@ fn closed<R: Threads + Wait + Sync>(
     message: Option<&Envelope>,
     desk: &Mutex<TestDesk>,
 ) -> Option<Closed> {
-    let (service, mut passes) = open_witness(alloc, &both.roster, 1).ok()?;
-    let pass = challenge(rt, alloc, &service, both, message, passes.pop()?)?;
+    let (service, passes) = open_witness(alloc, &both.roster, 1).ok()?;
     let office = Office {
         rt,
         alloc,
@@ -89,21 +104,19 @@ fn closed<R: Threads + Wait + Sync>(
         desk,
         progress: false,
     };
-    passes.push(audit_both(office, both, pass)?).ok()?;
+    let passes = audited(office, both, message, passes);
+    let (service, passes) = paired(service, passes)?;
     close(service, passes).ok()
 }
 
-/// The lines of reports, and the files of their evidence.
-fn told(
-    alloc: Global,
-    closed: &Closed,
-    reports: &[NodeReport],
-    mut desk: TestDesk,
-) -> Option<Outcome> {
+/// The lines of a closed witness's reports, and the files of their evidence.
+fn told_of(alloc: Global, closed: &Closed, desk: TestDesk) -> Option<Told> {
+    let mut desk = desk;
+    let reports = final_reports(alloc, &closed.journal).ok()??;
     let mut lines = Vec::new(alloc);
-    write_reports(alloc, &mut lines, reports).ok()?;
-    put_evidence(&mut desk, FOLDER, &closed.roster, reports);
-    Some(Outcome {
+    write_reports(alloc, &mut lines, &reports).ok()?;
+    put_evidence(&mut desk, FOLDER, &closed.roster, &reports);
+    Some(Told {
         lines,
         files: desk.into_shelf(),
     })
@@ -115,11 +128,10 @@ fn audits_of<R: Threads + Wait + Sync>(
     alloc: Global,
     both: &Parties,
     message: Option<&Envelope>,
-) -> Option<Outcome> {
+) -> Option<Told> {
     let desk = Mutex::new(Desk::new(alloc, Vec::new(alloc), Files::new(alloc), None));
     let closed = closed(rt, alloc, both, message, &desk)?;
-    let reports = final_reports(alloc, &closed.journal).ok()??;
-    told(alloc, &closed, &reports, desk.into_inner())
+    told_of(alloc, &closed, desk.into_inner())
 }
 
 /// Whether bytes are a file of evidence that is accepted, against this node.
@@ -140,63 +152,75 @@ fn is_evidence(alloc: Global, bytes: &[u8], node: u32) -> bool {
 }
 
 /// Whether these lines were written, and evidence against this node alone was put.
-fn shows(alloc: Global, outcome: &Outcome, lines: &[u8], node: u32, name: &str) -> bool {
-    let is_there = match outcome.files.get(name) {
+fn shows(alloc: Global, told: &Told, lines: &[u8], node: u32, name: &str) -> bool {
+    let is_there = match told.files.get(name) {
         Some(bytes) => is_evidence(alloc, bytes, node),
         None => false,
     };
-    is_there && outcome.files.len() == 1 && outcome.lines.as_slice() == lines
+    is_there && told.files.len() == 1 && told.lines.as_slice() == lines
 }
 
 /// Whether a server that lied is exposed, with evidence.
-fn lie_is_shown<R: Threads + Wait + Sync>(rt: &R, alloc: Global) -> Option<bool> {
-    let mut both = new_parties(alloc)?;
-    if !both.lie(alloc) {
-        return None;
-    }
-    let outcome = audits_of(rt, alloc, &both, None)?;
+fn lie_is_shown<R: Threads + Wait + Sync>(rt: &R, alloc: Global, both: &mut Parties) -> bool {
     let lines = b"1 exposed 0\n2 trusted 0\n";
-    Some(shows(alloc, &outcome, lines, SERVER, "cases/node-1.evidence"))
+    let name = "cases/node-1.evidence";
+    both.lie(alloc)
+        && match audits_of(rt, alloc, both, None) {
+            Some(told) => shows(alloc, &told, lines, SERVER, name),
+            None => false,
+        }
 }
 
 /// Whether a client is exposed whose second message under one number stands in the server's log alone: so that
 /// it shows only by what is forwarded of that log.
-fn fork_is_shown<R: Threads + Wait + Sync>(rt: &R, alloc: Global) -> Option<bool> {
-    let mut both = new_parties(alloc)?;
-    let second = both.fork(alloc)?;
-    if !both.receive(alloc, &second) {
-        return None;
-    }
-    let outcome = audits_of(rt, alloc, &both, None)?;
+fn fork_is_shown<R: Threads + Wait + Sync>(rt: &R, alloc: Global, both: &mut Parties) -> bool {
     let lines = b"1 trusted 0\n2 exposed 0\n";
-    Some(shows(alloc, &outcome, lines, CLIENT, "cases/node-2.evidence"))
+    let name = "cases/node-2.evidence";
+    let Some(second) = both.fork(alloc) else {
+        return false;
+    };
+    both.receive(alloc, &second)
+        && match audits_of(rt, alloc, both, None) {
+            Some(told) => shows(alloc, &told, lines, CLIENT, name),
+            None => false,
+        }
 }
 
 /// Whether a server is suspected that doesn't acknowledge a message with which it was challenged.
-fn silence_is_shown<R: Threads + Wait + Sync>(rt: &R, alloc: Global) -> Option<bool> {
-    let mut both = new_parties(alloc)?;
-    if !both.call(alloc) {
-        return None;
+fn silence_is_shown<R: Threads + Wait + Sync>(rt: &R, alloc: Global, both: &mut Parties) -> bool {
+    let lines = b"1 suspected 1\n2 trusted 0\n".as_slice();
+    let Some(second) = both.fork(alloc) else {
+        return false;
+    };
+    match audits_of(rt, alloc, both, Some(&second)) {
+        Some(told) => told.lines.as_slice() == lines && told.files.len() == 0,
+        None => false,
     }
-    let second = both.fork(alloc)?;
-    let outcome = audits_of(rt, alloc, &both, Some(&second))?;
-    Some(
-        outcome.lines.as_slice() == b"1 suspected 1\n2 trusted 0\n".as_slice()
-            && outcome.files.len() == 0,
-    )
 }
 
 #[test]
 fn a_lie_is_exposed_with_evidence(rt: HostRuntime) {
-    assert!(rt; lie_is_shown(&rt, rt.alloc()) == Some(true));
+    let alloc = rt.alloc();
+    let Some(mut both) = new_parties(alloc) else {
+        return assert!(rt; false);
+    };
+    assert!(rt; lie_is_shown(&rt, alloc, &mut both));
 }
 
 #[test]
 fn a_fork_is_exposed_by_what_another_log_shows(rt: HostRuntime) {
-    assert!(rt; fork_is_shown(&rt, rt.alloc()) == Some(true));
+    let alloc = rt.alloc();
+    let Some(mut both) = new_parties(alloc) else {
+        return assert!(rt; false);
+    };
+    assert!(rt; fork_is_shown(&rt, alloc, &mut both));
 }
 
 #[test]
 fn a_server_that_acknowledges_nothing_is_suspected(rt: HostRuntime) {
-    assert!(rt; silence_is_shown(&rt, rt.alloc()) == Some(true));
+    let alloc = rt.alloc();
+    let Some(mut both) = new_parties(alloc) else {
+        return assert!(rt; false);
+    };
+    assert!(rt; silence_is_shown(&rt, alloc, &mut both));
 }

@@ -45,15 +45,39 @@ fn roster(alloc: Global) -> Option<Roster> {
     roster_of(alloc, &[server(one, HEIGHT), client(two, HEIGHT)])
 }
 
+/// The server, who has logged nothing.
+fn new_server(alloc: Global) -> Option<ServerNode> {
+    match roster(alloc) {
+        Some(roster) => ServerNode::new(alloc, roster, SERVER, SERVER_MASTER, HEIGHT).ok(),
+        None => None,
+    }
+}
+
+/// The client, as the server.
+fn new_client(alloc: Global) -> Option<ClientNode> {
+    match roster(alloc) {
+        Some(roster) => ClientNode::new(alloc, roster, CLIENT, CLIENT_MASTER, HEIGHT).ok(),
+        None => None,
+    }
+}
+
 /// The two, who have logged nothing.
 pub fn new_parties(alloc: Global) -> Option<Parties> {
-    let server = ServerNode::new(alloc, roster(alloc)?, SERVER, SERVER_MASTER, HEIGHT).ok()?;
-    let client = ClientNode::new(alloc, roster(alloc)?, CLIENT, CLIENT_MASTER, HEIGHT).ok()?;
+    let nodes = new_server(alloc).zip(new_client(alloc));
+    let (roster, (server, client)) = roster(alloc).zip(nodes)?;
     Some(Parties {
-        roster: roster(alloc)?,
+        roster,
         server,
         client,
     })
+}
+
+/// A value with what was made beside it, if it was. Their types are parameters, as in `holds_of`.
+pub fn paired<T: Drop, U>(value: T, made: Option<U>) -> Option<(T, U)> {
+    match made {
+        Some(other) => Some((value, other)),
+        None => None,
+    }
 }
 
 /// A message's body.
