@@ -165,7 +165,7 @@ check_trusted() {
     grep -qx "nfsacc: $files/case: neither a roster nor one with evidence after it" "$files/said" || fail 'no roster' "$files/said"
     judged 4 '' --roster "$files" "$cases/fork.evidence"
     # The file's own roster is no other word than the file's.
-    ln -s "$cases/fork.evidence" "$files/link"
+    ln -sf "$cases/fork.evidence" "$files/link"
     for name in "$cases/fork.evidence" "$files/link"; do
         judged 0 'exposed 1' --roster "$name" "$cases/fork.evidence"
         grep -qx "nfsacc: $name: the roster that is trusted is the file's own" "$files/said" || fail 'its own roster' "$files/said"
