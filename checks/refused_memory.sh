@@ -21,7 +21,7 @@ declare -rA MOST=(
 )
 declare -rA MADE=(
     [replies]=0 [files]=8 [keys]=0 [log]=13 [state]=1 [client]=10 [server]=18 [streams]=17 [steps]=20 [entries]=28
-    [segments]=28 [evidence]=1 [books]=91 [filings]=135 [served]=61 [returned]=124 [jobs]=75 [rounds]=101 [stored]=0
+    [segments]=28 [evidence]=1 [books]=91 [filings]=135 [served]=61 [returned]=125 [jobs]=75 [rounds]=101 [stored]=0
 )
 readonly CHECKS=$PWD/checks
 
