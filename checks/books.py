@@ -1,7 +1,7 @@
 #!/usr/bin/env python3
 """What one node's book replies and holds, step by step, beside what the definitions say of all steps.
 
-The definitions of `witness_spec` (functions of a node's own steps) and the equations of `witness_steps` (a book, and the
+The definitions of `witness_spec` (functions of a node's own steps) and the equations of `witness_book_laws` (a book, and the
 book after a step) are written out here a second time, over plain values: a hash is a word, a replay is sound where no
 entry is marked as bad. Random steps are made, and after each the reply and all parts are compared. The limits are small,
 so that every refusal of a node's own step is reached; then errors are planted in the equations, and each must be seen.

@@ -1,10 +1,10 @@
 //! A log's text, closed by its node.
 
+use acceptance_helpers::{MASTER, roster_of, server, signed};
 use authenticator::{Authenticator, Number, Roster};
 use merkle_keys::Signer;
 use secure_log::Log;
 use std::alloc::Global;
-use test_helpers::{MASTER, roster_of, server, signed};
 
 /// The text of a log's entries from the first on, closed by this authenticator.
 fn text_closed(alloc: Global, log: &Log, closing: &Authenticator) -> Option<Vec<u8>> {

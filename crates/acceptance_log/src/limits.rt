@@ -5,11 +5,11 @@ ghost use Rattle.std.specs.Prelude.{◌≤◌};
 
 use crate::closed::{ClosedText, closed_text};
 use crate::logs::{appends, has_length};
+use acceptance_helpers::MASTER;
 use merkle_keys::{SignFault, Signer, verify};
 use secure_log::log_entries::{Body, Entry};
 use secure_log::{ClosedSegment, Log, check_segment};
 use std::alloc::Global;
-use test_helpers::MASTER;
 use xdr::{FromXdr, ReadFault, Reader, XdrFault};
 
 /// How often a key signs a digest before it is used up, each time by the next leaf.

@@ -1,12 +1,12 @@
 //! A client and a server, and what they write. Each function is small, and gives none where memory is
 //! refused: the proof of a function takes its time by what it owns at how many exits.
 
+use acceptance_helpers::{MASTER, client, roster_of, server};
 use authenticator::Roster;
 use commitment::Receiver;
 use commitment::senders::Sender;
 use secure_log::log_entries::Body;
 use std::alloc::Global;
-use test_helpers::{MASTER, client, roster_of, server};
 
 /// The master secret of the client's keys: 31 zero bytes and a two.
 const CLIENT: [u8; 32] = [

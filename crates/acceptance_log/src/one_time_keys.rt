@@ -1,8 +1,8 @@
 //! Keys for one signature, against an independent program's.
 
+use acceptance_helpers::MASTER;
 use lamport::{LeafKeys, OneTimeSignature, shown_key};
 use std::alloc::Global;
-use test_helpers::MASTER;
 
 const SECRET_OF_LEAF_0: [u8; 32] = [
     0x24, 0x5e, 0x70, 0x26, 0x02, 0x18, 0xb8, 0x84, 0xa6, 0x25, 0x7f, 0x98, 0x6e, 0x19, 0x90, 0x04,

@@ -2,11 +2,11 @@
 //! each call in turn.
 
 use crate::parties::{holds_of, joined};
+use acceptance_helpers::{Refusal, SlowReader, SlowWriter, of_text};
 use nfs_items::Time;
 use nodes::{Direct, FixedClock, Gateway, StreamFault};
 use rpc::records::{Counting, RecordReader};
 use std::alloc::Global;
-use test_helpers::{Refusal, SlowReader, SlowWriter, of_text};
 
 /// NULL as a record of 44 bytes, and its reply, of 28.
 const CALL: &str = "80000028 1 0 2 186a3 2 0*5";

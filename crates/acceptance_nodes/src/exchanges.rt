@@ -3,13 +3,13 @@
 ghost use Rattle.std.specs.Prelude.{◌≡◌, IfSome};
 
 use crate::parties::CALL;
+use acceptance_helpers::{client, roster_of, server};
 use authenticator::{Kind, Member, Roster};
 use merkle_keys::Signer;
 use nfs_items::Time;
 use nodes::exchanges::exchange;
 use nodes::{ClientNode, ServerNode};
 use std::alloc::Global;
-use test_helpers::{client, roster_of, server};
 
 /// The height of each node's keys, of which there are eight.
 const HEIGHT: u32 = 3;

@@ -4,12 +4,12 @@
 
 ghost use Rattle.std.specs.Prelude.{◌≤◌};
 
+use acceptance_helpers::{client, roster_of, server};
 use authenticator::Roster;
 use commitment::senders::Sender;
 use nodes::{ClientNode, Direct, NodeLog, ServerNode};
 use secure_log::log_entries::Body;
 use std::alloc::Global;
-use test_helpers::{client, roster_of, server};
 
 /// The numbers of the two.
 pub const SERVER: u32 = 1;

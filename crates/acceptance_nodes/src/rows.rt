@@ -2,11 +2,11 @@
 //! record of a call is followed after `->` by that of its reply, both as texts of words.
 
 use crate::parties::{holds_of, joined};
+use acceptance_helpers::push_text;
 use nfs_items::Time;
 use nodes::{Direct, FixedClock, Gateway};
 use rpc::records::{Counting, RecordReader};
 use std::alloc::Global;
-use test_helpers::push_text;
 
 /// NULL, once in two fragments; GETATTR of the root; LOOKUP of `hello` in it, and with other padding; then
 /// what is mounted.

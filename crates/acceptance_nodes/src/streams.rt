@@ -1,6 +1,7 @@
 //! Three calls over a server as the link, by readers and writers that give and take a byte a call, and what
 //! is left after a fault.
 
+use acceptance_helpers::{Refusal, SlowReader, SlowWriter, of_words, push_words};
 use nfs_items::Time;
 use nodes::{
     Clock, FixedClock, Gateway, Link, LinkFault, ScriptedClock, Served, Service, StreamFault,
@@ -8,7 +9,6 @@ use nodes::{
 use rpc::records::{Counting, RecordReader};
 use std::alloc::Global;
 use std::collections::VecDeque;
-use test_helpers::{Refusal, SlowReader, SlowWriter, of_words, push_words};
 
 /// NULL, GETATTR of the root and LOOKUP of `hello` in it, each as a record.
 const CALLS: [u32; 52] = [

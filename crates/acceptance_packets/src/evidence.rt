@@ -2,6 +2,7 @@
 //! false where memory is refused.
 
 use crate::made::{keys_of_two, roster_of_two};
+use acceptance_helpers::signed;
 use authenticator::{Authenticator, Number, Roster};
 use challenge::{
     AuditedLog, Charge, Evidence, EvidenceFault, Finding, Fork, NotAccepted, Showing,
@@ -10,7 +11,6 @@ use challenge::{
 use merkle_keys::Signer;
 use secure_log::log_entries::{Entry, entry_hash};
 use std::alloc::Global;
-use test_helpers::signed;
 
 /// What evidence holds.
 #[derive(Clone, Copy, Debug)]

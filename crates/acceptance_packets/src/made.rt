@@ -2,6 +2,7 @@
 //! and gives none where memory is refused: the proof of a function takes its time by what it owns at how many
 //! exits.
 
+use acceptance_helpers::{MASTER, client, roster_of, server, signed};
 use authenticator::{Authenticator, Number, Roster, signed_digest};
 use envelopes::{Ack, Envelope};
 use merkle_keys::{Signature, Signer};
@@ -9,7 +10,6 @@ use packets::{write_ack, write_answer_text, write_challenge, write_learn};
 use secure_log::Log;
 use secure_log::log_entries::{Body, Entry, Receipt, SignatureText, message_hash, receipt_hash};
 use std::alloc::Global;
-use test_helpers::{MASTER, client, roster_of, server, signed};
 
 /// What a packet holds.
 #[derive(Clone, Copy, Debug)]

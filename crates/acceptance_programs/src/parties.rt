@@ -1,5 +1,6 @@
 //! A server and a client of it, and what they do that they shouldn't.
 
+use acceptance_helpers::{client, roster_of, server};
 use authenticator::Roster;
 use commitment::senders::Sender;
 use envelopes::Envelope;
@@ -8,7 +9,6 @@ use nodes::exchanges::exchange;
 use nodes::{ClientNode, ServerNode};
 use secure_log::log_entries::Body;
 use std::alloc::Global;
-use test_helpers::{client, roster_of, server};
 
 pub const SERVER: u32 = 1;
 

@@ -3,11 +3,11 @@
 //! asking meets every contract.
 
 use crate::streams::Streams;
+use acceptance_helpers::{Refusal, SlowReader, SlowWriter};
 use rpc::records::{Counting, MAX_RECORD, RecordFault, RecordReader, write_record};
 use rpc_streams::run_rpc;
 use std::alloc::Global;
 use std::io::{Read, Write};
-use test_helpers::{Refusal, SlowReader, SlowWriter};
 
 /// Whether a further call of a reader answers that its device failed, and doesn't ask it: it was asked so
 /// often, and refused once.

@@ -3,10 +3,10 @@
 //! given to one more, and read.
 
 use crate::state_texts::none_wrong;
+use acceptance_helpers::push_text;
 use checkpoint::{SharedState, State, read_state, renew, state_digest, state_text};
 use nfs_items::Time;
 use std::alloc::Global;
-use test_helpers::push_text;
 
 /// AUTH_SYS with a body of 24 bytes: stamp 0, the machine `m`, user 0, group 0, no further groups.
 const SUPERUSER: &str = "1 18 0 1 6d000000 0 0 0";

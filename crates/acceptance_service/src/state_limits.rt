@@ -1,9 +1,9 @@
 //! States at each limit on messages, mounts, files, entries and blocks, and one past it.
 
 use crate::state_texts::is_given;
+use acceptance_helpers::{of_text, push_text, push_words};
 use checkpoint::StateFault;
 use std::alloc::Global;
-use test_helpers::{of_text, push_text, push_words};
 
 /// The bytes of a name of four, another for each number below 65,536.
 fn name(k: u32) -> u32 {

@@ -1,10 +1,10 @@
 //! Texts of states from outside: each is a state that is written as it was read, Garbage, or NotAState. In
 //! each row a name stands before the words of the text.
 
+use acceptance_helpers::of_text;
 use checkpoint::{State, StateFault, read_state, state_digest, state_text};
 use std::alloc::Global;
 use std::process::Abort;
-use test_helpers::of_text;
 
 /// The state that the server of node 1 begins with.
 const OPENING: &str = "1 1 1 0*5 3 0 2

@@ -1,11 +1,11 @@
 //! Four records and the replies to them, streams of records over memory, and what is written to them.
 
+use acceptance_helpers::{of_words, push_words};
 use nfs_items::Time;
 use rpc::records::{Counting, MAX_RECORD, RecordFault, RecordReader};
 use rpc_streams::{Service, run_rpc};
 use std::alloc::Global;
 use std::io::BufReader;
-use test_helpers::{of_words, push_words};
 
 /// Records one after the other, and where each of them ends.
 #[derive(Drop)]

@@ -4,12 +4,12 @@
 use crate::answers::spend;
 use crate::logs::{authenticator_text, challenge_packet};
 use crate::members::{HEIGHT, Handed, all_handed, keys_of};
+use acceptance_helpers::signed;
 use authenticator::{Authenticator, Number, Roster};
 use envelopes::{Ack, Envelope};
 use packets::write_ack;
 use secure_log::log_entries::{Body, Receipt, SignatureText, message_hash, receipt_hash};
 use std::alloc::Global;
-use test_helpers::signed;
 use witness_service::{Event, EventOf, Refusal, SignatureCache, admit};
 
 /// A packet of node 5, and the text of the authenticator that it shows.

@@ -4,11 +4,11 @@ use crate::logs::{answers_call, call_body, challenge_packet, learn, message};
 use crate::members::{
     CLIENT, Handed, Shown, delivered, handed_in, keys, keys_of, roster_with, shown_of_log,
 };
+use acceptance_helpers::client;
 use authenticator::{Number, Roster};
 use merkle_keys::Signer;
 use secure_log::Log;
 use std::alloc::Global;
-use test_helpers::client;
 use witness_service::{Event, EventOf, Question};
 
 /// What is handed over by all nodes.

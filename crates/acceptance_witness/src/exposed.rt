@@ -8,6 +8,7 @@ use crate::logs::{
     closing_at, message, message_text, reads_clock, reads_clocks, receives, segment_text,
 };
 use crate::members::{Parties, new_parties};
+use acceptance_helpers::signed;
 use authenticator::{Authenticator, Number};
 use challenge::Evidence;
 use envelopes::Envelope;
@@ -16,7 +17,6 @@ use secure_log::Log;
 use secure_log::log_entries::Body;
 use std::alloc::Global;
 use std::sync::Arc;
-use test_helpers::signed;
 use witness_service::{Books, EventOf, Indication, Refusal, ReplayDone};
 
 /// Whether the client is exposed.

@@ -6,11 +6,11 @@ use crate::answers::{
 };
 use crate::logs::{answers_call, reads_clocks};
 use crate::members::{CLIENT, Parties, books_of, keys, member, new_parties};
+use acceptance_helpers::signed;
 use authenticator::{Authenticator, Number, Roster};
 use merkle_keys::Signer;
 use secure_log::Log;
 use std::alloc::Global;
-use test_helpers::signed;
 use witness_service::{Books, EventOf, Indication, Refusal};
 
 /// Whether an audit of the server that could find 4,096 more waits until what was found is forwarded.

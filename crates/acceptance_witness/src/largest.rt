@@ -5,13 +5,13 @@
 use crate::admitted::{Admission, admitted_as};
 use crate::logs::{answer_packet, authenticator_text, closing_at, segment_text};
 use crate::members::{CLIENT, keys, member};
+use acceptance_helpers::{roster_of, signed};
 use authenticator::{Authenticator, Number, Roster, check};
 use merkle_keys::Signer;
 use secure_log::Log;
 use secure_log::log_entries::{Body, Entry, SignatureText};
 use sha2::{Digest, Sha256};
 use std::alloc::Global;
-use test_helpers::{roster_of, signed};
 use witness_service::SignatureCache;
 
 /// The greatest height of a tree of keys.

@@ -2,9 +2,9 @@
 
 use crate::answers::{Answer, answers, learns, refuses, tells};
 use crate::members::{Parties, new_parties};
+use acceptance_helpers::signed;
 use authenticator::Number;
 use std::alloc::Global;
-use test_helpers::signed;
 use witness_service::{EventOf, Indication, Refusal};
 
 /// Whether node 1's authenticator of a number and a hash, bytes all the same, is answered so.

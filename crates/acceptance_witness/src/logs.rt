@@ -2,6 +2,7 @@
 //! of their segments, and packets of what is signed. Each function is small, and gives none where memory is
 //! refused.
 
+use acceptance_helpers::{of_words, signed};
 use authenticator::{Authenticator, Number, signed_digest};
 use envelopes::Envelope;
 use merkle_keys::Signer;
@@ -9,7 +10,6 @@ use packets::{write_answer_text, write_challenge, write_learn};
 use secure_log::Log;
 use secure_log::log_entries::{Body, Entry, SignatureText, message_hash};
 use std::alloc::Global;
-use test_helpers::{of_words, signed};
 
 /// A body of these words, ten at most.
 fn body(alloc: Global, words: &[u32]) -> Option<Body> {

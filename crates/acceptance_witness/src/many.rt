@@ -3,10 +3,10 @@
 use crate::answers::{Answer, answers, learns, tells};
 use crate::logs::{learn, learn_packet};
 use crate::members::{CLIENT, books_of, delivered, keys, member};
+use acceptance_helpers::signed;
 use authenticator::{Authenticator, Number, Roster};
 use merkle_keys::Signer;
 use std::alloc::Global;
-use test_helpers::signed;
 use witness_service::{Books, Indication, Refusal};
 
 /// The height of each node's keys. All nodes have the same ones, so that few are made.

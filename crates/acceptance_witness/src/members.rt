@@ -8,11 +8,11 @@ ghost use Rattle.std.specs.Prelude.{◌≤◌};
 use crate::logs::{
     answer_packet, changed, closing_at, learn, learn_packet, reads_clocks, segment_text,
 };
+use acceptance_helpers::{client, roster_of, server};
 use authenticator::{Authenticator, Kind, Member, Roster};
 use merkle_keys::Signer;
 use secure_log::Log;
 use std::alloc::Global;
-use test_helpers::{client, roster_of, server};
 use witness_service::{Books, Event, EventOf, Question, SignatureCache, admit};
 
 /// The master secret of the server's keys, node 1, and of the client's, node 2.

@@ -7,12 +7,12 @@ use Rattle.xdr.specs.Item.{Item, Value, array, spelling, number_spelling}
 use Rattle.xdr.specs.Writing.{Adds}
 use Rattle.nfs_items.specs.Timeval.{Timeval, timeval, timeval_value}
 use Rattle.mount_types.specs.Mounts.{max_mounts}
-use Rattle.fs_model.specs.Maxima.{max_files}
-use Rattle.fs_model.specs.Files.{File}
-use Rattle.state_machine.specs.state_spec.Limits.{max_received, max_sends}
-use Rattle.state_machine.specs.state_spec.State.{Machine, Server, Client, clock_in, State}
-use Rattle.state_machine.specs.state_spec.StateItems.{received_item, received_value, sent_item, sent_value, stage_item}
-use Rattle.state_machine.specs.state_spec.StateItems.{stage_value, mount_item, state_item, state_value, machine_value}
+use Rattle.fs_spec.specs.Maxima.{max_files}
+use Rattle.fs_spec.specs.Files.{File}
+use Rattle.state_spec.specs.Limits.{max_received, max_sends}
+use Rattle.state_spec.specs.State.{Machine, Server, Client, clock_in, State}
+use Rattle.state_spec.specs.StateItems.{received_item, received_value, sent_item, sent_value, stage_item}
+use Rattle.state_spec.specs.StateItems.{stage_value, mount_item, state_item, state_value, machine_value}
 use Rattle.checkpoint.specs.Fronts.{kind_of, rest_front, front_text, files_text}
 
 -- seven texts in a row, and one after them

@@ -2,10 +2,10 @@
 -- Serves: read_state.
 use Rattle.std.proofs.Common.{◌≡◌, ℕ, List, Some, sym, ◌∙◌}
 use Rattle.xdr.specs.Texts.Text.{text_at}
-use Rattle.fs_model.proofs.Walks.{none_some, some_same}
-use Rattle.state_machine.specs.state_spec.State.{State}
-use Rattle.state_machine.specs.state_spec.StateText.{Said, spelled_text, IsStateText, IsGarbage}
-use Rattle.state_machine.specs.state_spec.Rules.{KeepsRules}
+use Rattle.fs_spec.proofs.Walks.{none_some, some_same}
+use Rattle.state_spec.specs.State.{State}
+use Rattle.state_spec.specs.StateText.{Said, spelled_text, IsStateText, IsGarbage}
+use Rattle.state_spec.specs.Rules.{KeepsRules}
 use Rattle.state_machine.proofs.state_spec.Back.{one_state}
 use Rattle.state_machine.proofs.state_spec.Ruled.{rules_of_state}
 use Rattle.state_machine.proofs.state_spec.Texts.{read_again}

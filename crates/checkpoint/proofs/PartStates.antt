@@ -9,29 +9,29 @@ use Rattle.std.specs.FinMap as finite
 use Rattle.std.proofs.lemmas.Map.Keys.{below_from_sorted}
 use Rattle.xdr.specs.Item.{Value, Fits}
 use Rattle.nfs_items.specs.Timeval.{Timeval}
-use Rattle.fs_model.specs.Files.{File}
-use Rattle.fs_model.specs.Trees.{IsTime, IsFileTree}
-use Rattle.fs_model.specs.Changes.Limits.{has_room}
+use Rattle.fs_spec.specs.Files.{File}
+use Rattle.fs_spec.specs.Trees.{IsTime, IsFileTree}
+use Rattle.fs_spec.specs.Changes.Limits.{has_room}
 use Rattle.file_tree.specs.tree_rules.FileRules.Rules.{AreRising, numbers_of}
 use Rattle.file_tree.proofs.tree_rules.OfFileRules.Listed.{in_order, entries_listed}
-use Rattle.state_machine.specs.worlds.World.{World}
-use Rattle.state_machine.specs.worlds.IsWorld.{IsWorld}
-use Rattle.state_machine.proofs.worlds.Mounted.{are_of_the_root, are_different}
-use Rattle.state_machine.specs.file_texts.FileItems.{file_item}
-use Rattle.state_machine.specs.file_texts.FileValues.{time_from, body_from, file_from, numbered_from}
+use Rattle.state_spec.specs.server_spec.World.{World}
+use Rattle.state_spec.specs.server_spec.IsWorld.{IsWorld}
+use Rattle.state_machine.proofs.server_spec.Mounted.{are_of_the_root, are_different}
+use Rattle.state_spec.specs.server_spec.FileItems.{file_item}
+use Rattle.state_spec.specs.server_spec.FileValues.{time_from, body_from, file_from, numbered_from}
 use Rattle.state_machine.specs.file_texts.Parts.{kind_said, file_said, time_of, file_of, files_given}
 use Rattle.state_machine.specs.file_texts.declared.parts.TimePart.{TimePart}
 use Rattle.state_machine.specs.file_texts.declared.parts.AttributesPart.{AttributesPart}
 use Rattle.state_machine.specs.file_texts.declared.parts.BodyPart.{BodyPart}
 use Rattle.state_machine.specs.file_texts.declared.parts.BodyPart.TheVariants.{Regular, Symlink, Directory}
 use Rattle.state_machine.specs.file_texts.declared.parts.FilePart.{FilePart}
-use Rattle.state_machine.specs.state_spec.State.{ReceivedMessage, received_cmp, State, IsState}
-use Rattle.state_machine.specs.state_spec.State as spec
-use Rattle.state_machine.specs.state_spec.StateItems.{sent_item, received_value, state_item}
-use Rattle.state_machine.specs.state_spec.StateText.{Said, said}
-use Rattle.state_machine.specs.state_spec.StateValues.{map_from, set_from, received_from, sent_from, stage_of, stage_from}
-use Rattle.state_machine.specs.state_spec.StateValues.{world_from, machine_from, state_from}
-use Rattle.state_machine.specs.state_spec.Rules.{ListsRise, KeepsRules}
+use Rattle.state_spec.specs.State.{ReceivedMessage, received_cmp, State, IsState}
+use Rattle.state_spec.specs.State as spec
+use Rattle.state_spec.specs.StateItems.{sent_item, received_value, state_item}
+use Rattle.state_spec.specs.StateText.{Said, said}
+use Rattle.state_spec.specs.StateValues.{map_from, set_from, received_from, sent_from, stage_of, stage_from}
+use Rattle.state_spec.specs.StateValues.{world_from, machine_from, state_from}
+use Rattle.state_spec.specs.Rules.{ListsRise, KeepsRules}
 use Rattle.state_machine.proofs.state_spec.Back.{map_back}
 use Rattle.state_machine.proofs.state_spec.Forth.{entries_of_map, forth}
 use Rattle.state_machine.proofs.state_spec.Ruled.{rules_of_state, state_of_rules}

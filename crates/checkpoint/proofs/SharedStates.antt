@@ -2,10 +2,10 @@
 -- Serves: SharedState::new, is_same and state.
 use Rattle.std.proofs.Common.{◌≡◌, ℕ, List, sym, ap, subst, ◌∙◌}
 use Rattle.xdr.specs.Item.{spelling}
-use Rattle.state_machine.specs.file_texts.FileItems.{file_item}
-use Rattle.state_machine.specs.state_spec.State.{State}
-use Rattle.state_machine.specs.state_spec.StateItems.{state_item}
-use Rattle.state_machine.specs.state_spec.StateText.{said, IsStateText}
+use Rattle.state_spec.specs.server_spec.FileItems.{file_item}
+use Rattle.state_spec.specs.State.{State}
+use Rattle.state_spec.specs.StateItems.{state_item}
+use Rattle.state_spec.specs.StateText.{said, IsStateText}
 use Rattle.state_machine.proofs.state_spec.Back.{back}
 use Rattle.state_machine.proofs.state_spec.Texts.{read_again}
 use Rattle.checkpoint.specs.SharedStates.{state_or_any, state_of_text}

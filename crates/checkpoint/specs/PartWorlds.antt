@@ -2,12 +2,12 @@
 use Rattle.std.specs.Prelude.{ℕ}
 use Rattle.nfs_items.specs.Timeval.{Timeval}
 use Rattle.file_tree.specs.tree_rules.FileRules.Rules.{files_listed}
-use Rattle.state_machine.specs.worlds.World.{World, world_of}
+use Rattle.state_spec.specs.server_spec.World.{World, world_of}
 use Rattle.state_machine.specs.file_texts.Parts.{files_given}
 use Rattle.checkpoint.specs.Trees.ServedTrees.{IsServedTree}
-use Rattle.state_machine.specs.state_spec.State.{Stage}
-use Rattle.state_machine.specs.state_spec.State as spec
-use Rattle.state_machine.specs.state_spec.Rules.{MountsAreOfTheRoot, MountsDiffer}
+use Rattle.state_spec.specs.State.{Stage}
+use Rattle.state_spec.specs.State as spec
+use Rattle.state_spec.specs.Rules.{MountsAreOfTheRoot, MountsDiffer}
 use Rattle.checkpoint.specs.Parts.SaidParts.{mounts_given}
 use Rattle.checkpoint.specs.declared.parts.parts.StagePart.{StagePart}
 use Rattle.checkpoint.specs.declared.parts.parts.StagePart.TheVariants.{Idle, Heard, Owes}

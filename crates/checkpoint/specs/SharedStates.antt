@@ -1,9 +1,9 @@
 -- The state that a text gives.
 use Rattle.std.specs.Prelude.{ℕ, List, Option, Some, None}
 use Rattle.xdr.specs.Texts.Text.{text_at}
-use Rattle.state_machine.specs.state_spec.State.{State, opening_server}
-use Rattle.state_machine.specs.state_spec.StateText.{Said, spelled_text}
-use Rattle.state_machine.specs.state_spec.StateValues.{state_from}
+use Rattle.state_spec.specs.State.{State, opening_server}
+use Rattle.state_spec.specs.StateText.{Said, spelled_text}
+use Rattle.state_spec.specs.StateValues.{state_from}
 
 -- the state that a value gives, or any where there is no value
 abbrev pub state_or_any : Option Said → State

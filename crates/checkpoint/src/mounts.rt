@@ -6,7 +6,7 @@ ghost use Rattle.xdr.specs.Item.{Fits, array, spelling};
 ghost use Rattle.xdr.specs.Writing.{Adds};
 ghost use Rattle.mount_types.specs.declared.limits.TheConstants.{MNTNAMLEN};
 ghost use Rattle.mount_types.specs.Mounts.{max_mounts, root_of};
-ghost use Rattle.state_machine.specs.state_spec.StateItems.{mount_item};
+ghost use Rattle.state_spec.specs.StateItems.{mount_item};
 
 use state_machine::MountTable;
 use std::alloc::AllocError;

@@ -2,14 +2,14 @@
 
 ghost use Rattle.std.specs.Prelude.{◌≡◌, IfOk, IfErr, MatchOption, MatchResult};
 ghost use Rattle.xdr.specs.Item.{Fits};
-ghost use Rattle.fs_model.specs.Trees.{IsTime};
-ghost use Rattle.state_machine.specs.file_texts.FileItems.{file_item};
+ghost use Rattle.fs_spec.specs.Trees.{IsTime};
+ghost use Rattle.state_spec.specs.server_spec.FileItems.{file_item};
 ghost use Rattle.state_machine.specs.file_texts.Parts.{time_of};
-ghost use Rattle.state_machine.specs.state_spec.State as spec;
-ghost use Rattle.state_machine.specs.state_spec.StateItems.{state_item};
-ghost use Rattle.state_machine.specs.state_spec.StateText.{IsStateText, IsGarbage, IsNotAState};
-ghost use Rattle.state_machine.specs.state_spec.StateValues.{state_from};
-ghost use Rattle.state_machine.specs.state_spec.Rules.{KeepsRules};
+ghost use Rattle.state_spec.specs.State as spec;
+ghost use Rattle.state_spec.specs.StateItems.{state_item};
+ghost use Rattle.state_spec.specs.StateText.{IsStateText, IsGarbage, IsNotAState};
+ghost use Rattle.state_spec.specs.StateValues.{state_from};
+ghost use Rattle.state_spec.specs.Rules.{KeepsRules};
 ghost use Rattle.checkpoint.specs.Parts.SaidParts.{state_said};
 ghost use Rattle.checkpoint.specs.Parts.Bounds.{AreBounded, IsBoundedWorld, IsShortStage};
 ghost use Rattle.state_machine.specs.Stages.{stage_in};

@@ -1,7 +1,7 @@
 //! States that several own.
 
 ghost use Rattle.std.specs.Prelude.{◌≡◌, ◌↔◌, IfOk, IsTrue};
-ghost use Rattle.state_machine.specs.state_spec.StateText.{IsStateText};
+ghost use Rattle.state_spec.specs.StateText.{IsStateText};
 
 use crate::read::read_state;
 use crate::text::state_text;
@@ -19,9 +19,9 @@ pub struct SharedState {
 
 impl Model for SharedState {
     ghost use Rattle.std.specs.Arc.{arc_value};
-    ghost use Rattle.state_machine.specs.state_spec.State.{State};
-    ghost use Rattle.state_machine.specs.state_spec.Codes.{state_code};
-    ghost use Rattle.state_machine.specs.state_spec.StateText.{IsStateText};
+    ghost use Rattle.state_spec.specs.State.{State};
+    ghost use Rattle.state_spec.specs.Codes.{state_code};
+    ghost use Rattle.state_spec.specs.StateText.{IsStateText};
     ghost use Rattle.checkpoint.specs.SharedStates.{state_of_text};
 
     ghost Value = { State };

@@ -2,8 +2,8 @@
 
 ghost use Rattle.std.specs.Prelude.{◌≡◌, IfOk};
 ghost use Rattle.xdr.specs.Writing.{Adds};
-ghost use Rattle.state_machine.specs.file_texts.FileItems.{file_item, file_value};
-ghost use Rattle.state_machine.specs.state_spec.StateText.{IsStateText};
+ghost use Rattle.state_spec.specs.server_spec.FileItems.{file_item, file_value};
+ghost use Rattle.state_spec.specs.StateText.{IsStateText};
 ghost use Rattle.state_machine.specs.Machines.{machine_in};
 ghost use Rattle.checkpoint.specs.Fronts.{files_text};
 

@@ -1,5 +1,4 @@
 pub use Rattle.xdr.proofs as xdr
-pub use Rattle.fs_model.proofs as fs_model
-pub mod Files
+pub use Rattle.fs_spec.proofs as fs_spec
 pub mod Arrays
 mod NumberedFiles

@@ -8,7 +8,7 @@ use Rattle.std.proofs.lemmas.List.{length-map, map_more, map-append, take_all, d
 use Rattle.std.proofs.Math.Seq.{drop-cons}
 use Rattle.std.proofs.lemmas.List.Elements.{All-nil, All-cons, All-head, All-tail, All-weaker}
 use Rattle.std.proofs.lemmas.Option.{slice_get-get_or}
-use Rattle.fs_model.specs.Files.{File}
+use Rattle.fs_spec.specs.Files.{File}
 use Rattle.tree_rules.specs.FileRules.Rules.{AreRising, numbers_of}
 use Rattle.tree_rules.proofs.OfFileRules.Listed.{number_at}
 use Rattle.tree_rules.specs.inodes.Inodes.{file_in}

@@ -1,11 +1,11 @@
 -- What a file must keep by itself, whatever other files there are.
 use Rattle.std.specs.Prelude.{◌<◌, ◌≤◌, List, IsTrue}
 use Rattle.std.specs.List.{All}
-use Rattle.fs_model.specs.nfs_items.Terms.{FileNumber}
-use Rattle.fs_model.specs.Listing.{NamedEntry, entry_name}
-use Rattle.fs_model.specs.Names.{is_name}
-use Rattle.fs_model.specs.Files.{Body, File, listing_in}
-use Rattle.fs_model.specs.Trees.{IsBody, IsTime}
+use Rattle.fs_spec.specs.nfs_items.Terms.{FileNumber}
+use Rattle.fs_spec.specs.Listing.{NamedEntry, entry_name}
+use Rattle.fs_spec.specs.Names.{is_name}
+use Rattle.fs_spec.specs.Files.{Body, File, listing_in}
+use Rattle.fs_spec.specs.Trees.{IsBody, IsTime}
 use Rattle.tree_rules.specs.FileRules.Rules.{AreRising, numbers_of}
 
 -- a body is within its limit; a directory's cookies rise from 3 to below the next, and its names differ and

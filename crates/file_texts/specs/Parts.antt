@@ -1,12 +1,12 @@
 -- What the parts of a file's text say.
 use Rattle.std.specs.Prelude.{List, map}
-use Rattle.fs_model.specs.nfs_items.Terms.{FileNumber}
+use Rattle.fs_spec.specs.nfs_items.Terms.{FileNumber}
 use Rattle.xdr.specs.Item.{Value, choice}
-use Rattle.fs_model.specs.nfs_items.Timeval.{Timeval, timeval}
-use Rattle.fs_model.specs.Files.{Body, File}
-use Rattle.fs_model.specs.Files as files
+use Rattle.fs_spec.specs.nfs_items.Timeval.{Timeval, timeval}
+use Rattle.fs_spec.specs.Files.{Body, File}
+use Rattle.fs_spec.specs.Files as files
 use Rattle.tree_rules.specs.GivenListing.{said_entries}
-use Rattle.file_texts.specs.FileItems.{is_file_kind, kind_item, attributes_item, file_item}
+use Rattle.server_spec.specs.FileItems.{is_file_kind, kind_item, attributes_item, file_item}
 use Rattle.file_texts.specs.declared.parts.TimePart.{TimePart}
 use Rattle.file_texts.specs.declared.parts.AttributesPart.{AttributesPart}
 use Rattle.file_texts.specs.declared.parts.BodyPart.{BodyPart}

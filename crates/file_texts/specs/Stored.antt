@@ -1,7 +1,7 @@
 -- What a stored entry says.
 use Rattle.std.specs.Prelude.{ℕ}
 use Rattle.std.specs.declared.vec.Vec.{Vec}
-use Rattle.fs_model.specs.Listing.{NamedEntry}
+use Rattle.fs_spec.specs.Listing.{NamedEntry}
 use Rattle.tree_rules.specs.inodes.declared.directories.directory.Entry.{Entry}
 
 -- the entry of a directory that a stored name, number and cookie are

@@ -3,7 +3,7 @@
 ghost use Rattle.std.specs.Prelude.{◌≡◌, IfOk};
 ghost use Rattle.tree_rules.specs.inodes.Inodes.{body_in, file_in};
 ghost use Rattle.file_texts.specs.Bounds.{IsWritable};
-ghost use Rattle.file_texts.specs.FileItems.{file_digest};
+ghost use Rattle.server_spec.specs.FileItems.{file_digest};
 
 use crate::write::add_file;
 use sha2::{Digest, Sha256};

@@ -1,14 +1,14 @@
 //! Inodes from the parts of their texts.
 
 ghost use Rattle.std.specs.Prelude.{◌≡◌, IfOk, MatchOption};
-ghost use Rattle.fs_model.specs.Trees.{IsTime};
+ghost use Rattle.fs_spec.specs.Trees.{IsTime};
 ghost use Rattle.tree_rules.specs.inodes.Inodes.{body_in, file_in};
 ghost use Rattle.file_texts.specs.Alone.{IsBodyAlone, IsFileAlone};
 ghost use Rattle.file_texts.specs.Bounds.{IsWritable};
 ghost use Rattle.file_texts.specs.Parts.{time_of, body_of, file_of};
 
 use crate::parts::{BodyPart, FilePart, TimePart};
-use fs_model::Time;
+use fs_spec::Time;
 use std::alloc::{AllocError, Global};
 use tree_rules::{Body, Inode, directory_of};
 

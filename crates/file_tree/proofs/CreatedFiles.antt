@@ -4,9 +4,9 @@ use Rattle.std.proofs.Common.{◌≡◌, ℕ, ◌≤◌, List, length, replicate
 use Rattle.std.specs.Prelude.{IsTrue, unwrap_or}
 use Rattle.nfs_spec.specs.nfs_items.Timeval.{Timeval}
 use Rattle.nfs_spec.specs.nfs_items.Caller.{Caller}
-use Rattle.nfs_spec.specs.fs_model.Files.{Body, Regular, File, Files}
-use Rattle.nfs_spec.specs.fs_model.Trees.{IsTime, IsFile, IsFileTree}
-use Rattle.nfs_spec.specs.fs_model.Changes.Limits.{has_room}
+use Rattle.nfs_spec.specs.fs_spec.Files.{Body, Regular, File, Files}
+use Rattle.nfs_spec.specs.fs_spec.Trees.{IsTime, IsFile, IsFileTree}
+use Rattle.nfs_spec.specs.fs_spec.Changes.Limits.{has_room}
 use Rattle.nfs_spec.specs.Changes.{new_file}
 use Rattle.nfs_spec.specs.Procedures.{create, add_file}
 use Rattle.nfs_spec.specs.Sattr.{GivenFields}
@@ -15,7 +15,7 @@ use Rattle.inode_table.proofs.nfs_laws.OfSteps.Making.{create_ok}
 use Rattle.inode_table.specs.nfs_laws.Laws.{AreValidFields, NamesIn}
 use Rattle.inode_table.proofs.nfs_laws.FilesFit.{regular_fits}
 use Rattle.inode_table.specs.nfs_laws.Sizes.Bounds.{HasWords}
-use Rattle.inode_table.specs.nfs_counts.CountChanges.{MayMake}
+use Rattle.inode_table.specs.nfs_count_laws.CountChanges.{MayMake}
 use Rattle.file_tree.specs.FileChecks.Creates.{DecidesCreate}
 use Rattle.file_tree.proofs.OfFileChecks.GrantedNames.{may_make, make_does, make_names}
 

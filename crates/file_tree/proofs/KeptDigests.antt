@@ -4,10 +4,10 @@ use Rattle.std.proofs.Common.{◌≡◌, ◌≢◌, ⊎_elim, ℕ, List, false, 
 use Rattle.std.proofs.Common.{◌∙◌}
 use Rattle.std.proofs.lemmas.Bool.{cases_eq}
 use Rattle.nfs_spec.specs.nfs_items.Timeval.{Timeval}
-use Rattle.nfs_spec.specs.fs_model.Files.{File, Files, file_at}
-use Rattle.nfs_spec.specs.fs_model.Changes.Edits.{with_changed_file}
-use Rattle.nfs_spec.proofs.fs_model.Walks.{none_some}
-use Rattle.nfs_spec.proofs.fs_model.OfChanges.Finite.{changed_here, changed_other}
+use Rattle.nfs_spec.specs.fs_spec.Files.{File, Files, file_at}
+use Rattle.nfs_spec.specs.fs_spec.Changes.Edits.{with_changed_file}
+use Rattle.nfs_spec.proofs.fs_spec.Walks.{none_some}
+use Rattle.nfs_spec.proofs.fs_spec.OfChanges.Finite.{changed_here, changed_other}
 use Rattle.nfs_spec.specs.Sattr.{GivenFields, gives_any}
 use Rattle.nfs_spec.specs.Changes.{apply_fields}
 use Rattle.file_tree.specs.declared.digests.FileDigests.{FileDigests}

@@ -6,13 +6,13 @@ use Rattle.std.proofs.Common.{option_map, option_and_then, if◌then◌else◌, 
 use Rattle.nfs_spec.specs.nfs_items.Caller.{Caller}
 use Rattle.nfs_spec.specs.nfs_items.declared.stat.Stat.{Stat}
 use Rattle.nfs_spec.specs.nfs_items.declared.stat.Stat.TheVariants as stats
-use Rattle.nfs_spec.specs.fs_model.Listing.{entry_at}
-use Rattle.nfs_spec.specs.fs_model.Names.{dot_dot, is_name}
-use Rattle.nfs_spec.specs.fs_model.Files.{Body, Regular, Symlink, Directory, File, Files, file_at, listing_in}
-use Rattle.nfs_spec.specs.fs_model.Files.{is_directory, directory_entries, parent_of}
-use Rattle.nfs_spec.specs.fs_model.Trees.{IsFileTree}
-use Rattle.nfs_spec.proofs.fs_model.Walks.{step_last}
-use Rattle.nfs_spec.proofs.fs_model.Parents.{parent_path}
+use Rattle.nfs_spec.specs.fs_spec.Listing.{entry_at}
+use Rattle.nfs_spec.specs.fs_spec.Names.{dot_dot, is_name}
+use Rattle.nfs_spec.specs.fs_spec.Files.{Body, Regular, Symlink, Directory, File, Files, file_at, listing_in}
+use Rattle.nfs_spec.specs.fs_spec.Files.{is_directory, directory_entries, parent_of}
+use Rattle.nfs_spec.specs.fs_spec.Trees.{IsFileTree}
+use Rattle.nfs_spec.proofs.fs_spec.Walks.{step_last}
+use Rattle.nfs_spec.proofs.fs_spec.Parents.{parent_path}
 use Rattle.nfs_spec.specs.ProcedureChecks.{◌>>=◌, ok_or, listing_or, may_search}
 use Rattle.nfs_spec.specs.Effects.{number_named, number_at_name}
 use Rattle.nfs_spec.proofs.Lookups.{plain_name}

@@ -8,10 +8,10 @@ use Rattle.std.specs.Option.{option_map_or}
 use Rattle.std.specs.List.{filter, list_any}
 use Rattle.std.specs.Ordering.{nat_cmp, eq_by_cmp}
 use Rattle.std.specs.FinMap as finite
-use Rattle.nfs_spec.specs.fs_model.Files.{File, Files, directory_entries, file_at}
-use Rattle.nfs_spec.specs.fs_model.Listing.{DirectoryEntry}
-use Rattle.nfs_spec.proofs.fs_model.Counts.{same_number}
-use Rattle.nfs_spec.proofs.fs_model.OfChanges.Finite.{cmp_same}
+use Rattle.nfs_spec.specs.fs_spec.Files.{File, Files, directory_entries, file_at}
+use Rattle.nfs_spec.specs.fs_spec.Listing.{DirectoryEntry}
+use Rattle.nfs_spec.proofs.fs_spec.Counts.{same_number}
+use Rattle.nfs_spec.proofs.fs_spec.OfChanges.Finite.{cmp_same}
 use Rattle.file_tree.specs.declared.digests.FileDigests.{FileDigests}
 use Rattle.file_tree.specs.KeptDigests.{AreAllMissing, Forgets, KeepsAll, KeepsOthers, KeptFiles}
 use Rattle.file_tree.specs.KeptDigests.{has_none, is_missing, kept_at, missing_in}

@@ -11,10 +11,10 @@ use Rattle.nfs_spec.specs.nfs_types.Results.{entry_of, page_of}
 use Rattle.nfs_spec.specs.nfs_items.Attributes.{outcome_of}
 use Rattle.nfs_spec.specs.nfs_types.declared.results.PageEntry as stored_entry
 use Rattle.nfs_spec.specs.nfs_types.declared.results.Page as stored
-use Rattle.nfs_spec.specs.fs_model.Files.{Files, is_directory, listing_in}
-use Rattle.nfs_spec.specs.fs_model.Trees.{IsFileTree}
-use Rattle.nfs_spec.specs.fs_model.Changes.Limits.{has_room}
-use Rattle.nfs_spec.proofs.fs_model.OfChanges.Room.{within}
+use Rattle.nfs_spec.specs.fs_spec.Files.{Files, is_directory, listing_in}
+use Rattle.nfs_spec.specs.fs_spec.Trees.{IsFileTree}
+use Rattle.nfs_spec.specs.fs_spec.Changes.Limits.{has_room}
+use Rattle.nfs_spec.proofs.fs_spec.OfChanges.Room.{within}
 use Rattle.nfs_spec.specs.Procedures.{read_dir}
 use Rattle.inode_table.specs.nfs_laws.Steps.Read.{ReadDirOk}
 use Rattle.inode_table.proofs.nfs_laws.OfSteps.Reading.{read_dir_ok}

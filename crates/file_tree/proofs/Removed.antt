@@ -3,8 +3,8 @@
 use Rattle.std.proofs.Common.{◌≡◌, ℕ, List, true, false, Ok}
 use Rattle.nfs_spec.specs.nfs_items.Timeval.{Timeval}
 use Rattle.nfs_spec.specs.nfs_items.Caller.{Caller}
-use Rattle.nfs_spec.specs.fs_model.Files.{Files}
-use Rattle.nfs_spec.specs.fs_model.Trees.{IsTime, IsFileTree}
+use Rattle.nfs_spec.specs.fs_spec.Files.{Files}
+use Rattle.nfs_spec.specs.fs_spec.Trees.{IsTime, IsFileTree}
 use Rattle.nfs_spec.specs.Procedures.{remove, remove_dir}
 use Rattle.inode_table.proofs.nfs_laws.OfSteps.Removing.{remove_ok, remove_dir_ok}
 use Rattle.inode_table.specs.nfs_laws.Laws.{UnnamesIn}

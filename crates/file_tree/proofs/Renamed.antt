@@ -3,8 +3,8 @@
 use Rattle.std.proofs.Common.{◌≡◌, ℕ, ◌≤◌, List, length, Ok}
 use Rattle.nfs_spec.specs.nfs_items.Timeval.{Timeval}
 use Rattle.nfs_spec.specs.nfs_items.Caller.{Caller}
-use Rattle.nfs_spec.specs.fs_model.Files.{Files}
-use Rattle.nfs_spec.specs.fs_model.Trees.{IsTime, IsFileTree}
+use Rattle.nfs_spec.specs.fs_spec.Files.{Files}
+use Rattle.nfs_spec.specs.fs_spec.Trees.{IsTime, IsFileTree}
 use Rattle.nfs_spec.specs.Procedures.{rename}
 use Rattle.inode_table.specs.nfs_laws.Steps.Granted.{IsSameFile}
 use Rattle.inode_table.proofs.nfs_laws.OfSteps.Renaming.{rename_ok}

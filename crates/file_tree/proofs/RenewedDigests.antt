@@ -11,12 +11,12 @@ use Rattle.std.specs.List.{AllByRecursion, filter}
 use Rattle.std.proofs.lemmas.List.Elements.{recursion_from_All}
 use Rattle.std.proofs.lemmas.List.Sums.{length-filter, sum_by-cons}
 use Rattle.std.proofs.lemmas.Option.{slice_get-get_or}
-use Rattle.nfs_spec.specs.fs_model.Files.{File, Files, file_at}
-use Rattle.nfs_spec.proofs.fs_model.OfChanges.Finite.{cmp_other}
+use Rattle.nfs_spec.specs.fs_spec.Files.{File, Files, file_at}
+use Rattle.nfs_spec.proofs.fs_spec.OfChanges.Finite.{cmp_other}
 use Rattle.inode_table.specs.inodes.Inodes.{file_in}
 use Rattle.inode_table.specs.inodes.declared.inode.Inode.{Inode}
 use Rattle.inode_table.specs.tree_rules.Listed.{files_in}
-use Rattle.file_texts.specs.FileItems.{file_digest}
+use Rattle.server_spec.specs.FileItems.{file_digest}
 use Rattle.file_tree.specs.declared.digests.FileDigests.{FileDigests}
 use Rattle.file_tree.specs.KeptDigests.{AreKept, count_missing, has_none, kept_at, missing_in}
 use Rattle.file_tree.proofs.WritableFiles.{there}

@@ -13,14 +13,14 @@ use Rattle.std.specs.FinMap as finite
 use Rattle.std.specs.FinMap.Entries.{below_all, is_sorted}
 use Rattle.std.proofs.lemmas.List.Elements.{recursion_from_All}
 use Rattle.std.proofs.lemmas.Map.Entries.{lookup_from_place}
-use Rattle.nfs_spec.specs.fs_model.Maxima.{max_files, max_entries, max_name}
-use Rattle.nfs_spec.specs.fs_model.Listing.{NamedEntry}
-use Rattle.nfs_spec.specs.fs_model.Files.{Body, Regular, Symlink, Directory, File, Files, file_at, listing_in}
-use Rattle.nfs_spec.specs.fs_model.Trees.{IsBody, IsFileTree}
-use Rattle.nfs_spec.proofs.fs_model.Counts.{count_of_one, file_in, find_lookup, sum_by_second}
-use Rattle.nfs_spec.proofs.fs_model.Reached.{both_of, distinct_in}
-use Rattle.nfs_spec.specs.fs_model.Changes.Limits.{has_room}
-use Rattle.nfs_spec.proofs.fs_model.OfChanges.Room.{within}
+use Rattle.nfs_spec.specs.fs_spec.Maxima.{max_files, max_entries, max_name}
+use Rattle.nfs_spec.specs.fs_spec.Listing.{NamedEntry}
+use Rattle.nfs_spec.specs.fs_spec.Files.{Body, Regular, Symlink, Directory, File, Files, file_at, listing_in}
+use Rattle.nfs_spec.specs.fs_spec.Trees.{IsBody, IsFileTree}
+use Rattle.nfs_spec.proofs.fs_spec.Counts.{count_of_one, file_in, find_lookup, sum_by_second}
+use Rattle.nfs_spec.proofs.fs_spec.Reached.{both_of, distinct_in}
+use Rattle.nfs_spec.specs.fs_spec.Changes.Limits.{has_room}
+use Rattle.nfs_spec.proofs.fs_spec.OfChanges.Room.{within}
 use Rattle.inode_table.proofs.tree_rules.OfFileRules.ListedEntries.{entry_in_order}
 use Rattle.inode_table.proofs.tree_rules.Seen.{at_inode, length_files}
 use Rattle.inode_table.specs.inodes.Inodes as stored

@@ -7,11 +7,11 @@ use Rattle.std.specs.BTreeMap.{get}
 use Rattle.std.specs.Coded.{Coded, code_by, coded×, coded_list, coded_ℕ}
 use Rattle.std.specs.FinMap as finite
 use Rattle.nfs_spec.specs.nfs_items.Terms.{FileNumber}
-use Rattle.nfs_spec.specs.fs_model.Files.{File, Files, file_at, files_code}
+use Rattle.nfs_spec.specs.fs_spec.Files.{File, Files, file_at, files_code}
 use Rattle.inode_table.specs.inodes.Inodes.{file_in}
 use Rattle.inode_table.specs.inodes.declared.inode.Inode.{Inode}
 use Rattle.file_texts.specs.Bounds.{IsWritable}
-use Rattle.file_texts.specs.FileItems.{file_digest}
+use Rattle.server_spec.specs.FileItems.{file_digest}
 use Rattle.file_tree.specs.declared.digests.FileDigests.{FileDigests}
 
 -- the digest that is kept for a number, if one is

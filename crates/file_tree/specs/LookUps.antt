@@ -1,6 +1,6 @@
 -- Look-ups, as steps along paths.
 use Rattle.std.specs.Prelude.{◌≡◌, ℕ, List, [], ◌∷◌, ◌++◌, Option, Some, option_map}
-use Rattle.nfs_spec.specs.fs_model.Paths.{DirectoryEntries, path_at}
+use Rattle.nfs_spec.specs.fs_spec.Paths.{DirectoryEntries, path_at}
 
 -- each path to the directory leads on, by the name, to the number, or to nothing
 abbrev pub LeadsOn : DirectoryEntries → ℕ → List ℕ → Option ℕ → Type 0

@@ -4,8 +4,8 @@ use Rattle.std.specs.Option.{option_map_or}
 use Rattle.nfs_spec.specs.nfs_items.Terms.{FileNumber, Name}
 use Rattle.nfs_spec.specs.nfs_items.declared.attributes.Fattr.{Fattr}
 use Rattle.nfs_spec.specs.nfs_items.declared.stat.Stat.{Stat}
-use Rattle.nfs_spec.specs.fs_model.Files.{Files, directory_entries}
-use Rattle.nfs_spec.specs.fs_model.Listing.{DirectoryEntry, file_number}
+use Rattle.nfs_spec.specs.fs_spec.Files.{Files, directory_entries}
+use Rattle.nfs_spec.specs.fs_spec.Listing.{DirectoryEntry, file_number}
 use Rattle.nfs_spec.specs.Changes.{Effect}
 use Rattle.nfs_spec.specs.Effects.{attributes_at}
 use Rattle.file_tree.specs.KeptDigests.{KeepsOthers, KeptFiles}

@@ -5,11 +5,11 @@ ghost use Rattle.std.specs.Prelude.{Some, None, length};
 ghost use Rattle.std.specs.Option.{option_copied};
 ghost use Rattle.std.specs.FinMap as finite;
 ghost use Rattle.nfs_spec.specs.nfs_items.Terms.{FileNumber};
-ghost use Rattle.nfs_spec.specs.fs_model.Maxima.{max_files};
+ghost use Rattle.nfs_spec.specs.fs_spec.Maxima.{max_files};
 ghost use Rattle.inode_table.specs.inodes.Inodes.{body_in, file_in};
 ghost use Rattle.inode_table.specs.tree_rules.Listed.{files_in};
 ghost use Rattle.file_texts.specs.Bounds.{IsWritable};
-ghost use Rattle.file_texts.specs.FileItems.{file_digest};
+ghost use Rattle.server_spec.specs.FileItems.{file_digest};
 ghost use Rattle.file_tree.specs.KeptDigests.{AreKept, Forgets, count_missing, kept_at, missing_in};
 
 use file_texts::file_digest;

@@ -2,7 +2,7 @@
 
 ghost use Rattle.std.specs.Prelude.{◌≡◌, ◌≤◌, ◌∷◌, [], length};
 ghost use Rattle.nfs_spec.specs.nfs_items.CallerOf.{caller_of};
-ghost use Rattle.nfs_spec.specs.fs_model.Maxima.{max_name};
+ghost use Rattle.nfs_spec.specs.fs_spec.Maxima.{max_name};
 ghost use Rattle.nfs_spec.specs.Procedures.{link};
 ghost use Rattle.inode_table.specs.nfs_laws.Laws.{NamesIn};
 ghost use Rattle.file_tree.specs.Performs.{Performs, IfDone, KeepsDigests};

@@ -2,9 +2,9 @@
 
 ghost use Rattle.std.specs.Prelude.{◌≡◌, ◌≤◌, ◌+◌, [], ◌∷◌, Ok, None, length};
 ghost use Rattle.nfs_spec.specs.nfs_items.CallerOf.{caller_of};
-ghost use Rattle.nfs_spec.specs.fs_model.Files.{listing_in, directory_entries};
-ghost use Rattle.nfs_spec.specs.fs_model.Maxima.{max_name, max_number, max_target};
-ghost use Rattle.nfs_spec.specs.fs_model.Trees.{IsFile};
+ghost use Rattle.nfs_spec.specs.fs_spec.Files.{listing_in, directory_entries};
+ghost use Rattle.nfs_spec.specs.fs_spec.Maxima.{max_name, max_number, max_target};
+ghost use Rattle.nfs_spec.specs.fs_spec.Trees.{IsFile};
 ghost use Rattle.nfs_spec.specs.Sattr.{given_fields};
 ghost use Rattle.nfs_spec.specs.Procedures.{create, make, make_dir, symlink};
 ghost use Rattle.inode_table.specs.nfs_laws.Laws.{AreValidFields, NamesIn};

@@ -2,11 +2,11 @@
 
 ghost use Rattle.std.specs.Prelude.{◌≡◌, ◌≤◌, ◌&&◌, [], IfOk, IfSome, IsTrue, OnOk, is_none};
 ghost use Rattle.std.specs.Prelude.{is_some, length};
-ghost use Rattle.nfs_spec.specs.fs_model.Files.{file_at};
+ghost use Rattle.nfs_spec.specs.fs_spec.Files.{file_at};
 ghost use Rattle.std.specs.FinMap as finite;
-ghost use Rattle.nfs_spec.specs.fs_model.Maxima.{max_files};
-ghost use Rattle.nfs_spec.specs.fs_model.Trees.{IsFileTree};
-ghost use Rattle.nfs_spec.specs.fs_model.Changes.Limits.{has_room};
+ghost use Rattle.nfs_spec.specs.fs_spec.Maxima.{max_files};
+ghost use Rattle.nfs_spec.specs.fs_spec.Trees.{IsFileTree};
+ghost use Rattle.nfs_spec.specs.fs_spec.Changes.Limits.{has_room};
 ghost use Rattle.inode_table.specs.nfs_laws.Sizes.Bounds.{AreWords};
 ghost use Rattle.inode_table.specs.tree_rules.FileRules.Rules.{AreRising, numbers_of};
 ghost use Rattle.inode_table.specs.inodes.Inodes.{files_of};

@@ -1,8 +1,8 @@
 //! Walks along paths, which look at no permission.
 
 ghost use Rattle.std.specs.Prelude.{◌≡◌, option_map};
-ghost use Rattle.nfs_spec.specs.fs_model.Listing.{file_number};
-ghost use Rattle.nfs_spec.specs.fs_model.Files.{directory_entries};
+ghost use Rattle.nfs_spec.specs.fs_spec.Listing.{file_number};
+ghost use Rattle.nfs_spec.specs.fs_spec.Files.{directory_entries};
 
 use crate::tree::Tree;
 use inode_table::Body;

@@ -4,7 +4,7 @@ ghost use Rattle.std.specs.Prelude.{◌≡◌, ◌≤◌, All, IfOk, List, ℕ, 
 ghost use Rattle.nfs_spec.specs.nfs_items.CallerOf.{caller_of};
 ghost use Rattle.nfs_spec.specs.nfs_items.Attributes.{outcome_of};
 ghost use Rattle.nfs_spec.specs.nfs_types.Results.{bytes_of, page_of};
-ghost use Rattle.nfs_spec.specs.fs_model.Maxima.{max_data, max_name, max_target};
+ghost use Rattle.nfs_spec.specs.fs_spec.Maxima.{max_data, max_name, max_target};
 ghost use Rattle.nfs_spec.specs.Procedures.{read_link, read, read_dir, stat_fs};
 
 use crate::limits::MAX_BLOCKS;

@@ -2,10 +2,10 @@
 
 ghost use Rattle.std.specs.Prelude.{◌≡◌, ℕ, List, IfOk, OnOk, IsTrue, Some, None, Err};
 ghost use Rattle.nfs_spec.specs.nfs_items.CallerOf.{caller_of};
-ghost use Rattle.nfs_spec.specs.fs_model.Files.{directory_entries};
-ghost use Rattle.nfs_spec.specs.fs_model.Names.{is_name, dot_dot};
-ghost use Rattle.nfs_spec.specs.fs_model.Trees.{IsFileTree};
-ghost use Rattle.nfs_spec.specs.fs_model.Changes.Limits.{has_room};
+ghost use Rattle.nfs_spec.specs.fs_spec.Files.{directory_entries};
+ghost use Rattle.nfs_spec.specs.fs_spec.Names.{is_name, dot_dot};
+ghost use Rattle.nfs_spec.specs.fs_spec.Trees.{IsFileTree};
+ghost use Rattle.nfs_spec.specs.fs_spec.Changes.Limits.{has_room};
 ghost use Rattle.nfs_spec.specs.Effects.{attributes_at, number_at_name};
 ghost use Rattle.nfs_spec.specs.Opening.{opening_files};
 ghost use Rattle.inode_table.specs.nfs_laws.Sizes.Bounds.{AreWords};

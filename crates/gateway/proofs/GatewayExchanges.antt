@@ -13,13 +13,13 @@ use Rattle.rpc.specs.Records.Reading.{FailsUnless, StopsAt, fault_after}
 use Rattle.rpc.specs.declared.records.fault.RecordFault.{RecordFault}
 use Rattle.rpc.specs.declared.records.fault.RecordFault.TheVariants as reader_faults
 use Rattle.nfs_items.specs.Timeval.{Timeval}
-use Rattle.service.specs.Owed.{record_of}
-use Rattle.record_streams.specs.Streams.{StopsAfterRecords, StopsBeforeReply, TakesNothing}
-use Rattle.record_streams.specs.InTurn.{with_times}
-use Rattle.record_streams.specs.Faults as stream_faults
-use Rattle.record_streams.proofs.StreamProgress as streams
-use Rattle.record_streams.proofs.StreamProgress.{Progress, ReadsRecord, begins, pushes, says, stops_after}
-use Rattle.record_streams.proofs.StreamProgress.{stops_before_reply, stops_in_reply}
+use Rattle.server_spec.specs.Owed.{record_of}
+use Rattle.stream_spec.specs.Streams.{StopsAfterRecords, StopsBeforeReply, TakesNothing}
+use Rattle.stream_spec.specs.InTurn.{with_times}
+use Rattle.stream_spec.specs.Faults as stream_faults
+use Rattle.stream_spec.proofs.StreamProgress as streams
+use Rattle.stream_spec.proofs.StreamProgress.{Progress, ReadsRecord, begins, pushes, says, stops_after}
+use Rattle.stream_spec.proofs.StreamProgress.{stops_before_reply, stops_in_reply}
 use Rattle.gateway.specs.declared.links.fault.LinkFault.{LinkFault}
 use Rattle.gateway.specs.declared.links.fault.LinkFault.TheVariants as links
 use Rattle.gateway.specs.declared.fault.StreamFault.{StreamFault}

@@ -15,24 +15,24 @@ use Rattle.rpc.specs.declared.records.fault.RecordFault.{RecordFault}
 use Rattle.rpc.specs.declared.records.fault.RecordFault.TheVariants as reader_faults
 use Rattle.rpc.specs.Records.Reading.{FailsUnless, StopsAt, fault_after}
 use Rattle.nfs_items.specs.Timeval.{Timeval}
-use Rattle.worlds.specs.World.{World}
-use Rattle.service.specs.Replies.{reply_owed, world_after}
-use Rattle.service.specs.Owed.{record_of, replies_owed, world_after_all}
+use Rattle.server_spec.specs.World.{World}
+use Rattle.server_spec.specs.Replies.{reply_owed, world_after}
+use Rattle.server_spec.specs.Owed.{record_of, replies_owed, world_after_all}
 use Rattle.gateway.specs.Links.Readings.{Readings, IsAfter}
 use Rattle.gateway.specs.declared.links.fault.LinkFault.{LinkFault}
 use Rattle.gateway.specs.declared.links.fault.LinkFault.TheVariants as links
 use Rattle.gateway.specs.declared.fault.StreamFault.{StreamFault}
 use Rattle.gateway.specs.declared.fault.StreamFault.TheVariants as faults
 use Rattle.gateway.specs.Faults.{of_records, of_link}
-use Rattle.record_streams.specs.Streams.{Serves, ServesPart, StopsBeforeReply, StopsInReply, TakesNothing}
-use Rattle.record_streams.specs.InTurn.{with_times}
-use Rattle.record_streams.specs.Faults as stream_faults
+use Rattle.stream_spec.specs.Streams.{Serves, ServesPart, StopsBeforeReply, StopsInReply, TakesNothing}
+use Rattle.stream_spec.specs.InTurn.{with_times}
+use Rattle.stream_spec.specs.Faults as stream_faults
 use Rattle.gateway.proofs.ReadingsTaken.{with_next, none_taken, next_reading, takes_next}
 use Rattle.gateway.specs.Serving.{text_owed, LinkStandsAfter, IfTold, LeavesOff, StandsAfter}
-use Rattle.record_streams.proofs.StreamProgress as streams
-use Rattle.record_streams.proofs.StreamProgress.{Progress, ReadsRecord, begins, pushes, stops_after}
-use Rattle.record_streams.proofs.StreamProgress.{stops_before_reply, stops_in_reply, is_part}
-use Rattle.record_streams.proofs.StreamProgress.{is_part_in_reply, serves}
+use Rattle.stream_spec.proofs.StreamProgress as streams
+use Rattle.stream_spec.proofs.StreamProgress.{Progress, ReadsRecord, begins, pushes, stops_after}
+use Rattle.stream_spec.proofs.StreamProgress.{stops_before_reply, stops_in_reply, is_part}
+use Rattle.stream_spec.proofs.StreamProgress.{is_part_in_reply, serves}
 
 -- ---- one record more: what is owed to it, and the world after it
 

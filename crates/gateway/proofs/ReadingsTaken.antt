@@ -3,8 +3,8 @@
 use Rattle.std.proofs.Common.{◌≡◌, ℕ, ◌+◌, List, [], ◌∷◌, ◌++◌, arith, length, ◌∙◌, refl}
 use Rattle.std.specs.Prelude.{Option, Some, None, IfSome}
 use Rattle.nfs_items.specs.Timeval.{Timeval}
-use Rattle.record_streams.specs.InTurn.{with_times}
-use Rattle.record_streams.proofs.Timed.{with_times-append}
+use Rattle.stream_spec.specs.InTurn.{with_times}
+use Rattle.stream_spec.proofs.Timed.{with_times-append}
 use Rattle.gateway.specs.Links.Readings.{Readings, IsAfter}
 
 -- a record more comes at the reading after those of the records before

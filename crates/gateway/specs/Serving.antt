@@ -3,13 +3,13 @@ use Rattle.std.specs.Prelude.{◌≡◌, ℕ, List, [], ◌∷◌, ◌++◌, len
 use Rattle.std.specs.Prelude.{Result, Err}
 use Rattle.rpc.specs.declared.records.fault.RecordFault.{RecordFault}
 use Rattle.rpc.specs.declared.records.fault.RecordFault.TheVariants as reader_faults
-use Rattle.record_streams.specs.Streams.{StopsBeforeReply}
-use Rattle.record_streams.specs.InTurn.{with_times}
-use Rattle.record_streams.specs.Faults as streams
-use Rattle.record_streams.specs.Faults.{StandsWell}
+use Rattle.stream_spec.specs.Streams.{StopsBeforeReply}
+use Rattle.stream_spec.specs.InTurn.{with_times}
+use Rattle.stream_spec.specs.Faults as streams
+use Rattle.stream_spec.specs.Faults.{StandsWell}
 use Rattle.nfs_items.specs.Timeval.{Timeval}
-use Rattle.worlds.specs.World.{World}
-use Rattle.service.specs.Owed.{record_of, replies_owed, world_after_all}
+use Rattle.server_spec.specs.World.{World}
+use Rattle.server_spec.specs.Owed.{record_of, replies_owed, world_after_all}
 use Rattle.gateway.specs.Links.Readings.{Readings, IsAfter}
 use Rattle.gateway.specs.Links.Exchanges.{Exchange, calls_of, LeadsTo}
 use Rattle.gateway.specs.declared.links.fault.LinkFault.{LinkFault}

@@ -7,7 +7,7 @@ use Rattle.std.specs.Map.{keys_of}
 use Rattle.std.specs.Ordering.{nat_cmp}
 use Rattle.std.specs.FinMap as finite
 use Rattle.std.proofs.lemmas.Map.Keys.{below_from_sorted}
-use Rattle.fs_model.specs.Trees.{IsBody, IsFile, IsFileTree}
+use Rattle.fs_spec.specs.Trees.{IsBody, IsFile, IsFileTree}
 use Rattle.tree_rules.specs.FileRules.Rules.{AreRising, numbers_of}
 use Rattle.tree_rules.proofs.OfFileRules.Listed.{entries_listed, holds_at}
 use Rattle.tree_rules.proofs.OfFileRules.Decided.{tree_files}

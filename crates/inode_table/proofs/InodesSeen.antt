@@ -7,19 +7,19 @@ use Rattle.std.specs.Cmp.{nat_cmp_total, eq_by_cmp_equiv}
 use Rattle.std.specs.Map.{keys_of}
 use Rattle.std.specs.List.Sorted.{IsStrictlySortedBy}
 use Rattle.std.proofs.lemmas.Map.Keys.{IsDistinct-from_sorted, IsDistinct-head, sorted_tail}
-use Rattle.fs_model.proofs.Reached.{not_before}
-use Rattle.fs_model.specs.Changes.Limits.{file_count}
+use Rattle.fs_spec.proofs.Reached.{not_before}
+use Rattle.fs_spec.specs.Changes.Limits.{file_count}
 use Rattle.std.specs.FinMap as finite
 use Rattle.std.specs.Prelude.{Option}
 use Rattle.std.specs.Option.{option_map_or}
-use Rattle.fs_model.specs.Files.{File, Files, file_at, is_directory, parent_of}
-use Rattle.fs_model.specs.Trees.{IsBody}
-use Rattle.fs_model.proofs.Walks.{none_some}
-use Rattle.fs_model.specs.nfs_items.declared.attributes.Fattr.{Fattr}
-use Rattle.fs_model.specs.nfs_items.declared.stat.Stat.TheVariants as stats
-use Rattle.nfs_counts.specs.nfs_spec.ProcedureChecks.{◌>>=◌, ok_or}
-use Rattle.nfs_counts.specs.nfs_spec.Effects.{attributes_at}
-use Rattle.nfs_counts.specs.nfs_spec.FileAttributes.{attributes_of}
+use Rattle.fs_spec.specs.Files.{File, Files, file_at, is_directory, parent_of}
+use Rattle.fs_spec.specs.Trees.{IsBody}
+use Rattle.fs_spec.proofs.Walks.{none_some}
+use Rattle.fs_spec.specs.nfs_items.declared.attributes.Fattr.{Fattr}
+use Rattle.fs_spec.specs.nfs_items.declared.stat.Stat.TheVariants as stats
+use Rattle.nfs_count_laws.specs.nfs_spec.ProcedureChecks.{◌>>=◌, ok_or}
+use Rattle.nfs_count_laws.specs.nfs_spec.Effects.{attributes_at}
+use Rattle.nfs_count_laws.specs.nfs_spec.FileAttributes.{attributes_of}
 use Rattle.inode_table.specs.Kept.{AreKept}
 use Rattle.tree_rules.specs.inodes.Inodes.{body_in, file_in, inode_at, files_of, fattr_of, parent_in}
 use Rattle.tree_rules.specs.inodes.Inodes.{KeepsParent, stored_at}

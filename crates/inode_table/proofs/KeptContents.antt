@@ -2,20 +2,20 @@
 -- Serves: `InodeTable::set`, `InodeTable::write`.
 use Rattle.std.proofs.Common.{◌≡◌, ℕ, ◌+◌, ◌-◌, ◌≤◌, List, Option, Some, None, option_map, sym, ap, subst}
 use Rattle.std.proofs.Common.{◌∙◌, IsSome, is_some, Ok, refl, arith}
-use Rattle.fs_model.specs.nfs_items.Timeval.{Timeval}
-use Rattle.fs_model.specs.Files.{File, Files, listing_in, is_directory}
-use Rattle.fs_model.specs.Trees.{IsBody, IsFile, IsTime}
-use Rattle.fs_model.proofs.Walks.{some_same}
-use Rattle.fs_model.specs.Changes.Edits.{with_changed_file}
-use Rattle.fs_model.specs.Changes.Limits.{blocks_in, block_count}
-use Rattle.fs_model.proofs.OfChanges.Room.{within}
-use Rattle.nfs_counts.specs.nfs_spec.Sattr.{GivenFields}
-use Rattle.nfs_counts.specs.nfs_spec.Changes.{with_mtime, apply_fields, body_with_length}
-use Rattle.nfs_counts.specs.nfs_spec.Procedures.{with_bytes_written}
-use Rattle.nfs_counts.specs.nfs_laws.Laws.{AreValidFields}
-use Rattle.nfs_counts.proofs.nfs_laws.Bytes.{length-resized}
-use Rattle.nfs_counts.proofs.nfs_laws.FilesFit.{set_lists, set_keeps, set_fits, rewritten_fits}
-use Rattle.nfs_counts.specs.nfs_laws.Sizes.Bounds.{HasWords}
+use Rattle.fs_spec.specs.nfs_items.Timeval.{Timeval}
+use Rattle.fs_spec.specs.Files.{File, Files, listing_in, is_directory}
+use Rattle.fs_spec.specs.Trees.{IsBody, IsFile, IsTime}
+use Rattle.fs_spec.proofs.Walks.{some_same}
+use Rattle.fs_spec.specs.Changes.Edits.{with_changed_file}
+use Rattle.fs_spec.specs.Changes.Limits.{blocks_in, block_count}
+use Rattle.fs_spec.proofs.OfChanges.Room.{within}
+use Rattle.nfs_count_laws.specs.nfs_spec.Sattr.{GivenFields}
+use Rattle.nfs_count_laws.specs.nfs_spec.Changes.{with_mtime, apply_fields, body_with_length}
+use Rattle.nfs_count_laws.specs.nfs_spec.Procedures.{with_bytes_written}
+use Rattle.nfs_count_laws.specs.nfs_laws.Laws.{AreValidFields}
+use Rattle.nfs_count_laws.proofs.nfs_laws.Bytes.{length-resized}
+use Rattle.nfs_count_laws.proofs.nfs_laws.FilesFit.{set_lists, set_keeps, set_fits, rewritten_fits}
+use Rattle.nfs_count_laws.specs.nfs_laws.Sizes.Bounds.{HasWords}
 use Rattle.tree_rules.specs.inodes.declared.inode.Inode.{Inode}
 use Rattle.tree_rules.specs.inodes.Contents.{body_with_bytes_at}
 use Rattle.tree_rules.specs.inodes.Inodes.{fattr_of, file_in, files_of, inode_at, stored_at}
@@ -25,8 +25,8 @@ use Rattle.inode_table.specs.declared.table.InodeTable.TheInside.{Inside}
 use Rattle.tree_rules.specs.inodes.Edits.{IsSizable, MaySet, MayWriteAt}
 use Rattle.inode_table.specs.Kept.{AreKept}
 use Rattle.inode_table.proofs.InodesSeen.{attributes_told}
-use Rattle.nfs_counts.specs.nfs_spec.Effects.{attributes_at}
-use Rattle.fs_model.specs.nfs_items.declared.attributes.Fattr.{Fattr}
+use Rattle.nfs_count_laws.specs.nfs_spec.Effects.{attributes_at}
+use Rattle.fs_spec.specs.nfs_items.declared.attributes.Fattr.{Fattr}
 use Rattle.inode_table.proofs.Tables.{files_in, IsWhole, stored, kept_blocks, change_kept}
 
 -- what fits a limit where a size is given, and where none is

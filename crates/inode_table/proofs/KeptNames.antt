@@ -3,20 +3,20 @@
 use Rattle.std.proofs.Common.{◌≡◌, ◌≢◌, ℕ, ◌+◌, ◌<◌, ◌≤◌, ◌^◌, Bool, true, false, cond, List, [], Option}
 use Rattle.std.proofs.Common.{Some, None, option_map, IsSome, refl, sym, ap, subst, ◌∙◌, arith}
 use Rattle.std.specs.Option.{option_map_or}
-use Rattle.fs_model.specs.nfs_items.Timeval.{Timeval}
-use Rattle.fs_model.specs.Listing.{Listing, with_entry}
-use Rattle.fs_model.specs.Files.{File, Files, file_at, listing, listing_in, is_directory, IsDirectory}
-use Rattle.fs_model.specs.Trees.{IsTime}
-use Rattle.fs_model.specs.Changes.Edits.{with_name, map_listing}
-use Rattle.fs_model.specs.Changes.Limits.{blocks_in}
-use Rattle.nfs_counts.specs.nfs_spec.Changes.{touch, touch_ctime, with_mtime, with_ctime}
-use Rattle.nfs_counts.specs.nfs_spec.Procedures.{add_file}
-use Rattle.nfs_counts.proofs.nfs_laws.OfTrees.FilesFit.{dir_file, next_free}
-use Rattle.nfs_counts.specs.Counted.{IsKept}
-use Rattle.nfs_counts.specs.CountChanges.{MayMake, MayLink}
-use Rattle.nfs_counts.proofs.Facts.{links_bounded, entries_bounded}
-use Rattle.nfs_counts.proofs.Making.{kept_by_make}
-use Rattle.nfs_counts.proofs.Linking.{kept_by_link}
+use Rattle.fs_spec.specs.nfs_items.Timeval.{Timeval}
+use Rattle.fs_spec.specs.Listing.{Listing, with_entry}
+use Rattle.fs_spec.specs.Files.{File, Files, file_at, listing, listing_in, is_directory, IsDirectory}
+use Rattle.fs_spec.specs.Trees.{IsTime}
+use Rattle.fs_spec.specs.Changes.Edits.{with_name, map_listing}
+use Rattle.fs_spec.specs.Changes.Limits.{blocks_in}
+use Rattle.nfs_count_laws.specs.nfs_spec.Changes.{touch, touch_ctime, with_mtime, with_ctime}
+use Rattle.nfs_count_laws.specs.nfs_spec.Procedures.{add_file}
+use Rattle.nfs_count_laws.proofs.nfs_laws.OfTrees.FilesFit.{dir_file, next_free}
+use Rattle.nfs_count_laws.specs.Counted.{IsKept}
+use Rattle.nfs_count_laws.specs.CountChanges.{MayMake, MayLink}
+use Rattle.nfs_count_laws.proofs.Facts.{links_bounded, entries_bounded}
+use Rattle.nfs_count_laws.proofs.Making.{kept_by_make}
+use Rattle.nfs_count_laws.proofs.Linking.{kept_by_link}
 use Rattle.tree_rules.specs.inodes.declared.inode.Inode.{Inode}
 use Rattle.tree_rules.specs.inodes.Inodes.{body_in, file_in, files_of, inode_at, parent_in, stored_at}
 use Rattle.tree_rules.specs.inodes.Inodes.{links_at}

@@ -2,18 +2,18 @@
 -- Serves: `InodeTable::unlink`; what an entry that moves replaces, in MovedEntry.
 use Rattle.std.proofs.Common.{◌≡◌, ℕ, ◌+◌, ◌-◌, ◌<◌, ◌≤◌, ◌^◌, Bool, true, false, cond, List, Some, sym, ap}
 use Rattle.std.proofs.Common.{subst, ◌∙◌, arith}
-use Rattle.fs_model.specs.nfs_items.Timeval.{Timeval}
-use Rattle.fs_model.specs.Files.{File, Files, is_directory}
-use Rattle.fs_model.specs.Trees.{IsTime}
-use Rattle.fs_model.specs.Changes.Edits.{without_name}
-use Rattle.fs_model.specs.Changes.Limits.{blocks_in}
-use Rattle.nfs_counts.specs.nfs_spec.Changes.{touch, unlink, after_unlink, with_mtime}
-use Rattle.nfs_counts.proofs.nfs_laws.OfTrees.FilesFit.{dir_file}
-use Rattle.nfs_counts.specs.Counted.{IsKept}
-use Rattle.nfs_counts.specs.CountChanges.{MayUnlink, is_last_name}
-use Rattle.nfs_counts.proofs.Facts.{links_positive}
-use Rattle.nfs_counts.proofs.Unnaming.{unlinks}
-use Rattle.nfs_counts.proofs.Unlinking.{last_name_told, kept_by_unlink}
+use Rattle.fs_spec.specs.nfs_items.Timeval.{Timeval}
+use Rattle.fs_spec.specs.Files.{File, Files, is_directory}
+use Rattle.fs_spec.specs.Trees.{IsTime}
+use Rattle.fs_spec.specs.Changes.Edits.{without_name}
+use Rattle.fs_spec.specs.Changes.Limits.{blocks_in}
+use Rattle.nfs_count_laws.specs.nfs_spec.Changes.{touch, unlink, after_unlink, with_mtime}
+use Rattle.nfs_count_laws.proofs.nfs_laws.OfTrees.FilesFit.{dir_file}
+use Rattle.nfs_count_laws.specs.Counted.{IsKept}
+use Rattle.nfs_count_laws.specs.CountChanges.{MayUnlink, is_last_name}
+use Rattle.nfs_count_laws.proofs.Facts.{links_positive}
+use Rattle.nfs_count_laws.proofs.Unnaming.{unlinks}
+use Rattle.nfs_count_laws.proofs.Unlinking.{last_name_told, kept_by_unlink}
 use Rattle.tree_rules.specs.inodes.declared.inode.Inode.{Inode}
 use Rattle.tree_rules.specs.inodes.Inodes.{files_of, stored_at, links_at, above_at}
 use Rattle.inode_table.specs.Edits.Slots.{ChangesFile, MayUnname, Unnames}

@@ -1,4 +1,4 @@
-pub use Rattle.nfs_counts.proofs.nfs_laws as nfs_laws
+pub use Rattle.nfs_count_laws.proofs.nfs_laws as nfs_laws
 pub use Rattle.tree_rules.proofs as tree_rules
 pub mod OfEdits
 pub mod OfLinks

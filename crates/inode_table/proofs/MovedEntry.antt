@@ -7,24 +7,24 @@ use Rattle.std.specs.Option.{option_map_or}
 use Rattle.std.specs.Map.{lookup}
 use Rattle.std.specs.Cmp.Lexicographic.{pointwise}
 use Rattle.std.proofs.lemmas.Bool.{cases_eq}
-use Rattle.fs_model.specs.nfs_items.Timeval.{Timeval}
-use Rattle.fs_model.specs.Listing.{Listing, entry_at, with_entry, without_entry}
-use Rattle.fs_model.specs.Files.{File, Files, listing_in, is_directory, directory_entries}
-use Rattle.fs_model.specs.Trees.{IsTime}
-use Rattle.fs_model.proofs.Walks.{none_some, some_same}
-use Rattle.fs_model.specs.Changes.Edits.{with_name, without_name, map_listing}
-use Rattle.fs_model.specs.Changes.Limits.{blocks_in}
-use Rattle.fs_model.proofs.OfChanges.Shapes.{kind, changed_kinds}
-use Rattle.nfs_counts.specs.nfs_spec.Changes.{touch, touch_ctime, unlink, after_unlink, with_ctime}
-use Rattle.nfs_counts.specs.nfs_spec.Changes.{with_mtime}
-use Rattle.nfs_counts.specs.nfs_spec.Procedures.{unlink_target, move_entry}
-use Rattle.nfs_counts.proofs.nfs_laws.OfTrees.FilesFit.{dir_file, distinct_names}
-use Rattle.nfs_counts.specs.Counted.{IsKept}
-use Rattle.nfs_counts.specs.CountChanges.{MayUnlink, MayMove, CountsCleared, CountsMoved, is_last_name}
-use Rattle.nfs_counts.specs.CountChanges.{blocks_freed}
-use Rattle.nfs_counts.proofs.Facts.{entries_bounded, links_positive, links_bounded, links_of_parent}
-use Rattle.nfs_counts.proofs.Unlinking.{last_name_told}
-use Rattle.nfs_counts.proofs.OfMoves.Moving.{kept_by_move}
+use Rattle.fs_spec.specs.nfs_items.Timeval.{Timeval}
+use Rattle.fs_spec.specs.Listing.{Listing, entry_at, with_entry, without_entry}
+use Rattle.fs_spec.specs.Files.{File, Files, listing_in, is_directory, directory_entries}
+use Rattle.fs_spec.specs.Trees.{IsTime}
+use Rattle.fs_spec.proofs.Walks.{none_some, some_same}
+use Rattle.fs_spec.specs.Changes.Edits.{with_name, without_name, map_listing}
+use Rattle.fs_spec.specs.Changes.Limits.{blocks_in}
+use Rattle.fs_spec.proofs.OfChanges.Shapes.{kind, changed_kinds}
+use Rattle.nfs_count_laws.specs.nfs_spec.Changes.{touch, touch_ctime, unlink, after_unlink, with_ctime}
+use Rattle.nfs_count_laws.specs.nfs_spec.Changes.{with_mtime}
+use Rattle.nfs_count_laws.specs.nfs_spec.Procedures.{unlink_target, move_entry}
+use Rattle.nfs_count_laws.proofs.nfs_laws.OfTrees.FilesFit.{dir_file, distinct_names}
+use Rattle.nfs_count_laws.specs.Counted.{IsKept}
+use Rattle.nfs_count_laws.specs.CountChanges.{MayUnlink, MayMove, CountsCleared, CountsMoved, is_last_name}
+use Rattle.nfs_count_laws.specs.CountChanges.{blocks_freed}
+use Rattle.nfs_count_laws.proofs.Facts.{entries_bounded, links_positive, links_bounded, links_of_parent}
+use Rattle.nfs_count_laws.proofs.Unlinking.{last_name_told}
+use Rattle.nfs_count_laws.proofs.OfMoves.Moving.{kept_by_move}
 use Rattle.tree_rules.specs.inodes.declared.inode.Inode.{Inode}
 use Rattle.tree_rules.specs.inodes.Inodes.{body_in, file_in, files_of, inode_at, stored_at, links_at}
 use Rattle.tree_rules.specs.inodes.Inodes.{above_at}

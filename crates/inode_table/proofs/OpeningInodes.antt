@@ -7,19 +7,19 @@ use Rattle.std.specs.Ordering.{nat_cmp, eq_by_cmp}
 use Rattle.std.specs.FinMap as finite
 use Rattle.std.specs.Cmp.{nat_cmp_total}
 use Rattle.std.specs.Prelude.{IsTrue, ◌<◌, ◌^◌, map, sum_by, length}
-use Rattle.fs_model.specs.Files.{Body, File, is_directory, listing_in, parent_of}
-use Rattle.fs_model.specs.Changes.Limits.{entry_count, block_count, blocks_in, has_room}
-use Rattle.nfs_counts.specs.nfs_laws.Sizes.Bounds.{HasWords, AreWords}
-use Rattle.nfs_counts.specs.Counted.{AreCounted}
+use Rattle.fs_spec.specs.Files.{Body, File, is_directory, listing_in, parent_of}
+use Rattle.fs_spec.specs.Changes.Limits.{entry_count, block_count, blocks_in, has_room}
+use Rattle.nfs_count_laws.specs.nfs_laws.Sizes.Bounds.{HasWords, AreWords}
+use Rattle.nfs_count_laws.specs.Counted.{AreCounted}
 use Rattle.tree_rules.specs.inodes.Inodes.{links_at, above_at, file_in, files_of, parent_in, KeepsParent}
 use Rattle.inode_table.specs.Kept.{AreKept}
-use Rattle.fs_model.specs.Trees.{IsFileTree}
-use Rattle.fs_model.proofs.Walks.{some_same, none_some}
-use Rattle.fs_model.proofs.Counts.{same_number}
-use Rattle.nfs_counts.specs.nfs_spec.FileAttributes.{nlink_of}
-use Rattle.nfs_counts.specs.nfs_spec.Opening.{first_file, opening_root, opening_hello, opening_files}
-use Rattle.nfs_counts.proofs.nfs_spec.OpeningFiles.{hello_there, opening_names, opening_entries, opening_room}
-use Rattle.nfs_counts.proofs.nfs_spec.OpeningTree.{one_directory, opening_is_tree}
+use Rattle.fs_spec.specs.Trees.{IsFileTree}
+use Rattle.fs_spec.proofs.Walks.{some_same, none_some}
+use Rattle.fs_spec.proofs.Counts.{same_number}
+use Rattle.nfs_count_laws.specs.nfs_spec.FileAttributes.{nlink_of}
+use Rattle.nfs_count_laws.specs.nfs_spec.Opening.{first_file, opening_root, opening_hello, opening_files}
+use Rattle.nfs_count_laws.proofs.nfs_spec.OpeningFiles.{hello_there, opening_names, opening_entries, opening_room}
+use Rattle.nfs_count_laws.proofs.nfs_spec.OpeningTree.{one_directory, opening_is_tree}
 use Rattle.tree_rules.specs.inodes.declared.inode.Body as stored
 use Rattle.tree_rules.specs.inodes.declared.inode.Body.TheVariants as code
 use Rattle.tree_rules.specs.inodes.declared.inode.Inode.{Inode}

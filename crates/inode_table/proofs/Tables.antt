@@ -2,13 +2,13 @@
 -- Serves: all edits of `InodeTable`.
 use Rattle.std.proofs.Common.{◌≡◌, ℕ, ◌+◌, ◌-◌, ◌≤◌, List, Some, Result, Ok, Err, OnErr, refl, sym, subst}
 use Rattle.std.proofs.Common.{◌∙◌, arith}
-use Rattle.fs_model.specs.Files.{File, Files, file_at}
-use Rattle.fs_model.specs.Trees.{IsBody}
-use Rattle.fs_model.specs.Changes.Limits.{blocks_in, block_count}
-use Rattle.fs_model.proofs.OfChanges.Finite.{total_without}
-use Rattle.nfs_counts.specs.Counted.{IsKept}
-use Rattle.nfs_counts.specs.CountChanges.{MayChange}
-use Rattle.nfs_counts.proofs.Contents.{kept_alike, kept_by_change}
+use Rattle.fs_spec.specs.Files.{File, Files, file_at}
+use Rattle.fs_spec.specs.Trees.{IsBody}
+use Rattle.fs_spec.specs.Changes.Limits.{blocks_in, block_count}
+use Rattle.fs_spec.proofs.OfChanges.Finite.{total_without}
+use Rattle.nfs_count_laws.specs.Counted.{IsKept}
+use Rattle.nfs_count_laws.specs.CountChanges.{MayChange}
+use Rattle.nfs_count_laws.proofs.Contents.{kept_alike, kept_by_change}
 use Rattle.tree_rules.specs.inodes.declared.inode.Inode.{Inode}
 use Rattle.tree_rules.specs.inodes.Inodes.{files_of, stored_at, links_at, above_at}
 use Rattle.inode_table.specs.Edits.Slots.{AreAlike, ChangesFile}

@@ -1,6 +1,6 @@
 -- What a table keeps: a tree within its limits, and beside it what counting over the files gives.
 use Rattle.std.specs.Prelude.{ℕ, List}
-use Rattle.nfs_counts.specs.Counted.{IsKept}
+use Rattle.nfs_count_laws.specs.Counted.{IsKept}
 use Rattle.tree_rules.specs.inodes.declared.inode.Inode.{Inode}
 use Rattle.tree_rules.specs.inodes.Inodes.{files_of, links_at, above_at}
 

@@ -1,10 +1,10 @@
 //! The inodes that each server begins with.
 
 ghost use Rattle.std.specs.Prelude.{◌≡◌, IfOk};
-ghost use Rattle.nfs_counts.specs.nfs_spec.Opening.{first_file, opening_root, opening_hello};
+ghost use Rattle.nfs_count_laws.specs.nfs_spec.Opening.{first_file, opening_root, opening_hello};
 ghost use Rattle.tree_rules.specs.inodes.Inodes.{body_in, file_in, KeepsParent};
 
-use fs_model::Time;
+use fs_spec::Time;
 use std::alloc::{AllocError, Global};
 use tree_rules::{Body, Directory, Inode};
 

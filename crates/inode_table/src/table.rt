@@ -3,34 +3,34 @@
 ghost use Rattle.std.specs.Prelude.{◌≡◌, ◌≢◌, ◌≤◌, ◌<◌, ◌+◌, ◌^◌, ℕ, List, [], IfOk, IfSome, OnOk, OnErr};
 ghost use Rattle.std.specs.Prelude.{IsTrue, IsSome, Ok, Some, None, length, option_map, true, false};
 ghost use Rattle.std.specs.FinMap as finite;
-ghost use Rattle.fs_model.specs.nfs_items.Terms.{FileNumber, Cookie};
-ghost use Rattle.fs_model.specs.Files.{Regular, File, Files, file_at, directory_entries, parent_of, listing};
-ghost use Rattle.fs_model.specs.Files.{listing_in};
-ghost use Rattle.fs_model.specs.Files.{is_directory, IsDirectory};
-ghost use Rattle.fs_model.specs.Maxima.{max_name};
-ghost use Rattle.fs_model.specs.Names.{is_name};
-ghost use Rattle.fs_model.specs.Trees.{IsBody, IsFile, IsFileTree, IsTime};
-ghost use Rattle.fs_model.specs.Changes.Edits.{with_changed_file, with_name};
-ghost use Rattle.fs_model.specs.Changes.Limits.{file_count, entry_count, block_count, blocks_in, has_room};
-ghost use Rattle.nfs_counts.specs.nfs_spec.FileAttributes.{attributes_of};
-ghost use Rattle.nfs_counts.specs.nfs_spec.Effects.{attributes_at};
-ghost use Rattle.nfs_counts.specs.nfs_spec.Changes.{touch, touch_ctime, unlink, apply_fields};
-ghost use Rattle.nfs_counts.specs.nfs_spec.Opening.{opening_files};
-ghost use Rattle.nfs_counts.specs.nfs_spec.Procedures.{add_file, move_entry, with_bytes_written};
-ghost use Rattle.nfs_counts.specs.nfs_laws.Laws.{AreValidFields};
-ghost use Rattle.nfs_counts.specs.nfs_laws.Room.{HasRoomToMake, HasRoomToLink};
-ghost use Rattle.nfs_counts.specs.nfs_laws.Sizes.Bounds.{AreWords};
+ghost use Rattle.fs_spec.specs.nfs_items.Terms.{FileNumber, Cookie};
+ghost use Rattle.fs_spec.specs.Files.{Regular, File, Files, file_at, directory_entries, parent_of, listing};
+ghost use Rattle.fs_spec.specs.Files.{listing_in};
+ghost use Rattle.fs_spec.specs.Files.{is_directory, IsDirectory};
+ghost use Rattle.fs_spec.specs.Maxima.{max_name};
+ghost use Rattle.fs_spec.specs.Names.{is_name};
+ghost use Rattle.fs_spec.specs.Trees.{IsBody, IsFile, IsFileTree, IsTime};
+ghost use Rattle.fs_spec.specs.Changes.Edits.{with_changed_file, with_name};
+ghost use Rattle.fs_spec.specs.Changes.Limits.{file_count, entry_count, block_count, blocks_in, has_room};
+ghost use Rattle.nfs_count_laws.specs.nfs_spec.FileAttributes.{attributes_of};
+ghost use Rattle.nfs_count_laws.specs.nfs_spec.Effects.{attributes_at};
+ghost use Rattle.nfs_count_laws.specs.nfs_spec.Changes.{touch, touch_ctime, unlink, apply_fields};
+ghost use Rattle.nfs_count_laws.specs.nfs_spec.Opening.{opening_files};
+ghost use Rattle.nfs_count_laws.specs.nfs_spec.Procedures.{add_file, move_entry, with_bytes_written};
+ghost use Rattle.nfs_count_laws.specs.nfs_laws.Laws.{AreValidFields};
+ghost use Rattle.nfs_count_laws.specs.nfs_laws.Room.{HasRoomToMake, HasRoomToLink};
+ghost use Rattle.nfs_count_laws.specs.nfs_laws.Sizes.Bounds.{AreWords};
 ghost use Rattle.tree_rules.specs.inodes.Given.{given_in};
 ghost use Rattle.tree_rules.specs.FileRules.Rules.{AreRising, numbers_of};
 ghost use Rattle.tree_rules.specs.inodes.Inodes.{body_in, file_in, files_of, fattr_of, KeepsParent};
 ghost use Rattle.tree_rules.specs.Listed.{files_in};
-ghost use Rattle.nfs_counts.specs.CountChanges.{MayMake, MayLink, MayUnlink, MayMove};
+ghost use Rattle.nfs_count_laws.specs.CountChanges.{MayMake, MayLink, MayUnlink, MayMove};
 ghost use Rattle.tree_rules.specs.inodes.Edits.{MaySet, MayWriteAt};
 
 use crate::edits::{renaming, slots};
 use crate::links::linked_inodes;
 use crate::opening::{hello_inode, root_inode};
-use fs_model::{Fattr, Time};
+use fs_spec::{Fattr, Time};
 use std::alloc::{AllocError, Global};
 use std::collections::BTreeMap;
 use std::collections::btree_map::Iter;
@@ -50,7 +50,7 @@ pub struct InodeTable {
 }
 
 impl Model for InodeTable {
-    ghost use Rattle.fs_model.specs.Files.{Files, files_code};
+    ghost use Rattle.fs_spec.specs.Files.{Files, files_code};
     ghost use Rattle.tree_rules.specs.inodes.Inodes.{files_of};
     ghost use Rattle.inode_table.specs.Kept.{AreKept};
 

@@ -5,7 +5,7 @@ use Rattle.std.specs.Ordering.{nat_cmp}
 use Rattle.std.specs.Cmp.{nat_cmp_total}
 use Rattle.std.specs.BTreeMap.{is_at}
 use Rattle.std.specs.FinMap as finite
-use Rattle.nfs_spec.specs.fs_model.Files.{file_at}
+use Rattle.nfs_spec.specs.fs_spec.Files.{file_at}
 use Rattle.inodes.specs.declared.inode.Inode.{Inode}
 use Rattle.inodes.specs.Inodes.{file_in, inode_at, files_of}
 

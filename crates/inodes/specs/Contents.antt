@@ -1,6 +1,6 @@
 -- What becomes of a body when bytes are written into it.
 use Rattle.std.specs.Prelude.{ℕ, List}
-use Rattle.nfs_spec.specs.fs_model.Files.{Body, Regular, Symlink, Directory}
+use Rattle.nfs_spec.specs.fs_spec.Files.{Body, Regular, Symlink, Directory}
 use Rattle.nfs_spec.specs.Changes.{with_bytes_at}
 
 -- a regular file's bytes with others written at an offset; no other body has bytes

@@ -1,9 +1,9 @@
 -- What an edit of a file's contents asks of the files before it.
 use Rattle.std.specs.Prelude.{◌≡◌, ℕ, ◌≤◌, ◌+◌, List, length, Some}
 use Rattle.nfs_spec.specs.nfs_items.Terms.{FileNumber}
-use Rattle.nfs_spec.specs.fs_model.Maxima.{max_file_size, max_blocks}
-use Rattle.nfs_spec.specs.fs_model.Files.{Regular, File, Files, file_at}
-use Rattle.nfs_spec.specs.fs_model.Changes.Limits.{block_count, blocks_in}
+use Rattle.nfs_spec.specs.fs_spec.Maxima.{max_file_size, max_blocks}
+use Rattle.nfs_spec.specs.fs_spec.Files.{Regular, File, Files, file_at}
+use Rattle.nfs_spec.specs.fs_spec.Changes.Limits.{block_count, blocks_in}
 use Rattle.nfs_spec.specs.Sattr.{GivenFields}
 use Rattle.nfs_spec.specs.Changes.{body_with_length, with_bytes_at}
 

@@ -7,7 +7,7 @@ use Rattle.std.specs.FinMap as finite
 use Rattle.std.specs.Option.{option_map_or}
 use Rattle.nfs_spec.specs.nfs_items.declared.attributes.Fattr.{Fattr}
 use Rattle.nfs_spec.specs.nfs_items.Terms.{FileNumber}
-use Rattle.nfs_spec.specs.fs_model.Files.{Body, Regular, Symlink, Directory, File, Files}
+use Rattle.nfs_spec.specs.fs_spec.Files.{Body, Regular, Symlink, Directory, File, Files}
 use Rattle.nfs_spec.specs.FileAttributes.{type_of, type_bits, size_of}
 use Rattle.inodes.specs.declared.inode.Body as stored
 use Rattle.inodes.specs.declared.inode.Body.TheVariants as code

@@ -6,9 +6,9 @@ use std::alloc::AllocError;
 
 impl Inode {
     ghost use Rattle.std.specs.Prelude.{◌≡◌, ◌<◌, ◌^◌, ◌-◌, OnOk, OnErr, if◌then◌else◌};
-    ghost use Rattle.nfs_spec.specs.fs_model.Files.{is_directory, listing_in};
-    ghost use Rattle.nfs_spec.specs.fs_model.Listing.{with_entry, without_entry};
-    ghost use Rattle.nfs_spec.specs.fs_model.Changes.Edits.{map_listing};
+    ghost use Rattle.nfs_spec.specs.fs_spec.Files.{is_directory, listing_in};
+    ghost use Rattle.nfs_spec.specs.fs_spec.Listing.{with_entry, without_entry};
+    ghost use Rattle.nfs_spec.specs.fs_spec.Changes.Edits.{map_listing};
     ghost use Rattle.nfs_spec.specs.Changes.{with_ctime, with_mtime};
     ghost use Rattle.inodes.specs.Inodes.{body_in, file_in, parent_in};
 

@@ -35,9 +35,9 @@ pub enum Body {
 
 impl Body {
     ghost use Rattle.std.specs.Prelude.{◌≡◌, ◌≤◌};
-    ghost use Rattle.nfs_spec.specs.fs_model.Files.{is_directory};
-    ghost use Rattle.nfs_spec.specs.fs_model.Trees.{IsBody};
-    ghost use Rattle.nfs_spec.specs.fs_model.Changes.Limits.{blocks_in};
+    ghost use Rattle.nfs_spec.specs.fs_spec.Files.{is_directory};
+    ghost use Rattle.nfs_spec.specs.fs_spec.Trees.{IsBody};
+    ghost use Rattle.nfs_spec.specs.fs_spec.Changes.Limits.{blocks_in};
     ghost use Rattle.nfs_spec.specs.FileAttributes.{type_of, type_bits, size_of};
     ghost use Rattle.nfs_spec.specs.Procedures.{is_regular};
     ghost use Rattle.std.specs.Prelude.{◌<◌, ◌^◌, Some, OnOk, OnErr, length};
@@ -163,7 +163,7 @@ pub struct Inode {
 impl Inode {
     ghost use Rattle.std.specs.Prelude.{◌≡◌};
     ghost use Rattle.nfs_spec.specs.nfs_items.CallerOf.{caller_of};
-    ghost use Rattle.nfs_spec.specs.fs_model.Trees.{IsBody};
+    ghost use Rattle.nfs_spec.specs.fs_spec.Trees.{IsBody};
     ghost use Rattle.std.specs.Prelude.{◌≤◌, ◌<◌, ◌^◌, OnOk, OnErr, length};
     ghost use Rattle.nfs_spec.specs.Changes.{with_mtime, apply_fields};
     ghost use Rattle.std.specs.Result.{result_map_both};

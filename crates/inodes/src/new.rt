@@ -7,7 +7,7 @@ use std::alloc::{AllocError, Global};
 
 impl Body {
     ghost use Rattle.std.specs.Prelude.{◌≡◌, IfOk, replicate};
-    ghost use Rattle.nfs_spec.specs.fs_model.Files.{Regular};
+    ghost use Rattle.nfs_spec.specs.fs_spec.Files.{Regular};
     ghost use Rattle.inodes.specs.Inodes.{body_in};
 
     /// A regular file of zeros, with a size in bytes.

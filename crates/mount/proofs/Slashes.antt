@@ -7,9 +7,9 @@ use Rattle.std.specs.Option.{is_some}
 use Rattle.std.specs.List.{filter, list_all, slice_split, onto_first}
 use Rattle.std.proofs.lemmas.Bool.{lt-ltb}
 use Rattle.mount_types.specs.nfs_items.Terms.{Name}
-use Rattle.file_tree.specs.fs_model.Paths.{DirectoryEntries, path_at}
-use Rattle.mount.specs.Paths.{slash, names_between, names_on}
-use Rattle.mount.specs.Walks.{is_root, is_there}
+use Rattle.file_tree.specs.fs_spec.Paths.{DirectoryEntries, path_at}
+use Rattle.server_spec.specs.Paths.{slash, names_between, names_on}
+use Rattle.server_spec.specs.Walks.{is_root, is_there}
 
 -- a byte other than a slash is on a name
 named : (byte : ℕ) (parts : List Name)

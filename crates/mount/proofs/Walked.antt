@@ -7,9 +7,9 @@ use Rattle.std.specs.Option.{is_some, option_map_or}
 use Rattle.std.specs.List.{filter}
 use Rattle.std.proofs.lemmas.List.{at_drop_more, at_drop_all}
 use Rattle.mount_types.specs.nfs_items.Terms.{Name}
-use Rattle.file_tree.specs.fs_model.Listing.{DirectoryEntry, file_number}
-use Rattle.file_tree.specs.fs_model.Paths.{DirectoryEntries, walk}
-use Rattle.mount.specs.Walks.{number_after}
+use Rattle.file_tree.specs.fs_spec.Listing.{DirectoryEntry, file_number}
+use Rattle.file_tree.specs.fs_spec.Paths.{DirectoryEntries, walk}
+use Rattle.server_spec.specs.Walks.{number_after}
 
 module _ (at : DirectoryEntries) where
   -- the parts from a number on lead to something

@@ -2,8 +2,8 @@
 
 ghost use Rattle.std.specs.Prelude.{◌≡◌, ◌≤◌, length};
 ghost use Rattle.mount_types.specs.declared.limits.TheConstants.{MNTNAMLEN};
-ghost use Rattle.mount.specs.Paths.{names_on};
-ghost use Rattle.mount.specs.MountCalls.{mount_root, mount_at, unmount_at};
+ghost use Rattle.server_spec.specs.Paths.{names_on};
+ghost use Rattle.server_spec.specs.MountCalls.{mount_root, mount_at, unmount_at};
 ghost use Rattle.mount.specs.Performs.{Performs};
 
 use crate::paths::{ROOT, is_root, is_there};

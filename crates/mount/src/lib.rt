@@ -10,14 +10,12 @@ ghost use Rattle.mount_types.specs.Arguments.{call_of};
 ghost use Rattle.mount_types.specs.declared.limits.TheConstants.{MNTNAMLEN};
 ghost use Rattle.mount_types.specs.Calls.{Mounts as Listed, Exports};
 ghost use Rattle.mount_types.specs.Mounts.{root_path};
-ghost use Rattle.mount.specs.Paths.{names_on};
-ghost use Rattle.mount.specs.MountCalls.{mount_at, mount_does};
+ghost use Rattle.server_spec.specs.Paths.{names_on};
+ghost use Rattle.server_spec.specs.MountCalls.{mount_at, mount_does};
 
 mod changing;
-pub mod laws;
 mod paths;
 mod table;
-pub mod worked;
 
 use changing::{mount, unmount};
 pub use file_tree::Tree;

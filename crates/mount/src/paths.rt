@@ -2,11 +2,11 @@
 
 ghost use Rattle.std.specs.Prelude.{◌≡◌, ◌==◌, is_some};
 ghost use Rattle.std.specs.List.{list_all};
-ghost use Rattle.file_tree.specs.fs_model.Files.{directory_entries};
-ghost use Rattle.file_tree.specs.fs_model.Paths.{path_at};
+ghost use Rattle.file_tree.specs.fs_spec.Files.{directory_entries};
+ghost use Rattle.file_tree.specs.fs_spec.Paths.{path_at};
 ghost use Rattle.mount_types.specs.Mounts.{root_path};
-ghost use Rattle.mount.specs.Paths.{slash, names_between, names_on};
-ghost use Rattle.mount.specs.Walks.{is_root, is_there, number_after};
+ghost use Rattle.server_spec.specs.Paths.{slash, names_between, names_on};
+ghost use Rattle.server_spec.specs.Walks.{is_root, is_there, number_after};
 
 use file_tree::Tree;
 

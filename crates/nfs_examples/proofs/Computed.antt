@@ -11,21 +11,14 @@ use Rattle.std.specs.Prelude.{Bool, nat_le, ◌&&◌, ◌+◌}
 use Rattle.std.specs.Option.{option_map_or}
 use Rattle.std.specs.List.{list_all}
 use Rattle.nfs_items.specs.Timeval.{Timeval}
-use Rattle.fs_model.specs.Listing.{with_entry}
-use Rattle.fs_model.specs.Files.{File, file_at, listing_in}
-use Rattle.fs_model.specs.Changes.Edits.{with_changed_file, with_name, without_file, map_listing}
+use Rattle.fs_spec.specs.Listing.{with_entry}
+use Rattle.fs_spec.specs.Files.{File, file_at, listing_in}
+use Rattle.fs_spec.specs.Changes.Edits.{with_changed_file, with_name, without_file, map_listing}
 use Rattle.nfs_spec.specs.Changes.{touch, with_mtime, touch_ctime, with_ctime}
 use Rattle.nfs_spec.specs.Procedures.{add_file}
-use Rattle.fs_model.specs.Changes.Limits.{has_room, blocks_in, block_count, entry_count}
+use Rattle.fs_spec.specs.Changes.Limits.{has_room, blocks_in, block_count, entry_count}
 use Rattle.nfs_examples.specs.Worked.{files_from}
-
-no_length : {A : Type 0} (es : List A) → length es ≡ 0 → es ≡ []
-no_length [] e = refl
-no_length (x ∷ es) e = absurd (omega arith)
-
-none_yet : finite.entries (finite.empty {X = File} {R = nat_cmp}) ≡ []
-none_yet = no_length _ (sym (finite.len-entries (finite.empty {X = File} {R = nat_cmp}))
-    ∙ finite.len-empty nat_cmp File)
+use Rattle.nfs_spec.proofs.OpeningFiles.{none_yet}
 
 -- the list in order, without what is shadowed
 abbrev pub in_order : List (ℕ × File) → List (ℕ × File)

@@ -1,6 +1,6 @@
 -- Worked calls with names and bytes of any length, and where the last number or cookie was given.
 use Rattle.std.specs.Prelude.{ℕ, List, [], ◌∷◌}
-use Rattle.fs_model.specs.Files.{Regular, Directory, File}
+use Rattle.fs_spec.specs.Files.{Regular, Directory, File}
 use Rattle.nfs_spec.specs.Opening.{epoch, first_file, opening_root, opening_hello}
 use Rattle.nfs_examples.specs.Worked.{a, x, soon, empty_file, root_with}
 use Rattle.nfs_examples.specs.Linked.{root_of}

@@ -1,6 +1,6 @@
 -- A file that is made, linked and removed, each time with all files after the call.
 use Rattle.std.specs.Prelude.{ℕ, List, [], ◌∷◌, codes}
-use Rattle.fs_model.specs.Files.{Directory, File}
+use Rattle.fs_spec.specs.Files.{Directory, File}
 use Rattle.nfs_spec.specs.Opening.{first_file, hello, opening_hello}
 use Rattle.nfs_examples.specs.Worked.{empty_file, empty_directory, link_to_t}
 

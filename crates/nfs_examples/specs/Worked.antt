@@ -4,7 +4,7 @@ use Rattle.std.specs.Prelude.{ℕ, List, [], ◌∷◌, ◌++◌, codes, replica
 use Rattle.std.specs.FinMap as finite
 use Rattle.nfs_items.specs.Timeval.{Timeval}
 use Rattle.nfs_items.specs.Caller.{Caller}
-use Rattle.fs_model.specs.Files.{Regular, Symlink, Directory, File, Files}
+use Rattle.fs_spec.specs.Files.{Regular, Symlink, Directory, File, Files}
 use Rattle.nfs_items.specs.declared.sattr.Sattr.{Sattr}
 use Rattle.nfs_spec.specs.Opening.{epoch, first_file, hello, opening_root, opening_hello}
 

@@ -4,7 +4,7 @@ ghost use Rattle.std.specs.Prelude.{◌≡◌, ◌≢◌, ℕ, List, length, tru
 ghost use Rattle.nfs_items.specs.Caller.{nobody};
 ghost use Rattle.nfs_items.specs.declared.stat.Stat.TheVariants as stats;
 ghost use Rattle.nfs_items.specs.declared.attributes.FileType.TheVariants as types;
-ghost use Rattle.fs_model.specs.Names.{is_name};
+ghost use Rattle.fs_spec.specs.Names.{is_name};
 ghost use Rattle.nfs_spec.specs.Sattr.{given_fields};
 ghost use Rattle.nfs_spec.specs.Opening.{epoch, hello, opening_files};
 ghost use Rattle.nfs_spec.specs.Effects.{attributes_at};

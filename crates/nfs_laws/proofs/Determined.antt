@@ -3,7 +3,7 @@
 use Rattle.std.proofs.Common.{◌≡◌, ℕ, List, Option, refl, ◌∙◌}
 use Rattle.nfs_spec.specs.nfs_items.Timeval.{Timeval}
 use Rattle.nfs_spec.specs.nfs_items.Caller.{Caller}
-use Rattle.nfs_spec.specs.fs_model.Files.{Files}
+use Rattle.nfs_spec.specs.fs_spec.Files.{Files}
 use Rattle.nfs_spec.specs.nfs_types.Calls as calls
 use Rattle.nfs_spec.specs.nfs_types.Calls.{Call}
 use Rattle.nfs_spec.specs.NfsCalls.{call_does}

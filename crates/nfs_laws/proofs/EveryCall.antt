@@ -6,9 +6,9 @@ use Rattle.std.proofs.Common.{◌≡◌, ⊎_elim, ℕ, ◌≤◌, true, false, 
 use Rattle.nfs_spec.specs.nfs_items.Timeval.{Timeval}
 use Rattle.nfs_spec.specs.nfs_items.Caller.{Caller}
 use Rattle.nfs_spec.specs.nfs_items.declared.stat.Stat.{Stat}
-use Rattle.nfs_spec.specs.fs_model.Files.{Files}
-use Rattle.nfs_spec.specs.fs_model.Trees.{IsTime, IsFileTree}
-use Rattle.nfs_spec.proofs.fs_model.Walks.{none_some}
+use Rattle.nfs_spec.specs.fs_spec.Files.{Files}
+use Rattle.nfs_spec.specs.fs_spec.Trees.{IsTime, IsFileTree}
+use Rattle.nfs_spec.proofs.fs_spec.Walks.{none_some}
 use Rattle.nfs_spec.specs.Sattr.{given_fields}
 use Rattle.nfs_spec.specs.nfs_types.Calls.{Call}
 use Rattle.nfs_spec.specs.NfsCalls.{number_for, call_does}

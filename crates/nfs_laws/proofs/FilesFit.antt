@@ -8,10 +8,10 @@ use Rattle.std.proofs.lemmas.Bool.{ltb-false}
 use Rattle.std.proofs.lemmas.List.{length-replicate}
 use Rattle.nfs_spec.specs.nfs_items.Timeval.{Timeval}
 use Rattle.nfs_spec.specs.nfs_items.Caller.{Caller}
-use Rattle.nfs_spec.specs.fs_model.Listing.{HasDistinctNames}
-use Rattle.nfs_spec.specs.fs_model.Files.{Body, Regular, Symlink, Directory, File, listing_in, is_directory}
-use Rattle.nfs_spec.specs.fs_model.Trees.{IsBody, IsTime, IsFile}
-use Rattle.nfs_spec.proofs.fs_model.Walks.{none_some, some_same}
+use Rattle.nfs_spec.specs.fs_spec.Listing.{HasDistinctNames}
+use Rattle.nfs_spec.specs.fs_spec.Files.{Body, Regular, Symlink, Directory, File, listing_in, is_directory}
+use Rattle.nfs_spec.specs.fs_spec.Trees.{IsBody, IsTime, IsFile}
+use Rattle.nfs_spec.proofs.fs_spec.Walks.{none_some, some_same}
 use Rattle.nfs_spec.specs.nfs_items.declared.sattr.Sattr.{Sattr}
 use Rattle.nfs_spec.specs.Sattr.{GivenFields, given_mode, given_time, given_fields, gives_any, no_fields}
 use Rattle.nfs_spec.specs.Changes.{body_with_length, apply_fields, new_file}

@@ -1,4 +1,4 @@
-pub use Rattle.nfs_spec.proofs.fs_model as fs_model
+pub use Rattle.nfs_spec.proofs.fs_spec as fs_spec
 pub use Rattle.nfs_spec.proofs as nfs_spec
 pub mod OfReaddir
 pub mod OfSteps

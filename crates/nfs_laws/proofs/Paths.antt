@@ -3,11 +3,11 @@
 use Rattle.std.proofs.Common.{◌≡◌, ⊎_elim, ℕ, ◌≤◌, Bool, List, [], length, None, Some, refl, sym, ap, ◌∙◌}
 use Rattle.nfs_spec.specs.nfs_items.Timeval.{Timeval}
 use Rattle.nfs_spec.specs.nfs_items.Caller.{Caller}
-use Rattle.nfs_spec.specs.fs_model.Files.{File, Files, listing_in, listing, directory_entries}
-use Rattle.nfs_spec.specs.fs_model.Trees.{IsTime, IsFile, IsFileTree}
-use Rattle.nfs_spec.proofs.fs_model.Walks.{one_number}
-use Rattle.nfs_spec.proofs.fs_model.OfEditedTrees.Adding.{adds_path}
-use Rattle.nfs_spec.proofs.fs_model.OfEditedTrees.Taking.{takes_path}
+use Rattle.nfs_spec.specs.fs_spec.Files.{File, Files, listing_in, listing, directory_entries}
+use Rattle.nfs_spec.specs.fs_spec.Trees.{IsTime, IsFile, IsFileTree}
+use Rattle.nfs_spec.proofs.fs_spec.Walks.{one_number}
+use Rattle.nfs_spec.proofs.fs_spec.OfEditedTrees.Adding.{adds_path}
+use Rattle.nfs_spec.proofs.fs_spec.OfEditedTrees.Taking.{takes_path}
 use Rattle.nfs_spec.specs.Sattr.{GivenFields}
 use Rattle.nfs_laws.specs.Steps.Granted.{MakeOk, CreateOk, LinkOk, UnnameOk, IsSameFile, RenameOk}
 use Rattle.nfs_laws.specs.Steps.Granted.{new_regular}

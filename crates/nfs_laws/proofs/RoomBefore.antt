@@ -5,18 +5,18 @@ use Rattle.std.proofs.Common.{option_map, refl, sym, ap, ◌∙◌, arith}
 use Rattle.std.specs.Prelude.{◌↔◌}
 use Rattle.std.proofs.lemmas.Bool.{cases_eq}
 use Rattle.nfs_spec.specs.nfs_items.Timeval.{Timeval}
-use Rattle.nfs_spec.specs.fs_model.Listing.{Listing, entry_at}
-use Rattle.nfs_spec.specs.fs_model.Files.{Body, File, Files, file_at, listing_in, is_directory}
-use Rattle.nfs_spec.specs.fs_model.Files.{directory_entries}
-use Rattle.nfs_spec.specs.fs_model.Trees.{IsFileTree}
-use Rattle.nfs_spec.proofs.fs_model.Walks.{none_some, some_same}
-use Rattle.nfs_spec.specs.fs_model.Changes.Edits.{with_changed_file, with_new_file, with_name}
-use Rattle.nfs_spec.specs.fs_model.Changes.Limits.{blocks_in, entry_count, block_count, has_room}
-use Rattle.nfs_spec.proofs.fs_model.OfChanges.Finite.{nothing_changes, changed_next, changed_here}
-use Rattle.nfs_spec.proofs.fs_model.OfChanges.Finite.{changed_other, new_here, new_other, total}
-use Rattle.nfs_spec.proofs.fs_model.OfChanges.Finite.{total_changed, total_new}
-use Rattle.nfs_spec.proofs.fs_model.OfChanges.Room.{count_new, count_changed, AllCookies, within, room}
-use Rattle.nfs_spec.proofs.fs_model.OfChanges.Room.{still_room}
+use Rattle.nfs_spec.specs.fs_spec.Listing.{Listing, entry_at}
+use Rattle.nfs_spec.specs.fs_spec.Files.{Body, File, Files, file_at, listing_in, is_directory}
+use Rattle.nfs_spec.specs.fs_spec.Files.{directory_entries}
+use Rattle.nfs_spec.specs.fs_spec.Trees.{IsFileTree}
+use Rattle.nfs_spec.proofs.fs_spec.Walks.{none_some, some_same}
+use Rattle.nfs_spec.specs.fs_spec.Changes.Edits.{with_changed_file, with_new_file, with_name}
+use Rattle.nfs_spec.specs.fs_spec.Changes.Limits.{blocks_in, entry_count, block_count, has_room}
+use Rattle.nfs_spec.proofs.fs_spec.OfChanges.Finite.{nothing_changes, changed_next, changed_here}
+use Rattle.nfs_spec.proofs.fs_spec.OfChanges.Finite.{changed_other, new_here, new_other, total}
+use Rattle.nfs_spec.proofs.fs_spec.OfChanges.Finite.{total_changed, total_new}
+use Rattle.nfs_spec.proofs.fs_spec.OfChanges.Room.{count_new, count_changed, AllCookies, within, room}
+use Rattle.nfs_spec.proofs.fs_spec.OfChanges.Room.{still_room}
 use Rattle.nfs_spec.specs.Changes.{touch, with_mtime, touch_ctime, with_ctime}
 use Rattle.nfs_spec.specs.Procedures.{add_file}
 use Rattle.nfs_laws.specs.Room.{HasRoomToMake, HasRoomToLink}

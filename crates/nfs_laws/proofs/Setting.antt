@@ -5,15 +5,15 @@ use Rattle.std.proofs.Common.{sym, ap, subst, ◌∙◌, arith}
 use Rattle.std.specs.Prelude.{◌==◌, if◌then◌else◌}
 use Rattle.nfs_spec.specs.nfs_items.Timeval.{Timeval}
 use Rattle.nfs_spec.specs.nfs_items.Caller.{Caller}
-use Rattle.nfs_spec.specs.fs_model.Listing.{Listing}
-use Rattle.nfs_spec.specs.fs_model.Files.{File, Files, file_at, listing_in, is_directory, directory_entries}
-use Rattle.nfs_spec.specs.fs_model.Trees.{IsTime, IsFile, IsFileTree}
-use Rattle.nfs_spec.proofs.fs_model.Walks.{some_same}
-use Rattle.nfs_spec.specs.fs_model.Changes.Edits.{with_changed_file}
-use Rattle.nfs_spec.specs.fs_model.Changes.Limits.{has_room}
-use Rattle.nfs_spec.proofs.fs_model.OfEditedTrees.SameShape.{stays_shaped}
-use Rattle.nfs_spec.proofs.fs_model.OfChanges.Room.{same_smaller, changed_no_more, still_room}
-use Rattle.nfs_spec.proofs.fs_model.OfChanges.Shapes.{IsSameShape, same_shape, changed_files}
+use Rattle.nfs_spec.specs.fs_spec.Listing.{Listing}
+use Rattle.nfs_spec.specs.fs_spec.Files.{File, Files, file_at, listing_in, is_directory, directory_entries}
+use Rattle.nfs_spec.specs.fs_spec.Trees.{IsTime, IsFile, IsFileTree}
+use Rattle.nfs_spec.proofs.fs_spec.Walks.{some_same}
+use Rattle.nfs_spec.specs.fs_spec.Changes.Edits.{with_changed_file}
+use Rattle.nfs_spec.specs.fs_spec.Changes.Limits.{has_room}
+use Rattle.nfs_spec.proofs.fs_spec.OfEditedTrees.SameShape.{stays_shaped}
+use Rattle.nfs_spec.proofs.fs_spec.OfChanges.Room.{same_smaller, changed_no_more, still_room}
+use Rattle.nfs_spec.proofs.fs_spec.OfChanges.Shapes.{IsSameShape, same_shape, changed_files}
 use Rattle.nfs_spec.specs.Sattr.{GivenFields}
 use Rattle.nfs_spec.specs.Changes.{body_with_length, apply_fields}
 use Rattle.nfs_spec.specs.Procedures.{with_bytes_written}

@@ -2,11 +2,11 @@
 use Rattle.std.specs.Prelude.{◌≡◌, ℕ, ◌<◌, ◌≤◌, [], ◌∷◌, ◌++◌, length, Some}
 use Rattle.nfs_spec.specs.nfs_items.Timeval.{Timeval}
 use Rattle.nfs_spec.specs.nfs_items.Terms.{FileNumber, Cookie, Name}
-use Rattle.nfs_spec.specs.fs_model.Names.{FilePath}
-use Rattle.nfs_spec.specs.fs_model.Maxima.{max_name, max_target}
-use Rattle.nfs_spec.specs.fs_model.Paths.{path_at, AddsPath, TakesPath, Renames}
-use Rattle.nfs_spec.specs.fs_model.Files.{Files, listing, directory_entries}
-use Rattle.nfs_spec.specs.fs_model.Trees.{IsTime}
+use Rattle.nfs_spec.specs.fs_spec.Names.{FilePath}
+use Rattle.nfs_spec.specs.fs_spec.Maxima.{max_name, max_target}
+use Rattle.nfs_spec.specs.fs_spec.Paths.{path_at, AddsPath, TakesPath, Renames}
+use Rattle.nfs_spec.specs.fs_spec.Files.{Files, listing, directory_entries}
+use Rattle.nfs_spec.specs.fs_spec.Trees.{IsTime}
 use Rattle.nfs_spec.specs.Sattr.{GivenFields}
 use Rattle.nfs_spec.specs.nfs_types.Calls.{Call, Create, Rename, Link, Symlink, Mkdir}
 

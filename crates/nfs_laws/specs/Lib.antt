@@ -1,4 +1,4 @@
-pub use Rattle.nfs_spec.specs.fs_model as fs_model
+pub use Rattle.nfs_spec.specs.fs_spec as fs_spec
 pub use Rattle.nfs_spec.specs as nfs_spec
 pub mod Readdir
 pub mod Steps

@@ -1,9 +1,9 @@
 -- What room a call asks for, told by the files before it.
 use Rattle.std.specs.Prelude.{ℕ, ◌+◌, ◌<◌, ◌≤◌}
 use Rattle.nfs_spec.specs.nfs_items.Terms.{Cookie}
-use Rattle.nfs_spec.specs.fs_model.Maxima.{max_files, max_entries, max_blocks, max_number}
-use Rattle.nfs_spec.specs.fs_model.Files.{Files}
-use Rattle.nfs_spec.specs.fs_model.Changes.Limits.{file_count, entry_count, block_count}
+use Rattle.nfs_spec.specs.fs_spec.Maxima.{max_files, max_entries, max_blocks, max_number}
+use Rattle.nfs_spec.specs.fs_spec.Files.{Files}
+use Rattle.nfs_spec.specs.fs_spec.Changes.Limits.{file_count, entry_count, block_count}
 
 -- room for one more file of so many blocks, under the next number, with an entry in a directory whose next
 -- cookie is this

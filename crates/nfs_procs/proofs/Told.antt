@@ -6,7 +6,7 @@ use Rattle.nfs_items.specs.declared.attributes.Fattr.{Fattr}
 use Rattle.nfs_items.specs.declared.stat.Stat.{Stat}
 use Rattle.nfs_items.specs.declared.stat.Stat.TheVariants as stats
 use Rattle.file_tree.specs.nfs_types.Calls.{Attributes, DirOp}
-use Rattle.nfs_laws.specs.fs_model.Files.{File, Files, file_at}
+use Rattle.nfs_laws.specs.fs_spec.Files.{File, Files, file_at}
 use Rattle.nfs_laws.specs.nfs_spec.ProcedureChecks.{◌>>=◌, ok_or}
 use Rattle.nfs_laws.specs.nfs_spec.FileAttributes.{attributes_of}
 use Rattle.nfs_laws.specs.nfs_spec.Effects.{attributes_at}

@@ -9,7 +9,7 @@ use Rattle.nfs_items.specs.declared.stat.Stat.{Stat}
 use Rattle.file_tree.specs.nfs_types.declared.results.NfsResult.{NfsResult}
 use Rattle.file_tree.specs.nfs_types.Calls.{Call}
 use Rattle.file_tree.specs.nfs_types.Results.{answer_of, IsShort}
-use Rattle.nfs_laws.specs.fs_model.Files.{Files}
+use Rattle.nfs_laws.specs.fs_spec.Files.{Files}
 use Rattle.nfs_laws.specs.nfs_spec.ProcedureChecks.{◌>>=◌}
 use Rattle.nfs_laws.specs.nfs_spec.Effects.{attributes_at}
 use Rattle.nfs_laws.specs.nfs_spec.NfsCalls.{call_does}

@@ -2,7 +2,7 @@
 
 ghost use Rattle.std.specs.Prelude.{◌≡◌, ◌≤◌, false, length};
 ghost use Rattle.nfs_items.specs.CallerOf.{caller_of};
-ghost use Rattle.nfs_laws.specs.fs_model.Maxima.{max_name, max_target};
+ghost use Rattle.nfs_laws.specs.fs_spec.Maxima.{max_name, max_target};
 ghost use Rattle.file_tree.specs.nfs_types.Bounds.{HasBounds};
 ghost use Rattle.file_tree.specs.nfs_types.Calls.{Setattr, Write, Create, Remove, Rename, Link, Symlink};
 ghost use Rattle.file_tree.specs.nfs_types.Calls.{Mkdir, Rmdir};

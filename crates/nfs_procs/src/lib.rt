@@ -17,9 +17,6 @@ mod reading;
 use changing::change;
 use file_tree::{NfsArgs, SHORT_ANSWER, Tree, write_result};
 pub use nfs_items::{Time, Who, read_credential};
-pub use nfs_laws::frames::laws::calls_keep_the_files_they_do_not_name;
-pub use nfs_laws::laws::{no_limit_is_passed, trees_stay_trees};
-pub use nfs_laws::sizes::laws::{answers_have_a_spelling, read_calls_are_bounded};
 use reading::answer_read;
 use std::alloc::{AllocError, Global};
 

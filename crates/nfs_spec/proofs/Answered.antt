@@ -1,15 +1,15 @@
 -- A call is answered by an answer of its procedure.
 -- Serves: `laws::calls_are_answered_by_their_procedures`.
 use Rattle.std.proofs.Common.{Result, Ok, Err}
-use Rattle.fs_model.specs.nfs_items.Timeval.{Timeval}
-use Rattle.fs_model.specs.nfs_items.Caller.{Caller}
-use Rattle.fs_model.specs.nfs_items.declared.stat.Stat.{Stat}
+use Rattle.fs_spec.specs.nfs_items.Timeval.{Timeval}
+use Rattle.fs_spec.specs.nfs_items.Caller.{Caller}
+use Rattle.fs_spec.specs.nfs_items.declared.stat.Stat.{Stat}
 use Rattle.nfs_types.specs.declared.arguments.NfsProcedure.{NfsProcedure}
 use Rattle.nfs_types.specs.declared.arguments.NfsProcedure.TheVariants as procedures
 use Rattle.nfs_types.specs.Calls as calls
 use Rattle.nfs_types.specs.Calls.{Call, Answer}
 use Rattle.nfs_types.specs.Texts.{procedure_in, IsAnswerTo}
-use Rattle.fs_model.specs.Files.{Files}
+use Rattle.fs_spec.specs.Files.{Files}
 use Rattle.nfs_spec.specs.Changes.{Effect}
 use Rattle.nfs_spec.specs.NfsCalls.{answer_and_files, call_does}
 

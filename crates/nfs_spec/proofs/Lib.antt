@@ -1,4 +1,4 @@
-pub use Rattle.fs_model.proofs as fs_model
+pub use Rattle.fs_spec.proofs as fs_spec
 pub mod Answered
 pub mod OpeningFiles
 pub mod Lookups

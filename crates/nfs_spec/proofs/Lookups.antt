@@ -5,19 +5,19 @@ use Rattle.std.proofs.Common.{option_map, option_and_then, refl, sym, ap, ◌∙
 use Rattle.std.specs.Prelude.{nat_eq, not}
 use Rattle.std.specs.Cmp.Lexicographic.{pointwise}
 use Rattle.std.proofs.lemmas.Bool.{and_parts, not-true, cond-true, cond-false}
-use Rattle.fs_model.specs.nfs_items.Caller.{Caller}
-use Rattle.fs_model.specs.nfs_items.Handle.{handle_of}
-use Rattle.fs_model.specs.nfs_items.declared.attributes.Fattr.{Fattr}
-use Rattle.fs_model.specs.nfs_items.declared.stat.Stat.{Stat}
-use Rattle.fs_model.specs.nfs_items.declared.stat.Stat.TheVariants as stats
-use Rattle.fs_model.specs.Listing.{Listing, entry_at}
-use Rattle.fs_model.specs.Names.{dot, dot_dot, is_name}
-use Rattle.fs_model.specs.Paths.{path_at}
-use Rattle.fs_model.specs.Files.{Body, Regular, Symlink, Directory, Files, listing_in, is_directory}
-use Rattle.fs_model.specs.Files.{IsDirectory, directory_entries}
-use Rattle.fs_model.specs.Trees.{IsFileTree}
-use Rattle.fs_model.proofs.Walks.{step_last}
-use Rattle.fs_model.proofs.Parents.{parent_path}
+use Rattle.fs_spec.specs.nfs_items.Caller.{Caller}
+use Rattle.fs_spec.specs.nfs_items.Handle.{handle_of}
+use Rattle.fs_spec.specs.nfs_items.declared.attributes.Fattr.{Fattr}
+use Rattle.fs_spec.specs.nfs_items.declared.stat.Stat.{Stat}
+use Rattle.fs_spec.specs.nfs_items.declared.stat.Stat.TheVariants as stats
+use Rattle.fs_spec.specs.Listing.{Listing, entry_at}
+use Rattle.fs_spec.specs.Names.{dot, dot_dot, is_name}
+use Rattle.fs_spec.specs.Paths.{path_at}
+use Rattle.fs_spec.specs.Files.{Body, Regular, Symlink, Directory, Files, listing_in, is_directory}
+use Rattle.fs_spec.specs.Files.{IsDirectory, directory_entries}
+use Rattle.fs_spec.specs.Trees.{IsFileTree}
+use Rattle.fs_spec.proofs.Walks.{step_last}
+use Rattle.fs_spec.proofs.Parents.{parent_path}
 use Rattle.nfs_spec.specs.ProcedureChecks.{◌>>=◌, ok_or, listing_or, may_search}
 use Rattle.nfs_spec.specs.Effects.{attributes_at, number_named, number_at_name, lookup}
 use Rattle.nfs_spec.specs.LawTerms.{lookup_at_path, IsSearchable}

@@ -8,11 +8,11 @@ use Rattle.std.specs.Option.{option_map_or}
 use Rattle.std.specs.Ordering.{nat_cmp}
 use Rattle.std.specs.FinMap as finite
 use Rattle.std.specs.Cmp.{nat_cmp_total}
-use Rattle.fs_model.specs.nfs_items.Caller.{nobody}
-use Rattle.fs_model.specs.nfs_items.Handle.{handle_of, number_in}
-use Rattle.fs_model.specs.nfs_items.declared.stat.Stat.TheVariants as stats
-use Rattle.fs_model.specs.Files.{File, Files, file_at, listing_in, is_directory, names_of, names_in}
-use Rattle.fs_model.specs.Changes.Limits.{blocks_in, has_room}
+use Rattle.fs_spec.specs.nfs_items.Caller.{nobody}
+use Rattle.fs_spec.specs.nfs_items.Handle.{handle_of, number_in}
+use Rattle.fs_spec.specs.nfs_items.declared.stat.Stat.TheVariants as stats
+use Rattle.fs_spec.specs.Files.{File, Files, file_at, listing_in, is_directory, names_of, names_in}
+use Rattle.fs_spec.specs.Changes.Limits.{blocks_in, has_room}
 use Rattle.nfs_spec.specs.FileAttributes.{attributes_of, nlink_of}
 use Rattle.nfs_spec.specs.Effects.{attributes_at, number_at_name, getattr, lookup}
 use Rattle.nfs_spec.specs.ProcedureChecks.{◌>>=◌, ok_or}
@@ -30,7 +30,8 @@ no_length : {A : Type 0} (es : List A) → length es ≡ 0 → es ≡ []
 no_length [] e = refl
 no_length (x ∷ es) e = absurd (omega arith)
 
-none_yet : finite.entries (finite.empty {X = File} {R = nat_cmp}) ≡ []
+-- no files have no entries
+pub none_yet : finite.entries (finite.empty {X = File} {R = nat_cmp}) ≡ []
 none_yet = no_length _ (sym (finite.len-entries (finite.empty {X = File} {R = nat_cmp}))
     ∙ finite.len-empty nat_cmp File)
 

@@ -10,13 +10,13 @@ use Rattle.std.specs.Cmp.{nat_cmp_total}
 use Rattle.std.specs.Cmp.Lexicographic.{pointwise, same_text}
 use Rattle.std.specs.FinMap as finite
 use Rattle.std.proofs.lemmas.Bool.{cond-true, cond-false}
-use Rattle.fs_model.specs.Listing.{entry_at}
-use Rattle.fs_model.specs.Names.{is_name}
-use Rattle.fs_model.specs.Files.{File, file_at, listing_in, is_directory, IsDirectory, directory_entries}
-use Rattle.fs_model.specs.Files.{names_of}
-use Rattle.fs_model.specs.Trees.{IsFile, IsFileTree}
-use Rattle.fs_model.proofs.Walks.{some_same, none_some, one_number}
-use Rattle.fs_model.proofs.Counts.{same_number}
+use Rattle.fs_spec.specs.Listing.{entry_at}
+use Rattle.fs_spec.specs.Names.{is_name}
+use Rattle.fs_spec.specs.Files.{File, file_at, listing_in, is_directory, IsDirectory, directory_entries}
+use Rattle.fs_spec.specs.Files.{names_of}
+use Rattle.fs_spec.specs.Trees.{IsFile, IsFileTree}
+use Rattle.fs_spec.proofs.Walks.{some_same, none_some, one_number}
+use Rattle.fs_spec.proofs.Counts.{same_number}
 use Rattle.nfs_spec.specs.Opening.{hello, opening_root, opening_hello, opening_files}
 use Rattle.nfs_spec.proofs.Present.{none_there}
 use Rattle.nfs_spec.proofs.OpeningFiles.{root_there, hello_there, opening_names}

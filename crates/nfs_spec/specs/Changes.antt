@@ -4,13 +4,13 @@ use Rattle.std.specs.Prelude.{replicate, Option, Some, None, Result, Ok, is_some
 use Rattle.std.specs.Prelude.{if◌then◌else◌}
 use Rattle.std.specs.Option.{option_map_or}
 use Rattle.std.specs.List.{list_any}
-use Rattle.fs_model.specs.nfs_items.Timeval.{Timeval}
-use Rattle.fs_model.specs.nfs_items.Caller.{Caller}
-use Rattle.fs_model.specs.nfs_items.declared.stat.Stat.{Stat}
-use Rattle.fs_model.specs.nfs_items.declared.stat.Stat.TheVariants as stats
-use Rattle.fs_model.specs.nfs_items.Terms.{Name, FileNumber}
-use Rattle.fs_model.specs.Files.{Body, Regular, Symlink, Directory, File, Files, names_of}
-use Rattle.fs_model.specs.Changes.Edits.{with_changed_file, without_file, without_name}
+use Rattle.fs_spec.specs.nfs_items.Timeval.{Timeval}
+use Rattle.fs_spec.specs.nfs_items.Caller.{Caller}
+use Rattle.fs_spec.specs.nfs_items.declared.stat.Stat.{Stat}
+use Rattle.fs_spec.specs.nfs_items.declared.stat.Stat.TheVariants as stats
+use Rattle.fs_spec.specs.nfs_items.Terms.{Name, FileNumber}
+use Rattle.fs_spec.specs.Files.{Body, Regular, Symlink, Directory, File, Files, names_of}
+use Rattle.fs_spec.specs.Changes.Edits.{with_changed_file, without_file, without_name}
 use Rattle.nfs_spec.specs.ProcedureChecks.{◌>>=◌, check, check_size, bytes_of, owns, may_write}
 use Rattle.nfs_spec.specs.Sattr.{GivenFields, gives_any}
 

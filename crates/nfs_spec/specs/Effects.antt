@@ -2,15 +2,15 @@
 -- the first check that fails, in the order written, and then the files are as before.
 use Rattle.std.specs.Prelude.{Option, Some, None, Result, Ok, Err, option_map, nat_eq, if◌then◌else◌}
 use Rattle.std.specs.Cmp.Lexicographic.{pointwise}
-use Rattle.fs_model.specs.nfs_items.Caller.{Caller}
-use Rattle.fs_model.specs.nfs_items.Handle.{FileHandle, handle_of}
-use Rattle.fs_model.specs.nfs_items.declared.attributes.Fattr.{Fattr}
-use Rattle.fs_model.specs.nfs_items.declared.stat.Stat.{Stat}
-use Rattle.fs_model.specs.nfs_items.declared.stat.Stat.TheVariants as stats
-use Rattle.fs_model.specs.nfs_items.Terms.{Name, FileNumber}
-use Rattle.fs_model.specs.Names.{dot, dot_dot, is_name}
-use Rattle.fs_model.specs.Listing.{Listing, file_number, entry_at}
-use Rattle.fs_model.specs.Files.{Files, parent_of}
+use Rattle.fs_spec.specs.nfs_items.Caller.{Caller}
+use Rattle.fs_spec.specs.nfs_items.Handle.{FileHandle, handle_of}
+use Rattle.fs_spec.specs.nfs_items.declared.attributes.Fattr.{Fattr}
+use Rattle.fs_spec.specs.nfs_items.declared.stat.Stat.{Stat}
+use Rattle.fs_spec.specs.nfs_items.declared.stat.Stat.TheVariants as stats
+use Rattle.fs_spec.specs.nfs_items.Terms.{Name, FileNumber}
+use Rattle.fs_spec.specs.Names.{dot, dot_dot, is_name}
+use Rattle.fs_spec.specs.Listing.{Listing, file_number, entry_at}
+use Rattle.fs_spec.specs.Files.{Files, parent_of}
 use Rattle.nfs_spec.specs.ProcedureChecks.{◌>>=◌, ok_or, file_of, number_of, listing_or, may_search}
 use Rattle.nfs_spec.specs.FileAttributes.{attributes_of}
 

@@ -2,13 +2,13 @@
 use Rattle.std.specs.Prelude.{ℕ, ◌+◌, ◌/◌, Bool, length, count_by}
 use Rattle.std.specs.Option.{option_map_or}
 use Rattle.std.proofs.Common.{false}
-use Rattle.fs_model.specs.nfs_items.declared.attributes.FileType.{FileType}
-use Rattle.fs_model.specs.nfs_items.declared.attributes.FileType.TheVariants as types
-use Rattle.fs_model.specs.nfs_items.declared.attributes.Fattr.{Fattr}
-use Rattle.fs_model.specs.nfs_items.Terms.{FileNumber}
-use Rattle.fs_model.specs.Listing.{Listing, entry_number}
-use Rattle.fs_model.specs.Files.{Body, Regular, Symlink, Directory, File, Files, file_at, is_directory}
-use Rattle.fs_model.specs.Files.{names_of}
+use Rattle.fs_spec.specs.nfs_items.declared.attributes.FileType.{FileType}
+use Rattle.fs_spec.specs.nfs_items.declared.attributes.FileType.TheVariants as types
+use Rattle.fs_spec.specs.nfs_items.declared.attributes.Fattr.{Fattr}
+use Rattle.fs_spec.specs.nfs_items.Terms.{FileNumber}
+use Rattle.fs_spec.specs.Listing.{Listing, entry_number}
+use Rattle.fs_spec.specs.Files.{Body, Regular, Symlink, Directory, File, Files, file_at, is_directory}
+use Rattle.fs_spec.specs.Files.{names_of}
 
 -- ftype: NFREG, NFLNK or NFDIR, by what a file holds
 abbrev pub type_of : Body → FileType

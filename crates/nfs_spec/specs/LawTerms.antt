@@ -1,15 +1,15 @@
 -- What the laws of effects speak of.
 use Rattle.std.specs.Prelude.{◌≡◌, Option, Some, None, IsTrue, Result, Ok, Err}
-use Rattle.fs_model.specs.nfs_items.Caller.{Caller}
-use Rattle.fs_model.specs.nfs_items.Handle.{FileHandle, number_in, handle_of}
-use Rattle.fs_model.specs.nfs_items.declared.attributes.Fattr.{Fattr}
-use Rattle.fs_model.specs.nfs_items.declared.stat.Stat.{Stat}
-use Rattle.fs_model.specs.nfs_items.declared.stat.Stat.TheVariants as stats
-use Rattle.fs_model.specs.Names.{FilePath}
-use Rattle.fs_model.specs.nfs_items.Terms.{FileNumber, Cookie}
-use Rattle.fs_model.specs.Listing.{file_number}
-use Rattle.fs_model.specs.Paths.{path_at}
-use Rattle.fs_model.specs.Files.{File, Files, file_at, is_directory, directory_entries}
+use Rattle.fs_spec.specs.nfs_items.Caller.{Caller}
+use Rattle.fs_spec.specs.nfs_items.Handle.{FileHandle, number_in, handle_of}
+use Rattle.fs_spec.specs.nfs_items.declared.attributes.Fattr.{Fattr}
+use Rattle.fs_spec.specs.nfs_items.declared.stat.Stat.{Stat}
+use Rattle.fs_spec.specs.nfs_items.declared.stat.Stat.TheVariants as stats
+use Rattle.fs_spec.specs.Names.{FilePath}
+use Rattle.fs_spec.specs.nfs_items.Terms.{FileNumber, Cookie}
+use Rattle.fs_spec.specs.Listing.{file_number}
+use Rattle.fs_spec.specs.Paths.{path_at}
+use Rattle.fs_spec.specs.Files.{File, Files, file_at, is_directory, directory_entries}
 use Rattle.nfs_spec.specs.ProcedureChecks.{◌>>=◌, ok_or, may_search}
 use Rattle.nfs_spec.specs.Effects.{attributes_at}
 

@@ -1,5 +1,5 @@
-pub use Rattle.fs_model.specs as fs_model
-pub use Rattle.fs_model.specs.nfs_items as nfs_items
+pub use Rattle.fs_spec.specs as fs_spec
+pub use Rattle.fs_spec.specs.nfs_items as nfs_items
 pub use Rattle.nfs_types.specs as nfs_types
 pub mod ProcedureChecks
 pub mod Sattr

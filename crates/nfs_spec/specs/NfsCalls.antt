@@ -1,16 +1,16 @@
 -- What each call does to a server's files (RFC 1094, section 2.2): its answer, and the files after it.
 -- Arguments that mean nothing (READ's totalcount, WRITE's beginoffset and totalcount) are left out.
 use Rattle.std.specs.Prelude.{Result, Ok, Err, unwrap_or}
-use Rattle.fs_model.specs.nfs_items.Timeval.{Timeval}
-use Rattle.fs_model.specs.nfs_items.Caller.{Caller}
-use Rattle.fs_model.specs.nfs_items.Handle.{FileHandle, handle_of, number_in}
-use Rattle.fs_model.specs.nfs_items.declared.attributes.Fattr.{Fattr}
-use Rattle.fs_model.specs.nfs_items.declared.stat.Stat.{Stat}
-use Rattle.fs_model.specs.nfs_items.Terms.{FileNumber}
+use Rattle.fs_spec.specs.nfs_items.Timeval.{Timeval}
+use Rattle.fs_spec.specs.nfs_items.Caller.{Caller}
+use Rattle.fs_spec.specs.nfs_items.Handle.{FileHandle, handle_of, number_in}
+use Rattle.fs_spec.specs.nfs_items.declared.attributes.Fattr.{Fattr}
+use Rattle.fs_spec.specs.nfs_items.declared.stat.Stat.{Stat}
+use Rattle.fs_spec.specs.nfs_items.Terms.{FileNumber}
 use Rattle.nfs_types.specs.Calls.{Call, Null, Getattr, Setattr, Root, Lookup, Readlink, Read, Writecache}
 use Rattle.nfs_types.specs.Calls.{Write, Create, Remove, Rename, Link, Symlink, Mkdir, Rmdir, Readdir, Statfs}
 use Rattle.nfs_types.specs.Calls.{Answer, Nothing, Attributes, DirOp, Target, Bytes, Status, Entries, Free}
-use Rattle.fs_model.specs.Files.{Files}
+use Rattle.fs_spec.specs.Files.{Files}
 use Rattle.nfs_spec.specs.ProcedureChecks.{◌>>=◌}
 use Rattle.nfs_spec.specs.Sattr.{given_fields}
 use Rattle.nfs_spec.specs.Changes.{Effect}

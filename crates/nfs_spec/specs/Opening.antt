@@ -1,9 +1,9 @@
 -- The files that each server begins with: the directory `/`, and in it the regular file `hello`.
 use Rattle.std.specs.Prelude.{ℕ, [], ◌∷◌, codes}
 use Rattle.std.specs.FinMap as finite
-use Rattle.fs_model.specs.nfs_items.Timeval.{Timeval}
-use Rattle.fs_model.specs.nfs_items.Terms.{Name}
-use Rattle.fs_model.specs.Files.{Body, Regular, Directory, File, Files}
+use Rattle.fs_spec.specs.nfs_items.Timeval.{Timeval}
+use Rattle.fs_spec.specs.nfs_items.Terms.{Name}
+use Rattle.fs_spec.specs.Files.{Body, Regular, Directory, File, Files}
 
 -- the start of 1970
 abbrev pub epoch : Timeval

@@ -2,16 +2,16 @@
 use Rattle.std.specs.Prelude.{ℕ, ◌*◌, ◌==◌, ◌||◌, ◌&&◌, nat_lt, nat_le, bit_and, option_map, is_none, Bool}
 use Rattle.std.specs.Prelude.{List, Option, Some, None, Result, Ok, Err, if◌then◌else◌}
 use Rattle.std.specs.List.{list_any}
-use Rattle.fs_model.specs.nfs_items.Caller.{Caller}
-use Rattle.fs_model.specs.nfs_items.Handle.{FileHandle, number_in}
-use Rattle.fs_model.specs.nfs_items.declared.stat.Stat.{Stat}
-use Rattle.fs_model.specs.nfs_items.declared.stat.Stat.TheVariants as stats
-use Rattle.fs_model.specs.Maxima.{max_file_size, max_number}
-use Rattle.fs_model.specs.nfs_items.Terms.{Name, FileNumber}
-use Rattle.fs_model.specs.Names.{is_name}
-use Rattle.fs_model.specs.Listing.{Listing, file_number, entry_at}
-use Rattle.fs_model.specs.Changes.Limits.{has_room}
-use Rattle.fs_model.specs.Files.{Body, Regular, Symlink, Directory, File, Files, file_at}
+use Rattle.fs_spec.specs.nfs_items.Caller.{Caller}
+use Rattle.fs_spec.specs.nfs_items.Handle.{FileHandle, number_in}
+use Rattle.fs_spec.specs.nfs_items.declared.stat.Stat.{Stat}
+use Rattle.fs_spec.specs.nfs_items.declared.stat.Stat.TheVariants as stats
+use Rattle.fs_spec.specs.Maxima.{max_file_size, max_number}
+use Rattle.fs_spec.specs.nfs_items.Terms.{Name, FileNumber}
+use Rattle.fs_spec.specs.Names.{is_name}
+use Rattle.fs_spec.specs.Listing.{Listing, file_number, entry_at}
+use Rattle.fs_spec.specs.Changes.Limits.{has_room}
+use Rattle.fs_spec.specs.Files.{Body, Regular, Symlink, Directory, File, Files, file_at}
 
 -- one step after the other, up to the first that is refused
 infixl 10 ◌>>=◌

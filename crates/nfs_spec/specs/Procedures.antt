@@ -4,20 +4,20 @@ use Rattle.std.specs.Prelude.{ℕ, zero, suc, ◌+◌, ◌-◌, ◌==◌, ◌||�
 use Rattle.std.specs.Prelude.{take, drop, length, replicate, min, Option, Some, None, Result, Ok, option_map}
 use Rattle.std.specs.Prelude.{is_some, unwrap_or, if◌then◌else◌}
 use Rattle.std.specs.Option.{option_map_or}
-use Rattle.fs_model.specs.nfs_items.Timeval.{Timeval}
-use Rattle.fs_model.specs.nfs_items.Caller.{Caller}
-use Rattle.fs_model.specs.nfs_items.declared.attributes.Fattr.{Fattr}
-use Rattle.fs_model.specs.nfs_items.declared.stat.Stat.{Stat}
-use Rattle.fs_model.specs.nfs_items.declared.stat.Stat.TheVariants as stats
-use Rattle.fs_model.specs.Maxima.{max_data, max_blocks}
-use Rattle.fs_model.specs.nfs_items.Terms.{Name, FileNumber, Cookie}
-use Rattle.fs_model.specs.Names.{is_name}
+use Rattle.fs_spec.specs.nfs_items.Timeval.{Timeval}
+use Rattle.fs_spec.specs.nfs_items.Caller.{Caller}
+use Rattle.fs_spec.specs.nfs_items.declared.attributes.Fattr.{Fattr}
+use Rattle.fs_spec.specs.nfs_items.declared.stat.Stat.{Stat}
+use Rattle.fs_spec.specs.nfs_items.declared.stat.Stat.TheVariants as stats
+use Rattle.fs_spec.specs.Maxima.{max_data, max_blocks}
+use Rattle.fs_spec.specs.nfs_items.Terms.{Name, FileNumber, Cookie}
+use Rattle.fs_spec.specs.Names.{is_name}
 use Rattle.nfs_types.specs.declared.results.FsStats.{FsStats}
-use Rattle.fs_model.specs.Listing.{file_number, entry_at}
-use Rattle.fs_model.specs.Files.{Body, Regular, Symlink, Directory, File, Files, is_directory, listing_in}
-use Rattle.fs_model.specs.Files.{parent_of}
-use Rattle.fs_model.specs.Changes.Edits.{with_new_file, with_changed_file, with_name, without_name}
-use Rattle.fs_model.specs.Changes.Limits.{block_count, file_count}
+use Rattle.fs_spec.specs.Listing.{file_number, entry_at}
+use Rattle.fs_spec.specs.Files.{Body, Regular, Symlink, Directory, File, Files, is_directory, listing_in}
+use Rattle.fs_spec.specs.Files.{parent_of}
+use Rattle.fs_spec.specs.Changes.Edits.{with_new_file, with_changed_file, with_name, without_name}
+use Rattle.fs_spec.specs.Changes.Limits.{block_count, file_count}
 use Rattle.nfs_spec.specs.FileAttributes.{attributes_of}
 use Rattle.nfs_spec.specs.ProcedureChecks.{◌>>=◌, NumberedDir, file_of, listing_or, dir_of, check, check_size}
 use Rattle.nfs_spec.specs.ProcedureChecks.{check_room, check_cookie, check_edit, check_free, number_at}

@@ -2,12 +2,12 @@
 use Rattle.std.specs.Prelude.{ℕ, ◌+◌, ◌-◌, ◌*◌, ◌/◌, nat_le, nat_lt, min, List, [], ◌∷◌, length, map, ◌==◌}
 use Rattle.std.specs.Prelude.{if◌then◌else◌}
 use Rattle.std.specs.List.{filter}
-use Rattle.fs_model.specs.Maxima.{max_data}
-use Rattle.fs_model.specs.nfs_items.Terms.{FileNumber, Cookie}
-use Rattle.fs_model.specs.Names.{dot, dot_dot}
+use Rattle.fs_spec.specs.Maxima.{max_data}
+use Rattle.fs_spec.specs.nfs_items.Terms.{FileNumber, Cookie}
+use Rattle.fs_spec.specs.Names.{dot, dot_dot}
 use Rattle.nfs_types.specs.Calls.{PageEntry, Page}
-use Rattle.fs_model.specs.Listing.{NamedEntry, Listing, entry_name, entry_number, entry_cookie}
-use Rattle.fs_model.specs.Files.{Files, parent_of}
+use Rattle.fs_spec.specs.Listing.{NamedEntry, Listing, entry_name, entry_number, entry_cookie}
+use Rattle.fs_spec.specs.Files.{Files, parent_of}
 
 -- an entry of a directory as READDIR gives it
 abbrev pub page_entry : NamedEntry → PageEntry

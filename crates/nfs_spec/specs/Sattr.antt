@@ -1,7 +1,7 @@
 -- What a caller asks of attributes (RFC 1094, section 2.3.6, sattr).
 use Rattle.std.specs.Prelude.{ℕ, ◌%◌, ◌==◌, ◌||◌, nat_lt, Bool, Option, Some, None, is_some, if◌then◌else◌}
-use Rattle.fs_model.specs.nfs_items.Timeval.{Timeval}
-use Rattle.fs_model.specs.nfs_items.declared.sattr.Sattr.{Sattr}
+use Rattle.fs_spec.specs.nfs_items.Timeval.{Timeval}
+use Rattle.fs_spec.specs.nfs_items.declared.sattr.Sattr.{Sattr}
 
 -- the word of all ones
 abbrev pub all_ones : ℕ

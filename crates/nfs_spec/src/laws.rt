@@ -1,19 +1,19 @@
 //! What holds of every effect.
 
 ghost use Rattle.std.specs.Prelude.{◌≡◌, ◌≢◌, [], ◌∷◌, ◌++◌, List, ℕ, Some, Ok, Err, IsTrue, IsSome};
-ghost use Rattle.fs_model.specs.nfs_items.Timeval.{Timeval};
-ghost use Rattle.fs_model.specs.nfs_items.Caller.{Caller, nobody};
-ghost use Rattle.fs_model.specs.nfs_items.Handle.{FileHandle, number_in, handle_of};
-ghost use Rattle.fs_model.specs.nfs_items.declared.stat.Stat.{Stat};
-ghost use Rattle.fs_model.specs.nfs_items.declared.stat.Stat.TheVariants as stats;
-ghost use Rattle.fs_model.specs.nfs_items.declared.attributes.FileType.TheVariants as types;
-ghost use Rattle.fs_model.specs.nfs_items.Terms.{Name, FileNumber};
+ghost use Rattle.fs_spec.specs.nfs_items.Timeval.{Timeval};
+ghost use Rattle.fs_spec.specs.nfs_items.Caller.{Caller, nobody};
+ghost use Rattle.fs_spec.specs.nfs_items.Handle.{FileHandle, number_in, handle_of};
+ghost use Rattle.fs_spec.specs.nfs_items.declared.stat.Stat.{Stat};
+ghost use Rattle.fs_spec.specs.nfs_items.declared.stat.Stat.TheVariants as stats;
+ghost use Rattle.fs_spec.specs.nfs_items.declared.attributes.FileType.TheVariants as types;
+ghost use Rattle.fs_spec.specs.nfs_items.Terms.{Name, FileNumber};
 ghost use Rattle.nfs_types.specs.Calls.{Call};
 ghost use Rattle.nfs_types.specs.Texts.{procedure_in, IsAnswerTo};
-ghost use Rattle.fs_model.specs.Names.{FilePath, dot, dot_dot, is_name};
-ghost use Rattle.fs_model.specs.Files.{Files, file_at};
-ghost use Rattle.fs_model.specs.Trees.{IsFileTree};
-ghost use Rattle.fs_model.specs.Changes.Limits.{has_room};
+ghost use Rattle.fs_spec.specs.Names.{FilePath, dot, dot_dot, is_name};
+ghost use Rattle.fs_spec.specs.Files.{Files, file_at};
+ghost use Rattle.fs_spec.specs.Trees.{IsFileTree};
+ghost use Rattle.fs_spec.specs.Changes.Limits.{has_room};
 ghost use Rattle.nfs_spec.specs.Effects.{getattr, lookup};
 ghost use Rattle.nfs_spec.specs.Opening.{epoch, hello, opening_files};
 ghost use Rattle.nfs_spec.specs.NfsCalls.{call_does};

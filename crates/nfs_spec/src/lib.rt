@@ -3,7 +3,7 @@
 
 pub mod laws;
 
-pub use fs_model::{Fattr, FileType, RawTime, Sattr, Stat, Time, Who};
+pub use fs_spec::{Fattr, FileType, RawTime, Sattr, Stat, Time, Who};
 pub use nfs_types::result_texts::{write_attributes, write_dir_op, write_result};
 pub use nfs_types::{
     DirOpArgs, DirOpOk, FsStats, MAXDATA, NfsArgs, NfsResult, Page, PageEntry, ReadOk, SHORT_ANSWER,

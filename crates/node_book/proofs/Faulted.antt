@@ -13,12 +13,12 @@ use Rattle.evidence_spec.specs.Evidence.{EvidenceParts, Replay}
 use Rattle.evidence_spec.specs.replay_spec.Replay.{Sound}
 use Rattle.witness_spec.specs.Limits.{MAX_AUDITED}
 use Rattle.witness_spec.specs.Standing.{NoAudit, Out}
-use Rattle.witness_steps.specs.Books.{Book, exposed, book_audited}
-use Rattle.witness_steps.specs.Fitting.{IsWhole, Tile, AreTiles, IsOne, IsMore, FitsTogether}
-use Rattle.witness_steps.specs.Going.{audited_with, first_evidence, having_filed}
-use Rattle.witness_steps.specs.Keeping.{KeepsLimits, audit_last}
-use Rattle.witness_steps.proofs.Segments.{audited_are}
-use Rattle.witness_steps.proofs.Lists.{on_left, on_right}
+use Rattle.witness_book_laws.specs.Books.{Book, exposed, book_audited}
+use Rattle.witness_book_laws.specs.Fitting.{IsWhole, Tile, AreTiles, IsOne, IsMore, FitsTogether}
+use Rattle.witness_book_laws.specs.Going.{audited_with, first_evidence, having_filed}
+use Rattle.witness_book_laws.specs.Keeping.{KeepsLimits, audit_last}
+use Rattle.witness_book_laws.proofs.Segments.{audited_are}
+use Rattle.witness_book_laws.proofs.Lists.{on_left, on_right}
 use Rattle.node_book.specs.Rows.{ShowsLog, entries_of, replayed_log}
 
 -- ---- lists

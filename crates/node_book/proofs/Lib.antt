@@ -9,5 +9,5 @@ pub mod SameReplies
 pub mod Wanting
 pub use Rattle.evidence_spec.proofs as evidence_spec
 pub use Rattle.witness_spec.proofs as witness_spec
-pub use Rattle.witness_steps.proofs.witness_laws as witness_laws
-pub use Rattle.witness_steps.proofs as witness_steps
+pub use Rattle.witness_book_laws.proofs.witness_laws as witness_laws
+pub use Rattle.witness_book_laws.proofs as witness_book_laws

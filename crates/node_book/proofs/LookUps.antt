@@ -13,16 +13,16 @@ use Rattle.evidence_spec.specs.Showing.{segment_showing}
 use Rattle.witness_spec.specs.Exposing.{segment_holding, fork_of}
 use Rattle.witness_spec.specs.Pairs.{is_shown, is_fork}
 use Rattle.witness_spec.specs.Standing.{Wanted}
-use Rattle.witness_steps.specs.Answers.{answer_fork}
-use Rattle.witness_steps.specs.Books.{Book, exposed, book_shown}
-use Rattle.witness_steps.specs.Fitting.{FitsTogether}
-use Rattle.witness_steps.specs.Going.{evidence_of, fork_evidence}
-use Rattle.witness_steps.specs.LookUps.{hash_held, hash_shown, is_hash, is_other_hash}
-use Rattle.witness_steps.specs.Ready.{IsReady}
-use Rattle.witness_steps.proofs.Lists.{found}
-use Rattle.witness_steps.proofs.Segments.{tiled}
-use Rattle.witness_steps.proofs.LookUps.{shown_by_look_up, fork_by_look_up}
-use Rattle.witness_steps.proofs.Answers.{segment_looked_up, answer_looked_up}
+use Rattle.witness_book_laws.specs.Answers.{answer_fork}
+use Rattle.witness_book_laws.specs.Books.{Book, exposed, book_shown}
+use Rattle.witness_book_laws.specs.Fitting.{FitsTogether}
+use Rattle.witness_book_laws.specs.Going.{evidence_of, fork_evidence}
+use Rattle.witness_book_laws.specs.LookUps.{hash_held, hash_shown, is_hash, is_other_hash}
+use Rattle.witness_book_laws.specs.Ready.{IsReady}
+use Rattle.witness_book_laws.proofs.Lists.{found}
+use Rattle.witness_book_laws.proofs.Segments.{tiled}
+use Rattle.witness_book_laws.proofs.LookUps.{shown_by_look_up, fork_by_look_up}
+use Rattle.witness_book_laws.proofs.Answers.{segment_looked_up, answer_looked_up}
 use Rattle.node_book.specs.Looking.{FollowOn}
 
 -- a book's accepted segments follow on one another

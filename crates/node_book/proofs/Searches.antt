@@ -7,7 +7,7 @@ use Rattle.std.proofs.lemmas.Bool.{and_from, le-leb, leb-true, ltb-true, ltb-fal
 use Rattle.std.proofs.lemmas.Bool.Decides.{nat_tests}
 use Rattle.secure_log.specs.Segment.{ClosedParts}
 use Rattle.witness_spec.specs.Exposing.{segment_holding}
-use Rattle.witness_steps.specs.Fitting.{Tile}
+use Rattle.witness_book_laws.specs.Fitting.{Tile}
 use Rattle.node_book.specs.Looking.{count_ended}
 use Rattle.node_book.specs.Rows.{segments_in}
 

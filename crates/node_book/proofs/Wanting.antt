@@ -5,8 +5,8 @@ use Rattle.std.proofs.Common.{refl, sym}
 use Rattle.witness_spec.specs.Events.{Question, ItsIndication, ItsChallenges, ItsEvidence}
 use Rattle.witness_spec.specs.Replies as spec
 use Rattle.witness_spec.specs.Steps as steps
-use Rattle.witness_steps.specs.Books.{Book}
-use Rattle.witness_steps.specs.Replying.{BookOwes, IsOut, book_reply, reply_to_ask}
+use Rattle.witness_book_laws.specs.Books.{Book}
+use Rattle.witness_book_laws.specs.Replying.{BookOwes, IsOut, book_reply, reply_to_ask}
 use Rattle.node_book.specs.Deciding.{AddsOne, Decides, reply_of}
 use Rattle.node_book.specs.Events.{step_in}
 use Rattle.node_book.specs.Replies.{reply_in}

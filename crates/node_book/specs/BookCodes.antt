@@ -15,7 +15,7 @@ use Rattle.witness_spec.specs.state_spec.State.{State}
 use Rattle.witness_spec.specs.state_spec.Codes.{state_code}
 use Rattle.witness_spec.specs.Replies.{Challenge, AuditOf, SendOf}
 use Rattle.witness_spec.specs.Standing.{End, Stage, NoAudit, Wanted, Given, Out}
-use Rattle.witness_steps.specs.Books.{Book}
+use Rattle.witness_book_laws.specs.Books.{Book}
 use Rattle.node_book.specs.Codes.{closed_code}
 
 -- of an authenticator

@@ -9,11 +9,11 @@ use Rattle.envelopes.specs.declared.acknowledgement.Ack.{Ack}
 use Rattle.witness_spec.specs.Events.{JobParts}
 use Rattle.witness_spec.specs.Refusals as refusals
 use Rattle.witness_spec.specs.Replies as spec
-use Rattle.witness_steps.specs.Books.{Book, exposed, job_out}
-use Rattle.witness_steps.specs.Replying.{reply_to_learn, reply_to_send_challenge, reply_to_answer}
-use Rattle.witness_steps.specs.Replying.{reply_to_ack, reply_to_audit, reply_to_begin, reply_to_forward}
-use Rattle.witness_steps.specs.Replying.{reply_to_ask}
-use Rattle.witness_steps.specs.Going.{evidence_noted, evidence_accepted, first_evidence}
+use Rattle.witness_book_laws.specs.Books.{Book, exposed, job_out}
+use Rattle.witness_book_laws.specs.Replying.{reply_to_learn, reply_to_send_challenge, reply_to_answer}
+use Rattle.witness_book_laws.specs.Replying.{reply_to_ack, reply_to_audit, reply_to_begin, reply_to_forward}
+use Rattle.witness_book_laws.specs.Replying.{reply_to_ask}
+use Rattle.witness_book_laws.specs.Going.{evidence_noted, evidence_accepted, first_evidence}
 use Rattle.node_book.specs.Events.{question_in}
 use Rattle.node_book.specs.Replies.{reply_in}
 use Rattle.node_book.specs.Outboxes.{HasPlace}

@@ -1,6 +1,6 @@
 pub use Rattle.evidence_spec.specs as evidence_spec
-pub use Rattle.witness_steps.specs.witness_laws as witness_laws
-pub use Rattle.witness_steps.specs as witness_steps
+pub use Rattle.witness_book_laws.specs.witness_laws as witness_laws
+pub use Rattle.witness_book_laws.specs as witness_book_laws
 pub use Rattle.witness_spec.specs as witness_spec
 pub mod Codes
 pub mod Jobs

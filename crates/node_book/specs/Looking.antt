@@ -1,7 +1,7 @@
 -- What look-ups in a book's rows find.
 use Rattle.std.specs.Prelude.{ℕ, ◌+◌, Bool, true, false, nat_lt, List, [], ◌∷◌, if◌then◌else◌}
 use Rattle.secure_log.specs.Segment.{SegmentParts}
-use Rattle.witness_steps.specs.Fitting.{Tile}
+use Rattle.witness_book_laws.specs.Fitting.{Tile}
 use Rattle.node_book.specs.declared.looking.ShownHash.{ShownHash}
 use Rattle.node_book.specs.declared.looking.ShownHash.TheVariants.{Same, Another, Nothing}
 

@@ -8,7 +8,7 @@ use Rattle.evidence_spec.specs.Evidence.{EvidenceParts}
 use Rattle.evidence_spec.specs.Evidence as charges
 use Rattle.witness_spec.specs.Standing as standing
 use Rattle.witness_spec.specs.Limits.{MAX_AUDITED}
-use Rattle.witness_steps.specs.Books.{Book}
+use Rattle.witness_book_laws.specs.Books.{Book}
 use Rattle.node_book.specs.Replies.{challenge_in}
 use Rattle.node_book.specs.Outboxes.{outbox_in}
 use Rattle.node_book.specs.declared.rows.Stage.{Stage}

@@ -4,9 +4,9 @@ use Rattle.witness_spec.specs.Events.{JobParts, ItsIndication}
 use Rattle.witness_spec.specs.Refusals as refusals
 use Rattle.witness_spec.specs.Replies as spec
 use Rattle.witness_spec.specs.Steps as steps
-use Rattle.witness_steps.specs.Books.{Book}
-use Rattle.witness_steps.specs.Replying.{BookOwes}
-use Rattle.witness_steps.specs.Going.{book_after}
+use Rattle.witness_book_laws.specs.Books.{Book}
+use Rattle.witness_book_laws.specs.Replying.{BookOwes}
+use Rattle.witness_book_laws.specs.Going.{book_after}
 use Rattle.node_book.specs.Replies.{reply_in}
 use Rattle.node_book.specs.declared.reply.ReplyOf.{ReplyOf}
 

@@ -1,8 +1,8 @@
 //! One member's book.
 
 ghost use Rattle.std.specs.Prelude.{◌≡◌, IfOk};
-ghost use Rattle.witness_steps.specs.Books.{book_opening};
-ghost use Rattle.witness_steps.specs.Ready.{IsReady};
+ghost use Rattle.witness_book_laws.specs.Books.{book_opening};
+ghost use Rattle.witness_book_laws.specs.Ready.{IsReady};
 ghost use Rattle.node_book.specs.Events.{step_in};
 ghost use Rattle.node_book.specs.Replies.{refusal_in, reply_in};
 ghost use Rattle.node_book.specs.Deciding.{reply_of};
@@ -27,7 +27,7 @@ pub struct Book {
 }
 
 impl Model for Book {
-    ghost use Rattle.witness_steps.specs.Books.{Book};
+    ghost use Rattle.witness_book_laws.specs.Books.{Book};
     ghost use Rattle.node_book.specs.BookCodes.{book_code};
     ghost use Rattle.node_book.specs.Rows.{KeepsExposure, book_in, segments_in};
 

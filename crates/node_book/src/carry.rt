@@ -4,10 +4,10 @@ ghost use Rattle.std.specs.Prelude.{◌≡◌, ◌<◌, ◌-◌, ◌++◌, lengt
 ghost use Rattle.std.specs.Arc.{arc_value};
 ghost use Rattle.std.specs.Vec.{vec_capacity};
 ghost use Rattle.envelopes.specs.Acknowledgement.{acked_message};
-ghost use Rattle.witness_steps.specs.Ready.{IsReady};
-ghost use Rattle.witness_steps.specs.Going.{after_learn, after_send_challenge, after_answer, after_ack};
-ghost use Rattle.witness_steps.specs.Going.{after_audit, after_begin, after_file, after_put_back, after_forward};
-ghost use Rattle.witness_steps.specs.Going.{audited_with, book_after, first_evidence, having_filed};
+ghost use Rattle.witness_book_laws.specs.Ready.{IsReady};
+ghost use Rattle.witness_book_laws.specs.Going.{after_learn, after_send_challenge, after_answer, after_ack};
+ghost use Rattle.witness_book_laws.specs.Going.{after_audit, after_begin, after_file, after_put_back, after_forward};
+ghost use Rattle.witness_book_laws.specs.Going.{audited_with, book_after, first_evidence, having_filed};
 ghost use Rattle.evidence_spec.specs.Evidence as charges;
 ghost use Rattle.witness_spec.specs.Standing as standing;
 ghost use Rattle.node_book.specs.Jobs.{verdict_told};

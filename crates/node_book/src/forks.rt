@@ -7,12 +7,12 @@ ghost use Rattle.evidence_spec.specs.Evidence as spec;
 ghost use Rattle.witness_spec.specs.Exposing.{fork_of, showing_before};
 ghost use Rattle.witness_spec.specs.Pairs.{pair_of};
 ghost use Rattle.witness_spec.specs.Standing as standing;
-ghost use Rattle.witness_steps.specs.Answers.{answer_fork, least_from, least_with, lesser};
-ghost use Rattle.witness_steps.specs.Books.{exposed};
-ghost use Rattle.witness_steps.specs.Fitting.{FitsTogether};
-ghost use Rattle.witness_steps.specs.Going.{evidence_of, fork_evidence};
-ghost use Rattle.witness_steps.specs.LookUps.{is_other_hash};
-ghost use Rattle.witness_steps.specs.Ready.{IsReady};
+ghost use Rattle.witness_book_laws.specs.Answers.{answer_fork, least_from, least_with, lesser};
+ghost use Rattle.witness_book_laws.specs.Books.{exposed};
+ghost use Rattle.witness_book_laws.specs.Fitting.{FitsTogether};
+ghost use Rattle.witness_book_laws.specs.Going.{evidence_of, fork_evidence};
+ghost use Rattle.witness_book_laws.specs.LookUps.{is_other_hash};
+ghost use Rattle.witness_book_laws.specs.Ready.{IsReady};
 ghost use Rattle.node_book.specs.Rows.{book_in};
 
 use crate::looking::{ShownHash, learned_at, segment_holding};

@@ -39,8 +39,8 @@ pub use reply::{Indication, PlainReply, Reply, ReplyOf};
 pub use segment::SharedSegment;
 pub use step::Step;
 pub use verdict::JobVerdict;
-pub use witness_steps::laws::books_are_ready;
-pub use witness_steps::{
+pub use witness_book_laws::laws::books_are_ready;
+pub use witness_book_laws::{
     books_can_stand, evidence_proves, evidence_where_exposed, exposed_exactly_if,
     honest_is_never_exposed, journals_are_histories, left_out_changes_nothing, runs_are_histories,
     what_leaves_books,

@@ -3,10 +3,10 @@
 ghost use Rattle.std.specs.Prelude.{◌≡◌, ◌==◌, ◌<◌, ◌≤◌, nat_lt, length, find, option_map, false};
 ghost use Rattle.witness_spec.specs.Exposing.{segment_holding};
 ghost use Rattle.witness_spec.specs.Pairs.{pair_of, is_shown, is_fork};
-ghost use Rattle.witness_steps.specs.Books.{book_shown, exposed};
-ghost use Rattle.witness_steps.specs.Fitting.{FitsTogether};
-ghost use Rattle.witness_steps.specs.LookUps.{hash_shown};
-ghost use Rattle.witness_steps.specs.Ready.{IsReady};
+ghost use Rattle.witness_book_laws.specs.Books.{book_shown, exposed};
+ghost use Rattle.witness_book_laws.specs.Fitting.{FitsTogether};
+ghost use Rattle.witness_book_laws.specs.LookUps.{hash_shown};
+ghost use Rattle.witness_book_laws.specs.Ready.{IsReady};
 ghost use Rattle.node_book.specs.Rows.{book_in, segments_in};
 ghost use Rattle.node_book.specs.Looking.{FollowOn, count_ended, is_another, is_the_same};
 

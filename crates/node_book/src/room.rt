@@ -1,8 +1,8 @@
 //! Room for what a step adds.
 
 ghost use Rattle.std.specs.Prelude.{◌≡◌, IfErr, IfOk, OnOk};
-ghost use Rattle.witness_steps.specs.Ready.{IsReady};
-ghost use Rattle.witness_steps.specs.Replying.{BookOwes};
+ghost use Rattle.witness_book_laws.specs.Ready.{IsReady};
+ghost use Rattle.witness_book_laws.specs.Replying.{BookOwes};
 ghost use Rattle.node_book.specs.Deciding.{AddsOne, Decides, HasRoomFor, reply_of};
 ghost use Rattle.node_book.specs.Events.{step_in};
 ghost use Rattle.node_book.specs.Replies.{reply_in};

@@ -7,7 +7,7 @@ use Rattle.envelopes.specs.declared.acknowledgement.Ack.{Ack}
 use Rattle.commitment.specs.Senders.LookUps.{ack_at, envelope_at}
 use Rattle.commitment.specs.Senders.Sender.{IsSender}
 use Rattle.nfs_items.specs.Timeval.{Timeval}
-use Rattle.gateway.specs.service.Replies.{reply_owed}
+use Rattle.server_spec.specs.Replies.{reply_owed}
 use Rattle.gateway.specs.declared.links.fault.LinkFault.{LinkFault}
 use Rattle.gateway.specs.declared.links.fault.LinkFault.TheVariants.{KeysUsedUp, NoMemory, Failed}
 use Rattle.secure_log.specs.declared.log_entries.entry.Entry.{Entry}

@@ -4,7 +4,7 @@ use Rattle.std.specs.Coded.{Coded, code_by, coded×, coded_bool}
 use Rattle.gateway.specs.declared.links.fault.LinkFault.{LinkFault}
 use Rattle.gateway.specs.declared.links.fault.LinkFault.TheVariants.{KeysUsedUp, NoMemory, Failed}
 use Rattle.nfs_items.specs.Timeval.{Timeval}
-use Rattle.worlds.specs.World.{World}
+use Rattle.server_spec.specs.World.{World}
 use Rattle.state_spec.specs.State.{Machine, Server, Client}
 use Rattle.node_logs.specs.Steps.Nodes.{NodeParts}
 use Rattle.node_logs.specs.Nodes.{LacksKeys, node_code}

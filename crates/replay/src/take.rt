@@ -5,7 +5,7 @@ ghost use Rattle.std.specs.FinMap.{len};
 ghost use Rattle.checkpoint.specs.state_machine.declared.states.received.TheConstants.{MAX_RECEIVED};
 ghost use Rattle.checkpoint.specs.state_machine.declared.states.sends.TheConstants.{MAX_SENDS};
 ghost use Rattle.checkpoint.specs.state_spec.State.{Heard};
-ghost use Rattle.checkpoint.specs.state_machine.Steps.{at_stage, having_received};
+ghost use Rattle.state_spec.specs.Steps.{at_stage, having_received};
 ghost use Rattle.replay_spec.specs.Steps.{after_entry, received_message};
 ghost use Rattle.replay_spec.specs.Stepping.{shows_no_time};
 

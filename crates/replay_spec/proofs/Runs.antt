@@ -4,7 +4,7 @@ use Rattle.std.proofs.Common.{◌≡◌, ℕ, List, [], ◌∷◌, ◌++◌, Opt
 use Rattle.std.proofs.Common.{refl, sym, ap, ap₂, subst, ◌∙◌}
 use Rattle.secure_log.specs.authenticator.declared.member.Member.{Member}
 use Rattle.secure_log.specs.authenticator.declared.authenticator.Authenticator.{Authenticator}
-use Rattle.state_machine.specs.state_spec.State.{State}
+use Rattle.state_spec.specs.State.{State}
 use Rattle.replay_spec.specs.Placed.{Placed}
 use Rattle.replay_spec.specs.Steps.{Takes}
 use Rattle.replay_spec.specs.Stepping.{ReplayFault, step, shown_by}

@@ -9,9 +9,9 @@ use Rattle.merkle_keys.specs.Signing.{SignatureParts}
 use Rattle.secure_log.specs.authenticator.declared.member.Member.{Member}
 use Rattle.secure_log.specs.declared.log_entries.entry.Entry.{Entry}
 use Rattle.secure_log.specs.declared.log_entries.entry.Entry.TheVariants.{Send, Recv, Ack, Clock, Check}
-use Rattle.state_machine.specs.state_spec.State.{SentMessage, Idle, Heard, Owes, Machine, Server, Client}
-use Rattle.state_machine.specs.state_spec.State.{State}
-use Rattle.state_machine.specs.state_spec.StateText.{state_digest}
+use Rattle.state_spec.specs.State.{SentMessage, Idle, Heard, Owes, Machine, Server, Client}
+use Rattle.state_spec.specs.State.{State}
+use Rattle.state_spec.specs.StateText.{state_digest}
 use Rattle.secure_log.specs.authenticator.Signing.{is_same, is_signed_in}
 use Rattle.replay_spec.specs.Shown.{sender_shown, receiver_shown}
 use Rattle.replay_spec.specs.Placed.{Placed}

@@ -3,9 +3,9 @@ use Rattle.std.specs.Prelude.{ℕ, List, [], ◌∷◌}
 use Rattle.secure_log.specs.LogEntries.Chain.{zeros}
 use Rattle.secure_log.specs.declared.log_entries.entry.Entry.{Entry}
 use Rattle.secure_log.specs.declared.log_entries.entry.Entry.TheVariants.{Send}
-use Rattle.state_machine.specs.state_spec.State.{Stage, Owes, State, opening_server, opening_client}
-use Rattle.state_machine.specs.state_spec.StateText.{state_digest}
-use Rattle.state_machine.specs.Steps.{at_stage}
+use Rattle.state_spec.specs.State.{Stage, Owes, State, opening_server, opening_client}
+use Rattle.state_spec.specs.StateText.{state_digest}
+use Rattle.state_spec.specs.Steps.{at_stage}
 use Rattle.replay_spec.specs.Placed.{place, placed}
 use Rattle.replay_spec.specs.Steps.{after_entry}
 use Rattle.replay_spec.specs.Replay.{Verdict, verdict_of}

@@ -5,7 +5,7 @@ use Rattle.secure_log.specs.authenticator.declared.authenticator.Authenticator.{
 use Rattle.secure_log.specs.LogEntries.Chain.{hash_after, link_of, links_from, last_hash, pairs}
 use Rattle.secure_log.specs.declared.log_entries.entry.Entry.{Entry}
 use Rattle.secure_log.specs.Log.{log_hash}
-use Rattle.state_machine.specs.state_spec.State.{Machine, State, opened_with}
+use Rattle.state_spec.specs.State.{Machine, State, opened_with}
 use Rattle.replay_spec.specs.Placed.{Placed, place, placed}
 use Rattle.replay_spec.specs.Steps.{Takes}
 use Rattle.replay_spec.specs.Stepping.{ReplayFault, step}

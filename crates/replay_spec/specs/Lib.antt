@@ -1,7 +1,6 @@
 pub use Rattle.secure_log.specs.authenticator as authenticator
 pub use Rattle.secure_log.specs as secure_log
-pub use Rattle.state_machine.specs as state_machine
-pub use Rattle.state_machine.specs.state_spec as state_spec
+pub use Rattle.state_spec.specs as state_spec
 pub mod LogLaws
 pub mod StateSteps
 pub mod Shown

@@ -3,7 +3,7 @@ use Rattle.std.specs.Prelude.{ℕ}
 use Rattle.secure_log.specs.authenticator.declared.member.Kind.{Kind}
 use Rattle.secure_log.specs.authenticator.declared.member.Kind.TheVariants as kinds
 use Rattle.secure_log.specs.authenticator.declared.member.Member.{Member}
-use Rattle.state_machine.specs.state_spec.State.{State, opening_server, opening_client}
+use Rattle.state_spec.specs.State.{State, opening_server, opening_client}
 
 -- by what the node does
 abbrev pub opening_by : Kind → ℕ → State

@@ -2,7 +2,7 @@
 use Rattle.std.specs.Prelude.{ℕ, List, [], ◌∷◌, Option, Some, None, Ok, Err}
 use Rattle.secure_log.specs.authenticator.declared.member.Member.{Member}
 use Rattle.secure_log.specs.authenticator.declared.authenticator.Authenticator.{Authenticator}
-use Rattle.state_machine.specs.state_spec.State.{State}
+use Rattle.state_spec.specs.State.{State}
 use Rattle.secure_log.specs.Segment.{SegmentParts}
 use Rattle.replay_spec.specs.Placed.{Placed, placed_in}
 use Rattle.replay_spec.specs.Steps.{Takes}

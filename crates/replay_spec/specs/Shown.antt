@@ -4,7 +4,7 @@ use Rattle.sha2.specs.Sha256.{sha256}
 use Rattle.merkle_keys.specs.Signing.{SignatureParts}
 use Rattle.secure_log.specs.authenticator.declared.authenticator.Authenticator.{Authenticator}
 use Rattle.secure_log.specs.LogEntries.Messages.{message_hash, receipt_hash}
-use Rattle.state_machine.specs.state_spec.State.{SentMessage}
+use Rattle.state_spec.specs.State.{SentMessage}
 
 -- What a RECV in the log of `node` shows of its sender's log: the hash at the sender's SEND, made from the
 -- message's number there, the hash before it, its receiver and the digest of its body.

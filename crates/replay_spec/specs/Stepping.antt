@@ -8,10 +8,10 @@ use Rattle.secure_log.specs.authenticator.declared.authenticator.Authenticator.{
 use Rattle.secure_log.specs.declared.log_entries.entry.Entry.{Entry}
 use Rattle.secure_log.specs.declared.log_entries.entry.Entry.TheVariants.{Send, Recv, Ack, Clock, Check}
 use Rattle.nfs_items.specs.Timeval.{is_before}
-use Rattle.state_machine.specs.state_spec.State.{is_received, SentMessage, Idle, Heard, Owes, Machine, Server}
-use Rattle.state_machine.specs.state_spec.State.{Client, State}
-use Rattle.state_machine.specs.state_spec.State.{clock_in}
-use Rattle.state_machine.specs.state_spec.StateText.{state_digest}
+use Rattle.state_spec.specs.State.{is_received, SentMessage, Idle, Heard, Owes, Machine, Server}
+use Rattle.state_spec.specs.State.{Client, State}
+use Rattle.state_spec.specs.State.{clock_in}
+use Rattle.state_spec.specs.StateText.{state_digest}
 use Rattle.secure_log.specs.authenticator.Signing.{is_same, is_signed_in}
 use Rattle.replay_spec.specs.Shown.{sender_shown, receiver_shown}
 use Rattle.replay_spec.specs.Placed.{Placed}

@@ -10,11 +10,11 @@ use Rattle.secure_log.specs.LogEntries.Messages.{message_hash}
 use Rattle.secure_log.specs.declared.log_entries.entry.Entry.{Entry}
 use Rattle.secure_log.specs.declared.log_entries.entry.Entry.TheVariants.{Send, Recv, Ack, Clock, Check}
 use Rattle.nfs_items.specs.Timeval.{Timeval, is_before}
-use Rattle.state_machine.specs.state_spec.State.{ReceivedMessage, is_received, SentMessage, Idle, Heard, Owes}
-use Rattle.state_machine.specs.state_spec.State.{Machine, Server, Client, State, clock_in}
-use Rattle.state_machine.specs.state_spec.StateText.{state_digest}
-use Rattle.state_machine.specs.Steps.{having_received, having_sent, having_acknowledged, at_stage}
-use Rattle.state_machine.specs.Steps.{having_read}
+use Rattle.state_spec.specs.State.{ReceivedMessage, is_received, SentMessage, Idle, Heard, Owes}
+use Rattle.state_spec.specs.State.{Machine, Server, Client, State, clock_in}
+use Rattle.state_spec.specs.StateText.{state_digest}
+use Rattle.state_spec.specs.Steps.{having_received, having_sent, having_acknowledged, at_stage}
+use Rattle.state_spec.specs.Steps.{having_read}
 use Rattle.replay_spec.specs.Shown.{sender_shown, receiver_shown}
 use Rattle.replay_spec.specs.Placed.{Placed}
 

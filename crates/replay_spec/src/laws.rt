@@ -4,7 +4,7 @@ ghost use Rattle.std.specs.Prelude.{◌≡◌, ◌≢◌, ℕ, List, [], ◌∷�
 ghost use Rattle.merkle_keys.specs.Signing.{SignatureParts};
 ghost use Rattle.secure_log.specs.declared.log_entries.entry.Entry.TheVariants.{Send, Recv, Ack, Clock};
 ghost use Rattle.secure_log.specs.declared.log_entries.entry.Entry.TheVariants.{Check};
-ghost use Rattle.state_machine.specs.state_spec.State.{Heard, Owes, opening_client};
+ghost use Rattle.state_spec.specs.State.{Heard, Owes, opening_client};
 ghost use Rattle.replay_spec.specs.Stepping.{BadForm, BadReceive, WrongReply, ClockBack, BadAck};
 ghost use Rattle.replay_spec.specs.Stepping.{WrongCheckpoint};
 ghost use Rattle.replay_spec.specs.Replay.{Sound, Fault};

@@ -10,9 +10,9 @@ use Rattle.rpc.specs.Records.Ahead.{IsInFront}
 use Rattle.rpc.specs.Records.Stream.{AreRecords}
 use Rattle.rpc.specs.declared.records.record.TheConstants.{MAX_RECORD}
 use Rattle.rpc.proofs.OfRecords.Marks.{length-mark}
-use Rattle.worlds.specs.World.{World}
-use Rattle.service.specs.Replies.{reply_owed, world_after}
-use Rattle.service.specs.Owed.{record_of}
+use Rattle.server_spec.specs.World.{World}
+use Rattle.server_spec.specs.Replies.{reply_owed, world_after}
+use Rattle.server_spec.specs.Owed.{record_of}
 use Rattle.rpc_streams.specs.RunRpc.{time_of}
 use Rattle.rpc_streams.specs.Batches.{owed_from, world_from, whole_text, ends_from, IsBatch}
 use Rattle.rpc_streams.specs.declared.batch.End.{End}

@@ -3,11 +3,11 @@
 use Rattle.std.proofs.Common.{◌≡◌, ℕ, ◌+◌, List, [], ◌∷◌, ◌++◌, length, sym, ap, ◌∙◌, refl, append_assoc}
 use Rattle.std.proofs.lemmas.List.{append-nil}
 use Rattle.nfs_items.specs.Timeval.{Timeval}
-use Rattle.worlds.specs.World.{World}
-use Rattle.service.specs.Replies.{reply_owed, world_after}
-use Rattle.service.specs.Owed.{record_of, replies_owed, world_after_all}
-use Rattle.record_streams.specs.InTurn.{with_times}
-use Rattle.record_streams.proofs.Timed.{with_times-append}
+use Rattle.server_spec.specs.World.{World}
+use Rattle.server_spec.specs.Replies.{reply_owed, world_after}
+use Rattle.server_spec.specs.Owed.{record_of, replies_owed, world_after_all}
+use Rattle.stream_spec.specs.InTurn.{with_times}
+use Rattle.stream_spec.proofs.Timed.{with_times-append}
 use Rattle.rpc_streams.specs.RunRpc.{time_of}
 use Rattle.rpc_streams.specs.Batches.{owed_from, world_from}
 

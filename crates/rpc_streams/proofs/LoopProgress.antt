@@ -13,14 +13,14 @@ use Rattle.rpc.specs.Records.Writing.{WritesFront}
 use Rattle.rpc.specs.declared.records.fault.RecordFault.{RecordFault}
 use Rattle.rpc.specs.declared.records.fault.RecordFault.TheVariants as faults
 use Rattle.rpc.specs.Records.Reading.{Fails, FailsUnless, StopsAt, fault_after}
-use Rattle.record_streams.specs.Streams.{Serves, ServesPart, TakesNothing}
-use Rattle.record_streams.specs.Faults.{EndsWith, LeavesOff}
-use Rattle.record_streams.specs.InTurn.{with_times}
-use Rattle.record_streams.proofs.StreamProgress as streams
-use Rattle.record_streams.proofs.StreamProgress.{ReadsRecord}
-use Rattle.worlds.specs.World.{World, opening_world}
-use Rattle.service.specs.Replies.{reply_owed, world_after}
-use Rattle.service.specs.Owed.{record_of, world_after_all}
+use Rattle.stream_spec.specs.Streams.{Serves, ServesPart, TakesNothing}
+use Rattle.stream_spec.specs.Faults.{EndsWith, LeavesOff}
+use Rattle.stream_spec.specs.InTurn.{with_times}
+use Rattle.stream_spec.proofs.StreamProgress as streams
+use Rattle.stream_spec.proofs.StreamProgress.{ReadsRecord}
+use Rattle.server_spec.specs.World.{World, opening_world}
+use Rattle.server_spec.specs.Replies.{reply_owed, world_after}
+use Rattle.server_spec.specs.Owed.{record_of, world_after_all}
 use Rattle.rpc_streams.specs.Batches.{owed_from, world_from, AfterHeld, AnswersRecords, AnswersAndStops}
 use Rattle.rpc_streams.specs.Batches.{StopsAfter, StopsWithHeld}
 use Rattle.rpc_streams.proofs.InTurn.{owed_from-push, world_from-push, owed_from-append, world_from-append}

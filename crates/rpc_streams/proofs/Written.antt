@@ -13,9 +13,9 @@ use Rattle.rpc.specs.Records.Record.{fragment}
 use Rattle.rpc.specs.Records.Writing.{WritesFront}
 use Rattle.rpc.specs.declared.records.fault.RecordFault.TheVariants as faults
 use Rattle.rpc.specs.declared.records.record.TheConstants.{MAX_RECORD}
-use Rattle.worlds.specs.World.{World}
-use Rattle.service.specs.Replies.{reply_owed, world_after}
-use Rattle.service.specs.Owed.{record_of}
+use Rattle.server_spec.specs.World.{World}
+use Rattle.server_spec.specs.Replies.{reply_owed, world_after}
+use Rattle.server_spec.specs.Owed.{record_of}
 use Rattle.rpc_streams.specs.RunRpc.{time_of}
 use Rattle.rpc_streams.specs.Batches.{owed_from, world_from, whole_text, ends_from, taken_by, IsBatch}
 use Rattle.rpc_streams.specs.Batches.{AfterHeld, AnswersRecords, AnswersAndStops}

@@ -9,10 +9,10 @@ use Rattle.rpc.specs.Records.Writing.{WritesFront}
 use Rattle.rpc.specs.declared.records.fault.RecordFault.{RecordFault}
 use Rattle.rpc.specs.declared.records.fault.RecordFault.TheVariants as faults
 use Rattle.rpc.specs.declared.records.record.TheConstants.{MAX_RECORD}
-use Rattle.worlds.specs.World.{World}
-use Rattle.service.specs.Replies.{reply_owed, world_after}
-use Rattle.service.specs.Owed.{record_of, replies_owed, world_after_all}
-use Rattle.record_streams.specs.InTurn.{with_times}
+use Rattle.server_spec.specs.World.{World}
+use Rattle.server_spec.specs.Replies.{reply_owed, world_after}
+use Rattle.server_spec.specs.Owed.{record_of, replies_owed, world_after_all}
+use Rattle.stream_spec.specs.InTurn.{with_times}
 use Rattle.rpc_streams.specs.RunRpc.{time_of}
 use Rattle.rpc_streams.specs.declared.batch.End.{End}
 

@@ -1,9 +1,9 @@
 -- What the loop over records owes.
 use Rattle.std.specs.Prelude.{◌-◌, ◌^◌, ℕ, min, List, ⊤}
-use Rattle.record_streams.specs.InTurn.{with_times}
+use Rattle.stream_spec.specs.InTurn.{with_times}
 use Rattle.nfs_items.specs.Timeval.{Timeval}
-use Rattle.worlds.specs.World.{opening_world}
-use Rattle.service.specs.Owed.{replies_owed}
+use Rattle.server_spec.specs.World.{opening_world}
+use Rattle.server_spec.specs.Owed.{replies_owed}
 
 -- the time of the k-th record: k seconds, at most the greatest number of 32 bits
 abbrev pub time_of : ℕ → Timeval

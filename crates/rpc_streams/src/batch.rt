@@ -2,8 +2,8 @@
 
 ghost use Rattle.std.specs.Prelude.{◌≡◌, ◌<◌, ◌≤◌, ◌++◌, ◌+◌, ◌^◌, [], length, IfOk, OnOk, OnErr};
 ghost use Rattle.std.specs.Prelude.{vec_capacity};
-ghost use Rattle.service.specs.Replies.{reply_owed, world_after};
-ghost use Rattle.service.specs.Owed.{record_of};
+ghost use Rattle.server_spec.specs.Replies.{reply_owed, world_after};
+ghost use Rattle.server_spec.specs.Owed.{record_of};
 ghost use Rattle.rpc_streams.specs.RunRpc.{time_of};
 ghost use Rattle.rpc_streams.specs.Batches.{IsBatch, taken_by};
 

@@ -4,10 +4,10 @@ ghost use Rattle.std.specs.Prelude.{◌≡◌, ◌<◌, ◌≤◌, ◌+◌, ◌^
 ghost use Rattle.std.specs.Prelude.{vec_capacity};
 ghost use Rattle.std.specs.Io.KnownBytes.{IsAtEnd};
 ghost use Rattle.rpc.specs.Records.Count.{Rises};
-ghost use Rattle.worlds.specs.World.{opening_world};
+ghost use Rattle.server_spec.specs.World.{opening_world};
 ghost use Rattle.rpc.specs.declared.records.fault.RecordFault.TheVariants.{Device, NoMemory};
-ghost use Rattle.record_streams.specs.Streams.{Serves};
-ghost use Rattle.record_streams.specs.Faults.{EndsWith, LeavesOff, StandsAfter};
+ghost use Rattle.stream_spec.specs.Streams.{Serves};
+ghost use Rattle.stream_spec.specs.Faults.{EndsWith, LeavesOff, StandsAfter};
 ghost use Rattle.rpc_streams.specs.RunRpc.{text_owed, SaysNothing};
 ghost use Rattle.rpc_streams.specs.Batches.{AfterHeld, AnswersRecords, StopsWithHeld};
 

@@ -3,15 +3,15 @@
 use Rattle.std.proofs.Common.{◌≡◌, ℕ, Bool, true, false, List, [], ◌++◌, Result, Ok, Err, refl, ap, subst}
 use Rattle.std.proofs.Common.{◌∙◌}
 use Rattle.std.specs.Prelude.{Option, Some, None}
-use Rattle.service.specs.Owed.{IsReplied}
+use Rattle.server_spec.specs.Owed.{IsReplied}
 use Rattle.xdr.specs.Reading.{Read}
 use Rattle.rpc.specs.Call.{Message, message_at}
 use Rattle.rpc.specs.CallValues.{IsCallOf, GivesCall}
 use Rattle.rpc.specs.declared.call.Call.{Call}
 use Rattle.rpc.specs.declared.call.CallFault.{CallFault}
 use Rattle.nfs_procs.specs.nfs_items.Timeval.{Timeval}
-use Rattle.worlds.specs.World.{World, at_time}
-use Rattle.service.specs.Replies.{reply_to, reply_of_call, world_after_call, reply_owed, world_after}
+use Rattle.server_spec.specs.World.{World, at_time}
+use Rattle.server_spec.specs.Replies.{reply_to, reply_of_call, world_after_call, reply_owed, world_after}
 
 of_call : (w : World) (call : Call) (old new : List ℕ) (after : World) (read : Read Message)
     → GivesCall (Ok call) read

@@ -2,7 +2,7 @@
 use Rattle.std.specs.Prelude.{List, refl}
 use Rattle.std.specs.Coded.{Coded, code_by, coded×, coded_list, coded_ℕ}
 use Rattle.nfs_procs.specs.nfs_items.Terms.{FileNumber}
-use Rattle.worlds.specs.World.{World, world_code}
+use Rattle.server_spec.specs.World.{World, world_code}
 
 -- a world, and the numbers of the files whose digest isn't kept
 pub record KeptWorld : Type 0 where

@@ -11,7 +11,7 @@ use Rattle.mount.specs.mount_types.declared.limits.TheConstants.{MNTNAMLEN}
 use Rattle.mount.specs.mount_types.Bounds as mount_bounds
 use Rattle.service.specs.declared.checks.ServedArgs.{ServedArgs}
 use Rattle.service.specs.declared.checks.ServedArgs.TheVariants as code
-use Rattle.service.specs.Replies.{OrRefusal, ServedCall, Nfs, Mount}
+use Rattle.server_spec.specs.Replies.{OrRefusal, ServedCall, Nfs, Mount}
 
 -- the caller that was set, or the refusal
 abbrev pub view_of_caller : Who → Result (Unit {0}) ReplyBody → OrRefusal Caller

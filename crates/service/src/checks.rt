@@ -5,33 +5,18 @@ ghost use Rattle.nfs_procs.specs.nfs_items.Caller.{nobody};
 ghost use Rattle.nfs_procs.specs.nfs_items.CallerOf.{caller_of};
 ghost use Rattle.rpc.specs.CallValues.{header_of};
 ghost use Rattle.nfs_procs.specs.nfs_items.Credentials.{caller_in};
-ghost use Rattle.service.specs.Replies.{caller_or_refusal, caller_at, version_served, wants_machine};
-ghost use Rattle.service.specs.Replies.{machine_or_refusal, nfs_call_or_refusal, mount_call_or_refusal};
-ghost use Rattle.service.specs.Replies.{program_call_or_refusal, call_or_refusal};
+ghost use Rattle.server_spec.specs.Replies.{caller_or_refusal, caller_at, version_served, wants_machine};
+ghost use Rattle.server_spec.specs.Replies.{machine_or_refusal, nfs_call_or_refusal, mount_call_or_refusal};
+ghost use Rattle.server_spec.specs.Replies.{program_call_or_refusal, call_or_refusal};
 ghost use Rattle.service.specs.Views.{view_of_caller, view_of_served, view_of_call, HasShortName, IsBounded};
 
 use mount::{MountArgs, MountProcedure, read_mount_args};
 use nfs_procs::{Who, read_credential};
 use nfs_types::{NfsArgs, NfsProcedure, read_args};
 use rpc::{AuthStat, Header, OpaqueAuth, ReplyBody};
-
-/// The program number of NFS (RFC 1094, section 2.2).
-pub const NFS_PROGRAM: u32 = 100003;
-
-/// The version of NFS that is served.
-pub const NFS_VERSION: u32 = 2;
-
-/// The program number of MOUNT (RFC 1094, appendix A.5).
-pub const MOUNT_PROGRAM: u32 = 100005;
-
-/// The version of MOUNT that is served.
-pub const MOUNT_VERSION: u32 = 1;
-
-/// AUTH_NONE (RFC 5531, section 8.2).
-pub const AUTH_NONE: u32 = 0;
-
-/// AUTH_SYS (RFC 5531, section 8.2).
-pub const AUTH_SYS: u32 = 1;
+use server_spec::programs::{
+    AUTH_NONE, AUTH_SYS, MOUNT_PROGRAM, MOUNT_VERSION, NFS_PROGRAM, NFS_VERSION,
+};
 
 /// A call of a program that is served, with its arguments.
 #[derive(Drop)]

@@ -2,7 +2,6 @@
 #![tactic(auto)]
 
 mod checks;
-pub mod laws;
 mod service;
 
 pub use mount::MountTable;

@@ -9,23 +9,20 @@ ghost use Rattle.xdr.specs.Writing.{Appends};
 ghost use Rattle.rpc.specs.Call.{Message};
 ghost use Rattle.rpc.specs.CallValues.{IsCallOf};
 ghost use Rattle.nfs_procs.specs.nfs_items.CallerOf.{caller_of};
-ghost use Rattle.fs_model.specs.Maxima.{max_files};
-ghost use Rattle.worlds.specs.IsWorld.{IsWorld};
-ghost use Rattle.worlds.specs.World.{opening_world, world_of};
-ghost use Rattle.service.specs.Replies.{bare_reply, call_results, call_reply, reply_to, reply_owed};
-ghost use Rattle.service.specs.Replies.{world_after};
-ghost use Rattle.service.specs.Owed.{IsReplied};
+ghost use Rattle.fs_spec.specs.Maxima.{max_files};
+ghost use Rattle.server_spec.specs.IsWorld.{IsWorld};
+ghost use Rattle.server_spec.specs.World.{opening_world, world_of};
+ghost use Rattle.server_spec.specs.Replies.{bare_reply, call_results, call_reply, reply_to, reply_owed};
+ghost use Rattle.server_spec.specs.Replies.{world_after};
+ghost use Rattle.server_spec.specs.Owed.{IsReplied};
 ghost use Rattle.service.specs.Views.{served_of, view_of_call, HasShortName, IsBounded};
 
 use crate::checks::{ServedArgs, check_call};
 use mount::{MountTable, Tree, mount_call};
 use nfs_procs::{Time, Who, nfs_call};
-use rpc::{Call, CallBody, Reply, ReplyBody, read_call, write_reply, write_success};
+use rpc::{Call, CallBody, RPC_VERSION, Reply, ReplyBody, read_call, write_reply, write_success};
 use std::alloc::{AllocError, Global};
 use std::marker::Model;
-
-/// The version of RPC (RFC 5531, section 9).
-const RPC_VERSION: u32 = 2;
 
 /// The room that a reply begins with, in bytes: as much as one with attributes takes, and so as every reply
 /// to a call that changes files or mounts. A longer one grows.

@@ -11,8 +11,8 @@ use Rattle.state_machine.proofs.OfStates.Orders.{received_total}
 use Rattle.state_machine.proofs.OfStates.Again.{received_exact, taken_again}
 use Rattle.state_spec.specs.State.{ReceivedMessage, is_received, Machine, Server, Client, State}
 use Rattle.state_machine.specs.Machines.{IsOf}
-use Rattle.state_machine.specs.Steps.{having_received, having_forgotten, having_sent, having_acknowledged}
-use Rattle.state_machine.specs.Steps.{having_answered, having_served, HasPlace}
+use Rattle.state_spec.specs.Steps.{having_received, having_forgotten, having_sent, having_acknowledged}
+use Rattle.state_spec.specs.Steps.{having_answered, having_served, HasPlace}
 use Rattle.state_machine.proofs.Numbers.{after_record}
 
 -- a machine that answered is of the same node

@@ -1,9 +1,8 @@
-pub use Rattle.state_spec.specs.file_texts as file_texts
+pub use Rattle.file_texts.specs as file_texts
 pub use Rattle.service.specs as service
 pub use Rattle.state_spec.specs as state_spec
-pub use Rattle.service.specs.worlds as worlds
+pub use Rattle.server_spec.specs as server_spec
 pub mod States
 pub mod Stages
 pub mod KeptState
 pub mod Machines
-pub mod Steps

@@ -1,7 +1,7 @@
 //! The reference machine of a node.
 
 ghost use Rattle.std.specs.Prelude.{◌≡◌, ◌≤◌, [], ℕ, IfOk, OnOk, length};
-ghost use Rattle.state_spec.specs.file_texts.fs_model.Maxima.{max_files};
+ghost use Rattle.file_texts.specs.fs_spec.Maxima.{max_files};
 ghost use Rattle.state_spec.specs.State.{clock_in, IsMachine};
 ghost use Rattle.state_machine.specs.Machines.{machine_in, missing_in, IsOf, MachineFits};
 

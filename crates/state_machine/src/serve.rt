@@ -9,9 +9,9 @@ ghost use Rattle.state_machine.specs.declared.states.sends.TheConstants.{MAX_SEN
 ghost use Rattle.state_spec.specs.State.{is_received};
 ghost use Rattle.state_machine.specs.declared.body.TheConstants.{MAX_BODY};
 ghost use Rattle.state_machine.specs.Machines.{machine_in};
-ghost use Rattle.state_machine.specs.Steps.{IsIdle, reply_by, having_answered, having_forgotten};
-ghost use Rattle.state_machine.specs.Steps.{having_received, having_sent, having_served, HasPlace};
-ghost use Rattle.state_machine.specs.Steps.{HasPlaceFor};
+ghost use Rattle.state_spec.specs.Steps.{IsIdle, reply_by, having_answered, having_forgotten};
+ghost use Rattle.state_spec.specs.Steps.{having_received, having_sent, having_served, HasPlace};
+ghost use Rattle.state_spec.specs.Steps.{HasPlaceFor};
 
 use crate::machine::Machine;
 use crate::state::State;

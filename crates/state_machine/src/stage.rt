@@ -6,7 +6,7 @@ ghost use Rattle.xdr.specs.Item.{Fits};
 ghost use Rattle.state_spec.specs.StateItems.{stage_item, stage_value};
 ghost use Rattle.state_machine.specs.declared.body.TheConstants.{MAX_BODY};
 ghost use Rattle.state_machine.specs.Stages.{stage_in};
-ghost use Rattle.state_machine.specs.Steps.{owing};
+ghost use Rattle.state_spec.specs.Steps.{owing};
 
 use crate::body::MessageBody;
 

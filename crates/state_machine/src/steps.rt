@@ -7,8 +7,8 @@ ghost use Rattle.state_machine.specs.declared.states.sends.TheConstants.{MAX_SEN
 ghost use Rattle.state_spec.specs.State.{Server};
 ghost use Rattle.state_machine.specs.Stages.{stage_in};
 ghost use Rattle.state_machine.specs.Machines.{machine_in};
-ghost use Rattle.state_machine.specs.Steps.{having_received, having_sent, having_acknowledged, at_stage};
-ghost use Rattle.state_machine.specs.Steps.{having_read, after_reading, answered};
+ghost use Rattle.state_spec.specs.Steps.{having_received, having_sent, having_acknowledged, at_stage};
+ghost use Rattle.state_spec.specs.Steps.{having_read, after_reading, answered};
 
 use crate::machine::Machine;
 use crate::stage::Stage;

@@ -5,10 +5,10 @@ use Rattle.std.specs.Ordering.{nat_cmp}
 use Rattle.std.specs.declared.cmp.Ordering.{Ordering}
 use Rattle.std.specs.FinMap as finite
 use Rattle.std.specs.FinSet.{FinSet}
-use Rattle.file_texts.specs.fs_model.Files.{File}
-use Rattle.file_texts.specs.FileItems.{file_item, file_value}
-use Rattle.file_texts.specs.FileValues.{time_from, numbered_from}
-use Rattle.file_texts.proofs.Files.{file_back}
+use Rattle.fs_spec.specs.Files.{File}
+use Rattle.server_spec.specs.FileItems.{file_item, file_value}
+use Rattle.server_spec.specs.FileValues.{time_from, numbered_from}
+use Rattle.server_spec.proofs.Files.{file_back}
 use Rattle.state_spec.specs.State.{received_cmp, SentMessage, Stage, Idle, Heard, Owes, Machine, Server}
 use Rattle.state_spec.specs.State.{Client, State, IsMachine, IsState}
 use Rattle.state_spec.specs.StateItems.{received_value, sent_value, stage_value, machine_value}

@@ -8,21 +8,21 @@ use Rattle.std.specs.Map.{lookup}
 use Rattle.std.specs.Ordering.{nat_cmp, eq_by_cmp}
 use Rattle.std.specs.Cmp.Lexicographic.{pointwise, same_text}
 use Rattle.std.specs.FinMap as finite
-use Rattle.file_texts.specs.xdr.Item.{Fits, choice}
-use Rattle.file_texts.specs.fs_model.Maxima.{max_file_size, max_target, max_name, max_files}
-use Rattle.file_texts.specs.fs_model.Listing.{NamedEntry, entry_at}
-use Rattle.file_texts.specs.fs_model.Files.{Body, Regular, Symlink, Directory, File, file_at, listing_in}
-use Rattle.file_texts.specs.fs_model.Files.{directory_entries}
-use Rattle.file_texts.specs.fs_model.Changes.Limits.{file_count}
-use Rattle.file_texts.proofs.fs_model.Walks.{none_some, some_same}
-use Rattle.file_texts.proofs.fs_model.OfChanges.Room.{AllCookies}
-use Rattle.file_texts.proofs.fs_model.Counts.{file_in, listed_in}
-use Rattle.worlds.specs.World.{World}
-use Rattle.worlds.specs.mount_types.declared.limits.TheConstants.{MNTNAMLEN}
-use Rattle.worlds.specs.mount_types.Mounts.{max_mounts}
-use Rattle.worlds.specs.nfs_laws.Sizes.Bounds.{HasWords}
-use Rattle.file_texts.specs.FileItems.{entry_item, file_item, file_value, is_file_kind, kind_item, kind_value}
-use Rattle.file_texts.specs.FileItems.{attributes_item, attributes_value}
+use Rattle.xdr.specs.Item.{Fits, choice}
+use Rattle.fs_spec.specs.Maxima.{max_file_size, max_target, max_name, max_files}
+use Rattle.fs_spec.specs.Listing.{NamedEntry, entry_at}
+use Rattle.fs_spec.specs.Files.{Body, Regular, Symlink, Directory, File, file_at, listing_in}
+use Rattle.fs_spec.specs.Files.{directory_entries}
+use Rattle.fs_spec.specs.Changes.Limits.{file_count}
+use Rattle.fs_spec.proofs.Walks.{none_some, some_same}
+use Rattle.fs_spec.proofs.OfChanges.Room.{AllCookies}
+use Rattle.fs_spec.proofs.Counts.{file_in, listed_in}
+use Rattle.server_spec.specs.World.{World}
+use Rattle.server_spec.specs.mount_types.declared.limits.TheConstants.{MNTNAMLEN}
+use Rattle.server_spec.specs.mount_types.Mounts.{max_mounts}
+use Rattle.server_spec.specs.nfs_laws.Sizes.Bounds.{HasWords}
+use Rattle.server_spec.specs.FileItems.{entry_item, file_item, file_value, is_file_kind, kind_item, kind_value}
+use Rattle.server_spec.specs.FileItems.{attributes_item, attributes_value}
 use Rattle.state_spec.specs.State.{Stage}
 use Rattle.state_spec.specs.StateItems.{mount_item, rest_item, world_value}
 

@@ -12,12 +12,12 @@ use Rattle.std.specs.FinMap as finite
 use Rattle.std.specs.FinMap.Entries.{below_all, is_sorted}
 use Rattle.std.specs.FinSet.{FinSet}
 use Rattle.std.proofs.lemmas.Bool.{eqb-true, ltb-true}
-use Rattle.file_texts.specs.xdr.Item.{Value, Fits}
-use Rattle.file_texts.specs.fs_model.Files.{File}
-use Rattle.file_texts.proofs.fs_model.Reached.{both_of}
-use Rattle.file_texts.specs.FileItems.{file_item, file_value}
-use Rattle.file_texts.specs.FileValues.{time_from, numbered_from}
-use Rattle.file_texts.proofs.Files.{either, file_forth}
+use Rattle.xdr.specs.Item.{Value, Fits}
+use Rattle.fs_spec.specs.Files.{File}
+use Rattle.fs_spec.proofs.Reached.{both_of}
+use Rattle.server_spec.specs.FileItems.{file_item, file_value}
+use Rattle.server_spec.specs.FileValues.{time_from, numbered_from}
+use Rattle.server_spec.proofs.Files.{either, file_forth}
 use Rattle.state_spec.specs.State.{received_cmp, SentMessage, Machine, Server, Client, State}
 use Rattle.state_spec.specs.StateItems.{received_item, received_value, sent_item, sent_value, is_stage}
 use Rattle.state_spec.specs.StateItems.{stage_body, stage_value, is_node_kind, machine_item, machine_value}

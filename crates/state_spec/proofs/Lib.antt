@@ -1,4 +1,4 @@
-pub use Rattle.file_texts.proofs as file_texts
+pub use Rattle.server_spec.proofs as server_spec
 pub mod Back
 pub mod Forth
 pub mod Fitting

@@ -4,25 +4,25 @@ use Rattle.std.proofs.Common.{◌≡◌, ℕ, zero, suc, ◌<◌, ◌≤◌, ◌
 use Rattle.std.proofs.Common.{IsSome, is_some, option_map, refl, sym, ap, subst, ◌∙◌, arith}
 use Rattle.std.specs.Prelude.{IsTrue}
 use Rattle.std.specs.Option.{option_map_or}
-use Rattle.file_texts.specs.xdr.Item.{Value, Fits}
-use Rattle.file_texts.specs.fs_model.Maxima.{max_name}
-use Rattle.file_texts.specs.fs_model.Listing.{Listing, IsRising, HasDistinctNames}
-use Rattle.file_texts.specs.fs_model.Names.{is_name}
-use Rattle.file_texts.specs.fs_model.Files.{Body, Regular, Symlink, Directory, File, Files, file_at, listing}
-use Rattle.file_texts.specs.fs_model.Files.{listing_in}
-use Rattle.file_texts.specs.fs_model.Files.{is_directory, directory_entries, IsDirectory}
-use Rattle.file_texts.specs.fs_model.Trees.{IsBody, IsFile, IsFileTree}
-use Rattle.file_texts.proofs.fs_model.Walks.{none_some}
-use Rattle.file_texts.proofs.fs_model.Reached.{path_of}
-use Rattle.file_texts.specs.fs_model.Changes.Limits.{has_room}
-use Rattle.file_texts.proofs.fs_model.OfEditedTrees.Building.{built}
-use Rattle.file_texts.proofs.fs_model.OfChanges.Room.{within, room}
-use Rattle.file_texts.proofs.fs_model.OfChanges.Shapes.{is_some-kind}
-use Rattle.worlds.specs.World.{World}
-use Rattle.worlds.specs.IsWorld.{IsWorld}
-use Rattle.worlds.proofs.Mounted.{are_mounts, are_of_the_root, are_different}
-use Rattle.file_texts.specs.FileItems.{file_item, file_value}
-use Rattle.file_texts.specs.FileValues.{time_from}
+use Rattle.xdr.specs.Item.{Value, Fits}
+use Rattle.fs_spec.specs.Maxima.{max_name}
+use Rattle.fs_spec.specs.Listing.{Listing, IsRising, HasDistinctNames}
+use Rattle.fs_spec.specs.Names.{is_name}
+use Rattle.fs_spec.specs.Files.{Body, Regular, Symlink, Directory, File, Files, file_at, listing}
+use Rattle.fs_spec.specs.Files.{listing_in}
+use Rattle.fs_spec.specs.Files.{is_directory, directory_entries, IsDirectory}
+use Rattle.fs_spec.specs.Trees.{IsBody, IsFile, IsFileTree}
+use Rattle.fs_spec.proofs.Walks.{none_some}
+use Rattle.fs_spec.proofs.Reached.{path_of}
+use Rattle.fs_spec.specs.Changes.Limits.{has_room}
+use Rattle.fs_spec.proofs.OfEditedTrees.Building.{built}
+use Rattle.fs_spec.proofs.OfChanges.Room.{within, room}
+use Rattle.fs_spec.proofs.OfChanges.Shapes.{is_some-kind}
+use Rattle.server_spec.specs.World.{World}
+use Rattle.server_spec.specs.IsWorld.{IsWorld}
+use Rattle.server_spec.proofs.Mounted.{are_mounts, are_of_the_root, are_different}
+use Rattle.server_spec.specs.FileItems.{file_item, file_value}
+use Rattle.server_spec.specs.FileValues.{time_from}
 use Rattle.state_spec.specs.State.{Stage, Machine, Server, Client, State, IsMachine, IsState}
 use Rattle.state_spec.specs.StateItems.{rest_item, machine_item, state_item, world_value}
 use Rattle.state_spec.specs.StateText.{Said, said}

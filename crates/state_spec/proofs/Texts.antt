@@ -2,12 +2,12 @@
 -- Serves: a_text_has_one_state, rules_tell_texts; read_state (checkpoint).
 use Rattle.std.proofs.Common.{◌≡◌, ℕ, List, [], Some, sym, ap, subst, ◌∙◌}
 use Rattle.std.proofs.lemmas.List.{append-nil}
-use Rattle.file_texts.specs.xdr.Item.{Fits, IsBytes, spelling}
-use Rattle.file_texts.specs.xdr.Reading.{read_at}
-use Rattle.file_texts.specs.xdr.Texts.Text.{text_at, whole}
-use Rattle.file_texts.proofs.xdr.Exact.{again}
-use Rattle.file_texts.proofs.xdr.OfTexts.WholeTexts.{is_text}
-use Rattle.file_texts.specs.FileItems.{file_item}
+use Rattle.xdr.specs.Item.{Fits, IsBytes, spelling}
+use Rattle.xdr.specs.Reading.{read_at}
+use Rattle.xdr.specs.Texts.Text.{text_at, whole}
+use Rattle.xdr.proofs.Exact.{again}
+use Rattle.xdr.proofs.OfTexts.WholeTexts.{is_text}
+use Rattle.server_spec.specs.FileItems.{file_item}
 use Rattle.state_spec.specs.State.{State}
 use Rattle.state_spec.specs.StateItems.{state_item}
 use Rattle.state_spec.specs.StateText.{Said, said, spelled_text, IsStateText, IsNotAState}

@@ -11,25 +11,25 @@ use Rattle.std.specs.FinMap as finite
 use Rattle.std.specs.FinMap.Entries.{find, below_all, is_sorted}
 use Rattle.std.proofs.lemmas.Bool.{cond-true, cond-false}
 use Rattle.std.proofs.lemmas.List.{length-map}
-use Rattle.file_texts.specs.xdr.Item.{Fits, array, choice}
-use Rattle.worlds.specs.mount_types.Calls.{Mount}
-use Rattle.worlds.specs.mount_types.Mounts.{IsMount}
-use Rattle.file_texts.specs.fs_model.Maxima.{max_files, max_entries, max_name}
-use Rattle.file_texts.specs.fs_model.Listing.{Listing, NamedEntry, entry_at, IsRising, HasDistinctNames}
-use Rattle.file_texts.specs.fs_model.Files.{Body, Regular, Symlink, Directory, File, Files, file_at}
-use Rattle.file_texts.specs.fs_model.Files.{listing_in, directory_entries}
-use Rattle.file_texts.specs.fs_model.Trees.{IsBody, IsFileTree}
-use Rattle.file_texts.proofs.fs_model.Counts.{same_number}
-use Rattle.file_texts.proofs.fs_model.Reached.{both_of, not_before}
-use Rattle.file_texts.proofs.fs_model.Walks.{none_some}
-use Rattle.file_texts.proofs.fs_model.OfChanges.Finite.{cmp_same, none_above, total_without}
-use Rattle.file_texts.proofs.fs_model.OfChanges.Listings.{name_self}
-use Rattle.file_texts.proofs.fs_model.OfChanges.Room.{AllCookies, IsWithin, within}
-use Rattle.worlds.specs.nfs_laws.Sizes.Bounds.{AreWords}
-use Rattle.worlds.specs.World.{World}
-use Rattle.worlds.specs.IsWorld.{IsWorld}
-use Rattle.file_texts.specs.FileItems.{entry_item, attributes_item, attributes_value, is_file_kind, kind_item}
-use Rattle.file_texts.specs.FileItems.{kind_value, file_item, file_value}
+use Rattle.xdr.specs.Item.{Fits, array, choice}
+use Rattle.server_spec.specs.mount_types.Calls.{Mount}
+use Rattle.server_spec.specs.mount_types.Mounts.{IsMount}
+use Rattle.fs_spec.specs.Maxima.{max_files, max_entries, max_name}
+use Rattle.fs_spec.specs.Listing.{Listing, NamedEntry, entry_at, IsRising, HasDistinctNames}
+use Rattle.fs_spec.specs.Files.{Body, Regular, Symlink, Directory, File, Files, file_at}
+use Rattle.fs_spec.specs.Files.{listing_in, directory_entries}
+use Rattle.fs_spec.specs.Trees.{IsBody, IsFileTree}
+use Rattle.fs_spec.proofs.Counts.{same_number}
+use Rattle.fs_spec.proofs.Reached.{both_of, not_before}
+use Rattle.fs_spec.proofs.Walks.{none_some}
+use Rattle.fs_spec.proofs.OfChanges.Finite.{cmp_same, none_above, total_without}
+use Rattle.fs_spec.proofs.OfChanges.Listings.{name_self}
+use Rattle.fs_spec.proofs.OfChanges.Room.{AllCookies, IsWithin, within}
+use Rattle.server_spec.specs.nfs_laws.Sizes.Bounds.{AreWords}
+use Rattle.server_spec.specs.World.{World}
+use Rattle.server_spec.specs.IsWorld.{IsWorld}
+use Rattle.server_spec.specs.FileItems.{entry_item, attributes_item, attributes_value, is_file_kind, kind_item}
+use Rattle.server_spec.specs.FileItems.{kind_value, file_item, file_value}
 use Rattle.state_spec.specs.State.{Stage}
 use Rattle.state_spec.specs.StateItems.{mount_item, stage_item, stage_value, rest_item, world_value}
 

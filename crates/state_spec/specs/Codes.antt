@@ -6,8 +6,8 @@ use Rattle.std.specs.FinSet as finite_set
 use Rattle.std.specs.FinSet.{FinSet}
 use Rattle.std.specs.Coded.{Coded, code_by, coded×, coded⊎, coded_ℕ, coded_list}
 use Rattle.std.proofs.Common.{inl, inr, ◌⊎◌}
-use Rattle.file_texts.specs.nfs_items.Timeval.{Timeval, timeval_code}
-use Rattle.worlds.specs.World.{World, world_code}
+use Rattle.nfs_items.specs.Timeval.{Timeval, timeval_code}
+use Rattle.server_spec.specs.World.{World, world_code}
 use Rattle.state_spec.specs.State.{ReceivedMessage, received_cmp, SentMessage, Stage, Idle, Heard, Owes}
 use Rattle.state_spec.specs.State.{Machine, Server, Client, State}
 

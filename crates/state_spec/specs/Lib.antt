@@ -1,6 +1,7 @@
-pub use Rattle.file_texts.specs as file_texts
+pub use Rattle.server_spec.specs as server_spec
 pub mod Limits
 pub mod State
+pub mod Steps
 pub mod Codes
 pub mod StateItems
 pub mod StateText

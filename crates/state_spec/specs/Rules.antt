@@ -5,20 +5,20 @@ use Rattle.std.specs.Prelude.{◌≡◌, ◌≢◌, ◌<◌, ◌≤◌, ℕ, zer
 use Rattle.std.specs.List.{AllByRecursion, AllPairs}
 use Rattle.std.specs.List.Sorted.{IsStrictlySortedBy}
 use Rattle.std.specs.Ordering.{nat_cmp}
-use Rattle.file_texts.specs.xdr.Item.{Value}
-use Rattle.file_texts.specs.nfs_items.Terms.{FileNumber, Name, Cookie}
-use Rattle.file_texts.specs.nfs_items.Timeval.{Timeval}
-use Rattle.file_texts.specs.fs_model.Maxima.{max_entries, max_blocks}
-use Rattle.file_texts.specs.fs_model.Names.{FilePath, is_name}
-use Rattle.file_texts.specs.fs_model.Listing.{IsRising, HasDistinctNames}
-use Rattle.file_texts.specs.fs_model.Paths.{path_at}
-use Rattle.file_texts.specs.fs_model.Files.{File, Files, file_at, listing, directory_entries, names_of}
-use Rattle.file_texts.specs.fs_model.Files.{IsDirectory}
-use Rattle.file_texts.specs.fs_model.Trees.{IsTime}
-use Rattle.file_texts.specs.fs_model.Changes.Limits.{entry_count, block_count}
-use Rattle.worlds.specs.World.{World}
-use Rattle.worlds.specs.mount_types.Mounts.{root_path}
-use Rattle.file_texts.specs.FileItems.{file_item}
+use Rattle.xdr.specs.Item.{Value}
+use Rattle.nfs_items.specs.Terms.{FileNumber, Name, Cookie}
+use Rattle.nfs_items.specs.Timeval.{Timeval}
+use Rattle.fs_spec.specs.Maxima.{max_entries, max_blocks}
+use Rattle.fs_spec.specs.Names.{FilePath, is_name}
+use Rattle.fs_spec.specs.Listing.{IsRising, HasDistinctNames}
+use Rattle.fs_spec.specs.Paths.{path_at}
+use Rattle.fs_spec.specs.Files.{File, Files, file_at, listing, directory_entries, names_of}
+use Rattle.fs_spec.specs.Files.{IsDirectory}
+use Rattle.fs_spec.specs.Trees.{IsTime}
+use Rattle.fs_spec.specs.Changes.Limits.{entry_count, block_count}
+use Rattle.server_spec.specs.World.{World}
+use Rattle.server_spec.specs.mount_types.Mounts.{root_path}
+use Rattle.server_spec.specs.FileItems.{file_item}
 use Rattle.state_spec.specs.State.{received_cmp, Machine, Server, Client}
 use Rattle.state_spec.specs.StateItems.{received_item, sent_item, rest_item}
 use Rattle.state_spec.specs.StateText.{Said}

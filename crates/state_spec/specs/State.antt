@@ -5,11 +5,11 @@ use Rattle.std.specs.declared.cmp.Ordering.{Ordering}
 use Rattle.std.specs.Cmp.Lexicographic.{slice_cmp}
 use Rattle.std.specs.FinMap as finite
 use Rattle.std.specs.FinSet.{FinSet}
-use Rattle.file_texts.specs.nfs_items.Timeval.{Timeval}
-use Rattle.file_texts.specs.fs_model.Trees.{IsTime}
-use Rattle.worlds.specs.nfs_spec.Opening.{epoch}
-use Rattle.worlds.specs.World.{World, opening_world}
-use Rattle.worlds.specs.IsWorld.{IsWorld}
+use Rattle.nfs_items.specs.Timeval.{Timeval}
+use Rattle.fs_spec.specs.Trees.{IsTime}
+use Rattle.server_spec.specs.nfs_spec.Opening.{epoch}
+use Rattle.server_spec.specs.World.{World, opening_world}
+use Rattle.server_spec.specs.IsWorld.{IsWorld}
 
 -- a message that was received: its sender, its number in the sender's log, and the hash there
 pub record ReceivedMessage : Type 0 where

@@ -1,13 +1,13 @@
 -- States in texts (RFC 4506), in which each file stands as an item of some kind.
 use Rattle.std.specs.Prelude.{ℕ, Bool, ◌==◌, ◌||◌, nat_lt, map, if◌then◌else◌}
 use Rattle.std.specs.FinMap as finite
-use Rattle.file_texts.specs.xdr.Item.{Item, Value, word, hyper, fixed, opaque, empty, pair, array, choice, word_where}
-use Rattle.file_texts.specs.nfs_items.Timeval.{timeval, timeval_value}
-use Rattle.file_texts.specs.fs_model.Maxima.{max_files}
-use Rattle.file_texts.specs.fs_model.Files.{File}
-use Rattle.worlds.specs.World.{World}
-use Rattle.worlds.specs.mount_types.declared.limits.TheConstants.{MNTNAMLEN, MNTPATHLEN}
-use Rattle.worlds.specs.mount_types.Mounts.{max_mounts}
+use Rattle.xdr.specs.Item.{Item, Value, word, hyper, fixed, opaque, empty, pair, array, choice, word_where}
+use Rattle.nfs_items.specs.Timeval.{timeval, timeval_value}
+use Rattle.fs_spec.specs.Maxima.{max_files}
+use Rattle.fs_spec.specs.Files.{File}
+use Rattle.server_spec.specs.World.{World}
+use Rattle.server_spec.specs.mount_types.declared.limits.TheConstants.{MNTNAMLEN, MNTPATHLEN}
+use Rattle.server_spec.specs.mount_types.Mounts.{max_mounts}
 use Rattle.state_spec.specs.Limits.{max_received, max_sends, max_body}
 use Rattle.state_spec.specs.State.{ReceivedMessage, SentMessage, Stage, Idle, Heard, Owes, Machine, Server}
 use Rattle.state_spec.specs.State.{Client, State}

@@ -1,9 +1,9 @@
 -- The text of a state, and its digest.
 use Rattle.std.specs.Prelude.{◌≡◌, ◌≢◌, ℕ, true, List, Some, None}
 use Rattle.sha2.specs.Sha256.{sha256}
-use Rattle.file_texts.specs.xdr.Item.{Value, Fits, fixed, spelling}
-use Rattle.file_texts.specs.xdr.Texts.Text.{Text, text_at}
-use Rattle.file_texts.specs.FileItems.{file_item, file_value, file_digest}
+use Rattle.xdr.specs.Item.{Value, Fits, fixed, spelling}
+use Rattle.xdr.specs.Texts.Text.{Text, text_at}
+use Rattle.server_spec.specs.FileItems.{file_item, file_value, file_digest}
 use Rattle.state_spec.specs.State.{State, IsState}
 use Rattle.state_spec.specs.StateItems.{state_item, state_value}
 

@@ -5,11 +5,11 @@ use Rattle.std.specs.Ordering.{nat_cmp}
 use Rattle.std.specs.declared.cmp.Ordering.{Ordering}
 use Rattle.std.specs.FinMap as finite
 use Rattle.std.specs.FinSet.{FinSet}
-use Rattle.file_texts.specs.xdr.Item.{Value}
-use Rattle.file_texts.specs.nfs_items.Timeval.{Timeval}
-use Rattle.worlds.specs.World.{World}
-use Rattle.file_texts.specs.FileItems.{file_item}
-use Rattle.file_texts.specs.FileValues.{time_from, numbered_from}
+use Rattle.xdr.specs.Item.{Value}
+use Rattle.nfs_items.specs.Timeval.{Timeval}
+use Rattle.server_spec.specs.World.{World}
+use Rattle.server_spec.specs.FileItems.{file_item}
+use Rattle.server_spec.specs.FileValues.{time_from, numbered_from}
 use Rattle.state_spec.specs.State.{ReceivedMessage, received_cmp, SentMessage, Stage, Idle, Heard, Owes}
 use Rattle.state_spec.specs.State.{Machine, Server, Client, State}
 use Rattle.state_spec.specs.StateItems.{received_item, sent_item, stage_item, stage_body, rest_item}

@@ -1,9 +1,9 @@
 //! What holds of the states of nodes and of their texts.
 
 ghost use Rattle.std.specs.Prelude.{◌≡◌, ◌↔◌, ℕ, List, [], ◌∷◌, ◌++◌, replicate, length, Some};
-ghost use Rattle.file_texts.specs.xdr.Item.{Fits, IsBytes};
-ghost use Rattle.file_texts.specs.xdr.Texts.Text.{text_at};
-ghost use Rattle.file_texts.specs.FileItems.{file_item};
+ghost use Rattle.xdr.specs.Item.{Fits, IsBytes};
+ghost use Rattle.xdr.specs.Texts.Text.{text_at};
+ghost use Rattle.server_spec.specs.FileItems.{file_item};
 ghost use Rattle.state_spec.specs.State.{State, IsState, opening_server};
 ghost use Rattle.state_spec.specs.StateItems.{state_item};
 ghost use Rattle.state_spec.specs.StateText.{Said, said, spelled_text, IsStateText, IsGarbage, IsNotAState};

@@ -2,5 +2,3 @@
 #![tactic(auto)]
 
 pub mod laws;
-
-pub use file_texts::{FilePart, TimePart, add_file, file_digest, inodes_of};

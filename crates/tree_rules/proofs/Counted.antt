@@ -9,7 +9,7 @@ use Rattle.std.proofs.lemmas.List.{take_all, length-map}
 use Rattle.std.proofs.lemmas.List.Elements.{All-more, All-from_get_or}
 use Rattle.std.proofs.lemmas.List.Sums.{sum_by_more, sum_by-take-le, sum_by-cons, get_or-le-sum_by}
 use Rattle.std.proofs.lemmas.Option.{slice_get_within, slice_get_cases, get_or_from_slice_get}
-use Rattle.nfs_laws.specs.fs_model.Files.{File, listing_in, names_in}
+use Rattle.nfs_laws.specs.fs_spec.Files.{File, listing_in, names_in}
 use Rattle.tree_rules.specs.FileRules.Climbs.{AreWays}
 use Rattle.tree_rules.specs.FileRules.Rules.{IsAt, AreKnown, AreNamesCounted, StandsIn, numbers_of}
 use Rattle.tree_rules.proofs.OfFileRules.Listed.{number_at, holds_at}

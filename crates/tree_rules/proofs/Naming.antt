@@ -5,7 +5,7 @@ use Rattle.std.proofs.Common.{refl, sym, ap, subst, ◌∙◌, arith, eqb, eq-eq
 use Rattle.std.proofs.lemmas.List.{get_or-set_same, get_or-set_other}
 use Rattle.std.proofs.lemmas.Bool.{cases_eq, cases_lt}
 use Rattle.std.proofs.lemmas.List.Sums.{sum_by_more, count_by-le-length}
-use Rattle.nfs_laws.specs.fs_model.Files.{one_if}
+use Rattle.nfs_laws.specs.fs_spec.Files.{one_if}
 use Rattle.tree_rules.specs.FileRules.Rules.{AreRising}
 use Rattle.tree_rules.specs.Counting.{names_listed, AddsNames}
 

@@ -13,9 +13,9 @@ use Rattle.std.proofs.lemmas.List.{length-map}
 use Rattle.std.proofs.Math.Seq.{drop-cons}
 use Rattle.std.proofs.lemmas.List.Elements.{All-append, All-cons, All-nil}
 use Rattle.std.proofs.lemmas.Map.Keys.{IsDistinct-push}
-use Rattle.nfs_laws.specs.fs_model.Listing.{Listing, entry_at, IsRising, HasDistinctNames}
-use Rattle.nfs_laws.specs.fs_model.Names.{is_name}
-use Rattle.nfs_laws.proofs.fs_model.Walks.{none_some}
+use Rattle.nfs_laws.specs.fs_spec.Listing.{Listing, entry_at, IsRising, HasDistinctNames}
+use Rattle.nfs_laws.specs.fs_spec.Names.{is_name}
+use Rattle.nfs_laws.proofs.fs_spec.Walks.{none_some}
 use Rattle.tree_rules.specs.declared.entries.GivenEntry.{GivenEntry}
 use Rattle.tree_rules.specs.GivenListing.{IsListing, said_entry, said_entries}
 

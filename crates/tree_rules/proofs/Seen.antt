@@ -6,8 +6,8 @@ use Rattle.std.specs.Prelude.{slice_get}
 use Rattle.std.proofs.lemmas.Bool.{cases_lt}
 use Rattle.std.proofs.lemmas.List.{length-map}
 use Rattle.std.proofs.lemmas.Option.{slice_get-map, slice_get-get_or, slice_get_within, slice_get_cases}
-use Rattle.nfs_laws.specs.fs_model.Files.{File, is_directory}
-use Rattle.nfs_laws.proofs.fs_model.Walks.{none_some, some_same}
+use Rattle.nfs_laws.specs.fs_spec.Files.{File, is_directory}
+use Rattle.nfs_laws.proofs.fs_spec.Walks.{none_some, some_same}
 use Rattle.inodes.specs.Inodes.{file_in}
 use Rattle.inodes.specs.declared.inode.Inode.{Inode}
 use Rattle.tree_rules.specs.FileRules.Rules.{IsAt, may_have, numbers_of}

@@ -8,10 +8,10 @@ use Rattle.std.proofs.lemmas.List.{take_all}
 use Rattle.std.proofs.lemmas.List.Elements.{All-more, All-nil}
 use Rattle.std.proofs.lemmas.List.Sums.{sum_by_more, sum_by_more_le}
 use Rattle.std.proofs.lemmas.Option.{slice_get_within, get_or_from_slice_get}
-use Rattle.nfs_laws.specs.fs_model.Files.{File, Files, listing_in}
-use Rattle.nfs_laws.proofs.fs_model.Counts.{sum_by_second}
-use Rattle.nfs_laws.specs.fs_model.Changes.Limits.{block_count, blocks_in, entry_count, has_room}
-use Rattle.nfs_laws.proofs.fs_model.OfChanges.Room.{AllCookies, IsWithin, within, room}
+use Rattle.nfs_laws.specs.fs_spec.Files.{File, Files, listing_in}
+use Rattle.nfs_laws.proofs.fs_spec.Counts.{sum_by_second}
+use Rattle.nfs_laws.specs.fs_spec.Changes.Limits.{block_count, blocks_in, entry_count, has_room}
+use Rattle.nfs_laws.proofs.fs_spec.OfChanges.Room.{AllCookies, IsWithin, within, room}
 use Rattle.tree_rules.specs.FileRules.Rules.{AreRising, IsAt, files_listed, numbers_of}
 use Rattle.tree_rules.proofs.OfFileRules.Listed.{count_listed, entries_listed, holds_at, place_of_file}
 use Rattle.tree_rules.specs.Listed.{entries_among, blocks_among}

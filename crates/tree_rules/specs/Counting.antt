@@ -1,8 +1,8 @@
 -- How many names each number has, and which directory has one.
 use Rattle.std.specs.Prelude.{◌≡◌, ◌<◌, ◌+◌, ℕ, List, length, slice_index, sum_by}
 use Rattle.nfs_items.specs.Terms.{FileNumber}
-use Rattle.nfs_laws.specs.fs_model.Listing.{NamedEntry}
-use Rattle.nfs_laws.specs.fs_model.Files.{File, names_in, one_if}
+use Rattle.nfs_laws.specs.fs_spec.Listing.{NamedEntry}
+use Rattle.nfs_laws.specs.fs_spec.Files.{File, names_in, one_if}
 use Rattle.tree_rules.specs.FileRules.Rules.{AreKnown, AreNamesCounted}
 
 -- a number is one of these

@@ -2,8 +2,8 @@
 use Rattle.std.specs.Prelude.{List, map, IsTrue}
 use Rattle.std.specs.List.{All}
 use Rattle.nfs_items.specs.Terms.{Cookie}
-use Rattle.nfs_laws.specs.fs_model.Listing.{NamedEntry, IsRising, HasDistinctNames, entry_name}
-use Rattle.nfs_laws.specs.fs_model.Names.{is_name}
+use Rattle.nfs_laws.specs.fs_spec.Listing.{NamedEntry, IsRising, HasDistinctNames, entry_name}
+use Rattle.nfs_laws.specs.fs_spec.Names.{is_name}
 use Rattle.tree_rules.specs.declared.entries.GivenEntry.{GivenEntry}
 
 -- what an entry says

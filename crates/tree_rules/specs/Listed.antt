@@ -1,9 +1,9 @@
 -- Inodes in a list by rising number, as files.
 use Rattle.std.specs.Prelude.{ℕ, List, length, map, sum_by}
 use Rattle.nfs_items.specs.Terms.{FileNumber}
-use Rattle.nfs_laws.specs.fs_model.Files.{File, listing_in}
-use Rattle.nfs_laws.specs.fs_model.Trees.{IsFileTree}
-use Rattle.nfs_laws.specs.fs_model.Changes.Limits.{blocks_in}
+use Rattle.nfs_laws.specs.fs_spec.Files.{File, listing_in}
+use Rattle.nfs_laws.specs.fs_spec.Trees.{IsFileTree}
+use Rattle.nfs_laws.specs.fs_spec.Changes.Limits.{blocks_in}
 use Rattle.inodes.specs.Inodes.{file_in, files_of}
 use Rattle.inodes.specs.declared.inode.Inode.{Inode}
 

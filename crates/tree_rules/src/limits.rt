@@ -3,10 +3,10 @@
 ghost use Rattle.std.specs.Prelude.{◌≡◌, ◌≤◌, ◌<◌, ◌+◌, ◌^◌, ◌⊎◌, ℕ, IfSome, IsTrue, MatchOption, false};
 ghost use Rattle.std.specs.Prelude.{length};
 ghost use Rattle.std.specs.List.{All};
-ghost use Rattle.nfs_laws.specs.fs_model.Maxima.{max_blocks, max_entries};
-ghost use Rattle.nfs_laws.specs.fs_model.Files.{listing_in};
-ghost use Rattle.nfs_laws.specs.fs_model.Trees.{IsBody};
-ghost use Rattle.nfs_laws.specs.fs_model.Changes.Limits.{block_count, blocks_in, entry_count, has_room};
+ghost use Rattle.nfs_laws.specs.fs_spec.Maxima.{max_blocks, max_entries};
+ghost use Rattle.nfs_laws.specs.fs_spec.Files.{listing_in};
+ghost use Rattle.nfs_laws.specs.fs_spec.Trees.{IsBody};
+ghost use Rattle.nfs_laws.specs.fs_spec.Changes.Limits.{block_count, blocks_in, entry_count, has_room};
 ghost use Rattle.tree_rules.specs.FileRules.Rules.{AreRising, numbers_of};
 ghost use Rattle.inodes.specs.Inodes.{body_in, file_in, files_of};
 ghost use Rattle.tree_rules.specs.Listed.{entries_among, files_in};

@@ -3,9 +3,9 @@
 ghost use Rattle.std.specs.Prelude.{◌≡◌, ◌≢◌, ◌<◌, ◌≤◌, ◌+◌, ◌↔◌, ℕ, true, length, slice_index, MatchOption};
 ghost use Rattle.std.specs.Prelude.{MatchBool, IfOk, map, replicate};
 ghost use Rattle.std.specs.List.{All};
-ghost use Rattle.nfs_laws.specs.fs_model.Maxima.{max_entries};
-ghost use Rattle.nfs_laws.specs.fs_model.Listing.{entry_number};
-ghost use Rattle.nfs_laws.specs.fs_model.Files.{listing_in};
+ghost use Rattle.nfs_laws.specs.fs_spec.Maxima.{max_entries};
+ghost use Rattle.nfs_laws.specs.fs_spec.Listing.{entry_number};
+ghost use Rattle.nfs_laws.specs.fs_spec.Files.{listing_in};
 ghost use Rattle.tree_rules.specs.FileRules.Rules.{AreKnown, AreRising, numbers_of};
 ghost use Rattle.inodes.specs.Inodes.{body_in};
 ghost use Rattle.tree_rules.specs.Listed.{entries_among, files_in};

@@ -2,9 +2,9 @@
 
 ghost use Rattle.std.specs.Prelude.{◌≡◌, ◌≤◌, ◌==◌, ◌↔◌, ℕ, length, IsTrue, IfOk, MatchBool, nat_lt};
 ghost use Rattle.std.specs.Prelude.{if◌then◌else◌};
-ghost use Rattle.nfs_laws.specs.fs_model.Maxima.{max_entries};
-ghost use Rattle.nfs_laws.specs.fs_model.Files.{is_directory};
-ghost use Rattle.nfs_laws.specs.fs_model.Trees.{IsFileTree};
+ghost use Rattle.nfs_laws.specs.fs_spec.Maxima.{max_entries};
+ghost use Rattle.nfs_laws.specs.fs_spec.Files.{is_directory};
+ghost use Rattle.nfs_laws.specs.fs_spec.Trees.{IsFileTree};
 ghost use Rattle.tree_rules.specs.FileRules.Rules.{AreFiles, AreRising, HaveNames, may_have, numbers_of};
 ghost use Rattle.inodes.specs.Inodes.{body_in, files_of};
 ghost use Rattle.tree_rules.specs.Listed.{entries_among, files_in};

@@ -13,11 +13,11 @@ use Rattle.node_book.specs.witness_spec.Replies.{Reply, refused, is_want, is_wan
 use Rattle.node_book.specs.witness_spec.Steps as steps
 use Rattle.node_book.specs.witness_spec.Histories.{History, IsOwed, IsWanting, BookParts}
 use Rattle.node_book.specs.witness_spec.Laws.{LeftOutChangesNothing}
-use Rattle.node_book.specs.witness_steps.Books.{Book, parts_of}
-use Rattle.node_book.specs.witness_steps.Going.{book_after}
-use Rattle.node_book.specs.witness_steps.ReadyLaws.{ReadyBooksStep}
-use Rattle.node_book.specs.witness_steps.Together.{with_book_at}
-use Rattle.node_book.specs.witness_steps.Ready.{AreReady}
+use Rattle.node_book.specs.witness_book_laws.Books.{Book, parts_of}
+use Rattle.node_book.specs.witness_book_laws.Going.{book_after}
+use Rattle.node_book.specs.witness_book_laws.ReadyLaws.{ReadyBooksStep}
+use Rattle.node_book.specs.witness_book_laws.Together.{with_book_at}
+use Rattle.node_book.specs.witness_book_laws.Ready.{AreReady}
 use Rattle.node_book.specs.Stepping.{Steps, is_refusal_or_already}
 use Rattle.witness_books.specs.Memory.{AreBytes, IsStepThatMay, MayRunOut, RunsOutWhereItMay, RunsOutForMore}
 use Rattle.witness_books.specs.Memory.{RunOutForMore}

@@ -15,13 +15,13 @@ use Rattle.node_book.specs.witness_spec.Contract.{StepsTo, IsNotedStep}
 use Rattle.node_book.specs.witness_spec.ContractLaws.{LeftOutLeavesBooks, WantLeavesBooks, OutOfMemoryLeavesBooks}
 use Rattle.node_book.specs.witness_spec.ContractLaws.{StepsAreNoted}
 use Rattle.node_book.proofs.witness_laws.Replied.{owed_good, good_want, want_refused}
-use Rattle.node_book.specs.witness_steps.Books.{Book, parts_of}
-use Rattle.node_book.specs.witness_steps.Replying.{BookOwes}
-use Rattle.node_book.specs.witness_steps.Together.{book_at, with_book_at}
-use Rattle.node_book.specs.witness_steps.Ready.{AreReady}
-use Rattle.node_book.specs.witness_steps.ReadyLaws.{ReadyBooksStep}
-use Rattle.node_book.proofs.witness_steps.AllBooks.{its, its_book}
-use Rattle.node_book.proofs.witness_steps.AnyBook.{any_owes}
+use Rattle.node_book.specs.witness_book_laws.Books.{Book, parts_of}
+use Rattle.node_book.specs.witness_book_laws.Replying.{BookOwes}
+use Rattle.node_book.specs.witness_book_laws.Together.{book_at, with_book_at}
+use Rattle.node_book.specs.witness_book_laws.Ready.{AreReady}
+use Rattle.node_book.specs.witness_book_laws.ReadyLaws.{ReadyBooksStep}
+use Rattle.node_book.proofs.witness_book_laws.AllBooks.{its, its_book}
+use Rattle.node_book.proofs.witness_book_laws.AnyBook.{any_owes}
 use Rattle.node_book.specs.Replies.{reply_in}
 use Rattle.node_book.specs.Stepping.{NotedSteps}
 use Rattle.node_book.specs.declared.reply.ReplyOf.{ReplyOf}

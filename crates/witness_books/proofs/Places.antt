@@ -5,10 +5,10 @@ use Rattle.std.proofs.Common.{Option, Some, get_or, set, IsSome, refl, sym, ap, 
 use Rattle.authenticator.specs.Roster.{member_of}
 use Rattle.authenticator.specs.declared.member.Member.{Member}
 use Rattle.node_book.specs.witness_spec.Watched.{watched}
-use Rattle.node_book.specs.witness_steps.Books.{Book}
-use Rattle.node_book.specs.witness_steps.Together.{book_at, with_book_at, FitEach}
-use Rattle.node_book.specs.witness_steps.Ready.{IsReady, AreReady}
-use Rattle.node_book.specs.witness_steps.ReadyLaws.{ReadyBooksAreReady}
+use Rattle.node_book.specs.witness_book_laws.Books.{Book}
+use Rattle.node_book.specs.witness_book_laws.Together.{book_at, with_book_at, FitEach}
+use Rattle.node_book.specs.witness_book_laws.Ready.{IsReady, AreReady}
+use Rattle.node_book.specs.witness_book_laws.ReadyLaws.{ReadyBooksAreReady}
 use Rattle.witness_books.specs.Places.{place_from, OneDoes}
 
 some_same : {x y : ℕ} → ◌≡◌ {A = Option ℕ} (Some x) (Some y) → x ≡ y

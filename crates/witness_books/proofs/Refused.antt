@@ -8,9 +8,9 @@ use Rattle.node_book.specs.witness_spec.Replies.{Reply, Noted, Already, Opened, 
 use Rattle.node_book.specs.witness_spec.Replies.{Returned, Forwarded, Empty, Told, OpenList, EvidenceIs}
 use Rattle.node_book.specs.witness_spec.Replies.{Refused, FileRefused, PutBackRefused}
 use Rattle.node_book.specs.witness_spec.Steps as steps
-use Rattle.node_book.specs.witness_steps.Books.{Book, book_opening, parts_of}
-use Rattle.node_book.specs.witness_steps.Going.{book_after}
-use Rattle.node_book.specs.witness_steps.Together.{with_book_at}
+use Rattle.node_book.specs.witness_book_laws.Books.{Book, book_opening, parts_of}
+use Rattle.node_book.specs.witness_book_laws.Going.{book_after}
+use Rattle.node_book.specs.witness_book_laws.Together.{with_book_at}
 use Rattle.node_book.specs.witness_spec.Events.{JobParts}
 use Rattle.node_book.specs.Replies.{reply_in}
 use Rattle.node_book.specs.Stepping.{Steps, NotedSteps}

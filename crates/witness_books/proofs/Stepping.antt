@@ -13,10 +13,10 @@ use Rattle.node_book.specs.witness_spec.Histories.{IsWanting}
 use Rattle.node_book.specs.witness_spec.Contract.{StepsTo}
 use Rattle.node_book.specs.witness_spec.ContractLaws.{LeftOutLeavesBooks, WantLeavesBooks}
 use Rattle.node_book.proofs.witness_laws.OwnSteps.{of_member}
-use Rattle.node_book.specs.witness_steps.Books.{Book, parts_of}
-use Rattle.node_book.specs.witness_steps.Together.{book_at, with_book_at}
-use Rattle.node_book.specs.witness_steps.Ready.{AreReady}
-use Rattle.node_book.specs.witness_steps.ReadyLaws.{ReadyBooksStep}
+use Rattle.node_book.specs.witness_book_laws.Books.{Book, parts_of}
+use Rattle.node_book.specs.witness_book_laws.Together.{book_at, with_book_at}
+use Rattle.node_book.specs.witness_book_laws.Ready.{AreReady}
+use Rattle.node_book.specs.witness_book_laws.ReadyLaws.{ReadyBooksStep}
 use Rattle.node_book.specs.Stepping.{StepMayWant, IsStep, RanOut, Steps}
 use Rattle.witness_books.specs.Memory.{AreBytes}
 use Rattle.witness_books.specs.Routing.{IsStepOf, IsNobodys}

@@ -7,7 +7,7 @@ use Rattle.node_book.specs.witness_spec.Replies.{Reply}
 use Rattle.node_book.specs.witness_spec.Histories.{BookParts}
 use Rattle.node_book.specs.witness_spec.Contract.{opening_book, opening_books, RunsTo, IsJournalOf}
 use Rattle.node_book.specs.witness_spec.ContractLaws.{OpeningJournal, RunsAreHistories}
-use Rattle.node_book.specs.witness_steps.Books.{book_opening, parts_of}
+use Rattle.node_book.specs.witness_book_laws.Books.{book_opening, parts_of}
 use Rattle.witness_books.specs.Books.{BooksParts, parts_in}
 use Rattle.witness_books.specs.Witnessed.{AreOpening, IsWitnessed}
 

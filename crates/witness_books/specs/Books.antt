@@ -7,8 +7,8 @@ use Rattle.authenticator.specs.contracts.member.Member as members
 use Rattle.node_book.specs.witness_spec.Replies.{Reply}
 use Rattle.node_book.specs.witness_spec.Replies as replies
 use Rattle.node_book.specs.witness_spec.Histories.{BookParts}
-use Rattle.node_book.specs.witness_steps.Books.{Book, parts_of}
-use Rattle.node_book.specs.witness_steps.Ready.{AreReady}
+use Rattle.node_book.specs.witness_book_laws.Books.{Book, parts_of}
+use Rattle.node_book.specs.witness_book_laws.Ready.{AreReady}
 use Rattle.node_book.specs.BookCodes.{book_code}
 
 -- A roster, and its members' books in the same order.

@@ -1,8 +1,8 @@
 -- Where a member's book is, and what a change of it alone leaves.
 use Rattle.std.specs.Prelude.{◌≡◌, ℕ, ◌+◌, ◌==◌, List, [], ◌∷◌, Option, Some, None, if◌then◌else◌}
 use Rattle.authenticator.specs.declared.member.Member.{Member}
-use Rattle.node_book.specs.witness_steps.Books.{Book}
-use Rattle.node_book.specs.witness_steps.Together.{book_at, with_book_at}
+use Rattle.node_book.specs.witness_book_laws.Books.{Book}
+use Rattle.node_book.specs.witness_book_laws.Together.{book_at, with_book_at}
 
 -- the place of the member with a number, where the first place is this
 abbrev pub place_from : (first : ℕ) → List Member → (node : ℕ) → Option ℕ

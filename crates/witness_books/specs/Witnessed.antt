@@ -7,7 +7,7 @@ use Rattle.node_book.specs.witness_spec.Watched.{Watched, IsInRoster}
 use Rattle.node_book.specs.witness_spec.Histories.{own_of, IsHistory, BookParts, Stands}
 use Rattle.node_book.specs.witness_spec.Contract.{opening_books, joined, RunsTo, IsJournalOf}
 use Rattle.node_book.specs.witness_spec.Laws.{SaysSame}
-use Rattle.node_book.specs.witness_steps.Books.{book_opening}
+use Rattle.node_book.specs.witness_book_laws.Books.{book_opening}
 use Rattle.witness_books.specs.Books.{BooksParts, parts_in}
 
 -- The books are those before any step.

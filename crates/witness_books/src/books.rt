@@ -4,8 +4,8 @@ ghost use Rattle.std.specs.Prelude.{◌≡◌, ◌∷◌, [], false, true, IfErr
 ghost use Rattle.authenticator.specs.Roster.{IsRoster, member_of};
 ghost use Rattle.node_book.specs.witness_spec.Contract.{AreBooks, IsNotedStep, StepsTo, opening_books};
 ghost use Rattle.node_book.specs.witness_spec.Replies.{is_want_of_memory};
-ghost use Rattle.node_book.specs.witness_steps.Books.{book_opening};
-ghost use Rattle.node_book.specs.witness_steps.Ready.{AreReady};
+ghost use Rattle.node_book.specs.witness_book_laws.Books.{book_opening};
+ghost use Rattle.node_book.specs.witness_book_laws.Ready.{AreReady};
 ghost use Rattle.node_book.specs.Events.{event_in, step_in};
 ghost use Rattle.node_book.specs.Replies.{reply_in};
 ghost use Rattle.node_book.specs.Stepping.{NotedSteps, Steps};

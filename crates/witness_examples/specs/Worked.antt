@@ -12,7 +12,7 @@ use Rattle.secure_log.specs.declared.log_entries.entry.Entry.TheVariants.{Clock}
 use Rattle.secure_log.specs.Segment.{SegmentParts, ClosedParts}
 use Rattle.envelopes.specs.declared.envelope.Envelope.{Envelope}
 use Rattle.state_spec.specs.State.{State, opening_client}
-use Rattle.state_machine.specs.Steps.{having_read}
+use Rattle.state_spec.specs.Steps.{having_read}
 use Rattle.replay_spec.specs.Stepping.{BadForm}
 use Rattle.replay_spec.specs.Replay.{Sound, Fault}
 use Rattle.witness_spec.specs.evidence_spec.Showing.{authenticator_showing}

@@ -1,6 +1,6 @@
 -- What a step did, by the reply that is owed to it.
 -- Serves: the laws of `trust` and `evidence`; what_is_asked_can_be_answered and own_words_can_be_answered
--- (witness_nodes).
+-- (witness_node_laws).
 use Rattle.std.proofs.Common.{◌≡◌, ℕ, ◌+◌, ◌-◌, ◌≤◌, Bool, true, false, cond, ◌&&◌, ◌==◌, nat_lt, List}
 use Rattle.std.proofs.Common.{[], ◌∷◌, Option, Some, None, refl, sym, ap, subst, ◌∙◌, eqb-true, arith}
 use Rattle.std.proofs.lemmas.Bool.{and_parts, ltb-false}

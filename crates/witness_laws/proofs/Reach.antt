@@ -1,5 +1,5 @@
 -- An audit asks for numbers after the end, in order, and at most as many as may be asked for.
--- Serves: Doing here; what_is_asked_can_be_answered (witness_nodes).
+-- Serves: Doing here; what_is_asked_can_be_answered (witness_node_laws).
 use Rattle.std.proofs.Common.{◌≡◌, ◌⊎◌, inl, inr, ℕ, ◌+◌, ◌<◌, ◌≤◌, Bool, true, false, cond, ◌==◌, nat_le}
 use Rattle.std.proofs.Common.{nat_lt, max, List, [], ◌∷◌, map, filter, refl, sym, ap, subst, ◌∙◌, arith}
 use Rattle.std.specs.List.{AllByRecursion, fold}

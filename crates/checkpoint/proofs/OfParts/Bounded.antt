@@ -5,18 +5,18 @@ use Rattle.std.specs.List.{All, AllByRecursion}
 use Rattle.std.proofs.lemmas.List.Elements.{All-from_recursion}
 use Rattle.xdr.specs.Item.{Fits, choice}
 use Rattle.mount_types.specs.declared.limits.TheConstants.{MNTNAMLEN, MNTPATHLEN}
-use Rattle.fs_model.specs.Maxima.{max_name}
-use Rattle.fs_model.specs.Listing.{NamedEntry}
+use Rattle.fs_spec.specs.Maxima.{max_name}
+use Rattle.fs_spec.specs.Listing.{NamedEntry}
 use Rattle.state_machine.specs.file_texts.Bounds.{IsWritable}
-use Rattle.state_machine.specs.file_texts.FileItems.{file_item, entry_item, is_file_kind, kind_item}
+use Rattle.state_spec.specs.server_spec.FileItems.{file_item, entry_item, is_file_kind, kind_item}
 use Rattle.state_machine.specs.file_texts.Parts.{kind_said, file_said, body_of}
 use Rattle.state_machine.specs.file_texts.declared.parts.AttributesPart.{AttributesPart}
 use Rattle.state_machine.specs.file_texts.declared.parts.BodyPart.{BodyPart}
 use Rattle.state_machine.specs.file_texts.declared.parts.BodyPart.TheVariants.{Regular, Symlink, Directory}
 use Rattle.state_machine.specs.file_texts.declared.parts.FilePart.{FilePart}
-use Rattle.state_machine.specs.state_spec.Limits.{max_received, max_sends}
-use Rattle.state_machine.specs.state_spec.StateItems.{received_value, mount_item, stage_item, rest_item, is_node_kind}
-use Rattle.state_machine.specs.state_spec.StateItems.{machine_item, state_item}
+use Rattle.state_spec.specs.Limits.{max_received, max_sends}
+use Rattle.state_spec.specs.StateItems.{received_value, mount_item, stage_item, rest_item, is_node_kind}
+use Rattle.state_spec.specs.StateItems.{machine_item, state_item}
 use Rattle.checkpoint.specs.declared.parts.parts.StagePart.{StagePart}
 use Rattle.checkpoint.specs.declared.parts.parts.StagePart.TheVariants.{Idle, Heard, Owes}
 use Rattle.checkpoint.specs.declared.parts.parts.MountPart.{MountPart}

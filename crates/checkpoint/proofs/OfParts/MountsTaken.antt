@@ -14,7 +14,7 @@ use Rattle.std.proofs.lemmas.List.Folds.{Any-from_list_any}
 use Rattle.std.proofs.lemmas.Slice.Eq.{bytes_eq-Decides}
 use Rattle.mount_types.specs.Calls.{Mount}
 use Rattle.mount_types.specs.Mounts.{Mounts, max_mounts, root_path, root_of, same_mount, is_listed, may_list}
-use Rattle.state_machine.specs.state_spec.Rules.{MountsAreOfTheRoot, MountsDiffer}
+use Rattle.state_spec.specs.Rules.{MountsAreOfTheRoot, MountsDiffer}
 use Rattle.checkpoint.specs.declared.parts.parts.MountPart.{MountPart}
 use Rattle.checkpoint.specs.Parts.Taking.{may_take}
 use Rattle.checkpoint.specs.Parts.SaidParts.{mount_said, mounts_given}

@@ -1,10 +1,10 @@
 -- A digest that is kept for a file that is there is that of its text.
 -- Serves: `digest_of`.
 use Rattle.std.proofs.Common.{◌≡◌, ℕ, List, Some, sym, ap, ◌∙◌}
-use Rattle.fs_model.specs.Files.{File, Files, file_at}
-use Rattle.fs_model.proofs.Walks.{some_same}
+use Rattle.fs_spec.specs.Files.{File, Files, file_at}
+use Rattle.fs_spec.proofs.Walks.{some_same}
 use Rattle.file_tree.specs.KeptDigests.{IsDigestAt}
-use Rattle.state_machine.specs.file_texts.FileItems.{file_digest}
+use Rattle.state_spec.specs.server_spec.FileItems.{file_digest}
 
 -- a digest that is kept for a file is that of the file there
 pub kept_is : (w : Files) (n : ℕ) (f : File) (digest : List ℕ) → file_at w n ≡ Some f → IsDigestAt w n digest

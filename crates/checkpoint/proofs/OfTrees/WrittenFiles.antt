@@ -4,8 +4,8 @@ use Rattle.std.proofs.Common.{◌≡◌, ℕ, ◌≤◌, List, [], ◌∷◌, �
 use Rattle.std.specs.Prelude.{OnOk}
 use Rattle.xdr.specs.Item.{Item, Value, Fits, array, spelling, number_spelling}
 use Rattle.xdr.specs.Writing.{Adds}
-use Rattle.fs_model.specs.Maxima.{max_files}
-use Rattle.fs_model.specs.Files.{File}
+use Rattle.fs_spec.specs.Maxima.{max_files}
+use Rattle.fs_spec.specs.Files.{File}
 use Rattle.inodes.specs.Inodes as stored
 use Rattle.inodes.specs.declared.inode.Inode.{Inode}
 use Rattle.file_tree.specs.tree_rules.Listed.{files_in}

@@ -3,11 +3,11 @@ use Rattle.std.specs.Prelude.{◌≤◌, length}
 use Rattle.std.specs.List.{All}
 use Rattle.mount_types.specs.declared.limits.TheConstants.{MNTNAMLEN, MNTPATHLEN}
 use Rattle.mount_types.specs.Mounts.{max_mounts}
-use Rattle.fs_model.specs.Maxima.{max_files}
+use Rattle.fs_spec.specs.Maxima.{max_files}
 use Rattle.state_machine.specs.file_texts.Bounds.{IsWritable}
 use Rattle.state_machine.specs.file_texts.Parts.{body_of}
 use Rattle.state_machine.specs.file_texts.declared.parts.FilePart.{FilePart}
-use Rattle.state_machine.specs.state_spec.Limits.{max_received, max_sends, max_body}
+use Rattle.state_spec.specs.Limits.{max_received, max_sends, max_body}
 use Rattle.checkpoint.specs.declared.parts.parts.StagePart.{StagePart}
 use Rattle.checkpoint.specs.declared.parts.parts.StagePart.TheVariants.{Idle, Heard, Owes}
 use Rattle.checkpoint.specs.declared.parts.parts.MountPart.{MountPart}

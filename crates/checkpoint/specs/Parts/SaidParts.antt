@@ -1,13 +1,13 @@
 -- What the parts of a state's text say.
 use Rattle.std.specs.Prelude.{ℕ, List, map}
 use Rattle.xdr.specs.Item.{Value, choice}
-use Rattle.state_machine.specs.file_texts.FileItems.{file_item}
+use Rattle.state_spec.specs.server_spec.FileItems.{file_item}
 use Rattle.state_machine.specs.file_texts.Parts.{time_said, file_said}
 use Rattle.state_machine.specs.file_texts.declared.parts.TimePart.{TimePart}
-use Rattle.state_machine.specs.state_spec.State.{ReceivedMessage}
-use Rattle.state_machine.specs.state_spec.StateItems.{sent_item, mount_item, stage_item, is_node_kind, rest_item}
-use Rattle.state_machine.specs.state_spec.StateItems.{machine_item, received_value, sent_value}
-use Rattle.state_machine.specs.state_spec.StateText.{Said}
+use Rattle.state_spec.specs.State.{ReceivedMessage}
+use Rattle.state_spec.specs.StateItems.{sent_item, mount_item, stage_item, is_node_kind, rest_item}
+use Rattle.state_spec.specs.StateItems.{machine_item, received_value, sent_value}
+use Rattle.state_spec.specs.StateText.{Said}
 use Rattle.state_machine.specs.declared.states.texts.NumberedSend.{NumberedSend}
 use Rattle.checkpoint.specs.declared.parts.parts.StagePart.{StagePart}
 use Rattle.checkpoint.specs.declared.parts.parts.StagePart.TheVariants.{Idle, Heard, Owes}

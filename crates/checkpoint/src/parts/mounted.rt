@@ -6,7 +6,7 @@ ghost use Rattle.std.specs.List.{All};
 ghost use Rattle.std.specs.Str.{bytes_eq};
 ghost use Rattle.mount_types.specs.declared.limits.TheConstants.{MNTNAMLEN};
 ghost use Rattle.mount_types.specs.Mounts.{max_mounts, root_path};
-ghost use Rattle.state_machine.specs.state_spec.Rules.{MountsAreOfTheRoot, MountsDiffer};
+ghost use Rattle.state_spec.specs.Rules.{MountsAreOfTheRoot, MountsDiffer};
 ghost use Rattle.checkpoint.specs.Parts.SaidParts.{mount_said, mounts_given};
 ghost use Rattle.checkpoint.specs.Parts.Taking.{may_take};
 

@@ -5,9 +5,9 @@ ghost use Rattle.xdr.specs.Item.{choice, word_where};
 ghost use Rattle.xdr.specs.Reading.{GivesUnless};
 ghost use Rattle.xdr.specs.ReadFault.{xdr_fault};
 ghost use Rattle.nfs_items.specs.Timeval.{timeval};
-ghost use Rattle.state_machine.specs.file_texts.FileItems.{file_item};
+ghost use Rattle.state_spec.specs.server_spec.FileItems.{file_item};
 ghost use Rattle.state_machine.specs.file_texts.Parts.{time_said};
-ghost use Rattle.state_machine.specs.state_spec.StateItems.{is_node_kind, rest_item, machine_item, state_item};
+ghost use Rattle.state_spec.specs.StateItems.{is_node_kind, rest_item, machine_item, state_item};
 ghost use Rattle.checkpoint.specs.Parts.SaidParts.{world_said, kind_said, machine_said, state_said};
 
 use crate::parts::parts::{MachinePart, StatePart, WorldPart};

@@ -3,9 +3,9 @@
 ghost use Rattle.std.specs.Prelude.{◌≡◌, Some, IfOk, IfErr};
 ghost use Rattle.xdr.specs.Item.{Fits};
 ghost use Rattle.xdr.specs.Texts.Text.{text_at};
-ghost use Rattle.state_machine.specs.file_texts.FileItems.{file_item};
-ghost use Rattle.state_machine.specs.state_spec.StateItems.{state_item};
-ghost use Rattle.state_machine.specs.state_spec.StateText.{spelled_text, IsGarbage};
+ghost use Rattle.state_spec.specs.server_spec.FileItems.{file_item};
+ghost use Rattle.state_spec.specs.StateItems.{state_item};
+ghost use Rattle.state_spec.specs.StateText.{spelled_text, IsGarbage};
 ghost use Rattle.checkpoint.specs.Parts.SaidParts.{state_said};
 ghost use Rattle.checkpoint.specs.Parts.Bounds.{AreBounded};
 ghost use Rattle.checkpoint.specs.declared.parts.whole.PartsFault.TheVariants.{Garbage};

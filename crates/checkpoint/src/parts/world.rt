@@ -3,8 +3,8 @@
 ghost use Rattle.xdr.specs.Item.{pair, word, opaque};
 ghost use Rattle.xdr.specs.Reading.{GivesUnless};
 ghost use Rattle.xdr.specs.ReadFault.{xdr_fault};
-ghost use Rattle.state_machine.specs.file_texts.FileItems.{file_item};
-ghost use Rattle.state_machine.specs.state_spec.StateItems.{mount_item, stage_item, rest_item};
+ghost use Rattle.state_spec.specs.server_spec.FileItems.{file_item};
+ghost use Rattle.state_spec.specs.StateItems.{mount_item, stage_item, rest_item};
 ghost use Rattle.checkpoint.specs.declared.parts.world.TheConstants.{MAX_BODY};
 ghost use Rattle.checkpoint.specs.Parts.SaidParts.{mount_said, stage_said, world_said};
 

@@ -5,13 +5,13 @@ ghost use Rattle.std.specs.List.{AllByRecursion, flat_map};
 ghost use Rattle.std.specs.FinMap as finite;
 ghost use Rattle.xdr.specs.Item.{Fits, array, fixed, spelling};
 ghost use Rattle.xdr.specs.Writing.{Adds};
-ghost use Rattle.fs_model.specs.Files.{file_at};
-ghost use Rattle.fs_model.specs.Maxima.{max_files};
+ghost use Rattle.fs_spec.specs.Files.{file_at};
+ghost use Rattle.fs_spec.specs.Maxima.{max_files};
 ghost use Rattle.inodes.specs.Inodes.{body_in, file_in};
 ghost use Rattle.file_tree.specs.KeptDigests.{IsWritableAt};
 ghost use Rattle.file_tree.specs.tree_rules.Listed.{files_in};
 ghost use Rattle.state_machine.specs.file_texts.Bounds.{IsWritable};
-ghost use Rattle.state_machine.specs.file_texts.FileItems.{file_digest, file_item, file_value};
+ghost use Rattle.state_spec.specs.server_spec.FileItems.{file_digest, file_item, file_value};
 
 use file_tree::Tree;
 use inodes::Inode;

@@ -7,11 +7,11 @@ use Rattle.nfs_spec.specs.nfs_items.Timeval.{Timeval}
 use Rattle.nfs_spec.specs.nfs_items.Caller.{Caller}
 use Rattle.nfs_spec.specs.nfs_items.declared.stat.Stat.{Stat}
 use Rattle.nfs_spec.specs.nfs_items.declared.stat.Stat.TheVariants as stats
-use Rattle.nfs_spec.specs.fs_model.Listing.{Listing}
-use Rattle.nfs_spec.specs.fs_model.Files.{File, Files, file_at, listing_in, is_directory, directory_entries}
-use Rattle.nfs_spec.specs.fs_model.Trees.{IsFileTree}
-use Rattle.nfs_spec.specs.fs_model.Changes.Edits.{with_name}
-use Rattle.nfs_spec.specs.fs_model.Changes.Limits.{has_room, blocks_in}
+use Rattle.nfs_spec.specs.fs_spec.Listing.{Listing}
+use Rattle.nfs_spec.specs.fs_spec.Files.{File, Files, file_at, listing_in, is_directory, directory_entries}
+use Rattle.nfs_spec.specs.fs_spec.Trees.{IsFileTree}
+use Rattle.nfs_spec.specs.fs_spec.Changes.Edits.{with_name}
+use Rattle.nfs_spec.specs.fs_spec.Changes.Limits.{has_room, blocks_in}
 use Rattle.nfs_spec.specs.ProcedureChecks.{◌>>=◌, NumberedDir, ok_or, dir_of, check, check_room, check_edit}
 use Rattle.nfs_spec.specs.ProcedureChecks.{check_free}
 use Rattle.nfs_spec.specs.Changes.{touch, touch_ctime}

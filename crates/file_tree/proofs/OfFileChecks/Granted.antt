@@ -5,11 +5,11 @@ use Rattle.std.proofs.Common.{◌∙◌, arith}
 use Rattle.std.specs.Prelude.{◌==◌, if◌then◌else◌}
 use Rattle.nfs_spec.specs.nfs_items.Timeval.{Timeval}
 use Rattle.nfs_spec.specs.nfs_items.Caller.{Caller}
-use Rattle.nfs_spec.specs.fs_model.Files.{File, Files, file_at}
-use Rattle.nfs_spec.specs.fs_model.Changes.Edits.{with_changed_file}
-use Rattle.nfs_spec.specs.fs_model.Changes.Limits.{has_room, block_count, blocks_in}
-use Rattle.nfs_spec.proofs.fs_model.OfChanges.Finite.{total_changed}
-use Rattle.nfs_spec.proofs.fs_model.OfChanges.Room.{within}
+use Rattle.nfs_spec.specs.fs_spec.Files.{File, Files, file_at}
+use Rattle.nfs_spec.specs.fs_spec.Changes.Edits.{with_changed_file}
+use Rattle.nfs_spec.specs.fs_spec.Changes.Limits.{has_room, block_count, blocks_in}
+use Rattle.nfs_spec.proofs.fs_spec.OfChanges.Finite.{total_changed}
+use Rattle.nfs_spec.proofs.fs_spec.OfChanges.Room.{within}
 use Rattle.nfs_spec.specs.Sattr.{GivenFields}
 use Rattle.nfs_spec.specs.Changes.{apply_fields, body_with_length}
 use Rattle.nfs_spec.specs.Procedures.{set_attributes, write, with_bytes_written}

@@ -3,11 +3,11 @@
 use Rattle.std.proofs.Common.{◌≡◌, ℕ, ◌≤◌, true, List, [], length, Some, Ok, option_map, sym, ap, subst, ◌∙◌}
 use Rattle.nfs_spec.specs.nfs_items.Timeval.{Timeval}
 use Rattle.nfs_spec.specs.nfs_items.Caller.{Caller}
-use Rattle.nfs_spec.specs.fs_model.Listing.{Listing}
-use Rattle.nfs_spec.specs.fs_model.Files.{File, Files, listing_in, listing, is_directory, IsDirectory}
-use Rattle.nfs_spec.specs.fs_model.Trees.{IsTime, IsFile, IsFileTree}
-use Rattle.nfs_spec.specs.fs_model.Changes.Edits.{with_name}
-use Rattle.nfs_spec.specs.fs_model.Changes.Limits.{has_room, blocks_in}
+use Rattle.nfs_spec.specs.fs_spec.Listing.{Listing}
+use Rattle.nfs_spec.specs.fs_spec.Files.{File, Files, listing_in, listing, is_directory, IsDirectory}
+use Rattle.nfs_spec.specs.fs_spec.Trees.{IsTime, IsFile, IsFileTree}
+use Rattle.nfs_spec.specs.fs_spec.Changes.Edits.{with_name}
+use Rattle.nfs_spec.specs.fs_spec.Changes.Limits.{has_room, blocks_in}
 use Rattle.nfs_spec.specs.Changes.{Effect, touch, touch_ctime}
 use Rattle.nfs_spec.specs.Procedures.{add_file, link}
 use Rattle.inode_table.specs.nfs_laws.Steps.Granted.{MayEdit, MakeOk, LinkOk}
@@ -18,7 +18,7 @@ use Rattle.inode_table.specs.nfs_laws.Room.{HasRoomToMake, HasRoomToLink}
 use Rattle.inode_table.proofs.nfs_laws.Paths.{make_adds, link_adds}
 use Rattle.inode_table.proofs.nfs_laws.RoomBefore.{to_make, to_link}
 use Rattle.inode_table.specs.nfs_laws.Sizes.Bounds.{HasWords}
-use Rattle.inode_table.specs.nfs_counts.CountChanges.{MayMake, MayLink}
+use Rattle.inode_table.specs.nfs_count_laws.CountChanges.{MayMake, MayLink}
 
 module _ (w : Files) (tree : IsFileTree w) (before : has_room w ≡ true) (who : Caller) (now : Timeval)
     (dir : ℕ)

@@ -9,11 +9,11 @@ use Rattle.nfs_spec.specs.nfs_items.Timeval.{Timeval}
 use Rattle.nfs_spec.specs.nfs_items.Caller.{Caller}
 use Rattle.nfs_spec.specs.nfs_items.declared.stat.Stat.{Stat}
 use Rattle.nfs_spec.specs.nfs_items.declared.stat.Stat.TheVariants as stats
-use Rattle.nfs_spec.specs.fs_model.Listing.{Listing, entry_at}
-use Rattle.nfs_spec.specs.fs_model.Names.{is_name}
-use Rattle.nfs_spec.specs.fs_model.Files.{Body, Regular, File, Files, file_at, listing_in, directory_entries}
-use Rattle.nfs_spec.specs.fs_model.Trees.{IsFileTree}
-use Rattle.nfs_spec.specs.fs_model.Changes.Limits.{has_room, blocks_in}
+use Rattle.nfs_spec.specs.fs_spec.Listing.{Listing, entry_at}
+use Rattle.nfs_spec.specs.fs_spec.Names.{is_name}
+use Rattle.nfs_spec.specs.fs_spec.Files.{Body, Regular, File, Files, file_at, listing_in, directory_entries}
+use Rattle.nfs_spec.specs.fs_spec.Trees.{IsFileTree}
+use Rattle.nfs_spec.specs.fs_spec.Changes.Limits.{has_room, blocks_in}
 use Rattle.nfs_spec.specs.ProcedureChecks.{◌>>=◌, NumberedDir, ok_or, listing_or, file_of, dir_of, check}
 use Rattle.nfs_spec.specs.ProcedureChecks.{check_size, check_room, may_search, may_write}
 use Rattle.nfs_spec.specs.Sattr.{GivenFields}

@@ -3,7 +3,7 @@
 use Rattle.std.proofs.Common.{◌≡◌, Bool, true, false, Result, Ok, Err, refl, sym, ap, ◌∙◌}
 use Rattle.std.specs.Prelude.{◌↔◌}
 use Rattle.nfs_spec.specs.nfs_items.declared.stat.Stat.{Stat}
-use Rattle.nfs_spec.specs.fs_model.Files.{Files}
+use Rattle.nfs_spec.specs.fs_spec.Files.{Files}
 use Rattle.nfs_spec.specs.ProcedureChecks.{◌>>=◌, check}
 use Rattle.nfs_spec.specs.Changes.{Effect}
 use Rattle.file_tree.specs.FileChecks.Decides.{Decides, IsCheckOf}

@@ -4,11 +4,11 @@ use Rattle.std.proofs.Common.{◌≡◌, ◌≢◌, ⊎_elim, ℕ, zero, suc, tr
 use Rattle.std.proofs.Common.{eq-eqb, ne_eqb}
 use Rattle.std.proofs.lemmas.Bool.{or_left}
 use Rattle.std.specs.Prelude.{◌||◌}
-use Rattle.nfs_spec.specs.fs_model.Paths.{path_at}
-use Rattle.nfs_spec.specs.fs_model.Files.{Files, IsDirectory, directory_entries, parent_of}
-use Rattle.nfs_spec.specs.fs_model.Trees.{IsFileTree}
-use Rattle.nfs_spec.proofs.fs_model.Walks.{one_number, last_name, last_step}
-use Rattle.nfs_spec.proofs.fs_model.Parents.{root_parent}
+use Rattle.nfs_spec.specs.fs_spec.Paths.{path_at}
+use Rattle.nfs_spec.specs.fs_spec.Files.{Files, IsDirectory, directory_entries, parent_of}
+use Rattle.nfs_spec.specs.fs_spec.Trees.{IsFileTree}
+use Rattle.nfs_spec.proofs.fs_spec.Walks.{one_number, last_name, last_step}
+use Rattle.nfs_spec.proofs.fs_spec.Parents.{root_parent}
 use Rattle.nfs_spec.specs.Procedures.{climbs_to}
 
 module _ (w : Files) (upper : ℕ) where

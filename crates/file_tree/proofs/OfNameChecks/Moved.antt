@@ -10,14 +10,14 @@ use Rattle.nfs_spec.specs.nfs_items.Timeval.{Timeval}
 use Rattle.nfs_spec.specs.nfs_items.Caller.{Caller}
 use Rattle.nfs_spec.specs.nfs_items.declared.stat.Stat.{Stat}
 use Rattle.nfs_spec.specs.nfs_items.declared.stat.Stat.TheVariants as stats
-use Rattle.nfs_spec.specs.fs_model.Names.{is_name}
-use Rattle.nfs_spec.specs.fs_model.Listing.{Listing, entry_at}
-use Rattle.nfs_spec.specs.fs_model.Files.{File, Files, file_at, is_directory, IsDirectory, listing}
-use Rattle.nfs_spec.specs.fs_model.Files.{directory_entries}
-use Rattle.nfs_spec.proofs.fs_model.Walks.{some_same}
+use Rattle.nfs_spec.specs.fs_spec.Names.{is_name}
+use Rattle.nfs_spec.specs.fs_spec.Listing.{Listing, entry_at}
+use Rattle.nfs_spec.specs.fs_spec.Files.{File, Files, file_at, is_directory, IsDirectory, listing}
+use Rattle.nfs_spec.specs.fs_spec.Files.{directory_entries}
+use Rattle.nfs_spec.proofs.fs_spec.Walks.{some_same}
 use Rattle.nfs_spec.specs.ProcedureChecks.{◌>>=◌, file_of, dir_of, check, check_cookie, check_edit, number_at}
 use Rattle.nfs_spec.specs.Procedures.{is_above, check_target, move_entry, rename}
-use Rattle.inode_table.specs.nfs_counts.CountChanges.{MayMove}
+use Rattle.inode_table.specs.nfs_count_laws.CountChanges.{MayMove}
 use Rattle.inode_table.proofs.nfs_laws.OfSteps.Steps.{bind_ok, check_ok, file_ok, dir_ok, edit_ok, number_ok}
 use Rattle.inode_table.proofs.nfs_laws.OfSteps.Steps.{entry_found}
 use Rattle.inode_table.proofs.nfs_laws.OfSteps.Steps.{listing_found, ok_same}

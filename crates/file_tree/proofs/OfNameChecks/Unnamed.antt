@@ -7,11 +7,11 @@ use Rattle.nfs_spec.specs.nfs_items.Timeval.{Timeval}
 use Rattle.nfs_spec.specs.nfs_items.Caller.{Caller}
 use Rattle.nfs_spec.specs.nfs_items.declared.stat.Stat.{Stat}
 use Rattle.nfs_spec.specs.nfs_items.declared.stat.Stat.TheVariants as stats
-use Rattle.nfs_spec.specs.fs_model.Listing.{Listing}
-use Rattle.nfs_spec.specs.fs_model.Files.{File, Files, file_at, is_directory, listing_in}
+use Rattle.nfs_spec.specs.fs_spec.Listing.{Listing}
+use Rattle.nfs_spec.specs.fs_spec.Files.{File, Files, file_at, is_directory, listing_in}
 use Rattle.nfs_spec.specs.ProcedureChecks.{◌>>=◌, check, dir_of, file_of, check_edit, listing_or, number_at}
 use Rattle.nfs_spec.specs.Procedures.{remove, remove_dir}
-use Rattle.inode_table.specs.nfs_counts.CountChanges.{MayUnlink}
+use Rattle.inode_table.specs.nfs_count_laws.CountChanges.{MayUnlink}
 use Rattle.inode_table.proofs.nfs_laws.OfSteps.Steps.{bind_ok, check_ok, dir_ok, directory_ok, number_ok}
 use Rattle.inode_table.proofs.nfs_laws.OfSteps.Steps.{no_length}
 use Rattle.inode_table.proofs.nfs_laws.OfSteps.Steps.{entry_found}

@@ -5,7 +5,7 @@ use Rattle.nfs_spec.specs.nfs_items.Caller.{Caller}
 use Rattle.nfs_spec.specs.nfs_items.declared.stat.Stat.{Stat}
 use Rattle.nfs_spec.specs.nfs_items.declared.stat.Stat.TheVariants as stats
 use Rattle.nfs_spec.specs.nfs_items.Terms.{FileNumber, Cookie, Name}
-use Rattle.nfs_spec.specs.fs_model.Files.{File, Files, directory_entries}
+use Rattle.nfs_spec.specs.fs_spec.Files.{File, Files, directory_entries}
 use Rattle.nfs_spec.specs.ProcedureChecks.{◌>>=◌, file_of, check, check_size, may_write}
 use Rattle.nfs_spec.specs.Sattr.{GivenFields}
 use Rattle.nfs_spec.specs.Procedures.{set_attributes, is_regular, create}

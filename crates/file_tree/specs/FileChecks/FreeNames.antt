@@ -3,8 +3,8 @@ use Rattle.std.specs.Prelude.{Result, Ok}
 use Rattle.nfs_spec.specs.nfs_items.Caller.{Caller}
 use Rattle.nfs_spec.specs.nfs_items.declared.stat.Stat.{Stat}
 use Rattle.nfs_spec.specs.nfs_items.Terms.{FileNumber, Name}
-use Rattle.nfs_spec.specs.fs_model.Listing.{Listing}
-use Rattle.nfs_spec.specs.fs_model.Files.{Files}
+use Rattle.nfs_spec.specs.fs_spec.Listing.{Listing}
+use Rattle.nfs_spec.specs.fs_spec.Files.{Files}
 use Rattle.nfs_spec.specs.ProcedureChecks.{◌>>=◌, dir_of, check_edit, check_free}
 
 -- what it lists: Dir, Edit, and EXIST where the name is taken

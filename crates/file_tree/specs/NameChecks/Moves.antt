@@ -7,8 +7,8 @@ use Rattle.nfs_spec.specs.nfs_items.Caller.{Caller}
 use Rattle.nfs_spec.specs.nfs_items.declared.stat.Stat.{Stat}
 use Rattle.nfs_spec.specs.nfs_items.declared.stat.Stat.TheVariants as stats
 use Rattle.nfs_spec.specs.nfs_items.Terms.{Name, FileNumber}
-use Rattle.nfs_spec.specs.fs_model.Listing.{Listing, file_number, entry_at}
-use Rattle.nfs_spec.specs.fs_model.Files.{Files, is_directory}
+use Rattle.nfs_spec.specs.fs_spec.Listing.{Listing, file_number, entry_at}
+use Rattle.nfs_spec.specs.fs_spec.Files.{Files, is_directory}
 use Rattle.nfs_spec.specs.ProcedureChecks.{◌>>=◌, file_of, dir_of, check, check_cookie, check_edit, number_at}
 use Rattle.nfs_spec.specs.Procedures.{is_above, check_target, move_entry}
 use Rattle.file_tree.specs.declared.name_checks.renaming.Ends.{Ends}

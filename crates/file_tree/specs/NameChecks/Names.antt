@@ -5,8 +5,8 @@ use Rattle.nfs_spec.specs.nfs_items.Caller.{Caller}
 use Rattle.nfs_spec.specs.nfs_items.declared.stat.Stat.{Stat}
 use Rattle.nfs_spec.specs.nfs_items.declared.stat.Stat.TheVariants as stats
 use Rattle.nfs_spec.specs.nfs_items.Terms.{Name, FileNumber}
-use Rattle.nfs_spec.specs.fs_model.Listing.{Listing, file_number, entry_at}
-use Rattle.nfs_spec.specs.fs_model.Files.{File, Files}
+use Rattle.nfs_spec.specs.fs_spec.Listing.{Listing, file_number, entry_at}
+use Rattle.nfs_spec.specs.fs_spec.Files.{File, Files}
 use Rattle.nfs_spec.specs.ProcedureChecks.{◌>>=◌, ok_or, listing_or, check, NumberedDir, dir_of, check_edit}
 use Rattle.nfs_spec.specs.ProcedureChecks.{number_at}
 use Rattle.nfs_spec.specs.Changes.{touch, unlink}

@@ -2,8 +2,8 @@
 
 ghost use Rattle.std.specs.Prelude.{◌≡◌, ◌≤◌, ◌+◌};
 ghost use Rattle.nfs_spec.specs.nfs_items.declared.stat.Stat.TheVariants as stats;
-ghost use Rattle.nfs_spec.specs.fs_model.Maxima.{max_blocks};
-ghost use Rattle.nfs_spec.specs.fs_model.Changes.Limits.{block_count};
+ghost use Rattle.nfs_spec.specs.fs_spec.Maxima.{max_blocks};
+ghost use Rattle.nfs_spec.specs.fs_spec.Changes.Limits.{block_count};
 ghost use Rattle.inode_table.specs.nfs_laws.Room.{HasRoomToMake, HasRoomToLink};
 ghost use Rattle.file_tree.specs.FileChecks.Decides.{IsCheckOf};
 

@@ -1,7 +1,7 @@
 //! The way up from a directory.
 
 ghost use Rattle.std.specs.Prelude.{◌≡◌};
-ghost use Rattle.nfs_spec.specs.fs_model.Files.{parent_of, IsDirectory};
+ghost use Rattle.nfs_spec.specs.fs_spec.Files.{parent_of, IsDirectory};
 ghost use Rattle.nfs_spec.specs.Procedures.{is_above};
 
 use inode_table::{Body, Inode, InodeTable};

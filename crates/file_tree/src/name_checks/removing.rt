@@ -5,9 +5,9 @@ ghost use Rattle.std.specs.Result.{result_map_both};
 ghost use Rattle.nfs_spec.specs.nfs_items.Terms.{Cookie};
 ghost use Rattle.nfs_spec.specs.nfs_items.Timeval.{Timeval};
 ghost use Rattle.nfs_spec.specs.nfs_items.CallerOf.{caller_of};
-ghost use Rattle.nfs_spec.specs.fs_model.Files.{File};
+ghost use Rattle.nfs_spec.specs.fs_spec.Files.{File};
 ghost use Rattle.nfs_spec.specs.Procedures.{remove, remove_dir};
-ghost use Rattle.inode_table.specs.nfs_counts.CountChanges.{MayUnlink};
+ghost use Rattle.inode_table.specs.nfs_count_laws.CountChanges.{MayUnlink};
 ghost use Rattle.inode_table.specs.inodes.Inodes.{file_in};
 ghost use Rattle.file_tree.specs.NameChecks.Names.{check_empty, unnamed};
 

@@ -5,10 +5,10 @@ ghost use Rattle.std.specs.Result.{result_map_both};
 ghost use Rattle.nfs_spec.specs.nfs_items.Terms.{Cookie};
 ghost use Rattle.nfs_spec.specs.nfs_items.Timeval.{Timeval};
 ghost use Rattle.nfs_spec.specs.nfs_items.CallerOf.{caller_of};
-ghost use Rattle.nfs_spec.specs.fs_model.Maxima.{max_name};
-ghost use Rattle.nfs_spec.specs.fs_model.Files.{File, IsDirectory};
+ghost use Rattle.nfs_spec.specs.fs_spec.Maxima.{max_name};
+ghost use Rattle.nfs_spec.specs.fs_spec.Files.{File, IsDirectory};
 ghost use Rattle.nfs_spec.specs.Procedures.{check_target, rename};
-ghost use Rattle.inode_table.specs.nfs_counts.CountChanges.{MayMove};
+ghost use Rattle.inode_table.specs.nfs_count_laws.CountChanges.{MayMove};
 ghost use Rattle.inode_table.specs.inodes.Inodes.{file_in};
 ghost use Rattle.file_tree.specs.NameChecks.Moves.{names_to_edit, ends_found, move_of, move_checked, moved};
 

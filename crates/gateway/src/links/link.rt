@@ -5,8 +5,8 @@ ghost use Rattle.std.specs.Prelude.{IfSome, OnOk};
 ghost use Rattle.std.specs.Option.{option_map};
 ghost use Rattle.rpc.specs.declared.records.record.TheConstants.{MAX_RECORD};
 ghost use Rattle.nfs_items.specs.Timeval.{Timeval};
-ghost use Rattle.worlds.specs.World.{World};
-ghost use Rattle.service.specs.Replies.{reply_owed, world_after};
+ghost use Rattle.server_spec.specs.World.{World};
+ghost use Rattle.server_spec.specs.Replies.{reply_owed, world_after};
 ghost use Rattle.gateway.specs.declared.links.fault.LinkFault.{LinkFault};
 
 use crate::links::fault::LinkFault;

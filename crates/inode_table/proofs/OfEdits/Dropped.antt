@@ -1,11 +1,11 @@
 -- A file whose name is another's already loses it.
 -- Serves: drop_replaced, drop_target of src/renaming.rt.
 use Rattle.std.proofs.Common.{◌≡◌, ℕ, ◌+◌, Bool, cond, List, Option, Some, sym, ap, subst, ◌∙◌}
-use Rattle.fs_model.specs.nfs_items.Timeval.{Timeval}
-use Rattle.fs_model.specs.Files.{File, file_at, is_directory}
-use Rattle.fs_model.proofs.Walks.{none_some, some_same}
-use Rattle.nfs_counts.specs.nfs_spec.Changes.{after_unlink}
-use Rattle.nfs_counts.specs.CountChanges.{is_last_name, blocks_freed}
+use Rattle.fs_spec.specs.nfs_items.Timeval.{Timeval}
+use Rattle.fs_spec.specs.Files.{File, file_at, is_directory}
+use Rattle.fs_spec.proofs.Walks.{none_some, some_same}
+use Rattle.nfs_count_laws.specs.nfs_spec.Changes.{after_unlink}
+use Rattle.nfs_count_laws.specs.CountChanges.{is_last_name, blocks_freed}
 use Rattle.tree_rules.specs.inodes.declared.inode.Inode.{Inode}
 use Rattle.inode_table.specs.Edits.Slots.{MayUnname, DropsName}
 use Rattle.tree_rules.specs.inodes.Inodes.{links_at, stored_at}

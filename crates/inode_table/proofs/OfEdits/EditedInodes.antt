@@ -8,16 +8,16 @@ use Rattle.std.specs.BTreeMap.{BTreeMap}
 use Rattle.std.specs.Cmp.{nat_cmp_total}
 use Rattle.std.specs.FinMap as finite
 use Rattle.std.proofs.lemmas.Bool.{cases_eq}
-use Rattle.fs_model.specs.nfs_items.Timeval.{Timeval}
-use Rattle.fs_model.specs.Listing.{without_entry}
-use Rattle.fs_model.specs.Files.{File, Files, file_at, is_directory}
-use Rattle.fs_model.proofs.Walks.{none_some, some_same}
-use Rattle.fs_model.specs.Changes.Edits.{with_changed_file, with_new_file, without_file, map_listing}
-use Rattle.nfs_counts.specs.nfs_spec.Changes.{after_unlink}
-use Rattle.nfs_counts.specs.CountChanges.{is_last_name, blocks_freed}
-use Rattle.fs_model.proofs.OfChanges.Finite.{cmp_same, cmp_other, new_here, new_other, nothing_changes}
-use Rattle.fs_model.proofs.OfChanges.Finite.{changed_here}
-use Rattle.fs_model.proofs.OfChanges.Finite.{changed_other, gone_here, gone_other}
+use Rattle.fs_spec.specs.nfs_items.Timeval.{Timeval}
+use Rattle.fs_spec.specs.Listing.{without_entry}
+use Rattle.fs_spec.specs.Files.{File, Files, file_at, is_directory}
+use Rattle.fs_spec.proofs.Walks.{none_some, some_same}
+use Rattle.fs_spec.specs.Changes.Edits.{with_changed_file, with_new_file, without_file, map_listing}
+use Rattle.nfs_count_laws.specs.nfs_spec.Changes.{after_unlink}
+use Rattle.nfs_count_laws.specs.CountChanges.{is_last_name, blocks_freed}
+use Rattle.fs_spec.proofs.OfChanges.Finite.{cmp_same, cmp_other, new_here, new_other, nothing_changes}
+use Rattle.fs_spec.proofs.OfChanges.Finite.{changed_here}
+use Rattle.fs_spec.proofs.OfChanges.Finite.{changed_other, gone_here, gone_other}
 use Rattle.tree_rules.specs.inodes.declared.inode.Inode.{Inode}
 use Rattle.tree_rules.specs.inodes.Inodes.{body_in, file_in, inode_at, files_of, parent_in, links_at}
 use Rattle.tree_rules.specs.inodes.Inodes.{above_at}

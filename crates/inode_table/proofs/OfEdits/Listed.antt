@@ -5,17 +5,17 @@ use Rattle.std.proofs.Common.{Some, None, option_map, nat_eq, refl, sym, ap, ◌
 use Rattle.std.specs.Map.{remove_entry}
 use Rattle.std.specs.Cmp.Lexicographic.{pointwise, same_text}
 use Rattle.std.proofs.lemmas.Bool.{cases_eq}
-use Rattle.fs_model.specs.nfs_items.Timeval.{Timeval}
-use Rattle.fs_model.specs.Listing.{Listing, with_entry, without_entry, HasDistinctNames}
-use Rattle.fs_model.specs.Files.{Body, Regular, Symlink, Directory, File, Files, file_at, listing_in}
-use Rattle.fs_model.specs.Files.{is_directory}
-use Rattle.fs_model.specs.Changes.Edits.{with_changed_file, without_file, with_name, without_name}
-use Rattle.fs_model.specs.Changes.Edits.{map_body_listing}
-use Rattle.fs_model.specs.Changes.Edits.{map_listing}
-use Rattle.fs_model.proofs.OfChanges.Finite.{changed_here, changed_other, gone_here, gone_other}
-use Rattle.fs_model.proofs.OfChanges.Listings.{name_other}
-use Rattle.nfs_counts.specs.nfs_spec.Changes.{after_unlink, with_ctime}
-use Rattle.nfs_counts.proofs.nfs_laws.OfChanges.DirectoryEntries.{with_without}
+use Rattle.fs_spec.specs.nfs_items.Timeval.{Timeval}
+use Rattle.fs_spec.specs.Listing.{Listing, with_entry, without_entry, HasDistinctNames}
+use Rattle.fs_spec.specs.Files.{Body, Regular, Symlink, Directory, File, Files, file_at, listing_in}
+use Rattle.fs_spec.specs.Files.{is_directory}
+use Rattle.fs_spec.specs.Changes.Edits.{with_changed_file, without_file, with_name, without_name}
+use Rattle.fs_spec.specs.Changes.Edits.{map_body_listing}
+use Rattle.fs_spec.specs.Changes.Edits.{map_listing}
+use Rattle.fs_spec.proofs.OfChanges.Finite.{changed_here, changed_other, gone_here, gone_other}
+use Rattle.fs_spec.proofs.OfChanges.Listings.{name_other}
+use Rattle.nfs_count_laws.specs.nfs_spec.Changes.{after_unlink, with_ctime}
+use Rattle.nfs_count_laws.proofs.nfs_laws.OfChanges.DirectoryEntries.{with_without}
 use Rattle.inode_table.proofs.OfEdits.EditedInodes.{same_files}
 
 -- ---- listings

@@ -4,12 +4,12 @@ use Rattle.std.proofs.Common.{◌≡◌, ◌≢◌, ⊎_elim, ℕ, ◌+◌, ◌<
 use Rattle.std.proofs.Common.{IsSome, is_some, refl, sym, ap, subst, ◌∙◌}
 use Rattle.std.specs.Option.{option_map_or}
 use Rattle.std.proofs.lemmas.Bool.{cases_eq}
-use Rattle.fs_model.specs.nfs_items.Timeval.{Timeval}
-use Rattle.fs_model.specs.Files.{File, file_at, listing_in}
-use Rattle.fs_model.proofs.Walks.{none_some, some_same}
-use Rattle.fs_model.specs.Changes.Edits.{with_name}
-use Rattle.fs_model.proofs.OfChanges.Finite.{new_other, gone_here, gone_other}
-use Rattle.nfs_counts.specs.nfs_spec.Changes.{touch, with_mtime}
+use Rattle.fs_spec.specs.nfs_items.Timeval.{Timeval}
+use Rattle.fs_spec.specs.Files.{File, file_at, listing_in}
+use Rattle.fs_spec.proofs.Walks.{none_some, some_same}
+use Rattle.fs_spec.specs.Changes.Edits.{with_name}
+use Rattle.fs_spec.proofs.OfChanges.Finite.{new_other, gone_here, gone_other}
+use Rattle.nfs_count_laws.specs.nfs_spec.Changes.{touch, with_mtime}
 use Rattle.tree_rules.specs.inodes.declared.inode.Inode.{Inode}
 use Rattle.tree_rules.specs.inodes.Inodes.{body_in, file_in, files_of, inode_at, parent_in, links_at}
 use Rattle.tree_rules.specs.inodes.Inodes.{above_at}

@@ -2,10 +2,10 @@
 -- Serves: `linked_inodes`.
 use Rattle.std.proofs.Common.{◌≡◌, ℕ, List, Option, Some, None, true, option_map, refl, sym, ap, ◌∙◌}
 use Rattle.std.specs.Option.{option_map_or}
-use Rattle.fs_model.specs.Files.{File, file_at, is_directory, IsDirectory, parent_of}
-use Rattle.fs_model.proofs.Walks.{none_some, some_same}
-use Rattle.nfs_counts.specs.nfs_spec.FileAttributes.{nlink_of}
-use Rattle.nfs_counts.specs.Counted.{AreCounted}
+use Rattle.fs_spec.specs.Files.{File, file_at, is_directory, IsDirectory, parent_of}
+use Rattle.fs_spec.proofs.Walks.{none_some, some_same}
+use Rattle.nfs_count_laws.specs.nfs_spec.FileAttributes.{nlink_of}
+use Rattle.nfs_count_laws.specs.Counted.{AreCounted}
 use Rattle.tree_rules.specs.inodes.Inodes.{KeepsParent, body_in, file_in, files_of, inode_at, parent_in}
 use Rattle.tree_rules.specs.inodes.Inodes.{above_at}
 use Rattle.tree_rules.specs.inodes.Inodes.{links_at}

@@ -10,12 +10,12 @@ use Rattle.std.proofs.lemmas.List.{map-set}
 use Rattle.std.proofs.lemmas.Map.Entries.{place_from_lookup}
 use Rattle.std.proofs.lemmas.Option.{slice_get_within}
 use Rattle.std.specs.Ordering.{nat_cmp, eq_by_cmp}
-use Rattle.fs_model.specs.Files.{Body, Regular, Symlink, Directory, File, Files, file_at, is_directory}
-use Rattle.fs_model.specs.Files.{names_of, parent_of}
-use Rattle.fs_model.specs.Trees.{IsFileTree}
-use Rattle.fs_model.proofs.Walks.{some_same}
-use Rattle.fs_model.proofs.Counts.{same_number}
-use Rattle.nfs_counts.specs.nfs_spec.FileAttributes.{is_directory_at}
+use Rattle.fs_spec.specs.Files.{Body, Regular, Symlink, Directory, File, Files, file_at, is_directory}
+use Rattle.fs_spec.specs.Files.{names_of, parent_of}
+use Rattle.fs_spec.specs.Trees.{IsFileTree}
+use Rattle.fs_spec.proofs.Walks.{some_same}
+use Rattle.fs_spec.proofs.Counts.{same_number}
+use Rattle.nfs_count_laws.specs.nfs_spec.FileAttributes.{is_directory_at}
 use Rattle.tree_rules.specs.inodes.Inodes.{KeepsParent, body_in, file_in, parent_in}
 use Rattle.tree_rules.specs.inodes.declared.inode.Body as stored
 use Rattle.tree_rules.specs.inodes.declared.inode.Body.TheVariants as code

@@ -1,10 +1,10 @@
 -- What the steps of a move of an entry do to the files of inodes, and to what is kept beside them.
 use Rattle.std.specs.Prelude.{◌≡◌, ◌≢◌, ℕ, ◌+◌, Bool, List, Option, Some, None, if◌then◌else◌}
-use Rattle.fs_model.specs.nfs_items.Timeval.{Timeval}
-use Rattle.fs_model.specs.nfs_items.Terms.{FileNumber}
-use Rattle.fs_model.specs.Files.{File}
-use Rattle.nfs_counts.specs.nfs_spec.Changes.{after_unlink}
-use Rattle.nfs_counts.specs.CountChanges.{is_last_name, blocks_freed, CountsUnlinked}
+use Rattle.fs_spec.specs.nfs_items.Timeval.{Timeval}
+use Rattle.fs_spec.specs.nfs_items.Terms.{FileNumber}
+use Rattle.fs_spec.specs.Files.{File}
+use Rattle.nfs_count_laws.specs.nfs_spec.Changes.{after_unlink}
+use Rattle.nfs_count_laws.specs.CountChanges.{is_last_name, blocks_freed, CountsUnlinked}
 use Rattle.tree_rules.specs.inodes.declared.inode.Inode.{Inode}
 use Rattle.tree_rules.specs.inodes.Inodes.{files_of, stored_at, links_at, above_at}
 

@@ -1,16 +1,16 @@
 -- What an edit of inodes does to their files, and to what is kept beside them.
 use Rattle.std.specs.Prelude.{◌≡◌, ◌≢◌, ◌<◌, ℕ, ◌+◌, Bool, true, false, List, Some}
 use Rattle.std.specs.Prelude.{if◌then◌else◌}
-use Rattle.fs_model.specs.nfs_items.Timeval.{Timeval}
-use Rattle.fs_model.specs.nfs_items.Terms.{FileNumber, Name}
-use Rattle.fs_model.specs.Files.{File, is_directory}
-use Rattle.fs_model.specs.Trees.{IsBody}
-use Rattle.fs_model.specs.Changes.Edits.{with_changed_file, with_new_file, without_file, with_name}
-use Rattle.fs_model.specs.Changes.Edits.{without_name}
-use Rattle.fs_model.specs.Changes.Limits.{blocks_in}
-use Rattle.nfs_counts.specs.nfs_spec.Changes.{after_unlink}
-use Rattle.nfs_counts.specs.nfs_spec.Procedures.{add_file}
-use Rattle.nfs_counts.specs.CountChanges.{is_last_name, blocks_freed, CountsUnlinked}
+use Rattle.fs_spec.specs.nfs_items.Timeval.{Timeval}
+use Rattle.fs_spec.specs.nfs_items.Terms.{FileNumber, Name}
+use Rattle.fs_spec.specs.Files.{File, is_directory}
+use Rattle.fs_spec.specs.Trees.{IsBody}
+use Rattle.fs_spec.specs.Changes.Edits.{with_changed_file, with_new_file, without_file, with_name}
+use Rattle.fs_spec.specs.Changes.Edits.{without_name}
+use Rattle.fs_spec.specs.Changes.Limits.{blocks_in}
+use Rattle.nfs_count_laws.specs.nfs_spec.Changes.{after_unlink}
+use Rattle.nfs_count_laws.specs.nfs_spec.Procedures.{add_file}
+use Rattle.nfs_count_laws.specs.CountChanges.{is_last_name, blocks_freed, CountsUnlinked}
 use Rattle.tree_rules.specs.inodes.declared.inode.Inode.{Inode}
 use Rattle.tree_rules.specs.inodes.Inodes.{body_in, file_in, files_of, inode_at, parent_in, stored_at}
 use Rattle.tree_rules.specs.inodes.Inodes.{links_at}

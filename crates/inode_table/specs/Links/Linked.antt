@@ -1,8 +1,8 @@
 -- What is kept beside each file is what counting over all files gives.
 use Rattle.std.specs.Prelude.{◌≡◌, List, Some, true}
-use Rattle.fs_model.specs.nfs_items.Terms.{FileNumber}
-use Rattle.fs_model.specs.Files.{Body, Files, is_directory, parent_of}
-use Rattle.nfs_counts.specs.nfs_spec.FileAttributes.{nlink_of}
+use Rattle.fs_spec.specs.nfs_items.Terms.{FileNumber}
+use Rattle.fs_spec.specs.Files.{Body, Files, is_directory, parent_of}
+use Rattle.nfs_count_laws.specs.nfs_spec.FileAttributes.{nlink_of}
 use Rattle.tree_rules.specs.inodes.Inodes.{KeepsParent, body_in, inode_at}
 use Rattle.tree_rules.specs.inodes.declared.inode.Inode.{Inode}
 use Rattle.inode_table.specs.declared.links.links.Links.{Links}

@@ -1,14 +1,14 @@
 //! The steps of a move of an entry, by the inodes.
 
 ghost use Rattle.std.specs.Prelude.{◌≡◌, ◌≢◌, ◌<◌, ◌-◌, ◌^◌, ℕ, None, Some, true};
-ghost use Rattle.fs_model.specs.nfs_items.Terms.{FileNumber};
-ghost use Rattle.fs_model.specs.Files.{File};
+ghost use Rattle.fs_spec.specs.nfs_items.Terms.{FileNumber};
+ghost use Rattle.fs_spec.specs.Files.{File};
 ghost use Rattle.inode_table.specs.Edits.Slots.{MayUnname};
 ghost use Rattle.tree_rules.specs.inodes.Inodes.{links_at, stored_at};
 ghost use Rattle.inode_table.specs.Edits.Moves.{DropsTarget, GainsLink, LosesLink, LosesName};
 
 use crate::edits::slots;
-use fs_model::Time;
+use fs_spec::Time;
 use std::collections::BTreeMap;
 use tree_rules::Inode;
 

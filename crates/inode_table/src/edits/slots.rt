@@ -2,14 +2,14 @@
 
 ghost use Rattle.std.specs.Prelude.{◌≡◌, ◌<◌, ◌+◌, ◌-◌, ◌^◌, ℕ, IfOk, IsSome, OnOk, OnErr, Some, None, length};
 ghost use Rattle.std.specs.Prelude.{true, if◌then◌else◌};
-ghost use Rattle.fs_model.specs.Files.{File, is_directory, listing_in};
-ghost use Rattle.fs_model.specs.Listing.{with_entry, without_entry};
-ghost use Rattle.fs_model.specs.Trees.{IsBody};
-ghost use Rattle.fs_model.specs.Changes.Edits.{map_listing};
-ghost use Rattle.fs_model.specs.Changes.Limits.{blocks_in};
-ghost use Rattle.nfs_counts.specs.nfs_spec.Changes.{apply_fields, with_ctime, with_mtime};
-ghost use Rattle.nfs_counts.specs.CountChanges.{is_last_name};
-ghost use Rattle.nfs_counts.specs.nfs_laws.Sizes.Bounds.{HasWords};
+ghost use Rattle.fs_spec.specs.Files.{File, is_directory, listing_in};
+ghost use Rattle.fs_spec.specs.Listing.{with_entry, without_entry};
+ghost use Rattle.fs_spec.specs.Trees.{IsBody};
+ghost use Rattle.fs_spec.specs.Changes.Edits.{map_listing};
+ghost use Rattle.fs_spec.specs.Changes.Limits.{blocks_in};
+ghost use Rattle.nfs_count_laws.specs.nfs_spec.Changes.{apply_fields, with_ctime, with_mtime};
+ghost use Rattle.nfs_count_laws.specs.CountChanges.{is_last_name};
+ghost use Rattle.nfs_count_laws.specs.nfs_laws.Sizes.Bounds.{HasWords};
 ghost use Rattle.tree_rules.specs.inodes.Contents.{body_with_bytes_at};
 ghost use Rattle.tree_rules.specs.inodes.Given.{given_in};
 ghost use Rattle.tree_rules.specs.inodes.declared.inode.Inode as stored;
@@ -18,7 +18,7 @@ ghost use Rattle.inode_table.specs.Edits.Slots.{AddsEntry, AddsInode, AddsNamed,
 ghost use Rattle.inode_table.specs.Edits.Slots.{ChangesLinks, DropsName, IsBlockChange, MayUnname};
 ghost use Rattle.inode_table.specs.Edits.Slots.{RemovesInode, SetsParent, TakesEntry, Unnames};
 
-use fs_model::{Fattr, Time};
+use fs_spec::{Fattr, Time};
 use std::alloc::AllocError;
 use std::collections::BTreeMap;
 use tree_rules::{Given, Inode};

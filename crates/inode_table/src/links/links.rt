@@ -1,10 +1,10 @@
 //! What is kept beside each file of a tree: its links, and the directory above.
 
 ghost use Rattle.std.specs.Prelude.{◌≡◌, ◌<◌, ◌≤◌, ℕ, OnOk, OnErr, length, slice_index, true};
-ghost use Rattle.fs_model.specs.nfs_items.Terms.{FileNumber};
-ghost use Rattle.fs_model.specs.Maxima.{max_entries};
-ghost use Rattle.fs_model.specs.Files.{File, is_directory};
-ghost use Rattle.nfs_counts.specs.nfs_spec.FileAttributes.{is_directory_at, subdirectories};
+ghost use Rattle.fs_spec.specs.nfs_items.Terms.{FileNumber};
+ghost use Rattle.fs_spec.specs.Maxima.{max_entries};
+ghost use Rattle.fs_spec.specs.Files.{File, is_directory};
+ghost use Rattle.nfs_count_laws.specs.nfs_spec.FileAttributes.{is_directory_at, subdirectories};
 ghost use Rattle.tree_rules.specs.FileRules.Rules.{AreRising, IsAt, numbers_of};
 ghost use Rattle.tree_rules.specs.inodes.Inodes.{body_in, file_in, files_of, parent_in};
 ghost use Rattle.tree_rules.specs.Counting.{IsCount};

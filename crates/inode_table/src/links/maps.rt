@@ -1,9 +1,9 @@
 //! Inodes by their numbers.
 
 ghost use Rattle.std.specs.Prelude.{◌≡◌, ◌<◌, ◌≤◌, ◌∷◌, ℕ, IfOk, OnOk, Some, slice_get};
-ghost use Rattle.fs_model.specs.nfs_items.Terms.{FileNumber};
-ghost use Rattle.fs_model.specs.Maxima.{max_entries};
-ghost use Rattle.nfs_counts.specs.Counted.{AreCounted};
+ghost use Rattle.fs_spec.specs.nfs_items.Terms.{FileNumber};
+ghost use Rattle.fs_spec.specs.Maxima.{max_entries};
+ghost use Rattle.nfs_count_laws.specs.Counted.{AreCounted};
 ghost use Rattle.tree_rules.specs.FileRules.Rules.{AreRising, numbers_of};
 ghost use Rattle.tree_rules.specs.inodes.Inodes.{files_of, above_at, links_at};
 ghost use Rattle.tree_rules.specs.inodes.declared.inode.Inode as stored;

@@ -5,7 +5,7 @@ use Rattle.std.proofs.Common.{get_or, leb, ltb, refl, sym, ap, ◌∙◌, arith}
 use Rattle.std.proofs.lemmas.Bool.{leb-true, leb-false, lt-ltb, le-ltb, cond-true, cond-false}
 use Rattle.std.specs.List.{filter}
 use Rattle.std.specs.List.Sorted.{IsNonDecreasingBy, IsPartitionPoint}
-use Rattle.nfs_spec.specs.fs_model.Listing.{NamedEntry, IsRising, entry_cookie}
+use Rattle.nfs_spec.specs.fs_spec.Listing.{NamedEntry, IsRising, entry_cookie}
 use Rattle.nfs_spec.specs.nfs_types.Calls.{PageEntry}
 use Rattle.nfs_spec.specs.Readdir.{page_entry}
 

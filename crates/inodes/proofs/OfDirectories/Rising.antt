@@ -3,8 +3,8 @@
 use Rattle.std.proofs.Common.{ℕ, ◌+◌, ◌≤◌, Bool, List, [], ◌∷◌, ◌++◌, nat_eq, arith}
 use Rattle.std.specs.Map.{remove_entry}
 use Rattle.std.specs.Cmp.Lexicographic.{pointwise}
-use Rattle.nfs_spec.specs.fs_model.Listing.{IsRising}
-use Rattle.nfs_spec.proofs.fs_model.Cookies.{rising_pushed, rising_removed}
+use Rattle.nfs_spec.specs.fs_spec.Listing.{IsRising}
+use Rattle.nfs_spec.proofs.fs_spec.Cookies.{rising_pushed, rising_removed}
 
 -- with an entry less
 pub rising_without : (low : ℕ) (test : List ℕ → Bool) (es : List (List ℕ × (ℕ × ℕ))) (high : ℕ)

@@ -5,8 +5,8 @@ ghost use Rattle.std.specs.Prelude.{slice_index_or, ◌==◌, Some, None, OnOk, 
 ghost use Rattle.std.specs.Prelude.{nat_eq, nat_le};
 ghost use Rattle.std.specs.Cmp.Lexicographic.{pointwise};
 ghost use Rattle.std.specs.Map.{lookup, remove_entry};
-ghost use Rattle.nfs_spec.specs.fs_model.Listing.{NamedEntry, Listing, entry_at, entry_number, with_entry};
-ghost use Rattle.nfs_spec.specs.fs_model.Listing.{without_entry};
+ghost use Rattle.nfs_spec.specs.fs_spec.Listing.{NamedEntry, Listing, entry_at, entry_number, with_entry};
+ghost use Rattle.nfs_spec.specs.fs_spec.Listing.{without_entry};
 ghost use Rattle.inodes.specs.Directories.Entries.{entries_of};
 ghost use Rattle.inodes.specs.Directories.Pages.{above};
 ghost use Rattle.nfs_spec.specs.Effects.{number_in_listing};
@@ -43,7 +43,7 @@ pub struct Directory {
 }
 
 impl Model for Directory {
-    ghost use Rattle.nfs_spec.specs.fs_model.Listing.{Listing, IsRising};
+    ghost use Rattle.nfs_spec.specs.fs_spec.Listing.{Listing, IsRising};
     ghost use Rattle.inodes.specs.declared.directories.directory.TheConstants.{FIRST_COOKIE};
     ghost use Rattle.inodes.specs.Directories.Entries.{entries_of};
 

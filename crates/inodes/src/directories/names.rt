@@ -2,7 +2,7 @@
 
 ghost use Rattle.std.specs.Prelude.{◌≡◌, ◌==◌, ◌&&◌, not};
 ghost use Rattle.std.specs.List.{list_all};
-ghost use Rattle.nfs_spec.specs.fs_model.Names.{is_name};
+ghost use Rattle.nfs_spec.specs.fs_spec.Names.{is_name};
 
 /// Whether a name may stand in a directory: it is not empty, `.` or `..`, and no byte of it is zero or a
 /// slash.

@@ -1,7 +1,7 @@
 //! Pages of a directory.
 
 ghost use Rattle.std.specs.Prelude.{◌≡◌, ◌∷◌, [], List, OnOk, IfOk, map, min, false};
-ghost use Rattle.nfs_spec.specs.fs_model.Maxima.{max_data};
+ghost use Rattle.nfs_spec.specs.fs_spec.Maxima.{max_data};
 ghost use Rattle.nfs_spec.specs.Readdir.{page_entry};
 ghost use Rattle.nfs_spec.specs.nfs_types.Calls as calls;
 ghost use Rattle.nfs_spec.specs.nfs_types.Results.{entry_of, page_of};

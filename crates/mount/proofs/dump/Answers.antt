@@ -1,5 +1,5 @@
 use Rattle.std.proofs.Common.{arith}
-use Rattle.mount.proofs.Listed.{hosts_are_short}
+use Rattle.server_spec.proofs.Listed.{hosts_are_short}
 use Rattle.mount.proofs.dump.Goals as goal
 
 pub write_mount_result-requires : goal.write_mount_result-requires

@@ -7,7 +7,7 @@ use Rattle.std.proofs.lemmas.Bool.{leb-true, leb-false, ltb-true, ltb-false}
 use Rattle.std.proofs.lemmas.List.{get_or_past}
 use Rattle.nfs_spec.specs.nfs_items.Timeval.{Timeval}
 use Rattle.nfs_spec.specs.nfs_items.Caller.{Caller}
-use Rattle.nfs_spec.specs.fs_model.Files.{Regular, File, Files, file_at}
+use Rattle.nfs_spec.specs.fs_spec.Files.{Regular, File, Files, file_at}
 use Rattle.nfs_spec.specs.Sattr.{GivenFields}
 use Rattle.nfs_spec.specs.Changes.{with_length, body_with_length, with_bytes_at, apply_fields}
 use Rattle.nfs_spec.specs.Procedures.{with_bytes_written}

@@ -6,13 +6,13 @@ use Rattle.std.proofs.Common.{option_map, nat_eq, refl, sym, ap, ◌∙◌}
 use Rattle.std.specs.Map.{lookup, remove_entry}
 use Rattle.std.specs.Cmp.Lexicographic.{pointwise}
 use Rattle.nfs_spec.specs.nfs_items.Timeval.{Timeval}
-use Rattle.nfs_spec.specs.fs_model.Listing.{Listing, entry_at, with_entry, without_entry, HasDistinctNames}
-use Rattle.nfs_spec.specs.fs_model.Files.{Body, Regular, Symlink, Directory, File, Files, file_at}
-use Rattle.nfs_spec.specs.fs_model.Files.{is_directory}
-use Rattle.nfs_spec.proofs.fs_model.Walks.{none_some}
-use Rattle.nfs_spec.specs.fs_model.Changes.Edits.{with_changed_file, map_listing}
-use Rattle.nfs_spec.proofs.fs_model.OfChanges.Finite.{changed_here, changed_other}
-use Rattle.nfs_spec.proofs.fs_model.OfChanges.Listings.{without_entry_here}
+use Rattle.nfs_spec.specs.fs_spec.Listing.{Listing, entry_at, with_entry, without_entry, HasDistinctNames}
+use Rattle.nfs_spec.specs.fs_spec.Files.{Body, Regular, Symlink, Directory, File, Files, file_at}
+use Rattle.nfs_spec.specs.fs_spec.Files.{is_directory}
+use Rattle.nfs_spec.proofs.fs_spec.Walks.{none_some}
+use Rattle.nfs_spec.specs.fs_spec.Changes.Edits.{with_changed_file, map_listing}
+use Rattle.nfs_spec.proofs.fs_spec.OfChanges.Finite.{changed_here, changed_other}
+use Rattle.nfs_spec.proofs.fs_spec.OfChanges.Listings.{without_entry_here}
 use Rattle.nfs_spec.specs.Changes.{touch, with_mtime, with_ctime}
 use Rattle.nfs_laws.specs.Changes.Changed.{Becomes, ChangesCtime, IsTouched}
 

@@ -10,19 +10,19 @@ use Rattle.std.specs.Map.{lookup}
 use Rattle.std.specs.Cmp.Lexicographic.{pointwise}
 use Rattle.nfs_spec.specs.nfs_items.Timeval.{Timeval}
 use Rattle.nfs_spec.specs.nfs_items.Caller.{Caller}
-use Rattle.nfs_spec.specs.fs_model.Listing.{Listing, entry_at, with_entry, without_entry, HasDistinctNames}
-use Rattle.nfs_spec.specs.fs_model.Files.{Directory, File, Files, file_at, is_directory, listing_in}
-use Rattle.nfs_spec.specs.fs_model.Files.{directory_entries}
-use Rattle.nfs_spec.specs.fs_model.Files.{names_of}
-use Rattle.nfs_spec.specs.fs_model.Trees.{IsFileTree}
-use Rattle.nfs_spec.proofs.fs_model.Walks.{none_some, some_same}
-use Rattle.nfs_spec.proofs.fs_model.OnePath.{root_has_no_name}
-use Rattle.nfs_spec.specs.fs_model.Changes.Edits.{with_changed_file, with_new_file, with_name, without_name}
-use Rattle.nfs_spec.specs.fs_model.Changes.Edits.{map_listing}
-use Rattle.nfs_spec.proofs.fs_model.OfChanges.Finite.{new_here, new_other, changed_here, changed_other}
-use Rattle.nfs_spec.proofs.fs_model.OfChanges.Finite.{gone_here, gone_other}
-use Rattle.nfs_spec.proofs.fs_model.OfChanges.Listings.{leads, one_same}
-use Rattle.nfs_spec.proofs.fs_model.OfChanges.Shapes.{unnamed_shape}
+use Rattle.nfs_spec.specs.fs_spec.Listing.{Listing, entry_at, with_entry, without_entry, HasDistinctNames}
+use Rattle.nfs_spec.specs.fs_spec.Files.{Directory, File, Files, file_at, is_directory, listing_in}
+use Rattle.nfs_spec.specs.fs_spec.Files.{directory_entries}
+use Rattle.nfs_spec.specs.fs_spec.Files.{names_of}
+use Rattle.nfs_spec.specs.fs_spec.Trees.{IsFileTree}
+use Rattle.nfs_spec.proofs.fs_spec.Walks.{none_some, some_same}
+use Rattle.nfs_spec.proofs.fs_spec.OnePath.{root_has_no_name}
+use Rattle.nfs_spec.specs.fs_spec.Changes.Edits.{with_changed_file, with_new_file, with_name, without_name}
+use Rattle.nfs_spec.specs.fs_spec.Changes.Edits.{map_listing}
+use Rattle.nfs_spec.proofs.fs_spec.OfChanges.Finite.{new_here, new_other, changed_here, changed_other}
+use Rattle.nfs_spec.proofs.fs_spec.OfChanges.Finite.{gone_here, gone_other}
+use Rattle.nfs_spec.proofs.fs_spec.OfChanges.Listings.{leads, one_same}
+use Rattle.nfs_spec.proofs.fs_spec.OfChanges.Shapes.{unnamed_shape}
 use Rattle.nfs_spec.specs.Sattr.{GivenFields}
 use Rattle.nfs_spec.specs.Changes.{apply_fields, touch, with_mtime, touch_ctime, with_ctime, unlink}
 use Rattle.nfs_spec.specs.Changes.{after_unlink}

@@ -3,10 +3,10 @@
 -- (changes), by RenamedFiles.
 use Rattle.std.proofs.Common.{◌≡◌, ◌≢◌, ℕ, Bool, true, false, List, Option, Some, None, eqb, refl, ◌∙◌}
 use Rattle.nfs_spec.specs.nfs_items.Timeval.{Timeval}
-use Rattle.nfs_spec.specs.fs_model.Listing.{with_entry, without_entry}
-use Rattle.nfs_spec.specs.fs_model.Files.{File, Files, file_at, names_of}
-use Rattle.nfs_spec.specs.fs_model.Changes.Edits.{with_new_file, map_listing, with_name, without_name}
-use Rattle.nfs_spec.proofs.fs_model.OfChanges.Finite.{new_other, changed_other, gone_other}
+use Rattle.nfs_spec.specs.fs_spec.Listing.{with_entry, without_entry}
+use Rattle.nfs_spec.specs.fs_spec.Files.{File, Files, file_at, names_of}
+use Rattle.nfs_spec.specs.fs_spec.Changes.Edits.{with_new_file, map_listing, with_name, without_name}
+use Rattle.nfs_spec.proofs.fs_spec.OfChanges.Finite.{new_other, changed_other, gone_other}
 use Rattle.nfs_spec.specs.Changes.{touch, with_mtime, touch_ctime, with_ctime, unlink, after_unlink}
 use Rattle.nfs_spec.specs.Procedures.{add_file, unlink_target, move_entry}
 

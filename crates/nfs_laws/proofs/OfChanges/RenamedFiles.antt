@@ -6,18 +6,18 @@ use Rattle.std.proofs.Common.{None, eqb, option_map, append-nil, refl, sym, ap, 
 use Rattle.std.specs.Prelude.{◌&&◌, ◌||◌}
 use Rattle.nfs_spec.specs.nfs_items.Timeval.{Timeval}
 use Rattle.nfs_spec.specs.nfs_items.Caller.{Caller}
-use Rattle.nfs_spec.specs.fs_model.Listing.{Listing, entry_at, with_entry, without_entry, HasDistinctNames}
-use Rattle.nfs_spec.specs.fs_model.Paths.{path_at}
-use Rattle.nfs_spec.specs.fs_model.Files.{Directory, File, Files, file_at, is_directory, directory_entries}
-use Rattle.nfs_spec.specs.fs_model.Files.{parent_of}
-use Rattle.nfs_spec.specs.fs_model.Files.{names_of}
-use Rattle.nfs_spec.specs.fs_model.Trees.{IsFileTree}
-use Rattle.nfs_spec.proofs.fs_model.Walks.{some_same, step_last}
-use Rattle.nfs_spec.proofs.fs_model.OnePath.{one_path}
-use Rattle.nfs_spec.specs.fs_model.Changes.Edits.{with_name, without_name, map_listing}
-use Rattle.nfs_spec.specs.fs_model.Changes.Limits.{file_count}
-use Rattle.nfs_spec.proofs.fs_model.OfChanges.Finite.{changed_here, changed_other, gone_other}
-use Rattle.nfs_spec.proofs.fs_model.OfEditedTrees.PathChanges.{no_return}
+use Rattle.nfs_spec.specs.fs_spec.Listing.{Listing, entry_at, with_entry, without_entry, HasDistinctNames}
+use Rattle.nfs_spec.specs.fs_spec.Paths.{path_at}
+use Rattle.nfs_spec.specs.fs_spec.Files.{Directory, File, Files, file_at, is_directory, directory_entries}
+use Rattle.nfs_spec.specs.fs_spec.Files.{parent_of}
+use Rattle.nfs_spec.specs.fs_spec.Files.{names_of}
+use Rattle.nfs_spec.specs.fs_spec.Trees.{IsFileTree}
+use Rattle.nfs_spec.proofs.fs_spec.Walks.{some_same, step_last}
+use Rattle.nfs_spec.proofs.fs_spec.OnePath.{one_path}
+use Rattle.nfs_spec.specs.fs_spec.Changes.Edits.{with_name, without_name, map_listing}
+use Rattle.nfs_spec.specs.fs_spec.Changes.Limits.{file_count}
+use Rattle.nfs_spec.proofs.fs_spec.OfChanges.Finite.{changed_here, changed_other, gone_other}
+use Rattle.nfs_spec.proofs.fs_spec.OfEditedTrees.PathChanges.{no_return}
 use Rattle.nfs_spec.specs.Changes.{touch, with_mtime, touch_ctime, with_ctime, unlink, after_unlink}
 use Rattle.nfs_spec.specs.Procedures.{climbs_to, is_above, unlink_target}
 use Rattle.nfs_laws.proofs.OfTrees.FilesFit.{dir_file}

@@ -7,13 +7,13 @@ use Rattle.std.specs.Prelude.{if◌then◌else◌, ◌==◌, length}
 use Rattle.std.proofs.lemmas.Bool.{cases_eq}
 use Rattle.nfs_spec.specs.nfs_items.Timeval.{Timeval}
 use Rattle.nfs_spec.specs.nfs_items.Caller.{Caller}
-use Rattle.nfs_spec.specs.fs_model.Listing.{Listing, with_entry, without_entry}
-use Rattle.nfs_spec.specs.fs_model.Files.{Regular, File, Files, file_at, directory_entries, names_of}
-use Rattle.nfs_spec.proofs.fs_model.Walks.{some_same}
-use Rattle.nfs_spec.specs.fs_model.Changes.Edits.{with_changed_file, with_new_file, without_file, with_name}
-use Rattle.nfs_spec.specs.fs_model.Changes.Edits.{without_name, map_listing}
-use Rattle.nfs_spec.proofs.fs_model.OfChanges.Finite.{new_other, changed_here, changed_other, gone_here}
-use Rattle.nfs_spec.proofs.fs_model.OfChanges.Finite.{gone_other}
+use Rattle.nfs_spec.specs.fs_spec.Listing.{Listing, with_entry, without_entry}
+use Rattle.nfs_spec.specs.fs_spec.Files.{Regular, File, Files, file_at, directory_entries, names_of}
+use Rattle.nfs_spec.proofs.fs_spec.Walks.{some_same}
+use Rattle.nfs_spec.specs.fs_spec.Changes.Edits.{with_changed_file, with_new_file, without_file, with_name}
+use Rattle.nfs_spec.specs.fs_spec.Changes.Edits.{without_name, map_listing}
+use Rattle.nfs_spec.proofs.fs_spec.OfChanges.Finite.{new_other, changed_here, changed_other, gone_here}
+use Rattle.nfs_spec.proofs.fs_spec.OfChanges.Finite.{gone_other}
 use Rattle.nfs_spec.specs.nfs_items.declared.sattr.Sattr.{Sattr}
 use Rattle.nfs_spec.specs.Sattr.{given_fields}
 use Rattle.nfs_spec.specs.Changes.{apply_fields, touch, with_mtime, touch_ctime, with_ctime, unlink}

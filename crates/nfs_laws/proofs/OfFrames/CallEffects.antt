@@ -4,10 +4,10 @@ use Rattle.std.proofs.Common.{◌≡◌, ⊎_elim, ℕ, true, false, List, Some,
 use Rattle.std.specs.Prelude.{◌==◌, length, if◌then◌else◌}
 use Rattle.nfs_spec.specs.nfs_items.Timeval.{Timeval}
 use Rattle.nfs_spec.specs.nfs_items.Caller.{Caller}
-use Rattle.nfs_spec.specs.fs_model.Files.{File, Files}
-use Rattle.nfs_spec.specs.fs_model.Trees.{IsFileTree}
-use Rattle.nfs_spec.proofs.fs_model.Walks.{none_some, some_same}
-use Rattle.nfs_spec.specs.fs_model.Changes.Edits.{with_changed_file}
+use Rattle.nfs_spec.specs.fs_spec.Files.{File, Files}
+use Rattle.nfs_spec.specs.fs_spec.Trees.{IsFileTree}
+use Rattle.nfs_spec.proofs.fs_spec.Walks.{none_some, some_same}
+use Rattle.nfs_spec.specs.fs_spec.Changes.Edits.{with_changed_file}
 use Rattle.nfs_spec.specs.Sattr.{GivenFields, given_fields}
 use Rattle.nfs_spec.specs.Procedures.{with_bytes_written}
 use Rattle.nfs_spec.specs.nfs_types.Calls as calls

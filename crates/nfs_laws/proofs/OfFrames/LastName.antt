@@ -6,17 +6,17 @@ use Rattle.std.specs.Prelude.{◌==◌}
 use Rattle.std.proofs.lemmas.Bool.{cases_eq}
 use Rattle.nfs_spec.specs.nfs_items.Timeval.{Timeval}
 use Rattle.nfs_spec.specs.nfs_items.Caller.{Caller}
-use Rattle.nfs_spec.specs.fs_model.Files.{File, Files, file_at, listing_in, is_directory, directory_entries}
-use Rattle.nfs_spec.specs.fs_model.Files.{names_of}
-use Rattle.nfs_spec.specs.fs_model.Trees.{IsTime, IsFileTree}
-use Rattle.nfs_spec.proofs.fs_model.Walks.{none_some, some_same}
-use Rattle.nfs_spec.proofs.fs_model.Reached.{path_there}
-use Rattle.nfs_spec.proofs.fs_model.OnePath.{root_has_no_name}
-use Rattle.nfs_spec.specs.fs_model.Changes.Edits.{without_name}
-use Rattle.nfs_spec.proofs.fs_model.OfChanges.Finite.{changed_here, changed_other, gone_here}
-use Rattle.nfs_spec.proofs.fs_model.OfChanges.Shapes.{kind}
-use Rattle.nfs_spec.proofs.fs_model.OfChanges.Listings.{one_same}
-use Rattle.nfs_spec.proofs.fs_model.OfEditedTrees.Taking.{IsTaken, stays_taken}
+use Rattle.nfs_spec.specs.fs_spec.Files.{File, Files, file_at, listing_in, is_directory, directory_entries}
+use Rattle.nfs_spec.specs.fs_spec.Files.{names_of}
+use Rattle.nfs_spec.specs.fs_spec.Trees.{IsTime, IsFileTree}
+use Rattle.nfs_spec.proofs.fs_spec.Walks.{none_some, some_same}
+use Rattle.nfs_spec.proofs.fs_spec.Reached.{path_there}
+use Rattle.nfs_spec.proofs.fs_spec.OnePath.{root_has_no_name}
+use Rattle.nfs_spec.specs.fs_spec.Changes.Edits.{without_name}
+use Rattle.nfs_spec.proofs.fs_spec.OfChanges.Finite.{changed_here, changed_other, gone_here}
+use Rattle.nfs_spec.proofs.fs_spec.OfChanges.Shapes.{kind}
+use Rattle.nfs_spec.proofs.fs_spec.OfChanges.Listings.{one_same}
+use Rattle.nfs_spec.proofs.fs_spec.OfEditedTrees.Taking.{IsTaken, stays_taken}
 use Rattle.nfs_spec.specs.Changes.{touch, with_mtime, with_ctime, unlink, after_unlink}
 use Rattle.nfs_spec.specs.Procedures.{remove, remove_dir}
 use Rattle.nfs_laws.proofs.OfTrees.FilesFit.{is_dir}

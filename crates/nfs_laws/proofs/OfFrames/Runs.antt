@@ -5,12 +5,12 @@ use Rattle.std.proofs.Common.{IsSome, is_some, option_map, option_and_then, refl
 use Rattle.std.specs.Prelude.{IsTrue}
 use Rattle.nfs_spec.specs.nfs_items.Timeval.{Timeval}
 use Rattle.nfs_spec.specs.nfs_items.Caller.{Caller}
-use Rattle.nfs_spec.specs.fs_model.Listing.{entry_at}
-use Rattle.nfs_spec.specs.fs_model.Files.{Body, Regular, Symlink, Directory, File, Files, file_at}
-use Rattle.nfs_spec.specs.fs_model.Files.{is_directory, listing_in, IsDirectory}
-use Rattle.nfs_spec.specs.fs_model.Trees.{IsFileTree}
-use Rattle.nfs_spec.proofs.fs_model.Walks.{none_some}
-use Rattle.nfs_spec.specs.fs_model.Changes.Limits.{has_room}
+use Rattle.nfs_spec.specs.fs_spec.Listing.{entry_at}
+use Rattle.nfs_spec.specs.fs_spec.Files.{Body, Regular, Symlink, Directory, File, Files, file_at}
+use Rattle.nfs_spec.specs.fs_spec.Files.{is_directory, listing_in, IsDirectory}
+use Rattle.nfs_spec.specs.fs_spec.Trees.{IsFileTree}
+use Rattle.nfs_spec.proofs.fs_spec.Walks.{none_some}
+use Rattle.nfs_spec.specs.fs_spec.Changes.Limits.{has_room}
 use Rattle.nfs_spec.specs.nfs_types.Calls.{Call}
 use Rattle.nfs_spec.specs.NfsCalls.{call_does}
 use Rattle.nfs_laws.specs.Trees.Anew.{GivesAnew}

@@ -8,10 +8,10 @@ use Rattle.std.specs.Option.{option_map_or}
 use Rattle.nfs_spec.specs.nfs_items.Timeval.{Timeval}
 use Rattle.nfs_spec.specs.nfs_items.Caller.{Caller}
 use Rattle.nfs_spec.specs.nfs_items.declared.stat.Stat.{Stat}
-use Rattle.nfs_spec.specs.fs_model.Files.{File, Files, file_at, directory_entries}
-use Rattle.nfs_spec.proofs.fs_model.Walks.{none_some, some_same}
-use Rattle.nfs_spec.specs.fs_model.Changes.Edits.{with_changed_file}
-use Rattle.nfs_spec.proofs.fs_model.OfChanges.Finite.{changed_other}
+use Rattle.nfs_spec.specs.fs_spec.Files.{File, Files, file_at, directory_entries}
+use Rattle.nfs_spec.proofs.fs_spec.Walks.{none_some, some_same}
+use Rattle.nfs_spec.specs.fs_spec.Changes.Edits.{with_changed_file}
+use Rattle.nfs_spec.proofs.fs_spec.OfChanges.Finite.{changed_other}
 use Rattle.nfs_spec.specs.Sattr.{GivenFields, given_fields}
 use Rattle.nfs_spec.specs.Changes.{apply_fields}
 use Rattle.nfs_spec.specs.Procedures.{with_bytes_written}

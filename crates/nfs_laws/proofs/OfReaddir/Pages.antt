@@ -7,8 +7,8 @@ use Rattle.std.specs.Prelude.{◌↔◌}
 use Rattle.std.proofs.lemmas.Bool.{ltb-true, ltb-false, lt-ltb, le-ltb, leb-true, leb-false, eqb-true, eq-eqb}
 use Rattle.std.proofs.lemmas.Bool.{cond-true, cond-false}
 use Rattle.std.proofs.lemmas.List.Sums.{sum_by-cons}
-use Rattle.nfs_spec.specs.fs_model.Listing.{Listing, IsRising}
-use Rattle.nfs_spec.specs.fs_model.Files.{Files}
+use Rattle.nfs_spec.specs.fs_spec.Listing.{Listing, IsRising}
+use Rattle.nfs_spec.specs.fs_spec.Files.{Files}
 use Rattle.nfs_spec.specs.nfs_types.Calls.{PageEntry}
 use Rattle.nfs_spec.specs.Readdir.{cost, longest_front, page_of, dir_entries}
 use Rattle.nfs_laws.specs.Readdir.Pages.{last_cookie, pages, entries_above, RisesAbove, IsLongestFront}

@@ -9,9 +9,9 @@ use Rattle.nfs_spec.specs.nfs_items.Caller.{Caller}
 use Rattle.nfs_spec.specs.nfs_items.Handle.{FileHandle}
 use Rattle.nfs_spec.specs.nfs_items.declared.stat.Stat.{Stat}
 use Rattle.nfs_spec.specs.nfs_items.declared.stat.Stat.TheVariants as stats
-use Rattle.nfs_spec.specs.fs_model.Listing.{Listing, IsRising}
-use Rattle.nfs_spec.specs.fs_model.Files.{Body, Regular, Symlink, Directory, File, Files, file_at}
-use Rattle.nfs_spec.specs.fs_model.Trees.{IsBody, IsFileTree}
+use Rattle.nfs_spec.specs.fs_spec.Listing.{Listing, IsRising}
+use Rattle.nfs_spec.specs.fs_spec.Files.{Body, Regular, Symlink, Directory, File, Files, file_at}
+use Rattle.nfs_spec.specs.fs_spec.Trees.{IsBody, IsFileTree}
 use Rattle.nfs_spec.specs.ProcedureChecks.{◌>>=◌, NumberedDir, ok_or, listing_or, dir_of, may_read, check}
 use Rattle.nfs_spec.specs.nfs_types.Calls.{PageEntry, Page}
 use Rattle.nfs_spec.specs.Readdir.{dir_entries, page_of}

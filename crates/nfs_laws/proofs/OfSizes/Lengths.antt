@@ -24,8 +24,8 @@ use Rattle.nfs_spec.specs.nfs_types.Calls.{PageEntry, Page, Call, Answer}
 use Rattle.nfs_spec.specs.nfs_types.Items.{path, nfsdata, entry, fs_stats}
 use Rattle.nfs_spec.specs.nfs_types.Texts.{entry_value, fs_stats_value, answer_text}
 use Rattle.nfs_spec.specs.nfs_types.declared.results.FsStats.{FsStats}
-use Rattle.nfs_spec.specs.fs_model.Files.{Files}
-use Rattle.nfs_spec.specs.fs_model.Trees.{IsBody, IsFileTree}
+use Rattle.nfs_spec.specs.fs_spec.Files.{Files}
+use Rattle.nfs_spec.specs.fs_spec.Trees.{IsBody, IsFileTree}
 use Rattle.nfs_spec.specs.ProcedureChecks.{◌>>=◌}
 use Rattle.nfs_spec.specs.Changes.{Effect}
 use Rattle.nfs_spec.specs.Effects.{getattr, lookup, attributes_at}
@@ -66,7 +66,8 @@ stat_length a stats.WFlush = alone 99
 fattr_length : (a : Fattr) → length (spelling fattr (fattr_value a)) ≡ 68
 fattr_length a = simp (length-append, length-number_spelling)
 
-handle_length : (fsid n : ℕ) → length (handle_of fsid n) ≡ 32
+-- a file handle has 32 bytes
+pub handle_length : (fsid n : ℕ) → length (handle_of fsid n) ≡ 32
 unfolding handle_of
 handle_length fsid n = refl
 
@@ -84,7 +85,7 @@ outcome_length a view most (Ok x) short =
 outcome_length a view most (Err e) short = omega (arith, stat_length a e)
 
 -- bytes after their length, where at most `most` of them are given, which is a multiple of four
-opaque_length : (max : ℕ) (bytes : List ℕ)
+pub opaque_length : (max : ℕ) (bytes : List ℕ)
     → length (spelling (opaque max) bytes) ≡ 4 + 4 * ((length bytes + 3) / 4)
 opaque_length max bytes =
     omega (

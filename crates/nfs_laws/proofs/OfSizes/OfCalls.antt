@@ -13,9 +13,9 @@ use Rattle.nfs_spec.specs.nfs_items.Handle.{fhandle, handle_of}
 use Rattle.nfs_spec.specs.nfs_items.Attributes.{fattr, fattr_value}
 use Rattle.nfs_spec.specs.nfs_items.declared.attributes.Fattr.{Fattr}
 use Rattle.nfs_spec.specs.nfs_items.declared.stat.Stat.{Stat}
-use Rattle.nfs_spec.specs.fs_model.Files.{Files, is_directory, listing_in}
-use Rattle.nfs_spec.specs.fs_model.Trees.{IsBody}
-use Rattle.nfs_spec.proofs.fs_model.Walks.{none_some}
+use Rattle.nfs_spec.specs.fs_spec.Files.{Files, is_directory, listing_in}
+use Rattle.nfs_spec.specs.fs_spec.Trees.{IsBody}
+use Rattle.nfs_spec.proofs.fs_spec.Walks.{none_some}
 use Rattle.nfs_spec.specs.ProcedureChecks.{file_of}
 use Rattle.nfs_spec.specs.Effects.{getattr, lookup}
 use Rattle.nfs_spec.specs.LawTerms.{stat_in}

@@ -15,17 +15,17 @@ use Rattle.nfs_spec.specs.nfs_items.Attributes.{ftype, ftype_number, fattr, fatt
 use Rattle.nfs_spec.specs.nfs_items.Attributes.{outcome_value}
 use Rattle.nfs_spec.specs.nfs_items.declared.stat.Stat.{Stat}
 use Rattle.nfs_spec.specs.nfs_items.declared.stat.Stat.TheVariants as stats
-use Rattle.nfs_spec.specs.fs_model.Listing.{Listing, entry_at, IsRising, HasDistinctNames}
-use Rattle.nfs_spec.specs.fs_model.Files.{Body, Regular, Symlink, Directory, File, Files, file_at, listing_in}
-use Rattle.nfs_spec.specs.fs_model.Files.{is_directory, directory_entries, one_if, names_in, parent_of}
-use Rattle.nfs_spec.specs.fs_model.Trees.{IsBody, IsFileTree}
-use Rattle.nfs_spec.proofs.fs_model.Walks.{none_some}
-use Rattle.nfs_spec.proofs.fs_model.Reached.{not_before}
-use Rattle.nfs_spec.proofs.fs_model.Parents.{parent_there}
-use Rattle.nfs_spec.specs.fs_model.Changes.Limits.{entry_count}
-use Rattle.nfs_spec.proofs.fs_model.OfChanges.Finite.{total_without}
-use Rattle.nfs_spec.proofs.fs_model.OfChanges.Listings.{name_self}
-use Rattle.nfs_spec.proofs.fs_model.OfChanges.Room.{AllCookies, IsWithin}
+use Rattle.nfs_spec.specs.fs_spec.Listing.{Listing, entry_at, IsRising, HasDistinctNames}
+use Rattle.nfs_spec.specs.fs_spec.Files.{Body, Regular, Symlink, Directory, File, Files, file_at, listing_in}
+use Rattle.nfs_spec.specs.fs_spec.Files.{is_directory, directory_entries, one_if, names_in, parent_of}
+use Rattle.nfs_spec.specs.fs_spec.Trees.{IsBody, IsFileTree}
+use Rattle.nfs_spec.proofs.fs_spec.Walks.{none_some}
+use Rattle.nfs_spec.proofs.fs_spec.Reached.{not_before}
+use Rattle.nfs_spec.proofs.fs_spec.Parents.{parent_there}
+use Rattle.nfs_spec.specs.fs_spec.Changes.Limits.{entry_count}
+use Rattle.nfs_spec.proofs.fs_spec.OfChanges.Finite.{total_without}
+use Rattle.nfs_spec.proofs.fs_spec.OfChanges.Listings.{name_self}
+use Rattle.nfs_spec.proofs.fs_spec.OfChanges.Room.{AllCookies, IsWithin}
 use Rattle.nfs_spec.specs.FileAttributes.{type_of, type_bits, nlink_of, size_of, is_directory_at}
 use Rattle.nfs_spec.specs.FileAttributes.{attributes_of}
 use Rattle.nfs_spec.specs.nfs_types.Calls.{PageEntry}

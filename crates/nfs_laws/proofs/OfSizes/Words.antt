@@ -1,20 +1,20 @@
 -- Owners, groups and seconds that are words are words after each call.
--- Serves: `laws::answers_have_a_spelling` (its clause `words`); the laws of nfs_counts.
+-- Serves: `laws::answers_have_a_spelling` (its clause `words`); the laws of nfs_count_laws.
 use Rattle.std.proofs.Common.{◌≡◌, ⊎_elim, ℕ, ◌<◌, ◌^◌, Bool, true, false, cond, List, [], length, replicate}
 use Rattle.std.proofs.Common.{Option, Some, None, option_map, is_some, refl, sym, subst, ◌∙◌}
 use Rattle.std.specs.Prelude.{◌==◌, unwrap_or, nat_lt, if◌then◌else◌}
 use Rattle.std.proofs.lemmas.Bool.{cases_eq}
 use Rattle.nfs_spec.specs.nfs_items.Timeval.{Timeval}
 use Rattle.nfs_spec.specs.nfs_items.Caller.{Caller}
-use Rattle.nfs_spec.specs.fs_model.Listing.{Listing}
-use Rattle.nfs_spec.specs.fs_model.Files.{Body, Regular, Symlink, Directory, File, Files, file_at}
-use Rattle.nfs_spec.specs.fs_model.Files.{directory_entries}
-use Rattle.nfs_spec.specs.fs_model.Files.{names_of}
-use Rattle.nfs_spec.proofs.fs_model.Walks.{none_some, some_same}
-use Rattle.nfs_spec.specs.fs_model.Changes.Edits.{with_changed_file, with_new_file, without_file, with_name}
-use Rattle.nfs_spec.specs.fs_model.Changes.Edits.{without_name, map_listing}
-use Rattle.nfs_spec.proofs.fs_model.OfChanges.Finite.{changed_here, changed_other, gone_here, gone_other}
-use Rattle.nfs_spec.proofs.fs_model.OfChanges.Finite.{new_here, new_other}
+use Rattle.nfs_spec.specs.fs_spec.Listing.{Listing}
+use Rattle.nfs_spec.specs.fs_spec.Files.{Body, Regular, Symlink, Directory, File, Files, file_at}
+use Rattle.nfs_spec.specs.fs_spec.Files.{directory_entries}
+use Rattle.nfs_spec.specs.fs_spec.Files.{names_of}
+use Rattle.nfs_spec.proofs.fs_spec.Walks.{none_some, some_same}
+use Rattle.nfs_spec.specs.fs_spec.Changes.Edits.{with_changed_file, with_new_file, without_file, with_name}
+use Rattle.nfs_spec.specs.fs_spec.Changes.Edits.{without_name, map_listing}
+use Rattle.nfs_spec.proofs.fs_spec.OfChanges.Finite.{changed_here, changed_other, gone_here, gone_other}
+use Rattle.nfs_spec.proofs.fs_spec.OfChanges.Finite.{new_here, new_other}
 use Rattle.nfs_spec.specs.nfs_items.declared.sattr.Sattr.{Sattr}
 use Rattle.nfs_spec.specs.Sattr.{GivenFields, given_fields, gives_any, no_fields}
 use Rattle.nfs_spec.specs.Changes.{touch, with_mtime, touch_ctime, with_ctime, unlink, apply_fields, new_file}

@@ -1,14 +1,14 @@
 -- A file that a call set, wrote or made is there after it.
--- Serves: stats_of_calls (nfs_errors); setattr, write, create and make_dir (nfs_procs).
+-- Serves: stats_of_calls (nfs_error_laws); setattr, write, create and make_dir (nfs_procs).
 use Rattle.std.proofs.Common.{◌≡◌, ⊎_elim, ℕ, Bool, true, false, cond, List, length, Option, Some, None}
 use Rattle.std.proofs.Common.{is_some, option_map, refl, sym, ap, subst, ◌∙◌}
 use Rattle.std.specs.Prelude.{IsSome, ◌==◌}
 use Rattle.std.proofs.lemmas.Bool.{cases_eq}
 use Rattle.nfs_spec.specs.nfs_items.Timeval.{Timeval}
 use Rattle.nfs_spec.specs.nfs_items.Caller.{Caller}
-use Rattle.nfs_spec.specs.fs_model.Files.{File, Files, file_at, directory_entries}
-use Rattle.nfs_spec.specs.fs_model.Changes.Edits.{with_changed_file, with_new_file, with_name}
-use Rattle.nfs_spec.proofs.fs_model.OfChanges.Finite.{changed_here, changed_other, new_here}
+use Rattle.nfs_spec.specs.fs_spec.Files.{File, Files, file_at, directory_entries}
+use Rattle.nfs_spec.specs.fs_spec.Changes.Edits.{with_changed_file, with_new_file, with_name}
+use Rattle.nfs_spec.proofs.fs_spec.OfChanges.Finite.{changed_here, changed_other, new_here}
 use Rattle.nfs_spec.specs.Sattr.{GivenFields}
 use Rattle.nfs_spec.specs.Changes.{apply_fields}
 use Rattle.nfs_spec.specs.Procedures.{with_bytes_written, add_file}

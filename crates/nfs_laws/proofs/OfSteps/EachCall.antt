@@ -8,7 +8,7 @@ use Rattle.nfs_spec.specs.nfs_items.Caller.{Caller}
 use Rattle.nfs_spec.specs.nfs_items.Handle.{handle_of}
 use Rattle.nfs_spec.specs.nfs_items.declared.attributes.Fattr.{Fattr}
 use Rattle.nfs_spec.specs.nfs_items.declared.stat.Stat.{Stat}
-use Rattle.nfs_spec.specs.fs_model.Files.{Files}
+use Rattle.nfs_spec.specs.fs_spec.Files.{Files}
 use Rattle.nfs_spec.specs.nfs_items.declared.sattr.Sattr.{Sattr}
 use Rattle.nfs_spec.specs.Sattr.{given_fields}
 use Rattle.nfs_spec.specs.Changes.{Effect}

@@ -8,12 +8,12 @@ use Rattle.nfs_spec.specs.nfs_items.Timeval.{Timeval}
 use Rattle.nfs_spec.specs.nfs_items.Caller.{Caller}
 use Rattle.nfs_spec.specs.nfs_items.declared.stat.Stat.{Stat}
 use Rattle.nfs_spec.specs.nfs_items.declared.stat.Stat.TheVariants as stats
-use Rattle.nfs_spec.specs.fs_model.Listing.{entry_at}
-use Rattle.nfs_spec.specs.fs_model.Names.{is_name}
-use Rattle.nfs_spec.specs.fs_model.Files.{Body, Regular, Symlink, Directory, File, Files, is_directory}
-use Rattle.nfs_spec.specs.fs_model.Files.{directory_entries}
-use Rattle.nfs_spec.specs.fs_model.Changes.Edits.{with_name}
-use Rattle.nfs_spec.specs.fs_model.Changes.Limits.{has_room}
+use Rattle.nfs_spec.specs.fs_spec.Listing.{entry_at}
+use Rattle.nfs_spec.specs.fs_spec.Names.{is_name}
+use Rattle.nfs_spec.specs.fs_spec.Files.{Body, Regular, Symlink, Directory, File, Files, is_directory}
+use Rattle.nfs_spec.specs.fs_spec.Files.{directory_entries}
+use Rattle.nfs_spec.specs.fs_spec.Changes.Edits.{with_name}
+use Rattle.nfs_spec.specs.fs_spec.Changes.Limits.{has_room}
 use Rattle.nfs_spec.specs.ProcedureChecks.{NumberedDir, file_of, dir_of, check, check_size, check_room}
 use Rattle.nfs_spec.specs.ProcedureChecks.{check_edit, check_free, may_search, may_write}
 use Rattle.nfs_spec.specs.Sattr.{GivenFields}

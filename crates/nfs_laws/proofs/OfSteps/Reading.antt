@@ -6,8 +6,8 @@ use Rattle.nfs_spec.specs.nfs_items.Caller.{Caller}
 use Rattle.nfs_spec.specs.nfs_items.Handle.{number_in}
 use Rattle.nfs_spec.specs.nfs_items.declared.attributes.Fattr.{Fattr}
 use Rattle.nfs_spec.specs.nfs_items.declared.stat.Stat.TheVariants as stats
-use Rattle.nfs_spec.specs.fs_model.Listing.{Listing}
-use Rattle.nfs_spec.specs.fs_model.Files.{Body, Regular, Symlink, Directory, Files, is_directory, listing_in}
+use Rattle.nfs_spec.specs.fs_spec.Listing.{Listing}
+use Rattle.nfs_spec.specs.fs_spec.Files.{Body, Regular, Symlink, Directory, Files, is_directory, listing_in}
 use Rattle.nfs_spec.specs.ProcedureChecks.{file_of, number_of, dir_of, bytes_of, check, permits, may_read}
 use Rattle.nfs_spec.specs.Effects.{attributes_at, number_at_name, getattr, lookup}
 use Rattle.nfs_spec.specs.nfs_types.Calls.{Page}

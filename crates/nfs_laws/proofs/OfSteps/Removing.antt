@@ -6,8 +6,8 @@ use Rattle.std.proofs.lemmas.Bool.{not-true, eqb-true}
 use Rattle.nfs_spec.specs.nfs_items.Timeval.{Timeval}
 use Rattle.nfs_spec.specs.nfs_items.Caller.{Caller}
 use Rattle.nfs_spec.specs.nfs_items.declared.stat.Stat.TheVariants as stats
-use Rattle.nfs_spec.specs.fs_model.Listing.{Listing}
-use Rattle.nfs_spec.specs.fs_model.Files.{Files, is_directory}
+use Rattle.nfs_spec.specs.fs_spec.Listing.{Listing}
+use Rattle.nfs_spec.specs.fs_spec.Files.{Files, is_directory}
 use Rattle.nfs_spec.specs.ProcedureChecks.{file_of, dir_of, listing_or, check, check_edit, number_at}
 use Rattle.nfs_spec.specs.Procedures.{remove, remove_dir}
 use Rattle.nfs_laws.specs.Steps.Granted.{RemoveOk, RemoveDirOk}

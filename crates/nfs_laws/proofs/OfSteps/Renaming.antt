@@ -9,8 +9,8 @@ use Rattle.nfs_spec.specs.nfs_items.Timeval.{Timeval}
 use Rattle.nfs_spec.specs.nfs_items.Caller.{Caller}
 use Rattle.nfs_spec.specs.nfs_items.declared.stat.Stat.{Stat}
 use Rattle.nfs_spec.specs.nfs_items.declared.stat.Stat.TheVariants as stats
-use Rattle.nfs_spec.specs.fs_model.Listing.{Listing, entry_at}
-use Rattle.nfs_spec.specs.fs_model.Files.{File, Files, is_directory, listing_in, directory_entries}
+use Rattle.nfs_spec.specs.fs_spec.Listing.{Listing, entry_at}
+use Rattle.nfs_spec.specs.fs_spec.Files.{File, Files, is_directory, listing_in, directory_entries}
 use Rattle.nfs_spec.specs.ProcedureChecks.{◌>>=◌, NumberedDir, file_of, dir_of, check, check_cookie}
 use Rattle.nfs_spec.specs.ProcedureChecks.{check_edit, number_at}
 use Rattle.nfs_spec.specs.Procedures.{is_above, check_target, move_entry, rename}

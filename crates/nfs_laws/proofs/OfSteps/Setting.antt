@@ -8,9 +8,9 @@ use Rattle.nfs_spec.specs.nfs_items.Timeval.{Timeval}
 use Rattle.nfs_spec.specs.nfs_items.Caller.{Caller}
 use Rattle.nfs_spec.specs.nfs_items.declared.stat.Stat.{Stat}
 use Rattle.nfs_spec.specs.nfs_items.declared.stat.Stat.TheVariants as stats
-use Rattle.nfs_spec.specs.fs_model.Files.{File, Files}
-use Rattle.nfs_spec.specs.fs_model.Changes.Edits.{with_changed_file}
-use Rattle.nfs_spec.specs.fs_model.Changes.Limits.{has_room}
+use Rattle.nfs_spec.specs.fs_spec.Files.{File, Files}
+use Rattle.nfs_spec.specs.fs_spec.Changes.Edits.{with_changed_file}
+use Rattle.nfs_spec.specs.fs_spec.Changes.Limits.{has_room}
 use Rattle.nfs_spec.specs.ProcedureChecks.{◌>>=◌, file_of, bytes_of, check, check_size, check_room, may_write}
 use Rattle.nfs_spec.specs.Sattr.{GivenFields}
 use Rattle.nfs_spec.specs.Changes.{check_owner, check_resize, apply_fields}

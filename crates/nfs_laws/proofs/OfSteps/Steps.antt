@@ -1,5 +1,5 @@
 -- What one check that was not refused says.
--- Serves: every inversion of this crate; the checks' laws in nfs_errors.
+-- Serves: every inversion of this crate; the checks' laws in nfs_error_laws.
 use Rattle.std.proofs.Common.{◌≡◌, ℕ, ◌≤◌, Bool, true, false, List, [], ◌∷◌, length, Option, Some, None}
 use Rattle.std.proofs.Common.{Result, Ok, Err, option_map, option_and_then, refl, sym, ap, subst, ◌∙◌, arith}
 use Rattle.std.specs.Prelude.{◌&&◌, nat_le, is_none}
@@ -8,11 +8,11 @@ use Rattle.std.proofs.lemmas.Bool.{leb-true, and_parts}
 use Rattle.nfs_spec.specs.nfs_items.Caller.{Caller}
 use Rattle.nfs_spec.specs.nfs_items.declared.stat.Stat.{Stat}
 use Rattle.nfs_spec.specs.nfs_items.declared.stat.Stat.TheVariants as stats
-use Rattle.nfs_spec.specs.fs_model.Listing.{Listing, entry_at}
-use Rattle.nfs_spec.specs.fs_model.Names.{is_name}
-use Rattle.nfs_spec.specs.fs_model.Files.{Body, Regular, Symlink, Directory, File, Files, file_at, listing_in}
-use Rattle.nfs_spec.specs.fs_model.Files.{listing, is_directory, directory_entries}
-use Rattle.nfs_spec.proofs.fs_model.Walks.{none_some, some_same}
+use Rattle.nfs_spec.specs.fs_spec.Listing.{Listing, entry_at}
+use Rattle.nfs_spec.specs.fs_spec.Names.{is_name}
+use Rattle.nfs_spec.specs.fs_spec.Files.{Body, Regular, Symlink, Directory, File, Files, file_at, listing_in}
+use Rattle.nfs_spec.specs.fs_spec.Files.{listing, is_directory, directory_entries}
+use Rattle.nfs_spec.proofs.fs_spec.Walks.{none_some, some_same}
 use Rattle.nfs_spec.specs.ProcedureChecks.{◌>>=◌, ok_or, listing_or, check, check_size, check_edit}
 use Rattle.nfs_spec.specs.ProcedureChecks.{check_free, NumberedDir, file_of, dir_of, number_at, bytes_of}
 use Rattle.nfs_spec.specs.ProcedureChecks.{target_of, may_search, may_write}

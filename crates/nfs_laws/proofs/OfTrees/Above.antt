@@ -11,15 +11,15 @@ use Rattle.std.specs.Option.{option_map_or}
 use Rattle.std.specs.Ordering.{nat_cmp, eq_by_cmp}
 use Rattle.std.specs.Cmp.{nat_cmp_total, eq_by_cmp_equiv}
 use Rattle.std.specs.FinMap as finite
-use Rattle.nfs_spec.specs.fs_model.Paths.{DirectoryEntries, walk, path_at, IsAbove}
-use Rattle.nfs_spec.specs.fs_model.Files.{Files, file_at, IsDirectory, directory_entries, parent_of}
-use Rattle.nfs_spec.specs.fs_model.Trees.{IsFileTree}
-use Rattle.nfs_spec.proofs.fs_model.Walks.{none_some, one_number, walk_on, last_name, last_step}
-use Rattle.nfs_spec.proofs.fs_model.Counts.{find_lookup}
-use Rattle.nfs_spec.proofs.fs_model.OnePath.{one_path}
-use Rattle.nfs_spec.proofs.fs_model.Parents.{root_parent}
-use Rattle.nfs_spec.specs.fs_model.Changes.Limits.{file_count}
-use Rattle.nfs_spec.proofs.fs_model.OfChanges.Finite.{cmp_other}
+use Rattle.nfs_spec.specs.fs_spec.Paths.{DirectoryEntries, walk, path_at, IsAbove}
+use Rattle.nfs_spec.specs.fs_spec.Files.{Files, file_at, IsDirectory, directory_entries, parent_of}
+use Rattle.nfs_spec.specs.fs_spec.Trees.{IsFileTree}
+use Rattle.nfs_spec.proofs.fs_spec.Walks.{none_some, one_number, walk_on, last_name, last_step}
+use Rattle.nfs_spec.proofs.fs_spec.Counts.{find_lookup}
+use Rattle.nfs_spec.proofs.fs_spec.OnePath.{one_path}
+use Rattle.nfs_spec.proofs.fs_spec.Parents.{root_parent}
+use Rattle.nfs_spec.specs.fs_spec.Changes.Limits.{file_count}
+use Rattle.nfs_spec.proofs.fs_spec.OfChanges.Finite.{cmp_other}
 use Rattle.nfs_spec.specs.Procedures.{climbs_to, is_above}
 
 -- the numbers along a walk

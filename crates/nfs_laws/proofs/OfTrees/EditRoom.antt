@@ -8,17 +8,17 @@ use Rattle.std.specs.Cmp.Lexicographic.{pointwise}
 use Rattle.std.proofs.lemmas.Bool.{cases_eq}
 use Rattle.std.proofs.lemmas.List.{length-append}
 use Rattle.nfs_spec.specs.nfs_items.Timeval.{Timeval}
-use Rattle.nfs_spec.specs.fs_model.Listing.{entry_at, with_entry}
-use Rattle.nfs_spec.specs.fs_model.Files.{Body, Regular, Symlink, Directory, File, Files, file_at, listing_in}
-use Rattle.nfs_spec.specs.fs_model.Files.{is_directory, directory_entries, names_of}
-use Rattle.nfs_spec.proofs.fs_model.Walks.{none_some, some_same}
-use Rattle.nfs_spec.specs.fs_model.Changes.Edits.{map_listing, map_body_listing, with_name, without_name}
-use Rattle.nfs_spec.specs.fs_model.Changes.Limits.{blocks_in, entry_count, file_count, block_count, has_room}
-use Rattle.nfs_spec.proofs.fs_model.OfChanges.Finite.{changed_next, changed_here, changed_other}
-use Rattle.nfs_spec.proofs.fs_model.OfChanges.Finite.{total_changed}
-use Rattle.nfs_spec.proofs.fs_model.OfChanges.Room.{count_changed, AllCookies, within, room, IsNoMore}
-use Rattle.nfs_spec.proofs.fs_model.OfChanges.Room.{no_more_then, changed_no_more, gone_no_more}
-use Rattle.nfs_spec.proofs.fs_model.OfChanges.Room.{unnamed_no_more, same_smaller}
+use Rattle.nfs_spec.specs.fs_spec.Listing.{entry_at, with_entry}
+use Rattle.nfs_spec.specs.fs_spec.Files.{Body, Regular, Symlink, Directory, File, Files, file_at, listing_in}
+use Rattle.nfs_spec.specs.fs_spec.Files.{is_directory, directory_entries, names_of}
+use Rattle.nfs_spec.proofs.fs_spec.Walks.{none_some, some_same}
+use Rattle.nfs_spec.specs.fs_spec.Changes.Edits.{map_listing, map_body_listing, with_name, without_name}
+use Rattle.nfs_spec.specs.fs_spec.Changes.Limits.{blocks_in, entry_count, file_count, block_count, has_room}
+use Rattle.nfs_spec.proofs.fs_spec.OfChanges.Finite.{changed_next, changed_here, changed_other}
+use Rattle.nfs_spec.proofs.fs_spec.OfChanges.Finite.{total_changed}
+use Rattle.nfs_spec.proofs.fs_spec.OfChanges.Room.{count_changed, AllCookies, within, room, IsNoMore}
+use Rattle.nfs_spec.proofs.fs_spec.OfChanges.Room.{no_more_then, changed_no_more, gone_no_more}
+use Rattle.nfs_spec.proofs.fs_spec.OfChanges.Room.{unnamed_no_more, same_smaller}
 use Rattle.nfs_spec.specs.Changes.{touch, with_mtime, touch_ctime, with_ctime, unlink, after_unlink}
 
 -- ---- times, and a name less

@@ -3,17 +3,17 @@
 use Rattle.std.proofs.Common.{◌≡◌, ⊎_elim, ℕ, Bool, true, false, List, Option, Some, None, IsSome, is_some}
 use Rattle.std.proofs.Common.{option_map, refl, sym, ap, ◌∙◌, arith}
 use Rattle.nfs_spec.specs.nfs_items.Timeval.{Timeval}
-use Rattle.nfs_spec.specs.fs_model.Listing.{Listing, with_entry, without_entry, HasDistinctNames}
-use Rattle.nfs_spec.specs.fs_model.Files.{Body, Regular, Symlink, Directory, File, Files, file_at, listing_in}
-use Rattle.nfs_spec.specs.fs_model.Files.{is_directory, names_of}
-use Rattle.nfs_spec.specs.fs_model.Trees.{IsBody, IsTime, IsFile, IsFileTree}
-use Rattle.nfs_spec.proofs.fs_model.Walks.{none_some}
-use Rattle.nfs_spec.proofs.fs_model.Reached.{distinct_in, entry_of_number}
+use Rattle.nfs_spec.specs.fs_spec.Listing.{Listing, with_entry, without_entry, HasDistinctNames}
+use Rattle.nfs_spec.specs.fs_spec.Files.{Body, Regular, Symlink, Directory, File, Files, file_at, listing_in}
+use Rattle.nfs_spec.specs.fs_spec.Files.{is_directory, names_of}
+use Rattle.nfs_spec.specs.fs_spec.Trees.{IsBody, IsTime, IsFile, IsFileTree}
+use Rattle.nfs_spec.proofs.fs_spec.Walks.{none_some}
+use Rattle.nfs_spec.proofs.fs_spec.Reached.{distinct_in, entry_of_number}
 use Rattle.std.proofs.lemmas.Bool.{cases_lt}
-use Rattle.nfs_spec.specs.fs_model.Changes.Edits.{with_changed_file, map_listing, map_body_listing}
-use Rattle.nfs_spec.proofs.fs_model.Cookies.{rising_pushed, rising_removed}
-use Rattle.nfs_spec.proofs.fs_model.OfChanges.Listings.{with_entry_distinct, without_entry_distinct}
-use Rattle.nfs_spec.proofs.fs_model.OfChanges.Shapes.{kind, AllFiles, IsSameShape, same_shape, changed_files}
+use Rattle.nfs_spec.specs.fs_spec.Changes.Edits.{with_changed_file, map_listing, map_body_listing}
+use Rattle.nfs_spec.proofs.fs_spec.Cookies.{rising_pushed, rising_removed}
+use Rattle.nfs_spec.proofs.fs_spec.OfChanges.Listings.{with_entry_distinct, without_entry_distinct}
+use Rattle.nfs_spec.proofs.fs_spec.OfChanges.Shapes.{kind, AllFiles, IsSameShape, same_shape, changed_files}
 use Rattle.nfs_spec.specs.Changes.{with_mtime, with_ctime, touch, touch_ctime}
 
 -- a directory is a file that lists

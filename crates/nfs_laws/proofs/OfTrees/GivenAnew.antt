@@ -5,17 +5,17 @@ use Rattle.std.proofs.Common.{Some, None, IsSome, is_some, eqb, option_map, refl
 use Rattle.std.specs.Option.{option_map_or}
 use Rattle.std.proofs.lemmas.Bool.{cases_eq}
 use Rattle.nfs_spec.specs.nfs_items.Timeval.{Timeval}
-use Rattle.nfs_spec.specs.fs_model.Listing.{with_entry, without_entry}
-use Rattle.nfs_spec.specs.fs_model.Files.{Body, Regular, Symlink, Directory, File, Files, file_at, listing_in}
-use Rattle.nfs_spec.specs.fs_model.Files.{listing, IsDirectory, directory_entries, names_of}
-use Rattle.nfs_spec.proofs.fs_model.Walks.{none_some, some_same, same_entry}
-use Rattle.nfs_spec.specs.fs_model.Changes.Edits.{with_changed_file, with_new_file, without_file, map_listing}
-use Rattle.nfs_spec.specs.fs_model.Changes.Edits.{map_body_listing, with_name, without_name}
-use Rattle.nfs_spec.proofs.fs_model.OfChanges.Finite.{new_other, changed_here, changed_other, gone_other}
-use Rattle.nfs_spec.proofs.fs_model.OfChanges.Shapes.{kind, IsSameShape, is_some-kind}
-use Rattle.nfs_spec.proofs.fs_model.OfEditedTrees.Adding.{IsAdded}
-use Rattle.nfs_spec.proofs.fs_model.OfEditedTrees.Taking.{IsTaken}
-use Rattle.nfs_spec.proofs.fs_model.OfEditedTrees.Moving.{IsRenamed}
+use Rattle.nfs_spec.specs.fs_spec.Listing.{with_entry, without_entry}
+use Rattle.nfs_spec.specs.fs_spec.Files.{Body, Regular, Symlink, Directory, File, Files, file_at, listing_in}
+use Rattle.nfs_spec.specs.fs_spec.Files.{listing, IsDirectory, directory_entries, names_of}
+use Rattle.nfs_spec.proofs.fs_spec.Walks.{none_some, some_same, same_entry}
+use Rattle.nfs_spec.specs.fs_spec.Changes.Edits.{with_changed_file, with_new_file, without_file, map_listing}
+use Rattle.nfs_spec.specs.fs_spec.Changes.Edits.{map_body_listing, with_name, without_name}
+use Rattle.nfs_spec.proofs.fs_spec.OfChanges.Finite.{new_other, changed_here, changed_other, gone_other}
+use Rattle.nfs_spec.proofs.fs_spec.OfChanges.Shapes.{kind, IsSameShape, is_some-kind}
+use Rattle.nfs_spec.proofs.fs_spec.OfEditedTrees.Adding.{IsAdded}
+use Rattle.nfs_spec.proofs.fs_spec.OfEditedTrees.Taking.{IsTaken}
+use Rattle.nfs_spec.proofs.fs_spec.OfEditedTrees.Moving.{IsRenamed}
 use Rattle.nfs_spec.specs.Changes.{touch, touch_ctime, with_mtime, with_ctime, unlink, after_unlink}
 use Rattle.nfs_laws.specs.Trees.Anew.{GivesAnew}
 

@@ -4,16 +4,16 @@ use Rattle.std.proofs.Common.{◌≡◌, ◌≢◌, inl, inr, ℕ, ◌≤◌, Bo
 use Rattle.std.proofs.Common.{None, IsSome, is_some, option_map, refl, sym, ap, subst, ◌∙◌, arith}
 use Rattle.nfs_spec.specs.nfs_items.Timeval.{Timeval}
 use Rattle.nfs_spec.specs.nfs_items.Caller.{Caller}
-use Rattle.nfs_spec.specs.fs_model.Listing.{Listing}
-use Rattle.nfs_spec.specs.fs_model.Files.{File, Files, file_at, listing_in, listing, is_directory}
-use Rattle.nfs_spec.specs.fs_model.Files.{IsDirectory, directory_entries}
-use Rattle.nfs_spec.specs.fs_model.Trees.{IsTime, IsFile, IsFileTree}
-use Rattle.nfs_spec.specs.fs_model.Changes.Edits.{with_new_file, with_name}
-use Rattle.nfs_spec.proofs.fs_model.OfChanges.Finite.{new_other, changed_other}
-use Rattle.nfs_spec.proofs.fs_model.OfChanges.Listings.{leads}
-use Rattle.nfs_spec.proofs.fs_model.OfChanges.Shapes.{kind, AllFiles, IsSameShape, IsNamed, IsOneMore}
-use Rattle.nfs_spec.proofs.fs_model.OfChanges.Shapes.{new_shape, named_shape, new_files, is_some-kind}
-use Rattle.nfs_spec.proofs.fs_model.OfEditedTrees.Adding.{IsAdded, stays_added}
+use Rattle.nfs_spec.specs.fs_spec.Listing.{Listing}
+use Rattle.nfs_spec.specs.fs_spec.Files.{File, Files, file_at, listing_in, listing, is_directory}
+use Rattle.nfs_spec.specs.fs_spec.Files.{IsDirectory, directory_entries}
+use Rattle.nfs_spec.specs.fs_spec.Trees.{IsTime, IsFile, IsFileTree}
+use Rattle.nfs_spec.specs.fs_spec.Changes.Edits.{with_new_file, with_name}
+use Rattle.nfs_spec.proofs.fs_spec.OfChanges.Finite.{new_other, changed_other}
+use Rattle.nfs_spec.proofs.fs_spec.OfChanges.Listings.{leads}
+use Rattle.nfs_spec.proofs.fs_spec.OfChanges.Shapes.{kind, AllFiles, IsSameShape, IsNamed, IsOneMore}
+use Rattle.nfs_spec.proofs.fs_spec.OfChanges.Shapes.{new_shape, named_shape, new_files, is_some-kind}
+use Rattle.nfs_spec.proofs.fs_spec.OfEditedTrees.Adding.{IsAdded, stays_added}
 use Rattle.nfs_spec.specs.Changes.{touch, touch_ctime, with_ctime}
 use Rattle.nfs_spec.specs.Procedures.{add_file}
 use Rattle.nfs_laws.specs.Steps.Granted.{MayEdit, MakeOk, LinkOk}

@@ -10,19 +10,19 @@ use Rattle.std.specs.Cmp.Lexicographic.{pointwise}
 use Rattle.std.proofs.lemmas.Bool.{cases_eq, eqb-true, eqb-false}
 use Rattle.nfs_spec.specs.nfs_items.Timeval.{Timeval}
 use Rattle.nfs_spec.specs.nfs_items.Caller.{Caller}
-use Rattle.nfs_spec.specs.fs_model.Listing.{entry_at}
-use Rattle.nfs_spec.specs.fs_model.Files.{File, Files, file_at, listing_in, is_directory, directory_entries}
-use Rattle.nfs_spec.specs.fs_model.Files.{names_of}
-use Rattle.nfs_spec.specs.fs_model.Trees.{IsTime, IsFileTree}
-use Rattle.nfs_spec.proofs.fs_model.Walks.{none_some}
-use Rattle.nfs_spec.proofs.fs_model.OnePath.{root_has_no_name}
-use Rattle.nfs_spec.specs.fs_model.Changes.Edits.{without_file, without_name}
-use Rattle.nfs_spec.proofs.fs_model.OfChanges.Finite.{changed_other}
-use Rattle.nfs_spec.proofs.fs_model.OfChanges.Listings.{one, leads, one_same}
-use Rattle.nfs_spec.proofs.fs_model.OfChanges.Shapes.{kind, AllFiles, IsSameShape, IsUnnamed, IsOneLess}
-use Rattle.nfs_spec.proofs.fs_model.OfChanges.Shapes.{unnamed_shape, gone_shape, gone_files}
-use Rattle.nfs_spec.proofs.fs_model.OfEditedTrees.Taking.{IsTaken, stays_taken}
-use Rattle.nfs_spec.proofs.fs_model.OfChanges.Room.{no_more_then, still_room}
+use Rattle.nfs_spec.specs.fs_spec.Listing.{entry_at}
+use Rattle.nfs_spec.specs.fs_spec.Files.{File, Files, file_at, listing_in, is_directory, directory_entries}
+use Rattle.nfs_spec.specs.fs_spec.Files.{names_of}
+use Rattle.nfs_spec.specs.fs_spec.Trees.{IsTime, IsFileTree}
+use Rattle.nfs_spec.proofs.fs_spec.Walks.{none_some}
+use Rattle.nfs_spec.proofs.fs_spec.OnePath.{root_has_no_name}
+use Rattle.nfs_spec.specs.fs_spec.Changes.Edits.{without_file, without_name}
+use Rattle.nfs_spec.proofs.fs_spec.OfChanges.Finite.{changed_other}
+use Rattle.nfs_spec.proofs.fs_spec.OfChanges.Listings.{one, leads, one_same}
+use Rattle.nfs_spec.proofs.fs_spec.OfChanges.Shapes.{kind, AllFiles, IsSameShape, IsUnnamed, IsOneLess}
+use Rattle.nfs_spec.proofs.fs_spec.OfChanges.Shapes.{unnamed_shape, gone_shape, gone_files}
+use Rattle.nfs_spec.proofs.fs_spec.OfEditedTrees.Taking.{IsTaken, stays_taken}
+use Rattle.nfs_spec.proofs.fs_spec.OfChanges.Room.{no_more_then, still_room}
 use Rattle.nfs_spec.specs.Changes.{touch, touch_ctime, unlink, after_unlink}
 use Rattle.nfs_laws.specs.Steps.Granted.{UnnameOk}
 use Rattle.nfs_laws.specs.Trees.Anew.{Follows}

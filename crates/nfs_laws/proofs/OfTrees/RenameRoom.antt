@@ -5,15 +5,15 @@ use Rattle.std.proofs.Common.{None, nat_eq, option_and_then, refl, sym, ap, â—Œâ
 use Rattle.std.specs.Map.{lookup, remove_entry}
 use Rattle.std.specs.Cmp.Lexicographic.{pointwise}
 use Rattle.nfs_spec.specs.nfs_items.Timeval.{Timeval}
-use Rattle.nfs_spec.specs.fs_model.Listing.{entry_at, without_entry}
-use Rattle.nfs_spec.specs.fs_model.Files.{Body, Regular, Symlink, Directory, File, Files, file_at, listing_in}
-use Rattle.nfs_spec.specs.fs_model.Files.{is_directory, directory_entries}
-use Rattle.nfs_spec.proofs.fs_model.Walks.{none_some}
-use Rattle.nfs_spec.specs.fs_model.Changes.Edits.{map_listing, map_body_listing, with_name, without_name}
-use Rattle.nfs_spec.specs.fs_model.Changes.Limits.{entry_count, has_room}
-use Rattle.nfs_spec.proofs.fs_model.OfChanges.Finite.{total_changed}
-use Rattle.nfs_spec.proofs.fs_model.OfChanges.Room.{within, IsNoMore, no_more_then, still_room}
-use Rattle.nfs_spec.proofs.fs_model.OfChanges.Room.{unnamed_no_more}
+use Rattle.nfs_spec.specs.fs_spec.Listing.{entry_at, without_entry}
+use Rattle.nfs_spec.specs.fs_spec.Files.{Body, Regular, Symlink, Directory, File, Files, file_at, listing_in}
+use Rattle.nfs_spec.specs.fs_spec.Files.{is_directory, directory_entries}
+use Rattle.nfs_spec.proofs.fs_spec.Walks.{none_some}
+use Rattle.nfs_spec.specs.fs_spec.Changes.Edits.{map_listing, map_body_listing, with_name, without_name}
+use Rattle.nfs_spec.specs.fs_spec.Changes.Limits.{entry_count, has_room}
+use Rattle.nfs_spec.proofs.fs_spec.OfChanges.Finite.{total_changed}
+use Rattle.nfs_spec.proofs.fs_spec.OfChanges.Room.{within, IsNoMore, no_more_then, still_room}
+use Rattle.nfs_spec.proofs.fs_spec.OfChanges.Room.{unnamed_no_more}
 use Rattle.nfs_spec.specs.Changes.{touch, touch_ctime}
 use Rattle.nfs_spec.specs.Procedures.{unlink_target, move_entry}
 use Rattle.nfs_laws.proofs.OfTrees.EditRoom.{touch_no_more, mark_no_more, unlink_no_more, free_in, named_has}

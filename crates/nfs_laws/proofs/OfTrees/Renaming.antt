@@ -8,20 +8,20 @@ use Rattle.std.specs.Cmp.Lexicographic.{pointwise}
 use Rattle.std.proofs.lemmas.Bool.{cases_eq, and_cases}
 use Rattle.nfs_spec.specs.nfs_items.Timeval.{Timeval}
 use Rattle.nfs_spec.specs.nfs_items.Caller.{Caller}
-use Rattle.nfs_spec.specs.fs_model.Listing.{Listing, entry_at, without_entry}
-use Rattle.nfs_spec.specs.fs_model.Paths.{DirectoryEntries, walk, path_at, Renames}
-use Rattle.nfs_spec.specs.fs_model.Files.{Body, Regular, Symlink, Directory, File, Files, file_at, listing_in}
-use Rattle.nfs_spec.specs.fs_model.Files.{listing, is_directory, directory_entries, names_of}
-use Rattle.nfs_spec.specs.fs_model.Trees.{IsTime, IsFileTree}
-use Rattle.nfs_spec.proofs.fs_model.Walks.{none_some, some_same, same_entry}
-use Rattle.nfs_spec.specs.fs_model.Changes.Edits.{with_changed_file, map_listing, map_body_listing, with_name}
-use Rattle.nfs_spec.specs.fs_model.Changes.Edits.{without_name}
-use Rattle.nfs_spec.proofs.fs_model.OfChanges.Finite.{changed_here, changed_other, gone_other}
-use Rattle.nfs_spec.proofs.fs_model.OfChanges.Listings.{leads}
-use Rattle.nfs_spec.proofs.fs_model.OfChanges.Shapes.{kind, is_some-kind, AllFiles, IsSameShape, IsNamed}
-use Rattle.nfs_spec.proofs.fs_model.OfChanges.Shapes.{IsUnnamed, same_then, named_shape, unnamed_shape}
-use Rattle.nfs_spec.proofs.fs_model.OfEditedTrees.Taking.{stays_taken}
-use Rattle.nfs_spec.proofs.fs_model.OfEditedTrees.Moving.{IsRenamed, IsMoved, renames_path, stays_moved}
+use Rattle.nfs_spec.specs.fs_spec.Listing.{Listing, entry_at, without_entry}
+use Rattle.nfs_spec.specs.fs_spec.Paths.{DirectoryEntries, walk, path_at, Renames}
+use Rattle.nfs_spec.specs.fs_spec.Files.{Body, Regular, Symlink, Directory, File, Files, file_at, listing_in}
+use Rattle.nfs_spec.specs.fs_spec.Files.{listing, is_directory, directory_entries, names_of}
+use Rattle.nfs_spec.specs.fs_spec.Trees.{IsTime, IsFileTree}
+use Rattle.nfs_spec.proofs.fs_spec.Walks.{none_some, some_same, same_entry}
+use Rattle.nfs_spec.specs.fs_spec.Changes.Edits.{with_changed_file, map_listing, map_body_listing, with_name}
+use Rattle.nfs_spec.specs.fs_spec.Changes.Edits.{without_name}
+use Rattle.nfs_spec.proofs.fs_spec.OfChanges.Finite.{changed_here, changed_other, gone_other}
+use Rattle.nfs_spec.proofs.fs_spec.OfChanges.Listings.{leads}
+use Rattle.nfs_spec.proofs.fs_spec.OfChanges.Shapes.{kind, is_some-kind, AllFiles, IsSameShape, IsNamed}
+use Rattle.nfs_spec.proofs.fs_spec.OfChanges.Shapes.{IsUnnamed, same_then, named_shape, unnamed_shape}
+use Rattle.nfs_spec.proofs.fs_spec.OfEditedTrees.Taking.{stays_taken}
+use Rattle.nfs_spec.proofs.fs_spec.OfEditedTrees.Moving.{IsRenamed, IsMoved, renames_path, stays_moved}
 use Rattle.nfs_spec.specs.Changes.{touch, touch_ctime, with_ctime, after_unlink}
 use Rattle.nfs_spec.specs.Procedures.{is_above, unlink_target}
 use Rattle.nfs_laws.specs.Steps.Granted.{MayReplace, MoveOk, RenameOk}

@@ -3,9 +3,9 @@ use Rattle.std.specs.Prelude.{◌≡◌, ◌≢◌, ℕ, ◌+◌, ◌-◌, ◌<�
 use Rattle.std.specs.Prelude.{slice_index, Some, None, if◌then◌else◌}
 use Rattle.nfs_spec.specs.nfs_items.Timeval.{Timeval}
 use Rattle.nfs_spec.specs.nfs_items.Terms.{FileNumber, Cookie, Name}
-use Rattle.nfs_spec.specs.fs_model.Listing.{Listing, with_entry, without_entry}
-use Rattle.nfs_spec.specs.fs_model.Files.{Regular, Directory, File, Files, file_at, directory_entries}
-use Rattle.nfs_spec.specs.fs_model.Files.{names_of}
+use Rattle.nfs_spec.specs.fs_spec.Listing.{Listing, with_entry, without_entry}
+use Rattle.nfs_spec.specs.fs_spec.Files.{Regular, Directory, File, Files, file_at, directory_entries}
+use Rattle.nfs_spec.specs.fs_spec.Files.{names_of}
 use Rattle.nfs_spec.specs.Sattr.{GivenFields}
 use Rattle.nfs_spec.specs.Changes.{apply_fields}
 

@@ -3,7 +3,7 @@ use Rattle.std.specs.Prelude.{◌≡◌, ◌≢◌, ℕ, List, [], Some, None}
 use Rattle.nfs_spec.specs.nfs_items.Timeval.{Timeval}
 use Rattle.nfs_spec.specs.nfs_items.Caller.{Caller}
 use Rattle.nfs_spec.specs.nfs_items.Terms.{FileNumber, Cookie, Name}
-use Rattle.nfs_spec.specs.fs_model.Files.{Files, file_at, directory_entries}
+use Rattle.nfs_spec.specs.fs_spec.Files.{Files, file_at, directory_entries}
 use Rattle.nfs_spec.specs.Sattr.{GivenFields, given_fields}
 use Rattle.nfs_spec.specs.nfs_types.Calls.{Call, Setattr, Write, Create, Remove, Rename, Link, Symlink, Mkdir}
 use Rattle.nfs_spec.specs.nfs_types.Calls.{Rmdir}

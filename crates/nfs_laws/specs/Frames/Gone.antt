@@ -1,10 +1,10 @@
 -- What becomes of a file whose name goes.
 use Rattle.std.specs.Prelude.{◌≡◌, ◌≢◌, ◌+◌, Some, None}
 use Rattle.nfs_spec.specs.nfs_items.Timeval.{Timeval}
-use Rattle.nfs_spec.specs.fs_model.Paths.{path_at}
+use Rattle.nfs_spec.specs.fs_spec.Paths.{path_at}
 use Rattle.nfs_spec.specs.nfs_items.Terms.{FileNumber, Cookie}
-use Rattle.nfs_spec.specs.fs_model.Names.{FilePath}
-use Rattle.nfs_spec.specs.fs_model.Files.{File, Files, file_at, directory_entries, names_of}
+use Rattle.nfs_spec.specs.fs_spec.Names.{FilePath}
+use Rattle.nfs_spec.specs.fs_spec.Files.{File, Files, file_at, directory_entries, names_of}
 
 -- a number is no file's, and no path leads to it
 pub record IsGone (fs : Files) (n : FileNumber) : Type 0 where

@@ -3,9 +3,9 @@ use Rattle.std.specs.Prelude.{◌≡◌, ◌≢◌, ℕ, ◌&&◌, Bool, true, f
 use Rattle.std.specs.Prelude.{if◌then◌else◌}
 use Rattle.std.specs.Option.{option_map_or}
 use Rattle.nfs_spec.specs.nfs_items.Terms.{FileNumber, Name}
-use Rattle.nfs_spec.specs.fs_model.Listing.{Listing}
-use Rattle.nfs_spec.specs.fs_model.Files.{Body, Regular, Directory, File, Files, file_at, directory_entries}
-use Rattle.nfs_spec.specs.fs_model.Files as bodies
+use Rattle.nfs_spec.specs.fs_spec.Listing.{Listing}
+use Rattle.nfs_spec.specs.fs_spec.Files.{Body, Regular, Directory, File, Files, file_at, directory_entries}
+use Rattle.nfs_spec.specs.fs_spec.Files as bodies
 use Rattle.nfs_spec.specs.nfs_types.Calls.{Call, Setattr, Write, Create, Remove, Rename, Link, Symlink, Mkdir}
 use Rattle.nfs_spec.specs.nfs_types.Calls.{Rmdir, Answer}
 use Rattle.nfs_spec.specs.NfsCalls.{number_for}

@@ -2,8 +2,8 @@
 use Rattle.std.specs.Prelude.{List, [], ◌∷◌}
 use Rattle.nfs_spec.specs.nfs_items.Timeval.{Timeval}
 use Rattle.nfs_spec.specs.nfs_items.Caller.{Caller}
-use Rattle.nfs_spec.specs.fs_model.Files.{Files}
-use Rattle.nfs_spec.specs.fs_model.Trees.{IsTime}
+use Rattle.nfs_spec.specs.fs_spec.Files.{Files}
+use Rattle.nfs_spec.specs.fs_spec.Trees.{IsTime}
 use Rattle.nfs_spec.specs.nfs_types.Calls.{Call}
 use Rattle.nfs_spec.specs.NfsCalls.{call_does}
 use Rattle.nfs_laws.specs.Laws.{IsBounded}

@@ -5,7 +5,7 @@ use Rattle.nfs_spec.specs.nfs_items.Caller.{Caller}
 use Rattle.nfs_spec.specs.nfs_items.Handle.{FileHandle}
 use Rattle.nfs_spec.specs.nfs_items.declared.stat.Stat.{Stat}
 use Rattle.nfs_spec.specs.nfs_items.Terms.{Cookie}
-use Rattle.nfs_spec.specs.fs_model.Files.{Files}
+use Rattle.nfs_spec.specs.fs_spec.Files.{Files}
 use Rattle.nfs_spec.specs.ProcedureChecks.{NumberedDir, dir_of, may_read}
 use Rattle.nfs_spec.specs.nfs_types.Calls.{PageEntry, Page, Answer, Entries, Readdir}
 use Rattle.nfs_spec.specs.Readdir.{dir_entries}

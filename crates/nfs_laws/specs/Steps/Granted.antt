@@ -5,12 +5,12 @@ use Rattle.std.specs.Prelude.{length, replicate, Some, None, option_map, Ok, unw
 use Rattle.nfs_spec.specs.nfs_items.Timeval.{Timeval}
 use Rattle.nfs_spec.specs.nfs_items.Caller.{Caller}
 use Rattle.nfs_spec.specs.nfs_items.Terms.{FileNumber, Cookie, Name}
-use Rattle.nfs_spec.specs.fs_model.Maxima.{max_file_size, max_number}
-use Rattle.nfs_spec.specs.fs_model.Names.{is_name}
-use Rattle.nfs_spec.specs.fs_model.Files.{Regular, Symlink, Directory, File, Files, file_at, is_directory}
-use Rattle.nfs_spec.specs.fs_model.Files.{listing_in, listing, directory_entries}
-use Rattle.nfs_spec.specs.fs_model.Changes.Edits.{with_changed_file, with_name}
-use Rattle.nfs_spec.specs.fs_model.Changes.Limits.{has_room}
+use Rattle.nfs_spec.specs.fs_spec.Maxima.{max_file_size, max_number}
+use Rattle.nfs_spec.specs.fs_spec.Names.{is_name}
+use Rattle.nfs_spec.specs.fs_spec.Files.{Regular, Symlink, Directory, File, Files, file_at, is_directory}
+use Rattle.nfs_spec.specs.fs_spec.Files.{listing_in, listing, directory_entries}
+use Rattle.nfs_spec.specs.fs_spec.Changes.Edits.{with_changed_file, with_name}
+use Rattle.nfs_spec.specs.fs_spec.Changes.Limits.{has_room}
 use Rattle.nfs_spec.specs.ProcedureChecks.{NumberedDir, may_search, may_write}
 use Rattle.nfs_spec.specs.Sattr.{GivenFields, no_fields}
 use Rattle.nfs_spec.specs.Changes.{check_owner, apply_fields, new_file, touch, touch_ctime, unlink}

@@ -1,9 +1,9 @@
 -- Numbers and cookies are never used again.
 use Rattle.std.specs.Prelude.{◌≡◌, ◌⊎◌, ◌≤◌, Some, IsSome, IsTrue}
 use Rattle.nfs_spec.specs.nfs_items.Terms.{FileNumber, Cookie, Name}
-use Rattle.nfs_spec.specs.fs_model.Files.{Files, file_at, listing, IsDirectory, directory_entries}
-use Rattle.nfs_spec.specs.fs_model.Changes.Limits.{has_room}
-use Rattle.nfs_spec.specs.fs_model.Trees.{IsFileTree}
+use Rattle.nfs_spec.specs.fs_spec.Files.{Files, file_at, listing, IsDirectory, directory_entries}
+use Rattle.nfs_spec.specs.fs_spec.Changes.Limits.{has_room}
+use Rattle.nfs_spec.specs.fs_spec.Trees.{IsFileTree}
 
 -- what is there was there, or has a number that was not given before; an entry of a directory was in it, or
 -- has a cookie that was not given in it before

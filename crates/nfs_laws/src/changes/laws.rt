@@ -4,9 +4,9 @@ ghost use Rattle.std.specs.Prelude.{◌≡◌, ◌≢◌, ℕ, List, [], replica
 ghost use Rattle.nfs_spec.specs.nfs_items.Timeval.{Timeval};
 ghost use Rattle.nfs_spec.specs.nfs_items.Caller.{Caller};
 ghost use Rattle.nfs_spec.specs.nfs_items.Terms.{FileNumber, Cookie, Name};
-ghost use Rattle.nfs_spec.specs.fs_model.Files.{Body, Regular, Symlink, Directory, File, Files, file_at};
-ghost use Rattle.nfs_spec.specs.fs_model.Files.{directory_entries};
-ghost use Rattle.nfs_spec.specs.fs_model.Trees.{IsFileTree};
+ghost use Rattle.nfs_spec.specs.fs_spec.Files.{Body, Regular, Symlink, Directory, File, Files, file_at};
+ghost use Rattle.nfs_spec.specs.fs_spec.Files.{directory_entries};
+ghost use Rattle.nfs_spec.specs.fs_spec.Trees.{IsFileTree};
 ghost use Rattle.nfs_spec.specs.Sattr.{GivenFields, no_fields};
 ghost use Rattle.nfs_spec.specs.Changes.{new_file};
 ghost use Rattle.nfs_spec.specs.Procedures.{set_attributes, write, create, make_dir, symlink, link, remove};

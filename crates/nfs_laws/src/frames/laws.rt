@@ -4,10 +4,10 @@ ghost use Rattle.std.specs.Prelude.{◌≡◌, ◌≢◌, ◌+◌, ◌<◌, ℕ,
 ghost use Rattle.nfs_spec.specs.nfs_items.Timeval.{Timeval};
 ghost use Rattle.nfs_spec.specs.nfs_items.Caller.{Caller};
 ghost use Rattle.nfs_spec.specs.nfs_items.Terms.{FileNumber, Cookie, Name};
-ghost use Rattle.nfs_spec.specs.fs_model.Files.{Files, file_at, listing, IsDirectory, directory_entries};
-ghost use Rattle.nfs_spec.specs.fs_model.Files.{names_of};
-ghost use Rattle.nfs_spec.specs.fs_model.Trees.{IsTime, IsFileTree};
-ghost use Rattle.nfs_spec.specs.fs_model.Changes.Limits.{has_room};
+ghost use Rattle.nfs_spec.specs.fs_spec.Files.{Files, file_at, listing, IsDirectory, directory_entries};
+ghost use Rattle.nfs_spec.specs.fs_spec.Files.{names_of};
+ghost use Rattle.nfs_spec.specs.fs_spec.Trees.{IsTime, IsFileTree};
+ghost use Rattle.nfs_spec.specs.fs_spec.Changes.Limits.{has_room};
 ghost use Rattle.nfs_spec.specs.Procedures.{remove, remove_dir};
 ghost use Rattle.nfs_spec.specs.nfs_types.Calls.{Call};
 ghost use Rattle.nfs_spec.specs.NfsCalls.{call_does};

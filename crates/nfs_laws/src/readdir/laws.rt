@@ -4,11 +4,11 @@ ghost use Rattle.std.specs.Prelude.{◌≡◌, ◌↔◌, min, true, [], ◌∷�
 ghost use Rattle.nfs_spec.specs.nfs_items.Timeval.{Timeval};
 ghost use Rattle.nfs_spec.specs.nfs_items.Caller.{Caller};
 ghost use Rattle.nfs_spec.specs.nfs_items.Handle.{FileHandle};
-ghost use Rattle.nfs_spec.specs.fs_model.Maxima.{max_data};
+ghost use Rattle.nfs_spec.specs.fs_spec.Maxima.{max_data};
 ghost use Rattle.nfs_spec.specs.nfs_items.Terms.{FileNumber, Cookie};
-ghost use Rattle.nfs_spec.specs.fs_model.Listing.{Listing, IsRising};
-ghost use Rattle.nfs_spec.specs.fs_model.Files.{Files};
-ghost use Rattle.nfs_spec.specs.fs_model.Trees.{IsFileTree};
+ghost use Rattle.nfs_spec.specs.fs_spec.Listing.{Listing, IsRising};
+ghost use Rattle.nfs_spec.specs.fs_spec.Files.{Files};
+ghost use Rattle.nfs_spec.specs.fs_spec.Trees.{IsFileTree};
 ghost use Rattle.nfs_spec.specs.nfs_types.Calls.{PageEntry};
 ghost use Rattle.nfs_spec.specs.Readdir.{dir_entries, page_of};
 ghost use Rattle.nfs_laws.specs.Readdir.Pages.{pages, last_cookie, entries_above, RisesAbove, IsLongestFront};

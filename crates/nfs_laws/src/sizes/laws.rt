@@ -3,9 +3,9 @@
 ghost use Rattle.std.specs.Prelude.{◌≡◌, ◌≤◌, IsTrue, false, length};
 ghost use Rattle.nfs_spec.specs.nfs_items.Timeval.{Timeval};
 ghost use Rattle.nfs_spec.specs.nfs_items.Caller.{Caller};
-ghost use Rattle.nfs_spec.specs.fs_model.Files.{Files};
-ghost use Rattle.nfs_spec.specs.fs_model.Trees.{IsTime, IsFileTree};
-ghost use Rattle.nfs_spec.specs.fs_model.Changes.Limits.{has_room};
+ghost use Rattle.nfs_spec.specs.fs_spec.Files.{Files};
+ghost use Rattle.nfs_spec.specs.fs_spec.Trees.{IsTime, IsFileTree};
+ghost use Rattle.nfs_spec.specs.fs_spec.Changes.Limits.{has_room};
 ghost use Rattle.nfs_spec.specs.nfs_types.Calls.{Call};
 ghost use Rattle.nfs_spec.specs.nfs_types.Bounds.{HasBounds};
 ghost use Rattle.nfs_spec.specs.NfsCalls.{call_does};

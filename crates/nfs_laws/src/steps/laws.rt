@@ -6,7 +6,7 @@ ghost use Rattle.nfs_spec.specs.nfs_items.Caller.{Caller};
 ghost use Rattle.nfs_spec.specs.nfs_items.declared.attributes.Fattr.{Fattr};
 ghost use Rattle.nfs_spec.specs.nfs_items.Handle.{FileHandle};
 ghost use Rattle.nfs_spec.specs.nfs_items.Terms.{FileNumber, Cookie, Name};
-ghost use Rattle.nfs_spec.specs.fs_model.Files.{Files};
+ghost use Rattle.nfs_spec.specs.fs_spec.Files.{Files};
 ghost use Rattle.nfs_spec.specs.Sattr.{GivenFields};
 ghost use Rattle.nfs_spec.specs.Effects.{attributes_at, getattr, lookup};
 ghost use Rattle.nfs_spec.specs.nfs_types.Calls.{Page};

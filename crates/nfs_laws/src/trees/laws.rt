@@ -2,9 +2,9 @@
 
 ghost use Rattle.std.specs.Prelude.{◌≡◌, ◌↔◌, ℕ, true};
 ghost use Rattle.nfs_spec.specs.nfs_items.Terms.{FileNumber};
-ghost use Rattle.nfs_spec.specs.fs_model.Paths.{IsAbove};
-ghost use Rattle.nfs_spec.specs.fs_model.Files.{Files, IsDirectory, directory_entries};
-ghost use Rattle.nfs_spec.specs.fs_model.Trees.{IsFileTree};
+ghost use Rattle.nfs_spec.specs.fs_spec.Paths.{IsAbove};
+ghost use Rattle.nfs_spec.specs.fs_spec.Files.{Files, IsDirectory, directory_entries};
+ghost use Rattle.nfs_spec.specs.fs_spec.Trees.{IsFileTree};
 ghost use Rattle.nfs_spec.specs.Procedures.{is_above};
 
 /// What is above a directory is what paths lead down from.

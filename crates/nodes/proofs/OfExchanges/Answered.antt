@@ -15,8 +15,8 @@ use Rattle.envelopes.specs.declared.acknowledgement.Ack.{Ack}
 use Rattle.commitment.specs.Senders.LookUps.{FitsEnvelope, ack_at, envelope_at}
 use Rattle.commitment.specs.Senders.Sender.{IsSender}
 use Rattle.nfs_items.specs.Timeval.{Timeval, later}
-use Rattle.worlds.specs.World.{World, at_time}
-use Rattle.gateway.specs.service.Replies.{reply_owed, world_after}
+use Rattle.server_spec.specs.World.{World, at_time}
+use Rattle.server_spec.specs.Replies.{reply_owed, world_after}
 use Rattle.state_spec.specs.State.{State, Idle, Machine, Server, clock_in}
 use Rattle.node_logs.specs.replay_spec.LogLaws.HonestServers.{heard_entries, with_reply}
 use Rattle.node_logs.specs.Steps.Nodes.{NodeParts, sender_of}

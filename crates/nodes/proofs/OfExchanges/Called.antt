@@ -20,7 +20,7 @@ use Rattle.envelopes.specs.declared.acknowledgement.Ack.{Ack}
 use Rattle.commitment.specs.Senders.LookUps.{FitsEnvelope, ack_at, envelope_at}
 use Rattle.commitment.specs.Senders.Sender.{IsSender}
 use Rattle.nfs_items.specs.Timeval.{Timeval}
-use Rattle.gateway.specs.service.Replies.{reply_owed}
+use Rattle.server_spec.specs.Replies.{reply_owed}
 use Rattle.state_spec.specs.State.{SentMessage}
 use Rattle.node_logs.specs.replay_spec.LogLaws.HonestServers.{heard_entries}
 use Rattle.node_logs.specs.Steps.Nodes.{NodeParts, sender_of, straying}

@@ -7,8 +7,8 @@ use Rattle.envelopes.specs.declared.envelope.Envelope.{Envelope}
 use Rattle.envelopes.specs.declared.acknowledgement.Ack.{Ack}
 use Rattle.commitment.specs.Senders.LookUps.{ack_at, envelope_at}
 use Rattle.nfs_items.specs.Timeval.{Timeval}
-use Rattle.worlds.specs.World.{World}
-use Rattle.gateway.specs.service.Replies.{reply_owed, world_after}
+use Rattle.server_spec.specs.World.{World}
+use Rattle.server_spec.specs.Replies.{reply_owed, world_after}
 use Rattle.state_spec.specs.State.{Idle, Server}
 use Rattle.node_logs.specs.Steps.Nodes.{NodeParts, sender_of}
 use Rattle.node_logs.specs.Nodes.{LacksKeys}

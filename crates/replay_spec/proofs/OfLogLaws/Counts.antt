@@ -12,8 +12,8 @@ use Rattle.secure_log.specs.authenticator.declared.member.Member.{Member}
 use Rattle.secure_log.specs.LogEntries.Chain.{zeros, hash_after, link_of}
 use Rattle.secure_log.specs.declared.log_entries.entry.Entry.{Entry}
 use Rattle.secure_log.specs.declared.log_entries.entry.Entry.TheVariants.{Send, Recv, Ack, Clock, Check}
-use Rattle.state_machine.specs.state_spec.State.{received_cmp, SentMessage, Machine, State}
-use Rattle.state_machine.specs.state_spec.State.{opened_with}
+use Rattle.state_spec.specs.State.{received_cmp, SentMessage, Machine, State}
+use Rattle.state_spec.specs.State.{opened_with}
 use Rattle.replay_spec.specs.Placed.{placed}
 use Rattle.replay_spec.specs.Steps.{received_message, sent_message, after_entry}
 use Rattle.replay_spec.specs.Stepping.{is_send}

@@ -7,7 +7,7 @@ use Rattle.std.specs.Cmp.Lexicographic.{slice_cmp, nat_list_cmp_total}
 use Rattle.std.specs.FinSet.{IsAntisymmetric, nat_cmp-IsAntisymmetric, slice_cmp-IsAntisymmetric}
 use Rattle.std.proofs.lemmas.Cmp.{on_total, then_total}
 use Rattle.std.proofs.lemmas.Map.Lookups.{exact_pairs}
-use Rattle.state_machine.specs.state_spec.State.{ReceivedMessage, received_cmp}
+use Rattle.state_spec.specs.State.{ReceivedMessage, received_cmp}
 
 -- it is a total order
 pub received_total : IsTotalOrder received_cmp

@@ -12,9 +12,9 @@ use Rattle.secure_log.specs.LogEntries.Messages.{message_hash}
 use Rattle.secure_log.specs.declared.log_entries.entry.Entry.{Entry}
 use Rattle.secure_log.specs.declared.log_entries.entry.Entry.TheVariants.{Send, Recv, Ack, Clock, Check}
 use Rattle.secure_log.specs.Log.{log_hash}
-use Rattle.state_machine.specs.state_spec.State.{ReceivedMessage, received_cmp, is_received, with_received}
-use Rattle.state_machine.specs.state_spec.State.{Machine, State}
-use Rattle.state_machine.specs.state_spec.State.{opened_with}
+use Rattle.state_spec.specs.State.{ReceivedMessage, received_cmp, is_received, with_received}
+use Rattle.state_spec.specs.State.{Machine, State}
+use Rattle.state_spec.specs.State.{opened_with}
 use Rattle.replay_spec.specs.Placed.{place}
 use Rattle.replay_spec.specs.Steps.{received_message, after_entry, Takes, MayStand}
 use Rattle.replay_spec.specs.HonestLogs.{IsHonestLog}

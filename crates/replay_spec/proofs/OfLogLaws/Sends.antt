@@ -14,7 +14,7 @@ use Rattle.secure_log.specs.authenticator.declared.member.Member.{Member}
 use Rattle.secure_log.specs.declared.log_entries.entry.Entry.{Entry}
 use Rattle.secure_log.specs.declared.log_entries.entry.Entry.TheVariants.{Send, Recv, Ack, Clock, Check}
 use Rattle.secure_log.specs.Log.{log_hash}
-use Rattle.state_machine.specs.state_spec.State.{SentMessage, Machine, State, opened_with}
+use Rattle.state_spec.specs.State.{SentMessage, Machine, State, opened_with}
 use Rattle.replay_spec.specs.Placed.{place}
 use Rattle.replay_spec.specs.Steps.{sent_message, after_entry, MayStand}
 use Rattle.replay_spec.specs.HonestLogs.{IsHonestLog}

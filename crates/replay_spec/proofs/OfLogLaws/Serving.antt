@@ -6,9 +6,9 @@ use Rattle.secure_log.specs.authenticator.declared.member.Member.{Member}
 use Rattle.secure_log.specs.LogEntries.Chain.{hash_after, link_of}
 use Rattle.secure_log.specs.declared.log_entries.entry.Entry.TheVariants.{Send, Recv, Clock}
 use Rattle.nfs_items.specs.Timeval.{Timeval}
-use Rattle.state_machine.specs.worlds.World.{World}
-use Rattle.state_machine.specs.service.Replies.{reply_owed, world_after}
-use Rattle.state_machine.specs.state_spec.State.{with_received, Idle, Heard, Machine, Server, State}
+use Rattle.state_spec.specs.server_spec.World.{World}
+use Rattle.state_spec.specs.server_spec.Replies.{reply_owed, world_after}
+use Rattle.state_spec.specs.State.{with_received, Idle, Heard, Machine, Server, State}
 use Rattle.replay_spec.specs.StateSteps.{machine_at, owing}
 use Rattle.replay_spec.specs.Placed.{Placed, place, placed}
 use Rattle.replay_spec.specs.Steps.{received_message, OwesNothing, Takes}

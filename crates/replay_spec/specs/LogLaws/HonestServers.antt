@@ -7,9 +7,9 @@ use Rattle.secure_log.specs.LogEntries.Chain.{links_from, last_hash}
 use Rattle.secure_log.specs.declared.log_entries.entry.Entry.{Entry}
 use Rattle.secure_log.specs.declared.log_entries.entry.Entry.TheVariants.{Send, Recv, Clock}
 use Rattle.nfs_items.specs.Timeval.{Timeval, is_before}
-use Rattle.state_machine.specs.worlds.World.{World}
-use Rattle.state_machine.specs.service.Replies.{reply_owed, world_after}
-use Rattle.state_machine.specs.state_spec.State.{is_received, with_received, Idle, Server, State}
+use Rattle.state_spec.specs.server_spec.World.{World}
+use Rattle.state_spec.specs.server_spec.Replies.{reply_owed, world_after}
+use Rattle.state_spec.specs.State.{is_received, with_received, Idle, Server, State}
 use Rattle.replay_spec.specs.StateSteps.{having_sent}
 use Rattle.replay_spec.specs.Shown.{sender_shown}
 use Rattle.replay_spec.specs.Steps.{received_message, sent_message}

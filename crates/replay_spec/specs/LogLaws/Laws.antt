@@ -6,10 +6,10 @@ use Rattle.secure_log.specs.authenticator.declared.member.Member.{Member}
 use Rattle.secure_log.specs.declared.log_entries.entry.Entry.{Entry}
 use Rattle.secure_log.specs.Log.{log_hash}
 use Rattle.nfs_items.specs.Timeval.{Timeval}
-use Rattle.state_machine.specs.worlds.World.{World}
-use Rattle.state_machine.specs.service.Replies.{reply_owed}
-use Rattle.state_machine.specs.state_spec.State.{ReceivedMessage, is_received, SentMessage, Machine, State}
-use Rattle.state_machine.specs.state_spec.State.{opened_with}
+use Rattle.state_spec.specs.server_spec.World.{World}
+use Rattle.state_spec.specs.server_spec.Replies.{reply_owed}
+use Rattle.state_spec.specs.State.{ReceivedMessage, is_received, SentMessage, Machine, State}
+use Rattle.state_spec.specs.State.{opened_with}
 use Rattle.replay_spec.specs.Placed.{placed}
 use Rattle.replay_spec.specs.Replay.{Honest, last_state}
 use Rattle.replay_spec.specs.HonestLogs.{IsHonestLog}

@@ -17,7 +17,7 @@ use Rattle.std.specs.FinMap.Entries.{put, by_order}
 use Rattle.std.proofs.lemmas.Map.Keys.{sorted_from_all_adjacent, Less-from_sorted}
 use Rattle.std.proofs.lemmas.List.{get_or_default, take_more, take-append-drop, map-append}
 use Rattle.std.proofs.lemmas.Bool.{cases_lt}
-use Rattle.service.proofs.fs_model.Counts.{find_lookup}
+use Rattle.service.proofs.fs_spec.Counts.{find_lookup}
 use Rattle.state_spec.specs.StateValues.{map_from, set_from}
 use Rattle.state_spec.proofs.Back.{map_back}
 use Rattle.state_spec.proofs.Forth.{entries_of_map, keys_of_set}

@@ -6,15 +6,15 @@ use Rattle.std.proofs.Common.{◌∙◌, arith, eqb, ltb, eqb-true, eq-eqb, ne_e
 use Rattle.std.specs.Prelude.{IsTrue, slice_get}
 use Rattle.std.proofs.lemmas.Bool.{cases_lt}
 use Rattle.std.proofs.lemmas.Option.{slice_get-get_or}
-use Rattle.nfs_laws.specs.fs_model.Names.{is_name}
-use Rattle.nfs_laws.specs.fs_model.Files.{File, Files, file_at, listing_in, is_directory, directory_entries}
-use Rattle.nfs_laws.specs.fs_model.Files.{names_of}
-use Rattle.nfs_laws.specs.fs_model.Trees.{IsFileTree}
-use Rattle.nfs_laws.proofs.fs_model.Walks.{none_some, some_same}
-use Rattle.nfs_laws.proofs.fs_model.Counts.{listed_in}
-use Rattle.nfs_laws.proofs.fs_model.Reached.{distinct_in}
-use Rattle.nfs_laws.proofs.fs_model.OfChanges.Shapes.{kind, is_some-kind}
-use Rattle.nfs_laws.proofs.fs_model.OfEditedTrees.Building.{built}
+use Rattle.nfs_laws.specs.fs_spec.Names.{is_name}
+use Rattle.nfs_laws.specs.fs_spec.Files.{File, Files, file_at, listing_in, is_directory, directory_entries}
+use Rattle.nfs_laws.specs.fs_spec.Files.{names_of}
+use Rattle.nfs_laws.specs.fs_spec.Trees.{IsFileTree}
+use Rattle.nfs_laws.proofs.fs_spec.Walks.{none_some, some_same}
+use Rattle.nfs_laws.proofs.fs_spec.Counts.{listed_in}
+use Rattle.nfs_laws.proofs.fs_spec.Reached.{distinct_in}
+use Rattle.nfs_laws.proofs.fs_spec.OfChanges.Shapes.{kind, is_some-kind}
+use Rattle.nfs_laws.proofs.fs_spec.OfEditedTrees.Building.{built}
 use Rattle.tree_rules.specs.FileRules.Rules.{files_listed, IsAt, AreRising, AreNames, AreFiles, numbers_of}
 use Rattle.tree_rules.specs.FileRules.Rules.{AreNamesCounted, may_have, StandsIn, AreKnown, HaveNames, LeadUp}
 use Rattle.tree_rules.proofs.OfFileRules.Listed.{names_listed, file_of_place, place_of_file, number_in_range}

@@ -16,9 +16,9 @@ use Rattle.std.proofs.lemmas.Map.Entries.{lookup_from_place, place_from_lookup}
 use Rattle.std.proofs.lemmas.Map.Keys.{sorted_head, sorted_tail, sorted_from_strictly_increasing}
 use Rattle.std.proofs.lemmas.Map.Keys.{IsDistinct-from_sorted}
 use Rattle.std.proofs.lemmas.Option.{slice_get-map, slice_get_within, get_or_from_slice_get}
-use Rattle.nfs_laws.specs.fs_model.Files.{File, file_at, listing_in, names_in, names_of}
-use Rattle.nfs_laws.specs.fs_model.Trees.{IsFile}
-use Rattle.nfs_laws.proofs.fs_model.Counts.{find_lookup, same_number, all_names}
+use Rattle.nfs_laws.specs.fs_spec.Files.{File, file_at, listing_in, names_in, names_of}
+use Rattle.nfs_laws.specs.fs_spec.Trees.{IsFile}
+use Rattle.nfs_laws.proofs.fs_spec.Counts.{find_lookup, same_number, all_names}
 use Rattle.tree_rules.specs.FileRules.Rules.{files_listed, IsAt, AreRising, AreNames, AreFiles, numbers_of}
 
 -- ---- places

@@ -12,36 +12,11 @@ use Rattle.std.proofs.lemmas.Option.{slice_get-get_or}
 use Rattle.std.proofs.lemmas.List.Elements.{recursion_from_All}
 use Rattle.std.proofs.lemmas.List.Sums.{sum_by-cons}
 use Rattle.std.proofs.lemmas.Map.Entries.{lookup_from_place}
-use Rattle.nfs_laws.specs.fs_model.Listing.{entry_at, HasDistinctNames}
-use Rattle.nfs_laws.specs.fs_model.Files.{File, Files, file_at, listing_in, directory_entries, one_if}
-use Rattle.nfs_laws.specs.fs_model.Files.{names_in}
-use Rattle.nfs_laws.proofs.fs_model.Walks.{none_some, some_same}
-use Rattle.nfs_laws.proofs.fs_model.Reached.{not_before}
-
--- what counts is found under its own key
-module _ {K X : Type 0} {eq : K → K → Bool} (laws : IsEquivalence eq) where
-  counted : (f : X → ℕ) (es : List (K × X)) → IsDistinct eq (keys_of es) → 0 < sum_by (λ e. f e.1) es
-      → (k : K) × (v : X) × (lookup (eq k) es ≡ Some v) × (0 < f v)
-  unfolding IsDistinct
-  counted f [] distinct h = absurd (omega arith)
-  counted f (e ∷ es) distinct h = ⊎_elim
-      (λ here. (e.0, e.1, cond-true _ _ _ (laws.refl e.0), here))
-      (λ none.
-      let rest = counted f es distinct.1 (omega (arith, sum_by-cons (λ (e : K × X). f e.1) e es, none, h)) in
-      (rest.0, rest.1, behind rest.0 rest.1 rest.2 (eq rest.0 e.0) refl, rest.3))
-      (cases_lt 0 (f e.1))
-    where
-      behind : (k : K) (v : X) → lookup (eq k) es ≡ Some v → (b : Bool) → eq k e.0 ≡ b
-          → lookup (eq k) (e ∷ es) ≡ Some v
-      behind k v found true is = absurd (none_some (sym (not_before laws e.0 k is es distinct.0) ∙ found))
-      behind k v found false is = cond-false _ _ _ is ∙ found
-
-named_one : (n : ℕ) (p : ℕ × ℕ) → 0 < one_if n ([], p) → p.0 ≡ n
-named_one n p h = by (eqb p.0 n) refl h
-  where
-    by : (b : Bool) → eqb p.0 n ≡ b → 0 < cond b 1 0 → p.0 ≡ n
-    by true e h = eqb-true p.0 n e
-    by false e h = absurd (omega arith)
+use Rattle.nfs_laws.specs.fs_spec.Listing.{entry_at, HasDistinctNames}
+use Rattle.nfs_laws.specs.fs_spec.Files.{File, Files, file_at, listing_in, directory_entries, one_if}
+use Rattle.nfs_laws.specs.fs_spec.Files.{names_in}
+use Rattle.nfs_laws.proofs.fs_spec.Walks.{none_some, some_same}
+use Rattle.nfs_laws.proofs.fs_spec.Reached.{counted, named_one}
 
 -- what holds of each value holds of what is looked up
 looked_up : {K X : Type 0} (P : X → Type 0) (t : K → Bool) (es : List (K × X)) (v : X)

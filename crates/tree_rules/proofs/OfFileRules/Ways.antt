@@ -5,15 +5,15 @@ use Rattle.std.proofs.Common.{length, get_or, Option, Some, None, is_some, optio
 use Rattle.std.proofs.Common.{◌∙◌, arith, length-append}
 use Rattle.std.specs.Prelude.{slice_get}
 use Rattle.std.proofs.lemmas.Bool.{cases_lt}
-use Rattle.nfs_laws.specs.fs_model.Paths.{path_at}
-use Rattle.nfs_laws.specs.fs_model.Files.{File, Files, file_at, is_directory, IsDirectory, directory_entries}
-use Rattle.nfs_laws.specs.fs_model.Files.{parent_of}
-use Rattle.nfs_laws.specs.fs_model.Files.{names_of}
-use Rattle.nfs_laws.specs.fs_model.Trees.{IsFileTree}
-use Rattle.nfs_laws.proofs.fs_model.Walks.{none_some, some_same, one_number, step_last, last_name, last_step}
-use Rattle.nfs_laws.proofs.fs_model.Reached.{distinct_in}
-use Rattle.nfs_laws.proofs.fs_model.Parents.{root_parent}
-use Rattle.nfs_laws.proofs.fs_model.OnePath as own
+use Rattle.nfs_laws.specs.fs_spec.Paths.{path_at}
+use Rattle.nfs_laws.specs.fs_spec.Files.{File, Files, file_at, is_directory, IsDirectory, directory_entries}
+use Rattle.nfs_laws.specs.fs_spec.Files.{parent_of}
+use Rattle.nfs_laws.specs.fs_spec.Files.{names_of}
+use Rattle.nfs_laws.specs.fs_spec.Trees.{IsFileTree}
+use Rattle.nfs_laws.proofs.fs_spec.Walks.{none_some, some_same, one_number, step_last, last_name, last_step}
+use Rattle.nfs_laws.proofs.fs_spec.Reached.{distinct_in}
+use Rattle.nfs_laws.proofs.fs_spec.Parents.{root_parent}
+use Rattle.nfs_laws.proofs.fs_spec.OnePath as own
 use Rattle.nfs_laws.proofs.OfTrees.Above.{path_length}
 use Rattle.tree_rules.specs.FileRules.Climbs.{climbed}
 use Rattle.tree_rules.specs.FileRules.Rules.{files_listed, IsAt, AreFiles, AreNamesCounted}

@@ -4,11 +4,11 @@ use Rattle.std.specs.Prelude.{slice_get, slice_index, sum_by, nat_lt, ifâ—Œthenâ
 use Rattle.std.specs.List.{All}
 use Rattle.std.specs.FinMap as finite
 use Rattle.nfs_items.specs.Terms.{FileNumber}
-use Rattle.nfs_laws.specs.fs_model.Maxima.{max_name}
-use Rattle.nfs_laws.specs.fs_model.Names.{is_name}
-use Rattle.nfs_laws.specs.fs_model.Listing.{NamedEntry, entry_name, entry_number}
-use Rattle.nfs_laws.specs.fs_model.Files.{File, Files, names_in, listing_in, is_directory}
-use Rattle.nfs_laws.specs.fs_model.Trees.{IsFile}
+use Rattle.nfs_laws.specs.fs_spec.Maxima.{max_name}
+use Rattle.nfs_laws.specs.fs_spec.Names.{is_name}
+use Rattle.nfs_laws.specs.fs_spec.Listing.{NamedEntry, entry_name, entry_number}
+use Rattle.nfs_laws.specs.fs_spec.Files.{File, Files, names_in, listing_in, is_directory}
+use Rattle.nfs_laws.specs.fs_spec.Trees.{IsFile}
 use Rattle.tree_rules.specs.FileRules.Climbs.{climbed}
 
 -- the files of a list of numbers and files

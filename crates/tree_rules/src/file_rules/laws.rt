@@ -2,8 +2,8 @@
 
 ghost use Rattle.std.specs.Prelude.{◌≡◌, ◌<◌, ◌↔◌, ℕ, List, length, slice_index};
 ghost use Rattle.nfs_items.specs.Terms.{FileNumber};
-ghost use Rattle.nfs_laws.specs.fs_model.Files.{File, IsDirectory, names_of, parent_of};
-ghost use Rattle.nfs_laws.specs.fs_model.Trees.{IsFileTree};
+ghost use Rattle.nfs_laws.specs.fs_spec.Files.{File, IsDirectory, names_of, parent_of};
+ghost use Rattle.nfs_laws.specs.fs_spec.Trees.{IsFileTree};
 ghost use Rattle.tree_rules.specs.FileRules.Rules.{AreFiles, AreKnown, AreNamesCounted, AreRising};
 ghost use Rattle.tree_rules.specs.FileRules.Rules.{FollowsRules, IsAt};
 ghost use Rattle.tree_rules.specs.FileRules.Rules.{files_listed, numbers_of};

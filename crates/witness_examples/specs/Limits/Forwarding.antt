@@ -10,7 +10,7 @@ use Rattle.secure_log.specs.declared.log_entries.entry.Entry.TheVariants.{Recv}
 use Rattle.secure_log.specs.Segment.{SegmentParts}
 use Rattle.replay_spec.specs.Shown.{sender_shown}
 use Rattle.state_spec.specs.State.{State, opening_client}
-use Rattle.state_machine.specs.Steps.{having_received}
+use Rattle.state_spec.specs.Steps.{having_received}
 use Rattle.replay_spec.specs.Replay.{Sound}
 use Rattle.witness_spec.specs.Events.{JobParts}
 use Rattle.witness_spec.specs.Replies.{Noted, Forwarded}

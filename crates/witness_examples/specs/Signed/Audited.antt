@@ -13,7 +13,7 @@ use Rattle.secure_log.specs.declared.log_entries.entry.Entry.TheVariants.{Clock}
 use Rattle.secure_log.specs.Log.{LogParts}
 use Rattle.secure_log.specs.Segment.{SegmentParts, ClosedParts}
 use Rattle.state_spec.specs.State.{State, opening_client}
-use Rattle.state_machine.specs.Steps.{having_read}
+use Rattle.state_spec.specs.Steps.{having_read}
 use Rattle.replay_spec.specs.Replay.{Sound}
 use Rattle.witness_spec.specs.Events.{PublicKey, JobParts, DoneParts, ItsIndication}
 use Rattle.witness_spec.specs.Events as events

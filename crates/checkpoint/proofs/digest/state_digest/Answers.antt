@@ -1,8 +1,8 @@
 use Rattle.std.proofs.Common.{ap, ◌∙◌}
 use Rattle.sha2.specs.Sha256.{sha256}
 use Rattle.xdr.specs.Item.{fixed}
-use Rattle.state_machine.specs.file_texts.FileItems.{file_digest}
-use Rattle.state_machine.specs.state_spec.StateText.{state_digest}
+use Rattle.state_spec.specs.server_spec.FileItems.{file_digest}
+use Rattle.state_spec.specs.StateText.{state_digest}
 use Rattle.checkpoint.proofs.Fronted.{made}
 use Rattle.checkpoint.proofs.digest.state_digest.Goals as goal
 

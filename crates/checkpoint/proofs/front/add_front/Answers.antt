@@ -3,9 +3,9 @@ use Rattle.std.specs.FinMap as finite
 use Rattle.xdr.specs.Item.{array, spelling, number_spelling}
 use Rattle.xdr.specs.Writing.{Adds}
 use Rattle.nfs_items.specs.Timeval.{timeval, timeval_value}
-use Rattle.state_machine.specs.state_spec.Limits.{max_received, max_sends}
-use Rattle.state_machine.specs.state_spec.State.{Machine, clock_in}
-use Rattle.state_machine.specs.state_spec.StateItems.{received_item, received_value, sent_item, sent_value}
+use Rattle.state_spec.specs.Limits.{max_received, max_sends}
+use Rattle.state_spec.specs.State.{Machine, clock_in}
+use Rattle.state_spec.specs.StateItems.{received_item, received_value, sent_item, sent_value}
 use Rattle.checkpoint.specs.Fronts.{kind_of, rest_front}
 use Rattle.checkpoint.proofs.Fronted.{added_after, instead}
 use Rattle.checkpoint.proofs.front.add_front.Goals as goal

@@ -5,7 +5,7 @@ use Rattle.xdr.specs.Writing.{Adds}
 use Rattle.mount_types.specs.Calls.{Mount}
 use Rattle.mount_types.specs.Mounts.{max_mounts, root_of, IsMount}
 use Rattle.state_machine.proofs.file_texts.Arrays.{adds_counted}
-use Rattle.state_machine.specs.state_spec.StateItems.{mount_item}
+use Rattle.state_spec.specs.StateItems.{mount_item}
 use Rattle.checkpoint.proofs.MountedHosts.{short_at}
 use Rattle.checkpoint.proofs.mounts.add_mounts.Goals as goal
 

@@ -1,6 +1,6 @@
 use Rattle.std.proofs.Common.{sym, subst, arith}
-use Rattle.state_machine.specs.state_spec.State.{State}
-use Rattle.state_machine.specs.state_spec.StateText.{IsStateText}
+use Rattle.state_spec.specs.State.{State}
+use Rattle.state_spec.specs.StateText.{IsStateText}
 use Rattle.state_machine.proofs.state_spec.Texts.{text_of_rules, no_state}
 use Rattle.checkpoint.specs.Parts.SaidParts.{state_said}
 use Rattle.checkpoint.proofs.Chosen.{when_none, when_some}

@@ -3,11 +3,11 @@ use Rattle.std.specs.List.Sorted.{IsStrictlySortedBy}
 use Rattle.std.specs.Map.{keys_of}
 use Rattle.std.specs.Ordering.{nat_cmp}
 use Rattle.xdr.specs.Item.{Fits}
-use Rattle.state_machine.specs.file_texts.FileItems.{file_item}
-use Rattle.state_machine.specs.state_spec.State.{received_cmp}
-use Rattle.state_machine.specs.state_spec.StateItems.{state_item}
-use Rattle.state_machine.specs.state_spec.StateValues.{map_from, set_from, state_from}
-use Rattle.state_machine.specs.state_spec.Rules.{KeepsRules}
+use Rattle.state_spec.specs.server_spec.FileItems.{file_item}
+use Rattle.state_spec.specs.State.{received_cmp}
+use Rattle.state_spec.specs.StateItems.{state_item}
+use Rattle.state_spec.specs.StateValues.{map_from, set_from, state_from}
+use Rattle.state_spec.specs.Rules.{KeepsRules}
 use Rattle.state_machine.specs.States.Numbered.{numbered}
 use Rattle.checkpoint.specs.declared.parts.parts.MachinePart.{MachinePart}
 use Rattle.state_machine.specs.Machines.{server_state, client_state}

@@ -1,4 +1,4 @@
-use Rattle.state_machine.specs.file_texts.FileItems.{file_item, file_value}
+use Rattle.state_spec.specs.server_spec.FileItems.{file_item, file_value}
 use Rattle.checkpoint.proofs.Fronted.{made}
 use Rattle.checkpoint.proofs.text.state_text.Goals as goal
 

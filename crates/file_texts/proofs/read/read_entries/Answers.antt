@@ -4,7 +4,7 @@ use Rattle.std.proofs.lemmas.Result.{err_from_is_err_and}
 use Rattle.xdr.specs.Reading.{read_at}
 use Rattle.xdr.specs.ArraysAndUnions.{begins, goes_on, fails_unless, ends, array_at}
 use Rattle.tree_rules.specs.GivenListing.{said_entry, said_entries}
-use Rattle.file_texts.specs.FileItems.{entry_item}
+use Rattle.server_spec.specs.FileItems.{entry_item}
 use Rattle.file_texts.specs.declared.read.TheConstants.{MAX_ENTRIES}
 use Rattle.file_texts.proofs.read.read_entries.Goals as goal
 

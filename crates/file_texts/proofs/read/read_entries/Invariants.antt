@@ -1,7 +1,7 @@
 use Rattle.xdr.specs.Reading.{read_at}
 use Rattle.xdr.specs.ArraysAndUnions.{Continues}
 use Rattle.tree_rules.specs.GivenListing.{said_entries}
-use Rattle.file_texts.specs.FileItems.{entry_item}
+use Rattle.server_spec.specs.FileItems.{entry_item}
 use Rattle.file_texts.proofs.read.read_entries.Given as goal
 
 abbrev pub invariant-loop : goal.invariant-loop

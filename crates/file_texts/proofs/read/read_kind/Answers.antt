@@ -3,7 +3,7 @@ use Rattle.std.proofs.lemmas.Result.{err_from_is_err_and}
 use Rattle.xdr.specs.ReadFault.{xdr_fault}
 use Rattle.xdr.specs.ArraysAndUnions.{choice_ok, choice_err_unless}
 use Rattle.tree_rules.specs.GivenListing.{said_entries}
-use Rattle.file_texts.specs.FileItems.{is_file_kind, kind_item}
+use Rattle.server_spec.specs.FileItems.{is_file_kind, kind_item}
 use Rattle.file_texts.specs.Parts.{attributes_said}
 use Rattle.file_texts.proofs.read.read_kind.Goals as goal
 

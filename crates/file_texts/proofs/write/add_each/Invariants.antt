@@ -1,9 +1,9 @@
 use Rattle.std.proofs.Common.{◌≤◌, length}
 use Rattle.std.specs.List.{AllByRecursion}
-use Rattle.fs_model.specs.Maxima.{max_name}
-use Rattle.fs_model.specs.Listing.{NamedEntry}
+use Rattle.fs_spec.specs.Maxima.{max_name}
+use Rattle.fs_spec.specs.Listing.{NamedEntry}
 use Rattle.tree_rules.specs.inodes.Directories.Entries.{entries_of}
-use Rattle.file_texts.specs.FileItems.{entry_item}
+use Rattle.server_spec.specs.FileItems.{entry_item}
 use Rattle.file_texts.specs.Stored.{entry_in}
 use Rattle.file_texts.proofs.Arrays.{AddsRest}
 use Rattle.file_texts.proofs.write.add_each.Given as goal

@@ -2,8 +2,8 @@ use Rattle.std.proofs.Common.{◌++◌, List, length, sym, subst, ap, ◌∙◌}
 use Rattle.std.proofs.lemmas.List.{length-map}
 use Rattle.xdr.specs.Item.{array, spelling, number_spelling}
 use Rattle.xdr.specs.Writing.{Adds}
-use Rattle.fs_model.specs.Listing.{NamedEntry}
-use Rattle.file_texts.specs.FileItems.{entry_item}
+use Rattle.fs_spec.specs.Listing.{NamedEntry}
+use Rattle.server_spec.specs.FileItems.{entry_item}
 use Rattle.file_texts.specs.Stored.{entry_in}
 use Rattle.file_texts.specs.declared.read.TheConstants.{MAX_ENTRIES}
 use Rattle.file_texts.proofs.Arrays.{adds_counted}

@@ -4,7 +4,7 @@ use Rattle.xdr.specs.Item.{Fits, choice, spelling}
 use Rattle.xdr.specs.Writing.{Adds}
 use Rattle.tree_rules.specs.inodes.declared.inode.Body as stored
 use Rattle.tree_rules.specs.inodes.Inodes.{body_in, file_in}
-use Rattle.file_texts.specs.FileItems.{attributes_value, is_file_kind, kind_item, kind_value}
+use Rattle.server_spec.specs.FileItems.{attributes_value, is_file_kind, kind_item, kind_value}
 use Rattle.file_texts.proofs.write.add_kind.Goals as goal
 
 pub returns-in-Regular-clause-fits : goal.returns-in-Regular-clause-fits

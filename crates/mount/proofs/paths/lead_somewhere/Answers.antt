@@ -3,8 +3,8 @@ use Rattle.std.specs.List.{slice_split}
 use Rattle.std.proofs.lemmas.List.{length_push}
 use Rattle.std.proofs.lemmas.Iterator.Splits.{YieldsList-from_slice_split}
 use Rattle.std.proofs.lemmas.Iterator.Consumers.{YieldsList-turn, YieldsList-end}
-use Rattle.file_tree.specs.fs_model.Files.{directory_entries}
-use Rattle.mount.specs.Paths.{slash}
+use Rattle.file_tree.specs.fs_spec.Files.{directory_entries}
+use Rattle.server_spec.specs.Paths.{slash}
 use Rattle.mount.proofs.Walked.{lead_on, leads_from, leads_nowhere, leads_to_end}
 use Rattle.mount.proofs.paths.lead_somewhere.Goals as goal
 

@@ -1,7 +1,7 @@
 use Rattle.std.proofs.Common.{◌≡◌, ◌==◌, length, drop}
 use Rattle.std.specs.List.{slice_split}
-use Rattle.file_tree.specs.fs_model.Files.{directory_entries}
-use Rattle.mount.specs.Paths.{slash}
+use Rattle.file_tree.specs.fs_spec.Files.{directory_entries}
+use Rattle.server_spec.specs.Paths.{slash}
 use Rattle.mount.proofs.Walked.{lead_on}
 use Rattle.mount.proofs.paths.lead_somewhere.Given as goal
 

@@ -1,6 +1,6 @@
 use Rattle.std.proofs.Common.{refl, [], ◌∷◌}
 use Rattle.nfs_spec.specs.Opening.{epoch, hello, opening_root, opening_hello}
-use Rattle.fs_model.proofs.OfChanges.Listings.{name_other}
+use Rattle.fs_spec.proofs.OfChanges.Listings.{name_other}
 use Rattle.nfs_spec.proofs.OpeningFiles.{root_there}
 use Rattle.nfs_examples.specs.Worked.{x, y, empty_file, root_with, with_three}
 use Rattle.nfs_examples.specs.Linked.{root_of}

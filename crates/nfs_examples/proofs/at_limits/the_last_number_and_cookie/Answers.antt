@@ -1,5 +1,5 @@
 use Rattle.std.proofs.Common.{◌≡◌, ℕ, List, None, refl, [], ◌∷◌}
-use Rattle.fs_model.specs.Files.{Directory, File}
+use Rattle.fs_spec.specs.Files.{Directory, File}
 use Rattle.nfs_spec.specs.Opening.{epoch, hello, first_file, opening_hello}
 use Rattle.nfs_spec.specs.Procedures.{move_entry}
 use Rattle.nfs_examples.specs.Worked.{files_from, a, empty_file}

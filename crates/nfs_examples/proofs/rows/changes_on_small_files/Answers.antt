@@ -1,8 +1,8 @@
 use Rattle.std.proofs.Common.{◌≡◌, true, false, None, refl, ap, ◌∙◌, [], ◌∷◌, length}
 use Rattle.std.specs.FinMap as finite
-use Rattle.fs_model.specs.Changes.Limits.{file_count}
+use Rattle.fs_spec.specs.Changes.Limits.{file_count}
 use Rattle.nfs_spec.specs.Procedures.{climbs_to, is_above, move_entry}
-use Rattle.fs_model.specs.Files.{Regular}
+use Rattle.fs_spec.specs.Files.{Regular}
 use Rattle.nfs_spec.specs.Opening.{epoch, first_file, opening_root, opening_hello}
 use Rattle.nfs_examples.specs.Worked.{files_from, a, d, root_with, empty_directory, root_between}
 use Rattle.nfs_examples.specs.Worked.{root_renamed, with_directory, with_renamed, with_link}

@@ -1,6 +1,6 @@
 use Rattle.std.proofs.Common.{◌≡◌, Some, refl, [], ◌∷◌}
 use Rattle.nfs_items.specs.Handle.{handle_of, number_in}
-use Rattle.fs_model.specs.Changes.Edits.{without_file}
+use Rattle.fs_spec.specs.Changes.Edits.{without_file}
 use Rattle.nfs_spec.specs.Changes.{touch}
 use Rattle.nfs_spec.specs.Opening.{epoch, opening_root, opening_hello}
 use Rattle.nfs_examples.specs.Worked.{files_from, a, root_with, empty_file, link_to_t, root_between}

@@ -1,6 +1,6 @@
 use Rattle.std.proofs.Common.{◌≡◌, true, false, None, refl, ap, ◌∙◌, ◌∷◌, length}
 use Rattle.std.specs.FinMap as finite
-use Rattle.fs_model.specs.Changes.Limits.{file_count}
+use Rattle.fs_spec.specs.Changes.Limits.{file_count}
 use Rattle.nfs_spec.specs.Procedures.{climbs_to, is_above, move_entry}
 use Rattle.nfs_spec.specs.Opening.{epoch}
 use Rattle.nfs_examples.specs.Worked.{files_from, a, b, c, d, empty_directory, empty_file, directory_of}

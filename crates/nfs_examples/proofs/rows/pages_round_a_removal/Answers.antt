@@ -1,5 +1,5 @@
 use Rattle.std.proofs.Common.{◌≡◌, refl, [], ◌∷◌}
-use Rattle.fs_model.specs.Changes.Edits.{without_file}
+use Rattle.fs_spec.specs.Changes.Edits.{without_file}
 use Rattle.nfs_spec.specs.Changes.{touch}
 use Rattle.nfs_spec.specs.Opening.{epoch, opening_hello}
 use Rattle.nfs_examples.specs.Worked.{files_from, empty_file, root_between, root_of_three, root_of_two}

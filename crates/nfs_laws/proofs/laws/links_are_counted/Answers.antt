@@ -3,10 +3,10 @@ use Rattle.std.proofs.Common.{arith}
 use Rattle.std.specs.Prelude.{option_map, is_some}
 use Rattle.std.specs.Option.{option_map_or}
 use Rattle.nfs_spec.specs.nfs_items.declared.attributes.Fattr.{Fattr}
-use Rattle.nfs_spec.specs.fs_model.Files.{Body, Regular, Symlink, Directory, File, Files, file_at}
-use Rattle.nfs_spec.specs.fs_model.Files.{is_directory, IsDirectory, listing_in, names_of}
-use Rattle.nfs_spec.proofs.fs_model.Walks.{some_same}
-use Rattle.nfs_spec.proofs.fs_model.Counts.{has_two}
+use Rattle.nfs_spec.specs.fs_spec.Files.{Body, Regular, Symlink, Directory, File, Files, file_at}
+use Rattle.nfs_spec.specs.fs_spec.Files.{is_directory, IsDirectory, listing_in, names_of}
+use Rattle.nfs_spec.proofs.fs_spec.Walks.{some_same}
+use Rattle.nfs_spec.proofs.fs_spec.Counts.{has_two}
 use Rattle.nfs_spec.specs.FileAttributes.{nlink_of, subdirectories}
 use Rattle.nfs_laws.specs.Steps.Read.{AttributesOk}
 use Rattle.nfs_laws.proofs.OfSteps.Reading.{attributes_ok}

@@ -1,5 +1,5 @@
 use Rattle.std.proofs.Common.{◌≡◌, None, drop}
-use Rattle.witness_steps.specs.Answers.{least_from}
+use Rattle.witness_book_laws.specs.Answers.{least_from}
 use Rattle.node_book.proofs.forks.least_another.Given as goal
 
 abbrev pub invariant-loop-authenticator : goal.invariant-loop-authenticator

@@ -1,7 +1,7 @@
 use Rattle.std.proofs.Common.{◌≡◌, ◌≢◌, ℕ, Bool, true, false, cond, not, List, [], Some, None, Ok, Err}
 use Rattle.std.proofs.Common.{refl, ap}
-use Rattle.state_machine.specs.state_spec.State.{opening_client}
-use Rattle.state_machine.specs.state_spec.StateText.{state_digest}
+use Rattle.state_spec.specs.State.{opening_client}
+use Rattle.state_spec.specs.StateText.{state_digest}
 use Rattle.secure_log.specs.authenticator.Signing.{is_same}
 use Rattle.replay_spec.specs.Stepping.{WrongCheckpoint, unless_fault, step}
 use Rattle.replay_spec.specs.Replay.{Verdict, Fault, behind, verdict_of}

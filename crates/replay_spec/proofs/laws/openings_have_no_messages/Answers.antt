@@ -1,7 +1,7 @@
 use Rattle.std.proofs.Common.{◌≡◌, ℕ, refl}
 use Rattle.secure_log.specs.authenticator.declared.member.Kind.{Kind}
 use Rattle.secure_log.specs.authenticator.declared.member.Kind.TheVariants as kinds
-use Rattle.state_machine.specs.state_spec.State.{Machine, opened_with, opening_server, opening_client}
+use Rattle.state_spec.specs.State.{Machine, opened_with, opening_server, opening_client}
 use Rattle.replay_spec.specs.Opening.{opening_by}
 use Rattle.replay_spec.proofs.laws.openings_have_no_messages.Goals as goal
 

@@ -2,8 +2,8 @@ use Rattle.std.proofs.Common.{ℕ, cond, not, List, [], Option, Some, None, Ok, 
 use Rattle.std.specs.FinMap as finite
 use Rattle.merkle_keys.specs.Signing.{SignatureParts}
 use Rattle.secure_log.specs.declared.log_entries.entry.Entry.TheVariants.{Ack}
-use Rattle.state_machine.specs.state_spec.State.{SentMessage, opening_server}
-use Rattle.state_machine.specs.Steps.{having_acknowledged}
+use Rattle.state_spec.specs.State.{SentMessage, opening_server}
+use Rattle.state_spec.specs.Steps.{having_acknowledged}
 use Rattle.replay_spec.specs.Stepping.{BadAck, fits_message, unless_fault, shown_by, step}
 use Rattle.replay_spec.specs.Replay.{Verdict, Fault, behind, verdict_of}
 use Rattle.replay_spec.proofs.laws.servers_have_faults.Goals as goal

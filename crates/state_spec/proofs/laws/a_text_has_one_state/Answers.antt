@@ -1,5 +1,5 @@
 use Rattle.std.proofs.Common.{sym, ◌∙◌}
-use Rattle.file_texts.proofs.fs_model.Walks.{none_some, some_same}
+use Rattle.fs_spec.proofs.Walks.{none_some, some_same}
 use Rattle.state_spec.proofs.Back.{one_state}
 use Rattle.state_spec.proofs.Texts.{read_again}
 use Rattle.state_spec.proofs.laws.a_text_has_one_state.Goals as goal

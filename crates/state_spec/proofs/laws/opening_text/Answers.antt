@@ -3,15 +3,15 @@ use Rattle.std.proofs.Common.{◌∙◌, arith}
 use Rattle.std.specs.Ordering.{nat_cmp}
 use Rattle.std.specs.declared.cmp.Ordering.{Ordering}
 use Rattle.std.specs.FinMap as finite
-use Rattle.file_texts.specs.xdr.Item.{Item, Value, Fits, fixed, spelling, number_spelling}
+use Rattle.xdr.specs.Item.{Item, Value, Fits, fixed, spelling, number_spelling}
 use Rattle.sha2.proofs.Facts256.{length-sha256}
-use Rattle.file_texts.specs.fs_model.Files.{File}
-use Rattle.worlds.specs.nfs_spec.Opening.{opening_root, opening_hello}
-use Rattle.worlds.proofs.nfs_spec.OpeningFiles.{opening_room, opening_entries}
-use Rattle.worlds.proofs.nfs_spec.OpeningTree.{opening_is_tree}
-use Rattle.worlds.specs.World.{opening_world}
-use Rattle.worlds.proofs.Mounted.{are_mounts}
-use Rattle.file_texts.specs.FileItems.{file_item, file_value, file_digest}
+use Rattle.fs_spec.specs.Files.{File}
+use Rattle.server_spec.specs.nfs_spec.Opening.{opening_root, opening_hello}
+use Rattle.server_spec.proofs.nfs_spec.OpeningFiles.{opening_room, opening_entries}
+use Rattle.server_spec.proofs.nfs_spec.OpeningTree.{opening_is_tree}
+use Rattle.server_spec.specs.World.{opening_world}
+use Rattle.server_spec.proofs.Mounted.{are_mounts}
+use Rattle.server_spec.specs.FileItems.{file_item, file_value, file_digest}
 use Rattle.state_spec.specs.State.{Idle, ReceivedMessage, SentMessage, received_cmp, opening_server}
 use Rattle.state_spec.specs.StateItems.{state_item, received_value, sent_value, state_value}
 use Rattle.state_spec.specs.StateText.{said}

@@ -1,6 +1,6 @@
 use Rattle.std.proofs.Common.{◌≡◌, ◌+◌, ◌<◌, [], ◌∷◌, ◌++◌, length, get_or, arith, sym, ap, ◌∙◌}
 use Rattle.std.proofs.lemmas.List.{get_or_default}
-use Rattle.nfs_laws.proofs.fs_model.Walks.{none_some}
+use Rattle.nfs_laws.proofs.fs_spec.Walks.{none_some}
 use Rattle.tree_rules.specs.declared.entries.GivenEntry.{GivenEntry}
 use Rattle.tree_rules.proofs.Reading.{cookie_rises, is_a_name, is_new, read_none, read_more, read_all}
 use Rattle.tree_rules.proofs.Reading.{is_listing, next_above}

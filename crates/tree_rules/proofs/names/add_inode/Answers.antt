@@ -1,6 +1,6 @@
 use Rattle.std.proofs.Common.{ℕ, List, MatchBool, sym, subst}
 use Rattle.std.specs.List.{All}
-use Rattle.nfs_laws.specs.fs_model.Files.{listing_in}
+use Rattle.nfs_laws.specs.fs_spec.Files.{listing_in}
 use Rattle.inodes.specs.Inodes.{body_in}
 use Rattle.inodes.specs.declared.inode.Body.{Body}
 use Rattle.tree_rules.specs.Counting.{IsAmong}

@@ -3,7 +3,7 @@ use Rattle.std.specs.List.{All}
 use Rattle.std.proofs.lemmas.List.{length-replicate}
 use Rattle.inodes.specs.Inodes.{file_in}
 use Rattle.inodes.specs.declared.inode.Inode.{Inode}
-use Rattle.nfs_laws.specs.fs_model.Files.{listing_in}
+use Rattle.nfs_laws.specs.fs_spec.Files.{listing_in}
 use Rattle.tree_rules.specs.Listed.{files_in}
 use Rattle.tree_rules.specs.Counting.{IsAmong}
 use Rattle.tree_rules.proofs.Counted.{AreKnownTo, counted_none, counted_more, counted_all, known_more}

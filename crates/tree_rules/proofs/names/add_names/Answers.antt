@@ -3,7 +3,7 @@ use Rattle.std.specs.List.{All}
 use Rattle.std.proofs.lemmas.List.{take_all}
 use Rattle.std.proofs.lemmas.List.Elements.{All-more}
 use Rattle.std.proofs.lemmas.List.Sums.{sum_by-take-le}
-use Rattle.nfs_laws.specs.fs_model.Files.{one_if}
+use Rattle.nfs_laws.specs.fs_spec.Files.{one_if}
 use Rattle.tree_rules.specs.Counting.{IsAmong, AddsNames}
 use Rattle.tree_rules.proofs.Naming.{adds_more, few_names}
 use Rattle.tree_rules.proofs.names.add_names.Goals as goal

@@ -3,8 +3,8 @@ use Rattle.std.proofs.Common.{⊎_elim, Some, eqb, eqb-true, eq-eqb, sym, ap, su
 use Rattle.std.specs.Prelude.{IsTrue, ◌↔◌}
 use Rattle.std.proofs.lemmas.Bool.{cases_lt}
 use Rattle.std.proofs.lemmas.Option.{get_or_from_slice_get}
-use Rattle.nfs_laws.specs.fs_model.Files.{File}
-use Rattle.nfs_laws.specs.fs_model.Trees.{IsFileTree}
+use Rattle.nfs_laws.specs.fs_spec.Files.{File}
+use Rattle.nfs_laws.specs.fs_spec.Trees.{IsFileTree}
 use Rattle.inodes.specs.Inodes.{file_in}
 use Rattle.inodes.specs.declared.inode.Inode.{Inode}
 use Rattle.tree_rules.specs.FileRules.Climbs.{AreWays, TellsWays}

@@ -1,7 +1,7 @@
 use Rattle.std.proofs.Common.{sym, ap, subst, ◌∙◌}
 use Rattle.std.proofs.lemmas.List.{take_all}
-use Rattle.state_machine.specs.state_spec.Rules.{MountsAreOfTheRoot, MountsDiffer}
-use Rattle.state_machine.proofs.worlds.Mounted.{are_of_the_root, are_different}
+use Rattle.state_spec.specs.Rules.{MountsAreOfTheRoot, MountsDiffer}
+use Rattle.state_machine.proofs.server_spec.Mounted.{are_of_the_root, are_different}
 use Rattle.checkpoint.specs.Parts.SaidParts.{mounts_given}
 use Rattle.checkpoint.proofs.OfParts.MountsTaken.{refused_one}
 use Rattle.checkpoint.proofs.parts.mounted.mounts_of.Goals as goal

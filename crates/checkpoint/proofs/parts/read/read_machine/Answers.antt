@@ -2,8 +2,8 @@ use Rattle.std.proofs.Common.{refl}
 use Rattle.std.proofs.lemmas.Result.{err_from_is_err_and}
 use Rattle.xdr.specs.ReadFault.{xdr_fault}
 use Rattle.xdr.specs.ArraysAndUnions.{choice_ok, choice_err_unless}
-use Rattle.state_machine.specs.file_texts.FileItems.{file_item}
-use Rattle.state_machine.specs.state_spec.StateItems.{is_node_kind, machine_item}
+use Rattle.state_spec.specs.server_spec.FileItems.{file_item}
+use Rattle.state_spec.specs.StateItems.{is_node_kind, machine_item}
 use Rattle.checkpoint.specs.Parts.SaidParts.{kind_said, world_said}
 use Rattle.checkpoint.proofs.parts.read.read_machine.Goals as goal
 

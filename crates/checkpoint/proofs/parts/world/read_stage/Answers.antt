@@ -2,7 +2,7 @@ use Rattle.std.proofs.Common.{refl}
 use Rattle.std.proofs.lemmas.Result.{err_from_is_err_and}
 use Rattle.xdr.specs.ReadFault.{xdr_fault}
 use Rattle.xdr.specs.ArraysAndUnions.{choice_ok, choice_err_unless}
-use Rattle.state_machine.specs.state_spec.StateItems.{is_stage, stage_body}
+use Rattle.state_spec.specs.StateItems.{is_stage, stage_body}
 use Rattle.checkpoint.proofs.parts.world.read_stage.Goals as goal
 
 pub returns-in-0 : goal.returns-in-0

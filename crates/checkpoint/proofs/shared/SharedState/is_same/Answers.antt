@@ -1,5 +1,5 @@
 use Rattle.std.proofs.Common.{subst}
-use Rattle.state_machine.specs.state_spec.StateText.{IsStateText}
+use Rattle.state_spec.specs.StateText.{IsStateText}
 use Rattle.checkpoint.proofs.OneText.{one_state_of}
 use Rattle.checkpoint.proofs.SharedStates.{one_text}
 use Rattle.checkpoint.proofs.shared.SharedState.is_same.Goals as goal

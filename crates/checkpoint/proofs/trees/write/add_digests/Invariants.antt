@@ -4,7 +4,7 @@ use Rattle.xdr.specs.Item.{fixed}
 use Rattle.inodes.specs.Inodes.{file_in}
 use Rattle.inodes.specs.declared.inode.Inode.{Inode}
 use Rattle.file_tree.specs.KeptDigests.{IsWritableAt}
-use Rattle.state_machine.specs.file_texts.FileItems.{file_digest}
+use Rattle.state_spec.specs.server_spec.FileItems.{file_digest}
 use Rattle.state_machine.proofs.file_texts.Arrays.{AddsRest}
 use Rattle.checkpoint.proofs.trees.write.add_digests.Given as goal
 

@@ -3,7 +3,7 @@ use Rattle.std.specs.List.{AllByRecursion}
 use Rattle.inodes.specs.Inodes.{file_in}
 use Rattle.inodes.specs.declared.inode.Inode.{Inode}
 use Rattle.state_machine.specs.file_texts.Bounds.{IsWritable}
-use Rattle.state_machine.specs.file_texts.FileItems.{file_item, file_value}
+use Rattle.state_spec.specs.server_spec.FileItems.{file_item, file_value}
 use Rattle.state_machine.proofs.file_texts.Arrays.{AddsRest}
 use Rattle.checkpoint.proofs.trees.write.add_files.Given as goal
 

@@ -1,7 +1,7 @@
 use Rattle.std.proofs.Common.{◌≡◌, ◌++◌, ◌∙◌, length, ap, sym, arith}
 use Rattle.std.specs.FinMap as finite
 use Rattle.xdr.specs.Item.{number_spelling}
-use Rattle.state_machine.specs.file_texts.FileItems.{file_item, file_value}
+use Rattle.state_spec.specs.server_spec.FileItems.{file_item, file_value}
 use Rattle.file_tree.proofs.WritableFiles.{writable, few_files, as_many}
 use Rattle.checkpoint.proofs.OfTrees.WrittenFiles.{files_fit, files_added}
 use Rattle.checkpoint.proofs.trees.write.add_tree.Goals as goal

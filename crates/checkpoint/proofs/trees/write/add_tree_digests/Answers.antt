@@ -1,7 +1,7 @@
 use Rattle.std.proofs.Common.{◌≡◌, ◌++◌, ◌∙◌, length, ap, sym, arith}
 use Rattle.std.specs.FinMap as finite
 use Rattle.xdr.specs.Item.{fixed, number_spelling}
-use Rattle.state_machine.specs.file_texts.FileItems.{file_digest}
+use Rattle.state_spec.specs.server_spec.FileItems.{file_digest}
 use Rattle.file_tree.proofs.WritableFiles.{writable_at, few_files, as_many}
 use Rattle.checkpoint.proofs.OfTrees.WrittenFiles.{files_fit, files_added}
 use Rattle.checkpoint.proofs.trees.write.add_tree_digests.Goals as goal

@@ -1,5 +1,5 @@
 use Rattle.std.proofs.Common.{◌≡◌, ◌+◌, ◌≤◌, length}
-use Rattle.nfs_spec.specs.fs_model.Maxima.{max_files}
+use Rattle.nfs_spec.specs.fs_spec.Maxima.{max_files}
 use Rattle.inode_table.specs.tree_rules.Listed.{files_in}
 use Rattle.file_tree.specs.KeptDigests.{count_missing}
 use Rattle.file_tree.proofs.digests.FileDigests.count_missing.Given as goal

@@ -1,6 +1,6 @@
 use Rattle.std.proofs.Common.{◌-◌, suc, sym, subst, ap, ◌∙◌, arith}
-use Rattle.nfs_spec.specs.fs_model.Files.{IsDirectory}
-use Rattle.nfs_spec.specs.fs_model.Changes.Limits.{file_count}
+use Rattle.nfs_spec.specs.fs_spec.Files.{IsDirectory}
+use Rattle.nfs_spec.specs.fs_spec.Changes.Limits.{file_count}
 use Rattle.nfs_spec.specs.Procedures.{climbs_to}
 use Rattle.file_tree.proofs.OfNameChecks.Climbs.{climbs_here, climbs_on, none_above_root, parent_is_directory}
 use Rattle.file_tree.proofs.name_checks.above.is_above.Goals as goal

@@ -1,6 +1,6 @@
 use Rattle.std.proofs.Common.{◌≡◌, ℕ, ◌+◌}
-use Rattle.nfs_spec.specs.fs_model.Files.{IsDirectory}
-use Rattle.nfs_spec.specs.fs_model.Changes.Limits.{file_count}
+use Rattle.nfs_spec.specs.fs_spec.Files.{IsDirectory}
+use Rattle.nfs_spec.specs.fs_spec.Changes.Limits.{file_count}
 use Rattle.nfs_spec.specs.Procedures.{climbs_to, is_above}
 use Rattle.file_tree.proofs.name_checks.above.is_above.Given as goal
 

@@ -1,6 +1,6 @@
 use Rattle.std.proofs.Common.{Some, None, Ok, refl, sym, ap, subst, ◌∙◌}
 use Rattle.nfs_spec.specs.nfs_items.CallerOf.{caller_of}
-use Rattle.nfs_spec.proofs.fs_model.Walks.{none_some}
+use Rattle.nfs_spec.proofs.fs_spec.Walks.{none_some}
 use Rattle.nfs_spec.specs.ProcedureChecks.{◌>>=◌}
 use Rattle.nfs_spec.specs.Procedures.{set_attributes, create}
 use Rattle.inode_table.specs.inodes.Given.{given_in}

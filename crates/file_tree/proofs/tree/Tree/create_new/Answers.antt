@@ -1,13 +1,13 @@
 use Rattle.std.proofs.Common.{None, Ok, sym, subst, rules, ◌∙◌, ap}
 use Rattle.nfs_spec.specs.nfs_items.CallerOf.{caller_of}
-use Rattle.nfs_spec.specs.fs_model.Trees.{IsTime}
+use Rattle.nfs_spec.specs.fs_spec.Trees.{IsTime}
 use Rattle.inode_table.specs.nfs_laws.Laws.{NamesIn}
 use Rattle.inode_table.specs.nfs_laws.Sizes.Bounds.{HasWords}
 use Rattle.inode_table.specs.inodes.Given.{given_in}
 use Rattle.inode_table.specs.inodes.Inodes.{file_in}
 use Rattle.file_tree.specs.FileChecks.Creates.{DecidesCreate}
 use Rattle.file_tree.proofs.CreatedFiles.{new_regular_is, may_create, create_does, create_names}
-use Rattle.nfs_spec.specs.fs_model.Files.{Files, file_at}
+use Rattle.nfs_spec.specs.fs_spec.Files.{Files, file_at}
 use Rattle.inode_table.proofs.nfs_laws.OfTrees.FilesFit.{next_free}
 use Rattle.inode_table.proofs.nfs_laws.OfChanges.OtherFiles.{made_other}
 use Rattle.file_tree.proofs.KeptDigests.{made_kept, same_kept}

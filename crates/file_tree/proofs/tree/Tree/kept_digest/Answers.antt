@@ -1,7 +1,7 @@
 use Rattle.std.proofs.Common.{Bor, ◌≡◌, List, ℕ, Option, Some, None, is_none, is_some, sym, ap, ◌∙◌}
 use Rattle.std.specs.Prelude.{◌&&◌}
 use Rattle.std.specs.Option.{option_copied}
-use Rattle.nfs_spec.specs.fs_model.Files.{file_at}
+use Rattle.nfs_spec.specs.fs_spec.Files.{file_at}
 use Rattle.file_tree.proofs.MissingDigests.{missing_is}
 use Rattle.file_tree.proofs.tree.Tree.kept_digest.Goals as goal
 

@@ -1,9 +1,9 @@
 use Rattle.std.proofs.Common.{◌≡◌, subst, rules, ◌∙◌, ap}
 use Rattle.nfs_spec.specs.nfs_items.CallerOf.{caller_of}
 use Rattle.inode_table.specs.nfs_laws.Laws.{NamesIn}
-use Rattle.nfs_spec.specs.fs_model.Trees.{IsTime}
+use Rattle.nfs_spec.specs.fs_spec.Trees.{IsTime}
 use Rattle.file_tree.proofs.OfFileChecks.GrantedNames.{may_link, link_does, link_names}
-use Rattle.nfs_spec.specs.fs_model.Files.{Files, file_at}
+use Rattle.nfs_spec.specs.fs_spec.Files.{Files, file_at}
 use Rattle.inode_table.proofs.nfs_laws.OfChanges.OtherFiles.{linked_other}
 use Rattle.file_tree.proofs.KeptDigests.{two_kept}
 use Rattle.file_tree.proofs.KeptDigests.{files_seen}

@@ -1,7 +1,7 @@
 use Rattle.std.proofs.Common.{ℕ, Result, Ok, Err, IfOk, refl, sym, ap, subst, ◌≡◌, ◌∙◌}
 use Rattle.nfs_spec.specs.nfs_items.CallerOf.{caller_of}
 use Rattle.nfs_spec.specs.nfs_items.declared.stat.Stat.{Stat}
-use Rattle.nfs_spec.specs.fs_model.Trees.{IsFileTree}
+use Rattle.nfs_spec.specs.fs_spec.Trees.{IsFileTree}
 use Rattle.nfs_spec.specs.Effects.{number_at_name}
 use Rattle.file_tree.proofs.FilesSeen.{seen, unseen, number_none, number_some}
 use Rattle.file_tree.proofs.LookUpPaths.{at_name, leads_on, leads_back}

@@ -1,13 +1,13 @@
 use Rattle.std.proofs.Common.{◌≡◌, sym, subst, rules, ◌∙◌, ap}
 use Rattle.nfs_spec.specs.nfs_items.CallerOf.{caller_of}
-use Rattle.nfs_spec.specs.fs_model.Trees.{IsTime}
+use Rattle.nfs_spec.specs.fs_spec.Trees.{IsTime}
 use Rattle.nfs_spec.specs.Procedures.{make, add_file}
 use Rattle.inode_table.proofs.nfs_laws.OfSteps.Making.{make_ok}
 use Rattle.inode_table.specs.nfs_laws.Laws.{NamesIn}
 use Rattle.inode_table.specs.nfs_laws.Sizes.Bounds.{HasWords}
 use Rattle.inode_table.specs.inodes.Inodes.{file_in}
 use Rattle.file_tree.proofs.OfFileChecks.GrantedNames.{may_make, make_does, make_names}
-use Rattle.nfs_spec.specs.fs_model.Files.{Files, file_at}
+use Rattle.nfs_spec.specs.fs_spec.Files.{Files, file_at}
 use Rattle.inode_table.proofs.nfs_laws.OfTrees.FilesFit.{next_free}
 use Rattle.inode_table.proofs.nfs_laws.OfChanges.OtherFiles.{made_other}
 use Rattle.file_tree.proofs.KeptDigests.{made_kept}

@@ -1,6 +1,6 @@
 use Rattle.std.proofs.Common.{sym, subst, rules}
 use Rattle.nfs_spec.specs.nfs_items.CallerOf.{caller_of}
-use Rattle.nfs_spec.specs.fs_model.Trees.{IsTime}
+use Rattle.nfs_spec.specs.fs_spec.Trees.{IsTime}
 use Rattle.inode_table.specs.nfs_laws.Laws.{AreValidFields}
 use Rattle.inode_table.proofs.nfs_laws.FilesFit.{given_are_valid, directory_fits}
 use Rattle.inode_table.specs.inodes.Given.{given_in}

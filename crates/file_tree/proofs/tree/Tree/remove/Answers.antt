@@ -1,10 +1,10 @@
 use Rattle.std.proofs.Common.{◌≡◌, Ok, Err, refl, sym, ap, subst, ◌∙◌, arith, rules}
 use Rattle.nfs_spec.specs.nfs_items.CallerOf.{caller_of}
-use Rattle.nfs_spec.specs.fs_model.Trees.{IsFileTree}
+use Rattle.nfs_spec.specs.fs_spec.Trees.{IsFileTree}
 use Rattle.nfs_spec.specs.Procedures.{remove}
 use Rattle.file_tree.specs.Performs.{Does}
 use Rattle.file_tree.proofs.Removed.{removed}
-use Rattle.nfs_spec.specs.fs_model.Files.{Files, file_at}
+use Rattle.nfs_spec.specs.fs_spec.Files.{Files, file_at}
 use Rattle.inode_table.proofs.nfs_laws.OfChanges.OtherFiles.{removed_other}
 use Rattle.file_tree.proofs.KeptDigests.{two_kept}
 use Rattle.file_tree.proofs.KeptDigests.{files_seen}

@@ -1,11 +1,11 @@
 use Rattle.std.proofs.Common.{sym, ap, subst, ◌≡◌, ◌∙◌, arith, rules, Ok}
 use Rattle.std.specs.Prelude.{unwrap_or}
 use Rattle.nfs_spec.specs.nfs_items.CallerOf.{caller_of}
-use Rattle.nfs_spec.specs.fs_model.Trees.{IsFileTree}
+use Rattle.nfs_spec.specs.fs_spec.Trees.{IsFileTree}
 use Rattle.nfs_spec.specs.Procedures.{move_entry, rename}
 use Rattle.file_tree.specs.FileChecks.Moves.{moved}
 use Rattle.file_tree.proofs.Renamed.{renamed}
-use Rattle.nfs_spec.specs.fs_model.Files.{Files, file_at}
+use Rattle.nfs_spec.specs.fs_spec.Files.{Files, file_at}
 use Rattle.inode_table.proofs.nfs_laws.OfChanges.OtherFiles.{moved_other}
 use Rattle.file_tree.proofs.KeptDigests.{four_kept}
 use Rattle.file_tree.proofs.KeptDigests.{files_seen}

@@ -2,8 +2,8 @@ use Rattle.nfs_spec.specs.nfs_items.CallerOf.{caller_of}
 use Rattle.inode_table.specs.inodes.Given.{given_in}
 use Rattle.file_tree.proofs.OfFileChecks.Granted.{may_set, set_does}
 use Rattle.std.proofs.Common.{◌∙◌, ◌∷◌, [], ap, refl, sym}
-use Rattle.nfs_spec.specs.fs_model.Files.{Files, file_at}
-use Rattle.nfs_spec.proofs.fs_model.OfChanges.Finite.{changed_other}
+use Rattle.nfs_spec.specs.fs_spec.Files.{Files, file_at}
+use Rattle.nfs_spec.proofs.fs_spec.OfChanges.Finite.{changed_other}
 use Rattle.nfs_spec.specs.Changes.{apply_fields}
 use Rattle.file_tree.proofs.KeptDigests.{one_kept, same_kept, nothing_set}
 use Rattle.file_tree.proofs.KeptDigests.{files_seen}

@@ -2,8 +2,8 @@ use Rattle.std.proofs.Common.{sym, ◌∙◌, ap}
 use Rattle.nfs_spec.specs.nfs_items.CallerOf.{caller_of}
 use Rattle.file_tree.proofs.OfFileChecks.Granted.{may_write_at, write_does, write_does_nothing, write_file}
 use Rattle.file_tree.proofs.FilesSeen.{told_there}
-use Rattle.nfs_spec.specs.fs_model.Files.{Files, file_at}
-use Rattle.nfs_spec.proofs.fs_model.OfChanges.Finite.{changed_other}
+use Rattle.nfs_spec.specs.fs_spec.Files.{Files, file_at}
+use Rattle.nfs_spec.proofs.fs_spec.OfChanges.Finite.{changed_other}
 use Rattle.nfs_spec.specs.Procedures.{with_bytes_written, write}
 use Rattle.file_tree.proofs.KeptDigests.{one_kept}
 use Rattle.file_tree.proofs.KeptDigests.{files_seen}

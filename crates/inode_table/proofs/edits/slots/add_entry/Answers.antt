@@ -1,6 +1,6 @@
 use Rattle.std.proofs.Common.{◌+◌, cond, sym, ap, ◌∙◌}
-use Rattle.fs_model.specs.Listing.{with_entry}
-use Rattle.fs_model.specs.Changes.Edits.{map_listing}
+use Rattle.fs_spec.specs.Listing.{with_entry}
+use Rattle.fs_spec.specs.Changes.Edits.{map_listing}
 use Rattle.tree_rules.specs.inodes.Inodes.{links_at}
 use Rattle.inode_table.proofs.OfEdits.EditedInodes.{still_there}
 use Rattle.inode_table.proofs.edits.slots.add_entry.Goals as goal

@@ -1,5 +1,5 @@
 use Rattle.std.proofs.Common.{◌+◌, sym, ap, subst, ◌∙◌}
-use Rattle.nfs_counts.specs.nfs_spec.Changes.{touch_ctime}
+use Rattle.nfs_count_laws.specs.nfs_spec.Changes.{touch_ctime}
 use Rattle.inode_table.specs.Edits.Slots.{DropsName}
 use Rattle.inode_table.proofs.edits.slots.drop_name.Goals as goal
 

@@ -1,8 +1,8 @@
 use Rattle.std.proofs.Common.{is_some, refl, sym, ap, ◌∙◌}
 use Rattle.std.specs.Option.{option_copied_mut}
 use Rattle.std.proofs.lemmas.Result.{on_ok_weaker, on_err_weaker}
-use Rattle.fs_model.specs.Listing.{with_entry}
-use Rattle.fs_model.specs.Changes.Edits.{map_listing}
+use Rattle.fs_spec.specs.Listing.{with_entry}
+use Rattle.fs_spec.specs.Changes.Edits.{map_listing}
 use Rattle.inode_table.proofs.OfEdits.EditedInodes.{changes_file, alike, nothing_there, entries_same}
 use Rattle.inode_table.proofs.edits.slots.put_name.Goals as goal
 

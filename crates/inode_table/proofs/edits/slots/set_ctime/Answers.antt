@@ -1,6 +1,6 @@
 use Rattle.std.proofs.Common.{is_some, refl, sym, ap, ◌∙◌}
 use Rattle.std.specs.Option.{option_copied_mut}
-use Rattle.nfs_counts.specs.nfs_spec.Changes.{with_ctime}
+use Rattle.nfs_count_laws.specs.nfs_spec.Changes.{with_ctime}
 use Rattle.inode_table.proofs.OfEdits.EditedInodes.{changes_file, nothing_there, entries_same}
 use Rattle.inode_table.proofs.edits.slots.set_ctime.Goals as goal
 

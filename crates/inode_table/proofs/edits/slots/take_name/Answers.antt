@@ -1,7 +1,7 @@
 use Rattle.std.proofs.Common.{is_some, refl, sym, ap, ◌∙◌}
 use Rattle.std.specs.Option.{option_copied_mut}
-use Rattle.fs_model.specs.Listing.{without_entry}
-use Rattle.fs_model.specs.Changes.Edits.{map_listing}
+use Rattle.fs_spec.specs.Listing.{without_entry}
+use Rattle.fs_spec.specs.Changes.Edits.{map_listing}
 use Rattle.inode_table.proofs.OfEdits.EditedInodes.{changes_file, nothing_there, entries_same}
 use Rattle.inode_table.proofs.edits.slots.take_name.Goals as goal
 

@@ -1,8 +1,8 @@
 use Rattle.std.proofs.Common.{cond, sym, ap, subst, ◌∙◌}
-use Rattle.fs_model.specs.Files.{File}
-use Rattle.fs_model.specs.Trees.{IsBody}
-use Rattle.fs_model.specs.Changes.Limits.{blocks_in}
-use Rattle.fs_model.proofs.Walks.{some_same}
+use Rattle.fs_spec.specs.Files.{File}
+use Rattle.fs_spec.specs.Trees.{IsBody}
+use Rattle.fs_spec.specs.Changes.Limits.{blocks_in}
+use Rattle.fs_spec.proofs.Walks.{some_same}
 use Rattle.inode_table.specs.Edits.Slots.{MayUnname, TakesEntry, DropsName}
 use Rattle.inode_table.proofs.OfEdits.EditedInodes.{taken_other, unnamed}
 use Rattle.inode_table.proofs.edits.slots.unlink.Goals as goal

@@ -1,15 +1,15 @@
 use Rattle.std.proofs.Common.{is_some, option_map, refl, sym, ap, subst, ◌∙◌}
 use Rattle.std.specs.Option.{option_copied_mut}
 use Rattle.std.proofs.lemmas.Result.{IfOk-weaker, on_ok_weaker, on_err_weaker}
-use Rattle.fs_model.specs.Files.{File}
-use Rattle.fs_model.proofs.Walks.{some_same}
-use Rattle.nfs_counts.specs.nfs_spec.Changes.{with_mtime}
+use Rattle.fs_spec.specs.Files.{File}
+use Rattle.fs_spec.proofs.Walks.{some_same}
+use Rattle.nfs_count_laws.specs.nfs_spec.Changes.{with_mtime}
 use Rattle.tree_rules.specs.inodes.Contents.{body_with_bytes_at}
 use Rattle.inode_table.proofs.OfEdits.EditedInodes.{changes_file, alike}
 use Rattle.tree_rules.specs.inodes.Inodes.{fattr_of, file_in}
 use Rattle.inode_table.proofs.OfEdits.EditedInodes.{here, its_file}
-use Rattle.nfs_counts.specs.nfs_laws.Sizes.Bounds.{HasWords}
-use Rattle.fs_model.specs.Changes.Limits.{blocks_in}
+use Rattle.nfs_count_laws.specs.nfs_laws.Sizes.Bounds.{HasWords}
+use Rattle.fs_spec.specs.Changes.Limits.{blocks_in}
 use Rattle.inode_table.proofs.edits.slots.write.Goals as goal
 
 pub returns-clause-ok : goal.returns-clause-ok

@@ -3,8 +3,8 @@ use Rattle.std.proofs.Common.{add-zero, sym, ap, ◌∙◌}
 use Rattle.std.specs.Prelude.{count_by}
 use Rattle.std.proofs.lemmas.List.{take_all}
 use Rattle.std.proofs.lemmas.List.Sums.{sum_by_more}
-use Rattle.fs_model.specs.Listing.{NamedEntry}
-use Rattle.nfs_counts.specs.nfs_spec.FileAttributes.{is_directory_at}
+use Rattle.fs_spec.specs.Listing.{NamedEntry}
+use Rattle.nfs_count_laws.specs.nfs_spec.FileAttributes.{is_directory_at}
 use Rattle.tree_rules.specs.inodes.Inodes.{files_of}
 use Rattle.inode_table.proofs.links.links.count_subdirectories.Goals.{then-is_directory_at}
 use Rattle.inode_table.proofs.links.links.count_subdirectories.Goals.{else-is_directory_at}

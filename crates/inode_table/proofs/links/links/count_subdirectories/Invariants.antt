@@ -1,6 +1,6 @@
 use Rattle.std.proofs.Common.{◌≡◌, ◌≤◌, ℕ, take}
 use Rattle.std.specs.Prelude.{count_by}
-use Rattle.nfs_counts.specs.nfs_spec.FileAttributes.{is_directory_at}
+use Rattle.nfs_count_laws.specs.nfs_spec.FileAttributes.{is_directory_at}
 use Rattle.tree_rules.specs.inodes.Inodes.{files_of}
 use Rattle.inode_table.proofs.links.links.count_subdirectories.Given as goal
 

@@ -1,5 +1,5 @@
 use Rattle.std.proofs.Common.{ℕ, ◌<◌, List, length, get_or, arith, sym, ap, subst, ◌∙◌}
-use Rattle.nfs_counts.specs.nfs_spec.FileAttributes.{is_directory_at}
+use Rattle.nfs_count_laws.specs.nfs_spec.FileAttributes.{is_directory_at}
 use Rattle.tree_rules.specs.inodes.Inodes.{file_in, files_of}
 use Rattle.tree_rules.specs.inodes.declared.inode.Inode.{Inode}
 use Rattle.tree_rules.specs.FileRules.Rules.{AreRising}

@@ -1,8 +1,8 @@
 use Rattle.std.proofs.Common.{◌≡◌, ◌<◌, ℕ, List, Some, length, get_or, arith, sym, ap, subst, ◌∙◌}
 use Rattle.std.specs.Prelude.{slice_get}
 use Rattle.std.proofs.lemmas.Option.{slice_get-get_or}
-use Rattle.fs_model.specs.Files.{File, is_directory, parent_of}
-use Rattle.nfs_counts.specs.nfs_spec.FileAttributes.{nlink_of}
+use Rattle.fs_spec.specs.Files.{File, is_directory, parent_of}
+use Rattle.nfs_count_laws.specs.nfs_spec.FileAttributes.{nlink_of}
 use Rattle.tree_rules.specs.inodes.Inodes.{body_in, file_in}
 use Rattle.tree_rules.specs.inodes.declared.inode.Inode.{Inode}
 use Rattle.tree_rules.specs.FileRules.Rules.{files_listed, numbers_of}

@@ -1,9 +1,9 @@
 use Rattle.std.proofs.Common.{◌≡◌, ⊎_elim, ◌+◌, ◌<◌, ◌≤◌, ℕ, List, length, get_or, false, arith, sym, ap}
 use Rattle.std.proofs.Common.{subst, ◌∙◌}
 use Rattle.std.proofs.lemmas.List.{get_or_default}
-use Rattle.fs_model.specs.Files.{Body, Directory, File, is_directory, listing_in}
-use Rattle.fs_model.specs.Listing.{Listing}
-use Rattle.fs_model.proofs.Walks.{some_same}
+use Rattle.fs_spec.specs.Files.{Body, Directory, File, is_directory, listing_in}
+use Rattle.fs_spec.specs.Listing.{Listing}
+use Rattle.fs_spec.proofs.Walks.{some_same}
 use Rattle.tree_rules.specs.inodes.Inodes.{body_in, file_in, files_of}
 use Rattle.tree_rules.specs.inodes.declared.inode.Inode.{Inode}
 use Rattle.tree_rules.specs.FileRules.Rules.{AreRising, IsAt}

@@ -1,7 +1,7 @@
 use Rattle.std.proofs.Common.{◌≡◌, ◌++◌, ℕ, List, Result, Ok, Err, IfOk, length, take, drop, sym, ap, subst}
 use Rattle.std.proofs.Common.{◌∙◌, arith}
 use Rattle.std.proofs.lemmas.List.{take_at}
-use Rattle.nfs_counts.specs.Counted.{AreCounted}
+use Rattle.nfs_count_laws.specs.Counted.{AreCounted}
 use Rattle.tree_rules.specs.inodes.Inodes.{files_of, above_at, links_at}
 use Rattle.tree_rules.specs.inodes.declared.inode.Inode.{Inode}
 use Rattle.tree_rules.specs.FileRules.Rules.{AreRising, files_listed, numbers_of}

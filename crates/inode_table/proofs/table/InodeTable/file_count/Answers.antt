@@ -1,5 +1,5 @@
 use Rattle.std.proofs.Common.{sym, ap, ◌∙◌}
-use Rattle.fs_model.specs.Changes.Limits.{file_count}
+use Rattle.fs_spec.specs.Changes.Limits.{file_count}
 use Rattle.inode_table.proofs.InodesSeen.{count_seen}
 use Rattle.inode_table.proofs.table.InodeTable.file_count.Goals as goal
 

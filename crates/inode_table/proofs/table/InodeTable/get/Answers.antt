@@ -1,7 +1,7 @@
 use Rattle.std.proofs.Common.{Bor, Option, Some, None, refl, sym, ap, ◌≡◌, ◌∙◌}
 use Rattle.std.specs.Prelude.{IfSome, option_map}
 use Rattle.std.specs.Option.{option_copied}
-use Rattle.fs_model.specs.Files.{file_at}
+use Rattle.fs_spec.specs.Files.{file_at}
 use Rattle.tree_rules.specs.inodes.Inodes.{file_in}
 use Rattle.tree_rules.specs.inodes.declared.inode.Inode.{Inode}
 use Rattle.tree_rules.proofs.inodes.FilesSeen.{file_seen}

@@ -1,6 +1,6 @@
 use Rattle.std.proofs.Common.{ap, ◌∙◌}
 use Rattle.std.specs.FinMap as finite
-use Rattle.fs_model.specs.Files.{Files}
+use Rattle.fs_spec.specs.Files.{Files}
 use Rattle.tree_rules.specs.Listed.{files_in}
 use Rattle.inode_table.proofs.GivenInodes.{in_order}
 use Rattle.inode_table.proofs.table.InodeTable.inodes.Goals as goal

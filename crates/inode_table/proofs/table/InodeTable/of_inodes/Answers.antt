@@ -1,9 +1,9 @@
 use Rattle.std.proofs.Common.{ℕ, ◌<◌, ◌^◌, sym, ap, subst, ◌∙◌, arith}
 use Rattle.std.specs.Prelude.{IsTrue}
 use Rattle.std.specs.List.{All}
-use Rattle.fs_model.specs.Trees.{IsBody, IsFileTree}
-use Rattle.fs_model.specs.Changes.Limits.{block_count, entry_count, has_room}
-use Rattle.nfs_counts.specs.nfs_laws.Sizes.Bounds.{AreWords}
+use Rattle.fs_spec.specs.Trees.{IsBody, IsFileTree}
+use Rattle.fs_spec.specs.Changes.Limits.{block_count, entry_count, has_room}
+use Rattle.nfs_count_laws.specs.nfs_laws.Sizes.Bounds.{AreWords}
 use Rattle.tree_rules.specs.inodes.Inodes.{file_in, files_of}
 use Rattle.tree_rules.specs.inodes.declared.inode.Inode.{Inode}
 use Rattle.inode_table.proofs.GivenInodes.{bodies}

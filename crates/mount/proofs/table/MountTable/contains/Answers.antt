@@ -3,7 +3,7 @@ use Rattle.std.specs.Str.{bytes_eq}
 use Rattle.std.proofs.lemmas.Iterator.{YieldsList-from_slice}
 use Rattle.std.proofs.lemmas.Iterator.Search.{any_from_yields_List}
 use Rattle.mount_types.specs.Mounts.{Mounts, root_of, is_listed}
-use Rattle.mount.proofs.Listed.{is_listed-shown}
+use Rattle.server_spec.proofs.Listed.{is_listed-shown}
 use Rattle.mount.proofs.table.MountTable.contains.Goals as goal
 
 -- one of the hosts is this one exactly where its mount is listed

@@ -1,4 +1,4 @@
-use Rattle.mount.proofs.Listed.{no_mounts}
+use Rattle.server_spec.proofs.Listed.{no_mounts}
 use Rattle.mount.proofs.table.MountTable.new.Goals as goal
 
 pub invariant_of-result : goal.invariant_of-result

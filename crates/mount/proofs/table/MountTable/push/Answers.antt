@@ -1,7 +1,7 @@
 use Rattle.std.proofs.Common.{◌≡◌, sym, subst}
 use Rattle.std.proofs.lemmas.Bool.{leb-false}
 use Rattle.mount_types.specs.Mounts.{AreMounts}
-use Rattle.mount.proofs.Listed.{mounts_pushed, pushed-shown}
+use Rattle.server_spec.proofs.Listed.{mounts_pushed, pushed-shown}
 use Rattle.mount.proofs.table.MountTable.push.Goals as goal
 
 pub invariant_of-self-2 : goal.invariant_of-self-2

@@ -3,7 +3,7 @@ use Rattle.std.specs.List.{filter}
 use Rattle.std.specs.Str.{bytes_eq}
 use Rattle.std.proofs.lemmas.Fn.{filter_same}
 use Rattle.mount_types.specs.Mounts.{Mounts, root_of, without_mount, without_host, AreMounts}
-use Rattle.mount.proofs.Listed.{without_mount-shown, without_host-shown, mounts_filtered}
+use Rattle.server_spec.proofs.Listed.{without_mount-shown, without_host-shown, mounts_filtered}
 use Rattle.mount.proofs.table.MountTable.remove.Goals as goal
 
 pub returns-clause-root : goal.returns-clause-root

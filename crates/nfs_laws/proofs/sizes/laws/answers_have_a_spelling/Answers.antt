@@ -1,8 +1,8 @@
 use Rattle.std.proofs.Common.{sym, subst, ℕ, ◌<◌, ◌^◌}
 use Rattle.nfs_spec.specs.nfs_items.Timeval.{Timeval}
 use Rattle.nfs_spec.specs.nfs_items.Caller.{Caller}
-use Rattle.nfs_spec.specs.fs_model.Files.{Files}
-use Rattle.nfs_spec.proofs.fs_model.OfChanges.Room.{within}
+use Rattle.nfs_spec.specs.fs_spec.Files.{Files}
+use Rattle.nfs_spec.proofs.fs_spec.OfChanges.Room.{within}
 use Rattle.nfs_spec.specs.nfs_types.Calls.{Call}
 use Rattle.nfs_spec.specs.NfsCalls.{call_does}
 use Rattle.nfs_laws.proofs.EveryCall.{stays}

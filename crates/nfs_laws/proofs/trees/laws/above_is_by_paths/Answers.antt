@@ -1,5 +1,5 @@
 use Rattle.nfs_laws.proofs.OfTrees.Above.{above_found, led_down}
-use Rattle.nfs_spec.specs.fs_model.Changes.Limits.{file_count}
+use Rattle.nfs_spec.specs.fs_spec.Changes.Limits.{file_count}
 use Rattle.nfs_laws.proofs.trees.laws.above_is_by_paths.Goals as goal
 
 -- by the way up, and by the path down

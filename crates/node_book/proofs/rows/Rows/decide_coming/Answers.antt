@@ -1,6 +1,6 @@
 -- Where the job isn't the one that is out, that one is another.
 use Rattle.std.proofs.Common.{true≢false, ap, sym, ◌∙◌}
-use Rattle.witness_steps.specs.Books.{job_of, job_out_at}
+use Rattle.witness_book_laws.specs.Books.{job_of, job_out_at}
 use Rattle.node_book.specs.Rows.{book_in, stage_in}
 use Rattle.node_book.proofs.rows.Rows.decide_coming.Goals as goal
 

@@ -1,8 +1,8 @@
 use Rattle.std.proofs.Common.{◌≡◌, None, Some, IfOk, sym, ap, subst, ◌∙◌}
 use Rattle.evidence_spec.specs.Showing.{segment_showing}
 use Rattle.witness_spec.specs.Exposing.{fork_of}
-use Rattle.witness_steps.specs.Answers.{answer_fork}
-use Rattle.witness_steps.specs.Going.{evidence_of}
+use Rattle.witness_book_laws.specs.Answers.{answer_fork}
+use Rattle.witness_book_laws.specs.Going.{evidence_of}
 use Rattle.node_book.specs.Rows.{book_in}
 use Rattle.node_book.proofs.LookUps.{fork_of_answer}
 use Rattle.node_book.proofs.rows.Rows.fork_by_segment.Goals as goal

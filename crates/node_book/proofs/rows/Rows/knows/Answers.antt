@@ -1,6 +1,6 @@
 use Rattle.std.proofs.Common.{◌≡◌, None, Some, sym, ◌∙◌}
 use Rattle.std.proofs.lemmas.Bool.{true≢false}
-use Rattle.witness_steps.specs.LookUps.{hash_shown}
+use Rattle.witness_book_laws.specs.LookUps.{hash_shown}
 use Rattle.node_book.specs.Rows.{book_in}
 use Rattle.node_book.proofs.LookUps.{nothing_there, same_there, other_there}
 use Rattle.node_book.proofs.rows.Rows.knows.Goals as goal

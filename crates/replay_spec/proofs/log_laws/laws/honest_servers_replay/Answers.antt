@@ -1,6 +1,6 @@
 use Rattle.std.proofs.Common.{◌+◌, ◌++◌, length, subst}
 use Rattle.secure_log.specs.Log.{log_hash}
-use Rattle.state_machine.specs.service.Replies.{reply_owed}
+use Rattle.state_spec.specs.server_spec.Replies.{reply_owed}
 use Rattle.replay_spec.specs.HonestLogs.{IsHonestLog}
 use Rattle.replay_spec.proofs.Logs.{grows}
 use Rattle.replay_spec.specs.LogLaws.HonestServers.{heard_entries}

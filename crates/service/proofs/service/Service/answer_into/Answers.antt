@@ -1,6 +1,6 @@
 use Rattle.std.proofs.Common.{ap}
-use Rattle.worlds.specs.World.{world_of}
-use Rattle.service.proofs.Sizes.{fits_a_record}
+use Rattle.server_spec.specs.World.{world_of}
+use Rattle.server_spec.proofs.Sizes.{fits_a_record}
 use Rattle.service.proofs.Replied.{call_replied, fault_replied}
 use Rattle.service.proofs.KeptWorlds.{world_seen}
 use Rattle.service.proofs.service.Service.answer_into.Goals as goal

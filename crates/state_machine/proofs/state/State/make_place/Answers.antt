@@ -1,6 +1,6 @@
 use Rattle.std.proofs.Common.{ap, ◌∙◌}
 use Rattle.state_spec.specs.State.{State}
-use Rattle.state_machine.specs.Steps.{having_sent, having_forgotten}
+use Rattle.state_spec.specs.Steps.{having_sent, having_forgotten}
 use Rattle.state_machine.proofs.Served.{forgotten_again}
 use Rattle.state_machine.proofs.state.State.make_place.Goals as goal
 

@@ -1,7 +1,7 @@
 use Rattle.std.proofs.Common.{◌≡◌, ap, subst, ◌∙◌}
 use Rattle.std.specs.Option.{option_map}
 use Rattle.state_spec.specs.State.{Machine, State}
-use Rattle.state_machine.specs.Steps.{having_acknowledged, having_forgotten, reply_by}
+use Rattle.state_spec.specs.Steps.{having_acknowledged, having_forgotten, reply_by}
 use Rattle.state_machine.proofs.Served.{same_machine, served_with_place, served_without_place, taken_back}
 use Rattle.state_machine.proofs.state.State.serve.Goals as goal
 

@@ -1,6 +1,6 @@
 use Rattle.std.proofs.lemmas.Result.{err_from_is_err_and}
 use Rattle.state_spec.specs.StateItems.{received_item, received_value}
-use Rattle.state_spec.proofs.file_texts.Arrays.{nothing_added, one_added, all_added, all_fit, part_added}
+use Rattle.file_texts.proofs.Arrays.{nothing_added, one_added, all_added, all_fit, part_added}
 use Rattle.state_machine.proofs.states.received.add_each.Goals as goal
 
 pub loop-message-init : goal.loop-message-init

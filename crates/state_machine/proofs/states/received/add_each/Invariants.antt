@@ -1,5 +1,5 @@
 use Rattle.state_spec.specs.StateItems.{received_item, received_value}
-use Rattle.state_spec.proofs.file_texts.Arrays.{AddsRest}
+use Rattle.file_texts.proofs.Arrays.{AddsRest}
 use Rattle.state_machine.proofs.states.received.add_each.Given as goal
 
 abbrev pub invariant-loop-message : goal.invariant-loop-message

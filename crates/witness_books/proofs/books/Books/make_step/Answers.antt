@@ -1,6 +1,6 @@
 use Rattle.std.proofs.Common.{List, [], ◌∷◌, map, ap, subst, ◌∙◌}
 use Rattle.node_book.specs.witness_spec.Contract.{StepsTo}
-use Rattle.node_book.specs.witness_steps.Books.{Book, parts_of}
+use Rattle.node_book.specs.witness_book_laws.Books.{Book, parts_of}
 use Rattle.node_book.specs.Events.{event_in, step_in}
 use Rattle.node_book.specs.Replies.{reply_in}
 use Rattle.witness_books.specs.Books.{BooksParts, parts_in}

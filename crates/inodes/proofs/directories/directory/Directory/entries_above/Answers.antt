@@ -1,7 +1,7 @@
 use Rattle.std.proofs.Common.{rules, of_calls, ◌≡◌, leb, map, sym, subst, ap, ◌∙◌}
 use Rattle.std.proofs.lemmas.Fn.{always_returns_same}
 use Rattle.std.proofs.lemmas.List.Sorted.{IsPartitionedBy-leb}
-use Rattle.nfs_spec.specs.fs_model.Listing.{IsRising}
+use Rattle.nfs_spec.specs.fs_spec.Listing.{IsRising}
 use Rattle.nfs_spec.specs.Readdir.{page_entry}
 use Rattle.inodes.specs.Directories.Entries.{entries_of}
 use Rattle.inodes.specs.Directories.Pages.{above}

@@ -1,6 +1,6 @@
 use Rattle.std.proofs.Common.{nat_eq, option_map, sym, ap, ◌∙◌}
 use Rattle.std.specs.Cmp.Lexicographic.{pointwise}
-use Rattle.nfs_spec.specs.fs_model.Listing.{entry_at}
+use Rattle.nfs_spec.specs.fs_spec.Listing.{entry_at}
 use Rattle.inodes.proofs.OfDirectories.Listings.{lookup-shown}
 use Rattle.inodes.proofs.directories.directory.Directory.find.Goals as goal
 

@@ -1,5 +1,5 @@
 use Rattle.std.proofs.Common.{ℕ, List, ◌∷◌, map, ap, ◌∙◌}
-use Rattle.nfs_spec.specs.fs_model.Names.{dot}
+use Rattle.nfs_spec.specs.fs_spec.Names.{dot}
 use Rattle.nfs_spec.specs.nfs_types.Calls.{PageEntry, Page}
 use Rattle.nfs_spec.specs.Readdir.{page_entry, page_of}
 use Rattle.inodes.specs.Directories.Pages.{page_with}

@@ -7,7 +7,7 @@ use Rattle.state_spec.specs.State.{ReceivedMessage, received_cmp}
 use Rattle.state_spec.specs.StateItems.{received_item, received_value}
 use Rattle.state_spec.proofs.Forth.{keys_of_set}
 use Rattle.state_machine.specs.declared.states.received.TheConstants.{MAX_RECEIVED}
-use Rattle.state_spec.proofs.file_texts.Arrays.{adds_counted, fits_counted}
+use Rattle.file_texts.proofs.Arrays.{adds_counted, fits_counted}
 use Rattle.state_machine.proofs.states.received.Received.add_to.Goals as goal
 
 pub returns-clause-fits : goal.returns-clause-fits

@@ -6,7 +6,7 @@ use Rattle.state_spec.specs.State.{ReceivedMessage, received_cmp}
 use Rattle.state_spec.specs.StateItems.{received_item, received_value}
 use Rattle.state_spec.proofs.Forth.{keys_of_set}
 use Rattle.state_spec.proofs.Worlds.{all_mapped}
-use Rattle.state_spec.proofs.file_texts.Arrays.{fits_counted}
+use Rattle.file_texts.proofs.Arrays.{fits_counted}
 use Rattle.state_machine.proofs.states.received.Received.are_bounded.Goals as goal
 
 -- the count and each message are within their bounds

@@ -9,7 +9,7 @@ use Rattle.state_spec.specs.State.{SentMessage}
 use Rattle.state_spec.specs.StateItems.{sent_item, sent_value}
 use Rattle.state_spec.proofs.Forth.{entries_of_map}
 use Rattle.state_machine.specs.declared.states.sends.TheConstants.{MAX_SENDS}
-use Rattle.state_spec.proofs.file_texts.Arrays.{adds_counted, fits_counted}
+use Rattle.file_texts.proofs.Arrays.{adds_counted, fits_counted}
 use Rattle.state_machine.proofs.states.sends.Sends.add_to.Goals as goal
 
 pub returns-clause-fits : goal.returns-clause-fits

@@ -8,7 +8,7 @@ use Rattle.state_spec.specs.State.{SentMessage}
 use Rattle.state_spec.specs.StateItems.{sent_item, sent_value}
 use Rattle.state_spec.proofs.Forth.{entries_of_map}
 use Rattle.state_spec.proofs.Worlds.{all_mapped}
-use Rattle.state_spec.proofs.file_texts.Arrays.{fits_counted}
+use Rattle.file_texts.proofs.Arrays.{fits_counted}
 use Rattle.state_machine.proofs.states.sends.Sends.are_bounded.Goals as goal
 
 -- the count and each message are within their bounds

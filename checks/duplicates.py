@@ -1,0 +1,49 @@
+#!/usr/bin/env python3
+"""Finds lines that stand twice: `checks/duplicates.py LINES`. So many lines of .rt or .antt, one after the other, that
+stand at two places of the crates, are named with both places. Blank lines, comments, imports and lines that only open or
+close count for nothing. Ends with 1 where any stand twice, but for those below, each with its reason."""
+import os
+import re
+import sys
+
+# Pairs of files whose lines may agree, each with the reason.
+ALIKE = {}
+
+SKIPPED = re.compile(r"^(\s*(//|--).*|\s*(pub |ghost )*use .*|\s*[\]\[(){};,.]*\s*)$")
+
+
+def lines_of(path):
+    """The lines of a file that count, each with its number."""
+    with open(path, encoding="utf-8") as file:
+        found = [(number, line.strip()) for number, line in enumerate(file, 1)]
+    return [(number, line) for number, line in found if not SKIPPED.match(line)]
+
+
+def sources():
+    for at, folders, files in os.walk("crates"):
+        folders[:] = sorted(it for it in folders if it not in ("out", "wrong-bodies", "must-fail"))
+        yield from (f"{at}/{name}" for name in sorted(files) if name.endswith((".rt", ".antt")))
+
+
+def main(least):
+    first, found = {}, []
+    for path in sources():
+        lines = lines_of(path)
+        for at in range(len(lines) - least + 1):
+            text = "\n".join(line for _, line in lines[at : at + least])
+            where = (path, lines[at][0])
+            other = first.setdefault(text, where)
+            if other != where:
+                found.append((other, where))
+    pairs = {}
+    for (one, at), (other, there) in found:
+        pairs.setdefault((one, other), []).append((at, there))
+    bad = {it: places for it, places in pairs.items() if it not in ALIKE}
+    for (one, other), places in sorted(bad.items(), key=lambda it: -len(it[1])):
+        at, there = places[0]
+        print(f"{one}:{at} and {other}:{there}: {least + len(places) - 1} lines or more")
+    return 1 if bad else 0
+
+
+if __name__ == "__main__":
+    sys.exit(main(int(sys.argv[1])))

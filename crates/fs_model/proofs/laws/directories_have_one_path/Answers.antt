@@ -1,6 +1,0 @@
-use Rattle.fs_model.proofs.OnePath.{one_path}
-use Rattle.fs_model.proofs.laws.directories_have_one_path.Goals as goal
-
--- by the one name that a directory has
-pub returns : goal.returns
-returns c = one_path

@@ -1,6 +1,0 @@
-use Rattle.nfs_errors.proofs.GivenStats.{answers}
-use Rattle.nfs_errors.proofs.laws.some_stats_are_never_given.Goals as goal
-
--- by cases of the call
-pub returns : goal.returns
-returns c = answers

@@ -1,6 +1,0 @@
-use Rattle.nfs_errors.proofs.LinkChecks.{of_link}
-use Rattle.nfs_errors.proofs.laws.stats_of_link.Goals as goal
-
--- LINK, by its checks in turn
-pub returns : goal.returns
-returns c = λ w who now from dir name. (of_link w who now from dir name).says

@@ -1,7 +1,0 @@
-use Rattle.nfs_errors.proofs.RenameChecks.{of_rename}
-use Rattle.nfs_errors.proofs.laws.stats_of_rename.Goals as goal
-
--- RENAME, by its checks in turn
-pub returns : goal.returns
-returns c = λ w who now from from_name to to_name
-    tree. (of_rename w tree who now from from_name to to_name).says

@@ -1,6 +1,0 @@
-use Rattle.service.proofs.Answering.{answers_owed}
-use Rattle.service.proofs.laws.reply_owed_is_the_answer.Goals as goal
-
--- the law
-pub returns : goal.returns
-returns c = answers_owed

@@ -1,0 +1,160 @@
+-- A book's state knows few messages.
+-- Serves: books_are_ready.
+use Rattle.std.proofs.Common.{◌≡◌, ℕ, ◌+◌, ◌≤◌, Bool, true, false, cond, List, [], ◌∷◌, length, count_by}
+use Rattle.std.proofs.Common.{◌++◌, Some, inl, refl, sym, ap, subst, ◌∙◌, arith, nat_cmp}
+use Rattle.std.specs.FinMap as finite
+use Rattle.std.proofs.lemmas.List.Sums.{sum_by-cons}
+use Rattle.authenticator.specs.declared.authenticator.Authenticator.{Authenticator}
+use Rattle.authenticator.specs.declared.member.Kind.{Kind}
+use Rattle.authenticator.specs.declared.member.Kind.TheVariants as kinds
+use Rattle.authenticator.specs.declared.member.Member.{Member}
+use Rattle.secure_log.specs.Segment.{SegmentParts}
+use Rattle.secure_log.specs.LogEntries.Chain.{IsAmong}
+use Rattle.witness_laws.specs.state_spec.State.{State, received_cmp, SentMessage}
+use Rattle.replay_spec.specs.Opening.{opening_by}
+use Rattle.replay_spec.specs.Placed.{placed_in}
+use Rattle.replay_spec.specs.Stepping.{is_send}
+use Rattle.replay_spec.specs.LogLaws.LoggedMessages.{is_recv}
+use Rattle.replay_spec.specs.Replay.{Verdict, Sound, Fault, segment_verdict}
+use Rattle.replay_spec.proofs.Runs.{is_sound}
+use Rattle.replay_spec.proofs.OfLogLaws.Counts.{counted_on}
+use Rattle.witness_laws.specs.witness_spec.Refusals.{NoJob, WrongJob}
+use Rattle.witness_laws.specs.witness_spec.Events.{JobParts}
+use Rattle.witness_laws.specs.witness_spec.Replies.{Reply, Noted, Opened, Accepted, Closed, Asked, Job, Filed}
+use Rattle.witness_laws.specs.witness_spec.Replies.{Returned, Forwarded, FileRefused}
+use Rattle.witness_laws.specs.witness_spec.Steps.{Step, Learn, SendChallenge, Answer, AckIn, Audit, Begin, File, PutBack}
+use Rattle.witness_laws.specs.witness_spec.Steps.{Forward, Ask}
+use Rattle.witness_laws.specs.witness_spec.Standing.{End}
+use Rattle.witness_book_laws.specs.Books.{Book, book_opening, exposed, job_out}
+use Rattle.witness_book_laws.specs.Replying.{BookOwes}
+use Rattle.witness_book_laws.specs.Going.{book_after, having_filed}
+use Rattle.witness_book_laws.specs.Fitting.{FitsTogether, IsOne, IsMore}
+use Rattle.witness_book_laws.specs.Ready.{KnowsFew}
+use Rattle.witness_book_laws.proofs.Lists.{on_right}
+use Rattle.witness_book_laws.proofs.Steps.{IsDoneStep, IsOutOf, out_of, returned_is}
+
+-- ---- what a replay takes in
+
+one_at_most : (b : Bool) → cond b 1 0 ≤ 1
+one_at_most true = omega arith
+one_at_most false = omega arith
+
+-- no more pass than there are
+count_most : {A : Type 0} (p : A → Bool) (xs : List A) → count_by p xs ≤ length xs
+count_most p [] = omega arith
+count_most p (x ∷ xs) =
+    let sum = sum_by-cons (λ y. cond (p y) 1 0) x xs in
+    let one = one_at_most (p x) in
+    let rest = count_most p xs in
+    omega (arith, sum, one, rest)
+
+-- at most one message of either kind for each entry
+record TakesIn (s : State) (g : SegmentParts) (t : State) : Type 0 where
+  -- messages received
+  received : finite.len t.received ≤ finite.len s.received + length g.entries
+  -- messages sent
+  sends : finite.len t.sends ≤ finite.len s.sends + length g.entries
+
+-- a replay that is sound takes in so many
+takes_in : (ms : List Member) (s : State) (g : SegmentParts) (t : State) (shown : List Authenticator)
+    → segment_verdict ms s g ≡ Sound t shown → TakesIn s g t
+takes_in ms s g t shown is =
+    let r = is_sound ms s (placed_in g) t shown is in
+    let counts = counted_on ms s g.first g.opening g.entries r.states r.honest in
+    let received = counts.received in
+    let sends = counts.sends in
+    let recvs = count_most is_recv g.entries in
+    let sent = count_most is_send g.entries in
+    record {
+      received = subst (λ (u : State). finite.len u.received ≤ finite.len s.received + length g.entries)
+          r.last (omega (arith, received, recvs));
+      sends = subst (λ (u : State). finite.len u.sends ≤ finite.len s.sends + length g.entries)
+          r.last (omega (arith, sends, sent));
+    }
+
+-- ---- each step
+
+module _ (b : Book) (few : KnowsFew b) where
+  -- a book with the same end
+  same_end : (c : Book) → c.end ≡ b.end → KnowsFew c
+  same_end c same = record {
+    received = subst (λ (e : End). finite.len e.state.received ≤ e.number) (sym same) few.received;
+    sends = subst (λ (e : End). finite.len e.state.sends ≤ e.number) (sym same) few.sends;
+  }
+
+  -- the end's number is greater by the entries of the segment that was filed
+  filed_few : (ms : List Member) (s : State) (g : SegmentParts) (v : Verdict) → s ≡ b.end.state
+      → segment_verdict ms s g ≡ v → g.closing.number ≡ b.end.number + length g.entries
+      → KnowsFew (having_filed b g v)
+  filed_few ms s g (Fault fault number) state is last = same_end (having_filed b g (Fault fault number)) refl
+  filed_few ms s g (Sound t shown) state is last =
+      let more : TakesIn b.end.state g t =
+      subst (λ u. TakesIn u g t) state (takes_in ms s g t shown is) in
+      let received = more.received in
+      let sends = more.sends in
+      let before = few.received in
+      let sent = few.sends in
+      record {
+        received = omega (arith, received, before, last);
+        sends = omega (arith, sends, sent, last);
+      }
+
+  -- the segment that is out ends so many entries above the end
+  last_out : (j : JobParts) → FitsTogether b → IsOutOf b j
+      → j.segment.segment.closing.number ≡ b.end.number + length j.segment.segment.entries
+  last_out j fits out =
+      let one : IsOne b.end.number j.segment.segment fits.tiles.more =
+      subst (λ s. IsMore b.end.number (exposed b) s fits.tiles.more) out.at fits.tiles.rest in
+      let among : IsAmong j.segment.segment b.segments =
+      subst (IsAmong j.segment.segment)
+      (sym (fits.tiles.are ∙ ap (λ l. fits.tiles.audited ++ l) one.is))
+      (on_right j.segment.segment fits.tiles.audited (j.segment.segment ∷ []) (inl refl)) in
+      let first = one.follows.first in
+      let count = (fits.whole j.segment.segment among).count in
+      omega (arith, first, count)
+
+  -- a step that gets the reply of the book leaves it so that its state knows few messages
+  pub few_on : (step : Step) (r : Reply) → FitsTogether b → BookOwes b step r → IsDoneStep step
+      → KnowsFew (book_after b step r)
+  few_on (Learn a) Noted fits o done = same_end (book_after b (Learn a) Noted) refl
+  few_on (Learn a) r fits o done = few
+  few_on (SendChallenge e) Opened fits o done = same_end (book_after b (SendChallenge e) Opened) refl
+  few_on (SendChallenge e) r fits o done = few
+  few_on (Answer c) Accepted fits o done = same_end (book_after b (Answer c) Accepted) refl
+  few_on (Answer c) r fits o done = few
+  few_on (AckIn a) Closed fits o done = same_end (book_after b (AckIn a) Closed) refl
+  few_on (AckIn a) r fits o done = few
+  few_on Audit (Asked first last) fits o done = same_end (book_after b Audit (Asked first last)) refl
+  few_on Audit r fits o done = few
+  few_on Begin (Job j) fits o done = same_end (book_after b Begin (Job j)) refl
+  few_on Begin r fits o done = few
+  few_on (File d) Filed fits o done =
+      let there : job_out b ≡ Some d.job =
+      o.decides.0 (returned_is o.is_out (job_out b) Filed (FileRefused WrongJob d) (FileRefused NoJob d)
+      (λ h. absurd (cc)) (λ h. absurd (cc)) o.told) in
+      let out = out_of b d.job there in
+      filed_few d.job.segment.roster d.job.state d.job.segment.segment d.verdict out.state (sym done)
+      (last_out d.job fits out)
+  few_on (File d) r fits o done = few
+  few_on (PutBack j) Returned fits o done = same_end (book_after b (PutBack j) Returned) refl
+  few_on (PutBack j) r fits o done = few
+  few_on Forward (Forwarded a) fits o done = same_end (book_after b Forward (Forwarded a)) refl
+  few_on Forward r fits o done = few
+  few_on (Ask q) r fits o done = few
+
+-- ---- at first
+
+few_by : (k : Kind) (node : ℕ)
+    → (finite.len (opening_by k node).received ≤ 0) × (finite.len (opening_by k node).sends ≤ 0)
+few_by kinds.Server node =
+    let received = finite.len-empty received_cmp (Unit {0}) in
+    let sends = finite.len-empty nat_cmp SentMessage in
+    (omega (arith, received), omega (arith, sends))
+few_by kinds.Client node =
+    let received = finite.len-empty received_cmp (Unit {0}) in
+    let sends = finite.len-empty nat_cmp SentMessage in
+    (omega (arith, received), omega (arith, sends))
+
+-- at first none
+pub few_first : (m : Member) → KnowsFew (book_opening m)
+few_first m = record { received = (few_by m.kind m.node).0; sends = (few_by m.kind m.node).1 }

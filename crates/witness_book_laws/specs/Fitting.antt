@@ -1,0 +1,117 @@
+-- What holds of a book: how its parts fit together, and whose steps it is the book of.
+use Rattle.std.specs.Prelude.{◌≡◌, ◌≢◌, ◌⊎◌, ℕ, ◌+◌, ◌<◌, ◌≤◌, Bool, true, List, [], ◌∷◌, ◌++◌, length}
+use Rattle.std.specs.List.{AllByRecursion}
+use Rattle.authenticator.specs.declared.authenticator.Authenticator.{Authenticator}
+use Rattle.secure_log.specs.Segment.{SegmentParts}
+use Rattle.replay_spec.specs.LogLaws.Laws.{SendsLieBelow}
+use Rattle.secure_log.specs.LogEntries.Chain.{IsAmong}
+use Rattle.witness_laws.specs.witness_spec.Watched.{Watched}
+use Rattle.witness_laws.specs.witness_spec.Steps.{Past}
+use Rattle.witness_laws.specs.witness_spec.Pairs.{pair_of, number_of, first_of, last_of, marks_of}
+use Rattle.witness_laws.specs.witness_spec.Standing.{Stage, NoAudit, Wanted}
+use Rattle.witness_laws.specs.witness_spec.Standing.{Given, Out}
+use Rattle.witness_laws.specs.witness_spec.Histories.{StandsFor}
+use Rattle.witness_book_laws.specs.Books.{Book, exposed, parts_of}
+
+-- ---- what is kept
+
+-- No two of these have one number.
+abbrev pub NumbersDiffer : List Authenticator → Type 0
+NumbersDiffer [] = Unit {0}
+NumbersDiffer (a ∷ rest) = AllByRecursion (λ c. number_of a ≢ number_of c) rest × NumbersDiffer rest
+
+-- ---- accepted segments
+
+-- A segment begins at 1 or later, has a place for each number up to its closing's, and ends in its pair.
+pub record IsWhole (s : SegmentParts) : Type 0 where
+  -- its first number is at least 1
+  pub some : 0 < first_of s
+  -- it has so many entries
+  pub count : last_of s + 1 ≡ first_of s + length s.entries
+  -- it shows its closing's pair
+  pub closes : IsAmong (pair_of s.closing) (marks_of s)
+
+-- Segments follow on one another without a gap: from a first number up to that before the next.
+abbrev pub Tile : (first : ℕ) → List SegmentParts → (next : ℕ) → Type 0
+Tile first [] next = first ≡ next
+Tile first (s ∷ ss) next =
+    (first_of s ≡ first) × (first ≤ last_of s) × Tile (last_of s + 1) ss next
+
+-- a segment follows on the end
+pub record Follows (end : ℕ) (s : SegmentParts) : Type 0 where
+  -- its first number is the one after the end
+  pub first : first_of s ≡ end + 1
+  -- it isn't empty
+  pub some : end < last_of s
+
+-- one segment, that follows on the end
+pub record IsOne (end : ℕ) (s : SegmentParts) (more : List SegmentParts) : Type 0 where
+  -- it is that one
+  pub is : more ≡ s ∷ []
+  -- it follows on the end
+  pub follows : Follows end s
+
+-- some segment, that follows on the end, was found faulty
+pub record IsFaulty (end : ℕ) (is_exposed : Bool) (more : List SegmentParts) : Type 0 where
+  -- the node is exposed
+  pub exposed : is_exposed ≡ true
+  -- the segment
+  pub segment : SegmentParts
+  -- it is the only one
+  pub one : IsOne end segment more
+
+-- what was accepted and isn't audited, by how far the audit is: the segment that is given or out
+abbrev pub IsMore : (end : ℕ) (is_exposed : Bool) → Stage → List SegmentParts → Type 0
+IsMore end is_exposed NoAudit more = (more ≡ []) ⊎ IsFaulty end is_exposed more
+IsMore end is_exposed (Wanted first last) more = (more ≡ []) × (first ≡ end + 1) × (first ≤ last)
+IsMore end is_exposed (Given c) more = IsOne end c.segment more
+IsMore end is_exposed (Out c) more = IsOne end c.segment more
+
+-- The accepted segments are those that were audited, which hold each number from 1 to the end, and one more
+-- at most.
+pub record AreTiles (b : Book) : Type 0 where
+  -- those that were audited
+  pub audited : List SegmentParts
+  -- the one more, if there is one
+  pub more : List SegmentParts
+  -- all are these
+  pub are : b.segments ≡ audited ++ more
+  -- they follow on one another from 1 to the end
+  pub tile : Tile 1 audited (b.end.number + 1)
+  -- the one more is the audit's
+  pub rest : IsMore b.end.number (exposed b) b.stage more
+
+-- ---- all parts
+
+-- what is kept at a number in the segment that is out shows what the segment shows there
+abbrev pub AgreesAt : Stage → List Authenticator → Type 0
+AgreesAt NoAudit learned = Unit {0}
+AgreesAt (Wanted first last) learned = Unit {0}
+AgreesAt (Given c) learned = Unit {0}
+AgreesAt (Out c) learned =
+    (a : Authenticator) → IsAmong a learned → number_of a ≤ last_of c.segment
+    → IsAmong (pair_of a) (marks_of c.segment)
+
+-- The parts of a book fit together.
+pub record FitsTogether (b : Book) : Type 0 where
+  -- what is kept lies above the end
+  pub above : (a : Authenticator) → IsAmong a b.learned → b.end.number < number_of a
+  -- its numbers differ
+  pub differ : NumbersDiffer b.learned
+  -- each accepted segment is whole
+  pub whole : (s : SegmentParts) → IsAmong s b.segments → IsWhole s
+  -- the accepted segments are tiles
+  pub tiles : AreTiles b
+  -- what is kept agrees with the segment that is out
+  pub agrees : AgreesAt b.stage b.learned
+  -- the messages that were sent and have no acknowledgement in the end's state have numbers up to the end
+  pub sends : SendsLieBelow b.end.state (b.end.number + 1)
+
+-- ---- whose book it is
+
+-- A book is that of a member after these own steps: it is of that node, and holds what the steps say.
+pub record IsBookOf (w : Watched) (past : Past) (b : Book) : Type 0 where
+  -- it is the member's
+  pub node : b.node ≡ w.member.node
+  -- it holds what the steps say
+  pub stands : StandsFor w past (parts_of b)

@@ -1,0 +1,40 @@
+-- What a book looks up, to tell whether a pair was shown and whether another hash is at its number.
+use Rattle.std.specs.Prelude.{◌≡◌, ℕ, Bool, false, not, ◌==◌, List, find, Option, Some, None, option_map}
+use Rattle.std.specs.Prelude.{if◌then◌else◌}
+use Rattle.authenticator.specs.Signing.{is_same}
+use Rattle.secure_log.specs.LogEntries.Chain.{zeros}
+use Rattle.secure_log.specs.Segment.{SegmentParts}
+use Rattle.secure_log.specs.LogEntries.Chain.{IsAmong}
+use Rattle.witness_laws.specs.witness_spec.Pairs.{Pair, number_of, marks_of}
+use Rattle.witness_laws.specs.witness_spec.Exposing.{segment_holding}
+use Rattle.witness_book_laws.specs.Books.{Book, exposed, book_shown}
+
+-- the hash of the first of these pairs that has a number
+abbrev pub hash_among : (number : ℕ) → List Pair → Option (List ℕ)
+hash_among number pairs = option_map (λ p. p.1) (find (λ p. p.0 == number) pairs)
+
+-- the hash at a number in the segment that holds it, if one does, else in what is kept
+abbrev pub hash_held : Option SegmentParts → Book → (number : ℕ) → Option (List ℕ)
+hash_held (Some s) b number = hash_among number (marks_of s)
+hash_held None b number = option_map (λ a. a.hash) (find (λ a. number_of a == number) b.learned)
+
+-- the hash that a book shows at a number: zeros at 0
+abbrev pub hash_shown : Book → (number : ℕ) → Option (List ℕ)
+hash_shown b number =
+    if number == 0 then Some zeros else hash_held (segment_holding number b.segments) b number
+
+-- what was looked up is this hash
+abbrev pub is_hash : List ℕ → Option (List ℕ) → Bool
+is_hash x None = false
+is_hash x (Some y) = is_same x y
+
+-- what was looked up is another hash
+abbrev pub is_other_hash : List ℕ → Option (List ℕ) → Bool
+is_other_hash x None = false
+is_other_hash x (Some y) = not (is_same x y)
+
+-- Where a book's node isn't exposed, it shows one hash at each number.
+abbrev pub HasOneHash : Book → Type 0
+HasOneHash b =
+    exposed b ≡ false → (number : ℕ) (x y : List ℕ)
+    → IsAmong (number, x) (book_shown b) → IsAmong (number, y) (book_shown b) → x ≡ y

@@ -1,0 +1,13 @@
+use Rattle.witness_laws.specs.witness_spec.Histories.{own}
+use Rattle.witness_node_laws.proofs.Own.{unforged, unlike_texts}
+use Rattle.witness_node_laws.proofs.laws.own_words_never_expose.Goals as goal
+
+-- all that was shown is of one log, which has one pair for each place
+pub returns : goal.returns
+returns c = λ plain m history listed member h all unlike.
+    let n = c.args.node.now in
+    let past = own n.roster m.node history in
+    let each = c.a_log_has_one_pair_for_each_place.ensures.each in
+    let of_log = c.what_a_sender_shows_is_of_its_log.ensures.authenticator in
+    c.a_node_is_never_exposed.ensures plain m history listed member h
+    (unforged each of_log n n.roster m.node past all) (unlike_texts each of_log n past all unlike)

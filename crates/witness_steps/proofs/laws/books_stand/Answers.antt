@@ -1,9 +1,0 @@
-use Rattle.witness_steps.proofs.Histories.{own_known}
-use Rattle.witness_steps.proofs.Standing.{stand}
-use Rattle.witness_steps.proofs.laws.books_stand.Goals as goal
-
-pub returns-clause-one : goal.returns-clause-one
-returns-clause-one c = λ w history is h. (own_known w history is h).of
-
-pub returns-clause-all : goal.returns-clause-all
-returns-clause-all c = stand

@@ -1,8 +1,0 @@
-use Rattle.witness_steps.proofs.Histories.{own_known}
-use Rattle.witness_steps.proofs.laws.parts_fit_together.Goals as goal
-
-pub returns-clause-fit : goal.returns-clause-fit
-returns-clause-fit c = λ w history is h. (own_known w history is h).fits
-
-pub returns-clause-audited : goal.returns-clause-audited
-returns-clause-audited c = λ w history is h. (own_known w history is h).audited

@@ -1,5 +1,0 @@
-pub use Rattle.mount_types.specs as mount_types
-pub use Rattle.nfs_laws.specs as nfs_laws
-pub use Rattle.nfs_laws.specs.nfs_spec as nfs_spec
-pub mod World
-pub mod IsWorld
