@@ -59,6 +59,11 @@ pub both_of : (a b : Bool) → T (a && b) → T a × T b
 both_of true b h = (tt, h)
 both_of false b h = absurd h
 
+-- a conjunction holds where both parts do
+pub from_both : (a b : Bool) → T a → T b → T (a && b)
+from_both true b h k = k
+from_both false b h k = absurd h
+
 above_all : {X : Type 0} (x : ℕ) (es : List (ℕ × X)) → T (below_all nat_cmp x es)
     → AllByRecursion (λ y. eq_by_cmp nat_cmp x y ≡ false) (keys_of es)
 above_all x [] h = tt

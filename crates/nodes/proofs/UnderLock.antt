@@ -2,6 +2,7 @@
 -- Serves: ask, bring_back, call, Shared::carry.
 use Rattle.std.proofs.Common.{◌≡◌, inl, inr, ℕ, ◌+◌, Bool, true, false, List, length, Result, Ok, Err, Option, Some}
 use Rattle.std.proofs.Common.{None, refl, sym, ap, subst, ◌∙◌}
+use Rattle.std.proofs.lemmas.Option.{same_Some}
 use Rattle.std.specs.Prelude.{IfErr, OnOk}
 use Rattle.std.specs.Option.{option_map}
 use Rattle.authenticator.specs.declared.member.Kind.TheVariants as kinds
@@ -29,7 +30,6 @@ use Rattle.nodes.specs.Sides.{StopsSending}
 use Rattle.nodes.proofs.OfExchanges.Answered.{reply_due}
 use Rattle.nodes.proofs.OfExchanges.Called.{call_acknowledged, call_reaches}
 use Rattle.nodes.proofs.OfExchanges.Reached.{ack_accepted, found}
-use Rattle.nodes.proofs.OfExchanges.Texts.{some_same}
 use Rattle.nodes.proofs.OfSides.{because, weaker}
 
 -- ---- texts
@@ -96,7 +96,7 @@ sent_found c s to body text c1 out number joined =
     let x = call_reaches c s body joined sender in
     let shown : envelope_at (sender_of (having_called c s body)) (length c.entries + 1) ≡ Some out.envelope =
     ap (λ (n : NodeParts). envelope_at (sender_of n) (length c.entries + 1)) (sym is) ∙ out.shown in
-    let same : x.0 ≡ out.envelope = some_same (sym x.1.0.shown ∙ shown) in
+    let same : x.0 ≡ out.envelope = same_Some _ _ (sym x.1.0.shown ∙ shown) in
     subst (λ (e : Envelope). Finds (receiver_of s) text e None) same
     (found (having_called c s body) s kinds.Client (length c.entries + 1) x.0 text sender x.1.1
     (subst (λ (e : Envelope). IsEnvelopeText e text) (sym same) out.written))
@@ -122,7 +122,7 @@ accepts_ack : (c s : NodeParts) (to : ℕ) (time : Timeval) (body : List ℕ) (c
     → IsJoined c s → IsAccepted c1 a
 accepts_ack c s to time body c1 s1 r a h is made joined =
     let x = call_acknowledged c s s1 body h.heard.envelope time r joined h.heard.call h.heard.receives is in
-    let same : x.0 ≡ a = some_same (sym x.1.ack ∙ made) in
+    let same : x.0 ≡ a = same_Some _ _ (sym x.1.ack ∙ made) in
     subst (λ (n : NodeParts). IsAccepted n a) (sym h.is)
     (subst (λ (k : Ack). IsAccepted (having_called c s body) k) same
     (ack_accepted s1 (having_called c s body) kinds.Server r.ack x.0 is x.1))
@@ -319,7 +319,7 @@ reply_found : (c s c1 s1 : NodeParts) (time : Timeval) (body bytes : List ℕ) (
     → Finds (receiver_of c1) bytes e None
 reply_found c s c1 s1 time body bytes r number e asks is owed there text joined =
     let due = reply_due c s c1 s1 time body r number joined asks is owed in
-    let same : due.ready.envelope ≡ e = some_same (sym due.ready.reaches.envelope ∙ there) in
+    let same : due.ready.envelope ≡ e = same_Some _ _ (sym due.ready.reaches.envelope ∙ there) in
     subst (λ (x : Envelope). Finds (receiver_of c1) bytes x None) same
     (found s1 c1 kinds.Server number due.ready.envelope bytes is due.ready.reaches
     (subst (λ (x : Envelope). IsEnvelopeText x bytes) (sym same) text))

@@ -2,6 +2,7 @@
 -- Serves: exchange, ask, bring_back, answer, receive_reply.
 use Rattle.std.proofs.Common.{◌≡◌, inr, ℕ, ◌+◌, Bool, true, false, List, [], ◌∷◌, ◌++◌, length, Ok, Err}
 use Rattle.std.proofs.Common.{Option, Some, None, refl, sym, ap, subst, ◌∙◌, arith, append_assoc, length-append}
+use Rattle.std.proofs.lemmas.Option.{same_Some}
 use Rattle.envelopes.specs.declared.envelope.Envelope.{Envelope}
 use Rattle.envelopes.specs.declared.acknowledgement.Ack.{Ack}
 use Rattle.commitment.specs.Senders.LookUps.{ack_at, envelope_at}
@@ -25,10 +26,10 @@ use Rattle.nodes.specs.Delivery.{MayReceive, MayTake, MayTakeAck}
 use Rattle.nodes.specs.Exchanges.Laws.{IsAccepted}
 use Rattle.nodes.specs.Faults.{MayAsk, MayStopAtReply, ack_refused, call_refused, heard, received}
 use Rattle.nodes.specs.Faults.{receipt_refused, reply_refused, sent, unreceived}
-use Rattle.nodes.proofs.OfExchanges.Texts.{some_same}
 use Rattle.nodes.proofs.OfExchanges.Shown.{ack_shown, envelope_shown}
 use Rattle.nodes.proofs.OfExchanges.Called.{recv_first}
 use Rattle.nodes.proofs.OfExchanges.Answered.{served_by}
+use Rattle.nodes.proofs.OfExchanges.Answered.{three}
 
 -- ---- the call
 
@@ -213,9 +214,6 @@ some_told : (lies : Bool) (reply : List ℕ)
 some_told false reply = (reply, (refl, λ plain. refl))
 some_told true reply = (with_last_bit_changed reply, (refl, λ plain. absurd (cc)))
 
-three : (es : List Entry) (a b : Entry) → length (es ++ a ∷ b ∷ []) + 1 ≡ length es + 1 + 1 + 1
-three es a b = omega (arith, length-append es (a ∷ b ∷ []))
-
 -- The reply that a receipt names is logged, and shown at its number.
 pub reply_logged : (s t : NodeParts) (time : Timeval) (body : List ℕ) (e : Envelope) (r : Receipt)
     (number : ℕ)
@@ -235,7 +233,7 @@ reply_logged s t time body e r number says receives is owed =
         let some : r.reply ≡ Some (length s.entries + 1 + 2) =
         ap (λ (y : Receipt). y.reply) receives.receipt
         ∙ ap (λ (o : Option (List ℕ)). (receipt_from (length s.entries + 1) o).reply) x in
-        let at : number ≡ length s.entries + 1 + 2 = some_same (sym owed ∙ some) in
+        let at : number ≡ length s.entries + 1 + 2 = same_Some _ _ (sym owed ∙ some) in
         let reading = reading_at s time in
         let y = some_told s.lies reply in
         let recv = Recv e.from e.seq e.prev e.body e.signature in
@@ -273,7 +271,7 @@ pub served_it : (c1 s t c2 t2 : NodeParts) (time : Timeval) (body : List ℕ) (n
     → IsServed s time body (Some reply) t2
 served_it c1 s t c2 t2 time body number reply shown plain k =
     let served = shown.served plain in
-    let same : k.envelope ≡ shown.envelope = some_same (sym k.received.envelope ∙ shown.there) in
+    let same : k.envelope ≡ shown.envelope = same_Some _ _ (sym k.received.envelope ∙ shown.there) in
     let says : reply ≡ shown.envelope.body = k.body ∙ ap (λ (e : Envelope). e.body) same in
     record {
       world = served.world;

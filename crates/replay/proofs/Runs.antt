@@ -19,6 +19,8 @@ use Rattle.replay_spec.specs.Replay.{with_shown, Verdict, Sound, Fault, behind, 
 use Rattle.replay_spec.specs.Steps.{Takes}
 use Rattle.replay_spec.specs.LogLaws.LoggedMessages.{is_recv, recv_count, send_count}
 use Rattle.replay_spec.proofs.OfLogLaws.Counts.{counted_on}
+use Rattle.replay_spec.proofs.Runs.{verdict_after, first_step}
+use Rattle.replay_spec.proofs.OfLogLaws.Counts.{one_if}
 use Rattle.std.proofs.lemmas.List.Sums.{sum_by-cons}
 use Rattle.std.proofs.Math.Seq.{drop-cons}
 use Rattle.std.specs.Prelude.{Bool, true, false, cond, ◌↔◌}
@@ -28,9 +30,6 @@ use Rattle.replay_spec.specs.Stepping.{is_send}
 abbrev pub after_all : List Authenticator → Verdict → Verdict
 after_all [] v = v
 after_all (a ∷ found) v = behind (Some a) (after_all found v)
-
-abbrev one_if : Bool → ℕ
-one_if b = cond b 1 0
 
 at_most : (b : Bool) → one_if b ≤ 1
 at_most true = omega arith
@@ -83,24 +82,6 @@ fault_found [] fault number = refl
 fault_found (a ∷ shown) fault number = ap (behind (Some a)) (fault_found shown fault number)
 
 -- ---- one step
-
--- the verdict by what the first step gives
-abbrev verdict_after : List Member → State → Placed → List Placed → Result State ReplayFault → Verdict
-verdict_after ms s p ps (Ok t) = behind (shown_by s p.entry) (verdict_of ms t ps)
-verdict_after ms s p ps (Err fault) = Fault fault p.number
-
-first_step : (ms : List Member) (s : State) (p : Placed) (ps : List Placed)
-    → verdict_of ms s (p ∷ ps) ≡ verdict_after ms s p ps (step ms s p)
-first_step ms s p ps = by (step ms s p)
-  where
-    by : (r : Result State ReplayFault) → ◌≡◌ {A = Verdict}
-        (elim r [
-          | Ok t ↦ behind (shown_by s p.entry) (verdict_of ms t ps)
-          | Err fault ↦ Fault fault p.number
-        ])
-        (verdict_after ms s p ps r)
-    by (Ok t) = refl
-    by (Err fault) = refl
 
 -- a step is told by what it takes
 abbrev StepsTake : Type 0

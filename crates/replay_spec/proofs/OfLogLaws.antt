@@ -1,6 +1,5 @@
 -- Lemmas on honest logs: their messages, counts and orders. Serves: the laws of `logs`.
 pub mod Serving
-pub mod Orders
 pub mod Entries
 pub mod Received
 pub mod Sends

@@ -34,11 +34,12 @@ one_run ms s (p ∷ ps) (t ∷ ts) (u ∷ us) h k =
 -- ---- sound
 
 -- the verdict by what the first step gives
-abbrev verdict_after : List Member → State → Placed → List Placed → Result State ReplayFault → Verdict
+abbrev pub verdict_after : List Member → State → Placed → List Placed → Result State ReplayFault → Verdict
 verdict_after ms s p ps (Ok t) = behind (shown_by s p.entry) (verdict_of ms t ps)
 verdict_after ms s p ps (Err fault) = Fault fault p.number
 
-first_step : (ms : List Member) (s : State) (p : Placed) (ps : List Placed)
+-- the first step of a replay
+pub first_step : (ms : List Member) (s : State) (p : Placed) (ps : List Placed)
     → verdict_of ms s (p ∷ ps) ≡ verdict_after ms s p ps (step ms s p)
 first_step ms s p ps = by (step ms s p)
   where

@@ -7,7 +7,7 @@ use Rattle.std.specs.FinMap as finite
 use Rattle.std.specs.Ordering.{nat_cmp}
 use Rattle.std.specs.Cmp.{nat_cmp_total}
 use Rattle.service.specs.nfs_items.Timeval.{Timeval}
-use Rattle.state_machine.proofs.OfStates.Orders.{received_total}
+use Rattle.state_spec.proofs.Orders.{received_total}
 use Rattle.state_machine.proofs.OfStates.Again.{received_exact, taken_again}
 use Rattle.state_spec.specs.State.{ReceivedMessage, is_received, Machine, Server, Client, State}
 use Rattle.state_machine.specs.Machines.{IsOf}

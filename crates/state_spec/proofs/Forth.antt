@@ -15,6 +15,7 @@ use Rattle.std.proofs.lemmas.Bool.{eqb-true, ltb-true}
 use Rattle.xdr.specs.Item.{Value, Fits}
 use Rattle.fs_spec.specs.Files.{File}
 use Rattle.fs_spec.proofs.Reached.{both_of}
+use Rattle.fs_spec.proofs.Reached.{from_both}
 use Rattle.server_spec.specs.FileItems.{file_item, file_value}
 use Rattle.server_spec.specs.FileValues.{time_from, numbered_from}
 use Rattle.server_spec.proofs.Files.{either, file_forth}
@@ -35,16 +36,12 @@ less Less h = refl
 less Equal h = absurd h
 less Greater h = absurd h
 
-both : (a b : Bool) → T a → T b → T (a && b)
-both true b h k = k
-both false b h k = absurd h
-
 module _ {K X : Type 0} (R : K → K → Ordering) where
   above_each : (x : K) (es : List (K × X)) → AllByRecursion (λ y. R x y ≡ Less) (map (λ e. e.0) es)
       → T (below_all R x es)
   above_each x [] h = tt
   above_each x (e ∷ es) h =
-      both (is_lt (R x e.0)) (below_all R x es) (subst (λ r. T (is_lt r)) (sym h.0) tt) (above_each x es h.1)
+      from_both (is_lt (R x e.0)) (below_all R x es) (subst (λ r. T (is_lt r)) (sym h.0) tt) (above_each x es h.1)
 
   each_above : (x : K) (es : List (K × X)) → T (below_all R x es)
       → AllByRecursion (λ y. R x y ≡ Less) (map (λ e. e.0) es)
@@ -56,7 +53,7 @@ module _ {K X : Type 0} (R : K → K → Ordering) where
   pub sorted_of : (es : List (K × X)) → IsStrictlySortedBy R (map (λ e. e.0) es) → T (is_sorted R es)
   unfolding IsStrictlySortedBy
   sorted_of [] h = tt
-  sorted_of (e ∷ es) h = both (below_all R e.0 es) (is_sorted R es) (above_each e.0 es h.0) (sorted_of es h.1)
+  sorted_of (e ∷ es) h = from_both (below_all R e.0 es) (is_sorted R es) (above_each e.0 es h.0) (sorted_of es h.1)
 
   -- and the other way round
   pub rising_of : (es : List (K × X)) → T (is_sorted R es) → IsStrictlySortedBy R (map (λ e. e.0) es)

@@ -18,6 +18,7 @@ use Rattle.nfs_laws.specs.fs_spec.Names.{is_name}
 use Rattle.nfs_laws.proofs.fs_spec.Walks.{none_some}
 use Rattle.tree_rules.specs.declared.entries.GivenEntry.{GivenEntry}
 use Rattle.tree_rules.specs.GivenListing.{IsListing, said_entry, said_entries}
+use Rattle.inodes.proofs.OfDirectories.Rising.{rising_to}
 
 abbrev Entries : Type 0
 Entries = List (List ℕ × (ℕ × ℕ))
@@ -45,12 +46,6 @@ pub rising_added : (low : ℕ) (es : List (List ℕ × (ℕ × ℕ))) (high : �
     → IsRising low es high → IsRising low (es ++ e ∷ []) (e.1.1 + 1)
 rising_added low [] high e le h = (omega (arith, h), omega arith)
 rising_added low (x ∷ es) high e le h = (h.0, rising_added (x.1.1 + 1) es high e le h.1)
-
--- rising entries also rise to a higher end
-pub rising_to : (low : ℕ) (es : List (List ℕ × (ℕ × ℕ))) (high later : ℕ) → high ≤ later
-    → IsRising low es high → IsRising low es later
-rising_to low [] high later le h = omega (arith, h)
-rising_to low (e ∷ es) high later le h = (h.0, rising_to (e.1.1 + 1) es high later le h.1)
 
 after_added : (low : ℕ) (es : List (List ℕ × (ℕ × ℕ))) (e : List ℕ × (ℕ × ℕ))
     → after low (es ++ e ∷ []) ≡ e.1.1 + 1

@@ -6,16 +6,13 @@ use Rattle.std.specs.Prelude.{slice_get}
 use Rattle.std.proofs.lemmas.Bool.{cases_lt}
 use Rattle.std.proofs.lemmas.List.{length-map}
 use Rattle.std.proofs.lemmas.Option.{slice_get-map, slice_get-get_or, slice_get_within, slice_get_cases}
+use Rattle.std.proofs.lemmas.Bool.{false≢true}
 use Rattle.nfs_laws.specs.fs_spec.Files.{File, is_directory}
 use Rattle.nfs_laws.proofs.fs_spec.Walks.{none_some, some_same}
 use Rattle.inodes.specs.Inodes.{file_in}
 use Rattle.inodes.specs.declared.inode.Inode.{Inode}
 use Rattle.tree_rules.specs.FileRules.Rules.{IsAt, may_have, numbers_of}
 use Rattle.tree_rules.specs.Listed.{files_in}
-
--- false is not true
-pub tf : false ≡ true → ⊥
-tf h = cc
 
 -- there are as many
 pub length_files : (inodes : List (ℕ × Inode)) → length (files_in inodes) ≡ length inodes

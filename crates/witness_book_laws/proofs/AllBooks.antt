@@ -2,6 +2,7 @@
 -- Serves: kept_books_step, look_ups_tell.
 use Rattle.std.proofs.Common.{◌≡◌, ℕ, Bool, true, false, cond, ◌==◌, List, [], ◌∷◌, map, Option, Some, Ok}
 use Rattle.std.proofs.Common.{refl, sym, ap, subst, ◌∙◌, eqb-true}
+use Rattle.std.proofs.lemmas.Option.{same_Some}
 use Rattle.std.specs.Prelude.{option_map}
 use Rattle.authenticator.specs.Roster.{IsRoster}
 use Rattle.authenticator.specs.declared.member.Member.{Member}
@@ -55,9 +56,6 @@ with_same (m ∷ ms) node new (b ∷ books) = by (m.node == node) (with_same ms 
     by true rest = refl
     by false rest = ap (λ l. parts_of b ∷ l) rest
 
-some_same : {x y : Book} → ◌≡◌ {A = Option Book} (Some x) (Some y) → x ≡ y
-some_same h = cc
-
 -- the book of a number is of it, and fits together
 pub fit_at : (ms : List Member) (books : List Book) (node : ℕ) (b : Book) → FitEach ms books
     → book_at ms books node ≡ Some b → (b.node ≡ node) × FitsTogether b
@@ -70,7 +68,7 @@ fit_at (m ∷ ms) (c ∷ books) node b fit h = by (m.node == node) refl h (λ k.
         → (book_at ms books node ≡ Some b → (b.node ≡ node) × FitsTogether b)
         → (b.node ≡ node) × FitsTogether b
     by true e k rest =
-        let same : c ≡ b = some_same k in (
+        let same : c ≡ b = same_Some _ _ k in (
           sym (ap (λ (d : Book). d.node) same) ∙ (fit.0 ∙ eqb-true m.node node e),
           subst FitsTogether same fit.1,
         )

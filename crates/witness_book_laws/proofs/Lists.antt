@@ -6,27 +6,12 @@ use Rattle.std.proofs.Common.{subst, ◌∙◌, arith}
 use Rattle.std.specs.List.{list_any}
 use Rattle.std.proofs.Math.Nat.{le-max_left, le-max_right, max-le}
 use Rattle.std.proofs.lemmas.Bool.{or_cases, or_left, or_right, true≢false, leb-true, leb-false}
+use Rattle.std.proofs.lemmas.Option.{same_Some}
 use Rattle.secure_log.specs.LogEntries.Chain.{IsAmong}
 use Rattle.witness_laws.specs.witness_spec.Histories.{HoldSame}
+use Rattle.witness_laws.proofs.OfEvidence.Before.{split, on_left, on_right, passing, found, not_found}
 
 -- ---- what is among lists
-
--- what is in two lists together is in one of them
-pub split : {A : Type 0} (x : A) (xs ys : List A) → IsAmong x (xs ++ ys) → IsAmong x xs ⊎ IsAmong x ys
-split x [] ys i = inr i
-split x (z ∷ xs) ys (inl e) = inl (inl e)
-split x (z ∷ xs) ys (inr i) = elim (split x xs ys i) [ inl a ↦ inl (inr a) | inr b ↦ inr b ]
-
--- what is in the first of two lists is in both together
-pub on_left : {A : Type 0} (x : A) (xs ys : List A) → IsAmong x xs → IsAmong x (xs ++ ys)
-on_left x [] ys i = absurd i
-on_left x (z ∷ xs) ys (inl e) = inl e
-on_left x (z ∷ xs) ys (inr i) = inr (on_left x xs ys i)
-
--- what is in the second of two lists is in both together
-pub on_right : {A : Type 0} (x : A) (xs ys : List A) → IsAmong x ys → IsAmong x (xs ++ ys)
-on_right x [] ys i = i
-on_right x (z ∷ xs) ys i = inr (on_right x xs ys i)
 
 -- what is mapped is of one of those before
 pub record IsImage {A B : Type 0} (f : A → B) (xs : List A) (y : B) : Type 0 where
@@ -92,18 +77,6 @@ filtered test (x ∷ xs) y i = by (test x) refl i (λ j. filtered test xs y j)
     by true e (inr j) rest = let r = rest j in (inr r.0, r.1)
     by false e j rest = let r = rest j in (inr r.0, r.1)
 
--- what passes the test is in the filtered list
-pub passing : {A : Type 0} (test : A → Bool) (xs : List A) (y : A) → IsAmong y xs → test y ≡ true
-    → IsAmong y (filter test xs)
-passing test [] y i h = absurd i
-passing test (x ∷ xs) y (inl e) h =
-    subst (λ b. IsAmong y (cond b (x ∷ filter test xs) (filter test xs))) (sym (ap test (sym e) ∙ h)) (inl e)
-passing test (x ∷ xs) y (inr i) h = by (test x) (passing test xs y i h)
-  where
-    by : (b : Bool) → IsAmong y (filter test xs) → IsAmong y (cond b (x ∷ filter test xs) (filter test xs))
-    by true rest = inr rest
-    by false rest = rest
-
 -- ---- tests
 
 -- two truths that bring one another are the same
@@ -149,32 +122,6 @@ any_same test xs ys same =
     (λ h. let r = passer test ys h in passed test xs r.one ((same r.one).1 r.among) r.passes)
 
 -- ---- what is found
-
-some_same : {A : Type 0} {x y : A} → ◌≡◌ {A = Option A} (Some x) (Some y) → x ≡ y
-some_same h = cc
-
--- what is found is among those that were looked through, and passes the test
-pub found : {A : Type 0} (test : A → Bool) (xs : List A) (y : A) → find test xs ≡ Some y
-    → IsAmong y xs × (test y ≡ true)
-found test [] y h = absurd (cc)
-found {A} test (x ∷ xs) y h = by (test x) refl h (λ k. found test xs y k)
-  where
-    by : (b : Bool) → test x ≡ b → ◌≡◌ {A = Option A} (cond b (Some x) (find test xs)) (Some y)
-        → (find test xs ≡ Some y → IsAmong y xs × (test y ≡ true)) → IsAmong y (x ∷ xs) × (test y ≡ true)
-    by true e h rest = let same : x ≡ y = some_same h in (inl (sym same), ap test (sym same) ∙ e)
-    by false e h rest = let more = rest h in (inr more.0, more.1)
-
--- if nothing is found, none passes
-pub not_found : {A : Type 0} (test : A → Bool) (xs : List A) (y : A) → find test xs ≡ None → IsAmong y xs
-    → test y ≡ false
-not_found test [] y h i = absurd i
-not_found {A} test (x ∷ xs) y h i = by (test x) refl h i (λ k j. not_found test xs y k j)
-  where
-    by : (b : Bool) → test x ≡ b → ◌≡◌ {A = Option A} (cond b (Some x) (find test xs)) None
-        → (y ≡ x) ⊎ IsAmong y xs → (find test xs ≡ None → IsAmong y xs → test y ≡ false) → test y ≡ false
-    by true e h i rest = absurd (cc)
-    by false e h (inl same) rest = ap test same ∙ e
-    by false e h (inr i) rest = rest h i
 
 -- the same is found in lists that hold the same, where one at most passes
 pub find_same : {A : Type 0} (test : A → Bool) (xs ys : List A) → HoldSame xs ys

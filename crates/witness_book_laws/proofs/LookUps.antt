@@ -5,6 +5,7 @@ use Rattle.std.proofs.Common.{nat_le, List, [], ◌∷◌, find, length, Option,
 use Rattle.std.proofs.Common.{subst, ◌∙◌, arith, eqb-true, eq-eqb}
 use Rattle.std.specs.Prelude.{is_some, option_map}
 use Rattle.std.proofs.lemmas.Bool.{and_parts, and_from, true≢false, le-leb, leb-true, leb-false}
+use Rattle.std.proofs.lemmas.Option.{same_Some}
 use Rattle.authenticator.specs.declared.authenticator.Authenticator.{Authenticator}
 use Rattle.authenticator.specs.Signing.{is_same}
 use Rattle.authenticator.proofs.Signed.{same_list, list_same}
@@ -50,9 +51,6 @@ not_past s n x w i =
       w.count,
     )
 
-some_same : {A : Type 0} {x y : A} → ◌≡◌ {A = Option A} (Some x) (Some y) → x ≡ y
-some_same h = cc
-
 -- what is found among pairs is one of them
 among_there : (n : ℕ) (ps : List Pair) (y : List ℕ) → hash_among n ps ≡ Some y → IsAmong (n, y) ps
 among_there n ps y h = by (find (λ (p : Pair). p.0 == n) ps) refl h
@@ -62,7 +60,7 @@ among_there n ps y h = by (find (λ (p : Pair). p.0 == n) ps) refl h
     by None e k = absurd (cc)
     by (Some p) e k =
         let f = found (λ (q : Pair). q.0 == n) ps p e in
-        let hash : p.1 ≡ y = some_same k in
+        let hash : p.1 ≡ y = same_Some _ _ k in
         subst (λ q. IsAmong q ps)
         (ap₂ (λ (a : ℕ) (b : List ℕ). (a, b)) (eqb-true p.0 n f.1) hash) f.0
 
@@ -96,7 +94,7 @@ module _ (b : Book) (fits : FitsTogether b) (n : ℕ) where
       by None f k = absurd (cc)
       by (Some a) f k =
           let r = found (λ (c : Authenticator). c.number == n) b.learned a f in
-          let hash : y ≡ a.hash = sym (some_same k) in
+          let hash : y ≡ a.hash = sym (same_Some _ _ k) in
           shows b.evidence b.learned b.segments (n, y)
           (Learned a r.0 (ap₂ (λ (m : ℕ) (x : List ℕ). (m, x)) (sym (eqb-true a.number n r.1)) hash))
 
@@ -106,7 +104,7 @@ module _ (b : Book) (fits : FitsTogether b) (n : ℕ) where
       by : (z : Bool) → (n == 0) ≡ z
           → cond z (Some zeros) (hash_held (segment_holding n b.segments) b n) ≡ Some y
           → IsAmong (n, y) (book_shown b)
-      by true e k = inl (ap₂ (λ (m : ℕ) (x : List ℕ). (m, x)) (eqb-true n 0 e) (sym (some_same k)))
+      by true e k = inl (ap₂ (λ (m : ℕ) (x : List ℕ). (m, x)) (eqb-true n 0 e) (sym (same_Some _ _ k)))
       by false e k = held_there (segment_holding n b.segments) y refl k
 
   -- ---- what is shown is found

@@ -2,6 +2,7 @@
 -- Serves: books_are_ready.
 use Rattle.std.proofs.Common.{◌≡◌, ℕ, Bool, true, false, cond, ◌==◌, List, [], ◌∷◌, map, Option, Some, Ok}
 use Rattle.std.proofs.Common.{subst}
+use Rattle.std.proofs.lemmas.Option.{same_Some}
 use Rattle.std.specs.List.{AllByRecursion}
 use Rattle.authenticator.specs.Roster.{IsRoster}
 use Rattle.authenticator.specs.declared.member.Member.{Member}
@@ -23,9 +24,6 @@ use Rattle.witness_book_laws.proofs.Few.{few_on, few_first}
 
 -- ---- what holds of each
 
-some_same : {x y : Book} → ◌≡◌ {A = Option Book} (Some x) (Some y) → x ≡ y
-some_same h = cc
-
 module _ (P : Book → Type 0) where
   -- it holds of the one that is found
   all_at : (ms : List Member) (books : List Book) (node : ℕ) (b : Book) → AllByRecursion P books
@@ -36,7 +34,7 @@ module _ (P : Book → Type 0) where
     where
       by : (x : Bool) → ◌≡◌ {A = Option Book} (cond x (Some c) (book_at ms books node)) (Some b)
           → (book_at ms books node ≡ Some b → P b) → P b
-      by true k rest = subst P (some_same k) all.0
+      by true k rest = subst P (same_Some _ _ k) all.0
       by false k rest = rest k
 
   -- it holds of each where it holds of the new one

@@ -9,6 +9,7 @@ use Rattle.std.specs.Prelude.{is_some}
 use Rattle.std.specs.List.{AllByRecursion}
 use Rattle.std.proofs.lemmas.Bool.{and_parts, true≢false, ltb-false}
 use Rattle.std.proofs.lemmas.List.Sums.{sum_by_from}
+use Rattle.std.proofs.lemmas.Option.{same_Some}
 use Rattle.authenticator.specs.declared.authenticator.Authenticator.{Authenticator}
 use Rattle.authenticator.specs.declared.member.Member.{Member}
 use Rattle.secure_log.specs.Segment.{ClosedParts, segment_pairs}
@@ -54,9 +55,6 @@ use Rattle.witness_book_laws.proofs.Known.{Known, RosterAt, exposed_same, owes_k
 use Rattle.witness_book_laws.proofs.Learned.{noted_known}
 use Rattle.witness_book_laws.proofs.Accepted.{accepted_known}
 use Rattle.witness_book_laws.proofs.Filed.{filed_known}
-
-some_same : {A : Type 0} {x y : A} → ◌≡◌ {A = Option A} (Some x) (Some y) → x ≡ y
-some_same h = cc
 
 -- a done value's verdict is the replay of its own state and segment, under the roster that its segment keeps
 abbrev pub IsDoneStep : Step → Type 0
@@ -228,7 +226,7 @@ out_of b j h = by b.stage refl
     by (Wanted f l) is = let no : None ≡ Some j = ap (job_out_at b) (sym is) ∙ h in absurd (cc)
     by (Given c) is = let no : None ≡ Some j = ap (job_out_at b) (sym is) ∙ h in absurd (cc)
     by (Out c) is =
-        let same : job_of b b.begun c ≡ j = some_same (ap (job_out_at b) (sym is) ∙ h) in
+        let same : job_of b b.begun c ≡ j = same_Some _ _ (ap (job_out_at b) (sym is) ∙ h) in
         record {
           at = is ∙ ap (λ (k : JobParts). Out k.segment) same;
           state = ap (λ (k : JobParts). k.state) (sym same);

@@ -2,6 +2,7 @@
 -- Serves: step_of.
 use Rattle.std.proofs.Common.{◌≡◌, ℕ, suc, ◌+◌, ◌<◌, Bool, true, false, cond, ◌==◌, List, [], ◌∷◌, length}
 use Rattle.std.proofs.Common.{Option, Some, get_or, set, IsSome, refl, sym, ap, subst, ◌∙◌, arith}
+use Rattle.std.proofs.lemmas.Option.{same_Some}
 use Rattle.authenticator.specs.Roster.{member_of}
 use Rattle.authenticator.specs.declared.member.Member.{Member}
 use Rattle.node_book.specs.witness_spec.Watched.{watched}
@@ -10,9 +11,6 @@ use Rattle.node_book.specs.witness_book_laws.Together.{book_at, with_book_at, Fi
 use Rattle.node_book.specs.witness_book_laws.Ready.{IsReady, AreReady}
 use Rattle.node_book.specs.witness_book_laws.ReadyLaws.{ReadyBooksAreReady}
 use Rattle.witness_books.specs.Places.{place_from, OneDoes}
-
-some_same : {x y : ℕ} → ◌≡◌ {A = Option ℕ} (Some x) (Some y) → x ≡ y
-some_same h = cc
 
 -- The book of a number is so many places after the first.
 pub record IsAt (first : ℕ) (ms : List Member) (node : ℕ) (books : List Book) (place : ℕ) : Type 0 where
@@ -40,7 +38,7 @@ is_at first (m ∷ ms) node (b ∷ books) place fit h =
         → (place_from (first + 1) ms node ≡ Some place → IsAt (first + 1) ms node books place)
         → IsAt first (m ∷ ms) node (b ∷ books) place
     by true e k rest =
-        let same : first ≡ place = some_same k in
+        let same : first ≡ place = same_Some _ _ k in
         record {
           steps = 0;
           is = omega (arith, same);

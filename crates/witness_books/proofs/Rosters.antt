@@ -10,22 +10,7 @@ use Rattle.authenticator.specs.declared.member.Member.{Member}
 use Rattle.authenticator.proofs.Signed.{is_false, list_same}
 use Rattle.node_book.specs.witness_spec.Whose.{same_member, same_roster}
 use Rattle.node_book.proofs.witness_laws.Checked.{roster_is}
-
--- a member is the same as itself
-member_self : (m : Member) → same_member m m ≡ true
-member_self m =
-    and_from (m.node == m.node)
-    ((kind_number m.kind == kind_number m.kind) && (is_same m.root m.root && (m.height == m.height)))
-    (eq-eqb m.node m.node refl)
-    (and_from (kind_number m.kind == kind_number m.kind) (is_same m.root m.root && (m.height == m.height))
-    (eq-eqb (kind_number m.kind) (kind_number m.kind) refl)
-    (and_from (is_same m.root m.root) (m.height == m.height) (list_same m.root m.root refl)
-    (eq-eqb m.height m.height refl)))
-
--- a roster is the same as itself
-pub roster_self : (ms : List Member) → same_roster ms ms ≡ true
-roster_self [] = refl
-roster_self (m ∷ ms) = and_from (same_member m m) (same_roster ms ms) (member_self m) (roster_self ms)
+use Rattle.witness_laws.proofs.OfAnswers.Answering.{member_self, roster_self}
 
 -- What is true exactly where two rosters are equal is the test of them.
 pub test_of_rosters : (b : Bool) (xs ys : List Member) → IsTrue b ↔ (xs ≡ ys) → b ≡ same_roster xs ys

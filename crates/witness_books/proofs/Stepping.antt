@@ -2,6 +2,7 @@
 -- Serves: Books::step.
 use Rattle.std.proofs.Common.{◌≡◌, ◌⊎◌, inl, inr, ℕ, Bool, true, false, cond, ◌==◌, List, [], ◌∷◌, map}
 use Rattle.std.proofs.Common.{Option, Some, refl, sym, ap, subst, ◌∙◌}
+use Rattle.std.proofs.lemmas.Option.{same_Some}
 use Rattle.authenticator.specs.Roster.{IsRoster, member_of}
 use Rattle.authenticator.specs.declared.member.Member.{Member}
 use Rattle.node_book.specs.witness_spec.Watched.{watched}
@@ -22,9 +23,6 @@ use Rattle.witness_books.specs.Memory.{AreBytes}
 use Rattle.witness_books.specs.Routing.{IsStepOf, IsNobodys}
 use Rattle.witness_books.specs.Places.{OneDoes}
 
-some_same : {x y : Book} → ◌≡◌ {A = Option Book} (Some x) (Some y) → x ≡ y
-some_same h = cc
-
 -- with the book that is there, nothing changes
 pub with_same : (ms : List Member) (node : ℕ) (books : List Book) (b : Book) → book_at ms books node ≡ Some b
     → with_book_at ms node b books ≡ books
@@ -35,7 +33,7 @@ with_same (m ∷ ms) node (c ∷ books) b h = by (m.node == node) h (λ k. with_
     by : (x : Bool) → ◌≡◌ {A = Option Book} (cond x (Some c) (book_at ms books node)) (Some b)
         → (book_at ms books node ≡ Some b → with_book_at ms node b books ≡ books)
         → cond x (b ∷ books) (c ∷ with_book_at ms node b books) ≡ c ∷ books
-    by true k rest = ap (λ z. z ∷ books) (sym (some_same k))
+    by true k rest = ap (λ z. z ∷ books) (sym (same_Some _ _ k))
     by false k rest = ap (λ l. c ∷ l) (rest k)
 
 -- Books lead to others by a step, and these can make their steps.

@@ -4,6 +4,7 @@
 use Rattle.std.proofs.Common.{◌≡◌, ℕ, ◌+◌, ◌-◌, ◌≤◌, Bool, true, false, cond, ◌&&◌, ◌==◌, nat_lt, List}
 use Rattle.std.proofs.Common.{[], ◌∷◌, Option, Some, None, refl, sym, ap, subst, ◌∙◌, eqb-true, arith}
 use Rattle.std.proofs.lemmas.Bool.{and_parts, ltb-false}
+use Rattle.std.proofs.lemmas.Option.{same_Some}
 use Rattle.std.specs.Prelude.{◌<◌, Decides, length}
 use Rattle.std.specs.List.{AllByRecursion}
 use Rattle.authenticator.specs.declared.authenticator.Authenticator.{Authenticator}
@@ -57,9 +58,6 @@ pub data Doing (w : Watched) (past : Past) (p : Step × Reply) : Type 0 where
       → Doing w past p
   PutsBack : (c : ClosedParts) → stage_of past ≡ Out c → Did past p None None None (Given c)
       → Doing w past p
-
-some_same : (x y : JobParts) → ◌≡◌ {A = Option JobParts} (Some x) (Some y) → x ≡ y
-some_same x y h = cc
 
 module _ (w : Watched) (past : Past) where
   learns : (a : Authenticator) (x y z : Bool)
@@ -147,7 +145,7 @@ module _ (w : Watched) (past : Past) where
   out_is j NoAudit is h = absurd (cc)
   out_is j (Wanted first last) is h = absurd (cc)
   out_is j (Given c) is h = absurd (cc)
-  out_is j (Out c) is h = is ∙ ap (λ (x : JobParts). Out x.segment) (some_same (job_of w past c) j h)
+  out_is j (Out c) is h = is ∙ ap (λ (x : JobParts). Out x.segment) (same_Some (job_of w past c) j h)
 
   files : (d : DoneParts) (b : Bool) (o : Option JobParts) → (b ≡ true → job_out w past ≡ Some d.job)
       → Doing w past (

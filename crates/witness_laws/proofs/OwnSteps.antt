@@ -3,6 +3,7 @@
 use Rattle.std.proofs.Common.{◌≡◌, ◌⊎◌, inl, inr, ℕ, Bool, true, false, cond, ◌==◌, List, [], ◌∷◌}
 use Rattle.std.proofs.Common.{◌++◌, map, Option, Some, None, Result, Ok, Err, refl, sym, ap, ap₂, subst, ◌∙◌}
 use Rattle.std.proofs.Common.{eqb-true}
+use Rattle.std.proofs.lemmas.Option.{same_Some}
 use Rattle.authenticator.specs.Roster.{member_of}
 use Rattle.authenticator.specs.declared.member.Member.{Member}
 use Rattle.authenticator.specs.declared.refusal.Refusal as checks
@@ -93,14 +94,11 @@ of_member ms (events.PutBack j) o h = at_member ms j.node o (of_step _ _ o h)
 of_member ms (events.Forward node) o h = at_member ms node o (of_step _ _ o h)
 of_member ms (events.Ask node q) o h = at_member ms node o (of_step _ _ o h)
 
-some_same : (x y : Member) → ◌≡◌ {A = Option Member} (Some x) (Some y) → x ≡ y
-some_same x y h = cc
-
 -- the member with a number is one
 pub same_member : (w : Watched) (e : Event) (o : OwnStep) → IsInRoster w
     → whose w.roster e ≡ Ok o → o.member.node ≡ w.member.node → o.member ≡ w.member
 same_member w e o is its same =
-    some_same o.member w.member (sym (of_member w.roster e o its) ∙ (ap (member_of w.roster) same ∙ is))
+    same_Some o.member w.member (sym (of_member w.roster e o its) ∙ (ap (member_of w.roster) same ∙ is))
 
 -- ---- own steps are owed
 

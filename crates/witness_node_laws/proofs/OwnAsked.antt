@@ -7,6 +7,7 @@ use Rattle.std.proofs.Common.{Option, Some, None, refl, sym, ap, subst, ◌∙�
 use Rattle.std.specs.Prelude.{IsSome, option_map}
 use Rattle.std.specs.List.{AllByRecursion}
 use Rattle.std.proofs.lemmas.Bool.{true≢false}
+use Rattle.std.proofs.lemmas.Option.{same_Some}
 use Rattle.authenticator.specs.declared.authenticator.Authenticator.{Authenticator}
 use Rattle.secure_log.specs.LogEntries.Chain.{IsAmong}
 use Rattle.secure_log.specs.declared.log_entries.entry.Entry.{Entry}
@@ -37,9 +38,6 @@ LeavesNone =
     (s : SenderParts) (number : ℕ) (before rest : List Entry) (e : Entry)
     → signed_at s number ≡ None → s.log.entries ≡ before ++ e ∷ rest → length before + 1 ≡ number
     → is_signed_entry e ≡ false
-
-some_same : {A : Type 0} {x y : A} → ◌≡◌ {A = Option A} (Some x) (Some y) → x ≡ y
-some_same h = cc
 
 from_filter : (test : Authenticator → Bool) (x : Authenticator) (xs : List Authenticator)
     → IsAmong x (filter test xs) → IsAmong x xs
@@ -73,7 +71,7 @@ module _ (each : SignsEach) (none : LeavesNone) (n : NodeParts) where
       by (Some g) at made =
           let g_at = each (sender_of h.before) h.number g h.went_on.sender at in
           let same : h.number ≡ a.number =
-          sym g_at.is_number ∙ ap (λ (x : Authenticator). x.number) (some_same made) in
+          sym g_at.is_number ∙ ap (λ (x : Authenticator). x.number) (same_Some _ _ made) in
           let whole : n.entries ≡ g_at.before ++ g.entry ∷ (g_at.rest ++ h.went_on.rest) =
           h.went_on.entries ∙ (ap (λ (l : List Entry). l ++ h.went_on.rest) g_at.whole
           ∙ append_assoc g_at.before (g.entry ∷ g_at.rest) h.went_on.rest) in

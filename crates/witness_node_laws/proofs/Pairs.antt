@@ -7,6 +7,7 @@ use Rattle.secure_log.specs.declared.log_entries.entry.Entry.{Entry}
 use Rattle.secure_log.specs.LogEntries.Chain.{Link, StandsIn, hash_after, link_of, links_from, pairs, zeros}
 use Rattle.secure_log.specs.LogEntries.Chain.{IsAmong}
 use Rattle.secure_log.specs.Log.{LogParts, IsOfPlace, hash_at, log_pairs}
+use Rattle.witness_laws.proofs.OfTrust.Trust.{head_among}
 
 in_middle : {A : Type 0} (x : A) (xs ys : List A) → IsAmong x (xs ++ x ∷ ys)
 in_middle x [] ys = inl refl
@@ -16,10 +17,6 @@ in_middle x (z ∷ xs) ys = inr (in_middle x xs ys)
 pub stands_among : (p : ℕ × List ℕ) (place : ℕ) (whole : List (ℕ × List ℕ)) → StandsIn place (p ∷ []) whole
     → IsAmong p whole
 stands_among p place whole s = subst (IsAmong p) (sym s.is) (in_middle p s.before s.behind)
-
-head_among : (n : ℕ) (h : List ℕ) (ls : List Link) → IsAmong (n, h) (pairs n h ls)
-head_among n h [] = inl refl
-head_among n h (l ∷ ls) = inl refl
 
 among_more : (p : ℕ × List ℕ) (n : ℕ) (h : List ℕ) (first : ℕ) (xs ys : List Entry)
     → IsAmong p (pairs n h (links_from first xs)) → IsAmong p (pairs n h (links_from first (xs ++ ys)))

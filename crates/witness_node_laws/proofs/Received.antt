@@ -2,6 +2,7 @@
 -- Serves: what_is_received_is_logged.
 use Rattle.std.proofs.Common.{◌≡◌, ℕ, ◌+◌, List, [], ◌∷◌, ◌++◌, length, Option, Some, None, Ok, refl, sym, ap}
 use Rattle.std.proofs.Common.{subst, ◌∙◌}
+use Rattle.std.proofs.lemmas.Option.{same_Some}
 use Rattle.sha2.specs.Sha256.{sha256}
 use Rattle.secure_log.specs.LogEntries.Messages.{message_hash}
 use Rattle.secure_log.specs.declared.log_entries.entry.Entry.{Entry}
@@ -33,12 +34,9 @@ abbrev pub Stands : Type 0
 Stands =
     (log : LogParts) (m : Message) (number : ℕ) → receipt_of log m ≡ Some number → IsReceiptAt log m number
 
-some_same : {A : Type 0} {x y : A} → ◌≡◌ {A = Option A} (Some x) (Some y) → x ≡ y
-some_same h = cc
-
 -- bytes are the text of one envelope
 one_envelope : (bytes : List ℕ) (e f : Envelope) → IsTextOf bytes e → IsTextOf bytes f → e ≡ f
-one_envelope bytes e f a b = ap envelope_said (some_same (sym a ∙ b))
+one_envelope bytes e f a b = ap envelope_said (same_Some _ _ (sym a ∙ b))
 
 -- a RECV of an envelope to this node
 recv_at : (log : LogParts) (before rest : List Entry) (e : Envelope) → e.to ≡ log.node

@@ -2,6 +2,7 @@
 -- Serves: laws.exchanges_serve, and nodes: exchange.exchange.
 use Rattle.std.proofs.Common.{◌≡◌, ℕ, ◌+◌, ◌<◌, ◌≤◌, Bool, cond, List, [], ◌∷◌, ◌++◌, length, Option, Some}
 use Rattle.std.proofs.Common.{None, refl, sym, ap, subst, ◌∙◌, arith, append_assoc, length-append}
+use Rattle.std.proofs.lemmas.Option.{same_Some}
 use Rattle.std.specs.Prelude.{IsSome, IsSomeAnd}
 use Rattle.std.specs.FinMap as finite
 use Rattle.sha2.specs.Sha256.{sha256}
@@ -29,7 +30,6 @@ use Rattle.node_logs.proofs.OfSteps.Served.{later_late}
 use Rattle.nodes.specs.Exchanges.Members.{IsListed}
 use Rattle.nodes.specs.Exchanges.Reaching.{AckReaches, IsReplyReady, ReceivesUpTo}
 use Rattle.nodes.specs.Exchanges.Exchanges.{IsAsked, IsJoined, IsReplied, IsServed}
-use Rattle.nodes.proofs.OfExchanges.Texts.{some_same}
 use Rattle.nodes.proofs.OfExchanges.Shown.{ack_shown, envelope_shown}
 use Rattle.nodes.proofs.OfExchanges.Fresh.{not_received, recv_up_to, up_to_both, up_to_more}
 use Rattle.nodes.proofs.OfExchanges.Called.{listed_stays, plainly, sent_there}
@@ -203,7 +203,8 @@ pub record IsDue (c1 s t : NodeParts) (time : Timeval) (body : List ℕ) (number
   -- it is the one owed to the body
   pub served : IsServed s time body (Some ready.envelope.body) t
 
-three : (es : List Entry) (a b : Entry) → length (es ++ a ∷ b ∷ []) + 1 ≡ length es + 1 + 1 + 1
+-- three places more
+pub three : (es : List Entry) (a b : Entry) → length (es ++ a ∷ b ∷ []) + 1 ≡ length es + 1 + 1 + 1
 three es a b = omega (arith, length-append es (a ∷ b ∷ []))
 
 -- what is ready of a reply that the server logged
@@ -286,7 +287,7 @@ reply_due c s c1 t time body r number joined asked is owed =
         let some : r.reply ≡ Some (length s.entries + 1 + 2) =
         ap (λ (y : Receipt). y.reply) asked.heard.receives.receipt
         ∙ ap (λ (o : Option (List ℕ)). (receipt_from (length s.entries + 1) o).reply) x in
-        let at : number ≡ length s.entries + 1 + 2 = some_same (sym owed ∙ some) in
+        let at : number ≡ length s.entries + 1 + 2 = same_Some _ _ (sym owed ∙ some) in
         let heard_it : t ≡ with_answer s asked.heard.receives.world asked.heard.envelope (reading_at s time)
         (Some reply) =
         plainly s t time asked.heard.envelope r joined.plain asked.heard.receives
@@ -328,7 +329,7 @@ none_due c s c1 t time body r asked none =
 -- the reply that was brought back is the one that was ready
 same_envelope : (c1 t c2 t2 : NodeParts) (number : ℕ) (reply : List ℕ) (h : IsReplyReady c1 t number)
     (k : IsReplied c1 t number reply c2 t2) → k.envelope ≡ h.envelope
-same_envelope c1 t c2 t2 number reply h k = some_same (sym k.received.envelope ∙ h.reaches.envelope)
+same_envelope c1 t c2 t2 number reply h k = same_Some _ _ (sym k.received.envelope ∙ h.reaches.envelope)
 
 -- What the server did stays so.
 pub served_replied : (c1 s t c2 t2 : NodeParts) (time : Timeval) (body : List ℕ) (number : ℕ) (reply : List ℕ)

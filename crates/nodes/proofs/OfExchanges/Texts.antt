@@ -2,6 +2,7 @@
 -- Serves: Reached, Answered, laws.calls_are_accepted.
 use Rattle.std.proofs.Common.{◌≡◌, ℕ, List, [], Ok, Option, Some, refl, sym, ap, ◌∙◌}
 use Rattle.std.proofs.lemmas.List.{append-nil}
+use Rattle.std.proofs.lemmas.Option.{same_Some}
 use Rattle.xdr.specs.Item.{Value, spelling}
 use Rattle.xdr.specs.Reading.{read_at}
 use Rattle.xdr.proofs.Exact.{again}
@@ -19,10 +20,6 @@ reads_back t v bytes h =
     let e : read_at t.item bytes ≡ Ok (v, []) =
     ap (read_at t.item) (h.2 ∙ sym (append-nil (spelling t.item v))) ∙ again t.item v [] h.0 in
     rw (e, h.1) refl
-
--- two values that are there alike are the same
-pub some_same : {A : Type 0} {x y : A} → ◌≡◌ {A = Option A} (Some x) (Some y) → x ≡ y
-some_same h = cc
 
 envelope_back : Value envelope_item → Envelope
 envelope_back v = record {
@@ -42,7 +39,7 @@ envelope_back v = record {
 -- No bytes are the text of two envelopes.
 pub one_envelope : (bytes : List ℕ) (e f : Envelope) → IsTextOf bytes e → IsTextOf bytes f → e ≡ f
 unfolding envelope_back
-one_envelope bytes e f h k = ap envelope_back (some_same (sym h ∙ k))
+one_envelope bytes e f h k = ap envelope_back (same_Some _ _ (sym h ∙ k))
 
 ack_back : Value ack_item → Ack
 ack_back v = record {
@@ -65,4 +62,4 @@ ack_back v = record {
 -- No bytes are the text of two acknowledgements.
 pub one_ack : (bytes : List ℕ) (a b : Ack) → IsAckText bytes a → IsAckText bytes b → a ≡ b
 unfolding ack_back
-one_ack bytes a b h k = ap ack_back (some_same (sym h ∙ k))
+one_ack bytes a b h k = ap ack_back (same_Some _ _ (sym h ∙ k))

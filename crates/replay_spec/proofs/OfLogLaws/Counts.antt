@@ -21,11 +21,12 @@ use Rattle.replay_spec.specs.Replay.{Honest, last_state}
 use Rattle.replay_spec.specs.HonestLogs.{IsHonestLog}
 use Rattle.replay_spec.specs.LogLaws.LoggedMessages.{is_recv, recv_count, send_count}
 use Rattle.replay_spec.specs.LogLaws.Laws.{IsCounted, IsCountedOn, SendsLieBelow}
-use Rattle.replay_spec.proofs.OfLogLaws.Orders.{received_total}
+use Rattle.state_spec.proofs.Orders.{received_total}
 
 -- ---- counts
 
-abbrev one_if : Bool → ℕ
+-- one where a test passes
+abbrev pub one_if : Bool → ℕ
 one_if b = cond b 1 0
 
 either : (b : Bool) (n : ℕ) → cond b n (n + 1) ≤ n + 1

@@ -6,6 +6,8 @@ use Rattle.std.specs.FinMap as finite
 use Rattle.std.specs.FinSet.{FinSet}
 use Rattle.std.specs.Ordering.{eq_by_cmp}
 use Rattle.std.proofs.lemmas.Bool.{both_ways}
+use Rattle.std.proofs.lemmas.Option.{same_Some}
+use Rattle.std.proofs.lemmas.Bool.{false_from_ne_true}
 use Rattle.secure_log.specs.authenticator.declared.member.Member.{Member}
 use Rattle.sha2.specs.Sha256.{sha256}
 use Rattle.secure_log.specs.LogEntries.Messages.{message_hash}
@@ -19,7 +21,7 @@ use Rattle.replay_spec.specs.Placed.{place}
 use Rattle.replay_spec.specs.Steps.{received_message, after_entry, Takes, MayStand}
 use Rattle.replay_spec.specs.HonestLogs.{IsHonestLog}
 use Rattle.replay_spec.specs.LogLaws.LoggedMessages.{entry_at, IsReceivedAt}
-use Rattle.replay_spec.proofs.OfLogLaws.Orders.{received_total, ties_equal, equal_ties}
+use Rattle.state_spec.proofs.Orders.{received_total, ties_equal, equal_ties}
 use Rattle.replay_spec.proofs.Logs.{carried, node_step}
 use Rattle.replay_spec.proofs.OfLogLaws.Entries.{entry_more, entry_last, entry_less, entry_within}
 
@@ -52,15 +54,12 @@ pub received_step : (ms : List Member) (s t : State) (number : ℕ) (before : Li
 received_step ms s t number before e h =
     ap (λ (x : State). x.received) h.after ∙ received_after s number before e
 
-some_same : {x y : ReceivedMessage} → ◌≡◌ {A = Option ReceivedMessage} (Some x) (Some y) → x ≡ y
-some_same h = cc
-
 -- a message that is taken in wasn't there
 new_message : (ms : List Member) (s : State) (e : Entry) (m : ReceivedMessage) → MayStand ms s e
     → message_in s.node e ≡ Some m → is_received s.received m ≡ false
 new_message ms s (Send to body) m h k = absurd (cc)
 new_message ms s (Recv from seq prev body signature) m h k =
-    subst (λ x. is_received s.received x ≡ false) (some_same k) h.fresh
+    subst (λ x. is_received s.received x ≡ false) (same_Some _ _ k) h.fresh
 new_message ms s (Ack to seq mine theirs prev signature) m h k = absurd (cc)
 new_message ms s (Clock seconds microseconds) m h k = absurd (cc)
 new_message ms s (Check digest) m h k = absurd (cc)
@@ -163,10 +162,6 @@ logged_start o = record {
 not_both : (b : Bool) → b ≡ true → b ≡ false → ⊥
 not_both b h k = both_ways b k h
 
-is_false : (b : Bool) → (b ≡ true → ⊥) → b ≡ false
-is_false true h = absurd (h refl)
-is_false false h = refl
-
 module _ (o : State) (es : List Entry) (e : Entry) (s t : State) (i : IsLogged o es s)
     (node : t.node ≡ s.node) (brings : t.received ≡ with_message s.received (message_in o.node e))
     (new : (m : ReceivedMessage) → message_in o.node e ≡ Some m → is_received s.received m ≡ false) where
@@ -210,7 +205,7 @@ module _ (o : State) (es : List Entry) (e : Entry) (s t : State) (i : IsLogged o
       by : Origin m k → is_received o.received m ≡ false
       by (inl old) = i.fresh k m old
       by (inr last) =
-          is_false (is_received o.received m)
+          false_from_ne_true (is_received o.received m)
           (λ yes. not_both (is_received s.received m) (i.before m yes) (new m last.1))
 
   one_place : (j k : ℕ) (m : ReceivedMessage) → TakesIn o.node longer j m → TakesIn o.node longer k m → j ≡ k
@@ -267,7 +262,7 @@ recv_at node es k m h = by h.entry h.there h.brings
     by : (e : Entry) → entry_at es k ≡ Some e → message_in node e ≡ Some m → IsReceivedAt node es k m
     by (Send to body) there brings = absurd (cc)
     by (Recv from seq prev body signature) there brings =
-        let same = some_same brings in
+        let same = same_Some _ _ brings in
         record {
           prev = prev;
           body = body;

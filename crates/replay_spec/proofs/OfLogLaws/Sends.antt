@@ -8,6 +8,7 @@ use Rattle.std.specs.Ordering.{eq_by_cmp}
 use Rattle.std.specs.Cmp.{nat_cmp_total, unsigned_tied}
 use Rattle.std.proofs.lemmas.List.{take-append-le, take_all}
 use Rattle.std.proofs.lemmas.Bool.{cases_eq}
+use Rattle.std.proofs.lemmas.Option.{same_Some}
 use Rattle.sha2.specs.Sha256.{sha256}
 use Rattle.merkle_keys.specs.Signing.{SignatureParts}
 use Rattle.secure_log.specs.authenticator.declared.member.Member.{Member}
@@ -51,9 +52,6 @@ get_removed sends n k h =
 get_kept : (sends : Sends) (n k : ℕ) → k ≢ n → finite.get (finite.remove sends n) k ≡ finite.get sends k
 get_kept sends n k h =
     finite.get-remove nat_cmp_total sends n k ∙ ap (λ b. cond b None (finite.get sends k)) (no_tie k n h)
-
-some_same : {A : Type 0} {x y : A} → ◌≡◌ {A = Option A} (Some x) (Some y) → x ≡ y
-some_same h = cc
 
 none_some : {A : Type 0} {x : A} → ◌≡◌ {A = Option A} None (Some x) → ⊥
 none_some h = absurd (cc)
@@ -222,7 +220,7 @@ module _ (es : List Entry) (to : ℕ) (body : List ℕ) (s t : State) (i : AreLo
       by : (k ≡ length es + 1) ⊎ (k ≢ length es + 1) → IsSentAt more k m × HasNoAck more k
       by (inl last) =
           let same : sent ≡ m =
-          some_same (sym (get_new s.sends (length es + 1) sent k last)
+          same_Some _ _ (sym (get_new s.sends (length es + 1) sent k last)
           ∙ sym (ap (λ x. finite.get x k) after) ∙ h) in (
             subst (IsSentAt more k) same (sent_last es to body k last),
             no_ack_more es (Send to body) k (none_yet k last) (send_no_ack to body k),

@@ -6,6 +6,7 @@ use Rattle.std.proofs.Common.{◌∙◌, arith, eqb, ltb, eqb-true, eq-eqb, ne_e
 use Rattle.std.specs.Prelude.{IsTrue, slice_get}
 use Rattle.std.proofs.lemmas.Bool.{cases_lt}
 use Rattle.std.proofs.lemmas.Option.{slice_get-get_or}
+use Rattle.std.proofs.lemmas.Bool.{false≢true}
 use Rattle.nfs_laws.specs.fs_spec.Names.{is_name}
 use Rattle.nfs_laws.specs.fs_spec.Files.{File, Files, file_at, listing_in, is_directory, directory_entries}
 use Rattle.nfs_laws.specs.fs_spec.Files.{names_of}
@@ -25,13 +26,10 @@ use Rattle.tree_rules.proofs.OfFileRules.Ways.{path_up, root_place, not_root, le
 
 -- ---- what a place may have
 
-tf : false ≡ true → ⊥
-tf h = cc
-
 -- the first place, with names as it may have, is a directory without a name
 pub may_root : (b : Bool) (m : ℕ) → may_have 0 b m ≡ true → (b ≡ true) × (m ≡ 0)
 may_root true m h = (refl, eqb-true m 0 h)
-may_root false m h = absurd (tf h)
+may_root false m h = absurd (false≢true h)
 
 -- a later place, with names as it may have, has one at least, and a directory exactly one
 pub may_later : (k : ℕ) (b : Bool) (m : ℕ) → 0 < k → may_have k b m ≡ true → (0 < m) × (b ≡ true → m ≡ 1)
@@ -41,12 +39,12 @@ may_later k true m later h =
     (omega (arith, one), λ _. one)
 may_later k false m later h =
     let other : eqb k 0 ≡ false = ne_eqb k 0 (λ e. absurd (omega (arith, e, later))) in
-    (ltb-true 0 m (sym (ap (λ c. cond c false (ltb 0 m)) other) ∙ h), λ e. absurd (tf e))
+    (ltb-true 0 m (sym (ap (λ c. cond c false (ltb 0 m)) other) ∙ h), λ e. absurd (false≢true e))
 
 -- a directory without a name may be first
 pub root_may : (b : Bool) (m : ℕ) → b ≡ true → m ≡ 0 → may_have 0 b m ≡ true
 root_may true m e h = eq-eqb m 0 h
-root_may false m e h = absurd (tf e)
+root_may false m e h = absurd (false≢true e)
 
 -- a later place may have one name and more, a directory one
 pub later_may : (k : ℕ) (b : Bool) (m : ℕ) → 0 < k → 0 < m → (b ≡ true → m ≡ 1) → may_have k b m ≡ true
@@ -71,7 +69,7 @@ file_of_some : (w : Files) (n : ℕ) → IsSome (file_at w n) → (f : File) × 
 file_of_some w n h = by (file_at w n) refl
   where
     by : (o : Option File) → file_at w n ≡ o → (f : File) × (file_at w n ≡ Some f)
-    by None is = absurd (tf (sym (ap is_some is) ∙ h))
+    by None is = absurd (false≢true (sym (ap is_some is) ∙ h))
     by (Some f) is = (f, is)
 
 entry_some : (w : Files) (n : ℕ) (name : List ℕ) → IsSome (directory_entries w n name)
@@ -80,7 +78,7 @@ entry_some w n name h = by (directory_entries w n name) refl
   where
     by : (o : Option (ℕ × ℕ)) → directory_entries w n name ≡ o
         → (p : ℕ × ℕ) × (directory_entries w n name ≡ Some p)
-    by None is = absurd (tf (sym (ap is_some is) ∙ h))
+    by None is = absurd (false≢true (sym (ap is_some is) ∙ h))
     by (Some p) is = (p, is)
 
 -- ---- the rules

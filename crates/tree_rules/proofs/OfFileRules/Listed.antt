@@ -19,6 +19,7 @@ use Rattle.std.proofs.lemmas.Option.{slice_get-map, slice_get_within, get_or_fro
 use Rattle.nfs_laws.specs.fs_spec.Files.{File, file_at, listing_in, names_in, names_of}
 use Rattle.nfs_laws.specs.fs_spec.Trees.{IsFile}
 use Rattle.nfs_laws.proofs.fs_spec.Counts.{find_lookup, same_number, all_names}
+use Rattle.nfs_laws.proofs.fs_spec.Reached.{from_both}
 use Rattle.tree_rules.specs.FileRules.Rules.{files_listed, IsAt, AreRising, AreNames, AreFiles, numbers_of}
 
 -- ---- places
@@ -47,15 +48,11 @@ module _ {X : Type 0} (es : List (ℕ × X)) where
 
 -- ---- numbers that rise
 
-both : (a b : Bool) → T a → T b → T (a && b)
-both true b h k = k
-both false b h k = absurd h
-
 below_each : {X : Type 0} (x : ℕ) (es : List (ℕ × X)) → AllByRecursion (λ y. nat_cmp x y ≡ Less) (keys_of es)
     → T (below_all nat_cmp x es)
 below_each x [] h = tt
 below_each x (e ∷ es) h =
-    both (is_lt (nat_cmp x e.0)) (below_all nat_cmp x es) (subst (λ r. T (is_lt r)) (sym h.0) tt)
+    from_both (is_lt (nat_cmp x e.0)) (below_all nat_cmp x es) (subst (λ r. T (is_lt r)) (sym h.0) tt)
     (below_each x es h.1)
 
 -- keys in order are sorted, as a map's entries are
@@ -63,7 +60,7 @@ sorted_of : {X : Type 0} (es : List (ℕ × X)) → IsStrictlySortedBy nat_cmp (
     → T (is_sorted nat_cmp es)
 sorted_of [] h = tt
 sorted_of (e ∷ es) h =
-    both (below_all nat_cmp e.0 es) (is_sorted nat_cmp es)
+    from_both (below_all nat_cmp e.0 es) (is_sorted nat_cmp es)
     (below_each e.0 es (sorted_head nat_cmp e.0 (keys_of es) h))
     (sorted_of es (sorted_tail nat_cmp e.0 (keys_of es) h))
 

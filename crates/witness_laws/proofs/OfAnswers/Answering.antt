@@ -68,7 +68,8 @@ open_of message e (x ∷ xs) (inr i) same =
 
 -- ---- whose they are
 
-member_self : (m : Member) → same_member m m ≡ true
+-- a member is the same as itself
+pub member_self : (m : Member) → same_member m m ≡ true
 member_self m =
     and_from (m.node == m.node)
     ((kind_number m.kind == kind_number m.kind) && (is_same m.root m.root && (m.height == m.height)))
@@ -78,7 +79,8 @@ member_self m =
     (and_from (is_same m.root m.root) (m.height == m.height) (list_same m.root m.root refl)
     (eq-eqb m.height m.height refl)))
 
-roster_self : (ms : List Member) → same_roster ms ms ≡ true
+-- a roster is the same as itself
+pub roster_self : (ms : List Member) → same_roster ms ms ≡ true
 roster_self [] = refl
 roster_self (m ∷ ms) = and_from (same_member m m) (same_roster ms ms) (member_self m) (roster_self ms)
 

@@ -127,7 +127,8 @@ module _ (s : SegmentParts) (message : Message) where
 
 -- ---- challenges
 
-not_true : (b : Bool) → not b ≡ true → b ≡ true → ⊥
+-- a test and its negation don't both pass
+pub not_true : (b : Bool) → not b ≡ true → b ≡ true → ⊥
 not_true true h e = true≢false (sym h)
 not_true false h e = true≢false (sym e)
 

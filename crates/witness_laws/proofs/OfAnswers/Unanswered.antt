@@ -10,7 +10,7 @@ use Rattle.witness_spec.specs.Standing.{is_answered, is_send_of, open_after, ope
 use Rattle.witness_spec.specs.Steps.{Step, Past}
 use Rattle.witness_spec.specs.Steps as steps
 use Rattle.witness_laws.specs.Challenges.{Opens, AnswersIt, IsUnanswered, OpenExactlyIf}
-use Rattle.witness_laws.proofs.OfAnswers.Closing.{was_among, is_left}
+use Rattle.witness_laws.proofs.OfAnswers.Closing.{was_among, not_true, is_left}
 use Rattle.witness_laws.proofs.OfAnswers.Answering.{passes}
 
 -- ---- lists
@@ -38,11 +38,6 @@ last_is x c (y ∷ ys) same = inr (last_is x c ys same)
 not_false : (b : Bool) → (b ≡ true → ⊥) → not b ≡ true
 not_false true h = absurd (h refl)
 not_false false h = refl
-
--- a test whose contrary holds
-not_true : (b : Bool) → not b ≡ true → b ≡ true → ⊥
-not_true true h e = true≢false (sym h)
-not_true false h e = true≢false (sym e)
 
 -- ---- one step
 

@@ -5,6 +5,7 @@ use Rattle.std.proofs.Common.{◌≡◌, inl, ℕ, ◌<◌, ◌≤◌, Bool, tru
 use Rattle.std.proofs.Common.{map, Option, Some, Ok, refl, sym, ap, subst, ◌∙◌, eqb-true, eq-eqb, arith}
 use Rattle.std.specs.Prelude.{IsTrue, nat_lt}
 use Rattle.std.proofs.lemmas.Bool.{and_parts, ltb-true}
+use Rattle.std.proofs.lemmas.Option.{same_Some}
 use Rattle.authenticator.specs.Roster.{member_of, IsRoster, rises_above, roster_value}
 use Rattle.authenticator.specs.declared.member.Member.{Member}
 use Rattle.witness_spec.specs.Events.{Event, IsEvent}
@@ -77,9 +78,6 @@ abbrev Found : Watched → History → List Member → List BookParts → Type 0
 Found w history members books =
     (b : BookParts) × ((book_in members books w.member.node ≡ Some b) × StandsFor w (own_of w history) b)
 
-some_same : {A : Type 0} {x y : A} → ◌≡◌ {A = Option A} (Some x) (Some y) → x ≡ y
-some_same h = cc
-
 module _ (w : Watched) (history : History) where
   found_each : (members : List Member) (books : List BookParts)
       → member_of members w.member.node ≡ Some w.member
@@ -99,7 +97,7 @@ module _ (w : Watched) (history : History) where
         (
           refl,
           subst (λ x. StandsFor (watched w.roster x) (own w.roster x.node history) b)
-              (some_same e) h.0,
+              (same_Some _ _ e) h.0,
         ),
       )
       by false e rest = rest e h.1
@@ -115,7 +113,7 @@ module _ (w : Watched) (history : History) where
       → StandsFor w (own_of w history) b
   found_stands books b is h there =
       let f = found books is h in
-      subst (StandsFor w (own_of w history)) (some_same (sym f.1.0 ∙ there)) f.1.1
+      subst (StandsFor w (own_of w history)) (same_Some _ _ (sym f.1.0 ∙ there)) f.1.1
 
 -- ---- one book makes a step
 
@@ -174,7 +172,7 @@ module _ (w : Watched) (history : History) (e : Event) (r : Reply)
             → StandEach w.roster ((e, r) ∷ history) (n ∷ members)
             (cond t (new ∷ books) (b ∷ with_book members w.member.node new books))
         by true same at rest =
-            let it : n ≡ w.member = some_same at in
+            let it : n ≡ w.member = same_Some _ _ at in
             let same_node : w.member.node ≡ n.node = sym (eqb-true n.node w.member.node same) in
             let low_enough : w.member.node ≤ n.node = omega (arith, same_node) in (
               subst (λ x. StandsFor (watched w.roster x) (own w.roster x.node ((e, r) ∷ history)) new)

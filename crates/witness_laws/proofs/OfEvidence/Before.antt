@@ -7,6 +7,7 @@ use Rattle.std.proofs.Common.{sym, ap}
 use Rattle.std.proofs.Common.{subst, ◌∙◌, arith, eqb-true, eq-eqb, length-append, map}
 use Rattle.std.specs.Prelude.{find, ◌&&◌}
 use Rattle.std.proofs.lemmas.Bool.{and_parts, and_from, true≢false, ltb-true, ltb-false, leb-true, le-leb}
+use Rattle.std.proofs.lemmas.Option.{same_Some}
 use Rattle.authenticator.specs.declared.authenticator.Authenticator.{Authenticator}
 use Rattle.secure_log.specs.LogEntries.Entry.{entry_value}
 use Rattle.secure_log.specs.LogEntries.Chain.{Link, pairs, hash_after, links_from, IsAmong}
@@ -53,22 +54,19 @@ pub on_right : {A : Type 0} (x : A) (xs ys : List A) → IsAmong x ys → IsAmon
 on_right x [] ys i = i
 on_right x (z ∷ xs) ys i = inr (on_right x xs ys i)
 
-some_same : {A : Type 0} {x y : A} → ◌≡◌ {A = Option A} (Some x) (Some y) → x ≡ y
-some_same h = cc
-
 -- what is found is among those that were looked through, and passes the test
-found : {A : Type 0} (test : A → Bool) (xs : List A) (y : A) → find test xs ≡ Some y
+pub found : {A : Type 0} (test : A → Bool) (xs : List A) (y : A) → find test xs ≡ Some y
     → IsAmong y xs × (test y ≡ true)
 found test [] y h = absurd (cc)
 found {A} test (x ∷ xs) y h = by (test x) refl h (λ k. found test xs y k)
   where
     by : (b : Bool) → test x ≡ b → ◌≡◌ {A = Option A} (cond b (Some x) (find test xs)) (Some y)
         → (find test xs ≡ Some y → IsAmong y xs × (test y ≡ true)) → IsAmong y (x ∷ xs) × (test y ≡ true)
-    by true e h rest = let same : x ≡ y = some_same h in (inl (sym same), ap test (sym same) ∙ e)
+    by true e h rest = let same : x ≡ y = same_Some _ _ h in (inl (sym same), ap test (sym same) ∙ e)
     by false e h rest = let more = rest h in (inr more.0, more.1)
 
 -- if nothing is found, none passes
-not_found : {A : Type 0} (test : A → Bool) (xs : List A) (y : A) → find test xs ≡ None → IsAmong y xs
+pub not_found : {A : Type 0} (test : A → Bool) (xs : List A) (y : A) → find test xs ≡ None → IsAmong y xs
     → test y ≡ false
 not_found test [] y h i = absurd i
 not_found {A} test (x ∷ xs) y h i = by (test x) refl h i (λ k j. not_found test xs y k j)
@@ -89,7 +87,8 @@ filtered test (x ∷ xs) y i = by (test x) i (λ j. filtered test xs y j)
     by true (inr i) rest = inr (rest i)
     by false i rest = inr (rest i)
 
-passing : {A : Type 0} (test : A → Bool) (xs : List A) (y : A) → IsAmong y xs → test y ≡ true
+-- what passes a test is among what is kept
+pub passing : {A : Type 0} (test : A → Bool) (xs : List A) (y : A) → IsAmong y xs → test y ≡ true
     → IsAmong y (filter test xs)
 passing test [] y i h = absurd i
 passing test (x ∷ xs) y (inl e) h =
@@ -174,7 +173,7 @@ module _ (w : Watched) where
   noted_step : (past : Past) (p : Step × Reply) (a : Authenticator) → Doing w past p
       → noted p.0 p.1 ≡ Some a → p.0 ≡ Learn a
   noted_step past p a (Nothing did) h = let no : None ≡ Some a = sym did.notes ∙ h in absurd (cc)
-  noted_step past p a (Notes b is did) h = is ∙ ap (λ x. Learn x) (some_same (sym did.notes ∙ h))
+  noted_step past p a (Notes b is did) h = is ∙ ap (λ x. Learn x) (same_Some _ _ (sym did.notes ∙ h))
   noted_step past p a (Accepts c is wanted did) h = let no : None ≡ Some a = sym did.notes ∙ h in absurd (cc)
   noted_step past p a (Asks first last is few did) h = let no : None ≡ Some a = sym did.notes ∙ h in
       absurd (cc)

@@ -6,6 +6,7 @@ use Rattle.std.proofs.Common.{List, [], ◌∷◌, ◌++◌, length, Option, Som
 use Rattle.std.proofs.Common.{arith, eqb-true, length-append, not, zero, suc}
 use Rattle.std.specs.Prelude.{option_map, option_and_then}
 use Rattle.std.proofs.lemmas.Bool.{and_parts, or_cases, or_right, true≢false, ltb-true, lt-ltb}
+use Rattle.std.proofs.lemmas.Option.{same_Some}
 use Rattle.xdr.specs.Item.{Fits, choice}
 use Rattle.authenticator.specs.Numbers.{number_item}
 use Rattle.authenticator.specs.declared.authenticator.Authenticator.{Authenticator}
@@ -76,9 +77,6 @@ other_of n x (q ∷ old) h =
     by (inr k) rest =
         let g = rest k in record { hash = g.hash; there = inr g.there; differs = g.differs }
 
-some_same : (x y : ℕ) → ◌≡◌ {A = Option ℕ} (Some x) (Some y) → x ≡ y
-some_same x y h = cc
-
 -- the number of the first fork is one
 first_is : (new old : List Pair) (n : ℕ) → first_fork new old ≡ Some n → Forks new old n
 first_is [] old n h = absurd (cc)
@@ -87,7 +85,7 @@ first_is (q ∷ new) old n h = by (is_fork q old) refl h (λ k. first_is new old
     by : (b : Bool) → is_fork q old ≡ b → ◌≡◌ {A = Option ℕ} (cond b (Some q.0) (first_fork new old)) (Some n)
         → (first_fork new old ≡ Some n → Forks new old n) → Forks (q ∷ new) old n
     by true e h rest =
-        let number : q.0 ≡ n = some_same q.0 n h in
+        let number : q.0 ≡ n = same_Some q.0 n h in
         let g = other_of q.0 q.1 old e in
         record {
           one = q.1;

@@ -4,6 +4,7 @@ use Rattle.std.proofs.Common.{◌≡◌, ◌↔◌, Bool, true, false, cond, ◌
 use Rattle.std.proofs.Common.{None, refl, sym, ap, subst, ◌∙◌}
 use Rattle.std.specs.Prelude.{IsSome, option_map}
 use Rattle.std.proofs.lemmas.Bool.{or_right, true≢false}
+use Rattle.std.proofs.lemmas.Option.{same_Some}
 use Rattle.witness_spec.specs.replay_spec.Replay.{Verdict, Sound, Fault}
 use Rattle.xdr.specs.Item.{Fits}
 use Rattle.witness_spec.specs.evidence_spec.Evidence.{Charge, EvidenceParts, evidence_item, evidence_value}
@@ -138,16 +139,13 @@ pub record IsCharged (w : Watched) (e : EvidenceParts) : Type 0 where
   -- it is accepted, and has a text
   pub good : IsGoodCharge w charge
 
-some_same : {A : Type 0} {x y : A} → ◌≡◌ {A = Option A} (Some x) (Some y) → x ≡ y
-some_same h = cc
-
 -- the evidence that is told is a charge that is accepted against the node
 pub charged : (w : Watched) (past : Past) (e : EvidenceParts) → Told w past
     → evidence w past ≡ Some e → IsCharged w e
 charged w past e (Without none was a) h =
     let no : ◌≡◌ {A = Option EvidenceParts} None (Some e) = sym none ∙ h in absurd (cc)
 charged w past e (With g is exposed good) h =
-    record { charge = g; is = some_same (sym h ∙ is); good = good }
+    record { charge = g; is = same_Some _ _ (sym h ∙ is); good = good }
 
 -- What is accepted and has a text proves.
 pub proof_of : (w : Watched) (e : EvidenceParts)

@@ -44,7 +44,8 @@ use Rattle.witness_laws.proofs.OfTrust.Parts.{split, same_parts}
 
 -- ---- places of a log
 
-head_among : (n : ℕ) (h : List ℕ) (ls : List Link) → IsAmong (n, h) (pairs n h ls)
+-- the first of some pairs is among them
+pub head_among : (n : ℕ) (h : List ℕ) (ls : List Link) → IsAmong (n, h) (pairs n h ls)
 head_among n h [] = inl refl
 head_among n h (l ∷ ls) = inl refl
 

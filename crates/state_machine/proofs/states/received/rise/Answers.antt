@@ -1,6 +1,6 @@
 use Rattle.std.proofs.Common.{[], sym, arith}
 use Rattle.state_spec.specs.State.{ReceivedMessage, received_cmp}
-use Rattle.state_machine.proofs.OfStates.Orders.{received_total}
+use Rattle.state_spec.proofs.Orders.{received_total}
 use Rattle.state_machine.proofs.OfStates.Kept.{rising_by_steps, one_step_more, no_step}
 use Rattle.state_machine.proofs.states.received.rise.Goals as goal
 

@@ -3,7 +3,7 @@ use Rattle.std.specs.List.{AllByRecursion}
 use Rattle.std.specs.BTreeSet.{insert_key}
 use Rattle.state_spec.specs.State.{received_cmp}
 use Rattle.state_machine.specs.States.Bounds.{ReceivedFits}
-use Rattle.state_machine.proofs.OfStates.Orders.{received_total}
+use Rattle.state_spec.proofs.Orders.{received_total}
 use Rattle.state_machine.proofs.OfStates.Kept.{next_put, all_with}
 use Rattle.state_machine.proofs.states.received.set_of.Goals as goal
 

@@ -4,7 +4,7 @@ use Rattle.std.specs.List.{AllByRecursion}
 use Rattle.state_spec.specs.State.{received_cmp, with_received}
 use Rattle.state_machine.specs.States.Bounds.{ReceivedFits}
 use Rattle.state_machine.specs.declared.states.received.TheConstants.{MAX_RECEIVED}
-use Rattle.state_machine.proofs.OfStates.Orders.{received_total}
+use Rattle.state_spec.proofs.Orders.{received_total}
 use Rattle.state_machine.proofs.OfStates.Kept.{len_of_set, one_within, set_with, all_with}
 use Rattle.state_machine.proofs.states.received.Received.insert.Goals as goal
 

@@ -3,7 +3,7 @@ use Rattle.std.specs.FinMap.{remove}
 use Rattle.std.specs.List.{AllByRecursion}
 use Rattle.state_spec.specs.State.{received_cmp}
 use Rattle.state_machine.specs.States.Bounds.{ReceivedFits}
-use Rattle.state_machine.proofs.OfStates.Orders.{received_total}
+use Rattle.state_spec.proofs.Orders.{received_total}
 use Rattle.state_machine.proofs.OfStates.Again.{received_exact}
 use Rattle.state_machine.proofs.OfStates.Kept.{set_without, all_without_key, less_within}
 use Rattle.state_machine.proofs.states.received.Received.remove.Goals as goal
