@@ -8,46 +8,11 @@ use Rattle.witness_spec.specs.Refusals.{NoJob, WrongJob, BookFull, NoMemory, ref
 use Rattle.challenge.specs.declared.challenge.Challenge.{Challenge}
 use Rattle.challenge.specs.declared.challenge.Challenge.TheVariants as challenges
 use Rattle.node_book.specs.Replies.{challenge_in}
-
--- the refusal with this number
-refusal_with : ℕ → Refusal
-refusal_with n =
-    if n == 1 then UnknownNode
-    else if n == 2 then Garbage
-    else if n == 3 then BadSignature
-    else if n == 4 then LearnedFull
-    else if n == 5 then ChallengesFull
-    else if n == 6 then OutboxFull
-    else if n == 7 then TooFar
-    else if n == 8 then NothingToAudit
-    else if n == 9 then Busy
-    else if n == 10 then NotAsked
-    else if n == 11 then NoJob
-    else if n == 12 then WrongJob
-    else if n == 13 then BookFull
-    else NoMemory
-
--- a refusal is the one with its number
-with_number : (f : Refusal) → refusal_with (refusal_number f) ≡ f
-unfolding refusal_with
-with_number UnknownNode = refl
-with_number Garbage = refl
-with_number BadSignature = refl
-with_number LearnedFull = refl
-with_number ChallengesFull = refl
-with_number OutboxFull = refl
-with_number TooFar = refl
-with_number NothingToAudit = refl
-with_number Busy = refl
-with_number NotAsked = refl
-with_number NoJob = refl
-with_number WrongJob = refl
-with_number BookFull = refl
-with_number NoMemory = refl
+use Rattle.node_book.specs.NoteCodes.{refusal_at, refusal_back}
 
 -- refusals with the same number are the same
 pub refusal_of_number : (f g : Refusal) → refusal_number f ≡ refusal_number g → f ≡ g
-refusal_of_number f g h = sym (with_number f) ∙ ap refusal_with h ∙ with_number g
+refusal_of_number f g h = sym (refusal_back f) ∙ ap refusal_at h ∙ refusal_back g
 
 -- challenges that say the same are the same
 challenge_same : (c d : Challenge) → challenge_in c ≡ challenge_in d → c ≡ d

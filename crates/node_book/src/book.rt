@@ -42,7 +42,7 @@ impl Model for Book {
 
 impl Step {
     /// The step is refused: a job or a done value comes back with the refusal.
-    pub(crate) fn refuse(self, refusal: Refusal) -> Reply
+    pub fn refuse(self, refusal: Refusal) -> Reply
         ensures { reply_in result ≡ step_refused (step_in self) (refusal_in refusal) }
     {
         match self {

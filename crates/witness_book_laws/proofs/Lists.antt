@@ -10,6 +10,7 @@ use Rattle.std.proofs.lemmas.Option.{same_Some}
 use Rattle.secure_log.specs.LogEntries.Chain.{IsAmong}
 use Rattle.witness_laws.specs.witness_spec.Histories.{HoldSame}
 use Rattle.witness_laws.proofs.OfEvidence.Before.{split, on_left, on_right, passing, found, not_found}
+use Rattle.witness_laws.proofs.Reach.{greater}
 
 -- ---- what is among lists
 
@@ -187,22 +188,9 @@ max_bound n x [] i = absurd i
 max_bound n x (y ∷ xs) (inl e) = omega (arith, e, le-max_right n y, max_from (max n y) xs)
 max_bound n x (y ∷ xs) (inr i) = max_bound (max n y) x xs i
 
-max_one : (a b : ℕ) → (max a b ≡ a) ⊎ (max a b ≡ b)
-max_one a b = by (nat_le a b) refl
-  where
-    by : (c : Bool) → nat_le a b ≡ c → (max a b ≡ a) ⊎ (max a b ≡ b)
-    by true e =
-        let le : a ≤ b = leb-true a b e in
-        let same : b ≤ b = omega arith in
-        inr (omega (arith, le-max_right a b, max-le {a = a} {b = b} {k = b} le same))
-    by false e =
-        let le : b ≤ a = omega (arith, leb-false a b e) in
-        let same : a ≤ a = omega arith in
-        inl (omega (arith, le-max_left a b, max-le {a = a} {b = b} {k = a} same le))
-
 max_is : (n : ℕ) (xs : List ℕ) → (fold max n xs ≡ n) ⊎ IsAmong (fold max n xs) xs
 max_is n [] = inl refl
-max_is n (x ∷ xs) = by (max_is (max n x) xs) (max_one n x)
+max_is n (x ∷ xs) = by (max_is (max n x) xs) (greater n x)
   where
     by : (fold max (max n x) xs ≡ max n x) ⊎ IsAmong (fold max (max n x) xs) xs
         → (max n x ≡ n) ⊎ (max n x ≡ x)

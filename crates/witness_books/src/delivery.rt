@@ -32,7 +32,7 @@ pub fn read_event(alloc: Global, roster: &Roster, bytes: &[u8]) -> Result<Event,
 
 /// The event that a packet delivers which was checked under this roster. `NoMemory` comes only where a growth
 /// was refused.
-fn event_of(alloc: Global, roster: &Roster, packet: Packet) -> Result<Event, Refusal>
+pub fn event_of(alloc: Global, roster: &Roster, packet: Packet) -> Result<Event, Refusal>
     requires { IsUnder roster.now packet }
     ensures event { IfOk result (λ e. IsDelivery roster.now (delivery_in packet) (event_in e)) }
     ensures refusal { IfErr result (λ f. refusal_in f ≡ NoMemory) }

@@ -10,7 +10,7 @@ mod runs;
 
 pub use authenticator::Roster;
 pub use books::Books;
-pub use delivery::read_event;
+pub use delivery::{event_of, read_event};
 pub use node_book::{
     Back, Event, EventOf, Indication, JobVerdict, Question, Refusal, ReplayDone, ReplayJob, Reply,
     ReplyOf, SharedSegment,

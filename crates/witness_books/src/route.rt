@@ -9,7 +9,6 @@ ghost use Rattle.authenticator.specs.Roster.{member_of};
 ghost use Rattle.packets.specs.Delivered.{IsUnder, delivery_in};
 ghost use Rattle.node_book.specs.Events.{event_in, key_of, step_in};
 ghost use Rattle.node_book.specs.Replies.{refusal_in, reply_in};
-ghost use Rattle.node_book.specs.Stepping.{step_refused};
 ghost use Rattle.witness_books.specs.Routing.{DeliversTo, GoesTo, IsGivenTo, OwnerIs, RoutesTo};
 
 use authenticator::{Authenticator, Checked, Member, Roster, is_same_hash};
@@ -70,31 +69,13 @@ pub fn refuse_event(event: Event, refusal: Refusal) -> Reply
     }
 }
 
-/// The step is refused: a job or a done value comes back with the refusal.
-fn refuse_step(step: Step, refusal: Refusal) -> Reply
-    ensures { reply_in result ≡ step_refused (step_in step) (refusal_in refusal) }
-{
-    match step {
-        Step::File(done) => ReplyOf::FileRefused(refusal, done),
-        Step::PutBack(job) => ReplyOf::PutBackRefused(refusal, job),
-        Step::Learn(_)
-        | Step::SendChallenge(_)
-        | Step::Answer(_)
-        | Step::AckIn(_)
-        | Step::Audit
-        | Step::Begin
-        | Step::Forward
-        | Step::Ask(_) => ReplyOf::Refused(refusal),
-    }
-}
-
 /// A step is given to the member whose it is, or refused.
 fn give(owner: Result<Member, Refusal>, step: Step) -> Routed
     ensures { IsGivenTo owner step result }
 {
     match owner {
         Ok(member) => Routed::Step(member, step),
-        Err(refusal) => Routed::Refused(refuse_step(step, refusal)),
+        Err(refusal) => Routed::Refused(step.refuse(refusal)),
     }
 }
 

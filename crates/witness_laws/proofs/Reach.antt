@@ -33,7 +33,8 @@ pub record IsNumberOf (learned : List Authenticator) (number : ℕ) : Type 0 whe
 abbrev Reached : (all : List Authenticator) (end n : ℕ) → Type 0
 Reached all end n = (n ≡ 0) ⊎ ((end < n) × (n ≤ end + MAX_ASKED) × IsNumberOf all n)
 
-greater : (a b : ℕ) → (max a b ≡ a) ⊎ (max a b ≡ b)
+-- the greater of two numbers is one of them
+pub greater : (a b : ℕ) → (max a b ≡ a) ⊎ (max a b ≡ b)
 greater a b = by (nat_le a b) refl
   where
     by : (c : Bool) → nat_le a b ≡ c → (max a b ≡ a) ⊎ (max a b ≡ b)

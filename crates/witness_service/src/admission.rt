@@ -1,19 +1,13 @@
 //! Packets, before the books are locked.
 
-ghost use Rattle.std.specs.Prelude.{◌≡◌, IfErr, IfOk};
-ghost use Rattle.packets.specs.Delivered.{IsUnder, delivery_in};
 ghost use Rattle.packets.specs.Judging.{judged};
-ghost use Rattle.witness_books.specs.node_book.Events.{event_in};
-ghost use Rattle.witness_books.specs.node_book.Replies.{refusal_in};
-ghost use Rattle.witness_books.specs.witness_spec.Refusals.{NoMemory};
-ghost use Rattle.witness_books.specs.Delivering.{IsDelivery, ReadsEvent};
+ghost use Rattle.witness_books.specs.Delivering.{ReadsEvent};
 ghost use Rattle.witness_service.specs.Caching.{MayKeep};
 
 use crate::cache::SignatureCache;
 use crate::checking::read_packet;
-use packets::Packet;
 use std::alloc::Global;
-use witness_books::{Event, EventOf, Refusal, Roster, SharedSegment};
+use witness_books::{Event, Refusal, Roster, event_of};
 
 /// The event that bytes spell, which books take as `Deliver` of these bytes (`laws::spelled_is_taken` of
 /// `witness_books`), with its signature checked; it waits for nobody. `Garbage` where bytes are no packet,
@@ -36,23 +30,5 @@ pub fn admit(
             Ok(event)
         }
         Err(refusal) => Err(Refusal::of_check(refusal)),
-    }
-}
-
-/// The event that a packet delivers which was checked under this roster. `NoMemory` comes only where a growth
-/// was refused.
-fn event_of(alloc: Global, roster: &Roster, packet: Packet) -> Result<Event, Refusal>
-    requires { IsUnder roster.now packet }
-    ensures event { IfOk result (λ e. IsDelivery roster.now (delivery_in packet) (event_in e)) }
-    ensures refusal { IfErr result (λ f. refusal_in f ≡ NoMemory) }
-{
-    match packet {
-        Packet::Learn(checked) => Ok(EventOf::Learn(checked)),
-        Packet::SendChallenge(checked) => Ok(EventOf::SendChallenge(checked)),
-        Packet::Answer(closed) => match SharedSegment::new(alloc, closed) {
-            Ok(segment) => Ok(EventOf::Answer(segment)),
-            Err(_) => Err(Refusal::NoMemory),
-        },
-        Packet::AckIn(checked) => Ok(EventOf::AckIn(checked)),
     }
 }
