@@ -3,7 +3,7 @@
 use Rattle.std.proofs.Common.{◌≡◌, ◌∙◌, ℕ, List, [], ◌∷◌, ◌++◌, ap, append_assoc, rules, subst, zero, suc}
 use Rattle.std.specs.Prelude.{IsTrue}
 use Rattle.std.proofs.lemmas.List.Elements.{All-append}
-use Rattle.explained_evidence.specs.explained_calls.Shown.{IsShown, is_shown}
+use Rattle.explain.specs.Shown.{IsShown, is_shown}
 
 -- a brace, and the end of the line
 abbrev pub closing : List ℕ

@@ -11,8 +11,8 @@ use Rattle.challenge.specs.Cases.{case_text, case_value}
 use Rattle.challenge.specs.Findings.{Finds}
 use Rattle.challenge.specs.declared.case.Case.{Case}
 use Rattle.challenge.specs.declared.finding.Finding.TheVariants as finding
-use Rattle.explained_evidence.specs.explained_calls.Shown.{IsShown}
-use Rattle.explained_evidence.specs.Lacks.{IsLack, lacking}
+use Rattle.explain.specs.Shown.{IsShown}
+use Rattle.explain.specs.Lacks.{IsLack, lacking}
 use Rattle.console.specs.declared.checking.Judgement.{Judgement}
 use Rattle.console.specs.declared.checking.Judgement.TheVariants.{Exposed, NoEvidence}
 use Rattle.console.specs.declared.checking.Reason.{Reason}

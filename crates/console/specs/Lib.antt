@@ -1,4 +1,3 @@
-pub mod CommandLine
 pub mod Checking
 pub mod Contents
 pub use Rattle.authenticator.specs as authenticator

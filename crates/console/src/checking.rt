@@ -14,7 +14,7 @@ use crate::fault::CheckFault;
 use crate::input::{Contents, read_contents};
 use authenticator::Roster;
 use challenge::{Case, EvidenceFault, Finding, accepted_evidence_proves, examine, read_case};
-use explained_evidence::{
+use explain::{
     CLEARS_NOBODY, Detail, Facts, File, Lack, Text, VERSION, case_facts, first_undecodable,
     lack_of, no_case_facts, rejected_facts,
 };

@@ -12,7 +12,7 @@ use crate::fault::CheckFault;
 use crate::input::{Contents, read_contents};
 use authenticator::Roster;
 use challenge::{EvidenceFault, read_case};
-use explained_evidence::roster_facts;
+use explain::roster_facts;
 use rpc::records::{Counting, write_bytes};
 use std::alloc::{AllocError, Global};
 use std::io::{Read, Write};

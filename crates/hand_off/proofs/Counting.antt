@@ -6,8 +6,8 @@ use mathlib.Core.Option.{some, none, some-injective, some-ne-none}
 use lib.ListN.{get_elem?}
 use Rattle.atomic_table.specs.Table.{Splits, Joins}
 use Rattle.atomic_table.proofs.Lists.{set_here, set_else, at_set, at_longer}
-use Rattle.node_book.specs.witness_spec.Events.{JobParts}
-use Rattle.node_book.specs.declared.job.Back.TheVariants.{Job}
+use Rattle.witness_spec.specs.Events.{JobParts}
+use Rattle.replay_jobs.specs.declared.job.Back.TheVariants.{Job}
 use Rattle.hand_off.specs.declared.view.Workers.{Workers}
 use Rattle.hand_off.specs.declared.view.View.{View}
 use Rattle.hand_off.specs.declared.view.View.TheVariants.{Poster, Idle, Holds, Retired}

@@ -11,10 +11,10 @@ use prog.Atomic.{either}
 use Rattle.atomic_table.specs.Table.{keeps, takes as takes_slot, gives, Valid, carried_after, Allows, Final, Seen}
 use Rattle.atomic_table.specs.Table.{opening, stepped}
 use Rattle.atomic_table.proofs.Lists.{set_here, set_else, set_again, at_set, exchanged}
-use Rattle.node_book.specs.witness_spec.Events.{JobParts}
-use Rattle.node_book.specs.Backs.{job_in}
-use Rattle.node_book.specs.declared.job.Back.{Back}
-use Rattle.node_book.specs.declared.job.Back.TheVariants.{Job}
+use Rattle.witness_spec.specs.Events.{JobParts}
+use Rattle.replay_jobs.specs.Backs.{job_in}
+use Rattle.replay_jobs.specs.declared.job.Back.{Back}
+use Rattle.replay_jobs.specs.declared.job.Back.TheVariants.{Job}
 use Rattle.hand_off.specs.declared.view.Workers.{Workers}
 use Rattle.hand_off.specs.declared.view.View.{View}
 use Rattle.hand_off.specs.declared.view.View.TheVariants.{Poster, Idle, Holds, Retired}

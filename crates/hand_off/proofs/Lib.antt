@@ -3,4 +3,4 @@ pub mod Keeping
 pub mod Naming
 pub mod Rows
 pub mod Taken
-pub use Rattle.node_book.proofs as node_book
+pub use Rattle.replay_jobs.proofs as replay_jobs

@@ -2,7 +2,7 @@
 -- Serves: PosterPlace, WorkerPlace.
 use Rattle.std.proofs.Common.{◌≡◌, ℕ, ◌+◌, Bool, true, false, [], ◌∷◌, Option, Some, None, sym, ap, ◌∙◌}
 use Rattle.atomic_table.specs.Seated.{TableId}
-use Rattle.node_book.specs.witness_spec.Events.{JobParts}
+use Rattle.witness_spec.specs.Events.{JobParts}
 use Rattle.hand_off.specs.Seats.{AreRetired, Count, count}
 use Rattle.hand_off.specs.Slots.{Seated, holds, poster, recruiter, retirer, workers}
 use Rattle.hand_off.specs.Places.{IsPosterPlace, PostedPlace, WorkedPlace, job_named, workers_counted, naming, holding}

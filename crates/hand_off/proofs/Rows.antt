@@ -6,7 +6,7 @@ use Rattle.std.proofs.Math.Seq.{map-set_same, take-suc}
 use Rattle.std.proofs.lemmas.List.{get_or-map, length-map, map-append, map-set, same_from_push}
 use Rattle.std.proofs.lemmas.List.Elements.{All-get_or, All-nil, All-cons}
 use Rattle.atomic_table.specs.Seated.{TableId}
-use Rattle.node_book.specs.witness_spec.Events.{JobParts}
+use Rattle.witness_spec.specs.Events.{JobParts}
 use Rattle.hand_off.specs.Seats.{AreRetired, Posting, Working, idle_at, job_at, none_at, one_retired, opened}
 use Rattle.hand_off.specs.Seats.{posting, retiring, working}
 use Rattle.hand_off.specs.Places.{PostedPlace, WorkedPlace, holding, idle_place, naming, posting_of, slot_id, slot_ids}

@@ -2,8 +2,8 @@
 use Rattle.std.specs.Prelude.{ℕ, List, Option, refl}
 use Rattle.std.specs.Coded.{Coded, code_by, coded×, coded_ℕ, coded_list, coded_option}
 use Rattle.atomic_table.specs.Seated.{TableId, table_id_coded}
-use Rattle.node_book.specs.Codes.{job_code}
-use Rattle.node_book.specs.witness_spec.Events.{JobParts}
+use Rattle.replay_jobs.specs.Codes.{job_code}
+use Rattle.witness_spec.specs.Events.{JobParts}
 use Rattle.hand_off.specs.Seats.{Count, Posting, Working}
 use Rattle.hand_off.specs.Places.{PostedPlace, WorkedPlace}
 

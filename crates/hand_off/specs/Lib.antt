@@ -3,4 +3,4 @@ pub mod Seats
 pub mod Places
 pub mod Codes
 pub mod Laws
-pub use Rattle.node_book.specs as node_book
+pub use Rattle.replay_jobs.specs as replay_jobs

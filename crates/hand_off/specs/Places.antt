@@ -1,7 +1,7 @@
 -- What a seat at one slot knows, and what ties it to the rule of the slot.
 use Rattle.std.specs.Prelude.{◌≡◌, ℕ, ◌+◌, List, [], ◌∷◌, Bool, true, false, map, Option, None, Some}
 use Rattle.atomic_table.specs.Seated.{TableId}
-use Rattle.node_book.specs.witness_spec.Events.{JobParts}
+use Rattle.witness_spec.specs.Events.{JobParts}
 use Rattle.hand_off.specs.Seats.{Count, Posting, Working, count, one_retired}
 use Rattle.hand_off.specs.Slots.{Seated, holds, idle, poster}
 use Rattle.hand_off.specs.declared.slot.Slot.{Slot}

@@ -1,7 +1,7 @@
 -- What the poster's seat and a worker's seat know of the slots of a hand-off.
 use Rattle.std.specs.Prelude.{◌≡◌, ℕ, ◌+◌, List, map, set, slice_index_or, Option, None}
 pub use Rattle.atomic_table.specs.Seated.{TableId}
-pub use Rattle.node_book.specs.witness_spec.Events.{JobParts}
+pub use Rattle.witness_spec.specs.Events.{JobParts}
 
 -- How many workers a slot was opened for, and how many of them are retired.
 pub record Count : Type 0 where

@@ -4,10 +4,10 @@ use Rattle.std.specs.Prelude.{Some, None, slice_index, ◌⊎◌}
 use mathlib.Core.Option.{some}
 use lib.ListN.{get_elem?}
 use Rattle.atomic_table.specs.Table.{State, Me}
-use Rattle.node_book.specs.witness_spec.Events.{JobParts}
-use Rattle.node_book.specs.Backs.{job_in}
-use Rattle.node_book.specs.declared.job.Back.{Back}
-use Rattle.node_book.specs.declared.job.Back.TheVariants.{Job}
+use Rattle.witness_spec.specs.Events.{JobParts}
+use Rattle.replay_jobs.specs.Backs.{job_in}
+use Rattle.replay_jobs.specs.declared.job.Back.{Back}
+use Rattle.replay_jobs.specs.declared.job.Back.TheVariants.{Job}
 use Rattle.hand_off.specs.declared.view.Workers.{Workers}
 use Rattle.hand_off.specs.declared.view.View.{View}
 use Rattle.hand_off.specs.declared.view.View.TheVariants.{Poster, Idle, Holds, Retired}

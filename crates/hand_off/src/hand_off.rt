@@ -2,14 +2,14 @@
 
 ghost use Rattle.std.specs.Prelude.{◌≡◌, ◌<◌, ◌≤◌, All, IfErr, IfNone, IfOk, IfSome, IsSome, None, OnErr, OnOk, Some};
 ghost use Rattle.std.specs.Prelude.{length, vec_len};
-ghost use Rattle.node_book.specs.Backs.{job_in};
-ghost use Rattle.node_book.specs.witness_spec.Events.{JobParts};
+ghost use Rattle.replay_jobs.specs.Backs.{job_in};
+ghost use Rattle.witness_spec.specs.Events.{JobParts};
 ghost use Rattle.hand_off.specs.Seats.{AreRetired, idle_at, job_at, none_at, opened, posting, retiring, working};
 
 use crate::opening::{close_slots, open_slots, recruit_all, retire_places};
 use crate::seats::{PosterSeat, WorkerSeat};
 use crate::slot::Slot;
-use node_book::{Back, ReplayJob};
+use replay_jobs::{Back, ReplayJob};
 use std::alloc::{AllocError, Global};
 use std::marker::Model;
 

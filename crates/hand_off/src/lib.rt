@@ -12,5 +12,5 @@ mod slot;
 mod view;
 
 pub use hand_off::HandOff;
-pub use node_book::{Back, ReplayJob};
+pub use replay_jobs::{Back, ReplayJob};
 pub use seats::{PosterSeat, WorkerSeat};

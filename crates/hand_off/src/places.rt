@@ -1,15 +1,15 @@
 //! Seats at one slot, which know at run time what they name.
 
 ghost use Rattle.std.specs.Prelude.{◌≡◌, ℕ, ◌<◌, [], ◌∷◌, false, None, Some, IfErr, IfNone, IfSome, IsSome, OnOk};
-ghost use Rattle.node_book.specs.Backs.{job_in};
-ghost use Rattle.node_book.specs.witness_spec.Events.{JobParts};
+ghost use Rattle.replay_jobs.specs.Backs.{job_in};
+ghost use Rattle.witness_spec.specs.Events.{JobParts};
 ghost use Rattle.hand_off.specs.Slots.{poster, workers};
 ghost use Rattle.hand_off.specs.Seats.{AreRetired};
 ghost use Rattle.hand_off.specs.Places.{holding, idle_place, naming, slot_id, vacant, with_one_more, with_one_retired};
 ghost use Rattle.hand_off.specs.declared.view.Workers.{Workers};
 
 use crate::slot::{Slot, SlotSeat};
-use node_book::{Back, ReplayJob};
+use replay_jobs::{Back, ReplayJob};
 use std::marker::Model;
 
 /// The poster's seat at one slot, and whether it names a job there.

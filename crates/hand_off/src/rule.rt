@@ -4,7 +4,7 @@ ghost use Rattle.hand_off.specs.Slots.{brings_back, collects, dones, notes, post
 
 use crate::view::View;
 use atomic_table::{Join, Play, Split, TableRule};
-use node_book::Back;
+use replay_jobs::Back;
 
 /// What holds of a slot between any two steps.
 pub struct SlotRule;

@@ -1,15 +1,15 @@
 //! One slot: a word, and a place for a job or for what came back of it.
 
 ghost use Rattle.std.specs.Prelude.{◌≡◌, ℕ, ◌<◌, [], ◌∷◌, Bool, false, Option, None, Some, IfNone, IfOk, IfSome};
-ghost use Rattle.node_book.specs.Backs.{job_in};
-ghost use Rattle.node_book.specs.witness_spec.Events.{JobParts};
+ghost use Rattle.replay_jobs.specs.Backs.{job_in};
+ghost use Rattle.witness_spec.specs.Events.{JobParts};
 ghost use Rattle.hand_off.specs.Slots.{holds, idle, poster, recruit, recruiter, retirer, unnoted, workers};
 ghost use Rattle.hand_off.specs.declared.view.Workers.{Workers};
 
 use crate::rule::{BringBack, Collect, Done, Note, Post, Recruit, Retire, SlotRule, Take, TakeOut};
 use crate::view::View;
 use atomic_table::{Seat, Table};
-use node_book::{Back, ReplayJob};
+use replay_jobs::{Back, ReplayJob};
 use std::alloc::{AllocError, Global};
 
 /// The word of an empty slot.

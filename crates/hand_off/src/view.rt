@@ -1,6 +1,6 @@
 //! What a seat knows of its slot. No value of these types is made: they are for proofs alone.
 
-use node_book::PlainJob;
+use replay_jobs::PlainJob;
 
 /// How many workers were made, how many of them are retired, and the word that was read since all are.
 pub struct Workers {

@@ -4,7 +4,7 @@ use crate::devices::Remembering;
 use crate::{
     COMMAND_LINE, DASH, INPUT_FAULT, STANDARD_INPUT, report_file, report_no_memory, report_output,
 };
-use console::command_line::{CheckRequest, state_number};
+use command_line::{CheckRequest, state_number};
 use console::{
     CheckFault, Detail, Format, Judgement, Reason, Roster, check, read_roster, write_roster,
 };

@@ -13,7 +13,7 @@ mod shelf;
 mod times;
 mod words;
 
-use console::command_line::{Request, RunRequest, ServeRefusal, parse, serve_order};
+use command_line::{Request, RunRequest, ServeRefusal, parse, serve_order};
 use devices::Remembering;
 use errors::TimedErrors;
 use evidence::{check_file, show_roster};

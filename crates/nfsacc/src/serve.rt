@@ -1,7 +1,7 @@
 //! `nfsacc serve`.
 
 ghost use Rattle.std.specs.Prelude.{◌≡◌, ◌⊎◌, true, false, IsOk, IsErr, IfOk, IfErr};
-ghost use Rattle.console.specs.CommandLine.ServeOrders.{IsBounded};
+ghost use Rattle.command_line.specs.ServeOrders.{IsBounded};
 ghost use Rattle.scripts.specs.serving.Orders.{IsOrder};
 
 use crate::control::{Control, ControlFault};
@@ -10,7 +10,7 @@ use crate::shelf::FileShelf;
 use crate::{
     COMMAND_LINE, DEVICE, INPUT_FAULT, STANDARD_INPUT, report_file, report_no_memory, report_output,
 };
-use console::command_line::ServeOrder;
+use command_line::ServeOrder;
 use scripts::{Finished, Heights, Masters, Order, ServeFault};
 use shown_names::ShownName;
 use std::fs::File;

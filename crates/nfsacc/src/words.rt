@@ -2,7 +2,7 @@
 
 use crate::{COMMAND_LINE, DEVICE, report_no_memory, report_output};
 use clap::error::ErrorKind;
-use console::command_line::parse;
+use command_line::parse;
 use shown_names::ShownName;
 use std::alloc::{AllocError, Global};
 use std::rt::Env;

@@ -16,7 +16,7 @@ use Rattle.witness_spec.specs.state_spec.Codes.{state_code}
 use Rattle.witness_spec.specs.Replies.{Challenge, AuditOf, SendOf}
 use Rattle.witness_spec.specs.Standing.{End, Stage, NoAudit, Wanted, Given, Out}
 use Rattle.witness_book_laws.specs.Books.{Book}
-use Rattle.node_book.specs.Codes.{closed_code}
+use Rattle.replay_jobs.specs.Codes.{closed_code}
 
 -- of an authenticator
 abbrev pub authenticator_code : Coded Authenticator

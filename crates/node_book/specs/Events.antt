@@ -3,7 +3,7 @@ use Rattle.authenticator.specs.declared.member.Member.{Member}
 use Rattle.witness_spec.specs.Events.{JobParts, PublicKey}
 use Rattle.witness_spec.specs.Events as spec
 use Rattle.witness_spec.specs.Steps as steps
-use Rattle.node_book.specs.Jobs.{done_parts}
+use Rattle.replay_jobs.specs.Jobs.{done_parts}
 use Rattle.node_book.specs.declared.event.EventOf.{EventOf}
 use Rattle.node_book.specs.declared.event.EventOf.TheVariants as e
 use Rattle.node_book.specs.declared.event.Question.{Question}

@@ -2,9 +2,7 @@ pub use Rattle.evidence_spec.specs as evidence_spec
 pub use Rattle.witness_book_laws.specs.witness_laws as witness_laws
 pub use Rattle.witness_book_laws.specs as witness_book_laws
 pub use Rattle.witness_spec.specs as witness_spec
-pub mod Codes
-pub mod Jobs
-pub mod Backs
+pub use Rattle.replay_jobs.specs as replay_jobs
 pub mod Events
 pub mod Replies
 pub mod Shares

@@ -23,7 +23,7 @@ use Rattle.witness_spec.specs.Events.{ItsEvidence, Event}
 use Rattle.witness_spec.specs.Events as events
 use Rattle.witness_spec.specs.Replies.{Indication, Trusted, Suspected, Exposed, Challenge, Reply}
 use Rattle.witness_spec.specs.Replies as replies
-use Rattle.node_book.specs.Codes.{closed_code, job_code}
+use Rattle.replay_jobs.specs.Codes.{closed_code, job_code}
 use Rattle.node_book.specs.BookCodes.{authenticator_code, challenge_code}
 
 -- ---- verdicts

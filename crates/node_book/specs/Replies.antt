@@ -6,7 +6,7 @@ use Rattle.witness_spec.specs.Refusals as refusals
 use Rattle.witness_spec.specs.Replies as spec
 use Rattle.challenge.specs.declared.challenge.Challenge.{Challenge}
 use Rattle.challenge.specs.declared.challenge.Challenge.TheVariants as challenges
-use Rattle.node_book.specs.Jobs.{done_parts}
+use Rattle.replay_jobs.specs.Jobs.{done_parts}
 use Rattle.node_book.specs.declared.refusal.Refusal.{Refusal}
 use Rattle.node_book.specs.declared.refusal.Refusal.TheVariants as f
 use Rattle.node_book.specs.declared.reply.Indication.{Indication}

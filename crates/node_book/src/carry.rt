@@ -10,7 +10,7 @@ ghost use Rattle.witness_book_laws.specs.Going.{after_audit, after_begin, after_
 ghost use Rattle.witness_book_laws.specs.Going.{audited_with, book_after, first_evidence, having_filed};
 ghost use Rattle.evidence_spec.specs.Evidence as charges;
 ghost use Rattle.witness_spec.specs.Standing as standing;
-ghost use Rattle.node_book.specs.Jobs.{verdict_told};
+ghost use Rattle.replay_jobs.specs.Jobs.{verdict_told};
 ghost use Rattle.node_book.specs.Deciding.{DecidesLearning, DecidesOpening, DecidesAccepting, DecidesAcked};
 ghost use Rattle.node_book.specs.Deciding.{DecidesAsking, DecidesBeginning, DecidesComing, DecidesForwarding};
 ghost use Rattle.node_book.specs.Deciding.{Decides, HasRoomFor, HasRoomToAccept, HasRoomToAsk, HasRoomToFile};
@@ -19,24 +19,21 @@ ghost use Rattle.node_book.specs.Deciding.{reply_learning, reply_opening, reply_
 ghost use Rattle.node_book.specs.Deciding.{reply_asking, reply_beginning, reply_filing, reply_returning};
 ghost use Rattle.node_book.specs.Deciding.{reply_forwarding, reply_telling};
 ghost use Rattle.node_book.specs.Events.{step_in};
-ghost use Rattle.node_book.specs.Jobs.{done_parts};
+ghost use Rattle.replay_jobs.specs.Jobs.{done_parts};
 ghost use Rattle.node_book.specs.Outboxes.{HasPlace, outbox_in};
 ghost use Rattle.node_book.specs.Replies.{reply_in};
 ghost use Rattle.node_book.specs.Rows.{KeepsExposure, book_in, segments_in, stage_in};
 
 use crate::challenges::{close_answered, close_send};
 use crate::decided::{Accepting, Asking, Beginning, Coming, Decided, Learning, Opening, Telling};
-use crate::done::ReplayDone;
-use crate::job::ReplayJob;
 use crate::refusal::Refusal;
 use crate::reply::{Reply, ReplyOf};
 use crate::rows::{Exposure, Rows, Stage};
-use crate::segment::SharedSegment;
 use crate::step::Step;
-use crate::verdict::JobVerdict;
 use authenticator::Authenticator;
 use challenge::{Challenge, Evidence, SharedState};
 use envelopes::{Ack, Envelope};
+use replay_jobs::{JobVerdict, ReplayDone, ReplayJob, SharedSegment};
 use std::mem;
 use std::sync::Arc;
 

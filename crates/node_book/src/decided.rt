@@ -1,12 +1,11 @@
 //! What is decided of a step, before the book changes: all that the reply and the change need beside the
 //! step, and no value that must be spent.
 
-use crate::plain::PlainJob;
 use crate::refusal::Refusal;
 use crate::reply::Indication;
-use crate::segment::SharedSegment;
 use authenticator::{Authenticator, Number};
 use challenge::{Challenge, Evidence};
+use replay_jobs::{PlainJob, SharedSegment};
 use std::sync::Arc;
 
 /// Of an authenticator that is to be learned.

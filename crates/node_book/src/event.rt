@@ -4,12 +4,9 @@ ghost use Rattle.std.specs.Prelude.{◌≡◌, IfOk};
 ghost use Rattle.witness_spec.specs.Events.{IsEvent};
 ghost use Rattle.node_book.specs.Events.{event_in};
 
-use crate::done::{PlainDone, ReplayDone};
-use crate::job::ReplayJob;
-use crate::plain::PlainJob;
-use crate::segment::SharedSegment;
 use authenticator::{Authenticator, Checked};
 use envelopes::{Ack, Envelope};
+use replay_jobs::{PlainDone, PlainJob, ReplayDone, ReplayJob, SharedSegment};
 
 /// What may be asked of a node.
 #[derive(Clone, Copy, Debug, PartialEq, Eq)]

@@ -17,9 +17,9 @@ ghost use Rattle.node_book.specs.Rows.{book_in};
 
 use crate::looking::{ShownHash, learned_at, segment_holding};
 use crate::rows::Rows;
-use crate::segment::SharedSegment;
 use authenticator::{Authenticator, Number, is_same_hash};
 use challenge::{Charge, Evidence, Fork, Showing};
+use replay_jobs::SharedSegment;
 use secure_log::ClosedSegment;
 use std::alloc::{AllocError, Global};
 

@@ -7,15 +7,12 @@ mod carry;
 mod challenges;
 mod decide;
 mod decided;
-mod done;
 mod event;
 mod forks;
-mod job;
 mod looking;
 mod noted;
 mod notes;
 mod outbox;
-mod plain;
 mod refusal;
 mod replayed;
 mod reply;
@@ -24,21 +21,16 @@ mod rows;
 mod same_challenges;
 mod same_events;
 mod same_replies;
-mod segment;
 mod step;
-mod verdict;
 
 pub use book::Book;
-pub use challenge::SharedState;
-pub use done::{PlainDone, ReplayDone};
 pub use event::{Event, EventOf, PlainEvent, Question};
-pub use job::{Back, ReplayJob};
-pub use plain::PlainJob;
 pub use refusal::Refusal;
+pub use replay_jobs::{
+    Back, JobVerdict, PlainDone, PlainJob, ReplayDone, ReplayJob, SharedSegment, SharedState,
+};
 pub use reply::{Indication, PlainReply, Reply, ReplyOf};
-pub use segment::SharedSegment;
 pub use step::Step;
-pub use verdict::JobVerdict;
 pub use witness_book_laws::laws::books_are_ready;
 pub use witness_book_laws::{
     books_can_stand, evidence_proves, evidence_where_exposed, exposed_exactly_if,

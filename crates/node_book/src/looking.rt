@@ -11,8 +11,8 @@ ghost use Rattle.node_book.specs.Rows.{book_in, segments_in};
 ghost use Rattle.node_book.specs.Looking.{FollowOn, count_ended, is_another, is_the_same};
 
 use crate::rows::Rows;
-use crate::segment::SharedSegment;
 use authenticator::{Authenticator, is_same_hash};
+use replay_jobs::SharedSegment;
 
 /// What a book shows at an authenticator's number: its hash, another one, or nothing.
 #[derive(Clone, Copy)]

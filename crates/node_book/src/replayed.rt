@@ -5,8 +5,8 @@ ghost use Rattle.evidence_spec.specs.Evidence as charges;
 ghost use Rattle.witness_spec.specs.Limits.{MAX_AUDITED};
 ghost use Rattle.node_book.specs.Rows.{ShowsLog, entries_of, replayed_log, segments_in};
 
-use crate::segment::SharedSegment;
 use challenge::{AuditedLog, Charge, Evidence};
+use replay_jobs::SharedSegment;
 use secure_log::log_entries::Entry;
 use std::alloc::{AllocError, Global};
 

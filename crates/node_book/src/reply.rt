@@ -3,12 +3,10 @@
 ghost use Rattle.std.specs.Prelude.{◌≡◌};
 ghost use Rattle.node_book.specs.Replies.{reply_in};
 
-use crate::done::{PlainDone, ReplayDone};
-use crate::job::ReplayJob;
-use crate::plain::PlainJob;
 use crate::refusal::Refusal;
 use authenticator::{Authenticator, Number};
 use challenge::{Challenge, Evidence};
+use replay_jobs::{PlainDone, PlainJob, ReplayDone, ReplayJob};
 use std::sync::Arc;
 
 /// What a witness says of a node: its failure indication (PeerReview, SOSP 2007, section 3).

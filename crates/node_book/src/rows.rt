@@ -1,9 +1,9 @@
 //! What a book holds in memory.
 
 use crate::outbox::Outbox;
-use crate::segment::SharedSegment;
 use authenticator::{Authenticator, Number};
 use challenge::{Challenge, Evidence, SharedState};
+use replay_jobs::SharedSegment;
 use std::sync::Arc;
 
 /// How far an audit is: there is none; a segment is asked for, from the first to the last of two numbers; one

@@ -4,14 +4,12 @@ ghost use Rattle.std.specs.Prelude.{◌≡◌, ◌↔◌, IsTrue};
 ghost use Rattle.witness_spec.specs.Events.{AckIn, Answer, Ask, Audit, Begin, Deliver, File, Forward, Learn};
 ghost use Rattle.witness_spec.specs.Events.{PutBack, SendChallenge};
 ghost use Rattle.node_book.specs.Events.{event_in, key_of, question_in};
-ghost use Rattle.node_book.specs.Jobs.{done_parts};
+ghost use Rattle.replay_jobs.specs.Jobs.{done_parts};
 
-use crate::done::PlainDone;
 use crate::event::{EventOf, PlainEvent, Question};
-use crate::plain::PlainJob;
-use crate::segment::SharedSegment;
 use authenticator::{Authenticator, Checked, Member, Signs, is_same_hash};
 use envelopes::{Ack, Envelope};
+use replay_jobs::{PlainDone, PlainJob, SharedSegment};
 
 impl EventOf<PlainJob, PlainDone> {
     /// Whether another says the same event: of the same kind, and the same in every part. Of a checked value

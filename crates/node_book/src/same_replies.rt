@@ -4,16 +4,15 @@ ghost use Rattle.std.specs.Prelude.{◌≡◌, ◌↔◌, IsTrue, map, option_ma
 ghost use Rattle.std.specs.Arc.{arc_value};
 ghost use Rattle.witness_spec.specs.Replies.{Asked, EvidenceIs, FileRefused, Forwarded, Job, OpenList};
 ghost use Rattle.witness_spec.specs.Replies.{PutBackRefused, Refused, Told};
-ghost use Rattle.node_book.specs.Jobs.{done_parts};
+ghost use Rattle.replay_jobs.specs.Jobs.{done_parts};
 ghost use Rattle.node_book.specs.Replies.{challenge_in, indication_in, refusal_in, reply_in};
 
-use crate::done::PlainDone;
-use crate::plain::PlainJob;
 use crate::refusal::Refusal;
 use crate::reply::{Indication, PlainReply, ReplyOf};
 use crate::same_challenges::are_same_challenges;
 use authenticator::{Authenticator, Number, Signs};
 use challenge::{Challenge, Evidence};
+use replay_jobs::{PlainDone, PlainJob};
 use std::sync::Arc;
 
 impl ReplyOf<PlainJob, PlainDone> {

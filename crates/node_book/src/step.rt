@@ -1,11 +1,9 @@
 //! The steps of one node's book.
 
-use crate::done::{PlainDone, ReplayDone};
 use crate::event::Question;
-use crate::job::ReplayJob;
-use crate::segment::SharedSegment;
 use authenticator::Authenticator;
 use envelopes::{Ack, Envelope};
+use replay_jobs::{PlainDone, ReplayDone, ReplayJob, SharedSegment};
 
 /// A step of one node's book: an event of that node, without what tells whose it is. Bytes were read, and
 /// signatures checked, before.

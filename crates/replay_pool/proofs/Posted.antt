@@ -6,9 +6,9 @@ use Rattle.std.proofs.Math.Seq.{take-suc}
 use Rattle.std.proofs.lemmas.List.{same_from_push}
 use Rattle.std.proofs.lemmas.List.Elements.{All-nil, All-cons, All-map, All-weaker}
 use Rattle.std.specs.List.{AllZip}
-use Rattle.hand_off.specs.node_book.witness_spec.Events.{JobParts}
-use Rattle.hand_off.specs.node_book.Backs.{job_in}
-use Rattle.hand_off.specs.node_book.declared.job.Back.{Back}
+use Rattle.hand_off.specs.replay_jobs.witness_spec.Events.{JobParts}
+use Rattle.hand_off.specs.replay_jobs.Backs.{job_in}
+use Rattle.hand_off.specs.replay_jobs.declared.job.Back.{Back}
 use Rattle.hand_off.specs.Seats.{AreRetired, Count, TableId, Working, count, idle_at, none_at, one_retired, working}
 use Rattle.replay_pool.specs.Rounds.{IsBackAt, IsBackOf, some_jobs}
 

@@ -1,8 +1,8 @@
 -- What a round of jobs gives back.
 use Rattle.std.specs.Prelude.{◌≡◌, List, map, Option, Some}
-use Rattle.hand_off.specs.node_book.witness_spec.Events.{JobParts}
-use Rattle.hand_off.specs.node_book.Backs.{job_in}
-use Rattle.hand_off.specs.node_book.declared.job.Back.{Back}
+use Rattle.hand_off.specs.replay_jobs.witness_spec.Events.{JobParts}
+use Rattle.hand_off.specs.replay_jobs.Backs.{job_in}
+use Rattle.hand_off.specs.replay_jobs.declared.job.Back.{Back}
 
 -- It came back of this job: the job done, whose type says that the verdict is the replay of its own state and
 -- segment, or the job itself.

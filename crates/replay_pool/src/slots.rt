@@ -2,7 +2,7 @@
 
 ghost use Rattle.std.specs.Prelude.{◌≡◌, ◌≤◌, [], All, IsSome, length, vec_capacity, vec_len};
 ghost use Rattle.std.specs.List.{AllZip};
-ghost use Rattle.hand_off.specs.node_book.Backs.{job_in};
+ghost use Rattle.hand_off.specs.replay_jobs.Backs.{job_in};
 ghost use Rattle.hand_off.specs.Seats.{AreRetired, count, idle_at, none_at};
 ghost use Rattle.replay_pool.specs.Rounds.{IsBackAt, some_jobs};
 

@@ -1,5 +1,5 @@
 use Rattle.std.proofs.Common.{◌≡◌, Bool, Option, Some, sym, ◌∙◌, subst}
-use Rattle.node_book.specs.witness_spec.Events.{JobParts}
+use Rattle.witness_spec.specs.Events.{JobParts}
 use Rattle.hand_off.specs.Slots.{Sees, poster}
 use Rattle.hand_off.specs.declared.view.Workers.{Workers}
 use Rattle.hand_off.proofs.Keeping.{same_job}

@@ -1,6 +1,6 @@
 use Rattle.std.proofs.Common.{◌≡◌, ℕ, List, All, IsSome, Option, vec_len, map, ap, sym, ◌∙◌, subst, arith}
 use Rattle.std.specs.List.{AllZip}
-use Rattle.hand_off.specs.node_book.witness_spec.Events.{JobParts}
+use Rattle.hand_off.specs.replay_jobs.witness_spec.Events.{JobParts}
 use Rattle.hand_off.specs.Seats.{Count, Posting, count}
 use Rattle.replay_pool.specs.Rounds.{IsBackAt}
 use Rattle.replay_pool.proofs.Posted.{all_some, none_retired, own_backs}

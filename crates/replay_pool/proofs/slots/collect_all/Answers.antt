@@ -1,5 +1,5 @@
 use Rattle.std.proofs.Common.{◌≡◌, ◌<◌, Some, length, ap, sym, ◌∙◌, arith}
-use Rattle.hand_off.specs.node_book.witness_spec.Events.{JobParts}
+use Rattle.hand_off.specs.replay_jobs.witness_spec.Events.{JobParts}
 use Rattle.hand_off.specs.Seats.{Posting}
 use Rattle.replay_pool.proofs.Posted.{backs_more, collected_more, next_named}
 use Rattle.replay_pool.proofs.slots.collect_all.Goals as goal

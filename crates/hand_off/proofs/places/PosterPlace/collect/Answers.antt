@@ -1,5 +1,5 @@
 use Rattle.std.proofs.Common.{Bool, None, Some, sym, ◌∙◌, ap, ap₂, subst}
-use Rattle.node_book.specs.witness_spec.Events.{JobParts}
+use Rattle.witness_spec.specs.Events.{JobParts}
 use Rattle.hand_off.specs.Slots.{unnoted}
 use Rattle.hand_off.specs.Seats.{count}
 use Rattle.hand_off.specs.Places.{IsPosterPlace}

@@ -1,6 +1,6 @@
 use Rattle.std.proofs.Common.{rules, arith, ◌≡◌, ◌≢◌, ◌<◌, inl, inr, ◌∙◌, Some, None, subst, refl, ℕ}
-use Rattle.node_book.specs.Backs.{job_in}
-use Rattle.node_book.specs.declared.job.Back.{Back}
+use Rattle.replay_jobs.specs.Backs.{job_in}
+use Rattle.replay_jobs.specs.declared.job.Back.{Back}
 use Rattle.hand_off.specs.Slots.{noted_by}
 use Rattle.hand_off.proofs.Keeping.{notes_keeps, collects_keeps, noted_all}
 use Rattle.hand_off.proofs.Taken.{in_front, found_in, put_in}

@@ -1,6 +1,6 @@
 use Rattle.std.proofs.Common.{rules, ◌∙◌, ◌∷◌, Some, ap}
 use Rattle.atomic_table.specs.Table.{rest}
-use Rattle.node_book.specs.declared.job.Back.TheVariants.{Job}
+use Rattle.replay_jobs.specs.declared.job.Back.TheVariants.{Job}
 use Rattle.hand_off.specs.Slots.{Seated}
 use Rattle.hand_off.proofs.Keeping.{posts_keeps}
 use Rattle.hand_off.proofs.slot.Slot.post.Goals as goal

@@ -1,6 +1,6 @@
 use Rattle.std.proofs.Common.{rules, ◌≡◌, ◌∙◌, ◌∷◌, [], Some, None, ap}
-use Rattle.node_book.specs.witness_spec.Events.{JobParts}
-use Rattle.node_book.specs.declared.job.Back.TheVariants.{Job}
+use Rattle.witness_spec.specs.Events.{JobParts}
+use Rattle.replay_jobs.specs.declared.job.Back.TheVariants.{Job}
 use Rattle.hand_off.specs.Slots.{holds}
 use Rattle.hand_off.proofs.Keeping.{takes_keeps}
 use Rattle.hand_off.proofs.Taken.{in_front, found_in, put_in}

@@ -1,0 +1,83 @@
+use Rattle.std.proofs.Common.{◌∙◌, refl}
+use Rattle.command_line.proofs.Asked.{check_is, found_is, name_is, roster_is, rpc_is, run_is}
+use Rattle.command_line.proofs.ServeAsked.{serve_is}
+use Rattle.command_line.proofs.request.request_in.Goals as goal
+
+pub returns-in-Some : goal.returns-in-Some
+returns-in-Some c words none found =
+    let is = found_is c.args.matches.now _ _ _ found (c.in-Some.ensures.found.0 refl) c.in-Some.ensures.rows in
+    let asked = c.check_request.ensures in
+    check_is words _ (record { file = _; explain = _; entries = _; state = _; json = _; roster = _ }) none is (record {
+      file = asked.file;
+      explain = asked.explain;
+      entries = asked.entries;
+      state = asked.state;
+      json = asked.json;
+      roster = asked.roster;
+    })
+
+pub returns-in-Some-subcommand_matches : goal.returns-in-Some-subcommand_matches
+returns-in-Some-subcommand_matches c words none found =
+    let is = found_is c.args.matches.now _ _ _ found (c.in-Some-subcommand_matches.ensures.found.0 refl) c.in-Some-subcommand_matches.ensures.rows in
+    roster_is words _ _ none is c.text_of.ensures
+
+pub returns-in-Some-subcommand_matches-2 : goal.returns-in-Some-subcommand_matches-2
+returns-in-Some-subcommand_matches-2 c words none found =
+    let is = found_is c.args.matches.now _ _ _ found (c.in-Some-subcommand_matches-2.ensures.found.0 refl) c.in-Some-subcommand_matches-2.ensures.rows in
+    run_is words _ _ _ none is c.run_request.ensures.file c.run_request.ensures.roster_out
+
+pub returns-in-Some-subcommand_matches-3 : goal.returns-in-Some-subcommand_matches-3
+returns-in-Some-subcommand_matches-3 c words none found =
+    let is = found_is c.args.matches.now _ _ _ found (c.in-Some-subcommand_matches-3.ensures.found.0 refl) c.in-Some-subcommand_matches-3.ensures.rows in
+    let asks = c.serve_request.ensures in
+    serve_is words _ (record {
+      port = _;
+      count = _;
+      address = _;
+      server_height = _;
+      client_height = _;
+      master = _;
+      roster_out = _;
+      evidence = _;
+      control = _;
+      idle = _;
+      progress = _;
+    }) none is (record {
+      port = asks.port;
+      count = asks.count;
+      address = asks.address;
+      server = asks.server;
+      client = asks.client;
+      master = asks.master;
+      roster_out = asks.roster_out;
+      evidence = asks.evidence;
+      control = asks.control;
+      idle = asks.idle;
+      progress = asks.progress;
+    })
+
+-- no other subcommand was found: `rpc` is asked for
+pub returns : goal.returns
+returns c words none found =
+    let name = name_is c.args.matches.now _ found in
+    rpc_is words none (
+      λ e.
+          let bad = rw c.in_default.is at c.subcommand_matches.ensures.found.1 (name ∙ e) in
+          cc,
+      (
+        λ e.
+            let bad = rw c.in_default-subcommand_matches.is at c.subcommand_matches-2.ensures.found.1 (name ∙ e) in
+            cc,
+        (
+          λ e.
+              let bad = rw c.in_default-subcommand_matches-2.is at c.subcommand_matches-3.ensures.found.1 (name ∙ e) in
+              cc,
+          (
+            λ e.
+                let bad = rw c.in_default-subcommand_matches-3.is at c.subcommand_matches-4.ensures.found.1 (name ∙ e) in
+                cc,
+            tt,
+          ),
+        ),
+      ),
+    )

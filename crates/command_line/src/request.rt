@@ -1,0 +1,306 @@
+//! What the words of the command line ask for.
+
+ghost use Rattle.std.specs.Prelude.{◌≡◌, ◌⊎◌, map, codes, None, Some, IfOk, IfErr, string_bytes};
+ghost use Rattle.std.specs.Prelude.{ℕ, List, [], true, false, unwrap_or, option_map};
+ghost use Rattle.clap.specs.Faults.{fault_of};
+ghost use Rattle.clap.specs.Kinds.{FailsBy};
+ghost use Rattle.clap.specs.Walk.{first_of};
+ghost use Rattle.clap.specs.Words.{App, app_of, kind_of, rule_of, subcommand_of, subcommand_rows_of};
+ghost use Rattle.clap.specs.Words.{with_subcommand};
+ghost use Rattle.command_line.specs.CommandLine.{commands, check_command, roster_command, run_command};
+ghost use Rattle.command_line.specs.CommandLine.{asked_by, asked_in, file_argument, file_option, flag};
+ghost use Rattle.command_line.specs.CommandLine.{number_option};
+ghost use Rattle.command_line.specs.CommandLine.{is_set, is_told, rows_in};
+
+use crate::serve::{ServeRequest, serve_command, serve_request};
+use clap::error::ErrorKind;
+use clap::{Arg, ArgAction, ArgMatches, Command, Error};
+use std::alloc::{AllocError, Global};
+
+/// What the command line asks for.
+#[derive(Clone, Copy, Debug, PartialEq, Eq)]
+pub enum Request<'a> {
+    /// `nfsacc rpc`: records from standard input, replies to standard output.
+    Rpc,
+    /// `nfsacc check FILE`: whether a file is evidence.
+    Check(CheckRequest<'a>),
+    /// `nfsacc roster FILE`: the members of the roster in the file of this name; `-` is standard input.
+    Roster(&'a str),
+    /// `nfsacc run FILE`: the lines of a script.
+    Run(RunRequest<'a>),
+    /// `nfsacc serve PORT COUNT`: clients over TCP.
+    Serve(ServeRequest<'a>),
+}
+
+/// What `nfsacc check` is asked.
+#[derive(Clone, Copy, Debug, PartialEq, Eq)]
+pub struct CheckRequest<'a> {
+    /// The name of the file; `-` is standard input.
+    pub file: &'a str,
+    /// Whether what it shows is asked for, too.
+    pub explain: bool,
+    /// Whether all entries of the log are, too.
+    pub entries: bool,
+    /// The number of the entry before which the node's state is shown, as it is written, if one is named.
+    pub state: Option<&'a str>,
+    /// Whether one JSON object with both is asked for.
+    pub json: bool,
+    /// The name of the file with the roster that is trusted, if one is named; `-` is standard input.
+    pub roster: Option<&'a str>,
+}
+
+/// What `nfsacc run` is asked.
+#[derive(Clone, Copy, Debug, PartialEq, Eq)]
+pub struct RunRequest<'a> {
+    /// The name of the script's file; `-` is standard input.
+    pub file: &'a str,
+    /// The name of the file that the roster's text goes to, if one is named.
+    pub roster_out: Option<&'a str>,
+}
+
+/// What the help of `run` ends with.
+const RUN_EXAMPLE: &str = "Example:
+  node 1 server 4
+  node 2 client 4
+  call 2 1 000000010000000000000002000186a3000000020000000000000000000000000000000000000000
+  audit 1
+  answer 1
+  replay 1
+  ask 1
+
+Statuses: 0 done, 1 a fault in the input, 2 the command line, 3 no memory, 4 a device";
+
+/// What the help of `check` ends with.
+const CHECK_NOTES: &str =
+    "The first line is `exposed N`, of the node N that the evidence names, or `no evidence`.
+
+`exposed N` is worth as much as the file's roster: it must be the service's own, with all of its members, each
+with its number, kind, height and key. --roster compares it as a whole. `no evidence` clears nobody.
+
+Statuses: 0 exposed, 1 no evidence, 2 the command line or --roster, 3 no memory, 4 a device";
+
+const CHECKED_HELP: &str =
+    "A roster's text, and after it that of evidence; `-` reads it from standard input";
+
+const ENTRIES_HELP: &str = "Says what the file shows, with all entries of the log";
+
+const STATE_HELP: &str =
+    "Says what the file shows, with the state of the node before entry K, from 1 on";
+
+const TRUSTED_HELP: &str =
+    "Takes evidence under the roster of this file alone; `-` reads it from standard input";
+
+const ROSTER_HELP: &str =
+    "A roster's text, alone or with that of evidence after it; `-` reads it from standard input";
+
+const ROSTER_OUT_HELP: &str = "Writes the text of the nodes' roster to this file";
+
+/// A file that must be named.
+fn file_argument<'a>(alloc: Global, help: &'a str) -> Arg<'a>
+    ensures rule { rule_of result ≡ file_argument }
+    ensures local { result.global ≡ false }
+{
+    Arg::new(alloc, "file")
+        .value_name("FILE")
+        .help(help)
+        .required(true)
+}
+
+/// A flag.
+pub(crate) fn flag<'a>(alloc: Global, name: &'a str, help: &'a str) -> Arg<'a>
+    ensures rule { rule_of result ≡ flag name.now }
+    ensures local { result.global ≡ false }
+{
+    Arg::new(alloc, name)
+        .long(name)
+        .help(help)
+        .action(ArgAction::SetTrue)
+}
+
+/// An option with the name of a file.
+fn file_option<'a>(alloc: Global, name: &'a str, help: &'a str) -> Arg<'a>
+    ensures rule { rule_of result ≡ file_option name.now }
+    ensures local { result.global ≡ false }
+{
+    Arg::new(alloc, name)
+        .long(name)
+        .value_name("FILE")
+        .help(help)
+}
+
+/// An option with a number.
+fn number_option<'a>(alloc: Global, name: &'a str, value: &'a str, help: &'a str) -> Arg<'a>
+    ensures rule { rule_of result ≡ number_option name.now }
+    ensures local { result.global ≡ false }
+{
+    Arg::new(alloc, name)
+        .long(name)
+        .value_name(value)
+        .help(help)
+}
+
+/// The subcommand `check`.
+fn check_command<'a>(alloc: Global) -> Result<Command<'a>, AllocError>
+    ensures { IfOk result (λ c. app_of c ≡ check_command) }
+{
+    Command::new(alloc, "check")
+        .about("Says whether a file is evidence that its roster accepts")
+        .after_help(CHECK_NOTES)
+        .arg(flag(alloc, "explain", "Says what the file shows, too"))?
+        .arg(flag(alloc, "entries", ENTRIES_HELP))?
+        .arg(number_option(alloc, "state", "K", STATE_HELP))?
+        .arg(flag(alloc, "json", "Says all of it as one JSON object"))?
+        .arg(file_option(alloc, "roster", TRUSTED_HELP))?
+        .arg(file_argument(alloc, CHECKED_HELP))
+}
+
+/// The subcommand `roster`.
+fn roster_command<'a>(alloc: Global) -> Result<Command<'a>, AllocError>
+    ensures { IfOk result (λ c. app_of c ≡ roster_command) }
+{
+    Command::new(alloc, "roster")
+        .about("Says whose keys a roster has, and the digest of its text")
+        .arg(file_argument(alloc, ROSTER_HELP))
+}
+
+/// The subcommand `run`.
+fn run_command<'a>(alloc: Global) -> Result<Command<'a>, AllocError>
+    ensures { IfOk result (λ c. app_of c ≡ run_command) }
+{
+    Command::new(alloc, "run")
+        .about("Runs a script of nodes, lies, forks and audits; `-` reads it from standard input")
+        .after_help(RUN_EXAMPLE)
+        .arg(file_option(alloc, "roster-out", ROSTER_OUT_HELP))?
+        .arg(file_argument(alloc, "The script; `-` reads it from standard input"))
+}
+
+/// A command with one subcommand more.
+fn with_subcommand<'a>(
+    command: Command<'a>,
+    more: Result<Command<'a>, AllocError>,
+) -> Result<Command<'a>, AllocError>
+    ensures { (a b : App) → app_of command.entry ≡ a → IfOk more.entry (λ m. app_of m ≡ b) →
+        b.top.is_plain ≡ true → IfOk result (λ r. app_of r ≡ with_subcommand a b.top) }
+{
+    match more {
+        Ok(more) => command.subcommand(more),
+        Err(error) => Err(error),
+    }
+}
+
+/// What `nfsacc` takes on its command line.
+fn commands<'a>(alloc: Global) -> Result<Command<'a>, AllocError>
+    ensures { IfOk result (λ c. app_of c ≡ commands) }
+{
+    let rpc = Command::new(alloc, "rpc").about(
+        "Answers the RPC records of standard input on standard output, as the server of node 1",
+    );
+    let nfsacc = Command::new(alloc, "nfsacc")
+        .version("0.1.0")
+        .about("An accountable file service: NFS version 2 whose servers can be held to account")
+        .subcommand_required(true)
+        .arg_required_else_help(true)
+        .subcommand(rpc)?;
+    let nfsacc = with_subcommand(nfsacc, check_command(alloc))?;
+    let nfsacc = with_subcommand(nfsacc, roster_command(alloc))?;
+    let nfsacc = with_subcommand(nfsacc, run_command(alloc))?;
+    with_subcommand(nfsacc, serve_command(alloc))
+}
+
+/// The text of an argument that must be given.
+pub(crate) fn text_of<'a>(matches: &ArgMatches<'a>, id: &str) -> &'a str
+    ensures { result.now ≡ unwrap_or (first_of id.now (rows_in matches.now)) [] }
+{
+    matches.get_str(id).unwrap_or("")
+}
+
+/// Whether a flag is set.
+pub(crate) fn flag_of(matches: &ArgMatches<'_>, id: &str) -> bool
+    ensures { is_told id.now (rows_in matches.now) ≡ true
+        → result ≡ is_set id.now (rows_in matches.now) }
+{
+    matches.get_flag(id)
+}
+
+/// What `check` is asked.
+fn check_request<'a>(matches: &ArgMatches<'a>) -> CheckRequest<'a>
+    ensures file { result.file.now ≡ unwrap_or (first_of (codes "file") (rows_in matches.now)) [] }
+    ensures explain { is_told (codes "explain") (rows_in matches.now) ≡ true
+        → result.explain ≡ is_set (codes "explain") (rows_in matches.now) }
+    ensures entries { is_told (codes "entries") (rows_in matches.now) ≡ true
+        → result.entries ≡ is_set (codes "entries") (rows_in matches.now) }
+    ensures state { option_map (λ s. s.now) result.state
+        ≡ first_of (codes "state") (rows_in matches.now) }
+    ensures json { is_told (codes "json") (rows_in matches.now) ≡ true
+        → result.json ≡ is_set (codes "json") (rows_in matches.now) }
+    ensures roster { option_map (λ s. s.now) result.roster
+        ≡ first_of (codes "roster") (rows_in matches.now) }
+{
+    CheckRequest {
+        file: text_of(matches, "file"),
+        explain: flag_of(matches, "explain"),
+        entries: flag_of(matches, "entries"),
+        state: matches.get_str("state"),
+        json: flag_of(matches, "json"),
+        roster: matches.get_str("roster"),
+    }
+}
+
+/// What `run` is asked.
+fn run_request<'a>(matches: &ArgMatches<'a>) -> RunRequest<'a>
+    ensures file { result.file.now ≡ unwrap_or (first_of (codes "file") (rows_in matches.now)) [] }
+    ensures roster_out { option_map (λ s. s.now) result.roster_out
+        ≡ first_of (codes "roster-out") (rows_in matches.now) }
+{
+    RunRequest {
+        file: text_of(matches, "file"),
+        roster_out: matches.get_str("roster-out"),
+    }
+}
+
+/// The request that is made, by the matches of words that are taken.
+fn request_in<'a>(matches: &ArgMatches<'a>) -> Request<'a>
+    ensures { (words : List (List ℕ)) → fault_of commands words ≡ []
+        → subcommand_rows_of matches.now ≡ subcommand_of commands words
+        → asked_in words ≡ Some (asked_by result) }
+{
+    if let Some(check) = matches.subcommand_matches("check") {
+        return Request::Check(check_request(check));
+    }
+    if let Some(roster) = matches.subcommand_matches("roster") {
+        return Request::Roster(text_of(roster, "file"));
+    }
+    if let Some(run) = matches.subcommand_matches("run") {
+        return Request::Run(run_request(run));
+    }
+    if let Some(serve) = matches.subcommand_matches("serve") {
+        return Request::Serve(serve_request(serve));
+    }
+    Request::Rpc
+}
+
+/// The same as `parse`.
+fn request_by_rules(alloc: Global, words: &[String]) -> Result<Request<'_>, Error>
+    ensures ok { IfOk result (λ r. asked_in (map string_bytes words.now) ≡ Some (asked_by r)) }
+    ensures kinds { FailsBy (fault_of commands (map string_bytes words.now)) result }
+{
+    let matches = commands(alloc)?.try_get_matches_from(words)?;
+    Ok(request_in(&matches))
+}
+
+/// The request that the words of a command line make, the program's name first: `rpc` alone, or with `--`
+/// after it, is `Rpc`; `check` with a file's name is `Check`, with or without `--explain`, `--entries`,
+/// `--json`, `--state` with a word and `--roster` with another name, in any order; `roster` with a file's
+/// name is `Roster`; `run` with a file's name is `Run`, with `--roster-out` and another name before it or
+/// after it, or without; `serve` with two words is `Serve`, with its options before, between or after them.
+/// After `--` each word is a name. It comes exactly where clap's rules find no fault in the words, memory aside, and has what they say the words hold.
+/// The error says what is wrong with other words, or is the help or the version that they ask for: its kind
+/// is one of those that the rules give, or OutOfMemory where memory was refused.
+pub fn parse(alloc: Global, words: &[String]) -> Result<Request<'_>, Error>
+    ensures ok { IfOk result (λ r. asked_in (map string_bytes words.now) ≡ Some (asked_by r)) }
+    ensures err { IfErr result (λ e.
+        (kind_of e ≡ ErrorKind.OutOfMemory) ⊎ (asked_in (map string_bytes words.now) ≡ None)) }
+    ensures kinds { FailsBy (fault_of commands (map string_bytes words.now)) result }
+{
+    request_by_rules(alloc, words)
+}

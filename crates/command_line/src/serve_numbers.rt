@@ -1,0 +1,181 @@
+//! The numbers and the address in what `serve` is asked.
+
+ghost use Rattle.std.specs.Prelude.{◌≡◌, ◌↔◌, ◌≤◌, IsTrue, IfErr, IfOk, IfSome, IsOk, IsSome};
+ghost use Rattle.std.specs.Prelude.{None, true, false, option_map};
+ghost use Rattle.std.specs.Str.Parse.{IsNumeral, digits_value};
+ghost use Rattle.std.specs.Net.Grammar.{IsIpText};
+ghost use Rattle.command_line.specs.ServeOrders.{HasNumbers, IsBounded, IsLocalhost, IsLoopback, IsNotWithin};
+ghost use Rattle.command_line.specs.ServeOrders.{IsWithin, IsWithinOr, Orders, Refuses};
+ghost use Rattle.command_line.specs.ServeOrders.{Writes, WritesIf, WritesOr};
+
+use crate::serve::ServeRequest;
+use std::net::{IpAddr, Ipv4Addr};
+use thiserror::Error;
+
+/// What `nfsacc serve` is asked, with its numbers read.
+#[derive(Clone, Copy, Debug, PartialEq, Eq)]
+pub struct ServeOrder<'a> {
+    /// The port that is listened on; 0 lets the system choose.
+    pub port: u16,
+    /// How many connections are served, 1 to 16.
+    pub connections: u32,
+    /// The address that is listened on; 127.0.0.1 where none is named.
+    pub address: IpAddr,
+    /// The height of the server's tree of keys, 1 to 15; 12 where none is named.
+    pub server_height: u32,
+    /// The height of each client's tree of keys, 1 to 15; 10 where none is named.
+    pub client_height: u32,
+    /// The name of the file with the secret bytes of which all keys are made. There is one unless the address
+    /// is a loopback one: without it anybody can sign for each node.
+    pub master: Option<&'a str>,
+    /// The name of the file that the roster's text goes to, if one is named.
+    pub roster_out: Option<&'a str>,
+    /// The name of the folder that evidence goes to, if one is named.
+    pub evidence: Option<&'a str>,
+    /// The name of the folder that the control socket is made in, if one is named.
+    pub control: Option<&'a str>,
+    /// How many seconds a connection may be silent, 1 to 86,400; any number where none is given.
+    pub idle: Option<u32>,
+    /// Whether it is told how far the keys and the audits are.
+    pub progress: bool,
+}
+
+/// Why what `serve` is asked makes no order.
+#[derive(Clone, Copy, Debug, PartialEq, Eq, Error)]
+pub enum ServeRefusal {
+    /// The port is no decimal number from 0 to 65,535.
+    #[error("PORT is a number from 0 to 65535")]
+    Port,
+    /// The count of connections is no decimal number from 1 to 16.
+    #[error("COUNT is a number from 1 to 16")]
+    Count,
+    /// The height of the server's tree of keys is no decimal number from 1 to 15.
+    #[error("--server-height is a number from 1 to 15")]
+    ServerHeight,
+    /// The height of each client's tree of keys is no decimal number from 1 to 15.
+    #[error("--client-height is a number from 1 to 15")]
+    ClientHeight,
+    /// The seconds that a connection may be silent are no decimal number from 1 to 86,400.
+    #[error("--idle is a number of seconds from 1 to 86400")]
+    Idle,
+    /// The address is none.
+    #[error("--address is an IP address")]
+    Address,
+    /// Others reach the address, and the keys are made of nothing secret.
+    #[error("an --address that others reach wants --master: without it anybody can sign for each node")]
+    Unguarded,
+}
+
+/// The most connections of a run.
+const MOST_CONNECTIONS: u32 = 16;
+
+/// The greatest height of a tree of keys: with it a server's log has as many entries as a witness audits.
+const MOST_HEIGHT: u32 = 15;
+
+/// The most seconds that a connection may be silent, where a number is given: a day.
+const MOST_IDLE: u32 = 86400;
+
+/// A number from the one to the other, if a word is its decimal digits.
+pub(crate) fn number_within(word: &str, least: u32, most: u32) -> Option<u32>
+    ensures some { IfSome result (Writes least most word.now) }
+    ensures bounds { IfSome result (λ n. (least ≤ n) × (n ≤ most)) }
+    ensures none { result ≡ None → ¬ (IsWithin least most word.now) }
+{
+    if word.as_bytes().first() == Some(&b'+') {
+        return None;
+    }
+    match word.parse::<u32>() {
+        Ok(number) if least <= number && number <= most => Some(number),
+        _ => None,
+    }
+}
+
+/// The height in an option's word, or another one where it isn't given.
+fn height_of(word: Option<&str>, other: u32) -> Option<u32>
+    requires low { 1 ≤ other }
+    requires high { other ≤ 15 }
+    ensures bounds { IfSome result (λ n. (1 ≤ n) × (n ≤ 15)) }
+    ensures some { IfSome result (WritesOr 1 15 other (option_map (λ s. s.now) word.entry)) }
+    ensures within { IsSome result → IsWithinOr 1 15 (option_map (λ s. s.now) word.entry) }
+    ensures none { result ≡ None → IsNotWithin 1 15 (option_map (λ s. s.now) word.entry) }
+{
+    match word {
+        Some(word) => number_within(word, 1, MOST_HEIGHT),
+        None => Some(other),
+    }
+}
+
+/// The seconds in an option's word, if it is given.
+fn idle_of(word: Option<&str>) -> Result<Option<u32>, ServeRefusal>
+    ensures bounds { IfOk result (λ o. IfSome o (λ n. (1 ≤ n) × (n ≤ 86400))) }
+    ensures ok { IfOk result (WritesIf 1 86400 (option_map (λ s. s.now) word.entry)) }
+    ensures within { IsOk result → IsWithinOr 1 86400 (option_map (λ s. s.now) word.entry) }
+    ensures err { IfErr result (λ e. (e ≡ ServeRefusal.Idle)
+        × IsNotWithin 1 86400 (option_map (λ s. s.now) word.entry)) }
+{
+    let Some(word) = word else {
+        return Ok(None);
+    };
+    match number_within(word, 1, MOST_IDLE) {
+        Some(seconds) => Ok(Some(seconds)),
+        None => Err(ServeRefusal::Idle),
+    }
+}
+
+/// The address that is listened on: one that others reach only where the keys are made of something secret.
+fn address_of(request: &ServeRequest<'_>) -> Result<IpAddr, ServeRefusal>
+    requires { HasNumbers request.now }
+    ensures address { IfOk result (λ a. IfSome request.now.address (λ text. IsIpText text.now a)) }
+    ensures own { IfOk result (λ a. request.now.address ≡ None → IsLocalhost a) }
+    ensures guarded { IfOk result (λ a. ¬ (IsLoopback a) → IsSome request.now.master) }
+    ensures refused { IfErr result (Refuses request.now) }
+{
+    let Some(word) = request.address else {
+        return Ok(IpAddr::V4(Ipv4Addr::LOCALHOST));
+    };
+    let Ok(address) = word.parse::<IpAddr>() else {
+        return Err(ServeRefusal::Address);
+    };
+    if is_guarded(&address, request.master) {
+        Ok(address)
+    } else {
+        Err(ServeRefusal::Unguarded)
+    }
+}
+
+/// Whether nobody else reaches an address, or the keys are made of something secret.
+fn is_guarded(address: &IpAddr, master: Option<&str>) -> bool
+    ensures guarded { result ≡ true → ¬ (IsLoopback address.now) → IsSome master.entry }
+    ensures outside { result ≡ false → (¬ (IsLoopback address.now)) × (master.entry ≡ None) }
+{
+    address.is_loopback() || master.is_some()
+}
+
+/// The order that a request makes: with its numbers read, and what isn't named as it is by itself. It is
+/// refused where a number is none or out of range, of the port, the count, the two heights and the seconds of
+/// silence the first; then where the address is none, or is one that others reach though no file of secret
+/// bytes is named.
+pub fn serve_order<'a>(request: &ServeRequest<'a>) -> Result<ServeOrder<'a>, ServeRefusal>
+    ensures order { IfOk result (Orders request.now) }
+    ensures bounds { IfOk result IsBounded }
+    ensures refused { IfErr result (Refuses request.now) }
+{
+    let port = number_within(request.port, 0, 65535).ok_or(ServeRefusal::Port)?;
+    let connections = number_within(request.count, 1, MOST_CONNECTIONS).ok_or(ServeRefusal::Count)?;
+    let server_height = height_of(request.server_height, 12).ok_or(ServeRefusal::ServerHeight)?;
+    let client_height = height_of(request.client_height, 10).ok_or(ServeRefusal::ClientHeight)?;
+    let idle = idle_of(request.idle)?;
+    Ok(ServeOrder {
+        port: port as u16,
+        connections,
+        address: address_of(request)?,
+        server_height,
+        client_height,
+        master: request.master,
+        roster_out: request.roster_out,
+        evidence: request.evidence,
+        control: request.control,
+        idle,
+        progress: request.progress,
+    })
+}

@@ -1,5 +1,0 @@
--- Lemmas on what clap's rules leave of the words that they take. Serves: `command_line`.
-pub mod Rows
-pub mod Taken
-pub mod Asked
-pub mod ServeAsked

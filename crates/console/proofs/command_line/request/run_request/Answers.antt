@@ -1,7 +1,0 @@
-use Rattle.std.proofs.Common.{◌∙◌, codes}
-use Rattle.clap.specs.Words.{found_of}
-use Rattle.clap.proofs.WalkLemmas.{first_value-rows}
-use Rattle.console.proofs.command_line.request.run_request.Goals as goal
-
-pub returns-clause-roster_out : goal.returns-clause-roster_out
-returns-clause-roster_out c = c.get_str.ensures ∙ first_value-rows (found_of c.args.matches.now) (codes "roster-out")

@@ -1,0 +1,206 @@
+//! What a file shows, in words.
+
+ghost use Rattle.std.specs.Prelude.{◌≤◌, length};
+ghost use Rattle.challenge.specs.evidence_spec.Evidence.{MAX_AUDITED};
+
+use crate::entry::{Log, add_all_entries};
+use crate::facts::Facts;
+use crate::file::File;
+use crate::fork::{add_closing, add_showings, fork_words};
+use crate::lack::lack_of;
+use crate::log::{add_fault, add_premises};
+use crate::roster::{add_digest, add_roster, node_fact};
+use crate::state::{add_no_state, add_state};
+use challenge::{AuditedLog, Case, Charge, Evidence, Finding, Fork, ReplayFault};
+use secure_log::Roster;
+use std::alloc::Global;
+
+/// What is told of a log beside what its finding rests on.
+#[derive(Clone, Copy, Debug, PartialEq, Eq)]
+pub struct Detail {
+    /// Whether all its entries are listed.
+    pub entries: bool,
+    /// The number of the entry before which the node's state is shown, if one is asked for.
+    pub state: Option<u64>,
+}
+
+/// What the words `no evidence` don't say.
+pub const CLEARS_NOBODY: &str = "no evidence clears nobody: it does not say that a node is honest";
+
+/// What a file shows that holds a case with a finding: its roster, who is accused of what, what was signed,
+/// and why it is evidence or why it isn't.
+pub fn case_facts(
+    alloc: Global,
+    file: &File,
+    case: &Case,
+    trusted: Option<&Roster>,
+    detail: Detail,
+    finding: Finding,
+) -> Facts {
+    let mut facts = Facts::new(alloc);
+    add_case(&mut facts, file, case, trusted, detail);
+    add_finding(&mut facts, &case.roster, &case.evidence, finding);
+    facts
+}
+
+/// What a file shows whose roster isn't the one that is trusted.
+pub fn rejected_facts(
+    alloc: Global,
+    file: &File,
+    case: &Case,
+    trusted: &Roster,
+    detail: Detail,
+) -> Facts {
+    let mut facts = Facts::new(alloc);
+    add_case(&mut facts, file, case, Some(trusted), detail);
+    add_reason(&mut facts, "its roster is not the one that is trusted");
+    facts
+}
+
+/// What is said of a file that holds no case: the item that begins at this byte doesn't decode.
+pub fn no_case_facts(alloc: Global, file: &File, at: usize) -> Facts {
+    let mut facts = Facts::new(alloc);
+    file.add(&mut facts);
+    facts.words("reason", "the file is not a roster with evidence after it");
+    facts.number("first byte that does not decode", at as u64);
+    facts.words("note", CLEARS_NOBODY);
+    facts
+}
+
+/// Adds what a file says, without what is found in it.
+fn add_case(facts: &mut Facts, file: &File, case: &Case, trusted: Option<&Roster>, detail: Detail) {
+    file.add(facts);
+    add_roster(facts, &case.roster);
+    if let Some(trusted) = trusted {
+        add_digest(facts, "trusted roster's sha256", trusted);
+    }
+    node_fact(facts, "accused", &case.roster, case.evidence.node());
+    match case.evidence.charge() {
+        Charge::Fork(fork) => {
+            facts.words("charge", fork_words(fork));
+            add_showings(facts, &case.roster, fork);
+            add_no_state(facts, detail.state);
+        }
+        Charge::Replay(log) => {
+            facts.words("charge", "its log has a fault");
+            add_log(facts, &case.roster, log);
+            add_detail(facts, &case.roster, log, detail);
+        }
+    }
+}
+
+/// Adds which entries a log has, and what closes it.
+fn add_log(facts: &mut Facts, roster: &Roster, log: &AuditedLog) {
+    facts.group("log");
+    facts.number("node", u64::from(log.node()));
+    facts.place("first", log.first().get());
+    facts.hex("hash before it", &log.opening());
+    facts.number("count", log.entries().len() as u64);
+    add_contents(facts, log);
+    add_closing(facts, roster, log.closing());
+    facts.end();
+}
+
+/// Adds which entries a file has, and what follows from them.
+fn add_contents(facts: &mut Facts, log: &AuditedLog) {
+    let mut draft = facts.draft();
+    if log.first().get() == 1 {
+        draft.words("all entries from 1 to ");
+        draft.number(log.entries().len() as u64);
+        draft.words(
+            ", which --entries lists; what is owed at an entry follows from those before it, and ",
+        );
+        draft.words("--state K shows the state before entry K");
+    } else {
+        draft.words("its entries, which --entries lists, without those before them");
+    }
+    facts.text("contents", draft);
+}
+
+/// A log with what the roster says of its node.
+fn log_of<'a>(roster: &'a Roster, audited: &'a AuditedLog) -> Log<'a>
+    ensures { length result.entries.now ≤ MAX_AUDITED }
+{
+    Log {
+        roster,
+        node: audited.node(),
+        member: roster.member(audited.node()),
+        first: audited.first(),
+        entries: audited.entries(),
+    }
+}
+
+/// Adds what is asked of a log.
+fn add_detail(facts: &mut Facts, roster: &Roster, audited: &AuditedLog, detail: Detail) {
+    let log = log_of(roster, audited);
+    if detail.entries {
+        add_all_entries(facts, &log, &audited.opening());
+    }
+    if audited.first().get() == 1 {
+        add_state(facts, &log, detail.state);
+    } else {
+        add_no_state(facts, detail.state);
+    }
+}
+
+/// Adds why a file is no evidence.
+fn add_reason(facts: &mut Facts, reason: &str) {
+    facts.words("reason", reason);
+    facts.words("note", CLEARS_NOBODY);
+}
+
+/// Adds what is found in evidence.
+fn add_finding(facts: &mut Facts, roster: &Roster, evidence: &Evidence, finding: Finding) {
+    match finding {
+        Finding::TwoHashes { at, one, other } => {
+            if let Charge::Fork(fork) = evidence.charge() {
+                add_two_hashes(facts, fork, at.get(), &one, &other);
+            }
+        }
+        Finding::Fault(fault, number) => {
+            if let Charge::Replay(log) = evidence.charge() {
+                add_found_fault(facts, roster, log, fault, number.get());
+            }
+        }
+        Finding::NotAccepted(why) => add_reason(facts, lack_of(roster, evidence, why).words()),
+    }
+}
+
+/// Adds a fault that a replay finds in the log of a node.
+fn add_found_fault(
+    facts: &mut Facts,
+    roster: &Roster,
+    audited: &AuditedLog,
+    fault: ReplayFault,
+    number: u64,
+) {
+    add_fault(facts, &log_of(roster, audited), fault, number);
+    add_premises(
+        facts,
+        "the rules of docs/CHECKING.md, which stand on RFC 1094, RFC 4506 and RFC 5531",
+    );
+}
+
+/// Adds two hashes at one number; of one showing alone the hash that a log begins after, and its own.
+fn add_two_hashes(facts: &mut Facts, fork: &Fork, at: u64, one: &[u8; 32], other: &[u8; 32]) {
+    if fork.b.is_some() {
+        facts.group("two hashes");
+        facts.place("number", at);
+        facts.hex("first showing", one);
+        facts.hex("second showing", other);
+        facts.end();
+        add_premises(
+            facts,
+            "the rules of docs/CHECKING.md: a log has one hash at each number",
+        );
+    } else {
+        facts.group("hash before entry 1");
+        facts.hex("owed", other);
+        facts.hex("given", one);
+        facts.end();
+        add_premises(
+            facts,
+            "the rules of docs/CHECKING.md: a log begins after 32 zero bytes",
+        );
+    }
+}

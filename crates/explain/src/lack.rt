@@ -1,0 +1,89 @@
+//! What evidence lacks that isn't accepted.
+
+ghost use Rattle.std.specs.Prelude.{◌≡◌, ◌↔◌, IsTrue};
+ghost use Rattle.explain.specs.Lacks.{BeginsAtZero, HasNoKey, IsLack, IsZeroFork, lacking};
+
+use challenge::{Charge, Evidence, Fork, NotAccepted};
+use secure_log::Roster;
+
+/// What evidence lacks first: as `NotAccepted`, and more of two of these.
+#[derive(Clone, Copy, Debug, PartialEq, Eq)]
+pub enum Lack {
+    /// A showing or the log is of another node than the evidence.
+    AnotherNode,
+    /// The log doesn't begin with the first entry, after 32 zero bytes.
+    NotFromStart,
+    /// A showing begins at 0: there is no entry of that number.
+    BeginsAtZero,
+    /// What is shown doesn't end in its closing's node, number and hash.
+    NotClosed,
+    /// The roster has no key of the node, so nothing says who signed.
+    NoKey,
+    /// A closing's signature doesn't verify by the node's key.
+    NotSigned,
+    /// No two hashes are shown at the number.
+    NoTwoHashes,
+    /// A replay finds no fault.
+    NoFault,
+}
+
+impl Lack {
+    /// What is lacking, in words.
+    pub fn words(self) -> &'static str {
+        match self {
+            Lack::AnotherNode => "what is shown is of another node",
+            Lack::NotFromStart => "the log is not shown from its first entry on",
+            Lack::BeginsAtZero =>
+                "a showing begins at number 0, and a log's first entry is number 1",
+            Lack::NotClosed => "what is shown does not end in what closes it",
+            Lack::NoKey => "the roster has no key of the node, so nobody can tell who signed",
+            Lack::NotSigned => "what closes it does not verify by the node's key",
+            Lack::NoTwoHashes => "no two hashes are shown at the number",
+            Lack::NoFault => "the log has no fault",
+        }
+    }
+}
+
+/// What evidence lacks under a roster, of which this is found.
+pub fn lack_of(roster: &Roster, evidence: &Evidence, why: NotAccepted) -> Lack
+    ensures same { lacking result ≡ why }
+    ensures more { IsLack roster.now evidence.now result }
+{
+    match why {
+        NotAccepted::AnotherNode => Lack::AnotherNode,
+        NotAccepted::NotFromStart => Lack::NotFromStart,
+        NotAccepted::NotClosed if begins_at_zero(evidence) => Lack::BeginsAtZero,
+        NotAccepted::NotClosed => Lack::NotClosed,
+        NotAccepted::NotSigned if has_no_key(roster, evidence) => Lack::NoKey,
+        NotAccepted::NotSigned => Lack::NotSigned,
+        NotAccepted::NoTwoHashes => Lack::NoTwoHashes,
+        NotAccepted::NoFault => Lack::NoFault,
+    }
+}
+
+/// Whether the showing that doesn't end in its closing begins at 0: the first one, or the second where the
+/// first ends in its own.
+fn begins_at_zero(evidence: &Evidence) -> bool
+    ensures { IsTrue result ↔ BeginsAtZero evidence.now.charge }
+{
+    match evidence.charge() {
+        Charge::Fork(fork) => is_zero_fork(fork),
+        Charge::Replay(_) => false,
+    }
+}
+
+fn is_zero_fork(fork: &Fork) -> bool
+    ensures { IsTrue result ↔ IsZeroFork fork.now.a fork.now.b }
+{
+    match &fork.b {
+        Some(b) => fork.a.first() == 0 || (fork.a.ends() && b.first() == 0),
+        None => fork.a.first() == 0,
+    }
+}
+
+/// Whether the roster has no member of the evidence's node.
+fn has_no_key(roster: &Roster, evidence: &Evidence) -> bool
+    ensures { IsTrue result ↔ HasNoKey roster.now evidence.now.node }
+{
+    roster.member(evidence.node()).is_none()
+}

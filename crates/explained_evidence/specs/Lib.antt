@@ -1,2 +1,0 @@
-pub mod Lacks
-pub use Rattle.explained_calls.specs as explained_calls

@@ -1,9 +1,0 @@
--- What comes back of jobs.
-use Rattle.witness_spec.specs.Events.{JobParts}
-use Rattle.node_book.specs.declared.job.Back.{Back}
-use Rattle.node_book.specs.declared.job.Back.TheVariants.{Done, Job}
-
--- the job that came back, done or not
-abbrev pub job_in : Back → JobParts
-job_in (Done done) = done
-job_in (Job job) = job

@@ -1,0 +1,1 @@
+pub use Rattle.witness_spec.proofs as witness_spec
