@@ -1,3 +1,3 @@
-mod OfDirectories
+pub mod OfDirectories
 mod Contents
 pub mod FilesSeen

@@ -1,10 +1,10 @@
 use Rattle.std.proofs.Common.{◌≡◌, ◌+◌, ◌<◌, [], ◌∷◌, ◌++◌, length, get_or, arith, sym, ap, ◌∙◌}
 use Rattle.std.proofs.lemmas.List.{get_or_default}
+use Rattle.std.proofs.lemmas.Bool.{false≢true}
 use Rattle.nfs_laws.proofs.fs_spec.Walks.{none_some}
 use Rattle.tree_rules.specs.declared.entries.GivenEntry.{GivenEntry}
 use Rattle.tree_rules.proofs.Reading.{cookie_rises, is_a_name, is_new, read_none, read_more, read_all}
 use Rattle.tree_rules.proofs.Reading.{is_listing, next_above}
-use Rattle.tree_rules.proofs.Seen.{tf}
 use Rattle.tree_rules.proofs.entries.directory_of.Goals as goal
 
 -- what stands past the end
@@ -38,7 +38,7 @@ pub returns-then-not-is_name : goal.returns-then-not-is_name
 returns-then-not-is_name c = λ h.
     let i = c.loop-entry.entry-index in
     let inside : i < length c.args.entries.now = omega arith in
-    tf (c.if-not-is_name.ensures ∙ is_a_name c.args.entries.now i (get_or c.args.entries.now i blank) inside
+    false≢true (c.if-not-is_name.ensures ∙ is_a_name c.args.entries.now i (get_or c.args.entries.now i blank) inside
     (λ d. get_or_default c.args.entries.now i d blank inside) c.loop-entry.directory
     c.loop-entry.invariant c.args.next h)
 

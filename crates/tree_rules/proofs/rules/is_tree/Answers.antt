@@ -3,6 +3,7 @@ use Rattle.std.proofs.Common.{⊎_elim, Some, eqb, eqb-true, eq-eqb, sym, ap, su
 use Rattle.std.specs.Prelude.{IsTrue, ◌↔◌}
 use Rattle.std.proofs.lemmas.Bool.{cases_lt}
 use Rattle.std.proofs.lemmas.Option.{get_or_from_slice_get}
+use Rattle.std.proofs.lemmas.Bool.{false≢true}
 use Rattle.nfs_laws.specs.fs_spec.Files.{File}
 use Rattle.nfs_laws.specs.fs_spec.Trees.{IsFileTree}
 use Rattle.inodes.specs.Inodes.{file_in}
@@ -14,12 +15,12 @@ use Rattle.tree_rules.proofs.OfFileRules.Decided.{rules_suffice, tree_known, tre
 use Rattle.tree_rules.specs.Listed.{files_in}
 use Rattle.tree_rules.specs.Counting.{IsCount}
 use Rattle.tree_rules.proofs.Counted.{are_ways}
-use Rattle.tree_rules.proofs.Seen.{tf, inode_of_place, an_inode, at_inode, length_files}
+use Rattle.tree_rules.proofs.Seen.{inode_of_place, an_inode, at_inode, length_files}
 use Rattle.tree_rules.proofs.rules.is_tree.Goals as goal
 
 -- a refusal, where the files can't be a tree
 refused : {A : Type 0} → (A → ⊥) → (IsTrue false → A) × (A → IsTrue false)
-refused not = (λ f. absurd (tf f), λ a. absurd (not a))
+refused not = (λ f. absurd (false≢true f), λ a. absurd (not a))
 
 pub returns-then-is_empty : goal.returns-then-is_empty
 returns-then-is_empty c = λ fsid next each. refused (λ tree.
@@ -55,7 +56,7 @@ leads_up-requires c =
     (are_ways (files_in c.args.inodes.now) c.in-Some.counts.names.items c.in-Some.counts.above.items found)
 
 ne_zero : (n : ℕ) → eqb n 0 ≡ false → 0 < n
-ne_zero n e = ⊎_elim (λ lt. lt) (λ le. absurd (tf (sym e ∙ eq-eqb n 0 (omega arith)))) (cases_lt 0 n)
+ne_zero n e = ⊎_elim (λ lt. lt) (λ le. absurd (false≢true (sym e ∙ eq-eqb n 0 (omega arith)))) (cases_lt 0 n)
 
 module _ (inodes : List (ℕ × Inode)) (fsid next : ℕ) (each : AreFiles next (files_in inodes))
     (names above : List ℕ) (count : IsCount (files_in inodes) names above)
