@@ -4,9 +4,11 @@ ghost use Rattle.std.specs.Prelude.{IfOk};
 ghost use Rattle.packets.specs.Packet.{content_at};
 ghost use Rattle.packets.specs.Judging.{GivesDelivery, judged, judged_option};
 ghost use Rattle.packets.specs.Delivered.{IsUnder, delivery_in};
+ghost use Rattle.packets.specs.Uses.{MayUse};
 
 use crate::packet::Packet;
-use envelopes::{Refusal, Roster, SegmentFault, check, check_ack, check_envelope, check_segment};
+use crate::signatures::{ByKeys, SignatureCheck};
+use envelopes::{Refusal, Roster, SegmentFault, check_segment};
 use std::alloc::Global;
 use xdr::Reader;
 
@@ -14,62 +16,109 @@ use xdr::Reader;
 /// segment doesn't end in its closing; else `UnknownNode` where who signs, or an envelope's receiver, is no
 /// member; else `BadSignature` where who is to sign it didn't. `NoMemory` comes only where a growth was
 /// refused.
-#[tactic(auto, using(crate::proofs::Judged::answers_after, crate::proofs::Judged::without_number))]
 pub fn read_packet(alloc: Global, roster: &Roster, bytes: &[u8]) -> Result<Packet, Refusal>
     ensures answers { GivesDelivery (judged roster.now bytes.now) delivery_in result }
     ensures under { IfOk result (IsUnder roster.now) }
 {
+    read_packet_by(alloc, roster, &mut ByKeys, bytes)
+}
+
+/// The same, where signatures are checked in another way.
+#[tactic(auto, using(crate::proofs::Judged::answers_after, crate::proofs::Judged::without_number, crate::proofs::Using::used_after))]
+pub fn read_packet_by<C: SignatureCheck>(
+    alloc: Global,
+    roster: &Roster,
+    signatures: &mut C,
+    bytes: &[u8],
+) -> Result<Packet, Refusal>
+    ensures answers { GivesDelivery (judged roster.now bytes.now) delivery_in result }
+    ensures under { IfOk result (IsUnder roster.now) }
+    ensures uses { MayUse C.uses roster.now (judged roster.now bytes.now) signatures.old signatures.new }
+{
     let mut reader = Reader::new(bytes);
     match reader.u32() {
-        Ok(number) => read_content(alloc, roster, number, reader.rest()),
+        Ok(number) => read_content(alloc, roster, signatures, number, reader.rest()),
         Err(_) => Err(Refusal::Garbage),
     }
 }
 
 /// What a packet with this number delivers, where the bytes are what stands after the number.
-fn read_content(alloc: Global, roster: &Roster, number: u32, text: &[u8]) -> Result<Packet, Refusal>
+fn read_content<C: SignatureCheck>(
+    alloc: Global,
+    roster: &Roster,
+    signatures: &mut C,
+    number: u32,
+    text: &[u8],
+) -> Result<Packet, Refusal>
     ensures answers { GivesDelivery (judged_option roster.now (content_at number text.now)) delivery_in
         result }
     ensures under { IfOk result (IsUnder roster.now) }
+    ensures uses { MayUse C.uses roster.now (judged_option roster.now (content_at number text.now))
+        signatures.old signatures.new }
 {
     match number {
-        1 => learned(alloc, roster, text),
-        2 => challenged(alloc, roster, text),
-        3 => answered(alloc, roster, text),
-        4 => acknowledged(alloc, roster, text),
+        1 => read_learn(alloc, roster, signatures, text),
+        2 => read_challenge(alloc, roster, signatures, text),
+        3 => read_answer(alloc, roster, signatures, text),
+        4 => read_ack(alloc, roster, signatures, text),
         _ => Err(Refusal::Garbage),
     }
 }
 
-#[tactic(auto, using(crate::proofs::Judged::learned))]
-fn learned(alloc: Global, roster: &Roster, text: &[u8]) -> Result<Packet, Refusal>
+#[tactic(auto, using(crate::proofs::Judged::learned, crate::proofs::Using::may_stay))]
+fn read_learn<C: SignatureCheck>(
+    alloc: Global,
+    roster: &Roster,
+    signatures: &mut C,
+    text: &[u8],
+) -> Result<Packet, Refusal>
     ensures answers { GivesDelivery (judged_option roster.now (content_at 1 text.now)) delivery_in result }
     ensures under { IfOk result (IsUnder roster.now) }
+    ensures uses { MayUse C.uses roster.now (judged_option roster.now (content_at 1 text.now))
+        signatures.old signatures.new }
 {
-    match check(alloc, roster, text) {
+    match signatures.check(alloc, roster, text) {
         Ok(authenticator) => Ok(Packet::Learn(authenticator)),
         Err(refusal) => Err(refusal),
     }
 }
 
-#[tactic(auto, using(crate::proofs::Judged::challenged))]
-fn challenged(alloc: Global, roster: &Roster, text: &[u8]) -> Result<Packet, Refusal>
+#[tactic(auto, using(crate::proofs::Judged::challenged, crate::proofs::Using::may_stay))]
+fn read_challenge<C: SignatureCheck>(
+    alloc: Global,
+    roster: &Roster,
+    signatures: &mut C,
+    text: &[u8],
+) -> Result<Packet, Refusal>
     ensures answers { GivesDelivery (judged_option roster.now (content_at 2 text.now)) delivery_in result }
     ensures under { IfOk result (IsUnder roster.now) }
+    ensures uses { MayUse C.uses roster.now (judged_option roster.now (content_at 2 text.now))
+        signatures.old signatures.new }
 {
-    match check_envelope(alloc, roster, text) {
+    match signatures.check_envelope(alloc, roster, text) {
         Ok(envelope) => Ok(Packet::SendChallenge(envelope)),
         Err(refusal) => Err(refusal),
     }
 }
 
-#[tactic(auto, using(crate::proofs::Judged::answered, crate::proofs::Judged::given))]
-fn answered(alloc: Global, roster: &Roster, text: &[u8]) -> Result<Packet, Refusal>
+/// A closing is checked each time, by the call that hashes the segment's chain once; it is kept then.
+#[tactic(auto, using(crate::proofs::Judged::answered, crate::proofs::Judged::given, crate::proofs::Using::may_stay))]
+fn read_answer<C: SignatureCheck>(
+    alloc: Global,
+    roster: &Roster,
+    signatures: &mut C,
+    text: &[u8],
+) -> Result<Packet, Refusal>
     ensures answers { GivesDelivery (judged_option roster.now (content_at 3 text.now)) delivery_in result }
     ensures under { IfOk result (IsUnder roster.now) }
+    ensures uses { MayUse C.uses roster.now (judged_option roster.now (content_at 3 text.now))
+        signatures.old signatures.new }
 {
     match check_segment(alloc, roster, text) {
-        Ok(segment) => Ok(Packet::Answer(segment)),
+        Ok(segment) => {
+            signatures.keep_closing(alloc, &segment);
+            Ok(Packet::Answer(segment))
+        }
         Err(SegmentFault::UnknownNode) => Err(Refusal::UnknownNode),
         Err(SegmentFault::BadSignature) => Err(Refusal::BadSignature),
         Err(SegmentFault::NoMemory) => Err(Refusal::NoMemory),
@@ -77,12 +126,19 @@ fn answered(alloc: Global, roster: &Roster, text: &[u8]) -> Result<Packet, Refus
     }
 }
 
-#[tactic(auto, using(crate::proofs::Judged::acknowledged))]
-fn acknowledged(alloc: Global, roster: &Roster, text: &[u8]) -> Result<Packet, Refusal>
+#[tactic(auto, using(crate::proofs::Judged::acknowledged, crate::proofs::Using::may_stay))]
+fn read_ack<C: SignatureCheck>(
+    alloc: Global,
+    roster: &Roster,
+    signatures: &mut C,
+    text: &[u8],
+) -> Result<Packet, Refusal>
     ensures answers { GivesDelivery (judged_option roster.now (content_at 4 text.now)) delivery_in result }
     ensures under { IfOk result (IsUnder roster.now) }
+    ensures uses { MayUse C.uses roster.now (judged_option roster.now (content_at 4 text.now))
+        signatures.old signatures.new }
 {
-    match check_ack(alloc, roster, text) {
+    match signatures.check_ack(alloc, roster, text) {
         Ok(ack) => Ok(Packet::AckIn(ack)),
         Err(refusal) => Err(refusal),
     }
