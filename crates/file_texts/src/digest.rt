@@ -12,7 +12,7 @@ use tree_rules::Inode;
 
 /// The digest of the text of a file with its number. `buffer` is room for the text: what it holds before and
 /// after means nothing.
-#[tactic(auto, unfolding(crate::specs::FileItems::file_digest))]
+#[tactic(auto, unfolding(server_spec::specs::FileItems::file_digest))]
 pub fn file_digest(number: u32, inode: &Inode, buffer: &mut Vec<u8>) -> Result<[u8; 32], AllocError>
     requires { IsWritable (body_in inode.now.body) }
     ensures { IfOk result (λ digest. digest ≡ file_digest (number, file_in inode.now)) }

@@ -18,7 +18,7 @@ use Rattle.witness_book_laws.specs.Fitting.{IsWhole, Tile, AreTiles, IsOne, IsMo
 use Rattle.witness_book_laws.specs.Going.{audited_with, first_evidence, having_filed}
 use Rattle.witness_book_laws.specs.Keeping.{KeepsLimits, audit_last}
 use Rattle.witness_book_laws.proofs.Segments.{audited_are}
-use Rattle.witness_book_laws.proofs.Lists.{on_left, on_right}
+use Rattle.witness_book_laws.proofs.witness_laws.OfEvidence.Before.{on_left, on_right}
 use Rattle.node_book.specs.Rows.{ShowsLog, entries_of, replayed_log}
 
 -- ---- lists

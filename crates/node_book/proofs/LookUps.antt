@@ -19,7 +19,7 @@ use Rattle.witness_book_laws.specs.Fitting.{FitsTogether}
 use Rattle.witness_book_laws.specs.Going.{evidence_of, fork_evidence}
 use Rattle.witness_book_laws.specs.LookUps.{hash_held, hash_shown, is_hash, is_other_hash}
 use Rattle.witness_book_laws.specs.Ready.{IsReady}
-use Rattle.witness_book_laws.proofs.Lists.{found}
+use Rattle.witness_book_laws.proofs.witness_laws.OfEvidence.Before.{found}
 use Rattle.witness_book_laws.proofs.Segments.{tiled}
 use Rattle.witness_book_laws.proofs.LookUps.{shown_by_look_up, fork_by_look_up}
 use Rattle.witness_book_laws.proofs.Answers.{segment_looked_up, answer_looked_up}

@@ -2,8 +2,8 @@
 use Rattle.std.specs.Prelude.{◌+◌, ◌≤◌, length}
 use Rattle.std.specs.FinMap.{len}
 use Rattle.std.specs.Arc.{arc_value}
-use Rattle.evidence_spec.specs.replay_spec.state_machine.declared.states.received.TheConstants.{MAX_RECEIVED}
-use Rattle.evidence_spec.specs.replay_spec.state_machine.declared.states.sends.TheConstants.{MAX_SENDS}
+use Rattle.state_machine.specs.declared.states.received.TheConstants.{MAX_RECEIVED}
+use Rattle.state_machine.specs.declared.states.sends.TheConstants.{MAX_SENDS}
 use Rattle.challenge.specs.replay.replay_spec.Replay.{segment_verdict}
 use Rattle.challenge.specs.replay.replay_spec.Replay as spec
 use Rattle.challenge.specs.replay.Faults.{fault_in}

@@ -121,7 +121,7 @@ impl Service {
     /// `MAX_RECORD` bytes. The time used is the later of that time and the last one used; it becomes the last
     /// one also where there is no reply. Where memory is refused, the server is as it was; that is never so
     /// where no reply is owed.
-    #[tactic(auto, unfolding(crate::specs::Replies::reply_owed, crate::specs::Replies::world_after))]
+    #[tactic(auto, unfolding(server_spec::specs::Replies::reply_owed, server_spec::specs::Replies::world_after))]
     pub fn answer(
         &mut self,
         alloc: Global,
@@ -148,7 +148,7 @@ impl Service {
     /// Appends the reply that is owed to a record at a time, and says whether one is; else as `answer`. Where
     /// memory is refused, what was there stays in front. With room for `MAX_RECORD` bytes none is taken for
     /// the reply.
-    #[tactic(auto, unfolding(crate::specs::Replies::reply_owed, crate::specs::Replies::world_after))]
+    #[tactic(auto, unfolding(server_spec::specs::Replies::reply_owed, server_spec::specs::Replies::world_after))]
     pub fn answer_into(
         &mut self,
         alloc: Global,

@@ -20,7 +20,8 @@ use Rattle.witness_book_laws.specs.Fitting.{IsWhole, IsMore, FitsTogether}
 use Rattle.witness_laws.proofs.Checked.{IsGiven}
 use Rattle.witness_laws.proofs.OfEvidence.Audits.{good_given}
 use Rattle.witness_laws.proofs.OfEvidence.Before.{first_some}
-use Rattle.witness_book_laws.proofs.Lists.{split, on_left, same_more}
+use Rattle.witness_book_laws.proofs.Lists.{same_more}
+use Rattle.witness_laws.proofs.OfEvidence.Before.{split, on_left}
 use Rattle.witness_book_laws.proofs.Kept.{showing_of, fork_shows, same_past, same_through, add_segment}
 use Rattle.witness_book_laws.proofs.Kept.{add_exposing}
 use Rattle.witness_book_laws.proofs.Segments.{closes, audited_are}

@@ -22,7 +22,8 @@ use Rattle.witness_book_laws.specs.Books.{Book, exposed, exposing_pairs, book_sh
 use Rattle.witness_book_laws.specs.Fitting.{IsMore, FitsTogether}
 use Rattle.witness_book_laws.specs.LookUps.{hash_among, hash_shown, is_other_hash, HasOneHash}
 use Rattle.witness_book_laws.specs.Answers.{shows_another, lesser, least_from, answer_fork}
-use Rattle.witness_book_laws.proofs.Lists.{on_right, passer, passed, found, not_found}
+use Rattle.witness_book_laws.proofs.Lists.{passer, passed}
+use Rattle.witness_laws.proofs.OfEvidence.Before.{on_right, found, not_found}
 use Rattle.witness_book_laws.proofs.Kept.{Shower, AtFirst, Exposing, Learned, Segment, shower, shows}
 use Rattle.witness_book_laws.proofs.Segments.{tile_between}
 use Rattle.witness_book_laws.proofs.LookUps.{fork_by_look_up}

@@ -30,7 +30,7 @@ use Rattle.witness_book_laws.specs.Replying.{BookOwes}
 use Rattle.witness_book_laws.specs.Going.{book_after, having_filed}
 use Rattle.witness_book_laws.specs.Fitting.{FitsTogether, IsOne, IsMore}
 use Rattle.witness_book_laws.specs.Ready.{KnowsFew}
-use Rattle.witness_book_laws.proofs.Lists.{on_right}
+use Rattle.witness_laws.proofs.OfEvidence.Before.{on_right}
 use Rattle.witness_book_laws.proofs.Steps.{IsDoneStep, IsOutOf, out_of, returned_is}
 
 -- ---- what a replay takes in

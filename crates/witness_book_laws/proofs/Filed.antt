@@ -35,7 +35,8 @@ use Rattle.witness_book_laws.specs.Going.{evidence_of, first_evidence, verdict_c
 use Rattle.witness_book_laws.specs.Going.{learned_above}
 use Rattle.witness_book_laws.specs.Going.{having_filed, after_file}
 use Rattle.witness_book_laws.specs.Fitting.{NumbersDiffer, IsOne, IsMore, AgreesAt, FitsTogether}
-use Rattle.witness_book_laws.proofs.Lists.{filtered, passing, same_filter, on_right}
+use Rattle.witness_book_laws.proofs.Lists.{filtered, same_filter}
+use Rattle.witness_laws.proofs.OfEvidence.Before.{passing, on_right}
 use Rattle.witness_book_laws.proofs.Kept.{differ_filter, showing_of, Shower, AtFirst, Exposing, Learned, Segment}
 use Rattle.witness_book_laws.proofs.Kept.{shower}
 use Rattle.witness_book_laws.proofs.Kept.{shows, same_through}

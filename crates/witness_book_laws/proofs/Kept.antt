@@ -16,7 +16,8 @@ use Rattle.witness_laws.specs.witness_spec.Histories.{HoldSame}
 use Rattle.witness_book_laws.specs.Books.{Book, exposing_pairs, book_shown}
 use Rattle.witness_book_laws.specs.Going.{evidence_of, fork_evidence}
 use Rattle.witness_book_laws.specs.Fitting.{NumbersDiffer}
-use Rattle.witness_book_laws.proofs.Lists.{cut, split, on_left, on_right, IsImage, image, mapped, IsWithin}
+use Rattle.witness_book_laws.proofs.Lists.{cut, IsImage, image, mapped, IsWithin}
+use Rattle.witness_laws.proofs.OfEvidence.Before.{split, on_left, on_right}
 use Rattle.witness_book_laws.proofs.Lists.{within}
 use Rattle.witness_book_laws.proofs.Lists.{of_within, filtered}
 

@@ -28,7 +28,8 @@ use Rattle.witness_book_laws.specs.Going.{after_learn}
 use Rattle.witness_book_laws.specs.Fitting.{FitsTogether, IsMore, AreTiles, AgreesAt}
 use Rattle.witness_book_laws.specs.Fitting.{NumbersDiffer}
 use Rattle.witness_laws.proofs.OfEvidence.Before.{one_shown}
-use Rattle.witness_book_laws.proofs.Lists.{split, on_right, passed, same_more}
+use Rattle.witness_book_laws.proofs.Lists.{passed, same_more}
+use Rattle.witness_laws.proofs.OfEvidence.Before.{split, on_right}
 use Rattle.witness_book_laws.proofs.Kept.{all_by}
 use Rattle.witness_book_laws.proofs.Kept.{differ_more, showing_of, Learned, Segment}
 use Rattle.witness_book_laws.proofs.Kept.{shows, fork_shows, same_after, same_through, add_learned}

@@ -52,7 +52,8 @@ use Rattle.witness_book_laws.specs.Going.{book_after, having_filed, book_after_s
 use Rattle.witness_book_laws.specs.Fitting.{FitsTogether, IsOne, IsMore, IsBookOf}
 use Rattle.witness_book_laws.specs.LookUps.{HasOneHash}
 use Rattle.witness_book_laws.specs.Keeping.{audit_last, KeepsLimits}
-use Rattle.witness_book_laws.proofs.Lists.{on_right, passer}
+use Rattle.witness_book_laws.proofs.Lists.{passer}
+use Rattle.witness_laws.proofs.OfEvidence.Before.{on_right}
 use Rattle.witness_book_laws.proofs.Kept.{showing_of, add_learned}
 use Rattle.witness_book_laws.proofs.Steps.{IsDoneStep, asks, begins, out_of, was_wanted, returned_is}
 

@@ -22,7 +22,8 @@ use Rattle.witness_laws.proofs.OfEvidence.Before.{one_shown}
 use Rattle.witness_book_laws.specs.Books.{Book, exposed, exposing_pairs, book_shown}
 use Rattle.witness_book_laws.specs.Fitting.{IsWhole, FitsTogether, IsBookOf}
 use Rattle.witness_book_laws.specs.LookUps.{hash_among, hash_held, hash_shown, is_hash, is_other_hash, HasOneHash}
-use Rattle.witness_book_laws.proofs.Lists.{same_truth, passer, passed, found, not_found}
+use Rattle.witness_book_laws.proofs.Lists.{same_truth, passer, passed}
+use Rattle.witness_laws.proofs.OfEvidence.Before.{found, not_found}
 use Rattle.witness_book_laws.proofs.Kept.{Shower, AtFirst, Exposing, Learned, Segment, shower, shows}
 use Rattle.witness_book_laws.proofs.Segments.{hash_at, IsHeldIn, tile_holds, tile_between, tiled}
 use Rattle.witness_book_laws.proofs.Quiet.{Exposure}

@@ -16,7 +16,7 @@ use Rattle.witness_laws.specs.witness_spec.Standing.{Stage, NoAudit, Wanted, Giv
 use Rattle.witness_laws.specs.witness_spec.Histories.{HoldSame}
 use Rattle.witness_book_laws.specs.Books.{Book, exposed, is_audited, book_audited}
 use Rattle.witness_book_laws.specs.Fitting.{IsWhole, Tile, Follows, IsOne, IsMore, AreTiles}
-use Rattle.witness_book_laws.proofs.Lists.{on_left}
+use Rattle.witness_laws.proofs.OfEvidence.Before.{on_left}
 
 -- ---- places
 

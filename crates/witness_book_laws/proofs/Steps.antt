@@ -44,7 +44,7 @@ use Rattle.witness_book_laws.specs.Fitting.{NumbersDiffer, IsMore, IsFaulty, Agr
 use Rattle.witness_laws.proofs.Checked.{IsCheckedStep}
 use Rattle.witness_laws.proofs.Reach.{in_reach}
 use Rattle.witness_laws.proofs.OfEvidence.Before.{one_shown}
-use Rattle.witness_book_laws.proofs.Lists.{on_right}
+use Rattle.witness_laws.proofs.OfEvidence.Before.{on_right}
 use Rattle.witness_book_laws.proofs.Kept.{shows, Learned, Segment}
 use Rattle.witness_book_laws.proofs.Segments.{hash_at}
 use Rattle.witness_book_laws.proofs.Quiet.{Exposure, DoesNothing, quiet, found_stays, having_challenged}

@@ -17,7 +17,8 @@ use Rattle.file_tree.proofs.tree_rules.OfFileRules.Decided.{tree_files}
 use Rattle.inodes.specs.Inodes.{file_in, files_of}
 use Rattle.inodes.specs.declared.inode.Inode.{Inode}
 use Rattle.file_tree.specs.tree_rules.Listed.{files_in}
-use Rattle.file_tree.proofs.tree_rules.Seen.{tf, at_inode, inode_of_place, same_numbers}
+use Rattle.file_tree.proofs.tree_rules.Seen.{at_inode, inode_of_place, same_numbers}
+use Rattle.std.proofs.lemmas.Bool.{false≢true}
 use Rattle.state_machine.specs.file_texts.Alone.{AreAlone, IsBodyAlone, IsFileAlone}
 use Rattle.state_machine.specs.file_texts.Bounds.{IsWritable}
 use Rattle.state_machine.specs.file_texts.Parts.{body_of, file_of, files_given}
@@ -116,4 +117,4 @@ with_room A B (Err e) decided room = tt
 
 -- a refusal, where there is a tree with room
 pub not_refused : (A B : Type 0) (is : Bool) → IsTrue is ↔ (A × B) → is ≡ false → A → B → ⊥
-not_refused A B is decided refused a b = tf (sym refused ∙ decided.1 (a, b))
+not_refused A B is decided refused a b = false≢true (sym refused ∙ decided.1 (a, b))

@@ -13,14 +13,14 @@ use Rattle.tree_rules.specs.inodes.declared.inode.Body as stored
 use Rattle.tree_rules.specs.inodes.declared.inode.Body.TheVariants as code
 use Rattle.tree_rules.specs.inodes.declared.inode.Inode.{Inode}
 use Rattle.tree_rules.proofs.inodes.FilesSeen.{file_seen}
-use Rattle.tree_rules.proofs.Seen.{tf}
+use Rattle.std.proofs.lemmas.Bool.{false≢true}
 use Rattle.inode_table.specs.Links.Linked.{AreLinked}
 
 -- a directory keeps the number of the one above
 kept_parent : (b : stored.Body) (number : ℕ) → is_directory (body_in b) ≡ true → KeepsParent b number
     → parent_in b ≡ number
-kept_parent (code.Regular bytes) number is h = absurd (tf is)
-kept_parent (code.Symlink target) number is h = absurd (tf is)
+kept_parent (code.Regular bytes) number is h = absurd (false≢true is)
+kept_parent (code.Symlink target) number is h = absurd (false≢true is)
 kept_parent (code.Directory parent l) number is h = h
 
 module _ (fsid next : ℕ) (inodes : List (ℕ × Inode)) where

@@ -28,7 +28,8 @@ use Rattle.tree_rules.specs.Counting.{IsCount}
 use Rattle.inode_table.specs.Links.Linked.{IsLinked, IsLinks, AreLinked}
 use Rattle.inode_table.specs.declared.links.links.Links.{Links}
 use Rattle.tree_rules.specs.Listed.{files_in}
-use Rattle.tree_rules.proofs.Seen.{tf, file_of_inode}
+use Rattle.tree_rules.proofs.Seen.{file_of_inode}
+use Rattle.std.proofs.lemmas.Bool.{false≢true}
 
 -- ---- directories by their numbers
 
@@ -76,9 +77,9 @@ module _ (fsid next : ℕ) (es : List (ℕ × File)) (up : AreRising (numbers_of
 -- what is no directory has its names for links
 pub plain_links : (fs : Files) (n : ℕ) (b : Body) (links : Links) → is_directory b ≡ false
     → links.nlink ≡ names_of fs n → IsLinks fs n b links
-plain_links fs n (Regular bytes) links plain is = record { nlink_is = is; parent_is = λ e. absurd (tf e) }
-plain_links fs n (Symlink target) links plain is = record { nlink_is = is; parent_is = λ e. absurd (tf e) }
-plain_links fs n (Directory l) links plain is = absurd (tf (sym plain))
+plain_links fs n (Regular bytes) links plain is = record { nlink_is = is; parent_is = λ e. absurd (false≢true e) }
+plain_links fs n (Symlink target) links plain is = record { nlink_is = is; parent_is = λ e. absurd (false≢true e) }
+plain_links fs n (Directory l) links plain is = absurd (false≢true (sym plain))
 
 -- a body keeps the number of the directory above
 pub keeps_parent : (b : stored.Body) (number : ℕ) → (is_directory (body_in b) ≡ true → parent_in b ≡ number)
