@@ -1,17 +1,27 @@
 -- What a cache keeps after packets were taken or refused.
--- Serves: read_packet.
-use Rattle.std.proofs.Common.{◌≡◌, ℕ, List, Result, Ok, sym, subst}
-use Rattle.xdr.specs.Reading.{number_at}
+-- Serves: admit.
+use Rattle.std.proofs.Common.{◌≡◌, ◌⊎◌, inl, inr, List, Result, Ok, Err, Option, Some, None}
+use Rattle.std.specs.Prelude.{IfSome}
+use Rattle.authenticator.specs.Roster.{member_of}
+use Rattle.authenticator.specs.declared.authenticator.Authenticator.{Authenticator}
 use Rattle.authenticator.specs.declared.member.Member.{Member}
 use Rattle.authenticator.specs.declared.refusal.Refusal.{Refusal}
-use Rattle.packets.specs.Packet.{Delivery, content_at}
-use Rattle.packets.specs.Judging.{judged, judged_option}
-use Rattle.packets.proofs.Judged.{behind}
-use Rattle.witness_service.specs.Caching.{CacheParts, MayKeep}
+use Rattle.packets.specs.Packet.{Delivery, delivery_shows}
+use Rattle.packets.specs.Uses.{MayUse as MayUseBy}
+use Rattle.witness_service.specs.Caching.{CacheParts, MayKeep, MayUse, key_text}
 
--- what is kept after a packet's content is kept after the packet
-pub keeps_after : (ms : List Member) (bytes : List ℕ) (n : ℕ) (rest : List ℕ) (old new : CacheParts)
-    → number_at 4 bytes ≡ Ok (n, rest) → MayKeep ms (judged_option ms (content_at n rest)) old new
-    → MayKeep ms (judged ms bytes) old new
-keeps_after ms bytes n rest old new read kept =
-    subst (λ (o : Result Delivery Refusal). MayKeep ms o old new) (sym (behind ms bytes n rest read)) kept
+-- the cache as it was, or with one key used, whoever is to have signed
+at_most : (old new : CacheParts) (a : Authenticator) (m : Option Member)
+    → (new ≡ old) ⊎ IfSome m (λ m. MayUse (key_text m.root m.height a) old new)
+    → IfSome m (λ m. MayUse (key_text m.root m.height a) old new)
+at_most old new a None h = tt
+at_most old new a (Some m) (inl same) = inl same
+at_most old new a (Some m) (inr used) = used
+
+-- what checking a packet's signature may leave is what a cache may keep of it
+pub may_keep : (ms : List Member) (owed : Result Delivery Refusal) (old new : CacheParts)
+    → MayUseBy (λ (old : CacheParts) (m : Member) (a : Authenticator) (new : CacheParts).
+    MayUse (key_text m.root m.height a) old new) ms owed old new
+    → MayKeep ms owed old new
+may_keep ms (Ok d) old new h = at_most old new (delivery_shows d) (member_of ms (delivery_shows d).node) h
+may_keep ms (Err refusal) old new h = h

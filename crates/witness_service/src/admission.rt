@@ -5,7 +5,7 @@ ghost use Rattle.witness_books.specs.Delivering.{ReadsEvent};
 ghost use Rattle.witness_service.specs.Caching.{MayKeep};
 
 use crate::cache::SignatureCache;
-use crate::checking::read_packet;
+use packets::read_packet_by;
 use std::alloc::Global;
 use witness_books::{Event, Refusal, Roster, event_of};
 
@@ -13,7 +13,7 @@ use witness_books::{Event, Refusal, Roster, event_of};
 /// `witness_books`), with its signature checked; it waits for nobody. `Garbage` where bytes are no packet,
 /// else `UnknownNode` where a node that it is of is no member of the roster, else `BadSignature` where it
 /// isn't signed. `NoMemory` comes only where a growth was refused. The answer is the same with any cache.
-#[tactic(auto, using(witness_books::proofs::Delivering::refused_is, witness_books::proofs::Delivering::spell_is))]
+#[tactic(auto, using(witness_books::proofs::Delivering::refused_is, witness_books::proofs::Delivering::spell_is, crate::proofs::Taking::may_keep))]
 pub fn admit(
     alloc: Global,
     roster: &Roster,
@@ -23,7 +23,7 @@ pub fn admit(
     ensures event { ReadsEvent roster.now bytes.now result }
     ensures kept { MayKeep roster.now (judged roster.now bytes.now) cache.old cache.new }
 {
-    match read_packet(alloc, roster, cache, bytes) {
+    match read_packet_by(alloc, roster, cache, bytes) {
         Ok(packet) => {
             let event = event_of(alloc, roster, packet)?;
             event.is_event();
