@@ -2,22 +2,16 @@
 
 ghost use Rattle.std.specs.Prelude.{◌<◌, ◌^◌};
 
+use authenticator::MAX_NODE;
+use secure_log::MAX_ENTRIES;
+use secure_log::log_entries::MAX_BODY;
 use xdr::Reader;
-
-/// The most members of a roster, and the greatest number of one.
-const MEMBERS: u32 = 64;
 
 /// The greatest height of a member's tree, and the most hashes in a signature's path.
 const HEIGHT: u32 = 16;
 
-/// The most links of a showing.
-const LINKS: u32 = 4096;
-
 /// The most entries of a log.
 const ENTRIES: u32 = 65536;
-
-/// The most bytes of a body.
-const BODY: u32 = 12288;
 
 /// The greatest number of a place: any but the greatest of 64 bits.
 const PLACE: u64 = u64::MAX - 1;
@@ -80,7 +74,7 @@ impl<'a> Passing<'a> {
     }
 
     fn body(&mut self) {
-        self.has_stopped = self.has_stopped || self.reader.opaque(BODY).is_err();
+        self.has_stopped = self.has_stopped || self.reader.opaque(MAX_BODY).is_err();
     }
 
     fn case(&mut self) {
@@ -95,14 +89,14 @@ impl<'a> Passing<'a> {
 
     fn roster(&mut self) {
         let mut last = 0;
-        for _ in 0..self.word(0, MEMBERS) {
+        for _ in 0..self.word(0, MAX_NODE) {
             last = self.member(last);
         }
     }
 
     /// Passes a member with a number above another, and answers its number.
     fn member(&mut self, last: u32) -> u32 {
-        let node = self.word(last.saturating_add(1), MEMBERS);
+        let node = self.word(last.saturating_add(1), MAX_NODE);
         self.word(1, 2);
         self.fixed::<32>();
         self.word(1, HEIGHT);
@@ -137,7 +131,7 @@ impl<'a> Passing<'a> {
         self.word(0, u32::MAX);
         self.number(0, u64::MAX);
         self.fixed::<32>();
-        for _ in 0..self.word(0, LINKS) {
+        for _ in 0..self.word(0, MAX_ENTRIES) {
             self.word(1, 5);
             self.fixed::<32>();
         }

@@ -7,12 +7,12 @@ ghost use Rattle.xdr.specs.ReadFault.{xdr_fault};
 ghost use Rattle.fs_spec.specs.nfs_items.Timeval.{timeval};
 ghost use Rattle.tree_rules.specs.GivenListing.{said_entry, said_entries};
 ghost use Rattle.server_spec.specs.FileItems.{entry_item, attributes_item, kind_item, is_file_kind, file_item};
-ghost use Rattle.file_texts.specs.declared.read.TheConstants.{MAX_ENTRIES};
+ghost use Rattle.tree_rules.specs.declared.limits.TheConstants.{MAX_ENTRIES};
 ghost use Rattle.file_texts.specs.Parts.{time_said, attributes_said, kind_said, file_said};
 
 use crate::parts::{AttributesPart, BodyPart, FilePart, TimePart};
 use std::alloc::Global;
-use tree_rules::GivenEntry;
+use tree_rules::{GivenEntry, MAX_ENTRIES, MAX_FILE_SIZE};
 use xdr::{FromXdr, ReadFault, Reader, XdrFault, put_back_on_err};
 
 /// The most bytes of a name.
@@ -20,12 +20,6 @@ const MAX_NAME: u32 = 255;
 
 /// The most bytes of a symbolic link's target.
 const MAX_TARGET: u32 = 1_024;
-
-/// The most bytes of a regular file.
-const MAX_FILE_SIZE: u32 = 1_048_576;
-
-/// The most entries of a directory.
-const MAX_ENTRIES: u32 = 16_384;
 
 impl<'a> FromXdr<'a> for FilePart<'a> {
     ghost item = { file_item };

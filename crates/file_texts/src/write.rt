@@ -13,7 +13,7 @@ ghost use Rattle.server_spec.specs.FileItems.{entry_item, attributes_item, attri
 ghost use Rattle.server_spec.specs.FileItems.{kind_value, is_file_kind, file_item, file_value};
 ghost use Rattle.file_texts.specs.Bounds.{IsWritable};
 ghost use Rattle.file_texts.specs.Stored.{entry_in};
-ghost use Rattle.file_texts.specs.declared.read.TheConstants.{MAX_ENTRIES};
+ghost use Rattle.tree_rules.specs.declared.limits.TheConstants.{MAX_ENTRIES};
 
 use fs_spec::Time;
 use indexmap::map::Slice;

@@ -1,5 +1,6 @@
 //! What is mounted.
 
+use mount_types::MAX_MOUNTS;
 use std::alloc::{AllocError, Global};
 use std::marker::Model;
 
@@ -63,7 +64,7 @@ impl MountTable {
     pub fn is_full(&self) -> bool
         ensures { result ≡ nat_le max_mounts (length self.now) }
     {
-        self.hosts.len() >= MAX_MOUNTS
+        self.hosts.len() >= MAX_MOUNTS as usize
     }
 
     /// Lists a machine last, and tells whether it did: not where it is listed, or 40 are. Where memory is
@@ -91,6 +92,3 @@ impl MountTable {
         self.hosts.retain(|listed| host != listed.as_slice());
     }
 }
-
-/// The most mounts that are listed.
-const MAX_MOUNTS: usize = 40;

@@ -10,7 +10,7 @@ pub mod worked;
 mod writing;
 
 pub use arguments::{MountArgs, MountProcedure};
-pub use limits::{MNT_ANSWER, MNTNAMLEN, MNTPATHLEN};
+pub use limits::{MAX_MOUNTS, MNT_ANSWER, MNTNAMLEN, MNTPATHLEN};
 pub use nfs_items::{FileHandle, Stat, Who};
 pub use reading::read_mount_args;
 pub use results::MountResult;

@@ -11,13 +11,13 @@ use Rattle.node_book.specs.Deciding.{AddsOne, Decides, reply_of}
 use Rattle.node_book.specs.Events.{step_in}
 use Rattle.node_book.specs.Replies.{reply_in}
 use Rattle.node_book.specs.Stepping.{MayRunOut, StepMayWant, is_refusal_or_already}
-use Rattle.node_book.specs.declared.decided.Accepting.TheVariants as a
-use Rattle.node_book.specs.declared.decided.Asking.TheVariants as q
-use Rattle.node_book.specs.declared.decided.Coming.TheVariants as c
-use Rattle.node_book.specs.declared.decided.Learning.TheVariants as l
-use Rattle.node_book.specs.declared.decided.Opening.TheVariants as o
-use Rattle.node_book.specs.declared.decided.Decided.{Decided}
-use Rattle.node_book.specs.declared.decided.Decided.TheVariants as d
+use Rattle.node_book.specs.declared.decision.AnswerDecision.TheVariants as a
+use Rattle.node_book.specs.declared.decision.AuditDecision.TheVariants as q
+use Rattle.node_book.specs.declared.decision.ReturnDecision.TheVariants as c
+use Rattle.node_book.specs.declared.decision.LearnDecision.TheVariants as l
+use Rattle.node_book.specs.declared.decision.ChallengeDecision.TheVariants as o
+use Rattle.node_book.specs.declared.decision.Decision.{Decision}
+use Rattle.node_book.specs.declared.decision.Decision.TheVariants as d
 use Rattle.node_book.specs.declared.step.Step.{Step}
 use Rattle.node_book.specs.declared.step.Step.TheVariants as s
 
@@ -47,7 +47,7 @@ without_job b step none may more = record {
 }
 
 -- where what was decided adds something, that is owed
-pub adds_is_more : (b : Book) (step : Step) (decided : Decided) → Decides b step decided
+pub adds_is_more : (b : Book) (step : Step) (decided : Decision) → Decides b step decided
     → BookOwes b (step_in step) (reply_in (reply_of step decided)) → AddsOne decided
     → MayRunOut b (step_in step)
 adds_is_more b (s.Learn x) (d.Learn (l.Noted None)) decides owes adds =

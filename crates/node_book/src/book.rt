@@ -8,7 +8,7 @@ ghost use Rattle.node_book.specs.Replies.{refusal_in, reply_in};
 ghost use Rattle.node_book.specs.Deciding.{reply_of};
 ghost use Rattle.node_book.specs.Stepping.{NotedSteps, Steps, step_refused};
 
-use crate::decided::Decided;
+use crate::decision::Decision;
 use crate::noted::note_of;
 use crate::outbox::Outbox;
 use crate::refusal::Refusal;
@@ -127,7 +127,7 @@ impl Book {
 fn two_notes(
     alloc: Global,
     step: &Step,
-    decided: &Decided,
+    decided: &Decision,
 ) -> Result<(PlainReply, PlainReply), AllocError>
     ensures { IfOk result (λ notes. (reply_in notes.0 ≡ reply_in (reply_of step.now decided.now))
         × (reply_in notes.1 ≡ reply_in (reply_of step.now decided.now))) }

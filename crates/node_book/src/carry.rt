@@ -11,13 +11,13 @@ ghost use Rattle.witness_book_laws.specs.Going.{audited_with, book_after, first_
 ghost use Rattle.evidence_spec.specs.Evidence as charges;
 ghost use Rattle.witness_spec.specs.Standing as standing;
 ghost use Rattle.replay_jobs.specs.Jobs.{verdict_told};
-ghost use Rattle.node_book.specs.Deciding.{DecidesLearning, DecidesOpening, DecidesAccepting, DecidesAcked};
-ghost use Rattle.node_book.specs.Deciding.{DecidesAsking, DecidesBeginning, DecidesComing, DecidesForwarding};
+ghost use Rattle.node_book.specs.Deciding.{DecidesLearn, DecidesChallenge, DecidesAnswer, DecidesAck};
+ghost use Rattle.node_book.specs.Deciding.{DecidesAudit, DecidesBegin, DecidesReturn, DecidesForward};
 ghost use Rattle.node_book.specs.Deciding.{Decides, HasRoomFor, HasRoomToAccept, HasRoomToAsk, HasRoomToFile};
 ghost use Rattle.node_book.specs.Deciding.{HasRoomToLearn, HasRoomToOpen, reply_of};
-ghost use Rattle.node_book.specs.Deciding.{reply_learning, reply_opening, reply_accepting, reply_acked};
-ghost use Rattle.node_book.specs.Deciding.{reply_asking, reply_beginning, reply_filing, reply_returning};
-ghost use Rattle.node_book.specs.Deciding.{reply_forwarding, reply_telling};
+ghost use Rattle.node_book.specs.Deciding.{reply_to_learn, reply_to_challenge, reply_to_answer, reply_to_ack};
+ghost use Rattle.node_book.specs.Deciding.{reply_to_audit, reply_to_begin, reply_to_file, reply_to_put_back};
+ghost use Rattle.node_book.specs.Deciding.{reply_to_forward, reply_to_ask};
 ghost use Rattle.node_book.specs.Events.{step_in};
 ghost use Rattle.replay_jobs.specs.Jobs.{done_parts};
 ghost use Rattle.node_book.specs.Outboxes.{HasPlace, outbox_in};
@@ -25,7 +25,10 @@ ghost use Rattle.node_book.specs.Replies.{reply_in};
 ghost use Rattle.node_book.specs.Rows.{KeepsExposure, book_in, segments_in, stage_in};
 
 use crate::challenges::{close_answered, close_send};
-use crate::decided::{Accepting, Asking, Beginning, Coming, Decided, Learning, Opening, Telling};
+use crate::decision::{
+    AnswerDecision, AskDecision, AuditDecision, BeginDecision, ChallengeDecision, Decision,
+    LearnDecision, ReturnDecision,
+};
 use crate::refusal::Refusal;
 use crate::reply::{Reply, ReplyOf};
 use crate::rows::{Exposure, Rows, Stage};
@@ -39,23 +42,23 @@ use std::sync::Arc;
 
 impl Rows {
     /// Learns an authenticator.
-    fn carry_learn(&mut self, authenticator: Authenticator, learning: Learning) -> Reply
-        requires decided { DecidesLearning (book_in self.old) authenticator learning }
+    fn carry_learn(&mut self, authenticator: Authenticator, learning: LearnDecision) -> Reply
+        requires decided { DecidesLearn (book_in self.old) authenticator learning }
         requires room { HasRoomToLearn self.old learning }
         requires keeps { KeepsExposure (segments_in self.old.segments.items) self.old.exposure }
-        ensures reply { result ≡ reply_learning learning }
+        ensures reply { result ≡ reply_to_learn learning }
         ensures after { book_in self.new ≡ after_learn (book_in self.old) authenticator (reply_in result) }
         ensures keeps { KeepsExposure (segments_in self.new.segments.items) self.new.exposure }
     {
         match learning {
-            Learning::Known => ReplyOf::Already,
-            Learning::Full => ReplyOf::Refused(Refusal::LearnedFull),
-            Learning::Ignored => ReplyOf::Noted,
-            Learning::Noted(None) => {
+            LearnDecision::Known => ReplyOf::Already,
+            LearnDecision::Full => ReplyOf::Refused(Refusal::LearnedFull),
+            LearnDecision::Ignored => ReplyOf::Noted,
+            LearnDecision::Noted(None) => {
                 self.learned.push_reserved(authenticator);
                 ReplyOf::Noted
             }
-            Learning::Noted(Some(evidence)) => {
+            LearnDecision::Noted(Some(evidence)) => {
                 self.exposure = Exposure::Fork(evidence);
                 ReplyOf::Noted
             }
@@ -63,19 +66,19 @@ impl Rows {
     }
 
     /// Opens a challenge with a message.
-    fn carry_send_challenge(&mut self, envelope: Envelope, opening: Opening) -> Reply
-        requires decided { DecidesOpening (book_in self.old) envelope opening }
+    fn carry_send_challenge(&mut self, envelope: Envelope, opening: ChallengeDecision) -> Reply
+        requires decided { DecidesChallenge (book_in self.old) envelope opening }
         requires room { HasRoomToOpen self.old opening }
         requires keeps { KeepsExposure (segments_in self.old.segments.items) self.old.exposure }
-        ensures reply { result ≡ reply_opening opening }
+        ensures reply { result ≡ reply_to_challenge opening }
         ensures after { book_in self.new ≡ after_send_challenge (book_in self.old) envelope
             (reply_in result) }
         ensures keeps { KeepsExposure (segments_in self.new.segments.items) self.new.exposure }
     {
         match opening {
-            Opening::Known => ReplyOf::Already,
-            Opening::Full => ReplyOf::Refused(Refusal::ChallengesFull),
-            Opening::Opened => {
+            ChallengeDecision::Known => ReplyOf::Already,
+            ChallengeDecision::Full => ReplyOf::Refused(Refusal::ChallengesFull),
+            ChallengeDecision::Opened => {
                 self.challenges.push_reserved(Challenge::Send(envelope));
                 ReplyOf::Opened
             }
@@ -83,17 +86,17 @@ impl Rows {
     }
 
     /// Accepts a segment.
-    fn carry_answer(&mut self, segment: SharedSegment, accepting: Accepting) -> Reply
-        requires decided { DecidesAccepting (book_in self.old) segment accepting }
+    fn carry_answer(&mut self, segment: SharedSegment, accepting: AnswerDecision) -> Reply
+        requires decided { DecidesAnswer (book_in self.old) segment accepting }
         requires room { HasRoomToAccept self.old accepting }
         requires keeps { KeepsExposure (segments_in self.old.segments.items) self.old.exposure }
-        ensures reply { result ≡ reply_accepting accepting }
+        ensures reply { result ≡ reply_to_answer accepting }
         ensures after { book_in self.new ≡ after_answer (book_in self.old) segment (reply_in result) }
         ensures keeps { KeepsExposure (segments_in self.new.segments.items) self.new.exposure }
     {
         match accepting {
-            Accepting::NotAsked => ReplyOf::Refused(Refusal::NotAsked),
-            Accepting::Accepted(share, evidence) => {
+            AnswerDecision::NotAsked => ReplyOf::Refused(Refusal::NotAsked),
+            AnswerDecision::Accepted(share, evidence) => {
                 close_answered(&mut self.challenges, segment.closed().segment());
                 self.expose(evidence);
                 self.segments.push_reserved(segment);
@@ -105,9 +108,9 @@ impl Rows {
 
     /// Closes the challenge that an acknowledgement answers.
     fn carry_ack(&mut self, ack: Ack, is_open: bool) -> Reply
-        requires decided { DecidesAcked (book_in self.old) ack is_open }
+        requires decided { DecidesAck (book_in self.old) ack is_open }
         requires keeps { KeepsExposure (segments_in self.old.segments.items) self.old.exposure }
-        ensures reply { result ≡ reply_acked is_open }
+        ensures reply { result ≡ reply_to_ack is_open }
         ensures after { book_in self.new ≡ after_ack (book_in self.old) ack (reply_in result) }
         ensures keeps { KeepsExposure (segments_in self.new.segments.items) self.new.exposure }
     {
@@ -119,36 +122,36 @@ impl Rows {
     }
 
     /// Asks for a segment.
-    fn carry_audit(&mut self, asking: Asking) -> Reply
-        requires decided { DecidesAsking (book_in self.old) asking }
+    fn carry_audit(&mut self, asking: AuditDecision) -> Reply
+        requires decided { DecidesAudit (book_in self.old) asking }
         requires room { HasRoomToAsk self.old asking }
         requires keeps { KeepsExposure (segments_in self.old.segments.items) self.old.exposure }
-        ensures reply { result ≡ reply_asking asking }
+        ensures reply { result ≡ reply_to_audit asking }
         ensures after { book_in self.new ≡ after_audit (book_in self.old) (reply_in result) }
         ensures keeps { KeepsExposure (segments_in self.new.segments.items) self.new.exposure }
     {
         match asking {
-            Asking::Asked(first, last) => {
+            AuditDecision::Asked(first, last) => {
                 self.stage = Stage::Wanted(first, last);
                 self.challenges
                     .push_reserved(Challenge::Audit { first, last });
                 ReplyOf::Asked { first, last }
             }
-            Asking::Refused(refusal) => ReplyOf::Refused(refusal),
+            AuditDecision::Refused(refusal) => ReplyOf::Refused(refusal),
         }
     }
 
     /// Hands a job out.
-    fn carry_begin(&mut self, beginning: Beginning) -> Reply
+    fn carry_begin(&mut self, beginning: BeginDecision) -> Reply
         requires ready { IsReady (book_in self.old) }
-        requires decided { DecidesBeginning (book_in self.old) beginning }
+        requires decided { DecidesBegin (book_in self.old) beginning }
         requires keeps { KeepsExposure (segments_in self.old.segments.items) self.old.exposure }
-        ensures reply { result ≡ reply_beginning beginning }
+        ensures reply { result ≡ reply_to_begin beginning }
         ensures after { book_in self.new ≡ after_begin (book_in self.old) (reply_in result) }
         ensures keeps { KeepsExposure (segments_in self.new.segments.items) self.new.exposure }
     {
         match beginning {
-            Beginning::Begun(job) => {
+            BeginDecision::Begun(job) => {
                 match mem::replace(&mut self.stage, Stage::NoAudit) {
                     Stage::Given(segment) => self.stage = Stage::Out(segment),
                     stage => self.stage = stage,
@@ -156,22 +159,22 @@ impl Rows {
                 self.begun = job.number();
                 ReplyOf::Job(ReplayJob::new(job))
             }
-            Beginning::Refused(refusal) => ReplyOf::Refused(refusal),
+            BeginDecision::Refused(refusal) => ReplyOf::Refused(refusal),
         }
     }
 
     /// Takes a job back.
-    fn carry_put_back(&mut self, job: ReplayJob, coming: Coming) -> Reply
-        requires decided { DecidesComing (book_in self.old) job coming }
+    fn carry_put_back(&mut self, job: ReplayJob, coming: ReturnDecision) -> Reply
+        requires decided { DecidesReturn (book_in self.old) job coming }
         requires keeps { KeepsExposure (segments_in self.old.segments.items) self.old.exposure }
-        ensures reply { result ≡ reply_returning job coming }
+        ensures reply { result ≡ reply_to_put_back job coming }
         ensures after { book_in self.new ≡ after_put_back (book_in self.old) job (reply_in result) }
         ensures keeps { KeepsExposure (segments_in self.new.segments.items) self.new.exposure }
     {
         match coming {
-            Coming::NoJob => ReplyOf::PutBackRefused(Refusal::NoJob, job),
-            Coming::Another => ReplyOf::PutBackRefused(Refusal::WrongJob, job),
-            Coming::IsOut => {
+            ReturnDecision::NoJob => ReplyOf::PutBackRefused(Refusal::NoJob, job),
+            ReturnDecision::Another => ReplyOf::PutBackRefused(Refusal::WrongJob, job),
+            ReturnDecision::IsOut => {
                 self.stage = Stage::Given(job.into_plain().into_segment());
                 ReplyOf::Returned
             }
@@ -179,20 +182,20 @@ impl Rows {
     }
 
     /// Files a done value.
-    fn carry_file(&mut self, done: ReplayDone, coming: Coming) -> Reply
+    fn carry_file(&mut self, done: ReplayDone, coming: ReturnDecision) -> Reply
         requires ready { IsReady (book_in self.old) }
-        requires decided { DecidesComing (book_in self.old) done coming }
+        requires decided { DecidesReturn (book_in self.old) done coming }
         requires room { HasRoomToFile self.old coming }
         requires keeps { KeepsExposure (segments_in self.old.segments.items) self.old.exposure }
-        ensures reply { result ≡ reply_filing done coming }
+        ensures reply { result ≡ reply_to_file done coming }
         ensures after { book_in self.new ≡
             after_file (book_in self.old) (done_parts done) (reply_in result) }
         ensures keeps { KeepsExposure (segments_in self.new.segments.items) self.new.exposure }
     {
         match coming {
-            Coming::NoJob => ReplyOf::FileRefused(Refusal::NoJob, done),
-            Coming::Another => ReplyOf::FileRefused(Refusal::WrongJob, done),
-            Coming::IsOut => {
+            ReturnDecision::NoJob => ReplyOf::FileRefused(Refusal::NoJob, done),
+            ReturnDecision::Another => ReplyOf::FileRefused(Refusal::WrongJob, done),
+            ReturnDecision::IsOut => {
                 let (job, verdict) = done.into_plain().into_parts();
                 self.file(job.into_segment(), verdict);
                 ReplyOf::Filed
@@ -263,9 +266,9 @@ impl Rows {
 
     /// Gives what is to be forwarded.
     fn carry_forward(&mut self, forwarding: Option<Authenticator>) -> Reply
-        requires decided { DecidesForwarding (book_in self.old) forwarding }
+        requires decided { DecidesForward (book_in self.old) forwarding }
         requires keeps { KeepsExposure (segments_in self.old.segments.items) self.old.exposure }
-        ensures reply { result ≡ reply_forwarding forwarding }
+        ensures reply { result ≡ reply_to_forward forwarding }
         ensures after { book_in self.new ≡ after_forward (book_in self.old) (reply_in result) }
         ensures keeps { KeepsExposure (segments_in self.new.segments.items) self.new.exposure }
     {
@@ -295,7 +298,7 @@ impl Rows {
     }
 
     /// Does what was decided of a step, and replies.
-    pub fn carry_out(&mut self, step: Step, decided: Decided) -> Reply
+    pub fn carry_out(&mut self, step: Step, decided: Decision) -> Reply
         requires ready { IsReady (book_in self.old) }
         requires decided { Decides (book_in self.old) step decided }
         requires room { HasRoomFor self.old decided }
@@ -305,18 +308,18 @@ impl Rows {
         ensures keeps { KeepsExposure (segments_in self.new.segments.items) self.new.exposure }
     {
         match (step, decided) {
-            (Step::Learn(authenticator), Decided::Learn(d)) => self.carry_learn(authenticator, d),
-            (Step::SendChallenge(envelope), Decided::SendChallenge(d)) => {
+            (Step::Learn(authenticator), Decision::Learn(d)) => self.carry_learn(authenticator, d),
+            (Step::SendChallenge(envelope), Decision::SendChallenge(d)) => {
                 self.carry_send_challenge(envelope, d)
             }
-            (Step::Answer(segment), Decided::Answer(d)) => self.carry_answer(segment, d),
-            (Step::AckIn(ack), Decided::AckIn(d)) => self.carry_ack(ack, d),
-            (Step::Audit, Decided::Audit(d)) => self.carry_audit(d),
-            (Step::Begin, Decided::Begin(d)) => self.carry_begin(d),
-            (Step::File(done), Decided::File(d)) => self.carry_file(done, d),
-            (Step::PutBack(job), Decided::PutBack(d)) => self.carry_put_back(job, d),
-            (Step::Forward, Decided::Forward(d)) => self.carry_forward(d),
-            (Step::Ask(_), Decided::Ask(d)) => told(d),
+            (Step::Answer(segment), Decision::Answer(d)) => self.carry_answer(segment, d),
+            (Step::AckIn(ack), Decision::AckIn(d)) => self.carry_ack(ack, d),
+            (Step::Audit, Decision::Audit(d)) => self.carry_audit(d),
+            (Step::Begin, Decision::Begin(d)) => self.carry_begin(d),
+            (Step::File(done), Decision::File(d)) => self.carry_file(done, d),
+            (Step::PutBack(job), Decision::PutBack(d)) => self.carry_put_back(job, d),
+            (Step::Forward, Decision::Forward(d)) => self.carry_forward(d),
+            (Step::Ask(_), Decision::Ask(d)) => reply_to_question(d),
             // What was decided is always of the step's own kind.
             (_, _) => unreachable!(),
         }
@@ -324,13 +327,13 @@ impl Rows {
 }
 
 /// What is told.
-fn told(telling: Telling) -> Reply
-    ensures { result ≡ reply_telling telling }
+fn reply_to_question(asked: AskDecision) -> Reply
+    ensures { result ≡ reply_to_ask asked }
 {
-    match telling {
-        Telling::Told(indication) => ReplyOf::Told(indication),
-        Telling::OpenList(challenges) => ReplyOf::OpenList(challenges),
-        Telling::EvidenceIs(evidence) => ReplyOf::EvidenceIs(evidence),
+    match asked {
+        AskDecision::Told(indication) => ReplyOf::Told(indication),
+        AskDecision::OpenList(challenges) => ReplyOf::OpenList(challenges),
+        AskDecision::EvidenceIs(evidence) => ReplyOf::EvidenceIs(evidence),
     }
 }
 

@@ -11,16 +11,19 @@ ghost use Rattle.witness_book_laws.specs.Ready.{IsReady};
 ghost use Rattle.witness_spec.specs.Replies as spec;
 ghost use Rattle.witness_book_laws.specs.Replying.{BookOwes, reply_to_answer, reply_to_begin, reply_to_forward};
 ghost use Rattle.witness_book_laws.specs.Replying.{reply_to_learn};
-ghost use Rattle.node_book.specs.Deciding.{DecidesLearning, DecidesOpening, DecidesAccepting, DecidesAcked};
-ghost use Rattle.node_book.specs.Deciding.{DecidesAsking, DecidesBeginning, DecidesComing, DecidesForwarding};
-ghost use Rattle.node_book.specs.Deciding.{Decides, DecidesTelling, reply_asking, reply_of};
+ghost use Rattle.node_book.specs.Deciding.{DecidesLearn, DecidesChallenge, DecidesAnswer, DecidesAck};
+ghost use Rattle.node_book.specs.Deciding.{DecidesAudit, DecidesBegin, DecidesReturn, DecidesForward};
+ghost use Rattle.node_book.specs.Deciding.{Decides, DecidesAsk, reply_to_audit, reply_of};
 ghost use Rattle.node_book.specs.Events.{question_in, step_in};
 ghost use Rattle.node_book.specs.Replies.{indication_in, reply_in};
 ghost use Rattle.node_book.specs.Rows.{KeepsExposure, book_in, segments_in};
 ghost use Rattle.node_book.specs.Stepping.{MayRunOut, StepMayWant, is_refusal_or_already};
 
 use crate::challenges::{copies_of, count_sends, is_open};
-use crate::decided::{Accepting, Asking, Beginning, Coming, Decided, Learning, Opening, Telling};
+use crate::decision::{
+    AnswerDecision, AskDecision, AuditDecision, BeginDecision, ChallengeDecision, Decision,
+    LearnDecision, ReturnDecision,
+};
 use crate::event::Question;
 use crate::looking::ShownHash;
 use crate::refusal::Refusal;
@@ -63,22 +66,22 @@ impl Rows {
         &self,
         alloc: Global,
         authenticator: &Authenticator,
-    ) -> Result<Learning, AllocError>
+    ) -> Result<LearnDecision, AllocError>
         requires { IsReady (book_in self.now) }
-        ensures ok { IfOk result (DecidesLearning (book_in self.now) authenticator.now) }
+        ensures ok { IfOk result (DecidesLearn (book_in self.now) authenticator.now) }
         ensures err { IfErr result (λ _. reply_to_learn (book_in self.now) authenticator.now ≡ spec.Noted) }
     {
         if self.is_exposed() {
-            return Ok(Learning::Ignored);
+            return Ok(LearnDecision::Ignored);
         }
         match self.knows(authenticator) {
-            ShownHash::Same => Ok(Learning::Known),
+            ShownHash::Same => Ok(LearnDecision::Known),
             ShownHash::Another => {
                 let evidence = self.fork_by_authenticator(alloc, authenticator)?;
-                Ok(Learning::Noted(shared(alloc, evidence)?))
+                Ok(LearnDecision::Noted(shared(alloc, evidence)?))
             }
-            ShownHash::Nothing if self.has_no_room(authenticator) => Ok(Learning::Full),
-            ShownHash::Nothing => Ok(Learning::Noted(None)),
+            ShownHash::Nothing if self.has_no_room(authenticator) => Ok(LearnDecision::Full),
+            ShownHash::Nothing => Ok(LearnDecision::Noted(None)),
         }
     }
 
@@ -91,92 +94,100 @@ impl Rows {
     }
 
     /// Of a challenge with a message. An open one comes before a lack of room.
-    fn decide_send_challenge(&self, envelope: &Envelope) -> Opening
-        ensures { DecidesOpening (book_in self.now) envelope.now result }
+    fn decide_send_challenge(&self, envelope: &Envelope) -> ChallengeDecision
+        ensures { DecidesChallenge (book_in self.now) envelope.now result }
     {
         if is_open(&envelope.message(), &self.challenges) {
-            return Opening::Known;
+            return ChallengeDecision::Known;
         }
         if MAX_CHALLENGES <= count_sends(&self.challenges) {
-            return Opening::Full;
+            return ChallengeDecision::Full;
         }
-        Opening::Opened
+        ChallengeDecision::Opened
     }
 
     /// Of a segment.
-    fn decide_answer(&self, alloc: Global, segment: &SharedSegment) -> Result<Accepting, AllocError>
+    fn decide_answer(
+        &self,
+        alloc: Global,
+        segment: &SharedSegment,
+    ) -> Result<AnswerDecision, AllocError>
         requires { IsReady (book_in self.now) }
-        ensures ok { IfOk result (DecidesAccepting (book_in self.now) segment.now) }
+        ensures ok { IfOk result (DecidesAnswer (book_in self.now) segment.now) }
         ensures err { IfErr result (λ _. reply_to_answer (book_in self.now) segment.now ≡ spec.Accepted) }
     {
         let Stage::Wanted(first, last) = &self.stage else {
-            return Ok(Accepting::NotAsked);
+            return Ok(AnswerDecision::NotAsked);
         };
         let given = segment.closed().segment();
         if given.first() != *first || given.closing().number != *last {
-            return Ok(Accepting::NotAsked);
+            return Ok(AnswerDecision::NotAsked);
         }
         let share = segment.try_clone()?;
         if self.is_exposed() {
-            return Ok(Accepting::Accepted(share, None));
+            return Ok(AnswerDecision::Accepted(share, None));
         }
         let evidence = self.fork_by_segment(alloc, segment)?;
-        Ok(Accepting::Accepted(share, shared(alloc, evidence)?))
+        Ok(AnswerDecision::Accepted(share, shared(alloc, evidence)?))
     }
 
     /// Of an acknowledgement: whether its challenge is open.
     fn decide_ack(&self, ack: &Ack) -> bool
-        ensures { DecidesAcked (book_in self.now) ack.now result }
+        ensures { DecidesAck (book_in self.now) ack.now result }
     {
         is_open(&ack.message(), &self.challenges)
     }
 
     /// Of an audit.
-    fn decide_audit(&self) -> Asking
+    fn decide_audit(&self) -> AuditDecision
         requires { IsReady (book_in self.now) }
-        ensures { DecidesAsking (book_in self.now) result }
+        ensures { DecidesAudit (book_in self.now) result }
     {
         match &self.stage {
             Stage::NoAudit => self.decide_asking(),
-            Stage::Wanted(_, _) | Stage::Given(_) | Stage::Out(_) => Asking::Refused(Refusal::Busy),
+            Stage::Wanted(_, _) | Stage::Given(_) | Stage::Out(_) => AuditDecision::Refused(
+                Refusal::Busy,
+            ),
         }
     }
 
     /// Of an audit where none is under way.
-    fn decide_asking(&self) -> Asking
+    fn decide_asking(&self) -> AuditDecision
         requires { IsReady (book_in self.now) }
-        ensures { reply_in (reply_asking result) ≡ ask_reply (exposed (book_in self.now)) self.now.end
+        ensures { reply_in (reply_to_audit result) ≡ ask_reply (exposed (book_in self.now)) self.now.end
             (length (book_in self.now).outbox) self.now.learned.items }
     {
         if self.is_exposed() || self.learned.is_empty() {
-            return Asking::Refused(Refusal::NothingToAudit);
+            return AuditDecision::Refused(Refusal::NothingToAudit);
         }
         let last = last_in_reach(self.end, &self.learned);
         if last == 0 {
-            return Asking::Refused(Refusal::TooFar);
+            return AuditDecision::Refused(Refusal::TooFar);
         }
         if u64::from(MAX_AUDITED) < last {
-            return Asking::Refused(Refusal::BookFull);
+            return AuditDecision::Refused(Refusal::BookFull);
         }
         if MAX_OUTBOX < self.outbox.len() as u64 + last.saturating_sub(self.end) {
-            return Asking::Refused(Refusal::OutboxFull);
+            return AuditDecision::Refused(Refusal::OutboxFull);
         }
-        Asking::Asked(Number::new(self.end + 1), Number::new(last))
+        AuditDecision::Asked(Number::new(self.end + 1), Number::new(last))
     }
 
     /// Of a job that is to begin. `AllocError` comes only where owners can't be counted further, or after as
     /// many jobs as 64 bits count.
-    fn decide_begin(&self) -> Result<Beginning, AllocError>
-        ensures ok { IfOk result (DecidesBeginning (book_in self.now)) }
+    fn decide_begin(&self) -> Result<BeginDecision, AllocError>
+        ensures ok { IfOk result (DecidesBegin (book_in self.now)) }
         ensures err { IfErr result
             (λ _. is_refusal_or_already (reply_to_begin (book_in self.now) (book_in self.now).stage) ≡ false) }
     {
         match &self.stage {
-            Stage::Given(_) if self.is_exposed() => Ok(Beginning::Refused(Refusal::NothingToAudit)),
-            Stage::Given(segment) => Ok(Beginning::Begun(self.next_job(segment)?)),
-            Stage::Out(_) => Ok(Beginning::Refused(Refusal::Busy)),
+            Stage::Given(_) if self.is_exposed() => Ok(BeginDecision::Refused(
+                Refusal::NothingToAudit,
+            )),
+            Stage::Given(segment) => Ok(BeginDecision::Begun(self.next_job(segment)?)),
+            Stage::Out(_) => Ok(BeginDecision::Refused(Refusal::Busy)),
             Stage::NoAudit | Stage::Wanted(_, _) => {
-                Ok(Beginning::Refused(Refusal::NothingToAudit))
+                Ok(BeginDecision::Refused(Refusal::NothingToAudit))
             }
         }
     }
@@ -194,16 +205,16 @@ impl Rows {
     }
 
     /// Of a job that comes back: whether it is the one that is out. Takes no memory.
-    fn decide_coming(&self, job: &PlainJob) -> Coming
-        ensures { DecidesComing (book_in self.now) job.now result }
+    fn decide_coming(&self, job: &PlainJob) -> ReturnDecision
+        ensures { DecidesReturn (book_in self.now) job.now result }
     {
         let Stage::Out(segment) = &self.stage else {
-            return Coming::NoJob;
+            return ReturnDecision::NoJob;
         };
         if self.is_job(segment, job) {
-            Coming::IsOut
+            ReturnDecision::IsOut
         } else {
-            Coming::Another
+            ReturnDecision::Another
         }
     }
 
@@ -219,7 +230,7 @@ impl Rows {
 
     /// Of what is to be forwarded: a copy of the oldest.
     fn decide_forward(&self, alloc: Global) -> Result<Option<Authenticator>, AllocError>
-        ensures ok { IfOk result (DecidesForwarding (book_in self.now)) }
+        ensures ok { IfOk result (DecidesForward (book_in self.now)) }
         ensures err { IfErr result
             (λ _. is_refusal_or_already (reply_to_forward (book_in self.now)) ≡ false) }
     {
@@ -264,21 +275,21 @@ impl Rows {
     }
 
     /// Of a question. That for the indication takes no memory.
-    fn decide_ask(&self, alloc: Global, question: Question) -> Result<Telling, AllocError>
+    fn decide_ask(&self, alloc: Global, question: Question) -> Result<AskDecision, AllocError>
         requires { KeepsExposure (segments_in self.now.segments.items) self.now.exposure }
-        ensures ok { IfOk result (DecidesTelling (book_in self.now) question) }
+        ensures ok { IfOk result (DecidesAsk (book_in self.now) question) }
         ensures err { IfErr result (λ _. StepMayWant (steps.Ask (question_in question))) }
     {
         match question {
-            Question::Indication => Ok(Telling::Told(self.indication())),
-            Question::Challenges => Ok(Telling::OpenList(copies_of(alloc, &self.challenges)?)),
-            Question::Evidence => Ok(Telling::EvidenceIs(self.evidence(alloc)?)),
+            Question::Indication => Ok(AskDecision::Told(self.indication())),
+            Question::Challenges => Ok(AskDecision::OpenList(copies_of(alloc, &self.challenges)?)),
+            Question::Evidence => Ok(AskDecision::EvidenceIs(self.evidence(alloc)?)),
         }
     }
 
     /// Of a step. `AllocError` comes only where memory was refused, and never where what is owed is a refusal
     /// or `Already`, nor for a job that is put back, an acknowledgement or a question for the indication.
-    pub fn decide(&self, alloc: Global, step: &Step) -> Result<Decided, AllocError>
+    pub fn decide(&self, alloc: Global, step: &Step) -> Result<Decision, AllocError>
         requires ready { IsReady (book_in self.now) }
         requires keeps { KeepsExposure (segments_in self.now.segments.items) self.now.exposure }
         ensures ok { IfOk result (Decides (book_in self.now) step.now) }
@@ -287,16 +298,16 @@ impl Rows {
         ensures err { IfErr result (λ _. MayRunOut (book_in self.now) (step_in step.now)) }
     {
         match step {
-            Step::Learn(a) => Ok(Decided::Learn(self.decide_learn(alloc, a)?)),
-            Step::SendChallenge(e) => Ok(Decided::SendChallenge(self.decide_send_challenge(e))),
-            Step::Answer(segment) => Ok(Decided::Answer(self.decide_answer(alloc, segment)?)),
-            Step::AckIn(ack) => Ok(Decided::AckIn(self.decide_ack(ack))),
-            Step::Audit => Ok(Decided::Audit(self.decide_audit())),
-            Step::Begin => Ok(Decided::Begin(self.decide_begin()?)),
-            Step::File(done) => Ok(Decided::File(self.decide_coming(done.plain().job()))),
-            Step::PutBack(job) => Ok(Decided::PutBack(self.decide_coming(job.plain()))),
-            Step::Forward => Ok(Decided::Forward(self.decide_forward(alloc)?)),
-            Step::Ask(question) => Ok(Decided::Ask(self.decide_ask(alloc, *question)?)),
+            Step::Learn(a) => Ok(Decision::Learn(self.decide_learn(alloc, a)?)),
+            Step::SendChallenge(e) => Ok(Decision::SendChallenge(self.decide_send_challenge(e))),
+            Step::Answer(segment) => Ok(Decision::Answer(self.decide_answer(alloc, segment)?)),
+            Step::AckIn(ack) => Ok(Decision::AckIn(self.decide_ack(ack))),
+            Step::Audit => Ok(Decision::Audit(self.decide_audit())),
+            Step::Begin => Ok(Decision::Begin(self.decide_begin()?)),
+            Step::File(done) => Ok(Decision::File(self.decide_coming(done.plain().job()))),
+            Step::PutBack(job) => Ok(Decision::PutBack(self.decide_coming(job.plain()))),
+            Step::Forward => Ok(Decision::Forward(self.decide_forward(alloc)?)),
+            Step::Ask(question) => Ok(Decision::Ask(self.decide_ask(alloc, *question)?)),
         }
     }
 }

@@ -6,7 +6,7 @@ mod book;
 mod carry;
 mod challenges;
 mod decide;
-mod decided;
+mod decision;
 mod event;
 mod forks;
 mod looking;

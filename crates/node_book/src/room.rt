@@ -9,7 +9,9 @@ ghost use Rattle.node_book.specs.Replies.{reply_in};
 ghost use Rattle.node_book.specs.Rows.{KeepsExposure, book_in, segments_in};
 ghost use Rattle.node_book.specs.Stepping.{MayRunOut};
 
-use crate::decided::{Accepting, Asking, Coming, Decided, Learning, Opening};
+use crate::decision::{
+    AnswerDecision, AuditDecision, ChallengeDecision, Decision, LearnDecision, ReturnDecision,
+};
 use crate::rows::Rows;
 use crate::step::Step;
 use std::alloc::{AllocError, Global};
@@ -18,7 +20,7 @@ impl Rows {
     /// Takes memory for what a step adds to the book, of which this was decided: one authenticator,
     /// challenge, segment or share of the outbox more. The book stays in any case. Where nothing is added,
     /// none is taken, and the answer is `Ok`.
-    fn make_room_for(&mut self, decided: &Decided) -> Result<(), AllocError>
+    fn make_room_for(&mut self, decided: &Decision) -> Result<(), AllocError>
         ensures stays { book_in self.new ≡ book_in self.old }
         ensures segments { self.new.segments.items ≡ self.old.segments.items }
         ensures exposure { self.new.exposure ≡ self.old.exposure }
@@ -26,12 +28,11 @@ impl Rows {
         ensures err { IfErr result (λ _. AddsOne decided.now) }
     {
         match decided {
-            Decided::Learn(Learning::Noted(None)) => self.learned.try_reserve(1)?,
-            Decided::SendChallenge(Opening::Opened) | Decided::Audit(Asking::Asked(_, _)) => {
-                self.challenges.try_reserve(1)?
-            }
-            Decided::Answer(Accepting::Accepted(_, _)) => self.segments.try_reserve(1)?,
-            Decided::File(Coming::IsOut) => self.outbox.reserve()?,
+            Decision::Learn(LearnDecision::Noted(None)) => self.learned.try_reserve(1)?,
+            Decision::SendChallenge(ChallengeDecision::Opened)
+            | Decision::Audit(AuditDecision::Asked(_, _)) => { self.challenges.try_reserve(1)? }
+            Decision::Answer(AnswerDecision::Accepted(_, _)) => self.segments.try_reserve(1)?,
+            Decision::File(ReturnDecision::IsOut) => self.outbox.reserve()?,
             _ => {}
         }
         Ok(())
@@ -40,7 +41,7 @@ impl Rows {
     /// Decides what a step is to do, and takes the memory for it. The book stays in any case. `AllocError`
     /// comes only where memory was refused: so never where what is owed is a refusal or `Already`, nor for a
     /// job that is put back, an acknowledgement or a question for the indication.
-    pub fn prepare(&mut self, alloc: Global, step: &Step) -> Result<Decided, AllocError>
+    pub fn prepare(&mut self, alloc: Global, step: &Step) -> Result<Decision, AllocError>
         requires ready { IsReady (book_in self.old) }
         requires keeps { KeepsExposure (segments_in self.old.segments.items) self.old.exposure }
         ensures stays { book_in self.new ≡ book_in self.old }

@@ -12,8 +12,8 @@ ghost use Rattle.checkpoint.specs.Parts.SaidParts.{world_said, kind_said, machin
 
 use crate::parts::parts::{MachinePart, StatePart, WorldPart};
 use crate::parts::world::read_world;
-use state_machine::TimePart;
 use state_machine::states::{NumberedSend, ReceivedMessage};
+use state_machine::{TimePart, states};
 use std::alloc::Global;
 use xdr::{FromXdr, ReadFault, Reader, XdrFault, put_back_on_err, read_array};
 
@@ -21,10 +21,10 @@ use xdr::{FromXdr, ReadFault, Reader, XdrFault, put_back_on_err, read_array};
 const VERSION: u32 = 1;
 
 /// The greatest count of messages that are known to have been received.
-const MAX_RECEIVED: u32 = 131_072;
+const MAX_RECEIVED: u32 = states::MAX_RECEIVED as u32;
 
 /// The greatest count of messages that have no acknowledgement yet.
-const MAX_SENDS: u32 = 131_072;
+const MAX_SENDS: u32 = states::MAX_SENDS as u32;
 
 impl<'a> FromXdr<'a> for StatePart<'a> {
     ghost item = { state_item file_item };

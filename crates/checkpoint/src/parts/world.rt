@@ -9,20 +9,12 @@ ghost use Rattle.checkpoint.specs.declared.parts.world.TheConstants.{MAX_BODY};
 ghost use Rattle.checkpoint.specs.Parts.SaidParts.{mount_said, stage_said, world_said};
 
 use crate::parts::parts::{MountPart, StagePart, WorldPart};
+use mount_types::{MAX_MOUNTS, MNTNAMLEN, MNTPATHLEN};
 use std::alloc::Global;
 use xdr::{FromXdr, ReadFault, Reader, XdrFault, put_back_on_err, read_array};
 
 /// The most bytes of a message's body.
-const MAX_BODY: u32 = 12_288;
-
-/// The greatest count of mounts.
-const MAX_MOUNTS: u32 = 40;
-
-/// The most bytes of a machine's name (RFC 1094, appendix A.3).
-const MAX_HOST: u32 = 255;
-
-/// The most bytes of a directory's path (RFC 1094, appendix A.3).
-const MAX_DIRECTORY: u32 = 1_024;
+const MAX_BODY: u32 = state_machine::MAX_BODY as u32;
 
 /// The greatest count of files.
 const MAX_FILES: u32 = 8_192;
@@ -85,7 +77,7 @@ fn read_message<'a>(reader: &mut Reader<'a>) -> Result<(u32, &'a [u8]), ReadFaul
 fn read_mount<'a>(reader: &mut Reader<'a>) -> Result<MountPart<'a>, ReadFault>
     ensures { GivesUnless xdr_fault mount_item mount_said reader.old result reader.new }
 {
-    let host = reader.opaque(MAX_HOST)?;
-    let directory = reader.opaque(MAX_DIRECTORY)?;
+    let host = reader.opaque(MNTNAMLEN)?;
+    let directory = reader.opaque(MNTPATHLEN)?;
     Ok(MountPart { host, directory })
 }

@@ -5,7 +5,7 @@ use Rattle.xdr.specs.Reading.{read_at}
 use Rattle.xdr.specs.ArraysAndUnions.{begins, goes_on, fails_unless, ends, array_at}
 use Rattle.tree_rules.specs.GivenListing.{said_entry, said_entries}
 use Rattle.server_spec.specs.FileItems.{entry_item}
-use Rattle.file_texts.specs.declared.read.TheConstants.{MAX_ENTRIES}
+use Rattle.tree_rules.specs.declared.limits.TheConstants.{MAX_ENTRIES}
 use Rattle.file_texts.proofs.read.read_entries.Goals as goal
 
 pub returns-in_err-read_entry : goal.returns-in_err-read_entry

@@ -5,7 +5,7 @@ use Rattle.xdr.specs.Writing.{Adds}
 use Rattle.fs_spec.specs.Listing.{NamedEntry}
 use Rattle.server_spec.specs.FileItems.{entry_item}
 use Rattle.file_texts.specs.Stored.{entry_in}
-use Rattle.file_texts.specs.declared.read.TheConstants.{MAX_ENTRIES}
+use Rattle.tree_rules.specs.declared.limits.TheConstants.{MAX_ENTRIES}
 use Rattle.file_texts.proofs.Arrays.{adds_counted}
 use Rattle.file_texts.proofs.write.add_entries.Goals as goal
 

@@ -2,11 +2,11 @@
 -- refusal or Already.
 use Rattle.std.proofs.Common.{ap, subst, sym, ◌∙◌}
 use Rattle.witness_spec.specs.Steps as steps
-use Rattle.node_book.specs.Deciding.{Decides, DecidesComing}
+use Rattle.node_book.specs.Deciding.{Decides, DecidesReturn}
 use Rattle.node_book.specs.Events.{question_in, step_in}
 use Rattle.node_book.specs.Rows.{book_in}
 use Rattle.node_book.specs.Stepping.{MayRunOut, is_refusal_or_already}
-use Rattle.node_book.specs.declared.decided.Decided.TheVariants.{File, PutBack}
+use Rattle.node_book.specs.declared.decision.Decision.TheVariants.{File, PutBack}
 use Rattle.node_book.proofs.Wanting.{if_err, told_is_more, without_job}
 use Rattle.node_book.proofs.rows.Rows.decide.Goals as goal
 
@@ -15,7 +15,7 @@ pub returns-in-File-clause-ok : goal.returns-in-File-clause-ok
 returns-in-File-clause-ok c =
     let b = book_in c.args.self.now in
     subst (λ s. Decides b s (File c.decide_coming.result)) (sym c.in-File.is)
-    (subst (λ j. DecidesComing b j c.decide_coming.result) (c.job.ensures ∙ c.plain.ensures.plain)
+    (subst (λ j. DecidesReturn b j c.decide_coming.result) (c.job.ensures ∙ c.plain.ensures.plain)
     c.decide_coming.ensures)
 
 -- of a job
@@ -23,7 +23,7 @@ pub returns-in-PutBack-clause-ok : goal.returns-in-PutBack-clause-ok
 returns-in-PutBack-clause-ok c =
     let b = book_in c.args.self.now in
     subst (λ s. Decides b s (PutBack c.decide_coming-in-PutBack.result)) (sym c.in-PutBack.is)
-    (subst (λ j. DecidesComing b j c.decide_coming-in-PutBack.result) c.plain-in-PutBack.ensures.plain
+    (subst (λ j. DecidesReturn b j c.decide_coming-in-PutBack.result) c.plain-in-PutBack.ensures.plain
     c.decide_coming-in-PutBack.ensures)
 
 -- of an authenticator

@@ -10,7 +10,7 @@ use std::sync::Arc;
 
 /// Of an authenticator that is to be learned.
 #[derive(Drop)]
-pub(crate) enum Learning {
+pub(crate) enum LearnDecision {
     /// Its pair was shown before.
     Known,
     /// As many are kept as may be.
@@ -23,7 +23,7 @@ pub(crate) enum Learning {
 
 /// Of a challenge with a message.
 #[derive(Drop)]
-pub(crate) enum Opening {
+pub(crate) enum ChallengeDecision {
     /// One with that message is open.
     Known,
     /// As many are open as may be.
@@ -34,7 +34,7 @@ pub(crate) enum Opening {
 
 /// Of a segment.
 #[derive(Drop)]
-pub(crate) enum Accepting {
+pub(crate) enum AnswerDecision {
     /// It wasn't asked for.
     NotAsked,
     /// It was: one share of it more, and the evidence by which it exposes the node, if it does.
@@ -43,7 +43,7 @@ pub(crate) enum Accepting {
 
 /// Of an audit.
 #[derive(Drop)]
-pub(crate) enum Asking {
+pub(crate) enum AuditDecision {
     /// The segment between these numbers is to be asked for.
     Asked(Number, Number),
     /// None is.
@@ -52,7 +52,7 @@ pub(crate) enum Asking {
 
 /// Of a job that is to begin.
 #[derive(Drop)]
-pub(crate) enum Beginning {
+pub(crate) enum BeginDecision {
     /// This one does.
     Begun(PlainJob),
     /// None does.
@@ -61,7 +61,7 @@ pub(crate) enum Beginning {
 
 /// Of a job that comes back.
 #[derive(Drop)]
-pub(crate) enum Coming {
+pub(crate) enum ReturnDecision {
     /// No job is out.
     NoJob,
     /// Another one is.
@@ -72,7 +72,7 @@ pub(crate) enum Coming {
 
 /// Of a question.
 #[derive(Drop)]
-pub(crate) enum Telling {
+pub(crate) enum AskDecision {
     /// What is said of the node.
     Told(Indication),
     /// Its open challenges.
@@ -83,17 +83,17 @@ pub(crate) enum Telling {
 
 /// Of a step, by its kind.
 #[derive(Drop)]
-pub(crate) enum Decided {
-    Learn(Learning),
-    SendChallenge(Opening),
-    Answer(Accepting),
+pub(crate) enum Decision {
+    Learn(LearnDecision),
+    SendChallenge(ChallengeDecision),
+    Answer(AnswerDecision),
     /// Whether its challenge is open.
     AckIn(bool),
-    Audit(Asking),
-    Begin(Beginning),
-    File(Coming),
-    PutBack(Coming),
+    Audit(AuditDecision),
+    Begin(BeginDecision),
+    File(ReturnDecision),
+    PutBack(ReturnDecision),
     /// The oldest authenticator that is to be forwarded.
     Forward(Option<Authenticator>),
-    Ask(Telling),
+    Ask(AskDecision),
 }
