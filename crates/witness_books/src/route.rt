@@ -36,17 +36,17 @@ pub(crate) fn route(alloc: Global, roster: &Roster, event: Event) -> Routed
 {
     event.is_event();
     match event {
-        EventOf::Deliver(bytes) => delivered(alloc, roster, &bytes),
-        EventOf::Learn(checked) => learned(roster, checked),
-        EventOf::SendChallenge(checked) => challenged(roster, checked),
-        EventOf::Answer(segment) => answered(roster, segment),
-        EventOf::AckIn(checked) => acknowledged(roster, checked),
-        EventOf::Audit(node) => give(named(roster, node), Step::Audit),
-        EventOf::Begin(node) => give(named(roster, node), Step::Begin),
-        EventOf::File(done) => give(named(roster, done.node()), Step::File(done)),
-        EventOf::PutBack(job) => give(named(roster, job.node()), Step::PutBack(job)),
-        EventOf::Forward(node) => give(named(roster, node), Step::Forward),
-        EventOf::Ask(node, question) => give(named(roster, node), Step::Ask(question)),
+        EventOf::Deliver(bytes) => route_bytes(alloc, roster, &bytes),
+        EventOf::Learn(checked) => route_learn(roster, checked),
+        EventOf::SendChallenge(checked) => route_challenge(roster, checked),
+        EventOf::Answer(segment) => route_answer(roster, segment),
+        EventOf::AckIn(checked) => route_ack(roster, checked),
+        EventOf::Audit(node) => give(member_named(roster, node), Step::Audit),
+        EventOf::Begin(node) => give(member_named(roster, node), Step::Begin),
+        EventOf::File(done) => give(member_named(roster, done.node()), Step::File(done)),
+        EventOf::PutBack(job) => give(member_named(roster, job.node()), Step::PutBack(job)),
+        EventOf::Forward(node) => give(member_named(roster, node), Step::Forward),
+        EventOf::Ask(node, question) => give(member_named(roster, node), Step::Ask(question)),
     }
 }
 
@@ -94,7 +94,7 @@ fn is_same_roster(own: &Roster, other: &Roster) -> bool
 }
 
 /// The member with this number, else `UnknownNode`.
-fn named(roster: &Roster, node: u32) -> Result<Member, Refusal>
+fn member_named(roster: &Roster, node: u32) -> Result<Member, Refusal>
     ensures { OwnerIs (step_of (member_of roster.now node)) result }
 {
     roster.member(node).ok_or(Refusal::UnknownNode)
@@ -139,7 +139,7 @@ fn closer(roster: &Roster, node: u32, under: &Roster) -> Result<Member, Refusal>
 
 /// An authenticator is a step of who signs it.
 #[tactic(auto, using(crate::proofs::Routes::given_goes))]
-fn learned(roster: &Roster, checked: Checked<Authenticator>) -> Routed
+fn route_learn(roster: &Roster, checked: Checked<Authenticator>) -> Routed
     ensures { GoesTo roster.now (Learn checked.value (key_of checked.member)) result }
 {
     let owner = signer(roster, checked.value().node, checked.member());
@@ -148,7 +148,7 @@ fn learned(roster: &Roster, checked: Checked<Authenticator>) -> Routed
 
 /// An envelope is a step of its receiver.
 #[tactic(auto, using(crate::proofs::Routes::given_goes))]
-fn challenged(roster: &Roster, checked: Checked<Envelope>) -> Routed
+fn route_challenge(roster: &Roster, checked: Checked<Envelope>) -> Routed
     ensures { GoesTo roster.now (SendChallenge checked.value (key_of checked.member)) result }
 {
     let envelope = checked.value();
@@ -158,7 +158,7 @@ fn challenged(roster: &Roster, checked: Checked<Envelope>) -> Routed
 
 /// A segment is a step of who closes it.
 #[tactic(auto, using(crate::proofs::Routes::given_goes))]
-fn answered(roster: &Roster, segment: SharedSegment) -> Routed
+fn route_answer(roster: &Roster, segment: SharedSegment) -> Routed
     ensures { GoesTo roster.now (Answer segment) result }
 {
     let closed = segment.closed();
@@ -168,7 +168,7 @@ fn answered(roster: &Roster, segment: SharedSegment) -> Routed
 
 /// An acknowledgement is a step of who signs it.
 #[tactic(auto, using(crate::proofs::Routes::given_goes))]
-fn acknowledged(roster: &Roster, checked: Checked<Ack>) -> Routed
+fn route_ack(roster: &Roster, checked: Checked<Ack>) -> Routed
     ensures { GoesTo roster.now (AckIn checked.value (key_of checked.member)) result }
 {
     let owner = signer(roster, checked.value().by, checked.member());
@@ -177,7 +177,7 @@ fn acknowledged(roster: &Roster, checked: Checked<Ack>) -> Routed
 
 /// Bytes are the step that they deliver.
 #[tactic(auto, using(crate::proofs::Routes::delivery_goes, crate::proofs::Routes::refusal_goes))]
-fn delivered(alloc: Global, roster: &Roster, bytes: &[u8]) -> Routed
+fn route_bytes(alloc: Global, roster: &Roster, bytes: &[u8]) -> Routed
     ensures { GoesTo roster.now (Deliver bytes.now) result }
 {
     match read_packet(alloc, roster, bytes) {
@@ -192,7 +192,7 @@ fn delivered_step(alloc: Global, roster: &Roster, packet: Packet) -> Routed
     requires { IsUnder roster.now packet }
     ensures { DeliversTo roster.now (delivery_in packet) result }
 {
-    let owner = named(roster, packet.node());
+    let owner = member_named(roster, packet.node());
     match packet {
         Packet::Learn(checked) => give(owner, Step::Learn(checked.into_value())),
         Packet::SendChallenge(checked) => give(owner, Step::SendChallenge(checked.into_value())),
