@@ -1,7 +1,7 @@
 #!/usr/bin/env python3
-"""Writes docs/READING.md: for each row of README's table "What is proved", the definitions that its contracts
-stand on, file by file and lowest first, and laws about them. With --check it writes nothing, and ends with 1
-where the page isn't what it would write."""
+"""Writes docs/READING.md: for each row of the tables in docs/PROVED.md under "What is proved", the definitions that
+its contracts stand on, file by file and lowest first, and laws about them. With --check it writes nothing, and ends
+with 1 where the page isn't what it would write."""
 import difflib
 import functools
 import pathlib
@@ -11,17 +11,18 @@ import sys
 ROOT = pathlib.Path(__file__).resolve().parent.parent
 CRATES = ROOT / "crates"
 PAGE = ROOT / "docs" / "READING.md"
+CLAIMS = ROOT / "docs" / "PROVED.md"
 LAWS = 5
 SHOWN = 8
 
 INTRO = """# What to read before you believe a row
 
-For an auditor who draws one row of README's table "What is proved" and asks what must be believed. A contract
+For an auditor who draws one row of the tables in [PROVED.md](PROVED.md) and asks what must be believed. A contract
 says no more than its definitions mean; this page lists those of each row, in the order to read them: first what
 stands on nothing, last what the contract cites itself. Read these and the contracts: bodies and proofs are
-checked by the prover, and what is trusted besides stands in README.
+checked by the prover, and what is trusted besides stands in PROVED.md.
 
-`checks/reading.py` makes the page from README's table and the sources. It takes the signatures and clauses of a
+`checks/reading.py` makes the page from these tables and the sources. It takes the signatures and clauses of a
 row's functions, and of a type that the row names its model and its invariant. It resolves each name that they
 cite through the `use` lines to the definition at its home, and goes on from there, until only libraries from
 outside the repository are left. A type with a model counts by the value that clauses see, without its private
@@ -287,11 +288,12 @@ def by_file(definitions, crates):
 
 
 def rows():
-    """The rows of the table: claim, names, and files."""
-    section = re.search(r"^## What is proved\n(.*?)(^## |\Z)", (ROOT / "README.md").read_text(), re.M | re.S)
-    lines = section[1].splitlines() if section else fail("README.md has no section 'What is proved'")
-    table = [[cell.strip() for cell in line.strip("|").split("|")] for line in lines if line.startswith("|")]
-    for claim, functions, places, *_ in table[2:]:
+    """The rows of the tables: claim, names, and files."""
+    section = re.search(r"^## What is proved\n(.*?)(^## |\Z)", CLAIMS.read_text(), re.M | re.S)
+    lines = section[1] if section else fail("docs/PROVED.md has no section 'What is proved'")
+    bodies = re.findall(r"^\|.*\n\|[-|]+\n((?:\|.*\n)+)", lines, re.M)
+    for line in "".join(bodies).splitlines():
+        claim, functions, places, *_ = (cell.strip() for cell in line.strip("|").split("|"))
         scopes, crate = [], ""
         for place in re.findall(r"`([^`]+)`", places):
             folder = CRATES if "/src/" in place else CRATES / crate
