@@ -121,7 +121,7 @@ class Scope:
                 self.definitions[name] = Definition(self, name, value, imports)
 
     def read_members(self, block):
-        head = re.match(r"(?:pub )?(?:impl|trait)\s*(?:<.*?>\s)?\s*(?:(\w+)(?:<.*?>)? for )?&?(\w+)", block)
+        head = re.match(r"(?:pub(?:\(.*?\))? )?(?:impl|trait)\s*(?:<.*?>\s)?\s*(?:(\w+)(?:<.*?>)? for )?&?(\w+)", block)
         trait, owner = head.groups()
         members, imports = list(items(block.split("\n")[1:], "    ")), {}
         for member, _ in members:
