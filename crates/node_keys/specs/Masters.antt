@@ -1,9 +1,9 @@
--- The master secrets of a run's nodes.
+-- The master secrets of nodes.
 use Rattle.std.specs.Prelude.{ℕ, List, ◌++◌, replicate}
 use Rattle.std.specs.Int.{w32, to_be_bytes}
 use Rattle.sha2.specs.Sha256.{sha256}
-use Rattle.serving.specs.declared.keys.Masters.{Masters}
-use Rattle.serving.specs.declared.keys.Masters.TheVariants.{Known, Secret}
+use Rattle.node_keys.specs.declared.masters.Masters.{Masters}
+use Rattle.node_keys.specs.declared.masters.Masters.TheVariants.{Known, Secret}
 
 -- A node's master secret: 28 zero bytes and the node's number in four, high byte first; or the digest
 -- (FIPS 180-4) of the secret bytes and that number.

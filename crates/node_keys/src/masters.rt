@@ -3,7 +3,7 @@
 ghost use Rattle.std.specs.Prelude.{◌≡◌, ◌++◌, replicate};
 ghost use Rattle.std.specs.Int.{w32, to_be_bytes};
 ghost use Rattle.sha2.specs.Sha256.{sha256};
-ghost use Rattle.serving.specs.Masters.{master_of};
+ghost use Rattle.node_keys.specs.Masters.{master_of};
 
 use sha2::{Digest, Sha256};
 
