@@ -10,7 +10,7 @@ use crate::request::{flag, flag_of, text_of};
 use clap::{Arg, ArgMatches, Command};
 use std::alloc::{AllocError, Global};
 
-/// What `nfsacc serve` is asked, word by word. `ServeOrder::read` reads the numbers among them.
+/// What `nfsacc serve` is asked, word by word. `serve_order` reads the numbers among them.
 #[derive(Clone, Copy, Debug, PartialEq, Eq)]
 pub struct ServeRequest<'a> {
     /// The port that is listened on; 0 lets the system choose.

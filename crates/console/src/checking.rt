@@ -293,10 +293,9 @@ fn told(
 /// bytes under the roster that is trusted, if one is, and writes in a format what is said of it: the line
 /// `exposed N`, with the node's number, or `no evidence`; after that line what the file shows, in plain
 /// words, and what else is asked of its log; or one JSON object with both, the line's words first as
-/// `verdict`. `Read` comes where a read
-/// failed, and then the reader's count rose and nothing was written; `Write` where a write failed: then a
-/// part of that text was written, and the writer's count rose. `NoMemory` comes where memory was refused, and
-/// then nothing was written.
+/// `verdict`. `Read` comes where a read failed, and then the reader's count rose and nothing was written;
+/// `Write` where a write failed: then a part of that text was written, and the writer's count rose.
+/// `NoMemory` comes where memory was refused, and then nothing was written.
 pub fn check<R: Read, W: Write>(
     alloc: Global,
     trusted: Option<&Roster>,

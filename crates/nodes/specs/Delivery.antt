@@ -64,8 +64,7 @@ TakesAwaited n a (Err NoMemory) n' = n' ≡ n
 TakesAwaited n a (Err Failed) n' = ⊥
 
 -- ---- the same between any two nodes, whatever either received before: Failed comes where one refuses what
--- the
--- other shows, and then it is as it was
+-- the other shows, and then it is as it was
 
 -- The bytes are an envelope's text, by which a node finds no message that is new to it, to it and signed.
 abbrev pub IsRefused : NodeParts → (bytes : List ℕ) → Envelope → Type 0

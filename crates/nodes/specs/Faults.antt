@@ -1,6 +1,5 @@
--- How far an exchange between a client and a server comes before a fault, and what is left: first of two
--- that are
--- joined, then of any two.
+-- How far an exchange between a client and a server comes before a fault, and what is left: first of two that
+-- are joined, then of any two.
 use Rattle.std.specs.Prelude.{◌≡◌, ◌⊎◌, ℕ, List, length, Some, Result, Ok, Err}
 use Rattle.envelopes.specs.declared.envelope.Envelope.{Envelope}
 use Rattle.envelopes.specs.declared.acknowledgement.Ack.{Ack}
@@ -105,8 +104,7 @@ MayStop c s time body fault c' s' =
 -- ---- one step of an exchange
 
 -- Why a step stops: KeysUsedUp only where these keys lack, Failed only where this is refused, NoMemory where
--- memory
--- was refused.
+-- memory was refused.
 abbrev pub Because : (lacks refused : Type 0) → LinkFault → Type 0
 Because lacks refused KeysUsedUp = lacks
 Because lacks refused NoMemory = Unit {0}

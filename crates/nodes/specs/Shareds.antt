@@ -1,8 +1,6 @@
 -- A link of a client and a server under a lock, which others use too: what an exchange of it gives and
--- leaves. The lock
--- is taken for what the server does alone: it receives the call, and, where it owed a reply, takes the
--- client's
--- acknowledgement of it later. What others do to the server between the two is open.
+-- leaves. The lock is taken for what the server does alone: it receives the call, and, where it owed a reply,
+-- takes the client's acknowledgement of it later. What others do to the server between the two is open.
 use Rattle.std.specs.Prelude.{◌≡◌, ◌⊎◌, Bool, true, false, List, ℕ, length, Option, Some, None, refl}
 use Rattle.std.specs.Coded.{Coded, code_by, coded×, coded_ℕ, coded_bool}
 use Rattle.envelopes.specs.declared.envelope.Envelope.{Envelope}
@@ -53,8 +51,7 @@ pub record IsUnderLock (to : ℕ) (s s' : NodeParts) : Type 0 where
   pub stays : HasNotStrayed s'
 
 -- A server that lay under the lock took the acknowledgement that the client's log shows of its last entry, a
--- RECV, and
--- was left as `left`; neither has strayed.
+-- RECV, and was left as `left`; neither has strayed.
 pub record IsAcknowledged (c : NodeParts) : Type 0 where
   pub ack : Ack
   pub made : ack_at (sender_of c) (length c.entries) ≡ Some ack
@@ -72,17 +69,15 @@ pub record IsReturned (c s : NodeParts) (number : ℕ) (reply : List ℕ) (c' : 
   pub body : reply ≡ envelope.body
   pub acknowledged : IsAcknowledged c'
 
--- The call was taken and its reply brought back, where one is owed: `s` is what lay under the lock first,
--- and `s'` what
--- it was left as. Where none is owed the lock isn't taken again.
+-- The call was taken and its reply brought back, where one is owed: `s` is what lay under the lock first, and
+-- `s'` what it was left as. Where none is owed the lock isn't taken again.
 abbrev pub IsCarriedBy : (c s : NodeParts) → Timeval → List ℕ → Option (List ℕ) → (c' s' : NodeParts) → Type 0
 IsCarriedBy c s time body None c' s' = (r : Receipt) × (IsAsked c s time body r c' s' × (r.reply ≡ None))
 IsCarriedBy c s time body (Some reply) c' s' =
     (number : ℕ) × ((d : NodeParts) × (IsOwed c s time body number d s' × IsReturned d s' number reply c'))
 
--- A client's call to the server of a number, which lies under a lock: what it made of the server is this
--- call and
--- nothing else, and the reply is the one owed.
+-- A client's call to the server of a number, which lies under a lock: what it made of the server is this call
+-- and nothing else, and the reply is the one owed.
 pub record IsCalled (c : NodeParts) (to : ℕ) (time : Timeval) (body : List ℕ) (reply : Option (List ℕ))
     (c' : NodeParts)
     : Type 0 where
@@ -102,11 +97,9 @@ pub record IsExchanged (d : SharedParts) (time : Timeval) (body : List ℕ) (rep
 
 -- ---- faults
 
--- A server that lay under the lock doesn't accept the acknowledgement that the client's log shows of its
--- last entry, a
--- RECV: it fits none of its SENDs, or isn't signed by a member of its roster, or isn't awaited. The server
--- stays as it
--- is.
+-- A server that lay under the lock doesn't accept the acknowledgement that the client's log shows of its last
+-- entry, a RECV: it fits none of its SENDs, or isn't signed by a member of its roster, or isn't awaited. The
+-- server stays as it is.
 pub record IsAckRefused (c : NodeParts) : Type 0 where
   pub ack : Ack
   pub made : ack_at (sender_of c) (length c.entries) ≡ Some ack
@@ -124,8 +117,7 @@ pub data StopsCalling (c : NodeParts) (to : ℕ) (time : Timeval) (body : List �
   sent : (¬ LacksKeys 1 c) → Because ⊥ ⊥ fault → c' ≡ with_send c to body
       → StopsCalling c to time body fault c'
   -- The server didn't receive it, and was left as it was. Where it has the number and the two are joined, it
-  -- doesn't
-  -- refuse it.
+  -- doesn't refuse it.
   unheard : (server : NodeParts) → HasNotStrayed server → (¬ LacksKeys 1 c)
       → Because (LacksKeys 2 server) (¬ ((server.node ≡ to) × IsJoined c server)) fault
       → c' ≡ with_send c to body
@@ -142,8 +134,7 @@ pub data StopsCalling (c : NodeParts) (to : ℕ) (time : Timeval) (body : List �
       → IsOwed c server time body number c' left → Because (LacksKeys 1 c') (¬ IsJoined c server) fault
       → StopsCalling c to time body fault c'
   -- It received the reply, and was out of memory for its acknowledgement's text, and took no lock; or what
-  -- lay under
-  -- the lock didn't take it.
+  -- lay under the lock didn't take it.
   received : (server left d : NodeParts) (number : ℕ) (e : Envelope) → IsUnderLock to server left
       → IsOwed c server time body number d left → IsReceived d left number e c'
       → Because ⊥ (IsAckRefused c') fault → StopsCalling c to time body fault c'
@@ -157,8 +148,7 @@ pub record IsStopped (d : SharedParts) (time : Timeval) (body : List ℕ) (fault
   pub stops : StopsCalling d.client d.to time body fault d'.client
 
 -- Why an exchange isn't answered, and what is left: after a fault each is Failed, no lock is taken, and
--- nothing
--- changes.
+-- nothing changes.
 abbrev pub StopsExchange : SharedParts → Timeval → List ℕ → LinkFault → SharedParts → Type 0
 StopsExchange d time body fault d' =
     IsStopped d time body fault d' ⊎ ((d.failed ≡ true) × (fault ≡ Failed) × (d' ≡ d))

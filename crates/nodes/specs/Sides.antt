@@ -1,6 +1,5 @@
 -- What the client and the server each do of an exchange alone, with texts between them: where it gives what
--- is wanted,
--- and where it stops.
+-- is wanted, and where it stops.
 use Rattle.std.specs.Prelude.{◌≡◌, ◌⊎◌, ◌+◌, ℕ, List, length, Option, Some, None}
 use Rattle.xdr.specs.Texts.Text.{IsText}
 use Rattle.envelopes.specs.Envelope.{envelope_text, envelope_value}
@@ -73,8 +72,7 @@ IsReplyText (Some e) None text = ⊥
 IsReplyText (Some e) (Some reply) text = IsEnvelopeText e text × (reply ≡ e.body)
 
 -- What a node shows by the numbers of a RECV and of its reply's SEND, if there is one: the acknowledgement,
--- and the
--- reply's envelope.
+-- and the reply's envelope.
 pub record IsShownOf (s : NodeParts) (number : ℕ) (reply : Option ℕ) (ack : Ack) (envelope : Option Envelope)
     : Type 0 where
   pub made : ack_at (sender_of s) number ≡ Some ack
@@ -88,8 +86,7 @@ pub record IsWrittenOf (ack : Ack) (envelope : Option Envelope) (reply : Option 
   pub replies : IsReplyText envelope reply bytes
 
 -- The server received an envelope that is to it, and these are the texts of its acknowledgement and of its
--- reply's
--- envelope, and the reply's body.
+-- reply's envelope, and the reply's body.
 pub record IsAnswered (s : NodeParts) (time : Timeval) (e : Envelope) (reply : Option (List ℕ))
     (ack_bytes bytes : List ℕ) (s' : NodeParts) : Type 0 where
   pub receipt : Receipt

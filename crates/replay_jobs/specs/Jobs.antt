@@ -4,9 +4,9 @@ use Rattle.std.specs.FinMap.{len}
 use Rattle.std.specs.Arc.{arc_value}
 use Rattle.state_machine.specs.declared.states.received.TheConstants.{MAX_RECEIVED}
 use Rattle.state_machine.specs.declared.states.sends.TheConstants.{MAX_SENDS}
-use Rattle.challenge.specs.replay.replay_spec.Replay.{segment_verdict}
-use Rattle.challenge.specs.replay.replay_spec.Replay as spec
-use Rattle.challenge.specs.replay.Faults.{fault_in}
+use Rattle.replay.specs.replay_spec.Replay.{segment_verdict}
+use Rattle.replay.specs.replay_spec.Replay as spec
+use Rattle.replay.specs.Faults.{fault_in}
 use Rattle.witness_spec.specs.Events.{JobParts, DoneParts}
 use Rattle.replay_jobs.specs.declared.verdict.JobVerdict.{JobVerdict}
 use Rattle.replay_jobs.specs.declared.verdict.JobVerdict.TheVariants.{Sound, Fault}

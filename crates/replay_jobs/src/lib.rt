@@ -7,7 +7,7 @@ mod plain;
 mod segment;
 mod verdict;
 
-pub use challenge::SharedState;
+pub use replay::SharedState;
 pub use done::{PlainDone, ReplayDone};
 pub use job::{Back, ReplayJob};
 pub use plain::PlainJob;

@@ -4,7 +4,7 @@ ghost use Rattle.std.specs.Prelude.{◌≡◌, ◌↔◌, IfOk, IsTrue};
 ghost use Rattle.witness_spec.specs.Events.{IsClosedUnder};
 
 use crate::segment::SharedSegment;
-use challenge::SharedState;
+use replay::SharedState;
 use std::alloc::AllocError;
 use std::marker::Model;
 

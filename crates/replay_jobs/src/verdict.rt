@@ -2,12 +2,12 @@
 
 ghost use Rattle.std.specs.Prelude.{◌≡◌, IfOk};
 ghost use Rattle.std.specs.Arc.{arc_value};
-ghost use Rattle.challenge.specs.replay.Verdicts.{verdict_in};
+ghost use Rattle.replay.specs.Verdicts.{verdict_in};
 ghost use Rattle.replay_jobs.specs.Jobs.{HasRoom, job_verdict, verdict_told};
 
 use crate::plain::PlainJob;
 use authenticator::{Authenticator, Number};
-use challenge::{ReplayFault, SharedState, Verdict, replay_entries};
+use replay::{ReplayFault, SharedState, Verdict, replay_entries};
 use std::alloc::{AllocError, Global};
 use std::sync::Arc;
 

@@ -5,7 +5,6 @@
 mod clock;
 mod connection;
 mod control;
-mod keys;
 mod link;
 mod listen;
 mod members;
@@ -16,7 +15,7 @@ mod stream;
 
 pub use auditing::NodeReport;
 pub use clock::SystemClock;
-pub use keys::Masters;
+pub use node_keys::Masters;
 pub use nodes::exchanges::exchange;
 pub use nodes::{ClientNode, LinkFault, Node, NodeLog, Receipt, Role, ServerNode};
 pub use order::{Heights, Order};

@@ -1,6 +1,6 @@
 //! What a run of the service is asked.
 
-use crate::keys::Masters;
+use node_keys::Masters;
 use std::os::unix::net::UnixListener;
 
 /// The heights of the trees of keys: so many keys as 2 to the height. A call takes two keys of its

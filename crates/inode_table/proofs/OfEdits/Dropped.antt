@@ -1,5 +1,5 @@
 -- A file whose name is another's already loses it.
--- Serves: drop_replaced, drop_target of src/renaming.rt.
+-- Serves: drop_replaced, drop_target of src/edits/renaming.rt.
 use Rattle.std.proofs.Common.{◌≡◌, ℕ, ◌+◌, Bool, cond, List, Option, Some, sym, ap, subst, ◌∙◌}
 use Rattle.fs_spec.specs.nfs_items.Timeval.{Timeval}
 use Rattle.fs_spec.specs.Files.{File, file_at, is_directory}

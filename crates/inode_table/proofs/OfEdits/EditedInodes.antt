@@ -1,5 +1,5 @@
 -- What the inodes say after the one of a number changed, came or went.
--- Serves: all edits of src/slots.rt.
+-- Serves: all edits of src/edits/slots.rt.
 use Rattle.std.proofs.Common.{◌≡◌, ◌≢◌, ⊎_elim, ℕ, ◌+◌, Bool, cond, List, Option, Some, None, option_map}
 use Rattle.std.proofs.Common.{IsSome, is_some, refl, sym, ap, ◌∙◌}
 use Rattle.std.specs.Option.{option_map_or}

@@ -21,8 +21,7 @@ use Rattle.nodes.specs.Exchanges.Reaching.{ReceivesUpTo}
 
 -- A client and a server are joined: two nodes, each listed in the other's roster, of which neither received a
 -- message of the other whose number the other's log hasn't reached; and the server won't lie. What either
--- received
--- of others is open.
+-- received of others is open.
 pub record IsJoined (c s : NodeParts) : Type 0 where
   pub two : c.node ≢ s.node
   pub client : IsListed s.roster kinds.Client c

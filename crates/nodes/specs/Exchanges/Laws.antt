@@ -1,4 +1,5 @@
--- What holds of a client and a server that are joined: each law is the contract of a function in src/laws.rt.
+-- What holds of a client and a server that are joined: each law is the contract of a function in
+-- src/exchanges/laws.rt.
 use Rattle.std.specs.Prelude.{◌≡◌, ℕ, List, Some, None, IsSome}
 use Rattle.std.specs.FinMap.{get}
 use Rattle.xdr.specs.Texts.Text.{IsText}

@@ -30,8 +30,7 @@ seq_from from (Clock seconds microseconds) = 0
 seq_from from (Check digest) = 0
 
 -- Each message that these entries received from a node has at most this number in that node's log. Messages
--- of
--- others may have any.
+-- of others may have any.
 abbrev pub ReceivesUpTo : (from limit : ℕ) → List Entry → Type 0
 ReceivesUpTo from limit entries = AllByRecursion (λ e. seq_from from e ≤ limit) entries
 
