@@ -1,6 +1,6 @@
 -- The nine texts of the log of a server that answered have nine digests, as they are worked out.
 -- Serves: premises_of_answers_are_possible.
-use Rattle.std.proofs.Common.{◌≡◌, inl, inr, ℕ, Bool, true, false, not, ◌==◌, ◌&&◌, List, [], ◌∷◌, map}
+use Rattle.std.proofs.Common.{◌≡◌, inl, inr, ℕ, Bool, true, not, ◌==◌, ◌&&◌, List, [], ◌∷◌, map}
 use Rattle.std.proofs.Common.{refl, sym, ap, ap₂, ◌∙◌, eq-eqb}
 use Rattle.std.specs.Prelude.{slice_index}
 use Rattle.std.proofs.lemmas.Bool.{true≢false, and_parts}

@@ -1,13 +1,12 @@
 -- A history of a server that answered is a history, and its log is honest.
 -- Serves: answers.
-use Rattle.std.proofs.Common.{◌≡◌, inl, inr, ℕ, zero, suc, ◌+◌, ◌<◌, ◌≤◌, true, false, cond, ◌==◌, ◌&&◌, List}
-use Rattle.std.proofs.Common.{[], ◌∷◌, ◌++◌, Option, Some, None, Ok, Err, length, get_or, replicate}
-use Rattle.std.proofs.Common.{refl, sym, ap, ap₂, subst, ◌∙◌, arith}
+use Rattle.std.proofs.Common.{◌≡◌, inl, inr, ℕ, zero, suc, ◌<◌, ◌≤◌, true, cond, ◌==◌, ◌&&◌, List}
+use Rattle.std.proofs.Common.{[], ◌∷◌, ◌++◌, Some, Ok, Err, length, get_or, replicate}
+use Rattle.std.proofs.Common.{refl, ap, ap₂, subst, arith}
 use Rattle.std.specs.Prelude.{is_some}
 use Rattle.std.specs.FinMap as finite
 use Rattle.std.proofs.lemmas.Bool.{and_from}
 use Rattle.std.proofs.lemmas.List.{length-replicate}
-use Rattle.sha2.specs.Sha256.{sha256}
 use Rattle.sha2.proofs.Facts256.{length-sha256}
 use Rattle.lamport.specs.declared.key.TheConstants.{TEXT_SIZE}
 use Rattle.xdr.specs.Item.{Fits, number_spelling}
@@ -22,7 +21,7 @@ use Rattle.secure_log.specs.LogEntries.Chain.{zeros, hash_after, link_of}
 use Rattle.secure_log.specs.declared.log_entries.entry.Entry.TheVariants.{Recv, Clock}
 use Rattle.secure_log.specs.Segment.{segment_pairs}
 use Rattle.state_machine.specs.service.Replies.{reply_owed}
-use Rattle.state_spec.specs.State.{State, ReceivedMessage, received_cmp, opening_server}
+use Rattle.state_spec.specs.State.{State, received_cmp, opening_server}
 use Rattle.replay_spec.specs.Opening.{opening_of}
 use Rattle.replay_spec.specs.Placed.{placed}
 use Rattle.replay_spec.specs.Steps.{received_message}
@@ -39,12 +38,11 @@ use Rattle.witness_spec.specs.Replies.{Noted, Asked, Accepted, Job, Filed, Told,
 use Rattle.witness_spec.specs.Watched.{Watched, watched}
 use Rattle.witness_spec.specs.Steps.{Learn, Audit, Answer, Begin, File, Ask, Past}
 use Rattle.witness_spec.specs.Whose.{is_key_of, same_roster, whose}
-use Rattle.witness_spec.specs.Standing.{verdict_on, open_challenges, without_evidence}
+use Rattle.witness_spec.specs.Standing.{open_challenges, without_evidence}
 use Rattle.witness_spec.specs.Owing.{Owes}
 use Rattle.witness_spec.specs.Histories.{own, own_step}
 use Rattle.witness_spec.specs.Premises.{Unforged}
-use Rattle.witness_examples.specs.Signed.Audited.{signed}
-use Rattle.witness_examples.specs.Signed.Served.{call, reply, call_time, world_before, call_hash, zero_text}
+use Rattle.witness_examples.specs.Signed.Served.{call, reply, call_time, world_before, zero_text}
 use Rattle.witness_examples.specs.Signed.Served.{call_signature, caller_root, caller, caller_shown, server}
 use Rattle.witness_examples.specs.Signed.Served.{server_key, server_and_caller, served, served_hash, state_after}
 use Rattle.witness_examples.specs.Signed.Served.{served_end, served_segment, served_closed, served_job}
