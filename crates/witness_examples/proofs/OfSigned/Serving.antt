@@ -34,9 +34,9 @@ use Rattle.witness_spec.specs.evidence_spec.Proving.{IsLog}
 use Rattle.witness_spec.specs.Refusals.{BadSignature}
 use Rattle.witness_spec.specs.Events.{IsEvent, IsClosedUnder, ItsIndication}
 use Rattle.witness_spec.specs.Events as events
-use Rattle.witness_spec.specs.Replies.{Noted, Asked, Accepted, Job, Filed, Told, Trusted, Exposed}
+use Rattle.witness_spec.specs.Replies.{Noted, Asked, Accepted, Job, Filed, Forwarded, Told, Trusted, Exposed}
 use Rattle.witness_spec.specs.Watched.{Watched, watched}
-use Rattle.witness_spec.specs.Steps.{Learn, Audit, Answer, Begin, File, Ask, Past}
+use Rattle.witness_spec.specs.Steps.{Learn, Audit, Answer, Begin, File, Forward, Ask, Past}
 use Rattle.witness_spec.specs.Whose.{is_key_of, same_roster, whose}
 use Rattle.witness_spec.specs.Standing.{open_challenges, without_evidence}
 use Rattle.witness_spec.specs.Owing.{Owes}
@@ -44,14 +44,15 @@ use Rattle.witness_spec.specs.Histories.{own, own_step}
 use Rattle.witness_spec.specs.Premises.{Unforged}
 use Rattle.witness_examples.specs.Signed.Served.{call, reply, call_time, world_before, zero_text}
 use Rattle.witness_examples.specs.Signed.Served.{call_signature, caller_root, caller, caller_shown, server}
-use Rattle.witness_examples.specs.Signed.Served.{server_key, server_and_caller, served, served_hash, state_after}
+use Rattle.witness_examples.specs.Signed.Served.{server_key, server_and_caller, served, served_hash}
+use Rattle.witness_examples.specs.Signed.Served.{state_after}
 use Rattle.witness_examples.specs.Signed.Served.{served_end, served_segment, served_closed, served_job}
 use Rattle.witness_examples.specs.Signed.Served.{served_done, served_learned, served_asked, served_answered}
 use Rattle.witness_examples.specs.Signed.Served.{served_begun, served_filed, served_events, learned_served}
 use Rattle.witness_examples.specs.Signed.Served.{asked_served, answered_served, begun_served, filed_served}
 use Rattle.witness_examples.specs.Signed.Served.{served_steps}
 use Rattle.witness_examples.proofs.Telling.{told}
-use Rattle.witness_examples.proofs.OfLimits.Audits.{OnLog, Quiet, hidden, goes_on}
+use Rattle.witness_examples.proofs.OfLimits.Audits.{OnLog, Quiet, hidden, goes_on, then_forward}
 use Rattle.witness_examples.proofs.OfSigned.Signing.{leaf_signs}
 use Rattle.witness_examples.proofs.OfSigned.Auditing.{signed_event}
 
@@ -267,6 +268,13 @@ module _ (secret : List ℕ) where
       (ap (λ b. Told (cond b Exposed (without_evidence (open_challenges (filed_served secret)))))
       (hidden roster (filed_served secret) hash_at 3 1 state_after (caller_shown ∷ [])
       (after_audit sound stays)))
+
+  -- and what its log shows of the client's is forwarded
+  pub is_forwarded : SoundExactlyIf → HonestServersStay
+      → Owes roster (filed_served secret) Forward (Forwarded caller_shown)
+  is_forwarded sound stays =
+      (then_forward roster (filed_served secret) hash_at 3 1 state_after (caller_shown ∷ [])
+      (after_audit sound stays)).next
 
   -- ---- whose they are
 

@@ -105,7 +105,8 @@ module _ (k : ℕ) where
   left_after : (n : ℕ) (last : List ℕ) → n ≤ k
       → drop (n * 64) (long last) ≡ replicate (k * 64 - n * 64) 0 ++ last
   left_after n last low =
-      drop-append-le (n * 64) (replicate (k * 64) 0) last (omega (arith, low, length-replicate {A = ℕ} (k * 64) 0))
+      drop-append-le (n * 64) (replicate (k * 64) 0) last
+      (omega (arith, low, length-replicate {A = ℕ} (k * 64) 0))
       ∙ ap (λ xs. xs ++ last) (drop-replicate (n * 64) (k * 64) 0)
 
   block_is : (n : ℕ) (last : List ℕ) → n < k → take 64 (drop (n * 64) (long last)) ≡ zero_block
@@ -175,7 +176,8 @@ padded_is =
 
 count_is : length (long 256 last_block) / 64 ≡ 257
 count_is =
-    ap (λ n. n / 64) (length-append (replicate 16_384 0) last_block ∙ ap (λ n. n + 64) (length-replicate {A = ℕ} 16_384 0))
+    ap (λ n. n / 64) (length-append (replicate 16_384 0) last_block
+    ∙ ap (λ n. n + 64) (length-replicate {A = ℕ} 16_384 0))
 
 -- byte by byte
 abbrev pub signature_bytes : List ℕ

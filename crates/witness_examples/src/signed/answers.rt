@@ -8,13 +8,14 @@ ghost use Rattle.replay_spec.specs.Opening.{opening_of};
 ghost use Rattle.replay_spec.specs.HonestLogs.{IsHonestLog};
 ghost use Rattle.witness_spec.specs.evidence_spec.Proving.{IsLog};
 ghost use Rattle.witness_spec.specs.Events.{ItsIndication};
-ghost use Rattle.witness_spec.specs.Replies.{Noted, Asked, Accepted, Job, Filed, Told, Trusted};
+ghost use Rattle.witness_spec.specs.Replies.{Noted, Asked, Accepted, Job, Filed, Forwarded, Told, Trusted};
 ghost use Rattle.witness_spec.specs.Watched.{watched};
-ghost use Rattle.witness_spec.specs.Steps.{Learn, Audit, Answer, Begin, File, Ask};
+ghost use Rattle.witness_spec.specs.Steps.{Learn, Audit, Answer, Begin, File, Forward, Ask};
 ghost use Rattle.witness_spec.specs.Owing.{Owes};
 ghost use Rattle.witness_spec.specs.Histories.{IsHistory, own};
 ghost use Rattle.witness_spec.specs.Premises.{NoCollisionWith, Unforged};
-ghost use Rattle.witness_examples.specs.Signed.Served.{call, reply, call_time, world_before, server};
+ghost use Rattle.witness_examples.specs.Signed.Served.{call, reply, call_time, world_before, caller_shown};
+ghost use Rattle.witness_examples.specs.Signed.Served.{server};
 ghost use Rattle.witness_examples.specs.Signed.Served.{server_and_caller, served, state_after, served_end};
 ghost use Rattle.witness_examples.specs.Signed.Served.{served_closed, served_job, served_done};
 ghost use Rattle.witness_examples.specs.Signed.Served.{learned_served, asked_served, answered_served};
@@ -30,7 +31,8 @@ pub fn the_call_is_owed_the_reply()
 {}
 
 /// Whatever its secret, a server that received the call, read its clock and sent that reply is learned of,
-/// audited, answers, and its log is filed sound; then it is Trusted.
+/// audited, answers, and its log is filed sound; then it is Trusted, and what its log shows of the client's is
+/// forwarded.
 pub fn a_server_that_answered_is_audited()
     ensures learned { (secret : List ℕ) →
         Owes (watched (server_and_caller secret) (server secret)) [] (Learn (served_end secret)) Noted }
@@ -48,6 +50,9 @@ pub fn a_server_that_answered_is_audited()
     ensures trusted { (secret : List ℕ) →
         Owes (watched (server_and_caller secret) (server secret)) (filed_served secret) (Ask ItsIndication)
         (Told Trusted) }
+    ensures forwarded { (secret : List ℕ) →
+        Owes (watched (server_and_caller secret) (server secret)) (filed_served secret) Forward
+        (Forwarded caller_shown) }
 {
     the_call_is_owed_the_reply();
     sound_exactly_if();

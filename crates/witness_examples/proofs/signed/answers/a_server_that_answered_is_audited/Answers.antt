@@ -1,4 +1,4 @@
-use Rattle.witness_examples.proofs.OfSigned.Serving.{after_audit, is_trusted}
+use Rattle.witness_examples.proofs.OfSigned.Serving.{after_audit, is_trusted, is_forwarded}
 use Rattle.witness_examples.proofs.signed.answers.a_server_that_answered_is_audited.Goals as goal
 
 pub returns-clause-learned : goal.returns-clause-learned
@@ -24,3 +24,7 @@ returns-clause-filed c = λ secret.
 pub returns-clause-trusted : goal.returns-clause-trusted
 returns-clause-trusted c = λ secret.
     is_trusted secret c.sound_exactly_if.ensures c.honest_servers_replay.ensures.log
+
+pub returns-clause-forwarded : goal.returns-clause-forwarded
+returns-clause-forwarded c = λ secret.
+    is_forwarded secret c.sound_exactly_if.ensures c.honest_servers_replay.ensures.log

@@ -3,7 +3,8 @@ use Rattle.witness_spec.specs.Events.{ItsIndication}
 use Rattle.witness_spec.specs.Events as events
 use Rattle.witness_spec.specs.Replies.{Noted, Asked, Accepted, Job, Filed, Told, Trusted}
 use Rattle.witness_spec.specs.Steps.{Learn, Audit, Answer, Begin, File, Ask}
-use Rattle.witness_examples.specs.Signed.Served.{server_key, served_end, served_closed, served_job, served_done}
+use Rattle.witness_examples.specs.Signed.Served.{server_key, served_end, served_closed, served_job}
+use Rattle.witness_examples.specs.Signed.Served.{served_done}
 use Rattle.witness_examples.specs.Signed.Served.{served_learned, served_asked, served_answered, served_begun}
 use Rattle.witness_examples.specs.Signed.Served.{served_filed, learned_served, asked_served, answered_served}
 use Rattle.witness_examples.specs.Signed.Served.{begun_served, filed_served}
@@ -50,7 +51,8 @@ returns-clause-history c = λ secret.
             (steps.filed secret)),
         (
           tt,
-          inl (owed_to (roster secret) (served_answered secret) (answered_served secret) (events.Begin 5) Begin
+          inl (owed_to (roster secret) (served_answered secret) (answered_served secret) (events.Begin 5)
+              Begin
               (Job (served_job secret)) (own_answered secret) refl (steps.begun secret)),
           (
             closed_is secret,
@@ -59,7 +61,8 @@ returns-clause-history c = λ secret.
                 (own_asked secret) (answered_whose secret) (steps.accepted secret)),
             (
               tt,
-              inl (owed_to (roster secret) (served_learned secret) (learned_served secret) (events.Audit 5) Audit
+              inl (owed_to (roster secret) (served_learned secret) (learned_served secret) (events.Audit 5)
+                  Audit
                   (Asked 1 3) (own_learned secret) refl (steps.asked secret)),
               (
                 learned_is secret,
