@@ -39,61 +39,15 @@ after_zeros : List ℕ → ℕ → List ℕ
 after_zeros h zero = h
 after_zeros h (suc n) = one_more (after_zeros h n)
 
-in_parts : (h : List ℕ) (m n : ℕ) → after_zeros h (m + n) ≡ after_zeros (after_zeros h m) n
-unfolding after_zeros
-in_parts h m zero =
-    let same : m + 0 ≡ m = omega arith in
-    ap (after_zeros h) same
-in_parts h m (suc n) =
-    let same : m + suc n ≡ suc (m + n) = omega arith in
-    ap (after_zeros h) same ∙ ap one_more (in_parts h m n)
-
--- the hash value after 64 of them
-abbrev after_64 : List ℕ
-after_64 =
-    0x94A6FC34 ∷ 0x8A0A950D ∷ 0x074BBF21 ∷ 0x1CC02C3D ∷
-    0x4EC7CBA9 ∷ 0xD2DC7000 ∷ 0x00209369 ∷ 0xC35CEEF4 ∷ []
-
--- the hash value after 128 of them
-abbrev after_128 : List ℕ
-after_128 =
-    0xE4FA48C7 ∷ 0xE520F92C ∷ 0x47D9567C ∷ 0x0549D8C7 ∷
-    0xF5C60798 ∷ 0x2ED38AEB ∷ 0xFB1B61E3 ∷ 0x2816431A ∷ []
-
--- the hash value after 192 of them
-abbrev after_192 : List ℕ
-after_192 =
-    0x14BF432F ∷ 0xA62B119B ∷ 0xD651608B ∷ 0xE7FDF637 ∷
-    0x724D1BB2 ∷ 0xFB4D7FEE ∷ 0xEC7D55C0 ∷ 0xF9055A7F ∷ []
-
 -- the hash value after 256 of them
 abbrev after_256 : List ℕ
 after_256 =
     0xFF3DB09F ∷ 0x16F50A32 ∷ 0x060F2CC8 ∷ 0x5CD0C6AE ∷
     0x508B2392 ∷ 0x93F6087A ∷ 0xDFE52046 ∷ 0xF510BC27 ∷ []
 
-to_64 : after_zeros initial_hash_256 64 ≡ after_64
-unfolding after_zeros rounds
-to_64 = refl
-
-to_128 : after_zeros after_64 64 ≡ after_128
-unfolding after_zeros rounds
-to_128 = refl
-
-to_192 : after_zeros after_128 64 ≡ after_192
-unfolding after_zeros rounds
-to_192 = refl
-
-to_256 : after_zeros after_192 64 ≡ after_256
-unfolding after_zeros rounds
-to_256 = refl
-
 whole : after_zeros initial_hash_256 256 ≡ after_256
-whole =
-    (in_parts initial_hash_256 64 192 ∙ ap (λ h. after_zeros h 192) to_64)
-    ∙ (in_parts after_64 64 128 ∙ ap (λ h. after_zeros h 128) to_128)
-    ∙ (in_parts after_128 64 64 ∙ ap (λ h. after_zeros h 64) to_192)
-    ∙ to_256
+unfolding after_zeros rounds
+whole = refl
 
 -- ---- a text that begins with as many zeros as whole blocks have
 
