@@ -4,3 +4,6 @@ pub mod Auditing
 pub mod Showing
 pub mod Booking
 pub mod Faulting
+pub mod ZeroBlocks
+pub mod ServedTexts
+pub mod Serving

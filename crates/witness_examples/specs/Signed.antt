@@ -2,3 +2,4 @@ pub mod Audited
 pub mod Shown
 pub mod Books
 pub mod Faulty
+pub mod Served

@@ -1,5 +1,6 @@
 //! Histories of values that are really signed.
 
+pub mod answers;
 pub mod audits;
 pub mod books;
 pub mod faults;

@@ -203,18 +203,18 @@ in_parts t [] ys i = inr i
 in_parts t (x ∷ xs) ys (inl e) = inl (inl e)
 in_parts t (x ∷ xs) ys (inr i) = elim (in_parts t xs ys i) [ inl a ↦ inl (inr a) | inr b ↦ inr b ]
 
--- the texts of the segment are the log's
-within : (t : List ℕ) → IsAmong t (log_texts readings ++ (log_texts readings ++ []))
-    → IsAmong t (log_texts readings)
-within t i =
-    elim (in_parts t (log_texts readings) (log_texts readings ++ []) i) [
+-- texts twice are the texts
+pub in_both : (t : List ℕ) (texts : List (List ℕ)) → IsAmong t (texts ++ (texts ++ [])) → IsAmong t texts
+in_both t texts i =
+    elim (in_parts t texts (texts ++ []) i) [
       | inl a ↦ a
-      | inr b ↦ elim (in_parts t (log_texts readings) [] b) [ inl a ↦ a | inr none ↦ absurd none ]
+      | inr b ↦ elim (in_parts t texts [] b) [ inl a ↦ a | inr none ↦ absurd none ]
     ]
 
 -- no two texts of the log and of what was answered have one digest
 pub unlike : (secret : List ℕ) → NoCollisionWith readings (audited_steps secret)
-unlike secret s t i j e = reading_texts s t (within s i) (within t j) e
+unlike secret s t i j e =
+    reading_texts s t (in_both s (log_texts readings) i) (in_both t (log_texts readings) j) e
 
 -- The part with all entries of its log is the log's.
 pub whole_part : (s : OpenSegment) → s.node ≡ 5 → s.first ≡ 1 → s.opening ≡ zeros → s.entries.now ≡ readings

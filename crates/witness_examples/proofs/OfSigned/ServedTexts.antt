@@ -1,0 +1,195 @@
+-- The nine texts of the log of a server that answered have nine digests, as they are worked out.
+-- Serves: premises_of_answers_are_possible.
+use Rattle.std.proofs.Common.{◌≡◌, inl, inr, ℕ, Bool, true, not, ◌==◌, ◌&&◌, List, [], ◌∷◌, map}
+use Rattle.std.proofs.Common.{refl, sym, ap, ap₂, ◌∙◌, eq-eqb}
+use Rattle.std.specs.Prelude.{slice_index}
+use Rattle.std.proofs.lemmas.Bool.{true≢false, and_parts}
+use Rattle.sha2.specs.Sha256.{first_words, schedule, rounds, compress, digest_bytes, sha256}
+use Rattle.sha2.specs.Sha256 as sha
+use Rattle.xdr.specs.Item.{number_spelling}
+use Rattle.secure_log.specs.declared.log_entries.entry.Entry.{Entry}
+use Rattle.secure_log.specs.declared.log_entries.entry.Entry.TheVariants.{Recv, Clock, Send}
+use Rattle.secure_log.specs.LogEntries.Entry.{content, send_content, recv_content}
+use Rattle.secure_log.specs.LogEntries.Chain.{NoCollision, chain_text, hash_after, link_of, zeros, IsAmong}
+use Rattle.secure_log.specs.LogEntries.Signatures.{signature_digest}
+use Rattle.witness_spec.specs.evidence_spec.Proving.{log_texts, signature_text}
+use Rattle.witness_spec.specs.Premises.{NoCollisionWith}
+use Rattle.witness_examples.specs.Signed.Served.{call, reply, call_signature, served, served_steps}
+use Rattle.witness_examples.proofs.OfSigned.Auditing.{in_both}
+use Rattle.witness_examples.proofs.OfSigned.ZeroBlocks.{signature_bytes, signature_worked}
+
+-- ---- texts whose digests' first bytes differ
+
+-- a number is none of these
+abbrev is_none : ℕ → List ℕ → Bool
+is_none n [] = true
+is_none n (m ∷ ms) = not (n == m) && is_none n ms
+
+-- no two of these numbers are the same
+abbrev all_differ : List ℕ → Bool
+all_differ [] = true
+all_differ (n ∷ ns) = is_none n ns && all_differ ns
+
+-- the first byte of a text's digest
+abbrev first_byte : List ℕ → ℕ
+first_byte t = slice_index (sha256 t) 0
+
+is_other : (n : ℕ) (ts : List (List ℕ)) (t : List ℕ) → is_none n (map first_byte ts) ≡ true → IsAmong t ts
+    → n ≡ first_byte t → ⊥
+is_other n [] t none i e = absurd i
+is_other n (x ∷ ts) t none (inl a) e =
+    let apart = and_parts (not (n == first_byte x)) (is_none n (map first_byte ts)) none in
+    absurd (true≢false (sym apart.0 ∙ ap not (eq-eqb n (first_byte x) (e ∙ ap first_byte a))))
+is_other n (x ∷ ts) t none (inr i) e =
+    let apart = and_parts (not (n == first_byte x)) (is_none n (map first_byte ts)) none in
+    is_other n ts t apart.1 i e
+
+-- so no two of the texts have one digest
+no_two : (ts : List (List ℕ)) → all_differ (map first_byte ts) ≡ true → NoCollision ts
+no_two [] h s t i j e = absurd i
+no_two (x ∷ ts) h s t (inl a) (inl b) e = a ∙ sym b
+no_two (x ∷ ts) h s t (inl a) (inr j) e =
+    let apart = and_parts (is_none (first_byte x) (map first_byte ts)) (all_differ (map first_byte ts)) h in
+    absurd (is_other (first_byte x) ts t apart.0 j
+    (ap first_byte (sym a) ∙ ap (λ d. slice_index d 0) e))
+no_two (x ∷ ts) h s t (inr i) (inl b) e =
+    let apart = and_parts (is_none (first_byte x) (map first_byte ts)) (all_differ (map first_byte ts)) h in
+    absurd (is_other (first_byte x) ts s apart.0 i
+    (ap first_byte (sym b) ∙ ap (λ d. slice_index d 0) (sym e)))
+no_two (x ∷ ts) h s t (inr i) (inr j) e =
+    let apart = and_parts (is_none (first_byte x) (map first_byte ts)) (all_differ (map first_byte ts)) h in
+    no_two ts apart.1 s t i j e
+
+-- ---- the nine texts
+
+abbrev received : Entry
+received = Recv 6 1 zeros call call_signature
+
+abbrev read : Entry
+read = Clock 1 0
+
+abbrev sent : Entry
+sent = Send 6 reply
+
+-- the digests, byte by byte: those of the bodies,
+abbrev call_bytes : List ℕ
+call_bytes =
+    231 ∷ 61 ∷ 180 ∷ 30 ∷ 234 ∷ 211 ∷ 130 ∷ 156 ∷ 228 ∷ 170 ∷ 207 ∷ 44 ∷ 38 ∷ 241 ∷ 79 ∷ 143 ∷
+    254 ∷ 230 ∷ 180 ∷ 128 ∷ 187 ∷ 128 ∷ 83 ∷ 188 ∷ 69 ∷ 113 ∷ 68 ∷ 61 ∷ 228 ∷ 248 ∷ 189 ∷ 137 ∷ []
+
+abbrev reply_bytes : List ℕ
+reply_bytes =
+    107 ∷ 155 ∷ 186 ∷ 134 ∷ 52 ∷ 57 ∷ 132 ∷ 53 ∷ 11 ∷ 135 ∷ 70 ∷ 6 ∷ 59 ∷ 10 ∷ 120 ∷ 234 ∷
+    7 ∷ 27 ∷ 185 ∷ 54 ∷ 137 ∷ 232 ∷ 202 ∷ 193 ∷ 110 ∷ 24 ∷ 76 ∷ 145 ∷ 115 ∷ 104 ∷ 48 ∷ 54 ∷ []
+
+-- of the contents,
+abbrev received_bytes : List ℕ
+received_bytes =
+    49 ∷ 197 ∷ 44 ∷ 223 ∷ 221 ∷ 186 ∷ 63 ∷ 91 ∷ 15 ∷ 80 ∷ 156 ∷ 203 ∷ 111 ∷ 180 ∷ 43 ∷ 61 ∷
+    87 ∷ 108 ∷ 102 ∷ 141 ∷ 146 ∷ 249 ∷ 152 ∷ 102 ∷ 140 ∷ 129 ∷ 71 ∷ 247 ∷ 147 ∷ 12 ∷ 68 ∷ 27 ∷ []
+
+abbrev read_bytes : List ℕ
+read_bytes =
+    203 ∷ 188 ∷ 72 ∷ 117 ∷ 13 ∷ 235 ∷ 184 ∷ 83 ∷ 80 ∷ 147 ∷ 179 ∷ 222 ∷ 175 ∷ 136 ∷ 172 ∷ 127 ∷
+    76 ∷ 255 ∷ 135 ∷ 66 ∷ 85 ∷ 118 ∷ 165 ∷ 141 ∷ 226 ∷ 186 ∷ 199 ∷ 84 ∷ 172 ∷ 219 ∷ 70 ∷ 22 ∷ []
+
+abbrev sent_bytes : List ℕ
+sent_bytes =
+    130 ∷ 219 ∷ 205 ∷ 167 ∷ 239 ∷ 133 ∷ 227 ∷ 155 ∷ 237 ∷ 171 ∷ 162 ∷ 60 ∷ 112 ∷ 31 ∷ 225 ∷ 36 ∷
+    240 ∷ 171 ∷ 156 ∷ 141 ∷ 158 ∷ 204 ∷ 118 ∷ 192 ∷ 168 ∷ 197 ∷ 17 ∷ 187 ∷ 191 ∷ 208 ∷ 15 ∷ 232 ∷ []
+
+-- and of the chain
+abbrev first_bytes : List ℕ
+first_bytes =
+    25 ∷ 70 ∷ 113 ∷ 154 ∷ 58 ∷ 31 ∷ 74 ∷ 175 ∷ 46 ∷ 93 ∷ 153 ∷ 0 ∷ 207 ∷ 0 ∷ 207 ∷ 176 ∷
+    249 ∷ 143 ∷ 209 ∷ 194 ∷ 111 ∷ 143 ∷ 1 ∷ 245 ∷ 36 ∷ 159 ∷ 125 ∷ 139 ∷ 218 ∷ 200 ∷ 153 ∷ 207 ∷ []
+
+abbrev second_bytes : List ℕ
+second_bytes =
+    45 ∷ 223 ∷ 255 ∷ 37 ∷ 39 ∷ 164 ∷ 210 ∷ 246 ∷ 229 ∷ 6 ∷ 103 ∷ 192 ∷ 140 ∷ 233 ∷ 41 ∷ 233 ∷
+    21 ∷ 97 ∷ 218 ∷ 89 ∷ 24 ∷ 116 ∷ 176 ∷ 68 ∷ 213 ∷ 133 ∷ 207 ∷ 66 ∷ 233 ∷ 125 ∷ 135 ∷ 245 ∷ []
+
+abbrev third_bytes : List ℕ
+third_bytes =
+    61 ∷ 63 ∷ 50 ∷ 198 ∷ 131 ∷ 37 ∷ 230 ∷ 58 ∷ 119 ∷ 219 ∷ 63 ∷ 139 ∷ 105 ∷ 109 ∷ 32 ∷ 205 ∷
+    105 ∷ 79 ∷ 196 ∷ 4 ∷ 84 ∷ 102 ∷ 148 ∷ 157 ∷ 119 ∷ 239 ∷ 202 ∷ 161 ∷ 235 ∷ 174 ∷ 122 ∷ 72 ∷ []
+
+call_worked : sha256 call ≡ call_bytes
+unfolding first_words schedule rounds compress sha.hash_after digest_bytes sha256
+call_worked = refl
+
+reply_worked : sha256 reply ≡ reply_bytes
+unfolding first_words schedule rounds compress sha.hash_after digest_bytes sha256
+reply_worked = refl
+
+received_from : sha256 (recv_content 6 1 zeros call_bytes signature_bytes) ≡ received_bytes
+unfolding first_words schedule rounds compress sha.hash_after digest_bytes sha256 zeros number_spelling
+received_from = refl
+
+received_worked : sha256 (content received) ≡ received_bytes
+unfolding content
+received_worked =
+    ap₂ (λ b d. sha256 (recv_content 6 1 zeros b d)) call_worked signature_worked ∙ received_from
+
+read_worked : sha256 (content read) ≡ read_bytes
+unfolding first_words schedule rounds compress sha.hash_after digest_bytes sha256 content number_spelling
+read_worked = refl
+
+sent_from : sha256 (send_content 6 reply_bytes) ≡ sent_bytes
+unfolding first_words schedule rounds compress sha.hash_after digest_bytes sha256 number_spelling
+sent_from = refl
+
+sent_worked : sha256 (content sent) ≡ sent_bytes
+unfolding content
+sent_worked = ap (λ b. sha256 (send_content 6 b)) reply_worked ∙ sent_from
+
+-- the text of a link, from the hash before it, its number and kind and the digest of its content
+abbrev link_text : List ℕ → ℕ → ℕ → List ℕ → List ℕ
+link_text before number kind digest =
+    chain_text before (record { number = number; kind = kind; content = digest })
+
+first_from : sha256 (link_text zeros 1 2 received_bytes) ≡ first_bytes
+unfolding first_words schedule rounds compress sha.hash_after digest_bytes sha256 zeros number_spelling
+    chain_text
+first_from = refl
+
+first_worked : sha256 (chain_text zeros (link_of 1 received)) ≡ first_bytes
+first_worked = ap (λ d. sha256 (link_text zeros 1 2 d)) received_worked ∙ first_from
+
+second_from : sha256 (link_text first_bytes 2 4 read_bytes) ≡ second_bytes
+unfolding first_words schedule rounds compress sha.hash_after digest_bytes sha256 number_spelling chain_text
+second_from = refl
+
+second_worked : sha256 (chain_text (hash_after zeros (link_of 1 received)) (link_of 2 read)) ≡ second_bytes
+unfolding hash_after
+second_worked = ap₂ (λ h d. sha256 (link_text h 2 4 d)) first_worked read_worked ∙ second_from
+
+third_from : sha256 (link_text second_bytes 3 1 sent_bytes) ≡ third_bytes
+unfolding first_words schedule rounds compress sha.hash_after digest_bytes sha256 number_spelling chain_text
+third_from = refl
+
+third_worked : sha256 (chain_text (hash_after (hash_after zeros (link_of 1 received)) (link_of 2 read))
+    (link_of 3 sent)) ≡ third_bytes
+unfolding hash_after
+third_worked = ap₂ (λ h d. sha256 (link_text h 3 1 d)) second_worked sent_worked ∙ third_from
+
+signature_text_worked : sha256 (signature_text call_signature) ≡ signature_bytes
+unfolding signature_digest
+signature_text_worked = signature_worked
+
+-- the first bytes of their digests
+first_bytes_are : map first_byte (log_texts served) ≡ 25 ∷ 45 ∷ 61 ∷ 49 ∷ 231 ∷ 55 ∷ 203 ∷ 130 ∷ 107 ∷ []
+first_bytes_are =
+    let first = λ (d : List ℕ). slice_index d 0 in
+    λ k. first (first_worked k) ∷ first (second_worked k) ∷ first (third_worked k)
+    ∷ first (received_worked k) ∷ first (call_worked k) ∷ first (signature_text_worked k)
+    ∷ first (read_worked k) ∷ first (sent_worked k) ∷ first (reply_worked k) ∷ []
+
+-- no two of them have one digest
+log_texts_differ : NoCollision (log_texts served)
+log_texts_differ = no_two (log_texts served) (ap all_differ first_bytes_are)
+
+-- no two texts of the log and of what was answered have one digest
+pub unlike : (secret : List ℕ) → NoCollisionWith served (served_steps secret)
+unlike secret s t i j e =
+    log_texts_differ s t (in_both s (log_texts served) i) (in_both t (log_texts served) j) e
